@@ -1,0 +1,4 @@
+-- Lemmas on vectors and boxes.
+pub mod Vectors
+pub mod Ranges
+pub mod Containment

@@ -1,0 +1,38 @@
+-- What is said of vectors.
+use Rattle.std.specs.Prelude.{ℕ, ◌≤◌, ◌+ℤ◌, ◌-ℤ◌, ◌≤ℤ◌, pos, unsigned_abs, FitsSigned}
+use Rattle.std.specs.Int.{w32, int_min, int_max}
+use Rattle.arena_geo.specs.declared.vec3.Vec3.{Vec3}
+
+-- each part of v is at most far from 0
+pub record IsNear (far : ℕ) (v : Vec3) : Type 0 where
+  pub x : unsigned_abs v.x ≤ far
+  pub y : unsigned_abs v.y ≤ far
+  pub z : unsigned_abs v.z ≤ far
+
+-- each part of v is an i32
+pub record Fits (v : Vec3) : Type 0 where
+  pub x : FitsSigned w32 v.x
+  pub y : FitsSigned w32 v.y
+  pub z : FitsSigned w32 v.z
+
+-- no part of v is below 0
+pub record IsPositive (v : Vec3) : Type 0 where
+  pub x : pos 0 ≤ℤ v.x
+  pub y : pos 0 ≤ℤ v.y
+  pub z : pos 0 ≤ℤ v.z
+
+-- the sum, axis by axis
+abbrev pub plus : Vec3 → Vec3 → Vec3
+plus v w = record { x = v.x +ℤ w.x; y = v.y +ℤ w.y; z = v.z +ℤ w.z }
+
+-- the difference, axis by axis
+abbrev pub minus : Vec3 → Vec3 → Vec3
+minus v w = record { x = v.x -ℤ w.x; y = v.y -ℤ w.y; z = v.z -ℤ w.z }
+
+-- the lesser part on each axis
+abbrev pub least : Vec3 → Vec3 → Vec3
+least v w = record { x = int_min v.x w.x; y = int_min v.y w.y; z = int_min v.z w.z }
+
+-- the greater part on each axis
+abbrev pub greatest : Vec3 → Vec3 → Vec3
+greatest v w = record { x = int_max v.x w.x; y = int_max v.y w.y; z = int_max v.z w.z }

@@ -1,0 +1,218 @@
+ghost use Rattle.std.specs.Prelude.{◌≡◌, ◌↔◌, IsTrue, SomeIff};
+ghost use Rattle.arena_geo.specs.Vectors.{IsNear, IsPositive};
+ghost use Rattle.arena_geo.specs.Bounds.{bounds, IsInRange, IsOrdered, IsBox};
+ghost use Rattle.arena_geo.specs.Boxes as boxes;
+
+use crate::vec3::Vec3;
+use std::marker::Model;
+
+/// The greatest distance of a box's coordinate from 0, in sub-units.
+pub const LIMIT: u32 = 2_097_152;
+
+/// An axis-aligned box between a low and a high corner, in sub-units. The low corner lies above the high one
+/// on no axis, and no coordinate is farther from 0 than [`LIMIT`].
+#[derive(Clone, Copy, Debug, PartialEq, Eq)]
+pub struct Aabb {
+    lo: Vec3,
+    hi: Vec3,
+}
+
+impl Model for Aabb {
+    ghost use Rattle.arena_geo.specs.Bounds.{Bounds, IsBox, bounds};
+
+    ghost Value = { Bounds };
+
+    ghost view = { λ a. bounds a.lo a.hi };
+
+    ghost invariant = { λ a. IsBox (bounds a.lo a.hi) };
+
+    ghost inverse = { λ b. record { lo = b.lo; hi = b.hi } };
+}
+
+/// Whether each part is at most [`LIMIT`] from 0.
+fn is_near(v: Vec3) -> bool
+    ensures { IsTrue result ↔ IsNear LIMIT v }
+{
+    v.x.unsigned_abs() <= LIMIT && v.y.unsigned_abs() <= LIMIT && v.z.unsigned_abs() <= LIMIT
+}
+
+/// Whether `lo` lies above `hi` on no axis.
+fn is_ordered(lo: Vec3, hi: Vec3) -> bool
+    ensures { IsTrue result ↔ IsOrdered (bounds lo hi) }
+{
+    lo.x <= hi.x && lo.y <= hi.y && lo.z <= hi.z
+}
+
+/// Whether each of two intervals begins strictly before the other ends.
+fn overlaps_on(lo: i32, hi: i32, other_lo: i32, other_hi: i32) -> bool
+    ensures { result ≡ boxes.overlaps_on lo hi other_lo other_hi }
+{
+    lo < other_hi && other_lo < hi
+}
+
+/// Whether neither of two intervals begins after the other ends.
+fn touches_on(lo: i32, hi: i32, other_lo: i32, other_hi: i32) -> bool
+    ensures { result ≡ boxes.touches_on lo hi other_lo other_hi }
+{
+    lo <= other_hi && other_lo <= hi
+}
+
+/// Whether the second interval lies in the first, the ends counted as inside.
+fn contains_on(lo: i32, hi: i32, other_lo: i32, other_hi: i32) -> bool
+    ensures { result ≡ boxes.contains_on lo hi other_lo other_hi }
+{
+    lo <= other_lo && other_hi <= hi
+}
+
+impl Aabb {
+    /// The box between two corners. `None` exactly where `lo` lies above `hi` on an axis or a coordinate is
+    /// farther from 0 than [`LIMIT`].
+    pub fn new(lo: Vec3, hi: Vec3) -> Option<Aabb>
+        ensures { SomeIff result (IsBox (bounds lo hi)) (bounds lo hi) }
+    {
+        if is_ordered(lo, hi) && is_near(lo) && is_near(hi) {
+            Some(Aabb { lo, hi })
+        } else {
+            None
+        }
+    }
+
+    /// The low corner.
+    pub fn lo(&self) -> Vec3
+        ensures value { result ≡ self.now.lo }
+        ensures is_box { IsBox self.now }
+    {
+        self.lo
+    }
+
+    /// The high corner.
+    pub fn hi(&self) -> Vec3
+        ensures value { result ≡ self.now.hi }
+        ensures is_box { IsBox self.now }
+    {
+        self.hi
+    }
+
+    /// Whether on each axis each box begins strictly before the other ends.
+    pub fn overlaps(&self, o: &Aabb) -> bool
+        ensures { result ≡ boxes.overlaps self.now o.now }
+    {
+        overlaps_on(self.lo.x, self.hi.x, o.lo.x, o.hi.x)
+            && overlaps_on(self.lo.y, self.hi.y, o.lo.y, o.hi.y)
+            && overlaps_on(self.lo.z, self.hi.z, o.lo.z, o.hi.z)
+    }
+
+    /// Whether the boxes have a common point, the faces counted: as Quake's `SV_TouchLinks` tests.
+    pub fn touches(&self, o: &Aabb) -> bool
+        ensures { result ≡ boxes.touches self.now o.now }
+    {
+        touches_on(self.lo.x, self.hi.x, o.lo.x, o.hi.x)
+            && touches_on(self.lo.y, self.hi.y, o.lo.y, o.hi.y)
+            && touches_on(self.lo.z, self.hi.z, o.lo.z, o.hi.z)
+    }
+
+    /// Whether `o` lies in this box, the faces counted as inside.
+    pub fn contains(&self, o: &Aabb) -> bool
+        ensures { result ≡ boxes.contains self.now o.now }
+    {
+        contains_on(self.lo.x, self.hi.x, o.lo.x, o.hi.x)
+            && contains_on(self.lo.y, self.hi.y, o.lo.y, o.hi.y)
+            && contains_on(self.lo.z, self.hi.z, o.lo.z, o.hi.z)
+    }
+
+    /// The box, larger by `by` on both sides of each axis. `None` exactly where a coordinate leaves the range.
+    pub fn grow(&self, by: Vec3) -> Option<Aabb>
+        requires positive { IsPositive by }
+        requires near { IsNear LIMIT by }
+        ensures { SomeIff result (IsInRange (boxes.grown self.now by)) (boxes.grown self.now by) }
+    {
+        Aabb::new(self.lo - by, self.hi + by)
+    }
+
+    /// The box, moved by `by`. `None` exactly where a coordinate leaves the range.
+    pub fn moved(&self, by: Vec3) -> Option<Aabb>
+        requires { IsNear LIMIT by }
+        ensures { SomeIff result (IsInRange (boxes.moved self.now by)) (boxes.moved self.now by) }
+    {
+        Aabb::new(self.lo + by, self.hi + by)
+    }
+
+    /// The least box that contains both.
+    pub fn hull(&self, o: &Aabb) -> Aabb
+        ensures { result ≡ boxes.hull self.now o.now }
+    {
+        Aabb {
+            lo: self.lo.min(o.lo),
+            hi: self.hi.max(o.hi),
+        }
+    }
+}
+
+#[cfg(test)]
+mod tests {
+    use super::*;
+    use std::test::Fail;
+
+    fn cube(from: i32, to: i32) -> Option<Aabb> {
+        let lo = Vec3 {
+            x: from,
+            y: from,
+            z: from,
+        };
+        let hi = Vec3 {
+            x: to,
+            y: to,
+            z: to,
+        };
+        Aabb::new(lo, hi)
+    }
+
+    #[test]
+    fn touching_boxes_do_not_overlap(rt: HostRuntime) -> Result<(), Fail> {
+        // one from, one to, other from, other to, overlap, touch, the one contains the other
+        for (from, to, other_from, other_to, overlap, touch, contain) in [
+            (0, 10, 9, 20, true, true, false),
+            (0, 10, 10, 20, false, true, false),
+            (0, 10, 11, 20, false, false, false),
+            (-5, 10, -5, 10, true, true, true),
+            (-5, 10, -6, 10, true, true, false),
+            (3, 3, 3, 3, false, true, true),
+        ] {
+            let one = cube(from, to).ok_or("a box")?;
+            let other = cube(other_from, other_to).ok_or("a box")?;
+            assert_eq!(rt;
+                one.overlaps(&other),
+                overlap,
+                "{from} {to} {other_from} {other_to}"
+            );
+            assert_eq!(rt;
+                one.touches(&other),
+                touch,
+                "{from} {to} {other_from} {other_to}"
+            );
+            assert_eq!(rt;
+                one.contains(&other),
+                contain,
+                "{from} {to} {other_from} {other_to}"
+            );
+        }
+        Ok(())
+    }
+
+    #[test]
+    fn boxes_stay_in_range(rt: HostRuntime) -> Result<(), Fail> {
+        assert_eq!(rt; cube(1, 0), None);
+        assert_eq!(rt; cube(-2_097_153, 0), None);
+        assert_eq!(rt; cube(0, 2_097_153), None);
+        let least = cube(0, 0).ok_or("a box")?;
+        let most = cube(-2_097_152, 2_097_152).ok_or("a box")?;
+        let one = Vec3 { x: 1, y: 1, z: 1 };
+        assert_eq!(rt; least.grow(one), cube(-1, 1));
+        assert_eq!(rt; least.moved(one), cube(1, 1));
+        assert_eq!(rt; most.grow(one), None);
+        assert_eq!(rt; most.moved(one), None);
+        assert_eq!(rt; least.hull(&most), most);
+        assert_eq!(rt; least.hi() - one + one, most.lo().max(least.lo()));
+        Ok(())
+    }
+}
