@@ -1,5 +1,5 @@
 -- The fields of a move as bytes, and read back.
-use Rattle.std.proofs.Common.{◌≡◌, ℕ, ◌+◌, ◌*◌, ◌/◌, ◌%◌, ◌^◌, ◌<◌, List, [], ◌∷◌, refl, arith}
+use Rattle.std.proofs.Common.{◌≡◌, ℕ, ◌+◌, ◌*◌, ◌/◌, ◌%◌, ◌^◌, ◌<◌, [], ◌∷◌, refl, arith}
 use Rattle.std.specs.Prelude.{ℤ, FitsSigned, Ok}
 use Rattle.std.specs.Int.{w16, w32, cast_signed, cast_unsigned, from_le_bytes, to_le_bytes}
 use Rattle.std.proofs.lemmas.Bool.{le-ltb}
@@ -8,7 +8,7 @@ use Rattle.std.proofs.lemmas.Nat.{from_le_bytes-to_le_bytes_2, from_le_bytes-to_
 use Rattle.packet_read.specs.declared.move_packet.MovePacket.{MovePacket}
 use Rattle.packet_read.specs.declared.packet.Packet.{Packet}
 use Rattle.packet_read.specs.declared.packet.Packet.TheVariants.{Join, Step, Leave}
-use Rattle.packet_read.specs.Spelling.{spelling, FitsMove, Fits, IsAllowed}
+use Rattle.packet_read.specs.Spelling.{spelling, MoveFits, Fits, IsAllowed}
 use Rattle.packet_read.specs.Reading.{move_in, reading}
 
 -- a wish is read as it was written
@@ -16,7 +16,7 @@ wish_again : (z : ℤ) → FitsSigned w16 z → cast_signed w16 (from_le_bytes w
 wish_again z fits = rw (from_le_bytes-to_le_bytes_2 (cast_unsigned w16 z) (omega (arith, ints))) (to_z-of_z w16 z fits)
 
 -- a move is read as it was written
-pub move_again : (m : MovePacket) → FitsMove m → move_in (spelling (Step m)) ≡ m
+pub move_again : (m : MovePacket) → MoveFits m → move_in (spelling (Step m)) ≡ m
 move_again m fits =
     rw (from_le_bytes-to_le_bytes_4 m.seq fits.seq, wish_again m.wish_x fits.wish_x, wish_again m.wish_y fits.wish_y) refl
 

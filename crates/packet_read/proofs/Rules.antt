@@ -1,17 +1,16 @@
 -- Bytes that break no rule spell what stands in them.
-use Rattle.std.proofs.Common.{get_or, rules, lit<, ◌∙◌, ◌++◌, ◌≡◌, ℕ, suc, ◌+◌, ◌^◌, ◌<◌, ◌≤◌, Bool, true, false, cond, List, [], ◌∷◌, length, refl, sym, ap, subst, arith, inl, inr}
-use Rattle.std.specs.Prelude.{nat_lt, nat_le, ◌==◌, not, ◌&&◌, ◌||◌, Option, Some, None, Ok, Err, slice_index}
-use Rattle.std.specs.Int.{w16, w32, cast_signed, from_le_bytes}
+use Rattle.std.proofs.Common.{get_or, rules, lit<, ◌∙◌, ◌++◌, ◌≡◌, ℕ, suc, ◌<◌, ◌≤◌, Bool, true, false, cond, List, [], ◌∷◌, length, refl, sym, ap, subst, arith, inl, inr}
+use Rattle.std.specs.Prelude.{nat_lt, nat_le, ◌==◌, not, ◌&&◌, Option, Some, None, Result, Ok, Err, IfOk}
 use Rattle.std.proofs.lemmas.List.{get_or_default, nil_from_length}
 use Rattle.std.proofs.lemmas.Slice.Eq.{text_from_reads}
 use Rattle.std.proofs.lemmas.Bool.Decides.{nat_tests}
-use Rattle.std.proofs.lemmas.Bool.{false≢true, ltb-false, eqb-true, not-false, or_parts, cases_eq, eq-eqb, ne_eqb}
+use Rattle.std.proofs.lemmas.Bool.{false≢true, ltb-false, eqb-true, not-false, or_parts, cases_eq}
 use Rattle.packet_read.specs.declared.packet.Packet.{Packet}
 use Rattle.packet_read.specs.declared.packet.Packet.TheVariants.{Join, Step, Leave}
 use Rattle.packet_read.specs.declared.packet_fault.PacketFault.{PacketFault}
 use Rattle.packet_read.specs.declared.packet_fault.PacketFault.TheVariants.{Empty, Version, Kind, Short, Long, Time, Buttons}
-use Rattle.packet_read.specs.Spelling.{move_fields, FitsMove, spelling, Spells}
-use Rattle.packet_read.specs.Cause.{Form, join, step, leave, byte, form_in, breaks, cause_of}
+use Rattle.packet_read.specs.Spelling.{move_fields, MoveFits, Spells}
+use Rattle.packet_read.specs.Cause.{byte, form_in, breaks, cause_of}
 use Rattle.packet_read.specs.Reading.{move_in, packet_of, answer, reading}
 use Rattle.packet_read.specs.Laws.{AreBytes}
 use Rattle.packet_read.proofs.Fields.{packet_again, number_cells, wish_cells}
@@ -62,7 +61,7 @@ move_spelled xs e below =
     ten xs e ∙ sym (joined _ _ _ _ _ _ (byte xs 4) (byte xs 9) seq wish_x wish_y)
 
 -- the wire fits the types
-move_fits : (xs : List ℕ) → ((i : ℕ) → i < 10 → byte xs i < 256) → FitsMove (move_in (1 ∷ 2 ∷ xs))
+move_fits : (xs : List ℕ) → ((i : ℕ) → i < 10 → byte xs i < 256) → MoveFits (move_in (1 ∷ 2 ∷ xs))
 move_fits xs below = record {
   seq = omega (arith, below 0 (lit< tt), below 1 (lit< tt), below 2 (lit< tt), below 3 (lit< tt));
   ms = below 4 (lit< tt);
@@ -115,11 +114,11 @@ kind_spelled k xs all kept =
     elim (cases_eq k 1) [
       | inl e ↦ subst (IsSpelledBehind xs 1) (sym e) (λ _ kept. join_spelled xs kept) all kept
       | inr not_join ↦ elim (cases_eq k 2) [
-          | inl e ↦ subst (IsSpelledBehind xs 1) (sym e) (step_spelled xs) all kept
-          | inr not_step ↦
-              let e : k ≡ 3 = omega arith in
-              subst (IsSpelledBehind xs 1) (sym e) (λ _ kept. leave_spelled xs kept) all kept
-        ]
+        | inl e ↦ subst (IsSpelledBehind xs 1) (sym e) (step_spelled xs) all kept
+        | inr not_step ↦
+            let e : k ≡ 3 = omega arith in
+            subst (IsSpelledBehind xs 1) (sym e) (λ _ kept. leave_spelled xs kept) all kept
+      ]
     ]
 
 -- bytes that break no rule spell the packet that stands in them
@@ -149,6 +148,11 @@ pub read_spells : (bytes : List ℕ) → AreBytes bytes → (p : Packet) → rea
 read_spells bytes all p e =
     let parts = answered_ok (cause_of bytes) (packet_of (form_in bytes) bytes) p e in
     subst (λ (q : Packet). Spells bytes q) parts.1 (kept_spelled bytes all (keeps bytes parts.0))
+
+-- the same of a result
+pub found_spells : (bytes : List ℕ) (r : Result Packet PacketFault) → AreBytes bytes → r ≡ reading bytes → IfOk r (λ p. Spells bytes p)
+found_spells bytes (Ok p) all e = read_spells bytes all p (sym e)
+found_spells bytes (Err fault) all e = tt
 
 -- bytes are read as what they spell
 pub spelled_read : (bytes : List ℕ) (p : Packet) → Spells bytes p → reading bytes ≡ Ok p

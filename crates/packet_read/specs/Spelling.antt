@@ -32,7 +32,7 @@ IsAllowed (Step m) = IsAllowedMove m
 IsAllowed Leave = Unit {0}
 
 -- each field of a move fits its type
-pub record FitsMove (m : MovePacket) : Type 0 where
+pub record MoveFits (m : MovePacket) : Type 0 where
   pub seq : m.seq < 2 ^ 32
   pub ms : m.ms < 2 ^ 8
   pub wish_x : FitsSigned w16 m.wish_x
@@ -42,7 +42,7 @@ pub record FitsMove (m : MovePacket) : Type 0 where
 -- each field of the packet fits its type
 abbrev pub Fits : Packet → Type 0
 Fits Join = Unit {0}
-Fits (Step m) = FitsMove m
+Fits (Step m) = MoveFits m
 Fits Leave = Unit {0}
 
 -- the bytes spell the packet

@@ -5,7 +5,7 @@ use std::marker::Model;
 pub const MAX_PACKET_BYTES: usize = 64;
 
 /// A list of at most `MAX_PACKET_BYTES` bytes, which lie in the value itself and take no memory.
-#[derive(Debug, Drop)]
+#[derive(Debug, Default, Drop)]
 pub struct PacketBytes {
     bytes: ArrayVec<u8, MAX_PACKET_BYTES>,
 }
@@ -49,7 +49,7 @@ impl PacketBytes {
         self.bytes.try_push(byte).is_ok()
     }
 
-    // Puts bytes last, for which there is room.
+    /// Puts bytes last, for which there is room.
     pub(crate) fn append(&mut self, bytes: &[u8])
         requires { length self.old + length bytes.now ≤ MAX_PACKET_BYTES }
         ensures { self.new ≡ self.old ++ bytes.now }

@@ -1,4 +1,4 @@
-ghost use Rattle.std.specs.Prelude.{◌≡◌, ◌∷◌, ◌↔◌, Some, length};
+ghost use Rattle.std.specs.Prelude.{◌≡◌, ◌∷◌, ◌↔◌, Some, IfOk};
 ghost use Rattle.packet_read.specs.declared.packet.Packet.{Packet};
 ghost use Rattle.packet_read.specs.declared.packet_fault.PacketFault.{PacketFault};
 ghost use Rattle.packet_read.specs.Spelling.{Spells};
@@ -8,12 +8,16 @@ ghost use Rattle.packet_read.specs.Reading.{reading};
 use crate::move_packet::MovePacket;
 use crate::packet::Packet;
 use crate::packet_fault::PacketFault;
-use crate::wire::{JOIN, JUMP, LEAVE, MAX_MS, MOVE, VERSION};
+use crate::wire::{JOIN, KNOWN_BUTTONS, LEAVE, MAX_MS, MOVE, MOVE_FIELDS, VERSION};
 
-/// The packet that the bytes spell, or the first rule of the format that they break.
+/// The packet that the bytes spell, or the first fault in the order of `PacketFault`.
 pub fn read_packet(bytes: &[u8]) -> Result<Packet, PacketFault>
-    ensures packet { (p : Packet) → (result ≡ Ok p) ↔ Spells bytes.now p }
+    // What is read is what the bytes spell, and what they spell is read.
+    ensures found { IfOk result (λ p. Spells bytes.now p) }
+    ensures only { (p : Packet) → Spells bytes.now p → result ≡ Ok p }
+    // Each fault comes exactly where it is the cause.
     ensures cause { (fault : PacketFault) → (result ≡ Err fault) ↔ (cause_of bytes.now ≡ Some fault) }
+    // The same as a function of the bytes.
     ensures answer { result ≡ reading bytes.now }
 {
     match bytes {
@@ -42,7 +46,7 @@ fn read_kind(bytes: &[u8]) -> Result<Packet, PacketFault>
 fn read_move(fields: &[u8]) -> Result<Packet, PacketFault>
     ensures { result ≡ reading (1 ∷ 2 ∷ fields.now) }
 {
-    if fields.len() < 10 {
+    if fields.len() < MOVE_FIELDS {
         return Err(PacketFault::Short);
     }
     let &[s0, s1, s2, s3, ms, x0, x1, y0, y1, buttons] = fields else {
@@ -51,7 +55,7 @@ fn read_move(fields: &[u8]) -> Result<Packet, PacketFault>
     if ms < 1 || ms > MAX_MS {
         return Err(PacketFault::Time);
     }
-    if buttons > JUMP {
+    if buttons > KNOWN_BUTTONS {
         return Err(PacketFault::Buttons);
     }
     Ok(Packet::Step(MovePacket {

@@ -10,5 +10,7 @@ pub const MOVE: u8 = 2;
 pub const LEAVE: u8 = 3;
 /// The longest time of a move, in milliseconds.
 pub const MAX_MS: u8 = 50;
-/// The bit of `buttons` that is set while the jump button is held down, and the only one that is known.
-pub const JUMP: u8 = 1;
+/// The buttons that are known: bit 0, the jump.
+pub const KNOWN_BUTTONS: u8 = 1;
+/// How many bytes the fields of a move take.
+pub const MOVE_FIELDS: usize = 10;

@@ -1,5 +1,5 @@
 ghost use Rattle.std.specs.Prelude.{◌≡◌, ◌∷◌, Ok};
-ghost use Rattle.packet_read.specs.Spelling.{spelling, move_fields, FitsMove, IsAllowed};
+ghost use Rattle.packet_read.specs.Spelling.{spelling, move_fields, MoveFits, IsAllowed};
 ghost use Rattle.packet_read.specs.Reading.{reading};
 
 use crate::move_packet::MovePacket;
@@ -25,12 +25,23 @@ pub fn write_packet(p: &Packet) -> PacketBytes
 // The twelve bytes of a move.
 fn move_bytes(step: MovePacket) -> [u8; 12]
     ensures bytes { result ≡ 1 ∷ 2 ∷ move_fields step }
-    ensures fits { FitsMove step }
+    ensures fits { MoveFits step }
 {
     let [s0, s1, s2, s3] = step.seq.to_le_bytes();
     let [x0, x1] = step.wish_x.to_le_bytes();
     let [y0, y1] = step.wish_y.to_le_bytes();
     [
-        VERSION, MOVE, s0, s1, s2, s3, step.ms, x0, x1, y0, y1, step.buttons,
+        VERSION,
+        MOVE,
+        s0,
+        s1,
+        s2,
+        s3,
+        step.ms,
+        x0,
+        x1,
+        y0,
+        y1,
+        step.buttons,
     ]
 }

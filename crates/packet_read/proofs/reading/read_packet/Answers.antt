@@ -1,12 +1,15 @@
-use Rattle.std.proofs.Common.{◌≡◌, ◌∙◌, sym, arith}
+use Rattle.std.proofs.Common.{◌∙◌, arith}
 use Rattle.std.proofs.lemmas.Grind.{common_steps}
-use Rattle.packet_read.specs.Reading.{reading}
-use Rattle.packet_read.proofs.Rules.{bytes_are, read_spells, spelled_read}
+use Rattle.packet_read.proofs.Rules.{bytes_are, found_spells, spelled_read}
 use Rattle.packet_read.proofs.reading.read_packet.Goals as goal
 
-pub returns-in-1-clause-packet : goal.returns-in-1-clause-packet
-returns-in-1-clause-packet c =
-    let bytes = c.args.bytes.now in
-    let same : c.read_kind.result ≡ reading bytes = grind (arith, common_steps) in
-    let all = bytes_are bytes (λ i. omega (arith, c.type_inv.bytes i)) in
-    λ p. (λ e. read_spells bytes all p (sym same ∙ e), λ s. same ∙ spelled_read bytes p s)
+pub returns-in-1-clause-answer : goal.returns-in-1-clause-answer
+returns-in-1-clause-answer c = grind (arith, common_steps)
+
+pub returns-in-1-clause-found : goal.returns-in-1-clause-found
+returns-in-1-clause-found c =
+    let bytes = bytes_are c.args.bytes.now (λ i. omega (arith, c.type_inv.bytes i)) in
+    found_spells c.args.bytes.now c.read_kind.result bytes (returns-in-1-clause-answer c)
+
+pub returns-in-1-clause-only : goal.returns-in-1-clause-only
+returns-in-1-clause-only c = λ p s. returns-in-1-clause-answer c ∙ spelled_read c.args.bytes.now p s

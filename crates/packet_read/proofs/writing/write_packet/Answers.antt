@@ -1,4 +1,4 @@
-use Rattle.std.proofs.Common.{◌≡◌, subst, ap, sym, ◌∙◌, rules}
+use Rattle.std.proofs.Common.{◌≡◌, subst, ap, ◌∙◌, rules}
 use Rattle.packet_read.specs.declared.packet.Packet.{Packet}
 use Rattle.packet_read.specs.declared.packet.Packet.TheVariants.{Step}
 use Rattle.packet_read.specs.Spelling.{spelling, IsAllowed}
