@@ -1,10 +1,11 @@
-ghost use Rattle.std.specs.Prelude.{◌≡◌, ◌∷◌, Ok};
-ghost use Rattle.packet_read.specs.Spelling.{spelling, move_fields, MoveFits, IsAllowed};
+ghost use Rattle.std.specs.Prelude.{◌≡◌, ◌+◌, ◌≤◌, ◌++◌, length};
+ghost use Rattle.packet_read.specs.declared.packet.Packet.TheVariants.{Step};
+ghost use Rattle.packet_read.specs.Spelling.{spelling, MoveFits, IsAllowed};
 ghost use Rattle.packet_read.specs.Reading.{reading};
 
 use crate::move_packet::MovePacket;
 use crate::packet::Packet;
-use crate::packet_bytes::PacketBytes;
+use crate::packet_bytes::{MAX_PACKET_BYTES, PacketBytes};
 use crate::wire::{JOIN, LEAVE, MOVE, VERSION};
 
 /// The one spelling of a packet, which is read as that packet again.
@@ -16,32 +17,22 @@ pub fn write_packet(p: &Packet) -> PacketBytes
     let mut bytes = PacketBytes::new();
     match p {
         Packet::Join => bytes.append(&[VERSION, JOIN]),
-        Packet::Step(step) => bytes.append(&move_bytes(*step)),
+        Packet::Step(step) => append_move(&mut bytes, *step),
         Packet::Leave => bytes.append(&[VERSION, LEAVE]),
     }
     bytes
 }
 
-// The twelve bytes of a move.
-fn move_bytes(step: MovePacket) -> [u8; 12]
-    ensures bytes { result ≡ 1 ∷ 2 ∷ move_fields step }
+// Puts the bytes of a move last.
+fn append_move(bytes: &mut PacketBytes, step: MovePacket)
+    requires { length bytes.old + 12 ≤ MAX_PACKET_BYTES }
+    ensures appended { bytes.new ≡ bytes.old ++ spelling (Step step) }
     ensures fits { MoveFits step }
 {
-    let [s0, s1, s2, s3] = step.seq.to_le_bytes();
-    let [x0, x1] = step.wish_x.to_le_bytes();
-    let [y0, y1] = step.wish_y.to_le_bytes();
-    [
-        VERSION,
-        MOVE,
-        s0,
-        s1,
-        s2,
-        s3,
-        step.ms,
-        x0,
-        x1,
-        y0,
-        y1,
-        step.buttons,
-    ]
+    bytes.append(&[VERSION, MOVE]);
+    bytes.append(&step.seq.to_le_bytes());
+    bytes.append(&[step.ms]);
+    bytes.append(&step.wish_x.to_le_bytes());
+    bytes.append(&step.wish_y.to_le_bytes());
+    bytes.append(&[step.buttons]);
 }
