@@ -1,0 +1,170 @@
+-- Bytes that break no rule spell what stands in them.
+use Rattle.std.proofs.Common.{get_or, rules, lit<, ◌∙◌, ◌++◌, ◌≡◌, ℕ, suc, ◌<◌, ◌≤◌, Bool, true, false, cond, List, [], ◌∷◌, length, refl, sym, ap, subst, arith, inl, inr}
+use Rattle.std.specs.Prelude.{nat_lt, nat_le, ◌==◌, not, ◌&&◌, Option, Some, None, Result, Ok, Err, IfOk}
+use Rattle.std.proofs.lemmas.List.{get_or_default, nil_from_length}
+use Rattle.std.proofs.lemmas.Slice.Eq.{text_from_reads}
+use Rattle.std.proofs.lemmas.Bool.Decides.{nat_tests}
+use Rattle.std.proofs.lemmas.Bool.{false≢true, ltb-false, eqb-true, not-false, or_parts, cases_eq}
+use Rattle.packet_read.specs.declared.packet.Packet.{Packet}
+use Rattle.packet_read.specs.declared.packet.Packet.TheVariants.{Join, Step, Leave}
+use Rattle.packet_read.specs.declared.packet_fault.PacketFault.{PacketFault}
+use Rattle.packet_read.specs.declared.packet_fault.PacketFault.TheVariants.{Empty, Version, Kind, Short, Long, Time, Buttons}
+use Rattle.packet_read.specs.Spelling.{move_fields, MoveFits, Spells}
+use Rattle.packet_read.specs.Cause.{byte, form_in, breaks, cause_of}
+use Rattle.packet_read.specs.Reading.{move_in, packet_of, answer, reading}
+use Rattle.packet_read.specs.Laws.{AreBytes}
+use Rattle.packet_read.proofs.Fields.{packet_again, number_cells, wish_cells}
+
+-- the bytes break no rule
+pub record Keeps (bytes : List ℕ) : Type 0 where
+  pub empty : breaks bytes Empty ≡ false
+  pub version : breaks bytes Version ≡ false
+  pub kind : breaks bytes Kind ≡ false
+  pub short : breaks bytes Short ≡ false
+  pub long : breaks bytes Long ≡ false
+  pub time : breaks bytes Time ≡ false
+  pub buttons : breaks bytes Buttons ≡ false
+
+-- a rule that is not broken, and those behind it
+passed : (b : Bool) (fault : PacketFault) (others : Option PacketFault) → cond b (Some fault) others ≡ None → (b ≡ false) × (others ≡ None)
+passed true fault others e = absurd cc
+passed false fault others e = (refl, e)
+
+-- where there is no cause, no rule is broken
+pub keeps : (bytes : List ℕ) → cause_of bytes ≡ None → Keeps bytes
+keeps bytes none =
+    let a = passed (breaks bytes Empty) Empty _ none in
+    let b = passed (breaks bytes Version) Version _ a.1 in
+    let c = passed (breaks bytes Kind) Kind _ b.1 in
+    let d = passed (breaks bytes Short) Short _ c.1 in
+    let e = passed (breaks bytes Long) Long _ d.1 in
+    let f = passed (breaks bytes Time) Time _ e.1 in
+    let g = passed (breaks bytes Buttons) Buttons _ f.1 in
+    record { empty = a.0; version = b.0; kind = c.0; short = d.0; long = e.0; time = f.0; buttons = g.0 }
+
+-- ten bytes, one by one
+ten : (xs : List ℕ) → length xs ≡ 10 → xs ≡ byte xs 0 ∷ byte xs 1 ∷ byte xs 2 ∷ byte xs 3 ∷ byte xs 4 ∷ byte xs 5 ∷ byte xs 6 ∷ byte xs 7 ∷ byte xs 8 ∷ byte xs 9 ∷ []
+ten xs e =
+    text_from_reads xs (byte xs 0 ∷ byte xs 1 ∷ byte xs 2 ∷ byte xs 3 ∷ byte xs 4 ∷ byte xs 5 ∷ byte xs 6 ∷ byte xs 7 ∷ byte xs 8 ∷ byte xs 9 ∷ []) e
+    (refl, (refl, (refl, (refl, (refl, (refl, (refl, (refl, (refl, (refl, tt))))))))))
+
+-- the fields of a move behind its number and round its wish
+joined : (a a' x x' y y' : List ℕ) (ms buttons : ℕ) → a ≡ a' → x ≡ x' → y ≡ y' → a ++ ms ∷ x ++ y ++ buttons ∷ [] ≡ a' ++ ms ∷ x' ++ y' ++ buttons ∷ []
+joined a a' x x' y y' ms buttons p q r = cc
+
+-- ten bytes are the fields of the move that they are read as
+move_spelled : (xs : List ℕ) → length xs ≡ 10 → ((i : ℕ) → i < 10 → byte xs i < 256) → xs ≡ move_fields (move_in (1 ∷ 2 ∷ xs))
+move_spelled xs e below =
+    let seq = number_cells (byte xs 0) (byte xs 1) (byte xs 2) (byte xs 3) (below 0 (lit< tt)) (below 1 (lit< tt)) (below 2 (lit< tt)) (below 3 (lit< tt)) in
+    let wish_x = wish_cells (byte xs 5) (byte xs 6) (below 5 (lit< tt)) (below 6 (lit< tt)) in
+    let wish_y = wish_cells (byte xs 7) (byte xs 8) (below 7 (lit< tt)) (below 8 (lit< tt)) in
+    ten xs e ∙ sym (joined _ _ _ _ _ _ (byte xs 4) (byte xs 9) seq wish_x wish_y)
+
+-- the wire fits the types
+move_fits : (xs : List ℕ) → ((i : ℕ) → i < 10 → byte xs i < 256) → MoveFits (move_in (1 ∷ 2 ∷ xs))
+move_fits xs below = record {
+  seq = omega (arith, below 0 (lit< tt), below 1 (lit< tt), below 2 (lit< tt), below 3 (lit< tt));
+  ms = below 4 (lit< tt);
+  wish_x = search rules;
+  wish_y = search rules;
+  buttons = below 9 (lit< tt);
+}
+
+-- a join or a leave has two bytes
+nothing_behind : (k : ℕ) (xs : List ℕ) → nat_lt 2 (length (1 ∷ k ∷ xs)) ≡ false → xs ≡ []
+nothing_behind k xs long =
+    let le : length (1 ∷ k ∷ xs) ≤ 2 = ltb-false 2 (length (1 ∷ k ∷ xs)) long in
+    nil_from_length xs (omega arith)
+
+join_spelled : (xs : List ℕ) → Keeps (1 ∷ 1 ∷ xs) → Spells (1 ∷ 1 ∷ xs) Join
+join_spelled xs kept = record { fits = tt; allowed = tt; spelled = ap (λ (ys : List ℕ). 1 ∷ 1 ∷ ys) (nothing_behind 1 xs kept.long) }
+
+leave_spelled : (xs : List ℕ) → Keeps (1 ∷ 3 ∷ xs) → Spells (1 ∷ 3 ∷ xs) Leave
+leave_spelled xs kept = record { fits = tt; allowed = tt; spelled = ap (λ (ys : List ℕ). 1 ∷ 3 ∷ ys) (nothing_behind 3 xs kept.long) }
+
+step_spelled : (xs : List ℕ) → AreBytes (1 ∷ 2 ∷ xs) → Keeps (1 ∷ 2 ∷ xs) → Spells (1 ∷ 2 ∷ xs) (Step (move_in (1 ∷ 2 ∷ xs)))
+step_spelled xs all kept =
+    let short = or_parts (length (1 ∷ 2 ∷ xs) == 1) (nat_lt (length (1 ∷ 2 ∷ xs)) 12) kept.short in
+    let least : 12 ≤ length (1 ∷ 2 ∷ xs) = ltb-false (length (1 ∷ 2 ∷ xs)) 12 short.1 in
+    let most : length (1 ∷ 2 ∷ xs) ≤ 12 = ltb-false 12 (length (1 ∷ 2 ∷ xs)) kept.long in
+    let ten_bytes : length xs ≡ 10 = omega arith in
+    let below : (i : ℕ) → i < 10 → byte xs i < 256 = λ i lt. all (suc (suc i)) 0 (omega arith) in
+    let time = or_parts (nat_lt (byte xs 4) 1) (nat_lt 50 (byte xs 4)) kept.time in
+    record {
+      fits = move_fits xs below;
+      allowed = record {
+        least = ltb-false (byte xs 4) 1 time.0;
+        most = ltb-false 50 (byte xs 4) time.1;
+        buttons = ltb-false 1 (byte xs 9) kept.buttons;
+      };
+      spelled = ap (λ (ys : List ℕ). 1 ∷ 2 ∷ ys) (move_spelled xs ten_bytes below);
+    }
+
+-- behind version 1 a kind is 1, 2 or 3
+kind_is : (k n : ℕ) → nat_le 2 n && not (nat_le 1 k && nat_le k 3) ≡ false → 2 ≤ n → (1 ≤ k) × (k ≤ 3)
+kind_is k n e two = grind (arith, nat_tests)
+
+-- what is said of one number holds of an equal one
+abbrev IsSpelledBehind : List ℕ → ℕ → ℕ → Type 0
+IsSpelledBehind xs v k = AreBytes (v ∷ k ∷ xs) → Keeps (v ∷ k ∷ xs) → Spells (v ∷ k ∷ xs) (packet_of (form_in (v ∷ k ∷ xs)) (v ∷ k ∷ xs))
+
+kind_spelled : (k : ℕ) (xs : List ℕ) → IsSpelledBehind xs 1 k
+kind_spelled k xs all kept =
+    let kind = kind_is k (length (1 ∷ k ∷ xs)) kept.kind (omega arith) in
+    elim (cases_eq k 1) [
+      | inl e ↦ subst (IsSpelledBehind xs 1) (sym e) (λ _ kept. join_spelled xs kept) all kept
+      | inr not_join ↦ elim (cases_eq k 2) [
+        | inl e ↦ subst (IsSpelledBehind xs 1) (sym e) (step_spelled xs) all kept
+        | inr not_step ↦
+            let e : k ≡ 3 = omega arith in
+            subst (IsSpelledBehind xs 1) (sym e) (λ _ kept. leave_spelled xs kept) all kept
+      ]
+    ]
+
+-- bytes that break no rule spell the packet that stands in them
+pub kept_spelled : (bytes : List ℕ) → AreBytes bytes → Keeps bytes → Spells bytes (packet_of (form_in bytes) bytes)
+kept_spelled [] all kept = absurd (false≢true (sym kept.empty))
+kept_spelled (v ∷ []) all kept = absurd (false≢true (sym kept.short))
+kept_spelled (v ∷ k ∷ xs) all kept =
+    let e : v ≡ 1 = eqb-true v 1 (not-false (v == 1) kept.version) in
+    subst (λ (w : ℕ). IsSpelledBehind xs w k) (sym e) (kind_spelled k xs) all kept
+
+-- numbers that are below 256 at each index are bytes
+pub bytes_are : (bytes : List ℕ) → ((i : ℕ) → get_or bytes i 0 < 256) → AreBytes bytes
+bytes_are bytes below k d lt = rw (get_or_default bytes k d 0 lt) (below k)
+
+-- an answer that is a packet
+answered_ok : (cause : Option PacketFault) (q p : Packet) → answer cause q ≡ Ok p → (cause ≡ None) × (q ≡ p)
+answered_ok None q p e = (refl, cc)
+answered_ok (Some fault) q p e = absurd cc
+
+-- an answer that is a fault
+answered_err : (cause : Option PacketFault) (q : Packet) (fault : PacketFault) → answer cause q ≡ Err fault → cause ≡ Some fault
+answered_err None q fault e = absurd cc
+answered_err (Some other) q fault e = cc
+
+-- what bytes are read as, they spell
+pub read_spells : (bytes : List ℕ) → AreBytes bytes → (p : Packet) → reading bytes ≡ Ok p → Spells bytes p
+read_spells bytes all p e =
+    let parts = answered_ok (cause_of bytes) (packet_of (form_in bytes) bytes) p e in
+    subst (λ (q : Packet). Spells bytes q) parts.1 (kept_spelled bytes all (keeps bytes parts.0))
+
+-- the same of a result
+pub found_spells : (bytes : List ℕ) (r : Result Packet PacketFault) → AreBytes bytes → r ≡ reading bytes → IfOk r (λ p. Spells bytes p)
+found_spells bytes (Ok p) all e = read_spells bytes all p (sym e)
+found_spells bytes (Err fault) all e = tt
+
+-- bytes are read as what they spell
+pub spelled_read : (bytes : List ℕ) (p : Packet) → Spells bytes p → reading bytes ≡ Ok p
+spelled_read bytes p s = ap reading s.spelled ∙ packet_again p s.fits s.allowed
+
+-- bytes are read as a fault exactly where it is their cause
+pub read_cause : (bytes : List ℕ) (fault : PacketFault) → reading bytes ≡ Err fault → cause_of bytes ≡ Some fault
+read_cause bytes fault e = answered_err (cause_of bytes) (packet_of (form_in bytes) bytes) fault e
+
+pub cause_read : (bytes : List ℕ) (fault : PacketFault) → cause_of bytes ≡ Some fault → reading bytes ≡ Err fault
+cause_read bytes fault e = ap (λ (cause : Option PacketFault). answer cause (packet_of (form_in bytes) bytes)) e
+
+-- bytes that spell a packet have no cause
+pub spelled_no_cause : (bytes : List ℕ) (p : Packet) → Spells bytes p → cause_of bytes ≡ None
+spelled_no_cause bytes p s = (answered_ok (cause_of bytes) (packet_of (form_in bytes) bytes) p (spelled_read bytes p s)).0

@@ -1,0 +1,27 @@
+use Rattle.std.proofs.Common.{◌≡◌, List, ◌++◌, ℕ, append_assoc, rules}
+use Rattle.std.specs.Int.{w16, cast_unsigned, to_le_bytes}
+use Rattle.packet_read.proofs.writing.append_move.Goals as goal
+
+-- six lists put last, one after the other
+in_turn : (a b c d e f g p q r s t u : List ℕ)
+    → b ≡ a ++ p
+    → c ≡ b ++ q
+    → d ≡ c ++ r
+    → e ≡ d ++ s
+    → f ≡ e ++ t
+    → g ≡ f ++ u
+    → g ≡ a ++ (p ++ (q ++ (r ++ (s ++ (t ++ u)))))
+in_turn a b c d e f g p q r s t u eb ec ed ee ef eg = rw (eg, ef, ee, ed, ec, eb) (simp append_assoc)
+
+pub returns-clause-appended : goal.returns-clause-appended
+returns-clause-appended c =
+    let step = c.args.step in
+    let wish_x : c.to_le_bytes-2.result ≡ to_le_bytes w16 (cast_unsigned w16 step.wish_x) = search rules in
+    let wish_y : c.to_le_bytes-3.result ≡ to_le_bytes w16 (cast_unsigned w16 step.wish_y) = search rules in
+    in_turn _ _ _ _ _ _ _ _ _ _ _ _ _
+    c.append.ensures
+    (rw c.to_le_bytes.ensures at c.append-2.ensures)
+    c.append-3.ensures
+    (rw wish_x at c.append-4.ensures)
+    (rw wish_y at c.append-5.ensures)
+    c.append-6.ensures

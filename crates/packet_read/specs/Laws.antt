@@ -1,0 +1,30 @@
+-- What holds of spellings and causes.
+use Rattle.std.specs.Prelude.{◌≡◌, ◌↔◌, ℕ, ◌^◌, ◌<◌, List, All, Some, None, Ok, Err}
+use Rattle.packet_read.specs.declared.packet.Packet.{Packet}
+use Rattle.packet_read.specs.declared.packet_fault.PacketFault.{PacketFault}
+use Rattle.packet_read.specs.Spelling.{spelling, Fits, Spells}
+use Rattle.packet_read.specs.Cause.{cause_of}
+use Rattle.packet_read.specs.Reading.{reading}
+
+-- each number is a byte
+abbrev pub AreBytes : List ℕ → Type 0
+AreBytes bytes = All (λ b. b < 2 ^ 8) bytes
+
+-- the bytes spell some packet
+pub record SpellsSome (bytes : List ℕ) : Type 0 where
+  pub packet : Packet
+  pub spells : Spells bytes packet
+
+-- bytes have no cause exactly where they spell some packet
+abbrev pub NoCauseWhereSpelled : Type 0
+NoCauseWhereSpelled = (bytes : List ℕ) → AreBytes bytes → (cause_of bytes ≡ None) ↔ SpellsSome bytes
+
+-- a packet has one spelling, and no two packets have the same
+pub record OneSpelling : Type 0 where
+  pub of_a_packet : (p : Packet) (a b : List ℕ) → Spells a p → Spells b p → a ≡ b
+  pub of_no_other : (p q : Packet) → Fits p → Fits q → spelling p ≡ spelling q → p ≡ q
+
+-- bytes are read as a packet exactly where they spell it, and else as their cause
+pub record ReadWhereSpelled : Type 0 where
+  pub packet : (bytes : List ℕ) → AreBytes bytes → (p : Packet) → (reading bytes ≡ Ok p) ↔ Spells bytes p
+  pub cause : (bytes : List ℕ) (fault : PacketFault) → (reading bytes ≡ Err fault) ↔ (cause_of bytes ≡ Some fault)

@@ -1,0 +1,33 @@
+-- What bytes are read as.
+use Rattle.std.specs.Prelude.{ℕ, List, [], ◌∷◌, Option, Some, None, Result, Ok, Err}
+use Rattle.std.specs.Int.{w16, w32, cast_signed, from_le_bytes}
+use Rattle.packet_read.specs.declared.move_packet.MovePacket.{MovePacket}
+use Rattle.packet_read.specs.declared.packet.Packet.{Packet}
+use Rattle.packet_read.specs.declared.packet.Packet.TheVariants.{Join, Step, Leave}
+use Rattle.packet_read.specs.declared.packet_fault.PacketFault.{PacketFault}
+use Rattle.packet_read.specs.Cause.{Form, join, step, leave, byte, form_in, cause_of}
+
+-- the move whose fields stand at their places
+abbrev pub move_in : List ℕ → MovePacket
+move_in bytes = record {
+  seq = from_le_bytes w32 (byte bytes 2 ∷ byte bytes 3 ∷ byte bytes 4 ∷ byte bytes 5 ∷ []);
+  ms = byte bytes 6;
+  wish_x = cast_signed w16 (from_le_bytes w16 (byte bytes 7 ∷ byte bytes 8 ∷ []));
+  wish_y = cast_signed w16 (from_le_bytes w16 (byte bytes 9 ∷ byte bytes 10 ∷ []));
+  buttons = byte bytes 11;
+}
+
+-- the packet of that form, with the fields that stand in the bytes
+abbrev pub packet_of : Form → List ℕ → Packet
+packet_of join bytes = Join
+packet_of step bytes = Step (move_in bytes)
+packet_of leave bytes = Leave
+
+-- the cause where there is one, and else the packet
+abbrev pub answer : Option PacketFault → Packet → Result Packet PacketFault
+answer None p = Ok p
+answer (Some fault) p = Err fault
+
+-- what the bytes are read as
+abbrev pub reading : List ℕ → Result Packet PacketFault
+reading bytes = answer (cause_of bytes) (packet_of (form_in bytes) bytes)

@@ -1,0 +1,16 @@
+ghost use Rattle.packet_read.specs.Laws.{NoCauseWhereSpelled, OneSpelling, ReadWhereSpelled};
+
+/// Bytes break no rule of the format exactly where they spell some packet.
+pub fn no_cause_where_spelled()
+    ensures { NoCauseWhereSpelled }
+{}
+
+/// A packet has one spelling, and no two packets have the same.
+pub fn one_spelling()
+    ensures { OneSpelling }
+{}
+
+/// Bytes are read as a packet exactly where they spell it, and else as the first fault.
+pub fn read_where_spelled()
+    ensures { ReadWhereSpelled }
+{}
