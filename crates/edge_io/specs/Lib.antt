@@ -1,0 +1,5 @@
+-- The definitions of sources, sinks and the lines of a source.
+pub mod Counts
+pub mod Memory
+pub mod Writes
+pub mod Lines
