@@ -7,8 +7,8 @@ use Rattle.memchr.specs.Find.{IsFirstByte, is_byte}
 use Rattle.edge_io.specs.Lines.{HasNoLineFeed}
 
 false_from_not : (b : Bool) → (b ≡ true → ⊥) → b ≡ false
-false_from_not true no = absurd (no refl)
-false_from_not false no = refl
+false_from_not true isnt = absurd (isnt refl)
+false_from_not false _ = refl
 
 -- a search that finds none
 pub HasNoLineFeed-from_none : (bytes : List ℕ) → IsFirstByte (is_byte 10) bytes None → HasNoLineFeed bytes

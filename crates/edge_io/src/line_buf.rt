@@ -1,6 +1,5 @@
 ghost use Rattle.std.specs.Prelude.{◌≡◌, ℕ, ◌+◌, ◌<◌, ◌≤◌, ◌↔◌, List, [], ◌∷◌, ◌++◌, IsTrue, IfOk, length};
 ghost use Rattle.std.specs.Bool.{OnFalse, OnTrue};
-ghost use Rattle.edge_io.specs.Lines.{AreBytes};
 
 use std::alloc::{AllocError, Global};
 use std::marker::Model;
@@ -68,7 +67,6 @@ impl LineBuf {
     pub fn as_slice(&self) -> &[u8]
         ensures value { result.now ≡ self.now }
         ensures within { length self.now ≤ ROOM }
-        ensures bytes { AreBytes self.now }
     {
         self.bytes.as_slice()
     }
