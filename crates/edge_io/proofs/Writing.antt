@@ -28,7 +28,7 @@ IsWritten-more old now next bytes rest n written more = record {
 pub IsWritten-all : (old now : Option (List ℕ)) (bytes rest : List ℕ) → length rest ≡ 0 → IsWritten old now bytes rest → Appends old now bytes
 IsWritten-all old now bytes rest none written =
     let whole : bytes ≡ written.front =
-        written.split ∙ ap (λ l. written.front ++ l) (nil_from_length rest none) ∙ append-nil written.front in
+    written.split ∙ ap (λ l. written.front ++ l) (nil_from_length rest none) ∙ append-nil written.front in
     subst (Appends old now) (sym whole) written.appended
 
 pub IsWritten-part : (old now next : Option (List ℕ)) (bytes rest : List ℕ) → 0 < length rest → IsWritten old now bytes rest → Keeps now next → AppendsPart old next bytes

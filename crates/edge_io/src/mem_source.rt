@@ -25,11 +25,11 @@ impl<'a> Model for MemSource<'a> {
     ghost Value = { Input };
 
     ghost view = { λ s. record {
-        left = s.rest.now;
-        most = s.most;
-        fails = s.fails.now;
-        calls = s.calls;
-        faults = s.faults;
+      left = s.rest.now;
+      most = s.most;
+      fails = s.fails.now;
+      calls = s.calls;
+      faults = s.faults;
     } };
 
     ghost invariant = { λ s. 1 ≤ s.most };
