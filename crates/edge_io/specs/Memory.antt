@@ -1,5 +1,5 @@
 -- What a source and a sink in memory are seen as.
-use Rattle.std.specs.Prelude.{ℕ, ◌-◌, ◌+◌, ◌^◌, ◌++◌, List, length, take, drop, min}
+use Rattle.std.specs.Prelude.{ℕ, ◌-◌, ◌++◌, List, length, drop, min}
 use Rattle.edge_io.specs.Counts.{one_more}
 
 -- a source in memory: the bytes that are left, the most that a read gives, the numbers of the calls that fail, how many

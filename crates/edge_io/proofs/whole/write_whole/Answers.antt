@@ -1,4 +1,4 @@
-use Rattle.std.proofs.Common.{arith, rules, ◌≤◌, ◌<◌, ◌≡◌, length, ap, length-append, nat_eq, true, false}
+use Rattle.std.proofs.Common.{arith, ◌<◌, length, ap, length-append}
 use Rattle.std.proofs.lemmas.Result.{err_from_is_err_and}
 use Rattle.edge_io.proofs.Writing.{IsWritten-more, IsWritten-part}
 use Rattle.edge_io.proofs.whole.write_whole.Goals as goal
