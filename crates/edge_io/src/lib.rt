@@ -1,0 +1,26 @@
+//! Sources and sinks of bytes that count their faults, and the lines of a source.
+#![tactic(auto)]
+
+pub use failed::Failed;
+pub use line_buf::{LineBuf, ROOM};
+pub use line_reader::{LONGEST, LineReader, NextLine};
+pub use mem_sink::MemSink;
+pub use mem_source::MemSource;
+pub use sink::Sink;
+pub use source::Source;
+pub use std_sink::StdSink;
+pub use std_source::StdSource;
+pub use whole::write_whole;
+
+mod failed;
+mod line_buf;
+mod line_reader;
+mod mem_sink;
+mod mem_source;
+mod sink;
+mod source;
+mod std_sink;
+mod std_source;
+#[cfg(test)]
+mod tests;
+mod whole;

@@ -1,0 +1,27 @@
+ghost use Rattle.std.specs.Prelude.{◌≡◌, ℕ, ◌<◌, ◌≤◌, List, Option, Ok, IfOk, OnErr, length};
+ghost use Rattle.std.specs.Io.{WritesAtMost};
+ghost use Rattle.std.specs.Io.KnownBytes.{WriteAppends};
+ghost use Rattle.edge_io.specs.Counts.{HasRisen};
+
+use crate::failed::Failed;
+
+/// Where bytes go.
+pub trait Sink {
+    // The bytes that the sink has taken, where it tells them.
+    ghost taken: { Self → Option (List ℕ) };
+
+    // How many faults there were so far. The count never falls, and stands still at 2^64 - 1.
+    ghost faults: { Self → ℕ };
+
+    /// Takes bytes from the front of `piece`, and answers how many: at least one of a `piece` that isn't empty. An
+    /// empty `piece` gives `Ok(0)` and no fault.
+    ///
+    /// [`Failed`] comes only where the count of faults rose in this call, and then nothing was taken.
+    fn write(&mut self, piece: &[u8]) -> Result<usize, Failed>
+        ensures bound { WritesAtMost result piece.now }
+        ensures progress { IfOk result (λ n. 0 < length piece.now → 1 ≤ n) }
+        ensures empty { length piece.now ≡ 0 → (result ≡ Ok 0) × (faults self.new ≡ faults self.old) }
+        ensures bytes { WriteAppends (taken self.old) (taken self.new) result piece.now }
+        ensures later { faults self.old ≤ faults self.new }
+        ensures cause { OnErr result (HasRisen (faults self.old) (faults self.new)) };
+}

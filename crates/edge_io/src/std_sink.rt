@@ -1,0 +1,65 @@
+ghost use Rattle.std.specs.Prelude.{◌≡◌, ◌<◌, ◌≤◌, ℕ, None, Ok, IfOk, OnErr, length};
+ghost use Rattle.std.specs.Io.{WritesAtMost};
+ghost use Rattle.std.specs.Io.KnownBytes.{WriteAppends};
+ghost use Rattle.edge_io.specs.Counts.{HasRisen};
+
+use crate::failed::Failed;
+use crate::sink::Sink;
+use std::io::Write;
+use std::marker::Model;
+
+/// A sink over a writer of the standard library. It tells no bytes, and counts as a fault each error of the writer, and
+/// each write that takes none of a piece that isn't empty.
+#[derive(Drop)]
+pub struct StdSink<W> {
+    inner: W,
+    errors: u64,
+}
+
+impl<W> Model for StdSink<W> {
+    ghost use Rattle.edge_io.specs.Adapters.{Adapter};
+
+    ghost Value = { Adapter W };
+
+    ghost view = { λ s. record { inner = s.inner; errors = s.errors } };
+}
+
+impl<W: Write> StdSink<W> {
+    /// The writer as a sink, with no fault so far.
+    pub fn new(inner: W) -> StdSink<W>
+        ensures inner { result.inner ≡ inner }
+        ensures errors { result.errors ≡ 0 }
+    {
+        StdSink { inner, errors: 0 }
+    }
+}
+
+impl<W: Write> Sink for StdSink<W> {
+    ghost taken = { λ _. None };
+
+    ghost faults = { λ s. s.errors };
+
+    fn write(&mut self, piece: &[u8]) -> Result<usize, Failed>
+        // What every sink says of one that tells no bytes.
+        ensures bound { WritesAtMost result piece.now }
+        ensures progress { IfOk result (λ n. 0 < length piece.now → 1 ≤ n) }
+        ensures empty { length piece.now ≡ 0 → (result ≡ Ok 0) × (self.new.errors ≡ self.old.errors) }
+        ensures bytes { WriteAppends None None result piece.now }
+        ensures later { self.old.errors ≤ self.new.errors }
+        ensures cause { OnErr result (HasRisen self.old.errors self.new.errors) }
+
+        // The writer took what is answered, where the writer tells its bytes.
+        ensures passed { WriteAppends (W.contents self.old.inner) (W.contents self.new.inner) result piece.now }
+    {
+        if piece.is_empty() {
+            return Ok(0);
+        }
+        match self.inner.write(piece) {
+            Ok(count) if count > 0 => Ok(count),
+            _ => {
+                self.errors = self.errors.saturating_add(1);
+                Err(Failed)
+            }
+        }
+    }
+}
