@@ -1,11 +1,10 @@
 -- How far a velocity may be from 0 after each rule.
-use Rattle.std.proofs.Common.{◌≡◌, ℕ, ◌+◌, ◌*◌, ◌/◌, ◌≤◌, Bool, true, false, ℤ, arith}
+use Rattle.std.proofs.Common.{ℕ, ◌+◌, ◌*◌, ◌/◌, ◌≤◌, true, false, ℤ, arith}
 use Rattle.std.specs.Prelude.{unsigned_abs}
 use Rattle.std.proofs.lemmas.Int.{ints}
 use Rattle.arena_geo.specs.declared.vec3.Vec3.{Vec3}
 use Rattle.arena_geo.specs.Vectors.{IsNear}
-use Rattle.speed_rules.specs.declared.constants.TheConstants.{GRAVITY, SECOND, JUMP_SPEED}
-use Rattle.speed_rules.specs.Rules.{jumped, friction_of, accelerated, gravity_of, unclamped}
+use Rattle.speed_rules.specs.Rules.{jumped, friction_of, accelerated, gravity_of}
 use Rattle.speed_rules.specs.Changes.{Shortens, AddsAtMost}
 use Rattle.speed_rules.specs.Laws.{WhatEntersTheClampIsNear}
 use Rattle.speed_rules.proofs.Slowing.{friction_shortens}

@@ -1,13 +1,13 @@
 -- What acceleration does to a velocity.
-use Rattle.std.proofs.Common.{◌≡◌, ℕ, zero, suc, ◌+◌, ◌*◌, ◌/◌, ◌<◌, ◌≤◌, min, Bool, true, false, if◌then◌else◌, ℤ, pos, ◌+ℤ◌, ◌-ℤ◌, ◌*ℤ◌, ◌≤ℤ◌, ◌<ℤ◌, refl, ap, ◌∙◌, arith}
+use Rattle.std.proofs.Common.{◌≡◌, ℕ, zero, suc, ◌*◌, ◌/◌, ◌<◌, ◌≤◌, min, Bool, true, false, if◌then◌else◌, ℤ, pos, ◌*ℤ◌, ◌≤ℤ◌, ◌<ℤ◌, refl, arith}
 use Rattle.std.specs.Prelude.{unsigned_abs, int_lt}
 use Rattle.std.specs.Int.{int_min}
 use Rattle.std.proofs.lemmas.Nat.{mul-le}
 use Rattle.std.proofs.lemmas.Int.{ints, clamps}
 use Rattle.arena_geo.specs.declared.vec3.Vec3.{Vec3}
-use Rattle.speed_rules.specs.declared.constants.TheConstants.{UNIT, ACCELERATE, MAX_SPEED, SECOND}
+use Rattle.speed_rules.specs.declared.constants.TheConstants.{UNIT}
 use Rattle.speed_rules.specs.Measures.{length_of, scaled}
-use Rattle.speed_rules.specs.Rules.{missing_of, step_of, pushed, pushed_up_to, accelerated_toward, accelerated}
+use Rattle.speed_rules.specs.Rules.{missing_of, step_of, pushed, accelerated_toward}
 use Rattle.speed_rules.specs.Changes.{AddsAtMost}
 use Rattle.speed_rules.specs.Laws.{AccelerationIsBounded}
 use Rattle.speed_rules.proofs.Shares.{scaled_le_by, reaches_x, reaches_y}

@@ -6,8 +6,8 @@ use Rattle.std.proofs.lemmas.Nat.{mul-le, div_below}
 use Rattle.std.proofs.Math.Nat.{zero-div, div-le_self}
 use Rattle.std.proofs.lemmas.Int.{ints, to_z-of_z, unsigned_abs-mul, quot_is, quot_fits, fits_signed_from_abs}
 use Rattle.arena_geo.specs.Roots.{IsRoot, root_of}
-use Rattle.arena_geo.proofs.Squares.{le_from_square, next_square, root_is_greatest}
-use Rattle.speed_rules.specs.Measures.{length_of, scaled}
+use Rattle.arena_geo.proofs.Squares.{le_from_square, root_is_greatest}
+use Rattle.speed_rules.specs.Measures.{scaled}
 
 abs-neg : (n : ℕ) → unsigned_abs (neg_ℤ (pos n)) ≡ n
 abs-neg zero = refl

@@ -1,12 +1,11 @@
 -- What friction does to a velocity.
-use Rattle.std.proofs.Common.{◌≡◌, ℕ, zero, suc, ◌+◌, ◌-◌, ◌*◌, ◌/◌, ◌<◌, ◌≤◌, max, ℤ, pos, ◌≤ℤ◌, List, [], ◌∷◌, length, refl, ap, ◌∙◌, sym, arith}
-use Rattle.std.specs.Prelude.{unsigned_abs, fold, All}
+use Rattle.std.proofs.Common.{◌≡◌, ℕ, zero, suc, ◌+◌, ◌-◌, ◌*◌, ◌/◌, ◌<◌, ◌≤◌, max, ℤ, pos, [], ◌∷◌, refl, ap, ◌∙◌, arith}
+use Rattle.std.specs.Prelude.{unsigned_abs}
 use Rattle.std.proofs.Math.Nat.{div-mul-le_self}
 use Rattle.std.proofs.lemmas.Nat.{mul-le, le-div}
 use Rattle.std.proofs.lemmas.Int.{ints}
 use Rattle.std.proofs.lemmas.List.Elements.{All-head, All-tail}
 use Rattle.arena_geo.specs.declared.vec3.Vec3.{Vec3}
-use Rattle.arena_geo.specs.Roots.{IsRoot, root_of}
 use Rattle.arena_geo.proofs.Squares.{le_from_square, next_square, root_is_greatest}
 use Rattle.arena_geo.proofs.Vectors.{same_parts}
 use Rattle.speed_rules.specs.declared.constants.TheConstants.{STOP_SPEED, FRICTION, SECOND}

@@ -1,9 +1,8 @@
 -- What the code computes in its types, where everything fits.
-use Rattle.std.proofs.Common.{◌≡◌, ℕ, ◌^◌, ◌<◌, ◌≤◌, Bool, false, ℤ, pos, ◌+ℤ◌, ◌-ℤ◌, ◌*ℤ◌, ◌<ℤ◌, ◌≤ℤ◌, ap, ◌∙◌, arith}
-use Rattle.std.specs.Prelude.{unsigned_abs, int_div, int_le, FitsSigned}
+use Rattle.std.proofs.Common.{◌≡◌, ℕ, ◌^◌, ◌<◌, ◌≤◌, false, ℤ, pos, ◌+ℤ◌, ◌-ℤ◌, ◌*ℤ◌, ◌<ℤ◌, ◌≤ℤ◌, ◌∙◌, arith}
+use Rattle.std.specs.Prelude.{unsigned_abs, int_le, FitsSigned}
 use Rattle.std.specs.Int.{Width, w16, w32, w64, int_min, cast_signed, cast_unsigned}
-use Rattle.std.proofs.lemmas.Int.{ints, clamps, to_z-of_z, fits_signed_from_abs}
-use Rattle.speed_rules.proofs.Shares.{dot_is_small}
+use Rattle.std.proofs.lemmas.Int.{ints, clamps, to_z-of_z}
 
 -- a value that went to its type's bits and is read again
 abbrev typed : Width → ℤ → ℤ

@@ -1,5 +1,5 @@
 -- The rules of a player's velocity, in the order in which a move applies them. Each division cuts toward 0 by itself.
-use Rattle.std.specs.Prelude.{ℕ, zero, suc, ◌+◌, ◌-◌, ◌*◌, ◌/◌, min, max, Bool, true, false, if◌then◌else◌, ℤ, pos, neg_ℤ, ◌+ℤ◌, ◌-ℤ◌, ◌*ℤ◌, int_lt, int_div}
+use Rattle.std.specs.Prelude.{ℕ, zero, suc, ◌-◌, ◌*◌, ◌/◌, min, max, Bool, true, false, if◌then◌else◌, ℤ, pos, neg_ℤ, ◌+ℤ◌, ◌-ℤ◌, ◌*ℤ◌, int_lt, int_div}
 use Rattle.std.specs.Int.{int_min, int_max}
 use Rattle.arena_geo.specs.declared.vec3.Vec3.{Vec3}
 use Rattle.speed_rules.specs.declared.constants.TheConstants.{UNIT, SECOND, FRICTION, STOP_SPEED, ACCELERATE, MAX_SPEED, MAX_AIR_SPEED, GRAVITY, MAX_VELOCITY, JUMP_SPEED}

@@ -3,10 +3,9 @@ ghost use Rattle.arena_geo.specs.Vectors.{IsNear};
 ghost use Rattle.speed_rules.specs.Rules.{cap_of, part_along, missing_of, step_of, pushed, accelerated_toward, accelerated};
 ghost use Rattle.speed_rules.specs.Changes.{AddsAtMost};
 
-use arena_geo::Vec3;
-
 use crate::arithmetic::{length, product, quotient, scale};
 use crate::constants::{ACCELERATE, MAX_AIR_SPEED, MAX_SPEED, SECOND, UNIT};
+use arena_geo::Vec3;
 
 /// The speed along the wish up to which a player is accelerated.
 fn cap(wish_speed: u32, on_ground: bool) -> u32

@@ -5,7 +5,7 @@ pub fn friction_shortens()
     ensures { FrictionShortens }
 {}
 
-/// Each millisecond of friction makes a player slower, as long as it has a speed.
+/// Friction leaves no more than the slowed speed, which is less than the speed as long as there is one.
 pub fn friction_slows()
     ensures { FrictionSlows }
 {}

@@ -3,14 +3,12 @@ ghost use Rattle.arena_geo.specs.Vectors.{IsNear};
 ghost use Rattle.speed_rules.specs.Rules.{slowed, friction_of, gravity_of, clamped};
 ghost use Rattle.speed_rules.specs.Changes.{Shortens};
 
-use arena_geo::Vec3;
-
 use crate::arithmetic::{length, scale};
 use crate::constants::{FRICTION, GRAVITY, MAX_VELOCITY, SECOND, STOP_SPEED};
+use arena_geo::Vec3;
 
 /// The speed that friction leaves of `speed` after `ms` milliseconds.
 fn slow(speed: u32, ms: u8) -> u32
-    requires { ms ≤ 50 }
     ensures value { result ≡ slowed ms speed }
     ensures no_faster { result ≤ speed }
 {

@@ -1,9 +1,5 @@
-use Rattle.std.proofs.Common.{◌≡◌, pos, ◌*ℤ◌, ◌∙◌, ap, arith}
-use Rattle.std.specs.Prelude.{FitsSigned}
-use Rattle.std.specs.Int.{w16, w32, cast_signed, cast_unsigned}
-use Rattle.std.proofs.lemmas.Int.{ints, to_z-of_z}
-use Rattle.speed_rules.specs.Measures.{length_of}
-use Rattle.speed_rules.specs.Rules.{accelerated, accelerated_toward}
+use Rattle.std.proofs.Common.{◌≡◌}
+use Rattle.speed_rules.specs.Rules.{accelerated}
 use Rattle.speed_rules.proofs.Pushing.{acceleration_is_bounded}
 use Rattle.speed_rules.proofs.Typed.{wish_is}
 use Rattle.speed_rules.proofs.acceleration.accelerate.Goals as goal

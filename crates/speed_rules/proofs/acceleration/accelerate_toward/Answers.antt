@@ -1,8 +1,8 @@
-use Rattle.std.proofs.Common.{◌≡◌, ◌≤◌, ◌<ℤ◌, ◌≤ℤ◌, ◌∙◌, ap, pos, arith}
+use Rattle.std.proofs.Common.{◌≡◌, ◌≤◌, ◌<ℤ◌, ◌∙◌, pos, arith}
 use Rattle.std.specs.Prelude.{FitsSigned}
 use Rattle.std.specs.Int.{w32, w64, int_min, cast_signed, cast_unsigned}
-use Rattle.std.proofs.lemmas.Int.{ints, clamps, to_z-of_z}
-use Rattle.speed_rules.specs.Rules.{missing_of, step_of, pushed}
+use Rattle.std.proofs.lemmas.Int.{to_z-of_z}
+use Rattle.speed_rules.specs.Rules.{missing_of}
 use Rattle.speed_rules.proofs.Pushing.{gain_le, something_missing}
 use Rattle.speed_rules.proofs.Typed.{gain_is, gain_is_positive, positive_from_test}
 use Rattle.speed_rules.proofs.acceleration.accelerate_toward.Goals as goal
