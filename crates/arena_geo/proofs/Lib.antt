@@ -1,4 +1,5 @@
--- Lemmas on vectors and boxes.
+-- Lemmas on vectors, boxes and roots.
 pub mod Vectors
 pub mod Ranges
 pub mod Containment
+pub mod Squares

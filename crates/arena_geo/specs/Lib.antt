@@ -1,5 +1,6 @@
--- The definitions of vectors and boxes.
+-- The definitions of vectors, boxes and roots.
 pub mod Vectors
 pub mod Bounds
 pub mod Boxes
+pub mod Roots
 pub mod Laws

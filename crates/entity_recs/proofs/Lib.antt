@@ -1,0 +1,2 @@
+-- Lemmas on the boxes of records.
+pub mod Standing

@@ -1,0 +1,34 @@
+-- The boxes of records.
+use Rattle.arena_geo.specs.declared.vec3.Vec3.{Vec3}
+use Rattle.arena_geo.specs.Vectors.{plus}
+use Rattle.arena_geo.specs.Bounds.{Bounds, bounds}
+use Rattle.arena_geo.specs.Boxes.{grown}
+use Rattle.entity_recs.specs.declared.kind.Kind.{Kind}
+use Rattle.entity_recs.specs.declared.kind.Kind.TheVariants.{Player, Ammo, Gem, Teleporter, Goal, Lift}
+use Rattle.entity_recs.specs.declared.rec.Rec.{Rec}
+use Rattle.entity_recs.specs.declared.bodies.TheConstants.{PLAYER_MINS, PLAYER_MAXS, ITEM_GROWTH, GROWTH}
+
+-- from the origin plus the one corner to the origin plus the other
+abbrev pub standing : Vec3 → Vec3 → Vec3 → Bounds
+standing origin mins maxs = bounds (plus origin mins) (plus origin maxs)
+
+-- the body of a player at this origin
+abbrev pub player_body : Vec3 → Bounds
+player_body origin = standing origin PLAYER_MINS PLAYER_MAXS
+
+-- the body of a record
+abbrev pub body_of : Rec → Bounds
+body_of r = standing r.origin r.mins r.maxs
+
+-- by how much the absolute box of a kind is larger than the body on both sides of each axis
+abbrev pub growth_of : Kind → Vec3
+growth_of Player = GROWTH
+growth_of Ammo = ITEM_GROWTH
+growth_of Gem = ITEM_GROWTH
+growth_of Teleporter = GROWTH
+growth_of Goal = GROWTH
+growth_of Lift = GROWTH
+
+-- the absolute box of a record, which doesn't look at its state
+abbrev pub abs_of : Rec → Bounds
+abs_of r = grown (body_of r) (growth_of r.kind)

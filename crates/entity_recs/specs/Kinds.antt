@@ -1,0 +1,13 @@
+-- The numbers of the kinds.
+use Rattle.std.specs.Prelude.{ℕ}
+use Rattle.entity_recs.specs.declared.kind.Kind.{Kind}
+use Rattle.entity_recs.specs.declared.kind.Kind.TheVariants.{Player, Ammo, Gem, Teleporter, Goal, Lift}
+
+-- a kind's number
+abbrev pub number_of : Kind → ℕ
+number_of Player = 0
+number_of Ammo = 1
+number_of Gem = 2
+number_of Teleporter = 3
+number_of Goal = 4
+number_of Lift = 5

@@ -1,0 +1,8 @@
+-- The definitions of records, their bounds and their boxes.
+pub use Rattle.arena_geo.specs.Vectors
+pub use Rattle.arena_geo.specs.Bounds
+pub use Rattle.arena_geo.specs.Boxes
+pub mod Kinds
+pub mod Records
+pub mod Bodies
+pub mod Laws

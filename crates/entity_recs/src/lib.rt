@@ -1,0 +1,14 @@
+//! Records of what stands in the arena, the commands that move players, and the boxes of records.
+#![tactic(auto)]
+
+pub use bodies::{ITEM_MAXS, ITEM_MINS, PLAYER_MAXS, PLAYER_MINS, abs_box, body_box, player_box};
+pub use cmd::Cmd;
+pub use kind::Kind;
+pub use laws::{abs_contains_body, abs_ignores_state, records_have_boxes};
+pub use rec::Rec;
+
+mod bodies;
+mod cmd;
+mod kind;
+mod laws;
+mod rec;

@@ -1,0 +1,26 @@
+-- By how much the rules change a velocity.
+use Rattle.std.specs.Prelude.{◌≡◌, ℕ, ◌≤◌, ℤ, pos, ◌-ℤ◌, ◌≤ℤ◌, unsigned_abs}
+use Rattle.arena_geo.specs.declared.vec3.Vec3.{Vec3}
+
+-- a part is no longer than it was, and its sign isn't turned
+pub record IsShortened (old new : ℤ) : Type 0 where
+  pub no_longer : unsigned_abs new ≤ unsigned_abs old
+  pub stays_positive : pos 0 ≤ℤ old → pos 0 ≤ℤ new
+  pub stays_negative : old ≤ℤ pos 0 → new ≤ℤ pos 0
+
+-- x and y are shortened, and z is the same
+pub record Shortens (old new : Vec3) : Type 0 where
+  pub x : IsShortened old.x new.x
+  pub y : IsShortened old.y new.y
+  pub z : new.z ≡ old.z
+
+-- x and y differ from what they were by at most this much, and z is the same
+pub record AddsAtMost (most : ℕ) (old new : Vec3) : Type 0 where
+  pub x : unsigned_abs (new.x -ℤ old.x) ≤ most
+  pub y : unsigned_abs (new.y -ℤ old.y) ≤ most
+  pub z : new.z ≡ old.z
+
+-- no speed over the ground is left
+pub record IsStill (v : Vec3) : Type 0 where
+  pub x : v.x ≡ pos 0
+  pub y : v.y ≡ pos 0
