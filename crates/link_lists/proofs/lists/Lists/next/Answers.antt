@@ -1,0 +1,12 @@
+use Rattle.std.proofs.Common.{◌≡◌, ◌∙◌, arith, rules}
+use Rattle.std.proofs.lemmas.Grind.{common_steps}
+use Rattle.link_lists.specs.Pool.{IsProper, next_of}
+use Rattle.link_lists.proofs.Pools.{next_of-at}
+use Rattle.link_lists.proofs.lists.Lists.next.Goals as goal
+
+-- the link is what the lists say, and they say what stands at the next place
+pub returns-clause-follows : goal.returns-clause-follows
+returns-clause-follows c =
+    let proper : IsProper c.args.self.now = search rules in
+    let link : c.index.result.now ≡ next_of c.args.self.now c.args.id = grind (arith, common_steps) in
+    λ list place at. link ∙ next_of-at c.args.self.now list place c.args.id proper at
