@@ -70,6 +70,12 @@ pub where_of-next : (p : Pool) (id other k : ℕ) → IsProper p → where_of p 
 where_of-next p id other k proper at e =
     where_of-has p other k proper (has-after (list_of p k) id other (sym (next_of-in p id k at) ∙ e))
 
+-- no id comes next after itself
+pub next_of-apart : (p : Pool) (id : ℕ) → IsProper p → next_of p id ≡ Some id → ⊥
+next_of-apart p id proper e =
+    let w = next_of-Some p id id e in
+    after-apart (list_of p w.0) id (proper.once w.0) w.2
+
 -- a first id is in its list
 pub where_of-first : (p : Pool) (k id : ℕ) → IsProper p → first_of p k ≡ Some id → where_of p id ≡ Some k
 where_of-first p k id proper e = where_of-has p id k proper (has-slice_get (list_of p k) 0 id e)
