@@ -4,7 +4,7 @@ use Rattle.std.proofs.lemmas.Bool.{cases_eq, cases_lt}
 use Rattle.std.proofs.lemmas.List.{get_or_past, get_or-replicate, length-map, length-replicate}
 use Rattle.std.proofs.lemmas.Option.{none-some, same_Some}
 use Rattle.link_lists.specs.Pool.{Pool, list_of, where_of, first_of, next_of, empty_pool, inserted, removed, without, SetsOnly}
-use Rattle.link_lists.specs.Links.{link_at, set_link_of, IsLinkedAs}
+use Rattle.link_lists.specs.Links.{link_at, with_link, IsLinkedAs}
 use Rattle.link_lists.proofs.Pools.{cases_option, has-where_of, where_of-first, where_of-next, where_of-lt, first_or_next, next_of-Some, next_of-apart, list_of-empty, IsProper-empty, where_of-empty, next_of-nowhere, IsProper-inserted, where_of-inserted, first_of-inserted, first_of-inserted_other, next_of-inserted, next_of-inserted_other, IsProper-removed, where_of-removed, next_of-removed, next_of-removed_before, next_of-removed_other, first_of-removed, first_of-removed_other}
 
 -- an option is Some i or it is not
@@ -15,17 +15,17 @@ cases_Some (Some j) i = elim (cases_eq j i) [
   | inr ne ↦ inr (λ e. ne (same_Some j i e))
 ]
 
-length-set_link_of : (links : List (Option ℕ)) (at to : Option ℕ) → length (set_link_of links at to) ≡ length links
-length-set_link_of links None to = refl
-length-set_link_of links (Some i) to = length-set links i to
+length-with_link : (links : List (Option ℕ)) (at to : Option ℕ) → length (with_link links at to) ≡ length links
+length-with_link links None to = refl
+length-with_link links (Some i) to = length-set links i to
 
-link_at-set_link_of : (links : List (Option ℕ)) (at to : Option ℕ) (i : ℕ) → i < length links → at ≡ Some i → link_at (set_link_of links at to) i ≡ to
-link_at-set_link_of links None to i within e = absurd (none-some i e)
-link_at-set_link_of links (Some j) to i within e = rw (same_Some j i e) (get_or-set_same links i to None within)
+link_at-with_link : (links : List (Option ℕ)) (at to : Option ℕ) (i : ℕ) → i < length links → at ≡ Some i → link_at (with_link links at to) i ≡ to
+link_at-with_link links None to i within e = absurd (none-some i e)
+link_at-with_link links (Some j) to i within e = rw (same_Some j i e) (get_or-set_same links i to None within)
 
-link_at-set_link_of_other : (links : List (Option ℕ)) (at to : Option ℕ) (i : ℕ) → (at ≡ Some i → ⊥) → link_at (set_link_of links at to) i ≡ link_at links i
-link_at-set_link_of_other links None to i ne = refl
-link_at-set_link_of_other links (Some j) to i ne = get_or-set_other links j i to None (λ e. ne (ap (λ (x : ℕ). Some x) (sym e)))
+link_at-with_link_other : (links : List (Option ℕ)) (at to : Option ℕ) (i : ℕ) → (at ≡ Some i → ⊥) → link_at (with_link links at to) i ≡ link_at links i
+link_at-with_link_other links None to i ne = refl
+link_at-with_link_other links (Some j) to i ne = get_or-set_other links j i to None (λ e. ne (ap (λ (x : ℕ). Some x) (sym e)))
 
 link_at-replicate : (n i : ℕ) → link_at (replicate n None) i ≡ None
 link_at-replicate n i = elim (cases_lt i n) [
@@ -79,8 +79,8 @@ module _ (heads next prev places : List (Option ℕ)) (p : Pool) (k id : ℕ) (l
   moved = where_of-inserted p k id linked.proper list_in_range id_in_range unlinked
 
   -- the link back of any other id than the old first one stays
-  kept : (other : ℕ) → (first_of p k ≡ Some other → ⊥) → link_at (set_link_of prev (link_at heads k) (Some id)) other ≡ link_at prev other
-  kept other ne = link_at-set_link_of_other prev (link_at heads k) (Some id) other (λ e. ne (sym (linked.firsts k) ∙ e))
+  kept : (other : ℕ) → (first_of p k ≡ Some other → ⊥) → link_at (with_link prev (link_at heads k) (Some id)) other ≡ link_at prev other
+  kept other ne = link_at-with_link_other prev (link_at heads k) (Some id) other (λ e. ne (sym (linked.firsts k) ∙ e))
 
   inserted_firsts : (j : ℕ) → link_at (set heads k (Some id)) j ≡ first_of (inserted p k id) j
   inserted_firsts j = elim (cases_eq j k) [
@@ -113,25 +113,25 @@ module _ (heads next prev places : List (Option ℕ)) (p : Pool) (k id : ℕ) (l
     | inr apart ↦ get_or-set_other places id j (Some k) None apart ∙ linked.wheres j ∙ sym (moved.others j apart)
   ]
 
-  inserted_backs : (j other : ℕ) → next_of (inserted p k id) j ≡ Some other → link_at (set_link_of prev (link_at heads k) (Some id)) other ≡ Some j
+  inserted_backs : (j other : ℕ) → next_of (inserted p k id) j ≡ Some other → link_at (with_link prev (link_at heads k) (Some id)) other ≡ Some j
   inserted_backs j other e = elim (cases_eq j id) [
     | inl same ↦
       let first : first_of p k ≡ Some other =
           sym (next_of-inserted p k id linked.proper list_in_range id_in_range unlinked) ∙ subst (λ i. next_of (inserted p k id) i ≡ Some other) same e in
       let within = linked.proper.in_range k other (has-where_of p other k (where_of-first p k other linked.proper first)) in
-      link_at-set_link_of prev (link_at heads k) (Some id) other (let count = linked.prev_count in omega arith) (linked.firsts k ∙ first)
+      link_at-with_link prev (link_at heads k) (Some id) other (let count = linked.prev_count in omega arith) (linked.firsts k ∙ first)
       ∙ ap (λ (i : ℕ). Some i) (sym same)
     | inr apart ↦
       let back = linked.backs j other (sym (next_of-inserted_other p k id linked.proper list_in_range id_in_range unlinked j apart) ∙ e) in
       kept other (λ first. none-some j (sym (linked.fronts k other first) ∙ back)) ∙ back
   ]
 
-  inserted_fronts : (j other : ℕ) → first_of (inserted p k id) j ≡ Some other → link_at (set_link_of prev (link_at heads k) (Some id)) other ≡ None
+  inserted_fronts : (j other : ℕ) → first_of (inserted p k id) j ≡ Some other → link_at (with_link prev (link_at heads k) (Some id)) other ≡ None
   inserted_fronts j other e = elim (cases_eq j k) [
     | inl same ↦
       let is : id ≡ other = same_Some id other (
           sym (first_of-inserted p k id linked.proper list_in_range id_in_range unlinked) ∙ subst (λ i. first_of (inserted p k id) i ≡ Some other) same e) in
-      subst (λ i. link_at (set_link_of prev (link_at heads k) (Some id)) i ≡ None) is (
+      subst (λ i. link_at (with_link prev (link_at heads k) (Some id)) i ≡ None) is (
         kept id (λ first. none-some k (sym unlinked ∙ where_of-first p k id linked.proper first)) ∙ linked.frees id unlinked)
     | inr apart ↦
       let front = sym (first_of-inserted_other p k id linked.proper list_in_range id_in_range unlinked j apart) ∙ e in
@@ -139,18 +139,18 @@ module _ (heads next prev places : List (Option ℕ)) (p : Pool) (k id : ℕ) (l
       kept other (λ first. apart (same_Some j k (sym there ∙ where_of-first p k other linked.proper first))) ∙ linked.fronts j other front
   ]
 
-  inserted_frees : (other : ℕ) → where_of (inserted p k id) other ≡ None → link_at (set_link_of prev (link_at heads k) (Some id)) other ≡ None
+  inserted_frees : (other : ℕ) → where_of (inserted p k id) other ≡ None → link_at (with_link prev (link_at heads k) (Some id)) other ≡ None
   inserted_frees other e =
       let apart : other ≢ id = λ same. none-some k (sym (subst (λ i. where_of (inserted p k id) i ≡ None) same e) ∙ moved.changed) in
       let free : where_of p other ≡ None = sym (moved.others other apart) ∙ e in
       kept other (λ first. none-some k (sym free ∙ where_of-first p k other linked.proper first)) ∙ linked.frees other free
 
-  pub IsLinkedAs-inserted : IsLinkedAs (set heads k (Some id)) (set next id (link_at heads k)) (set_link_of prev (link_at heads k) (Some id)) (set places id (Some k)) (inserted p k id)
+  pub IsLinkedAs-inserted : IsLinkedAs (set heads k (Some id)) (set next id (link_at heads k)) (with_link prev (link_at heads k) (Some id)) (set places id (Some k)) (inserted p k id)
   IsLinkedAs-inserted = record {
     proper = IsProper-inserted p k id linked.proper list_in_range id_in_range unlinked;
     list_count = simp length-set linked.list_count;
     next_count = simp length-set linked.next_count;
-    prev_count = length-set_link_of prev (link_at heads k) (Some id) ∙ linked.prev_count;
+    prev_count = length-with_link prev (link_at heads k) (Some id) ∙ linked.prev_count;
     place_count = simp length-set linked.place_count;
     firsts = inserted_firsts;
     nexts = inserted_nexts;
@@ -187,13 +187,13 @@ module _ (heads next prev places : List (Option ℕ)) (p : Pool) (k id : ℕ) (l
   left : SetsOnly p (removed p id) id None
   left = where_of-removed p id linked.proper
 
-  removed_nexts : (j : ℕ) → link_at (set_link_of (set next id None) (link_at prev id) (link_at next id)) j ≡ next_of (removed p id) j
+  removed_nexts : (j : ℕ) → link_at (with_link (set next id None) (link_at prev id) (link_at next id)) j ≡ next_of (removed p id) j
   removed_nexts j =
       let count = linked.next_count in
       let inside = within_ids in
       elim (cases_eq j id) [
         | inl same ↦ rw same (
-            link_at-set_link_of_other (set next id None) (link_at prev id) (link_at next id) id (λ e. next_of-apart p id linked.proper (comes_after id e))
+            link_at-with_link_other (set next id None) (link_at prev id) (link_at next id) id (λ e. next_of-apart p id linked.proper (comes_after id e))
             ∙ get_or-set_same next id None None (omega arith)
             ∙ sym (next_of-removed p id linked.proper))
         | inr apart ↦ elim (cases_Some (link_at prev id) j) [
@@ -201,11 +201,11 @@ module _ (heads next prev places : List (Option ℕ)) (p : Pool) (k id : ℕ) (l
               let before = comes_after j back in
               let w = next_of-Some p j id before in
               let j_in = linked.proper.in_range w.0 j (has-where_of p j w.0 w.1) in
-              link_at-set_link_of (set next id None) (link_at prev id) (link_at next id) j (simp length-set (omega arith)) back
+              link_at-with_link (set next id None) (link_at prev id) (link_at next id) j (simp length-set (omega arith)) back
               ∙ linked.nexts id
               ∙ sym (next_of-removed_before p id linked.proper j before)
             | inr other ↦
-              link_at-set_link_of_other (set next id None) (link_at prev id) (link_at next id) j other
+              link_at-with_link_other (set next id None) (link_at prev id) (link_at next id) j other
               ∙ get_or-set_other next id j None None apart
               ∙ linked.nexts j
               ∙ sym (next_of-removed_other p id linked.proper j apart (λ e. other (linked.backs j id e)))
@@ -222,26 +222,26 @@ module _ (heads next prev places : List (Option ℕ)) (p : Pool) (k id : ℕ) (l
       ]
 
   -- the links back: the id after the removed one has its link, any other keeps its own
-  back_after : (j : ℕ) → next_of p id ≡ Some j → link_at (set_link_of (set prev id None) (link_at next id) (link_at prev id)) j ≡ link_at prev id
+  back_after : (j : ℕ) → next_of p id ≡ Some j → link_at (with_link (set prev id None) (link_at next id) (link_at prev id)) j ≡ link_at prev id
   back_after j e =
       let count = linked.prev_count in
       let there = where_of-next p id j k linked.proper at e in
       let inside = linked.proper.in_range k j (has-where_of p j k there) in
-      link_at-set_link_of (set prev id None) (link_at next id) (link_at prev id) j (simp length-set (omega arith)) (linked.nexts id ∙ e)
+      link_at-with_link (set prev id None) (link_at next id) (link_at prev id) j (simp length-set (omega arith)) (linked.nexts id ∙ e)
 
-  back_other : (j : ℕ) → j ≢ id → (next_of p id ≡ Some j → ⊥) → link_at (set_link_of (set prev id None) (link_at next id) (link_at prev id)) j ≡ link_at prev j
+  back_other : (j : ℕ) → j ≢ id → (next_of p id ≡ Some j → ⊥) → link_at (with_link (set prev id None) (link_at next id) (link_at prev id)) j ≡ link_at prev j
   back_other j apart ne =
-      link_at-set_link_of_other (set prev id None) (link_at next id) (link_at prev id) j (λ e. ne (sym (linked.nexts id) ∙ e))
+      link_at-with_link_other (set prev id None) (link_at next id) (link_at prev id) j (λ e. ne (sym (linked.nexts id) ∙ e))
       ∙ get_or-set_other prev id j None None apart
 
-  back_itself : link_at (set_link_of (set prev id None) (link_at next id) (link_at prev id)) id ≡ None
+  back_itself : link_at (with_link (set prev id None) (link_at next id) (link_at prev id)) id ≡ None
   back_itself =
       let count = linked.prev_count in
       let inside = within_ids in
-      link_at-set_link_of_other (set prev id None) (link_at next id) (link_at prev id) id (λ e. next_of-apart p id linked.proper (sym (linked.nexts id) ∙ e))
+      link_at-with_link_other (set prev id None) (link_at next id) (link_at prev id) id (λ e. next_of-apart p id linked.proper (sym (linked.nexts id) ∙ e))
       ∙ get_or-set_same prev id None None (omega arith)
 
-  removed_backs : (j other : ℕ) → next_of (removed p id) j ≡ Some other → link_at (set_link_of (set prev id None) (link_at next id) (link_at prev id)) other ≡ Some j
+  removed_backs : (j other : ℕ) → next_of (removed p id) j ≡ Some other → link_at (with_link (set prev id None) (link_at next id) (link_at prev id)) other ≡ Some j
   removed_backs j other e = elim (cases_eq j id) [
     | inl same ↦ absurd (none-some other (sym (subst (λ i. next_of (removed p id) i ≡ None) (sym same) (next_of-removed p id linked.proper)) ∙ e))
     | inr apart ↦ elim (cases_Some (next_of p j) id) [
@@ -257,7 +257,7 @@ module _ (heads next prev places : List (Option ℕ)) (p : Pool) (k id : ℕ) (l
       ]
   ]
 
-  removed_fronts : (j other : ℕ) → first_of (removed p id) j ≡ Some other → link_at (set_link_of (set prev id None) (link_at next id) (link_at prev id)) other ≡ None
+  removed_fronts : (j other : ℕ) → first_of (removed p id) j ≡ Some other → link_at (with_link (set prev id None) (link_at next id) (link_at prev id)) other ≡ None
   removed_fronts j other e = elim (cases_Some (first_of p j) id) [
     | inl first ↦ back_after other (sym (first_of-removed p id linked.proper j first) ∙ e) ∙ linked.fronts j id first
     | inr ne ↦
@@ -269,7 +269,7 @@ module _ (heads next prev places : List (Option ℕ)) (p : Pool) (k id : ℕ) (l
       ∙ front
   ]
 
-  removed_frees : (other : ℕ) → where_of (removed p id) other ≡ None → link_at (set_link_of (set prev id None) (link_at next id) (link_at prev id)) other ≡ None
+  removed_frees : (other : ℕ) → where_of (removed p id) other ≡ None → link_at (with_link (set prev id None) (link_at next id) (link_at prev id)) other ≡ None
   removed_frees other e = elim (cases_eq other id) [
     | inl same ↦ rw same back_itself
     | inr apart ↦
@@ -300,12 +300,12 @@ module _ (heads next prev places : List (Option ℕ)) (p : Pool) (k id : ℕ) (l
 
   -- the heads may change, as long as they are the first ids
   linked_by : (new_heads : List (Option ℕ)) → length new_heads ≡ length heads → ((j : ℕ) → link_at new_heads j ≡ first_of (removed p id) j)
-    → IsLinkedAs new_heads (set_link_of (set next id None) (link_at prev id) (link_at next id)) (set_link_of (set prev id None) (link_at next id) (link_at prev id)) (set places id None) (removed p id)
+    → IsLinkedAs new_heads (with_link (set next id None) (link_at prev id) (link_at next id)) (with_link (set prev id None) (link_at next id) (link_at prev id)) (set places id None) (removed p id)
   linked_by new_heads same_count firsts = record {
     proper = IsProper-removed p id linked.proper;
     list_count = same_count ∙ linked.list_count ∙ sym (length-map p.lists (without id));
-    next_count = length-set_link_of (set next id None) (link_at prev id) (link_at next id) ∙ length-set next id None ∙ linked.next_count;
-    prev_count = length-set_link_of (set prev id None) (link_at next id) (link_at prev id) ∙ length-set prev id None ∙ linked.prev_count;
+    next_count = length-with_link (set next id None) (link_at prev id) (link_at next id) ∙ length-set next id None ∙ linked.next_count;
+    prev_count = length-with_link (set prev id None) (link_at next id) (link_at prev id) ∙ length-set prev id None ∙ linked.prev_count;
     place_count = length-set places id None ∙ linked.place_count;
     firsts = firsts;
     nexts = removed_nexts;
@@ -317,10 +317,16 @@ module _ (heads next prev places : List (Option ℕ)) (p : Pool) (k id : ℕ) (l
 
   -- the first id of its list taken out
   pub IsLinkedAs-removed_first : link_at prev id ≡ None
-    → IsLinkedAs (set heads k (link_at next id)) (set_link_of (set next id None) (link_at prev id) (link_at next id)) (set_link_of (set prev id None) (link_at next id) (link_at prev id)) (set places id None) (removed p id)
-  IsLinkedAs-removed_first back = linked_by (set heads k (link_at next id)) (length-set heads k (link_at next id)) (removed_firsts back)
+    → IsLinkedAs (set heads k (link_at next id)) (set next id None) (with_link (set prev id None) (link_at next id) None) (set places id None) (removed p id)
+  IsLinkedAs-removed_first back =
+      subst (λ o. IsLinkedAs (set heads k (link_at next id)) (with_link (set next id None) o (link_at next id)) (with_link (set prev id None) (link_at next id) o) (set places id None) (removed p id))
+        back
+        (linked_by (set heads k (link_at next id)) (length-set heads k (link_at next id)) (removed_firsts back))
 
   -- an id behind another taken out
   pub IsLinkedAs-removed_behind : (b : ℕ) → link_at prev id ≡ Some b
-    → IsLinkedAs heads (set_link_of (set next id None) (link_at prev id) (link_at next id)) (set_link_of (set prev id None) (link_at next id) (link_at prev id)) (set places id None) (removed p id)
-  IsLinkedAs-removed_behind b back = linked_by heads refl (removed_firsts_behind b back)
+    → IsLinkedAs heads (set (set next id None) b (link_at next id)) (with_link (set prev id None) (link_at next id) (Some b)) (set places id None) (removed p id)
+  IsLinkedAs-removed_behind b back =
+      subst (λ o. IsLinkedAs heads (with_link (set next id None) o (link_at next id)) (with_link (set prev id None) (link_at next id) o) (set places id None) (removed p id))
+        back
+        (linked_by heads refl (removed_firsts_behind b back))

@@ -7,9 +7,9 @@ abbrev pub link_at : List (Option ℕ) → ℕ → Option ℕ
 link_at links i = slice_index_or links i None
 
 -- the links with another one at this place, if there is such a place
-abbrev pub set_link_of : List (Option ℕ) → Option ℕ → Option ℕ → List (Option ℕ)
-set_link_of links None to = links
-set_link_of links (Some i) to = slice_set links i to
+abbrev pub with_link : List (Option ℕ) → Option ℕ → Option ℕ → List (Option ℕ)
+with_link links None to = links
+with_link links (Some i) to = slice_set links i to
 
 -- the ids from one on, by the links to the next, and at most so many
 abbrev pub walk : ℕ → List (Option ℕ) → Option ℕ → List ℕ

@@ -1,7 +1,7 @@
 ghost use Rattle.std.specs.Prelude.{◌≡◌, ℕ, ◌+◌, ◌<◌, ◌↔◌, length, IsSome, IsTrue, IfOk, slice_get};
 ghost use Rattle.link_lists.specs.Pool.{has, list_of, where_of, first_of, next_of, empty_pool, inserted, removed, IsProper, SetsOnly};
 ghost use Rattle.std.specs.Option.{ForSome};
-ghost use Rattle.link_lists.specs.Links.{set_link_of};
+ghost use Rattle.link_lists.specs.Links.{with_link};
 
 use std::alloc::{AllocError, Global};
 use std::marker::Model;
@@ -27,12 +27,13 @@ impl Model for Lists {
     ghost invariant = { λ l. IsLinkedAs l.heads.items l.next.items l.prev.items l.places.items (pool_of l.heads.items l.next.items) };
 }
 
-fn set_link(links: &mut [Option<u16>], at: Option<u16>, to: Option<u16>)
-    requires { ForSome at (λ id. id < length links.old) }
-    ensures { links.new ≡ set_link_of links.old at to }
+// Links the id, if there is one, back to another.
+fn link_back(prev: &mut [Option<u16>], id: Option<u16>, to: Option<u16>)
+    requires { ForSome id (λ i. i < length prev.old) }
+    ensures { prev.new ≡ with_link prev.old id to }
 {
-    if let Some(id) = at {
-        links[usize::from(id)] = to;
+    if let Some(id) = id {
+        prev[usize::from(id)] = to;
     }
 }
 
@@ -62,7 +63,7 @@ impl Lists {
         let k = usize::from(list);
         let i = usize::from(id);
         let first = self.heads[k];
-        set_link(&mut self.prev, first, Some(id));
+        link_back(&mut self.prev, first, Some(id));
         self.next[i] = first;
         self.heads[k] = Some(id);
         self.places[i] = Some(list);
@@ -78,11 +79,11 @@ impl Lists {
         let i = usize::from(id);
         let before = self.prev[i].take();
         let after = self.next[i].take();
-        let list = self.places[i].take();
-        set_link(&mut self.next, before, after);
-        set_link(&mut self.prev, after, before);
-        if let (None, Some(list)) = (before, list) {
-            self.heads[usize::from(list)] = after;
+        let list = self.places[i].take().unwrap();
+        link_back(&mut self.prev, after, before);
+        match before {
+            Some(before) => self.next[usize::from(before)] = after,
+            None => self.heads[usize::from(list)] = after,
         }
     }
 

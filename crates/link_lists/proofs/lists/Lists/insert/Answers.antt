@@ -2,14 +2,14 @@ use Rattle.std.proofs.Common.{◌≡◌, ◌<◌, ℕ, Option, Some, None, List,
 use Rattle.std.proofs.lemmas.Grind.{common_steps}
 use Rattle.std.proofs.lemmas.List.{get_or_read, with_items_is}
 use Rattle.link_lists.specs.Pool.{Pool, inserted, IsProper, SetsOnly}
-use Rattle.link_lists.specs.Links.{link_at, set_link_of, IsLinkedAs}
+use Rattle.link_lists.specs.Links.{link_at, with_link, IsLinkedAs}
 use Rattle.link_lists.proofs.Pools.{IsProper-inserted, where_of-inserted}
 use Rattle.link_lists.proofs.Walks.{pool_of-linked, IsLinkedAs-itself}
 use Rattle.link_lists.proofs.Linking.{head_in_range, IsLinkedAs-inserted}
 use Rattle.link_lists.proofs.lists.Lists.insert.Goals as goal
 
-pub set_link-requires : goal.set_link-requires
-set_link-requires c = λ x e.
+pub link_back-requires : goal.link_back-requires
+link_back-requires c = λ x e.
     let count = c.self.invariant.list_count in
     let view = ap (λ (p : Pool). length p.lists) c.self.view_is in
     let first : link_at c.self.inside.heads.items c.args.list ≡ Some x = grind (arith, common_steps) in
@@ -19,7 +19,7 @@ set_link-requires c = λ x e.
 linked : (c : goal.After-self-4-1) → IsLinkedAs
     (set c.self.inside.heads.items c.from-k.result (Some c.args.id))
     (set c.self.inside.next.items c.from-i.result c.index-first.result.now)
-    (take c.self.inside.prev.len (c.set_link.new.links ++ drop (length c.set_link.new.links) c.self.inside.prev.items))
+    (take c.self.inside.prev.len (c.link_back.new.links ++ drop (length c.link_back.new.links) c.self.inside.prev.items))
     (set c.self.inside.places.items c.from-i.result (Some c.args.list))
     (inserted c.args.self.now c.args.list c.args.id)
 linked c =
@@ -28,9 +28,9 @@ linked c =
     let count = old.list_count in
     let first : c.index-first.result.now ≡ link_at c.self.inside.heads.items c.args.list =
         grind (arith, common_steps) in
-    let links : c.set_link.new.links ≡ set_link_of c.self.inside.prev.items (link_at c.self.inside.heads.items c.args.list) (Some c.args.id) = cc in
-    let kept : length c.set_link.new.links ≡ c.self.inside.prev.len = omega arith in
-    rw (c.from-k.ensures, c.from-i.ensures, first, with_items_is c.self.inside.prev c.set_link.new.links kept, links)
+    let links : c.link_back.new.links ≡ with_link c.self.inside.prev.items (link_at c.self.inside.heads.items c.args.list) (Some c.args.id) = cc in
+    let kept : length c.link_back.new.links ≡ c.self.inside.prev.len = omega arith in
+    rw (c.from-k.ensures, c.from-i.ensures, first, with_items_is c.self.inside.prev c.link_back.new.links kept, links)
       (IsLinkedAs-inserted _ _ _ _ c.args.self.now c.args.list c.args.id old c.requires.list_in_range c.requires.id_in_range c.requires.unlinked)
 
 pub invariant_of-self : goal.invariant_of-self

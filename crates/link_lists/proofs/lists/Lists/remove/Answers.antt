@@ -1,35 +1,89 @@
 use Rattle.std.proofs.Common.{◌≡◌, ◌<◌, ℕ, Option, Some, None, List, set, take, drop, ◌++◌, length, sym, ap, ◌∙◌, subst, arith, rules}
-use Rattle.link_lists.proofs.Pools.{IsProper-inserted, where_of-inserted}
+use Rattle.std.proofs.lemmas.Grind.{common_steps}
+use Rattle.std.proofs.lemmas.List.{with_items_is}
+use Rattle.std.specs.Vec.{with_item}
+use Rattle.link_lists.specs.Pool.{Pool, where_of, removed, IsProper, SetsOnly}
+use Rattle.link_lists.specs.Links.{link_at, with_link, IsLinkedAs}
+use Rattle.link_lists.proofs.Pools.{where_of-removed}
 use Rattle.link_lists.proofs.Walks.{pool_of-linked, IsLinkedAs-itself}
-use Rattle.link_lists.proofs.Linking.{head_in_range, IsLinkedAs-inserted}
+use Rattle.link_lists.proofs.Linking.{next_in_range, prev_in_range, IsLinkedAs-removed_first, IsLinkedAs-removed_behind}
 use Rattle.link_lists.proofs.lists.Lists.remove.Goals as goal
 
-pub set_link-requires : goal.set_link-requires
-set_link-requires c = λ x e. ?
+pub link_back-requires : goal.link_back-requires
+link_back-requires c = λ x e.
+    let next_count = c.self.invariant.next_count in
+    let view = ap (λ (p : Pool). p.ids) c.self.view_is in
+    let after : link_at c.self.inside.next.items c.args.id ≡ Some x = grind (arith, common_steps) in
+    omega (arith, next_in_range _ _ _ _ _ c.self.invariant c.args.id x after)
 
-pub set_link-requires-2 : goal.set_link-requires-2
-set_link-requires-2 c = λ x e. ?
+pub index_mut-requires-in-Some : goal.index_mut-requires-in-Some
+index_mut-requires-in-Some c =
+    let old : IsLinkedAs c.self.inside.heads.items c.self.inside.next.items c.self.inside.prev.items c.self.inside.places.items c.args.self.now =
+        subst (IsLinkedAs _ _ _ _) c.self.view_is c.self.invariant in
+    let place : link_at c.self.inside.places.items c.args.id ≡ Some c.unwrap-list.result = grind (arith, common_steps) in
+    let at = sym (old.wheres c.args.id) ∙ place in
+    let before : link_at c.self.inside.prev.items c.args.id ≡ Some c.in-Some.before = grind (arith, common_steps) in
+    omega (arith, prev_in_range _ _ _ _ _ _ c.args.id old at c.in-Some.before before)
+
+-- the links are now those of the lists without the id, behind another id and as the first of its list
+linked-in-Some : (c : goal.After-self-in-Some-1) → IsLinkedAs
+    c.self.inside.heads.items
+    (set (set c.self.inside.next.items c.from-i.result c.take-after.new.self) c.from.result c.take-after.result)
+    (take c.self.inside.prev.len (c.link_back.new.prev ++ drop (length c.link_back.new.prev) (set c.self.inside.prev.items c.from-i.result c.take-before.new.self)))
+    (set c.self.inside.places.items c.from-i.result c.take.new.self)
+    (removed c.args.self.now c.args.id)
+linked-in-Some c =
+    let old : IsLinkedAs c.self.inside.heads.items c.self.inside.next.items c.self.inside.prev.items c.self.inside.places.items c.args.self.now =
+        subst (IsLinkedAs _ _ _ _) c.self.view_is c.self.invariant in
+    let place : link_at c.self.inside.places.items c.args.id ≡ Some c.unwrap-list.result = grind (arith, common_steps) in
+    let at = sym (old.wheres c.args.id) ∙ place in
+    let before : link_at c.self.inside.prev.items c.args.id ≡ Some c.in-Some.before = grind (arith, common_steps) in
+    let after : c.take-after.result ≡ link_at c.self.inside.next.items c.args.id = grind (arith, common_steps) in
+    let links : c.link_back.new.prev ≡ with_link (set c.self.inside.prev.items c.args.id None) (link_at c.self.inside.next.items c.args.id) (Some c.in-Some.before) = cc in
+    let kept : length c.link_back.new.prev ≡ c.self.inside.prev.len = omega arith in
+    rw (with_items_is (with_item c.self.inside.prev c.from-i.result c.take-before.new.self) c.link_back.new.prev kept, c.from-i.ensures, c.from.ensures, c.take-after.ensures.after, c.take.ensures.after, after, links)
+      (IsLinkedAs-removed_behind _ _ _ _ c.args.self.now c.unwrap-list.result c.args.id old at c.in-Some.before before)
+
+linked-in-None : (c : goal.After-self-in-None-1) → IsLinkedAs
+    (set c.self.inside.heads.items c.from-in-None.result c.take-after.result)
+    (set c.self.inside.next.items c.from-i.result c.take-after.new.self)
+    (take c.self.inside.prev.len (c.link_back.new.prev ++ drop (length c.link_back.new.prev) (set c.self.inside.prev.items c.from-i.result c.take-before.new.self)))
+    (set c.self.inside.places.items c.from-i.result c.take.new.self)
+    (removed c.args.self.now c.args.id)
+linked-in-None c =
+    let old : IsLinkedAs c.self.inside.heads.items c.self.inside.next.items c.self.inside.prev.items c.self.inside.places.items c.args.self.now =
+        subst (IsLinkedAs _ _ _ _) c.self.view_is c.self.invariant in
+    let place : link_at c.self.inside.places.items c.args.id ≡ Some c.unwrap-list.result = grind (arith, common_steps) in
+    let at = sym (old.wheres c.args.id) ∙ place in
+    let before : link_at c.self.inside.prev.items c.args.id ≡ None = grind (arith, common_steps) in
+    let after : c.take-after.result ≡ link_at c.self.inside.next.items c.args.id = grind (arith, common_steps) in
+    let links : c.link_back.new.prev ≡ with_link (set c.self.inside.prev.items c.args.id None) (link_at c.self.inside.next.items c.args.id) None = cc in
+    let kept : length c.link_back.new.prev ≡ c.self.inside.prev.len = omega arith in
+    rw (with_items_is (with_item c.self.inside.prev c.from-i.result c.take-before.new.self) c.link_back.new.prev kept, c.from-i.ensures, c.from-in-None.ensures, c.take-after.ensures.after, c.take.ensures.after, after, links)
+      (IsLinkedAs-removed_first _ _ _ _ c.args.self.now c.unwrap-list.result c.args.id old at before)
 
 pub invariant_of-self : goal.invariant_of-self
-invariant_of-self c = ?
+invariant_of-self c = IsLinkedAs-itself _ _ _ _ _ (linked-in-Some c)
 
-pub invariant_of-self-in_default-2 : goal.invariant_of-self-in_default-2
-invariant_of-self-in_default-2 c = ?
+pub returns-in-Some-clause-lists : goal.returns-in-Some-clause-lists
+returns-in-Some-clause-lists c = pool_of-linked _ _ _ _ _ (linked-in-Some c)
 
-pub returns-in-None-Some-clause-lists : goal.returns-in-None-Some-clause-lists
-returns-in-None-Some-clause-lists c = ?
+pub returns-in-Some-clause-map : goal.returns-in-Some-clause-map
+returns-in-Some-clause-map c = subst (λ (p : Pool). SetsOnly c.args.self.now p c.args.id None) (sym (pool_of-linked _ _ _ _ _ (linked-in-Some c)))
+    (where_of-removed _ _ (subst IsProper c.self.view_is c.self.invariant.proper))
 
-pub returns-in-None-Some-clause-map : goal.returns-in-None-Some-clause-map
-returns-in-None-Some-clause-map c = ?
+pub returns-in-Some-clause-proper : goal.returns-in-Some-clause-proper
+returns-in-Some-clause-proper c = (IsLinkedAs-itself _ _ _ _ _ (linked-in-Some c)).proper
 
-pub returns-in-None-Some-clause-proper : goal.returns-in-None-Some-clause-proper
-returns-in-None-Some-clause-proper c = ?
+pub invariant_of-self-in-None : goal.invariant_of-self-in-None
+invariant_of-self-in-None c = IsLinkedAs-itself _ _ _ _ _ (linked-in-None c)
 
-pub returns-2-clause-lists : goal.returns-2-clause-lists
-returns-2-clause-lists c = ?
+pub returns-in-None-clause-lists : goal.returns-in-None-clause-lists
+returns-in-None-clause-lists c = pool_of-linked _ _ _ _ _ (linked-in-None c)
 
-pub returns-2-clause-map : goal.returns-2-clause-map
-returns-2-clause-map c = ?
+pub returns-in-None-clause-map : goal.returns-in-None-clause-map
+returns-in-None-clause-map c = subst (λ (p : Pool). SetsOnly c.args.self.now p c.args.id None) (sym (pool_of-linked _ _ _ _ _ (linked-in-None c)))
+    (where_of-removed _ _ (subst IsProper c.self.view_is c.self.invariant.proper))
 
-pub returns-2-clause-proper : goal.returns-2-clause-proper
-returns-2-clause-proper c = ?
+pub returns-in-None-clause-proper : goal.returns-in-None-clause-proper
+returns-in-None-clause-proper c = (IsLinkedAs-itself _ _ _ _ _ (linked-in-None c)).proper
