@@ -1,5 +1,5 @@
 -- Lemmas about the lists of a pool: where an id is, and what the calls change.
-use Rattle.std.proofs.Common.{◌≡◌, ◌≢◌, ℕ, zero, suc, ◌+◌, ◌<◌, ◌≤◌, ◌⊎◌, Bool, true, false, cond, not, eqb, nat_eq, ltb, List, [], ◌∷◌, map, length, get_or, set, replicate, Option, Some, None, slice_get, position, sym, refl, ap, ◌∙◌, subst, inl, inr, arith, rules, length-set, get_or-set_same, get_or-set_other}
+use Rattle.std.proofs.Common.{◌≡◌, ◌≢◌, ℕ, zero, suc, ◌+◌, ◌<◌, ◌≤◌, ◌⊎◌, ◌↔◌, Bool, true, false, cond, not, eqb, nat_eq, ltb, List, [], ◌∷◌, map, length, get_or, set, replicate, Option, Some, None, slice_get, position, sym, refl, ap, ◌∙◌, subst, inl, inr, arith, rules, length-set, get_or-set_same, get_or-set_other}
 use Rattle.std.specs.List.{list_any, IsDistinct, position_or_len}
 use Rattle.std.proofs.lemmas.Bool.{cases_Bool, cases_eq, cases_lt, lt-ltb, eqb-true, eqb-false, eq-eqb, ne_eqb, false≢true, or_left, or_right, or_cases, or_from}
 use Rattle.std.proofs.lemmas.List.{get_or_past, get_or-map, get_or-replicate, length-map, length-replicate}
@@ -45,6 +45,10 @@ where_of-has p id k proper h = elim (cases_option (where_of p id)) [
   | inl none ↦ absurd (false≢true (sym (has-nowhere p id k none) ∙ h))
   | inr w ↦ w.1 ∙ ap (λ (j : ℕ). Some j) (proper.apart w.0 k id (has-where_of p id w.0 w.1) h)
 ]
+
+-- an id is in a list exactly where the list has it
+pub where_of-member : (p : Pool) (id k : ℕ) → IsProper p → (where_of p id ≡ Some k) ↔ (has (list_of p k) id ≡ true)
+where_of-member p id k proper = (has-where_of p id k, where_of-has p id k proper)
 
 -- what comes next, by the list that has the id
 pub next_of-in : (p : Pool) (id k : ℕ) → where_of p id ≡ Some k → next_of p id ≡ after id (list_of p k)

@@ -1,12 +1,15 @@
 ghost use Rattle.std.specs.Prelude.{◌≡◌, ℕ, ◌+◌, ◌<◌, ◌↔◌, length, IsSome, IsTrue, IfOk, slice_get};
-ghost use Rattle.link_lists.specs.Pool.{has, list_of, where_of, first_of, next_of, empty_pool, inserted, removed, IsProper, SetsOnly};
 ghost use Rattle.std.specs.Option.{ForSome};
+ghost use Rattle.link_lists.specs.Pool.{has, list_of, where_of, first_of, next_of, empty_pool, inserted, removed, IsProper, SetsOnly};
 ghost use Rattle.link_lists.specs.Links.{with_link};
 
 use std::alloc::{AllocError, Global};
 use std::marker::Model;
 
-/// Lists of ids. Each id is in one list at most, and stands there once.
+/// Doubly linked lists over one pool of ids: each id is in one list at most, and there once.
+///
+/// Ids are counted from 0, and so are the lists. Only `new` takes memory, and each call but `new`
+/// and `copy_from` takes constant time.
 #[derive(Debug, Drop)]
 pub struct Lists {
     heads: Vec<Option<u16>>,
@@ -15,7 +18,7 @@ pub struct Lists {
     places: Vec<Option<u8>>,
 }
 
-// Clauses see the ids of each list in order.
+// Clauses see how many ids there are, and the ids of each list in order.
 impl Model for Lists {
     ghost use Rattle.link_lists.specs.Pool.{Pool};
     ghost use Rattle.link_lists.specs.Links.{pool_of, IsLinkedAs};
@@ -24,7 +27,8 @@ impl Model for Lists {
 
     ghost view = { λ l. pool_of l.heads.items l.next.items };
 
-    ghost invariant = { λ l. IsLinkedAs l.heads.items l.next.items l.prev.items l.places.items (pool_of l.heads.items l.next.items) };
+    ghost invariant = { λ l.
+        IsLinkedAs l.heads.items l.next.items l.prev.items l.places.items (pool_of l.heads.items l.next.items) };
 }
 
 // Links the id, if there is one, back to another.
@@ -38,7 +42,7 @@ fn link_back(prev: &mut [Option<u16>], id: Option<u16>, to: Option<u16>)
 }
 
 impl Lists {
-    /// All lists empty.
+    /// So many lists over so many ids, with no id in any.
     pub fn new(alloc: Global, ids: u16, lists: u8) -> Result<Self, AllocError>
         ensures { IfOk result (λ made. made ≡ empty_pool ids lists) }
     {
@@ -51,35 +55,35 @@ impl Lists {
         })
     }
 
-    /// Puts the id first in the list.
+    /// Puts the id first in the list, where Quake's `SV_LinkEdict` puts an entity last.
     pub fn insert(&mut self, list: u8, id: u16)
         requires list_in_range { list < length self.old.lists }
         requires id_in_range { id < self.old.ids }
         requires unlinked { where_of self.old id ≡ None }
         ensures lists { self.new ≡ inserted self.old list id }
-        ensures map { SetsOnly self.old self.new id (Some list) }
+        ensures place { SetsOnly self.old self.new id (Some list) }
         ensures proper { IsProper self.new }
     {
-        let k = usize::from(list);
-        let i = usize::from(id);
-        let first = self.heads[k];
+        let index = usize::from(id);
+        let head = usize::from(list);
+        let first = self.heads[head];
         link_back(&mut self.prev, first, Some(id));
-        self.next[i] = first;
-        self.heads[k] = Some(id);
-        self.places[i] = Some(list);
+        self.next[index] = first;
+        self.heads[head] = Some(id);
+        self.places[index] = Some(list);
     }
 
     /// Takes the id out of its list. The others keep their order.
     pub fn remove(&mut self, id: u16)
         requires { IsSome (where_of self.old id) }
         ensures lists { self.new ≡ removed self.old id }
-        ensures map { SetsOnly self.old self.new id None }
+        ensures place { SetsOnly self.old self.new id None }
         ensures proper { IsProper self.new }
     {
-        let i = usize::from(id);
-        let before = self.prev[i].take();
-        let after = self.next[i].take();
-        let list = self.places[i].take().unwrap();
+        let index = usize::from(id);
+        let before = self.prev[index].take();
+        let after = self.next[index].take();
+        let list = self.places[index].take().unwrap();
         link_back(&mut self.prev, after, before);
         match before {
             Some(before) => self.next[usize::from(before)] = after,
@@ -87,16 +91,16 @@ impl Lists {
         }
     }
 
-    /// The list that the id is in.
+    /// The list that the id is in, and `None` exactly where it is in none.
     pub fn where_is(&self, id: u16) -> Option<u8>
-        ensures list { result ≡ where_of self.now id }
-        ensures exact { (list : ℕ) → (result ≡ Some list) ↔ IsTrue (has (list_of self.now list) id) }
+        ensures place { result ≡ where_of self.now id }
+        ensures member { (list : ℕ) → (result ≡ Some list) ↔ IsTrue (has (list_of self.now list) id) }
         ensures proper { IsProper self.now }
     {
         self.places.get(usize::from(id)).copied().flatten()
     }
 
-    /// The first id of the list.
+    /// The first id of the list, and `None` exactly where the list is empty.
     pub fn first(&self, list: u8) -> Option<u16>
         ensures first { result ≡ first_of self.now list }
         ensures proper { IsProper self.now }
@@ -104,17 +108,20 @@ impl Lists {
         self.heads.get(usize::from(list)).copied().flatten()
     }
 
-    /// The id that comes after this one in its list.
+    /// The id that comes after this one in its list, and `None` exactly where this one is the last.
     pub fn next(&self, id: u16) -> Option<u16>
         requires { IsSome (where_of self.now id) }
         ensures next { result ≡ next_of self.now id }
-        ensures follows { (list place : ℕ) → slice_get (list_of self.now list) place ≡ Some id → result ≡ slice_get (list_of self.now list) (place + 1) }
+
+        // Wherever the id stands, the result is what stands at the next place.
+        ensures follows { (list place : ℕ) → slice_get (list_of self.now list) place ≡ Some id
+            → result ≡ slice_get (list_of self.now list) (place + 1) }
         ensures proper { IsProper self.now }
     {
         self.next[usize::from(id)]
     }
 
-    /// Makes these lists as the others are, each in the same order.
+    /// Makes these lists as the others are, the order of each too. Takes no memory.
     pub fn copy_from(&mut self, o: &Lists)
         requires ids { self.old.ids ≡ o.now.ids }
         requires lists { length self.old.lists ≡ length o.now.lists }
@@ -124,5 +131,34 @@ impl Lists {
         self.next.copy_from_slice(&o.next);
         self.prev.copy_from_slice(&o.prev);
         self.places.copy_from_slice(&o.places);
+    }
+}
+
+#[cfg(test)]
+mod tests {
+    use super::*;
+    use std::test::Fail;
+
+    #[test]
+    fn goes_first_and_leaves_the_others_in_order(rt: HostRuntime) -> Result<(), Fail> {
+        let mut lists = Lists::new(rt.alloc(), 4, 2)?;
+        lists.insert(1, 3);
+        lists.insert(1, 0);
+        assert_eq!(rt; lists.first(1), Some(0));
+        assert_eq!(rt; lists.next(0), Some(3));
+        assert_eq!(rt; lists.next(3), None);
+
+        let mut copy = Lists::new(rt.alloc(), 4, 2)?;
+        copy.copy_from(&lists);
+        assert_eq!(rt; copy.first(1), Some(0));
+        assert_eq!(rt; copy.next(0), Some(3));
+
+        lists.remove(0);
+        assert_eq!(rt; lists.first(1), Some(3));
+        assert_eq!(rt; lists.next(3), None);
+        assert_eq!(rt; lists.where_is(3), Some(1));
+        assert_eq!(rt; lists.where_is(0), None);
+        assert_eq!(rt; lists.first(0), None);
+        Ok(())
     }
 }

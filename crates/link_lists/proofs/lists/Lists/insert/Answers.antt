@@ -17,10 +17,10 @@ link_back-requires c = λ x e.
 
 -- the links are now those of the lists with the id put in
 linked : (c : goal.After-self-4-1) → IsLinkedAs
-    (set c.self.inside.heads.items c.from-k.result (Some c.args.id))
-    (set c.self.inside.next.items c.from-i.result c.index-first.result.now)
-    (take c.self.inside.prev.len (c.link_back.new.links ++ drop (length c.link_back.new.links) c.self.inside.prev.items))
-    (set c.self.inside.places.items c.from-i.result (Some c.args.list))
+    (set c.self.inside.heads.items c.from-head.result (Some c.args.id))
+    (set c.self.inside.next.items c.from-index.result c.index-first.result.now)
+    (take c.self.inside.prev.len (c.link_back.new.prev ++ drop (length c.link_back.new.prev) c.self.inside.prev.items))
+    (set c.self.inside.places.items c.from-index.result (Some c.args.list))
     (inserted c.args.self.now c.args.list c.args.id)
 linked c =
     let old : IsLinkedAs c.self.inside.heads.items c.self.inside.next.items c.self.inside.prev.items c.self.inside.places.items c.args.self.now =
@@ -28,9 +28,9 @@ linked c =
     let count = old.list_count in
     let first : c.index-first.result.now ≡ link_at c.self.inside.heads.items c.args.list =
         grind (arith, common_steps) in
-    let links : c.link_back.new.links ≡ with_link c.self.inside.prev.items (link_at c.self.inside.heads.items c.args.list) (Some c.args.id) = cc in
-    let kept : length c.link_back.new.links ≡ c.self.inside.prev.len = omega arith in
-    rw (c.from-k.ensures, c.from-i.ensures, first, with_items_is c.self.inside.prev c.link_back.new.links kept, links)
+    let links : c.link_back.new.prev ≡ with_link c.self.inside.prev.items (link_at c.self.inside.heads.items c.args.list) (Some c.args.id) = cc in
+    let kept : length c.link_back.new.prev ≡ c.self.inside.prev.len = omega arith in
+    rw (c.from-head.ensures, c.from-index.ensures, first, with_items_is c.self.inside.prev c.link_back.new.prev kept, links)
       (IsLinkedAs-inserted _ _ _ _ c.args.self.now c.args.list c.args.id old c.requires.list_in_range c.requires.id_in_range c.requires.unlinked)
 
 pub invariant_of-self : goal.invariant_of-self
@@ -39,8 +39,8 @@ invariant_of-self c = IsLinkedAs-itself _ _ _ _ _ (linked c)
 pub returns-clause-lists : goal.returns-clause-lists
 returns-clause-lists c = pool_of-linked _ _ _ _ _ (linked c)
 
-pub returns-clause-map : goal.returns-clause-map
-returns-clause-map c = subst (λ (p : Pool). SetsOnly c.args.self.now p c.args.id (Some c.args.list)) (sym (pool_of-linked _ _ _ _ _ (linked c)))
+pub returns-clause-place : goal.returns-clause-place
+returns-clause-place c = subst (λ (p : Pool). SetsOnly c.args.self.now p c.args.id (Some c.args.list)) (sym (pool_of-linked _ _ _ _ _ (linked c)))
     (where_of-inserted _ _ _ (subst IsProper c.self.view_is c.self.invariant.proper) c.requires.list_in_range c.requires.id_in_range c.requires.unlinked)
 
 pub returns-clause-proper : goal.returns-clause-proper

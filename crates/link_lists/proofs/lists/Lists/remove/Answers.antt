@@ -28,9 +28,9 @@ index_mut-requires-in-Some c =
 -- the links are now those of the lists without the id, behind another id and as the first of its list
 linked-in-Some : (c : goal.After-self-in-Some-1) → IsLinkedAs
     c.self.inside.heads.items
-    (set (set c.self.inside.next.items c.from-i.result c.take-after.new.self) c.from.result c.take-after.result)
-    (take c.self.inside.prev.len (c.link_back.new.prev ++ drop (length c.link_back.new.prev) (set c.self.inside.prev.items c.from-i.result c.take-before.new.self)))
-    (set c.self.inside.places.items c.from-i.result c.take.new.self)
+    (set (set c.self.inside.next.items c.from-index.result c.take-after.new.self) c.from.result c.take-after.result)
+    (take c.self.inside.prev.len (c.link_back.new.prev ++ drop (length c.link_back.new.prev) (set c.self.inside.prev.items c.from-index.result c.take-before.new.self)))
+    (set c.self.inside.places.items c.from-index.result c.take.new.self)
     (removed c.args.self.now c.args.id)
 linked-in-Some c =
     let old : IsLinkedAs c.self.inside.heads.items c.self.inside.next.items c.self.inside.prev.items c.self.inside.places.items c.args.self.now =
@@ -41,14 +41,14 @@ linked-in-Some c =
     let after : c.take-after.result ≡ link_at c.self.inside.next.items c.args.id = grind (arith, common_steps) in
     let links : c.link_back.new.prev ≡ with_link (set c.self.inside.prev.items c.args.id None) (link_at c.self.inside.next.items c.args.id) (Some c.in-Some.before) = cc in
     let kept : length c.link_back.new.prev ≡ c.self.inside.prev.len = omega arith in
-    rw (with_items_is (with_item c.self.inside.prev c.from-i.result c.take-before.new.self) c.link_back.new.prev kept, c.from-i.ensures, c.from.ensures, c.take-after.ensures.after, c.take.ensures.after, after, links)
+    rw (with_items_is (with_item c.self.inside.prev c.from-index.result c.take-before.new.self) c.link_back.new.prev kept, c.from-index.ensures, c.from.ensures, c.take-after.ensures.after, c.take.ensures.after, after, links)
       (IsLinkedAs-removed_behind _ _ _ _ c.args.self.now c.unwrap-list.result c.args.id old at c.in-Some.before before)
 
 linked-in-None : (c : goal.After-self-in-None-1) → IsLinkedAs
     (set c.self.inside.heads.items c.from-in-None.result c.take-after.result)
-    (set c.self.inside.next.items c.from-i.result c.take-after.new.self)
-    (take c.self.inside.prev.len (c.link_back.new.prev ++ drop (length c.link_back.new.prev) (set c.self.inside.prev.items c.from-i.result c.take-before.new.self)))
-    (set c.self.inside.places.items c.from-i.result c.take.new.self)
+    (set c.self.inside.next.items c.from-index.result c.take-after.new.self)
+    (take c.self.inside.prev.len (c.link_back.new.prev ++ drop (length c.link_back.new.prev) (set c.self.inside.prev.items c.from-index.result c.take-before.new.self)))
+    (set c.self.inside.places.items c.from-index.result c.take.new.self)
     (removed c.args.self.now c.args.id)
 linked-in-None c =
     let old : IsLinkedAs c.self.inside.heads.items c.self.inside.next.items c.self.inside.prev.items c.self.inside.places.items c.args.self.now =
@@ -59,7 +59,7 @@ linked-in-None c =
     let after : c.take-after.result ≡ link_at c.self.inside.next.items c.args.id = grind (arith, common_steps) in
     let links : c.link_back.new.prev ≡ with_link (set c.self.inside.prev.items c.args.id None) (link_at c.self.inside.next.items c.args.id) None = cc in
     let kept : length c.link_back.new.prev ≡ c.self.inside.prev.len = omega arith in
-    rw (with_items_is (with_item c.self.inside.prev c.from-i.result c.take-before.new.self) c.link_back.new.prev kept, c.from-i.ensures, c.from-in-None.ensures, c.take-after.ensures.after, c.take.ensures.after, after, links)
+    rw (with_items_is (with_item c.self.inside.prev c.from-index.result c.take-before.new.self) c.link_back.new.prev kept, c.from-index.ensures, c.from-in-None.ensures, c.take-after.ensures.after, c.take.ensures.after, after, links)
       (IsLinkedAs-removed_first _ _ _ _ c.args.self.now c.unwrap-list.result c.args.id old at before)
 
 pub invariant_of-self : goal.invariant_of-self
@@ -68,8 +68,8 @@ invariant_of-self c = IsLinkedAs-itself _ _ _ _ _ (linked-in-Some c)
 pub returns-in-Some-clause-lists : goal.returns-in-Some-clause-lists
 returns-in-Some-clause-lists c = pool_of-linked _ _ _ _ _ (linked-in-Some c)
 
-pub returns-in-Some-clause-map : goal.returns-in-Some-clause-map
-returns-in-Some-clause-map c = subst (λ (p : Pool). SetsOnly c.args.self.now p c.args.id None) (sym (pool_of-linked _ _ _ _ _ (linked-in-Some c)))
+pub returns-in-Some-clause-place : goal.returns-in-Some-clause-place
+returns-in-Some-clause-place c = subst (λ (p : Pool). SetsOnly c.args.self.now p c.args.id None) (sym (pool_of-linked _ _ _ _ _ (linked-in-Some c)))
     (where_of-removed _ _ (subst IsProper c.self.view_is c.self.invariant.proper))
 
 pub returns-in-Some-clause-proper : goal.returns-in-Some-clause-proper
@@ -81,8 +81,8 @@ invariant_of-self-in-None c = IsLinkedAs-itself _ _ _ _ _ (linked-in-None c)
 pub returns-in-None-clause-lists : goal.returns-in-None-clause-lists
 returns-in-None-clause-lists c = pool_of-linked _ _ _ _ _ (linked-in-None c)
 
-pub returns-in-None-clause-map : goal.returns-in-None-clause-map
-returns-in-None-clause-map c = subst (λ (p : Pool). SetsOnly c.args.self.now p c.args.id None) (sym (pool_of-linked _ _ _ _ _ (linked-in-None c)))
+pub returns-in-None-clause-place : goal.returns-in-None-clause-place
+returns-in-None-clause-place c = subst (λ (p : Pool). SetsOnly c.args.self.now p c.args.id None) (sym (pool_of-linked _ _ _ _ _ (linked-in-None c)))
     (where_of-removed _ _ (subst IsProper c.self.view_is c.self.invariant.proper))
 
 pub returns-in-None-clause-proper : goal.returns-in-None-clause-proper
