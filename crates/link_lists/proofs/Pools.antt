@@ -1,10 +1,11 @@
 -- Lemmas about the lists of a pool: where an id is, and what the calls change.
-use Rattle.std.proofs.Common.{◌≡◌, ◌≢◌, ℕ, zero, suc, ◌+◌, ◌<◌, ◌≤◌, ◌⊎◌, ◌↔◌, Bool, true, false, cond, not, eqb, nat_eq, ltb, List, [], ◌∷◌, map, length, get_or, set, replicate, Option, Some, None, slice_get, position, sym, refl, ap, ◌∙◌, subst, inl, inr, arith, rules, length-set, get_or-set_same, get_or-set_other}
+use Rattle.std.proofs.Common.{◌≡◌, ◌≢◌, ℕ, zero, suc, ◌+◌, ◌<◌, ◌≤◌, ◌⊎◌, ◌↔◌, Bool, true, false, cond, not, eqb, nat_eq, ltb, List, [], ◌∷◌, map, length, get_or, set, replicate, Option, Some, None, IfSome, slice_get, position, sym, refl, ap, ◌∙◌, subst, inl, inr, arith, rules, length-set, get_or-set_same, get_or-set_other}
 use Rattle.std.specs.List.{list_any, IsDistinct, position_or_len}
 use Rattle.std.proofs.lemmas.Bool.{cases_Bool, cases_eq, cases_lt, lt-ltb, eqb-true, eqb-false, eq-eqb, ne_eqb, false≢true, or_left, or_right, or_cases, or_from}
 use Rattle.std.proofs.lemmas.List.{get_or_past, get_or-map, get_or-replicate, length-map, length-replicate}
 use Rattle.std.proofs.lemmas.List.Quantifiers.{position-Some}
 use Rattle.std.proofs.lemmas.List.Sums.{fails_before_first}
+use Rattle.std.proofs.lemmas.Map.Steps.{length-le_from_distinct_below}
 use Rattle.std.proofs.lemmas.Option.{none-some, same_Some}
 use Rattle.link_lists.specs.Pool.{Pool, has, after, without, list_of, where_of, first_of, next_of, empty_pool, inserted, removed, IsProper, SetsOnly}
 use Rattle.link_lists.proofs.OneList.{has-slice_get, has-after, has-before, after-at, first_or_after, without-itself, has-without, IsDistinct-first, IsDistinct-without, first-without, first-without_other, after-apart, after-without, after-without_other}
@@ -13,6 +14,11 @@ use Rattle.link_lists.proofs.OneList.{has-slice_get, has-after, has-before, afte
 pub cases_option : {A : Type 0} (o : Option A) → (o ≡ None) ⊎ ((x : A) × (o ≡ Some x))
 cases_option None = inl refl
 cases_option (Some x) = inr (x, refl)
+
+-- a fact of the value in an option, if there is one
+pub IfSome-from : (o : Option ℕ) (P : ℕ → Type 0) → ((x : ℕ) → o ≡ Some x → P x) → IfSome o P
+IfSome-from None P h = tt
+IfSome-from (Some x) P h = h x refl
 
 -- a list past the last has no id
 pub list_of_past : (p : Pool) (k : ℕ) → length p.lists ≤ k → list_of p k ≡ []
@@ -57,11 +63,18 @@ next_of-in p id k e = rw e refl
 pub next_of-nowhere : (p : Pool) (id : ℕ) → where_of p id ≡ None → next_of p id ≡ None
 next_of-nowhere p id e = rw e refl
 
+-- an id is in the list in which it stands
+pub where_of-at : (p : Pool) (k place id : ℕ) → IsProper p → slice_get (list_of p k) place ≡ Some id → where_of p id ≡ Some k
+where_of-at p k place id proper e = where_of-has p id k proper (has-slice_get (list_of p k) place id e)
+
+-- no list is longer than there are ids
+pub length-list_of : (p : Pool) (k : ℕ) → IsProper p → length (list_of p k) ≤ p.ids
+length-list_of p k proper = length-le_from_distinct_below (list_of p k) p.ids (proper.once k) (λ id h. proper.in_range k id h)
+
 -- after the id at a place comes the id at the next place
 pub next_of-at : (p : Pool) (k place id : ℕ) → IsProper p → slice_get (list_of p k) place ≡ Some id → next_of p id ≡ slice_get (list_of p k) (place + 1)
 next_of-at p k place id proper e =
-    let at = where_of-has p id k proper (has-slice_get (list_of p k) place id e) in
-    next_of-in p id k at ∙ after-at (list_of p k) place id (proper.once k) e ∙ ap (slice_get (list_of p k)) (omega arith)
+    next_of-in p id k (where_of-at p k place id proper e) ∙ after-at (list_of p k) place id (proper.once k) e ∙ ap (slice_get (list_of p k)) (omega arith)
 
 -- an id that comes next is in the same list
 pub next_of-Some : (p : Pool) (id other : ℕ) → next_of p id ≡ Some other → (k : ℕ) × (where_of p id ≡ Some k) × (after id (list_of p k) ≡ Some other)
@@ -69,6 +82,12 @@ next_of-Some p id other e = elim (cases_option (where_of p id)) [
   | inl none ↦ absurd (none-some other (sym (next_of-nowhere p id none) ∙ e))
   | inr w ↦ (w.0, w.1, sym (next_of-in p id w.0 w.1) ∙ e)
 ]
+
+-- and the same for any list that the first id is in
+pub where_of-next_same : (p : Pool) (id other : ℕ) → IsProper p → next_of p id ≡ Some other → where_of p other ≡ where_of p id
+where_of-next_same p id other proper e =
+    let w = next_of-Some p id other e in
+    where_of-has p other w.0 proper (has-after (list_of p w.0) id other w.2) ∙ sym w.1
 
 pub where_of-next : (p : Pool) (id other k : ℕ) → IsProper p → where_of p id ≡ Some k → next_of p id ≡ Some other → where_of p other ≡ Some k
 where_of-next p id other k proper at e =
@@ -82,7 +101,7 @@ next_of-apart p id proper e =
 
 -- a first id is in its list
 pub where_of-first : (p : Pool) (k id : ℕ) → IsProper p → first_of p k ≡ Some id → where_of p id ≡ Some k
-where_of-first p k id proper e = where_of-has p id k proper (has-slice_get (list_of p k) 0 id e)
+where_of-first p k id proper e = where_of-at p k 0 id proper e
 
 -- an id of a list is its first or comes next after another
 pub first_or_next : (p : Pool) (id k : ℕ) → IsProper p → where_of p id ≡ Some k → (first_of p k ≡ Some id) ⊎ ((b : ℕ) × (next_of p b ≡ Some id))

@@ -3,11 +3,10 @@ use Rattle.std.proofs.Common.{◌≡◌, ◌≢◌, ℕ, zero, suc, ◌+◌, ◌
 use Rattle.std.specs.List.{IsDistinct}
 use Rattle.std.proofs.lemmas.Bool.{or_left, or_right, eq-eqb, ne_eqb, false≢true}
 use Rattle.std.proofs.lemmas.List.{ext_get_or, get_or-map, length-map}
-use Rattle.std.proofs.lemmas.Map.Steps.{length-le_from_distinct_below}
 use Rattle.link_lists.specs.Pool.{Pool, has, after, list_of, first_of}
 use Rattle.link_lists.specs.Links.{link_at, walk, pool_of, IsLinkedAs}
 use Rattle.link_lists.proofs.OneList.{rest_lacks_first, rest_is_distinct}
-use Rattle.link_lists.proofs.Pools.{next_of-in, where_of-has}
+use Rattle.link_lists.proofs.Pools.{next_of-in, where_of-has, length-list_of}
 
 -- each id of the list is linked to the one after it, and the last to none
 abbrev pub IsChain : List (Option ℕ) → List ℕ → Type 0
@@ -38,17 +37,15 @@ IsChain-from_after next (x ∷ xs) d h =
     )
 
 module _ (heads next prev places : List (Option ℕ)) (p : Pool) (linked : IsLinkedAs heads next prev places p) where
-  -- no list is longer than there are ids
-  pub length-list_of : (k : ℕ) → length (list_of p k) ≤ length next
-  length-list_of k =
-      let fits = length-le_from_distinct_below (list_of p k) p.ids (linked.proper.once k) (λ q h. linked.proper.in_range k q h) in
+  fits : (k : ℕ) → length (list_of p k) ≤ length next
+  fits k =
       let count = linked.next_count in
-      omega arith
+      omega (arith, length-list_of p k linked.proper)
 
   walk-list_of : (k : ℕ) → walk (length next) next (link_at heads k) ≡ list_of p k
   walk-list_of k =
       ap (walk (length next) next) (linked.firsts k)
-      ∙ walk-chain (length next) next (list_of p k) (length-list_of k) (
+      ∙ walk-chain (length next) next (list_of p k) (fits k) (
         IsChain-from_after next (list_of p k) (linked.proper.once k) (λ id h.
           linked.nexts id ∙ next_of-in p id k (where_of-has p id k linked.proper h)))
 

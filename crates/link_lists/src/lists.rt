@@ -1,4 +1,4 @@
-ghost use Rattle.std.specs.Prelude.{◌≡◌, ℕ, ◌+◌, ◌<◌, ◌↔◌, length, IsSome, IsTrue, IfOk, slice_get};
+ghost use Rattle.std.specs.Prelude.{◌≡◌, ℕ, ◌+◌, ◌<◌, ◌↔◌, length, IsSome, IsTrue, IfOk, IfSome, slice_get};
 ghost use Rattle.std.specs.Option.{ForSome};
 ghost use Rattle.link_lists.specs.Pool.{has, list_of, where_of, first_of, next_of, empty_pool, inserted, removed, IsProper, SetsOnly};
 ghost use Rattle.link_lists.specs.Links.{with_link};
@@ -103,6 +103,7 @@ impl Lists {
     /// The first id of the list, and `None` exactly where the list is empty.
     pub fn first(&self, list: u8) -> Option<u16>
         ensures first { result ≡ first_of self.now list }
+        ensures member { IfSome result (λ id. where_of self.now id ≡ Some list) }
         ensures proper { IsProper self.now }
     {
         self.heads.get(usize::from(list)).copied().flatten()
@@ -116,6 +117,7 @@ impl Lists {
         // Wherever the id stands, the result is what stands at the next place.
         ensures follows { (list place : ℕ) → slice_get (list_of self.now list) place ≡ Some id
             → result ≡ slice_get (list_of self.now list) (place + 1) }
+        ensures same_list { IfSome result (λ other. where_of self.now other ≡ where_of self.now id) }
         ensures proper { IsProper self.now }
     {
         self.next[usize::from(id)]
