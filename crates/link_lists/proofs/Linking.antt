@@ -34,10 +34,13 @@ link_at-replicate n i = elim (cases_lt i n) [
 ]
 
 -- no links at all are those of empty lists
-IsLinkedAs-empty : (ids lists : ℕ) → IsLinkedAs (replicate lists None) (replicate ids None) (replicate ids None) (replicate ids None) (empty_pool ids lists)
+IsLinkedAs-empty : (ids lists : ℕ)
+    → IsLinkedAs (replicate lists None) (replicate ids None) (replicate ids None) (replicate ids None) (empty_pool ids lists)
 IsLinkedAs-empty ids lists =
-    let first : (k : ℕ) → first_of (empty_pool ids lists) k ≡ None = λ k. ap (λ (xs : List ℕ). slice_get xs 0) (list_of-empty ids lists k) in
-    let next : (id : ℕ) → next_of (empty_pool ids lists) id ≡ None = λ id. next_of-nowhere (empty_pool ids lists) id (where_of-empty ids lists id) in
+    let first : (k : ℕ) → first_of (empty_pool ids lists) k ≡ None =
+        λ k. ap (λ (xs : List ℕ). slice_get xs 0) (list_of-empty ids lists k) in
+    let next : (id : ℕ) → next_of (empty_pool ids lists) id ≡ None =
+        λ id. next_of-nowhere (empty_pool ids lists) id (where_of-empty ids lists id) in
     record {
       proper = IsProper-empty ids lists;
       list_count = simp length-replicate;
@@ -52,9 +55,21 @@ IsLinkedAs-empty ids lists =
       frees = λ id e. link_at-replicate ids id;
     }
 
-pub IsLinkedAs-none : (heads next prev places : List (Option ℕ)) (ids lists : ℕ) → heads ≡ replicate lists None → next ≡ replicate ids None → prev ≡ replicate ids None → places ≡ replicate ids None
+pub IsLinkedAs-none : (heads next prev places : List (Option ℕ)) (ids lists : ℕ)
+    → heads ≡ replicate lists None → next ≡ replicate ids None → prev ≡ replicate ids None → places ≡ replicate ids None
     → IsLinkedAs heads next prev places (empty_pool ids lists)
 IsLinkedAs-none heads next prev places ids lists h n b w = rw (h, n, b, w) (IsLinkedAs-empty ids lists)
+
+-- the links back with the id in front of the first one of list k
+abbrev pub prev_with : List (Option ℕ) → List (Option ℕ) → ℕ → ℕ → List (Option ℕ)
+prev_with heads prev k id = with_link prev (link_at heads k) (Some id)
+
+-- the links to the next and back without the id: those before it and after it are linked to each other
+abbrev pub next_without : List (Option ℕ) → List (Option ℕ) → ℕ → List (Option ℕ)
+next_without next prev id = with_link (set next id None) (link_at prev id) (link_at next id)
+
+abbrev pub prev_without : List (Option ℕ) → List (Option ℕ) → ℕ → List (Option ℕ)
+prev_without next prev id = with_link (set prev id None) (link_at next id) (link_at prev id)
 
 -- each link is to an id of the pool
 module _ (heads next prev places : List (Option ℕ)) (p : Pool) (linked : IsLinkedAs heads next prev places p) where
@@ -73,13 +88,15 @@ module _ (heads next prev places : List (Option ℕ)) (p : Pool) (linked : IsLin
       let w = next_of-Some p id other after in
       omega (arith, linked_in_range other w.0 (where_of-next p id other w.0 linked.proper w.1 after))
 
-module _ (heads next prev places : List (Option ℕ)) (p : Pool) (k id : ℕ) (linked : IsLinkedAs heads next prev places p) (list_in_range : k < length p.lists) (id_in_range : id < p.ids) (unlinked : where_of p id ≡ None) where
-  -- where each id is after the id was put in front of the first one of list k
+-- an id that is in no list put in front of the first one of list k
+module _ (heads next prev places : List (Option ℕ)) (p : Pool) (k id : ℕ) (linked : IsLinkedAs heads next prev places p)
+  (list_in_range : k < length p.lists) (id_in_range : id < p.ids) (unlinked : where_of p id ≡ None) where
+  -- where each id is then
   moved : SetsOnly p (inserted p k id) id (Some k)
   moved = where_of-inserted p k id linked.proper list_in_range id_in_range unlinked
 
   -- the link back of any other id than the old first one stays
-  kept : (other : ℕ) → (first_of p k ≡ Some other → ⊥) → link_at (with_link prev (link_at heads k) (Some id)) other ≡ link_at prev other
+  kept : (other : ℕ) → (first_of p k ≡ Some other → ⊥) → link_at (prev_with heads prev k id) other ≡ link_at prev other
   kept other ne = link_at-with_link_other prev (link_at heads k) (Some id) other (λ e. ne (sym (linked.firsts k) ∙ e))
 
   inserted_firsts : (j : ℕ) → link_at (set heads k (Some id)) j ≡ first_of (inserted p k id) j
@@ -113,7 +130,7 @@ module _ (heads next prev places : List (Option ℕ)) (p : Pool) (k id : ℕ) (l
     | inr apart ↦ get_or-set_other places id j (Some k) None apart ∙ linked.wheres j ∙ sym (moved.others j apart)
   ]
 
-  inserted_backs : (j other : ℕ) → next_of (inserted p k id) j ≡ Some other → link_at (with_link prev (link_at heads k) (Some id)) other ≡ Some j
+  inserted_backs : (j other : ℕ) → next_of (inserted p k id) j ≡ Some other → link_at (prev_with heads prev k id) other ≡ Some j
   inserted_backs j other e = elim (cases_eq j id) [
     | inl same ↦
       let first : first_of p k ≡ Some other =
@@ -126,12 +143,12 @@ module _ (heads next prev places : List (Option ℕ)) (p : Pool) (k id : ℕ) (l
       kept other (λ first. none-some j (sym (linked.fronts k other first) ∙ back)) ∙ back
   ]
 
-  inserted_fronts : (j other : ℕ) → first_of (inserted p k id) j ≡ Some other → link_at (with_link prev (link_at heads k) (Some id)) other ≡ None
+  inserted_fronts : (j other : ℕ) → first_of (inserted p k id) j ≡ Some other → link_at (prev_with heads prev k id) other ≡ None
   inserted_fronts j other e = elim (cases_eq j k) [
     | inl same ↦
       let is : id ≡ other = same_Some id other (
           sym (first_of-inserted p k id linked.proper list_in_range id_in_range unlinked) ∙ subst (λ i. first_of (inserted p k id) i ≡ Some other) same e) in
-      subst (λ i. link_at (with_link prev (link_at heads k) (Some id)) i ≡ None) is (
+      subst (λ i. link_at (prev_with heads prev k id) i ≡ None) is (
         kept id (λ first. none-some k (sym unlinked ∙ where_of-first p k id linked.proper first)) ∙ linked.frees id unlinked)
     | inr apart ↦
       let front = sym (first_of-inserted_other p k id linked.proper list_in_range id_in_range unlinked j apart) ∙ e in
@@ -139,13 +156,14 @@ module _ (heads next prev places : List (Option ℕ)) (p : Pool) (k id : ℕ) (l
       kept other (λ first. apart (same_Some j k (sym there ∙ where_of-first p k other linked.proper first))) ∙ linked.fronts j other front
   ]
 
-  inserted_frees : (other : ℕ) → where_of (inserted p k id) other ≡ None → link_at (with_link prev (link_at heads k) (Some id)) other ≡ None
+  inserted_frees : (other : ℕ) → where_of (inserted p k id) other ≡ None → link_at (prev_with heads prev k id) other ≡ None
   inserted_frees other e =
       let apart : other ≢ id = λ same. none-some k (sym (subst (λ i. where_of (inserted p k id) i ≡ None) same e) ∙ moved.changed) in
       let free : where_of p other ≡ None = sym (moved.others other apart) ∙ e in
       kept other (λ first. none-some k (sym free ∙ where_of-first p k other linked.proper first)) ∙ linked.frees other free
 
-  pub IsLinkedAs-inserted : IsLinkedAs (set heads k (Some id)) (set next id (link_at heads k)) (with_link prev (link_at heads k) (Some id)) (set places id (Some k)) (inserted p k id)
+  pub IsLinkedAs-inserted
+    : IsLinkedAs (set heads k (Some id)) (set next id (link_at heads k)) (prev_with heads prev k id) (set places id (Some k)) (inserted p k id)
   IsLinkedAs-inserted = record {
     proper = IsProper-inserted p k id linked.proper list_in_range id_in_range unlinked;
     list_count = simp length-set linked.list_count;
@@ -160,7 +178,9 @@ module _ (heads next prev places : List (Option ℕ)) (p : Pool) (k id : ℕ) (l
     frees = inserted_frees;
   }
 
-module _ (heads next prev places : List (Option ℕ)) (p : Pool) (k id : ℕ) (linked : IsLinkedAs heads next prev places p) (at : where_of p id ≡ Some k) where
+-- an id of list k taken out
+module _ (heads next prev places : List (Option ℕ)) (p : Pool) (k id : ℕ) (linked : IsLinkedAs heads next prev places p)
+  (at : where_of p id ≡ Some k) where
   within_ids : id < p.ids
   within_ids = linked.proper.in_range k id (has-where_of p id k at)
 
@@ -183,17 +203,18 @@ module _ (heads next prev places : List (Option ℕ)) (p : Pool) (k id : ℕ) (l
       let w = next_of-Some p b id (comes_after b e) in
       omega (arith, linked.proper.in_range w.0 b (has-where_of p b w.0 w.1))
 
-  -- where each id is after the id was taken out
+  -- where each id is then
   left : SetsOnly p (removed p id) id None
   left = where_of-removed p id linked.proper
 
-  removed_nexts : (j : ℕ) → link_at (with_link (set next id None) (link_at prev id) (link_at next id)) j ≡ next_of (removed p id) j
+  removed_nexts : (j : ℕ) → link_at (next_without next prev id) j ≡ next_of (removed p id) j
   removed_nexts j =
       let count = linked.next_count in
       let inside = within_ids in
       elim (cases_eq j id) [
         | inl same ↦ rw same (
-            link_at-with_link_other (set next id None) (link_at prev id) (link_at next id) id (λ e. next_of-apart p id linked.proper (comes_after id e))
+            link_at-with_link_other (set next id None) (link_at prev id) (link_at next id) id
+              (λ e. next_of-apart p id linked.proper (comes_after id e))
             ∙ get_or-set_same next id None None (omega arith)
             ∙ sym (next_of-removed p id linked.proper))
         | inr apart ↦ elim (cases_Some (link_at prev id) j) [
@@ -222,26 +243,27 @@ module _ (heads next prev places : List (Option ℕ)) (p : Pool) (k id : ℕ) (l
       ]
 
   -- the links back: the id after the removed one has its link, any other keeps its own
-  back_after : (j : ℕ) → next_of p id ≡ Some j → link_at (with_link (set prev id None) (link_at next id) (link_at prev id)) j ≡ link_at prev id
+  back_after : (j : ℕ) → next_of p id ≡ Some j → link_at (prev_without next prev id) j ≡ link_at prev id
   back_after j e =
       let count = linked.prev_count in
       let there = where_of-next p id j k linked.proper at e in
       let inside = linked.proper.in_range k j (has-where_of p j k there) in
       link_at-with_link (set prev id None) (link_at next id) (link_at prev id) j (simp length-set (omega arith)) (linked.nexts id ∙ e)
 
-  back_other : (j : ℕ) → j ≢ id → (next_of p id ≡ Some j → ⊥) → link_at (with_link (set prev id None) (link_at next id) (link_at prev id)) j ≡ link_at prev j
+  back_other : (j : ℕ) → j ≢ id → (next_of p id ≡ Some j → ⊥) → link_at (prev_without next prev id) j ≡ link_at prev j
   back_other j apart ne =
       link_at-with_link_other (set prev id None) (link_at next id) (link_at prev id) j (λ e. ne (sym (linked.nexts id) ∙ e))
       ∙ get_or-set_other prev id j None None apart
 
-  back_itself : link_at (with_link (set prev id None) (link_at next id) (link_at prev id)) id ≡ None
+  back_itself : link_at (prev_without next prev id) id ≡ None
   back_itself =
       let count = linked.prev_count in
       let inside = within_ids in
-      link_at-with_link_other (set prev id None) (link_at next id) (link_at prev id) id (λ e. next_of-apart p id linked.proper (sym (linked.nexts id) ∙ e))
+      link_at-with_link_other (set prev id None) (link_at next id) (link_at prev id) id
+        (λ e. next_of-apart p id linked.proper (sym (linked.nexts id) ∙ e))
       ∙ get_or-set_same prev id None None (omega arith)
 
-  removed_backs : (j other : ℕ) → next_of (removed p id) j ≡ Some other → link_at (with_link (set prev id None) (link_at next id) (link_at prev id)) other ≡ Some j
+  removed_backs : (j other : ℕ) → next_of (removed p id) j ≡ Some other → link_at (prev_without next prev id) other ≡ Some j
   removed_backs j other e = elim (cases_eq j id) [
     | inl same ↦ absurd (none-some other (sym (subst (λ i. next_of (removed p id) i ≡ None) (sym same) (next_of-removed p id linked.proper)) ∙ e))
     | inr apart ↦ elim (cases_Some (next_of p j) id) [
@@ -257,7 +279,7 @@ module _ (heads next prev places : List (Option ℕ)) (p : Pool) (k id : ℕ) (l
       ]
   ]
 
-  removed_fronts : (j other : ℕ) → first_of (removed p id) j ≡ Some other → link_at (with_link (set prev id None) (link_at next id) (link_at prev id)) other ≡ None
+  removed_fronts : (j other : ℕ) → first_of (removed p id) j ≡ Some other → link_at (prev_without next prev id) other ≡ None
   removed_fronts j other e = elim (cases_Some (first_of p j) id) [
     | inl first ↦ back_after other (sym (first_of-removed p id linked.proper j first) ∙ e) ∙ linked.fronts j id first
     | inr ne ↦
@@ -269,7 +291,7 @@ module _ (heads next prev places : List (Option ℕ)) (p : Pool) (k id : ℕ) (l
       ∙ front
   ]
 
-  removed_frees : (other : ℕ) → where_of (removed p id) other ≡ None → link_at (with_link (set prev id None) (link_at next id) (link_at prev id)) other ≡ None
+  removed_frees : (other : ℕ) → where_of (removed p id) other ≡ None → link_at (prev_without next prev id) other ≡ None
   removed_frees other e = elim (cases_eq other id) [
     | inl same ↦ rw same back_itself
     | inr apart ↦
@@ -300,7 +322,7 @@ module _ (heads next prev places : List (Option ℕ)) (p : Pool) (k id : ℕ) (l
 
   -- the heads may change, as long as they are the first ids
   linked_by : (new_heads : List (Option ℕ)) → length new_heads ≡ length heads → ((j : ℕ) → link_at new_heads j ≡ first_of (removed p id) j)
-    → IsLinkedAs new_heads (with_link (set next id None) (link_at prev id) (link_at next id)) (with_link (set prev id None) (link_at next id) (link_at prev id)) (set places id None) (removed p id)
+    → IsLinkedAs new_heads (next_without next prev id) (prev_without next prev id) (set places id None) (removed p id)
   linked_by new_heads same_count firsts = record {
     proper = IsProper-removed p id linked.proper;
     list_count = same_count ∙ linked.list_count ∙ sym (length-map p.lists (without id));
@@ -317,16 +339,22 @@ module _ (heads next prev places : List (Option ℕ)) (p : Pool) (k id : ℕ) (l
 
   -- the first id of its list taken out
   pub IsLinkedAs-removed_first : link_at prev id ≡ None
-    → IsLinkedAs (set heads k (link_at next id)) (set next id None) (with_link (set prev id None) (link_at next id) None) (set places id None) (removed p id)
+    → IsLinkedAs (set heads k (link_at next id)) (set next id None)
+      (with_link (set prev id None) (link_at next id) None) (set places id None) (removed p id)
   IsLinkedAs-removed_first back =
-      subst (λ o. IsLinkedAs (set heads k (link_at next id)) (with_link (set next id None) o (link_at next id)) (with_link (set prev id None) (link_at next id) o) (set places id None) (removed p id))
+      subst
+        (λ o. IsLinkedAs (set heads k (link_at next id)) (with_link (set next id None) o (link_at next id))
+          (with_link (set prev id None) (link_at next id) o) (set places id None) (removed p id))
         back
         (linked_by (set heads k (link_at next id)) (length-set heads k (link_at next id)) (removed_firsts back))
 
   -- an id behind another taken out
   pub IsLinkedAs-removed_behind : (b : ℕ) → link_at prev id ≡ Some b
-    → IsLinkedAs heads (set (set next id None) b (link_at next id)) (with_link (set prev id None) (link_at next id) (Some b)) (set places id None) (removed p id)
+    → IsLinkedAs heads (set (set next id None) b (link_at next id))
+      (with_link (set prev id None) (link_at next id) (Some b)) (set places id None) (removed p id)
   IsLinkedAs-removed_behind b back =
-      subst (λ o. IsLinkedAs heads (with_link (set next id None) o (link_at next id)) (with_link (set prev id None) (link_at next id) o) (set places id None) (removed p id))
+      subst
+        (λ o. IsLinkedAs heads (with_link (set next id None) o (link_at next id))
+          (with_link (set prev id None) (link_at next id) o) (set places id None) (removed p id))
         back
         (linked_by heads refl (removed_firsts_behind b back))

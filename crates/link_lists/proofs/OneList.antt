@@ -89,7 +89,8 @@ after-apart (x ∷ xs) id d e =
     ]
 
 -- an id of the list is its first or comes after another
-pub first_or_after : (xs : List ℕ) (id : ℕ) → IsDistinct nat_eq xs → has xs id ≡ true → (slice_get xs 0 ≡ Some id) ⊎ ((b : ℕ) × (after b xs ≡ Some id))
+pub first_or_after : (xs : List ℕ) (id : ℕ)
+    → IsDistinct nat_eq xs → has xs id ≡ true → (slice_get xs 0 ≡ Some id) ⊎ ((b : ℕ) × (after b xs ≡ Some id))
 first_or_after [] id d h = absurd (false≢true h)
 first_or_after (x ∷ xs) id d h = elim (or_cases (nat_eq id x) (has xs id) h) [
   | inl here ↦ inl (ap (λ (y : ℕ). Some y) (sym (eqb-true id x here)))
@@ -164,7 +165,8 @@ first-without_other (x ∷ xs) id ne =
     grind arith
 
 -- without an id, what comes after it comes after the one before it
-pub after-without : (xs : List ℕ) (id a : ℕ) → IsDistinct nat_eq xs → after a xs ≡ Some id → after a (without id xs) ≡ after id xs
+pub after-without : (xs : List ℕ) (id a : ℕ)
+    → IsDistinct nat_eq xs → after a xs ≡ Some id → after a (without id xs) ≡ after id xs
 after-without [] id a d e = refl
 after-without (x ∷ xs) id a d e =
     let lacks = rest_lacks_first x xs d in
@@ -192,7 +194,8 @@ after-without (x ∷ xs) id a d e =
     ]
 
 -- and nothing else changes behind the others
-pub after-without_other : (xs : List ℕ) (id a : ℕ) → IsDistinct nat_eq xs → a ≢ id → (after a xs ≡ Some id → ⊥) → after a (without id xs) ≡ after a xs
+pub after-without_other : (xs : List ℕ) (id a : ℕ)
+    → IsDistinct nat_eq xs → a ≢ id → (after a xs ≡ Some id → ⊥) → after a (without id xs) ≡ after a xs
 after-without_other [] id a d ne nf = refl
 after-without_other (x ∷ xs) id a d ne nf =
     let lacks = rest_lacks_first x xs d in

@@ -72,24 +72,28 @@ pub length-list_of : (p : Pool) (k : ℕ) → IsProper p → length (list_of p k
 length-list_of p k proper = length-le_from_distinct_below (list_of p k) p.ids (proper.once k) (λ id h. proper.in_range k id h)
 
 -- after the id at a place comes the id at the next place
-pub next_of-at : (p : Pool) (k place id : ℕ) → IsProper p → slice_get (list_of p k) place ≡ Some id → next_of p id ≡ slice_get (list_of p k) (place + 1)
+pub next_of-at : (p : Pool) (k place id : ℕ)
+    → IsProper p → slice_get (list_of p k) place ≡ Some id → next_of p id ≡ slice_get (list_of p k) (place + 1)
 next_of-at p k place id proper e =
     next_of-in p id k (where_of-at p k place id proper e) ∙ after-at (list_of p k) place id (proper.once k) e ∙ ap (slice_get (list_of p k)) (omega arith)
 
 -- an id that comes next is in the same list
-pub next_of-Some : (p : Pool) (id other : ℕ) → next_of p id ≡ Some other → (k : ℕ) × (where_of p id ≡ Some k) × (after id (list_of p k) ≡ Some other)
+pub next_of-Some : (p : Pool) (id other : ℕ)
+    → next_of p id ≡ Some other → (k : ℕ) × (where_of p id ≡ Some k) × (after id (list_of p k) ≡ Some other)
 next_of-Some p id other e = elim (cases_option (where_of p id)) [
   | inl none ↦ absurd (none-some other (sym (next_of-nowhere p id none) ∙ e))
   | inr w ↦ (w.0, w.1, sym (next_of-in p id w.0 w.1) ∙ e)
 ]
 
 -- and the same for any list that the first id is in
-pub where_of-next_same : (p : Pool) (id other : ℕ) → IsProper p → next_of p id ≡ Some other → where_of p other ≡ where_of p id
+pub where_of-next_same : (p : Pool) (id other : ℕ)
+    → IsProper p → next_of p id ≡ Some other → where_of p other ≡ where_of p id
 where_of-next_same p id other proper e =
     let w = next_of-Some p id other e in
     where_of-has p other w.0 proper (has-after (list_of p w.0) id other w.2) ∙ sym w.1
 
-pub where_of-next : (p : Pool) (id other k : ℕ) → IsProper p → where_of p id ≡ Some k → next_of p id ≡ Some other → where_of p other ≡ Some k
+pub where_of-next : (p : Pool) (id other k : ℕ)
+    → IsProper p → where_of p id ≡ Some k → next_of p id ≡ Some other → where_of p other ≡ Some k
 where_of-next p id other k proper at e =
     where_of-has p other k proper (has-after (list_of p k) id other (sym (next_of-in p id k at) ∙ e))
 
@@ -104,15 +108,19 @@ pub where_of-first : (p : Pool) (k id : ℕ) → IsProper p → first_of p k ≡
 where_of-first p k id proper e = where_of-at p k 0 id proper e
 
 -- an id of a list is its first or comes next after another
-pub first_or_next : (p : Pool) (id k : ℕ) → IsProper p → where_of p id ≡ Some k → (first_of p k ≡ Some id) ⊎ ((b : ℕ) × (next_of p b ≡ Some id))
+pub first_or_next : (p : Pool) (id k : ℕ)
+    → IsProper p → where_of p id ≡ Some k → (first_of p k ≡ Some id) ⊎ ((b : ℕ) × (next_of p b ≡ Some id))
 first_or_next p id k proper at =
     elim (first_or_after (list_of p k) id (proper.once k) (has-where_of p id k at)) [
       | inl first ↦ inl first
-      | inr w ↦ inr (w.0, next_of-in p w.0 k (where_of-has p w.0 k proper (has-before (list_of p k) w.0 id w.1)) ∙ w.1)
+      | inr w ↦
+        let there = where_of-has p w.0 k proper (has-before (list_of p k) w.0 id w.1) in
+        inr (w.0, next_of-in p w.0 k there ∙ w.1)
     ]
 
 -- where an id is, is the same in two pools whose lists agree on it
-pub where_of-same : (old new : Pool) (id : ℕ) → IsProper new → ((k : ℕ) → has (list_of new k) id ≡ has (list_of old k) id) → where_of new id ≡ where_of old id
+pub where_of-same : (old new : Pool) (id : ℕ)
+    → IsProper new → ((k : ℕ) → has (list_of new k) id ≡ has (list_of old k) id) → where_of new id ≡ where_of old id
 where_of-same old new id proper same = elim (cases_option (where_of old id)) [
   | inl none ↦ elim (cases_option (where_of new id)) [
       | inl also ↦ also ∙ sym none
@@ -146,7 +154,8 @@ where_of-empty ids lists id = elim (cases_option (where_of (empty_pool ids lists
 ]
 
 -- an id inserted as the first of list k
-module _ (p : Pool) (k id : ℕ) (proper : IsProper p) (list_in_range : k < length p.lists) (id_in_range : id < p.ids) (unlinked : where_of p id ≡ None) where
+module _ (p : Pool) (k id : ℕ) (proper : IsProper p)
+  (list_in_range : k < length p.lists) (id_in_range : id < p.ids) (unlinked : where_of p id ≡ None) where
   pub list_of-inserted : list_of (inserted p k id) k ≡ id ∷ list_of p k
   list_of-inserted = get_or-set_same p.lists k (id ∷ list_of p k) [] list_in_range
 
@@ -185,12 +194,15 @@ module _ (p : Pool) (k id : ℕ) (proper : IsProper p) (list_in_range : k < leng
       | inr ne ↦ proper.in_range j other (sym (has-inserted_other j other ne) ∙ h)
     ];
     once = λ j. elim (cases_eq j k) [
-      | inl same ↦ subst (λ i. IsDistinct nat_eq (list_of (inserted p k id) i)) (sym same) (
-          subst (IsDistinct nat_eq) (sym list_of-inserted) (IsDistinct-first id (list_of p k) (has-nowhere p id k unlinked) (proper.once k)))
+      | inl same ↦
+        let first = IsDistinct-first id (list_of p k) (has-nowhere p id k unlinked) (proper.once k) in
+        subst (λ i. IsDistinct nat_eq (list_of (inserted p k id) i)) (sym same) (subst (IsDistinct nat_eq) (sym list_of-inserted) first)
       | inr apart ↦ subst (IsDistinct nat_eq) (sym (list_of-inserted_other j apart)) (proper.once j)
     ];
     apart = λ i j other h g. elim (cases_eq other id) [
-      | inl same ↦ only_inserted i (subst (λ o. has (list_of (inserted p k id) i) o ≡ true) same h) ∙ sym (only_inserted j (subst (λ o. has (list_of (inserted p k id) j) o ≡ true) same g))
+      | inl same ↦
+        only_inserted i (subst (λ o. has (list_of (inserted p k id) i) o ≡ true) same h)
+        ∙ sym (only_inserted j (subst (λ o. has (list_of (inserted p k id) j) o ≡ true) same g))
       | inr ne ↦ proper.apart i j other (sym (has-inserted_other i other ne) ∙ h) (sym (has-inserted_other j other ne) ∙ g)
     ];
   }

@@ -14,7 +14,8 @@ IsChain next [] = Unit {0}
 IsChain next (x ∷ xs) = (link_at next x ≡ slice_get xs 0) × IsChain next xs
 
 -- the walk from the first id of a chain is the chain, where it may be so long
-pub walk-chain : (n : ℕ) (next : List (Option ℕ)) (xs : List ℕ) → length xs ≤ n → IsChain next xs → walk n next (slice_get xs 0) ≡ xs
+pub walk-chain : (n : ℕ) (next : List (Option ℕ)) (xs : List ℕ)
+    → length xs ≤ n → IsChain next xs → walk n next (slice_get xs 0) ≡ xs
 walk-chain zero next [] fits chain = refl
 walk-chain zero next (x ∷ xs) fits chain = absurd (omega arith)
 walk-chain (suc n) next [] fits chain = refl
@@ -22,7 +23,8 @@ walk-chain (suc n) next (x ∷ xs) fits chain =
     ap (λ at. x ∷ walk n next at) chain.0 ∙ ap (λ (ys : List ℕ). x ∷ ys) (walk-chain n next xs (omega arith) chain.1)
 
 -- links that say what comes after each id of a list make it a chain
-pub IsChain-from_after : (next : List (Option ℕ)) (xs : List ℕ) → IsDistinct nat_eq xs → ((id : ℕ) → has xs id ≡ true → link_at next id ≡ after id xs) → IsChain next xs
+pub IsChain-from_after : (next : List (Option ℕ)) (xs : List ℕ)
+    → IsDistinct nat_eq xs → ((id : ℕ) → has xs id ≡ true → link_at next id ≡ after id xs) → IsChain next xs
 IsChain-from_after next [] d h = tt
 IsChain-from_after next (x ∷ xs) d h =
     let same = eq-eqb x x refl in

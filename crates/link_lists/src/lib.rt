@@ -1,4 +1,4 @@
-//! Doubly linked lists over one pool of ids, each call in constant time.
+//! Doubly linked lists over one pool of ids.
 #![tactic(auto)]
 
 mod lists;

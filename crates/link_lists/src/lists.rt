@@ -6,10 +6,11 @@ ghost use Rattle.link_lists.specs.Links.{with_link};
 use std::alloc::{AllocError, Global};
 use std::marker::Model;
 
-/// Doubly linked lists over one pool of ids: each id is in one list at most, and there once.
+/// Doubly linked lists over one pool of ids, as the area lists of Quake's world: each id is in one
+/// list at most, and there once.
 ///
-/// Ids are counted from 0, and so are the lists. Only `new` takes memory, and each call but `new`
-/// and `copy_from` takes constant time.
+/// Ids and lists are counted from 0. Only `new` takes memory, and each call but `new` and
+/// `copy_from` takes constant time.
 #[derive(Debug, Drop)]
 pub struct Lists {
     heads: Vec<Option<u16>>,
@@ -42,7 +43,7 @@ fn link_back(prev: &mut [Option<u16>], id: Option<u16>, to: Option<u16>)
 }
 
 impl Lists {
-    /// So many lists over so many ids, with no id in any.
+    /// Makes `lists` empty lists over the ids below `ids`. The only error is that memory is refused.
     pub fn new(alloc: Global, ids: u16, lists: u8) -> Result<Self, AllocError>
         ensures { IfOk result (λ made. made ≡ empty_pool ids lists) }
     {
@@ -55,7 +56,7 @@ impl Lists {
         })
     }
 
-    /// Puts the id first in the list, where Quake's `SV_LinkEdict` puts an entity last.
+    /// Puts an id that is in no list first in this one. Quake's `SV_LinkEdict` puts it last.
     pub fn insert(&mut self, list: u8, id: u16)
         requires list_in_range { list < length self.old.lists }
         requires id_in_range { id < self.old.ids }
@@ -100,7 +101,8 @@ impl Lists {
         self.places.get(usize::from(id)).copied().flatten()
     }
 
-    /// The first id of the list, and `None` exactly where the list is empty.
+    /// The first id of the list, and `None` exactly where the list is empty. A list that there is
+    /// not counts as empty.
     pub fn first(&self, list: u8) -> Option<u16>
         ensures first { result ≡ first_of self.now list }
         ensures member { IfSome result (λ id. where_of self.now id ≡ Some list) }

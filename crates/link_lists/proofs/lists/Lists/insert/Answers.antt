@@ -1,6 +1,7 @@
 use Rattle.std.proofs.Common.{◌≡◌, ◌<◌, ℕ, Option, Some, None, List, set, take, drop, ◌++◌, length, sym, ap, ◌∙◌, subst, arith, rules}
 use Rattle.std.proofs.lemmas.Grind.{common_steps}
 use Rattle.std.proofs.lemmas.List.{get_or_read, with_items_is}
+use Rattle.std.specs.Vec.{with_items}
 use Rattle.link_lists.specs.Pool.{Pool, inserted, IsProper, SetsOnly}
 use Rattle.link_lists.specs.Links.{link_at, with_link, IsLinkedAs}
 use Rattle.link_lists.proofs.Pools.{IsProper-inserted, where_of-inserted}
@@ -19,16 +20,16 @@ link_back-requires c = λ x e.
 linked : (c : goal.After-self-4-1) → IsLinkedAs
     (set c.self.inside.heads.items c.from-head.result (Some c.args.id))
     (set c.self.inside.next.items c.from-index.result c.index-first.result.now)
-    (take c.self.inside.prev.len (c.link_back.new.prev ++ drop (length c.link_back.new.prev) c.self.inside.prev.items))
+    (with_items c.self.inside.prev c.link_back.new.prev).items
     (set c.self.inside.places.items c.from-index.result (Some c.args.list))
     (inserted c.args.self.now c.args.list c.args.id)
 linked c =
-    let old : IsLinkedAs c.self.inside.heads.items c.self.inside.next.items c.self.inside.prev.items c.self.inside.places.items c.args.self.now =
-        subst (IsLinkedAs _ _ _ _) c.self.view_is c.self.invariant in
+    let old = subst (IsLinkedAs _ _ _ _) c.self.view_is c.self.invariant in
     let count = old.list_count in
     let first : c.index-first.result.now ≡ link_at c.self.inside.heads.items c.args.list =
         grind (arith, common_steps) in
-    let links : c.link_back.new.prev ≡ with_link c.self.inside.prev.items (link_at c.self.inside.heads.items c.args.list) (Some c.args.id) = cc in
+    let links : c.link_back.new.prev ≡ with_link c.self.inside.prev.items
+        (link_at c.self.inside.heads.items c.args.list) (Some c.args.id) = cc in
     let kept : length c.link_back.new.prev ≡ c.self.inside.prev.len = omega arith in
     rw (c.from-head.ensures, c.from-index.ensures, first, with_items_is c.self.inside.prev c.link_back.new.prev kept, links)
       (IsLinkedAs-inserted _ _ _ _ c.args.self.now c.args.list c.args.id old c.requires.list_in_range c.requires.id_in_range c.requires.unlinked)

@@ -7,7 +7,12 @@ use Rattle.link_lists.proofs.Linking.{IsLinkedAs-none}
 use Rattle.link_lists.proofs.lists.Lists.new.Goals as goal
 
 -- the four vectors have no link
-linked : (c : goal.In_ok-vec-4) → IsLinkedAs c.in_ok-vec.field-0.items c.in_ok-vec-2.field-0.items c.in_ok-vec-3.field-0.items c.in_ok-vec-4.field-0.items (empty_pool c.args.ids c.args.lists)
+linked : (c : goal.In_ok-vec-4) → IsLinkedAs
+    c.in_ok-vec.field-0.items
+    c.in_ok-vec-2.field-0.items
+    c.in_ok-vec-3.field-0.items
+    c.in_ok-vec-4.field-0.items
+    (empty_pool c.args.ids c.args.lists)
 linked c = IsLinkedAs-none _ _ _ _ c.args.ids c.args.lists
     (grind (arith, common_steps)) (grind (arith, common_steps)) (grind (arith, common_steps)) (grind (arith, common_steps))
 

@@ -1,7 +1,7 @@
 use Rattle.std.proofs.Common.{◌≡◌, ◌<◌, ℕ, Option, Some, None, List, set, take, drop, ◌++◌, length, sym, ap, ◌∙◌, subst, arith, rules}
 use Rattle.std.proofs.lemmas.Grind.{common_steps}
 use Rattle.std.proofs.lemmas.List.{with_items_is}
-use Rattle.std.specs.Vec.{with_item}
+use Rattle.std.specs.Vec.{with_item, with_items}
 use Rattle.link_lists.specs.Pool.{Pool, where_of, removed, IsProper, SetsOnly}
 use Rattle.link_lists.specs.Links.{link_at, with_link, IsLinkedAs}
 use Rattle.link_lists.proofs.Pools.{where_of-removed}
@@ -18,8 +18,7 @@ link_back-requires c = λ x e.
 
 pub index_mut-requires-in-Some : goal.index_mut-requires-in-Some
 index_mut-requires-in-Some c =
-    let old : IsLinkedAs c.self.inside.heads.items c.self.inside.next.items c.self.inside.prev.items c.self.inside.places.items c.args.self.now =
-        subst (IsLinkedAs _ _ _ _) c.self.view_is c.self.invariant in
+    let old = subst (IsLinkedAs _ _ _ _) c.self.view_is c.self.invariant in
     let place : link_at c.self.inside.places.items c.args.id ≡ Some c.unwrap-list.result = grind (arith, common_steps) in
     let at = sym (old.wheres c.args.id) ∙ place in
     let before : link_at c.self.inside.prev.items c.args.id ≡ Some c.in-Some.before = grind (arith, common_steps) in
@@ -29,37 +28,39 @@ index_mut-requires-in-Some c =
 linked-in-Some : (c : goal.After-self-in-Some-1) → IsLinkedAs
     c.self.inside.heads.items
     (set (set c.self.inside.next.items c.from-index.result c.take-after.new.self) c.from.result c.take-after.result)
-    (take c.self.inside.prev.len (c.link_back.new.prev ++ drop (length c.link_back.new.prev) (set c.self.inside.prev.items c.from-index.result c.take-before.new.self)))
+    (with_items (with_item c.self.inside.prev c.from-index.result c.take-before.new.self) c.link_back.new.prev).items
     (set c.self.inside.places.items c.from-index.result c.take.new.self)
     (removed c.args.self.now c.args.id)
 linked-in-Some c =
-    let old : IsLinkedAs c.self.inside.heads.items c.self.inside.next.items c.self.inside.prev.items c.self.inside.places.items c.args.self.now =
-        subst (IsLinkedAs _ _ _ _) c.self.view_is c.self.invariant in
+    let old = subst (IsLinkedAs _ _ _ _) c.self.view_is c.self.invariant in
     let place : link_at c.self.inside.places.items c.args.id ≡ Some c.unwrap-list.result = grind (arith, common_steps) in
     let at = sym (old.wheres c.args.id) ∙ place in
     let before : link_at c.self.inside.prev.items c.args.id ≡ Some c.in-Some.before = grind (arith, common_steps) in
     let after : c.take-after.result ≡ link_at c.self.inside.next.items c.args.id = grind (arith, common_steps) in
-    let links : c.link_back.new.prev ≡ with_link (set c.self.inside.prev.items c.args.id None) (link_at c.self.inside.next.items c.args.id) (Some c.in-Some.before) = cc in
+    let links : c.link_back.new.prev ≡ with_link (set c.self.inside.prev.items c.args.id None)
+        (link_at c.self.inside.next.items c.args.id) (Some c.in-Some.before) = cc in
     let kept : length c.link_back.new.prev ≡ c.self.inside.prev.len = omega arith in
-    rw (with_items_is (with_item c.self.inside.prev c.from-index.result c.take-before.new.self) c.link_back.new.prev kept, c.from-index.ensures, c.from.ensures, c.take-after.ensures.after, c.take.ensures.after, after, links)
+    let written = with_items_is (with_item c.self.inside.prev c.from-index.result c.take-before.new.self) c.link_back.new.prev kept in
+    rw (written, c.from-index.ensures, c.from.ensures, c.take-after.ensures.after, c.take.ensures.after, after, links)
       (IsLinkedAs-removed_behind _ _ _ _ c.args.self.now c.unwrap-list.result c.args.id old at c.in-Some.before before)
 
 linked-in-None : (c : goal.After-self-in-None-1) → IsLinkedAs
     (set c.self.inside.heads.items c.from-in-None.result c.take-after.result)
     (set c.self.inside.next.items c.from-index.result c.take-after.new.self)
-    (take c.self.inside.prev.len (c.link_back.new.prev ++ drop (length c.link_back.new.prev) (set c.self.inside.prev.items c.from-index.result c.take-before.new.self)))
+    (with_items (with_item c.self.inside.prev c.from-index.result c.take-before.new.self) c.link_back.new.prev).items
     (set c.self.inside.places.items c.from-index.result c.take.new.self)
     (removed c.args.self.now c.args.id)
 linked-in-None c =
-    let old : IsLinkedAs c.self.inside.heads.items c.self.inside.next.items c.self.inside.prev.items c.self.inside.places.items c.args.self.now =
-        subst (IsLinkedAs _ _ _ _) c.self.view_is c.self.invariant in
+    let old = subst (IsLinkedAs _ _ _ _) c.self.view_is c.self.invariant in
     let place : link_at c.self.inside.places.items c.args.id ≡ Some c.unwrap-list.result = grind (arith, common_steps) in
     let at = sym (old.wheres c.args.id) ∙ place in
     let before : link_at c.self.inside.prev.items c.args.id ≡ None = grind (arith, common_steps) in
     let after : c.take-after.result ≡ link_at c.self.inside.next.items c.args.id = grind (arith, common_steps) in
-    let links : c.link_back.new.prev ≡ with_link (set c.self.inside.prev.items c.args.id None) (link_at c.self.inside.next.items c.args.id) None = cc in
+    let links : c.link_back.new.prev ≡ with_link (set c.self.inside.prev.items c.args.id None)
+        (link_at c.self.inside.next.items c.args.id) None = cc in
     let kept : length c.link_back.new.prev ≡ c.self.inside.prev.len = omega arith in
-    rw (with_items_is (with_item c.self.inside.prev c.from-index.result c.take-before.new.self) c.link_back.new.prev kept, c.from-index.ensures, c.from-in-None.ensures, c.take-after.ensures.after, c.take.ensures.after, after, links)
+    let written = with_items_is (with_item c.self.inside.prev c.from-index.result c.take-before.new.self) c.link_back.new.prev kept in
+    rw (written, c.from-index.ensures, c.from-in-None.ensures, c.take-after.ensures.after, c.take.ensures.after, after, links)
       (IsLinkedAs-removed_first _ _ _ _ c.args.self.now c.unwrap-list.result c.args.id old at before)
 
 pub invariant_of-self : goal.invariant_of-self
