@@ -1,8 +1,7 @@
 -- Lemmas about the ids of one list, in which no id stands twice.
-use Rattle.std.proofs.Common.{◌≡◌, ◌≢◌, ℕ, zero, suc, ◌+◌, ◌<◌, ◌≤◌, ◌⊎◌, Bool, true, false, cond, not, ◌||◌, eqb, nat_eq, List, [], ◌∷◌, length, get_or, Option, Some, None, slice_get, filter, sym, refl, ap, ◌∙◌, subst, inl, inr, arith, rules}
-use Rattle.std.specs.List.{list_any, IsDistinct, AllByRecursion}
-use Rattle.std.proofs.lemmas.Bool.{cond-true, cond-false, cases_Bool, cases_eq, or_from, or_left, or_right, or_parts, or_cases, eqb-true, eqb-false, eq-eqb, ne_eqb, false≢true}
-use Rattle.std.proofs.lemmas.Bool.Decides.{nat_tests}
+use Rattle.std.proofs.Common.{◌≡◌, ◌≢◌, ℕ, zero, suc, ◌⊎◌, true, false, nat_eq, List, [], ◌∷◌, Some, None, slice_get, sym, refl, ap, ◌∙◌, subst, inl, inr, arith}
+use Rattle.std.specs.List.{IsDistinct, AllByRecursion}
+use Rattle.std.proofs.lemmas.Bool.{cases_Bool, cases_eq, or_from, or_left, or_right, or_parts, or_cases, eqb-true, eqb-false, eq-eqb, ne_eqb, false≢true}
 use Rattle.std.proofs.lemmas.Option.{none-some, same_Some}
 use Rattle.link_lists.specs.Pool.{has, after, without}
 
@@ -80,12 +79,12 @@ after-apart (x ∷ xs) id d e =
     let lacks = rest_lacks_first x xs d in
     elim (cases_eq id x) [
       | inl same ↦
-        let t = eq-eqb id x same in
-        let member = has-slice_get xs 0 id (grind arith) in
-        false≢true (sym lacks ∙ ap (has xs) (sym same) ∙ member)
+          let t = eq-eqb id x same in
+          let member = has-slice_get xs 0 id (grind arith) in
+          false≢true (sym lacks ∙ ap (has xs) (sym same) ∙ member)
       | inr other ↦
-        let t = ne_eqb id x other in
-        after-apart xs id (rest_is_distinct x xs d) (grind arith)
+          let t = ne_eqb id x other in
+          after-apart xs id (rest_is_distinct x xs d) (grind arith)
     ]
 
 -- an id of the list is its first or comes after another
@@ -95,15 +94,15 @@ first_or_after [] id d h = absurd (false≢true h)
 first_or_after (x ∷ xs) id d h = elim (or_cases (nat_eq id x) (has xs id) h) [
   | inl here ↦ inl (ap (λ (y : ℕ). Some y) (sym (eqb-true id x here)))
   | inr later ↦ elim (first_or_after xs id (rest_is_distinct x xs d) later) [
-      | inl first ↦ let t = eq-eqb x x refl in inr (x, grind arith)
-      | inr w ↦
+    | inl first ↦ let t = eq-eqb x x refl in inr (x, grind arith)
+    | inr w ↦
         let lacks = rest_lacks_first x xs d in
         let member = has-before xs w.0 id w.1 in
         elim (cases_eq w.0 x) [
           | inl same ↦ absurd (grind arith)
           | inr other ↦ let t = ne_eqb w.0 x other in inr (w.0, grind arith)
         ]
-    ]
+  ]
 ]
 
 -- what is left without an id: not that id, and each other one
@@ -119,9 +118,9 @@ has-without (x ∷ xs) id other ne =
     let rest = has-without xs id other ne in
     elim (cases_Bool (nat_eq id x)) [
       | inl same ↦
-        let is = eqb-true id x same in
-        let t = ne_eqb other x (λ e. ne (grind arith)) in
-        grind arith
+          let is = eqb-true id x same in
+          let t = ne_eqb other x (λ e. ne (grind arith)) in
+          grind arith
       | inr apart ↦ grind arith
     ]
 
@@ -140,12 +139,12 @@ IsDistinct-without (x ∷ xs) id d =
     let lacks = rest_lacks_first x xs d in
     elim (cases_Bool (nat_eq id x)) [
       | inl same ↦
-        let e : without id (x ∷ xs) ≡ without id xs = grind arith in
-        subst (IsDistinct nat_eq) (sym e) rest
+          let e : without id (x ∷ xs) ≡ without id xs = grind arith in
+          subst (IsDistinct nat_eq) (sym e) rest
       | inr other ↦
-        let kept = IsDistinct-first x (without id xs) (has-without xs id x (λ e. eqb-false id x other (sym e)) ∙ lacks) rest in
-        let e : without id (x ∷ xs) ≡ x ∷ without id xs = grind arith in
-        subst (IsDistinct nat_eq) (sym e) kept
+          let kept = IsDistinct-first x (without id xs) (has-without xs id x (λ e. eqb-false id x other (sym e)) ∙ lacks) rest in
+          let e : without id (x ∷ xs) ≡ x ∷ without id xs = grind arith in
+          subst (IsDistinct nat_eq) (sym e) kept
     ]
 
 -- without an id the first is the one after it, where it was the first
@@ -174,23 +173,23 @@ after-without (x ∷ xs) id a d e =
     let tail = rest_is_distinct x xs d in
     elim (cases_eq id x) [
       | inl same ↦
-        let lacks_id : has xs id ≡ false = ap (has xs) same ∙ lacks in
-        absurd (elim (cases_Bool (nat_eq a x)) [
-          | inl here ↦ false≢true (sym lacks_id ∙ has-slice_get xs 0 id (grind arith))
-          | inr later ↦ false≢true (sym lacks_id ∙ has-after xs a id (grind arith))
-        ])
+          let lacks_id : has xs id ≡ false = ap (has xs) same ∙ lacks in
+          absurd (elim (cases_Bool (nat_eq a x)) [
+            | inl here ↦ false≢true (sym lacks_id ∙ has-slice_get xs 0 id (grind arith))
+            | inr later ↦ false≢true (sym lacks_id ∙ has-after xs a id (grind arith))
+          ])
       | inr other ↦
-        let t = ne_eqb id x other in
-        elim (cases_Bool (nat_eq a x)) [
-          | inl here ↦
-            let f : slice_get xs 0 ≡ Some id = grind arith in
-            let rest = first-without xs id tail f in
-            grind arith
-          | inr later ↦
-            let f : after a xs ≡ Some id = grind arith in
-            let rest = after-without xs id a tail f in
-            grind arith
-        ]
+          let t = ne_eqb id x other in
+          elim (cases_Bool (nat_eq a x)) [
+            | inl here ↦
+                let f : slice_get xs 0 ≡ Some id = grind arith in
+                let rest = first-without xs id tail f in
+                grind arith
+            | inr later ↦
+                let f : after a xs ≡ Some id = grind arith in
+                let rest = after-without xs id a tail f in
+                grind arith
+          ]
     ]
 
 -- and nothing else changes behind the others
@@ -202,18 +201,18 @@ after-without_other (x ∷ xs) id a d ne nf =
     let tail = rest_is_distinct x xs d in
     elim (cases_eq id x) [
       | inl same ↦
-        let t = eq-eqb id x same in
-        let u = ne_eqb a x (λ e. ne (e ∙ sym same)) in
-        let rest = without-lacking xs id (ap (has xs) same ∙ lacks) in
-        grind arith
+          let t = eq-eqb id x same in
+          let u = ne_eqb a x (λ e. ne (e ∙ sym same)) in
+          let rest = without-lacking xs id (ap (has xs) same ∙ lacks) in
+          grind arith
       | inr other ↦
-        let t = ne_eqb id x other in
-        elim (cases_Bool (nat_eq a x)) [
-          | inl here ↦
-            let rest = first-without_other xs id (λ e. nf (grind arith)) in
-            grind arith
-          | inr later ↦
-            let rest = after-without_other xs id a tail ne (λ e. nf (grind arith)) in
-            grind arith
-        ]
+          let t = ne_eqb id x other in
+          elim (cases_Bool (nat_eq a x)) [
+            | inl here ↦
+                let rest = first-without_other xs id (λ e. nf (grind arith)) in
+                grind arith
+            | inr later ↦
+                let rest = after-without_other xs id a tail ne (λ e. nf (grind arith)) in
+                grind arith
+          ]
     ]

@@ -1,12 +1,12 @@
 -- Lemmas about the lists of a pool: where an id is, and what the calls change.
-use Rattle.std.proofs.Common.{◌≡◌, ◌≢◌, ℕ, zero, suc, ◌+◌, ◌<◌, ◌≤◌, ◌⊎◌, ◌↔◌, Bool, true, false, cond, not, eqb, nat_eq, ltb, List, [], ◌∷◌, map, length, get_or, set, replicate, Option, Some, None, IfSome, slice_get, position, sym, refl, ap, ◌∙◌, subst, inl, inr, arith, rules, length-set, get_or-set_same, get_or-set_other}
-use Rattle.std.specs.List.{list_any, IsDistinct, position_or_len}
-use Rattle.std.proofs.lemmas.Bool.{cases_Bool, cases_eq, cases_lt, lt-ltb, eqb-true, eqb-false, eq-eqb, ne_eqb, false≢true, or_left, or_right, or_cases, or_from}
+use Rattle.std.proofs.Common.{◌≡◌, ◌≢◌, ℕ, ◌+◌, ◌<◌, ◌≤◌, ◌⊎◌, ◌↔◌, Bool, true, false, nat_eq, List, [], ◌∷◌, map, length, replicate, Option, Some, None, IfSome, slice_get, sym, refl, ap, ◌∙◌, subst, inl, inr, arith, get_or-set_same, get_or-set_other}
+use Rattle.std.specs.List.{IsDistinct, position_or_len}
+use Rattle.std.proofs.lemmas.Bool.{cases_eq, cases_lt, lt-ltb, eq-eqb, ne_eqb, false≢true, or_left}
 use Rattle.std.proofs.lemmas.List.{get_or_past, get_or-map, get_or-replicate, length-map, length-replicate}
 use Rattle.std.proofs.lemmas.List.Quantifiers.{position-Some}
 use Rattle.std.proofs.lemmas.List.Sums.{fails_before_first}
 use Rattle.std.proofs.lemmas.Map.Steps.{length-le_from_distinct_below}
-use Rattle.std.proofs.lemmas.Option.{none-some, same_Some}
+use Rattle.std.proofs.lemmas.Option.{none-some}
 use Rattle.link_lists.specs.Pool.{Pool, has, after, without, list_of, where_of, first_of, next_of, empty_pool, inserted, removed, IsProper, SetsOnly}
 use Rattle.link_lists.proofs.OneList.{has-slice_get, has-after, has-before, after-at, first_or_after, without-itself, has-without, IsDistinct-first, IsDistinct-without, first-without, first-without_other, after-apart, after-without, after-without_other}
 
@@ -37,12 +37,12 @@ has-nowhere p id k e =
     let test : List ℕ → Bool = λ ids. has ids id in
     elim (cases_lt (position_or_len test p.lists) (length p.lists)) [
       | inl found ↦
-        let t = lt-ltb _ _ found in
-        absurd (grind arith)
+          let t = lt-ltb _ _ found in
+          absurd (grind arith)
       | inr past ↦ elim (cases_lt k (length p.lists)) [
-          | inl within ↦ fails_before_first test p.lists k [] (omega arith)
-          | inr out ↦ ap test (list_of_past p k out)
-        ]
+        | inl within ↦ fails_before_first test p.lists k [] (omega arith)
+        | inr out ↦ ap test (list_of_past p k out)
+      ]
     ]
 
 -- an id is where the one list is that has it
@@ -114,8 +114,8 @@ first_or_next p id k proper at =
     elim (first_or_after (list_of p k) id (proper.once k) (has-where_of p id k at)) [
       | inl first ↦ inl first
       | inr w ↦
-        let there = where_of-has p w.0 k proper (has-before (list_of p k) w.0 id w.1) in
-        inr (w.0, next_of-in p w.0 k there ∙ w.1)
+          let there = where_of-has p w.0 k proper (has-before (list_of p k) w.0 id w.1) in
+          inr (w.0, next_of-in p w.0 k there ∙ w.1)
     ]
 
 -- where an id is, is the same in two pools whose lists agree on it
@@ -123,9 +123,9 @@ pub where_of-same : (old new : Pool) (id : ℕ)
     → IsProper new → ((k : ℕ) → has (list_of new k) id ≡ has (list_of old k) id) → where_of new id ≡ where_of old id
 where_of-same old new id proper same = elim (cases_option (where_of old id)) [
   | inl none ↦ elim (cases_option (where_of new id)) [
-      | inl also ↦ also ∙ sym none
-      | inr w ↦ absurd (false≢true (sym (same w.0 ∙ has-nowhere old id w.0 none) ∙ has-where_of new id w.0 w.1))
-    ]
+    | inl also ↦ also ∙ sym none
+    | inr w ↦ absurd (false≢true (sym (same w.0 ∙ has-nowhere old id w.0 none) ∙ has-where_of new id w.0 w.1))
+  ]
   | inr w ↦ where_of-has new id w.0 proper (same w.0 ∙ has-where_of old id w.0 w.1) ∙ sym w.1
 ]
 
@@ -155,7 +155,7 @@ where_of-empty ids lists id = elim (cases_option (where_of (empty_pool ids lists
 
 -- an id inserted as the first of list k
 module _ (p : Pool) (k id : ℕ) (proper : IsProper p)
-  (list_in_range : k < length p.lists) (id_in_range : id < p.ids) (unlinked : where_of p id ≡ None) where
+    (list_in_range : k < length p.lists) (id_in_range : id < p.ids) (unlinked : where_of p id ≡ None) where
   pub list_of-inserted : list_of (inserted p k id) k ≡ id ∷ list_of p k
   list_of-inserted = get_or-set_same p.lists k (id ∷ list_of p k) [] list_in_range
 
@@ -174,9 +174,9 @@ module _ (p : Pool) (k id : ℕ) (proper : IsProper p)
   has-inserted_other : (j other : ℕ) → other ≢ id → has (list_of (inserted p k id) j) other ≡ has (list_of p j) other
   has-inserted_other j other ne = elim (cases_eq j k) [
     | inl same ↦
-      let t = ne_eqb other id ne in
-      let e = list_of-inserted in
-      rw (same, e) (grind arith)
+        let t = ne_eqb other id ne in
+        let e = list_of-inserted in
+        rw (same, e) (grind arith)
     | inr apart ↦ ap (λ xs. has xs other) (list_of-inserted_other j apart)
   ]
 
@@ -195,14 +195,14 @@ module _ (p : Pool) (k id : ℕ) (proper : IsProper p)
     ];
     once = λ j. elim (cases_eq j k) [
       | inl same ↦
-        let first = IsDistinct-first id (list_of p k) (has-nowhere p id k unlinked) (proper.once k) in
-        subst (λ i. IsDistinct nat_eq (list_of (inserted p k id) i)) (sym same) (subst (IsDistinct nat_eq) (sym list_of-inserted) first)
+          let first = IsDistinct-first id (list_of p k) (has-nowhere p id k unlinked) (proper.once k) in
+          subst (λ i. IsDistinct nat_eq (list_of (inserted p k id) i)) (sym same) (subst (IsDistinct nat_eq) (sym list_of-inserted) first)
       | inr apart ↦ subst (IsDistinct nat_eq) (sym (list_of-inserted_other j apart)) (proper.once j)
     ];
     apart = λ i j other h g. elim (cases_eq other id) [
       | inl same ↦
-        only_inserted i (subst (λ o. has (list_of (inserted p k id) i) o ≡ true) same h)
-        ∙ sym (only_inserted j (subst (λ o. has (list_of (inserted p k id) j) o ≡ true) same g))
+          only_inserted i (subst (λ o. has (list_of (inserted p k id) i) o ≡ true) same h)
+          ∙ sym (only_inserted j (subst (λ o. has (list_of (inserted p k id) j) o ≡ true) same g))
       | inr ne ↦ proper.apart i j other (sym (has-inserted_other i other ne) ∙ h) (sym (has-inserted_other j other ne) ∙ g)
     ];
   }
@@ -223,15 +223,15 @@ module _ (p : Pool) (k id : ℕ) (proper : IsProper p)
   next_of-inserted_other other ne = elim (cases_option (where_of p other)) [
     | inl none ↦ next_of-nowhere (inserted p k id) other (where_of-inserted.others other ne ∙ none) ∙ sym (next_of-nowhere p other none)
     | inr w ↦
-      next_of-in (inserted p k id) other w.0 (where_of-inserted.others other ne ∙ w.1)
-      ∙ elim (cases_eq w.0 k) [
-        | inl same ↦
-          let t = ne_eqb other id ne in
-          let e = list_of-inserted in
-          rw (same, e) (grind arith)
-        | inr apart ↦ ap (after other) (list_of-inserted_other w.0 apart)
-      ]
-      ∙ sym (next_of-in p other w.0 w.1)
+        next_of-in (inserted p k id) other w.0 (where_of-inserted.others other ne ∙ w.1)
+        ∙ elim (cases_eq w.0 k) [
+          | inl same ↦
+              let t = ne_eqb other id ne in
+              let e = list_of-inserted in
+              rw (same, e) (grind arith)
+          | inr apart ↦ ap (after other) (list_of-inserted_other w.0 apart)
+        ]
+        ∙ sym (next_of-in p other w.0 w.1)
   ]
 
 -- an id removed
@@ -288,10 +288,10 @@ module _ (p : Pool) (id : ℕ) (proper : IsProper p) where
   next_of-removed_other other ne nf = elim (cases_option (where_of p other)) [
     | inl none ↦ next_of-nowhere (removed p id) other (where_of-removed.others other ne ∙ none) ∙ sym (next_of-nowhere p other none)
     | inr w ↦
-      next_of-in (removed p id) other w.0 (where_of-removed.others other ne ∙ w.1)
-      ∙ ap (after other) (list_of-removed w.0)
-      ∙ after-without_other (list_of p w.0) id other (proper.once w.0) ne (λ e. nf (next_of-in p other w.0 w.1 ∙ e))
-      ∙ sym (next_of-in p other w.0 w.1)
+        next_of-in (removed p id) other w.0 (where_of-removed.others other ne ∙ w.1)
+        ∙ ap (after other) (list_of-removed w.0)
+        ∙ after-without_other (list_of p w.0) id other (proper.once w.0) ne (λ e. nf (next_of-in p other w.0 w.1 ∙ e))
+        ∙ sym (next_of-in p other w.0 w.1)
   ]
 
   pub first_of-removed : (k : ℕ) → first_of p k ≡ Some id → first_of (removed p id) k ≡ next_of p id

@@ -1,9 +1,9 @@
 -- Lemmas about walks: where the links are those of a pool, the walk from each head is its list.
-use Rattle.std.proofs.Common.{◌≡◌, ◌≢◌, ℕ, zero, suc, ◌+◌, ◌<◌, ◌≤◌, ◌⊎◌, Bool, true, false, eqb, nat_eq, List, [], ◌∷◌, map, length, get_or, Option, Some, None, slice_get, sym, refl, ap, ◌∙◌, subst, inl, inr, arith}
+use Rattle.std.proofs.Common.{◌≡◌, ℕ, zero, suc, ◌≤◌, true, nat_eq, List, [], ◌∷◌, map, length, Option, None, slice_get, sym, refl, ap, ◌∙◌, subst, arith}
 use Rattle.std.specs.List.{IsDistinct}
 use Rattle.std.proofs.lemmas.Bool.{or_left, or_right, eq-eqb, ne_eqb, false≢true}
 use Rattle.std.proofs.lemmas.List.{ext_get_or, get_or-map, length-map}
-use Rattle.link_lists.specs.Pool.{Pool, has, after, list_of, first_of}
+use Rattle.link_lists.specs.Pool.{Pool, has, after, list_of}
 use Rattle.link_lists.specs.Links.{link_at, walk, pool_of, IsLinkedAs}
 use Rattle.link_lists.proofs.OneList.{rest_lacks_first, rest_is_distinct}
 use Rattle.link_lists.proofs.Pools.{next_of-in, where_of-has, length-list_of}
@@ -29,13 +29,12 @@ IsChain-from_after next [] d h = tt
 IsChain-from_after next (x ∷ xs) d h =
     let same = eq-eqb x x refl in
     let here = h x (or_left _ _ same) in
-    let lacks = rest_lacks_first x xs d in
-    (
+    let lacks = rest_lacks_first x xs d in (
       grind arith,
       IsChain-from_after next xs (rest_is_distinct x xs d) (λ id member.
-        let other = ne_eqb id x (λ e. false≢true (sym lacks ∙ ap (has xs) (sym e) ∙ member)) in
-        let there = h id (or_right _ _ member) in
-        grind arith),
+          let other = ne_eqb id x (λ e. false≢true (sym lacks ∙ ap (has xs) (sym e) ∙ member)) in
+          let there = h id (or_right _ _ member) in
+          grind arith),
     )
 
 module _ (heads next prev places : List (Option ℕ)) (p : Pool) (linked : IsLinkedAs heads next prev places p) where
@@ -48,8 +47,8 @@ module _ (heads next prev places : List (Option ℕ)) (p : Pool) (linked : IsLin
   walk-list_of k =
       ap (walk (length next) next) (linked.firsts k)
       ∙ walk-chain (length next) next (list_of p k) (fits k) (
-        IsChain-from_after next (list_of p k) (linked.proper.once k) (λ id h.
-          linked.nexts id ∙ next_of-in p id k (where_of-has p id k linked.proper h)))
+      IsChain-from_after next (list_of p k) (linked.proper.once k) (λ id h.
+      linked.nexts id ∙ next_of-in p id k (where_of-has p id k linked.proper h)))
 
   lists_are : map (walk (length next) next) heads ≡ p.lists
   lists_are = ext_get_or [] _ _ (simp length-map linked.list_count) (λ k within.

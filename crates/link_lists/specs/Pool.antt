@@ -1,5 +1,5 @@
 -- The lists over one pool of ids, and what the calls make of them.
-use Rattle.std.specs.Prelude.{◌≡◌, ◌≢◌, ℕ, ◌<◌, Bool, true, false, not, if◌then◌else◌, List, [], ◌∷◌, map, length, replicate, Option, Some, None, IsTrue, nat_eq, slice_get, slice_index_or, slice_set, filter, position}
+use Rattle.std.specs.Prelude.{◌≡◌, ◌≢◌, ℕ, ◌<◌, Bool, not, if◌then◌else◌, List, [], ◌∷◌, map, replicate, Option, None, IsTrue, nat_eq, slice_get, slice_index_or, slice_set, filter, position}
 use Rattle.std.specs.List.{list_any, IsDistinct}
 use Rattle.std.specs.Option.{option_and_then}
 

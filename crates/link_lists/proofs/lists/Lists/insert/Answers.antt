@@ -1,10 +1,10 @@
-use Rattle.std.proofs.Common.{◌≡◌, ◌<◌, ℕ, Option, Some, None, List, set, take, drop, ◌++◌, length, sym, ap, ◌∙◌, subst, arith, rules}
+use Rattle.std.proofs.Common.{◌≡◌, Some, set, length, sym, ap, subst, arith}
 use Rattle.std.proofs.lemmas.Grind.{common_steps}
-use Rattle.std.proofs.lemmas.List.{get_or_read, with_items_is}
+use Rattle.std.proofs.lemmas.List.{with_items_is}
 use Rattle.std.specs.Vec.{with_items}
 use Rattle.link_lists.specs.Pool.{Pool, inserted, IsProper, SetsOnly}
 use Rattle.link_lists.specs.Links.{link_at, with_link, IsLinkedAs}
-use Rattle.link_lists.proofs.Pools.{IsProper-inserted, where_of-inserted}
+use Rattle.link_lists.proofs.Pools.{where_of-inserted}
 use Rattle.link_lists.proofs.Walks.{pool_of-linked, IsLinkedAs-itself}
 use Rattle.link_lists.proofs.Linking.{head_in_range, IsLinkedAs-inserted}
 use Rattle.link_lists.proofs.lists.Lists.insert.Goals as goal
@@ -27,12 +27,12 @@ linked c =
     let old = subst (IsLinkedAs _ _ _ _) c.self.view_is c.self.invariant in
     let count = old.list_count in
     let first : c.index-first.result.now ≡ link_at c.self.inside.heads.items c.args.list =
-        grind (arith, common_steps) in
+    grind (arith, common_steps) in
     let links : c.link_back.new.prev ≡ with_link c.self.inside.prev.items
-        (link_at c.self.inside.heads.items c.args.list) (Some c.args.id) = cc in
+    (link_at c.self.inside.heads.items c.args.list) (Some c.args.id) = cc in
     let kept : length c.link_back.new.prev ≡ c.self.inside.prev.len = omega arith in
     rw (c.from-head.ensures, c.from-index.ensures, first, with_items_is c.self.inside.prev c.link_back.new.prev kept, links)
-      (IsLinkedAs-inserted _ _ _ _ c.args.self.now c.args.list c.args.id old c.requires.list_in_range c.requires.id_in_range c.requires.unlinked)
+    (IsLinkedAs-inserted _ _ _ _ c.args.self.now c.args.list c.args.id old c.requires.list_in_range c.requires.id_in_range c.requires.unlinked)
 
 pub invariant_of-self : goal.invariant_of-self
 invariant_of-self c = IsLinkedAs-itself _ _ _ _ _ (linked c)

@@ -1,4 +1,4 @@
-use Rattle.std.proofs.Common.{◌≡◌, ℕ, None, Option, replicate, arith, rules}
+use Rattle.std.proofs.Common.{arith}
 use Rattle.std.proofs.lemmas.Grind.{common_steps}
 use Rattle.link_lists.specs.Pool.{empty_pool}
 use Rattle.link_lists.specs.Links.{IsLinkedAs}

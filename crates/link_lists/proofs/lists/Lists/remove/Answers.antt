@@ -1,8 +1,8 @@
-use Rattle.std.proofs.Common.{◌≡◌, ◌<◌, ℕ, Option, Some, None, List, set, take, drop, ◌++◌, length, sym, ap, ◌∙◌, subst, arith, rules}
+use Rattle.std.proofs.Common.{◌≡◌, Some, None, set, length, sym, ap, ◌∙◌, subst, arith}
 use Rattle.std.proofs.lemmas.Grind.{common_steps}
 use Rattle.std.proofs.lemmas.List.{with_items_is}
 use Rattle.std.specs.Vec.{with_item, with_items}
-use Rattle.link_lists.specs.Pool.{Pool, where_of, removed, IsProper, SetsOnly}
+use Rattle.link_lists.specs.Pool.{Pool, removed, IsProper, SetsOnly}
 use Rattle.link_lists.specs.Links.{link_at, with_link, IsLinkedAs}
 use Rattle.link_lists.proofs.Pools.{where_of-removed}
 use Rattle.link_lists.proofs.Walks.{pool_of-linked, IsLinkedAs-itself}
@@ -38,11 +38,11 @@ linked-in-Some c =
     let before : link_at c.self.inside.prev.items c.args.id ≡ Some c.in-Some.before = grind (arith, common_steps) in
     let after : c.take-after.result ≡ link_at c.self.inside.next.items c.args.id = grind (arith, common_steps) in
     let links : c.link_back.new.prev ≡ with_link (set c.self.inside.prev.items c.args.id None)
-        (link_at c.self.inside.next.items c.args.id) (Some c.in-Some.before) = cc in
+    (link_at c.self.inside.next.items c.args.id) (Some c.in-Some.before) = cc in
     let kept : length c.link_back.new.prev ≡ c.self.inside.prev.len = omega arith in
     let written = with_items_is (with_item c.self.inside.prev c.from-index.result c.take-before.new.self) c.link_back.new.prev kept in
     rw (written, c.from-index.ensures, c.from.ensures, c.take-after.ensures.after, c.take.ensures.after, after, links)
-      (IsLinkedAs-removed_behind _ _ _ _ c.args.self.now c.unwrap-list.result c.args.id old at c.in-Some.before before)
+    (IsLinkedAs-removed_behind _ _ _ _ c.args.self.now c.unwrap-list.result c.args.id old at c.in-Some.before before)
 
 linked-in-None : (c : goal.After-self-in-None-1) → IsLinkedAs
     (set c.self.inside.heads.items c.from-in-None.result c.take-after.result)
@@ -57,11 +57,11 @@ linked-in-None c =
     let before : link_at c.self.inside.prev.items c.args.id ≡ None = grind (arith, common_steps) in
     let after : c.take-after.result ≡ link_at c.self.inside.next.items c.args.id = grind (arith, common_steps) in
     let links : c.link_back.new.prev ≡ with_link (set c.self.inside.prev.items c.args.id None)
-        (link_at c.self.inside.next.items c.args.id) None = cc in
+    (link_at c.self.inside.next.items c.args.id) None = cc in
     let kept : length c.link_back.new.prev ≡ c.self.inside.prev.len = omega arith in
     let written = with_items_is (with_item c.self.inside.prev c.from-index.result c.take-before.new.self) c.link_back.new.prev kept in
     rw (written, c.from-index.ensures, c.from-in-None.ensures, c.take-after.ensures.after, c.take.ensures.after, after, links)
-      (IsLinkedAs-removed_first _ _ _ _ c.args.self.now c.unwrap-list.result c.args.id old at before)
+    (IsLinkedAs-removed_first _ _ _ _ c.args.self.now c.unwrap-list.result c.args.id old at before)
 
 pub invariant_of-self : goal.invariant_of-self
 invariant_of-self c = IsLinkedAs-itself _ _ _ _ _ (linked-in-Some c)

@@ -10,5 +10,5 @@ returns-clause-member c =
     let place : c.flatten.result ≡ where_of c.args.self.now c.args.id = grind (arith, common_steps) in
     let proper : IsProper c.args.self.now = search rules in
     λ list. subst (λ (r : Option ℕ). (r ≡ Some list) ↔ IsTrue (has (list_of c.args.self.now list) c.args.id))
-      (sym place)
-      (where_of-member c.args.self.now c.args.id list proper)
+    (sym place)
+    (where_of-member c.args.self.now c.args.id list proper)
