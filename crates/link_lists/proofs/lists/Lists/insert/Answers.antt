@@ -8,6 +8,7 @@ use Rattle.link_lists.proofs.Pools.{where_of-inserted}
 use Rattle.link_lists.proofs.Walks.{pool_of-linked, IsLinkedAs-itself}
 use Rattle.link_lists.proofs.Linking.{head_in_range, IsLinkedAs-inserted}
 use Rattle.link_lists.proofs.lists.Lists.insert.Goals as goal
+use Rattle.link_lists.proofs.lists.Lists.insert.Goals.{After-index_mut-3}
 
 pub link_back-requires : goal.link_back-requires
 link_back-requires c = λ x e.
@@ -17,7 +18,7 @@ link_back-requires c = λ x e.
     omega (arith, head_in_range _ _ _ _ _ c.self.invariant c.args.list x first)
 
 -- the links are now those of the lists with the id put in
-linked : (c : goal.After-self-4-1) → IsLinkedAs
+linked : (c : After-index_mut-3) → IsLinkedAs
     (set c.self.inside.heads.items c.from-head.result (Some c.args.id))
     (set c.self.inside.next.items c.from-index.result c.index-first.result.now)
     (with_items c.self.inside.prev c.link_back.new.prev).items
@@ -35,14 +36,17 @@ linked c =
     (IsLinkedAs-inserted _ _ _ _ c.args.self.now c.args.list c.args.id old c.requires.list_in_range c.requires.id_in_range c.requires.unlinked)
 
 pub invariant_of-self : goal.invariant_of-self
-invariant_of-self c = IsLinkedAs-itself _ _ _ _ _ (linked c)
+invariant_of-self c = IsLinkedAs-itself _ _ _ _ _ (linked (goal.at.invariant_of-self c).After-index_mut-3)
 
 pub returns-clause-lists : goal.returns-clause-lists
-returns-clause-lists c = pool_of-linked _ _ _ _ _ (linked c)
+returns-clause-lists c = pool_of-linked _ _ _ _ _ (linked (goal.at.returns-clause-lists c).After-index_mut-3)
 
 pub returns-clause-place : goal.returns-clause-place
-returns-clause-place c = subst (λ (p : Pool). SetsOnly c.args.self.now p c.args.id (Some c.args.list)) (sym (pool_of-linked _ _ _ _ _ (linked c)))
-    (where_of-inserted _ _ _ (subst IsProper c.self.view_is c.self.invariant.proper) c.requires.list_in_range c.requires.id_in_range c.requires.unlinked)
+returns-clause-place c =
+    let same = pool_of-linked _ _ _ _ _ (linked (goal.at.returns-clause-place c).After-index_mut-3) in
+    let proper = subst IsProper c.self.view_is c.self.invariant.proper in
+    subst (λ (p : Pool). SetsOnly c.args.self.now p c.args.id (Some c.args.list)) (sym same)
+    (where_of-inserted _ _ _ proper c.requires.list_in_range c.requires.id_in_range c.requires.unlinked)
 
 pub returns-clause-proper : goal.returns-clause-proper
-returns-clause-proper c = (IsLinkedAs-itself _ _ _ _ _ (linked c)).proper
+returns-clause-proper c = (IsLinkedAs-itself _ _ _ _ _ (linked (goal.at.returns-clause-proper c).After-index_mut-3)).proper

@@ -8,6 +8,7 @@ use Rattle.link_lists.proofs.Pools.{where_of-removed}
 use Rattle.link_lists.proofs.Walks.{pool_of-linked, IsLinkedAs-itself}
 use Rattle.link_lists.proofs.Linking.{next_in_range, prev_in_range, IsLinkedAs-removed_first, IsLinkedAs-removed_behind}
 use Rattle.link_lists.proofs.lists.Lists.remove.Goals as goal
+use Rattle.link_lists.proofs.lists.Lists.remove.Goals.{After-index_mut-in-Some, After-index_mut-in-None}
 
 pub link_back-requires : goal.link_back-requires
 link_back-requires c = λ x e.
@@ -25,7 +26,7 @@ index_mut-requires-in-Some c =
     omega (arith, prev_in_range _ _ _ _ _ _ c.args.id old at c.in-Some.before before)
 
 -- the links are now those of the lists without the id, behind another id and as the first of its list
-linked-in-Some : (c : goal.After-self-in-Some-1) → IsLinkedAs
+linked-in-Some : (c : After-index_mut-in-Some) → IsLinkedAs
     c.self.inside.heads.items
     (set (set c.self.inside.next.items c.from-index.result c.take-after.new.self) c.from.result c.take-after.result)
     (with_items (with_item c.self.inside.prev c.from-index.result c.take-before.new.self) c.link_back.new.prev).items
@@ -44,7 +45,7 @@ linked-in-Some c =
     rw (written, c.from-index.ensures, c.from.ensures, c.take-after.ensures.after, c.take.ensures.after, after, links)
     (IsLinkedAs-removed_behind _ _ _ _ c.args.self.now c.unwrap-list.result c.args.id old at c.in-Some.before before)
 
-linked-in-None : (c : goal.After-self-in-None-1) → IsLinkedAs
+linked-in-None : (c : After-index_mut-in-None) → IsLinkedAs
     (set c.self.inside.heads.items c.from-in-None.result c.take-after.result)
     (set c.self.inside.next.items c.from-index.result c.take-after.new.self)
     (with_items (with_item c.self.inside.prev c.from-index.result c.take-before.new.self) c.link_back.new.prev).items
@@ -64,27 +65,31 @@ linked-in-None c =
     (IsLinkedAs-removed_first _ _ _ _ c.args.self.now c.unwrap-list.result c.args.id old at before)
 
 pub invariant_of-self : goal.invariant_of-self
-invariant_of-self c = IsLinkedAs-itself _ _ _ _ _ (linked-in-Some c)
+invariant_of-self c = IsLinkedAs-itself _ _ _ _ _ (linked-in-Some (goal.at.invariant_of-self c).After-index_mut-in-Some)
 
 pub returns-in-Some-clause-lists : goal.returns-in-Some-clause-lists
-returns-in-Some-clause-lists c = pool_of-linked _ _ _ _ _ (linked-in-Some c)
+returns-in-Some-clause-lists c = pool_of-linked _ _ _ _ _ (linked-in-Some (goal.at.returns-in-Some-clause-lists c).After-index_mut-in-Some)
 
 pub returns-in-Some-clause-place : goal.returns-in-Some-clause-place
-returns-in-Some-clause-place c = subst (λ (p : Pool). SetsOnly c.args.self.now p c.args.id None) (sym (pool_of-linked _ _ _ _ _ (linked-in-Some c)))
-    (where_of-removed _ _ (subst IsProper c.self.view_is c.self.invariant.proper))
+returns-in-Some-clause-place c =
+    let same = pool_of-linked _ _ _ _ _ (linked-in-Some (goal.at.returns-in-Some-clause-place c).After-index_mut-in-Some) in
+    let proper = subst IsProper c.self.view_is c.self.invariant.proper in
+    subst (λ (p : Pool). SetsOnly c.args.self.now p c.args.id None) (sym same) (where_of-removed _ _ proper)
 
 pub returns-in-Some-clause-proper : goal.returns-in-Some-clause-proper
-returns-in-Some-clause-proper c = (IsLinkedAs-itself _ _ _ _ _ (linked-in-Some c)).proper
+returns-in-Some-clause-proper c = (IsLinkedAs-itself _ _ _ _ _ (linked-in-Some (goal.at.returns-in-Some-clause-proper c).After-index_mut-in-Some)).proper
 
 pub invariant_of-self-in-None : goal.invariant_of-self-in-None
-invariant_of-self-in-None c = IsLinkedAs-itself _ _ _ _ _ (linked-in-None c)
+invariant_of-self-in-None c = IsLinkedAs-itself _ _ _ _ _ (linked-in-None (goal.at.invariant_of-self-in-None c).After-index_mut-in-None)
 
 pub returns-in-None-clause-lists : goal.returns-in-None-clause-lists
-returns-in-None-clause-lists c = pool_of-linked _ _ _ _ _ (linked-in-None c)
+returns-in-None-clause-lists c = pool_of-linked _ _ _ _ _ (linked-in-None (goal.at.returns-in-None-clause-lists c).After-index_mut-in-None)
 
 pub returns-in-None-clause-place : goal.returns-in-None-clause-place
-returns-in-None-clause-place c = subst (λ (p : Pool). SetsOnly c.args.self.now p c.args.id None) (sym (pool_of-linked _ _ _ _ _ (linked-in-None c)))
-    (where_of-removed _ _ (subst IsProper c.self.view_is c.self.invariant.proper))
+returns-in-None-clause-place c =
+    let same = pool_of-linked _ _ _ _ _ (linked-in-None (goal.at.returns-in-None-clause-place c).After-index_mut-in-None) in
+    let proper = subst IsProper c.self.view_is c.self.invariant.proper in
+    subst (λ (p : Pool). SetsOnly c.args.self.now p c.args.id None) (sym same) (where_of-removed _ _ proper)
 
 pub returns-in-None-clause-proper : goal.returns-in-None-clause-proper
-returns-in-None-clause-proper c = (IsLinkedAs-itself _ _ _ _ _ (linked-in-None c)).proper
+returns-in-None-clause-proper c = (IsLinkedAs-itself _ _ _ _ _ (linked-in-None (goal.at.returns-in-None-clause-proper c).After-index_mut-in-None)).proper
