@@ -101,8 +101,8 @@ impl Lists {
         self.places.get(usize::from(id)).copied().flatten()
     }
 
-    /// The first id of the list, and `None` exactly where the list is empty. A list that there is
-    /// not counts as empty.
+    /// The first id of the list, and `None` exactly where the list is empty. A list out of range
+    /// counts as empty.
     pub fn first(&self, list: u8) -> Option<u16>
         ensures first { result ≡ first_of self.now list }
         ensures member { IfSome result (λ id. where_of self.now id ≡ Some list) }
