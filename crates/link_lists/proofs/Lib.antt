@@ -1,0 +1,4 @@
+pub mod OneList
+pub mod Pools
+pub mod Walks
+pub mod Linking

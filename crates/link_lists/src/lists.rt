@@ -1,0 +1,168 @@
+ghost use Rattle.std.specs.Prelude.{◌≡◌, ℕ, ◌+◌, ◌<◌, ◌↔◌, length, IsSome, IsTrue, IfOk, IfSome, slice_get};
+ghost use Rattle.std.specs.Option.{ForSome};
+ghost use Rattle.link_lists.specs.Pool.{has, list_of, where_of, first_of, next_of, empty_pool, inserted, removed, IsProper, SetsOnly};
+ghost use Rattle.link_lists.specs.Links.{with_link};
+
+use std::alloc::{AllocError, Global};
+use std::marker::Model;
+
+/// Doubly linked lists over one pool of ids, as the area lists of Quake's world: each id is in one
+/// list at most, and there once.
+///
+/// Ids and lists are counted from 0. Only `new` takes memory, and each call but `new` and
+/// `copy_from` takes constant time.
+#[derive(Debug, Drop)]
+pub struct Lists {
+    heads: Vec<Option<u16>>,
+    next: Vec<Option<u16>>,
+    prev: Vec<Option<u16>>,
+    places: Vec<Option<u8>>,
+}
+
+// Clauses see how many ids there are, and the ids of each list in order.
+impl Model for Lists {
+    ghost use Rattle.link_lists.specs.Pool.{Pool};
+    ghost use Rattle.link_lists.specs.Links.{pool_of, IsLinkedAs};
+
+    ghost Value = { Pool };
+
+    ghost view = { λ l. pool_of l.heads.items l.next.items };
+
+    ghost invariant = { λ l.
+        IsLinkedAs l.heads.items l.next.items l.prev.items l.places.items (pool_of l.heads.items l.next.items) };
+}
+
+// Links the id, if there is one, back to another.
+fn link_back(prev: &mut [Option<u16>], id: Option<u16>, to: Option<u16>)
+    requires { ForSome id (λ i. i < length prev.old) }
+    ensures { prev.new ≡ with_link prev.old id to }
+{
+    if let Some(id) = id {
+        prev[usize::from(id)] = to;
+    }
+}
+
+impl Lists {
+    /// Makes `lists` empty lists over the ids below `ids`. The only error is that memory is refused.
+    pub fn new(alloc: Global, ids: u16, lists: u8) -> Result<Self, AllocError>
+        ensures { IfOk result (λ made. made ≡ empty_pool ids lists) }
+    {
+        let ids = usize::from(ids);
+        Ok(Lists {
+            heads: vec![in alloc; None; usize::from(lists)]?,
+            next: vec![in alloc; None; ids]?,
+            prev: vec![in alloc; None; ids]?,
+            places: vec![in alloc; None; ids]?,
+        })
+    }
+
+    /// Puts an id that is in no list first in this one. Quake's `SV_LinkEdict` puts it last.
+    pub fn insert(&mut self, list: u8, id: u16)
+        requires list_in_range { list < length self.old.lists }
+        requires id_in_range { id < self.old.ids }
+        requires unlinked { where_of self.old id ≡ None }
+        ensures lists { self.new ≡ inserted self.old list id }
+        ensures place { SetsOnly self.old self.new id (Some list) }
+        ensures proper { IsProper self.new }
+    {
+        let index = usize::from(id);
+        let head = usize::from(list);
+        let first = self.heads[head];
+        link_back(&mut self.prev, first, Some(id));
+        self.next[index] = first;
+        self.heads[head] = Some(id);
+        self.places[index] = Some(list);
+    }
+
+    /// Takes the id out of its list. The others keep their order.
+    pub fn remove(&mut self, id: u16)
+        requires { IsSome (where_of self.old id) }
+        ensures lists { self.new ≡ removed self.old id }
+        ensures place { SetsOnly self.old self.new id None }
+        ensures proper { IsProper self.new }
+    {
+        let index = usize::from(id);
+        let before = self.prev[index].take();
+        let after = self.next[index].take();
+        let list = self.places[index].take().unwrap();
+        link_back(&mut self.prev, after, before);
+        match before {
+            Some(before) => self.next[usize::from(before)] = after,
+            None => self.heads[usize::from(list)] = after,
+        }
+    }
+
+    /// The list that the id is in, and `None` exactly where it is in none.
+    pub fn where_is(&self, id: u16) -> Option<u8>
+        ensures place { result ≡ where_of self.now id }
+        ensures member { (list : ℕ) → (result ≡ Some list) ↔ IsTrue (has (list_of self.now list) id) }
+        ensures proper { IsProper self.now }
+    {
+        self.places.get(usize::from(id)).copied().flatten()
+    }
+
+    /// The first id of the list, and `None` exactly where the list is empty. A list out of range
+    /// counts as empty.
+    pub fn first(&self, list: u8) -> Option<u16>
+        ensures first { result ≡ first_of self.now list }
+        ensures member { IfSome result (λ id. where_of self.now id ≡ Some list) }
+        ensures proper { IsProper self.now }
+    {
+        self.heads.get(usize::from(list)).copied().flatten()
+    }
+
+    /// The id that comes after this one in its list, and `None` exactly where this one is the last.
+    pub fn next(&self, id: u16) -> Option<u16>
+        requires { IsSome (where_of self.now id) }
+        ensures next { result ≡ next_of self.now id }
+
+        // Wherever the id stands, the result is what stands at the next place.
+        ensures follows { (list place : ℕ) → slice_get (list_of self.now list) place ≡ Some id
+            → result ≡ slice_get (list_of self.now list) (place + 1) }
+        ensures same_list { IfSome result (λ other. where_of self.now other ≡ where_of self.now id) }
+        ensures proper { IsProper self.now }
+    {
+        self.next[usize::from(id)]
+    }
+
+    /// Makes these lists as the others are, the order of each too. Takes no memory.
+    pub fn copy_from(&mut self, o: &Lists)
+        requires ids { self.old.ids ≡ o.now.ids }
+        requires lists { length self.old.lists ≡ length o.now.lists }
+        ensures { self.new ≡ o.now }
+    {
+        self.heads.copy_from_slice(&o.heads);
+        self.next.copy_from_slice(&o.next);
+        self.prev.copy_from_slice(&o.prev);
+        self.places.copy_from_slice(&o.places);
+    }
+}
+
+#[cfg(test)]
+mod tests {
+    use super::*;
+    use std::test::Fail;
+
+    #[test]
+    fn goes_first_and_leaves_the_others_in_order(rt: HostRuntime) -> Result<(), Fail> {
+        let mut lists = Lists::new(rt.alloc(), 4, 2)?;
+        lists.insert(1, 3);
+        lists.insert(1, 0);
+        assert_eq!(rt; lists.first(1), Some(0));
+        assert_eq!(rt; lists.next(0), Some(3));
+        assert_eq!(rt; lists.next(3), None);
+
+        let mut copy = Lists::new(rt.alloc(), 4, 2)?;
+        copy.copy_from(&lists);
+        assert_eq!(rt; copy.first(1), Some(0));
+        assert_eq!(rt; copy.next(0), Some(3));
+
+        lists.remove(0);
+        assert_eq!(rt; lists.first(1), Some(3));
+        assert_eq!(rt; lists.next(3), None);
+        assert_eq!(rt; lists.where_is(3), Some(1));
+        assert_eq!(rt; lists.where_is(0), None);
+        assert_eq!(rt; lists.first(0), None);
+        Ok(())
+    }
+}
