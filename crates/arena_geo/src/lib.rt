@@ -1,12 +1,14 @@
-//! Vectors and axis-aligned boxes, in sub-units, and the root of a whole number.
+//! Vectors, axis-aligned boxes and regions of boxes, in sub-units, and the root of a whole number.
 #![tactic(auto)]
 
 pub use aabb::{Aabb, LIMIT};
 pub use laws::{contained_is_touched, hull_is_least, overlap_is_touch, root_is_greatest};
+pub use region::{REGION_BOXES, Region};
 pub use root::isqrt;
 pub use vec3::Vec3;
 
 mod aabb;
 mod laws;
+mod region;
 mod root;
 mod vec3;

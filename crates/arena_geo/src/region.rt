@@ -1,0 +1,116 @@
+ghost use Rattle.std.specs.Prelude.{◌≡◌, ◌↔◌, ◌<◌, [], ◌∷◌, ◌++◌, length, IsTrue};
+ghost use Rattle.std.specs.Bool.{MatchBool};
+ghost use Rattle.arena_geo.specs.Regions.{IsRegion, touches_region};
+
+use crate::aabb::Aabb;
+use std::marker::Model;
+
+/// The greatest number of boxes in a region.
+pub const REGION_BOXES: usize = 17;
+
+/// The boxes in which a move may read and write, 1 to [`REGION_BOXES`] of them, in the order in which they were put in.
+#[derive(Drop)]
+pub struct Region {
+    boxes: [Aabb; REGION_BOXES],
+    len: usize,
+}
+
+impl Model for Region {
+    ghost use Rattle.std.specs.Prelude.{List, take, length, ◌≤◌, ◌≡◌};
+    ghost use Rattle.arena_geo.specs.Bounds.{Bounds};
+    ghost use Rattle.arena_geo.specs.Regions.{IsRegion};
+
+    ghost Value = { List Bounds };
+
+    ghost view = { λ r. take r.len r.boxes };
+
+    ghost invariant = { λ r. IsRegion (take r.len r.boxes) × (r.len ≤ 17) × (length r.boxes ≡ 17) };
+}
+
+impl Region {
+    /// The region of one box.
+    pub fn one(b: Aabb) -> Region
+        ensures { result ≡ b ∷ [] }
+    {
+        // To read a corner is to know that the box is ordered and in range.
+        let _corner = b.lo();
+        Region {
+            boxes: [b; REGION_BOXES],
+            len: 1,
+        }
+    }
+
+    /// Puts a box in, after the others. `false` exactly where there are [`REGION_BOXES`] already; the region is then
+    /// unchanged.
+    pub fn push(&mut self, b: Aabb) -> bool
+        ensures room { IsTrue result ↔ (length self.old < REGION_BOXES) }
+        ensures boxes { MatchBool result (self.new ≡ self.old ++ b ∷ []) (self.new ≡ self.old) }
+    {
+        if self.len == REGION_BOXES {
+            return false;
+        }
+        // To read a corner is to know that the box is ordered and in range.
+        let _corner = b.lo();
+        self.boxes[self.len] = b;
+        self.len += 1;
+        true
+    }
+
+    /// The boxes, in the order in which they were put in.
+    pub fn boxes(&self) -> &[Aabb]
+        ensures value { result.now ≡ self.now }
+        ensures region { IsRegion self.now }
+    {
+        &self.boxes[..self.len]
+    }
+
+    /// Whether some box of the region has a common point with `b`, the faces counted.
+    pub fn touched(&self, b: &Aabb) -> bool
+        ensures value { result ≡ touches_region b.now self.now }
+        ensures region { IsRegion self.now }
+    {
+        self.boxes().iter().any(|one| b.touches(one))
+    }
+}
+
+#[cfg(test)]
+mod tests {
+    use super::*;
+    use crate::vec3::Vec3;
+    use std::test::Fail;
+
+    fn column(from: i32, to: i32) -> Option<Aabb> {
+        let lo = Vec3 {
+            x: from,
+            y: 0,
+            z: 0,
+        };
+        let hi = Vec3 { x: to, y: 9, z: 9 };
+        Aabb::new(lo, hi)
+    }
+
+    #[test]
+    fn region_holds_17_boxes(rt: HostRuntime) -> Result<(), Fail> {
+        let first = column(0, 10).ok_or("a box")?;
+        let second = column(100, 110).ok_or("a box")?;
+        let mut region = Region::one(first);
+        for _ in 1..REGION_BOXES {
+            assert!(rt; region.push(second));
+        }
+        assert!(rt; !region.push(first));
+        assert_eq!(rt; region.boxes().len(), 17);
+        // from, to, touched
+        for (from, to, touched) in [
+            (-5, -1, false),
+            (-5, 0, true),
+            (10, 20, true),
+            (11, 99, false),
+            (110, 200, true),
+            (111, 200, false),
+        ] {
+            let b = column(from, to).ok_or("a box")?;
+            assert_eq!(rt; region.touched(&b), touched, "{from} {to}");
+        }
+        Ok(())
+    }
+}
