@@ -1,0 +1,4 @@
+-- Lemmas on traces.
+pub mod Parts
+pub mod Reaches
+pub mod Spans
