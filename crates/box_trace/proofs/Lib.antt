@@ -2,3 +2,5 @@
 pub mod Parts
 pub mod Reaches
 pub mod Spans
+pub mod Ranges
+pub mod Overlaps
