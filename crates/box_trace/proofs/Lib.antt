@@ -4,3 +4,5 @@ pub mod Reaches
 pub mod Spans
 pub mod Ranges
 pub mod Overlaps
+pub mod Firsts
+pub mod FirstMeetings

@@ -1,6 +1,7 @@
-ghost use Rattle.std.specs.Prelude.{◌≡◌, ◌+◌, ◌≤◌, ◌↔◌, ◌++◌, ◌||◌, length, IsTrue, IsNone, is_none};
+ghost use Rattle.std.specs.Prelude.{◌≡◌, ◌+◌, ◌≤◌, ◌↔◌, ◌++◌, ◌||◌, length, position, IsTrue, IsNone, is_none};
 ghost use Rattle.arena_geo.specs.Vectors.{IsNear};
 ghost use Rattle.arena_geo.specs.Bounds.{IsInRange};
+ghost use Rattle.arena_geo.specs.Boxes as boxes;
 ghost use Rattle.arena_geo.specs.Boxes.{moved};
 ghost use Rattle.box_trace.specs.Steps as steps;
 ghost use Rattle.box_trace.specs.Traces.{IsTrace, trace_of, is_inside_block};
@@ -33,9 +34,8 @@ fn first_meeting(way: &Way, fixed: &[Aabb], moving: &[Aabb]) -> Option<Meeting>
     ensures { IsFirstMeeting way.now.body way.now.d (fixed.now ++ moving.now) result }
 {
     for steps in 0..way.count {
-        let meeting = meeting_at(way, steps + 1, fixed, moving);
-        if meeting.is_some() {
-            return meeting;
+        if let Some(meeting) = meeting_at(way, steps + 1, fixed, moving) {
+            return Some(meeting);
         }
     }
     None
@@ -48,22 +48,29 @@ fn meeting_at(way: &Way, step: u32, fixed: &[Aabb], moving: &[Aabb]) -> Option<M
     ensures { IsMeetingAt step (steps.body_at way.now.body way.now.d step) (fixed.now ++ moving.now) result }
 {
     let body = way.body_at(step);
-    if let Some(meeting) = first_block(&body, step, fixed) {
+    if let Some(meeting) = meeting_among(&body, step, fixed) {
         return Some(meeting);
     }
-    let meeting = first_block(&body, step, moving)?;
+    let meeting = meeting_among(&body, step, moving)?;
     Some(meeting.after(fixed.len()))
 }
 
-/// The first of these solids that overlaps the body, which stands at this step of its way.
-fn first_block(body: &Aabb, step: u32, solids: &[Aabb]) -> Option<Meeting>
+/// The meeting with the first of these solids that overlaps the body, which stands at this step of its way.
+fn meeting_among(body: &Aabb, step: u32, solids: &[Aabb]) -> Option<Meeting>
     requires { length solids.now ≤ 65535 }
     ensures { IsMeetingAt step body.now solids.now result }
 {
-    let block = solids.iter().position(|solid| body.overlaps(solid))?;
+    let block = first_overlapped(body, solids)?;
     Some(Meeting {
         step,
         block: block as u16,
         solid: solids[block],
     })
+}
+
+/// The place of the first of these solids that overlaps the body.
+fn first_overlapped(body: &Aabb, solids: &[Aabb]) -> Option<usize>
+    ensures { result ≡ position (boxes.overlaps body.now) solids.now }
+{
+    solids.iter().position(|solid| body.overlaps(solid))
 }
