@@ -1,7 +1,8 @@
 -- What a body meets first of two lists of solids.
-use Rattle.std.proofs.Common.{◌≡◌, ℕ, suc, ◌+◌, ◌-◌, ◌<◌, ◌≤◌, Bool, true, false, cond, ◌||◌, nat_lt, List, [], ◌∷◌, ◌++◌, length, Option, Some, None, option_map, position, find, refl, sym, ap, ◌∙◌, arith, subst}
+use Rattle.std.proofs.Common.{◌≡◌, ℕ, suc, ◌+◌, ◌-◌, ◌<◌, ◌≤◌, Bool, true, false, cond, ◌||◌, nat_lt, List, [], ◌∷◌, ◌++◌, length, take, get_or, length-take, Option, Some, None, option_map, position, find, refl, sym, ap, ◌∙◌, arith, subst}
 use Rattle.std.specs.List.{list_any}
 use Rattle.std.proofs.lemmas.Bool.{ltb-true, ltb-false}
+use Rattle.std.proofs.lemmas.Grind.{take_at_read}
 use Rattle.std.proofs.lemmas.List.Folds.{list_any-append}
 use Rattle.arena_geo.specs.declared.vec3.Vec3.{Vec3}
 use Rattle.arena_geo.specs.Bounds.{Bounds}
@@ -9,7 +10,7 @@ use Rattle.arena_geo.specs.Boxes.{overlaps, is_blocked}
 use Rattle.box_trace.specs.declared.meeting.Meeting.{Meeting}
 use Rattle.box_trace.specs.Steps.{step_count, body_at}
 use Rattle.box_trace.specs.Traces.{IsFree}
-use Rattle.box_trace.specs.Meetings.{OverlapsFirst, IsApart, IsFirstOverlap, IsOnWay, MeetsAt, MeetsFirst, IsFirstMeeting, after, earlier}
+use Rattle.box_trace.specs.Meetings.{OverlapsFirst, IsApart, IsFirstOverlap, IsMeetingWith, MeetsAlone, IsOnWay, MeetsAt, MeetsFirst, IsFirstMeeting, after, earlier}
 use Rattle.box_trace.proofs.Firsts.{position-append_front, position-append_behind, find-append_front, find-append_behind}
 
 pub MeetsAt-front : (k : ℕ) (body : Bounds) (xs ys : List Bounds) (m : Meeting) → MeetsAt k body xs m → MeetsAt k body (xs ++ ys) m
@@ -68,9 +69,6 @@ earlier_is_first body d xs ys (Some a) (Some b) p q = earlier_of_two body d xs y
 pub none_at_all : (body : Bounds) (d : Vec3) → IsFirstMeeting body d [] None
 none_at_all body d = record { free = λ i one within. refl }
 
-meeting_of : ℕ → ℕ → Bounds → Meeting
-meeting_of step block solid = record { step = step; block = block; solid = solid }
-
 or_false : (b : Bool) → b ≡ false → (b || false) ≡ false
 or_false true h = cc
 or_false false h = refl
@@ -82,9 +80,8 @@ found_of_one : (p : Bounds → Bool) (x : Bounds) → p x ≡ true → find p (x
 found_of_one p x pass = rw pass refl
 
 -- what the body meets of one solid alone
-pub meeting_with_one : (body : Bounds) (d : Vec3) (solid : Bounds) (k : Option ℕ) → IsFirstOverlap body d solid k → IsFirstMeeting body d (solid ∷ []) (option_map (λ step. record { step = step; block = 0; solid = solid }) k)
-meeting_with_one body d solid None apart = record { free = λ i one within. or_false (overlaps (body_at body d i) solid) (apart.apart i one within) }
-meeting_with_one body d solid (Some k) first = record {
+meeting_with_one : (body : Bounds) (d : Vec3) (solid : Bounds) (step : ℕ) → OverlapsFirst body d solid step → MeetsFirst body d (solid ∷ []) (record { step = step; block = 0; solid = solid })
+meeting_with_one body d solid k first = record {
   on_way = record { from = first.from; within = first.within };
   free = record { free = λ i one within. or_false (overlaps (body_at body d i) solid) (first.before i one (omega arith)) };
   meets = record {
@@ -93,6 +90,29 @@ meeting_with_one body d solid (Some k) first = record {
     solid = found_of_one (overlaps (body_at body d k)) solid first.overlap;
   };
 }
+
+same_meeting : (m : Meeting) (n : ℕ) (solid : Bounds) → m.block ≡ n → m.solid ≡ solid → after n (record { step = m.step; block = 0; solid = solid }) ≡ m
+same_meeting m n solid block_is solid_is =
+    let block : n + 0 ≡ m.block = omega arith in
+    let back = sym solid_is in
+    λ i. record { step = m.step; block = block i; solid = back i }
+
+-- one more solid at the end of the list
+earlier_with_one : (body : Bounds) (d : Vec3) (xs : List Bounds) (solid : Bounds) (first next : Option Meeting) → IsFirstMeeting body d xs first → IsMeetingWith body d solid (length xs) next → IsFirstMeeting body d (xs ++ solid ∷ []) (earlier first next)
+earlier_with_one body d xs solid first None p apart =
+    earlier_is_first body d xs (solid ∷ []) first None p (record { free = λ i one within. or_false (overlaps (body_at body d i) solid) (apart.apart i one within) })
+earlier_with_one body d xs solid first (Some m) p meets =
+    let P : Meeting → Type 0 = λ n. IsFirstMeeting body d (xs ++ solid ∷ []) (earlier first (Some n)) in
+    subst P (same_meeting m (length xs) solid meets.block meets.solid) (earlier_is_first body d xs (solid ∷ []) first (Some (record { step = m.step; block = 0; solid = solid })) p (meeting_with_one body d solid m.step meets.overlap))
+
+-- one more solid of the list
+pub earlier_with_next : (body : Bounds) (d : Vec3) (solids : List Bounds) (i : ℕ) (solid : Bounds) (first next : Option Meeting) → i < length solids → solid ≡ get_or solids i solid → IsFirstMeeting body d (take i solids) first → IsMeetingWith body d solid i next → IsFirstMeeting body d (take (i + 1) solids) (earlier first next)
+earlier_with_next body d solids i solid first next within solid_is p q =
+    let so_far : i ≡ length (take i solids) = omega (arith, length-take {A = Bounds}) in
+    let P : ℕ → Type 0 = λ n. IsMeetingWith body d solid n next in
+    let more : take (i + 1) solids ≡ take i solids ++ solid ∷ [] = (take_at_read solids i solid within).1 ∙ ap (λ (x : Bounds). take i solids ++ x ∷ []) (sym solid_is) in
+    let Q : List Bounds → Type 0 = λ xs. IsFirstMeeting body d xs (earlier first next) in
+    subst Q (sym more) (earlier_with_one body d (take i solids) solid first next p (subst P so_far q))
 
 -- one more step is free
 pub IsFree-more : (body : Bounds) (d : Vec3) (solids : List Bounds) (k : ℕ) → IsFree body d solids k → is_blocked (body_at body d (k + 1)) solids ≡ false → IsFree body d solids (k + 1)

@@ -1,5 +1,5 @@
 -- The first element that passes a test.
-use Rattle.std.proofs.Common.{◌≡◌, ℕ, ◌+◌, ◌<◌, ◌≤◌, Bool, true, false, cond, not, ◌||◌, eqb, nat_lt, List, [], ◌∷◌, ◌++◌, length, get_or, Option, Some, None, position, find, slice_get, refl, sym, ap, ◌∙◌, arith, length-append}
+use Rattle.std.proofs.Common.{◌≡◌, ℕ, ◌+◌, ◌<◌, ◌≤◌, Bool, true, false, cond, not, ◌&&◌, ◌||◌, eqb, nat_lt, List, [], ◌∷◌, ◌++◌, length, get_or, Option, Some, None, position, find, slice_get, refl, sym, ap, ◌∙◌, arith, length-append}
 use Rattle.std.specs.List.{list_any, position_or_len}
 use Rattle.std.proofs.lemmas.Bool.Decides.{nat_tests}
 use Rattle.std.proofs.lemmas.Option.{slice_get_read}
@@ -36,6 +36,11 @@ neither false false h = (refl, refl)
 neither false true h = cc
 neither true b h = cc
 
+pub both_pass : (a b : Bool) → (a && b) ≡ true → (a ≡ true) × (b ≡ true)
+both_pass true true h = (refl, refl)
+both_pass true false h = cc
+both_pass false b h = cc
+
 module _ {X : Type 0} (p : X → Bool) where
   pub list_any_where_none : (xs : List X) → position p xs ≡ None → list_any p xs ≡ false
   unfolding place
@@ -48,6 +53,13 @@ module _ {X : Type 0} (p : X → Bool) where
   find-Some xs i x found x_is =
       let at = place_within (position_or_len p xs) (length xs) i found in
       find_at p xs ∙ ap (slice_get xs) at.1 ∙ slice_get_read xs (length xs) i x refl at.0 x_is
+
+  -- the place and the element belong together
+  pub slice_get_first : (xs : List X) (i : ℕ) (x : X) → position p xs ≡ Some i → find p xs ≡ Some x → slice_get xs i ≡ Some x
+  unfolding place
+  slice_get_first xs i x at_place found =
+      let at = place_within (position_or_len p xs) (length xs) i at_place in
+      ap (slice_get xs) (sym at.1) ∙ sym (find_at p xs) ∙ found
 
   position_or_len_where_none : (xs : List X) → list_any p xs ≡ false → position_or_len p xs ≡ length xs
   position_or_len_where_none [] none = refl

@@ -6,3 +6,4 @@ pub mod Ranges
 pub mod Overlaps
 pub mod Firsts
 pub mod FirstMeetings
+pub mod Traces

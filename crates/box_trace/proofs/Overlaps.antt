@@ -12,6 +12,7 @@ use Rattle.box_trace.specs.declared.span.Span.{Span}
 use Rattle.box_trace.specs.declared.window.Window.{Window}
 use Rattle.box_trace.specs.Steps.{step_count, body_at}
 use Rattle.box_trace.specs.Windows.{IsOverlapWindow, span}
+use Rattle.box_trace.proofs.Firsts.{both_pass}
 use Rattle.box_trace.specs.Meetings.{OverlapsFirst, IsApart}
 
 -- whether a step lies in a window
@@ -21,11 +22,6 @@ in_window w k = nat_le w.from k && nat_lt k w.to
 record IsIn (w : Window) (k : ℕ) : Type 0 where
   from : w.from ≤ k
   to : k < w.to
-
-both_pass : (a b : Bool) → (a && b) ≡ true → (a ≡ true) × (b ≡ true)
-both_pass true true h = (refl, refl)
-both_pass true false h = cc
-both_pass false b h = cc
 
 IsIn-from_test : (w : Window) (k : ℕ) → in_window w k ≡ true → IsIn w k
 IsIn-from_test w k h =

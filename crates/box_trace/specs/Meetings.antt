@@ -24,7 +24,18 @@ abbrev pub IsFirstOverlap : Bounds → Vec3 → Bounds → Option ℕ → Type 0
 IsFirstOverlap body d solid None = IsApart body d solid
 IsFirstOverlap body d solid (Some k) = OverlapsFirst body d solid k
 
--- the meeting is at this step of the way
+-- the meeting is the first overlap with this solid, which stands at this place
+pub record MeetsAlone (body : Bounds) (d : Vec3) (one : Bounds) (place : ℕ) (meeting : Meeting) : Type 0 where
+  pub overlap : OverlapsFirst body d one meeting.step
+  pub block : meeting.block ≡ place
+  pub solid : meeting.solid ≡ one
+
+-- the first overlap with this solid, which stands at this place, none where there is none
+abbrev pub IsMeetingWith : Bounds → Vec3 → Bounds → ℕ → Option Meeting → Type 0
+IsMeetingWith body d one place None = IsApart body d one
+IsMeetingWith body d one place (Some meeting) = MeetsAlone body d one place meeting
+
+-- the step of the meeting is one of the way
 pub record IsOnWay (d : Vec3) (meeting : Meeting) : Type 0 where
   pub from : 1 ≤ meeting.step
   pub within : meeting.step ≤ step_count d

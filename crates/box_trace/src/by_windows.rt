@@ -40,12 +40,7 @@ fn first_meeting(way: &Way, solids: &[Aabb]) -> Option<Meeting>
 {
     let mut first = None;
     for (block, solid) in solids.iter().enumerate() {
-        let next = way.first_overlap(solid).map(|step| Meeting {
-            step,
-            block: block as u16,
-            solid: *solid,
-        });
-        first = earlier(first, next);
+        first = earlier(first, way.meeting_with(solid, block as u16));
     }
     first
 }

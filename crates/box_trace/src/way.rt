@@ -4,7 +4,7 @@ ghost use Rattle.arena_geo.specs.Vectors.{IsNear};
 ghost use Rattle.arena_geo.specs.Bounds.{IsBox, IsInRange};
 ghost use Rattle.arena_geo.specs.Boxes.{moved};
 ghost use Rattle.box_trace.specs.Steps as steps;
-ghost use Rattle.box_trace.specs.Meetings.{IsFirstOverlap, IsOnWay, hit_of};
+ghost use Rattle.box_trace.specs.Meetings.{IsFirstOverlap, IsMeetingWith, IsOnWay, hit_of};
 
 use crate::hit::Hit;
 use crate::meeting::Meeting;
@@ -98,6 +98,18 @@ impl Way {
         let from = x.from.max(y.from).max(z.from).max(1);
         let to = x.to.min(y.to).min(z.to);
         if from < to { Some(from) } else { None }
+    }
+
+    /// The first overlap with the solid, which stands at this place in its list.
+    pub fn meeting_with(&self, solid: &Aabb, block: u16) -> Option<Meeting>
+        ensures { IsMeetingWith self.now.body self.now.d solid.now block result }
+    {
+        let step = self.first_overlap(solid)?;
+        Some(Meeting {
+            step,
+            block,
+            solid: *solid,
+        })
     }
 
     /// The answer for what the body meets first.
