@@ -1,6 +1,5 @@
 -- What a body meets first of two lists of solids.
-use Rattle.std.proofs.Common.{◌≡◌, ℕ, suc, ◌+◌, ◌-◌, ◌<◌, ◌≤◌, Bool, true, false, cond, ◌||◌, nat_lt, List, [], ◌∷◌, ◌++◌, length, take, get_or, length-take, Option, Some, None, option_map, position, find, refl, sym, ap, ◌∙◌, arith, subst}
-use Rattle.std.specs.List.{list_any}
+use Rattle.std.proofs.Common.{◌≡◌, ℕ, ◌+◌, ◌-◌, ◌<◌, ◌≤◌, Bool, true, false, cond, ◌||◌, nat_lt, List, [], ◌∷◌, ◌++◌, length, take, get_or, length-take, Option, Some, None, option_map, position, find, refl, sym, ap, ◌∙◌, arith, subst}
 use Rattle.std.proofs.lemmas.Bool.{ltb-true, ltb-false}
 use Rattle.std.proofs.lemmas.Grind.{take_at_read}
 use Rattle.std.proofs.lemmas.List.Folds.{list_any-append}
@@ -10,7 +9,7 @@ use Rattle.arena_geo.specs.Boxes.{overlaps, is_blocked}
 use Rattle.box_trace.specs.declared.meeting.Meeting.{Meeting}
 use Rattle.box_trace.specs.Steps.{step_count, body_at}
 use Rattle.box_trace.specs.Traces.{IsFree}
-use Rattle.box_trace.specs.Meetings.{OverlapsFirst, IsApart, IsFirstOverlap, IsMeetingWith, MeetsAlone, IsOnWay, MeetsAt, MeetsFirst, IsFirstMeeting, after, earlier}
+use Rattle.box_trace.specs.Meetings.{OverlapsFirst, IsMeetingWith, MeetsAt, MeetsFirst, IsFirstMeeting, after, earlier}
 use Rattle.box_trace.proofs.Firsts.{position-append_front, position-append_behind, find-append_front, find-append_behind}
 
 pub MeetsAt-front : (k : ℕ) (body : Bounds) (xs ys : List Bounds) (m : Meeting) → MeetsAt k body xs m → MeetsAt k body (xs ++ ys) m
@@ -64,6 +63,11 @@ earlier_is_first body d xs ys None None p q = IsFree-append body d xs ys (step_c
 earlier_is_first body d xs ys None (Some b) p q = meets_behind body d xs ys b (step_count d) q.on_way.within p q
 earlier_is_first body d xs ys (Some a) None p q = let on = p.on_way in meets_front body d xs ys a (step_count d) (omega arith) p q
 earlier_is_first body d xs ys (Some a) (Some b) p q = earlier_of_two body d xs ys a b (nat_lt b.step a.step) refl p q
+
+-- where it meets nothing of the latter list, it is what it meets first of the former
+pub first_is_of_front : (body : Bounds) (d : Vec3) (xs ys : List Bounds) (first : Option Meeting) → IsFirstMeeting body d xs first → IsFirstMeeting body d ys None → IsFirstMeeting body d (xs ++ ys) first
+first_is_of_front body d xs ys None p q = earlier_is_first body d xs ys None None p q
+first_is_of_front body d xs ys (Some a) p q = earlier_is_first body d xs ys (Some a) None p q
 
 -- no solid at all
 pub none_at_all : (body : Bounds) (d : Vec3) → IsFirstMeeting body d [] None

@@ -1,5 +1,5 @@
 -- The first step at which a body overlaps a solid, out of the windows of the three axes.
-use Rattle.std.proofs.Common.{◌≡◌, ℕ, ℤ, ◌+◌, ◌<◌, ◌≤◌, min, max, Bool, true, false, ◌&&◌, nat_le, nat_lt, refl, sym, ap, ◌∙◌, arith, to_z, of_z, unsigned_abs}
+use Rattle.std.proofs.Common.{◌≡◌, ℕ, ℤ, ◌<◌, ◌≤◌, min, max, Bool, true, false, ◌&&◌, nat_le, nat_lt, refl, ◌∙◌, arith, to_z, of_z, unsigned_abs}
 use Rattle.std.proofs.lemmas.Bool.{leb-true, ltb-true, le-leb, lt-ltb}
 use Rattle.std.specs.Int.{w32}
 use Rattle.std.proofs.lemmas.Int.{to_z-of_z, fits_signed_from_abs}
@@ -49,11 +49,11 @@ apart_outside : (body : Bounds) (d : Vec3) (solid : Bounds) (x y z : Window) (k 
 apart_outside body d solid x y z k from to windows within some from_is to_is outside =
     overlaps-in_windows body d solid x y z k windows within
     ∙ false_where_not _ (λ h.
-        let t = three_pass (in_window x k) (in_window y k) (in_window z k) h in
-        let in_x = IsIn-from_test x k t.x in
-        let in_y = IsIn-from_test y k t.y in
-        let in_z = IsIn-from_test z k t.z in
-        outside (omega arith) (omega arith))
+    let t = three_pass (in_window x k) (in_window y k) (in_window z k) h in
+    let in_x = IsIn-from_test x k t.x in
+    let in_y = IsIn-from_test y k t.y in
+    let in_z = IsIn-from_test z k t.z in
+    outside (omega arith) (omega arith))
 
 pub first_overlap_is : (body : Bounds) (d : Vec3) (solid : Bounds) (x y z : Window) (from to : ℕ) → AreWindows body d solid x y z → from ≡ max (max (max x.from y.from) z.from) 1 → to ≡ min (min x.to y.to) z.to → from < to → OverlapsFirst body d solid from
 first_overlap_is body d solid x y z from to windows from_is to_is some =
@@ -63,7 +63,7 @@ first_overlap_is body d solid x y z from to windows from_is to_is some =
       from = omega arith;
       within = within;
       overlap = overlaps-in_windows body d solid x y z from windows within
-        ∙ all_three (test_from_IsIn x from (omega arith) (omega arith)) (test_from_IsIn y from (omega arith) (omega arith)) (test_from_IsIn z from (omega arith) (omega arith));
+          ∙ all_three (test_from_IsIn x from (omega arith) (omega arith)) (test_from_IsIn y from (omega arith) (omega arith)) (test_from_IsIn z from (omega arith) (omega arith));
       before = λ i one below. apart_outside body d solid x y z i from to windows (omega arith) one from_is to_is (λ h _. omega arith);
     }
 

@@ -1,9 +1,9 @@
 -- How far a part has come at a step.
-use Rattle.std.proofs.Common.{◌≡◌, ℕ, zero, suc, ◌+◌, ◌*◌, ◌/◌, ◌<◌, ◌≤◌, ◌^◌, ℤ, pos, negsuc, ◌*ℤ◌, neg_ℤ, unsigned_abs, int_div, FitsSigned, refl, sym, ap, ◌∙◌, arith, rules, lit<}
+use Rattle.std.proofs.Common.{◌≡◌, ℕ, zero, suc, ◌*◌, ◌/◌, ◌≤◌, ℤ, pos, negsuc, ◌*ℤ◌, neg_ℤ, unsigned_abs, int_div, FitsSigned, refl, ap, ◌∙◌, arith}
 use Rattle.std.specs.Int.{w32, w64, cast_signed, cast_unsigned}
 use Rattle.std.proofs.Math.Nat.{div-le_of_le-mul, mul-le-mul_left, zero-div}
 use Rattle.std.proofs.lemmas.Nat.{mul-le}
-use Rattle.std.proofs.lemmas.Int.{ints, to_z-of_z, fits_signed_from_abs, unsigned_abs-mul, quot_is}
+use Rattle.std.proofs.lemmas.Int.{to_z-of_z, fits_signed_from_abs, unsigned_abs-mul, quot_is}
 use Rattle.box_trace.specs.Steps.{part_at}
 
 -- a share of a whole is at most the whole
@@ -33,7 +33,7 @@ unsigned_abs-part_at_le n k part within =
 
 -- what the code's 64-bit product and quotient give
 pub part_at-wide : (part a b d : ℤ) (k n : ℕ) → unsigned_abs part ≤ n → k ≤ n → n ≤ 65536 → a ≡ part → b ≡ pos k → d ≡ pos n
-  → cast_signed w64 (cast_unsigned w64 (int_div (cast_signed w64 (cast_unsigned w64 (cast_signed w64 (cast_unsigned w64 a) *ℤ cast_signed w64 (cast_unsigned w64 b)))) (cast_signed w64 (cast_unsigned w64 d)))) ≡ part_at n k part
+    → cast_signed w64 (cast_unsigned w64 (int_div (cast_signed w64 (cast_unsigned w64 (cast_signed w64 (cast_unsigned w64 a) *ℤ cast_signed w64 (cast_unsigned w64 b)))) (cast_signed w64 (cast_unsigned w64 d)))) ≡ part_at n k part
 part_at-wide part a b d k n size within few a_is b_is d_is =
     let fits_part : FitsSigned w64 part = fits_signed_from_abs w64 part (omega arith) in
     let fits_k : FitsSigned w64 (pos k) = fits_signed_from_abs w64 (pos k) (omega arith) in

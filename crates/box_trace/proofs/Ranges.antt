@@ -1,5 +1,5 @@
 -- Where a body is in range on its way.
-use Rattle.std.proofs.Common.{◌≡◌, ℕ, zero, suc, ◌+◌, ◌*◌, ◌/◌, ◌≤◌, max, ℤ, pos, negsuc, ◌+ℤ◌, neg_ℤ, unsigned_abs, Option, Some, None, SomeIff, IsSome, refl, sym, ap, ◌∙◌, arith, rules}
+use Rattle.std.proofs.Common.{◌≡◌, ℕ, zero, suc, ◌≤◌, ℤ, pos, negsuc, ◌+ℤ◌, neg_ℤ, unsigned_abs, Option, Some, None, SomeIff, IsSome, ap, ◌∙◌, arith, rules}
 use Rattle.std.proofs.Math.Nat.{zero-div, mul-div_left}
 use Rattle.std.proofs.lemmas.Int.{ints}
 use Rattle.arena_geo.specs.declared.vec3.Vec3.{Vec3}

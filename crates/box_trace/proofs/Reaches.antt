@@ -1,16 +1,10 @@
 -- From which step on a part has come so far.
-use Rattle.std.proofs.Common.{◌≡◌, ℕ, zero, suc, ◌+◌, ◌*◌, ◌/◌, ◌%◌, ◌<◌, ◌≤◌, ◌↔◌, min, max, Bool, true, false, not, ◌&&◌, nat_le, nat_lt, ℤ, pos, ◌+ℤ◌, ◌-ℤ◌, neg_ℤ, int_le, int_lt, refl, sym, ap, ◌∙◌, arith, rules}
+use Rattle.std.proofs.Common.{◌≡◌, ℕ, ◌+◌, ◌*◌, ◌/◌, ◌<◌, ◌≤◌, nat_le, ℤ, pos, arith}
 use Rattle.std.specs.Int.{div_ceil}
-use Rattle.std.proofs.Math.Nat.{le-div_iff_mul-le, mul-le-mul_left, mul-le-mul_right}
+use Rattle.std.proofs.Math.Nat.{le-div_iff_mul-le, mul-le-mul_right}
 use Rattle.std.proofs.lemmas.Grind.{div_ceil_times}
-use Rattle.std.proofs.lemmas.Bool.{leb-true, leb-false, le-leb, lt-leb}
 use Rattle.std.proofs.lemmas.Bool.Decides.{nat_tests}
-use Rattle.std.proofs.lemmas.Int.{ints}
-use Rattle.arena_geo.specs.Boxes.{overlaps_on}
-use Rattle.box_trace.specs.declared.span.Span.{Span}
-use Rattle.box_trace.specs.declared.window.Window.{Window}
-use Rattle.box_trace.specs.Steps.{part_at}
-use Rattle.box_trace.specs.Windows.{IsFirstReach, IsOverlapWindow}
+use Rattle.box_trace.specs.Windows.{IsFirstReach}
 
 below_next : (q k : ℕ) → (k + 1 ≤ q → ⊥) → q ≤ k
 below_next q k not_above = grind arith

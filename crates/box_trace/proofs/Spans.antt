@@ -1,11 +1,10 @@
 -- The steps at which a span overlaps another.
-use Rattle.std.proofs.Common.{◌≡◌, ℕ, zero, suc, ◌*◌, ◌/◌, ◌≤◌, Bool, true, false, ◌&&◌, nat_le, nat_lt, ℤ, pos, negsuc, ◌+ℤ◌, ◌-ℤ◌, ◌<ℤ◌, neg_ℤ, unsigned_abs, int_le, int_lt, refl, sym, ap, ◌∙◌, arith}
+use Rattle.std.proofs.Common.{◌≡◌, ℕ, suc, ◌*◌, ◌/◌, Bool, true, false, ◌&&◌, nat_le, nat_lt, ℤ, pos, negsuc, ◌+ℤ◌, ◌-ℤ◌, ◌<ℤ◌, neg_ℤ, unsigned_abs, int_le, int_lt, refl, ◌∙◌, arith}
 use Rattle.std.proofs.lemmas.Bool.Decides.{nat_tests}
 use Rattle.std.proofs.lemmas.Int.{ints}
 use Rattle.arena_geo.specs.Boxes.{overlaps_on}
 use Rattle.box_trace.specs.declared.span.Span.{Span}
 use Rattle.box_trace.specs.declared.window.Window.{Window}
-use Rattle.box_trace.specs.Steps.{part_at}
 use Rattle.box_trace.specs.Windows.{IsFirstReach, IsOverlapWindow, mirrored}
 use Rattle.box_trace.proofs.Parts.{part_at-neg}
 
@@ -31,8 +30,8 @@ pub window_upwards_is : (s other : Span) (size count from to : ℕ) (near far : 
 window_upwards_is s other size count from to near far near_is far_is first last = record {
   within = last.within;
   inside = λ k h. swapped
-    (before_leaving s.lo other.hi far (size * k / count) to k far_is (last.reach k h))
-    (after_touch s.hi other.lo near (size * k / count) from k near_is (first.reach k h));
+      (before_leaving s.lo other.hi far (size * k / count) to k far_is (last.reach k h))
+      (after_touch s.hi other.lo near (size * k / count) from k near_is (first.reach k h));
 }
 
 turned_left : (lo other_hi : ℤ) (m : ℕ) → int_lt (lo +ℤ neg_ℤ (pos m)) other_hi ≡ int_lt (neg_ℤ other_hi) (neg_ℤ lo +ℤ pos m)

@@ -1,18 +1,16 @@
 -- The trace out of what a body meets first, and that there is one trace.
-use Rattle.std.proofs.Common.{◌≡◌, ℕ, zero, suc, ◌+◌, ◌-◌, ◌<◌, ◌≤◌, ◌↔◌, Bool, true, false, cond, not, ◌&&◌, ◌||◌, eqb, ◌==◌, List, Option, Some, None, is_none, IsNone, IsTrue, position, find, slice_get, option_and_then, refl, sym, ap, ◌∙◌, arith, subst, rules, add-one}
-use Rattle.std.specs.List.{list_any, position_or_len}
+use Rattle.std.proofs.Common.{◌≡◌, ℕ, zero, suc, ◌+◌, ◌-◌, ◌≤◌, ◌↔◌, Bool, true, false, cond, not, ◌&&◌, ◌||◌, List, Option, Some, None, is_none, IsNone, IsTrue, refl, sym, ap, ◌∙◌, arith, subst, rules, add-one}
 use Rattle.std.specs.Cmp.Derive.{both_true}
 use Rattle.std.proofs.lemmas.Bool.{eq-eqb, ne_eqb, both_ways, not-true}
-use Rattle.std.proofs.lemmas.List.Folds.{find_at}
 use Rattle.arena_geo.specs.declared.vec3.Vec3.{Vec3}
 use Rattle.arena_geo.specs.Bounds.{Bounds}
 use Rattle.arena_geo.specs.Boxes.{overlaps_on, overlaps, is_blocked}
 use Rattle.box_trace.specs.declared.hit.Hit.{Hit}
 use Rattle.box_trace.specs.declared.meeting.Meeting.{Meeting}
 use Rattle.box_trace.specs.Steps.{step_count, body_at}
-use Rattle.box_trace.specs.Traces.{IsFree, IsTrace, apart_axis, axis_after, block_at, blocker_at, is_free, greatest, free_steps, hit_after, trace_of, is_inside_block, overlaps_some}
+use Rattle.box_trace.specs.Traces.{IsFree, IsTrace, apart_axis, axis_after, block_at, is_free, greatest, free_steps, hit_after, trace_of, is_inside_block}
 use Rattle.box_trace.specs.Laws.{TraceIsUnique}
-use Rattle.box_trace.specs.Meetings.{MeetsAt, MeetsFirst, IsFirstMeeting, hit_of}
+use Rattle.box_trace.specs.Meetings.{MeetsFirst, IsFirstMeeting, hit_of}
 use Rattle.box_trace.proofs.Firsts.{find_where_none, slice_get_first, both_pass}
 use Rattle.box_trace.proofs.FirstMeetings.{IsFree-more}
 
@@ -124,7 +122,7 @@ trace_from_steps body d solids hit trace =
 pub trace_of_is : (body : Bounds) (d : Vec3) (solids : List Bounds) (hit : Hit) → IsTrace body d solids hit → hit ≡ trace_of body d solids
 trace_of_is body d solids hit trace =
     let steps : hit.steps ≡ free_steps body d solids =
-      omega (arith, free_steps_most body d solids hit.steps trace.within trace.free, trace.most (free_steps body d solids) (free_steps_within body d solids) (IsFree-free_steps body d solids)) in
+    omega (arith, free_steps_most body d solids hit.steps trace.within trace.free, trace.most (free_steps body d solids) (free_steps_within body d solids) (IsFree-free_steps body d solids)) in
     trace_from_steps body d solids hit trace ∙ ap (hit_after body d solids) steps
 
 pub trace_is_unique : TraceIsUnique
@@ -150,3 +148,24 @@ axis_is_none body d solids (Some m) meets =
 pub block_is_none : (body : Bounds) (d : Vec3) (first : Option Meeting) → let hit = hit_of body d first in IsNone hit.block ↔ IsTrue hit.whole
 block_is_none body d None = search rules
 block_is_none body d (Some m) = search rules
+
+-- ---- the answers of the two programs
+-- what the clauses of a trace say
+pub record IsAnswer (body : Bounds) (d : Vec3) (solids : List Bounds) (hit : Hit) : Type 0 where
+  pub is_trace : IsTrace body d solids hit
+  pub value : hit ≡ trace_of body d solids
+  pub axis : is_none hit.axis ≡ (hit.whole || is_inside_block body d solids hit)
+
+answer_of : (body : Bounds) (d : Vec3) (solids : List Bounds) (first : Option Meeting) → IsFirstMeeting body d solids first → IsAnswer body d solids (hit_of body d first)
+answer_of body d solids first meets =
+    let trace = IsTrace-hit_of body d solids first meets in
+    record {
+      is_trace = trace;
+      value = trace_of_is body d solids (hit_of body d first) trace;
+      axis = axis_is_none body d solids first meets;
+    }
+
+-- the answer on a way, whose body and displacement are these
+pub answer_on_way : (way_body body : Bounds) (way_d d : Vec3) (solids : List Bounds) (first : Option Meeting) (hit : Hit) → way_body ≡ body → way_d ≡ d → hit ≡ hit_of way_body way_d first → IsFirstMeeting way_body way_d solids first → IsAnswer body d solids hit
+answer_on_way way_body body way_d d solids first hit body_is d_is hit_is meets =
+    rw (← body_is, ← d_is, hit_is) (answer_of way_body way_d solids first meets)

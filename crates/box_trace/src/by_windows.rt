@@ -28,13 +28,23 @@ pub fn trace(body: &Aabb, d: Vec3, fixed: &[Aabb], moving: &[Aabb]) -> Hit
     ensures axis { is_none result.axis ≡ (result.whole || is_inside_block body.now d (fixed.now ++ moving.now) result) }
 {
     let way = Way::new(body, d);
-    let first = first_meeting(&way, fixed);
-    let second = first_meeting(&way, moving).map(|meeting| meeting.after(fixed.len()));
-    way.hit(earlier(first, second))
+    way.hit(first_meeting(&way, fixed, moving))
+}
+
+/// What the body meets first.
+fn first_meeting(way: &Way, fixed: &[Aabb], moving: &[Aabb]) -> Option<Meeting>
+    requires { length fixed.now + length moving.now ≤ 65535 }
+    ensures { IsFirstMeeting way.now.body way.now.d (fixed.now ++ moving.now) result }
+{
+    let first = first_meeting_among(way, fixed);
+    let Some(second) = first_meeting_among(way, moving) else {
+        return first;
+    };
+    earlier(first, Some(second.after(fixed.len())))
 }
 
 /// What the body meets first of these solids.
-fn first_meeting(way: &Way, solids: &[Aabb]) -> Option<Meeting>
+fn first_meeting_among(way: &Way, solids: &[Aabb]) -> Option<Meeting>
     requires { length solids.now ≤ 65535 }
     ensures { IsFirstMeeting way.now.body way.now.d solids.now result }
 {

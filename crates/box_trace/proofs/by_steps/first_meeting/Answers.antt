@@ -1,5 +1,5 @@
 use Rattle.std.proofs.Common.{◌++◌}
-use Rattle.box_trace.proofs.FirstMeetings.{IsFree-more, meets_after_free}
+use Rattle.box_trace.proofs.FirstMeetings.{IsFree-more}
 use Rattle.box_trace.proofs.by_steps.first_meeting.Goals as goal
 
 pub loop-steps-preserved : goal.loop-steps-preserved

@@ -1,4 +1,4 @@
-use Rattle.std.proofs.Common.{refl, sym, ◌∙◌, rules}
+use Rattle.std.proofs.Common.{refl, sym, ◌∙◌}
 use Rattle.arena_geo.specs.Boxes.{overlaps}
 use Rattle.box_trace.proofs.Firsts.{list_any_where_none, find-Some}
 use Rattle.box_trace.proofs.by_steps.meeting_among.Goals as goal

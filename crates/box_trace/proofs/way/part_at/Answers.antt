@@ -1,4 +1,4 @@
-use Rattle.std.proofs.Common.{rules, arith, ap, ◌∙◌}
+use Rattle.std.proofs.Common.{◌∙◌}
 use Rattle.std.specs.Int.{w32}
 use Rattle.std.proofs.lemmas.Int.{to_z-of_z}
 use Rattle.box_trace.proofs.Parts.{part_at-wide, FitsSigned-part_at}

@@ -1,5 +1,4 @@
-use Rattle.std.proofs.Common.{arith, ap, ◌∙◌}
-use Rattle.std.specs.Int.{w32}
+use Rattle.std.proofs.Common.{arith}
 use Rattle.std.proofs.lemmas.Int.{ints}
 use Rattle.box_trace.proofs.Spans.{window_from_mirrored}
 use Rattle.box_trace.proofs.window.overlap_window.Goals as goal

@@ -1,6 +1,5 @@
 use Rattle.std.proofs.Common.{arith, refl}
-use Rattle.box_trace.specs.declared.way.Way.{Way}
-use Rattle.box_trace.proofs.Overlaps.{AreWindows, IsOverlapWindow-at, first_overlap_is, no_overlap_is}
+use Rattle.box_trace.proofs.Overlaps.{IsOverlapWindow-at, first_overlap_is, no_overlap_is}
 use Rattle.box_trace.proofs.way.Way.first_overlap.Goals as goal
 
 pub returns-then-from-to : goal.returns-then-from-to
