@@ -13,5 +13,7 @@ mod hit;
 mod laws;
 mod meeting;
 mod span;
+#[cfg(test)]
+mod tests;
 mod way;
 mod window;
