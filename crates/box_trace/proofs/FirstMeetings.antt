@@ -69,10 +69,6 @@ pub first_is_of_front : (body : Bounds) (d : Vec3) (xs ys : List Bounds) (first 
 first_is_of_front body d xs ys None p q = earlier_is_first body d xs ys None None p q
 first_is_of_front body d xs ys (Some a) p q = earlier_is_first body d xs ys (Some a) None p q
 
--- no solid at all
-pub none_at_all : (body : Bounds) (d : Vec3) → IsFirstMeeting body d [] None
-none_at_all body d = record { free = λ i one within. refl }
-
 or_false : (b : Bool) → b ≡ false → (b || false) ≡ false
 or_false true h = cc
 or_false false h = refl
@@ -129,14 +125,3 @@ IsFree-more body d solids k free next = record {
       let above = ltb-false i (k + 1) not_lower in
       let P : ℕ → Type 0 = λ j. is_blocked (body_at body d j) solids ≡ false in
       let same : k + 1 ≡ i = omega arith in subst P same next
-
--- the first meeting is at the step after those that are free
-pub meets_after_free : (body : Bounds) (d : Vec3) (solids : List Bounds) (k : ℕ) (m : Meeting) → k < step_count d → IsFree body d solids k → MeetsAt (k + 1) (body_at body d (k + 1)) solids m → MeetsFirst body d solids m
-meets_after_free body d solids k m within free meets =
-    let same : k + 1 ≡ m.step = sym meets.step in
-    let before : k ≡ m.step - 1 = omega arith in
-    record {
-      on_way = record { from = omega arith; within = omega arith };
-      free = (let P : ℕ → Type 0 = λ j. IsFree body d solids j in subst P before free);
-      meets = (let P : ℕ → Type 0 = λ j. MeetsAt j (body_at body d j) solids m in subst P same meets);
-    }

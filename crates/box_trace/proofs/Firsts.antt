@@ -18,10 +18,6 @@ place_beyond : (n len : ℕ) → place n len ≡ None → len ≤ n
 unfolding place
 place_beyond n len h = grind (arith, nat_tests)
 
-place_at_end : (n len : ℕ) → n ≡ len → place n len ≡ None
-unfolding place
-place_at_end n len h = grind (arith, nat_tests)
-
 -- the place in two lists, whose first passing elements stand at n and m
 place_in_front : (n m len more i joined total : ℕ) → joined ≡ cond (eqb n len) (len + m) n → total ≡ len + more → place n len ≡ Some i → place joined total ≡ Some i
 unfolding place
@@ -66,11 +62,6 @@ module _ {X : Type 0} (p : X → Bool) where
   position_or_len_where_none (x ∷ xs) none =
       let t = neither (p x) (list_any p xs) none in
       rw t.0 (omega (arith, position_or_len_where_none xs t.1))
-
-  pub position_where_none : (xs : List X) → list_any p xs ≡ false → position p xs ≡ None
-  unfolding place
-  position_where_none xs none =
-      place_at_end (position_or_len p xs) (length xs) (position_or_len_where_none xs none)
 
   pub find_where_none : (xs : List X) → list_any p xs ≡ false → find p xs ≡ None
   find_where_none [] none = refl

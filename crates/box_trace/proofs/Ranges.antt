@@ -43,7 +43,7 @@ IsInRange-body_at body d k first last within = record {
 }
 
 -- at the last step a part has come all its way
-part_at-last : (n : ℕ) (d : ℤ) → unsigned_abs d ≤ n → part_at n n d ≡ d
+pub part_at-last : (n : ℕ) (d : ℤ) → unsigned_abs d ≤ n → part_at n n d ≡ d
 part_at-last zero (pos zero) small = ap pos (zero-div zero)
 part_at-last zero (pos (suc a)) small = absurd (omega arith)
 part_at-last zero (negsuc a) small = absurd (omega arith)
@@ -51,7 +51,7 @@ part_at-last (suc n) (pos a) small = ap pos (mul-div_left a {n = suc n} (omega a
 part_at-last (suc n) (negsuc a) small = part_at-neg (suc n) (suc n) a ∙ ap (λ (m : ℕ). neg_ℤ (pos m)) (mul-div_left (suc a) {n = suc n} (omega arith))
 
 -- at the last step the body is at the end of its way
-body_at-last : (body : Bounds) (d : Vec3) → body_at body d (step_count d) ≡ moved body d
+pub body_at-last : (body : Bounds) (d : Vec3) → body_at body d (step_count d) ≡ moved body d
 body_at-last body d =
     let x = part_at-last (step_count d) d.x (omega arith) in
     let y = part_at-last (step_count d) d.y (omega arith) in

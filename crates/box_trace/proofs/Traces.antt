@@ -1,5 +1,5 @@
 -- The trace out of what a body meets first, and that there is one trace.
-use Rattle.std.proofs.Common.{◌≡◌, ℕ, zero, suc, ◌+◌, ◌-◌, ◌≤◌, ◌↔◌, Bool, true, false, cond, not, ◌&&◌, ◌||◌, List, Option, Some, None, is_none, IsNone, IsTrue, refl, sym, ap, ◌∙◌, arith, subst, rules, add-one}
+use Rattle.std.proofs.Common.{◌≡◌, ℕ, zero, suc, ◌+◌, ◌-◌, ◌≤◌, Bool, true, false, cond, not, ◌&&◌, ◌||◌, List, Option, Some, None, is_none, refl, sym, ap, ◌∙◌, arith, subst, add-one}
 use Rattle.std.specs.Cmp.Derive.{both_true}
 use Rattle.std.proofs.lemmas.Bool.{eq-eqb, ne_eqb, both_ways, not-true}
 use Rattle.arena_geo.specs.declared.vec3.Vec3.{Vec3}
@@ -144,10 +144,6 @@ pub axis_is_none : (body : Bounds) (d : Vec3) (solids : List Bounds) (first : Op
 axis_is_none body d solids None free = refl
 axis_is_none body d solids (Some m) meets =
     rw (slice_get_first (overlaps (body_at body d m.step)) solids m.block m.solid meets.meets.block meets.meets.solid) (apart_axis-is_none (body_at body d (m.step - 1)) m.solid)
-
-pub block_is_none : (body : Bounds) (d : Vec3) (first : Option Meeting) → let hit = hit_of body d first in IsNone hit.block ↔ IsTrue hit.whole
-block_is_none body d None = search rules
-block_is_none body d (Some m) = search rules
 
 -- ---- the answers of the two programs
 -- what the clauses of a trace say
