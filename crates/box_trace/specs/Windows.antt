@@ -1,5 +1,5 @@
 -- The steps at which a span that moves overlaps another one.
-use Rattle.std.specs.Prelude.{◌≡◌, ℕ, ◌+◌, ◌*◌, ◌/◌, ◌≤◌, nat_le, nat_lt, ℤ, pos, ◌+ℤ◌, neg_ℤ, int_le, unsigned_abs, ◌&&◌}
+use Rattle.std.specs.Prelude.{◌≡◌, ℕ, ◌+◌, ◌*◌, ◌/◌, ◌≤◌, max, min, Option, Some, None, if◌then◌else◌, nat_le, nat_lt, ℤ, pos, ◌+ℤ◌, neg_ℤ, int_le, unsigned_abs, ◌&&◌}
 use Rattle.arena_geo.specs.Boxes.{overlaps_on}
 use Rattle.box_trace.specs.declared.span.Span.{Span}
 use Rattle.box_trace.specs.declared.window.Window.{Window}
@@ -17,6 +17,13 @@ mirrored s = span (neg_ℤ s.hi) (neg_ℤ s.lo)
 pub record IsNearSpan (s : Span) : Type 0 where
   pub lo : unsigned_abs s.lo ≤ 2097152
   pub hi : unsigned_abs s.hi ≤ 2097152
+
+-- the steps that lie in both windows, none where there are none
+abbrev pub meet : Window → Window → Option Window
+meet a b =
+    let from = max a.from b.from in
+    let to = min a.to b.to in
+    if nat_lt from to then Some (record { from = from; to = to }) else None
 
 -- of the steps up to count, those from `first` on are the ones at which a part of this size has come so far
 pub record IsFirstReach (target : ℤ) (size count first : ℕ) : Type 0 where

@@ -9,7 +9,7 @@ ghost use Rattle.box_trace.specs.Meetings.{IsFirstOverlap, IsMeetingWith, IsOnWa
 use crate::hit::Hit;
 use crate::meeting::Meeting;
 use crate::span::{Span, apart_axis};
-use crate::window::overlap_window;
+use crate::window::{Window, overlap_window};
 use arena_geo::{Aabb, Vec3};
 
 /// The greatest distance from 0 of a displacement's part, in sub-units.
@@ -91,13 +91,18 @@ impl Way {
     pub fn first_overlap(&self, solid: &Aabb) -> Option<u32>
         ensures { IsFirstOverlap self.now.body self.now.d solid.now result }
     {
-        let body = &self.body;
-        let x = overlap_window(Span::on_x(body), Span::on_x(solid), self.d.x, self.count);
-        let y = overlap_window(Span::on_y(body), Span::on_y(solid), self.d.y, self.count);
-        let z = overlap_window(Span::on_z(body), Span::on_z(solid), self.d.z, self.count);
-        let from = x.from.max(y.from).max(z.from).max(1);
-        let to = x.to.min(y.to).min(z.to);
-        if from < to { Some(from) } else { None }
+        let (body, count) = (&self.body, self.count);
+        let steps = Window {
+            from: 1,
+            to: count + 1,
+        };
+        let x = overlap_window(Span::on_x(body), Span::on_x(solid), self.d.x, count);
+        let steps = steps.meet(x)?;
+        let y = overlap_window(Span::on_y(body), Span::on_y(solid), self.d.y, count);
+        let steps = steps.meet(y)?;
+        let z = overlap_window(Span::on_z(body), Span::on_z(solid), self.d.z, count);
+        let steps = steps.meet(z)?;
+        Some(steps.from)
     }
 
     /// The first overlap with the solid, which stands at this place in its list.

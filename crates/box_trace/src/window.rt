@@ -1,4 +1,5 @@
 ghost use Rattle.std.specs.Prelude.{◌≡◌, ◌<◌, ◌≤◌, pos, unsigned_abs};
+ghost use Rattle.box_trace.specs.Windows as windows;
 ghost use Rattle.box_trace.specs.Windows.{IsFirstReach, IsOverlapWindow, IsNearSpan};
 
 use crate::span::Span;
@@ -8,6 +9,21 @@ use crate::span::Span;
 pub struct Window {
     pub from: u32,
     pub to: u32,
+}
+
+impl Window {
+    /// The steps that lie in both windows. `None` where there are none.
+    pub fn meet(self, other: Window) -> Option<Window>
+        ensures { result ≡ windows.meet self other }
+    {
+        let from = self.from.max(other.from);
+        let to = self.to.min(other.to);
+        if from < to {
+            Some(Window { from, to })
+        } else {
+            None
+        }
+    }
 }
 
 /// The first of the steps 0 to `count` at which a part of this size has come at least as far as `target`, and
