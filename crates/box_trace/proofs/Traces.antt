@@ -89,20 +89,18 @@ test_from_free body d solids (suc k) free =
 
 -- ---- the trace as a function
 free_steps_within : (body : Bounds) (d : Vec3) (solids : List Bounds) → free_steps body d solids ≤ step_count d
-unfolding free_steps
 free_steps_within body d solids = greatest_within (is_free body d solids) (step_count d)
 
 IsFree-free_steps : (body : Bounds) (d : Vec3) (solids : List Bounds) → IsFree body d solids (free_steps body d solids)
-unfolding free_steps
 IsFree-free_steps body d solids =
     free_from_test body d solids _ (greatest_passes (is_free body d solids) (step_count d) refl)
 
 free_steps_most : (body : Bounds) (d : Vec3) (solids : List Bounds) (k : ℕ) → k ≤ step_count d → IsFree body d solids k → k ≤ free_steps body d solids
-unfolding free_steps
 free_steps_most body d solids k within free =
     greatest_most (is_free body d solids) (step_count d) k within (test_from_free body d solids k free)
 
 pub IsTrace-trace_of : (body : Bounds) (d : Vec3) (solids : List Bounds) → IsTrace body d solids (trace_of body d solids)
+unfolding trace_of
 IsTrace-trace_of body d solids = record {
   within = free_steps_within body d solids;
   free = IsFree-free_steps body d solids;
@@ -120,6 +118,7 @@ trace_from_steps body d solids hit trace =
 
 -- a trace is what the function gives
 pub trace_of_is : (body : Bounds) (d : Vec3) (solids : List Bounds) (hit : Hit) → IsTrace body d solids hit → hit ≡ trace_of body d solids
+unfolding trace_of
 trace_of_is body d solids hit trace =
     let steps : hit.steps ≡ free_steps body d solids =
     omega (arith, free_steps_most body d solids hit.steps trace.within trace.free, trace.most (free_steps body d solids) (free_steps_within body d solids) (IsFree-free_steps body d solids)) in

@@ -52,7 +52,7 @@ greatest p zero = 0
 greatest p (suc n) = if p (suc n) then suc n else greatest p n
 
 -- the greatest number of steps of which none is blocked
-unfoldable pub free_steps : Bounds → Vec3 → List Bounds → ℕ
+abbrev pub free_steps : Bounds → Vec3 → List Bounds → ℕ
 free_steps body d solids = greatest (is_free body d solids) (step_count d)
 
 -- the answer for a body that goes so many steps
@@ -66,8 +66,8 @@ hit_after body d solids steps =
       block = if whole then None else block_at body d solids (steps + 1);
     }
 
--- the trace as a function
-abbrev pub trace_of : Bounds → Vec3 → List Bounds → Hit
+-- the trace as a function; `IsTrace` says what callers need of it, so it stays closed in their goals
+unfoldable pub trace_of : Bounds → Vec3 → List Bounds → Hit
 trace_of body d solids = hit_after body d solids (free_steps body d solids)
 
 -- whether two boxes overlap, where there is a second one

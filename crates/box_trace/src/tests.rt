@@ -1,4 +1,4 @@
-use crate::{Hit, trace, trace_by_steps};
+use crate::{Hit, shift_at, step_count, trace, trace_by_steps};
 use arena_geo::{Aabb, Vec3};
 use std::alloc::Global;
 use std::process::Abort;
@@ -289,4 +289,15 @@ fn both_programs_agree_with_the_rows(rt: HostRuntime) -> Result<(), Fail> {
         agree(&rt, &body, d, &fixed, &moving, row.hit);
     }
     Ok(())
+}
+
+#[test]
+fn parts_are_cut_toward_zero(rt: HostRuntime) {
+    let d = Vec3 { x: -7, y: -3, z: 5 };
+    assert_eq!(rt; step_count(d), 7);
+    for (k, y, z) in [(0, 0, 0), (2, 0, 1), (3, -1, 2), (5, -2, 3), (7, -3, 5)] {
+        assert!(rt; k <= step_count(d));
+        let shift = shift_at(d, k);
+        assert_eq!(rt; (shift.y, shift.z), (y, z), "at step {k}");
+    }
 }
