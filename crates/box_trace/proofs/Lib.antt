@@ -1,0 +1,9 @@
+-- Lemmas on traces.
+pub mod Parts
+pub mod Reaches
+pub mod Spans
+pub mod Ranges
+pub mod Overlaps
+pub mod Firsts
+pub mod FirstMeetings
+pub mod Traces

@@ -1,0 +1,19 @@
+-- What holds of all traces.
+use Rattle.std.specs.Prelude.{◌≡◌, ℕ, ◌≤◌, ◌↔◌, List}
+use Rattle.arena_geo.specs.declared.vec3.Vec3.{Vec3}
+use Rattle.arena_geo.specs.Bounds.{Bounds, IsInRange}
+use Rattle.arena_geo.specs.Boxes.{moved}
+use Rattle.box_trace.specs.declared.hit.Hit.{Hit}
+use Rattle.box_trace.specs.Steps.{step_count, body_at}
+use Rattle.box_trace.specs.Traces.{IsTrace, trace_of}
+
+-- there is one trace, and the function gives it
+abbrev pub TraceIsUnique : Type 0
+TraceIsUnique =
+    (body : Bounds) (d : Vec3) (solids : List Bounds) (hit : Hit) → IsTrace body d solids hit ↔ (hit ≡ trace_of body d solids)
+
+-- a body is in range at every step exactly where it is in range at both ends of its way
+abbrev pub StepsStayInRange : Type 0
+StepsStayInRange =
+    (body : Bounds) (d : Vec3) → IsInRange body
+    → (IsInRange (moved body d) ↔ ((k : ℕ) → k ≤ step_count d → IsInRange (body_at body d k)))
