@@ -1,0 +1,161 @@
+-- Fields that are numbers, and the decimal text of a number.
+use Rattle.std.proofs.Common.{◌≡◌, ℕ, zero, suc, ◌+◌, ◌-◌, ◌*◌, ◌^◌, ◌≤◌, ◌<◌, ◌==◌, Bool, true, false, ◌&&◌, nat_le, List, [], ◌∷◌, length, get_or, Option, Some, None, option_map, ◌⊎◌, inl, inr, cond, refl, sym, ap, ◌∙◌, subst, arith, ℤ, pos, negsuc, decimal, unsigned_abs, rules}
+use Rattle.std.specs.Fmt.{signed_decimal}
+use Rattle.std.specs.Str.{all_ascii_digits}
+use Rattle.std.proofs.lemmas.Str.Parse.{IsNumeralModel, numerals_by_fold}
+use Rattle.std.proofs.lemmas.Fmt.{decimal_digit, first_decimal, decimal_nonempty, digits_decimal, digits_value-decimal, decimal-digits_value}
+use Rattle.std.proofs.lemmas.Bool.Decides.{nat_tests}
+use Rattle.demo_lines.specs.Numbers.{is_digit, digits_up_to, natural_up_to, integer_up_to, negated}
+
+-- the number that digits make behind n
+abbrev read_on : ℕ → List ℕ → ℕ
+read_on n [] = n
+read_on n (d ∷ ds) = read_on (10 * n + (d - 48)) ds
+
+own : IsNumeralModel (λ ds. all_ascii_digits ds ≡ true) (read_on 0)
+own = numerals_by_fold _ (search rules) read_on (search rules)
+
+-- digits that spell n, read behind m
+record Spells (m : ℕ) (ds : List ℕ) (n : ℕ) : Type 0 where
+  digits : all_ascii_digits ds ≡ true
+  value : read_on m ds ≡ n
+
+and_parts : (a b : Bool) → (a && b) ≡ true → (a ≡ true) × (b ≡ true)
+and_parts true b e = (refl, e)
+and_parts false b e = cc
+
+spells-cons : (m d n : ℕ) (ds : List ℕ) (a b : Bool) (read : Option ℕ) → is_digit d ≡ a → (read ≡ Some n → Spells (10 * m + (d - 48)) ds n)
+    → cond (a && b) read None ≡ Some n → Spells m (d ∷ ds) n
+spells-cons m d n ds true true read digit rest e =
+    let spells = rest e in
+    record { digits = ap (λ b. b && all_ascii_digits ds) digit ∙ spells.digits; value = spells.value }
+spells-cons m d n ds true false read digit rest e = cc
+spells-cons m d n ds false b read digit rest e = cc
+
+-- what was read is spelled so
+spells-read : (limit m n : ℕ) (ds : List ℕ) → digits_up_to limit m ds ≡ Some n → Spells m ds n
+spells-read limit m n [] e = record { digits = refl; value = cc }
+spells-read limit m n (d ∷ ds) e =
+    spells-cons m d n ds (is_digit d) (nat_le (10 * m + (d - 48)) limit) (digits_up_to limit (10 * m + (d - 48)) ds) refl (spells-read limit (10 * m + (d - 48)) n ds) e
+
+bound-cons : (limit m n : ℕ) (a b : Bool) (read : Option ℕ) → nat_le m limit ≡ b → (m ≤ limit → read ≡ Some n → n ≤ limit) → cond (a && b) read None ≡ Some n → n ≤ limit
+bound-cons limit m n true true read small rest e = let fits : m ≤ limit = grind (arith, nat_tests) in rest fits e
+bound-cons limit m n true false read small rest e = cc
+bound-cons limit m n false b read small rest e = cc
+
+-- and within the limit
+bound-read : (limit m n : ℕ) (ds : List ℕ) → m ≤ limit → digits_up_to limit m ds ≡ Some n → n ≤ limit
+bound-read limit m n [] h e = let same : m ≡ n = cc in omega arith
+bound-read limit m n (d ∷ ds) h e =
+    bound-cons limit (10 * m + (d - 48)) n (is_digit d) (nat_le (10 * m + (d - 48)) limit) (digits_up_to limit (10 * m + (d - 48)) ds) refl
+    (bound-read limit (10 * m + (d - 48)) n ds) e
+
+-- reading on doesn't make a number smaller
+read_on-ge : (m : ℕ) (ds : List ℕ) → m ≤ read_on m ds
+read_on-ge m [] = omega arith
+read_on-ge m (d ∷ ds) = let more = read_on-ge (10 * m + (d - 48)) ds in omega arith
+
+-- digits that spell a number within the limit are read as that number
+read-spelled : (limit m n : ℕ) (ds : List ℕ) → Spells m ds n → n ≤ limit → digits_up_to limit m ds ≡ Some n
+read-spelled limit m n [] s h = ap Some s.value
+read-spelled limit m n (d ∷ ds) s h =
+    let parts = and_parts (is_digit d) (all_ascii_digits ds) s.digits in
+    let rest : Spells (10 * m + (d - 48)) ds n = record { digits = parts.1; value = s.value } in
+    let more : 10 * m + (d - 48) ≤ read_on (10 * m + (d - 48)) ds = read_on-ge (10 * m + (d - 48)) ds in
+    let value : read_on (10 * m + (d - 48)) ds ≡ n = s.value in
+    let below : 10 * m + (d - 48) ≤ limit = omega arith in
+    let fits : nat_le (10 * m + (d - 48)) limit ≡ true = grind (arith, nat_tests) in
+    ap (λ b. cond (b && nat_le (10 * m + (d - 48)) limit) (digits_up_to limit (10 * m + (d - 48)) ds) None) parts.0
+    ∙ ap (λ b. cond b (digits_up_to limit (10 * m + (d - 48)) ds) None) fits
+    ∙ read-spelled limit (10 * m + (d - 48)) n ds rest h
+
+-- ---- naturals
+
+spelled-natural : (limit n : ℕ) (ds : List ℕ) → limit ≤ 2 ^ 24 → 0 < length ds → (get_or ds 0 0 ≡ 48 → length ds ≡ 1)
+    → digits_up_to limit 0 ds ≡ Some n → (ds ≡ decimal n) × (n ≤ limit)
+spelled-natural limit n ds low some no_zero e =
+    let spells = spells-read limit 0 n ds e in
+    let bound : n ≤ limit = bound-read limit 0 n ds (omega arith) e in
+    let value : read_on 0 ds ≡ n = spells.value in
+    let text = decimal-digits_value own ds spells.digits some no_zero (omega arith) in
+    (sym text ∙ ap decimal value, bound)
+
+pub natural-spelled : (limit n : ℕ) (field : List ℕ) → limit ≤ 2 ^ 24 → natural_up_to limit field ≡ Some n → (field ≡ decimal n) × (n ≤ limit)
+natural-spelled limit n [] low e = cc
+natural-spelled limit n (d ∷ []) low e = spelled-natural limit n (d ∷ []) low (omega arith) (λ h. refl) e
+natural-spelled limit n (d ∷ f ∷ ds) low e = by_first (d == 48) refl e
+  where
+    by_first : (b : Bool) → (d == 48) ≡ b → cond b None (digits_up_to limit 0 (d ∷ f ∷ ds)) ≡ Some n → (d ∷ f ∷ ds ≡ decimal n) × (n ≤ limit)
+    by_first true is e = cc
+    by_first false is e = spelled-natural limit n (d ∷ f ∷ ds) low (omega arith) (λ (h : d ≡ 48). absurd (grind (arith, nat_tests))) e
+
+-- a field that has no leading zero is read by its digits
+natural-digits : (limit n : ℕ) (ds : List ℕ) → 0 < length ds → ((ds ≡ 48 ∷ []) ⊎ (48 < get_or ds 0 0)) → digits_up_to limit 0 ds ≡ Some n → natural_up_to limit ds ≡ Some n
+natural-digits limit n [] some no_zero e = absurd (omega arith)
+natural-digits limit n (d ∷ []) some no_zero e = e
+natural-digits limit n (d ∷ f ∷ ds) some (inl is) e = cc
+natural-digits limit n (d ∷ f ∷ ds) some (inr high) e =
+    let other : (d == 48) ≡ false = grind (arith, nat_tests) in
+    ap (λ b. cond b None (digits_up_to limit 0 (d ∷ f ∷ ds))) other ∙ e
+
+first_of_decimal : (n : ℕ) → n < 2 ^ 64 → (decimal n ≡ 48 ∷ []) ⊎ (48 < get_or (decimal n) 0 0)
+first_of_decimal zero small = inl (decimal_digit 0 (omega arith))
+first_of_decimal (suc n) small = inr (first_decimal (suc n) (omega arith) small)
+
+pub natural-decimal : (limit n : ℕ) → limit ≤ 2 ^ 24 → n ≤ limit → natural_up_to limit (decimal n) ≡ Some n
+natural-decimal limit n low h =
+    let small : n < 2 ^ 64 = omega arith in
+    let spells : Spells 0 (decimal n) n = record { digits = digits_decimal own n small; value = digits_value-decimal own n small } in
+    natural-digits limit n (decimal n) (decimal_nonempty n small) (first_of_decimal n small) (read-spelled limit 0 n (decimal n) spells h)
+
+-- ---- numbers below 0
+
+negated-spelled : (limit : ℕ) (z : ℤ) (ds : List ℕ) (read : Option ℕ) → limit ≤ 2 ^ 24 → natural_up_to limit ds ≡ read → negated read ≡ Some z
+    → (45 ∷ ds ≡ signed_decimal z) × (unsigned_abs z ≤ limit)
+negated-spelled limit z ds None low is e = cc
+negated-spelled limit z ds (Some zero) low is e = cc
+negated-spelled limit z ds (Some (suc n)) low is e =
+    let spelled = natural-spelled limit (suc n) ds low is in
+    let same : negsuc n ≡ z = cc in
+    let P : ℤ → Type 0 = λ y. (45 ∷ ds ≡ signed_decimal y) × (unsigned_abs y ≤ limit) in
+    subst P same (ap (λ ns. 45 ∷ ns) spelled.0, spelled.1)
+
+pos-spelled : (limit : ℕ) (z : ℤ) (ds : List ℕ) (read : Option ℕ) → limit ≤ 2 ^ 24 → natural_up_to limit ds ≡ read → option_map pos read ≡ Some z
+    → (ds ≡ signed_decimal z) × (unsigned_abs z ≤ limit)
+pos-spelled limit z ds None low is e = cc
+pos-spelled limit z ds (Some n) low is e =
+    let spelled = natural-spelled limit n ds low is in
+    let same : pos n ≡ z = cc in
+    let P : ℤ → Type 0 = λ y. (ds ≡ signed_decimal y) × (unsigned_abs y ≤ limit) in
+    subst P same (spelled.0, spelled.1)
+
+pub integer-spelled : (limit : ℕ) (z : ℤ) (field : List ℕ) → limit ≤ 2 ^ 24 → integer_up_to limit field ≡ Some z → (field ≡ signed_decimal z) × (unsigned_abs z ≤ limit)
+integer-spelled limit z [] low e = cc
+integer-spelled limit z (b ∷ bs) low e = by_sign (b == 45) refl e
+  where
+    by_sign : (s : Bool) → (b == 45) ≡ s → cond s (negated (natural_up_to limit bs)) (option_map pos (natural_up_to limit (b ∷ bs))) ≡ Some z
+        → (b ∷ bs ≡ signed_decimal z) × (unsigned_abs z ≤ limit)
+    by_sign true is e =
+        let minus : b ≡ 45 = grind (arith, nat_tests) in
+        let spelled = negated-spelled limit z bs (natural_up_to limit bs) low refl e in
+        (ap (λ d. d ∷ bs) minus ∙ spelled.0, spelled.1)
+    by_sign false is e = pos-spelled limit z (b ∷ bs) (natural_up_to limit (b ∷ bs)) low refl e
+
+-- a field that doesn't begin with a minus is read as a natural
+integer-natural : (limit n : ℕ) (ds : List ℕ) → 48 ≤ get_or ds 0 0 → natural_up_to limit ds ≡ Some n → integer_up_to limit ds ≡ Some (pos n)
+integer-natural limit n [] high e = cc
+integer-natural limit n (d ∷ ds) high e =
+    let other : (d == 45) ≡ false = grind (arith, nat_tests) in
+    ap (λ b. cond b (negated (natural_up_to limit ds)) (option_map pos (natural_up_to limit (d ∷ ds)))) other ∙ ap (option_map pos) e
+
+begins_with_digit : (n : ℕ) → ((decimal n ≡ 48 ∷ []) ⊎ (48 < get_or (decimal n) 0 0)) → 48 ≤ get_or (decimal n) 0 0
+begins_with_digit n (inl is) = let first : get_or (decimal n) 0 0 ≡ 48 = ap (λ ds. get_or ds 0 0) is in omega arith
+begins_with_digit n (inr high) = omega arith
+
+pub integer-decimal : (limit : ℕ) (z : ℤ) → limit ≤ 2 ^ 24 → unsigned_abs z ≤ limit → integer_up_to limit (signed_decimal z) ≡ Some z
+integer-decimal limit (pos n) low h =
+    let fits : n ≤ limit = h in
+    integer-natural limit n (decimal n) (begins_with_digit n (first_of_decimal n (omega arith))) (natural-decimal limit n low fits)
+integer-decimal limit (negsuc n) low h =
+    let fits : suc n ≤ limit = h in
+    ap negated (natural-decimal limit (suc n) low fits)

@@ -1,0 +1,76 @@
+-- Bytes, cut into lines at their line feeds.
+use Rattle.std.proofs.Common.{◌≡◌, ℕ, Bool, true, false, List, [], ◌∷◌, ◌++◌, ◌⊎◌, refl, sym, ap, ◌∙◌, append_assoc, append-nil, inl, inr, cond}
+use Rattle.std.specs.List.{slice_split, onto_first, AllByRecursion}
+use Rattle.std.proofs.lemmas.List.Splits.{slice_split_none, slice_split_at, slice_split-cons_no}
+use Rattle.std.proofs.lemmas.List.Elements.{recursion_from_All}
+use Rattle.std.proofs.lemmas.Grind.{flat_map-append}
+use Rattle.edge_io.specs.Lines.{HasNoLineFeed}
+use Rattle.demo_lines.specs.Bytes.{is_line_feed, all_but_last, whole_lines, unlines}
+
+-- a list that has a first element
+pub record BeginsWith {X : Type 0} (xs : List X) : Type 0 where
+  pub first : X
+  pub rest : List X
+  pub is : xs ≡ first ∷ rest
+
+begins-onto_first : (b : Bool) (x : ℕ) (parts : List (List ℕ)) → BeginsWith parts → BeginsWith (cond b ([] ∷ parts) (onto_first x parts))
+begins-onto_first true x parts begins = record { first = []; rest = parts; is = refl }
+begins-onto_first false x parts begins = record { first = x ∷ begins.first; rest = begins.rest; is = ap (onto_first x) begins.is }
+
+-- there is always a first part
+pub parts_begin : (bytes : List ℕ) → BeginsWith (slice_split is_line_feed bytes)
+parts_begin [] = record { first = []; rest = []; is = refl }
+parts_begin (b ∷ bytes) = begins-onto_first (is_line_feed b) b (slice_split is_line_feed bytes) (parts_begin bytes)
+
+all_but_last-cons : {X : Type 0} (x : X) (xs : List X) → BeginsWith xs → all_but_last (x ∷ xs) ≡ x ∷ all_but_last xs
+all_but_last-cons x xs begins = ap (λ ys. all_but_last (x ∷ ys)) begins.is ∙ ap (λ ys. x ∷ all_but_last ys) (sym begins.is)
+
+-- a line and its line feed are the first whole line
+pub whole_lines-line : (line rest : List ℕ) → HasNoLineFeed line → whole_lines (line ++ 10 ∷ rest) ≡ line ∷ whole_lines rest
+whole_lines-line line rest none =
+    ap all_but_last (slice_split_at is_line_feed line 10 rest none refl) ∙ all_but_last-cons line (slice_split is_line_feed rest) (parts_begin rest)
+
+-- lines and their line feeds are the first whole lines
+pub whole_lines-unlines : (lines : List (List ℕ)) (rest : List ℕ) → AllByRecursion HasNoLineFeed lines → whole_lines (unlines lines ++ rest) ≡ lines ++ whole_lines rest
+whole_lines-unlines [] rest none = refl
+whole_lines-unlines (line ∷ lines) rest none =
+    ap whole_lines (append_assoc (line ++ 10 ∷ []) (unlines lines) rest ∙ append_assoc line (10 ∷ []) (unlines lines ++ rest))
+    ∙ whole_lines-line line (unlines lines ++ rest) none.0
+    ∙ ap (λ ls. line ∷ ls) (whole_lines-unlines lines rest none.1)
+
+-- where no line feed comes there is no whole line
+pub whole_lines-none : (part : List ℕ) → HasNoLineFeed part → whole_lines part ≡ []
+whole_lines-none part none = ap all_but_last (slice_split_none is_line_feed part none)
+
+-- bytes without a line feed go onto the first part
+parts-front : (part bytes : List ℕ) (first : List ℕ) (rest : List (List ℕ)) → AllByRecursion (λ b. is_line_feed b ≡ false) part
+    → slice_split is_line_feed bytes ≡ first ∷ rest → slice_split is_line_feed (part ++ bytes) ≡ (part ++ first) ∷ rest
+parts-front [] bytes first rest none is = is
+parts-front (b ∷ part) bytes first rest none is =
+    slice_split-cons_no is_line_feed b (part ++ bytes) none.0 ∙ ap (onto_first b) (parts-front part bytes first rest none.1 is)
+
+-- a list of lines that is empty, or begins with a line that begins so
+pub record GoesOn (front : List ℕ) (lines : List (List ℕ)) : Type 0 where
+  pub more : List ℕ
+  pub rest : List (List ℕ)
+  pub is : lines ≡ (front ++ more) ∷ rest
+
+all_but_last-front : (front : List ℕ) (parts : List (List ℕ)) (first : List ℕ) (rest : List (List ℕ)) → parts ≡ (front ++ first) ∷ rest
+    → (all_but_last parts ≡ []) ⊎ GoesOn front (all_but_last parts)
+all_but_last-front front parts first [] is = inl (ap all_but_last is)
+all_but_last-front front parts first (part ∷ rest) is = inr (record { more = first; rest = all_but_last (part ∷ rest); is = ap all_but_last is })
+
+-- bytes without a line feed are the front of the first whole line, if there is one
+pub whole_lines-front : (front bytes : List ℕ) → HasNoLineFeed front → (whole_lines (front ++ bytes) ≡ []) ⊎ GoesOn front (whole_lines (front ++ bytes))
+whole_lines-front front bytes none =
+    let begins = parts_begin bytes in
+    all_but_last-front front (slice_split is_line_feed (front ++ bytes)) begins.first begins.rest
+    (parts-front front bytes begins.first begins.rest (recursion_from_All (λ b. is_line_feed b ≡ false) front none) begins.is)
+
+-- one more line
+pub unlines-push : (lines : List (List ℕ)) (line : List ℕ) → unlines (lines ++ line ∷ []) ≡ unlines lines ++ (line ++ 10 ∷ [])
+unlines-push lines line = flat_map-append (λ l. l ++ 10 ∷ []) lines (line ∷ []) ∙ ap (λ bytes. unlines lines ++ bytes) (append-nil (line ++ 10 ∷ []))
+
+pub AllByRecursion-push : {X : Type 0} (P : X → Type 0) (xs : List X) (x : X) → AllByRecursion P xs → P x → AllByRecursion P (xs ++ x ∷ [])
+AllByRecursion-push P [] x all last = (last, tt)
+AllByRecursion-push P (y ∷ ys) x all last = (all.0, AllByRecursion-push P ys x all.1 last)

@@ -1,0 +1,11 @@
+-- The definitions of recordings.
+pub mod Numbers
+pub mod Fields
+pub mod Packets
+pub mod Lines
+pub mod Machines
+pub mod Recording
+pub mod Bytes
+pub mod Readings
+pub mod Reads
+pub mod Laws

@@ -1,0 +1,12 @@
+use crate::arrival::Arrival;
+
+/// What a recording tells the server, one after another.
+#[derive(Drop)]
+pub enum Event {
+    /// A frame begins, and the one before it is closed.
+    Frame,
+    /// A packet reached the server in the frame that is open.
+    From(Arrival),
+    /// The recording ends, and the frame that is open is closed.
+    End,
+}

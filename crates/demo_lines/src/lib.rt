@@ -1,0 +1,29 @@
+//! Recordings: an arena, and the packets that reached it frame by frame, as lines of text.
+#![tactic(auto)]
+
+pub use arrival::{Arrival, ArrivalBytes, MOST_BYTES};
+pub use demo_reader::DemoReader;
+pub use demo_stop::DemoStop;
+pub use event::Event;
+pub use laws::{
+    integer_is_decimal, natural_is_decimal, nothing_behind_a_refusal, nothing_behind_the_end,
+    packet_reads_back,
+};
+pub use line::{FARTHEST, Line};
+pub use map::ArenaMap;
+pub use reading::{LEAST_SIDE, MOST_ARRIVALS, MOST_FRAMES, Reading};
+pub use stage::Stage;
+
+mod arrival;
+mod demo_reader;
+mod demo_stop;
+mod event;
+mod fields;
+mod laws;
+mod line;
+mod map;
+mod number;
+mod reading;
+mod stage;
+#[cfg(test)]
+mod tests;

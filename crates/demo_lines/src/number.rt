@@ -1,0 +1,58 @@
+ghost use Rattle.std.specs.Prelude.{◌≡◌, ◌≤◌, ◌^◌, IfSome, unsigned_abs};
+ghost use Rattle.demo_lines.specs.Numbers.{digits_up_to, natural_up_to, integer_up_to, negated};
+
+/// The number that the digits make, where each is one and it stays at most `limit`.
+fn digits(field: &[u8], limit: u32) -> Option<u32>
+    requires { limit ≤ 2 ^ 24 }
+    ensures value { result ≡ digits_up_to limit 0 field.now }
+    ensures bound { IfSome result (λ n. n ≤ limit) }
+{
+    let mut value = 0;
+    for digit in field {
+        if !digit.is_ascii_digit() {
+            return None;
+        }
+        value = 10 * value + u32::from(*digit - b'0');
+        if value > limit {
+            return None;
+        }
+    }
+    Some(value)
+}
+
+/// The number of at most `limit` that a field spells in decimal digits, without a leading zero.
+pub fn natural(field: &[u8], limit: u32) -> Option<u32>
+    requires { limit ≤ 2 ^ 24 }
+    ensures value { result ≡ natural_up_to limit field.now }
+    ensures bound { IfSome result (λ n. n ≤ limit) }
+{
+    match field {
+        [] | [b'0', _, ..] => None,
+        _ => digits(field, limit),
+    }
+}
+
+/// The number of at most `limit` from 0 that a field spells: as [`natural`], or below 0 with a minus in front.
+pub fn integer(field: &[u8], limit: u32) -> Option<i32>
+    requires { limit ≤ 2 ^ 24 }
+    ensures value { result ≡ integer_up_to limit field.now }
+    ensures bound { IfSome result (λ z. unsigned_abs z ≤ limit) }
+{
+    match field {
+        [b'-', digits @ ..] => below_zero(natural(digits, limit)?),
+        _ => Some(natural(field, limit)? as i32),
+    }
+}
+
+/// The number as far below 0. There is none for 0, which has no sign.
+fn below_zero(value: u32) -> Option<i32>
+    requires { value ≤ 2 ^ 24 }
+    ensures value { result ≡ negated (Some value) }
+    ensures bound { IfSome result (λ z. unsigned_abs z ≡ value) }
+{
+    if value == 0 {
+        None
+    } else {
+        Some(-(value as i32))
+    }
+}

@@ -1,0 +1,295 @@
+use super::*;
+use arena_geo::{Aabb, Vec3};
+use edge_io::MemSource;
+use std::alloc::Global;
+use std::process::Abort;
+use std::test::Fail;
+
+/// What a call of `next` is to give.
+#[derive(Clone, Copy, Drop)]
+enum Told<'a> {
+    Frame,
+    From(u16, &'a [u8]),
+    End,
+    Stop(DemoStop),
+}
+
+use Told::{End, Frame, From, Stop};
+
+/// The arena of most rows.
+const ARENA: &[u8] = b"arena -131072 -131072 0 131072 131072 65536\n";
+
+/// Where players come in: one that stands here touches the arena's floor.
+const SPAWN: &[u8] = b"spawn 0 0 6144\n";
+
+const FRAME: &[u8] = b"frame\n";
+
+fn refused(line: u64) -> Told<'static> {
+    Stop(DemoStop::Refused { line })
+}
+
+fn is_told(answer: Result<Event, DemoStop>, want: Told<'_>) -> bool {
+    match (answer, want) {
+        (Ok(Event::Frame), Frame) | (Ok(Event::End), End) => true,
+        (Ok(Event::From(arrival)), From(port, bytes)) => {
+            arrival.port == port && arrival.bytes.as_slice() == bytes
+        }
+        (Err(stop), Stop(want)) => stop == want,
+        _ => false,
+    }
+}
+
+/// Reads `source` to these answers.
+fn expect(rt: &impl Abort, demo: &mut DemoReader, source: &mut MemSource<'_>, want: &[Told<'_>]) {
+    for (place, told) in want.iter().enumerate() {
+        let answer = demo.next(source);
+        assert!(rt; is_told(answer, *told), "answer {place}");
+    }
+}
+
+/// Reads `front` and then `rest` to the answers in `told` and then to `last`, which is to come again.
+fn expect_recording(
+    rt: &impl Abort,
+    alloc: Global,
+    front: &[&[u8]],
+    rest: &[u8],
+    told: &[Told<'_>],
+    last: Told<'_>,
+) -> Result<(), Fail> {
+    let mut text = Vec::new(alloc);
+    for line in front {
+        text.extend_from_slice(line)?;
+    }
+    text.extend_from_slice(rest)?;
+    let mut demo = DemoReader::new(alloc)?;
+    let mut source = MemSource::new(text.as_slice(), 7, &[]);
+    expect(rt, &mut demo, &mut source, told);
+    expect(rt, &mut demo, &mut source, &[last, last]);
+    Ok(())
+}
+
+#[test]
+fn recordings_tell_their_events_to_the_end(rt: HostRuntime) -> Result<(), Fail> {
+    let rows: [(&[&[u8]], &[u8], &[Told<'_>]); 10] = [
+        (&[ARENA], b"end\n", &[]),
+        (&[ARENA], b"end\nfrob\nframe", &[]),
+        (&[ARENA, SPAWN], b"end\n", &[]),
+        (&[ARENA], b"spawn 126976 -126976 57344\nend\n", &[]),
+        (&[ARENA, SPAWN], b"frame\nend\n", &[Frame]),
+        (
+            &[ARENA, SPAWN, FRAME],
+            b"from 7 0101\nend\n",
+            &[Frame, From(7, &[1, 1])],
+        ),
+        (
+            &[ARENA, SPAWN, FRAME],
+            b"from 7 0101\nframe\nend\n",
+            &[Frame, From(7, &[1, 1]), Frame],
+        ),
+        (
+            &[ARENA, SPAWN, FRAME],
+            b"from 0 -\nfrom 65535 0aFf\nend\n",
+            &[Frame, From(0, &[]), From(65_535, &[10, 255])],
+        ),
+        (&[], b"arena 0 0 0 32768 32768 32768\nend\n", &[]),
+        (
+            &[],
+            b"arena -1048576 -1048576 -1048576 1048576 1048576 1048576\nend\n",
+            &[],
+        ),
+    ];
+    for (front, rest, told) in rows {
+        expect_recording(&rt, rt.alloc(), front, rest, told, End)?;
+    }
+    Ok(())
+}
+
+#[test]
+fn the_first_line_is_an_arena(rt: HostRuntime) -> Result<(), Fail> {
+    let bad: [&[u8]; 19] = [
+        b"",
+        b"\n",
+        b"frob\n",
+        b"frame\n",
+        b"spawn 0 0 6144\n",
+        b"end\n",
+        b"arena 1 2\n",
+        b"arena 0 0 0 0 1 1\n",
+        b"arena 0 0 0 32767 32768 32768\nend\n",
+        b"arena 0 0 0 32768 32767 32768\nend\n",
+        b"arena 0 0 0 32768 32768 32767\nend\n",
+        b"arena 32768 32768 32768 0 0 0\nend\n",
+        b"arena -2000000 0 0 1 1 1\n",
+        b"arena -1048577 0 0 32768 32768 32768\nend\n",
+        b"arena -0 0 0 32768 32768 32768\nend\n",
+        b"arena 0 01 0 32768 32769 32768\nend\n",
+        b"arena 0 0 0 +32768 32768 32768\nend\n",
+        b"arena 0  0 0 32768 32768 32768\nend\n",
+        b"arena 0 0 0 32768 32768 32768 \nend\n",
+    ];
+    for rest in bad {
+        expect_recording(&rt, rt.alloc(), &[], rest, &[], refused(1))?;
+    }
+    Ok(())
+}
+
+#[test]
+fn a_player_stands_inside_the_arena(rt: HostRuntime) -> Result<(), Fail> {
+    let bad: [&[u8]; 11] = [
+        b"",
+        b"end",
+        b"end\r\n",
+        b"end \n",
+        b"frame\nend\n",
+        b"from 7 0101\n",
+        b"arena 0 0 0 32768 32768 32768\nend\n",
+        b"spawn 0 0 6143\nend\n",
+        b"spawn 0 0 57345\nend\n",
+        b"spawn 126977 0 6144\nend\n",
+        b"spawn 0 -126977 6144\nend\n",
+    ];
+    for rest in bad {
+        expect_recording(&rt, rt.alloc(), &[ARENA], rest, &[], refused(2))?;
+    }
+    let behind_the_spawn: [&[u8]; 6] = [
+        b"frame\r\n",
+        b"frame \n",
+        b" frame\n",
+        b"\n",
+        b"from 7 0101\n",
+        b"spawn 0 0 6144\nend\n",
+    ];
+    for rest in behind_the_spawn {
+        expect_recording(&rt, rt.alloc(), &[ARENA, SPAWN], rest, &[], refused(3))?;
+    }
+    Ok(())
+}
+
+#[test]
+fn a_packet_has_a_port_and_digits(rt: HostRuntime) -> Result<(), Fail> {
+    let bad: [&[u8]; 17] = [
+        b"from 7 01",
+        b"from 7 010\n",
+        b"from 7 0g\n",
+        b"from 7 --\n",
+        b"from 7 \n",
+        b"from 7\n",
+        b"from 7  -\n",
+        b"from 7 - \n",
+        b"from  -\n",
+        b"from 65536 -\n",
+        b"from 07 -\n",
+        b"from +7 -\n",
+        b"from -7 -\n",
+        b"from -0 -\n",
+        b"from 0x7 -\n",
+        b"spawn 0 0 6144\n",
+        b"arena 0 0 0 32768 32768 32768\n",
+    ];
+    for rest in bad {
+        let front = &[ARENA, SPAWN, FRAME];
+        expect_recording(&rt, rt.alloc(), front, rest, &[Frame], refused(4))?;
+    }
+    Ok(())
+}
+
+#[test]
+fn a_line_has_at_most_512_bytes(rt: HostRuntime) -> Result<(), Fail> {
+    let digits = [b'a'; 504];
+    let longest: &[&[u8]] = &[ARENA, SPAWN, FRAME, b"from 75 ", &digits, b"\n"];
+    let most = From(75, &[0xaa; 252]);
+    expect_recording(&rt, rt.alloc(), longest, b"end\n", &[Frame, most], End)?;
+    let long: &[&[u8]] = &[ARENA, SPAWN, FRAME, b"from 750 ", &digits, b"\n"];
+    expect_recording(&rt, rt.alloc(), long, b"end\n", &[Frame], refused(4))?;
+    let number: &[&[u8]] = &[ARENA, SPAWN, FRAME, b"from ", &[b'7'; 400], b" -\n"];
+    expect_recording(&rt, rt.alloc(), number, b"end\n", &[Frame], refused(4))
+}
+
+#[test]
+fn a_frame_has_at_most_512_packets(rt: HostRuntime) -> Result<(), Fail> {
+    let mut front = Vec::new(rt.alloc());
+    let mut told = Vec::new(rt.alloc());
+    for line in [ARENA, SPAWN, FRAME] {
+        front.push(line)?;
+    }
+    told.push(Frame)?;
+    for _ in 0..512 {
+        front.push(b"from 7 -\n".as_slice())?;
+        told.push(From(7, &[]))?;
+    }
+    let (front, told) = (front.as_slice(), told.as_slice());
+    expect_recording(&rt, rt.alloc(), front, b"end\n", told, End)?;
+    expect_recording(
+        &rt,
+        rt.alloc(),
+        front,
+        b"from 7 -\nend\n",
+        told,
+        refused(516),
+    )
+}
+
+#[test]
+fn a_fault_of_the_source_stops_the_reader(rt: HostRuntime) -> Result<(), Fail> {
+    let stop = Stop(DemoStop::ReadFault);
+    let mut text = Vec::new(rt.alloc());
+    for line in [ARENA, SPAWN, FRAME, b"from 7 0101\nend\n"] {
+        text.extend_from_slice(line)?;
+    }
+
+    // In the arena's line.
+    let mut demo = DemoReader::new(rt.alloc())?;
+    let mut source = MemSource::new(text.as_slice(), 8, &[3]);
+    expect(&rt, &mut demo, &mut source, &[stop, stop]);
+
+    // One byte a read: in the line behind the frame's, which has 65 bytes before it.
+    let mut demo = DemoReader::new(rt.alloc())?;
+    let mut source = MemSource::new(text.as_slice(), 1, &[70]);
+    expect(&rt, &mut demo, &mut source, &[Frame, stop, stop]);
+    Ok(())
+}
+
+#[test]
+fn a_recording_gives_its_map(rt: HostRuntime) -> Result<(), Fail> {
+    let mut text = Vec::new(rt.alloc());
+    for line in [ARENA, SPAWN, FRAME] {
+        text.extend_from_slice(line)?;
+    }
+    let mut demo = DemoReader::new(rt.alloc())?;
+    let mut source = MemSource::new(text.as_slice(), 100, &[]);
+    assert_eq!(rt; demo.map(), None);
+    expect(&rt, &mut demo, &mut source, &[Frame]);
+    let map = demo.map().ok_or("no map")?;
+    let corners = (map.bounds.lo(), map.bounds.hi());
+    let lo = Vec3 {
+        x: -131_072,
+        y: -131_072,
+        z: 0,
+    };
+    let hi = Vec3 {
+        x: 131_072,
+        y: 131_072,
+        z: 65_536,
+    };
+    assert_eq!(rt; corners, (lo, hi));
+    let spawn = Vec3 {
+        x: 0,
+        y: 0,
+        z: 6_144,
+    };
+    assert_eq!(rt; map.spawn, Some(spawn));
+    Ok(())
+}
+
+#[test]
+fn a_packet_is_full_at_252_bytes(rt: HostRuntime) {
+    let mut bytes = ArrivalBytes::new();
+    for count in 0..252 {
+        assert_eq!(rt; bytes.as_slice().len(), count);
+        let took = bytes.push(7);
+        assert!(rt; took);
+    }
+    let over = bytes.push(8);
+    assert!(rt; !over);
+    assert_eq!(rt; bytes.as_slice(), [7; 252].as_slice());
+}
