@@ -1,0 +1,70 @@
+-- The game over events, and the run over frames.
+use Rattle.std.proofs.Common.{◌≡◌, ℕ, suc, ◌+◌, List, [], ◌∷◌, ◌++◌, length, Option, Some, None, refl, ap, ◌∙◌, sym, append_assoc, append-nil, add-zero, arith, length-append, subst}
+use Rattle.demo_lines.specs.declared.map.ArenaMap.{ArenaMap}
+use Rattle.demo_lines.specs.declared.arrival.Arrival.{Arrival}
+use Rattle.demo_lines.specs.declared.event.Event.{Event}
+use Rattle.demo_lines.specs.declared.event.Event.TheVariants.{Frame, From, End}
+use Rattle.demo_lines.specs.Machines.{run_of}
+use Rattle.demo_lines.proofs.Machines.{run_of-append}
+use Rattle.arena_engine.specs.States.{State, Table, opening}
+use Rattle.arena_engine.specs.Receiving.{received}
+use Rattle.arena_engine.specs.OutLines.{OutLine, EndLine}
+use Rattle.arena_engine.specs.Frames.{Frames, closing, collect, frame_lines, state_after, run_lines, table_after}
+use Rattle.arena_engine.specs.Games.{Play, table_closed, closing_lines, game_after, event_lines, front_lines, table_at, game_at}
+
+-- one frame more
+pub run_lines-push : (arena : ArenaMap) (frame : ℕ) (s : State) (frames : List (List Arrival)) (arrivals : List Arrival)
+    → run_lines arena frame s (frames ++ arrivals ∷ []) []
+    ≡ run_lines arena frame s frames [] ++ frame_lines (frame + length frames) (received arena (state_after arena s frames) arrivals) []
+run_lines-push arena frame s [] arrivals =
+    append-nil (frame_lines frame (received arena s arrivals) []) ∙ ap (λ n. frame_lines n (received arena s arrivals) []) (sym (add-zero frame))
+run_lines-push arena frame s (first ∷ frames) arrivals =
+    let here = frame_lines frame (received arena s first) [] in
+    let next = (received arena s first).state in
+    let last = received arena (state_after arena next frames) arrivals in
+    let number : frame + 1 + length frames ≡ frame + suc (length frames) = omega arith in
+    ap (λ ls. here ++ ls) (run_lines-push arena (frame + 1) next frames arrivals)
+    ∙ sym (append_assoc here (run_lines arena (frame + 1) next frames []) (frame_lines (frame + 1 + length frames) last []))
+    ∙ ap (λ n. here ++ run_lines arena (frame + 1) next frames [] ++ frame_lines n last []) number
+
+state_after-push : (arena : ArenaMap) (s : State) (frames : List (List Arrival)) (arrivals : List Arrival)
+    → state_after arena s (frames ++ arrivals ∷ []) ≡ (received arena (state_after arena s frames) arrivals).state
+state_after-push arena s [] arrivals = refl
+state_after-push arena s (first ∷ frames) arrivals = state_after-push arena (received arena s first).state frames arrivals
+
+abbrev table_of : ArenaMap → State → ℕ → Table
+table_of arena state frames = record { arena = arena; state = state; frames = frames }
+
+-- the server behind the frame that was open
+pub table_closed-at : (arena : ArenaMap) (closed : List (List Arrival)) (o : Option (List Arrival)) → table_closed (table_at arena closed) o ≡ table_at arena (closed ++ closing o)
+table_closed-at arena closed None = ap (table_at arena) (sym (append-nil closed))
+table_closed-at arena closed (Some arrivals) =
+    let count : length closed + 1 ≡ length (closed ++ arrivals ∷ []) = omega (arith, length-append closed (arrivals ∷ [])) in
+    ap (λ s. table_of arena s (length closed + 1)) (sym (state_after-push arena opening closed arrivals)) ∙ ap (table_of arena (state_after arena opening (closed ++ arrivals ∷ []))) count
+
+-- the lines of the frame that was open are those of one frame more
+pub closing_lines-at : (arena : ArenaMap) (closed : List (List Arrival)) (o : Option (List Arrival))
+    → front_lines arena closed ++ closing_lines (table_at arena closed) o ≡ front_lines arena (closed ++ closing o)
+closing_lines-at arena closed None = append-nil (front_lines arena closed) ∙ ap (front_lines arena) (sym (append-nil closed))
+closing_lines-at arena closed (Some arrivals) =
+    let number : length closed ≡ 0 + length closed = omega arith in
+    ap (λ n. front_lines arena closed ++ frame_lines n (received arena (state_after arena opening closed) arrivals) []) number
+    ∙ sym (run_lines-push arena 0 opening closed arrivals)
+
+abbrev play_of : Table → Option (List Arrival) → Play
+play_of table opened = record { table = table; opened = opened }
+
+-- an event takes the game along
+pub game_after-at : (arena : ArenaMap) (f : Frames) (e : Event) → game_after (game_at arena f) e ≡ game_at arena (collect f e)
+game_after-at arena f Frame = ap (λ t. play_of t (Some [])) (table_closed-at arena f.closed f.opened)
+game_after-at arena f (From a) = refl
+game_after-at arena f End = ap (λ t. play_of t None) (table_closed-at arena f.closed f.opened)
+
+-- the lines that the end closes
+pub end_lines-at : (arena : ArenaMap) (f : Frames)
+    → front_lines arena f.closed ++ event_lines (game_at arena f) End ≡ front_lines arena (collect f End).closed ++ EndLine (length (collect f End).closed) ∷ []
+end_lines-at arena f =
+    let t = table_at arena f.closed in
+    sym (append_assoc (front_lines arena f.closed) (closing_lines t f.opened) (EndLine (table_closed t f.opened).frames ∷ []))
+    ∙ ap (λ ls. ls ++ EndLine (table_closed t f.opened).frames ∷ []) (closing_lines-at arena f.closed f.opened)
+    ∙ ap (λ (u : Table). front_lines arena (f.closed ++ closing f.opened) ++ EndLine u.frames ∷ []) (table_closed-at arena f.closed f.opened)

@@ -1,0 +1,17 @@
+-- Lines put at the end of a text in turn.
+use Rattle.std.proofs.Common.{◌≡◌, ℕ, suc, ◌+◌, ◌<◌, List, [], ◌∷◌, ◌++◌, length, get_or, drop, map, flat_map, refl, ap, ◌∙◌, sym, append_assoc, drop-cons, add-one}
+use Rattle.arena_engine.specs.OutLines.{OutLine, printed, text_of}
+
+-- a loop's step over things of which a line each is told
+pub written_step : {X : Type 0} (f : X → OutLine) (xs : List X) (i : ℕ) (d : X) (text longer all : List ℕ) → i < length xs
+    → longer ≡ text ++ printed (f (get_or xs i d)) → text ++ text_of (map f (drop i xs)) ≡ all → longer ++ text_of (map f (drop (i + 1) xs)) ≡ all
+written_step f xs i d text longer all inside is so_far =
+    let y = get_or xs i d in
+    let rest = drop (suc i) xs in
+    let here : drop i xs ≡ y ∷ rest = drop-cons xs i d inside in
+    let next : drop (i + 1) xs ≡ rest = rw add-one refl in
+    ap (λ l. longer ++ text_of (map f l)) next
+    ∙ ap (λ l. l ++ text_of (map f rest)) is
+    ∙ append_assoc text (printed (f y)) (text_of (map f rest))
+    ∙ ap (λ l. text ++ text_of (map f l)) (sym here)
+    ∙ so_far

@@ -1,0 +1,77 @@
+use Rattle.std.proofs.Common.{sym, ◌∙◌, ap, arith}
+use Rattle.edge_io.specs.Counts.{HasRisen}
+use Rattle.std.proofs.lemmas.Result.{err_from_is_err_and}
+use Rattle.arena_engine.proofs.Exits.{memory_at_first}
+use Rattle.arena_engine.proofs.Running.{first_refused, first_fault, first_cause, first_event, game_is_ready, reader_is_open, write_failed, memory_failed, on_memory, all_done, next_refused, next_fault, next_cause, runs_on}
+use Rattle.arena_engine.proofs.play.play.Goals as goal
+
+pub returns-in_err-event-clause-refused : goal.returns-in_err-event-clause-refused
+returns-in_err-event-clause-refused g c =
+    let p = err_from_is_err_and c.from_residual-in_err-event.result c.from_residual-in_err-event.ensures.1 in
+    rw (p.1, p.2) (first_refused _ _ _ _ c.in_ok-demo.ensures c.in_err-event.ensures.refused)
+
+pub returns-in_err-event-clause-read_fault : goal.returns-in_err-event-clause-read_fault
+returns-in_err-event-clause-read_fault g c =
+    let p = err_from_is_err_and c.from_residual-in_err-event.result c.from_residual-in_err-event.ensures.1 in
+    rw (p.1, p.2) (first_fault _ _ _ _ _ c.in_ok-demo.ensures c.in_err-event.ensures.read_fault)
+
+pub returns-in_err-event-clause-read_cause : goal.returns-in_err-event-clause-read_cause
+returns-in_err-event-clause-read_cause g c =
+    let p = err_from_is_err_and c.from_residual-in_err-event.result c.from_residual-in_err-event.ensures.1 in
+    let P = HasRisen (g.S.Source.faults c.args.source.now) (g.S.Source.faults c.next.new.source) in
+    rw (p.1, p.2) (first_cause _ _ P c.in_ok-demo.ensures c.in_err-event.ensures.cause)
+
+pub returns-in_err-game-clause-memory : goal.returns-in_err-game-clause-memory
+returns-in_err-game-clause-memory g c =
+    let p = err_from_is_err_and c.from_residual-in_err-game.result c.from_residual-in_err-game.ensures.1 in
+    rw (p.1, p.2) (memory_at_first _ _)
+
+pub events-init : goal.events-init
+events-init g c =
+    let begun = first_event _ c.next.new.self.reading _ _ (g.K.Sink.taken c.args.sink.now) c.in_ok-event.event c.unwrap-map.result c.in_ok-game.game
+    c.in_ok-demo.ensures c.in_ok-event.ensures.event c.in_ok-event.ensures.stage c.in_ok-event.ensures.holds (sym c.map.ensures.value ∙ c.unwrap-map.ensures) c.in_ok-game.ensures in
+    record { arena = c.unwrap-map.result; progress = begun; no_stop = c.in_ok-event.ensures.ok; read_later = c.next.ensures.later; write_later = omega arith }
+
+pub take-requires : goal.take-requires
+take-requires g c = game_is_ready _ _ _ _ _ _ _ _ _ _ _ c.events.invariant
+
+pub returns-in_err-take-clause-write_fault : goal.returns-in_err-take-clause-write_fault
+returns-in_err-take-clause-write_fault g c =
+    let p = err_from_is_err_and c.from_residual-in_err-take.result c.from_residual-in_err-take.ensures.1 in
+    rw (p.1, p.2) (write_failed _ _ _ _ _ _ _ _ _ _ _ c.events.invariant _ _ c.in_err-take.ensures.write_fault)
+
+pub returns-in_err-take-clause-memory : goal.returns-in_err-take-clause-memory
+returns-in_err-take-clause-memory g c =
+    let p = err_from_is_err_and c.from_residual-in_err-take.result c.from_residual-in_err-take.ensures.1 in
+    rw (p.1, p.2) (memory_failed _ _ _ _ _ _ _ _ _ _ _ c.events.invariant _ _ (on_memory _ _ _ (ap g.K.Sink.taken) c.in_err-take.ensures.memory))
+
+pub returns-then-is_last-clause-done : goal.returns-then-is_last-clause-done
+returns-then-is_last-clause-done g c =
+    all_done _ _ _ _ _ _ _ _ _ _ _ c.events.invariant _ (sym c.is_end-is_last.ensures ∙ c.if-is_last.true) c.in_ok-take.ensures.written
+
+pub returns-in_err-event-2-clause-refused : goal.returns-in_err-event-2-clause-refused
+returns-in_err-event-2-clause-refused g c =
+    let p = err_from_is_err_and c.from_residual-in_err-event-2.result c.from_residual-in_err-event-2.ensures.1 in
+    let going = sym c.is_end-is_last.ensures ∙ c.if-is_last.false in
+    rw (p.1, p.2) (next_refused _ _ _ _ _ _ _ _ _ _ _ c.events.invariant _ _ going c.in_ok-take.ensures.written c.in_err-event-2.ensures.refused)
+
+pub returns-in_err-event-2-clause-read_fault : goal.returns-in_err-event-2-clause-read_fault
+returns-in_err-event-2-clause-read_fault g c =
+    let p = err_from_is_err_and c.from_residual-in_err-event-2.result c.from_residual-in_err-event-2.ensures.1 in
+    let going = sym c.is_end-is_last.ensures ∙ c.if-is_last.false in
+    rw (p.1, p.2) (next_fault _ _ _ _ _ _ _ _ _ _ _ c.events.invariant _ _ _ going c.in_ok-take.ensures.written c.in_err-event-2.ensures.read_fault)
+
+pub returns-in_err-event-2-clause-read_cause : goal.returns-in_err-event-2-clause-read_cause
+returns-in_err-event-2-clause-read_cause g c =
+    let p = err_from_is_err_and c.from_residual-in_err-event-2.result c.from_residual-in_err-event-2.ensures.1 in
+    let going = sym c.is_end-is_last.ensures ∙ c.if-is_last.false in
+    rw (p.1, p.2) (next_cause _ _ _ _ _ _ _ _ _ _ _ c.events.invariant _ _ going c.in_err-event-2.ensures.cause)
+
+pub events-smaller : goal.events-smaller
+events-smaller g c = c.in_ok-event-2.ensures.fewer (reader_is_open _ _ _ _ _ _ _ _ _ _ _ c.events.invariant (sym c.is_end-is_last.ensures ∙ c.if-is_last.false))
+
+pub events-preserved : goal.events-preserved
+events-preserved g c =
+    let going = sym c.is_end-is_last.ensures ∙ c.if-is_last.false in
+    runs_on _ _ _ _ _ _ _ _ _ _ _ c.events.invariant c.next-in-events.new.self _ _ c.take.new.self c.in_ok-event-2.event _ _ going c.in_ok-take.ensures.written c.in_ok-take.ensures.next
+    c.in_ok-event-2.ensures.event c.in_ok-event-2.ensures.stage c.in_ok-event-2.ensures.holds c.in_ok-event-2.ensures.ok c.next-in-events.ensures.later c.take.ensures.later

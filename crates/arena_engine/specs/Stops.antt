@@ -1,0 +1,39 @@
+-- Why a recording isn't played on.
+use Rattle.std.specs.Prelude.{ℕ, ⊤}
+use Rattle.arena_engine.specs.declared.stop.Stop.{Stop}
+use Rattle.arena_engine.specs.declared.stop.Stop.TheVariants.{Refused, ReadFault, WriteFault, Memory}
+
+-- P, where the recording was refused
+abbrev pub OnRefused : Stop → Type 0 → Type 0
+OnRefused Refused P = P
+OnRefused ReadFault P = ⊤
+OnRefused WriteFault P = ⊤
+OnRefused Memory P = ⊤
+
+-- P, where the source failed
+abbrev pub OnReadFault : Stop → Type 0 → Type 0
+OnReadFault Refused P = ⊤
+OnReadFault ReadFault P = P
+OnReadFault WriteFault P = ⊤
+OnReadFault Memory P = ⊤
+
+-- P, where the sink failed
+abbrev pub OnWriteFault : Stop → Type 0 → Type 0
+OnWriteFault Refused P = ⊤
+OnWriteFault ReadFault P = ⊤
+OnWriteFault WriteFault P = P
+OnWriteFault Memory P = ⊤
+
+-- P, where memory was refused
+abbrev pub OnMemory : Stop → Type 0 → Type 0
+OnMemory Refused P = ⊤
+OnMemory ReadFault P = ⊤
+OnMemory WriteFault P = ⊤
+OnMemory Memory P = P
+
+-- what a game stops for: a write fault or want of memory
+abbrev pub IsGameStop : Stop → Type 0
+IsGameStop Refused = ⊥
+IsGameStop ReadFault = ⊥
+IsGameStop WriteFault = ⊤
+IsGameStop Memory = ⊤

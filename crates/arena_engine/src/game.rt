@@ -1,0 +1,139 @@
+use crate::server::Server;
+use crate::stop::Stop;
+use crate::text::push_end;
+use demo_lines::{ArenaMap, Arrival, Event};
+use edge_io::{Sink, write_whole};
+use std::alloc::{AllocError, Global};
+use std::marker::Model;
+
+/// The server, and the packets of the frame that is open.
+#[derive(Drop)]
+pub struct Game {
+    server: Server,
+    is_open: bool,
+    arrivals: Vec<Arrival>,
+}
+
+impl Model for Game {
+    ghost use Rattle.std.specs.Prelude.{Some, None, if◌then◌else◌};
+    ghost use Rattle.arena_engine.specs.Games.{Play};
+
+    ghost Value = { Play };
+
+    ghost view = { λ g. record { table = g.server; opened = if g.is_open then Some g.arrivals.items else None } };
+}
+
+impl Game {
+    ghost use Rattle.std.specs.Prelude.{◌≡◌, ◌≤◌, ◌++◌, [], Some, None, IfOk, OnOk, OnErr, IfErr, string_bytes};
+    ghost use Rattle.std.specs.Io.KnownBytes.{Appends};
+    ghost use Rattle.edge_io.specs.Counts.{HasRisen};
+    ghost use Rattle.edge_io.specs.Writes.{AppendsPart};
+    ghost use Rattle.demo_lines.specs.Readings.{IsMap};
+    ghost use Rattle.arena_engine.specs.OutLines.{text_of};
+    ghost use Rattle.arena_engine.specs.Games.{set_game, game_after, event_lines, table_closed, closing_lines, game_closed, IsReady};
+    ghost use Rattle.arena_engine.specs.Stops.{OnWriteFault, OnMemory, IsGameStop};
+
+    /// A game in this arena, before the first event.
+    pub fn new(alloc: Global, map: ArenaMap) -> Result<Game, AllocError>
+        requires { IsMap map }
+        ensures { IfOk result (λ game. game ≡ set_game map) }
+    {
+        Ok(Game {
+            server: Server::new(alloc, map)?,
+            is_open: false,
+            arrivals: Vec::new(alloc),
+        })
+    }
+
+    /// Makes `text` the lines of the frame that is open, and closes it. Where none is open there are none.
+    fn close(&mut self, alloc: Global, text: &mut String) -> Result<(), AllocError>
+        requires { IsReady self.old }
+        ensures lines { OnOk result (string_bytes text.new ≡ text_of (closing_lines self.old.table self.old.opened)) }
+        ensures next { OnOk result (self.new ≡ game_closed self.old) }
+    {
+        text.clear();
+        if self.is_open {
+            self.server.run_frame(alloc, self.arrivals.as_slice(), text)?;
+            self.is_open = false;
+        }
+        Ok(())
+    }
+
+    /// Makes `text` what the end of the recording closes: the lines of the frame that is open, and the last line.
+    fn finish(&mut self, alloc: Global, text: &mut String) -> Result<(), AllocError>
+        requires { IsReady self.old }
+        ensures lines { OnOk result (string_bytes text.new ≡ text_of (event_lines self.old Event.End)) }
+        ensures next { OnOk result (self.new ≡ game_after self.old Event.End) }
+    {
+        self.close(alloc, text)?;
+        push_end(text, self.server.frames())
+    }
+
+    /// Opens a frame. `text` becomes the lines of the one before it.
+    fn open(&mut self, alloc: Global, text: &mut String) -> Result<(), AllocError>
+        requires { IsReady self.old }
+        ensures lines { OnOk result (string_bytes text.new ≡ text_of (event_lines self.old Event.Frame)) }
+        ensures next { OnOk result (self.new ≡ game_after self.old Event.Frame) }
+    {
+        self.close(alloc, text)?;
+        self.arrivals.clear();
+        self.is_open = true;
+        Ok(())
+    }
+
+    /// A packet of the frame that is open. `text` becomes empty.
+    fn push(&mut self, arrival: Arrival, text: &mut String) -> Result<(), AllocError>
+        ensures lines { OnOk result (string_bytes text.new ≡ []) }
+        ensures next { OnOk result (self.new ≡ game_after self.old (Event.From arrival)) }
+    {
+        text.clear();
+        if self.is_open {
+            self.arrivals.push(arrival)?;
+        }
+        Ok(())
+    }
+
+    /// Makes `text` the lines that an event closes.
+    fn advance(
+        &mut self,
+        alloc: Global,
+        event: Event,
+        text: &mut String,
+    ) -> Result<(), AllocError>
+        requires { IsReady self.old }
+        ensures lines { OnOk result (string_bytes text.new ≡ text_of (event_lines self.old event)) }
+        ensures next { OnOk result (self.new ≡ game_after self.old event) }
+    {
+        match event {
+            Event::Frame => self.open(alloc, text),
+            Event::From(arrival) => self.push(arrival, text),
+            Event::End => self.finish(alloc, text),
+        }
+    }
+
+    /// Takes an event, and writes the lines that it closes. `text` is for them.
+    pub fn take<K: Sink>(
+        &mut self,
+        alloc: Global,
+        event: Event,
+        text: &mut String,
+        sink: &mut K,
+    ) -> Result<(), Stop>
+        requires { IsReady self.old }
+
+        ensures next { OnOk result (self.new ≡ game_after self.old event) }
+        ensures written { OnOk result
+            (Appends (K.taken sink.old) (K.taken sink.new) (text_of (event_lines self.old event))) }
+
+        ensures write_fault { IfErr result (λ stop. OnWriteFault stop
+            (AppendsPart (K.taken sink.old) (K.taken sink.new) (text_of (event_lines self.old event)))) }
+        ensures memory { IfErr result (λ stop. OnMemory stop (sink.new ≡ sink.old)) }
+        ensures stops { IfErr result IsGameStop }
+        ensures later { K.faults sink.old ≤ K.faults sink.new }
+        ensures cause { IfErr result (λ stop. OnWriteFault stop (HasRisen (K.faults sink.old) (K.faults sink.new))) }
+    {
+        self.advance(alloc, event, text)?;
+        write_whole(sink, text.as_bytes())?;
+        Ok(())
+    }
+}
