@@ -14,3 +14,4 @@ pub mod StopOf
 pub mod Stops
 pub mod Progress
 pub mod Output
+pub mod Serving
