@@ -1,0 +1,85 @@
+//! The arena server as a program: its words are the command, its input a recording, its output what the players are told.
+//!
+//! It ends with the status of the report. For every status but 0 it says why in one line on standard error.
+#![tactic(auto)]
+
+use arena_engine::{Report, serve};
+use edge_io::{StdSink, StdSource};
+use std::alloc::AllocError;
+use std::env;
+use std::io;
+use std::io::ErrorKind;
+use std::process::ExitCode;
+
+/// Why the words didn't come to `serve`.
+#[derive(Clone, Copy, Debug, PartialEq, Eq)]
+enum NoWords {
+    /// A word isn't UTF-8, so it is no word of a command.
+    NotUnicode,
+    /// There was not enough memory.
+    Memory,
+}
+
+impl From<io::Error> for NoWords {
+    fn from(error: io::Error) -> NoWords {
+        if error.kind() == ErrorKind::OutOfMemory {
+            NoWords::Memory
+        } else {
+            NoWords::NotUnicode
+        }
+    }
+}
+
+impl From<AllocError> for NoWords {
+    fn from(_error: AllocError) -> NoWords {
+        NoWords::Memory
+    }
+}
+
+/// A report of a call that wasn't made.
+fn report_of(reason: NoWords) -> Report {
+    let status = match reason {
+        NoWords::NotUnicode => 2,
+        NoWords::Memory => 5,
+    };
+    Report {
+        status,
+        line: 0,
+        fault: 0,
+        rule: 0,
+    }
+}
+
+/// Hands the program's words, its input and its output to `serve`.
+///
+/// Input and output have no buffer of their own: `serve` reads in blocks, and writes a frame at a time.
+fn run(rt: &HostRuntime) -> Result<Report, NoWords> {
+    let alloc = rt.alloc();
+    let arguments: Vec<String> = env::args(rt)?.skip(1).collect(alloc)?;
+    let words: Vec<&str> = arguments.iter().map(|word| word.as_str()).collect(alloc)?;
+    let mut source = StdSource::new(rt.stdin());
+    let mut sink = StdSink::new(rt.stdout());
+    Ok(serve(alloc, &words, &mut source, &mut sink))
+}
+
+/// Says on standard error why the call ended, unless it did what it was asked for.
+fn tell(rt: &HostRuntime, report: Report) -> io::Result<()> {
+    match report.status {
+        0 => Ok(()),
+        1 => eprintln!(rt; "recording refused: line {}, fault {}", report.line, report.fault),
+        2 => eprintln!(rt; "words refused"),
+        3 => eprintln!(rt; "read fault"),
+        4 => eprintln!(rt; "write fault"),
+        _ => eprintln!(rt; "out of memory"),
+    }
+}
+
+fn main(rt: HostRuntime) -> ExitCode {
+    let report = match run(&rt) {
+        Ok(report) => report,
+        Err(reason) => report_of(reason),
+    };
+    // Where nobody reads standard error, the status says it all.
+    let _ = tell(&rt, report);
+    ExitCode::from(report.status)
+}
