@@ -1,0 +1,25 @@
+-- The areas of the nodes, by number.
+use Rattle.std.specs.Prelude.{◌≡◌, ℕ, pos, ◌+◌, ◌*◌, ◌^◌, ◌<◌, ◌≤◌, List, length, slice_index_or}
+use Rattle.arena_geo.specs.Bounds.{Bounds}
+use Rattle.areanode.specs.Cuts.{part_above, part_below}
+use Rattle.areanode.specs.Trees.{child_above, child_below}
+
+-- the area of a node, and a point where there is no such node
+abbrev pub area_at : List Bounds → ℕ → Bounds
+area_at areas node =
+    slice_index_or areas node (record { lo = record { x = pos 0; y = pos 0; z = pos 0 }; hi = record { x = pos 0; y = pos 0; z = pos 0 } })
+
+-- the areas of the children are the parts of the node's area
+pub record HasParts (areas : List Bounds) (node : ℕ) : Type 0 where
+  pub above : area_at areas (child_above node) ≡ part_above (area_at areas node)
+  pub below : area_at areas (child_below node) ≡ part_below (area_at areas node)
+
+-- 31 areas, of which those before the leaves are cut in two
+pub record AreCut (areas : List Bounds) : Type 0 where
+  pub number : length areas ≡ 31
+  pub parts : (node : ℕ) → node < 15 → HasParts areas node
+
+-- the node has this many levels below it, in a tree of depth 4
+pub record IsAtLevel (levels node : ℕ) : Type 0 where
+  pub least : 16 ≤ (node + 1) * 2 ^ levels
+  pub most : (node + 2) * 2 ^ levels ≤ 32

@@ -1,0 +1,9 @@
+-- The definitions of the areanode tree: its cuts, its nodes, its leaves and the nodes above them.
+pub use Rattle.arena_geo.specs.Bounds
+pub use Rattle.arena_geo.specs.Boxes
+pub use Rattle.arena_geo.specs.Regions
+pub mod Words
+pub mod Cuts
+pub mod Trees
+pub mod Areas
+pub mod Laws

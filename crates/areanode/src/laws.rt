@@ -1,0 +1,56 @@
+ghost use Rattle.areanode.specs.Laws.{NodeIsOverLeaves, TouchingBoxesShareALeaf, TouchedNodeIsVisited, BoxHasALeaf, TouchedLeafIsListed, InsideAndTouchedShareALeaf, LeavesAreInRange, NodeIsInRange, LeafOverLeaf, WordHasItsBits, WordFits};
+
+/// The node of a box is an ancestor of, or equal to, the node of each of the box's leaves.
+pub fn node_is_over_leaves()
+    ensures { NodeIsOverLeaves }
+{}
+
+/// Two boxes with a common point share a leaf.
+pub fn touching_boxes_share_a_leaf()
+    ensures { TouchingBoxesShareALeaf }
+{}
+
+/// Where a box touches a box of a region, its node is visited for the region's leaves.
+pub fn touched_node_is_visited()
+    ensures { TouchedNodeIsVisited }
+{}
+
+/// A box has at least one leaf.
+pub fn box_has_a_leaf()
+    ensures { BoxHasALeaf }
+{}
+
+/// Where the node of a box is a leaf and the box touches a box of a region, that leaf is among the region's.
+pub fn touched_leaf_is_listed()
+    ensures { TouchedLeafIsListed }
+{}
+
+/// Where a box lies inside a region and touches another region, the two regions share a leaf.
+pub fn inside_and_touched_share_a_leaf()
+    ensures { InsideAndTouchedShareALeaf }
+{}
+
+/// The leaves of a box are numbered below 2 to the power of the depth.
+pub fn leaves_are_in_range()
+    ensures { LeavesAreInRange }
+{}
+
+/// The node of a box is one of the tree's nodes.
+pub fn node_is_in_range()
+    ensures { NodeIsInRange }
+{}
+
+/// A leaf that is over a leaf is that leaf.
+pub fn leaf_over_leaf()
+    ensures { LeafOverLeaf }
+{}
+
+/// The bits of the word of a set are the set's tests.
+pub fn word_has_its_bits()
+    ensures { WordHasItsBits }
+{}
+
+/// The word of a set of numbers below n is below 2 to the power of n.
+pub fn word_fits()
+    ensures { WordFits }
+{}
