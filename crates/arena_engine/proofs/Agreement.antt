@@ -1,5 +1,5 @@
 -- The counts that a reading keeps are those of the frames that its lines have told.
-use Rattle.std.proofs.Common.{◌≡◌, ℕ, suc, ◌+◌, Bool, true, false, ◌||◌, cond, nat_lt, List, [], ◌∷◌, ◌++◌, length, Option, Some, None, option_map, refl, ap, ◌∙◌, sym, subst, arith, length-append}
+use Rattle.std.proofs.Common.{◌≡◌, ℕ, ◌+◌, Bool, true, false, ◌||◌, cond, nat_lt, List, [], ◌∷◌, ◌++◌, length, Option, Some, None, option_map, refl, ap, ◌∙◌, sym, subst, arith, length-append}
 use Rattle.demo_lines.specs.declared.stage.Stage.{Stage}
 use Rattle.demo_lines.specs.declared.stage.Stage.TheVariants.{Start, Map, Playing, Ended, Refused}
 use Rattle.demo_lines.specs.declared.line.Line.{Line}
@@ -8,7 +8,7 @@ use Rattle.demo_lines.specs.declared.reading.Reading.{Reading}
 use Rattle.demo_lines.specs.declared.arrival.Arrival.{Arrival}
 use Rattle.demo_lines.specs.declared.event.Event.{Event}
 use Rattle.demo_lines.specs.declared.event.Event.TheVariants as events
-use Rattle.demo_lines.specs.Machines.{run_of, told_over}
+use Rattle.demo_lines.specs.Machines.{run_of}
 use Rattle.demo_lines.proofs.Machines.{run_of-append}
 use Rattle.demo_lines.specs.Recording.{next, told, said_by, after, events_of, step_at, event_of, is_over, is_refused, goes_to, with_map, with_spawn, opens_frame, takes_arrival, takes_spawn, has_spawn, is_wide}
 use Rattle.arena_geo.specs.Bounds.{bounds}

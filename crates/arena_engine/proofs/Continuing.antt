@@ -1,7 +1,6 @@
 -- What is known of a whole recording once its front was read.
-use Rattle.std.proofs.Common.{◌≡◌, ℕ, ◌+◌, ◌≤◌, Bool, true, false, List, [], ◌∷◌, ◌++◌, length, take, Option, Some, None, IfSome, refl, sym, ap, ◌∙◌, subst, append_assoc, append-nil, arith, length-append}
+use Rattle.std.proofs.Common.{◌≡◌, ℕ, ◌≤◌, true, List, [], ◌∷◌, ◌++◌, length, take, Option, Some, None, IfSome, refl, sym, ap, ◌∙◌, subst, append_assoc, append-nil, arith, length-append}
 use lib.Seq.{take-append_seam}
-use Rattle.std.specs.Io.KnownBytes.{Consumes}
 use Rattle.demo_lines.specs.declared.map.ArenaMap.{ArenaMap}
 use Rattle.demo_lines.specs.declared.arrival.Arrival.{Arrival}
 use Rattle.demo_lines.specs.declared.reading.Reading.{Reading}
@@ -9,7 +8,7 @@ use Rattle.demo_lines.specs.declared.event.Event.{Event}
 use Rattle.demo_lines.specs.declared.event.Event.TheVariants.{Frame, From, End}
 use Rattle.demo_lines.specs.Machines.{run_of}
 use Rattle.demo_lines.specs.Recording.{start, next, told, after, events_of}
-use Rattle.demo_lines.specs.Bytes.{unlines, whole_lines, events_in, fault_in, fault_at, events, fault, map_of}
+use Rattle.demo_lines.specs.Bytes.{whole_lines, events_in, fault_in, fault_at, events, fault, map_of}
 use Rattle.demo_lines.specs.Reads.{Reads}
 use Rattle.demo_lines.proofs.Machines.{run_of-append, told_over-append}
 use Rattle.demo_lines.proofs.Feeds.{whole_lines-unlines}
@@ -24,12 +23,12 @@ pub record Continues (r : Reading) (es : List Event) (bytes rest : List ℕ) : T
 
 pub continues_lines : (r : Reading) (lines : List (List ℕ)) (es : List Event) (bytes rest : List ℕ) → whole_lines bytes ≡ lines ++ whole_lines rest
     → r ≡ after start lines → events_of start lines ≡ es → Continues r es bytes rest
-continues_lines r lines es bytes rest cut reached told_so = 
+continues_lines r lines es bytes rest cut reached told_so =
     let behind : after start (whole_lines bytes) ≡ after r (whole_lines rest) =
-      ap (after start) cut ∙ run_of-append next told start lines (whole_lines rest) ∙ ap (λ t. after t (whole_lines rest)) (sym reached) in
+    ap (after start) cut ∙ run_of-append next told start lines (whole_lines rest) ∙ ap (λ t. after t (whole_lines rest)) (sym reached) in
     record {
       events_are = ap (events_of start) cut ∙ told_over-append next told start lines (whole_lines rest)
-        ∙ ap (λ t. events_of start lines ++ events_of t (whole_lines rest)) (sym reached) ∙ ap (λ xs. xs ++ events_in r rest) told_so;
+          ∙ ap (λ t. events_of start lines ++ events_of t (whole_lines rest)) (sym reached) ∙ ap (λ xs. xs ++ events_in r rest) told_so;
       fault_is = ap (λ (t : Reading). fault_at t.stage t.lines) behind;
       map_is = ap (λ (t : Reading). t.map) behind;
     }

@@ -1,33 +1,22 @@
 -- How the playing of a recording ends, and what was written then.
-use Rattle.std.proofs.Common.{◌≡◌, ℕ, suc, ◌+◌, ◌-◌, ◌<◌, ◌≤◌, Bool, true, false, List, [], ◌∷◌, ◌++◌, length, take, drop, Option, Some, None, IfSome, IsSome, ◌⊎◌, inl, inr, refl, sym, ap, ◌∙◌, subst, append_assoc, append-nil, arith, length-append, flat_map}
-use lib.Seq.{take-append_seam}
-use Rattle.std.specs.Io.KnownBytes.{Appends, Consumes}
-use Rattle.std.proofs.KnownBytes.{Appends-nil, Appends-trans, Consumes-trans}
-use Rattle.std.specs.List.{AllByRecursion}
-use Rattle.edge_io.specs.Lines.{HasNoLineFeed}
-use Rattle.edge_io.specs.Writes.{AppendsPart}
+use Rattle.std.proofs.Common.{◌≡◌, ℕ, true, List, [], ◌++◌, length, Option, Some, None, IfSome, IsSome, refl, sym, ap, ◌∙◌, subst, append_assoc, append-nil}
+use Rattle.std.specs.Io.KnownBytes.{Appends}
+use Rattle.std.proofs.KnownBytes.{Appends-nil, Consumes-trans}
 use Rattle.demo_lines.specs.declared.map.ArenaMap.{ArenaMap}
-use Rattle.demo_lines.specs.declared.arrival.Arrival.{Arrival}
-use Rattle.demo_lines.specs.declared.stage.Stage.TheVariants.{Playing, Ended}
 use Rattle.demo_lines.specs.declared.reading.Reading.{Reading}
 use Rattle.demo_lines.specs.declared.event.Event.{Event}
-use Rattle.demo_lines.specs.declared.event.Event.TheVariants.{Frame, From, End}
-use Rattle.demo_lines.specs.Machines.{run_of}
-use Rattle.demo_lines.specs.Recording.{start, next, told, after, events_of, is_over}
-use Rattle.demo_lines.specs.Bytes.{unlines, whole_lines, events_in, fault_in, fault_at, events, fault, map_of}
-use Rattle.demo_lines.specs.Reads.{Reads, ReadsFront, EndsAt, stage_behind}
+use Rattle.demo_lines.specs.Recording.{start, next, told, after, events_of}
+use Rattle.demo_lines.specs.Bytes.{unlines, whole_lines, events_in, events, fault}
+use Rattle.demo_lines.specs.Reads.{Reads, ReadsFront, EndsAt}
 use Rattle.demo_lines.proofs.Machines.{run_of-append, told_over-append}
 use Rattle.demo_lines.proofs.Feeds.{whole_lines-unlines, whole_lines-none}
-use Rattle.demo_lines.proofs.Ends.{after-over, events_of-over}
-use Rattle.arena_engine.specs.OutLines.{OutLine, EndLine, text_of}
-use Rattle.arena_engine.specs.Frames.{Frames, closing, collect, collected}
-use Rattle.arena_engine.specs.Games.{Play, front_lines, game_at, game_after, event_lines, table_at, closing_lines}
-use Rattle.arena_engine.specs.Progress.{Progress}
-use Rattle.arena_engine.specs.Output.{frames_of, front_text, out_text, lines_in, IsFront, IsAllFrames, IsOutput, IsPart, IsCutFrame, IsCutEnd, IsCut, IsRefused, IsSomeFrames, Writes, ReadsSome}
+use Rattle.arena_engine.specs.OutLines.{text_of}
+use Rattle.arena_engine.specs.Frames.{collected}
+use Rattle.arena_engine.specs.Games.{front_lines}
+use Rattle.arena_engine.specs.Output.{frames_of, IsFront, IsAllFrames, IsRefused, IsSomeFrames, Writes, ReadsSome}
 use Rattle.arena_engine.proofs.Settled.{is_settled, keeps_lines}
-use Rattle.arena_engine.proofs.Tracks.{game_after-at, closing_lines-at, end_lines-at}
-use Rattle.arena_engine.proofs.Continuing.{Continues, continues, continues_lines, map_of-settled, GoesOnWith, collected-append, goes_on_collected, length-goes_on}
-use Rattle.arena_engine.proofs.Fronts.{text_of-append, fewer_are_shorter, front_text-is, is_front, no_front, frames_of-all, goes_on_frames, is_all_frames, out_text-is, is_output}
+use Rattle.arena_engine.proofs.Continuing.{continues, continues_lines, map_of-settled}
+use Rattle.arena_engine.proofs.Fronts.{no_front, frames_of-all, is_all_frames}
 
 -- ---- before anything was told
 
@@ -81,16 +70,16 @@ module _ (arena : ArenaMap) (r : Reading) (a b : Option (List ℕ)) (t0 t1 : Opt
   pub refused_on : (n : ℕ) → Played → IfSome b (EndsAt r n) → IfSome a (λ bytes. Writes t0 t1 (IsRefused bytes))
   refused_on n played ends =
       continues r a b es (λ bytes. Writes t0 t1 (IsRefused bytes)) played.reads (λ bytes rest is so.
-        let here : EndsAt r n rest = let P : Option (List ℕ) → Type 0 = λ o. IfSome o (EndsAt r n) in subst P is ends in
-        let has = map_of-settled r es bytes rest arena so played.settled played.map in
-        record {
-          text = text_of (front_lines arena (collected es).closed);
-          written = played.written;
-          told = record {
-            faulty = some_is_some (fault bytes) n (so.fault_is ∙ here.fault);
-            told = is_all_frames bytes arena (collected es).closed has (frames_of-all r es bytes rest so here.events);
-          };
-        })
+      let here : EndsAt r n rest = let P : Option (List ℕ) → Type 0 = λ o. IfSome o (EndsAt r n) in subst P is ends in
+      let has = map_of-settled r es bytes rest arena so played.settled played.map in
+      record {
+        text = text_of (front_lines arena (collected es).closed);
+        written = played.written;
+        told = record {
+          faulty = some_is_some (fault bytes) n (so.fault_is ∙ here.fault);
+          told = is_all_frames bytes arena (collected es).closed has (frames_of-all r es bytes rest so here.events);
+        };
+      })
 
   -- the source failed
   pub fault_on : (l : Option (List ℕ)) → Played → ReadsFront r b l [] → ReadsSome a l t0 t1
@@ -99,15 +88,15 @@ module _ (arena : ArenaMap) (r : Reading) (a b : Option (List ℕ)) (t0 t1 : Opt
       let u = after r reads.lines in
       let bytes = unlines played.reads.lines ++ (unlines reads.lines ++ reads.front) in
       let cut : whole_lines bytes ≡ lines ++ whole_lines reads.front =
-        whole_lines-unlines played.reads.lines (unlines reads.lines ++ reads.front) played.reads.each
-        ∙ ap (λ ls. played.reads.lines ++ ls) (whole_lines-unlines reads.lines reads.front reads.each)
-        ∙ sym (append_assoc played.reads.lines reads.lines (whole_lines reads.front)) in
+      whole_lines-unlines played.reads.lines (unlines reads.lines ++ reads.front) played.reads.each
+      ∙ ap (λ ls. played.reads.lines ++ ls) (whole_lines-unlines reads.lines reads.front reads.each)
+      ∙ sym (append_assoc played.reads.lines reads.lines (whole_lines reads.front)) in
       let reached : u ≡ after start lines =
-        ap (λ t. after t reads.lines) played.reads.reached ∙ sym (run_of-append next told start played.reads.lines reads.lines) in
+      ap (λ t. after t reads.lines) played.reads.reached ∙ sym (run_of-append next told start played.reads.lines reads.lines) in
       let told_so : events_of start lines ≡ es =
-        told_over-append next told start played.reads.lines reads.lines
-        ∙ ap (λ t. events_of start played.reads.lines ++ events_of t reads.lines) (sym played.reads.reached)
-        ∙ ap (λ xs. events_of start played.reads.lines ++ xs) reads.events ∙ append-nil (events_of start played.reads.lines) ∙ played.reads.events in
+      told_over-append next told start played.reads.lines reads.lines
+      ∙ ap (λ t. events_of start played.reads.lines ++ events_of t reads.lines) (sym played.reads.reached)
+      ∙ ap (λ xs. events_of start played.reads.lines ++ xs) reads.events ∙ append-nil (events_of start played.reads.lines) ∙ played.reads.events in
       let so = continues_lines u lines es bytes reads.front cut reached told_so in
       let kept = keeps_lines r reads.lines played.settled in
       let has = map_of-settled u es bytes reads.front arena so kept.settled (kept.map ∙ played.map) in

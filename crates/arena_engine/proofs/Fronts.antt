@@ -1,16 +1,15 @@
 -- The texts of the first frames of a recording.
-use Rattle.std.proofs.Common.{◌≡◌, ℕ, suc, ◌+◌, ◌-◌, ◌<◌, ◌≤◌, Bool, true, List, [], ◌∷◌, ◌++◌, length, take, drop, map, flat_map, Option, Some, None, IfSome, refl, sym, ap, ◌∙◌, subst, append_assoc, append-nil, add-zero, arith, length-append, take-append-drop}
+use Rattle.std.proofs.Common.{◌≡◌, ℕ, suc, ◌+◌, ◌≤◌, List, [], ◌∷◌, ◌++◌, length, take, drop, map, Option, Some, None, refl, sym, ap, ◌∙◌, subst, append_assoc, append-nil, add-zero, arith, length-append, take-append-drop}
 use Rattle.std.proofs.lemmas.Grind.{flat_map-append}
 use Rattle.demo_lines.specs.declared.map.ArenaMap.{ArenaMap}
 use Rattle.demo_lines.specs.declared.arrival.Arrival.{Arrival}
 use Rattle.demo_lines.specs.declared.reading.Reading.{Reading}
 use Rattle.demo_lines.specs.declared.event.Event.{Event}
-use Rattle.demo_lines.specs.Recording.{start, after}
-use Rattle.demo_lines.specs.Bytes.{events_in, events, fault, map_of}
+use Rattle.demo_lines.specs.Bytes.{events_in, fault, map_of}
 use Rattle.arena_engine.specs.States.{State, opening}
 use Rattle.arena_engine.specs.Receiving.{received}
 use Rattle.arena_engine.specs.OutLines.{OutLine, EndLine, printed, text_of}
-use Rattle.arena_engine.specs.Frames.{Frames, collected, frame_lines, state_after, run_lines}
+use Rattle.arena_engine.specs.Frames.{collected, frame_lines, state_after, run_lines}
 use Rattle.arena_engine.specs.Games.{front_lines}
 use Rattle.arena_engine.specs.Journals.{dids}
 use Rattle.arena_engine.specs.Entries.{Entry}
@@ -114,9 +113,9 @@ is_output bytes arena closed accepted has all =
     record {
       accepted = accepted;
       told = sym (
-        ap (λ fs. text_of (lines_in (map_of bytes) fs (quiet closed) ++ EndLine (length fs) ∷ [])) all
-        ∙ ap (λ ls. text_of (ls ++ EndLine (length closed) ∷ [])) (lines_in-some (map_of bytes) arena closed (quiet closed) has ∙ run_lines-quiet arena 0 opening closed))
-        ∙ ap (out_text bytes) (sym journals);
+          ap (λ fs. text_of (lines_in (map_of bytes) fs (quiet closed) ++ EndLine (length fs) ∷ [])) all
+          ∙ ap (λ ls. text_of (ls ++ EndLine (length closed) ∷ [])) (lines_in-some (map_of bytes) arena closed (quiet closed) has ∙ run_lines-quiet arena 0 opening closed))
+          ∙ ap (out_text bytes) (sym journals);
       quiet = journals ∙ ap quiet (sym all);
     }
 

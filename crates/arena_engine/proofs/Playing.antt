@@ -1,6 +1,6 @@
 -- One event of a recording that is played.
-use Rattle.std.proofs.Common.{◌≡◌, ℕ, suc, ◌+◌, ◌-◌, ◌<◌, ◌≤◌, Bool, true, false, List, [], ◌∷◌, ◌++◌, length, take, Option, Some, None, IfSome, ◌⊎◌, inl, inr, refl, sym, ap, ◌∙◌, subst, append_assoc, append-nil, arith, length-append}
-use lib.Seq.{take-append_seam, take-append-add}
+use Rattle.std.proofs.Common.{◌≡◌, ℕ, ◌+◌, ◌-◌, ◌<◌, ◌≤◌, true, false, List, [], ◌∷◌, ◌++◌, length, take, Option, Some, None, IfSome, ◌⊎◌, inl, inr, refl, sym, ap, ◌∙◌, subst, append_assoc, append-nil, arith, length-append}
+use lib.Seq.{take-append-add}
 use Rattle.std.proofs.lemmas.List.{take-append-le}
 use Rattle.std.specs.Io.KnownBytes.{Appends}
 use Rattle.std.proofs.KnownBytes.{Appends-nil, Appends-trans}
@@ -8,22 +8,21 @@ use Rattle.edge_io.specs.Writes.{AppendsPart}
 use Rattle.demo_lines.specs.declared.map.ArenaMap.{ArenaMap}
 use Rattle.demo_lines.specs.declared.arrival.Arrival.{Arrival}
 use Rattle.demo_lines.specs.declared.stage.Stage.{Stage}
-use Rattle.demo_lines.specs.declared.stage.Stage.TheVariants.{Start, Map, Playing, Ended, Refused}
+use Rattle.demo_lines.specs.declared.stage.Stage.TheVariants.{Playing, Ended}
 use Rattle.demo_lines.specs.declared.reading.Reading.{Reading}
 use Rattle.demo_lines.specs.declared.event.Event.{Event}
 use Rattle.demo_lines.specs.declared.event.Event.TheVariants.{Frame, From, End}
-use Rattle.demo_lines.specs.Machines.{run_of}
-use Rattle.demo_lines.specs.Recording.{start, after, events_of, is_over}
+use Rattle.demo_lines.specs.Recording.{start, after, is_over}
 use Rattle.demo_lines.specs.Readings.{IsReading}
-use Rattle.demo_lines.specs.Bytes.{whole_lines, events_in, events, fault, fault_at, map_of}
+use Rattle.demo_lines.specs.Bytes.{whole_lines, fault, fault_at, map_of}
 use Rattle.demo_lines.specs.Reads.{Reads, stage_behind}
 use Rattle.demo_lines.proofs.Ends.{after-over, events_of-over}
 use Rattle.demo_lines.proofs.Consuming.{Reads-trans}
-use Rattle.arena_engine.specs.OutLines.{OutLine, EndLine, text_of}
+use Rattle.arena_engine.specs.OutLines.{EndLine, text_of}
 use Rattle.arena_engine.specs.Frames.{Frames, closing, collect, collected, no_frames}
 use Rattle.arena_engine.specs.Games.{Play, front_lines, table_at, game_at, game_after, event_lines, closing_lines, IsReady, is_end}
 use Rattle.arena_engine.specs.Progress.{Progress}
-use Rattle.arena_engine.specs.Output.{frames_of, front_text, out_text, lines_in, IsFront, IsOutput, IsPart, IsCutFrame, IsCutEnd, IsCut, IsSomeFrames, Writes}
+use Rattle.arena_engine.specs.Output.{frames_of, front_text, out_text, lines_in, IsOutput, IsPart, IsCutFrame, IsCutEnd, IsCut, IsSomeFrames, Writes}
 use Rattle.arena_engine.proofs.Settled.{is_settled, keeps_lines}
 use Rattle.arena_engine.proofs.Agreement.{Agrees, AgreesAt, NoneYet, OneOpen, AllClosed, agrees_lines}
 use Rattle.arena_engine.proofs.Tracks.{game_after-at, closing_lines-at, end_lines-at}
@@ -64,7 +63,7 @@ frame_cut bytes arena closed (Some arrivals) count has on short =
     let front = text_of (front_lines arena closed) in
     let piece = text_of (closing_lines (table_at arena closed) (Some arrivals)) in
     let whole_is = front_text-is bytes arena longer has on ∙ ap text_of (sym (closing_lines-at arena closed (Some arrivals)))
-      ∙ text_of-append (front_lines arena closed) (closing_lines (table_at arena closed) (Some arrivals)) in
+    ∙ text_of-append (front_lines arena closed) (closing_lines (table_at arena closed) (Some arrivals)) in
     let one_less : length longer - 1 ≡ length closed = omega (arith, length-append closed (arrivals ∷ [])) in
     let before = ap (λ k. length (front_text bytes k [])) one_less ∙ ap length (front_text-is bytes arena closed has (front_goes_on closed (arrivals ∷ []) (frames_of bytes) on)) in
     let no_longer : length (front_text bytes (length longer - 1) []) ≤ length front = omega (arith, before) in
@@ -187,10 +186,10 @@ module _ (arena : ArenaMap) (r : Reading) (a b : Option (List ℕ)) (t0 t1 : Opt
   pub memory_on : IfSome a (λ bytes. Writes t0 t1 (IsSomeFrames bytes))
   memory_on =
       continues r a b (p.events ++ e ∷ []) (λ bytes. Writes t0 t1 (IsSomeFrames bytes)) p.reads (λ bytes rest is so.
-        let has = map_of-settled r (p.events ++ e ∷ []) bytes rest arena so settled p.map in
-        let closed = (collected p.events).closed in
-        let on : GoesOnWith closed (frames_of bytes) = goes_on_events r p.events (e ∷ []) bytes rest so in
-        record { text = text_of (front_lines arena closed); written = p.written; told = record { k = length closed; told = is_front bytes arena closed has on } })
+      let has = map_of-settled r (p.events ++ e ∷ []) bytes rest arena so settled p.map in
+      let closed = (collected p.events).closed in
+      let on : GoesOnWith closed (frames_of bytes) = goes_on_events r p.events (e ∷ []) bytes rest so in
+      record { text = text_of (front_lines arena closed); written = p.written; told = record { k = length closed; told = is_front bytes arena closed has on } })
 
   -- a write failed at this event
   pub cut_on : (t2 : Option (List ℕ)) → AppendsPart t1 t2 (text_of (event_lines g e)) → IfSome a (λ bytes. Writes t0 t2 (IsCut bytes))
@@ -200,12 +199,12 @@ module _ (arena : ArenaMap) (r : Reading) (a b : Option (List ℕ)) (t0 t1 : Opt
       let front = text_of (front_lines arena (collected p.events).closed) in
       let piece = text_of (event_lines (game_at arena (collected p.events)) e) in
       continues r a b (p.events ++ e ∷ []) (λ bytes. Writes t0 t2 (IsCut bytes)) p.reads (λ bytes rest is so.
-        let has = map_of-settled r (p.events ++ e ∷ []) bytes rest arena so settled p.map in
-        record {
-          text = front ++ take here.count piece;
-          written = Appends-trans t0 t1 t2 front (take here.count piece) p.written here.appended;
-          told = cut_at arena r p.events e bytes rest here.count so p.stage has here.part;
-        })
+      let has = map_of-settled r (p.events ++ e ∷ []) bytes rest arena so settled p.map in
+      record {
+        text = front ++ take here.count piece;
+        written = Appends-trans t0 t1 t2 front (take here.count piece) p.written here.appended;
+        told = cut_at arena r p.events e bytes rest here.count so p.stage has here.part;
+      })
 
   -- it was the end, and all was written
   pub done_on : (t2 : Option (List ℕ)) → e ≡ End → Appends t1 t2 (text_of (event_lines g e)) → IfSome a (λ bytes. Writes t0 t2 (IsOutput bytes))
@@ -218,16 +217,16 @@ module _ (arena : ArenaMap) (r : Reading) (a b : Option (List ℕ)) (t0 t1 : Opt
       let end : Appends t1 t2 (text_of (event_lines (game_at arena f) End)) = subst K p.plays (subst H last written) in
       let both = Appends-trans t0 t1 t2 (text_of (front_lines arena f.closed)) (text_of (event_lines (game_at arena f) End)) p.written end in
       let whole : text_of (front_lines arena f.closed) ++ text_of (event_lines (game_at arena f) End) ≡ text_of (front_lines arena closed ++ EndLine (length closed) ∷ []) =
-        sym (text_of-append (front_lines arena f.closed) (event_lines (game_at arena f) End)) ∙ ap text_of (end_lines-at arena f) in
+      sym (text_of-append (front_lines arena f.closed) (event_lines (game_at arena f) End)) ∙ ap text_of (end_lines-at arena f) in
       let ended : r.stage ≡ Ended = p.stage ∙ ap stage_behind last in
       let R : Event → Type 0 = λ x. Reads start r a b (p.events ++ x ∷ []) in
       continues r a b (p.events ++ End ∷ []) (λ bytes. Writes t0 t2 (IsOutput bytes)) (subst R last p.reads) (λ bytes rest is so.
-        let has = map_of-settled r (p.events ++ End ∷ []) bytes rest arena so settled p.map in
-        record {
-          text = text_of (front_lines arena closed ++ EndLine (length closed) ∷ []);
-          written = subst (Appends t0 t2) whole both;
-          told = is_output bytes arena closed (fault-at_end r (p.events ++ End ∷ []) bytes rest so ended) has (frames-at_end r p.events bytes rest so ended);
-        })
+      let has = map_of-settled r (p.events ++ End ∷ []) bytes rest arena so settled p.map in
+      record {
+        text = text_of (front_lines arena closed ++ EndLine (length closed) ∷ []);
+        written = subst (Appends t0 t2) whole both;
+        told = is_output bytes arena closed (fault-at_end r (p.events ++ End ∷ []) bytes rest so ended) has (frames-at_end r p.events bytes rest so ended);
+      })
 
   -- it wasn't the end, and was played
   pub played_on : (t2 : Option (List ℕ)) → is_end e ≡ false → Appends t1 t2 (text_of (event_lines g e)) → Played arena r a b t0 t2 (p.events ++ e ∷ [])
@@ -236,8 +235,8 @@ module _ (arena : ArenaMap) (r : Reading) (a b : Option (List ℕ)) (t0 t1 : Opt
       let K : Play → Type 0 = λ h. Appends t1 t2 (text_of (event_lines h e)) in
       let both = Appends-trans t0 t1 t2 (text_of (front_lines arena f.closed)) (text_of (event_lines (game_at arena f) e)) p.written (subst K p.plays written) in
       let whole : text_of (front_lines arena f.closed) ++ text_of (event_lines (game_at arena f) e) ≡ text_of (front_lines arena (collected (p.events ++ e ∷ [])).closed) =
-        sym (text_of-append (front_lines arena f.closed) (event_lines (game_at arena f) e)) ∙ ap text_of (lines_behind arena f e going)
-        ∙ ap (λ (h : Frames). text_of (front_lines arena h.closed)) (sym (collected-push p.events e)) in
+      sym (text_of-append (front_lines arena f.closed) (event_lines (game_at arena f) e)) ∙ ap text_of (lines_behind arena f e going)
+      ∙ ap (λ (h : Frames). text_of (front_lines arena h.closed)) (sym (collected-push p.events e)) in
       record { reads = p.reads; settled = settled; map = p.map; written = subst (Appends t0 t2) whole both }
 
   -- and the next event comes

@@ -1,15 +1,13 @@
 -- The game over events, and the run over frames.
-use Rattle.std.proofs.Common.{◌≡◌, ℕ, suc, ◌+◌, List, [], ◌∷◌, ◌++◌, length, Option, Some, None, refl, ap, ◌∙◌, sym, append_assoc, append-nil, add-zero, arith, length-append, subst}
+use Rattle.std.proofs.Common.{◌≡◌, ℕ, suc, ◌+◌, List, [], ◌∷◌, ◌++◌, length, Option, Some, None, refl, ap, ◌∙◌, sym, append_assoc, append-nil, add-zero, arith, length-append}
 use Rattle.demo_lines.specs.declared.map.ArenaMap.{ArenaMap}
 use Rattle.demo_lines.specs.declared.arrival.Arrival.{Arrival}
 use Rattle.demo_lines.specs.declared.event.Event.{Event}
 use Rattle.demo_lines.specs.declared.event.Event.TheVariants.{Frame, From, End}
-use Rattle.demo_lines.specs.Machines.{run_of}
-use Rattle.demo_lines.proofs.Machines.{run_of-append}
 use Rattle.arena_engine.specs.States.{State, Table, opening}
 use Rattle.arena_engine.specs.Receiving.{received}
-use Rattle.arena_engine.specs.OutLines.{OutLine, EndLine}
-use Rattle.arena_engine.specs.Frames.{Frames, closing, collect, frame_lines, state_after, run_lines, table_after}
+use Rattle.arena_engine.specs.OutLines.{EndLine}
+use Rattle.arena_engine.specs.Frames.{Frames, closing, collect, frame_lines, state_after, run_lines}
 use Rattle.arena_engine.specs.Games.{Play, table_closed, closing_lines, game_after, event_lines, front_lines, table_at, game_at}
 
 -- one frame more

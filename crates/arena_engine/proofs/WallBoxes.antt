@@ -1,9 +1,8 @@
 -- The walls are boxes.
-use Rattle.std.proofs.Common.{◌≡◌, ◌≤◌, ℤ, ◌≤ℤ◌, unsigned_abs, arith}
+use Rattle.std.proofs.Common.{arith}
 use Rattle.std.proofs.lemmas.Int.{ints}
-use Rattle.arena_geo.specs.declared.vec3.Vec3.{Vec3}
 use Rattle.arena_geo.specs.Vectors.{IsNear}
-use Rattle.arena_geo.specs.Bounds.{Bounds, bounds, IsOrdered, IsInRange, IsBox}
+use Rattle.arena_geo.specs.Bounds.{Bounds, bounds, IsOrdered, IsBox}
 use Rattle.arena_engine.specs.Walls.{low, high, with_x, with_y, with_z}
 
 -- the corners of an arena
@@ -65,4 +64,3 @@ IsBox-high_z b corners = record {
     hi = record { x = omega (arith, ints); y = omega (arith, ints); z = omega (arith, ints) };
   };
 }
-

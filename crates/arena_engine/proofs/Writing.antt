@@ -1,5 +1,5 @@
 -- Lines put at the end of a text in turn.
-use Rattle.std.proofs.Common.{◌≡◌, ℕ, suc, ◌+◌, ◌<◌, List, [], ◌∷◌, ◌++◌, length, get_or, drop, map, flat_map, refl, ap, ◌∙◌, sym, append_assoc, drop-cons, add-one}
+use Rattle.std.proofs.Common.{◌≡◌, ℕ, suc, ◌+◌, ◌<◌, List, ◌∷◌, ◌++◌, length, get_or, drop, map, refl, ap, ◌∙◌, sym, append_assoc, drop-cons, add-one}
 use Rattle.arena_engine.specs.OutLines.{OutLine, printed, text_of}
 
 -- a loop's step over things of which a line each is told

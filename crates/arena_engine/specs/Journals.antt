@@ -1,7 +1,6 @@
 -- The journals of a text, read off its `did` lines.
 use Rattle.std.specs.Prelude.{ℕ, ◌==◌, List, [], ◌∷◌, map, Option, Some, None, codes, bytes_eq, ℤ, if◌then◌else◌}
 use Rattle.std.specs.List.{slice_split}
-use Rattle.arena_geo.specs.declared.vec3.Vec3.{Vec3}
 use Rattle.demo_lines.specs.Numbers.{natural_up_to, integer_up_to}
 use Rattle.demo_lines.specs.Fields.{cut, field_at}
 use Rattle.demo_lines.specs.Lines.{◌>>=◌}

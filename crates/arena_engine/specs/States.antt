@@ -1,5 +1,5 @@
 -- The plain server's state between two frames.
-use Rattle.std.specs.Prelude.{◌≡◌, ℕ, ◌+◌, ◌<◌, ◌≤◌, List, [], ◌∷◌, ◌++◌, length, pos}
+use Rattle.std.specs.Prelude.{◌≡◌, ℕ, ◌<◌, ◌≤◌, List, [], ◌∷◌, ◌++◌, length, pos}
 use Rattle.std.specs.List.{AllByRecursion}
 use Rattle.arena_geo.specs.declared.vec3.Vec3.{Vec3}
 use Rattle.entity_recs.specs.declared.rec.Rec.{Rec}

@@ -53,7 +53,8 @@ impl Game {
     {
         text.clear();
         if self.is_open {
-            self.server.run_frame(alloc, self.arrivals.as_slice(), text)?;
+            self.server
+                .run_frame(alloc, self.arrivals.as_slice(), text)?;
             self.is_open = false;
         }
         Ok(())
@@ -94,12 +95,7 @@ impl Game {
     }
 
     /// Makes `text` the lines that an event closes.
-    fn advance(
-        &mut self,
-        alloc: Global,
-        event: Event,
-        text: &mut String,
-    ) -> Result<(), AllocError>
+    fn advance(&mut self, alloc: Global, event: Event, text: &mut String) -> Result<(), AllocError>
         requires { IsReady self.old }
         ensures lines { OnOk result (string_bytes text.new ≡ text_of (event_lines self.old event)) }
         ensures next { OnOk result (self.new ≡ game_after self.old event) }

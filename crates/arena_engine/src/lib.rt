@@ -9,12 +9,11 @@ ghost use Rattle.arena_engine.specs.Serving.{IsPlayOne, NothingFailed, IsOrMemor
 
 use edge_io::{Sink, Source};
 use play::play;
-use std::alloc::Global;
-use stop::Stop;
-
 pub use received::{Joined, Turned};
 pub use refusal::Refusal;
 pub use report::Report;
+use std::alloc::Global;
+use stop::Stop;
 
 mod game;
 mod play;
@@ -26,6 +25,8 @@ mod report;
 mod server;
 mod snapshot;
 mod stop;
+#[cfg(test)]
+mod tests;
 mod text;
 mod walls;
 

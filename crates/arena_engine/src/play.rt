@@ -22,11 +22,7 @@ fn is_end(event: &Event) -> bool
 }
 
 /// Plays a recording from the source, and writes its output to the sink, each frame before the next line is looked at.
-pub fn play<S: Source, K: Sink>(
-    alloc: Global,
-    source: &mut S,
-    sink: &mut K,
-) -> Result<(), Stop>
+pub fn play<S: Source, K: Sink>(alloc: Global, source: &mut S, sink: &mut K) -> Result<(), Stop>
     ensures done { OnOk result (IfSome (S.left source.old) (λ bytes.
         Writes (K.taken sink.old) (K.taken sink.new) (IsOutput bytes))) }
     ensures refused { IfErr result (λ stop. OnRefused stop (IfSome (S.left source.old) (λ bytes.

@@ -1,7 +1,5 @@
-use Rattle.std.proofs.Common.{◌≤◌, ◌≡◌, List, ℕ, Option}
 use Rattle.edge_io.specs.Lines.{ahead}
 use Rattle.demo_lines.specs.Recording.{lines_left}
-use Rattle.arena_engine.specs.Progress.{Progress}
 use Rattle.arena_engine.proofs.Running.{Runs}
 use Rattle.arena_engine.proofs.play.play.Given as goal
 

@@ -1,4 +1,4 @@
-use Rattle.std.proofs.Common.{rules, ◌∷◌, [], ◌∙◌}
+use Rattle.std.proofs.Common.{rules, ◌∷◌, []}
 use Rattle.std.specs.Int.{to_le_bytes, w16}
 use Rattle.entity_recs.specs.Kinds.{number_of}
 use Rattle.arena_engine.specs.Snapshots.{vector_bytes, status_at}

@@ -1,4 +1,3 @@
-use Rattle.std.proofs.Common.{IsSome}
 use Rattle.arena_engine.proofs.Views.{is_some-view}
 use Rattle.arena_engine.proofs.snapshot.view.Goals as goal
 

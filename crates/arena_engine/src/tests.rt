@@ -1,0 +1,102 @@
+use super::*;
+use edge_io::{MemSink, MemSource};
+use std::alloc::AllocError;
+use std::process::Abort;
+use std::test::Fail;
+
+const ARENA: &str = "arena -131072 -131072 0 131072 131072 65536\n";
+
+const ONE_JOIN: &str =
+    "arena -131072 -131072 0 131072 131072 65536\nspawn 0 0 6144\nframe\nfrom 7 0101\nend\n";
+
+const ONE_JOIN_TOLD: &str =
+    "frame 0\njoined 7 0\nto 0 01000000000000000000000000000018000000000000000000000000000000000000000000000000000000\nend 1\n";
+
+/// Plays a recording without a fault, and compares the status and the output.
+fn expect(
+    rt: &(impl AllocGlobal + Abort),
+    recording: &str,
+    status: u8,
+    output: &str,
+) -> Result<(), AllocError> {
+    let mut source = MemSource::new(recording.as_bytes(), 100, &[]);
+    let mut sink = MemSink::new(rt.alloc(), 10_000, 100)?;
+    let report = serve(rt.alloc(), &["play", "1"], &mut source, &mut sink);
+    assert_eq!(rt; report.status, status);
+    assert_eq!(rt; sink.bytes(), output.as_bytes());
+    Ok(())
+}
+
+#[test]
+fn recordings_are_told_frame_by_frame(rt: HostRuntime) -> Result<(), Fail> {
+    let second_frame =
+        "arena -131072 -131072 0 131072 131072 65536\nspawn 0 0 6144\nframe\nfrom 7 0101\nframe\nend\n";
+    let second_told =
+        "frame 0\njoined 7 0\nto 0 01000000000000000000000000000018000000000000000000000000000000000000000000000000000000\nframe 1\nto 0 01010000000000000000000000000018000000000000000000000000000000000000000000000000000000\nend 2\n";
+    let crowded =
+        "arena -131072 -131072 0 131072 131072 65536\nspawn 0 0 6144\nframe\nfrom 7 0101\nfrom 8 0101\nend\n";
+    let crowded_told =
+        "frame 0\nno 1 Crowded\njoined 7 0\nto 0 01000000000000000000000000000018000000000000000000000000000000000000000000000000000000\nend 1\n";
+    let no_frame = "arena -131072 -131072 0 131072 131072 65536\nend\nframe\n";
+    let rows = [
+        (ONE_JOIN, ONE_JOIN_TOLD),
+        (second_frame, second_told),
+        (crowded, crowded_told),
+        (no_frame, "end 0\n"),
+    ];
+    for (recording, output) in rows {
+        expect(&rt, recording, 0, output)?;
+    }
+    Ok(())
+}
+
+#[test]
+fn a_refused_recording_keeps_its_whole_frames(rt: HostRuntime) -> Result<(), Fail> {
+    expect(&rt, "", 1, "")?;
+    expect(&rt, ARENA, 1, "")?;
+    let late =
+        "arena -131072 -131072 0 131072 131072 65536\nspawn 0 0 6144\nframe\nframe\nfrob\nend\n";
+    expect(&rt, late, 1, "frame 0\n")?;
+    Ok(())
+}
+
+#[test]
+fn other_words_are_refused(rt: HostRuntime) -> Result<(), Fail> {
+    let rows: [&[&str]; 7] = [
+        &[],
+        &["play"],
+        &["play", "0"],
+        &["play", "17"],
+        &["play", "01"],
+        &["make", "7", "65", "10"],
+        &["match", "7", "32", "2001", "1"],
+    ];
+    for words in rows {
+        let mut source = MemSource::new(ONE_JOIN.as_bytes(), 100, &[]);
+        let mut sink = MemSink::new(rt.alloc(), 1_000, 100)?;
+        let report = serve(rt.alloc(), words, &mut source, &mut sink);
+        assert_eq!(rt; report.status, 2);
+        assert!(rt; sink.bytes().is_empty());
+    }
+    Ok(())
+}
+
+#[test]
+fn a_failing_read_is_told(rt: HostRuntime) -> Result<(), Fail> {
+    let mut source = MemSource::new(ONE_JOIN.as_bytes(), 8, &[3]);
+    let mut sink = MemSink::new(rt.alloc(), 1_000, 100)?;
+    let report = serve(rt.alloc(), &["play", "1"], &mut source, &mut sink);
+    assert_eq!(rt; report.status, 3);
+    assert!(rt; sink.bytes().is_empty());
+    Ok(())
+}
+
+#[test]
+fn a_full_sink_keeps_what_it_took(rt: HostRuntime) -> Result<(), Fail> {
+    let mut source = MemSource::new(ONE_JOIN.as_bytes(), 8, &[]);
+    let mut sink = MemSink::new(rt.alloc(), 12, 5)?;
+    let report = serve(rt.alloc(), &["play", "1"], &mut source, &mut sink);
+    assert_eq!(rt; report.status, 4);
+    assert_eq!(rt; sink.bytes(), b"frame 0\njoin".as_slice());
+    Ok(())
+}
