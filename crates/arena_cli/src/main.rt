@@ -3,13 +3,15 @@
 //! It ends with the status of the report. For every status but 0 it says why in one line on standard error.
 #![tactic(auto)]
 
+ghost use Rattle.std.specs.Prelude.{◌≡◌, ◌≤◌, IfOk};
+ghost use Rattle.arena_cli.specs.Statuses.{status_of};
+
 use arena_engine::{Report, serve};
 use edge_io::{StdSink, StdSource};
 use std::alloc::AllocError;
-use std::env;
-use std::io;
 use std::io::ErrorKind;
 use std::process::ExitCode;
+use std::{env, io};
 
 /// Why the words didn't come to `serve`.
 #[derive(Clone, Copy, Debug, PartialEq, Eq)]
@@ -37,7 +39,10 @@ impl From<AllocError> for NoWords {
 }
 
 /// A report of a call that wasn't made.
-fn report_of(reason: NoWords) -> Report {
+fn report_of(reason: NoWords) -> Report
+    ensures status { result.status ≡ status_of reason }
+    ensures place { (result.line ≡ 0) × (result.fault ≡ 0) × (result.rule ≡ 0) }
+{
     let status = match reason {
         NoWords::NotUnicode => 2,
         NoWords::Memory => 5,
@@ -53,7 +58,10 @@ fn report_of(reason: NoWords) -> Report {
 /// Hands the program's words, its input and its output to `serve`.
 ///
 /// Input and output have no buffer of their own: `serve` reads in blocks, and writes a frame at a time.
-fn run(rt: &HostRuntime) -> Result<Report, NoWords> {
+fn run(rt: &HostRuntime) -> Result<Report, NoWords>
+    ensures known { IfOk result (λ report. report.status ≤ 5) }
+    ensures place { IfOk result (λ report. (report.line ≡ 0) × (report.fault ≡ 0) × (report.rule ≡ 0)) }
+{
     let alloc = rt.alloc();
     let arguments: Vec<String> = env::args(rt)?.skip(1).collect(alloc)?;
     let words: Vec<&str> = arguments.iter().map(|word| word.as_str()).collect(alloc)?;
@@ -66,7 +74,10 @@ fn run(rt: &HostRuntime) -> Result<Report, NoWords> {
 fn tell(rt: &HostRuntime, report: Report) -> io::Result<()> {
     match report.status {
         0 => Ok(()),
-        1 => eprintln!(rt; "recording refused: line {}, fault {}", report.line, report.fault),
+        1 => eprintln!(rt;
+            "recording refused: line {}, fault {}",
+            report.line, report.fault
+        ),
         2 => eprintln!(rt; "words refused"),
         3 => eprintln!(rt; "read fault"),
         4 => eprintln!(rt; "write fault"),

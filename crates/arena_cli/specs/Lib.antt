@@ -1,0 +1,2 @@
+-- What the program ends with.
+pub mod Statuses
