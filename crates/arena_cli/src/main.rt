@@ -24,15 +24,19 @@ enum NoWords {
 
 impl From<io::Error> for NoWords {
     fn from(error: io::Error) -> NoWords {
-        if error.kind() == ErrorKind::OutOfMemory {
-            NoWords::Memory
-        } else {
-            NoWords::NotUnicode
+        match error.kind() {
+            ErrorKind::OutOfMemory => NoWords::Memory,
+            _ => NoWords::NotUnicode,
         }
     }
 }
 
 impl From<AllocError> for NoWords {
+    ghost use Rattle.std.specs.Prelude.{◌≡◌};
+    ghost use Rattle.arena_cli.specs.declared.NoWords.TheVariants.{Memory};
+
+    ghost from_gives = { λ _ reason. reason ≡ Memory };
+
     fn from(_error: AllocError) -> NoWords {
         NoWords::Memory
     }
