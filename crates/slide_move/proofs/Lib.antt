@@ -1,0 +1,8 @@
+-- Lemmas on slides.
+pub mod Parts
+pub mod Ways
+pub mod Turns
+pub mod Slides
+pub mod Places
+pub mod Underway
+pub mod Reaches

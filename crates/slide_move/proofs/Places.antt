@@ -1,0 +1,118 @@
+-- Where a body comes on its slide.
+use Rattle.std.proofs.Common.{◌≡◌, ℕ, zero, suc, ◌≤◌, false, List, [], ◌∷◌, ◌++◌, Option, Some, None, IfSome, refl, sym, ap, ◌∙◌, subst, arith, rules}
+use Rattle.std.specs.Prelude.{All}
+use Rattle.std.specs.Option.{option_map_or}
+use Rattle.std.proofs.lemmas.List.Elements.{All-append}
+use Rattle.arena_geo.specs.declared.vec3.Vec3.{Vec3}
+use Rattle.arena_geo.specs.Vectors.{plus, minus}
+use Rattle.arena_geo.specs.Bounds.{Bounds, IsInRange}
+use Rattle.arena_geo.specs.Boxes.{moved, is_blocked}
+use Rattle.box_trace.specs.Steps.{step_count, shift_at, body_at}
+use Rattle.box_trace.specs.Traces.{trace_of}
+use Rattle.box_trace.proofs.Traces.{IsTrace-trace_of}
+use Rattle.box_trace.proofs.Ranges.{IsInRange-body_at}
+use Rattle.slide_move.specs.declared.slid.Slid.{Slid}
+use Rattle.slide_move.specs.Displacements.{displacement}
+use Rattle.slide_move.specs.Slides.{still, turn_of, slide_along, slide_of}
+use Rattle.slide_move.specs.Places.{steps_to, places_along, places_of, last_place}
+use Rattle.slide_move.specs.Changes.{IsPartOfWay}
+use Rattle.slide_move.specs.Laws.{PlacesAreFree, EndsAtLastPlace, PlacesAreInRange}
+use Rattle.slide_move.proofs.Ways.{moved-nowhere, moved-moved, shift_at-zero, IsInRange-part, IsPartOfWay-plus}
+use Rattle.slide_move.proofs.Turns.{IsTurn-turn_of, shift-turn_of}
+
+All-none : (P : Bounds → Type 0) → All P []
+All-none P = λ k d h. absurd (omega arith)
+
+All-one : (P : Bounds → Type 0) (b : Bounds) → P b → All P (b ∷ [])
+All-one P b p = search rules
+
+-- what holds at each step holds of all the steps
+All-steps_to : (P : Bounds → Type 0) (k : ℕ) (body : Bounds) (way : Vec3) → ((i : ℕ) → 1 ≤ i → i ≤ k → P (body_at body way i)) → All P (steps_to k body way)
+All-steps_to P zero body way each = All-none P
+All-steps_to P (suc k) body way each =
+    All-append P (steps_to k body way) (body_at body way (suc k) ∷ [])
+    (All-steps_to P k body way (λ i from within. each i from (omega arith)))
+    (All-one P (body_at body way (suc k)) (each (suc k) (omega arith) (omega arith)))
+
+All-then : (P : Bounds → Type 0) (f : Vec3 → List Bounds) (rest : Option Vec3) {Q : Vec3 → Type 0} → IfSome rest Q → ((r : Vec3) → Q r → All P (f r)) → All P (option_map_or f rest [])
+All-then P f None is each = All-none P
+All-then P f (Some r) is each = each r is
+
+IsAnywhere : Vec3 → Type 0
+IsAnywhere r = Unit {0}
+
+anywhere : (rest : Option Vec3) → IfSome rest IsAnywhere
+unfolding IsAnywhere
+anywhere None = tt
+anywhere (Some r) = tt
+
+places_free_along : (traces : ℕ) (body : Bounds) (vel way : Vec3) (solids : List Bounds) → All (λ place. is_blocked place solids ≡ false) (places_along traces body vel way solids)
+unfolding places_along
+places_free_along zero body vel way solids = All-none _
+places_free_along (suc traces) body vel way solids =
+    let turn = turn_of body vel way solids in
+    let there = moved body turn.slid.shift in
+    let k = (trace_of body way solids).steps in
+    let P : Bounds → Type 0 = λ place. is_blocked place solids ≡ false in
+    All-append P (steps_to k body way) _
+    (All-steps_to P k body way (λ i from within. (IsTrace-trace_of body way solids).free.free i from within))
+    (All-then P (λ r. places_along traces there turn.slid.vel r solids) turn.rest (anywhere turn.rest) (λ r _. places_free_along traces there turn.slid.vel r solids))
+
+pub places_are_free : PlacesAreFree
+unfolding places_of
+places_are_free body vel ms solids = places_free_along 4 body vel (displacement vel ms) solids
+
+-- ---- in range
+places_in_range_along : (traces : ℕ) (body : Bounds) (vel way : Vec3) (solids : List Bounds) → IsInRange body → IsInRange (moved body way) → All IsInRange (places_along traces body vel way solids)
+unfolding places_along
+places_in_range_along zero body vel way solids first last = All-none _
+places_in_range_along (suc traces) body vel way solids first last =
+    let turn = turn_of body vel way solids in
+    let is = IsTurn-turn_of body vel way solids in
+    let there = moved body turn.slid.shift in
+    let k = (trace_of body way solids).steps in
+    let most : k ≤ step_count way = (IsTrace-trace_of body way solids).within in
+    let here : IsInRange there = IsInRange-part body way turn.slid.shift is.goes first last in
+    All-append IsInRange (steps_to k body way) _
+    (All-steps_to IsInRange k body way (λ i from within. IsInRange-body_at body way i first last (omega arith)))
+    (All-then IsInRange (λ r. places_along traces there turn.slid.vel r solids) turn.rest is.leaves (λ r part. places_in_range_along traces there turn.slid.vel r solids here (end_of_rest body way turn.slid.shift r is.goes part first last)))
+  where
+    end_of_rest : (b : Bounds) (w shift r : Vec3) → IsPartOfWay w shift → IsPartOfWay (minus w shift) r → IsInRange b → IsInRange (moved b w) → IsInRange (moved (moved b shift) r)
+    end_of_rest b w shift r p q from to =
+        subst IsInRange (sym (moved-moved b shift r)) (IsInRange-part b w (plus shift r) (IsPartOfWay-plus w shift r p q) from to)
+
+pub places_are_in_range : PlacesAreInRange
+unfolding places_of
+places_are_in_range body vel ms solids = places_in_range_along 4 body vel (displacement vel ms) solids
+
+-- ---- the last place
+last_place-append : (start : Bounds) (xs ys : List Bounds) → last_place start (xs ++ ys) ≡ last_place (last_place start xs) ys
+last_place-append start [] ys = refl
+last_place-append start (x ∷ xs) ys = last_place-append x xs ys
+
+last_place-steps_to : (k : ℕ) (body : Bounds) (way : Vec3) → last_place body (steps_to k body way) ≡ moved body (shift_at way k)
+last_place-steps_to zero body way = sym (ap (moved body) (shift_at-zero way) ∙ moved-nowhere body)
+last_place-steps_to (suc k) body way = last_place-append body (steps_to k body way) (body_at body way (suc k) ∷ [])
+
+last_then : (there : Bounds) (vel : Vec3) (f : Vec3 → Slid) (g : Vec3 → List Bounds) (rest : Option Vec3) → ((r : Vec3) → moved there (f r).shift ≡ last_place there (g r)) → moved there (option_map_or f rest (still vel)).shift ≡ last_place there (option_map_or g rest [])
+last_then there vel f g None each = moved-nowhere there
+last_then there vel f g (Some r) each = each r
+
+last_place_along : (traces : ℕ) (body : Bounds) (vel way : Vec3) (solids : List Bounds) → moved body (slide_along traces body vel way solids).shift ≡ last_place body (places_along traces body vel way solids)
+unfolding slide_along places_along
+last_place_along zero body vel way solids = moved-nowhere body
+last_place_along (suc traces) body vel way solids =
+    let turn = turn_of body vel way solids in
+    let there = moved body turn.slid.shift in
+    let k = (trace_of body way solids).steps in
+    let next : Vec3 → Slid = λ r. slide_along traces there turn.slid.vel r solids in
+    let places : Vec3 → List Bounds = λ r. places_along traces there turn.slid.vel r solids in
+    let at : there ≡ last_place body (steps_to k body way) = ap (moved body) (shift-turn_of body vel way solids) ∙ sym (last_place-steps_to k body way) in
+    sym (moved-moved body turn.slid.shift (option_map_or next turn.rest (still turn.slid.vel)).shift)
+    ∙ last_then there turn.slid.vel next places turn.rest (λ r. last_place_along traces there turn.slid.vel r solids)
+    ∙ ap (λ (start : Bounds). last_place start (option_map_or places turn.rest [])) at
+    ∙ sym (last_place-append body (steps_to k body way) (option_map_or places turn.rest []))
+
+pub ends_at_last_place : EndsAtLastPlace
+unfolding slide_of places_of
+ends_at_last_place body vel ms solids = last_place_along 4 body vel (displacement vel ms) solids

@@ -1,0 +1,11 @@
+-- The definition of a slide, and what holds of it.
+pub use Rattle.arena_geo.specs.Vectors
+pub use Rattle.arena_geo.specs.Bounds
+pub use Rattle.arena_geo.specs.Boxes
+pub use Rattle.box_trace.specs.Steps
+pub use Rattle.box_trace.specs.Traces
+pub mod Displacements
+pub mod Slides
+pub mod Places
+pub mod Changes
+pub mod Laws

@@ -1,0 +1,61 @@
+-- What a slide is: up to four traces, each of what the solid before it left of the way.
+use Rattle.std.specs.Prelude.{ℕ, zero, suc, nat_lt, false, ◌||◌, if◌then◌else◌, List, Option, Some, None}
+use Rattle.std.specs.Option.{option_map_or}
+use Rattle.arena_geo.specs.declared.vec3.Vec3.{Vec3}
+use Rattle.arena_geo.specs.Vectors.{plus, minus}
+use Rattle.arena_geo.specs.Bounds.{Bounds}
+use Rattle.arena_geo.specs.Boxes.{moved}
+use Rattle.box_trace.specs.declared.hit.Hit.{Hit}
+use Rattle.box_trace.specs.Steps.{shift_at}
+use Rattle.box_trace.specs.Traces.{trace_of}
+use Rattle.slide_move.specs.declared.slid.Slid.{Slid}
+use Rattle.slide_move.specs.declared.turn.Turn.{Turn}
+use Rattle.slide_move.specs.Displacements.{displacement, nowhere, without, some_way}
+
+-- a slide that doesn't move
+abbrev pub still : Vec3 → Slid
+still vel = record { shift = nowhere; vel = vel; side = false }
+
+-- a slide, and then another one
+abbrev pub joined : Slid → Slid → Slid
+joined first next = record {
+  shift = plus first.shift next.shift;
+  vel = next.vel;
+  side = first.side || next.side;
+}
+
+-- a turn that ends the slide
+abbrev pub last_turn : Vec3 → Vec3 → Turn
+last_turn shift vel =
+    record { slid = record { shift = shift; vel = vel; side = false }; rest = None }
+
+-- a turn that runs into a solid: on an axis it loses that part of the velocity and of the way that is left, else both
+abbrev pub stopped_turn : Vec3 → Vec3 → Vec3 → Option ℕ → Turn
+stopped_turn shift vel left None = last_turn shift nowhere
+stopped_turn shift vel left (Some axis) = record {
+  slid = record { shift = shift; vel = without axis vel; side = nat_lt axis 2 };
+  rest = some_way (without axis left);
+}
+
+-- the turn whose trace of this way finds this
+abbrev pub turn_after : Hit → Vec3 → Vec3 → Turn
+turn_after hit vel way =
+    let shift = shift_at way hit.steps in
+    if hit.whole then last_turn shift vel else stopped_turn shift vel (minus way shift) hit.axis
+
+-- the turn of a body that goes this way at this velocity
+unfoldable pub turn_of : Bounds → Vec3 → Vec3 → List Bounds → Turn
+turn_of body vel way solids = turn_after (trace_of body way solids) vel way
+
+-- the slide of a body that goes this way, with so many traces left: a turn, and then the slide of what it leaves
+unfoldable pub slide_along : ℕ → Bounds → Vec3 → Vec3 → List Bounds → Slid
+slide_along zero body vel way solids = still vel
+slide_along (suc traces) body vel way solids =
+    let turn = turn_of body vel way solids in
+    let there = moved body turn.slid.shift in
+    joined turn.slid
+    (option_map_or (λ rest. slide_along traces there turn.slid.vel rest solids) turn.rest (still turn.slid.vel))
+
+-- the slide of a body at this velocity in so many milliseconds
+unfoldable pub slide_of : Bounds → Vec3 → ℕ → List Bounds → Slid
+slide_of body vel ms solids = slide_along 4 body vel (displacement vel ms) solids

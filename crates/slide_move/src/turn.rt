@@ -1,0 +1,67 @@
+ghost use Rattle.std.specs.Prelude.{◌≡◌, ◌+◌, ◌≤◌, ◌++◌, length};
+ghost use Rattle.arena_geo.specs.Vectors.{IsNear};
+ghost use Rattle.arena_geo.specs.Bounds.{IsInRange};
+ghost use Rattle.arena_geo.specs.Boxes.{moved};
+ghost use Rattle.box_trace.specs.Steps as steps;
+ghost use Rattle.slide_move.specs.Slides.{last_turn, turn_after, turn_of};
+
+use crate::slid::Slid;
+use crate::vector::{ZERO, some_way, without};
+use arena_geo::{Aabb, Vec3};
+use box_trace::{Hit, shift_at, trace};
+
+/// One trace of a slide, and what follows from it.
+#[derive(Clone, Copy)]
+pub struct Turn {
+    pub slid: Slid,
+    /// What is left of the way, in sub-units. `None` where the slide ends.
+    pub rest: Option<Vec3>,
+}
+
+impl Turn {
+    /// The turn of a body that goes this way at this velocity.
+    pub fn of(body: &Aabb, vel: Vec3, way: Vec3, fixed: &[Aabb], moving: &[Aabb]) -> Turn
+        requires near { IsNear 65536 way }
+        requires in_range { IsInRange (moved body.now way) }
+        requires few { length fixed.now + length moving.now ≤ 65535 }
+        ensures { result ≡ turn_of body.now vel way (fixed.now ++ moving.now) }
+    {
+        Turn::after(trace(body, way, fixed, moving), vel, way)
+    }
+
+    /// The turn whose trace finds this: as Quake's `SV_FlyMove`, whose `ClipVelocity` takes from the velocity all of
+    /// its part on the axis that was hit.
+    fn after(hit: Hit, vel: Vec3, way: Vec3) -> Turn
+        requires near { IsNear 65536 way }
+        requires within { hit.steps ≤ steps.step_count way }
+        ensures { result ≡ turn_after hit vel way }
+    {
+        let shift = shift_at(way, hit.steps);
+        match (hit.whole, hit.axis) {
+            (true, _) => Turn::last(shift, vel),
+            (false, None) => Turn::last(shift, ZERO),
+            (false, Some(axis)) => Turn {
+                slid: Slid {
+                    shift,
+                    vel: without(vel, axis),
+                    side: axis < 2,
+                },
+                rest: some_way(without(way - shift, axis)),
+            },
+        }
+    }
+
+    /// A turn that ends the slide.
+    fn last(shift: Vec3, vel: Vec3) -> Turn
+        ensures { result ≡ last_turn shift vel }
+    {
+        Turn {
+            slid: Slid {
+                shift,
+                vel,
+                side: false,
+            },
+            rest: None,
+        }
+    }
+}
