@@ -12,3 +12,4 @@ pub mod Fronts
 pub mod Exits
 pub mod Playing
 pub mod Running
+pub mod Answering

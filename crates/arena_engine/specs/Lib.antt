@@ -15,3 +15,4 @@ pub mod Stops
 pub mod Progress
 pub mod Output
 pub mod Serving
+pub mod Laws

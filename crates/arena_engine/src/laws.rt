@@ -1,0 +1,11 @@
+ghost use Rattle.arena_engine.specs.Laws.{EachPacketIsAnswered, PortsStayApart};
+
+/// Each packet of a frame is answered once: by a refusal or by a join.
+pub fn each_packet_is_answered()
+    ensures { EachPacketIsAnswered }
+{}
+
+/// No two players ever have one port.
+pub fn ports_stay_apart()
+    ensures { PortsStayApart }
+{}
