@@ -1,8 +1,12 @@
 -- What holds of every receive pass.
-use Rattle.std.specs.Prelude.{◌≡◌, ℕ, ◌+◌, ◌==◌, Bool, List, length}
-use Rattle.std.specs.List.{IsDistinct}
+use Rattle.std.specs.Prelude.{◌≡◌, ℕ, ◌+◌, ◌==◌, Bool, false, List, length, map}
+use Rattle.std.specs.List.{IsDistinct, AllByRecursion}
+use Rattle.arena_geo.specs.Bounds.{Bounds}
+use Rattle.arena_geo.specs.Boxes.{overlaps, is_blocked}
+use Rattle.entity_recs.specs.Bodies.{body_of}
 use Rattle.demo_lines.specs.declared.map.ArenaMap.{ArenaMap}
 use Rattle.demo_lines.specs.declared.arrival.Arrival.{Arrival}
+use Rattle.arena_engine.specs.Walls.{walls_of}
 use Rattle.arena_engine.specs.States.{State}
 use Rattle.arena_engine.specs.Receiving.{received}
 
@@ -23,3 +27,18 @@ EachPacketIsAnswered =
 abbrev pub PortsStayApart : Type 0
 PortsStayApart =
     (arena : ArenaMap) (state : State) (arrivals : List Arrival) → HasPortsApart state → HasPortsApart (received arena state arrivals).state
+
+-- the bodies of all players
+abbrev pub bodies_of : State → List Bounds
+bodies_of state = map body_of state.records
+
+-- none of the bodies overlaps a wall, nor another one
+pub record HaveRoom (walls bodies : List Bounds) : Type 0 where
+  pub outside_walls : AllByRecursion (λ body. is_blocked body walls ≡ false) bodies
+  pub apart : IsDistinct overlaps bodies
+
+-- where all players have room, all have after a frame's packets
+abbrev pub PlayersKeepRoom : Type 0
+PlayersKeepRoom =
+    (arena : ArenaMap) (state : State) (arrivals : List Arrival) → HaveRoom (walls_of arena.bounds) (bodies_of state)
+    → HaveRoom (walls_of arena.bounds) (bodies_of (received arena state arrivals).state)

@@ -1,4 +1,4 @@
-ghost use Rattle.arena_engine.specs.Laws.{EachPacketIsAnswered, PortsStayApart};
+ghost use Rattle.arena_engine.specs.Laws.{EachPacketIsAnswered, PortsStayApart, PlayersKeepRoom};
 
 /// Each packet of a frame is answered once: by a refusal or by a join.
 pub fn each_packet_is_answered()
@@ -8,4 +8,9 @@ pub fn each_packet_is_answered()
 /// No two players ever have one port.
 pub fn ports_stay_apart()
     ensures { PortsStayApart }
+{}
+
+/// No player ever stands in a wall or in another player.
+pub fn players_keep_room()
+    ensures { PlayersKeepRoom }
 {}

@@ -8,7 +8,7 @@ ghost use Rattle.arena_engine.specs.Output.{Writes, IsOutput, IsRefused, IsCut, 
 ghost use Rattle.arena_engine.specs.Serving.{IsPlayOne, NothingFailed, IsOrMemory};
 
 use edge_io::{Sink, Source};
-pub use laws::{each_packet_is_answered, ports_stay_apart};
+pub use laws::{each_packet_is_answered, players_keep_room, ports_stay_apart};
 use play::play;
 pub use received::{Joined, Turned};
 pub use refusal::Refusal;
