@@ -6,12 +6,14 @@ use Rattle.arena_geo.specs.declared.vec3.Vec3.{Vec3}
 use Rattle.arena_geo.specs.Bounds.{Bounds}
 use Rattle.arena_geo.specs.Boxes.{overlaps, is_blocked}
 use Rattle.entity_recs.specs.Bodies.{body_of}
+use Rattle.demo_lines.specs.declared.map.ArenaMap.{ArenaMap}
 use Rattle.demo_lines.specs.declared.arrival.Arrival.{Arrival}
 use Rattle.arena_engine.specs.declared.refusal.Refusal.{Refusal}
 use Rattle.arena_engine.specs.declared.refusal.Refusal.TheVariants.{Kind, Already, Full, Crowded}
 use Rattle.arena_engine.specs.Walls.{walls_of}
-use Rattle.arena_engine.specs.States.{State, newcomer}
-use Rattle.arena_engine.specs.Receiving.{Pass, untouched, is_join, is_joined, is_crowded, free_spawn, answer, answered, receive, receive_from}
+use Rattle.arena_engine.specs.States.{State, opening, newcomer}
+use Rattle.arena_engine.specs.Receiving.{Pass, untouched, is_join, is_joined, is_crowded, free_spawn, answer, answered, receive, receive_from, received}
+use Rattle.arena_engine.specs.Frames.{state_after}
 use Rattle.arena_engine.specs.Laws.{is_same_port, HasPortsApart, bodies_of, HaveRoom, EachPacketIsAnswered, PortsStayApart, PlayersKeepRoom}
 
 -- ---- how many packets are answered
@@ -81,8 +83,18 @@ stay_apart spawn fixed r place (a ∷ more) apart =
     (apart_after (answer spawn fixed r.state a) r place a.port
     (λ at h. is_new (is_join a.bytes) (is_joined r.state a.port) (nat_le 64 (length r.state.records)) (free_spawn spawn fixed r.state) at h) apart)
 
+apart_through : (arena : ArenaMap) (state : State) (frames : List (List Arrival)) → HasPortsApart state → HasPortsApart (state_after arena state frames)
+apart_through arena state [] apart = apart
+apart_through arena state (arrivals ∷ frames) apart =
+    apart_through arena (received arena state arrivals).state frames
+    (stay_apart arena.spawn (walls_of arena.bounds) (untouched state) 0 arrivals apart)
+
+nobody_apart : HasPortsApart opening
+unfolding IsDistinct
+nobody_apart = tt
+
 pub ports_are_apart : PortsStayApart
-ports_are_apart arena state arrivals apart = stay_apart arena.spawn (walls_of arena.bounds) (untouched state) 0 arrivals apart
+ports_are_apart arena frames = apart_through arena opening frames nobody_apart
 
 -- ---- players keep room
 
@@ -151,6 +163,16 @@ keep_room spawn fixed r place (a ∷ more) room =
     (λ at h. not_crowded spawn fixed r.state at
     (is_free (is_join a.bytes) (is_joined r.state a.port) (nat_le 64 (length r.state.records)) (free_spawn spawn fixed r.state) at h)) room)
 
+room_through : (arena : ArenaMap) (state : State) (frames : List (List Arrival)) → HaveRoom (walls_of arena.bounds) (bodies_of state)
+    → HaveRoom (walls_of arena.bounds) (bodies_of (state_after arena state frames))
+room_through arena state [] room = room
+room_through arena state (arrivals ∷ frames) room =
+    room_through arena (received arena state arrivals).state frames
+    (keep_room arena.spawn (walls_of arena.bounds) (untouched state) 0 arrivals room)
+
+room_for_nobody : (walls : List Bounds) → HaveRoom walls []
+unfolding IsDistinct
+room_for_nobody walls = record { outside_walls = tt; apart = tt }
+
 pub players_have_room : PlayersKeepRoom
-players_have_room arena state arrivals room =
-    keep_room arena.spawn (walls_of arena.bounds) (untouched state) 0 arrivals room
+players_have_room arena frames = room_through arena opening frames (room_for_nobody (walls_of arena.bounds))

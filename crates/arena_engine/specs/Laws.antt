@@ -1,4 +1,4 @@
--- What holds of every receive pass.
+-- What holds of every receive pass, and of every run.
 use Rattle.std.specs.Prelude.{◌≡◌, ℕ, ◌+◌, ◌==◌, Bool, false, List, length, map}
 use Rattle.std.specs.List.{IsDistinct, AllByRecursion}
 use Rattle.arena_geo.specs.Bounds.{Bounds}
@@ -7,8 +7,9 @@ use Rattle.entity_recs.specs.Bodies.{body_of}
 use Rattle.demo_lines.specs.declared.map.ArenaMap.{ArenaMap}
 use Rattle.demo_lines.specs.declared.arrival.Arrival.{Arrival}
 use Rattle.arena_engine.specs.Walls.{walls_of}
-use Rattle.arena_engine.specs.States.{State}
+use Rattle.arena_engine.specs.States.{State, opening}
 use Rattle.arena_engine.specs.Receiving.{received}
+use Rattle.arena_engine.specs.Frames.{state_after}
 
 -- two ports are the same
 abbrev pub is_same_port : ℕ → ℕ → Bool
@@ -23,10 +24,10 @@ abbrev pub EachPacketIsAnswered : Type 0
 EachPacketIsAnswered =
     (arena : ArenaMap) (state : State) (arrivals : List Arrival) → length (received arena state arrivals).refused + length (received arena state arrivals).joined ≡ length arrivals
 
--- where no two players have one port, no two have one after a frame's packets
+-- after any frames no two players have one port
 abbrev pub PortsStayApart : Type 0
 PortsStayApart =
-    (arena : ArenaMap) (state : State) (arrivals : List Arrival) → HasPortsApart state → HasPortsApart (received arena state arrivals).state
+    (arena : ArenaMap) (frames : List (List Arrival)) → HasPortsApart (state_after arena opening frames)
 
 -- the bodies of all players
 abbrev pub bodies_of : State → List Bounds
@@ -37,8 +38,7 @@ pub record HaveRoom (walls bodies : List Bounds) : Type 0 where
   pub outside_walls : AllByRecursion (λ body. is_blocked body walls ≡ false) bodies
   pub apart : IsDistinct overlaps bodies
 
--- where all players have room, all have after a frame's packets
+-- after any frames all players have room
 abbrev pub PlayersKeepRoom : Type 0
 PlayersKeepRoom =
-    (arena : ArenaMap) (state : State) (arrivals : List Arrival) → HaveRoom (walls_of arena.bounds) (bodies_of state)
-    → HaveRoom (walls_of arena.bounds) (bodies_of (received arena state arrivals).state)
+    (arena : ArenaMap) (frames : List (List Arrival)) → HaveRoom (walls_of arena.bounds) (bodies_of (state_after arena opening frames))

@@ -1,6 +1,6 @@
 ghost use Rattle.arena_engine.specs.Laws.{EachPacketIsAnswered, PortsStayApart, PlayersKeepRoom};
 
-/// Each packet of a frame is answered once: by a refusal or by a join.
+/// As many refusals and joins are told of a frame as packets came.
 pub fn each_packet_is_answered()
     ensures { EachPacketIsAnswered }
 {}
