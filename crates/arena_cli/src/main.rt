@@ -3,12 +3,14 @@
 //! It ends with the status of the report. For every status but 0 it says why in one line on standard error.
 #![tactic(auto)]
 
-ghost use Rattle.std.specs.Prelude.{◌≡◌, ◌≤◌, IfOk};
+ghost use Rattle.std.specs.Prelude.{◌≡◌, ◌≤◌, Err, IsErr, IfOk};
+ghost use Rattle.arena_cli.specs.declared.NoWords.TheVariants.{NotUnicode};
 ghost use Rattle.arena_cli.specs.Statuses.{status_of};
 
 use arena_engine::{Report, serve};
 use edge_io::{StdSink, StdSource};
 use std::alloc::AllocError;
+use std::env::Args;
 use std::io::ErrorKind;
 use std::process::ExitCode;
 use std::{env, io};
@@ -22,11 +24,22 @@ enum NoWords {
     Memory,
 }
 
+/// How a copy of the words fails where there was not enough memory.
+const NO_MEMORY: ErrorKind = ErrorKind::OutOfMemory;
+
 impl From<io::Error> for NoWords {
+    ghost use Rattle.std.specs.Prelude.{◌≡◌, ◌↔◌};
+    ghost use Rattle.std.specs.IoError.{error_kind};
+    ghost use Rattle.arena_cli.specs.declared.TheConstants.{NO_MEMORY};
+    ghost use Rattle.arena_cli.specs.declared.NoWords.TheVariants.{Memory};
+
+    ghost from_gives = { λ error reason. (reason ≡ Memory) ↔ (error_kind error ≡ NO_MEMORY) };
+
     fn from(error: io::Error) -> NoWords {
-        match error.kind() {
-            ErrorKind::OutOfMemory => NoWords::Memory,
-            _ => NoWords::NotUnicode,
+        if error.kind() == NO_MEMORY {
+            NoWords::Memory
+        } else {
+            NoWords::NotUnicode
         }
     }
 }
@@ -62,12 +75,14 @@ fn report_of(reason: NoWords) -> Report
 /// Hands the program's words, its input and its output to `serve`.
 ///
 /// Input and output have no buffer of their own: `serve` reads in blocks, and writes a frame at a time.
-fn run(rt: &HostRuntime) -> Result<Report, NoWords>
+fn run(rt: &HostRuntime, arguments: io::Result<Args>) -> Result<Report, NoWords>
+    ensures unread { IsErr arguments → IsErr result }
+    ensures not_unicode { result ≡ Err NotUnicode → IsErr arguments }
     ensures known { IfOk result (λ report. report.status ≤ 5) }
     ensures place { IfOk result (λ report. (report.line ≡ 0) × (report.fault ≡ 0) × (report.rule ≡ 0)) }
 {
     let alloc = rt.alloc();
-    let arguments: Vec<String> = env::args(rt)?.skip(1).collect(alloc)?;
+    let arguments: Vec<String> = arguments?.skip(1).collect(alloc)?;
     let words: Vec<&str> = arguments.iter().map(|word| word.as_str()).collect(alloc)?;
     let mut source = StdSource::new(rt.stdin());
     let mut sink = StdSink::new(rt.stdout());
@@ -90,7 +105,7 @@ fn tell(rt: &HostRuntime, report: Report) -> io::Result<()> {
 }
 
 fn main(rt: HostRuntime) -> ExitCode {
-    let report = match run(&rt) {
+    let report = match run(&rt, env::args(&rt)) {
         Ok(report) => report,
         Err(reason) => report_of(reason),
     };
