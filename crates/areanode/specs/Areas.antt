@@ -1,8 +1,9 @@
 -- The areas of the nodes, by number.
-use Rattle.std.specs.Prelude.{◌≡◌, ℕ, pos, ◌+◌, ◌*◌, ◌^◌, ◌<◌, ◌≤◌, List, length, slice_index_or}
+use Rattle.std.specs.Prelude.{◌≡◌, ℕ, zero, suc, pos, ◌+◌, ◌*◌, ◌%◌, ◌^◌, ◌<◌, ◌≤◌, ◌==◌, if◌then◌else◌, List, length, map, slice_index_or}
+use Rattle.std.specs.List.{range_with_len}
 use Rattle.arena_geo.specs.Bounds.{Bounds}
 use Rattle.areanode.specs.Cuts.{part_above, part_below}
-use Rattle.areanode.specs.Trees.{child_above, child_below}
+use Rattle.areanode.specs.Trees.{child_above, child_below, parent}
 
 -- the area of a node, and a point where there is no such node
 abbrev pub area_at : List Bounds → ℕ → Bounds
@@ -23,3 +24,14 @@ pub record AreCut (areas : List Bounds) : Type 0 where
 pub record IsAtLevel (levels node : ℕ) : Type 0 where
   pub least : 16 ≤ (node + 1) * 2 ^ levels
   pub most : (node + 2) * 2 ^ levels ≤ 32
+
+-- the area of a node that is at most so many steps below the root: the part of its parent's area that it stands for
+unfoldable pub area_of : ℕ → Bounds → ℕ → Bounds
+area_of zero bounds node = bounds
+area_of (suc steps) bounds node =
+    if node == 0 then bounds
+    else (if node % 2 == 1 then part_above (area_of steps bounds (parent node)) else part_below (area_of steps bounds (parent node)))
+
+-- the areas of the 31 nodes of the tree over these bounds
+abbrev pub areas_of : Bounds → List Bounds
+areas_of bounds = map (area_of 4 bounds) (range_with_len 0 31)

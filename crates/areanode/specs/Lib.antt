@@ -6,4 +6,5 @@ pub mod Words
 pub mod Cuts
 pub mod Trees
 pub mod Areas
+pub mod Rebuilt
 pub mod Laws

@@ -1,4 +1,5 @@
 ghost use Rattle.std.specs.Prelude.{◌≡◌, ◌+◌, ◌<◌};
+ghost use Rattle.arena_geo.specs.Regions.{IsRegion};
 ghost use Rattle.areanode.specs.Words.{word_of};
 ghost use Rattle.areanode.specs.Trees as trees;
 ghost use Rattle.areanode.specs.Areas.{area_at, AreCut, IsAtLevel};
@@ -23,20 +24,26 @@ pub const FIRST_LEAF: usize = 15;
 
 /// The tree of areanodes over an arena, by which boxes are linked and found. Node 0 is the root; the children of node i
 /// are 2i + 1 over the part of its area above its cut, and 2i + 2 over the part below. Leaf i is node 15 + i.
-#[derive(Drop)]
+#[derive(Clone, Copy)]
 pub struct Tree {
     areas: [Aabb; NODES],
 }
 
 impl Model for Tree {
     ghost use Rattle.areanode.specs.Trees.{AreaTree};
-    ghost use Rattle.areanode.specs.Areas.{area_at, AreCut};
+    ghost use Rattle.areanode.specs.Areas.{area_at, areas_of, AreCut};
+    ghost use Rattle.areanode.specs.Rebuilt.{areas_of-is};
+    ghost use Rattle.std.proofs.Common.{ap};
 
     ghost Value = { AreaTree };
 
     ghost view = { λ t. record { depth = 4; bounds = area_at t.areas 0 } };
 
     ghost invariant = { λ t. AreCut t.areas };
+
+    ghost inverse = { λ tree. record { areas = areas_of tree.bounds } };
+
+    ghost inverse_ok = { λ t cut. ap (λ areas. record { areas = areas }) (areas_of-is t.areas cut) };
 }
 
 /// From a node with `levels` levels below it: the first node of whose cut the box lies on neither side, or the leaf.
@@ -110,6 +117,7 @@ impl Tree {
     /// point, the cut counted on both. Boxes beyond the arena have leaves too.
     pub fn leaves_of(&self, r: &Region) -> u16
         ensures leaves { result ≡ trees.leaves_of self.now r.now }
+        ensures region { IsRegion r.now }
         ensures depth { self.now.depth ≡ DEPTH }
     {
         let mut leaves = 0;

@@ -3,9 +3,9 @@
 //! It ends with the status of the report. For every status but 0 it says why in one line on standard error.
 #![tactic(auto)]
 
-ghost use Rattle.std.specs.Prelude.{◌≡◌, ◌≤◌, Err, IsErr, IfOk};
+ghost use Rattle.std.specs.Prelude.{◌≡◌, ◌≤◌, Err, IsErr, IfOk, drop};
 ghost use Rattle.arena_cli.specs.declared.NoWords.TheVariants.{NotUnicode};
-ghost use Rattle.arena_cli.specs.Statuses.{status_of};
+ghost use Rattle.arena_cli.specs.Statuses.{status_of, reason_of};
 
 use arena_engine::{Report, serve};
 use edge_io::{StdSink, StdSource};
@@ -72,6 +72,16 @@ fn report_of(reason: NoWords) -> Report
     }
 }
 
+/// The words of the command: all arguments but the first, which is the program's name.
+fn words_of(arguments: &[String]) -> &[String]
+    ensures { result.now ≡ drop 1 arguments.now }
+{
+    match arguments.split_first() {
+        Some((_, words)) => words,
+        None => &[],
+    }
+}
+
 /// Hands the program's words, its input and its output to `serve`.
 ///
 /// Input and output have no buffer of their own: `serve` reads in blocks, and writes a frame at a time.
@@ -82,11 +92,24 @@ fn run(rt: &HostRuntime, arguments: io::Result<Args>) -> Result<Report, NoWords>
     ensures place { IfOk result (λ report. (report.line ≡ 0) × (report.fault ≡ 0) × (report.rule ≡ 0)) }
 {
     let alloc = rt.alloc();
-    let arguments: Vec<String> = arguments?.skip(1).collect(alloc)?;
-    let words: Vec<&str> = arguments.iter().map(|word| word.as_str()).collect(alloc)?;
+    let arguments: Vec<String> = arguments?.collect(alloc)?;
+    let words = words_of(arguments.as_slice());
+    let words: Vec<&str> = words.iter().map(|word| word.as_str()).collect(alloc)?;
     let mut source = StdSource::new(rt.stdin());
     let mut sink = StdSink::new(rt.stdout());
     Ok(serve(alloc, &words, &mut source, &mut sink))
+}
+
+/// Why a call ended that read no recording to its end, for the statuses from 2 on.
+fn reason(status: u8) -> &'static str
+    ensures { result.now ≡ reason_of status }
+{
+    match status {
+        2 => "words refused",
+        3 => "read fault",
+        4 => "write fault",
+        _ => "out of memory",
+    }
 }
 
 /// Says on standard error why the call ended, unless it did what it was asked for.
@@ -97,10 +120,7 @@ fn tell(rt: &HostRuntime, report: Report) -> io::Result<()> {
             "recording refused: line {}, fault {}",
             report.line, report.fault
         ),
-        2 => eprintln!(rt; "words refused"),
-        3 => eprintln!(rt; "read fault"),
-        4 => eprintln!(rt; "write fault"),
-        _ => eprintln!(rt; "out of memory"),
+        status => eprintln!(rt; "{}", reason(status)),
     }
 }
 

@@ -4,13 +4,13 @@ use Rattle.demo_lines.specs.declared.stage.Stage.{Stage}
 use Rattle.demo_lines.specs.declared.stage.Stage.TheVariants.{Start, Map, Playing, Ended, Refused}
 use Rattle.demo_lines.specs.declared.line.Line.{Line}
 use Rattle.demo_lines.specs.declared.line.Line.TheVariants as lines
-use Rattle.demo_lines.specs.declared.reading.Reading.{Reading}
+use Rattle.demo_lines.specs.Recording.{Reading}
 use Rattle.demo_lines.specs.declared.arrival.Arrival.{Arrival}
 use Rattle.demo_lines.specs.declared.event.Event.{Event}
 use Rattle.demo_lines.specs.declared.event.Event.TheVariants as events
 use Rattle.demo_lines.specs.Machines.{run_of}
 use Rattle.demo_lines.proofs.Machines.{run_of-append}
-use Rattle.demo_lines.specs.Recording.{next, told, said_by, after, events_of, step_at, event_of, is_over, is_refused, goes_to, with_map, with_spawn, opens_frame, takes_arrival, takes_spawn, has_spawn, is_wide}
+use Rattle.demo_lines.specs.Recording.{next, told, said_by, after, events_of, step_at, event_of, is_over, is_refused, goes_to, with_map, with_spawn, opens_frame, takes_arrival, takes_spawn, with_block, takes_block, bare_map, has_spawn, is_wide}
 use Rattle.arena_geo.specs.Bounds.{bounds}
 use Rattle.arena_engine.specs.Frames.{Frames, collect, closing}
 
@@ -94,21 +94,24 @@ none_still r t f same none = record { closed = none.closed; opened = none.opened
 agrees_step : (stage : Stage) (r : Reading) (line : Option Line) (f : Frames) → r.stage ≡ stage → AgreesAt stage r f
     → AgreesAt (step_at stage r line).stage (step_at stage r line) (run_of collect f (told_of (is_over stage) (step_at stage r line) (event_of line)))
 agrees_step Start r None f here h = tt
-agrees_step Start r (Some (lines.Arena lo hi)) f here h = behind_choice (is_wide lo hi) (with_map r (Some (record { bounds = bounds lo hi; spawn = None }))) r f []
-    (none_still r (with_map r (Some (record { bounds = bounds lo hi; spawn = None }))) f refl h)
+agrees_step Start r (Some (lines.Arena lo hi)) f here h = behind_choice (is_wide lo hi) (with_map r (Some (bare_map (bounds lo hi)))) r f []
+    (none_still r (with_map r (Some (bare_map (bounds lo hi)))) f refl h)
 agrees_step Start r (Some (lines.Spawn at)) f here h = tt
+agrees_step Start r (Some (lines.Block lo hi)) f here h = tt
 agrees_step Start r (Some lines.Frame) f here h = tt
 agrees_step Start r (Some (lines.From a)) f here h = tt
 agrees_step Start r (Some lines.End) f here h = tt
 agrees_step Map r None f here h = tt
 agrees_step Map r (Some (lines.Arena lo hi)) f here h = tt
 agrees_step Map r (Some (lines.Spawn at)) f here h = behind_choice (takes_spawn r.map at) (with_map r (with_spawn r.map at)) r f [] (none_still r (with_map r (with_spawn r.map at)) f refl h)
+agrees_step Map r (Some (lines.Block lo hi)) f here h = behind_choice (takes_block r.map lo hi) (with_map r (with_block r.map lo hi)) r f [] (none_still r (with_map r (with_block r.map lo hi)) f refl h)
 agrees_step Map r (Some lines.Frame) f here h = behind_choice (has_spawn r.map) (opens_frame r) r f (event_of (Some lines.Frame)) (first_frame r f h)
 agrees_step Map r (Some (lines.From a)) f here h = tt
 agrees_step Map r (Some lines.End) f here h = end_without r f h
 agrees_step Playing r None f here h = tt
 agrees_step Playing r (Some (lines.Arena lo hi)) f here h = tt
 agrees_step Playing r (Some (lines.Spawn at)) f here h = tt
+agrees_step Playing r (Some (lines.Block lo hi)) f here h = tt
 agrees_step Playing r (Some lines.Frame) f here h = behind_choice (nat_lt r.frames 100000) (opens_frame r) r f (event_of (Some lines.Frame)) (next_frame r f h)
 agrees_step Playing r (Some (lines.From a)) f here h = behind_choice (nat_lt r.arrivals 512) (takes_arrival r) r f (event_of (Some (lines.From a))) (one_arrival r f a h)
 agrees_step Playing r (Some lines.End) f here h = end_behind r f h

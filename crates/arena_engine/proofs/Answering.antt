@@ -1,178 +1,141 @@
--- What a receive pass keeps, packet by packet.
-use Rattle.std.proofs.Common.{◌≡◌, ℕ, ◌+◌, ◌||◌, ◌&&◌, not, nat_le, int_lt, map, if◌then◌else◌, Bool, true, false, List, [], ◌∷◌, ◌++◌, length, Option, Some, None, Result, Ok, Err, ok_or, refl, sym, ap, subst, ◌∙◌, arith}
-use Rattle.std.specs.List.{IsDistinct, AllByRecursion, list_any}
-use Rattle.std.proofs.lemmas.List.Folds.{list_any-append}
+-- What a receive pass keeps, packet by packet: each is answered, and the ports stay apart.
+use Rattle.std.specs.Prelude.{◌≡◌, ℕ, ◌+◌, ◌==◌, nat_le, true, false, List, [], ◌∷◌, length, Option, Some, Result, Ok, Err, position, slice_get, slice_set}
+use Rattle.std.specs.List.{IsDistinct, AllByRecursion}
+use Rattle.std.proofs.Common.{zero, suc, refl, ap, subst, ◌∙◌, arith}
+use Rattle.std.proofs.lemmas.List.{length_push}
+use Rattle.std.proofs.lemmas.List.Quantifiers.{position-Some}
+use Rattle.std.proofs.lemmas.Option.{get_or_from_slice_get}
+use Rattle.std.proofs.lemmas.Bool.{eqb-true}
 use Rattle.arena_geo.specs.declared.vec3.Vec3.{Vec3}
 use Rattle.arena_geo.specs.Bounds.{Bounds}
-use Rattle.arena_geo.specs.Boxes.{overlaps, is_blocked}
-use Rattle.entity_recs.specs.Bodies.{body_of}
+use Rattle.packet_read.specs.declared.move_packet.MovePacket.{MovePacket}
+use Rattle.packet_read.specs.declared.packet.Packet.{Packet}
+use Rattle.packet_read.specs.declared.packet.Packet.TheVariants.{Join, Step, Leave}
+use Rattle.packet_read.specs.declared.packet_fault.PacketFault.{PacketFault}
+use Rattle.packet_read.specs.declared.packet_fault.PacketFault.TheVariants as fault
+use Rattle.packet_read.specs.Reading.{reading}
 use Rattle.demo_lines.specs.declared.map.ArenaMap.{ArenaMap}
 use Rattle.demo_lines.specs.declared.arrival.Arrival.{Arrival}
+use Rattle.arena_engine.specs.declared.client.Client.{Client}
 use Rattle.arena_engine.specs.declared.refusal.Refusal.{Refusal}
-use Rattle.arena_engine.specs.declared.refusal.Refusal.TheVariants.{Kind, Already, Full, Crowded}
-use Rattle.arena_engine.specs.Walls.{walls_of}
-use Rattle.arena_engine.specs.States.{State, opening, newcomer}
-use Rattle.arena_engine.specs.Receiving.{Pass, untouched, is_join, is_joined, is_crowded, free_spawn, answer, answered, receive, receive_from, received}
-use Rattle.arena_engine.specs.Frames.{state_after}
-use Rattle.arena_engine.specs.Laws.{is_same_port, HasPortsApart, bodies_of, HaveRoom, EachPacketIsAnswered, PortsStayApart, PlayersKeepRoom}
+use Rattle.arena_engine.specs.declared.refusal.Refusal.TheVariants as refusal
+use Rattle.arena_engine.specs.States.{State, opening, client}
+use Rattle.arena_engine.specs.Receiving.{Pass, untouched, has_port, is_joined, free_spawn, answer, joins, mover, command_in, moves_on, turns, takes, receive, receive_from, received}
+use Rattle.arena_engine.specs.Outcomes.{fixed_of}
+use Rattle.arena_engine.specs.Frames.{state_behind, state_after}
+use Rattle.arena_engine.specs.Laws.{has_same_port, HasPortsApart, EachPacketIsAnswered, PortsStayApart}
+use Rattle.arena_engine.proofs.Passes.{apart_with, IsNewer, mover_is, mover_found, let_in}
+use Rattle.arena_engine.proofs.Elements.{all_at, all_set}
 
 -- ---- how many packets are answered
 
 -- how many packets a pass has answered
 abbrev told : Pass → ℕ
-told r = length r.refused + length r.joined
+told r = length r.refused + length r.joined + length r.moves
 
-length-snoc : {X : Type 0} (xs : List X) (x : X) → length (xs ++ x ∷ []) ≡ length xs + 1
-length-snoc [] x = refl
-length-snoc (y ∷ xs) x = let more = length-snoc xs x in omega (arith, more)
+turned_told : (r : Pass) (place : ℕ) (why : Refusal) → told (turns r place why) ≡ told r + 1
+turned_told r place why =
+    let more = length_push r.refused (record { place = place; why = why }) in omega (arith, more)
 
-one_more : (to : Result Vec3 Refusal) (r : Pass) (place port : ℕ) → told (answered to r place port) ≡ told r + 1
-one_more (Err why) r place port =
-    let more = length-snoc r.refused (record { place = place; why = why }) in omega (arith, more)
-one_more (Ok at) r place port =
-    let more = length-snoc r.joined (record { port = port; slot = length r.state.records }) in omega (arith, more)
+join_told : (to : Result Vec3 Refusal) (r : Pass) (place port : ℕ) → told (joins to r place port) ≡ told r + 1
+join_told (Err why) r place port = turned_told r place why
+join_told (Ok at) r place port =
+    let more = length_push r.joined (record { port = port; slot = length r.state.records }) in omega (arith, more)
 
-all_told : (spawn : Option Vec3) (fixed : List Bounds) (r : Pass) (place : ℕ) (arrivals : List Arrival) → told (receive_from spawn fixed r place arrivals) ≡ told r + length arrivals
-all_told spawn fixed r place [] = omega arith
-all_told spawn fixed r place (a ∷ more) =
-    let rest = all_told spawn fixed (receive spawn fixed r place a) (place + 1) more in
-    let this = one_more (answer spawn fixed r.state a) r place a.port in
+move_told : (to : Result ℕ Refusal) (frame : ℕ) (m : MovePacket) (r : Pass) (place port : ℕ) → told (moves_on to frame m r place port) ≡ told r + 1
+move_told (Err why) frame m r place port = turned_told r place why
+move_told (Ok slot) frame m r place port =
+    let more = length_push r.moves (command_in frame slot m) in omega (arith, more)
+
+packet_told : (read : Result Packet PacketFault) (spawn : Option Vec3) (fixed : List Bounds) (frame : ℕ) (r : Pass) (place port : ℕ)
+    → told (takes read spawn fixed frame r place port) ≡ told r + 1
+packet_told (Err why) spawn fixed frame r place port = turned_told r place (refusal.Packet why)
+packet_told (Ok Join) spawn fixed frame r place port = join_told (answer spawn fixed r.state port) r place port
+packet_told (Ok (Step m)) spawn fixed frame r place port = move_told (mover r.state port m.seq) frame m r place port
+packet_told (Ok Leave) spawn fixed frame r place port = turned_told r place (refusal.Packet fault.Kind)
+
+all_told : (spawn : Option Vec3) (fixed : List Bounds) (frame : ℕ) (r : Pass) (place : ℕ) (arrivals : List Arrival)
+    → told (receive_from spawn fixed frame r place arrivals) ≡ told r + length arrivals
+all_told spawn fixed frame r place [] = omega arith
+all_told spawn fixed frame r place (a ∷ more) =
+    let rest = all_told spawn fixed frame (receive spawn fixed frame r place a) (place + 1) more in
+    let this = packet_told (reading a.bytes) spawn fixed frame r place a.port in
     omega (arith, rest, this)
 
 pub each_is_answered : EachPacketIsAnswered
-each_is_answered arena state arrivals =
-    let all = all_told arena.spawn (walls_of arena.bounds) (untouched state) 0 arrivals in omega (arith, all)
+unfolding received
+each_is_answered arena frame state arrivals =
+    let all = all_told arena.spawn (fixed_of arena) frame (untouched state) 0 arrivals in omega (arith, all)
 
--- ---- one more at the end of a list
-
-all_with : {X : Type 0} (P : X → Type 0) (xs : List X) (y : X) → AllByRecursion P xs → P y → AllByRecursion P (xs ++ y ∷ [])
-all_with P [] y all new = (new, tt)
-all_with P (x ∷ xs) y all new = (all.0, all_with P xs y all.1 new)
-
-neither : (a b : Bool) → a || b ≡ false → (a ≡ false) × (b ≡ false)
-neither false false h = (refl, refl)
-neither false true h = cc
-neither true b h = cc
-
-apart_with : {X : Type 0} (e : X → X → Bool) (xs : List X) (y : X) → list_any (λ x. e x y) xs ≡ false → IsDistinct e xs → IsDistinct e (xs ++ y ∷ [])
-unfolding IsDistinct
-apart_with e [] y new apart = (tt, tt)
-apart_with e (x ∷ xs) y new apart =
-    let parts = neither (e x y) (list_any (λ z. e z y) xs) new in
-    (all_with (λ z. e x z ≡ false) xs y apart.0 parts.0, apart_with e xs y parts.1 apart.1)
+-- ---- a write to a list
 
 -- ---- ports stay apart
 
--- a player is let in only where its port isn't joined
-is_new : (join joined full : Bool) (free : Option Vec3) (at : Vec3)
-    → (if not join then Err Kind else if joined then Err Already else if full then Err Full else ok_or free Crowded) ≡ Ok at → joined ≡ false
-is_new false joined full free at h = cc
-is_new true true full free at h = cc
-is_new true false full free at h = refl
+apart_after_join : (to : Result Vec3 Refusal) (r : Pass) (place port : ℕ) → ((at : Vec3) → to ≡ Ok at → is_joined r.state port ≡ false)
+    → HasPortsApart r.state → HasPortsApart (joins to r place port).state
+apart_after_join (Err why) r place port new apart = apart
+apart_after_join (Ok at) r place port new apart = apart_with has_same_port r.state.clients (client port 0) (new at refl) apart
 
-apart_after : (to : Result Vec3 Refusal) (r : Pass) (place port : ℕ) → ((at : Vec3) → to ≡ Ok at → is_joined r.state port ≡ false)
-    → HasPortsApart r.state → HasPortsApart (answered to r place port).state
-apart_after (Err why) r place port new apart = apart
-apart_after (Ok at) r place port new apart = apart_with is_same_port r.state.ports port (new at refl) apart
+-- a client with the port of the one before it leaves the ports apart
+apart_after_set : (clients : List Client) (k : ℕ) (before new : Client) → slice_get clients k ≡ Some before → before.port ≡ new.port
+    → IsDistinct has_same_port clients → IsDistinct has_same_port (slice_set clients k new)
+unfolding IsDistinct
+apart_after_set [] k before new at same apart = cc
+apart_after_set (c ∷ clients) zero before new at same apart =
+    let one : c ≡ before = cc in
+    let port : c.port ≡ new.port = ap (λ (d : Client). d.port) one ∙ same in
+    (subst (λ (n : ℕ). AllByRecursion (λ d. (n == d.port) ≡ false) clients) port apart.0, apart.1)
+apart_after_set (c ∷ clients) (suc k) before new at same apart =
+    let other = all_at (λ d. (c.port == d.port) ≡ false) clients k before apart.0 at in
+    (all_set (λ d. (c.port == d.port) ≡ false) clients k new apart.0 (subst (λ (n : ℕ). (c.port == n) ≡ false) same other), apart_after_set clients k before new at same apart.1)
 
-stay_apart : (spawn : Option Vec3) (fixed : List Bounds) (r : Pass) (place : ℕ) (arrivals : List Arrival) → HasPortsApart r.state
-    → HasPortsApart (receive_from spawn fixed r place arrivals).state
-stay_apart spawn fixed r place [] apart = apart
-stay_apart spawn fixed r place (a ∷ more) apart =
-    stay_apart spawn fixed (receive spawn fixed r place a) (place + 1) more
-    (apart_after (answer spawn fixed r.state a) r place a.port
-    (λ at h. is_new (is_join a.bytes) (is_joined r.state a.port) (nat_le 64 (length r.state.records)) (free_spawn spawn fixed r.state) at h) apart)
+-- the port of the client that is found
+found_port : (clients : List Client) (port slot : ℕ) (before : Client) → position (has_port port) clients ≡ Some slot → slice_get clients slot ≡ Some before → before.port ≡ port
+found_port clients port slot before found at =
+    let passes = (position-Some (has_port port) clients slot before found).1 in
+    let is : has_port port before ≡ true = subst (λ (c : Client). has_port port c ≡ true) (get_or_from_slice_get clients slot before before at) passes in
+    eqb-true before.port port is
 
-apart_through : (arena : ArenaMap) (state : State) (frames : List (List Arrival)) → HasPortsApart state → HasPortsApart (state_after arena state frames)
-apart_through arena state [] apart = apart
-apart_through arena state (arrivals ∷ frames) apart =
-    apart_through arena (received arena state arrivals).state frames
-    (stay_apart arena.spawn (walls_of arena.bounds) (untouched state) 0 arrivals apart)
+apart_after_move : (to : Result ℕ Refusal) (frame : ℕ) (m : MovePacket) (r : Pass) (place port : ℕ)
+    → ((slot : ℕ) → to ≡ Ok slot → IsNewer r.state.clients slot m.seq) → ((slot : ℕ) → to ≡ Ok slot → position (has_port port) r.state.clients ≡ Some slot)
+    → HasPortsApart r.state → HasPortsApart (moves_on to frame m r place port).state
+apart_after_move (Err why) frame m r place port newer found apart = apart
+apart_after_move (Ok slot) frame m r place port newer found apart =
+    let there = newer slot refl in
+    apart_after_set r.state.clients slot there.before (client port m.seq) there.there
+    (found_port r.state.clients port slot there.before (found slot refl) there.there) apart
+
+apart_after_packet : (read : Result Packet PacketFault) (spawn : Option Vec3) (fixed : List Bounds) (frame : ℕ) (r : Pass) (place port : ℕ) → HasPortsApart r.state
+    → HasPortsApart (takes read spawn fixed frame r place port).state
+apart_after_packet (Err why) spawn fixed frame r place port apart = apart
+apart_after_packet (Ok Join) spawn fixed frame r place port apart =
+    apart_after_join (answer spawn fixed r.state port) r place port
+    (λ at h. (let_in (is_joined r.state port) (nat_le 64 (length r.state.records)) (free_spawn spawn fixed r.state) at h).new) apart
+apart_after_packet (Ok (Step m)) spawn fixed frame r place port apart =
+    let place_of = position (has_port port) r.state.clients in
+    apart_after_move (mover r.state port m.seq) frame m r place port
+    (λ slot. mover_is r.state.clients place_of m.seq slot) (λ slot. mover_found r.state.clients place_of m.seq slot) apart
+apart_after_packet (Ok Leave) spawn fixed frame r place port apart = apart
+
+stay_apart : (spawn : Option Vec3) (fixed : List Bounds) (frame : ℕ) (r : Pass) (place : ℕ) (arrivals : List Arrival) → HasPortsApart r.state
+    → HasPortsApart (receive_from spawn fixed frame r place arrivals).state
+stay_apart spawn fixed frame r place [] apart = apart
+stay_apart spawn fixed frame r place (a ∷ more) apart =
+    stay_apart spawn fixed frame (receive spawn fixed frame r place a) (place + 1) more
+    (apart_after_packet (reading a.bytes) spawn fixed frame r place a.port apart)
+
+apart_behind : (arena : ArenaMap) (frame : ℕ) (state : State) (arrivals : List Arrival) → HasPortsApart state → HasPortsApart (state_behind arena frame state arrivals)
+unfolding state_behind received
+apart_behind arena frame state arrivals apart = stay_apart arena.spawn (fixed_of arena) frame (untouched state) 0 arrivals apart
+
+apart_through : (arena : ArenaMap) (frame : ℕ) (state : State) (frames : List (List Arrival)) → HasPortsApart state → HasPortsApart (state_after arena frame state frames)
+apart_through arena frame state [] apart = apart
+apart_through arena frame state (arrivals ∷ frames) apart =
+    apart_through arena (frame + 1) (state_behind arena frame state arrivals) frames (apart_behind arena frame state arrivals apart)
 
 nobody_apart : HasPortsApart opening
 unfolding IsDistinct
 nobody_apart = tt
 
 pub ports_are_apart : PortsStayApart
-ports_are_apart arena frames = apart_through arena opening frames nobody_apart
-
--- ---- players keep room
-
-and_flips : (a b : Bool) → a && b ≡ b && a
-and_flips false false = refl
-and_flips false true = refl
-and_flips true false = refl
-and_flips true true = refl
-
-overlaps_flips : (a b : Bounds) → overlaps a b ≡ overlaps b a
-overlaps_flips a b =
-    let x = and_flips (int_lt a.lo.x b.hi.x) (int_lt b.lo.x a.hi.x) in
-    let y = and_flips (int_lt a.lo.y b.hi.y) (int_lt b.lo.y a.hi.y) in
-    let z = and_flips (int_lt a.lo.z b.hi.z) (int_lt b.lo.z a.hi.z) in
-    rw (x, y, z) refl
-
-turned : (bodies : List Bounds) (new : Bounds) → list_any (λ b. overlaps b new) bodies ≡ is_blocked new bodies
-turned [] new = refl
-turned (b ∷ bodies) new =
-    ap (λ t. t || list_any (λ c. overlaps c new) bodies) (overlaps_flips b new) ∙ ap (λ t. overlaps new b || t) (turned bodies new)
-
-map-snoc : {X Y : Type 0} (f : X → Y) (xs : List X) (x : X) → map f (xs ++ x ∷ []) ≡ map f xs ++ f x ∷ []
-map-snoc f [] x = refl
-map-snoc f (y ∷ xs) x = ap (λ ys. f y ∷ ys) (map-snoc f xs x)
-
--- a body that isn't blocked by walls and bodies has room among them
-room_for : (walls bodies : List Bounds) (new : Bounds) → is_blocked new (walls ++ bodies) ≡ false → HaveRoom walls bodies → HaveRoom walls (bodies ++ new ∷ [])
-room_for walls bodies new free room =
-    let parts = neither (is_blocked new walls) (is_blocked new bodies) (sym (list_any-append (overlaps new) walls bodies) ∙ free) in
-    record {
-      outside_walls = all_with (λ body. is_blocked body walls ≡ false) bodies new room.outside_walls parts.0;
-      apart = apart_with overlaps bodies new (turned bodies new ∙ parts.1) room.apart;
-    }
-
-is_free : (join joined full : Bool) (free : Option Vec3) (at : Vec3)
-    → (if not join then Err Kind else if joined then Err Already else if full then Err Full else ok_or free Crowded) ≡ Ok at → free ≡ Some at
-is_free false joined full free at h = cc
-is_free true true full free at h = cc
-is_free true false true free at h = cc
-is_free true false false None at h = cc
-is_free true false false (Some x) at h = cc
-
-chosen : (crowded : Bool) (spawn at : Vec3) → (if crowded then None else Some spawn) ≡ Some at → (crowded ≡ false) × (spawn ≡ at)
-chosen true spawn at h = cc
-chosen false spawn at h = (refl, cc)
-
-not_crowded : (spawn : Option Vec3) (fixed : List Bounds) (state : State) (at : Vec3) → free_spawn spawn fixed state ≡ Some at → is_crowded fixed state at ≡ false
-not_crowded None fixed state at h = cc
-not_crowded (Some s) fixed state at h =
-    let both = chosen (is_crowded fixed state s) s at h in
-    let P : Vec3 → Type 0 = λ v. is_crowded fixed state v ≡ false in subst P both.1 both.0
-
-room_after : (to : Result Vec3 Refusal) (fixed : List Bounds) (r : Pass) (place port : ℕ) → ((at : Vec3) → to ≡ Ok at → is_crowded fixed r.state at ≡ false)
-    → HaveRoom fixed (bodies_of r.state) → HaveRoom fixed (bodies_of (answered to r place port).state)
-room_after (Err why) fixed r place port free room = room
-room_after (Ok at) fixed r place port free room =
-    let new = newcomer (length r.state.records) at in
-    subst (HaveRoom fixed) (sym (map-snoc body_of r.state.records new)) (room_for fixed (bodies_of r.state) (body_of new) (free at refl) room)
-
-keep_room : (spawn : Option Vec3) (fixed : List Bounds) (r : Pass) (place : ℕ) (arrivals : List Arrival) → HaveRoom fixed (bodies_of r.state)
-    → HaveRoom fixed (bodies_of (receive_from spawn fixed r place arrivals).state)
-keep_room spawn fixed r place [] room = room
-keep_room spawn fixed r place (a ∷ more) room =
-    keep_room spawn fixed (receive spawn fixed r place a) (place + 1) more
-    (room_after (answer spawn fixed r.state a) fixed r place a.port
-    (λ at h. not_crowded spawn fixed r.state at
-    (is_free (is_join a.bytes) (is_joined r.state a.port) (nat_le 64 (length r.state.records)) (free_spawn spawn fixed r.state) at h)) room)
-
-room_through : (arena : ArenaMap) (state : State) (frames : List (List Arrival)) → HaveRoom (walls_of arena.bounds) (bodies_of state)
-    → HaveRoom (walls_of arena.bounds) (bodies_of (state_after arena state frames))
-room_through arena state [] room = room
-room_through arena state (arrivals ∷ frames) room =
-    room_through arena (received arena state arrivals).state frames
-    (keep_room arena.spawn (walls_of arena.bounds) (untouched state) 0 arrivals room)
-
-room_for_nobody : (walls : List Bounds) → HaveRoom walls []
-unfolding IsDistinct
-room_for_nobody walls = record { outside_walls = tt; apart = tt }
-
-pub players_have_room : PlayersKeepRoom
-players_have_room arena frames = room_through arena opening frames (room_for_nobody (walls_of arena.bounds))
+ports_are_apart arena frames = apart_through arena 0 opening frames nobody_apart

@@ -3,8 +3,9 @@ use Rattle.std.proofs.Common.{◌≡◌, ℕ, true, List, [], ◌++◌, length, 
 use Rattle.std.specs.Io.KnownBytes.{Appends}
 use Rattle.std.proofs.KnownBytes.{Appends-nil, Consumes-trans}
 use Rattle.demo_lines.specs.declared.map.ArenaMap.{ArenaMap}
-use Rattle.demo_lines.specs.declared.reading.Reading.{Reading}
+use Rattle.demo_lines.specs.Recording.{Reading}
 use Rattle.demo_lines.specs.declared.event.Event.{Event}
+use Rattle.demo_lines.specs.Readings.{IsMap}
 use Rattle.demo_lines.specs.Recording.{start, next, told, after, events_of}
 use Rattle.demo_lines.specs.Bytes.{unlines, whole_lines, events_in, events, fault}
 use Rattle.demo_lines.specs.Reads.{Reads, ReadsFront, EndsAt}
@@ -64,6 +65,7 @@ module _ (arena : ArenaMap) (r : Reading) (a b : Option (List ℕ)) (t0 t1 : Opt
     pub reads : Reads start r a b es
     pub settled : is_settled r.stage ≡ true
     pub map : r.map ≡ Some arena
+    pub is_map : IsMap arena
     pub written : Appends t0 t1 (text_of (front_lines arena (collected es).closed))
 
   -- the recording was refused
@@ -77,7 +79,7 @@ module _ (arena : ArenaMap) (r : Reading) (a b : Option (List ℕ)) (t0 t1 : Opt
         written = played.written;
         told = record {
           faulty = some_is_some (fault bytes) n (so.fault_is ∙ here.fault);
-          told = is_all_frames bytes arena (collected es).closed has (frames_of-all r es bytes rest so here.events);
+          told = is_all_frames bytes arena (collected es).closed has played.is_map (frames_of-all r es bytes rest so here.events);
         };
       })
 
@@ -107,6 +109,6 @@ module _ (arena : ArenaMap) (r : Reading) (a b : Option (List ℕ)) (t0 t1 : Opt
         told = record {
           text = text_of (front_lines arena (collected es).closed);
           written = played.written;
-          told = is_all_frames bytes arena (collected es).closed has (frames_of-all u es bytes reads.front so none);
+          told = is_all_frames bytes arena (collected es).closed has played.is_map (frames_of-all u es bytes reads.front so none);
         };
       }

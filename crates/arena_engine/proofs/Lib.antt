@@ -1,15 +1,26 @@
 -- Lemmas on the plain server.
-pub mod WallBoxes
 pub mod Appending
 pub mod Views
 pub mod Writing
+pub mod Elements
+pub mod Standing
+pub mod Moving
+pub mod Rounds
+pub mod Passes
+pub mod FrameMoves
+pub mod Orders
 pub mod Tracks
 pub mod Agreement
 pub mod Settled
 pub mod Quiet
+pub mod Spellings
+pub mod Runs
 pub mod Continuing
+pub mod Arrivals
 pub mod Fronts
 pub mod Exits
 pub mod Playing
 pub mod Running
 pub mod Answering
+pub mod Rooms
+pub mod OneOutput

@@ -1,33 +1,38 @@
 -- One event of a recording that is played.
-use Rattle.std.proofs.Common.{◌≡◌, ℕ, ◌+◌, ◌-◌, ◌<◌, ◌≤◌, true, false, List, [], ◌∷◌, ◌++◌, length, take, Option, Some, None, IfSome, ◌⊎◌, inl, inr, refl, sym, ap, ◌∙◌, subst, append_assoc, append-nil, arith, length-append}
-use lib.Seq.{take-append-add}
+use Rattle.std.proofs.Common.{◌≡◌, ℕ, ◌+◌, ◌-◌, ◌<◌, ◌≤◌, true, false, List, [], ◌∷◌, ◌++◌, length, take, drop, Option, Some, None, IfSome, IsSomeAnd, ◌⊎◌, inl, inr, refl, sym, ap, ◌∙◌, subst, append_assoc, append-nil, arith, length-append, take-append-drop}
+use lib.Seq.{take-append-add, take-append_seam, length-take-le}
 use Rattle.std.proofs.lemmas.List.{take-append-le}
-use Rattle.std.specs.Io.KnownBytes.{Appends}
-use Rattle.std.proofs.KnownBytes.{Appends-nil, Appends-trans}
+use Rattle.std.specs.Io.KnownBytes.{Appends, Consumes}
+use Rattle.std.proofs.KnownBytes.{Appends-nil, Appends-trans, Consumes-trans}
+use Rattle.edge_io.specs.Lines.{ahead}
 use Rattle.edge_io.specs.Writes.{AppendsPart}
 use Rattle.demo_lines.specs.declared.map.ArenaMap.{ArenaMap}
 use Rattle.demo_lines.specs.declared.arrival.Arrival.{Arrival}
 use Rattle.demo_lines.specs.declared.stage.Stage.{Stage}
 use Rattle.demo_lines.specs.declared.stage.Stage.TheVariants.{Playing, Ended}
-use Rattle.demo_lines.specs.declared.reading.Reading.{Reading}
+use Rattle.demo_lines.specs.Recording.{Reading}
 use Rattle.demo_lines.specs.declared.event.Event.{Event}
 use Rattle.demo_lines.specs.declared.event.Event.TheVariants.{Frame, From, End}
 use Rattle.demo_lines.specs.Recording.{start, after, is_over}
-use Rattle.demo_lines.specs.Readings.{IsReading}
-use Rattle.demo_lines.specs.Bytes.{whole_lines, fault, fault_at, map_of}
+use Rattle.demo_lines.specs.Readings.{IsMap, HasMap, IsReading}
+use Rattle.demo_lines.specs.Bytes.{unlines, whole_lines, fault, fault_at, map_of}
 use Rattle.demo_lines.specs.Reads.{Reads, stage_behind}
 use Rattle.demo_lines.proofs.Ends.{after-over, events_of-over}
 use Rattle.demo_lines.proofs.Consuming.{Reads-trans}
-use Rattle.arena_engine.specs.OutLines.{EndLine, text_of}
+use Rattle.demo_lines.proofs.Feeds.{whole_lines-unlines}
+use Rattle.move_journal.specs.Entries.{Entry}
+use Rattle.arena_engine.specs.States.{opening}
+use Rattle.arena_engine.specs.OutLines.{text_of}
 use Rattle.arena_engine.specs.Frames.{Frames, closing, collect, collected, no_frames}
 use Rattle.arena_engine.specs.Games.{Play, front_lines, table_at, game_at, game_after, event_lines, closing_lines, IsReady, is_end}
 use Rattle.arena_engine.specs.Progress.{Progress}
-use Rattle.arena_engine.specs.Output.{frames_of, front_text, out_text, lines_in, IsOutput, IsPart, IsCutFrame, IsCutEnd, IsCut, IsSomeFrames, Writes}
+use Rattle.arena_engine.specs.Output.{frames_of, front_text, out_text, IsOutput, TellsInOrder, IsFront, IsPart, IsCutFrame, IsCutEnd, IsCut, IsSomeFrames, Writes, ReadsToEnd}
 use Rattle.arena_engine.proofs.Settled.{is_settled, keeps_lines}
 use Rattle.arena_engine.proofs.Agreement.{Agrees, AgreesAt, NoneYet, OneOpen, AllClosed, agrees_lines}
 use Rattle.arena_engine.proofs.Tracks.{game_after-at, closing_lines-at, end_lines-at}
-use Rattle.arena_engine.proofs.Continuing.{Continues, continues, map_of-settled, GoesOnWith, collected-append, length-goes_on}
-use Rattle.arena_engine.proofs.Fronts.{text_of-append, fewer_are_shorter, front_text-is, is_front, frames_of-all, goes_on_frames, goes_on_events, out_text-is, is_output}
+use Rattle.arena_engine.proofs.Continuing.{Continues, continues, continues_lines, map_of-settled, GoesOnWith, collected-append, length-goes_on}
+use Rattle.arena_engine.proofs.Fronts.{text_of-append, fewer_are_shorter, journals_at, dids-at, front_text-is, first_are_right, is_front, frames_of-all, goes_on_frames, goes_on_all, goes_on_events, whole_text, out_text-is, is_output, tells_in_order}
+use Rattle.arena_engine.proofs.Runs.{take-journals}
 use Rattle.arena_engine.proofs.Exits.{Played}
 
 settled_behind : (e : Event) → is_settled (stage_behind e) ≡ true
@@ -40,63 +45,90 @@ collected-push es e = collected-append es (e ∷ [])
 
 -- ---- a write that fails in the text of an event
 
-front_goes_on : (closed more all : List (List Arrival)) → GoesOnWith (closed ++ more) all → GoesOnWith closed all
-front_goes_on closed more all on = record { rest = more ++ on.rest; is = on.is ∙ append_assoc closed more on.rest }
-
--- the front and a part of the rest are a part of the whole
-part_of_whole : (bytes : List ℕ) (k count : ℕ) (whole front piece : List ℕ) → k ≤ length (frames_of bytes) → whole ≡ front ++ piece → count < length piece
-    → length (front_text bytes (k - 1) []) ≤ length front → IsPart bytes k whole (front ++ take count piece)
-part_of_whole bytes k count whole front piece frames is short before = record {
-  count = length front + count;
-  frames = frames;
-  short = omega (arith, ap length is, length-append front piece);
-  part = sym (ap (take (length front + count)) is ∙ take-append-add front piece count);
-  all_but_one = omega arith;
+-- the frames but the last are the first of all
+but_last_go_on : (longer all : List (List Arrival)) (k : ℕ) → GoesOnWith longer all → GoesOnWith (take k longer) all
+but_last_go_on longer all k on = record {
+  rest = drop k longer ++ on.rest;
+  is = on.is ∙ ap (λ fs. fs ++ on.rest) (sym (take-append-drop k longer)) ∙ append_assoc (take k longer) (drop k longer) on.rest;
 }
 
-frame_cut : (bytes : List ℕ) (arena : ArenaMap) (closed : List (List Arrival)) (o : Option (List Arrival)) (count : ℕ) → map_of bytes ≡ Some arena
+-- what is written, and a part of the rest, are a part of the text of so many frames
+part_of_whole : (bytes : List ℕ) (arena : ArenaMap) (longer : List (List Arrival)) (whole_with : List (List Entry) → List ℕ) (written piece : List ℕ) (count : ℕ)
+    → map_of bytes ≡ Some arena → IsMap arena → GoesOnWith longer (frames_of bytes) → whole_with (journals_at arena longer) ≡ written ++ piece → count < length piece
+    → length (text_of (front_lines arena (take (length longer - 1) longer))) ≤ length written → IsPart bytes (length longer) whole_with (written ++ take count piece)
+part_of_whole bytes arena longer whole_with written piece count has map on is short before =
+    let k = length longer - 1 in
+    let fewer = take k longer in
+    let fewer_on = but_last_go_on longer (frames_of bytes) k on in
+    let front = text_of (front_lines arena fewer) in
+    let fits : k ≤ length longer = omega arith in
+    let P : ℕ → Type 0 = λ n. IsFront bytes n front in
+    record {
+      frames = length-goes_on longer (frames_of bytes) on;
+      journals = journals_at arena longer;
+      right = first_are_right bytes arena longer has map on;
+      front = front;
+      all_but_one = subst P (length-take-le k longer fits) (is_front bytes arena fewer has map fewer_on);
+      spelled = take-journals arena 0 opening k longer ∙ sym (dids-at bytes arena fewer map fewer_on);
+      count = length written + count;
+      longer = omega arith;
+      short = omega (arith, ap length is, length-append written piece);
+      part = sym (ap (take (length written + count)) is ∙ take-append-add written piece count);
+    }
+
+take-but_last : (closed : List (List Arrival)) (arrivals : List Arrival) → take (length (closed ++ arrivals ∷ []) - 1) (closed ++ arrivals ∷ []) ≡ closed
+take-but_last closed arrivals =
+    let one_less : length (closed ++ arrivals ∷ []) - 1 ≡ length closed = omega (arith, length-append closed (arrivals ∷ [])) in
+    ap (λ k. take k (closed ++ arrivals ∷ [])) one_less ∙ take-append_seam closed (arrivals ∷ [])
+
+frame_cut : (bytes : List ℕ) (arena : ArenaMap) (closed : List (List Arrival)) (o : Option (List Arrival)) (count : ℕ) → map_of bytes ≡ Some arena → IsMap arena
     → GoesOnWith (closed ++ closing o) (frames_of bytes) → count < length (text_of (closing_lines (table_at arena closed) o))
     → IsCutFrame bytes (text_of (front_lines arena closed) ++ take count (text_of (closing_lines (table_at arena closed) o)))
-frame_cut bytes arena closed None count has on short = absurd (omega arith)
-frame_cut bytes arena closed (Some arrivals) count has on short =
+frame_cut bytes arena closed None count has map on short = absurd (omega arith)
+frame_cut bytes arena closed (Some arrivals) count has map on short =
     let longer = closed ++ arrivals ∷ [] in
-    let front = text_of (front_lines arena closed) in
+    let written = text_of (front_lines arena closed) in
     let piece = text_of (closing_lines (table_at arena closed) (Some arrivals)) in
-    let whole_is = front_text-is bytes arena longer has on ∙ ap text_of (sym (closing_lines-at arena closed (Some arrivals)))
+    let whole_is = front_text-is bytes arena longer has map on ∙ ap text_of (sym (closing_lines-at arena closed (Some arrivals)))
     ∙ text_of-append (front_lines arena closed) (closing_lines (table_at arena closed) (Some arrivals)) in
-    let one_less : length longer - 1 ≡ length closed = omega (arith, length-append closed (arrivals ∷ [])) in
-    let before = ap (λ k. length (front_text bytes k [])) one_less ∙ ap length (front_text-is bytes arena closed has (front_goes_on closed (arrivals ∷ []) (frames_of bytes) on)) in
-    let no_longer : length (front_text bytes (length longer - 1) []) ≤ length front = omega (arith, before) in
+    let before = ap (λ fs. length (text_of (front_lines arena fs))) (take-but_last closed arrivals) in
+    let no_longer : length (text_of (front_lines arena (take (length longer - 1) longer))) ≤ length written = omega (arith, before) in
     record {
       k = length longer;
       some = omega (arith, length-append closed (arrivals ∷ []));
-      cut = part_of_whole bytes (length longer) count (front_text bytes (length longer) []) front piece (length-goes_on longer (frames_of bytes) on) whole_is short no_longer;
+      cut = part_of_whole bytes arena longer (front_text bytes (length longer)) written piece count has map on whole_is short no_longer;
     }
 
 closing_is_short : (o : Option (List Arrival)) → length (closing o) ≤ 1
 closing_is_short None = omega arith
 closing_is_short (Some arrivals) = omega arith
 
-end_cut : (bytes : List ℕ) (arena : ArenaMap) (f : Frames) (count : ℕ) → fault bytes ≡ None → map_of bytes ≡ Some arena → frames_of bytes ≡ f.closed ++ closing f.opened
-    → count < length (text_of (event_lines (game_at arena f) End))
+end_cut : (bytes : List ℕ) (arena : ArenaMap) (f : Frames) (count : ℕ) → fault bytes ≡ None → map_of bytes ≡ Some arena → IsMap arena
+    → frames_of bytes ≡ f.closed ++ closing f.opened → count < length (text_of (event_lines (game_at arena f) End))
     → IsCutEnd bytes (text_of (front_lines arena f.closed) ++ take count (text_of (event_lines (game_at arena f) End)))
-end_cut bytes arena f count accepted has all short =
+end_cut bytes arena f count accepted has map all short =
     let longer = f.closed ++ closing f.opened in
-    let front = text_of (front_lines arena f.closed) in
+    let written = text_of (front_lines arena f.closed) in
     let piece = text_of (event_lines (game_at arena f) End) in
-    let whole_is = out_text-is bytes arena longer has all ∙ ap text_of (sym (end_lines-at arena f)) ∙ text_of-append (front_lines arena f.closed) (event_lines (game_at arena f) End) in
-    let k = length (frames_of bytes) in
-    let size = ap length all ∙ length-append f.closed (closing f.opened) in
+    let whole_is = out_text-is bytes arena longer has map all ∙ ap text_of (sym (end_lines-at arena f)) ∙ text_of-append (front_lines arena f.closed) (event_lines (game_at arena f) End) in
+    let k = length longer - 1 in
+    let size = length-append f.closed (closing f.opened) in
     let few = closing_is_short f.opened in
-    let fits : k - 1 ≤ length f.closed = omega (arith, size, few) in
-    let cut : take (k - 1) (frames_of bytes) ≡ take (k - 1) f.closed = ap (take (k - 1)) all ∙ take-append-le (k - 1) f.closed (closing f.opened) fits in
-    let before = ap (λ fs. length (text_of (lines_in (map_of bytes) fs []))) cut ∙ ap (λ m. length (text_of (lines_in m (take (k - 1) f.closed) []))) has in
-    let no_longer : length (front_text bytes (k - 1) []) ≤ length front = omega (arith, before, fewer_are_shorter arena (k - 1) f.closed) in
-    record { accepted = accepted; cut = part_of_whole bytes k count (out_text bytes []) front piece (omega arith) whole_is short no_longer }
+    let fits : k ≤ length f.closed = omega (arith, size, few) in
+    let before = ap (λ fs. length (text_of (front_lines arena fs))) (take-append-le k f.closed (closing f.opened) fits) in
+    let no_longer : length (text_of (front_lines arena (take k longer))) ≤ length written = omega (arith, before, fewer_are_shorter arena k f.closed) in
+    let P : ℕ → Type 0 = λ n. IsPart bytes n (out_text bytes) (written ++ take count piece) in
+    let cut = part_of_whole bytes arena longer (out_text bytes) written piece count has map (goes_on_all longer (frames_of bytes) all) whole_is short no_longer in
+    record { accepted = accepted; cut = subst P (ap length (sym all)) cut }
 
 fault-at_end : (r : Reading) (es : List Event) (bytes rest : List ℕ) → Continues r es bytes rest → r.stage ≡ Ended → fault bytes ≡ None
 fault-at_end r es bytes rest so ended =
     so.fault_is ∙ ap (λ (t : Reading). fault_at t.stage t.lines) (after-over r (whole_lines rest) (ap is_over ended)) ∙ ap (λ stage. fault_at stage r.lines) ended
+
+-- what is buffered was taken from the source
+takes_buffered : (pending : List ℕ) (l : Option (List ℕ)) → Consumes (ahead pending l) l pending
+takes_buffered pending None = tt
+takes_buffered pending (Some left) = refl
 
 frames-at_end : (r : Reading) (es : List Event) (bytes rest : List ℕ) → Continues r (es ++ End ∷ []) bytes rest → r.stage ≡ Ended
     → frames_of bytes ≡ (collected es).closed ++ closing (collected es).opened
@@ -104,14 +136,14 @@ frames-at_end r es bytes rest so ended =
     frames_of-all r (es ++ End ∷ []) bytes rest so (events_of-over r (whole_lines rest) (ap is_over ended)) ∙ ap (λ (f : Frames). f.closed) (collected-push es End)
 
 cut_at : (arena : ArenaMap) (r : Reading) (es : List Event) (e : Event) (bytes rest : List ℕ) (count : ℕ) → Continues r (es ++ e ∷ []) bytes rest → r.stage ≡ stage_behind e
-    → map_of bytes ≡ Some arena → count < length (text_of (event_lines (game_at arena (collected es)) e))
+    → map_of bytes ≡ Some arena → IsMap arena → count < length (text_of (event_lines (game_at arena (collected es)) e))
     → IsCut bytes (text_of (front_lines arena (collected es).closed) ++ take count (text_of (event_lines (game_at arena (collected es)) e)))
-cut_at arena r es Frame bytes rest count so stage has short =
+cut_at arena r es Frame bytes rest count so stage has map short =
     let P : Frames → Type 0 = λ f. GoesOnWith f.closed (frames_of bytes) in
-    inl (frame_cut bytes arena (collected es).closed (collected es).opened count has (subst P (collected-push es Frame) (goes_on_frames r (es ++ Frame ∷ []) bytes rest so)) short)
-cut_at arena r es (From a) bytes rest count so stage has short = absurd (omega arith)
-cut_at arena r es End bytes rest count so stage has short =
-    inr (end_cut bytes arena (collected es) count (fault-at_end r (es ++ End ∷ []) bytes rest so stage) has (frames-at_end r es bytes rest so stage) short)
+    inl (frame_cut bytes arena (collected es).closed (collected es).opened count has map (subst P (collected-push es Frame) (goes_on_frames r (es ++ Frame ∷ []) bytes rest so)) short)
+cut_at arena r es (From a) bytes rest count so stage has map short = absurd (omega arith)
+cut_at arena r es End bytes rest count so stage has map short =
+    inr (end_cut bytes arena (collected es) count (fault-at_end r (es ++ End ∷ []) bytes rest so stage) has map (frames-at_end r es bytes rest so stage) short)
 
 -- ---- what is closed behind an event that isn't the end
 
@@ -169,9 +201,24 @@ stage_of Frame = inl refl
 stage_of (From a) = inl refl
 stage_of End = inr refl
 
+-- the arena of a recording that is played is a map
+pub map_at : (e : Event) (arena : ArenaMap) (r : Reading) → IsReading r → r.stage ≡ stage_behind e → r.map ≡ Some arena → IsMap arena
+map_at e arena r holds stage has =
+    let P : Stage → Type 0 = λ s. HasMap s r in
+    let Q : Option ArenaMap → Type 0 = λ m. IsSomeAnd m IsMap in
+    subst Q has (map_behind e r (subst P stage holds.map))
+  where
+    map_behind : (e : Event) (r : Reading) → HasMap (stage_behind e) r → IsSomeAnd r.map IsMap
+    map_behind Frame r has = has.0
+    map_behind (From a) r has = has.0
+    map_behind End r has = has
+
 module _ (arena : ArenaMap) (r : Reading) (a b : Option (List ℕ)) (t0 t1 : Option (List ℕ)) (g : Play) (e : Event) (p : Progress arena r a b t0 t1 g e) where
   settled : is_settled r.stage ≡ true
   settled = ap is_settled p.stage ∙ settled_behind e
+
+  is_map : IsMap arena
+  is_map = map_at e arena r p.holds p.stage p.map
 
   agrees : Agrees r (collect (collected p.events) e)
   agrees = let P : Frames → Type 0 = λ f. Agrees r f in subst P (collected-push p.events e) (agrees_from_start r a b (p.events ++ e ∷ []) p.reads)
@@ -189,7 +236,7 @@ module _ (arena : ArenaMap) (r : Reading) (a b : Option (List ℕ)) (t0 t1 : Opt
       let has = map_of-settled r (p.events ++ e ∷ []) bytes rest arena so settled p.map in
       let closed = (collected p.events).closed in
       let on : GoesOnWith closed (frames_of bytes) = goes_on_events r p.events (e ∷ []) bytes rest so in
-      record { text = text_of (front_lines arena closed); written = p.written; told = record { k = length closed; told = is_front bytes arena closed has on } })
+      record { text = text_of (front_lines arena closed); written = p.written; told = record { k = length closed; told = is_front bytes arena closed has is_map on } })
 
   -- a write failed at this event
   pub cut_on : (t2 : Option (List ℕ)) → AppendsPart t1 t2 (text_of (event_lines g e)) → IfSome a (λ bytes. Writes t0 t2 (IsCut bytes))
@@ -203,30 +250,56 @@ module _ (arena : ArenaMap) (r : Reading) (a b : Option (List ℕ)) (t0 t1 : Opt
       record {
         text = front ++ take here.count piece;
         written = Appends-trans t0 t1 t2 front (take here.count piece) p.written here.appended;
-        told = cut_at arena r p.events e bytes rest here.count so p.stage has here.part;
+        told = cut_at arena r p.events e bytes rest here.count so p.stage has is_map here.part;
       })
 
-  -- it was the end, and all was written
-  pub done_on : (t2 : Option (List ℕ)) → e ≡ End → Appends t1 t2 (text_of (event_lines g e)) → IfSome a (λ bytes. Writes t0 t2 (IsOutput bytes))
-  done_on t2 last written =
+  -- the frames that the end closes
+  abbrev ended_frames : List (List Arrival)
+  ended_frames = (collected p.events).closed ++ closing (collected p.events).opened
+
+  -- it was the end, and all was written; what holds of the whole output of such a recording is told
+  done_with : (P : List ℕ → List ℕ → Type 0) (t2 : Option (List ℕ)) → e ≡ End → Appends t1 t2 (text_of (event_lines g e))
+      → ((bytes : List ℕ) → fault bytes ≡ None → map_of bytes ≡ Some arena → frames_of bytes ≡ ended_frames → P bytes (whole_text arena ended_frames))
+      → IfSome a (λ bytes. Writes t0 t2 (P bytes))
+  done_with P t2 last written tells =
       let f = collected p.events in
-      let closed = f.closed ++ closing f.opened in
       let G : Play → Event → Type 0 = λ h x. Appends t1 t2 (text_of (event_lines h x)) in
       let H : Event → Type 0 = λ x. G g x in
       let K : Play → Type 0 = λ h. G h End in
       let end : Appends t1 t2 (text_of (event_lines (game_at arena f) End)) = subst K p.plays (subst H last written) in
       let both = Appends-trans t0 t1 t2 (text_of (front_lines arena f.closed)) (text_of (event_lines (game_at arena f) End)) p.written end in
-      let whole : text_of (front_lines arena f.closed) ++ text_of (event_lines (game_at arena f) End) ≡ text_of (front_lines arena closed ++ EndLine (length closed) ∷ []) =
+      let whole : text_of (front_lines arena f.closed) ++ text_of (event_lines (game_at arena f) End) ≡ whole_text arena ended_frames =
       sym (text_of-append (front_lines arena f.closed) (event_lines (game_at arena f) End)) ∙ ap text_of (end_lines-at arena f) in
       let ended : r.stage ≡ Ended = p.stage ∙ ap stage_behind last in
       let R : Event → Type 0 = λ x. Reads start r a b (p.events ++ x ∷ []) in
-      continues r a b (p.events ++ End ∷ []) (λ bytes. Writes t0 t2 (IsOutput bytes)) (subst R last p.reads) (λ bytes rest is so.
+      continues r a b (p.events ++ End ∷ []) (λ bytes. Writes t0 t2 (P bytes)) (subst R last p.reads) (λ bytes rest is so.
       let has = map_of-settled r (p.events ++ End ∷ []) bytes rest arena so settled p.map in
       record {
-        text = text_of (front_lines arena closed ++ EndLine (length closed) ∷ []);
+        text = whole_text arena ended_frames;
         written = subst (Appends t0 t2) whole both;
-        told = is_output bytes arena closed (fault-at_end r (p.events ++ End ∷ []) bytes rest so ended) has (frames-at_end r p.events bytes rest so ended);
+        told = tells bytes (fault-at_end r (p.events ++ End ∷ []) bytes rest so ended) has (frames-at_end r p.events bytes rest so ended);
       })
+
+  pub done_on : (t2 : Option (List ℕ)) → e ≡ End → Appends t1 t2 (text_of (event_lines g e)) → IfSome a (λ bytes. Writes t0 t2 (IsOutput bytes))
+  done_on t2 last written =
+      done_with (λ bytes text. IsOutput bytes text) t2 last written (λ bytes accepted has all. is_output bytes arena ended_frames accepted has is_map all)
+
+  -- and it tells the moves in the order of arrival
+  pub ordered_on : (t2 : Option (List ℕ)) → e ≡ End → Appends t1 t2 (text_of (event_lines g e)) → IfSome a (λ bytes. Writes t0 t2 (TellsInOrder bytes))
+  ordered_on t2 last written =
+      done_with (λ bytes text. TellsInOrder bytes text) t2 last written (λ bytes accepted has all. tells_in_order bytes arena ended_frames has is_map all)
+
+  -- and the recording was taken from the source up to it
+  pub whole_on : (pending : List ℕ) (l : Option (List ℕ)) → e ≡ End → b ≡ ahead pending l → ReadsToEnd a l
+  whole_on pending l last is =
+      let lines = p.reads.lines in
+      let so = continues_lines r lines (p.events ++ e ∷ []) (unlines lines ++ pending) pending (whole_lines-unlines lines pending p.reads.each) p.reads.reached p.reads.events in
+      let P : Option (List ℕ) → Type 0 = λ o. Consumes a o (unlines lines) in
+      record {
+        bytes = unlines lines ++ pending;
+        consumed = Consumes-trans a (ahead pending l) l (unlines lines) pending (subst P is p.reads.consumed) (takes_buffered pending l);
+        accepted = fault-at_end r (p.events ++ e ∷ []) (unlines lines ++ pending) pending so (p.stage ∙ ap stage_behind last);
+      }
 
   -- it wasn't the end, and was played
   pub played_on : (t2 : Option (List ℕ)) → is_end e ≡ false → Appends t1 t2 (text_of (event_lines g e)) → Played arena r a b t0 t2 (p.events ++ e ∷ [])
@@ -237,7 +310,7 @@ module _ (arena : ArenaMap) (r : Reading) (a b : Option (List ℕ)) (t0 t1 : Opt
       let whole : text_of (front_lines arena f.closed) ++ text_of (event_lines (game_at arena f) e) ≡ text_of (front_lines arena (collected (p.events ++ e ∷ [])).closed) =
       sym (text_of-append (front_lines arena f.closed) (event_lines (game_at arena f) e)) ∙ ap text_of (lines_behind arena f e going)
       ∙ ap (λ (h : Frames). text_of (front_lines arena h.closed)) (sym (collected-push p.events e)) in
-      record { reads = p.reads; settled = settled; map = p.map; written = subst (Appends t0 t2) whole both }
+      record { reads = p.reads; settled = settled; map = p.map; is_map = is_map; written = subst (Appends t0 t2) whole both }
 
   -- and the next event comes
   pub goes_on : (r' : Reading) (b' t2 : Option (List ℕ)) (g' : Play) (e' : Event) → is_end e ≡ false → Appends t1 t2 (text_of (event_lines g e)) → g' ≡ game_after g e

@@ -1,5 +1,5 @@
--- The journals that are read off the lines of frames in which nobody moves: they are empty.
-use Rattle.std.proofs.Common.{◌≡◌, ℕ, zero, suc, ◌+◌, ◌/◌, ◌%◌, ◌==◌, Bool, true, false, not, cond, List, [], ◌∷◌, ◌++◌, length, take, drop, map, codes, bytes_eq, if◌then◌else◌, Some, None, unwrap_or, nat_lt, slice_index, ℤ, pos, negsuc, refl, sym, ap, ◌∙◌, arith, append_assoc, append-nil}
+-- The lines of a text, and what each is to the journals that are read off it.
+use Rattle.std.proofs.Common.{◌≡◌, ℕ, zero, suc, ◌+◌, ◌/◌, ◌%◌, ◌==◌, Bool, true, false, not, cond, List, [], ◌∷◌, ◌++◌, length, take, drop, map, codes, bytes_eq, if◌then◌else◌, Some, None, unwrap_or, nat_lt, slice_index, ℤ, pos, negsuc, refl, sym, ap, ◌∙◌, arith, append-nil}
 use Rattle.std.specs.Bool.{⊤}
 use Rattle.std.specs.List.{AllByRecursion, position_or_len, join_with_byte}
 use Rattle.std.specs.Fmt.{digits, digits_onto, digit_glyph, decimal, signed_decimal}
@@ -8,24 +8,21 @@ use Rattle.std.proofs.lemmas.List.Elements.{All-from_recursion}
 use Rattle.std.proofs.lemmas.List.Folds.{flat_map-map}
 use Rattle.hex.specs.Hex.{encode_with, encode_lower, lower_digits}
 use Rattle.edge_io.specs.Lines.{HasNoLineFeed}
-use Rattle.demo_lines.specs.declared.map.ArenaMap.{ArenaMap}
-use Rattle.demo_lines.specs.declared.arrival.Arrival.{Arrival}
 use Rattle.demo_lines.specs.Fields.{is_space, cut}
 use Rattle.demo_lines.specs.Bytes.{is_line_feed, whole_lines, unlines}
 use Rattle.demo_lines.proofs.Feeds.{whole_lines-unlines}
 use Rattle.arena_engine.specs.declared.refusal.Refusal.{Refusal}
-use Rattle.arena_engine.specs.declared.refusal.Refusal.TheVariants.{Kind, Already, Full, Crowded}
-use Rattle.arena_engine.specs.Entries.{Entry}
-use Rattle.arena_engine.specs.States.{State}
-use Rattle.arena_engine.specs.Receiving.{Pass, received}
-use Rattle.arena_engine.specs.OutLines.{OutLine, FrameLine, NoLine, JoinedLine, DidLine, ToLine, EndLine, name_of, ids_text, spelled, text_of}
-use Rattle.arena_engine.specs.Frames.{no_line, joined_line, to_line, frame_lines, run_lines}
-use Rattle.arena_engine.specs.Journals.{Mark, Opens, Other, told_entry, entry_in, mark_of, Split, onto, split_at_frames, dids}
+use Rattle.arena_engine.specs.declared.refusal.Refusal.TheVariants.{Packet, Already, Full, Crowded, NotJoined, Old}
+use Rattle.packet_read.specs.declared.packet_fault.PacketFault.{PacketFault}
+use Rattle.packet_read.specs.declared.packet_fault.PacketFault.TheVariants.{Empty, Version, Kind, Short, Long, Time, Buttons}
+use Rattle.arena_engine.specs.Entries.{Did, journal_from}
+use Rattle.arena_engine.specs.OutLines.{OutLine, FrameLine, NoLine, JoinedLine, DidLine, ToLine, EndLine, fault_name_of, name_of, ids_text, spelled, text_of}
+use Rattle.arena_engine.specs.Journals.{Mark, Opens, Other, told_did, did_in, mark_of, Split, onto, split_at_frames, dids}
 
 -- ---- bytes among which none passes a test
 
 -- whether none does
-abbrev none_passes : (ℕ → Bool) → List ℕ → Bool
+abbrev pub none_passes : (ℕ → Bool) → List ℕ → Bool
 none_passes p [] = true
 none_passes p (b ∷ bytes) = cond (p b) false (none_passes p bytes)
 
@@ -33,7 +30,7 @@ both_where : (first rest : Bool) → cond first false rest ≡ true → (first �
 both_where true rest e = cc
 both_where false rest e = (refl, e)
 
-none_where : (p : ℕ → Bool) (bytes : List ℕ) → none_passes p bytes ≡ true → AllByRecursion (λ b. p b ≡ false) bytes
+pub none_where : (p : ℕ → Bool) (bytes : List ℕ) → none_passes p bytes ≡ true → AllByRecursion (λ b. p b ≡ false) bytes
 none_where p [] none = tt
 none_where p (b ∷ bytes) none =
     let both = both_where (p b) (none_passes p bytes) none in
@@ -92,11 +89,22 @@ unfolding encode_with
 Unbroken-encode t [] none = tt
 Unbroken-encode t (b ∷ bytes) none = (read_is_no_feed t (b / 16) none, (read_is_no_feed t (b % 16) none, Unbroken-encode t bytes none))
 
+Unbroken-fault : (fault : PacketFault) → Unbroken (fault_name_of fault)
+Unbroken-fault Empty = none_where is_line_feed (codes "Empty") refl
+Unbroken-fault Version = none_where is_line_feed (codes "Version") refl
+Unbroken-fault Kind = none_where is_line_feed (codes "Kind") refl
+Unbroken-fault Short = none_where is_line_feed (codes "Short") refl
+Unbroken-fault Long = none_where is_line_feed (codes "Long") refl
+Unbroken-fault Time = none_where is_line_feed (codes "Time") refl
+Unbroken-fault Buttons = none_where is_line_feed (codes "Buttons") refl
+
 Unbroken-name : (why : Refusal) → Unbroken (name_of why)
-Unbroken-name Kind = none_where is_line_feed (codes "Kind") refl
+Unbroken-name (Packet fault) = Unbroken-fault fault
 Unbroken-name Already = none_where is_line_feed (codes "Already") refl
 Unbroken-name Full = none_where is_line_feed (codes "Full") refl
 Unbroken-name Crowded = none_where is_line_feed (codes "Crowded") refl
+Unbroken-name NotJoined = none_where is_line_feed (codes "NotJoined") refl
+Unbroken-name Old = none_where is_line_feed (codes "Old") refl
 
 -- a space between two
 Unbroken-spaced : (xs ys : List ℕ) → Unbroken xs → Unbroken ys → Unbroken (xs ++ codes " " ++ ys)
@@ -106,7 +114,7 @@ Unbroken-spaced xs ys p q = Unbroken-append (xs ++ codes " ") ys (Unbroken-appen
 Unbroken-numbered : (word : List ℕ) (n : ℕ) → none_passes is_line_feed word ≡ true → Unbroken (word ++ decimal n)
 Unbroken-numbered word n none = Unbroken-append word (decimal n) (none_where is_line_feed word none) (Unbroken-decimal n)
 
-Unbroken-did : (e : Entry) → Unbroken (spelled (DidLine e))
+Unbroken-did : (e : Did) → Unbroken (spelled (DidLine e))
 Unbroken-did e =
     let slot = codes "did " ++ decimal e.slot in
     let seq = slot ++ codes " " ++ decimal e.seq in
@@ -144,7 +152,7 @@ whole_lines-text lines =
 
 -- ---- the first word of a line
 
-one_more : (m n : ℕ) → m ≡ n → 1 + m ≡ suc n
+pub one_more : (m n : ℕ) → m ≡ n → 1 + m ≡ suc n
 one_more m n e = omega arith
 
 -- the first space behind a word without one
@@ -173,7 +181,7 @@ abbrev cut_at : ℕ → List ℕ → List ℕ × List ℕ
 cut_at n bytes = (take n bytes, drop n bytes)
 
 -- a word is cut off at the space behind it
-cut-word : (word rest : List ℕ) → AllByRecursion (λ b. is_space b ≡ false) word → cut (word ++ 32 ∷ rest) ≡ (word, 32 ∷ rest)
+pub cut-word : (word rest : List ℕ) → AllByRecursion (λ b. is_space b ≡ false) word → cut (word ++ 32 ∷ rest) ≡ (word, 32 ∷ rest)
 cut-word word rest none =
     let bytes = word ++ 32 ∷ rest in
     ap (λ n. cut_at n bytes) (position_is (position_or_len is_space bytes) (length bytes) (length word) (position-space word rest none) (is_inside word rest))
@@ -183,21 +191,21 @@ cut-word word rest none =
 abbrev mark_by : List ℕ × List ℕ → Mark
 mark_by parts =
     if bytes_eq parts.0 (codes "frame") then Opens
-    else if bytes_eq parts.0 (codes "did") then told_entry (entry_in parts.1)
+    else if bytes_eq parts.0 (codes "did") then told_did (did_in parts.1)
     else Other
 
-mark-word : (word rest : List ℕ) → AllByRecursion (λ b. is_space b ≡ false) word → mark_of (word ++ 32 ∷ rest) ≡ mark_by (word, 32 ∷ rest)
+pub mark-word : (word rest : List ℕ) → AllByRecursion (λ b. is_space b ≡ false) word → mark_of (word ++ 32 ∷ rest) ≡ mark_by (word, 32 ∷ rest)
 mark-word word rest none = ap mark_by (cut-word word rest none)
 
-mark-frame : (frame : ℕ) → mark_of (spelled (FrameLine frame)) ≡ Opens
+pub mark-frame : (frame : ℕ) → mark_of (spelled (FrameLine frame)) ≡ Opens
 mark-frame frame = mark-word (codes "frame") (decimal frame) (none_where is_space (codes "frame") refl)
 
--- the line opens no frame and tells no entry
-abbrev IsSilent : OutLine → Type 0
+-- the line opens no frame and tells of no move
+abbrev pub IsSilent : OutLine → Type 0
 IsSilent (FrameLine frame) = ⊥
 IsSilent (NoLine place why) = ⊤
 IsSilent (JoinedLine port slot) = ⊤
-IsSilent (DidLine entry) = ⊥
+IsSilent (DidLine did) = ⊥
 IsSilent (ToLine slot bytes) = ⊤
 IsSilent (EndLine frames) = ⊤
 
@@ -205,80 +213,30 @@ mark-silent : (line : OutLine) → IsSilent line → mark_of (spelled line) ≡ 
 mark-silent (FrameLine frame) silent = absurd silent
 mark-silent (NoLine place why) silent = mark-word (codes "no") (decimal place ++ codes " " ++ name_of why) (none_where is_space (codes "no") refl)
 mark-silent (JoinedLine port slot) silent = mark-word (codes "joined") (decimal port ++ codes " " ++ decimal slot) (none_where is_space (codes "joined") refl)
-mark-silent (DidLine entry) silent = absurd silent
+mark-silent (DidLine did) silent = absurd silent
 mark-silent (ToLine slot bytes) silent = mark-word (codes "to") (decimal slot ++ codes " " ++ encode_lower bytes) (none_where is_space (codes "to") refl)
 mark-silent (EndLine frames) silent = mark-word (codes "end") (decimal frames) (none_where is_space (codes "end") refl)
 
 -- ---- the journals of lines
 
--- the entries that lines tell, frame by frame
-abbrev split_of : List OutLine → Split
+-- the moves that lines tell, frame by frame
+abbrev pub split_of : List OutLine → Split
 split_of lines = split_at_frames (map mark_of (map spelled lines))
 
 -- silent lines say nothing to the journals
-split-silent : (lines more : List OutLine) → AllByRecursion IsSilent lines → split_of (lines ++ more) ≡ split_of more
+pub split-silent : (lines more : List OutLine) → AllByRecursion IsSilent lines → split_of (lines ++ more) ≡ split_of more
 split-silent [] more silent = refl
 split-silent (line ∷ lines) more silent =
     ap (λ mark. onto mark (split_of (lines ++ more))) (mark-silent line silent.0) ∙ split-silent lines more silent.1
 
-silent_both : (lines more : List OutLine) → AllByRecursion IsSilent lines → AllByRecursion IsSilent more → AllByRecursion IsSilent (lines ++ more)
+pub silent_both : (lines more : List OutLine) → AllByRecursion IsSilent lines → AllByRecursion IsSilent more → AllByRecursion IsSilent (lines ++ more)
 silent_both [] more p q = q
 silent_both (line ∷ lines) more p q = (p.0, silent_both lines more p.1 q)
 
-silent_each : {X : Type 0} (f : X → OutLine) (xs : List X) → ((x : X) → IsSilent (f x)) → AllByRecursion IsSilent (map f xs)
+pub silent_each : {X : Type 0} (f : X → OutLine) (xs : List X) → ((x : X) → IsSilent (f x)) → AllByRecursion IsSilent (map f xs)
 silent_each f [] silent = tt
 silent_each f (x ∷ xs) silent = (silent x, silent_each f xs silent)
 
--- a frame's lines behind its first, where nobody moves
-abbrev behind_first : ℕ → Pass → List OutLine
-behind_first frame r = map no_line r.refused ++ map joined_line r.joined ++ map DidLine [] ++ map (to_line frame r.state.records) r.state.records
-
-behind_first_silent : (frame : ℕ) (r : Pass) → AllByRecursion IsSilent (behind_first frame r)
-behind_first_silent frame r =
-    let refused = map no_line r.refused in
-    let joined = map joined_line r.joined in
-    let told = map (to_line frame r.state.records) r.state.records in
-    silent_both (refused ++ joined ++ []) told
-    (silent_both (refused ++ joined) [] (silent_both refused joined (silent_each no_line r.refused (λ t. tt)) (silent_each joined_line r.joined (λ j. tt))) tt)
-    (silent_each (to_line frame r.state.records) r.state.records (λ me. tt))
-
--- a frame's lines put one empty journal before those behind
-split-frame : (frame : ℕ) (r : Pass) (more : List OutLine) (journals : List (List Entry)) → split_of more ≡ record { before = []; frames = journals }
-    → split_of (frame_lines frame r [] ++ more) ≡ record { before = []; frames = [] ∷ journals }
-split-frame frame r more journals is =
-    ap (λ mark. onto mark (split_of (behind_first frame r ++ more))) (mark-frame frame)
-    ∙ ap (onto Opens) (split-silent (behind_first frame r) more (behind_first_silent frame r) ∙ is)
-
--- so do the lines of frames, one a frame
-split-run : (arena : ArenaMap) (frame : ℕ) (state : State) (frames : List (List Arrival)) (more : List OutLine) → AllByRecursion IsSilent more
-    → split_of (run_lines arena frame state frames [] ++ more) ≡ record { before = []; frames = map (λ _. []) frames }
-split-run arena frame state [] more silent = ap split_of (sym (append-nil more)) ∙ split-silent more [] silent
-split-run arena frame state (arrivals ∷ frames) more silent =
-    let r = received arena state arrivals in
-    let rest = run_lines arena (frame + 1) r.state frames [] in
-    ap split_of (append_assoc (frame_lines frame r []) rest more)
-    ∙ split-frame frame r (rest ++ more) (map (λ _. []) frames) (split-run arena (frame + 1) r.state frames more silent)
-
-dids-text : (lines : List OutLine) (journals : List (List Entry)) → split_of lines ≡ record { before = []; frames = journals } → dids (text_of lines) ≡ journals
-dids-text lines journals is = ap (λ ls. (split_at_frames (map mark_of ls)).frames) (whole_lines-text lines) ∙ ap (λ s. s.frames) is
-
--- the journals that are read off the text of frames without moves are empty, one a frame
-pub dids-front : (arena : ArenaMap) (frame : ℕ) (state : State) (frames : List (List Arrival))
-    → dids (text_of (run_lines arena frame state frames [])) ≡ map (λ _. []) frames
-dids-front arena frame state frames =
-    let lines = run_lines arena frame state frames [] in
-    dids-text lines (map (λ _. []) frames) (ap split_of (sym (append-nil lines)) ∙ split-run arena frame state frames [] tt)
-
--- and so they are with the last line behind
-pub dids-whole : (arena : ArenaMap) (frame : ℕ) (state : State) (frames : List (List Arrival)) (n : ℕ)
-    → dids (text_of (run_lines arena frame state frames [] ++ EndLine n ∷ [])) ≡ map (λ _. []) frames
-dids-whole arena frame state frames n =
-    dids-text (run_lines arena frame state frames [] ++ EndLine n ∷ []) (map (λ _. []) frames) (split-run arena frame state frames (EndLine n ∷ []) (tt, tt))
-
--- empty journals say what no journals say
-pub run_lines-quiet : (arena : ArenaMap) (frame : ℕ) (state : State) (frames : List (List Arrival))
-    → run_lines arena frame state frames (map (λ _. []) frames) ≡ run_lines arena frame state frames []
-run_lines-quiet arena frame state [] = refl
-run_lines-quiet arena frame state (arrivals ∷ frames) =
-    let r = received arena state arrivals in
-    ap (λ lines. frame_lines frame r [] ++ lines) (run_lines-quiet arena (frame + 1) r.state frames)
+-- the journals of a text are those of its lines
+pub dids-text : (lines : List OutLine) (told : List (List Did)) → split_of lines ≡ record { before = []; frames = told } → dids (text_of lines) ≡ map (journal_from 0) told
+dids-text lines told is = ap (λ ls. map (journal_from 0) (split_at_frames (map mark_of ls)).frames) (whole_lines-text lines) ∙ ap (λ (s : Split). map (journal_from 0) s.frames) is

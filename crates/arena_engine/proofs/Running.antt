@@ -11,7 +11,7 @@ use Rattle.demo_lines.specs.declared.event.Event.{Event}
 use Rattle.demo_lines.specs.declared.event.Event.TheVariants.{Frame, From, End}
 use Rattle.demo_lines.specs.declared.demo_stop.DemoStop.{DemoStop}
 use Rattle.demo_lines.specs.declared.demo_stop.DemoStop.TheVariants as demo_stop
-use Rattle.demo_lines.specs.declared.reading.Reading.{Reading}
+use Rattle.demo_lines.specs.Recording.{Reading}
 use Rattle.demo_lines.specs.Recording.{start, is_over}
 use Rattle.demo_lines.specs.Readings.{IsReading}
 use Rattle.demo_lines.specs.Reads.{Demo, fresh, IsOpen, Reads, ReadsFront, EndsAt, stage_behind}
@@ -19,13 +19,13 @@ use Rattle.demo_lines.specs.Reads as reads_of
 use Rattle.arena_engine.specs.declared.stop.Stop.{Stop}
 use Rattle.arena_engine.specs.declared.stop.Stop.TheVariants.{Refused, ReadFault, WriteFault, Memory}
 use Rattle.arena_engine.specs.StopOf.{stop_of}
-use Rattle.arena_engine.specs.Stops.{OnRefused, OnReadFault, OnWriteFault, OnMemory}
+use Rattle.arena_engine.specs.Stops.{OnRefused, OnReadFault, OnWriteFault, OnMemory, IsGameStop}
 use Rattle.arena_engine.specs.OutLines.{text_of}
 use Rattle.arena_engine.specs.Games.{Play, set_game, game_after, event_lines, IsReady, is_end}
 use Rattle.arena_engine.specs.Progress.{Progress}
-use Rattle.arena_engine.specs.Output.{IsOutput, IsRefused, IsCut, IsSomeFrames, Writes, ReadsSome}
+use Rattle.arena_engine.specs.Output.{IsOutput, TellsInOrder, IsRefused, IsCut, IsSomeFrames, Writes, ReadsSome, ReadsToEnd}
 use Rattle.arena_engine.proofs.Exits.{refused_at_first, fault_at_first, refused_on, fault_on}
-use Rattle.arena_engine.proofs.Playing.{is_ready, memory_on, cut_on, done_on, played_on, goes_on, begins}
+use Rattle.arena_engine.proofs.Playing.{is_ready, memory_on, cut_on, done_on, ordered_on, whole_on, played_on, goes_on, begins}
 
 -- how far the recording was played, and that neither count of faults has fallen
 pub record Runs (demo : Demo) (before ahead : Option (List ℕ)) (taken_before taken : Option (List ℕ)) (game : Play) (event : Event) (reads_before reads writes_before writes : ℕ) : Type 0 where
@@ -84,6 +84,28 @@ on_write_fault ReadFault P Q f p = tt
 on_write_fault WriteFault P Q f p = f p
 on_write_fault Memory P Q f p = tt
 
+-- what a reader stops for is neither a write fault nor want of memory
+pub no_write_fault : (d : DemoStop) (P : Type 0) → OnWriteFault (stop_of d) P
+no_write_fault (demo_stop.Refused line) P = tt
+no_write_fault demo_stop.ReadFault P = tt
+
+pub no_memory_stop : (d : DemoStop) (P : Type 0) → OnMemory (stop_of d) P
+no_memory_stop (demo_stop.Refused line) P = tt
+no_memory_stop demo_stop.ReadFault P = tt
+
+-- a game stops for no other reason
+pub no_refusal : (s : Stop) (P : Type 0) → IsGameStop s → OnRefused s P
+no_refusal Refused P stop = absurd stop
+no_refusal ReadFault P stop = tt
+no_refusal WriteFault P stop = tt
+no_refusal Memory P stop = tt
+
+pub no_read_fault : (s : Stop) (P : Type 0) → IsGameStop s → OnReadFault s P
+no_read_fault Refused P stop = tt
+no_read_fault ReadFault P stop = absurd stop
+no_read_fault WriteFault P stop = tt
+no_read_fault Memory P stop = tt
+
 pub on_memory : (s : Stop) (P Q : Type 0) → (P → Q) → OnMemory s P → OnMemory s Q
 on_memory Refused P Q f p = tt
 on_memory ReadFault P Q f p = tt
@@ -116,8 +138,17 @@ module _ (demo : Demo) (a b t0 t1 : Option (List ℕ)) (g : Play) (e : Event) (m
       let P : Option (List ℕ) → Type 0 = λ t. IfSome a (λ bytes. Writes t0 t (IsSomeFrames bytes)) in
       on_memory s (t2 ≡ t1) (P t2) (λ is. subst P (sym is) (memory_on runs.arena demo.reading a b t0 t1 g e runs.progress)) same
 
+  pub write_cause : (s : Stop) (n2 : ℕ) → OnWriteFault s (HasRisen n1 n2) → OnWriteFault s (HasRisen n0 n2)
+  write_cause s n2 risen = on_write_fault s (HasRisen n1 n2) (HasRisen n0 n2) (λ h. HasRisen-from_lower n0 n1 n2 runs.write_later h) risen
+
   pub all_done : (t2 : Option (List ℕ)) → is_end e ≡ true → Appends t1 t2 (text_of (event_lines g e)) → IfSome a (λ bytes. Writes t0 t2 (IsOutput bytes))
   all_done t2 last written = done_on runs.arena demo.reading a b t0 t1 g e runs.progress t2 (end_is_end e last) written
+
+  pub all_in_order : (t2 : Option (List ℕ)) → is_end e ≡ true → Appends t1 t2 (text_of (event_lines g e)) → IfSome a (λ bytes. Writes t0 t2 (TellsInOrder bytes))
+  all_in_order t2 last written = ordered_on runs.arena demo.reading a b t0 t1 g e runs.progress t2 (end_is_end e last) written
+
+  pub all_read : (pending : List ℕ) (l : Option (List ℕ)) → is_end e ≡ true → b ≡ ahead pending l → ReadsToEnd a l
+  all_read pending l last is = whole_on runs.arena demo.reading a b t0 t1 g e runs.progress pending l (end_is_end e last) is
 
   pub next_refused : (d : DemoStop) (t2 : Option (List ℕ)) → is_end e ≡ false → Appends t1 t2 (text_of (event_lines g e))
       → (IsOpen demo → reads_of.OnRefused d (λ n. IfSome b (EndsAt demo.reading n))) → OnRefused (stop_of d) (IfSome a (λ bytes. Writes t0 t2 (IsRefused bytes)))

@@ -4,7 +4,7 @@ use Rattle.demo_lines.specs.declared.stage.Stage.{Stage}
 use Rattle.demo_lines.specs.declared.stage.Stage.TheVariants.{Start, Map, Playing, Ended, Refused}
 use Rattle.demo_lines.specs.declared.line.Line.{Line}
 use Rattle.demo_lines.specs.declared.line.Line.TheVariants as lines
-use Rattle.demo_lines.specs.declared.reading.Reading.{Reading}
+use Rattle.demo_lines.specs.Recording.{Reading}
 use Rattle.demo_lines.specs.Recording.{next, said_by, after, step_at, goes_to, opens_frame, takes_arrival}
 
 -- the map is settled
@@ -30,6 +30,7 @@ keeps_step Map r line settled here = cc
 keeps_step Playing r None settled here = record { settled = refl; map = refl }
 keeps_step Playing r (Some (lines.Arena lo hi)) settled here = record { settled = refl; map = refl }
 keeps_step Playing r (Some (lines.Spawn at)) settled here = record { settled = refl; map = refl }
+keeps_step Playing r (Some (lines.Block lo hi)) settled here = record { settled = refl; map = refl }
 keeps_step Playing r (Some lines.Frame) settled here = keeps_choice (nat_lt r.frames 100000) r (opens_frame r) (record { settled = refl; map = refl })
 keeps_step Playing r (Some (lines.From a)) settled here = keeps_choice (nat_lt r.arrivals 512) r (takes_arrival r) (record { settled = refl; map = refl })
 keeps_step Playing r (Some lines.End) settled here = record { settled = refl; map = refl }

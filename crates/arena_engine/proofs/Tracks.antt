@@ -5,32 +5,34 @@ use Rattle.demo_lines.specs.declared.arrival.Arrival.{Arrival}
 use Rattle.demo_lines.specs.declared.event.Event.{Event}
 use Rattle.demo_lines.specs.declared.event.Event.TheVariants.{Frame, From, End}
 use Rattle.arena_engine.specs.States.{State, Table, opening}
-use Rattle.arena_engine.specs.Receiving.{received}
 use Rattle.arena_engine.specs.OutLines.{EndLine}
-use Rattle.arena_engine.specs.Frames.{Frames, closing, collect, frame_lines, state_after, run_lines}
+use Rattle.arena_engine.specs.Frames.{Frames, closing, collect, state_behind, lines_in_order, state_after, run_in_order}
 use Rattle.arena_engine.specs.Games.{Play, table_closed, closing_lines, game_after, event_lines, front_lines, table_at, game_at}
 
 -- one frame more
-pub run_lines-push : (arena : ArenaMap) (frame : ℕ) (s : State) (frames : List (List Arrival)) (arrivals : List Arrival)
-    → run_lines arena frame s (frames ++ arrivals ∷ []) []
-    ≡ run_lines arena frame s frames [] ++ frame_lines (frame + length frames) (received arena (state_after arena s frames) arrivals) []
-run_lines-push arena frame s [] arrivals =
-    append-nil (frame_lines frame (received arena s arrivals) []) ∙ ap (λ n. frame_lines n (received arena s arrivals) []) (sym (add-zero frame))
-run_lines-push arena frame s (first ∷ frames) arrivals =
-    let here = frame_lines frame (received arena s first) [] in
-    let next = (received arena s first).state in
-    let last = received arena (state_after arena next frames) arrivals in
+pub run_in_order-push : (arena : ArenaMap) (frame : ℕ) (s : State) (frames : List (List Arrival)) (arrivals : List Arrival)
+    → run_in_order arena frame s (frames ++ arrivals ∷ [])
+    ≡ run_in_order arena frame s frames ++ lines_in_order arena (frame + length frames) (state_after arena frame s frames) arrivals
+run_in_order-push arena frame s [] arrivals =
+    append-nil (lines_in_order arena frame s arrivals) ∙ ap (λ n. lines_in_order arena n s arrivals) (sym (add-zero frame))
+run_in_order-push arena frame s (first ∷ frames) arrivals =
+    let here = lines_in_order arena frame s first in
+    let next = state_behind arena frame s first in
+    let last = state_after arena (frame + 1) next frames in
     let number : frame + 1 + length frames ≡ frame + suc (length frames) = omega arith in
-    ap (λ ls. here ++ ls) (run_lines-push arena (frame + 1) next frames arrivals)
-    ∙ sym (append_assoc here (run_lines arena (frame + 1) next frames []) (frame_lines (frame + 1 + length frames) last []))
-    ∙ ap (λ n. here ++ run_lines arena (frame + 1) next frames [] ++ frame_lines n last []) number
+    ap (λ ls. here ++ ls) (run_in_order-push arena (frame + 1) next frames arrivals)
+    ∙ sym (append_assoc here (run_in_order arena (frame + 1) next frames) (lines_in_order arena (frame + 1 + length frames) last arrivals))
+    ∙ ap (λ n. here ++ run_in_order arena (frame + 1) next frames ++ lines_in_order arena n last arrivals) number
 
-state_after-push : (arena : ArenaMap) (s : State) (frames : List (List Arrival)) (arrivals : List Arrival)
-    → state_after arena s (frames ++ arrivals ∷ []) ≡ (received arena (state_after arena s frames) arrivals).state
-state_after-push arena s [] arrivals = refl
-state_after-push arena s (first ∷ frames) arrivals = state_after-push arena (received arena s first).state frames arrivals
+state_after-push : (arena : ArenaMap) (frame : ℕ) (s : State) (frames : List (List Arrival)) (arrivals : List Arrival)
+    → state_after arena frame s (frames ++ arrivals ∷ []) ≡ state_behind arena (frame + length frames) (state_after arena frame s frames) arrivals
+state_after-push arena frame s [] arrivals = ap (λ n. state_behind arena n s arrivals) (sym (add-zero frame))
+state_after-push arena frame s (first ∷ frames) arrivals =
+    let next = state_behind arena frame s first in
+    let number : frame + 1 + length frames ≡ frame + suc (length frames) = omega arith in
+    state_after-push arena (frame + 1) next frames arrivals ∙ ap (λ n. state_behind arena n (state_after arena (frame + 1) next frames) arrivals) number
 
-abbrev table_of : ArenaMap → State → ℕ → Table
+abbrev pub table_of : ArenaMap → State → ℕ → Table
 table_of arena state frames = record { arena = arena; state = state; frames = frames }
 
 -- the server behind the frame that was open
@@ -38,7 +40,9 @@ pub table_closed-at : (arena : ArenaMap) (closed : List (List Arrival)) (o : Opt
 table_closed-at arena closed None = ap (table_at arena) (sym (append-nil closed))
 table_closed-at arena closed (Some arrivals) =
     let count : length closed + 1 ≡ length (closed ++ arrivals ∷ []) = omega (arith, length-append closed (arrivals ∷ [])) in
-    ap (λ s. table_of arena s (length closed + 1)) (sym (state_after-push arena opening closed arrivals)) ∙ ap (table_of arena (state_after arena opening (closed ++ arrivals ∷ []))) count
+    let number : length closed ≡ 0 + length closed = omega arith in
+    let behind = ap (λ n. state_behind arena n (state_after arena 0 opening closed) arrivals) number ∙ sym (state_after-push arena 0 opening closed arrivals) in
+    ap (λ s. table_of arena s (length closed + 1)) behind ∙ ap (table_of arena (state_after arena 0 opening (closed ++ arrivals ∷ []))) count
 
 -- the lines of the frame that was open are those of one frame more
 pub closing_lines-at : (arena : ArenaMap) (closed : List (List Arrival)) (o : Option (List Arrival))
@@ -46,8 +50,8 @@ pub closing_lines-at : (arena : ArenaMap) (closed : List (List Arrival)) (o : Op
 closing_lines-at arena closed None = append-nil (front_lines arena closed) ∙ ap (front_lines arena) (sym (append-nil closed))
 closing_lines-at arena closed (Some arrivals) =
     let number : length closed ≡ 0 + length closed = omega arith in
-    ap (λ n. front_lines arena closed ++ frame_lines n (received arena (state_after arena opening closed) arrivals) []) number
-    ∙ sym (run_lines-push arena 0 opening closed arrivals)
+    ap (λ n. front_lines arena closed ++ lines_in_order arena n (state_after arena 0 opening closed) arrivals) number
+    ∙ sym (run_in_order-push arena 0 opening closed arrivals)
 
 abbrev play_of : Table → Option (List Arrival) → Play
 play_of table opened = record { table = table; opened = opened }

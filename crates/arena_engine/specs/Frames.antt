@@ -1,17 +1,22 @@
 -- The frames of a recording, and what the plain server says of each.
-use Rattle.std.specs.Prelude.{ℕ, ◌+◌, List, [], ◌∷◌, ◌++◌, map, Option, Some, None, option_map}
+use Rattle.std.specs.Prelude.{ℕ, ◌+◌, List, [], ◌∷◌, ◌++◌, map, Option, Some, None, option_map, ⊤}
 use Rattle.entity_recs.specs.declared.rec.Rec.{Rec}
+use Rattle.move_journal.specs.Entries.{Entry}
+use Rattle.move_journal.specs.Worlds.{records_of, world_of}
+use Rattle.move_journal.specs.Histories.{Action, world_behind, run}
+use Rattle.move_journal.specs.Merges.{history_of, IsRight, IsInOrder, journal_in_order}
 use Rattle.demo_lines.specs.declared.map.ArenaMap.{ArenaMap}
 use Rattle.demo_lines.specs.declared.arrival.Arrival.{Arrival}
 use Rattle.demo_lines.specs.declared.event.Event.{Event}
 use Rattle.demo_lines.specs.declared.event.Event.TheVariants.{Frame, From, End}
 use Rattle.demo_lines.specs.Machines.{run_of}
-use Rattle.arena_engine.specs.States.{State, Table}
+use Rattle.arena_engine.specs.States.{State, Table, state_of}
 use Rattle.arena_engine.specs.declared.received.Turned.{Turned}
 use Rattle.arena_engine.specs.declared.received.Joined.{Joined}
 use Rattle.arena_engine.specs.Receiving.{Pass, received}
+use Rattle.arena_engine.specs.Outcomes.{fixed_of, moves_among}
 use Rattle.arena_engine.specs.Snapshots.{snapshot}
-use Rattle.arena_engine.specs.Entries.{Entry}
+use Rattle.arena_engine.specs.Entries.{did_of}
 use Rattle.arena_engine.specs.OutLines.{OutLine, FrameLine, NoLine, JoinedLine, DidLine, ToLine}
 
 -- the frames that are closed, each with its packets, and the packets of the frame that is open
@@ -44,14 +49,26 @@ no_line t = NoLine t.place t.why
 abbrev pub joined_line : Joined → OutLine
 joined_line j = JoinedLine j.port j.slot
 
+abbrev pub did_line : Entry → OutLine
+did_line e = DidLine (did_of e)
+
 -- the snapshot of one of the records
 abbrev pub to_line : ℕ → List Rec → Rec → OutLine
 to_line frame records me = ToLine me.id (snapshot frame me records)
 
 -- a frame's lines: its refusals, its joins, the moves of its journal, and the snapshot of each live player
-abbrev pub frame_lines : ℕ → Pass → List Entry → List OutLine
-frame_lines frame r journal =
-    FrameLine frame ∷ (map no_line r.refused ++ map joined_line r.joined ++ map DidLine journal ++ map (to_line frame r.state.records) r.state.records)
+abbrev pub frame_lines : ℕ → Pass → List Entry → List Rec → List OutLine
+frame_lines frame r journal records =
+    FrameLine frame ∷ (map no_line r.refused ++ map joined_line r.joined ++ map did_line journal ++ map (to_line frame records) records)
+
+-- what a move does in an arena
+abbrev pub outcome_in : ArenaMap → Action
+outcome_in arena = moves_among (fixed_of arena)
+
+-- the state behind the moves that a journal tells
+abbrev pub moved_by : ArenaMap → Pass → List Entry → State
+moved_by arena r journal =
+    state_of (records_of (run (outcome_in arena) (world_of r.state.records) (history_of r.moves journal))) r.state.clients
 
 -- the first journal, and those of the frames behind it
 abbrev pub first_of : List (List Entry) → List Entry
@@ -62,17 +79,62 @@ abbrev pub rest_of : List (List Entry) → List (List Entry)
 rest_of [] = []
 rest_of (j ∷ js) = js
 
--- the state behind frames
-abbrev pub state_after : ArenaMap → State → List (List Arrival) → State
-state_after arena state frames = run_of (λ s arrivals. (received arena s arrivals).state) state frames
-
 -- the lines of frames, the first of which has this number, with these journals
 abbrev pub run_lines : ArenaMap → ℕ → State → List (List Arrival) → List (List Entry) → List OutLine
 run_lines arena frame state [] journals = []
 run_lines arena frame state (arrivals ∷ frames) journals =
-    frame_lines frame (received arena state arrivals) (first_of journals)
-    ++ run_lines arena (frame + 1) (received arena state arrivals).state frames (rest_of journals)
+    let r = received arena frame state arrivals in
+    let behind = moved_by arena r (first_of journals) in
+    frame_lines frame r (first_of journals) behind.records ++ run_lines arena (frame + 1) behind frames (rest_of journals)
+
+-- there is one journal a frame, and each is right
+abbrev pub AreRight : ArenaMap → ℕ → State → List (List Arrival) → List (List Entry) → Type 0
+AreRight arena frame state [] [] = ⊤
+AreRight arena frame state [] (j ∷ js) = ⊥
+AreRight arena frame state (arrivals ∷ frames) [] = ⊥
+AreRight arena frame state (arrivals ∷ frames) (j ∷ js) =
+    let r = received arena frame state arrivals in
+    IsRight (outcome_in arena) (world_of r.state.records) r.moves j × AreRight arena (frame + 1) (moved_by arena r j) frames js
+
+-- there is one journal a frame, and each tells the moves in the order of arrival
+abbrev pub AreInOrder : ArenaMap → ℕ → State → List (List Arrival) → List (List Entry) → Type 0
+AreInOrder arena frame state [] [] = ⊤
+AreInOrder arena frame state [] (j ∷ js) = ⊥
+AreInOrder arena frame state (arrivals ∷ frames) [] = ⊥
+AreInOrder arena frame state (arrivals ∷ frames) (j ∷ js) =
+    let r = received arena frame state arrivals in
+    IsInOrder j r.moves × AreInOrder arena (frame + 1) (moved_by arena r j) frames js
+
+-- ---- moves in the order of arrival
+
+-- the journal of a frame
+abbrev pub journal_of : ArenaMap → Pass → List Entry
+journal_of arena r = journal_in_order (outcome_in arena) (world_of r.state.records) r.moves
+
+-- the state behind the moves
+abbrev pub moved_in_order : ArenaMap → Pass → State
+moved_in_order arena r = state_of (records_of (world_behind (outcome_in arena) (world_of r.state.records) r.moves)) r.state.clients
+
+-- the state behind a frame
+unfoldable pub state_behind : ArenaMap → ℕ → State → List Arrival → State
+state_behind arena frame state arrivals = moved_in_order arena (received arena frame state arrivals)
+
+-- the lines of a frame
+unfoldable pub lines_in_order : ArenaMap → ℕ → State → List Arrival → List OutLine
+lines_in_order arena frame state arrivals =
+    let r = received arena frame state arrivals in frame_lines frame r (journal_of arena r) (moved_in_order arena r).records
+
+-- the state behind frames, the first of which has this number
+abbrev pub state_after : ArenaMap → ℕ → State → List (List Arrival) → State
+state_after arena frame state [] = state
+state_after arena frame state (arrivals ∷ frames) = state_after arena (frame + 1) (state_behind arena frame state arrivals) frames
+
+-- the lines of frames
+abbrev pub run_in_order : ArenaMap → ℕ → State → List (List Arrival) → List OutLine
+run_in_order arena frame state [] = []
+run_in_order arena frame state (arrivals ∷ frames) =
+    lines_in_order arena frame state arrivals ++ run_in_order arena (frame + 1) (state_behind arena frame state arrivals) frames
 
 -- the server behind a frame with these packets
 abbrev pub table_after : Table → List Arrival → Table
-table_after t arrivals = record { arena = t.arena; state = (received t.arena t.state arrivals).state; frames = t.frames + 1 }
+table_after t arrivals = record { arena = t.arena; state = state_behind t.arena t.frames t.state arrivals; frames = t.frames + 1 }

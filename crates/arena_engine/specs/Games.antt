@@ -6,9 +6,8 @@ use Rattle.demo_lines.specs.declared.event.Event.{Event}
 use Rattle.demo_lines.specs.declared.event.Event.TheVariants.{Frame, From, End}
 use Rattle.demo_lines.specs.Machines.{run_of, told_over}
 use Rattle.arena_engine.specs.States.{Table, set_table, opening}
-use Rattle.arena_engine.specs.Receiving.{received}
 use Rattle.arena_engine.specs.OutLines.{OutLine, EndLine}
-use Rattle.arena_engine.specs.Frames.{Frames, frame_lines, table_after, state_after, run_lines}
+use Rattle.arena_engine.specs.Frames.{Frames, lines_in_order, table_after, state_after, run_in_order}
 
 -- the server, and the packets of the frame that is open
 pub record Play : Type 0 where
@@ -27,7 +26,7 @@ table_closed t (Some arrivals) = table_after t arrivals
 -- the lines of the frame that was open
 abbrev pub closing_lines : Table → Option (List Arrival) → List OutLine
 closing_lines t None = []
-closing_lines t (Some arrivals) = frame_lines t.frames (received t.arena t.state arrivals) []
+closing_lines t (Some arrivals) = lines_in_order t.arena t.frames t.state arrivals
 
 -- the game behind an event
 abbrev pub game_after : Play → Event → Play
@@ -58,13 +57,13 @@ pub record IsReady (g : Play) : Type 0 where
 abbrev pub game_closed : Play → Play
 game_closed g = record { table = table_closed g.table g.opened; opened = None }
 
--- the lines of frames without moves, from the first frame on
+-- the lines of frames, from the first frame on
 abbrev pub front_lines : ArenaMap → List (List Arrival) → List OutLine
-front_lines arena frames = run_lines arena 0 opening frames []
+front_lines arena frames = run_in_order arena 0 opening frames
 
 -- the server behind these frames
 abbrev pub table_at : ArenaMap → List (List Arrival) → Table
-table_at arena frames = record { arena = arena; state = state_after arena opening frames; frames = length frames }
+table_at arena frames = record { arena = arena; state = state_after arena 0 opening frames; frames = length frames }
 
 -- the game that has run these frames
 abbrev pub game_at : ArenaMap → Frames → Play

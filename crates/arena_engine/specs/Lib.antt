@@ -1,9 +1,17 @@
 -- The definitions of the plain server and of what it writes.
 pub use Rattle.demo_lines.specs.Recording
 pub use Rattle.demo_lines.specs.Bytes
-pub mod Walls
+pub use Rattle.demo_lines.specs.Readings
+pub use Rattle.box_trace.specs.Walls
+pub use Rattle.player_move.specs.Moves
+pub use Rattle.move_journal.specs.Worlds
+pub use Rattle.move_journal.specs.Histories
+pub use Rattle.move_journal.specs.Merges
 pub mod States
 pub mod Receiving
+pub mod Capacities
+pub mod Outcomes
+pub mod Moving
 pub mod Snapshots
 pub mod Entries
 pub mod OutLines

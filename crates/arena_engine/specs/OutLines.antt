@@ -4,24 +4,38 @@ use Rattle.std.specs.List.{join_with_byte}
 use Rattle.std.specs.Fmt.{signed_decimal}
 use Rattle.hex.specs.Hex.{encode_lower}
 use Rattle.arena_engine.specs.declared.refusal.Refusal.{Refusal}
-use Rattle.arena_engine.specs.declared.refusal.Refusal.TheVariants.{Kind, Already, Full, Crowded}
-use Rattle.arena_engine.specs.Entries.{Entry}
+use Rattle.arena_engine.specs.declared.refusal.Refusal.TheVariants.{Packet, Already, Full, Crowded, NotJoined, Old}
+use Rattle.packet_read.specs.declared.packet_fault.PacketFault.{PacketFault}
+use Rattle.packet_read.specs.declared.packet_fault.PacketFault.TheVariants.{Empty, Version, Kind, Short, Long, Time, Buttons}
+use Rattle.arena_engine.specs.Entries.{Did}
 
 -- one line of the output
 pub data OutLine : Type 0 where
   FrameLine : (frame : ℕ) → OutLine
   NoLine : (place : ℕ) → (why : Refusal) → OutLine
   JoinedLine : (port : ℕ) → (slot : ℕ) → OutLine
-  DidLine : (entry : Entry) → OutLine
+  DidLine : (did : Did) → OutLine
   ToLine : (slot : ℕ) → (bytes : List ℕ) → OutLine
   EndLine : (frames : ℕ) → OutLine
 
+-- the name of a packet's fault
+abbrev pub fault_name_of : PacketFault → List ℕ
+fault_name_of Empty = codes "Empty"
+fault_name_of Version = codes "Version"
+fault_name_of Kind = codes "Kind"
+fault_name_of Short = codes "Short"
+fault_name_of Long = codes "Long"
+fault_name_of Time = codes "Time"
+fault_name_of Buttons = codes "Buttons"
+
 -- a refusal's name
 abbrev pub name_of : Refusal → List ℕ
-name_of Kind = codes "Kind"
+name_of (Packet fault) = fault_name_of fault
 name_of Already = codes "Already"
 name_of Full = codes "Full"
 name_of Crowded = codes "Crowded"
+name_of NotJoined = codes "NotJoined"
+name_of Old = codes "Old"
 
 -- ids with a comma between any two, or a dash for none
 abbrev pub ids_text : List ℕ → List ℕ

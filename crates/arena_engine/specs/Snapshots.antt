@@ -10,7 +10,7 @@ use Rattle.entity_recs.specs.declared.kind.Kind.{Kind}
 use Rattle.entity_recs.specs.declared.kind.Kind.TheVariants.{Player, Ammo, Gem, Teleporter, Goal, Lift}
 use Rattle.entity_recs.specs.Kinds.{number_of}
 use Rattle.entity_recs.specs.Bodies.{abs_of}
-use Rattle.arena_engine.specs.Walls.{place}
+use Rattle.box_trace.specs.Walls.{place}
 
 -- how far a player sees on each axis, in sub-units
 abbrev pub sight : Vec3

@@ -1,8 +1,13 @@
-ghost use Rattle.arena_engine.specs.Laws.{EachPacketIsAnswered, PortsStayApart, PlayersKeepRoom};
+ghost use Rattle.arena_engine.specs.Laws.{EachPacketIsAnswered, AcceptedNumbersAreApart, PortsStayApart, PlayersKeepRoom, PlayersStayInside, AnyOrderKeepsPlayersInside, OrderLeavesOneOutput};
 
-/// As many refusals and joins are told of a frame as packets came.
+/// As many refusals, joins and accepted moves come of a frame as packets came.
 pub fn each_packet_is_answered()
     ensures { EachPacketIsAnswered }
+{}
+
+/// Of a frame no two accepted moves of one player have one number, so slot and number tell which move it was.
+pub fn accepted_numbers_are_apart()
+    ensures { AcceptedNumbersAreApart }
 {}
 
 /// No two players ever have one port.
@@ -13,4 +18,20 @@ pub fn ports_stay_apart()
 /// No player ever stands in a wall or in another player.
 pub fn players_keep_room()
     ensures { PlayersKeepRoom }
+{}
+
+/// No player ever leaves the arena.
+pub fn players_stay_inside()
+    ensures { PlayersStayInside }
+{}
+
+/// Whatever the order in which moves run, all players stay within their bounds and inside the arena, and no other
+/// thing goes out of its bounds.
+pub fn any_order_keeps_players_inside()
+    ensures { AnyOrderKeepsPlayersInside }
+{}
+
+/// Of a recording there is one output that tells the moves in the order of arrival.
+pub fn order_leaves_one_output()
+    ensures { OrderLeavesOneOutput }
 {}

@@ -4,11 +4,15 @@
 ghost use Rattle.std.specs.Prelude.{◌≡◌, ◌≤◌, ◌↔◌, IfSome, IsSomeAnd, IsSome, IsTrue, None};
 ghost use Rattle.edge_io.specs.Counts.{HasRisen};
 ghost use Rattle.demo_lines.specs.Bytes.{fault};
-ghost use Rattle.arena_engine.specs.Output.{Writes, IsOutput, IsRefused, IsCut, IsSomeFrames, ReadsSome};
+ghost use Rattle.arena_engine.specs.Output.{Writes, IsOutput, TellsInOrder, IsRefused, IsCut, IsSomeFrames, ReadsSome, ReadsToEnd};
 ghost use Rattle.arena_engine.specs.Serving.{IsPlayOne, NothingFailed, IsOrMemory};
 
+pub use client::Client;
 use edge_io::{Sink, Source};
-pub use laws::{each_packet_is_answered, players_keep_room, ports_stay_apart};
+pub use laws::{
+    accepted_numbers_are_apart, any_order_keeps_players_inside, each_packet_is_answered,
+    order_leaves_one_output, players_keep_room, players_stay_inside, ports_stay_apart,
+};
 use play::play;
 pub use received::{Joined, Turned};
 pub use refusal::Refusal;
@@ -16,8 +20,10 @@ pub use report::Report;
 use std::alloc::Global;
 use stop::Stop;
 
+mod client;
 mod game;
 mod laws;
+mod moves;
 mod play;
 mod players;
 mod receive;
@@ -26,11 +32,11 @@ mod refusal;
 mod report;
 mod server;
 mod snapshot;
+mod solids;
 mod stop;
 #[cfg(test)]
 mod tests;
 mod text;
-mod walls;
 
 /// Whether the words are `play 1`, the only ones that ask for something.
 fn is_play_one(words: &[&str]) -> bool
@@ -61,6 +67,9 @@ pub fn serve<S: Source, K: Sink>(
     // What was read and written, by the status.
     ensures done { result.status ≡ 0 → IfSome (S.left source.old) (λ bytes.
         Writes (K.taken sink.old) (K.taken sink.new) (IsOutput bytes)) }
+    ensures order { result.status ≡ 0 → IfSome (S.left source.old) (λ bytes.
+        Writes (K.taken sink.old) (K.taken sink.new) (TellsInOrder bytes)) }
+    ensures read { result.status ≡ 0 → ReadsToEnd (S.left source.old) (S.left source.new) }
     ensures refused { result.status ≡ 1 → IfSome (S.left source.old) (λ bytes.
         Writes (K.taken sink.old) (K.taken sink.new) (IsRefused bytes)) }
     ensures words { (result.status ≡ 2) ↔ (IsPlayOne words.now → ⊥) }

@@ -2,7 +2,7 @@ ghost use Rattle.std.specs.Prelude.{◌≡◌, ◌≤◌, [], ◌∷◌, OnOk, I
 ghost use Rattle.std.specs.Bool.{OnTrue};
 ghost use Rattle.edge_io.specs.Counts.{HasRisen};
 ghost use Rattle.arena_engine.specs.Games as games;
-ghost use Rattle.arena_engine.specs.Output.{Writes, IsOutput, IsRefused, IsCut, IsSomeFrames, ReadsSome};
+ghost use Rattle.arena_engine.specs.Output.{Writes, IsOutput, TellsInOrder, IsRefused, IsCut, IsSomeFrames, ReadsSome, ReadsToEnd};
 ghost use Rattle.arena_engine.specs.Stops.{OnRefused, OnReadFault, OnWriteFault, OnMemory};
 
 use crate::game::Game;
@@ -25,6 +25,9 @@ fn is_end(event: &Event) -> bool
 pub fn play<S: Source, K: Sink>(alloc: Global, source: &mut S, sink: &mut K) -> Result<(), Stop>
     ensures done { OnOk result (IfSome (S.left source.old) (λ bytes.
         Writes (K.taken sink.old) (K.taken sink.new) (IsOutput bytes))) }
+    ensures order { OnOk result (IfSome (S.left source.old) (λ bytes.
+        Writes (K.taken sink.old) (K.taken sink.new) (TellsInOrder bytes))) }
+    ensures read { OnOk result (ReadsToEnd (S.left source.old) (S.left source.new)) }
     ensures refused { IfErr result (λ stop. OnRefused stop (IfSome (S.left source.old) (λ bytes.
         Writes (K.taken sink.old) (K.taken sink.new) (IsRefused bytes)))) }
     ensures read_fault { IfErr result (λ stop. OnReadFault stop
@@ -41,7 +44,7 @@ pub fn play<S: Source, K: Sink>(alloc: Global, source: &mut S, sink: &mut K) -> 
 {
     let mut demo = DemoReader::new(alloc)?;
     let mut event = demo.next(source)?;
-    let map = demo.map().unwrap();
+    let map = demo.map().unwrap().clone()?;
     let mut game = Game::new(alloc, map)?;
     let mut text = String::new(alloc);
     'events: loop {

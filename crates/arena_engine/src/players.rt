@@ -5,6 +5,8 @@ ghost use Rattle.entity_recs.specs.Bodies.{body_of};
 ghost use Rattle.entity_recs.specs.Records.{IsRecord};
 ghost use Rattle.arena_engine.specs.States as states;
 
+use crate::client::Client;
+use crate::refusal::Refusal;
 use arena_geo::{Aabb, Vec3};
 use entity_recs::{Kind, PLAYER_MAXS, PLAYER_MINS, Rec, body_box};
 use std::alloc::{AllocError, Global};
@@ -13,11 +15,11 @@ use std::marker::Model;
 /// How many players there can be.
 pub const MOST_PLAYERS: usize = 64;
 
-/// The live players: the record of each in rising slot, and its port.
+/// The live players: the record of each in rising slot, and its client.
 #[derive(Drop)]
 pub struct Players {
     records: Vec<Rec>,
-    ports: Vec<u16>,
+    clients: Vec<Client>,
 }
 
 impl Model for Players {
@@ -26,9 +28,9 @@ impl Model for Players {
 
     ghost Value = { State };
 
-    ghost view = { λ p. state_of p.records.items p.ports.items };
+    ghost view = { λ p. state_of p.records.items p.clients.items };
 
-    ghost invariant = { λ p. ArePlayers p.records.items p.ports.items (vec_capacity p.records) (vec_capacity p.ports) };
+    ghost invariant = { λ p. ArePlayers p.records.items p.clients.items (vec_capacity p.records) (vec_capacity p.clients) };
 }
 
 /// A player that has just come in at this place, with this slot.
@@ -65,12 +67,13 @@ fn any_overlaps(records: &[Rec], body: &Aabb) -> bool
 }
 
 impl Players {
-    ghost use Rattle.std.specs.Prelude.{◌≡◌, ◌<◌, ◌≤◌, length, nat_le, map, IfOk};
-    ghost use Rattle.std.specs.List.{list_any, AllByRecursion};
+    ghost use Rattle.std.specs.Prelude.{◌≡◌, ◌==◌, ◌<◌, ◌≤◌, not, length, nat_le, map, filter, vec_capacity, slice_set, position, Some, IfSome, IfOk};
+    ghost use Rattle.std.specs.List.{list_any, slice_get, AllByRecursion};
     ghost use Rattle.arena_geo.specs.Vectors.{IsNear};
     ghost use Rattle.arena_geo.specs.Boxes.{overlaps};
     ghost use Rattle.entity_recs.specs.Bodies.{body_of};
-    ghost use Rattle.arena_engine.specs.States.{opening, with_newcomer, IsState};
+    ghost use Rattle.entity_recs.specs.Records.{IsRecord};
+    ghost use Rattle.arena_engine.specs.States.{opening, with_newcomer, IsState, IsPlayer, state_of};
     ghost use Rattle.arena_engine.specs.Receiving as receiving;
 
     /// Nobody, with room for everybody.
@@ -79,7 +82,7 @@ impl Players {
     {
         Ok(Players {
             records: Vec::with_capacity(alloc, MOST_PLAYERS)?,
-            ports: Vec::with_capacity(alloc, MOST_PLAYERS)?,
+            clients: Vec::with_capacity(alloc, MOST_PLAYERS)?,
         })
     }
 
@@ -91,11 +94,20 @@ impl Players {
         self.records.as_slice()
     }
 
+    /// The record of a live player.
+    pub fn record(&self, slot: u8) -> Rec
+        requires { slot < length self.now.records }
+        ensures value { slice_get self.now.records slot ≡ Some result }
+        ensures holds { IsState self.now }
+    {
+        self.records[usize::from(slot)]
+    }
+
     /// Whether a player of this port is there.
     pub fn is_joined(&self, port: u16) -> bool
         ensures { result ≡ receiving.is_joined self.now port }
     {
-        self.ports.contains(&port)
+        self.clients.iter().any(|client| client.port == port)
     }
 
     /// Whether all slots are live.
@@ -121,7 +133,66 @@ impl Players {
     {
         let slot = self.records.len() as u8;
         self.records.push_reserved(newcomer(slot, at));
-        self.ports.push_reserved(port);
+        self.clients.push_reserved(Client { port, last: 0 });
         slot
+    }
+
+    /// The slot of the player of this port.
+    fn slot_of(&self, port: u16) -> Option<usize>
+        ensures value { result ≡ position (receiving.has_port port) self.now.clients }
+        ensures live { IfSome result (λ slot. slot < length self.now.clients) }
+        ensures holds { IsState self.now }
+    {
+        self.clients.iter().position(|client| client.port == port)
+    }
+
+    /// Whose move it is that a port sends with this number. `NotJoined` where no player has the port, `Old` where the
+    /// number isn't above that of the last accepted move.
+    pub fn mover(&self, port: u16, seq: u32) -> Result<u8, Refusal>
+        ensures value { result ≡ receiving.mover self.now port seq }
+        ensures live { IfOk result (λ slot. slot < length self.now.records) }
+        ensures low { IfOk result (λ slot. slot < 64) }
+    {
+        let Some(slot) = self.slot_of(port) else {
+            return Err(Refusal::NotJoined);
+        };
+        if seq <= self.clients[slot].last {
+            return Err(Refusal::Old);
+        }
+        Ok(slot as u8)
+    }
+
+    /// The last accepted move of this player, whose port it is, has this number.
+    pub fn accept(&mut self, slot: u8, port: u16, seq: u32)
+        requires { slot < length self.old.records }
+        ensures { self.new ≡ receiving.with_last self.old slot port seq }
+    {
+        self.clients[usize::from(slot)] = Client { port, last: seq };
+    }
+
+    /// Makes `bodies` those of all players but this one, in rising slot. It takes no memory.
+    pub fn others(&self, slot: u8, bodies: &mut Vec<Aabb>)
+        requires { 64 ≤ vec_capacity bodies.old }
+        ensures bodies { bodies.new.items ≡ map body_of (filter (λ r. not (r.id == slot)) self.now.records) }
+        ensures few { length bodies.new.items ≤ 64 }
+        ensures room { vec_capacity bodies.new ≡ vec_capacity bodies.old }
+    {
+        bodies.clear();
+        for r in self.records.as_slice() {
+            if r.id != u16::from(slot) {
+                bodies.push_reserved(body_box(r));
+            }
+        }
+    }
+
+    /// A player's record becomes this one.
+    pub fn set(&mut self, slot: u8, me: Rec)
+        requires live { slot < length self.old.records }
+        requires slot { me.id ≡ slot }
+        requires record { IsRecord me }
+        requires player { IsPlayer me }
+        ensures { self.new ≡ state_of (slice_set self.old.records slot me) self.old.clients }
+    {
+        self.records[usize::from(slot)] = me;
     }
 }

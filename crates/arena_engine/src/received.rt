@@ -1,5 +1,6 @@
 use crate::refusal::Refusal;
-use std::alloc::Global;
+use entity_recs::Cmd;
+use std::alloc::{AllocError, Global};
 
 /// A packet that was refused.
 #[derive(Clone, Copy, Debug, PartialEq, Eq)]
@@ -22,28 +23,39 @@ pub struct Joined {
 pub struct Received {
     pub refused: Vec<Turned>,
     pub joined: Vec<Joined>,
+    /// The accepted moves, in the order of arrival.
+    pub moves: Vec<Cmd>,
 }
 
 impl Received {
-    ghost use Rattle.std.specs.Prelude.{◌≡◌, []};
+    ghost use Rattle.std.specs.Prelude.{◌≡◌, [], OnOk};
+    ghost use Rattle.arena_engine.specs.Capacities.{HasRoom};
 
     /// Nothing yet.
     pub fn new(alloc: Global) -> Received
         ensures refused { result.refused.items ≡ [] }
         ensures joined { result.joined.items ≡ [] }
+        ensures moves { result.moves.items ≡ [] }
     {
         Received {
             refused: Vec::new(alloc),
             joined: Vec::new(alloc),
+            moves: Vec::new(alloc),
         }
     }
 
-    /// Forgets all, and keeps the room.
-    pub fn clear(&mut self)
+    /// Forgets all, and takes room for what so many packets come to.
+    pub fn renew(&mut self, packets: usize) -> Result<(), AllocError>
         ensures refused { self.new.refused.items ≡ [] }
         ensures joined { self.new.joined.items ≡ [] }
+        ensures moves { self.new.moves.items ≡ [] }
+        ensures room { OnOk result (HasRoom packets self.new) }
     {
         self.refused.clear();
         self.joined.clear();
+        self.moves.clear();
+        self.refused.reserve(packets)?;
+        self.joined.reserve(packets)?;
+        self.moves.reserve(packets)
     }
 }

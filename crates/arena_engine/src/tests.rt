@@ -50,6 +50,62 @@ fn recordings_are_told_frame_by_frame(rt: HostRuntime) -> Result<(), Fail> {
     Ok(())
 }
 
+/// Two frames: a join, and then three moves along x, with the wish 320 and 50 milliseconds each.
+const THREE_MOVES: &str =
+    "arena -131072 -131072 0 131072 131072 65536\nspawn 0 0 6144\nframe\nfrom 7 0101\nframe\nfrom 7 010201000000324001000000\nfrom 7 010202000000324001000000\nfrom 7 010203000000324001000000\nend\n";
+
+const THREE_MOVES_TOLD: &str =
+    "frame 0\njoined 7 0\nto 0 01000000000000000000000000000018000000000000000000000000000000000000000000000000000000\nframe 1\ndid 0 1 2048 0 6144 -\ndid 0 2 5734 0 6144 -\ndid 0 3 9830 0 6144 -\nto 0 01010000000066260000000000000018000000400100000000000000000001000000000000030000000000\nend 2\n";
+
+#[test]
+fn players_move(rt: HostRuntime) -> Result<(), Fail> {
+    let step =
+        "arena -131072 -131072 0 131072 131072 65536\nspawn 0 0 6144\nblock 5120 -12800 0 12800 12800 4608\nframe\nfrom 7 0101\nfrom 7 010201000000324001000000\nend\n";
+    let step_told =
+        "frame 0\njoined 7 0\ndid 0 1 2048 0 10752 -\nto 0 0100000000000008000000000000002a000000a00000000000000000000001000000000000010000000000\nend 1\n";
+    let wall =
+        "arena -131072 -131072 0 131072 131072 65536\nspawn 0 0 6144\nblock 5120 -12800 0 12800 12800 4609\nframe\nfrom 7 0101\nfrom 7 010201000000324001000000\nend\n";
+    let wall_told =
+        "frame 0\njoined 7 0\ndid 0 1 1024 0 6144 -\nto 0 01000000000000040000000000000018000000000000000000000000000001000000000000010000000000\nend 1\n";
+    let jump =
+        "arena -131072 -131072 0 131072 131072 65536\nspawn 0 0 6144\nframe\nfrom 7 0101\nfrom 7 010201000000320000000001\nfrom 7 010202000000320000000001\nend\n";
+    let jump_told =
+        "frame 0\njoined 7 0\ndid 0 1 0 0 9088 -\ndid 0 2 0 0 11520 -\nto 0 0100000000000000000000000000002d0000000000000000000000be000000000000000000020000000000\nend 1\n";
+    let rows = [
+        (THREE_MOVES, THREE_MOVES_TOLD),
+        (step, step_told),
+        (wall, wall_told),
+        (jump, jump_told),
+    ];
+    for (recording, output) in rows {
+        expect(&rt, recording, 0, output)?;
+    }
+    Ok(())
+}
+
+#[test]
+fn packets_are_refused_by_name(rt: HostRuntime) -> Result<(), Fail> {
+    let old =
+        "arena -131072 -131072 0 131072 131072 65536\nspawn 0 0 6144\nframe\nfrom 7 0101\nfrom 7 010205000000320000000000\nfrom 7 010205000000320000000000\nfrom 7 010204000000320000000000\nfrom 7 010206000000320000000000\nend\n";
+    let old_told =
+        "frame 0\nno 2 Old\nno 3 Old\njoined 7 0\ndid 0 5 0 0 6144 -\ndid 0 6 0 0 6144 -\nto 0 01000000000000000000000000000018000000000000000000000000000001000000000000060000000000\nend 1\n";
+    let faulty =
+        "arena -131072 -131072 0 131072 131072 65536\nspawn 0 0 6144\nframe\nfrom 7 -\nfrom 7 02\nfrom 7 0109\nfrom 7 01\nfrom 7 010100\nfrom 7 010201000000004001000000\nfrom 7 010201000000324001000080\nfrom 7 0103\nfrom 7 010201000000320000000000\nend\n";
+    let faulty_told =
+        "frame 0\nno 0 Empty\nno 1 Version\nno 2 Kind\nno 3 Short\nno 4 Long\nno 5 Time\nno 6 Buttons\nno 7 Kind\nno 8 NotJoined\nend 1\n";
+    let blocked =
+        "arena -131072 -131072 0 131072 131072 65536\nspawn 0 0 6144\nblock 4095 -12800 0 12800 12800 4608\nframe\nfrom 7 0101\nend\n";
+    let rows = [
+        (old, old_told),
+        (faulty, faulty_told),
+        (blocked, "frame 0\nno 0 Crowded\nend 1\n"),
+    ];
+    for (recording, output) in rows {
+        expect(&rt, recording, 0, output)?;
+    }
+    Ok(())
+}
+
 #[test]
 fn a_refused_recording_keeps_its_whole_frames(rt: HostRuntime) -> Result<(), Fail> {
     expect(&rt, "", 1, "")?;

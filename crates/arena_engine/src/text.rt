@@ -1,16 +1,20 @@
 ghost use Rattle.std.specs.Prelude.{◌≡◌, ◌<◌, ◌≤◌, [], ◌++◌, length, map, OnOk, string_bytes};
 ghost use Rattle.std.specs.List.{AllByRecursion};
 ghost use Rattle.entity_recs.specs.Records.{IsRecord};
-ghost use Rattle.arena_engine.specs.OutLines.{printed, text_of, FrameLine, NoLine, JoinedLine, ToLine, EndLine};
-ghost use Rattle.arena_engine.specs.Frames.{no_line, joined_line, to_line, frame_lines};
-ghost use Rattle.arena_engine.specs.States.{HasSlot};
+ghost use Rattle.arena_engine.specs.OutLines.{printed, text_of, FrameLine, NoLine, JoinedLine, DidLine, ToLine, EndLine};
+ghost use Rattle.arena_engine.specs.Frames.{no_line, joined_line, did_line, to_line, frame_lines};
+ghost use Rattle.move_journal.specs.Commands.{command_of};
+ghost use Rattle.arena_engine.specs.States.{IsPlayer};
+ghost use Rattle.move_journal.specs.Tellings.{told};
 ghost use Rattle.arena_engine.specs.Receiving.{pass_as};
 
 use crate::players::Players;
 use crate::received::{Joined, Received, Turned};
 use crate::snapshot::push_snapshot;
+use arena_geo::Vec3;
 use edge_io::LineBuf;
 use entity_recs::Rec;
+use move_journal::Entry;
 use std::alloc::{AllocError, Global};
 
 /// Puts the line that opens a frame at the end.
@@ -45,6 +49,16 @@ fn push_joined(text: &mut String, joined: Joined) -> Result<(), AllocError>
     writeln!(text, "joined {port} {slot}")
 }
 
+/// Puts the line of a move that was done at the end. Nothing is got by a move yet.
+fn push_did(text: &mut String, entry: Entry) -> Result<(), AllocError>
+    ensures ok { OnOk result (string_bytes text.new ≡ string_bytes text.old ++ printed (did_line (told entry))) }
+{
+    let slot = entry.slot;
+    let seq = entry.seq;
+    let Vec3 { x, y, z } = entry.origin;
+    writeln!(text, "did {slot} {seq} {x} {y} {z} -")
+}
+
 /// Puts the line of a snapshot at the end.
 fn push_to(alloc: Global, text: &mut String, slot: u16, bytes: &[u8]) -> Result<(), AllocError>
     ensures ok { OnOk result (string_bytes text.new ≡ string_bytes text.old ++ printed (ToLine slot bytes.now)) }
@@ -69,6 +83,17 @@ pub fn push_joins(text: &mut String, joined: &[Joined]) -> Result<(), AllocError
 {
     for j in joined {
         push_joined(text, *j)?;
+    }
+    Ok(())
+}
+
+/// Puts the lines of the journal at the end.
+pub fn push_dids(text: &mut String, journal: &[Entry]) -> Result<(), AllocError>
+    ensures ok { OnOk result (string_bytes text.new
+        ≡ string_bytes text.old ++ text_of (map did_line (map told journal.now))) }
+{
+    for entry in journal {
+        push_did(text, *entry)?;
     }
     Ok(())
 }
@@ -102,7 +127,7 @@ fn push_replies(
     records: &[Rec],
 ) -> Result<(), AllocError>
     requires records { AllByRecursion IsRecord records.now }
-    requires slots { AllByRecursion HasSlot records.now }
+    requires slots { AllByRecursion IsPlayer records.now }
     requires few { length records.now ≤ 64 }
     ensures ok { OnOk result (string_bytes text.new ≡ string_bytes text.old ++ text_of (map (to_line frame records.now) records.now)) }
 {
@@ -112,20 +137,24 @@ fn push_replies(
     Ok(())
 }
 
-/// Puts the lines of a frame at the end: its refusals, its joins, and the snapshot of each player.
+/// Puts the lines of a frame at the end: its refusals, its joins, its journal, and the snapshot of each player.
 pub fn push_frame_lines(
     alloc: Global,
     text: &mut String,
     buf: &mut LineBuf,
     frame: u32,
     received: &Received,
+    journal: &[Entry],
     players: &Players,
 ) -> Result<(), AllocError>
     ensures ok { OnOk result (string_bytes text.new ≡ string_bytes text.old
-        ++ text_of (frame_lines frame (pass_as players.now received.now.refused.items received.now.joined.items) [])) }
+        ++ text_of (frame_lines frame
+        (pass_as players.now received.now.refused.items received.now.joined.items (map command_of received.now.moves.items))
+        (map told journal.now) players.now.records)) }
 {
     push_frame(text, frame)?;
     push_refusals(text, received.refused.as_slice())?;
     push_joins(text, received.joined.as_slice())?;
+    push_dids(text, journal)?;
     push_replies(alloc, text, buf, frame, players.records())
 }

@@ -2,4 +2,5 @@
 pub mod Vectors
 pub mod Ranges
 pub mod Containment
+pub mod CommonPoints
 pub mod Squares

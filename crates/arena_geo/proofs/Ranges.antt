@@ -2,7 +2,7 @@
 use Rattle.std.proofs.Common.{◌≡◌, Option, Some, None, SomeIff, arith, rules}
 use Rattle.std.proofs.lemmas.Int.{ints, clamps}
 use Rattle.arena_geo.specs.declared.vec3.Vec3.{Vec3}
-use Rattle.arena_geo.specs.Vectors.{IsPositive, plus, minus}
+use Rattle.arena_geo.specs.Vectors.{IsNotNegative, plus, minus}
 use Rattle.arena_geo.specs.Bounds.{Bounds, bounds, IsOrdered, IsInRange, IsBox}
 use Rattle.arena_geo.specs.Boxes.{grown, moved, hull}
 
@@ -11,14 +11,14 @@ pub some_iff_same : {T : Type 0} (r : Option T) (P Q : Type 0) (v : T) → (P �
 some_iff_same None P Q v to from none = λ q. none (from q)
 some_iff_same (Some x) P Q v to from some = (to some.0, some.1)
 
-pub IsOrdered-grown : (b : Bounds) (by : Vec3) → IsOrdered b → IsPositive by → IsOrdered (grown b by)
+pub IsOrdered-grown : (b : Bounds) (by : Vec3) → IsOrdered b → IsNotNegative by → IsOrdered (grown b by)
 IsOrdered-grown b by ordered positive = record { x = omega (arith, ints); y = omega (arith, ints); z = omega (arith, ints) }
 
 pub IsOrdered-moved : (b : Bounds) (by : Vec3) → IsOrdered b → IsOrdered (moved b by)
 IsOrdered-moved b by ordered = record { x = omega (arith, ints); y = omega (arith, ints); z = omega (arith, ints) }
 
 -- a box out of two corners is the grown one exactly where that is in range
-pub grown_box : (b : Bounds) (by lo hi : Vec3) (r : Option Bounds) → lo ≡ minus b.lo by → hi ≡ plus b.hi by → IsOrdered b → IsPositive by → SomeIff r (IsBox (bounds lo hi)) (bounds lo hi) → SomeIff r (IsInRange (grown b by)) (grown b by)
+pub grown_box : (b : Bounds) (by lo hi : Vec3) (r : Option Bounds) → lo ≡ minus b.lo by → hi ≡ plus b.hi by → IsOrdered b → IsNotNegative by → SomeIff r (IsBox (bounds lo hi)) (bounds lo hi) → SomeIff r (IsInRange (grown b by)) (grown b by)
 grown_box b by lo hi r low high ordered positive made =
     let P : Vec3 → Vec3 → Type 0 = λ l h. SomeIff r (IsBox (bounds l h)) (bounds l h) in
     some_iff_same r (IsBox (grown b by)) (IsInRange (grown b by)) (grown b by) (λ box. box.in_range) (λ range. record { ordered = IsOrdered-grown b by ordered positive; in_range = range }) (rw (low, high) at made)

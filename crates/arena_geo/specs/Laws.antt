@@ -1,5 +1,6 @@
 -- What holds of all boxes and roots.
-use Rattle.std.specs.Prelude.{ℕ, true, ◌≡◌}
+use Rattle.std.specs.Prelude.{ℕ, true, ◌≡◌, ◌↔◌, ◌≤ℤ◌, ℤ}
+use Rattle.arena_geo.specs.declared.vec3.Vec3.{Vec3}
 use Rattle.arena_geo.specs.Bounds.{Bounds, IsOrdered}
 use Rattle.arena_geo.specs.Boxes.{overlaps, touches, contains, hull}
 use Rattle.arena_geo.specs.Roots.{IsRoot, root_of}
@@ -9,6 +10,27 @@ abbrev pub HullIsLeast : Type 0
 HullIsLeast =
     (a b : Bounds) → (contains (hull a b) a ≡ true) × (contains (hull a b) b ≡ true)
     × ((c : Bounds) → contains c a ≡ true → contains c b ≡ true → contains c (hull a b) ≡ true)
+
+-- the number lies between two others, which count too
+pub record IsBetween (lo hi at : ℤ) : Type 0 where
+  pub from : lo ≤ℤ at
+  pub to : at ≤ℤ hi
+
+-- the point lies in the box, the faces counted
+pub record IsPointOf (b : Bounds) (p : Vec3) : Type 0 where
+  pub x : IsBetween b.lo.x b.hi.x p.x
+  pub y : IsBetween b.lo.y b.hi.y p.y
+  pub z : IsBetween b.lo.z b.hi.z p.z
+
+-- some point lies in both boxes
+pub record HaveCommonPoint (a b : Bounds) : Type 0 where
+  pub point : Vec3
+  pub one : IsPointOf a point
+  pub other : IsPointOf b point
+
+-- boxes touch exactly where they have a common point, the faces counted
+abbrev pub TouchIsCommonPoint : Type 0
+TouchIsCommonPoint = (a b : Bounds) → IsOrdered a → IsOrdered b → (touches a b ≡ true) ↔ HaveCommonPoint a b
 
 -- boxes that overlap touch
 abbrev pub OverlapIsTouch : Type 0

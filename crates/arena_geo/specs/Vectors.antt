@@ -16,7 +16,7 @@ pub record Fits (v : Vec3) : Type 0 where
   pub z : FitsSigned w32 v.z
 
 -- no part of v is below 0
-pub record IsPositive (v : Vec3) : Type 0 where
+pub record IsNotNegative (v : Vec3) : Type 0 where
   pub x : pos 0 ≤ℤ v.x
   pub y : pos 0 ≤ℤ v.y
   pub z : pos 0 ≤ℤ v.z

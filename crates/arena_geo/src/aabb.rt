@@ -1,5 +1,5 @@
 ghost use Rattle.std.specs.Prelude.{◌≡◌, ◌↔◌, IsTrue, SomeIff};
-ghost use Rattle.arena_geo.specs.Vectors.{IsNear, IsPositive};
+ghost use Rattle.arena_geo.specs.Vectors.{IsNear, IsNotNegative};
 ghost use Rattle.arena_geo.specs.Bounds.{bounds, IsInRange, IsOrdered, IsBox};
 ghost use Rattle.arena_geo.specs.Boxes as boxes;
 
@@ -102,6 +102,13 @@ impl Aabb {
             && overlaps_on(self.lo.z, self.hi.z, o.lo.z, o.hi.z)
     }
 
+    /// Whether some box of `solids` overlaps this one.
+    pub fn is_blocked(&self, solids: &[Aabb]) -> bool
+        ensures { result ≡ boxes.is_blocked self.now solids.now }
+    {
+        solids.iter().any(|solid| self.overlaps(solid))
+    }
+
     /// Whether the boxes have a common point, the faces counted: as Quake's `SV_TouchLinks` tests.
     pub fn touches(&self, o: &Aabb) -> bool
         ensures { result ≡ boxes.touches self.now o.now }
@@ -122,7 +129,7 @@ impl Aabb {
 
     /// The box, larger by `by` on both sides of each axis. `None` exactly where a coordinate leaves the range.
     pub fn grow(&self, by: Vec3) -> Option<Aabb>
-        requires positive { IsPositive by }
+        requires not_negative { IsNotNegative by }
         requires near { IsNear LIMIT by }
         ensures { SomeIff result (IsInRange (boxes.grown self.now by)) (boxes.grown self.now by) }
     {

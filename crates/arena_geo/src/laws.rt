@@ -1,8 +1,13 @@
-ghost use Rattle.arena_geo.specs.Laws.{HullIsLeast, OverlapIsTouch, ContainedIsTouched, RootIsGreatest};
+ghost use Rattle.arena_geo.specs.Laws.{HullIsLeast, TouchIsCommonPoint, OverlapIsTouch, ContainedIsTouched, RootIsGreatest};
 
 /// The hull of two boxes contains both, and lies in each box that contains both.
 pub fn hull_is_least()
     ensures { HullIsLeast }
+{}
+
+/// Boxes touch exactly where they have a common point, the faces counted.
+pub fn touch_is_common_point()
+    ensures { TouchIsCommonPoint }
 {}
 
 /// Boxes that overlap touch.

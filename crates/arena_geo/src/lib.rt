@@ -2,7 +2,9 @@
 #![tactic(auto)]
 
 pub use aabb::{Aabb, LIMIT};
-pub use laws::{contained_is_touched, hull_is_least, overlap_is_touch, root_is_greatest};
+pub use laws::{
+    contained_is_touched, hull_is_least, overlap_is_touch, root_is_greatest, touch_is_common_point,
+};
 pub use region::{REGION_BOXES, Region};
 pub use root::isqrt;
 pub use vec3::Vec3;

@@ -7,3 +7,5 @@ pub mod Overlaps
 pub mod Firsts
 pub mod FirstMeetings
 pub mod Traces
+pub mod WallBoxes
+pub mod Insides

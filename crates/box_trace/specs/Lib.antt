@@ -6,4 +6,5 @@ pub mod Steps
 pub mod Traces
 pub mod Windows
 pub mod Meetings
+pub mod Walls
 pub mod Laws

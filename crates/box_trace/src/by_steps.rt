@@ -9,13 +9,13 @@ ghost use Rattle.box_trace.specs.Meetings.{IsFirstMeeting, IsMeetingAt};
 
 use crate::hit::Hit;
 use crate::meeting::Meeting;
-use crate::way::{REACH, Way};
+use crate::way::Way;
 use arena_geo::{Aabb, Vec3};
 
 /// The same answer as [`trace`](crate::trace), by trying every step in turn: its work grows with the number of
 /// steps too.
 pub fn trace_by_steps(body: &Aabb, d: Vec3, fixed: &[Aabb], moving: &[Aabb]) -> Hit
-    requires near { IsNear REACH d }
+    requires near { IsNear 65536 d }
     requires in_range { IsInRange (moved body.now d) }
     requires few { length fixed.now + length moving.now ≤ 65535 }
     ensures is_trace { IsTrace body.now d (fixed.now ++ moving.now) result }

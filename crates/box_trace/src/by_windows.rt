@@ -7,18 +7,18 @@ ghost use Rattle.box_trace.specs.Meetings.{IsFirstMeeting};
 
 use crate::hit::Hit;
 use crate::meeting::{Meeting, earlier};
-use crate::way::{REACH, Way};
+use crate::way::Way;
 use arena_geo::{Aabb, Vec3};
 
 /// Moves a box along a displacement until a solid stops it. The displacement is gone in as many steps as its
 /// greatest part has sub-units, each part cut toward 0 at each step, and the body stops before the first step
 /// after the start at which it overlaps a solid. The solids are the two slices, read as one list, `fixed` first.
 ///
-/// At most 65,535 solids; each part of `d` at most [`REACH`] from 0; the body stays in range along its way. The
-/// work grows with the number of solids alone: each axis is solved for the steps at which the boxes overlap on it.
-/// [`trace_by_steps`](crate::trace_by_steps) gives the same answer by trying every step.
+/// At most 65,535 solids; each part of `d` at most [`REACH`](crate::REACH) from 0; the body stays in range along its
+/// way. The work grows with the number of solids alone: each axis is solved for the steps at which the boxes overlap
+/// on it. [`trace_by_steps`](crate::trace_by_steps) gives the same answer by trying every step.
 pub fn trace(body: &Aabb, d: Vec3, fixed: &[Aabb], moving: &[Aabb]) -> Hit
-    requires near { IsNear REACH d }
+    requires near { IsNear 65536 d }
     requires in_range { IsInRange (moved body.now d) }
     requires few { length fixed.now + length moving.now ≤ 65535 }
     ensures is_trace { IsTrace body.now d (fixed.now ++ moving.now) result }

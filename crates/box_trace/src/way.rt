@@ -36,7 +36,7 @@ fn part_at(part: i32, k: u32, count: u32) -> i32
 
 /// How far a body has come at step `k` of its displacement, in sub-units, cut toward 0 on each axis.
 pub fn shift_at(d: Vec3, k: u32) -> Vec3
-    requires near { IsNear REACH d }
+    requires near { IsNear 65536 d }
     requires within { k ≤ steps.step_count d }
     ensures { result ≡ steps.shift_at d k }
 {

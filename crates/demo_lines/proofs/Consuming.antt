@@ -6,13 +6,12 @@ use Rattle.std.proofs.KnownBytes.{Consumes-nil, Consumes-trans, prepend_known-ni
 use Rattle.std.proofs.lemmas.Grind.{flat_map-append}
 use Rattle.edge_io.specs.Lines.{HasNoLineFeed, GivesLine, GivesLongFront, GivesFront, GivesLastPart, ahead}
 use Rattle.demo_lines.specs.declared.stage.Stage.TheVariants.{Refused}
-use Rattle.demo_lines.specs.declared.reading.Reading.{Reading}
 use Rattle.demo_lines.specs.declared.event.Event.{Event}
-use Rattle.demo_lines.specs.Recording.{next, told, after, events_of, is_over}
+use Rattle.demo_lines.specs.Recording.{Reading, next, told, after, events_of, is_over}
 use Rattle.demo_lines.specs.Bytes.{unlines, whole_lines}
 use Rattle.demo_lines.specs.Reads.{Reads, ReadsFront, EndsAt}
 use Rattle.demo_lines.proofs.Machines.{run_of-append, told_over-append}
-use Rattle.demo_lines.proofs.Feeds.{unlines-push, AllByRecursion-push, whole_lines-line, whole_lines-none}
+use Rattle.demo_lines.proofs.Feeds.{unlines-push, AllByRecursion-push, each_of_both, whole_lines-line, whole_lines-none}
 use Rattle.demo_lines.proofs.Ends.{ends_behind, ends_where_first, ends_without, ends_long}
 
 -- nothing was taken
@@ -37,7 +36,7 @@ Reads-line r s a b c es line reads gives = record {
 pub Reads-trans : (r s t : Reading) (a b c : Option (List ℕ)) (es fs : List Event) → Reads r s a b es → Reads s t b c fs → Reads r t a c (es ++ fs)
 Reads-trans r s t a b c es fs one more = record {
   lines = one.lines ++ more.lines;
-  each = each_of_both one.lines more.lines one.each more.each;
+  each = each_of_both HasNoLineFeed one.lines more.lines one.each more.each;
   consumed = subst (Consumes a c) (sym (flat_map-append (λ l. l ++ 10 ∷ []) one.lines more.lines)) (Consumes-trans a b c _ _ one.consumed more.consumed);
   reached = more.reached ∙ ap (λ u. after u more.lines) one.reached ∙ sym (run_of-append next told r one.lines more.lines);
   events = told_over-append next told r one.lines more.lines
@@ -45,10 +44,6 @@ Reads-trans r s t a b c es fs one more = record {
       ∙ ap (λ xs. events_of r one.lines ++ xs) more.events
       ∙ ap (λ xs. xs ++ fs) one.events;
 }
-  where
-    each_of_both : (ls ms : List (List ℕ)) → AllByRecursion HasNoLineFeed ls → AllByRecursion HasNoLineFeed ms → AllByRecursion HasNoLineFeed (ls ++ ms)
-    each_of_both [] ms p q = q
-    each_of_both (l ∷ ls) ms p q = (p.0, each_of_both ls ms p.1 q)
 
 -- the front of a line behind them
 pub ReadsFront-of : (r s : Reading) (a b c : Option (List ℕ)) (es : List Event) (line pending : List ℕ) → Reads r s a b es → GivesFront b c line pending

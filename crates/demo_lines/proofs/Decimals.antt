@@ -8,11 +8,11 @@ use Rattle.std.proofs.lemmas.Bool.Decides.{nat_tests}
 use Rattle.demo_lines.specs.Numbers.{is_digit, digits_up_to, natural_up_to, integer_up_to, negated}
 
 -- the number that digits make behind n
-abbrev read_on : ℕ → List ℕ → ℕ
+abbrev pub read_on : ℕ → List ℕ → ℕ
 read_on n [] = n
 read_on n (d ∷ ds) = read_on (10 * n + (d - 48)) ds
 
-own : IsNumeralModel (λ ds. all_ascii_digits ds ≡ true) (read_on 0)
+pub own : IsNumeralModel (λ ds. all_ascii_digits ds ≡ true) (read_on 0)
 own = numerals_by_fold _ (search rules) read_on (search rules)
 
 -- digits that spell n, read behind m
@@ -20,7 +20,7 @@ record Spells (m : ℕ) (ds : List ℕ) (n : ℕ) : Type 0 where
   digits : all_ascii_digits ds ≡ true
   value : read_on m ds ≡ n
 
-and_parts : (a b : Bool) → (a && b) ≡ true → (a ≡ true) × (b ≡ true)
+pub and_parts : (a b : Bool) → (a && b) ≡ true → (a ≡ true) × (b ≡ true)
 and_parts true b e = (refl, e)
 and_parts false b e = cc
 
@@ -71,7 +71,7 @@ read-spelled limit m n (d ∷ ds) s h =
 
 -- ---- naturals
 
-spelled-natural : (limit n : ℕ) (ds : List ℕ) → limit ≤ 2 ^ 24 → 0 < length ds → (get_or ds 0 0 ≡ 48 → length ds ≡ 1)
+spelled-natural : (limit n : ℕ) (ds : List ℕ) → limit < 2 ^ 64 → 0 < length ds → (get_or ds 0 0 ≡ 48 → length ds ≡ 1)
     → digits_up_to limit 0 ds ≡ Some n → (ds ≡ decimal n) × (n ≤ limit)
 spelled-natural limit n ds low some no_zero e =
     let spells = spells-read limit 0 n ds e in
@@ -80,7 +80,7 @@ spelled-natural limit n ds low some no_zero e =
     let text = decimal-digits_value own ds spells.digits some no_zero (omega arith) in
     (sym text ∙ ap decimal value, bound)
 
-pub natural-spelled : (limit n : ℕ) (field : List ℕ) → limit ≤ 2 ^ 24 → natural_up_to limit field ≡ Some n → (field ≡ decimal n) × (n ≤ limit)
+pub natural-spelled : (limit n : ℕ) (field : List ℕ) → limit < 2 ^ 64 → natural_up_to limit field ≡ Some n → (field ≡ decimal n) × (n ≤ limit)
 natural-spelled limit n [] low e = cc
 natural-spelled limit n (d ∷ []) low e = spelled-natural limit n (d ∷ []) low (omega arith) (λ h. refl) e
 natural-spelled limit n (d ∷ f ∷ ds) low e = by_first (d == 48) refl e
@@ -98,19 +98,18 @@ natural-digits limit n (d ∷ f ∷ ds) some (inr high) e =
     let other : (d == 48) ≡ false = grind (arith, nat_tests) in
     ap (λ b. cond b None (digits_up_to limit 0 (d ∷ f ∷ ds))) other ∙ e
 
-first_of_decimal : (n : ℕ) → n < 2 ^ 64 → (decimal n ≡ 48 ∷ []) ⊎ (48 < get_or (decimal n) 0 0)
+pub first_of_decimal : (n : ℕ) → n < 2 ^ 64 → (decimal n ≡ 48 ∷ []) ⊎ (48 < get_or (decimal n) 0 0)
 first_of_decimal zero small = inl (decimal_digit 0 (omega arith))
 first_of_decimal (suc n) small = inr (first_decimal (suc n) (omega arith) small)
 
-pub natural-decimal : (limit n : ℕ) → limit ≤ 2 ^ 24 → n ≤ limit → natural_up_to limit (decimal n) ≡ Some n
-natural-decimal limit n low h =
-    let small : n < 2 ^ 64 = omega arith in
+pub natural-decimal : (limit n : ℕ) → n < 2 ^ 64 → n ≤ limit → natural_up_to limit (decimal n) ≡ Some n
+natural-decimal limit n small h =
     let spells : Spells 0 (decimal n) n = record { digits = digits_decimal own n small; value = digits_value-decimal own n small } in
     natural-digits limit n (decimal n) (decimal_nonempty n small) (first_of_decimal n small) (read-spelled limit 0 n (decimal n) spells h)
 
 -- ---- numbers below 0
 
-negated-spelled : (limit : ℕ) (z : ℤ) (ds : List ℕ) (read : Option ℕ) → limit ≤ 2 ^ 24 → natural_up_to limit ds ≡ read → negated read ≡ Some z
+negated-spelled : (limit : ℕ) (z : ℤ) (ds : List ℕ) (read : Option ℕ) → limit < 2 ^ 64 → natural_up_to limit ds ≡ read → negated read ≡ Some z
     → (45 ∷ ds ≡ signed_decimal z) × (unsigned_abs z ≤ limit)
 negated-spelled limit z ds None low is e = cc
 negated-spelled limit z ds (Some zero) low is e = cc
@@ -120,7 +119,7 @@ negated-spelled limit z ds (Some (suc n)) low is e =
     let P : ℤ → Type 0 = λ y. (45 ∷ ds ≡ signed_decimal y) × (unsigned_abs y ≤ limit) in
     subst P same (ap (λ ns. 45 ∷ ns) spelled.0, spelled.1)
 
-pos-spelled : (limit : ℕ) (z : ℤ) (ds : List ℕ) (read : Option ℕ) → limit ≤ 2 ^ 24 → natural_up_to limit ds ≡ read → option_map pos read ≡ Some z
+pos-spelled : (limit : ℕ) (z : ℤ) (ds : List ℕ) (read : Option ℕ) → limit < 2 ^ 64 → natural_up_to limit ds ≡ read → option_map pos read ≡ Some z
     → (ds ≡ signed_decimal z) × (unsigned_abs z ≤ limit)
 pos-spelled limit z ds None low is e = cc
 pos-spelled limit z ds (Some n) low is e =
@@ -129,7 +128,7 @@ pos-spelled limit z ds (Some n) low is e =
     let P : ℤ → Type 0 = λ y. (ds ≡ signed_decimal y) × (unsigned_abs y ≤ limit) in
     subst P same (spelled.0, spelled.1)
 
-pub integer-spelled : (limit : ℕ) (z : ℤ) (field : List ℕ) → limit ≤ 2 ^ 24 → integer_up_to limit field ≡ Some z → (field ≡ signed_decimal z) × (unsigned_abs z ≤ limit)
+pub integer-spelled : (limit : ℕ) (z : ℤ) (field : List ℕ) → limit < 2 ^ 64 → integer_up_to limit field ≡ Some z → (field ≡ signed_decimal z) × (unsigned_abs z ≤ limit)
 integer-spelled limit z [] low e = cc
 integer-spelled limit z (b ∷ bs) low e = by_sign (b == 45) refl e
   where
@@ -152,10 +151,7 @@ begins_with_digit : (n : ℕ) → ((decimal n ≡ 48 ∷ []) ⊎ (48 < get_or (d
 begins_with_digit n (inl is) = let first : get_or (decimal n) 0 0 ≡ 48 = ap (λ ds. get_or ds 0 0) is in omega arith
 begins_with_digit n (inr high) = omega arith
 
-pub integer-decimal : (limit : ℕ) (z : ℤ) → limit ≤ 2 ^ 24 → unsigned_abs z ≤ limit → integer_up_to limit (signed_decimal z) ≡ Some z
-integer-decimal limit (pos n) low h =
-    let fits : n ≤ limit = h in
-    integer-natural limit n (decimal n) (begins_with_digit n (first_of_decimal n (omega arith))) (natural-decimal limit n low fits)
-integer-decimal limit (negsuc n) low h =
-    let fits : suc n ≤ limit = h in
-    ap negated (natural-decimal limit (suc n) low fits)
+pub integer-decimal : (limit : ℕ) (z : ℤ) → unsigned_abs z < 2 ^ 64 → unsigned_abs z ≤ limit → integer_up_to limit (signed_decimal z) ≡ Some z
+integer-decimal limit (pos n) small h =
+    integer-natural limit n (decimal n) (begins_with_digit n (first_of_decimal n small)) (natural-decimal limit n small h)
+integer-decimal limit (negsuc n) small h = ap negated (natural-decimal limit (suc n) small h)

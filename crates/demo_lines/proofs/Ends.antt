@@ -6,10 +6,9 @@ use Rattle.std.proofs.lemmas.Bool.Decides.{nat_tests}
 use Rattle.demo_lines.specs.declared.stage.Stage.{Stage}
 use Rattle.demo_lines.specs.declared.stage.Stage.TheVariants.{Start, Map, Playing, Ended, Refused}
 use Rattle.demo_lines.specs.declared.line.Line.{Line}
-use Rattle.demo_lines.specs.declared.reading.Reading.{Reading}
 use Rattle.demo_lines.specs.declared.event.Event.{Event}
 use Rattle.demo_lines.specs.Lines.{line_at}
-use Rattle.demo_lines.specs.Recording.{next, told, step_at, goes_to, said_by, after, events_of, is_over, is_refused, event_of}
+use Rattle.demo_lines.specs.Recording.{Reading, next, told, step_at, goes_to, said_by, after, events_of, is_over, is_refused, event_of}
 use Rattle.demo_lines.specs.Bytes.{unlines, whole_lines, events_in, fault_at}
 use Rattle.demo_lines.specs.Reads.{EndsAt}
 use Rattle.demo_lines.proofs.Machines.{run_of-append, told_over-append, run_of-fixed, told_over-fixed}

@@ -74,3 +74,7 @@ unlines-push lines line = flat_map-append (λ l. l ++ 10 ∷ []) lines (line ∷
 pub AllByRecursion-push : {X : Type 0} (P : X → Type 0) (xs : List X) (x : X) → AllByRecursion P xs → P x → AllByRecursion P (xs ++ x ∷ [])
 AllByRecursion-push P [] x all last = (last, tt)
 AllByRecursion-push P (y ∷ ys) x all last = (all.0, AllByRecursion-push P ys x all.1 last)
+
+pub each_of_both : {X : Type 0} (P : X → Type 0) (xs ys : List X) → AllByRecursion P xs → AllByRecursion P ys → AllByRecursion P (xs ++ ys)
+each_of_both P [] ys p q = q
+each_of_both P (x ∷ xs) ys p q = (p.0, each_of_both P xs ys p.1 q)

@@ -1,5 +1,4 @@
 -- Lemmas on recordings.
-pub mod Steps
 pub mod Machines
 pub mod Feeds
 pub mod Ends
@@ -8,3 +7,10 @@ pub mod Walks
 pub mod Decimals
 pub mod Spellings
 pub mod Prefixes
+pub mod Marks
+pub mod FieldsRead
+pub mod LinesRead
+pub mod LinesSound
+pub mod LinesBack
+pub mod RecordingsRead
+pub mod SmallRecording

@@ -3,8 +3,7 @@ use Rattle.std.proofs.Common.{◌≡◌, ℕ, Bool, true, false, List, [], ◌�
 use Rattle.std.specs.List.{slice_split, onto_first}
 use Rattle.demo_lines.specs.declared.stage.Stage.{Stage}
 use Rattle.demo_lines.specs.declared.stage.Stage.TheVariants.{Start, Map, Playing, Ended, Refused}
-use Rattle.demo_lines.specs.declared.reading.Reading.{Reading}
-use Rattle.demo_lines.specs.Recording.{start, next, told, after, events_of, is_over, is_refused}
+use Rattle.demo_lines.specs.Recording.{Reading, start, next, told, after, events_of, is_over, is_refused}
 use Rattle.demo_lines.specs.Bytes.{is_line_feed, all_but_last, whole_lines, fault, fault_at}
 use Rattle.demo_lines.specs.Laws.{AddsNothing}
 use Rattle.demo_lines.proofs.Machines.{run_of-append, told_over-append}

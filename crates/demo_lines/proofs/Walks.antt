@@ -5,11 +5,10 @@ use Rattle.edge_io.specs.Lines.{GivesLine}
 use Rattle.demo_lines.specs.declared.stage.Stage.{Stage}
 use Rattle.demo_lines.specs.declared.stage.Stage.TheVariants.{Start, Map, Playing, Ended, Refused}
 use Rattle.demo_lines.specs.declared.line.Line.{Line}
-use Rattle.demo_lines.specs.declared.line.Line.TheVariants.{Arena, Spawn, Frame, From, End}
-use Rattle.demo_lines.specs.declared.reading.Reading.{Reading}
+use Rattle.demo_lines.specs.declared.line.Line.TheVariants.{Arena, Spawn, Block, Frame, From, End}
 use Rattle.demo_lines.specs.declared.event.Event.{Event}
 use Rattle.demo_lines.specs.declared.event.Event.TheVariants as events
-use Rattle.demo_lines.specs.Recording.{next, told, step_at, event_of, said_by, is_over, is_refused, is_wide, takes_spawn, has_spawn, opens_frame, takes_arrival, goes_to, with_map, with_spawn, lines_left}
+use Rattle.demo_lines.specs.Recording.{Reading, next, told, step_at, event_of, said_by, is_over, is_refused, is_wide, bare_map, takes_spawn, takes_block, has_spawn, opens_frame, takes_arrival, goes_to, with_map, with_spawn, with_block, lines_left}
 use Rattle.demo_lines.specs.Readings.{IsReading}
 use Rattle.demo_lines.specs.Reads.{Reads, EndsAt, stage_behind}
 use Rattle.demo_lines.proofs.Consuming.{Reads-line, refused_by_line}
@@ -78,18 +77,21 @@ behind : (stage : Stage) (r : Reading) (line : Option Line) (e : Event) → told
 behind Start r None e tells = cc
 behind Start r (Some (Arena lo hi)) e tells = none_either (is_refused (step_at Start r (Some (Arena lo hi))).stage) e tells _
 behind Start r (Some (Spawn at)) e tells = cc
+behind Start r (Some (Block lo hi)) e tells = cc
 behind Start r (Some Frame) e tells = cc
 behind Start r (Some (From a)) e tells = cc
 behind Start r (Some End) e tells = cc
 behind Map r None e tells = cc
 behind Map r (Some (Arena lo hi)) e tells = cc
 behind Map r (Some (Spawn at)) e tells = none_either (is_refused (step_at Map r (Some (Spawn at))).stage) e tells _
+behind Map r (Some (Block lo hi)) e tells = none_either (is_refused (step_at Map r (Some (Block lo hi))).stage) e tells _
 behind Map r (Some Frame) e tells = behind_choice (has_spawn r.map) (opens_frame r) r e events.Frame refl refl tells
 behind Map r (Some (From a)) e tells = cc
 behind Map r (Some End) e tells = behind_end r e tells
 behind Playing r None e tells = cc
 behind Playing r (Some (Arena lo hi)) e tells = cc
 behind Playing r (Some (Spawn at)) e tells = cc
+behind Playing r (Some (Block lo hi)) e tells = cc
 behind Playing r (Some Frame) e tells = behind_choice (nat_lt r.frames 100000) (opens_frame r) r e events.Frame refl refl tells
 behind Playing r (Some (From a)) e tells = behind_choice (nat_lt r.arrivals 512) (takes_arrival r) r e (events.From a) refl refl tells
 behind Playing r (Some End) e tells = behind_end r e tells
@@ -109,20 +111,23 @@ over_choice false t r fine taken = cc
 quiet_goes_on : (stage : Stage) (r : Reading) (line : Option Line) → is_over stage ≡ false → told_of (is_over stage) (step_at stage r line) (event_of line) ≡ []
     → is_refused (step_at stage r line).stage ≡ false → is_over (step_at stage r line).stage ≡ false
 quiet_goes_on Start r None going quiet taken = cc
-quiet_goes_on Start r (Some (Arena lo hi)) going quiet taken = over_choice (is_wide lo hi) (with_map r (Some (record { bounds = bounds lo hi; spawn = None }))) r refl taken
+quiet_goes_on Start r (Some (Arena lo hi)) going quiet taken = over_choice (is_wide lo hi) (with_map r (Some (bare_map (bounds lo hi)))) r refl taken
 quiet_goes_on Start r (Some (Spawn at)) going quiet taken = cc
+quiet_goes_on Start r (Some (Block lo hi)) going quiet taken = cc
 quiet_goes_on Start r (Some Frame) going quiet taken = cc
 quiet_goes_on Start r (Some (From a)) going quiet taken = cc
 quiet_goes_on Start r (Some End) going quiet taken = cc
 quiet_goes_on Map r None going quiet taken = cc
 quiet_goes_on Map r (Some (Arena lo hi)) going quiet taken = cc
 quiet_goes_on Map r (Some (Spawn at)) going quiet taken = over_choice (takes_spawn r.map at) (with_map r (with_spawn r.map at)) r refl taken
+quiet_goes_on Map r (Some (Block lo hi)) going quiet taken = over_choice (takes_block r.map lo hi) (with_map r (with_block r.map lo hi)) r refl taken
 quiet_goes_on Map r (Some Frame) going quiet taken = over_choice (has_spawn r.map) (opens_frame r) r refl taken
 quiet_goes_on Map r (Some (From a)) going quiet taken = cc
 quiet_goes_on Map r (Some End) going quiet taken = cc
 quiet_goes_on Playing r None going quiet taken = cc
 quiet_goes_on Playing r (Some (Arena lo hi)) going quiet taken = cc
 quiet_goes_on Playing r (Some (Spawn at)) going quiet taken = cc
+quiet_goes_on Playing r (Some (Block lo hi)) going quiet taken = cc
 quiet_goes_on Playing r (Some Frame) going quiet taken = over_choice (nat_lt r.frames 100000) (opens_frame r) r refl taken
 quiet_goes_on Playing r (Some (From a)) going quiet taken = over_choice (nat_lt r.arrivals 512) (takes_arrival r) r refl taken
 quiet_goes_on Playing r (Some End) going quiet taken = cc

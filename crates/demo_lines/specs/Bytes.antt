@@ -4,9 +4,8 @@ use Rattle.std.specs.List.{slice_split}
 use Rattle.demo_lines.specs.declared.stage.Stage.{Stage}
 use Rattle.demo_lines.specs.declared.stage.Stage.TheVariants.{Start, Map, Playing, Ended, Refused}
 use Rattle.demo_lines.specs.declared.map.ArenaMap.{ArenaMap}
-use Rattle.demo_lines.specs.declared.reading.Reading.{Reading}
 use Rattle.demo_lines.specs.declared.event.Event.{Event}
-use Rattle.demo_lines.specs.Recording.{start, after, events_of}
+use Rattle.demo_lines.specs.Recording.{Reading, start, after, events_of}
 
 -- the byte ends a line
 abbrev pub is_line_feed : ℕ → Bool

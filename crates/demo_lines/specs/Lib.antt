@@ -7,5 +7,6 @@ pub mod Machines
 pub mod Recording
 pub mod Bytes
 pub mod Readings
+pub mod Spelling
 pub mod Reads
 pub mod Laws

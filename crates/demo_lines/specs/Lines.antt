@@ -2,7 +2,7 @@
 use Rattle.std.specs.Prelude.{ℕ, List, [], ◌∷◌, Option, Some, None, codes, bytes_eq, ℤ, if◌then◌else◌}
 use Rattle.arena_geo.specs.declared.vec3.Vec3.{Vec3}
 use Rattle.demo_lines.specs.declared.line.Line.{Line}
-use Rattle.demo_lines.specs.declared.line.Line.TheVariants.{Arena, Spawn, Frame, From, End}
+use Rattle.demo_lines.specs.declared.line.Line.TheVariants.{Arena, Spawn, Block, Frame, From, End}
 use Rattle.demo_lines.specs.Numbers.{natural_up_to, integer_up_to}
 use Rattle.demo_lines.specs.Fields.{cut, field_at}
 use Rattle.demo_lines.specs.Packets.{packet_bytes}
@@ -46,6 +46,13 @@ spawn_of rest = do
   at ← point_at rest
   alone (Spawn at.0) at.1
 
+-- a block's low corner and its high one
+abbrev pub block_of : List ℕ → Option Line
+block_of rest = do
+  lo ← point_at rest
+  hi ← point_at lo.1
+  alone (Block lo.0 hi.0) hi.1
+
 -- the port that a packet came from, and its bytes
 abbrev pub from_of : List ℕ → Option Line
 from_of rest = do
@@ -60,6 +67,7 @@ abbrev pub line_at : List ℕ → Option Line
 line_at line =
     if bytes_eq (cut line).0 (codes "arena") then arena_of (cut line).1
     else if bytes_eq (cut line).0 (codes "spawn") then spawn_of (cut line).1
+    else if bytes_eq (cut line).0 (codes "block") then block_of (cut line).1
     else if bytes_eq (cut line).0 (codes "frame") then alone Frame (cut line).1
     else if bytes_eq (cut line).0 (codes "from") then from_of (cut line).1
     else if bytes_eq (cut line).0 (codes "end") then alone End (cut line).1

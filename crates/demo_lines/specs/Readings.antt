@@ -1,29 +1,37 @@
 -- What holds of what is known of a recording.
-use Rattle.std.specs.Prelude.{◌≡◌, ◌+◌, ◌≤◌, true, Option, Some, None, IfSome, IsSomeAnd, ⊤}
+use Rattle.std.specs.Prelude.{◌≡◌, ◌+◌, ◌≤◌, true, List, [], length, Option, Some, None, IfSome, IsSomeAnd, ⊤}
+use Rattle.std.specs.List.{AllByRecursion}
 use Rattle.arena_geo.specs.declared.vec3.Vec3.{Vec3}
 use Rattle.arena_geo.specs.Vectors.{IsNear}
-use Rattle.arena_geo.specs.Bounds.{IsBox}
+use Rattle.arena_geo.specs.Bounds.{Bounds, IsBox}
+use Rattle.arena_geo.specs.Boxes.{contains}
 use Rattle.demo_lines.specs.declared.line.Line.{Line}
-use Rattle.demo_lines.specs.declared.line.Line.TheVariants.{Arena, Spawn, Frame, From, End}
+use Rattle.demo_lines.specs.declared.line.Line.TheVariants.{Arena, Spawn, Block, Frame, From, End}
 use Rattle.demo_lines.specs.declared.stage.Stage.{Stage}
 use Rattle.demo_lines.specs.declared.stage.Stage.TheVariants.{Start, Map, Playing, Ended, Refused}
 use Rattle.demo_lines.specs.declared.map.ArenaMap.{ArenaMap}
-use Rattle.demo_lines.specs.declared.reading.Reading.{Reading}
-use Rattle.demo_lines.specs.Recording.{stands_inside, is_wide, has_spawn, lines_left}
+use Rattle.demo_lines.specs.Recording.{Reading, stands_inside, is_wide, is_thick, has_spawn, lines_left}
 
 -- the coordinates of a line are near enough
 abbrev pub IsPlaced : Option Line → Type 0
 IsPlaced None = ⊤
 IsPlaced (Some (Arena lo hi)) = IsNear 1048576 lo × IsNear 1048576 hi
 IsPlaced (Some (Spawn at)) = IsNear 1048576 at
+IsPlaced (Some (Block lo hi)) = IsNear 1048576 lo × IsNear 1048576 hi
 IsPlaced (Some Frame) = ⊤
 IsPlaced (Some (From a)) = ⊤
 IsPlaced (Some End) = ⊤
 
 -- the spawn is near enough and inside the arena
-pub record IsSpawn (map : ArenaMap) (at : Vec3) : Type 0 where
+pub record IsSpawn (arena : Bounds) (at : Vec3) : Type 0 where
   pub near : IsNear 1048576 at
-  pub inside : stands_inside map at ≡ true
+  pub inside : stands_inside arena at ≡ true
+
+-- the block is a box with its low corner below its high one on each axis, inside the arena
+pub record IsBlock (arena : Bounds) (block : Bounds) : Type 0 where
+  pub is_box : IsBox block
+  pub thick : is_thick block.lo block.hi ≡ true
+  pub inside : contains arena block ≡ true
 
 -- a map as the lines may give it
 pub record IsMap (map : ArenaMap) : Type 0 where
@@ -31,7 +39,14 @@ pub record IsMap (map : ArenaMap) : Type 0 where
   pub lo : IsNear 1048576 map.bounds.lo
   pub hi : IsNear 1048576 map.bounds.hi
   pub wide : is_wide map.bounds.lo map.bounds.hi ≡ true
-  pub spawn : IfSome map.spawn (IsSpawn map)
+  pub spawn : IfSome map.spawn (IsSpawn map.bounds)
+  pub blocks : AllByRecursion (IsBlock map.bounds) map.blocks
+  pub few : length map.blocks ≤ 1024
+
+-- the room for the blocks is there and empty, as long as there is no map
+abbrev pub HasRoom : Option ArenaMap → Option (List Bounds) → Type 0
+HasRoom None room = room ≡ Some []
+HasRoom (Some map) room = ⊤
 
 -- what stands at each stage
 abbrev pub HasMap : Stage → Reading → Type 0

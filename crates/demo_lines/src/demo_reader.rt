@@ -9,13 +9,14 @@ use crate::demo_stop::DemoStop;
 use crate::event::Event;
 use crate::line::line_at;
 use crate::map::ArenaMap;
-use crate::reading::{self, Reading, event_of};
+use crate::reading::{Reading, event_of};
 use crate::stage::Stage;
 use edge_io::{LineBuf, LineReader, NextLine, Source};
 use std::alloc::{AllocError, Global};
 use std::marker::Model;
 
-/// Reads a recording from a source, one event after another. It holds one block of input and one line of it.
+/// Reads a recording from a source, one event after another. It holds a buffer of input, one line of it, and
+/// room for all blocks of the arena.
 #[derive(Drop)]
 pub struct DemoReader {
     lines: LineReader,
@@ -47,10 +48,10 @@ fn take_line(reading: &mut Reading, line: &[u8]) -> Result<Option<Event>, DemoSt
     ensures fewer { lines_left reading.new < lines_left reading.old }
 {
     let said = line_at(line);
-    *reading = reading.step(&said);
-    if reading.stage == Stage::Refused {
+    reading.step(&said);
+    if reading.stage() == Stage::Refused {
         return Err(DemoStop::Refused {
-            line: reading.lines,
+            line: reading.lines(),
         });
     }
     Ok(event_of(said))
@@ -62,7 +63,7 @@ fn refused_behind(reading: &Reading) -> DemoStop
     ensures { result ≡ DemoStop.Refused (reading.now.lines + 1) }
 {
     DemoStop::Refused {
-        line: reading.lines + 1,
+        line: reading.lines() + 1,
     }
 }
 
@@ -105,7 +106,7 @@ fn next_event<S: Source>(
 }
 
 impl DemoReader {
-    ghost use Rattle.std.specs.Prelude.{◌≡◌, ◌≤◌, ◌<◌, [], ◌∷◌, Ok, Err, None, Some, IfOk, IfErr, OnOk, OnErr, IfSome};
+    ghost use Rattle.std.specs.Prelude.{◌≡◌, ◌≤◌, ◌<◌, [], ◌∷◌, Ok, Err, None, Some, IfOk, IfErr, OnOk, OnErr, IfSome, option_copied};
     ghost use Rattle.edge_io.specs.Counts.{HasRisen};
     ghost use Rattle.edge_io.specs.Lines.{ahead};
     ghost use Rattle.demo_lines.specs.Recording.{lines_left};
@@ -119,17 +120,17 @@ impl DemoReader {
         Ok(DemoReader {
             lines: LineReader::new(alloc)?,
             line: LineBuf::new(alloc)?,
-            reading: reading::start(),
+            reading: Reading::new(alloc)?,
             stop: None,
         })
     }
 
     /// What the lines said of the arena, once the reader has given an event.
-    pub fn map(&self) -> Option<ArenaMap>
-        ensures value { result ≡ self.now.reading.map }
+    pub fn map(&self) -> Option<&ArenaMap>
+        ensures value { option_copied result ≡ self.now.reading.map }
         ensures holds { IsReading self.now.reading }
     {
-        self.reading.map
+        self.reading.map()
     }
 
     /// Reads up to the next event. The reader is to be used with one source alone.
@@ -159,7 +160,7 @@ impl DemoReader {
         if let Some(stop) = self.stop {
             return Err(stop);
         }
-        if self.reading.stage == Stage::Ended {
+        if self.reading.stage() == Stage::Ended {
             return Ok(Event::End);
         }
         let result = next_event(&mut self.lines, &mut self.line, &mut self.reading, source);

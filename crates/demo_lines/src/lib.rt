@@ -2,19 +2,22 @@
 #![tactic(auto)]
 
 pub use arrival::{Arrival, ArrivalBytes, MOST_BYTES};
+pub use blocks::{Blocks, MOST_BLOCKS};
 pub use demo_reader::DemoReader;
 pub use demo_stop::DemoStop;
 pub use event::Event;
 pub use laws::{
-    integer_is_decimal, natural_is_decimal, nothing_behind_a_refusal, nothing_behind_the_end,
-    packet_reads_back,
+    integer_is_decimal, lines_read_back, natural_is_decimal, nothing_behind_a_refusal,
+    nothing_behind_the_end, packet_reads_back, packets_have_room, recordings_read_back,
+    small_recording_can_be_written,
 };
 pub use line::{FARTHEST, Line};
-pub use map::ArenaMap;
-pub use reading::{LEAST_SIDE, MOST_ARRIVALS, MOST_FRAMES, Reading};
+pub use map::{ArenaMap, LEAST_SIDE};
+pub use reading::{MOST_ARRIVALS, MOST_FRAMES};
 pub use stage::Stage;
 
 mod arrival;
+mod blocks;
 mod demo_reader;
 mod demo_stop;
 mod event;

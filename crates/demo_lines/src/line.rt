@@ -19,6 +19,8 @@ pub enum Line {
     Arena { lo: Vec3, hi: Vec3 },
     /// Players come in with their origin here, in sub-units.
     Spawn { at: Vec3 },
+    /// A block stands between two corners, in sub-units.
+    Block { lo: Vec3, hi: Vec3 },
     /// A frame begins.
     Frame,
     /// A packet reached the server in this frame.
@@ -74,6 +76,16 @@ fn spawn_of(rest: &[u8]) -> Option<Line>
     alone(Line::Spawn { at }, rest)
 }
 
+/// The corners of a block.
+fn block_of(rest: &[u8]) -> Option<Line>
+    ensures value { result ≡ lines.block_of rest.now }
+    ensures placed { IsPlaced result }
+{
+    let (lo, rest) = point_at(rest)?;
+    let (hi, rest) = point_at(rest)?;
+    alone(Line::Block { lo, hi }, rest)
+}
+
 /// A port is 0 to 65,535.
 fn port_of(field: &[u8]) -> Option<u16>
     ensures { result ≡ natural_up_to 65535 field.now }
@@ -105,6 +117,8 @@ pub fn line_at(line: &[u8]) -> Option<Line>
         arena_of(rest)
     } else if word == b"spawn".as_slice() {
         spawn_of(rest)
+    } else if word == b"block".as_slice() {
+        block_of(rest)
     } else if word == b"frame".as_slice() {
         alone(Line::Frame, rest)
     } else if word == b"from".as_slice() {

@@ -1,10 +1,138 @@
+ghost use Rattle.std.specs.Prelude.{◌≡◌, ◌≤◌, Some, None, true, IfOk, IfSome, unsigned_abs, if◌then◌else◌};
+ghost use Rattle.arena_geo.specs.Vectors.{IsNear};
+ghost use Rattle.arena_geo.specs.Bounds.{bounds, IsBox};
+ghost use Rattle.demo_lines.specs.Recording as recording;
+
+use crate::blocks::{Blocks, MOST_BLOCKS};
 use arena_geo::{Aabb, Vec3};
+use entity_recs::player_box;
+use std::alloc::AllocError;
+
+/// The least length of a side of the arena, in sub-units.
+pub const LEAST_SIDE: i32 = 32_768;
 
 /// What the lines before the first frame say of the arena.
-#[derive(Clone, Copy, Debug, PartialEq, Eq)]
+#[derive(Drop)]
 pub struct ArenaMap {
     /// The arena's inside, in sub-units.
     pub bounds: Aabb,
     /// Where players come in: the origin of one that stands inside the arena, in sub-units.
     pub spawn: Option<Vec3>,
+    /// The blocks in the order of their lines: each lies inside the arena, its low corner below its high one on each axis.
+    pub blocks: Blocks,
+}
+
+/// Whether a side is at least [`LEAST_SIDE`] long.
+fn is_long(from: i32, to: i32) -> bool
+    requires from { unsigned_abs from ≤ 1048576 }
+    requires to { unsigned_abs to ≤ 1048576 }
+    ensures { result ≡ recording.is_long from to }
+{
+    LEAST_SIDE <= to - from
+}
+
+/// Whether each side of the arena is at least [`LEAST_SIDE`] long.
+fn is_wide(lo: Vec3, hi: Vec3) -> bool
+    requires lo { IsNear 1048576 lo }
+    requires hi { IsNear 1048576 hi }
+    ensures { result ≡ recording.is_wide lo hi }
+{
+    is_long(lo.x, hi.x) && is_long(lo.y, hi.y) && is_long(lo.z, hi.z)
+}
+
+/// Whether the low corner lies below the high one on each axis.
+fn is_thick(lo: Vec3, hi: Vec3) -> bool
+    ensures { result ≡ recording.is_thick lo hi }
+{
+    lo.x < hi.x && lo.y < hi.y && lo.z < hi.z
+}
+
+/// The arena between two corners, where each side is long enough.
+pub fn arena_between(lo: Vec3, hi: Vec3) -> Option<Aabb>
+    requires lo { IsNear 1048576 lo }
+    requires hi { IsNear 1048576 hi }
+    ensures value { result ≡ (if recording.is_wide lo hi then Some (bounds lo hi) else None) }
+    ensures holds { IfSome result IsBox }
+    ensures wide { IfSome result (λ _. recording.is_wide lo hi ≡ true) }
+{
+    if is_wide(lo, hi) {
+        Aabb::new(lo, hi)
+    } else {
+        None
+    }
+}
+
+/// The block between two corners, where the low one lies below the high one on each axis.
+fn block_between(lo: Vec3, hi: Vec3) -> Option<Aabb>
+    requires lo { IsNear 1048576 lo }
+    requires hi { IsNear 1048576 hi }
+    ensures value { result ≡ (if recording.is_thick lo hi then Some (bounds lo hi) else None) }
+    ensures holds { IfSome result IsBox }
+    ensures thick { IfSome result (λ _. recording.is_thick lo hi ≡ true) }
+{
+    if is_thick(lo, hi) {
+        Aabb::new(lo, hi)
+    } else {
+        None
+    }
+}
+
+impl ArenaMap {
+    ghost use Rattle.std.specs.Prelude.{◌≡◌, Some, if◌then◌else◌};
+    ghost use Rattle.arena_geo.specs.Vectors.{IsNear};
+    ghost use Rattle.demo_lines.specs.Recording as recording;
+    ghost use Rattle.demo_lines.specs.Readings.{IsMap};
+
+    /// Takes the spawn, where there is none yet and a player there stands inside the arena. `false` where it isn't taken;
+    /// nothing changes then.
+    pub fn take_spawn(&mut self, at: Vec3) -> bool
+        requires map { IsMap self.old }
+        requires near { IsNear 1048576 at }
+        ensures taken { result ≡ recording.takes_spawn (Some self.old) at }
+        ensures map { Some self.new ≡ (if result then recording.with_spawn (Some self.old) at else Some self.old) }
+        ensures holds { IsMap self.new }
+    {
+        if self.spawn.is_some() || !self.bounds.contains(&player_box(at)) {
+            return false;
+        }
+        self.spawn = Some(at);
+        true
+    }
+
+    /// Takes a block behind the others, where there are fewer than [`MOST_BLOCKS`], its low corner lies below its high
+    /// one on each axis, and it lies inside the arena. `false` where it isn't taken; nothing changes then.
+    pub fn take_block(&mut self, lo: Vec3, hi: Vec3) -> bool
+        requires map { IsMap self.old }
+        requires lo { IsNear 1048576 lo }
+        requires hi { IsNear 1048576 hi }
+        ensures taken { result ≡ recording.takes_block (Some self.old) lo hi }
+        ensures map { Some self.new ≡ (if result then recording.with_block (Some self.old) lo hi else Some self.old) }
+        ensures holds { IsMap self.new }
+    {
+        if self.blocks.as_slice().len() >= MOST_BLOCKS {
+            return false;
+        }
+        match block_between(lo, hi) {
+            Some(block) if self.bounds.contains(&block) => {
+                self.blocks.push(block);
+                true
+            }
+            _ => false,
+        }
+    }
+}
+
+impl Clone for ArenaMap {
+    ghost is_clone = { λ one other. other ≡ one };
+
+    /// The same map.
+    fn clone(&self) -> Result<ArenaMap, AllocError>
+        ensures { IfOk result (λ map. map ≡ self.now) }
+    {
+        Ok(ArenaMap {
+            bounds: self.bounds,
+            spawn: self.spawn,
+            blocks: self.blocks.clone()?,
+        })
+    }
 }

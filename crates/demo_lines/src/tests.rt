@@ -24,6 +24,12 @@ const SPAWN: &[u8] = b"spawn 0 0 6144\n";
 
 const FRAME: &[u8] = b"frame\n";
 
+/// The widest arena.
+const WIDEST: &[u8] = b"arena -1048576 -1048576 -1048576 1048576 1048576 1048576\n";
+
+/// A block that touches the arena's low faces.
+const BLOCK: &[u8] = b"block -131072 -131072 0 -131071 0 1\n";
+
 fn refused(line: u64) -> Told<'static> {
     Stop(DemoStop::Refused { line })
 }
@@ -37,6 +43,14 @@ fn is_told(answer: Result<Event, DemoStop>, want: Told<'_>) -> bool {
         (Err(stop), Stop(want)) => stop == want,
         _ => false,
     }
+}
+
+fn point((x, y, z): (i32, i32, i32)) -> Vec3 {
+    Vec3 { x, y, z }
+}
+
+fn between(lo: (i32, i32, i32), hi: (i32, i32, i32)) -> Option<Aabb> {
+    Aabb::new(point(lo), point(hi))
 }
 
 /// Reads `source` to these answers.
@@ -166,6 +180,77 @@ fn a_player_stands_inside_the_arena(rt: HostRuntime) -> Result<(), Fail> {
 }
 
 #[test]
+fn blocks_stand_on_both_sides_of_the_spawn(rt: HostRuntime) -> Result<(), Fail> {
+    let rows: [(&[&[u8]], &[u8], &[Told<'_>]); 6] = [
+        (&[ARENA, BLOCK], b"end\n", &[]),
+        (&[WIDEST], b"block 1048575 0 0 1048576 1 1\nend\n", &[]),
+        (&[ARENA, BLOCK, SPAWN], b"frame\nend\n", &[Frame]),
+        (&[ARENA, SPAWN, BLOCK], b"frame\nend\n", &[Frame]),
+        (&[ARENA, BLOCK, SPAWN, BLOCK], b"frame\nend\n", &[Frame]),
+        (
+            &[ARENA, b"block -131072 -131072 0 131072 131072 65536\n"],
+            b"spawn 0 0 6144\nframe\nend\n",
+            &[Frame],
+        ),
+    ];
+    for (front, rest, told) in rows {
+        expect_recording(&rt, rt.alloc(), front, rest, told, End)?;
+    }
+    Ok(())
+}
+
+#[test]
+fn a_block_has_an_inside_in_the_arena(rt: HostRuntime) -> Result<(), Fail> {
+    let bad: [&[u8]; 13] = [
+        b"block 0 0 0 0 10 10\nend\n",
+        b"block 0 0 0 10 0 10\nend\n",
+        b"block 0 0 0 10 10 0\nend\n",
+        b"block 10 0 0 0 10 10\nend\n",
+        b"block -131073 0 0 10 10 10\nend\n",
+        b"block 0 -131073 0 10 10 10\nend\n",
+        b"block 0 0 -1 10 10 10\nend\n",
+        b"block 0 0 0 131073 10 10\nend\n",
+        b"block 0 0 0 10 131073 10\nend\n",
+        b"block 0 0 0 10 10 65537\nend\n",
+        b"block 0 0 0 10 10\nend\n",
+        b"block 0 0 0 10 10 10 \nend\n",
+        b"block 0 0 0 10 10 10 10\nend\n",
+    ];
+    for rest in bad {
+        expect_recording(&rt, rt.alloc(), &[ARENA], rest, &[], refused(2))?;
+    }
+    Ok(())
+}
+
+#[test]
+fn blocks_stand_between_the_arena_and_the_first_frame(rt: HostRuntime) -> Result<(), Fail> {
+    let rows: [(&[&[u8]], &[u8], &[Told<'_>], u64); 4] = [
+        (&[], BLOCK, &[], 1),
+        (&[ARENA, BLOCK], b"frame\nend\n", &[], 3),
+        (&[ARENA, SPAWN, FRAME], BLOCK, &[Frame], 4),
+        (&[WIDEST], b"block 1048575 0 0 1048577 1 1\nend\n", &[], 2),
+    ];
+    for (front, rest, told, line) in rows {
+        expect_recording(&rt, rt.alloc(), front, rest, told, refused(line))?;
+    }
+    Ok(())
+}
+
+#[test]
+fn an_arena_has_at_most_1024_blocks(rt: HostRuntime) -> Result<(), Fail> {
+    let mut front = Vec::new(rt.alloc());
+    front.push(ARENA)?;
+    for _ in 0..1024 {
+        front.push(BLOCK)?;
+    }
+    front.push(SPAWN)?;
+    let front = front.as_slice();
+    let over: &[u8] = b"block 0 0 0 1 1 1\nend\n";
+    expect_recording(&rt, rt.alloc(), front, b"frame\nend\n", &[Frame], End)?;
+    expect_recording(&rt, rt.alloc(), front, over, &[], refused(1027))
+}
+
+#[test]
 fn a_packet_has_a_port_and_digits(rt: HostRuntime) -> Result<(), Fail> {
     let bad: [&[u8]; 17] = [
         b"from 7 01",
@@ -252,32 +337,22 @@ fn a_fault_of_the_source_stops_the_reader(rt: HostRuntime) -> Result<(), Fail> {
 #[test]
 fn a_recording_gives_its_map(rt: HostRuntime) -> Result<(), Fail> {
     let mut text = Vec::new(rt.alloc());
-    for line in [ARENA, SPAWN, FRAME] {
+    for line in [ARENA, BLOCK, SPAWN, b"block 0 0 0 1 2 3\n", FRAME] {
         text.extend_from_slice(line)?;
     }
     let mut demo = DemoReader::new(rt.alloc())?;
     let mut source = MemSource::new(text.as_slice(), 100, &[]);
-    assert_eq!(rt; demo.map(), None);
+    assert!(rt; demo.map().is_none());
     expect(&rt, &mut demo, &mut source, &[Frame]);
-    let map = demo.map().ok_or("no map")?;
-    let corners = (map.bounds.lo(), map.bounds.hi());
-    let lo = Vec3 {
-        x: -131_072,
-        y: -131_072,
-        z: 0,
-    };
-    let hi = Vec3 {
-        x: 131_072,
-        y: 131_072,
-        z: 65_536,
-    };
-    assert_eq!(rt; corners, (lo, hi));
-    let spawn = Vec3 {
-        x: 0,
-        y: 0,
-        z: 6_144,
-    };
-    assert_eq!(rt; map.spawn, Some(spawn));
+    let map = demo.map().ok_or("no map")?.clone()?;
+    let arena = between((-131_072, -131_072, 0), (131_072, 131_072, 65_536));
+    assert_eq!(rt; Some(map.bounds), arena);
+    assert_eq!(rt; map.spawn, Some(point((0, 0, 6_144))));
+    let blocks = map.blocks.as_slice();
+    assert_eq!(rt; blocks.len(), 2);
+    let first = between((-131_072, -131_072, 0), (-131_071, 0, 1));
+    assert_eq!(rt; Some(blocks[0]), first);
+    assert_eq!(rt; Some(blocks[1]), between((0, 0, 0), (1, 2, 3)));
     Ok(())
 }
 

@@ -4,3 +4,4 @@ pub mod Memory
 pub mod Adapters
 pub mod Writes
 pub mod Lines
+pub mod Laws

@@ -2,6 +2,7 @@
 #![tactic(auto)]
 
 pub use failed::Failed;
+pub use laws::limits_are_known;
 pub use line_buf::{LineBuf, ROOM};
 pub use line_reader::{LONGEST, LineReader, NextLine};
 pub use mem_sink::MemSink;
@@ -13,6 +14,7 @@ pub use std_source::StdSource;
 pub use whole::write_whole;
 
 mod failed;
+mod laws;
 mod line_buf;
 mod line_reader;
 mod mem_sink;

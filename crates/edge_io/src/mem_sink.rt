@@ -1,4 +1,4 @@
-ghost use Rattle.std.specs.Prelude.{◌≡◌, ℕ, ◌<◌, ◌≤◌, ◌↔◌, List, [], Some, Ok, IsErr, IfOk, OnErr, length, take};
+ghost use Rattle.std.specs.Prelude.{◌≡◌, ℕ, ◌<◌, ◌-◌, ◌^◌, ◌≤◌, ◌↔◌, List, [], Some, Ok, IsErr, IfOk, OnErr, length, take};
 ghost use Rattle.std.specs.Io.{WritesAtMost};
 ghost use Rattle.std.specs.Io.KnownBytes.{WriteAppends};
 ghost use Rattle.edge_io.specs.Counts.{HasRisen};
@@ -67,6 +67,7 @@ impl Sink for MemSink {
         ensures empty { length piece.now ≡ 0 → (result ≡ Ok 0) × (self.new.faults ≡ self.old.faults) }
         ensures bytes { WriteAppends (Some self.old.taken) (Some self.new.taken) result piece.now }
         ensures later { self.old.faults ≤ self.new.faults }
+        ensures limit { self.new.faults ≤ 2 ^ 64 - 1 }
         ensures cause { OnErr result (HasRisen self.old.faults self.new.faults) }
 
         // Where a write fails, and what each takes and leaves.

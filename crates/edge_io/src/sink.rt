@@ -1,4 +1,4 @@
-ghost use Rattle.std.specs.Prelude.{◌≡◌, ℕ, ◌<◌, ◌≤◌, List, Option, Ok, IfOk, OnErr, length};
+ghost use Rattle.std.specs.Prelude.{◌≡◌, ℕ, ◌-◌, ◌^◌, ◌<◌, ◌≤◌, List, Option, Ok, IfOk, OnErr, length};
 ghost use Rattle.std.specs.Io.{WritesAtMost};
 ghost use Rattle.std.specs.Io.KnownBytes.{WriteAppends};
 ghost use Rattle.edge_io.specs.Counts.{HasRisen};
@@ -23,5 +23,6 @@ pub trait Sink {
         ensures empty { length piece.now ≡ 0 → (result ≡ Ok 0) × (faults self.new ≡ faults self.old) }
         ensures bytes { WriteAppends (taken self.old) (taken self.new) result piece.now }
         ensures later { faults self.old ≤ faults self.new }
+        ensures limit { faults self.new ≤ 2 ^ 64 - 1 }
         ensures cause { OnErr result (HasRisen (faults self.old) (faults self.new)) };
 }

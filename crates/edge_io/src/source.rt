@@ -1,4 +1,4 @@
-ghost use Rattle.std.specs.Prelude.{ℕ, ◌≤◌, List, Option, OnErr};
+ghost use Rattle.std.specs.Prelude.{ℕ, ◌-◌, ◌^◌, ◌≤◌, List, Option, OnErr};
 ghost use Rattle.std.specs.Io.{ReadsAtMost};
 ghost use Rattle.std.specs.Io.KnownBytes.{ReadConsumes};
 ghost use Rattle.edge_io.specs.Counts.{HasRisen};
@@ -23,5 +23,6 @@ pub trait Source {
         ensures bound { ReadsAtMost result buf.new }
         ensures bytes { ReadConsumes (left self.old) (left self.new) result buf.new }
         ensures later { faults self.old ≤ faults self.new }
+        ensures limit { faults self.new ≤ 2 ^ 64 - 1 }
         ensures cause { OnErr result (HasRisen (faults self.old) (faults self.new)) };
 }

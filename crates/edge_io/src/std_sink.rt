@@ -1,7 +1,7 @@
-ghost use Rattle.std.specs.Prelude.{◌≡◌, ◌<◌, ◌≤◌, ℕ, None, Ok, IfOk, OnErr, length};
+ghost use Rattle.std.specs.Prelude.{◌≡◌, ◌<◌, ◌-◌, ◌^◌, ◌≤◌, ℕ, None, Ok, IfOk, OnOk, OnErr, length};
 ghost use Rattle.std.specs.Io.{WritesAtMost};
 ghost use Rattle.std.specs.Io.KnownBytes.{WriteAppends};
-ghost use Rattle.edge_io.specs.Counts.{HasRisen};
+ghost use Rattle.edge_io.specs.Counts.{HasRisen, one_more};
 
 use crate::failed::Failed;
 use crate::sink::Sink;
@@ -17,11 +17,14 @@ pub struct StdSink<W> {
 }
 
 impl<W> Model for StdSink<W> {
+    ghost use Rattle.std.specs.Prelude.{◌-◌, ◌^◌, ◌≤◌};
     ghost use Rattle.edge_io.specs.Adapters.{Adapter};
 
     ghost Value = { Adapter W };
 
     ghost view = { λ s. record { inner = s.inner; errors = s.errors } };
+
+    ghost invariant = { λ a. a.errors ≤ 2 ^ 64 - 1 };
 }
 
 impl<W: Write> StdSink<W> {
@@ -46,18 +49,24 @@ impl<W: Write> Sink for StdSink<W> {
         ensures empty { length piece.now ≡ 0 → (result ≡ Ok 0) × (self.new.errors ≡ self.old.errors) }
         ensures bytes { WriteAppends None None result piece.now }
         ensures later { self.old.errors ≤ self.new.errors }
+        ensures limit { self.new.errors ≤ 2 ^ 64 - 1 }
         ensures cause { OnErr result (HasRisen self.old.errors self.new.errors) }
 
         // The writer took what is answered, where the writer tells its bytes.
         ensures passed { WriteAppends (W.contents self.old.inner) (W.contents self.new.inner) result piece.now }
+
+        // Each error, and each write of nothing, is counted, and nothing else is.
+        ensures uncounted { OnOk result (self.new.errors ≡ self.old.errors) }
+        ensures counted { OnErr result (self.new.errors ≡ one_more self.old.errors) }
     {
+        let StdSink { inner, errors } = self;
         if piece.is_empty() {
             return Ok(0);
         }
-        match self.inner.write(piece) {
+        match inner.write(piece) {
             Ok(count) if count > 0 => Ok(count),
             _ => {
-                self.errors = self.errors.saturating_add(1);
+                *errors = errors.saturating_add(1);
                 Err(Failed)
             }
         }

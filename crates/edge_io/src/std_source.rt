@@ -1,7 +1,7 @@
-ghost use Rattle.std.specs.Prelude.{◌≡◌, ◌≤◌, ℕ, None, OnErr};
+ghost use Rattle.std.specs.Prelude.{◌≡◌, ◌-◌, ◌^◌, ◌≤◌, ℕ, None, OnOk, OnErr};
 ghost use Rattle.std.specs.Io.{ReadsAtMost};
 ghost use Rattle.std.specs.Io.KnownBytes.{ReadConsumes};
-ghost use Rattle.edge_io.specs.Counts.{HasRisen};
+ghost use Rattle.edge_io.specs.Counts.{HasRisen, one_more};
 
 use crate::failed::Failed;
 use crate::source::Source;
@@ -17,11 +17,14 @@ pub struct StdSource<R> {
 }
 
 impl<R> Model for StdSource<R> {
+    ghost use Rattle.std.specs.Prelude.{◌-◌, ◌^◌, ◌≤◌};
     ghost use Rattle.edge_io.specs.Adapters.{Adapter};
 
     ghost Value = { Adapter R };
 
     ghost view = { λ s. record { inner = s.inner; errors = s.errors } };
+
+    ghost invariant = { λ a. a.errors ≤ 2 ^ 64 - 1 };
 }
 
 impl<R: Read> StdSource<R> {
@@ -44,10 +47,15 @@ impl<R: Read> Source for StdSource<R> {
         ensures bound { ReadsAtMost result buf.new }
         ensures bytes { ReadConsumes None None result buf.new }
         ensures later { self.old.errors ≤ self.new.errors }
+        ensures limit { self.new.errors ≤ 2 ^ 64 - 1 }
         ensures cause { OnErr result (HasRisen self.old.errors self.new.errors) }
 
         // What the reader gave is passed on, where the reader tells its bytes.
         ensures passed { ReadConsumes (R.remaining self.old.inner) (R.remaining self.new.inner) result buf.new }
+
+        // Each error is counted, and nothing else is.
+        ensures uncounted { OnOk result (self.new.errors ≡ self.old.errors) }
+        ensures counted { OnErr result (self.new.errors ≡ one_more self.old.errors) }
     {
         match self.inner.read(buf) {
             Ok(count) => Ok(count),

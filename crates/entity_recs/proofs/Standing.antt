@@ -2,7 +2,7 @@
 use Rattle.std.proofs.Common.{◌≡◌, ℤ, pos, ◌+ℤ◌, ◌-ℤ◌, true, ◌≤ℤ◌, Option, Some, None, SomeIff, IsSome, ap, arith}
 use Rattle.std.proofs.lemmas.Int.{ints}
 use Rattle.arena_geo.specs.declared.vec3.Vec3.{Vec3}
-use Rattle.arena_geo.specs.Vectors.{IsNear, IsPositive, plus}
+use Rattle.arena_geo.specs.Vectors.{IsNear, IsNotNegative, plus}
 use Rattle.arena_geo.specs.Bounds.{Bounds, bounds, IsOrdered, IsInRange, IsBox}
 use Rattle.arena_geo.specs.Boxes.{contains_on, contains, grown}
 use Rattle.arena_geo.proofs.Ranges.{IsOrdered-grown}
@@ -47,7 +47,7 @@ sized_is_roomy origin maxs near size high = record {
 map_box_is_roomy : (origin mins maxs : Vec3) → IsNear 1048576 origin → IsMapBox origin mins maxs → IsRoomy (standing origin mins maxs)
 map_box_is_roomy origin mins maxs near box = rw box.low_is (sized_is_roomy origin maxs near box.has_size box.high)
 
-shape_is_roomy : (kind : Kind) (origin mins maxs : Vec3) → IsNear 1048576 origin → IsShapeOf kind origin mins maxs → IsRoomy (standing origin mins maxs)
+pub shape_is_roomy : (kind : Kind) (origin mins maxs : Vec3) → IsNear 1048576 origin → IsShapeOf kind origin mins maxs → IsRoomy (standing origin mins maxs)
 shape_is_roomy Player origin mins maxs near shape = rw (shape.low_is, shape.high_is) (player_is_roomy origin near)
 shape_is_roomy Ammo origin mins maxs near shape = rw (shape.low_is, shape.high_is) (item_is_roomy origin near)
 shape_is_roomy Gem origin mins maxs near shape = rw (shape.low_is, shape.high_is) (item_is_roomy origin near)
@@ -66,7 +66,7 @@ roomy_is_box b roomy = record {
 
 -- at most 3,840 on each axis, and not negative
 pub record IsSmallGrowth (by : Vec3) : Type 0 where
-  pub positive : IsPositive by
+  pub positive : IsNotNegative by
   pub near : IsNear 3840 by
 
 body_growth_is_small : IsSmallGrowth GROWTH
@@ -127,7 +127,7 @@ is_there r b e = rw e
 contains_on-grown : (lo hi by : ℤ) → pos 0 ≤ℤ by → contains_on (lo -ℤ by) (hi +ℤ by) lo hi ≡ true
 contains_on-grown lo hi by positive = grind (arith, ints)
 
-pub contains-grown : (b : Bounds) (by : Vec3) → IsPositive by → contains (grown b by) b ≡ true
+pub contains-grown : (b : Bounds) (by : Vec3) → IsNotNegative by → contains (grown b by) b ≡ true
 contains-grown b by positive = all_three (contains_on-grown b.lo.x b.hi.x by.x positive.x) (contains_on-grown b.lo.y b.hi.y by.y positive.y) (contains_on-grown b.lo.z b.hi.z by.z positive.z)
 
 pub abs_contains_body : AbsContainsBody

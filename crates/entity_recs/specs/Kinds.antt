@@ -1,5 +1,5 @@
 -- The numbers of the kinds.
-use Rattle.std.specs.Prelude.{ℕ}
+use Rattle.std.specs.Prelude.{ℕ, Bool, true, false}
 use Rattle.entity_recs.specs.declared.kind.Kind.{Kind}
 use Rattle.entity_recs.specs.declared.kind.Kind.TheVariants.{Player, Ammo, Gem, Teleporter, Goal, Lift}
 
@@ -11,3 +11,12 @@ number_of Gem = 2
 number_of Teleporter = 3
 number_of Goal = 4
 number_of Lift = 5
+
+-- a player or a lift, which other bodies can't enter; the other kinds are triggers
+abbrev pub is_solid : Kind → Bool
+is_solid Player = true
+is_solid Ammo = false
+is_solid Gem = false
+is_solid Teleporter = false
+is_solid Goal = false
+is_solid Lift = true

@@ -7,6 +7,7 @@ pub struct Cmd {
     pub slot: u8,
     /// The player's own number of the command.
     pub seq: u32,
+    /// The frame in which it is done, counted from 0.
     pub frame: u32,
     /// How long the move takes, 1 to 50 milliseconds.
     pub ms: u8,

@@ -12,12 +12,22 @@ pub enum Kind {
 }
 
 impl Kind {
-    ghost use Rattle.entity_recs.specs.Kinds.{number_of};
+    ghost use Rattle.entity_recs.specs.Kinds as kinds;
 
     /// The kind's number, from 0 for a player to 5 for a lift, as snapshots write it.
     pub fn number(self) -> u8
-        ensures { result ≡ number_of self }
+        ensures { result ≡ kinds.number_of self }
     {
         self as u8
+    }
+
+    /// Whether it is a solid, which other bodies can't enter: a player or a lift. The other kinds are triggers.
+    pub fn is_solid(self) -> bool
+        ensures { result ≡ kinds.is_solid self }
+    {
+        match self {
+            Kind::Player | Kind::Lift => true,
+            Kind::Ammo | Kind::Gem | Kind::Teleporter | Kind::Goal => false,
+        }
     }
 }

@@ -4,7 +4,7 @@
 pub use bodies::{ITEM_MAXS, ITEM_MINS, PLAYER_MAXS, PLAYER_MINS, abs_box, body_box, player_box};
 pub use cmd::Cmd;
 pub use kind::Kind;
-pub use laws::{abs_contains_body, abs_ignores_state, records_have_boxes};
+pub use laws::{abs_contains_body, abs_ignores_state, records_have_boxes, sizes_are_known};
 pub use rec::Rec;
 
 mod bodies;

@@ -9,6 +9,7 @@ use arena_geo::Vec3;
 pub struct Rec {
     /// The slot, 0 to 63, of a player; 64 to 255 for a thing of the map.
     pub id: u16,
+    /// What it stands for.
     pub kind: Kind,
     /// Where it stands. The low corner of a teleporter, a goal or a lift.
     pub origin: Vec3,
@@ -16,6 +17,7 @@ pub struct Rec {
     pub mins: Vec3,
     /// The high corner of the body, seen from the origin.
     pub maxs: Vec3,
+    /// Its velocity, in sub-units a second.
     pub vel: Vec3,
     /// Bit 0: the last move began on the ground. Bit 1: it ended in a teleporter.
     pub flags: u8,
@@ -23,6 +25,7 @@ pub struct Rec {
     pub ammo: u8,
     /// The gems that a player carries, at most 8.
     pub carry: u8,
+    /// The gems that a player has brought to a goal.
     pub score: u32,
     /// The number of the last command that was done.
     pub seq: u32,

@@ -6,3 +6,4 @@ pub mod Slides
 pub mod Places
 pub mod Underway
 pub mod Reaches
+pub mod Insides

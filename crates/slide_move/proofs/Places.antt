@@ -20,28 +20,28 @@ use Rattle.slide_move.specs.Laws.{PlacesAreFree, EndsAtLastPlace, PlacesAreInRan
 use Rattle.slide_move.proofs.Ways.{moved-nowhere, moved-moved, shift_at-zero, IsInRange-part, IsPartOfWay-plus}
 use Rattle.slide_move.proofs.Turns.{IsTurn-turn_of, shift-turn_of}
 
-All-none : (P : Bounds → Type 0) → All P []
+pub All-none : (P : Bounds → Type 0) → All P []
 All-none P = λ k d h. absurd (omega arith)
 
 All-one : (P : Bounds → Type 0) (b : Bounds) → P b → All P (b ∷ [])
 All-one P b p = search rules
 
 -- what holds at each step holds of all the steps
-All-steps_to : (P : Bounds → Type 0) (k : ℕ) (body : Bounds) (way : Vec3) → ((i : ℕ) → 1 ≤ i → i ≤ k → P (body_at body way i)) → All P (steps_to k body way)
+pub All-steps_to : (P : Bounds → Type 0) (k : ℕ) (body : Bounds) (way : Vec3) → ((i : ℕ) → 1 ≤ i → i ≤ k → P (body_at body way i)) → All P (steps_to k body way)
 All-steps_to P zero body way each = All-none P
 All-steps_to P (suc k) body way each =
     All-append P (steps_to k body way) (body_at body way (suc k) ∷ [])
     (All-steps_to P k body way (λ i from within. each i from (omega arith)))
     (All-one P (body_at body way (suc k)) (each (suc k) (omega arith) (omega arith)))
 
-All-then : (P : Bounds → Type 0) (f : Vec3 → List Bounds) (rest : Option Vec3) {Q : Vec3 → Type 0} → IfSome rest Q → ((r : Vec3) → Q r → All P (f r)) → All P (option_map_or f rest [])
+pub All-then : (P : Bounds → Type 0) (f : Vec3 → List Bounds) (rest : Option Vec3) {Q : Vec3 → Type 0} → IfSome rest Q → ((r : Vec3) → Q r → All P (f r)) → All P (option_map_or f rest [])
 All-then P f None is each = All-none P
 All-then P f (Some r) is each = each r is
 
-IsAnywhere : Vec3 → Type 0
+pub IsAnywhere : Vec3 → Type 0
 IsAnywhere r = Unit {0}
 
-anywhere : (rest : Option Vec3) → IfSome rest IsAnywhere
+pub anywhere : (rest : Option Vec3) → IfSome rest IsAnywhere
 unfolding IsAnywhere
 anywhere None = tt
 anywhere (Some r) = tt

@@ -1,9 +1,10 @@
 -- What holds of all slides.
-use Rattle.std.specs.Prelude.{◌≡◌, ℕ, ◌≤◌, false, List, All}
+use Rattle.std.specs.Prelude.{◌≡◌, ℕ, ◌≤◌, true, false, List, All}
 use Rattle.arena_geo.specs.declared.vec3.Vec3.{Vec3}
 use Rattle.arena_geo.specs.Vectors.{IsNear}
 use Rattle.arena_geo.specs.Bounds.{Bounds, IsInRange, IsOrdered}
-use Rattle.arena_geo.specs.Boxes.{grown, moved, is_blocked}
+use Rattle.arena_geo.specs.Boxes.{contains, grown, moved, is_blocked}
+use Rattle.box_trace.specs.Walls.{HaveWalls}
 use Rattle.slide_move.specs.Displacements.{displacement, reach}
 use Rattle.slide_move.specs.Slides.{slide_of}
 use Rattle.slide_move.specs.Places.{places_of, last_place}
@@ -38,3 +39,13 @@ PlacesAreInRange =
 abbrev pub ReachSuffices : Type 0
 ReachSuffices =
     (body : Bounds) (vel : Vec3) (ms : ℕ) → IsOrdered body → IsNear 600000 vel → ms ≤ 50 → IsInRange (grown body reach) → IsInRange (moved body (displacement vel ms))
+
+-- the body lies inside the arena, faces counted, at each of its places and at the end
+pub record SlidesInside (arena body : Bounds) (vel : Vec3) (ms : ℕ) (solids : List Bounds) : Type 0 where
+  pub at_places : All (λ place. contains arena place ≡ true) (places_of body vel ms solids)
+  pub at_end : contains arena (moved body (slide_of body vel ms solids).shift) ≡ true
+
+-- a body inside the arena is inside everywhere on its slide, where the solids have the walls of the arena
+abbrev pub SlideStaysInside : Type 0
+SlideStaysInside =
+    (arena body : Bounds) (vel : Vec3) (ms : ℕ) (solids : List Bounds) → IsOrdered body → HaveWalls arena solids → contains arena body ≡ true → SlidesInside arena body vel ms solids

@@ -4,6 +4,7 @@ pub use Rattle.arena_geo.specs.Bounds
 pub use Rattle.arena_geo.specs.Boxes
 pub use Rattle.box_trace.specs.Steps
 pub use Rattle.box_trace.specs.Traces
+pub use Rattle.box_trace.specs.Walls
 pub mod Displacements
 pub mod Slides
 pub mod Places

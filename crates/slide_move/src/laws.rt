@@ -1,4 +1,4 @@
-ghost use Rattle.slide_move.specs.Laws.{ShiftIsPart, VelocityIsKeptOrStopped, PlacesAreFree, EndsAtLastPlace, PlacesAreInRange, ReachSuffices};
+ghost use Rattle.slide_move.specs.Laws.{ShiftIsPart, VelocityIsKeptOrStopped, PlacesAreFree, EndsAtLastPlace, PlacesAreInRange, ReachSuffices, SlideStaysInside};
 
 /// On no axis does a slide go farther than the velocity does in the open, or the other way.
 pub fn shift_is_part()
@@ -29,4 +29,10 @@ pub fn places_are_in_range()
 /// velocity of a slide would take it.
 pub fn reach_suffices()
     ensures { ReachSuffices }
+{}
+
+/// A body that lies inside the arena, the faces counted, lies inside everywhere on its slide and at its end, where the
+/// solids block what the walls of the arena block.
+pub fn slide_stays_inside()
+    ensures { SlideStaysInside }
 {}

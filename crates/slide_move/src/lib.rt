@@ -3,7 +3,7 @@
 
 pub use laws::{
     ends_at_last_place, places_are_free, places_are_in_range, reach_suffices, shift_is_part,
-    velocity_is_kept_or_stopped,
+    slide_stays_inside, velocity_is_kept_or_stopped,
 };
 pub use slid::Slid;
 pub use sliding::slide;

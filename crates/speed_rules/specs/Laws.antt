@@ -1,10 +1,24 @@
 -- What holds of the rules of a player's velocity.
-use Rattle.std.specs.Prelude.{◌≡◌, ℕ, ◌*◌, ◌/◌, ◌<◌, ◌≤◌, Bool, List, length, fold, All, ℤ}
+use Rattle.std.specs.Prelude.{◌≡◌, ℕ, ◌*◌, ◌/◌, ◌<◌, ◌≤◌, Bool, List, length, fold, All, ℤ, pos}
 use Rattle.arena_geo.specs.declared.vec3.Vec3.{Vec3}
 use Rattle.arena_geo.specs.Vectors.{IsNear}
+use Rattle.speed_rules.specs.declared.constants.TheConstants.{UNIT, SECOND, FRICTION, STOP_SPEED, ACCELERATE, MAX_SPEED, MAX_AIR_SPEED, GRAVITY, MAX_VELOCITY, JUMP_SPEED}
 use Rattle.speed_rules.specs.Measures.{speed_of}
 use Rattle.speed_rules.specs.Rules.{slowed, friction_of, accelerated, clamped, unclamped}
 use Rattle.speed_rules.specs.Changes.{Shortens, AddsAtMost, IsStill}
+
+-- the numbers that the rules cite: Quake's, where a unit has 256 sub-units and a second 1,000 milliseconds
+pub record AreQuakesNumbers : Type 0 where
+  pub unit : UNIT ≡ pos 256
+  pub second : SECOND ≡ 1000
+  pub friction : FRICTION ≡ 4
+  pub stop_speed : STOP_SPEED ≡ 100 * 256
+  pub accelerate : ACCELERATE ≡ 10
+  pub max_speed : MAX_SPEED ≡ 320 * 256
+  pub max_air_speed : MAX_AIR_SPEED ≡ 30 * 256
+  pub gravity : GRAVITY ≡ 800 * 256
+  pub max_velocity : MAX_VELOCITY ≡ pos (2000 * 256)
+  pub jump_speed : JUMP_SPEED ≡ pos (270 * 256)
 
 -- friction never turns a component's sign nor lengthens it
 abbrev pub FrictionShortens : Type 0

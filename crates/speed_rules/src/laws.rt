@@ -1,4 +1,9 @@
-ghost use Rattle.speed_rules.specs.Laws.{FrictionShortens, FrictionSlows, FrictionStops, AccelerationIsBounded, ClampIsIdempotent, WhatEntersTheClampIsNear};
+ghost use Rattle.speed_rules.specs.Laws.{AreQuakesNumbers, FrictionShortens, FrictionSlows, FrictionStops, AccelerationIsBounded, ClampIsIdempotent, WhatEntersTheClampIsNear};
+
+/// The rules' numbers are Quake's, in sub-units.
+pub fn numbers_are_quakes()
+    ensures { AreQuakesNumbers }
+{}
 
 /// Friction never turns a component's sign nor lengthens it.
 pub fn friction_shortens()

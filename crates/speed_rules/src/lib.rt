@@ -8,7 +8,7 @@ pub use constants::{
 };
 pub use laws::{
     acceleration_is_bounded, clamp_is_idempotent, friction_shortens, friction_slows,
-    friction_stops, what_enters_the_clamp_is_near,
+    friction_stops, numbers_are_quakes, what_enters_the_clamp_is_near,
 };
 pub use rules::{clamp, friction, gravity};
 

@@ -1,8 +1,10 @@
-use Rattle.std.proofs.Common.{sym, ◌∙◌, ap, arith}
+use Rattle.std.specs.Option.{option_copied}
+use Rattle.std.proofs.Common.{Some, refl, sym, ◌∙◌, ap, arith}
 use Rattle.edge_io.specs.Counts.{HasRisen}
 use Rattle.std.proofs.lemmas.Result.{err_from_is_err_and}
 use Rattle.arena_engine.proofs.Exits.{memory_at_first}
-use Rattle.arena_engine.proofs.Running.{first_refused, first_fault, first_cause, first_event, game_is_ready, reader_is_open, write_failed, memory_failed, on_memory, all_done, next_refused, next_fault, next_cause, runs_on}
+use Rattle.arena_engine.proofs.Playing.{map_at}
+use Rattle.arena_engine.proofs.Running.{no_refusal, no_read_fault, write_cause, first_refused, first_fault, first_cause, first_event, game_is_ready, reader_is_open, write_failed, memory_failed, on_memory, all_done, all_in_order, all_read, next_refused, next_fault, next_cause, no_write_fault, no_memory_stop, runs_on}
 use Rattle.arena_engine.proofs.play.play.Goals as goal
 
 pub returns-in_err-event-clause-refused : goal.returns-in_err-event-clause-refused
@@ -26,14 +28,45 @@ returns-in_err-game-clause-memory g c =
     let p = err_from_is_err_and c.from_residual-in_err-game.result c.from_residual-in_err-game.ensures.1 in
     rw (p.1, p.2) (memory_at_first _ _)
 
+pub returns-in_err-map-clause-memory : goal.returns-in_err-map-clause-memory
+returns-in_err-map-clause-memory g c =
+    let p = err_from_is_err_and c.from_residual-in_err-map.result c.from_residual-in_err-map.ensures.1 in
+    rw (p.1, p.2) (memory_at_first _ _)
+
+pub new-requires-2 : goal.new-requires-2
+new-requires-2 g c =
+    let has = sym c.map.ensures.value ∙ ap option_copied c.unwrap.ensures ∙ ap Some (sym c.in_ok-map.ensures) in
+    map_at c.in_ok-event.event c.in_ok-map.map c.next.new.self.reading c.in_ok-event.ensures.holds c.in_ok-event.ensures.stage has
+
 pub events-init : goal.events-init
 events-init g c =
-    let begun = first_event _ c.next.new.self.reading _ _ (g.K.Sink.taken c.args.sink.now) c.in_ok-event.event c.unwrap-map.result c.in_ok-game.game
-    c.in_ok-demo.ensures c.in_ok-event.ensures.event c.in_ok-event.ensures.stage c.in_ok-event.ensures.holds (sym c.map.ensures.value ∙ c.unwrap-map.ensures) c.in_ok-game.ensures in
-    record { arena = c.unwrap-map.result; progress = begun; no_stop = c.in_ok-event.ensures.ok; read_later = c.next.ensures.later; write_later = omega arith }
+    let has = sym c.map.ensures.value ∙ ap option_copied c.unwrap.ensures ∙ ap Some (sym c.in_ok-map.ensures) in
+    let begun = first_event _ c.next.new.self.reading _ _ (g.K.Sink.taken c.args.sink.now) c.in_ok-event.event c.in_ok-map.map c.in_ok-game.game
+    c.in_ok-demo.ensures c.in_ok-event.ensures.event c.in_ok-event.ensures.stage c.in_ok-event.ensures.holds has c.in_ok-game.ensures in
+    record { arena = c.in_ok-map.map; progress = begun; no_stop = c.in_ok-event.ensures.ok; read_later = c.next.ensures.later; write_later = omega arith }
 
 pub take-requires : goal.take-requires
 take-requires g c = game_is_ready _ _ _ _ _ _ _ _ _ _ _ c.events.invariant
+
+pub returns-in_err-take-clause-refused : goal.returns-in_err-take-clause-refused
+returns-in_err-take-clause-refused g c =
+    let p = err_from_is_err_and c.from_residual-in_err-take.result c.from_residual-in_err-take.ensures.1 in
+    rw (p.1, p.2) (no_refusal _ _ c.in_err-take.ensures.stops)
+
+pub returns-in_err-take-clause-read_fault : goal.returns-in_err-take-clause-read_fault
+returns-in_err-take-clause-read_fault g c =
+    let p = err_from_is_err_and c.from_residual-in_err-take.result c.from_residual-in_err-take.ensures.1 in
+    rw (p.1, p.2) (no_read_fault _ _ c.in_err-take.ensures.stops)
+
+pub returns-in_err-take-clause-read_cause : goal.returns-in_err-take-clause-read_cause
+returns-in_err-take-clause-read_cause g c =
+    let p = err_from_is_err_and c.from_residual-in_err-take.result c.from_residual-in_err-take.ensures.1 in
+    rw (p.1, p.2) (no_read_fault _ _ c.in_err-take.ensures.stops)
+
+pub returns-in_err-take-clause-write_cause : goal.returns-in_err-take-clause-write_cause
+returns-in_err-take-clause-write_cause g c =
+    let p = err_from_is_err_and c.from_residual-in_err-take.result c.from_residual-in_err-take.ensures.1 in
+    rw (p.1, p.2) (write_cause _ _ _ _ _ _ _ _ _ _ _ c.events.invariant _ _ c.in_err-take.ensures.cause)
 
 pub returns-in_err-take-clause-write_fault : goal.returns-in_err-take-clause-write_fault
 returns-in_err-take-clause-write_fault g c =
@@ -48,6 +81,14 @@ returns-in_err-take-clause-memory g c =
 pub returns-then-is_last-clause-done : goal.returns-then-is_last-clause-done
 returns-then-is_last-clause-done g c =
     all_done _ _ _ _ _ _ _ _ _ _ _ c.events.invariant _ (sym c.is_end-is_last.ensures ∙ c.if-is_last.true) c.in_ok-take.ensures.written
+
+pub returns-then-is_last-clause-order : goal.returns-then-is_last-clause-order
+returns-then-is_last-clause-order g c =
+    all_in_order _ _ _ _ _ _ _ _ _ _ _ c.events.invariant _ (sym c.is_end-is_last.ensures ∙ c.if-is_last.true) c.in_ok-take.ensures.written
+
+pub returns-then-is_last-clause-read : goal.returns-then-is_last-clause-read
+returns-then-is_last-clause-read g c =
+    all_read _ _ _ _ _ _ _ _ _ _ _ c.events.invariant _ _ (sym c.is_end-is_last.ensures ∙ c.if-is_last.true) refl
 
 pub returns-in_err-event-2-clause-refused : goal.returns-in_err-event-2-clause-refused
 returns-in_err-event-2-clause-refused g c =
@@ -66,6 +107,21 @@ returns-in_err-event-2-clause-read_cause g c =
     let p = err_from_is_err_and c.from_residual-in_err-event-2.result c.from_residual-in_err-event-2.ensures.1 in
     let going = sym c.is_end-is_last.ensures ∙ c.if-is_last.false in
     rw (p.1, p.2) (next_cause _ _ _ _ _ _ _ _ _ _ _ c.events.invariant _ _ going c.in_err-event-2.ensures.cause)
+
+pub returns-in_err-event-2-clause-write_fault : goal.returns-in_err-event-2-clause-write_fault
+returns-in_err-event-2-clause-write_fault g c =
+    let p = err_from_is_err_and c.from_residual-in_err-event-2.result c.from_residual-in_err-event-2.ensures.1 in
+    rw (p.1, p.2) (no_write_fault _ _)
+
+pub returns-in_err-event-2-clause-memory : goal.returns-in_err-event-2-clause-memory
+returns-in_err-event-2-clause-memory g c =
+    let p = err_from_is_err_and c.from_residual-in_err-event-2.result c.from_residual-in_err-event-2.ensures.1 in
+    rw (p.1, p.2) (no_memory_stop _ _)
+
+pub returns-in_err-event-2-clause-write_cause : goal.returns-in_err-event-2-clause-write_cause
+returns-in_err-event-2-clause-write_cause g c =
+    let p = err_from_is_err_and c.from_residual-in_err-event-2.result c.from_residual-in_err-event-2.ensures.1 in
+    rw (p.1, p.2) (no_write_fault _ _)
 
 pub events-smaller : goal.events-smaller
 events-smaller g c = c.in_ok-event-2.ensures.fewer (reader_is_open _ _ _ _ _ _ _ _ _ _ _ c.events.invariant (sym c.is_end-is_last.ensures ∙ c.if-is_last.false))

@@ -1,8 +1,0 @@
-use Rattle.arena_geo.specs.Bounds.{bounds}
-use Rattle.arena_engine.proofs.WallBoxes.{IsBox-low_x}
-use Rattle.arena_engine.proofs.walls.walls_outside.Goals as goal
-
-pub wall-requires : goal.wall-requires
-wall-requires c =
-    rw (c.with_x.ensures, c.sub-low.ensures, c.add-high.ensures)
-    (IsBox-low_x (bounds c.args.lo c.args.hi) (record { lo = c.requires.lo; hi = c.requires.hi; ordered = c.requires.ordered }))

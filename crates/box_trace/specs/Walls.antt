@@ -1,0 +1,66 @@
+-- The walls of an arena: the solids that bound it.
+use Rattle.std.specs.Prelude.{◌≡◌, Bool, true, false, ◌||◌, List, [], ◌∷◌, ◌++◌, pos, ℤ}
+use Rattle.std.proofs.lemmas.List.Folds.{list_any-append}
+use Rattle.arena_geo.specs.declared.vec3.Vec3.{Vec3}
+use Rattle.arena_geo.specs.Vectors.{plus, minus}
+use Rattle.arena_geo.specs.Bounds.{Bounds, bounds}
+use Rattle.arena_geo.specs.Boxes.{is_blocked}
+
+-- the place with these coordinates
+abbrev pub place : ℤ → ℤ → ℤ → Vec3
+place x y z = record { x = x; y = y; z = z }
+
+-- how thick a wall is on each axis, in sub-units
+abbrev pub thick : Vec3
+thick = place (pos 16384) (pos 16384) (pos 16384)
+
+-- the place, with its coordinate on one axis from another
+abbrev pub with_x : Vec3 → Vec3 → Vec3
+with_x v from = place from.x v.y v.z
+
+abbrev pub with_y : Vec3 → Vec3 → Vec3
+with_y v from = place v.x from.y v.z
+
+abbrev pub with_z : Vec3 → Vec3 → Vec3
+with_z v from = place v.x v.y from.z
+
+-- the corners of the arena and its walls
+abbrev pub low : Bounds → Vec3
+low b = minus b.lo thick
+
+abbrev pub high : Bounds → Vec3
+high b = plus b.hi thick
+
+-- the six walls outside the arena: low x, high x, low y, high y, low z, high z
+abbrev pub walls_of : Bounds → List Bounds
+walls_of b =
+    bounds (low b) (with_x (high b) b.lo)
+    ∷ bounds (with_x (low b) b.hi) (high b)
+    ∷ bounds (low b) (with_y (high b) b.lo)
+    ∷ bounds (with_y (low b) b.hi) (high b)
+    ∷ bounds (low b) (with_z (high b) b.lo)
+    ∷ bounds (with_z (low b) b.hi) (high b)
+    ∷ []
+
+-- the solids block what the walls of the arena block
+pub record HaveWalls (arena : Bounds) (solids : List Bounds) : Type 0 where
+  pub blocked : (b : Bounds) → is_blocked b (walls_of arena) ≡ true → is_blocked b solids ≡ true
+
+or_true : (s t : Bool) → s ≡ true → (s || t) ≡ true
+or_true true t h = h
+or_true false t h = cc
+
+-- more solids behind these block what these block
+blocked_by_more : (b : Bounds) (solids more : List Bounds) → is_blocked b solids ≡ true → is_blocked b (solids ++ more) ≡ true
+blocked_by_more b solids more h =
+    rw list_any-append (or_true (is_blocked b solids) (is_blocked b more) h)
+
+-- solids that begin with the walls have them
+pub have_walls_first : (arena : Bounds) (more : List Bounds) → HaveWalls arena (walls_of arena ++ more)
+have_walls_first arena more =
+    record { blocked = λ b h. blocked_by_more b (walls_of arena) more h }
+
+-- solids that have the walls have them with more behind
+pub have_walls_more : (arena : Bounds) (solids more : List Bounds) → HaveWalls arena solids → HaveWalls arena (solids ++ more)
+have_walls_more arena solids more have =
+    record { blocked = λ b h. blocked_by_more b solids more (have.blocked b h) }

@@ -1,0 +1,5 @@
+use Rattle.demo_lines.proofs.LinesRead.{packets_have_room}
+use Rattle.demo_lines.proofs.laws.packets_have_room.Goals as goal
+
+pub returns : goal.returns
+returns c = packets_have_room

@@ -1,0 +1,107 @@
+-- The text of a recording: how each line is written, and the lines of a map and of frames in their order.
+use Rattle.std.specs.Prelude.{ℕ, ◌≤◌, ◌<◌, List, [], ◌∷◌, ◌++◌, length, Option, Some, None, IsSome, codes, map, flat_map, pos, negsuc, decimal, ⊤}
+use Rattle.std.specs.Fmt.{signed_decimal}
+use Rattle.std.specs.List.{AllByRecursion}
+use Rattle.hex.specs.Hex.{encode_lower}
+use Rattle.edge_io.specs.Lines.{AreBytes}
+use Rattle.arena_geo.specs.declared.vec3.Vec3.{Vec3}
+use Rattle.arena_geo.specs.Bounds.{bounds}
+use Rattle.demo_lines.specs.declared.arrival.Arrival.{Arrival}
+use Rattle.demo_lines.specs.declared.line.Line.{Line}
+use Rattle.demo_lines.specs.declared.line.Line.TheVariants.{Arena, Spawn, Block, Frame, From, End}
+use Rattle.demo_lines.specs.declared.event.Event.{Event}
+use Rattle.demo_lines.specs.declared.event.Event.TheVariants as events
+use Rattle.demo_lines.specs.declared.map.ArenaMap.{ArenaMap}
+use Rattle.demo_lines.specs.Bytes.{unlines}
+use Rattle.demo_lines.specs.Readings.{IsMap, IsPlaced}
+
+-- a field stands behind a space
+abbrev pub spelled_field : List ℕ → List ℕ
+spelled_field field = codes " " ++ field
+
+-- a point: its three coordinates in decimal, a minus in front of each that is below 0
+abbrev pub spelled_point : Vec3 → List ℕ
+spelled_point p =
+    spelled_field (signed_decimal p.x) ++ spelled_field (signed_decimal p.y) ++ spelled_field (signed_decimal p.z)
+
+-- a packet: two hexadecimal digits a byte in lower case, or a dash where there is none
+abbrev pub spelled_packet : List ℕ → List ℕ
+spelled_packet [] = codes "-"
+spelled_packet (b ∷ bytes) = encode_lower (b ∷ bytes)
+
+-- a line: its word and its fields
+abbrev pub spelled : Line → List ℕ
+spelled (Arena lo hi) = codes "arena" ++ spelled_point lo ++ spelled_point hi
+spelled (Spawn at) = codes "spawn" ++ spelled_point at
+spelled (Block lo hi) = codes "block" ++ spelled_point lo ++ spelled_point hi
+spelled Frame = codes "frame"
+spelled (From a) = codes "from" ++ spelled_field (decimal a.port) ++ spelled_field (spelled_packet a.bytes)
+spelled End = codes "end"
+
+-- a packet that a line has room for: its port is below 65,536, its bytes are bytes, and the line is no longer than 512
+pub record IsArrival (a : Arrival) : Type 0 where
+  pub port : a.port < 65536
+  pub bytes : AreBytes a.bytes
+  pub fits : length (spelled (From a)) ≤ 512
+
+-- a line that can be written: its coordinates are near enough, or its packet has room
+abbrev pub IsLine : Line → Type 0
+IsLine (Arena lo hi) = IsPlaced (Some (Arena lo hi))
+IsLine (Spawn at) = IsPlaced (Some (Spawn at))
+IsLine (Block lo hi) = IsPlaced (Some (Block lo hi))
+IsLine Frame = ⊤
+IsLine (From a) = IsArrival a
+IsLine End = ⊤
+
+-- the line of the spawn, where there is one
+abbrev pub spawn_lines : Option Vec3 → List Line
+spawn_lines None = []
+spawn_lines (Some at) = Spawn at ∷ []
+
+-- the lines of a map: the arena, the spawn, the blocks in their order
+abbrev pub map_lines : ArenaMap → List Line
+map_lines m = Arena m.bounds.lo m.bounds.hi ∷ spawn_lines m.spawn ++ map (λ b. Block b.lo b.hi) m.blocks
+
+-- the lines of a frame: its packets behind the line that opens it
+abbrev pub frame_lines : List Arrival → List Line
+frame_lines arrivals = Frame ∷ map From arrivals
+
+-- the lines of a recording
+abbrev pub recording_lines : ArenaMap → List (List Arrival) → List Line
+recording_lines m frames = map_lines m ++ (flat_map frame_lines frames ++ End ∷ [])
+
+-- the text of a recording: each line with its line feed
+abbrev pub recording_text : ArenaMap → List (List Arrival) → List ℕ
+recording_text m frames = unlines (map spelled (recording_lines m frames))
+
+-- what a frame is told as
+abbrev pub frame_events : List Arrival → List Event
+frame_events arrivals = events.Frame ∷ map events.From arrivals
+
+-- what a recording is told as
+abbrev pub recording_events : List (List Arrival) → List Event
+recording_events frames = flat_map frame_events frames ++ events.End ∷ []
+
+-- at most 512 packets, each of which a line has room for
+pub record IsFrame (arrivals : List Arrival) : Type 0 where
+  pub few : length arrivals ≤ 512
+  pub each : AllByRecursion IsArrival arrivals
+
+-- a recording that can be written: a map with a spawn where there is a frame, and at most 100,000 frames
+pub record IsRecording (m : ArenaMap) (frames : List (List Arrival)) : Type 0 where
+  pub is_map : IsMap m
+  pub few : length frames ≤ 100000
+  pub each : AllByRecursion IsFrame frames
+  pub spawn : 0 < length frames → IsSome m.spawn
+
+-- a small map: the least arena, a spawn and a block
+abbrev pub small_map : ArenaMap
+small_map = record {
+  bounds = bounds (record { x = negsuc 16383; y = pos 0; z = pos 0 }) (record { x = pos 16384; y = pos 32768; z = pos 32768 });
+  spawn = Some (record { x = pos 0; y = pos 4096; z = pos 6144 });
+  blocks = bounds (record { x = pos 1; y = pos 20; z = pos 300 }) (record { x = pos 4000; y = pos 30000; z = pos 32768 }) ∷ [];
+}
+
+-- its two frames, of two packets and of none
+abbrev pub small_frames : List (List Arrival)
+small_frames = (record { port = 7; bytes = 1 ∷ 175 ∷ [] } ∷ record { port = 65535; bytes = [] } ∷ []) ∷ [] ∷ []

@@ -1,0 +1,5 @@
+-- Lemmas on journals in order, and on valid worlds.
+pub mod Founds
+pub mod Orders
+pub mod Uniques
+pub mod ValidWorlds

@@ -1,0 +1,62 @@
+-- A journal against the moves that were received.
+use Rattle.std.specs.Prelude.{◌≡◌, ℕ, ◌==◌, Bool, ◌&&◌, List, [], ◌∷◌, map, filter, find, Option, Some, None}
+use Rattle.std.specs.List.{IsDistinct}
+use Rattle.move_journal.specs.Commands.{Command}
+use Rattle.move_journal.specs.Entries.{Entry}
+use Rattle.move_journal.specs.Worlds.{World}
+use Rattle.move_journal.specs.Histories.{Action, Item, IsLegal, entries_in_order}
+
+-- the numbers of a player's moves in a journal, in its order
+abbrev pub told_numbers : ℕ → List Entry → List ℕ
+told_numbers slot journal = map (λ e. e.seq) (filter (λ e. e.slot == slot) journal)
+
+-- the numbers of a player's moves, in the order in which they were sent
+abbrev pub sent_numbers : ℕ → List Command → List ℕ
+sent_numbers slot moves = map (λ c. c.seq) (filter (λ c. c.slot == slot) moves)
+
+-- a merge of the players' moves: of each player the journal tells the moves that were received, each once and in the order sent, and no others
+pub record IsMerge (journal : List Entry) (moves : List Command) : Type 0 where
+  pub each : (slot : ℕ) → told_numbers slot journal ≡ sent_numbers slot moves
+
+-- the entry tells this command
+abbrev pub tells : Entry → Command → Bool
+tells e c = (c.slot == e.slot) && (c.seq == e.seq)
+
+-- an entry with its command, where there is one, before more items
+abbrev pub with_command : Option Command → Entry → List Item → List Item
+with_command None e items = items
+with_command (Some c) e items = record { command = c; entry = e } ∷ items
+
+-- the history of a journal: each entry with the move that it tells
+abbrev pub history_of : List Command → List Entry → List Item
+history_of moves [] = []
+history_of moves (e ∷ journal) = with_command (find (tells e) moves) e (history_of moves journal)
+
+-- a right journal of moves in a world: it is a merge of the players' moves, and legal
+pub record IsRight (act : Action) (w : World) (moves : List Command) (journal : List Entry) : Type 0 where
+  pub merge : IsMerge journal moves
+  pub legal : IsLegal act w (history_of moves journal)
+
+-- whose move it is, and its number
+pub record Number : Type 0 where
+  pub slot : ℕ
+  pub seq : ℕ
+
+-- the journal tells the moves in the order of arrival
+abbrev pub IsInOrder : List Entry → List Command → Type 0
+IsInOrder journal moves = map (λ e. number e.slot e.seq) journal ≡ map (λ c. number c.slot c.seq) moves
+  where
+    number : ℕ → ℕ → Number
+    number slot seq = record { slot = slot; seq = seq }
+
+-- two commands are one player's, with one number
+abbrev pub is_same_move : Command → Command → Bool
+is_same_move a b = (a.slot == b.slot) && (a.seq == b.seq)
+
+-- no player sent one number twice
+abbrev pub HasNumbersApart : List Command → Type 0
+HasNumbersApart moves = IsDistinct is_same_move moves
+
+-- the journal of moves that are run in the order of arrival
+abbrev pub journal_in_order : Action → World → List Command → List Entry
+journal_in_order act w moves = entries_in_order act w 0 moves

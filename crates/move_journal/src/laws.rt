@@ -1,0 +1,24 @@
+ghost use Rattle.move_journal.specs.Laws.{MovesInOrderAreRight, OrderLeavesOneJournal, MovesKeepWorldsValid, NumberedRecordsAreAValidWorld};
+
+/// Moves that run in the order of arrival have a right journal, and it tells them in that order, where no player sent
+/// one number twice.
+pub fn moves_in_order_are_right()
+    ensures { MovesInOrderAreRight }
+{}
+
+/// A right journal that tells the moves in the order of arrival is the one that running them in that order gives.
+pub fn order_leaves_one_journal()
+    ensures { OrderLeavesOneJournal }
+{}
+
+/// A run of moves keeps a valid world valid, with the same live ids, where each move of a live player leaves that
+/// player's record its id and within its bounds. It is enough that this holds in worlds all of whose records pass a
+/// test that doesn't look at their state, and that the record behind the move passes it again.
+pub fn moves_keep_worlds_valid()
+    ensures { MovesKeepWorldsValid }
+{}
+
+/// Records within their bounds whose ids are their places make a valid world.
+pub fn numbered_records_are_a_valid_world()
+    ensures { NumberedRecordsAreAValidWorld }
+{}

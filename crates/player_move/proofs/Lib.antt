@@ -1,0 +1,12 @@
+-- Lemmas on moves.
+pub mod Rooms
+pub mod Grounds
+pub mod Walking
+pub mod Speeds
+pub mod Reaching
+pub mod WholeMoves
+pub mod Ending
+pub mod Insides
+pub mod Agreeing
+pub mod Looking
+pub mod Slows

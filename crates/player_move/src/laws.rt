@@ -1,0 +1,28 @@
+ghost use Rattle.player_move.specs.Laws.{MoveEndsFree, MoveReach, MoveLooksWithin, MoveStaysInside, MoveStaysSlow};
+
+/// A body that overlaps no solid at the start overlaps none at the end.
+pub fn move_ends_free()
+    ensures { MoveEndsFree }
+{}
+
+/// How far a move reaches: on each axis what the greatest speed on it goes in the time, which is the record's own
+/// speed on that axis and 81,920 sub-units a second more, but at most 512,000; and on z 4,608 sub-units more.
+pub fn move_reach()
+    ensures { MoveReach }
+{}
+
+/// A move looks no farther than it reaches: solids that don't overlap the body, larger by the reach on each axis and on
+/// z by 4,609 sub-units more for the stairs and the ground test, change nothing of it.
+pub fn move_looks_within()
+    ensures { MoveLooksWithin }
+{}
+
+/// A body that starts inside the arena, faces counted, ends inside it, over solids that have the arena's walls.
+pub fn move_stays_inside()
+    ensures { MoveStaysInside }
+{}
+
+/// Behind a move no part of the velocity is more than 512,000 sub-units a second from 0.
+pub fn move_stays_slow()
+    ensures { MoveStaysSlow }
+{}

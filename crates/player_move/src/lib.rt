@@ -1,0 +1,18 @@
+//! The whole move of a player: the rules of its speed, the slide, and the stairs.
+#![tactic(auto)]
+
+pub use ground::on_ground;
+pub use laws::{move_ends_free, move_looks_within, move_reach, move_stays_inside, move_stays_slow};
+pub use moved::Moved;
+pub use moving::move_player;
+pub use stairs::STEP_HEIGHT;
+
+mod ground;
+mod laws;
+mod moved;
+mod moving;
+mod stairs;
+#[cfg(test)]
+mod tests;
+mod velocity;
+mod walk;

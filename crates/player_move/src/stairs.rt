@@ -1,0 +1,70 @@
+ghost use Rattle.std.specs.Prelude.{◌≡◌, ◌+◌, ◌≤◌, ◌++◌, length};
+ghost use Rattle.arena_geo.specs.Vectors.{IsNear};
+ghost use Rattle.player_move.specs.Ranges.{IsWithin};
+ghost use Rattle.player_move.specs.Walks.{upwards, downwards, level, stairs_of};
+
+use crate::walk::Walked;
+use arena_geo::{Aabb, Vec3};
+use box_trace::{shift_at, trace};
+use slide_move::slide;
+
+/// The height of a step of stairs that a player walks up, in sub-units: 18 units, Quake's `STEPSIZE`.
+pub const STEP_HEIGHT: u32 = 4_608;
+
+/// So far up.
+fn upwards(height: u32) -> Vec3
+    requires { height ≤ STEP_HEIGHT }
+    ensures { result ≡ upwards height }
+{
+    Vec3 {
+        x: 0,
+        y: 0,
+        z: height as i32,
+    }
+}
+
+/// So far down.
+fn downwards(height: u32) -> Vec3
+    requires { height ≤ STEP_HEIGHT }
+    ensures { result ≡ downwards height }
+{
+    Vec3 {
+        x: 0,
+        y: 0,
+        z: -(height as i32),
+    }
+}
+
+/// The velocity over the ground.
+fn level(vel: Vec3) -> Vec3
+    ensures { result ≡ level vel }
+{
+    Vec3 { z: 0, ..vel }
+}
+
+/// How a body goes up stairs: up by a step as far as it comes, along the level at its velocity over the ground, and
+/// down by as many steps as it came up, as far as it comes. It keeps the velocity of the level alone.
+pub fn stairs(body: &Aabb, vel: Vec3, ms: u8, fixed: &[Aabb], moving: &[Aabb]) -> Walked
+    requires room { IsWithin 2000000 body.now }
+    requires near { IsNear 512000 vel }
+    requires least { 1 ≤ ms }
+    requires most { ms ≤ 50 }
+    requires few { length fixed.now + length moving.now ≤ 65535 }
+    ensures value { result ≡ stairs_of body.now vel ms (fixed.now ++ moving.now) }
+    ensures shift { IsNear 25600 result.shift }
+    ensures vel { IsNear 512000 result.vel }
+{
+    let rise = upwards(STEP_HEIGHT);
+    let steps = trace(body, rise, fixed, moving).steps;
+    let up = shift_at(rise, steps);
+    let above = body.moved(up).unwrap();
+    let along = slide(&above, level(vel), ms, fixed, moving);
+    let shift = up + along.shift;
+    let there = body.moved(shift).unwrap();
+    let fall = downwards(steps);
+    let down = shift_at(fall, trace(&there, fall, fixed, moving).steps);
+    Walked {
+        shift: shift + down,
+        vel: level(along.vel),
+    }
+}

@@ -1,0 +1,79 @@
+ghost use Rattle.std.specs.Prelude.{◌≡◌};
+ghost use Rattle.arena_geo.specs.Vectors.{IsNear};
+ghost use Rattle.speed_rules.specs.Rules.{jumped, unclamped};
+ghost use Rattle.player_move.specs.Intents.{intent_of};
+ghost use Rattle.player_move.specs.Velocities.{IsTakeOff, jumps, walks, walking, flying, velocity_after};
+
+use arena_geo::Vec3;
+use entity_recs::{Cmd, Rec};
+use speed_rules::{JUMP_SPEED, accelerate, clamp, friction, gravity};
+
+/// The button of a jump.
+const JUMP: u8 = 1;
+
+/// Whether the jump button is pressed.
+fn jumps(cmd: &Cmd) -> bool
+    ensures { result ≡ jumps (intent_of cmd.now) }
+{
+    cmd.buttons & JUMP != 0
+}
+
+/// Whether the player walks: it stands on the ground and doesn't jump. Else it is in the air.
+pub fn walks(ground: bool, cmd: &Cmd) -> bool
+    ensures { result ≡ walks ground (intent_of cmd.now) }
+{
+    ground && !jumps(cmd)
+}
+
+/// The velocity of a player that jumps, as in Quake's `PlayerJump`.
+fn jumped(vel: Vec3) -> Vec3
+    requires { IsNear 512000 vel }
+    ensures value { result ≡ jumped vel }
+    ensures take_off { IsTakeOff result }
+{
+    Vec3 {
+        z: vel.z + JUMP_SPEED,
+        ..vel
+    }
+}
+
+/// The velocity of a player that walks, before the clamp.
+fn walking(vel: Vec3, cmd: &Cmd) -> Vec3
+    requires { IsNear 512000 vel }
+    ensures { result ≡ walking vel (intent_of cmd.now) }
+{
+    let slower = friction(vel, cmd.ms);
+    accelerate(slower, cmd.wish_x, cmd.wish_y, cmd.ms, true)
+}
+
+/// The velocity of a player in the air, before the clamp.
+fn flying(vel: Vec3, cmd: &Cmd) -> Vec3
+    requires { IsTakeOff vel }
+    ensures { result ≡ flying vel (intent_of cmd.now) }
+{
+    let faster = accelerate(vel, cmd.wish_x, cmd.wish_y, cmd.ms, false);
+    gravity(faster, cmd.ms)
+}
+
+/// The velocity that enters the clamp: a jump, on the ground alone, after which the player is in the air; friction on
+/// the ground; acceleration; gravity in the air.
+fn unclamped(ground: bool, me: &Rec, cmd: &Cmd) -> Vec3
+    requires { IsNear 512000 me.now.vel }
+    ensures { result ≡ unclamped ground (jumps (intent_of cmd.now)) me.now.vel cmd.now.wish_x cmd.now.wish_y cmd.now.ms }
+{
+    match (ground, jumps(cmd)) {
+        (true, false) => walking(me.vel, cmd),
+        (true, true) => flying(jumped(me.vel), cmd),
+        (false, _) => flying(me.vel, cmd),
+    }
+}
+
+/// The velocity with which a move slides that begins on the ground or not, by the rules of speed in their order. A
+/// button that is held jumps again at each landing.
+pub fn velocity_after(ground: bool, me: &Rec, cmd: &Cmd) -> Vec3
+    requires { IsNear 512000 me.now.vel }
+    ensures value { result ≡ velocity_after ground me.now (intent_of cmd.now) }
+    ensures near { IsNear 512000 result }
+{
+    clamp(unclamped(ground, me, cmd))
+}

@@ -1,0 +1,313 @@
+-- That what is found along the lists is what a test of all records finds.
+use Rattle.std.proofs.Common.{◌≡◌, ℕ, suc, ◌+◌, ◌^◌, ◌<◌, ◌==◌, Bool, true, false, ◌&&◌, ◌||◌, not, if◌then◌else◌, nat_eq, List, [], ◌∷◌, ◌++◌, filter, map, length, replicate, All, Option, Some, None, slice_index_or, slice_set, sym, refl, ap, ◌∙◌, subst, inl, inr, arith, get_or-set_same, get_or-set_other}
+use Rattle.std.specs.List.{cons_option, list_any, range_with_len}
+use Rattle.std.specs.Option.{option_map, option_map_or}
+use Rattle.std.proofs.lemmas.Bool.{cases_Bool, cases_eq, cases_lt, eq-eqb, ne_eqb, or_left, or_right}
+use Rattle.std.proofs.lemmas.List.{get_or_past, get_or-replicate, length-replicate, length-set}
+use Rattle.std.proofs.lemmas.List.Folds.{list_any-append}
+use Rattle.std.proofs.lemmas.Option.{none-some, same_Some}
+use Rattle.arena_geo.specs.Bounds.{Bounds, IsOrdered}
+use Rattle.arena_geo.specs.Boxes.{touches, overlaps, is_blocked}
+use Rattle.arena_geo.specs.Regions.{IsRegion, touches_region}
+use Rattle.areanode.specs.Words.{has_bit}
+use Rattle.areanode.specs.Trees.{node_of, leaves_of, visited_of}
+use Rattle.areanode.proofs.Nodes.{touched_node_is_visited, node_is_in_range}
+use Rattle.entity_recs.specs.declared.rec.Rec.{Rec}
+use Rattle.entity_recs.specs.Kinds.{is_solid}
+use Rattle.entity_recs.specs.Bodies.{body_of, abs_of}
+use Rattle.entity_recs.proofs.Standing.{records_have_boxes}
+use Rattle.link_lists.specs.Pool.{Pool, has, list_of}
+use Rattle.link_lists.proofs.Pools.{has-where_of, where_of-has}
+use Rattle.world_tree.specs.Live.{record_at, live_in}
+use Rattle.world_tree.specs.Worlds.{LinkedWorld, record_of, list_for, IsLinked}
+use Rattle.world_tree.specs.Queries.{is_near, near_in, is_touched, touching_in, solids_in, is_free, nodes_for, looks_for}
+use Rattle.world_tree.specs.Walks.{touches_at, marked, ids_at, triggers_at, marked_record, picked, is_in_the_way}
+use Rattle.world_tree.proofs.Rounds.{looks_at, passing-has, passing-below}
+
+-- marking keeps the number of marks
+pub length-marked : (records : List (Option Rec)) (region : List Bounds) (ids : List ℕ) (marks : List Bool) → length (marked records region ids marks) ≡ length marks
+unfolding marked
+length-marked records region [] marks = refl
+length-marked records region (id ∷ ids) marks =
+    length-marked records region ids (slice_set marks id (touches_at records region id)) ∙ length-set marks id (touches_at records region id)
+
+-- the mark of an id: whether it touches the region where it was among the ids, and else what it was
+pub marked-at : (records : List (Option Rec)) (region : List Bounds) (ids : List ℕ) (marks : List Bool) (i : ℕ) → i < length marks
+    → slice_index_or (marked records region ids marks) i false ≡ (if has ids i then touches_at records region i else slice_index_or marks i false)
+unfolding marked
+marked-at records region [] marks i below = refl
+marked-at records region (id ∷ ids) marks i below =
+    let mark = touches_at records region id in
+    let next = slice_set marks id mark in
+    let longer : i < length next = omega (arith, length-set marks id mark) in
+    marked-at records region ids next i longer
+    ∙ elim (cases_eq i id) [
+      | inl same ↦
+          let t = eq-eqb i id same in
+          let here : slice_index_or next i false ≡ touches_at records region i =
+          ap (λ j. slice_index_or next j false) same ∙ get_or-set_same marks id mark false (omega arith) ∙ ap (touches_at records region) (sym same) in
+          rw t (both (has ids i) _ _ here)
+      | inr apart ↦
+          let t = ne_eqb i id apart in
+          let here = get_or-set_other marks id i mark false apart in
+          rw t (ap (λ (b : Bool). if has ids i then touches_at records region i else b) here)
+    ]
+  where
+    both : (b : Bool) (x y : Bool) → y ≡ x → (if b then x else y) ≡ x
+    both true x y e = refl
+    both false x y e = e
+
+-- what is gathered is what passes a test, where the marks are that test
+pub picked-is : (test : Rec → Bool) (marks : List Bool) (records : List (Option Rec)) → length marks ≡ length records
+    → ((i : ℕ) (r : Rec) → record_at records i ≡ Some r → slice_index_or marks i false ≡ test r)
+    → picked marks records ≡ filter test (live_in records)
+unfolding picked
+picked-is test [] [] same tells = refl
+picked-is test [] (place ∷ records) same tells = absurd (omega arith)
+picked-is test (mark ∷ marks) [] same tells = refl
+picked-is test (mark ∷ marks) (None ∷ records) same tells =
+    let rest = picked-is test marks records (omega arith) (λ i r e. tells (suc i) r e) in
+    ap (λ (o : Option Rec). cons_option o (picked marks records)) (no_record mark) ∙ rest
+  where
+    no_record : (b : Bool) → marked_record None b ≡ None
+    no_record true = refl
+    no_record false = refl
+picked-is test (mark ∷ marks) (Some r ∷ records) same tells =
+    let rest = picked-is test marks records (omega arith) (λ i r e. tells (suc i) r e) in
+    ap (λ (b : Bool). cons_option (marked_record (Some r) b) (picked marks records)) (tells 0 r refl)
+    ∙ ap (λ (rs : List Rec). cons_option (marked_record (Some r) (test r)) rs) rest ∙ by_test (test r)
+  where
+    by_test : (b : Bool) → cons_option (marked_record (Some r) b) (filter test (live_in records)) ≡ (if b then r ∷ filter test (live_in records) else filter test (live_in records))
+    by_test true = refl
+    by_test false = refl
+
+-- an id is among those of some nodes where one of them has it
+has-ids_at : (lists : Pool) (nodes : List ℕ) (i : ℕ) → has (ids_at lists nodes) i ≡ list_any (λ node. has (list_of lists node ++ list_of lists (31 + node)) i) nodes
+unfolding ids_at
+has-ids_at lists [] i = refl
+has-ids_at lists (node ∷ nodes) i =
+    list_any-append (nat_eq i) (list_of lists node ++ list_of lists (31 + node)) (ids_at lists nodes)
+    ∙ ap (λ (b : Bool). has (list_of lists node ++ list_of lists (31 + node)) i || b) (has-ids_at lists nodes i)
+
+has-triggers_at : (lists : Pool) (nodes : List ℕ) (i : ℕ) → has (triggers_at lists nodes) i ≡ list_any (λ node. has (list_of lists (31 + node)) i) nodes
+unfolding triggers_at
+has-triggers_at lists [] i = refl
+has-triggers_at lists (node ∷ nodes) i =
+    list_any-append (nat_eq i) (list_of lists (31 + node)) (triggers_at lists nodes)
+    ∙ ap (λ (b : Bool). has (list_of lists (31 + node)) i || b) (has-triggers_at lists nodes i)
+
+-- a linked world and a region of ordered boxes
+module _ (w : LinkedWorld) (linked : IsLinked w) (region : List Bounds) (ordered : All IsOrdered region) where
+  abbrev nodes : List ℕ
+  nodes = nodes_for w.tree region
+
+  -- a live record is in its list
+  has-own : (i : ℕ) (r : Rec) → record_of w i ≡ Some r → has (list_of w.lists (list_for w.tree r)) i ≡ true
+  has-own i r is = has-where_of w.lists i (list_for w.tree r) (linked.linked i ∙ ap (option_map (list_for w.tree)) is)
+
+  -- the node of each record is one of the 31
+  node-below : (r : Rec) → node_of w.tree (abs_of r) < 31
+  node-below r =
+      let below = subst (λ d. node_of w.tree (abs_of r) + 1 < 2 ^ (d + 1)) linked.depth (node_is_in_range w.tree (abs_of r)) in
+      omega arith
+
+  -- the node of a record that touches the region is visited
+  node-visited : (i : ℕ) (r : Rec) → record_of w i ≡ Some r → touches_region (abs_of r) region ≡ true
+      → has_bit (visited_of w.tree.depth (leaves_of w.tree region)) (node_of w.tree (abs_of r)) ≡ true
+  node-visited i r is touched =
+      touched_node_is_visited w.tree (abs_of r) region (records_have_boxes r (linked.entries i r is).is_record).abs.ordered ordered touched
+
+  -- where a live record touches the region, its id is among those at the visited nodes
+  touched-found : (i : ℕ) (r : Rec) → record_of w i ≡ Some r → touches_region (abs_of r) region ≡ true → has (ids_at w.lists nodes) i ≡ true
+  touched-found i r is touched =
+      has-ids_at w.lists nodes i
+      ∙ passing-has (has_bit (visited_of w.tree.depth (leaves_of w.tree region))) (λ node. has (list_of w.lists node ++ list_of w.lists (31 + node)) i)
+      31 (node_of w.tree (abs_of r)) (node-below r) (node-visited i r is touched)
+      (list_any-append (nat_eq i) (list_of w.lists (node_of w.tree (abs_of r))) (list_of w.lists (31 + node_of w.tree (abs_of r)))
+      ∙ in_one (is_solid r.kind) (has-own i r is))
+    where
+      in_one : (b : Bool) → has (list_of w.lists (if b then node_of w.tree (abs_of r) else 31 + node_of w.tree (abs_of r))) i ≡ true
+          → (has (list_of w.lists (node_of w.tree (abs_of r))) i || has (list_of w.lists (31 + node_of w.tree (abs_of r))) i) ≡ true
+      in_one true h = or_left _ _ h
+      in_one false h = or_right (has (list_of w.lists (node_of w.tree (abs_of r))) i) _ h
+
+  -- the same of a trigger and the lists of triggers
+  trigger-found : (i : ℕ) (r : Rec) → record_of w i ≡ Some r → is_solid r.kind ≡ false → touches_region (abs_of r) region ≡ true → has (triggers_at w.lists nodes) i ≡ true
+  trigger-found i r is trigger touched =
+      has-triggers_at w.lists nodes i
+      ∙ passing-has (has_bit (visited_of w.tree.depth (leaves_of w.tree region))) (λ node. has (list_of w.lists (31 + node)) i)
+      31 (node_of w.tree (abs_of r)) (node-below r) (node-visited i r is touched)
+      (ap (λ (b : Bool). has (list_of w.lists (if b then node_of w.tree (abs_of r) else 31 + node_of w.tree (abs_of r))) i) (sym trigger) ∙ has-own i r is)
+
+  -- and no solid is in those
+  solid-not_found : (i : ℕ) (r : Rec) → record_of w i ≡ Some r → is_solid r.kind ≡ true → has (triggers_at w.lists nodes) i ≡ false
+  solid-not_found i r is solid = elim (cases_Bool (has (triggers_at w.lists nodes) i)) [
+    | inl found ↦
+        let s = passing-below (has_bit (visited_of w.tree.depth (leaves_of w.tree region))) (λ node. has (list_of w.lists (31 + node)) i) 31 (sym (has-triggers_at w.lists nodes i) ∙ found) in
+        let there = where_of-has w.lists i (31 + s.number) linked.proper s.passes in
+        let own = linked.linked i ∙ ap (option_map (list_for w.tree)) is in
+        let same = same_Some (31 + s.number) (list_for w.tree r) (sym there ∙ own) in
+        let solids = ap (λ (b : Bool). if b then node_of w.tree (abs_of r) else 31 + node_of w.tree (abs_of r)) solid in
+        let below = node-below r in
+        let beyond : 31 + s.number ≡ node_of w.tree (abs_of r) = same ∙ solids in
+        absurd (omega arith)
+    | inr not_found ↦ not_found
+  ]
+
+  -- a live id is below 256
+  live-below : (i : ℕ) (r : Rec) → record_of w i ≡ Some r → i < 256
+  live-below i r is = elim (cases_lt i (length w.records)) [
+    | inl within ↦ omega (arith, linked.places)
+    | inr past ↦ absurd (none-some r (sym (get_or_past w.records i None past) ∙ is))
+  ]
+
+  touches_at-live : (i : ℕ) (r : Rec) → record_of w i ≡ Some r → touches_at w.records region i ≡ touches_region (abs_of r) region
+  touches_at-live i r is = ap (λ o. option_map_or (λ x. touches_region (abs_of x) region) o false) is
+
+  abbrev none : List Bool
+  none = replicate 256 false
+
+  -- the marks of what is found
+  marks-near : (i : ℕ) (r : Rec) → record_of w i ≡ Some r → slice_index_or (marked w.records region (ids_at w.lists nodes) none) i false ≡ touches_region (abs_of r) region
+  marks-near i r is =
+      let below = live-below i r is in
+      marked-at w.records region (ids_at w.lists nodes) none i (omega (arith, length-replicate 256 false))
+      ∙ ap (λ (b : Bool). if has (ids_at w.lists nodes) i then touches_at w.records region i else b) (get_or-replicate 256 i false false below)
+      ∙ ap (λ (b : Bool). if has (ids_at w.lists nodes) i then b else false) (touches_at-live i r is)
+      ∙ elim (cases_Bool (touches_region (abs_of r) region)) [
+        | inl touched ↦ rw (touched-found i r is touched) refl
+        | inr apart ↦ rw apart (either (has (ids_at w.lists nodes) i))
+      ]
+    where
+      either : (b : Bool) → (if b then false else false) ≡ false
+      either true = refl
+      either false = refl
+
+  marks-triggers : (i : ℕ) (r : Rec) → record_of w i ≡ Some r
+      → slice_index_or (marked w.records region (triggers_at w.lists nodes) none) i false ≡ (not (is_solid r.kind) && touches_region (abs_of r) region)
+  marks-triggers i r is =
+      let below = live-below i r is in
+      marked-at w.records region (triggers_at w.lists nodes) none i (omega (arith, length-replicate 256 false))
+      ∙ ap (λ (b : Bool). if has (triggers_at w.lists nodes) i then touches_at w.records region i else b) (get_or-replicate 256 i false false below)
+      ∙ ap (λ (b : Bool). if has (triggers_at w.lists nodes) i then b else false) (touches_at-live i r is)
+      ∙ elim (cases_Bool (is_solid r.kind)) [
+        | inl solid ↦ rw (solid-not_found i r is solid, solid) refl
+        | inr trigger ↦ elim (cases_Bool (touches_region (abs_of r) region)) [
+          | inl touched ↦ rw (trigger-found i r is trigger touched, trigger) refl
+          | inr apart ↦ rw (apart, trigger) (either (has (triggers_at w.lists nodes) i))
+        ]
+      ]
+    where
+      either : (b : Bool) → (if b then false else false) ≡ false
+      either true = refl
+      either false = refl
+
+  -- what `near` gathers
+  pub near-found : (except : ℕ)
+      → picked (slice_set (marked w.records region (ids_at w.lists nodes) (replicate 256 false)) except false) w.records ≡ near_in w.records region except
+  near-found except =
+      let all = marked w.records region (ids_at w.lists nodes) none in
+      let long : length all ≡ 256 = length-marked w.records region (ids_at w.lists nodes) none ∙ length-replicate 256 false in
+      picked-is (is_near region except) (slice_set all except false) w.records
+      (length-set all except false ∙ long ∙ sym linked.places)
+      (λ i r is. elim (cases_eq i except) [
+        | inl same ↦
+            let t : (r.id == except) ≡ true = eq-eqb r.id except ((linked.entries i r is).own_id ∙ same) in
+            let here = get_or-set_same all except false false (omega (arith, live-below i r is)) in
+            ap (λ j. slice_index_or (slice_set all except false) j false) same ∙ here ∙ sym (rw t (and_false (touches_region (abs_of r) region)))
+        | inr apart ↦
+            let t : (r.id == except) ≡ false = ne_eqb r.id except (λ e. apart (sym (linked.entries i r is).own_id ∙ e)) in
+            get_or-set_other all except i false false apart ∙ marks-near i r is ∙ sym (rw t (and_true (touches_region (abs_of r) region)))
+      ])
+    where
+      and_false : (b : Bool) → (b && false) ≡ false
+      and_false true = refl
+      and_false false = refl
+
+      and_true : (b : Bool) → (b && true) ≡ b
+      and_true true = refl
+      and_true false = refl
+
+-- what `touching` gathers
+pub triggers-found : (w : LinkedWorld) → IsLinked w → (abs : Bounds) → All IsOrdered (abs ∷ [])
+    → picked (marked w.records (abs ∷ []) (triggers_at w.lists (nodes_for w.tree (abs ∷ []))) (replicate 256 false)) w.records ≡ touching_in w.records abs
+triggers-found w linked abs ordered =
+    let all = marked w.records (abs ∷ []) (triggers_at w.lists (nodes_for w.tree (abs ∷ []))) (replicate 256 false) in
+    let long : length all ≡ 256 = length-marked w.records (abs ∷ []) (triggers_at w.lists (nodes_for w.tree (abs ∷ []))) (replicate 256 false) ∙ length-replicate 256 false in
+    picked-is (is_touched abs) all w.records (long ∙ sym linked.places)
+    (λ i r is. marks-triggers w linked (abs ∷ []) ordered i r is ∙ ap (λ (b : Bool). not (is_solid r.kind) && b) (or_false (touches (abs_of r) abs)))
+  where
+    or_false : (b : Bool) → (b || false) ≡ b
+    or_false true = refl
+    or_false false = refl
+
+-- some record is in the way where the body of a solid is
+pub in_the_way-is : (body : Bounds) (except : ℕ) (records : List (Option Rec)) → list_any (is_in_the_way body except) records ≡ is_blocked body (map body_of (solids_in records except))
+in_the_way-is body except [] = refl
+in_the_way-is body except (None ∷ records) = in_the_way-is body except records
+in_the_way-is body except (Some r ∷ records) =
+    ap (λ (b : Bool). (is_solid r.kind && not (r.id == except) && overlaps body (body_of r)) || b) (in_the_way-is body except records)
+    ∙ by_test (is_solid r.kind && not (r.id == except))
+  where
+    by_test : (b : Bool) → ((b && overlaps body (body_of r)) || is_blocked body (map body_of (solids_in records except)))
+        ≡ is_blocked body (map body_of (if b then r ∷ solids_in records except else solids_in records except))
+    by_test true = refl
+    by_test false = refl
+
+-- what the steps of `near` come to
+pub near-is : (w : LinkedWorld) → IsLinked w → (region : List Bounds) → IsRegion region → (except leaves nodes : ℕ)
+    → (walked places : List (Option Rec)) (marks unmarked : List Bool) (out : List Rec)
+    → leaves ≡ leaves_of w.tree region → nodes ≡ visited_of 4 leaves → walked ≡ w.records
+    → marks ≡ marked walked region (ids_at w.lists (filter (has_bit nodes) (range_with_len 0 31))) (replicate 256 false)
+    → unmarked ≡ slice_set marks except false → places ≡ w.records → out ≡ picked unmarked places
+    → out ≡ near_in w.records region except
+near-is w linked region is_region except leaves nodes walked places marks unmarked out leaves_is nodes_is walked_is marks_is unmarked_is places_is out_is =
+    let visited : nodes ≡ visited_of w.tree.depth (leaves_of w.tree region) =
+    nodes_is ∙ ap (visited_of 4) leaves_is ∙ ap (λ d. visited_of d (leaves_of w.tree region)) (sym linked.depth) in
+    out_is ∙ ap (picked unmarked) places_is ∙ ap (λ ms. picked ms w.records) unmarked_is
+    ∙ ap (λ ms. picked (slice_set ms except false) w.records) marks_is
+    ∙ ap (λ rs. picked (slice_set (marked rs region (ids_at w.lists (filter (has_bit nodes) (range_with_len 0 31))) (replicate 256 false)) except false) w.records) walked_is
+    ∙ ap (λ n. picked (slice_set (marked w.records region (ids_at w.lists (filter (has_bit n) (range_with_len 0 31))) (replicate 256 false)) except false) w.records) visited
+    ∙ near-found w linked region (λ k d below. (is_region.boxes k d below).ordered) except
+
+-- what the steps of `touching` come to
+pub touching-is : (w : LinkedWorld) → IsLinked w → (abs : Bounds) → (region : List Bounds) → region ≡ abs ∷ [] → IsRegion region → (leaves nodes : ℕ)
+    → (walked places : List (Option Rec)) (marks : List Bool) (out : List Rec)
+    → leaves ≡ leaves_of w.tree region → nodes ≡ visited_of 4 leaves → walked ≡ w.records
+    → marks ≡ marked walked region (triggers_at w.lists (filter (has_bit nodes) (range_with_len 0 31))) (replicate 256 false)
+    → places ≡ w.records → out ≡ picked marks places
+    → out ≡ touching_in w.records abs
+touching-is w linked abs region one is_region leaves nodes walked places marks out leaves_is nodes_is walked_is marks_is places_is out_is =
+    let visited : nodes ≡ visited_of w.tree.depth (leaves_of w.tree (abs ∷ [])) =
+    nodes_is ∙ ap (visited_of 4) (leaves_is ∙ ap (leaves_of w.tree) one) ∙ ap (λ d. visited_of d (leaves_of w.tree (abs ∷ []))) (sym linked.depth) in
+    let ordered : All IsOrdered (abs ∷ []) = λ k d below. ((subst IsRegion one is_region).boxes k d below).ordered in
+    out_is ∙ ap (picked marks) places_is
+    ∙ ap (λ ms. picked ms w.records) marks_is
+    ∙ ap (λ r. picked (marked walked r (triggers_at w.lists (filter (has_bit nodes) (range_with_len 0 31))) (replicate 256 false)) w.records) one
+    ∙ ap (λ rs. picked (marked rs (abs ∷ []) (triggers_at w.lists (filter (has_bit nodes) (range_with_len 0 31))) (replicate 256 false)) w.records) walked_is
+    ∙ ap (λ n. picked (marked w.records (abs ∷ []) (triggers_at w.lists (filter (has_bit n) (range_with_len 0 31))) (replicate 256 false)) w.records) visited
+    ∙ triggers-found w linked abs ordered
+
+-- how many looks that is
+pub looks-are : (w : LinkedWorld) → IsLinked w → (abs : Bounds) → (region : List Bounds) → region ≡ abs ∷ [] → (leaves nodes before after : ℕ)
+    → leaves ≡ leaves_of w.tree region → nodes ≡ visited_of 4 leaves
+    → after ≡ before + looks_at w.lists (filter (has_bit nodes) (range_with_len 0 31))
+    → after ≡ before + looks_for w abs
+looks-are w linked abs region one leaves nodes before after leaves_is nodes_is after_is =
+    let visited : nodes ≡ visited_of w.tree.depth (leaves_of w.tree (abs ∷ [])) =
+    nodes_is ∙ ap (visited_of 4) (leaves_is ∙ ap (leaves_of w.tree) one) ∙ ap (λ d. visited_of d (leaves_of w.tree (abs ∷ []))) (sym linked.depth) in
+    after_is ∙ ap (λ n. before + looks_at w.lists (filter (has_bit n) (range_with_len 0 31))) visited
+
+-- what the steps of `free` come to, where no fixed box is in the way
+pub free-is : (records walked : List (Option Rec)) (body : Bounds) (fixed : List Bounds) (except : ℕ) (by_fixed by_solids : Bool)
+    → by_fixed ≡ is_blocked body fixed → by_fixed ≡ false → by_solids ≡ list_any (is_in_the_way body except) walked → walked ≡ records
+    → not by_solids ≡ is_free records body fixed except
+free-is records walked body fixed except by_fixed by_solids fixed_is none solids_is walked_is =
+    ap not (solids_is ∙ ap (list_any (is_in_the_way body except)) walked_is ∙ in_the_way-is body except records)
+    ∙ ap (λ (b : Bool). not b && not (is_blocked body (map body_of (solids_in records except)))) (sym none ∙ fixed_is)
+
+-- and where one is
+pub not_free-is : (records : List (Option Rec)) (body : Bounds) (fixed : List Bounds) (except : ℕ) (by_fixed : Bool)
+    → by_fixed ≡ is_blocked body fixed → by_fixed ≡ true → false ≡ is_free records body fixed except
+not_free-is records body fixed except by_fixed fixed_is some =
+    ap (λ (b : Bool). not b && not (is_blocked body (map body_of (solids_in records except)))) (sym some ∙ fixed_is)

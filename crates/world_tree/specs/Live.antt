@@ -1,0 +1,26 @@
+-- Records by id: in a list of places, the record with an id stands at that place.
+use Rattle.std.specs.Prelude.{◌≡◌, ℕ, List, map, Option, Some, None, slice_index_or}
+use Rattle.std.specs.List.{filter_map}
+use Rattle.entity_recs.specs.declared.rec.Rec.{Rec}
+use Rattle.entity_recs.specs.Records.{IsRecord}
+
+-- the record with this id, if that id is live
+abbrev pub record_at : List (Option Rec) → ℕ → Option Rec
+record_at records id = slice_index_or records id None
+
+-- the live records in rising id
+abbrev pub live_in : List (Option Rec) → List Rec
+live_in records = filter_map (λ place. place) records
+
+-- the live ids in rising order
+abbrev pub ids_of : List (Option Rec) → List ℕ
+ids_of records = map (λ r. r.id) (live_in records)
+
+-- the record is within its bounds, and has this id
+pub record IsEntry (id : ℕ) (r : Rec) : Type 0 where
+  pub is_record : IsRecord r
+  pub own_id : r.id ≡ id
+
+-- each record is within its bounds, and stands at the place of its id
+abbrev pub AreEntries : List (Option Rec) → Type 0
+AreEntries records = (id : ℕ) (r : Rec) → record_at records id ≡ Some r → IsEntry id r

@@ -1,0 +1,16 @@
+ghost use Rattle.world_tree.specs.Laws.{LiveIdsRise, LiveIdsHaveRecords, LiveRecordsById};
+
+/// The live ids of a world, in the order of its live records, rise; so no two records have one id.
+pub fn live_ids_rise()
+    ensures { LiveIdsRise }
+{}
+
+/// An id is among the live ids exactly where it has a record.
+pub fn live_ids_have_records()
+    ensures { LiveIdsHaveRecords }
+{}
+
+/// The live records in rising id are those of the live ids in rising order.
+pub fn live_records_by_id()
+    ensures { LiveRecordsById }
+{}

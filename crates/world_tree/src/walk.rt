@@ -1,0 +1,190 @@
+ghost use Rattle.std.specs.Prelude.{◌≡◌, ◌+◌, ◌<◌, false, [], filter, length, replicate, slice_set, sum_by};
+ghost use Rattle.std.specs.List.{list_any, range_with_len};
+ghost use Rattle.areanode.specs.Words.{has_bit};
+ghost use Rattle.entity_recs.specs.declared.rec.Rec.{Rec};
+ghost use Rattle.entity_recs.specs.Records.{IsRecord};
+ghost use Rattle.link_lists.specs.Pool.{list_of};
+ghost use Rattle.world_tree.specs.Live as live;
+ghost use Rattle.world_tree.specs.Live.{AreEntries};
+ghost use Rattle.world_tree.specs.Walks as walks;
+
+use crate::near_list::NearList;
+use crate::steps::Steps;
+use crate::world::{IDS, NODE_LISTS};
+use arena_geo::{Aabb, Region};
+use entity_recs::{Rec, abs_box, body_box};
+use link_lists::Lists;
+use std::sync::ledger::Ledger;
+
+/// Whether the node is among those of the word, bit i for node i.
+fn is_among(nodes: u32, node: u8) -> bool
+    requires { node < 31 }
+    ensures { result ≡ has_bit nodes node }
+{
+    nodes >> node & 1 == 1
+}
+
+/// The record with this id, if that id is live.
+pub fn record_at(records: &[Option<Rec>], id: u16) -> Option<Rec>
+    ensures { result ≡ live.record_at records.now id }
+{
+    records.get(usize::from(id)).copied().flatten()
+}
+
+/// Whether the id is live and its absolute box touches the region.
+fn is_touched(records: &[Option<Rec>], region: &Region, id: u16) -> bool
+    requires { AreEntries records.now }
+    ensures { result ≡ walks.touches_at records.now region.now id }
+{
+    match record_at(records, id) {
+        Some(r) => region.touched(&abs_box(&r)),
+        None => false,
+    }
+}
+
+/// Marks the ids of a list whose absolute boxes touch the region.
+fn mark_list(
+    lists: &Lists,
+    list: u8,
+    records: &[Option<Rec>],
+    region: &Region,
+    marks: &mut [bool; IDS],
+)
+    requires ids { lists.now.ids ≡ IDS }
+    requires entries { AreEntries records.now }
+    ensures { marks.new ≡ walks.marked records.now region.now (list_of lists.now list) marks.old }
+{
+    let mut at = lists.first(list);
+    while let Some(id) = at {
+        let place = usize::from(id);
+        marks[place] = is_touched(records, region, id);
+        at = lists.next(id);
+    }
+}
+
+/// Marks the ids of a list whose absolute boxes touch the region, and counts a look at each link that it follows.
+fn mark_counted<L: Ledger>(
+    lists: &Lists,
+    list: u8,
+    records: &[Option<Rec>],
+    region: &Region,
+    marks: &mut [bool; IDS],
+    steps: &mut Steps<L>,
+)
+    requires ids { lists.now.ids ≡ IDS }
+    requires entries { AreEntries records.now }
+    ensures marks { marks.new ≡ walks.marked records.now region.now (list_of lists.now list) marks.old }
+    ensures looks { steps.new ≡ steps.old + length (list_of lists.now list) }
+{
+    let mut at = lists.first(list);
+    while let Some(id) = at {
+        steps.tick();
+        let place = usize::from(id);
+        marks[place] = is_touched(records, region, id);
+        at = lists.next(id);
+    }
+}
+
+/// The marks of the live ids that are linked at these nodes and touch the region, bit i of the word for node i.
+pub fn touched_at(
+    lists: &Lists,
+    records: &[Option<Rec>],
+    region: &Region,
+    nodes: u32,
+) -> [bool; IDS]
+    requires ids { lists.now.ids ≡ IDS }
+    requires entries { AreEntries records.now }
+    ensures { result ≡ walks.marked records.now region.now
+        (walks.ids_at lists.now (filter (has_bit nodes) (range_with_len 0 31))) (replicate 256 false) }
+{
+    let mut marks = [false; IDS];
+    for node in 0..NODE_LISTS {
+        if is_among(nodes, node) {
+            mark_list(lists, node, records, region, &mut marks);
+            mark_list(lists, NODE_LISTS + node, records, region, &mut marks);
+        }
+    }
+    marks
+}
+
+/// The marks of the triggers that are linked at these nodes and touch the region. Counts a look at each node that it
+/// enters and at each link that it follows.
+pub fn touched_triggers<L: Ledger>(
+    lists: &Lists,
+    records: &[Option<Rec>],
+    region: &Region,
+    nodes: u32,
+    steps: &mut Steps<L>,
+) -> [bool; IDS]
+    requires ids { lists.now.ids ≡ IDS }
+    requires entries { AreEntries records.now }
+    ensures marks { result ≡ walks.marked records.now region.now
+        (walks.triggers_at lists.now (filter (has_bit nodes) (range_with_len 0 31))) (replicate 256 false) }
+    ensures looks { steps.new ≡ steps.old + (length (filter (has_bit nodes) (range_with_len 0 31))
+        + sum_by (λ node. length (list_of lists.now (31 + node))) (filter (has_bit nodes) (range_with_len 0 31))) }
+{
+    let mut marks = [false; IDS];
+    for node in 0..NODE_LISTS {
+        if is_among(nodes, node) {
+            steps.tick();
+            mark_counted(lists, NODE_LISTS + node, records, region, &mut marks, steps);
+        }
+    }
+    marks
+}
+
+/// Takes the mark of one id away, if it has one.
+pub fn unmark(marks: &mut [bool; IDS], id: u16)
+    requires { length marks.old ≡ IDS }
+    ensures { marks.new ≡ slice_set marks.old id false }
+{
+    let place = usize::from(id);
+    if place < IDS {
+        marks[place] = false;
+    }
+}
+
+/// The record of a place, if there is one and the place is marked.
+fn marked_record(place: Option<Rec>, mark: bool) -> Option<Rec>
+    ensures { result ≡ walks.marked_record place mark }
+{
+    place.filter(|_| mark)
+}
+
+/// Puts the live records at the marked places into the list, in rising id.
+pub fn gather(records: &[Option<Rec>], marks: &[bool; IDS], out: &mut NearList)
+    requires places { length records.now ≡ length marks.now }
+    requires few { length marks.now ≡ 256 }
+    requires empty { out.old ≡ [] }
+    ensures { out.new ≡ walks.picked marks.now records.now }
+{
+    for (id, place) in records.iter().enumerate() {
+        if let Some(r) = marked_record(*place, marks[id]) {
+            let _ = out.push(r);
+        }
+    }
+}
+
+/// Whether there is a record that is a solid other than `except` and whose body overlaps `body`.
+fn is_in_the_way(place: &Option<Rec>, body: &Aabb, except: u16) -> bool
+    requires { (r : Rec) → place.now ≡ Some r → IsRecord r }
+    ensures { result ≡ walks.is_in_the_way body.now except place.now }
+{
+    match place {
+        Some(r) => r.kind.is_solid() && r.id != except && body.overlaps(&body_box(r)),
+        None => false,
+    }
+}
+
+/// Whether the body of a live solid other than `except` overlaps `body`.
+pub fn is_blocked_by_solids(records: &[Option<Rec>], body: &Aabb, except: u16) -> bool
+    requires { AreEntries records.now }
+    ensures { result ≡ list_any (walks.is_in_the_way body.now except) records.now }
+{
+    for place in records {
+        if is_in_the_way(place, body, except) {
+            return true;
+        }
+    }
+    false
+}

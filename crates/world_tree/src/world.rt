@@ -1,0 +1,202 @@
+ghost use Rattle.std.specs.Prelude.{◌≡◌, ℕ, ◌+◌, ◌<◌, ◌==◌, [], map, nat_eq, replicate, All, IfOk, IsSome, None};
+ghost use Rattle.std.specs.List.{find, IsDistinct};
+ghost use Rattle.std.specs.Option.{option_map};
+ghost use Rattle.entity_recs.specs.Records.{IsRecord};
+ghost use Rattle.link_lists.specs.Pool.{where_of};
+ghost use Rattle.world_tree.specs.Worlds as worlds;
+ghost use Rattle.world_tree.specs.Worlds.{record_of, IsLinked};
+ghost use Rattle.world_tree.specs.Queries.{near_in, touching_in, is_free, looks_for};
+
+use crate::near_list::NearList;
+use crate::steps::Steps;
+use crate::walk::{
+    gather, is_blocked_by_solids, record_at, touched_at, touched_triggers, unmark,
+};
+use areanode::{NODES, Tree, visited};
+use arena_geo::{Aabb, Region};
+use entity_recs::{Rec, abs_box};
+use link_lists::Lists;
+use std::alloc::{AllocError, Global};
+use std::marker::Model;
+use std::sync::ledger::Ledger;
+
+/// The number of ids: 0 to 63 are the players' slots, 64 to 255 those of the things of the map.
+pub const IDS: usize = 256;
+
+/// The number of lists of solids, one for each node of the tree. As many lists of triggers come after them.
+pub const NODE_LISTS: u8 = NODES as u8;
+
+/// The live records, each linked in a list of the node of the areanode tree that its absolute box demands, as Quake's
+/// `SV_LinkEdict` does: list i has the solids of node i, list 31 + i its triggers. Each live id is in one list.
+///
+/// Records are found by id. Only `new` takes memory.
+#[derive(Drop)]
+pub struct World {
+    tree: Tree,
+    records: Vec<Option<Rec>>,
+    lists: Lists,
+}
+
+// Clauses see the tree, the record at the place of each id, and the ids of each list in order.
+impl Model for World {
+    ghost use Rattle.world_tree.specs.Worlds.{LinkedWorld, IsLinked, world_of};
+
+    ghost Value = { LinkedWorld };
+
+    ghost view = { λ w. world_of w.tree w.records.items w.lists };
+
+    ghost invariant = { λ w. IsLinked (world_of w.tree w.records.items w.lists) };
+}
+
+/// The list in which a record is linked.
+fn list_for(tree: &Tree, r: &Rec) -> u8
+    requires { IsRecord r.now }
+    ensures list { result ≡ worlds.list_for tree.now r.now }
+    ensures in_range { result < 62 }
+{
+    let node = tree.node_of(&abs_box(r));
+    if r.kind.is_solid() {
+        node
+    } else {
+        NODE_LISTS + node
+    }
+}
+
+/// So many places without a record.
+fn no_records(alloc: Global, places: usize) -> Result<Vec<Option<Rec>>, AllocError>
+    ensures { IfOk result (λ records. records.items ≡ replicate places None) }
+{
+    vec![in alloc; None; places]
+}
+
+impl World {
+    /// The world over these bounds with these records, put in one after another. The only error is that memory is refused.
+    pub fn new(alloc: Global, bounds: &Aabb, start: &[Rec]) -> Result<World, AllocError>
+        requires records { All IsRecord start.now }
+        requires apart { IsDistinct nat_eq (map (λ r. r.id) start.now) }
+        ensures made { IfOk result (λ w. w ≡ worlds.with_records (worlds.empty_world bounds.now) start.now) }
+        ensures records { IfOk result (λ w. (id : ℕ) → record_of w id ≡ find (λ r. r.id == id) start.now) }
+        ensures tree { IfOk result (λ w. w.tree ≡ (worlds.empty_world bounds.now).tree) }
+        ensures linked { IfOk result IsLinked }
+    {
+        let mut world = World {
+            tree: Tree::new(bounds),
+            records: no_records(alloc, IDS)?,
+            lists: Lists::new(alloc, IDS as u16, 2 * NODE_LISTS)?,
+        };
+        for r in start {
+            world.add(*r);
+        }
+        Ok(world)
+    }
+
+    /// Puts in a record whose id isn't live, and links it: the id goes first in its list, where Quake's `SV_LinkEdict`
+    /// puts it last.
+    pub fn add(&mut self, r: Rec)
+        requires record { IsRecord r }
+        requires not_live { record_of self.old r.id ≡ None }
+        ensures world { self.new ≡ worlds.with_record self.old r }
+        ensures linked { IsLinked self.new }
+    {
+        let place = usize::from(r.id);
+        self.lists.insert(list_for(&self.tree, &r), r.id);
+        self.records[place] = Some(r);
+    }
+
+    /// Takes out the record with a live id, and unlinks the id.
+    pub fn remove(&mut self, id: u16)
+        requires { IsSome (record_of self.old id) }
+        ensures world { self.new ≡ worlds.without_id self.old id }
+        ensures linked { IsLinked self.new }
+    {
+        let place = usize::from(id);
+        self.lists.remove(id);
+        self.records[place] = None;
+    }
+
+    /// Puts a record in place of the one with its id, which is live, and links it anew.
+    pub fn relink(&mut self, r: Rec)
+        requires record { IsRecord r }
+        requires live { IsSome (record_of self.old r.id) }
+        ensures world { self.new ≡ worlds.with_record (worlds.without_id self.old r.id) r }
+        ensures linked { IsLinked self.new }
+    {
+        self.remove(r.id);
+        self.add(r);
+    }
+
+    /// The record with this id, and `None` exactly where the id isn't live.
+    pub fn get(&self, id: u16) -> Option<Rec>
+        ensures record { result ≡ record_of self.now id }
+        ensures linked { IsLinked self.now }
+    {
+        record_at(&self.records, id)
+    }
+
+    /// The list that the id is linked in: the number of its node for a solid, and 31 more for a trigger. `None` exactly
+    /// where the id isn't live.
+    pub fn list_of(&self, id: u16) -> Option<u8>
+        ensures list { result ≡ where_of self.now.lists id }
+        ensures own { result ≡ option_map (worlds.list_for self.now.tree) (record_of self.now id) }
+        ensures linked { IsLinked self.now }
+    {
+        self.lists.where_is(id)
+    }
+
+    /// The tree at whose nodes the records are linked.
+    pub fn tree(&self) -> &Tree
+        ensures tree { result.now ≡ self.now.tree }
+        ensures linked { IsLinked self.now }
+    {
+        &self.tree
+    }
+
+    /// Makes this world as the other, the order of its lists too.
+    pub fn copy_from(&mut self, o: &World)
+        requires { self.old.tree ≡ o.now.tree }
+        ensures world { self.new ≡ o.now }
+        ensures linked { IsLinked self.new }
+    {
+        self.records.copy_from_slice(&o.records);
+        self.lists.copy_from(&o.lists);
+    }
+
+    /// Puts into the empty list the live records other than `except` whose absolute boxes touch the region, in rising id.
+    /// It looks at those that are linked at the nodes visited for the region's leaves.
+    pub fn near(&self, r: &Region, except: u16, out: &mut NearList)
+        requires { out.old ≡ [] }
+        ensures records { out.new ≡ near_in self.now.records r.now except }
+        ensures linked { IsLinked self.now }
+    {
+        let nodes = visited(self.tree.leaves_of(r));
+        let mut marks = touched_at(&self.lists, &self.records, r, nodes);
+        unmark(&mut marks, except);
+        gather(&self.records, &marks, out);
+    }
+
+    /// Puts into the empty list the live triggers whose absolute boxes touch `abs`, in rising id, as Quake's
+    /// `SV_TouchLinks`. A look is one node entered or one link followed, and each is counted: one for each node visited
+    /// for the leaves of `abs`, and one for each trigger that is linked there.
+    pub fn touching<L: Ledger>(&self, abs: &Aabb, out: &mut NearList, steps: &mut Steps<L>)
+        requires { out.old ≡ [] }
+        ensures records { out.new ≡ touching_in self.now.records abs.now }
+        ensures looks { steps.new ≡ steps.old + looks_for self.now abs.now }
+        ensures linked { IsLinked self.now }
+    {
+        let region = Region::one(*abs);
+        let nodes = visited(self.tree.leaves_of(&region));
+        let marks = touched_triggers(&self.lists, &self.records, &region, nodes, steps);
+        gather(&self.records, &marks, out);
+    }
+
+    /// Whether no box of `fixed` and no body of a live solid other than `except` overlaps `body`.
+    pub fn free(&self, body: &Aabb, fixed: &[Aabb], except: u16) -> bool
+        ensures free { result ≡ is_free self.now.records body.now fixed.now except }
+        ensures linked { IsLinked self.now }
+    {
+        !body.is_blocked(fixed) && !is_blocked_by_solids(&self.records, body, except)
+    }
+}
+
+#[cfg(test)]
+mod tests;
