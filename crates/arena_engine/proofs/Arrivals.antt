@@ -31,7 +31,6 @@ use Rattle.arena_engine.proofs.Continuing.{GoesOnWith}
 
 -- ---- what hexadecimal text spells
 
-
 -- the bytes that are decoded, where they are
 abbrev OkBytes : Result (List ℕ) FromHexError → Type 0
 OkBytes (Ok bytes) = AreBytes bytes

@@ -52,7 +52,7 @@ one_move arena fixed w c lo hi walls is live =
     let own : me.id ≡ c.slot = All-contains (λ id. (w.record_of id).id ≡ id) w.ids c.slot is.valid.own live in
     let holds : IsRecord me = All-contains (λ id. IsRecord (w.record_of id)) w.ids c.slot (at_each_id IsRecord w.record_of w.ids is.valid.bounds) live in
     let passes : is_player_inside arena me ≡ true =
-      All-contains (λ id. is_player_inside arena (w.record_of id) ≡ true) w.ids c.slot (at_each_id (λ r. is_player_inside arena r ≡ true) w.record_of w.ids is.taken) live in
+    All-contains (λ id. is_player_inside arena (w.record_of id) ≡ true) w.ids c.slot (at_each_id (λ r. is_player_inside arena r ≡ true) w.record_of w.ids is.taken) live in
     let behind = one_behind arena (fixed ++ map body_of (others_of w c.slot)) me (asked c) c.seq lo hi (have_walls_more arena fixed (map body_of (others_of w c.slot)) walls) (one_is arena me holds passes) in
     record { own = own; bounds = behind.holds; taken = passes_is arena (outcome (moves_among fixed) w c).me behind }
 

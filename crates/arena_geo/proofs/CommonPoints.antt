@@ -45,9 +45,9 @@ has_common_point a b ordered other_ordered touch =
 touches_there : (a b : Bounds) → HaveCommonPoint a b → touches a b ≡ true
 touches_there a b common =
     all_three
-      (touches_at a.lo.x a.hi.x b.lo.x b.hi.x common.point.x common.one.x common.other.x)
-      (touches_at a.lo.y a.hi.y b.lo.y b.hi.y common.point.y common.one.y common.other.y)
-      (touches_at a.lo.z a.hi.z b.lo.z b.hi.z common.point.z common.one.z common.other.z)
+    (touches_at a.lo.x a.hi.x b.lo.x b.hi.x common.point.x common.one.x common.other.x)
+    (touches_at a.lo.y a.hi.y b.lo.y b.hi.y common.point.y common.one.y common.other.y)
+    (touches_at a.lo.z a.hi.z b.lo.z b.hi.z common.point.z common.one.z common.other.z)
 
 pub touch_is_common_point : TouchIsCommonPoint
 touch_is_common_point a b ordered other_ordered = (has_common_point a b ordered other_ordered, touches_there a b)

@@ -9,9 +9,7 @@ ghost use Rattle.world_tree.specs.Queries.{near_in, touching_in, is_free, looks_
 
 use crate::near_list::NearList;
 use crate::steps::Steps;
-use crate::walk::{
-    gather, is_blocked_by_solids, record_at, touched_at, touched_triggers, unmark,
-};
+use crate::walk::{gather, is_blocked_by_solids, record_at, touched_at, touched_triggers, unmark};
 use areanode::{NODES, Tree, visited};
 use arena_geo::{Aabb, Region};
 use entity_recs::{Rec, abs_box};
