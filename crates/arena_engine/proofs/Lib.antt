@@ -23,4 +23,5 @@ pub mod Playing
 pub mod Running
 pub mod Answering
 pub mod Rooms
+pub mod SomeOutput
 pub mod OneOutput

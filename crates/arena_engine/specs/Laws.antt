@@ -17,6 +17,7 @@ use Rattle.demo_lines.specs.declared.arrival.Arrival.{Arrival}
 use Rattle.arena_engine.specs.declared.client.Client.{Client}
 use Rattle.arena_engine.specs.Outcomes.{fixed_of, moves_among}
 use Rattle.demo_lines.specs.Readings.{IsMap}
+use Rattle.demo_lines.specs.Spelling.{IsRecording, recording_text}
 use Rattle.arena_engine.specs.States.{State, opening, AreInside}
 use Rattle.arena_engine.specs.Receiving.{received}
 use Rattle.arena_engine.specs.Frames.{state_after}
@@ -83,6 +84,16 @@ abbrev pub AnyOrderKeepsPlayersInside : Type 0
 AnyOrderKeepsPlayersInside =
     (arena : ArenaMap) (w : World) (commands : List Command) → IsMap arena → IsValidFor (is_player_inside arena.bounds) w
     → StaysValid (is_player_inside arena.bounds) w (world_behind (moves_among (fixed_of arena)) w commands)
+
+-- an output of a recording that tells the moves in the order of arrival
+pub record OutputInOrder (bytes : List ℕ) : Type 0 where
+  pub text : List ℕ
+  pub is : IsOutput bytes text
+  pub order : TellsInOrder bytes text
+
+-- each recording that can be written has one
+abbrev pub WrittenRecordingsHaveOutputs : Type 0
+WrittenRecordingsHaveOutputs = (arena : ArenaMap) (frames : List (List Arrival)) → IsRecording arena frames → OutputInOrder (recording_text arena frames)
 
 -- of a recording there is one output that tells the moves in the order of arrival
 abbrev pub OrderLeavesOneOutput : Type 0

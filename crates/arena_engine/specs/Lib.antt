@@ -2,11 +2,13 @@
 pub use Rattle.demo_lines.specs.Recording
 pub use Rattle.demo_lines.specs.Bytes
 pub use Rattle.demo_lines.specs.Readings
+pub use Rattle.demo_lines.specs.Spelling
 pub use Rattle.box_trace.specs.Walls
 pub use Rattle.player_move.specs.Moves
 pub use Rattle.move_journal.specs.Worlds
 pub use Rattle.move_journal.specs.Histories
 pub use Rattle.move_journal.specs.Merges
+pub use Rattle.move_journal.specs.Validity
 pub mod States
 pub mod Receiving
 pub mod Capacities

@@ -1,4 +1,4 @@
-ghost use Rattle.arena_engine.specs.Laws.{EachPacketIsAnswered, AcceptedNumbersAreApart, PortsStayApart, PlayersKeepRoom, PlayersStayInside, AnyOrderKeepsPlayersInside, OrderLeavesOneOutput};
+ghost use Rattle.arena_engine.specs.Laws.{EachPacketIsAnswered, AcceptedNumbersAreApart, PortsStayApart, PlayersKeepRoom, PlayersStayInside, AnyOrderKeepsPlayersInside, WrittenRecordingsHaveOutputs, OrderLeavesOneOutput};
 
 /// As many refusals, joins and accepted moves come of a frame as packets came.
 pub fn each_packet_is_answered()
@@ -29,6 +29,11 @@ pub fn players_stay_inside()
 /// thing goes out of its bounds.
 pub fn any_order_keeps_players_inside()
     ensures { AnyOrderKeepsPlayersInside }
+{}
+
+/// Each recording that can be written has an output that tells the moves in the order of arrival.
+pub fn written_recordings_have_outputs()
+    ensures { WrittenRecordingsHaveOutputs }
 {}
 
 /// Of a recording there is one output that tells the moves in the order of arrival.

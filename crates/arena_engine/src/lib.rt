@@ -12,6 +12,7 @@ use edge_io::{Sink, Source};
 pub use laws::{
     accepted_numbers_are_apart, any_order_keeps_players_inside, each_packet_is_answered,
     order_leaves_one_output, players_keep_room, players_stay_inside, ports_stay_apart,
+    written_recordings_have_outputs,
 };
 use play::play;
 pub use received::{Joined, Turned};
