@@ -45,76 +45,72 @@ impl Game {
         })
     }
 
-    /// Makes `text` the lines of the frame that is open, and closes it. Where none is open there are none.
-    fn close(&mut self, alloc: Global, text: &mut String) -> Result<(), AllocError>
+    /// Closes the frame that is open, and gives its lines. Where none is open there are none.
+    fn close(&mut self, alloc: Global) -> Result<String, AllocError>
         requires { IsReady self.old }
-        ensures lines { OnOk result (string_bytes text.new ≡ text_of (closing_lines self.old.table self.old.opened)) }
+        ensures lines { IfOk result (λ text. string_bytes text ≡ text_of (closing_lines self.old.table self.old.opened)) }
         ensures next { OnOk result (self.new ≡ game_closed self.old) }
     {
-        text.clear();
+        let mut text = String::new(alloc);
         if self.is_open {
             self.server
-                .run_frame(alloc, self.arrivals.as_slice(), text)?;
+                .run_frame(alloc, self.arrivals.as_slice(), &mut text)?;
             self.is_open = false;
         }
-        Ok(())
+        Ok(text)
     }
 
-    /// Makes `text` what the end of the recording closes: the lines of the frame that is open, and the last line.
-    fn finish(&mut self, alloc: Global, text: &mut String) -> Result<(), AllocError>
+    /// What the end of the recording closes: the lines of the frame that is open, and the last line.
+    fn finish(&mut self, alloc: Global) -> Result<String, AllocError>
         requires { IsReady self.old }
-        ensures lines { OnOk result (string_bytes text.new ≡ text_of (event_lines self.old Event.End)) }
+        ensures lines { IfOk result (λ text. string_bytes text ≡ text_of (event_lines self.old Event.End)) }
         ensures next { OnOk result (self.new ≡ game_after self.old Event.End) }
     {
-        self.close(alloc, text)?;
-        push_end(text, self.server.frames())
+        let mut text = self.close(alloc)?;
+        push_end(&mut text, self.server.frames())?;
+        Ok(text)
     }
 
-    /// Opens a frame. `text` becomes the lines of the one before it.
-    fn open(&mut self, alloc: Global, text: &mut String) -> Result<(), AllocError>
+    /// Opens a frame, and gives the lines of the one before it.
+    fn open(&mut self, alloc: Global) -> Result<String, AllocError>
         requires { IsReady self.old }
-        ensures lines { OnOk result (string_bytes text.new ≡ text_of (event_lines self.old Event.Frame)) }
+        ensures lines { IfOk result (λ text. string_bytes text ≡ text_of (event_lines self.old Event.Frame)) }
         ensures next { OnOk result (self.new ≡ game_after self.old Event.Frame) }
     {
-        self.close(alloc, text)?;
+        let text = self.close(alloc)?;
         self.arrivals.clear();
         self.is_open = true;
-        Ok(())
+        Ok(text)
     }
 
-    /// A packet of the frame that is open. `text` becomes empty.
-    fn push(&mut self, arrival: Arrival, text: &mut String) -> Result<(), AllocError>
-        ensures lines { OnOk result (string_bytes text.new ≡ []) }
+    /// Keeps a packet of the frame that is open. It closes nothing.
+    fn push(&mut self, arrival: Arrival) -> Result<(), AllocError>
         ensures next { OnOk result (self.new ≡ game_after self.old (Event.From arrival)) }
     {
-        text.clear();
         if self.is_open {
             self.arrivals.push(arrival)?;
         }
         Ok(())
     }
 
-    /// Makes `text` the lines that an event closes.
-    fn advance(&mut self, alloc: Global, event: Event, text: &mut String) -> Result<(), AllocError>
+    /// Goes on by an event, and gives the lines that it closes.
+    fn advance(&mut self, alloc: Global, event: Event) -> Result<String, AllocError>
         requires { IsReady self.old }
-        ensures lines { OnOk result (string_bytes text.new ≡ text_of (event_lines self.old event)) }
+        ensures lines { IfOk result (λ text. string_bytes text ≡ text_of (event_lines self.old event)) }
         ensures next { OnOk result (self.new ≡ game_after self.old event) }
     {
         match event {
-            Event::Frame => self.open(alloc, text),
-            Event::From(arrival) => self.push(arrival, text),
-            Event::End => self.finish(alloc, text),
+            Event::Frame => self.open(alloc),
+            Event::From(arrival) => {
+                self.push(arrival)?;
+                Ok(String::new(alloc))
+            }
+            Event::End => self.finish(alloc),
         }
     }
 
-    /// Takes an event, and writes the lines that it closes. `text` is for them.
-    pub fn take<K: Sink>(
-        &mut self,
-        alloc: Global,
-        event: Event,
-        text: &mut String,
-        sink: &mut K,
-    ) -> Result<(), Stop>
+    /// Takes an event, and writes the lines that it closes.
+    pub fn take<K: Sink>(&mut self, alloc: Global, event: Event, sink: &mut K) -> Result<(), Stop>
         requires { IsReady self.old }
 
         ensures next { OnOk result (self.new ≡ game_after self.old event) }
@@ -128,7 +124,7 @@ impl Game {
         ensures later { K.faults sink.old ≤ K.faults sink.new }
         ensures cause { IfErr result (λ stop. OnWriteFault stop (HasRisen (K.faults sink.old) (K.faults sink.new))) }
     {
-        self.advance(alloc, event, text)?;
+        let text = self.advance(alloc, event)?;
         write_whole(sink, text.as_bytes())?;
         Ok(())
     }

@@ -46,10 +46,9 @@ pub fn play<S: Source, K: Sink>(alloc: Global, source: &mut S, sink: &mut K) -> 
     let mut event = demo.next(source)?;
     let map = demo.map().unwrap().clone()?;
     let mut game = Game::new(alloc, map)?;
-    let mut text = String::new(alloc);
     'events: loop {
         let is_last = is_end(&event);
-        game.take(alloc, event, &mut text, sink)?;
+        game.take(alloc, event, sink)?;
         if is_last {
             return Ok(());
         }
