@@ -3,3 +3,4 @@ pub mod Founds
 pub mod Orders
 pub mod Uniques
 pub mod ValidWorlds
+pub mod WholeHistories

@@ -26,13 +26,13 @@ rest_in_order : (e : Entry) (journal : List Entry) (c : Command) (commands : Lis
 rest_in_order e journal c commands order = cc
 
 -- the first command with the number of the entry is the command that is found
-told_command : (moves : List Command) (e : Entry) (c : Command) → IsFound moves c → HasNumberOf e c → find (tells e) moves ≡ Some c
+pub told_command : (moves : List Command) (e : Entry) (c : Command) → IsFound moves c → HasNumberOf e c → find (tells e) moves ≡ Some c
 told_command moves e c found number =
     let by_slot = subst (λ (s : ℕ). find (λ d. (d.slot == s) && (d.seq == c.seq)) moves ≡ Some c) (sym number.slot) found.first in
     subst (λ (s : ℕ). find (λ d. (d.slot == e.slot) && (d.seq == s)) moves ≡ Some c) (sym number.seq) by_slot
 
 -- the history of a journal begins with the command that its first entry tells
-front_of_history : (moves : List Command) (e : Entry) (journal : List Entry) (c : Command) → find (tells e) moves ≡ Some c
+pub front_of_history : (moves : List Command) (e : Entry) (journal : List Entry) (c : Command) → find (tells e) moves ≡ Some c
     → history_of moves (e ∷ journal) ≡ record { command = c; entry = e } ∷ history_of moves journal
 front_of_history moves e journal c found = ap (λ (told : Option Command). with_command told e (history_of moves journal)) found
 

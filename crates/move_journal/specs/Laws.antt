@@ -8,7 +8,12 @@ use Rattle.move_journal.specs.Worlds.{World, world_of, IsValidWorld}
 use Rattle.move_journal.specs.Histories.{Action, world_behind}
 use Rattle.move_journal.specs.Validity.{IsValidFor, KeepsRecords, StaysValid}
 use Rattle.move_journal.specs.Lists.{AreNumbered}
-use Rattle.move_journal.specs.Merges.{IsRight, IsInOrder, HasNumbersApart, journal_in_order}
+use Rattle.move_journal.specs.Merges.{IsMerge, IsWholeHistory, IsRight, IsInOrder, HasNumbersApart, history_of, journal_in_order}
+
+-- the history of a journal that is a merge of the moves loses no entry and no move
+abbrev pub MergesHaveWholeHistories : Type 0
+MergesHaveWholeHistories =
+    (moves : List Command) (journal : List Entry) → HasNumbersApart moves → IsMerge journal moves → IsWholeHistory journal moves (history_of moves journal)
 
 -- a right journal that tells the moves in the order of arrival
 pub record IsRightInOrder (act : Action) (w : World) (moves : List Command) (journal : List Entry) : Type 0 where

@@ -1,6 +1,7 @@
 -- A journal against the moves that were received.
-use Rattle.std.specs.Prelude.{◌≡◌, ℕ, ◌==◌, Bool, ◌&&◌, List, [], ◌∷◌, map, filter, find, Option, Some, None}
+use Rattle.std.specs.Prelude.{◌≡◌, ℕ, ◌==◌, Bool, ◌&&◌, true, List, [], ◌∷◌, map, filter, find, All, Option, Some, None}
 use Rattle.std.specs.List.{IsDistinct}
+use Rattle.std.specs.List.Sorted.{IsPermutation}
 use Rattle.move_journal.specs.Commands.{Command}
 use Rattle.move_journal.specs.Entries.{Entry}
 use Rattle.move_journal.specs.Worlds.{World}
@@ -27,10 +28,17 @@ abbrev pub with_command : Option Command → Entry → List Item → List Item
 with_command None e items = items
 with_command (Some c) e items = record { command = c; entry = e } ∷ items
 
--- the history of a journal: each entry with the move that it tells
+-- the history of a journal: each entry with the move that it tells; of a merge of moves with their numbers apart it is whole
 abbrev pub history_of : List Command → List Entry → List Item
 history_of moves [] = []
 history_of moves (e ∷ journal) = with_command (find (tells e) moves) e (history_of moves journal)
+
+-- a history that tells a whole journal of these moves: its entries are the journal's, each tells its command, and its commands are the moves, each once and each player's in the order sent
+pub record IsWholeHistory (journal : List Entry) (moves : List Command) (history : List Item) : Type 0 where
+  pub entries : map (λ item. item.entry) history ≡ journal
+  pub told : All (λ item. tells item.entry item.command ≡ true) history
+  pub sent : (slot : ℕ) → filter (λ c. c.slot == slot) (map (λ item. item.command) history) ≡ filter (λ c. c.slot == slot) moves
+  pub each_once : IsPermutation (map (λ item. item.command) history) moves
 
 -- a right journal of moves in a world: it is a merge of the players' moves, and legal
 pub record IsRight (act : Action) (w : World) (moves : List Command) (journal : List Entry) : Type 0 where

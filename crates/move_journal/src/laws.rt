@@ -1,4 +1,11 @@
-ghost use Rattle.move_journal.specs.Laws.{MovesInOrderAreRight, OrderLeavesOneJournal, MovesKeepWorldsValid, NumberedRecordsAreAValidWorld};
+ghost use Rattle.move_journal.specs.Laws.{MergesHaveWholeHistories, MovesInOrderAreRight, OrderLeavesOneJournal, MovesKeepWorldsValid, NumberedRecordsAreAValidWorld};
+
+/// The history of a journal that is a merge of the players' moves is whole, where no player sent one number twice: each
+/// entry of the journal stands in it once, with the one move that it tells, and each move once, each player's in the
+/// order sent.
+pub fn merges_have_whole_histories()
+    ensures { MergesHaveWholeHistories }
+{}
 
 /// Moves that run in the order of arrival have a right journal, and it tells them in that order, where no player sent
 /// one number twice.

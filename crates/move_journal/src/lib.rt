@@ -3,8 +3,8 @@
 
 pub use entry::Entry;
 pub use laws::{
-    moves_in_order_are_right, moves_keep_worlds_valid, numbered_records_are_a_valid_world,
-    order_leaves_one_journal,
+    merges_have_whole_histories, moves_in_order_are_right, moves_keep_worlds_valid,
+    numbered_records_are_a_valid_world, order_leaves_one_journal,
 };
 
 mod entry;
