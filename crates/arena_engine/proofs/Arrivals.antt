@@ -1,7 +1,7 @@
 -- The packets that a recording tells have bytes.
 use Rattle.std.proofs.Common.{ℕ, ◌^◌, ◌<◌, ◌%◌, ◌==◌, Bool, true, false, ◌||◌, cond, nat_le, List, [], ◌∷◌, ◌++◌, length, codes, bytes_eq, Option, Some, None, Result, Ok, Err, IfSome, option_map, ◌≡◌, refl, subst}
 use Rattle.std.specs.Bool.{⊤}
-use Rattle.std.specs.List.{All, AllByRecursion}
+use Rattle.std.specs.List.{AllByRecursion}
 use Rattle.std.specs.Result.{result_ok}
 use Rattle.std.proofs.lemmas.List.Elements.{All-nil, All-from_get_or}
 use Rattle.hex.specs.declared.error.FromHexError.{FromHexError}

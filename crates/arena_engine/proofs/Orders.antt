@@ -16,8 +16,6 @@ use Rattle.move_journal.specs.Commands.{Command}
 use Rattle.move_journal.specs.Worlds.{World, others_of}
 use Rattle.move_journal.specs.Histories.{outcome}
 use Rattle.move_journal.specs.Validity.{IsValidFor, IsKept, KeepsRecords}
-use Rattle.demo_lines.specs.declared.map.ArenaMap.{ArenaMap}
-use Rattle.demo_lines.specs.Readings.{IsMap}
 use Rattle.move_journal.proofs.ValidWorlds.{at_each_id, valid_behind}
 use Rattle.arena_engine.specs.Outcomes.{moves_among, asked, fixed_of}
 use Rattle.arena_engine.specs.Laws.{is_player, is_player_inside, AnyOrderKeepsPlayersInside}
