@@ -1,16 +1,36 @@
 use super::*;
 use std::io;
-use std::io::{Cursor, ErrorKind, Read};
+use std::io::{Cursor, ErrorKind, Read, Write};
 use std::process::Abort;
 use std::test::Fail;
 
-/// A reader whose every read is interrupted.
+/// A reader and a writer whose first call is interrupted. Then nothing is left to read, and each write is taken.
 #[derive(Drop)]
-struct Interrupted;
+struct InterruptedOnce {
+    was_called: bool,
+}
 
-impl Read for Interrupted {
+impl Read for InterruptedOnce {
     fn read(&mut self, _buf: &mut [u8]) -> io::Result<usize> {
+        if self.was_called {
+            return Ok(0);
+        }
+        self.was_called = true;
         Err(io::Error::from(ErrorKind::Interrupted))
+    }
+}
+
+impl Write for InterruptedOnce {
+    fn write(&mut self, piece: &[u8]) -> io::Result<usize> {
+        if self.was_called {
+            return Ok(piece.len());
+        }
+        self.was_called = true;
+        Err(io::Error::from(ErrorKind::Interrupted))
+    }
+
+    fn flush(&mut self) -> io::Result<()> {
+        Ok(())
     }
 }
 
@@ -127,9 +147,17 @@ fn readers_and_writers_of_std_serve(rt: HostRuntime) {
         assert_eq!(rt; answer, Ok(count));
         assert_eq!(rt; buf, *bytes);
     }
-    let mut broken = StdSource::new(Interrupted);
-    let answer = broken.read(&mut buf);
-    assert_eq!(rt; answer, Err(Failed));
+    // A call that failed isn't tried again.
+    let mut once = StdSource::new(InterruptedOnce { was_called: false });
+    for want in [Err(Failed), Ok(0)] {
+        let answer = once.read(&mut buf);
+        assert_eq!(rt; answer, want);
+    }
+    let mut once = StdSink::new(InterruptedOnce { was_called: false });
+    for want in [Err(Failed), Ok(())] {
+        let whole = write_whole(&mut once, b"abcd");
+        assert_eq!(rt; whole, want);
+    }
 
     // The cursor takes nothing once its slice is full, which is a fault.
     let mut room = [0; 4];
