@@ -3,7 +3,7 @@ use Rattle.std.proofs.Common.{◌≡◌, ℕ, ◌≤◌, Bool, true, false, ◌�
 use Rattle.arena_geo.specs.declared.vec3.Vec3.{Vec3}
 use Rattle.arena_geo.specs.Vectors.{IsNear}
 use Rattle.arena_geo.specs.Bounds.{Bounds}
-use Rattle.speed_rules.specs.Rules.{cut, clamped, unclamped}
+use Rattle.speed_rules.specs.Rules.{clamped, unclamped}
 use Rattle.slide_move.specs.Changes.{KeepsOrStops}
 use Rattle.slide_move.proofs.Slides.{vel_kept}
 use Rattle.player_move.specs.declared.walk.Walked.{Walked}
