@@ -15,7 +15,7 @@ pub fn ports_stay_apart()
     ensures { PortsStayApart }
 {}
 
-/// No player ever stands in a wall or in another player.
+/// No player ever stands in a wall, in a block or in another player.
 pub fn players_keep_room()
     ensures { PlayersKeepRoom }
 {}

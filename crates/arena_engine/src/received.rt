@@ -7,12 +7,14 @@ use std::alloc::{AllocError, Global};
 pub struct Turned {
     /// Its place in the frame, from 0.
     pub place: u32,
+    /// The first reason that holds.
     pub why: Refusal,
 }
 
 /// A player that came in.
 #[derive(Clone, Copy, Debug, PartialEq, Eq)]
 pub struct Joined {
+    /// The port that it sends from.
     pub port: u16,
     /// The slot that it was given, 0 to 63.
     pub slot: u8,
@@ -21,7 +23,9 @@ pub struct Joined {
 /// What the packets of a frame came to.
 #[derive(Drop)]
 pub struct Received {
+    /// The refused packets, in the order of arrival.
     pub refused: Vec<Turned>,
+    /// The players that came in, in the order of arrival.
     pub joined: Vec<Joined>,
     /// The accepted moves, in the order of arrival.
     pub moves: Vec<Cmd>,

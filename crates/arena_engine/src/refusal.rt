@@ -16,7 +16,7 @@ pub enum Refusal {
     /// A join: all slots are live.
     #[error("all slots are live")]
     Full,
-    /// A join: at the spawn a player's body would overlap a wall or another player's body.
+    /// A join: at the spawn a player's body would overlap a wall, a block or another player's body.
     #[error("there is no room to come in")]
     Crowded,
     /// A move: no player of this port is there.

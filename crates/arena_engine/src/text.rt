@@ -18,7 +18,7 @@ use move_journal::Entry;
 use std::alloc::{AllocError, Global};
 
 /// Puts the line that opens a frame at the end.
-pub fn push_frame(text: &mut String, frame: u32) -> Result<(), AllocError>
+fn push_frame(text: &mut String, frame: u32) -> Result<(), AllocError>
     ensures ok { OnOk result (string_bytes text.new ≡ string_bytes text.old ++ printed (FrameLine frame)) }
 {
     writeln!(text, "frame {frame}")
@@ -68,7 +68,7 @@ fn push_to(alloc: Global, text: &mut String, slot: u16, bytes: &[u8]) -> Result<
 }
 
 /// Puts the lines of the refused packets at the end.
-pub fn push_refusals(text: &mut String, refused: &[Turned]) -> Result<(), AllocError>
+fn push_refusals(text: &mut String, refused: &[Turned]) -> Result<(), AllocError>
     ensures ok { OnOk result (string_bytes text.new ≡ string_bytes text.old ++ text_of (map no_line refused.now)) }
 {
     for turned in refused {
@@ -78,7 +78,7 @@ pub fn push_refusals(text: &mut String, refused: &[Turned]) -> Result<(), AllocE
 }
 
 /// Puts the lines of the players that came in at the end.
-pub fn push_joins(text: &mut String, joined: &[Joined]) -> Result<(), AllocError>
+fn push_joins(text: &mut String, joined: &[Joined]) -> Result<(), AllocError>
     ensures ok { OnOk result (string_bytes text.new ≡ string_bytes text.old ++ text_of (map joined_line joined.now)) }
 {
     for j in joined {
@@ -88,7 +88,7 @@ pub fn push_joins(text: &mut String, joined: &[Joined]) -> Result<(), AllocError
 }
 
 /// Puts the lines of the journal at the end.
-pub fn push_dids(text: &mut String, journal: &[Entry]) -> Result<(), AllocError>
+fn push_dids(text: &mut String, journal: &[Entry]) -> Result<(), AllocError>
     ensures ok { OnOk result (string_bytes text.new
         ≡ string_bytes text.old ++ text_of (map did_line (map told journal.now))) }
 {

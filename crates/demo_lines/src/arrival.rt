@@ -78,6 +78,8 @@ impl ArrivalBytes {
 /// A packet as it reached the server: the port that sent it, and its bytes.
 #[derive(Drop)]
 pub struct Arrival {
+    /// The port that sent it.
     pub port: u16,
+    /// Its bytes, whether they are a packet or not.
     pub bytes: ArrivalBytes,
 }

@@ -55,7 +55,7 @@ impl<W: Write> Sink for StdSink<W> {
         // The writer took what is answered, where the writer tells its bytes.
         ensures passed { WriteAppends (W.contents self.old.inner) (W.contents self.new.inner) result piece.now }
 
-        // Each error, and each write of nothing, is counted, and nothing else is.
+        // Each `Failed` is counted, once, and nothing else is.
         ensures uncounted { OnOk result (self.new.errors ≡ self.old.errors) }
         ensures counted { OnErr result (self.new.errors ≡ one_more self.old.errors) }
     {

@@ -53,7 +53,7 @@ impl<R: Read> Source for StdSource<R> {
         // What the reader gave is passed on, where the reader tells its bytes.
         ensures passed { ReadConsumes (R.remaining self.old.inner) (R.remaining self.new.inner) result buf.new }
 
-        // Each error is counted, and nothing else is.
+        // Each `Failed` is counted, once, and nothing else is.
         ensures uncounted { OnOk result (self.new.errors ≡ self.old.errors) }
         ensures counted { OnErr result (self.new.errors ≡ one_more self.old.errors) }
     {
