@@ -4,3 +4,4 @@ pub mod Parts
 pub mod Nodes
 pub mod WaysDown
 pub mod WaysUp
+pub mod Sides

@@ -19,7 +19,7 @@ pub record IsHalf (z half : ℤ) : Type 0 where
   pub low : (half +ℤ half) ≤ℤ z
   pub high : z ≤ℤ (half +ℤ half +ℤ pos 1)
 
-half_is : (z : ℤ) → IsHalf z (int_div_euclid z (pos 2))
+pub half_is : (z : ℤ) → IsHalf z (int_div_euclid z (pos 2))
 half_is (pos n) = record { low = omega (arith, ints); high = omega (arith, ints) }
 half_is (negsuc n) = record { low = omega (arith, ints); high = omega (arith, ints) }
 
@@ -29,17 +29,20 @@ between_from_half lo hi half ordered is = record { low = omega (arith, ints, is.
 halfway_is_between : (lo hi : ℤ) → lo ≤ℤ hi → IsBetween lo hi (halfway lo hi)
 halfway_is_between lo hi ordered = between_from_half lo hi _ ordered (half_is (lo +ℤ hi))
 
-ordered_on : (axis : Axis) (b : Bounds) → IsOrdered b → low_on axis b ≤ℤ high_on axis b
+pub ordered_on : (axis : Axis) (b : Bounds) → IsOrdered b → low_on axis b ≤ℤ high_on axis b
 ordered_on X b ordered = ordered.x
 ordered_on Y b ordered = ordered.y
 
-cut_is_between : (area : Bounds) → IsOrdered area → IsBetween (low_on (cut_of area).axis area) (high_on (cut_of area).axis area) (cut_of area).dist
+cut_is_between : (area : Bounds) → IsOrdered area
+    → IsBetween (low_on (cut_of area).axis area) (high_on (cut_of area).axis area) (cut_of area).dist
 cut_is_between area ordered = halfway_is_between _ _ (ordered_on (axis_of area) area ordered)
 
-near_between : (lo hi z : ℤ) → IsBetween lo hi z → unsigned_abs lo ≤ 2097152 → unsigned_abs hi ≤ 2097152 → unsigned_abs z ≤ 2097152
+near_between : (lo hi z : ℤ) → IsBetween lo hi z → unsigned_abs lo ≤ 2097152 → unsigned_abs hi ≤ 2097152
+    → unsigned_abs z ≤ 2097152
 near_between lo hi z between low high = omega (arith, ints, between.low, between.high)
 
-raised_is_box : (axis : Axis) (z : ℤ) (area : Bounds) → IsBox area → IsBetween (low_on axis area) (high_on axis area) z → IsBox (bounds (set_on axis z area.lo) area.hi)
+raised_is_box : (axis : Axis) (z : ℤ) (area : Bounds) → IsBox area → IsBetween (low_on axis area) (high_on axis area) z
+    → IsBox (bounds (set_on axis z area.lo) area.hi)
 raised_is_box X z area box between = record {
   ordered = record { x = between.high; y = box.ordered.y; z = box.ordered.z };
   in_range = record { lo = record { x = near_between _ _ z between box.in_range.lo.x box.in_range.hi.x; y = box.in_range.lo.y; z = box.in_range.lo.z }; hi = box.in_range.hi };
@@ -49,7 +52,8 @@ raised_is_box Y z area box between = record {
   in_range = record { lo = record { x = box.in_range.lo.x; y = near_between _ _ z between box.in_range.lo.y box.in_range.hi.y; z = box.in_range.lo.z }; hi = box.in_range.hi };
 }
 
-lowered_is_box : (axis : Axis) (z : ℤ) (area : Bounds) → IsBox area → IsBetween (low_on axis area) (high_on axis area) z → IsBox (bounds area.lo (set_on axis z area.hi))
+lowered_is_box : (axis : Axis) (z : ℤ) (area : Bounds) → IsBox area → IsBetween (low_on axis area) (high_on axis area) z
+    → IsBox (bounds area.lo (set_on axis z area.hi))
 lowered_is_box X z area box between = record {
   ordered = record { x = between.low; y = box.ordered.y; z = box.ordered.z };
   in_range = record { lo = box.in_range.lo; hi = record { x = near_between _ _ z between box.in_range.lo.x box.in_range.hi.x; y = box.in_range.hi.y; z = box.in_range.hi.z } };
@@ -66,7 +70,8 @@ pub part_below_is_box : (area : Bounds) → IsBox area → IsBox (part_below are
 part_below_is_box area box = lowered_is_box _ _ area box (cut_is_between area box.ordered)
 
 -- a box out of the corners of a box is there
-pub made : (r : Option Bounds) (lo hi : Vec3) (b : Bounds) → lo ≡ b.lo → hi ≡ b.hi → IsBox b → SomeIff r (IsBox (bounds lo hi)) (bounds lo hi) → r ≡ Some b
+pub made : (r : Option Bounds) (lo hi : Vec3) (b : Bounds) → lo ≡ b.lo → hi ≡ b.hi → IsBox b
+    → SomeIff r (IsBox (bounds lo hi)) (bounds lo hi) → r ≡ Some b
 made None lo hi b e f box none = absurd (none (rw (e, f) box))
 made (Some x) lo hi b e f box some = ap Some (rw (e, f) at some.1)
 
@@ -74,5 +79,6 @@ pub is_there : (r : Option Bounds) (b : Bounds) → r ≡ Some b → IsSome r
 is_there r b e = rw e
 
 -- what the code set at the cut is what is set there
-pub set_at : (r corner lo : Vec3) (cut at : Cut) → FitsSigned w32 cut.dist → r ≡ set_on cut.axis (to_z w32 (of_z w32 cut.dist)) corner → cut ≡ at → corner ≡ lo → r ≡ set_on at.axis at.dist lo
+pub set_at : (r corner lo : Vec3) (cut at : Cut) → FitsSigned w32 cut.dist
+    → r ≡ set_on cut.axis (to_z w32 (of_z w32 cut.dist)) corner → cut ≡ at → corner ≡ lo → r ≡ set_on at.axis at.dist lo
 set_at r corner lo cut at fits h e f = h ∙ rw (to_z-of_z w32 cut.dist fits, e, f) refl

@@ -25,7 +25,8 @@ pub climb_start : (node : ℕ) → node ≡ climb 0 node
 unfolding climb
 climb_start node = refl
 
-pub climb_more : (steps start node before : ℕ) → node ≡ climb steps start → before ≡ node - 1 → before / 2 ≡ climb (steps + 1) start
+pub climb_more : (steps start node before : ℕ) → node ≡ climb steps start → before ≡ node - 1
+    → before / 2 ≡ climb (steps + 1) start
 unfolding climb
 climb_more steps start node before e f = rw (f, e, add-one steps) refl
 
@@ -33,11 +34,14 @@ only_itself : (start node : ℕ) → (start == node) ≡ any_below (0 + 1) (λ s
 unfolding any_below climb
 only_itself start node = or_with_false (start == node)
 
-pub path_start : (start : ℕ) → start < 31 → 1 * 2 ^ start % 4294967296 ≡ word_of 31 (λ node. any_below (0 + 1) (λ steps. climb steps start == node))
+pub path_start : (start : ℕ) → start < 31
+    → 1 * 2 ^ start % 4294967296 ≡ word_of 31 (λ node. any_below (0 + 1) (λ steps. climb steps start == node))
 path_start start below =
     one_shl start 32 (omega arith) ∙ word_of-one 31 start below ∙ word_of-same 31 _ _ (λ node _. only_itself start node)
 
-pub path_more : (steps start path node : ℕ) → node < 31 → path ≡ word_of 31 (λ other. any_below (steps + 1) (λ s. climb s start == other)) → node ≡ climb (steps + 1) start → bit_or path (1 * 2 ^ node % 4294967296) ≡ word_of 31 (λ other. any_below (steps + 1 + 1) (λ s. climb s start == other))
+pub path_more : (steps start path node : ℕ) → node < 31
+    → path ≡ word_of 31 (λ other. any_below (steps + 1) (λ s. climb s start == other)) → node ≡ climb (steps + 1) start
+    → bit_or path (1 * 2 ^ node % 4294967296) ≡ word_of 31 (λ other. any_below (steps + 1 + 1) (λ s. climb s start == other))
 path_more steps start path node below e f =
     rw (e, one_shl node 32 (omega arith), word_of-one 31 node below) (word_of-or 31 _ _ ∙ word_of-same 31 _ _ (λ other _. rw f (any_below_more (steps + 1) (λ s. climb s start == other))))
 
@@ -45,21 +49,28 @@ pub visited_start : (test : ℕ → ℕ → Bool) → 0 ≡ word_of 31 (λ node.
 unfolding any_below
 visited_start test = sym (word_of-none 31)
 
-more_at : (leaves leaf node : ℕ) → has_bit leaves leaf ≡ true → (any_below leaf (λ k. has_bit leaves k && is_over 4 node (15 + k)) || is_over 4 node (15 + leaf)) ≡ any_below (leaf + 1) (λ k. has_bit leaves k && is_over 4 node (15 + k))
+more_at : (leaves leaf node : ℕ) → has_bit leaves leaf ≡ true
+    → (any_below leaf (λ k. has_bit leaves k && is_over 4 node (15 + k)) || is_over 4 node (15 + leaf)) ≡ any_below (leaf + 1) (λ k. has_bit leaves k && is_over 4 node (15 + k))
 more_at leaves leaf node is =
     let more = any_below_more leaf (λ k. has_bit leaves k && is_over 4 node (15 + k)) in
     rw is at more
 
-same_at : (leaves leaf node : ℕ) → has_bit leaves leaf ≡ false → any_below leaf (λ k. has_bit leaves k && is_over 4 node (15 + k)) ≡ any_below (leaf + 1) (λ k. has_bit leaves k && is_over 4 node (15 + k))
+same_at : (leaves leaf node : ℕ) → has_bit leaves leaf ≡ false
+    → any_below leaf (λ k. has_bit leaves k && is_over 4 node (15 + k)) ≡ any_below (leaf + 1) (λ k. has_bit leaves k && is_over 4 node (15 + k))
 same_at leaves leaf node is =
     let more = any_below_more leaf (λ k. has_bit leaves k && is_over 4 node (15 + k)) in
     or_with_false _ ∙ rw is at more
 
-pub visited_more : (leaves leaf nodes path : ℕ) → has_bit leaves leaf ≡ true → nodes ≡ word_of 31 (λ node. any_below leaf (λ k. has_bit leaves k && is_over 4 node (15 + k))) → path ≡ word_of 31 (λ node. is_over 4 node (15 + leaf)) → bit_or nodes path ≡ word_of 31 (λ node. any_below (leaf + 1) (λ k. has_bit leaves k && is_over 4 node (15 + k)))
+pub visited_more : (leaves leaf nodes path : ℕ) → has_bit leaves leaf ≡ true
+    → nodes ≡ word_of 31 (λ node. any_below leaf (λ k. has_bit leaves k && is_over 4 node (15 + k)))
+    → path ≡ word_of 31 (λ node. is_over 4 node (15 + leaf))
+    → bit_or nodes path ≡ word_of 31 (λ node. any_below (leaf + 1) (λ k. has_bit leaves k && is_over 4 node (15 + k)))
 visited_more leaves leaf nodes path is e f =
     rw (e, f) (word_of-or 31 _ _ ∙ word_of-same 31 _ _ (λ node _. more_at leaves leaf node is))
 
-pub visited_same : (leaves leaf nodes : ℕ) → has_bit leaves leaf ≡ false → nodes ≡ word_of 31 (λ node. any_below leaf (λ k. has_bit leaves k && is_over 4 node (15 + k))) → nodes ≡ word_of 31 (λ node. any_below (leaf + 1) (λ k. has_bit leaves k && is_over 4 node (15 + k)))
+pub visited_same : (leaves leaf nodes : ℕ) → has_bit leaves leaf ≡ false
+    → nodes ≡ word_of 31 (λ node. any_below leaf (λ k. has_bit leaves k && is_over 4 node (15 + k)))
+    → nodes ≡ word_of 31 (λ node. any_below (leaf + 1) (λ k. has_bit leaves k && is_over 4 node (15 + k)))
 visited_same leaves leaf nodes is e = e ∙ word_of-same 31 _ _ (λ node _. same_at leaves leaf node is)
 
 -- the code's test of a bit

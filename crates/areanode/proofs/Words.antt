@@ -1,4 +1,4 @@
--- Words and the sets that they stand for.
+-- Words and their sets.
 use Rattle.std.proofs.Common.{◌≡◌, ℕ, zero, suc, ◌+◌, ◌-◌, ◌*◌, ◌%◌, ◌^◌, ◌<◌, ◌==◌, Bool, true, false, ◌&&◌, ◌||◌, if◌then◌else◌, ◌⊎◌, inl, inr, bit_or, max, refl, ap, sym, ◌∙◌, arith}
 use Rattle.std.specs.Int.{bit_at}
 use Rattle.std.proofs.Math.Nat.{pow-suc}
@@ -73,7 +73,8 @@ pub word_has_its_bits : WordHasItsBits
 word_has_its_bits n test i below = has_bit-bit _ (test i) (bit_at-word_of n test i below)
 
 -- a word of n bits that has the bits of the tests
-pub same_word : (n w : ℕ) (test : ℕ → Bool) → w < 2 ^ n → ((i : ℕ) → i < n → bit_at w i ≡ bit (test i)) → w ≡ word_of n test
+pub same_word : (n w : ℕ) (test : ℕ → Bool) → w < 2 ^ n → ((i : ℕ) → i < n → bit_at w i ≡ bit (test i))
+    → w ≡ word_of n test
 same_word n w test below bits =
     same_from_bits_below n w (word_of n test) below (word_of-below n test) (λ i h. bits i h ∙ sym (bit_at-word_of n test i h))
 

@@ -7,4 +7,5 @@ pub mod Cuts
 pub mod Trees
 pub mod Areas
 pub mod Rebuilt
+pub mod Sides
 pub mod Laws

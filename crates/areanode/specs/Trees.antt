@@ -6,7 +6,7 @@ use Rattle.areanode.specs.Words.{any_below, word_of, has_bit}
 use Rattle.areanode.specs.Cuts.{cut_of, part_above, part_below, is_above, is_below, reaches_above, reaches_below}
 
 -- the tree that cuts these bounds in two, and each part again, down to this depth
-pub record AreaTree : Type 0 where
+pub record TreeView : Type 0 where
   pub depth : ℕ
   pub bounds : Bounds
 
@@ -26,7 +26,7 @@ parent node = (node - 1) / 2
 abbrev pub leaf_node : ℕ → ℕ → ℕ
 leaf_node depth leaf = 2 ^ depth - 1 + leaf
 
--- from a node with this many levels below it: the first node of which the box lies on no side, or the leaf
+-- from a node with this many levels below it: the first node whose cut the box meets, or the leaf
 unfoldable pub node_from : ℕ → ℕ → Bounds → Bounds → ℕ
 node_from zero node area b = node
 node_from (suc levels) node area b =
@@ -41,33 +41,34 @@ reaches (suc levels) node area b end =
     || (reaches_below b (cut_of area) && reaches levels (child_below node) (part_below area) b end)
 
 -- the node at which a box is linked
-abbrev pub node_of : AreaTree → Bounds → ℕ
+abbrev pub node_of : TreeView → Bounds → ℕ
 node_of tree b = node_from tree.depth 0 tree.bounds b
 
 -- the leaf is one of the box's
-abbrev pub has_leaf : AreaTree → Bounds → ℕ → Bool
+abbrev pub has_leaf : TreeView → Bounds → ℕ → Bool
 has_leaf tree b leaf = reaches tree.depth 0 tree.bounds b (leaf_node tree.depth leaf)
 
 -- the leaf is one of some box of the region
-abbrev pub region_has_leaf : AreaTree → List Bounds → ℕ → Bool
+abbrev pub region_has_leaf : TreeView → List Bounds → ℕ → Bool
 region_has_leaf tree region leaf = list_any (λ one. has_leaf tree one leaf) region
 
 -- the leaves of a region, bit i for leaf i
-abbrev pub leaves_of : AreaTree → List Bounds → ℕ
+abbrev pub leaves_of : TreeView → List Bounds → ℕ
 leaves_of tree region = word_of (2 ^ tree.depth) (region_has_leaf tree region)
 
--- the node that is this many steps up, where the root is above itself
+-- the node this many levels up, where the root is above itself
 unfoldable pub climb : ℕ → ℕ → ℕ
 climb zero node = node
-climb (suc steps) node = parent (climb steps node)
+climb (suc levels) node = parent (climb levels node)
 
--- at most this many steps up from the second node stands the first: they are one, or it is an ancestor
+-- the first node is the second or, at most this many levels up, one of its ancestors
 abbrev pub is_over : ℕ → ℕ → ℕ → Bool
-is_over depth node other = any_below (depth + 1) (λ steps. climb steps other == node)
+is_over depth node other = any_below (depth + 1) (λ levels. climb levels other == node)
 
 -- the node is over some leaf of these
 abbrev pub is_visited : ℕ → ℕ → ℕ → Bool
-is_visited depth leaves node = any_below (2 ^ depth) (λ leaf. has_bit leaves leaf && is_over depth node (leaf_node depth leaf))
+is_visited depth leaves node =
+    any_below (2 ^ depth) (λ leaf. has_bit leaves leaf && is_over depth node (leaf_node depth leaf))
 
 -- the nodes of these leaves and all their ancestors, bit i for node i
 abbrev pub visited_of : ℕ → ℕ → ℕ

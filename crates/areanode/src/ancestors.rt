@@ -18,8 +18,8 @@ fn path_to(start: usize) -> u32
     path
 }
 
-/// The nodes of these leaves and all their ancestors, bit i for node i. A box that touches a region with these leaves is
-/// linked at one of them.
+/// The nodes of these leaves and all their ancestors, bit i for node i. A box that touches a region with these leaves
+/// is linked at one of them.
 pub fn visited(leaves: u16) -> u32
     ensures { result ≡ visited_of DEPTH leaves }
 {

@@ -1,4 +1,28 @@
-ghost use Rattle.areanode.specs.Laws.{NodeIsOverLeaves, TouchingBoxesShareALeaf, TouchedNodeIsVisited, BoxHasALeaf, TouchedLeafIsListed, InsideAndTouchedShareALeaf, LeavesAreInRange, NodeIsInRange, LeafOverLeaf, WordHasItsBits, WordFits};
+ghost use Rattle.areanode.specs.Laws.{AreasAreCutInHalf, BoxGoesToItsSide, NodeIsOnItsSide, LeavesAreOnItsSide};
+ghost use Rattle.areanode.specs.Laws.{NodeIsOverLeaves, TouchingBoxesShareALeaf, TouchedNodeIsVisited, BoxHasALeaf};
+ghost use Rattle.areanode.specs.Laws.{TouchedLeafIsListed, InsideAndTouchedShareALeaf, LeavesAreInRange, NodeIsInRange};
+ghost use Rattle.areanode.specs.Laws.{LeafOverLeaf, WordHasItsBits, WordFits};
+
+/// An area is cut halfway on the longer of the axes x and y: there the part above is at most 1 longer than the one
+/// below.
+pub fn areas_are_cut_in_half()
+    ensures { AreasAreCutInHalf }
+{}
+
+/// At each inner node of its way a box goes on to the child on its side of the cut, and stays where it meets the cut.
+pub fn box_goes_to_its_side()
+    ensures { BoxGoesToItsSide }
+{}
+
+/// The node of a box is in the part on its side of the root's cut, and is the root where the box meets that cut.
+pub fn node_is_on_its_side()
+    ensures { NodeIsOnItsSide }
+{}
+
+/// The leaves of a box are all on its side of the root's cut, and on both where it meets that cut.
+pub fn leaves_are_on_its_side()
+    ensures { LeavesAreOnItsSide }
+{}
 
 /// The node of a box is an ancestor of, or equal to, the node of each of the box's leaves.
 pub fn node_is_over_leaves()

@@ -30,12 +30,12 @@ pub struct Tree {
 }
 
 impl Model for Tree {
-    ghost use Rattle.areanode.specs.Trees.{AreaTree};
+    ghost use Rattle.areanode.specs.Trees.{TreeView};
     ghost use Rattle.areanode.specs.Areas.{area_at, areas_of, AreCut};
     ghost use Rattle.areanode.specs.Rebuilt.{areas_of-is};
     ghost use Rattle.std.proofs.Common.{ap};
 
-    ghost Value = { AreaTree };
+    ghost Value = { TreeView };
 
     ghost view = { λ t. record { depth = 4; bounds = area_at t.areas 0 } };
 
@@ -46,7 +46,7 @@ impl Model for Tree {
     ghost inverse_ok = { λ t cut. ap (λ areas. record { areas = areas }) (areas_of-is t.areas cut) };
 }
 
-/// From a node with `levels` levels below it: the first node of whose cut the box lies on neither side, or the leaf.
+/// From a node with `levels` levels below it: the first node whose cut the box meets, or the leaf.
 fn node_from(areas: &[Aabb; NODES], node: usize, levels: u8, b: &Aabb) -> usize
     requires cut { AreCut areas.now }
     requires level { IsAtLevel levels node }
@@ -89,8 +89,8 @@ fn leaves_from(areas: &[Aabb; NODES], node: usize, levels: u8, b: &Aabb) -> u16
 }
 
 impl Tree {
-    /// The tree of depth [`DEPTH`] over these bounds, as Quake's `SV_CreateAreaNode`: an inner node is cut halfway on the
-    /// longer of the axes x and y, on y where neither is longer, rounded toward minus infinity.
+    /// The tree of depth [`DEPTH`] over these bounds, as Quake's `SV_CreateAreaNode`: an inner node is cut halfway on
+    /// the longer of the axes x and y, on y where neither is longer, rounded toward minus infinity.
     pub fn new(bounds: &Aabb) -> Tree
         ensures { result ≡ record { depth = DEPTH; bounds = bounds.now } }
     {
@@ -113,8 +113,8 @@ impl Tree {
         node_from(&self.areas, 0, DEPTH, abs) as u8
     }
 
-    /// The leaves of a region's boxes, bit i for leaf i: down from the root to each side of the cut on which a box has a
-    /// point, the cut counted on both. Boxes beyond the arena have leaves too.
+    /// The leaves of a region's boxes, bit i for leaf i: down from the root to each side of the cut on which a box has
+    /// a point, the cut counted on both. Boxes beyond the arena have leaves too.
     pub fn leaves_of(&self, r: &Region) -> u16
         ensures leaves { result ≡ trees.leaves_of self.now r.now }
         ensures region { IsRegion r.now }
@@ -125,242 +125,5 @@ impl Tree {
             leaves |= leaves_from(&self.areas, 0, DEPTH, b);
         }
         leaves
-    }
-}
-
-#[cfg(test)]
-mod tests {
-    use super::*;
-    use crate::ancestors::visited;
-    use arena_geo::Vec3;
-    use std::test::Fail;
-
-    /// The arena of the rows.
-    const ARENA: [i32; 6] = [-131_072, -131_072, 0, 131_072, 131_072, 65_536];
-
-    fn box_of(corners: [i32; 6]) -> Option<Aabb> {
-        let [x, y, z, to_x, to_y, to_z] = corners;
-        let hi = Vec3 {
-            x: to_x,
-            y: to_y,
-            z: to_z,
-        };
-        Aabb::new(Vec3 { x, y, z }, hi)
-    }
-
-    #[test]
-    fn boxes_are_linked_where_they_touch_no_deeper_cut(rt: HostRuntime) -> Result<(), Fail> {
-        let tree = Tree::new(&box_of(ARENA).ok_or("a box")?);
-        // the absolute boxes of players at (0, -4352, 6144), which ends on the root's cut, and at (0, -4353, 6144)
-        for (corners, node) in [
-            ([-4_352, -8_704, -256, 4_352, 0, 14_592], 0),
-            ([-4_352, -8_705, -256, 4_352, -1, 14_592], 2),
-        ] {
-            let b = box_of(corners).ok_or("a box")?;
-            assert_eq!(rt; tree.node_of(&b), node, "{corners:?}");
-        }
-        // the region of a player at rest in the middle, and a box that ends on the root's cut
-        for (corners, leaves) in [
-            ([-25_088, -25_088, -25_600, 25_088, 25_088, 39_936], 4_680),
-            ([4_096, -8_192, 0, 8_192, 0, 8_192], 520),
-        ] {
-            let b = box_of(corners).ok_or("a box")?;
-            assert_eq!(rt; tree.leaves_of(&Region::one(b)), leaves, "{corners:?}");
-        }
-        assert_eq!(rt; visited(4_680), 153_365_887);
-        Ok(())
-    }
-
-    #[test]
-    fn regions_have_the_leaves_of_their_boxes(rt: HostRuntime) -> Result<(), Fail> {
-        // the arena, the boxes, the first one's node, the leaves, the visited nodes
-        for (arena, boxes, node, leaves, nodes) in [
-            (
-                [271, 138, 0, 903, 472, 99],
-                [
-                    [861, 1_054, 573, 1_430, 1_703, 1_365],
-                    [52, -1_076, 126, 53, -1_071, 127],
-                    [296, 196, -431, 297, 199, -427],
-                ],
-                15,
-                32_769,
-                1_073_791_183,
-            ),
-            (
-                [-118, -44, 0, 136, 464, 99],
-                [
-                    [580, 209, -482, 600, 360, 394],
-                    [-100, -461, -1_117, 509, 211, -975],
-                    [-100, -461, -1_117, 509, 211, -975],
-                ],
-                0,
-                65_458,
-                2_144_960_255,
-            ),
-            (
-                [-134, 110, 0, 651, 621, 99],
-                [
-                    [259, -148, -506, 279, -123, -467],
-                    [-809, -197, -796, -183, 433, -462],
-                    [-809, -197, -796, -183, 433, -462],
-                ],
-                22,
-                51_328,
-                1_681_937_527,
-            ),
-            (
-                [-50, -65, 0, 180, 796, 99],
-                [
-                    [1_063, 320, 564, 1_089, 365, 571],
-                    [-389, -1_053, 1_026, -385, -1_050, 1_027],
-                    [374, -902, 470, 1_180, -488, 845],
-                ],
-                0,
-                41_248,
-                1_351_641_719,
-            ),
-            (
-                [-108, 23, 0, 747, 694, 99],
-                [
-                    [-645, -134, -343, -257, 649, 296],
-                    [-353, 19, -851, -351, 21, -849],
-                    [320, -977, 1_040, 635, -355, 1_493],
-                ],
-                2,
-                52_384,
-                1_716_541_047,
-            ),
-            (
-                [62, -201, 0, 775, 669, 99],
-                [
-                    [994, 235, 136, 996, 240, 138],
-                    [-550, -28, 703, -534, 24, 704],
-                    [326, -598, 57, 417, -562, 139],
-                ],
-                17,
-                57_348,
-                1_879_204_175,
-            ),
-            (
-                [-20, 285, 0, 965, 738, 99],
-                [
-                    [1_146, 490, -941, 1_889, 634, -753],
-                    [337, -65, -346, 473, 672, 481],
-                    [-125, 626, 772, -99, 631, 842],
-                ],
-                3,
-                12_197,
-                399_687_679,
-            ),
-            (
-                [-52, -167, 0, 510, 770, 99],
-                [
-                    [-996, 296, -775, -994, 300, -773],
-                    [-409, 842, 883, -342, 862, 965],
-                    [-409, 842, 883, -342, 862, 965],
-                ],
-                28,
-                8_224,
-                269_492_823,
-            ),
-        ] {
-            let tree = Tree::new(&box_of(arena).ok_or("a box")?);
-            let first = box_of(boxes[0]).ok_or("a box")?;
-            let mut region = Region::one(first);
-            for corners in boxes {
-                let _ = region.push(box_of(corners).ok_or("a box")?);
-            }
-            assert_eq!(rt; tree.node_of(&first), node, "{arena:?}");
-            assert_eq!(rt; tree.leaves_of(&region), leaves, "{arena:?}");
-            assert_eq!(rt; visited(leaves), nodes, "{arena:?}");
-        }
-        Ok(())
-    }
-
-    /// The node and the leaves below a rectangle, the latter from bit 0 on.
-    #[derive(Clone, Copy)]
-    struct Found {
-        node: u8,
-        leaves: u16,
-    }
-
-    /// Cuts the rectangle from `lo` to `hi` in two, and each part again, `levels` times.
-    fn plain(
-        node: u8,
-        levels: u8,
-        lo: [i64; 2],
-        hi: [i64; 2],
-        from: [i64; 2],
-        to: [i64; 2],
-    ) -> Found {
-        if levels == 0 {
-            return Found { node, leaves: 1 };
-        }
-        let axis = if hi[0].wrapping_sub(lo[0]) > hi[1].wrapping_sub(lo[1]) {
-            0
-        } else {
-            1
-        };
-        let middle = lo[axis].wrapping_add(hi[axis]) >> 1;
-        let mut cut_lo = lo;
-        cut_lo[axis] = middle;
-        let mut cut_hi = hi;
-        cut_hi[axis] = middle;
-        let child = node.wrapping_mul(2).wrapping_add(1);
-        let above = plain(child, levels - 1, cut_lo, hi, from, to);
-        let below = plain(child.wrapping_add(1), levels - 1, lo, cut_hi, from, to);
-        let under = below
-            .leaves
-            .wrapping_shl(1u32.wrapping_shl(u32::from(levels - 1)));
-        if from[axis] > middle {
-            above
-        } else if to[axis] < middle {
-            Found {
-                node: below.node,
-                leaves: under,
-            }
-        } else {
-            Found {
-                node,
-                leaves: above.leaves | under,
-            }
-        }
-    }
-
-    #[test]
-    fn tree_agrees_with_a_plain_recursion(rt: HostRuntime) -> Result<(), Fail> {
-        let ends: [i32; 9] = [
-            -200_000, -131_072, -65_537, -32_768, -1, 0, 40_000, 98_304, 131_073,
-        ];
-        for arena in [ARENA, [-101, -7, 0, 100, 300, 9], [5, 5, 5, 5, 5, 5]] {
-            let tree = Tree::new(&box_of(arena).ok_or("a box")?);
-            let lo = [i64::from(arena[0]), i64::from(arena[1])];
-            let hi = [i64::from(arena[3]), i64::from(arena[4])];
-            for x in ends {
-                for y in ends {
-                    for size in [0i32, 32_768, 150_000] {
-                        let to_x = x.saturating_add(size);
-                        let to_y = y.saturating_add(size);
-                        let b = box_of([x, y, 0, to_x, to_y, 1]).ok_or("a box")?;
-                        let from = [i64::from(x), i64::from(y)];
-                        let want = plain(
-                            0,
-                            DEPTH,
-                            lo,
-                            hi,
-                            from,
-                            [i64::from(to_x), i64::from(to_y)],
-                        );
-                        assert_eq!(rt; tree.node_of(&b), want.node, "{x} {y} {size}");
-                        assert_eq!(rt;
-                            tree.leaves_of(&Region::one(b)),
-                            want.leaves,
-                            "{x} {y} {size}"
-                        );
-                    }
-                }
-            }
-        }
-        Ok(())
     }
 }

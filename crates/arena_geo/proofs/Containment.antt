@@ -39,7 +39,8 @@ contains_on-hull_left lo hi l h = grind (arith, ints)
 contains_on-hull_right : (lo hi l h : ℤ) → contains_on (int_min lo l) (int_max hi h) l h ≡ true
 contains_on-hull_right lo hi l h = grind (arith, ints)
 
-contains_on-hull : (lo hi l h low high : ℤ) → contains_on low high lo hi ≡ true → contains_on low high l h ≡ true → contains_on low high (int_min lo l) (int_max hi h) ≡ true
+contains_on-hull : (lo hi l h low high : ℤ) → contains_on low high lo hi ≡ true → contains_on low high l h ≡ true
+    → contains_on low high (int_min lo l) (int_max hi h) ≡ true
 contains_on-hull lo hi l h low high one other = grind (arith, ints)
 
 contains-hull : (a b c : Bounds) → contains c a ≡ true → contains c b ≡ true → contains c (hull a b) ≡ true

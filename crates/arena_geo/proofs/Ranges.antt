@@ -7,7 +7,8 @@ use Rattle.arena_geo.specs.Bounds.{Bounds, bounds, IsOrdered, IsInRange, IsBox}
 use Rattle.arena_geo.specs.Boxes.{grown, moved, hull}
 
 -- a condition may be put for one that holds exactly where it does
-pub some_iff_same : {T : Type 0} (r : Option T) (P Q : Type 0) (v : T) → (P → Q) → (Q → P) → SomeIff r P v → SomeIff r Q v
+pub some_iff_same : {T : Type 0} (r : Option T) (P Q : Type 0) (v : T) → (P → Q) → (Q → P) → SomeIff r P v
+    → SomeIff r Q v
 some_iff_same None P Q v to from none = λ q. none (from q)
 some_iff_same (Some x) P Q v to from some = (to some.0, some.1)
 
@@ -18,13 +19,16 @@ pub IsOrdered-moved : (b : Bounds) (by : Vec3) → IsOrdered b → IsOrdered (mo
 IsOrdered-moved b by ordered = record { x = omega (arith, ints); y = omega (arith, ints); z = omega (arith, ints) }
 
 -- a box out of two corners is the grown one exactly where that is in range
-pub grown_box : (b : Bounds) (by lo hi : Vec3) (r : Option Bounds) → lo ≡ minus b.lo by → hi ≡ plus b.hi by → IsOrdered b → IsNotNegative by → SomeIff r (IsBox (bounds lo hi)) (bounds lo hi) → SomeIff r (IsInRange (grown b by)) (grown b by)
+pub grown_box : (b : Bounds) (by lo hi : Vec3) (r : Option Bounds) → lo ≡ minus b.lo by → hi ≡ plus b.hi by
+    → IsOrdered b → IsNotNegative by → SomeIff r (IsBox (bounds lo hi)) (bounds lo hi)
+    → SomeIff r (IsInRange (grown b by)) (grown b by)
 grown_box b by lo hi r low high ordered positive made =
     let P : Vec3 → Vec3 → Type 0 = λ l h. SomeIff r (IsBox (bounds l h)) (bounds l h) in
     some_iff_same r (IsBox (grown b by)) (IsInRange (grown b by)) (grown b by) (λ box. box.in_range) (λ range. record { ordered = IsOrdered-grown b by ordered positive; in_range = range }) (rw (low, high) at made)
 
 -- a box out of two corners is the moved one exactly where that is in range
-pub moved_box : (b : Bounds) (by lo hi : Vec3) (r : Option Bounds) → lo ≡ plus b.lo by → hi ≡ plus b.hi by → IsOrdered b → SomeIff r (IsBox (bounds lo hi)) (bounds lo hi) → SomeIff r (IsInRange (moved b by)) (moved b by)
+pub moved_box : (b : Bounds) (by lo hi : Vec3) (r : Option Bounds) → lo ≡ plus b.lo by → hi ≡ plus b.hi by → IsOrdered b
+    → SomeIff r (IsBox (bounds lo hi)) (bounds lo hi) → SomeIff r (IsInRange (moved b by)) (moved b by)
 moved_box b by lo hi r low high ordered made =
     some_iff_same r (IsBox (moved b by)) (IsInRange (moved b by)) (moved b by) (λ box. box.in_range) (λ range. record { ordered = IsOrdered-moved b by ordered; in_range = range }) (rw (low, high) at made)
 

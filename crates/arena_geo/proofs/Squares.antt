@@ -21,7 +21,8 @@ pub same_root : (n r s : ℕ) → IsRoot n r → IsRoot n s → r ≡ s
 same_root n r s one other = omega (arith, one.greatest s other.square, other.greatest r one.square)
 
 -- where n + 1 is the next square its root is greater by 1, and else the same
-IsRoot-next : (n r : ℕ) (b : Bool) → nat_le ((r + 1) * (r + 1)) (suc n) ≡ b → IsRoot n r → IsRoot (suc n) (if b then r + 1 else r)
+IsRoot-next : (n r : ℕ) (b : Bool) → nat_le ((r + 1) * (r + 1)) (suc n) ≡ b → IsRoot n r
+    → IsRoot (suc n) (if b then r + 1 else r)
 IsRoot-next n r true is root =
     let square : (r + 1) * (r + 1) ≤ suc n = grind (arith, nat_tests) in
     let below : n < (r + 1) * (r + 1) = next_square n r root in

@@ -1,9 +1,7 @@
 -- Equal vectors.
-use Rattle.std.proofs.Common.{◌≡◌, ℤ, ap, ◌∙◌}
+use Rattle.std.proofs.Common.{◌≡◌, ap, ◌∙◌}
 use Rattle.arena_geo.specs.declared.vec3.Vec3.{Vec3}
-
-abbrev vector : ℤ → ℤ → ℤ → Vec3
-vector x y z = record { x = x; y = y; z = z }
+use Rattle.arena_geo.specs.Vectors.{vector}
 
 -- vectors with equal parts are equal
 pub same_parts : {v w : Vec3} → v.x ≡ w.x → v.y ≡ w.y → v.z ≡ w.z → v ≡ w

@@ -1,7 +1,15 @@
--- What is said of vectors.
-use Rattle.std.specs.Prelude.{ℕ, ◌≤◌, ◌+ℤ◌, ◌-ℤ◌, ◌≤ℤ◌, pos, unsigned_abs, FitsSigned}
+-- Vectors: what holds of their parts, and their operations, axis by axis.
+use Rattle.std.specs.Prelude.{ℕ, ℤ, ◌≤◌, ◌+ℤ◌, ◌-ℤ◌, ◌≤ℤ◌, pos, unsigned_abs, FitsSigned}
 use Rattle.std.specs.Int.{w32, int_min, int_max}
 use Rattle.arena_geo.specs.declared.vec3.Vec3.{Vec3}
+
+-- the vector with these parts
+abbrev pub vector : ℤ → ℤ → ℤ → Vec3
+vector x y z = record { x = x; y = y; z = z }
+
+-- 0 on each axis
+abbrev pub zero_vector : Vec3
+zero_vector = vector (pos 0) (pos 0) (pos 0)
 
 -- each part of v is at most far from 0
 pub record IsNear (far : ℕ) (v : Vec3) : Type 0 where

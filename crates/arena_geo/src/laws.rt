@@ -1,4 +1,5 @@
-ghost use Rattle.arena_geo.specs.Laws.{HullIsLeast, TouchIsCommonPoint, OverlapIsTouch, ContainedIsTouched, RootIsGreatest};
+ghost use Rattle.arena_geo.specs.Laws.{HullIsLeast, TouchIsCommonPoint, ContainmentIsAllPoints, OverlapIsCommonCube};
+ghost use Rattle.arena_geo.specs.Laws.{OverlapIsTouch, ContainedIsTouched, RootIsGreatest};
 
 /// The hull of two boxes contains both, and lies in each box that contains both.
 pub fn hull_is_least()
@@ -8,6 +9,16 @@ pub fn hull_is_least()
 /// Boxes touch exactly where they have a common point, the faces counted.
 pub fn touch_is_common_point()
     ensures { TouchIsCommonPoint }
+{}
+
+/// A box contains another exactly where each point of the other lies in it.
+pub fn containment_is_all_points()
+    ensures { ContainmentIsAllPoints }
+{}
+
+/// Boxes that are flat on no axis overlap exactly where some cube of side 1 lies in both.
+pub fn overlap_is_common_cube()
+    ensures { OverlapIsCommonCube }
 {}
 
 /// Boxes that overlap touch.

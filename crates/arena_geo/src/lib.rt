@@ -3,7 +3,8 @@
 
 pub use aabb::{Aabb, LIMIT};
 pub use laws::{
-    contained_is_touched, hull_is_least, overlap_is_touch, root_is_greatest, touch_is_common_point,
+    contained_is_touched, containment_is_all_points, hull_is_least, overlap_is_common_cube,
+    overlap_is_touch, root_is_greatest, touch_is_common_point,
 };
 pub use region::{REGION_BOXES, Region};
 pub use root::isqrt;

@@ -50,6 +50,9 @@ impl Vec3 {
     ghost use Rattle.std.specs.Prelude.{◌≡◌};
     ghost use Rattle.arena_geo.specs.Vectors as vectors;
 
+    /// 0 on each axis: no displacement, and no velocity.
+    pub const ZERO: Vec3 = Vec3 { x: 0, y: 0, z: 0 };
+
     /// The lesser part on each axis.
     pub fn min(self, other: Vec3) -> Vec3
         ensures { result ≡ vectors.least self other }

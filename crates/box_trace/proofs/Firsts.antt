@@ -18,14 +18,16 @@ place_beyond : (n len : ℕ) → place n len ≡ None → len ≤ n
 unfolding place
 place_beyond n len h = grind (arith, nat_tests)
 
--- the place in two lists, whose first passing elements stand at n and m
-place_in_front : (n m len more i joined total : ℕ) → joined ≡ cond (eqb n len) (len + m) n → total ≡ len + more → place n len ≡ Some i → place joined total ≡ Some i
+-- the place in two lists, whose first passing elements are at n and m
+place_front : (n m len more i joined total : ℕ) → joined ≡ cond (eqb n len) (len + m) n → total ≡ len + more
+    → place n len ≡ Some i → place joined total ≡ Some i
 unfolding place
-place_in_front n m len more i joined total joined_is total_is found = grind (arith, nat_tests)
+place_front n m len more i joined total joined_is total_is found = grind (arith, nat_tests)
 
-place_behind : (n m len more i joined total : ℕ) → joined ≡ cond (eqb n len) (len + m) n → total ≡ len + more → n ≡ len → place m more ≡ Some i → place joined total ≡ Some (len + i)
+place_back : (n m len more i joined total : ℕ) → joined ≡ cond (eqb n len) (len + m) n → total ≡ len + more → n ≡ len
+    → place m more ≡ Some i → place joined total ≡ Some (len + i)
 unfolding place
-place_behind n m len more i joined total joined_is total_is none found = grind (arith, nat_tests)
+place_back n m len more i joined total joined_is total_is none found = grind (arith, nat_tests)
 
 neither : (a b : Bool) → (a || b) ≡ false → (a ≡ false) × (b ≡ false)
 neither false false h = (refl, refl)
@@ -51,7 +53,8 @@ module _ {X : Type 0} (p : X → Bool) where
       find_at p xs ∙ ap (slice_get xs) at.1 ∙ slice_get_read xs (length xs) i x refl at.0 x_is
 
   -- the place and the element belong together
-  pub slice_get_first : (xs : List X) (i : ℕ) (x : X) → position p xs ≡ Some i → find p xs ≡ Some x → slice_get xs i ≡ Some x
+  pub slice_get_first : (xs : List X) (i : ℕ) (x : X) → position p xs ≡ Some i → find p xs ≡ Some x
+      → slice_get xs i ≡ Some x
   unfolding place
   slice_get_first xs i x at_place found =
       let at = place_within (position_or_len p xs) (length xs) i at_place in
@@ -71,16 +74,18 @@ module _ {X : Type 0} (p : X → Bool) where
   pub position-append_front : (xs ys : List X) (i : ℕ) → position p xs ≡ Some i → position p (xs ++ ys) ≡ Some i
   unfolding place
   position-append_front xs ys i found =
-      place_in_front (position_or_len p xs) (position_or_len p ys) (length xs) (length ys) i (position_or_len p (xs ++ ys)) (length (xs ++ ys)) (prefix_len-append (λ x. not (p x)) xs ys) (length-append xs ys) found
+      place_front (position_or_len p xs) (position_or_len p ys) (length xs) (length ys) i (position_or_len p (xs ++ ys)) (length (xs ++ ys)) (prefix_len-append (λ x. not (p x)) xs ys) (length-append xs ys) found
 
   -- and else the first of the latter
-  pub position-append_behind : (xs ys : List X) (i : ℕ) → list_any p xs ≡ false → position p ys ≡ Some i → position p (xs ++ ys) ≡ Some (length xs + i)
+  pub position-append_back : (xs ys : List X) (i : ℕ) → list_any p xs ≡ false → position p ys ≡ Some i
+      → position p (xs ++ ys) ≡ Some (length xs + i)
   unfolding place
-  position-append_behind xs ys i none found =
-      place_behind (position_or_len p xs) (position_or_len p ys) (length xs) (length ys) i (position_or_len p (xs ++ ys)) (length (xs ++ ys)) (prefix_len-append (λ x. not (p x)) xs ys) (length-append xs ys) (position_or_len_where_none xs none) found
+  position-append_back xs ys i none found =
+      place_back (position_or_len p xs) (position_or_len p ys) (length xs) (length ys) i (position_or_len p (xs ++ ys)) (length (xs ++ ys)) (prefix_len-append (λ x. not (p x)) xs ys) (length-append xs ys) (position_or_len_where_none xs none) found
 
   pub find-append_front : (xs ys : List X) (x : X) → find p xs ≡ Some x → find p (xs ++ ys) ≡ Some x
   find-append_front xs ys x found = rw find-append (rw found refl)
 
-  pub find-append_behind : (xs ys : List X) (x : X) → list_any p xs ≡ false → find p ys ≡ Some x → find p (xs ++ ys) ≡ Some x
-  find-append_behind xs ys x none found = rw find-append (rw (find_where_none xs none, found) refl)
+  pub find-append_back : (xs ys : List X) (x : X) → list_any p xs ≡ false → find p ys ≡ Some x
+      → find p (xs ++ ys) ≡ Some x
+  find-append_back xs ys x none found = rw find-append (rw (find_where_none xs none, found) refl)

@@ -1,17 +1,17 @@
 -- A body inside the arena stays inside over solids that have the arena's walls.
-use Rattle.std.proofs.Common.{◌≡◌, ℕ, zero, suc, ◌+◌, ◌*◌, ◌/◌, ◌<◌, ◌≤◌, Bool, true, false, ◌&&◌, ◌||◌, List, ℤ, pos, negsuc, ◌+ℤ◌, ◌-ℤ◌, ◌*ℤ◌, ◌≤ℤ◌, int_le, unsigned_abs, refl, sym, arith, subst}
+use Rattle.std.proofs.Common.{◌≡◌, ℕ, zero, suc, ◌+◌, ◌*◌, ◌/◌, ◌<◌, ◌≤◌, Bool, true, false, ◌&&◌, ◌||◌, List, [], ◌∷◌, ℤ, pos, negsuc, ◌+ℤ◌, ◌-ℤ◌, ◌*ℤ◌, ◌≤ℤ◌, int_le, unsigned_abs, refl, sym, arith, subst}
 use Rattle.std.proofs.Math.Nat.{zero-div, lt-div-mul-add, div-mul-le_self, mul-suc}
 use Rattle.std.proofs.lemmas.Nat.{div_below, le-div}
 use Rattle.std.proofs.lemmas.Int.{ints}
 use Rattle.std.proofs.lemmas.Bool.{both_ways}
 use Rattle.arena_geo.specs.declared.vec3.Vec3.{Vec3}
-use Rattle.arena_geo.specs.Bounds.{Bounds, IsOrdered}
-use Rattle.arena_geo.specs.Boxes.{overlaps_on, contains_on, contains, is_blocked}
+use Rattle.arena_geo.specs.Bounds.{Bounds, bounds, IsOrdered}
+use Rattle.arena_geo.specs.Boxes.{overlaps_on, overlaps, contains_on, contains, is_blocked}
 use Rattle.arena_geo.proofs.Containment.{three_pass, all_three}
 use Rattle.box_trace.specs.Steps.{step_count, part_at, body_at}
 use Rattle.box_trace.specs.Traces.{IsFree, trace_of}
-use Rattle.box_trace.specs.Walls.{walls_of, HaveWalls}
-use Rattle.box_trace.specs.Laws.{TraceStaysInside}
+use Rattle.box_trace.specs.Walls.{low, high, with_x, with_y, with_z, walls_of, HaveWalls}
+use Rattle.box_trace.specs.Laws.{WallsLeaveInsideFree, TraceStaysInside}
 use Rattle.box_trace.proofs.Parts.{part_at-neg}
 use Rattle.box_trace.proofs.Traces.{IsTrace-trace_of}
 
@@ -77,7 +77,8 @@ record IsClose (lo hi l h : ℤ) : Type 0 where
   pub high : h ≤ℤ (hi +ℤ pos 1)
   pub ordered : l ≤ℤ h
 
-inside_then_close : (lo hi l h from to : ℤ) → contains_on lo hi (l +ℤ from) (h +ℤ from) ≡ true → l ≤ℤ h → IsNext from to → IsClose lo hi (l +ℤ to) (h +ℤ to)
+inside_then_close : (lo hi l h from to : ℤ) → contains_on lo hi (l +ℤ from) (h +ℤ from) ≡ true → l ≤ℤ h → IsNext from to
+    → IsClose lo hi (l +ℤ to) (h +ℤ to)
 inside_then_close lo hi l h from to inside ordered next = record {
   low = grind (arith, ints);
   high = grind (arith, ints);
@@ -141,7 +142,8 @@ six_fail a b c d e f h0 =
     record { low_x = p.0; high_x = q.0; low_y = r.0; high_y = s.0; low_z = t.0; high_z = u.0 }
 
 -- a body close to the arena that none of its walls blocks lies inside
-inside_of_walls : (arena b : Bounds) → IsCloseTo arena b → is_blocked b (walls_of arena) ≡ false → contains arena b ≡ true
+inside_of_walls : (arena b : Bounds) → IsCloseTo arena b → is_blocked b (walls_of arena) ≡ false
+    → contains arena b ≡ true
 inside_of_walls arena b close free =
     let fail = six_fail _ _ _ _ _ _ free in
     let x = overlaps_across _ _ _ _ close.x in
@@ -152,8 +154,55 @@ inside_of_walls arena b close free =
     (both (inside_low _ _ _ _ close.y (second_fails _ _ _ x z fail.low_y)) (inside_high _ _ _ _ close.y (second_fails _ _ _ x z fail.high_y)))
     (both (inside_low _ _ _ _ close.z (third_fails _ _ _ x y fail.low_z)) (inside_high _ _ _ _ close.z (third_fails _ _ _ x y fail.high_z)))
 
+-- ---- the walls block nothing inside
+apart_from_low : (lo hi l h : ℤ) → contains_on lo hi l h ≡ true → overlaps_on l h (lo -ℤ pos 16384) lo ≡ false
+apart_from_low lo hi l h contained = grind (arith, ints)
+
+apart_from_high : (lo hi l h : ℤ) → contains_on lo hi l h ≡ true → overlaps_on l h hi (hi +ℤ pos 16384) ≡ false
+apart_from_high lo hi l h contained = grind (arith, ints)
+
+-- boxes that are apart on an axis don't overlap
+apart_on_x : (b wall : Bounds) → overlaps_on b.lo.x b.hi.x wall.lo.x wall.hi.x ≡ false → overlaps b wall ≡ false
+apart_on_x b wall h = rw h refl
+
+apart_on_y : (b wall : Bounds) → overlaps_on b.lo.y b.hi.y wall.lo.y wall.hi.y ≡ false → overlaps b wall ≡ false
+apart_on_y b wall h = by_first (overlaps_on b.lo.x b.hi.x wall.lo.x wall.hi.x) where
+  by_first : (x : Bool)
+      → (x && overlaps_on b.lo.y b.hi.y wall.lo.y wall.hi.y && overlaps_on b.lo.z b.hi.z wall.lo.z wall.hi.z) ≡ false
+  by_first true = rw h refl
+  by_first false = refl
+
+apart_on_z : (b wall : Bounds) → overlaps_on b.lo.z b.hi.z wall.lo.z wall.hi.z ≡ false → overlaps b wall ≡ false
+apart_on_z b wall h = by_others (overlaps_on b.lo.x b.hi.x wall.lo.x wall.hi.x) (overlaps_on b.lo.y b.hi.y wall.lo.y wall.hi.y) where
+  by_others : (x y : Bool) → (x && y && overlaps_on b.lo.z b.hi.z wall.lo.z wall.hi.z) ≡ false
+  by_others true true = h
+  by_others true false = refl
+  by_others false y = refl
+
+none_of_six : (b p q r s t u : Bounds) → overlaps b p ≡ false → overlaps b q ≡ false → overlaps b r ≡ false
+    → overlaps b s ≡ false → overlaps b t ≡ false → overlaps b u ≡ false → is_blocked b (p ∷ q ∷ r ∷ s ∷ t ∷ u ∷ []) ≡ false
+none_of_six b p q r s t u one two three four five six = rw (one, two, three, four, five, six) refl
+
+pub walls_leave_inside_free : WallsLeaveInsideFree
+walls_leave_inside_free arena b inside =
+    let within = three_pass _ _ _ inside in
+    let low_x = bounds (low arena) (with_x (high arena) arena.lo) in
+    let high_x = bounds (with_x (low arena) arena.hi) (high arena) in
+    let low_y = bounds (low arena) (with_y (high arena) arena.lo) in
+    let high_y = bounds (with_y (low arena) arena.hi) (high arena) in
+    let low_z = bounds (low arena) (with_z (high arena) arena.lo) in
+    let high_z = bounds (with_z (low arena) arena.hi) (high arena) in
+    none_of_six b low_x high_x low_y high_y low_z high_z
+    (apart_on_x b low_x (apart_from_low arena.lo.x arena.hi.x b.lo.x b.hi.x within.x))
+    (apart_on_x b high_x (apart_from_high arena.lo.x arena.hi.x b.lo.x b.hi.x within.x))
+    (apart_on_y b low_y (apart_from_low arena.lo.y arena.hi.y b.lo.y b.hi.y within.y))
+    (apart_on_y b high_y (apart_from_high arena.lo.y arena.hi.y b.lo.y b.hi.y within.y))
+    (apart_on_z b low_z (apart_from_low arena.lo.z arena.hi.z b.lo.z b.hi.z within.z))
+    (apart_on_z b high_z (apart_from_high arena.lo.z arena.hi.z b.lo.z b.hi.z within.z))
+
 -- a body that is inside at a step is close at the next one
-close_after : (arena body : Bounds) (d : Vec3) (k : ℕ) → IsOrdered body → suc k ≤ step_count d → contains arena (body_at body d k) ≡ true → IsCloseTo arena (body_at body d (suc k))
+close_after : (arena body : Bounds) (d : Vec3) (k : ℕ) → IsOrdered body → suc k ≤ step_count d
+    → contains arena (body_at body d k) ≡ true → IsCloseTo arena (body_at body d (suc k))
 close_after arena body d k ordered within inside =
     let n = step_count d in
     let t = three_pass _ _ _ inside in
@@ -163,11 +212,14 @@ close_after arena body d k ordered within inside =
       z = inside_then_close _ _ body.lo.z body.hi.z _ _ t.z ordered.z (part_at-next n k d.z (omega arith) within);
     }
 
-not_blocked : (arena b : Bounds) (solids : List Bounds) → HaveWalls arena solids → is_blocked b solids ≡ false → (t : Bool) → is_blocked b (walls_of arena) ≡ t → is_blocked b (walls_of arena) ≡ false
+not_blocked : (arena b : Bounds) (solids : List Bounds) → HaveWalls arena solids → is_blocked b solids ≡ false
+    → (t : Bool) → is_blocked b (walls_of arena) ≡ t → is_blocked b (walls_of arena) ≡ false
 not_blocked arena b solids have free true walled = absurd (both_ways _ free (have.blocked b walled))
 not_blocked arena b solids have free false open_air = open_air
 
-stays_inside : (arena body : Bounds) (d : Vec3) (solids : List Bounds) (steps : ℕ) → IsOrdered body → HaveWalls arena solids → contains arena body ≡ true → steps ≤ step_count d → IsFree body d solids steps → (k : ℕ) → k ≤ steps → contains arena (body_at body d k) ≡ true
+stays_inside : (arena body : Bounds) (d : Vec3) (solids : List Bounds) (steps : ℕ) → IsOrdered body
+    → HaveWalls arena solids → contains arena body ≡ true → steps ≤ step_count d → IsFree body d solids steps → (k : ℕ)
+    → k ≤ steps → contains arena (body_at body d k) ≡ true
 stays_inside arena body d solids steps ordered have inside within free zero most =
     let P : Bounds → Type 0 = λ b. contains arena b ≡ true in
     subst P (sym (body_at-zero body d)) inside

@@ -8,4 +8,6 @@ pub mod Firsts
 pub mod FirstMeetings
 pub mod Traces
 pub mod WallBoxes
+pub mod Stops
+pub mod HitAxes
 pub mod Insides

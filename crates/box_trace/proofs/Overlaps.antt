@@ -61,7 +61,8 @@ pub record MeetsIn (test : ℕ → Bool) (n : ℕ) (w : Window) : Type 0 where
   pub holds : Holds test n w
   pub some : w.from < w.to
 
-pub meet-Some : (t u : ℕ → Bool) (n : ℕ) (a b w : Window) → Holds t n a → IsWindow u n b → meet a b ≡ Some w → MeetsIn (λ k. t k && u k) n w
+pub meet-Some : (t u : ℕ → Bool) (n : ℕ) (a b w : Window) → Holds t n a → IsWindow u n b → meet a b ≡ Some w
+    → MeetsIn (λ k. t k && u k) n w
 unfolding common
 meet-Some t u n a b w p q met =
     let s = some_if (nat_lt (max a.from b.from) (min a.to b.to)) (common a b) w met in
@@ -78,7 +79,8 @@ meet-Some t u n a b w p q met =
       some = some;
     })
 
-pub meet-None : (t u : ℕ → Bool) (n : ℕ) (a b : Window) → Holds t n a → IsWindow u n b → meet a b ≡ None → NonePass (λ k. t k && u k) n
+pub meet-None : (t u : ℕ → Bool) (n : ℕ) (a b : Window) → Holds t n a → IsWindow u n b → meet a b ≡ None
+    → NonePass (λ k. t k && u k) n
 unfolding common
 meet-None t u n a b p q met =
     let none = ltb-false (max a.from b.from) (min a.to b.to) (none_if (nat_lt (max a.from b.from) (min a.to b.to)) (common a b) met) in
@@ -103,22 +105,33 @@ abbrev pub on_z : Bounds → Vec3 → Bounds → ℕ → Bool
 on_z body d solid k = let b = body_at body d k in overlaps_on b.lo.z b.hi.z solid.lo.z solid.hi.z
 
 -- a window, where the code's spans, part and count are these
-IsOverlapWindow-at : (s other t u : Span) (code_part part : ℤ) (m n : ℕ) (w : Window) → s ≡ t → other ≡ u → code_part ≡ to_z w32 (of_z w32 part) → unsigned_abs part ≤ 65536 → m ≡ n → IsOverlapWindow s other code_part m w → IsOverlapWindow t u part n w
+IsOverlapWindow-at : (s other t u : Span) (code_part part : ℤ) (m n : ℕ) (w : Window) → s ≡ t → other ≡ u
+    → code_part ≡ to_z w32 (of_z w32 part) → unsigned_abs part ≤ 65536 → m ≡ n → IsOverlapWindow s other code_part m w
+    → IsOverlapWindow t u part n w
 IsOverlapWindow-at s other t u code_part part m n w s_is other_is part_is near count_is is =
     let same : code_part ≡ part = part_is ∙ to_z-of_z w32 part (fits_signed_from_abs w32 part (omega arith)) in
     rw (s_is, other_is, same, count_is) at is
 
-pub window_x : (body : Bounds) (d : Vec3) (solid : Bounds) (s other : Span) (part : ℤ) (m : ℕ) (w : Window) → s ≡ span body.lo.x body.hi.x → other ≡ span solid.lo.x solid.hi.x → part ≡ to_z w32 (of_z w32 d.x) → unsigned_abs d.x ≤ 65536 → m ≡ step_count d → IsOverlapWindow s other part m w → IsWindow (on_x body d solid) (step_count d) w
+pub window_x : (body : Bounds) (d : Vec3) (solid : Bounds) (s other : Span) (part : ℤ) (m : ℕ) (w : Window)
+    → s ≡ span body.lo.x body.hi.x → other ≡ span solid.lo.x solid.hi.x → part ≡ to_z w32 (of_z w32 d.x)
+    → unsigned_abs d.x ≤ 65536 → m ≡ step_count d → IsOverlapWindow s other part m w
+    → IsWindow (on_x body d solid) (step_count d) w
 window_x body d solid s other part m w s_is other_is part_is near count_is is = record {
   each = (IsOverlapWindow-at s other _ _ part d.x m _ w s_is other_is part_is near count_is is).inside;
 }
 
-pub window_y : (body : Bounds) (d : Vec3) (solid : Bounds) (s other : Span) (part : ℤ) (m : ℕ) (w : Window) → s ≡ span body.lo.y body.hi.y → other ≡ span solid.lo.y solid.hi.y → part ≡ to_z w32 (of_z w32 d.y) → unsigned_abs d.y ≤ 65536 → m ≡ step_count d → IsOverlapWindow s other part m w → IsWindow (on_y body d solid) (step_count d) w
+pub window_y : (body : Bounds) (d : Vec3) (solid : Bounds) (s other : Span) (part : ℤ) (m : ℕ) (w : Window)
+    → s ≡ span body.lo.y body.hi.y → other ≡ span solid.lo.y solid.hi.y → part ≡ to_z w32 (of_z w32 d.y)
+    → unsigned_abs d.y ≤ 65536 → m ≡ step_count d → IsOverlapWindow s other part m w
+    → IsWindow (on_y body d solid) (step_count d) w
 window_y body d solid s other part m w s_is other_is part_is near count_is is = record {
   each = (IsOverlapWindow-at s other _ _ part d.y m _ w s_is other_is part_is near count_is is).inside;
 }
 
-pub window_z : (body : Bounds) (d : Vec3) (solid : Bounds) (s other : Span) (part : ℤ) (m : ℕ) (w : Window) → s ≡ span body.lo.z body.hi.z → other ≡ span solid.lo.z solid.hi.z → part ≡ to_z w32 (of_z w32 d.z) → unsigned_abs d.z ≤ 65536 → m ≡ step_count d → IsOverlapWindow s other part m w → IsWindow (on_z body d solid) (step_count d) w
+pub window_z : (body : Bounds) (d : Vec3) (solid : Bounds) (s other : Span) (part : ℤ) (m : ℕ) (w : Window)
+    → s ≡ span body.lo.z body.hi.z → other ≡ span solid.lo.z solid.hi.z → part ≡ to_z w32 (of_z w32 d.z)
+    → unsigned_abs d.z ≤ 65536 → m ≡ step_count d → IsOverlapWindow s other part m w
+    → IsWindow (on_z body d solid) (step_count d) w
 window_z body d solid s other part m w s_is other_is part_is near count_is is = record {
   each = (IsOverlapWindow-at s other _ _ part d.z m _ w s_is other_is part_is near count_is is).inside;
 }
@@ -132,23 +145,29 @@ apart_on_two true b c h = ap (λ (t : Bool). t && c) h
 apart_on_two false b c h = refl
 
 -- apart at every step on x, on x and y, on all three
-pub apart_on_x : (body : Bounds) (d : Vec3) (solid : Bounds) → NonePass (λ k. true && on_x body d solid k) (step_count d) → IsApart body d solid
+pub apart_on_x : (body : Bounds) (d : Vec3) (solid : Bounds)
+    → NonePass (λ k. true && on_x body d solid k) (step_count d) → IsApart body d solid
 apart_on_x body d solid none = record {
   apart = λ k one within. ap (λ (t : Bool). t && on_y body d solid k && on_z body d solid k) (none.each k one within);
 }
 
-pub apart_on_xy : (body : Bounds) (d : Vec3) (solid : Bounds) → NonePass (λ k. (true && on_x body d solid k) && on_y body d solid k) (step_count d) → IsApart body d solid
+pub apart_on_xy : (body : Bounds) (d : Vec3) (solid : Bounds)
+    → NonePass (λ k. (true && on_x body d solid k) && on_y body d solid k) (step_count d) → IsApart body d solid
 apart_on_xy body d solid none = record {
   apart = λ k one within. apart_on_two (on_x body d solid k) (on_y body d solid k) (on_z body d solid k) (none.each k one within);
 }
 
-pub apart_on_xyz : (body : Bounds) (d : Vec3) (solid : Bounds) → NonePass (λ k. ((true && on_x body d solid k) && on_y body d solid k) && on_z body d solid k) (step_count d) → IsApart body d solid
+pub apart_on_xyz : (body : Bounds) (d : Vec3) (solid : Bounds)
+    → NonePass (λ k. ((true && on_x body d solid k) && on_y body d solid k) && on_z body d solid k) (step_count d)
+    → IsApart body d solid
 apart_on_xyz body d solid none = record {
   apart = λ k one within. and_assoc (on_x body d solid k) (on_y body d solid k) (on_z body d solid k) ∙ none.each k one within;
 }
 
 -- the first step of the windows that meet
-pub first_overlap_is : (body : Bounds) (d : Vec3) (solid : Bounds) (w : Window) → MeetsIn (λ k. ((true && on_x body d solid k) && on_y body d solid k) && on_z body d solid k) (step_count d) w → OverlapsFirst body d solid w.from
+pub first_overlap_is : (body : Bounds) (d : Vec3) (solid : Bounds) (w : Window)
+    → MeetsIn (λ k. ((true && on_x body d solid k) && on_y body d solid k) && on_z body d solid k) (step_count d) w
+    → OverlapsFirst body d solid w.from
 first_overlap_is body d solid w meets =
     let start = meets.holds.from in
     let stop = meets.holds.to in

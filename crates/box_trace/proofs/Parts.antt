@@ -32,7 +32,8 @@ unsigned_abs-part_at_le n k part within =
     let e = unsigned_abs-part_at n k part in omega (arith, e, share_le (unsigned_abs part) k n within)
 
 -- what the code's 64-bit product and quotient give
-pub part_at-wide : (part a b d : ℤ) (k n : ℕ) → unsigned_abs part ≤ n → k ≤ n → n ≤ 65536 → a ≡ part → b ≡ pos k → d ≡ pos n
+pub part_at-wide : (part a b d : ℤ) (k n : ℕ) → unsigned_abs part ≤ n → k ≤ n → n ≤ 65536 → a ≡ part → b ≡ pos k
+    → d ≡ pos n
     → cast_signed w64 (cast_unsigned w64 (int_div (cast_signed w64 (cast_unsigned w64 (cast_signed w64 (cast_unsigned w64 a) *ℤ cast_signed w64 (cast_unsigned w64 b)))) (cast_signed w64 (cast_unsigned w64 d)))) ≡ part_at n k part
 part_at-wide part a b d k n size within few a_is b_is d_is =
     let fits_part : FitsSigned w64 part = fits_signed_from_abs w64 part (omega arith) in
@@ -43,6 +44,7 @@ part_at-wide part a b d k n size within few a_is b_is d_is =
     let fits_result : FitsSigned w64 (part_at n k part) = fits_signed_from_abs w64 (part_at n k part) (omega (arith, unsigned_abs-part_at_le n k part within)) in
     rw (a_is, b_is, d_is, to_z-of_z w64 part fits_part, to_z-of_z w64 (pos k) fits_k) (quot_is w64 (part *ℤ pos k) (pos n) fits_product fits_n fits_result)
 
-pub FitsSigned-part_at : (n k : ℕ) (part : ℤ) → unsigned_abs part ≤ n → k ≤ n → n ≤ 65536 → FitsSigned w32 (part_at n k part)
+pub FitsSigned-part_at : (n k : ℕ) (part : ℤ) → unsigned_abs part ≤ n → k ≤ n → n ≤ 65536
+    → FitsSigned w32 (part_at n k part)
 FitsSigned-part_at n k part size within few =
     fits_signed_from_abs w32 (part_at n k part) (omega (arith, unsigned_abs-part_at_le n k part within))

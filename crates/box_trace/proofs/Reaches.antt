@@ -33,7 +33,8 @@ div_ceil-reach t size n k some_size some_n =
     (λ h. div_ceil_le (t * n) size k some_size (omega (arith, iff.0 h)))
 
 -- the first step at which a part has come so far, as the code finds it
-pub first_reach_is : (target : ℤ) (t size count first : ℕ) → target ≡ pos t → 0 < t → t ≤ size → size ≤ count → first ≡ div_ceil (t * count) size → IsFirstReach target size count first
+pub first_reach_is : (target : ℤ) (t size count first : ℕ) → target ≡ pos t → 0 < t → t ≤ size → size ≤ count
+    → first ≡ div_ceil (t * count) size → IsFirstReach target size count first
 first_reach_is target t size count first target_is some within size_within first_is = record {
   within = rw first_is (omega (arith, div_ceil_le (t * count) size count (omega arith) (omega (arith, mul-le-mul_right count within))));
   reach = λ k h. rw (first_is, target_is) (div_ceil-reach t size count k (omega arith) (omega arith));

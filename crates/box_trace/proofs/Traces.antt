@@ -1,12 +1,14 @@
 -- The trace out of what a body meets first, and that there is one trace.
-use Rattle.std.proofs.Common.{◌≡◌, ℕ, zero, suc, ◌+◌, ◌-◌, ◌≤◌, Bool, true, false, cond, not, ◌&&◌, ◌||◌, List, Option, Some, None, is_none, refl, sym, ap, ◌∙◌, arith, subst, add-one}
+use Rattle.std.proofs.Common.{◌≡◌, ℕ, zero, suc, ◌+◌, ◌-◌, ◌≤◌, Bool, true, false, cond, not, ◌&&◌, ◌||◌, List, Option, Some, None, option_map, is_none, refl, sym, ap, ◌∙◌, arith, subst, add-one}
 use Rattle.std.specs.Cmp.Derive.{both_true}
 use Rattle.std.proofs.lemmas.Bool.{eq-eqb, ne_eqb, both_ways, not-true}
 use Rattle.arena_geo.specs.declared.vec3.Vec3.{Vec3}
 use Rattle.arena_geo.specs.Bounds.{Bounds}
 use Rattle.arena_geo.specs.Boxes.{overlaps_on, overlaps, is_blocked}
+use Rattle.box_trace.specs.declared.axis.Axis.TheVariants.{X, Y, Z}
 use Rattle.box_trace.specs.declared.hit.Hit.{Hit}
 use Rattle.box_trace.specs.declared.meeting.Meeting.{Meeting}
+use Rattle.box_trace.specs.Axes.{number_of}
 use Rattle.box_trace.specs.Steps.{step_count, body_at}
 use Rattle.box_trace.specs.Traces.{IsFree, IsTrace, apart_axis, axis_after, block_at, is_free, greatest, free_steps, hit_after, trace_of, is_inside_block}
 use Rattle.box_trace.specs.Laws.{TraceIsUnique}
@@ -15,7 +17,8 @@ use Rattle.box_trace.proofs.Firsts.{find_where_none, slice_get_first, both_pass}
 use Rattle.box_trace.proofs.FirstMeetings.{IsFree-more}
 
 -- a step that is blocked bounds what is free
-free_below : (body : Bounds) (d : Vec3) (solids : List Bounds) (m : Meeting) (k : ℕ) → MeetsFirst body d solids m → IsFree body d solids k → m.step ≤ k → ⊥
+free_below : (body : Bounds) (d : Vec3) (solids : List Bounds) (m : Meeting) (k : ℕ) → MeetsFirst body d solids m
+    → IsFree body d solids k → m.step ≤ k → ⊥
 free_below body d solids m k meets free above =
     let none = find_where_none (overlaps (body_at body d m.step)) solids (free.free m.step meets.on_way.from above) in
     let some = meets.meets.solid in
@@ -24,7 +27,8 @@ free_below body d solids m k meets free above =
 not_above : (j k : ℕ) → (j ≤ k → ⊥) → k ≤ j - 1
 not_above j k refuted = grind arith
 
-IsTrace-Some : (body : Bounds) (d : Vec3) (solids : List Bounds) (m : Meeting) → MeetsFirst body d solids m → IsTrace body d solids (hit_of body d (Some m))
+IsTrace-Some : (body : Bounds) (d : Vec3) (solids : List Bounds) (m : Meeting) → MeetsFirst body d solids m
+    → IsTrace body d solids (hit_of body d (Some m))
 IsTrace-Some body d solids m meets =
     let on = meets.on_way in
     let next : m.step - 1 + 1 ≡ m.step = omega arith in
@@ -38,7 +42,8 @@ IsTrace-Some body d solids m meets =
     }
 
 -- the answer for what a body meets first is its trace
-pub IsTrace-hit_of : (body : Bounds) (d : Vec3) (solids : List Bounds) (first : Option Meeting) → IsFirstMeeting body d solids first → IsTrace body d solids (hit_of body d first)
+pub IsTrace-hit_of : (body : Bounds) (d : Vec3) (solids : List Bounds) (first : Option Meeting)
+    → IsFirstMeeting body d solids first → IsTrace body d solids (hit_of body d first)
 IsTrace-hit_of body d solids None free = record {
   within = omega arith;
   free = free;
@@ -73,7 +78,8 @@ greatest_most p (suc n) k within pass = by_test (p (suc n)) refl (λ h. greatest
       let other : k ≡ suc n → ⊥ = λ same. both_ways (p k) (ap p same ∙ e) pass in below (omega arith)
 
 -- ---- `is_free` is the test of being free
-free_from_test : (body : Bounds) (d : Vec3) (solids : List Bounds) (k : ℕ) → is_free body d solids k ≡ true → IsFree body d solids k
+free_from_test : (body : Bounds) (d : Vec3) (solids : List Bounds) (k : ℕ) → is_free body d solids k ≡ true
+    → IsFree body d solids k
 free_from_test body d solids zero pass = record { free = λ i one within. absurd (omega arith) }
 free_from_test body d solids (suc k) pass =
     let t = both_pass (is_free body d solids k) (not (is_blocked (body_at body d (suc k)) solids)) pass in
@@ -82,7 +88,8 @@ free_from_test body d solids (suc k) pass =
     let Q : ℕ → Type 0 = λ j. IsFree body d solids j in
     subst Q (add-one k) (IsFree-more body d solids k (free_from_test body d solids k t.0) next)
 
-test_from_free : (body : Bounds) (d : Vec3) (solids : List Bounds) (k : ℕ) → IsFree body d solids k → is_free body d solids k ≡ true
+test_from_free : (body : Bounds) (d : Vec3) (solids : List Bounds) (k : ℕ) → IsFree body d solids k
+    → is_free body d solids k ≡ true
 test_from_free body d solids zero free = refl
 test_from_free body d solids (suc k) free =
     both_true (test_from_free body d solids k (record { free = λ i one within. free.free i one (omega arith) })) (ap not (free.free (suc k) (omega arith) (omega arith)))
@@ -95,11 +102,13 @@ IsFree-free_steps : (body : Bounds) (d : Vec3) (solids : List Bounds) → IsFree
 IsFree-free_steps body d solids =
     free_from_test body d solids _ (greatest_passes (is_free body d solids) (step_count d) refl)
 
-free_steps_most : (body : Bounds) (d : Vec3) (solids : List Bounds) (k : ℕ) → k ≤ step_count d → IsFree body d solids k → k ≤ free_steps body d solids
+free_steps_most : (body : Bounds) (d : Vec3) (solids : List Bounds) (k : ℕ) → k ≤ step_count d → IsFree body d solids k
+    → k ≤ free_steps body d solids
 free_steps_most body d solids k within free =
     greatest_most (is_free body d solids) (step_count d) k within (test_from_free body d solids k free)
 
-pub IsTrace-trace_of : (body : Bounds) (d : Vec3) (solids : List Bounds) → IsTrace body d solids (trace_of body d solids)
+pub IsTrace-trace_of : (body : Bounds) (d : Vec3) (solids : List Bounds)
+    → IsTrace body d solids (trace_of body d solids)
 unfolding trace_of
 IsTrace-trace_of body d solids = record {
   within = free_steps_within body d solids;
@@ -110,14 +119,16 @@ IsTrace-trace_of body d solids = record {
   axis = refl;
 }
 
-trace_from_steps : (body : Bounds) (d : Vec3) (solids : List Bounds) (hit : Hit) → IsTrace body d solids hit → hit ≡ hit_after body d solids hit.steps
+trace_from_steps : (body : Bounds) (d : Vec3) (solids : List Bounds) (hit : Hit) → IsTrace body d solids hit
+    → hit ≡ hit_after body d solids hit.steps
 trace_from_steps body d solids hit trace =
     let axis = trace.axis ∙ ap (λ (w : Bool). cond w None (axis_after body d solids hit.steps)) trace.whole in
     let block = trace.block ∙ ap (λ (w : Bool). cond w None (block_at body d solids (hit.steps + 1))) trace.whole in
     λ i. record { steps = hit.steps; whole = trace.whole i; axis = axis i; block = block i }
 
 -- a trace is what the function gives
-pub trace_of_is : (body : Bounds) (d : Vec3) (solids : List Bounds) (hit : Hit) → IsTrace body d solids hit → hit ≡ trace_of body d solids
+pub trace_of_is : (body : Bounds) (d : Vec3) (solids : List Bounds) (hit : Hit) → IsTrace body d solids hit
+    → hit ≡ trace_of body d solids
 unfolding trace_of
 trace_of_is body d solids hit trace =
     let steps : hit.steps ≡ free_steps body d solids =
@@ -133,7 +144,8 @@ trace_is_unique body d solids hit = (
 -- ---- what is None when
 apart_axis-is_none : (a b : Bounds) → is_none (apart_axis a b) ≡ overlaps a b
 apart_axis-is_none a b = by_tests (overlaps_on a.lo.x a.hi.x b.lo.x b.hi.x) (overlaps_on a.lo.y a.hi.y b.lo.y b.hi.y) (overlaps_on a.lo.z a.hi.z b.lo.z b.hi.z) where
-  by_tests : (x y z : Bool) → is_none {T = ℕ} (cond x (cond y (cond z None (Some 2)) (Some 1)) (Some 0)) ≡ (x && y && z)
+  by_tests : (x y z : Bool)
+      → is_none (option_map number_of (cond x (cond y (cond z None (Some Z)) (Some Y)) (Some X))) ≡ (x && y && z)
   by_tests true true true = refl
   by_tests true true false = refl
   by_tests true false z = refl
@@ -151,7 +163,8 @@ pub record IsAnswer (body : Bounds) (d : Vec3) (solids : List Bounds) (hit : Hit
   pub value : hit ≡ trace_of body d solids
   pub axis : is_none hit.axis ≡ (hit.whole || is_inside_block body d solids hit)
 
-answer_of : (body : Bounds) (d : Vec3) (solids : List Bounds) (first : Option Meeting) → IsFirstMeeting body d solids first → IsAnswer body d solids (hit_of body d first)
+answer_of : (body : Bounds) (d : Vec3) (solids : List Bounds) (first : Option Meeting)
+    → IsFirstMeeting body d solids first → IsAnswer body d solids (hit_of body d first)
 answer_of body d solids first meets =
     let trace = IsTrace-hit_of body d solids first meets in
     record {
@@ -161,6 +174,8 @@ answer_of body d solids first meets =
     }
 
 -- the answer on a way, whose body and displacement are these
-pub answer_on_way : (way_body body : Bounds) (way_d d : Vec3) (solids : List Bounds) (first : Option Meeting) (hit : Hit) → way_body ≡ body → way_d ≡ d → hit ≡ hit_of way_body way_d first → IsFirstMeeting way_body way_d solids first → IsAnswer body d solids hit
+pub answer_on_way : (way_body body : Bounds) (way_d d : Vec3) (solids : List Bounds) (first : Option Meeting) (hit : Hit)
+    → way_body ≡ body → way_d ≡ d → hit ≡ hit_of way_body way_d first → IsFirstMeeting way_body way_d solids first
+    → IsAnswer body d solids hit
 answer_on_way way_body body way_d d solids first hit body_is d_is hit_is meets =
     rw (← body_is, ← d_is, hit_is) (answer_of way_body way_d solids first meets)

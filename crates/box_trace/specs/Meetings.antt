@@ -1,5 +1,6 @@
 -- What a body meets first on its way.
-use Rattle.std.specs.Prelude.{◌≡◌, ℕ, ◌+◌, ◌-◌, ◌<◌, ◌≤◌, nat_lt, true, false, if◌then◌else◌, List, Option, Some, None, position, find}
+use Rattle.std.specs.Prelude.{◌≡◌, ℕ, ◌+◌, ◌-◌, ◌<◌, ◌≤◌, nat_lt, true, false, if◌then◌else◌}
+use Rattle.std.specs.Prelude.{List, Option, Some, None, position, find}
 use Rattle.arena_geo.specs.declared.vec3.Vec3.{Vec3}
 use Rattle.arena_geo.specs.Bounds.{Bounds}
 use Rattle.arena_geo.specs.Boxes.{overlaps, is_blocked}
@@ -24,13 +25,13 @@ abbrev pub IsFirstOverlap : Bounds → Vec3 → Bounds → Option ℕ → Type 0
 IsFirstOverlap body d solid None = IsApart body d solid
 IsFirstOverlap body d solid (Some k) = OverlapsFirst body d solid k
 
--- the meeting is the first overlap with this solid, which stands at this place
+-- the meeting is the first overlap with this solid, which has this place in its list
 pub record MeetsAlone (body : Bounds) (d : Vec3) (one : Bounds) (place : ℕ) (meeting : Meeting) : Type 0 where
   pub overlap : OverlapsFirst body d one meeting.step
   pub block : meeting.block ≡ place
   pub solid : meeting.solid ≡ one
 
--- the first overlap with this solid, which stands at this place, none where there is none
+-- the first overlap with this solid, which has this place in its list, none where there is none
 abbrev pub IsMeetingWith : Bounds → Vec3 → Bounds → ℕ → Option Meeting → Type 0
 IsMeetingWith body d one place None = IsApart body d one
 IsMeetingWith body d one place (Some meeting) = MeetsAlone body d one place meeting
@@ -46,7 +47,7 @@ pub record MeetsAt (k : ℕ) (body : Bounds) (solids : List Bounds) (meeting : M
   pub block : position (overlaps body) solids ≡ Some meeting.block
   pub solid : find (overlaps body) solids ≡ Some meeting.solid
 
--- the meeting at step k, where the body then stands here: none where no solid overlaps it
+-- the meeting at step k, where the body then is: none where no solid overlaps it
 abbrev pub IsMeetingAt : ℕ → Bounds → List Bounds → Option Meeting → Type 0
 IsMeetingAt k body solids None = is_blocked body solids ≡ false
 IsMeetingAt k body solids (Some meeting) = MeetsAt k body solids meeting
@@ -62,7 +63,7 @@ abbrev pub IsFirstMeeting : Bounds → Vec3 → List Bounds → Option Meeting �
 IsFirstMeeting body d solids None = IsFree body d solids (step_count d)
 IsFirstMeeting body d solids (Some meeting) = MeetsFirst body d solids meeting
 
--- the same meeting, where so many solids stand before those of its list
+-- the same meeting in a longer list, which has so many other solids first
 abbrev pub after : ℕ → Meeting → Meeting
 after solids meeting = record meeting { block = solids + meeting.block }
 

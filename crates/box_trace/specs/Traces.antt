@@ -1,14 +1,23 @@
 -- What a trace is: how far a body comes before a solid stops it, and which solid that is.
-use Rattle.std.specs.Prelude.{◌≡◌, ℕ, zero, suc, ◌+◌, ◌≤◌, ◌==◌, Bool, true, false, not, ◌&&◌, if◌then◌else◌, List, Option, Some, None, position, find, slice_get, option_and_then}
+use Rattle.std.specs.Prelude.{◌≡◌, ℕ, zero, suc, ◌+◌, ◌≤◌, ◌==◌, Bool, true, false, not, ◌&&◌, if◌then◌else◌}
+use Rattle.std.specs.Prelude.{List, Option, Some, None, position, find, slice_get, option_map, option_and_then}
 use Rattle.arena_geo.specs.declared.vec3.Vec3.{Vec3}
 use Rattle.arena_geo.specs.Bounds.{Bounds}
 use Rattle.arena_geo.specs.Boxes.{overlaps_on, overlaps, is_blocked}
+use Rattle.box_trace.specs.declared.axis.Axis.{Axis}
+use Rattle.box_trace.specs.declared.axis.Axis.TheVariants.{X, Y, Z}
 use Rattle.box_trace.specs.declared.hit.Hit.{Hit}
+use Rattle.box_trace.specs.Axes.{number_of}
 use Rattle.box_trace.specs.Steps.{step_count, body_at}
 
 -- none of the steps 1 to k is blocked
 pub record IsFree (body : Bounds) (d : Vec3) (solids : List Bounds) (k : ℕ) : Type 0 where
   pub free : (i : ℕ) → 1 ≤ i → i ≤ k → is_blocked (body_at body d i) solids ≡ false
+
+-- no solid overlaps the body at any step of the way after the start
+abbrev pub IsFreeWay : Bounds → Vec3 → List Bounds → Type 0
+IsFreeWay body d solids =
+    (k : ℕ) → 1 ≤ k → k ≤ step_count d → is_blocked (body_at body d k) solids ≡ false
 
 -- the place in the list of the first solid that blocks step k
 abbrev pub block_at : Bounds → Vec3 → List Bounds → ℕ → Option ℕ
@@ -18,14 +27,18 @@ block_at body d solids k = position (overlaps (body_at body d k)) solids
 abbrev pub blocker_at : Bounds → Vec3 → List Bounds → ℕ → Option Bounds
 blocker_at body d solids k = find (overlaps (body_at body d k)) solids
 
--- the first of x, y and z (0, 1 and 2) on which two boxes don't overlap, none where they overlap on all three
-abbrev pub apart_axis : Bounds → Bounds → Option ℕ
-apart_axis a b =
+-- the first axis on which two boxes don't overlap, none where they overlap on all three
+abbrev pub separating_axis : Bounds → Bounds → Option Axis
+separating_axis a b =
     if overlaps_on a.lo.x a.hi.x b.lo.x b.hi.x
     then (if overlaps_on a.lo.y a.hi.y b.lo.y b.hi.y
-    then (if overlaps_on a.lo.z a.hi.z b.lo.z b.hi.z then None else Some 2)
-    else Some 1)
-    else Some 0
+    then (if overlaps_on a.lo.z a.hi.z b.lo.z b.hi.z then None else Some Z)
+    else Some Y)
+    else Some X
+
+-- the number of that axis
+abbrev pub apart_axis : Bounds → Bounds → Option ℕ
+apart_axis a b = option_map number_of (separating_axis a b)
 
 -- the axis on which the body runs into the first solid that blocks the step after k
 abbrev pub axis_after : Bounds → Vec3 → List Bounds → ℕ → Option ℕ

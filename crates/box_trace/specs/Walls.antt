@@ -1,28 +1,24 @@
 -- The walls of an arena: the solids that bound it.
-use Rattle.std.specs.Prelude.{◌≡◌, Bool, true, false, ◌||◌, List, [], ◌∷◌, ◌++◌, pos, ℤ}
+use Rattle.std.specs.Prelude.{◌≡◌, Bool, true, false, ◌||◌, List, [], ◌∷◌, ◌++◌, pos}
 use Rattle.std.proofs.lemmas.List.Folds.{list_any-append}
 use Rattle.arena_geo.specs.declared.vec3.Vec3.{Vec3}
-use Rattle.arena_geo.specs.Vectors.{plus, minus}
+use Rattle.arena_geo.specs.Vectors.{vector, plus, minus}
 use Rattle.arena_geo.specs.Bounds.{Bounds, bounds}
 use Rattle.arena_geo.specs.Boxes.{is_blocked}
 
--- the place with these coordinates
-abbrev pub place : ℤ → ℤ → ℤ → Vec3
-place x y z = record { x = x; y = y; z = z }
-
 -- how thick a wall is on each axis, in sub-units
 abbrev pub thick : Vec3
-thick = place (pos 16384) (pos 16384) (pos 16384)
+thick = vector (pos 16384) (pos 16384) (pos 16384)
 
--- the place, with its coordinate on one axis from another
+-- the first vector, with its part on one axis from the second
 abbrev pub with_x : Vec3 → Vec3 → Vec3
-with_x v from = place from.x v.y v.z
+with_x v from = vector from.x v.y v.z
 
 abbrev pub with_y : Vec3 → Vec3 → Vec3
-with_y v from = place v.x from.y v.z
+with_y v from = vector v.x from.y v.z
 
 abbrev pub with_z : Vec3 → Vec3 → Vec3
-with_z v from = place v.x v.y from.z
+with_z v from = vector v.x v.y from.z
 
 -- the corners of the arena and its walls
 abbrev pub low : Bounds → Vec3
@@ -50,8 +46,9 @@ or_true : (s t : Bool) → s ≡ true → (s || t) ≡ true
 or_true true t h = h
 or_true false t h = cc
 
--- more solids behind these block what these block
-blocked_by_more : (b : Bounds) (solids more : List Bounds) → is_blocked b solids ≡ true → is_blocked b (solids ++ more) ≡ true
+-- solids with more after them block what they block
+blocked_by_more : (b : Bounds) (solids more : List Bounds)
+    → is_blocked b solids ≡ true → is_blocked b (solids ++ more) ≡ true
 blocked_by_more b solids more h =
     rw list_any-append (or_true (is_blocked b solids) (is_blocked b more) h)
 
@@ -60,7 +57,8 @@ pub have_walls_first : (arena : Bounds) (more : List Bounds) → HaveWalls arena
 have_walls_first arena more =
     record { blocked = λ b h. blocked_by_more b (walls_of arena) more h }
 
--- solids that have the walls have them with more behind
-pub have_walls_more : (arena : Bounds) (solids more : List Bounds) → HaveWalls arena solids → HaveWalls arena (solids ++ more)
+-- solids that have the walls have them with more after them
+pub have_walls_more : (arena : Bounds) (solids more : List Bounds)
+    → HaveWalls arena solids → HaveWalls arena (solids ++ more)
 have_walls_more arena solids more have =
     record { blocked = λ b h. blocked_by_more b solids more (have.blocked b h) }

@@ -1,5 +1,6 @@
 -- The steps at which a span that moves overlaps another one.
-use Rattle.std.specs.Prelude.{◌≡◌, ℕ, ◌+◌, ◌*◌, ◌/◌, ◌≤◌, max, min, Option, Some, None, if◌then◌else◌, nat_le, nat_lt, ℤ, pos, ◌+ℤ◌, neg_ℤ, int_le, unsigned_abs, ◌&&◌}
+use Rattle.std.specs.Prelude.{◌≡◌, ℕ, ◌+◌, ◌*◌, ◌/◌, ◌≤◌, max, min, nat_le, nat_lt, ◌&&◌, if◌then◌else◌}
+use Rattle.std.specs.Prelude.{Option, Some, None, ℤ, pos, ◌+ℤ◌, neg_ℤ, int_le, unsigned_abs}
 use Rattle.arena_geo.specs.Boxes.{overlaps_on}
 use Rattle.box_trace.specs.declared.span.Span.{Span}
 use Rattle.box_trace.specs.declared.window.Window.{Window}

@@ -1,26 +1,28 @@
-ghost use Rattle.std.specs.Prelude.{◌≡◌, ◌+◌, ◌≤◌, ◌↔◌, ◌++◌, ◌||◌, length, IsTrue, IsNone, is_none};
+ghost use Rattle.std.specs.Prelude.{◌≡◌, ◌+◌, ◌≤◌, ◌↔◌, ◌++◌, ◌||◌};
+ghost use Rattle.std.specs.Prelude.{length, IsTrue, IsNone, is_none};
 ghost use Rattle.arena_geo.specs.Vectors.{IsNear};
 ghost use Rattle.arena_geo.specs.Bounds.{IsInRange};
 ghost use Rattle.arena_geo.specs.Boxes.{moved};
 ghost use Rattle.box_trace.specs.Traces.{IsTrace, trace_of, is_inside_block};
 ghost use Rattle.box_trace.specs.Meetings.{IsFirstMeeting};
 
-use crate::hit::Hit;
+use crate::hit::{Hit, MOST_SOLIDS};
 use crate::meeting::{Meeting, earlier};
-use crate::way::Way;
+use crate::way::{REACH, Way};
 use arena_geo::{Aabb, Vec3};
 
 /// Moves a box along a displacement until a solid stops it. The displacement is gone in as many steps as its
 /// greatest part has sub-units, each part cut toward 0 at each step, and the body stops before the first step
 /// after the start at which it overlaps a solid. The solids are the two slices, read as one list, `fixed` first.
 ///
-/// At most 65,535 solids; each part of `d` at most [`REACH`](crate::REACH) from 0; the body stays in range along its
-/// way. The work grows with the number of solids alone: each axis is solved for the steps at which the boxes overlap
-/// on it. [`trace_by_steps`](crate::trace_by_steps) gives the same answer by trying every step.
+/// There are at most [`MOST_SOLIDS`] solids, each part of `d` is at most [`REACH`] from 0, and the body is in range at
+/// the end of its way, and so all along it. The work grows with the number of solids alone: each axis is solved for the
+/// steps at which the boxes overlap on it. [`trace_by_steps`](crate::trace_by_steps) gives the same answer by trying
+/// every step.
 pub fn trace(body: &Aabb, d: Vec3, fixed: &[Aabb], moving: &[Aabb]) -> Hit
-    requires near { IsNear 65536 d }
+    requires near { IsNear REACH d }
     requires in_range { IsInRange (moved body.now d) }
-    requires few { length fixed.now + length moving.now ≤ 65535 }
+    requires few { length fixed.now + length moving.now ≤ MOST_SOLIDS }
     ensures is_trace { IsTrace body.now d (fixed.now ++ moving.now) result }
     ensures value { result ≡ trace_of body.now d (fixed.now ++ moving.now) }
 
@@ -33,7 +35,7 @@ pub fn trace(body: &Aabb, d: Vec3, fixed: &[Aabb], moving: &[Aabb]) -> Hit
 
 /// What the body meets first.
 fn first_meeting(way: &Way, fixed: &[Aabb], moving: &[Aabb]) -> Option<Meeting>
-    requires { length fixed.now + length moving.now ≤ 65535 }
+    requires { length fixed.now + length moving.now ≤ MOST_SOLIDS }
     ensures { IsFirstMeeting way.now.body way.now.d (fixed.now ++ moving.now) result }
 {
     let first = first_meeting_among(way, fixed);
@@ -45,7 +47,7 @@ fn first_meeting(way: &Way, fixed: &[Aabb], moving: &[Aabb]) -> Option<Meeting>
 
 /// What the body meets first of these solids.
 fn first_meeting_among(way: &Way, solids: &[Aabb]) -> Option<Meeting>
-    requires { length solids.now ≤ 65535 }
+    requires { length solids.now ≤ MOST_SOLIDS }
     ensures { IsFirstMeeting way.now.body way.now.d solids.now result }
 {
     let mut first = None;

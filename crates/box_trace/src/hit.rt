@@ -1,3 +1,6 @@
+/// The greatest number of solids that a trace may have.
+pub const MOST_SOLIDS: usize = 65_535;
+
 /// What a trace finds.
 #[derive(Clone, Copy, Debug, PartialEq, Eq)]
 pub struct Hit {

@@ -14,7 +14,7 @@ pub struct Meeting {
 }
 
 impl Meeting {
-    /// The same meeting, where so many solids stand before those of its list.
+    /// The same meeting in a longer list, which has so many other solids first.
     pub fn after(self, solids: usize) -> Meeting
         requires { solids + self.block < 2 ^ 16 }
         ensures { result ≡ meetings.after solids self }

@@ -3,6 +3,7 @@ ghost use Rattle.arena_geo.specs.Boxes as boxes;
 ghost use Rattle.box_trace.specs.Traces as traces;
 ghost use Rattle.box_trace.specs.Windows.{IsNearSpan, span, mirrored};
 
+use crate::axis::Axis;
 use arena_geo::Aabb;
 
 /// What a box takes up on one axis, in sub-units.
@@ -66,16 +67,16 @@ impl Span {
     }
 }
 
-/// The first axis, 0 for x, 1 for y and 2 for z, on which the boxes don't overlap.
-pub fn apart_axis(a: &Aabb, b: &Aabb) -> Option<u8>
-    ensures { result ≡ traces.apart_axis a.now b.now }
+/// The first axis on which the boxes don't overlap.
+pub fn separating_axis(a: &Aabb, b: &Aabb) -> Option<Axis>
+    ensures { result ≡ traces.separating_axis a.now b.now }
 {
     if !Span::on_x(a).overlaps(Span::on_x(b)) {
-        Some(0)
+        Some(Axis::X)
     } else if !Span::on_y(a).overlaps(Span::on_y(b)) {
-        Some(1)
+        Some(Axis::Y)
     } else if !Span::on_z(a).overlaps(Span::on_z(b)) {
-        Some(2)
+        Some(Axis::Z)
     } else {
         None
     }

@@ -75,8 +75,8 @@ fn walls_outside(lo: Vec3, hi: Vec3) -> [Aabb; 6]
 }
 
 /// The six walls just outside the arena, in the order low x, high x, low y, high y, low z, high z. Each is 16,384
-/// sub-units thick, and on the two other axes reaches as far beyond the arena. The arena's corners are at most 1,048,576
-/// sub-units from 0.
+/// sub-units thick, and on the two other axes reaches as far beyond the arena. The arena's corners are at most
+/// 1,048,576 sub-units from 0.
 pub fn arena_walls(arena: &Aabb) -> [Aabb; 6]
     requires lo { IsNear 1048576 arena.now.lo }
     requires hi { IsNear 1048576 arena.now.hi }
@@ -99,7 +99,7 @@ mod tests {
     }
 
     #[test]
-    fn walls_stand_outside_the_arena(rt: HostRuntime) -> Result<(), Fail> {
+    fn walls_are_outside_the_arena(rt: HostRuntime) -> Result<(), Fail> {
         let lo = Vec3 {
             x: -131_072,
             y: -131_072,

@@ -8,7 +8,7 @@ ghost use Rattle.box_trace.specs.Meetings.{IsFirstOverlap, IsMeetingWith, IsOnWa
 
 use crate::hit::Hit;
 use crate::meeting::Meeting;
-use crate::span::{Span, apart_axis};
+use crate::span::{Span, separating_axis};
 use crate::window::{Window, overlap_window};
 use arena_geo::{Aabb, Vec3};
 
@@ -36,7 +36,7 @@ fn part_at(part: i32, k: u32, count: u32) -> i32
 
 /// How far a body has come at step `k` of its displacement, in sub-units, cut toward 0 on each axis.
 pub fn shift_at(d: Vec3, k: u32) -> Vec3
-    requires near { IsNear 65536 d }
+    requires near { IsNear REACH d }
     requires within { k ≤ steps.step_count d }
     ensures { result ≡ steps.shift_at d k }
 {
@@ -70,7 +70,8 @@ impl Way {
         ensures body { result.body ≡ body.now }
         ensures d { result.d ≡ d }
     {
-        let _ = body.lo();
+        // To read a corner is to know that the box is ordered and in range.
+        let _corner = body.lo();
         Way {
             body: *body,
             d,
@@ -105,7 +106,7 @@ impl Way {
         Some(steps.from)
     }
 
-    /// The first overlap with the solid, which stands at this place in its list.
+    /// The first overlap with the solid, which has this place in its list.
     pub fn meeting_with(&self, solid: &Aabb, block: u16) -> Option<Meeting>
         ensures { IsMeetingWith self.now.body self.now.d solid.now block result }
     {
@@ -131,10 +132,11 @@ impl Way {
             };
         };
         let steps = meeting.step - 1;
+        let axis = separating_axis(&self.body_at(steps), &meeting.solid);
         Hit {
             steps,
             whole: false,
-            axis: apart_axis(&self.body_at(steps), &meeting.solid),
+            axis: axis.map(|axis| axis.number()),
             block: Some(meeting.block),
         }
     }

@@ -3,6 +3,7 @@ ghost use Rattle.box_trace.specs.Windows as windows;
 ghost use Rattle.box_trace.specs.Windows.{IsFirstReach, IsOverlapWindow, IsNearSpan};
 
 use crate::span::Span;
+use crate::way::REACH;
 
 /// The steps from `from` on and before `to`.
 #[derive(Clone, Copy)]
@@ -30,7 +31,7 @@ impl Window {
 /// `count + 1` where it has not even at the last one.
 fn first_reach(target: i32, size: u32, count: u32) -> u32
     requires size { size ≤ count }
-    requires count { count ≤ 65536 }
+    requires count { count ≤ REACH }
     ensures { IsFirstReach target size count result }
 {
     if target <= 0 {
@@ -43,11 +44,11 @@ fn first_reach(target: i32, size: u32, count: u32) -> u32
     (u64::from(target) * u64::from(count)).div_ceil(u64::from(size)) as u32
 }
 
-/// The window of a span that moves upwards by `size`: from where it has come farther than to touch the other span,
-/// until it has left it behind.
+/// The window of a span that moves upwards by `size`: from the step at which it has come farther than to touch the
+/// other span, to the step at which it has passed it.
 fn window_upwards(span: Span, other: Span, size: u32, count: u32) -> Window
     requires size { size ≤ count }
-    requires count { count ≤ 65536 }
+    requires count { count ≤ REACH }
     requires near { IsNearSpan span }
     requires other_near { IsNearSpan other }
     ensures { IsOverlapWindow span other (pos size) count result }
@@ -61,7 +62,7 @@ fn window_upwards(span: Span, other: Span, size: u32, count: u32) -> Window
 /// The steps, up to `count`, at which the span overlaps the other, where it moves by `part` in all of them.
 pub fn overlap_window(span: Span, other: Span, part: i32, count: u32) -> Window
     requires part { unsigned_abs part ≤ count }
-    requires count { count ≤ 65536 }
+    requires count { count ≤ REACH }
     requires near { IsNearSpan span }
     requires other_near { IsNearSpan other }
     ensures { IsOverlapWindow span other part count result }

@@ -2,7 +2,12 @@
 pub use Rattle.arena_geo.specs.Vectors
 pub use Rattle.arena_geo.specs.Bounds
 pub use Rattle.arena_geo.specs.Boxes
+pub use Rattle.arena_geo.specs.Regions
 pub mod Kinds
 pub mod Records
 pub mod Bodies
+pub mod Commands
+pub mod Worlds
+pub mod Histories
+pub mod Actions
 pub mod Laws

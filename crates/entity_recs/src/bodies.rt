@@ -55,7 +55,7 @@ fn growth(kind: Kind) -> Vec3
     }
 }
 
-/// The body of a player that stands at `origin`, of which each coordinate is at most 1,048,576 from 0.
+/// The body of a player with this `origin`, of which each coordinate is at most 1,048,576 from 0.
 pub fn player_box(origin: Vec3) -> Aabb
     requires { IsNear 1048576 origin }
     ensures { result ≡ player_body origin }
@@ -71,8 +71,9 @@ pub fn body_box(r: &Rec) -> Aabb
     Aabb::new(r.origin + r.mins, r.origin + r.maxs).unwrap()
 }
 
-/// The absolute box of a record, by which it is linked and touched, as `absmin` and `absmax` of Quake's
-/// `SV_LinkEdict`: the body, larger by 256 on all sides; an item's is larger by 3,840 on x and y alone.
+/// The absolute box of a record, by which it is linked and touched: it plays the part of `absmin` and `absmax` in
+/// Quake's `SV_LinkEdict`. It is the body, larger by 256 on all sides; an item's is larger by 3,840 on x and y alone.
+/// The amounts are this project's own.
 pub fn abs_box(r: &Rec) -> Aabb
     requires { IsRecord r.now }
     ensures { result ≡ abs_of r.now }

@@ -1,6 +1,6 @@
 ghost use Rattle.std.specs.Prelude.{◌≡◌};
 
-/// What a record stands for. A player and a lift are solids, the others are triggers; ammunition and gems are items.
+/// What a record is. A player and a lift are solids, the others are triggers; ammunition and gems are items.
 #[derive(Clone, Copy, Debug, PartialEq, Eq)]
 pub enum Kind {
     Player = 0,

@@ -1,5 +1,6 @@
 use crate::kind::Kind;
 use arena_geo::Vec3;
+use std::alloc::AllocError;
 
 /// One entity: a player in its slot, or a thing of the map. Lengths are in sub-units, velocities in sub-units a second.
 ///
@@ -9,9 +10,9 @@ use arena_geo::Vec3;
 pub struct Rec {
     /// The slot, 0 to 63, of a player; 64 to 255 for a thing of the map.
     pub id: u16,
-    /// What it stands for.
+    /// What it is.
     pub kind: Kind,
-    /// Where it stands. The low corner of a teleporter, a goal or a lift.
+    /// Where it is. The low corner of a teleporter, a goal or a lift.
     pub origin: Vec3,
     /// The low corner of the body, seen from the origin.
     pub mins: Vec3,
@@ -31,4 +32,15 @@ pub struct Rec {
     pub seq: u32,
     /// For a taken item the frame in which it returns; for a lift 0 where it rises and 1 where it falls; else 0.
     pub state: u64,
+}
+
+impl Rec {
+    ghost use Rattle.std.specs.Prelude.{◌≡◌};
+
+    /// A clone of the record: the record itself. It takes no memory and never fails.
+    pub fn cloned(&self) -> Result<Rec, AllocError>
+        ensures { result ≡ Ok self.now }
+    {
+        self.clone()
+    }
 }

@@ -17,13 +17,17 @@ use Rattle.slide_move.proofs.Turns.{shift-turn_of}
 use Rattle.slide_move.proofs.Places.{All-none, All-steps_to, All-then, anywhere, ends_at_last_place}
 
 -- a turn ends inside
-turn_ends_inside : (arena body : Bounds) (vel way : Vec3) (solids : List Bounds) → IsOrdered body → HaveWalls arena solids → contains arena body ≡ true → contains arena (moved body (turn_of body vel way solids).slid.shift) ≡ true
+turn_ends_inside : (arena body : Bounds) (vel way : Vec3) (solids : List Bounds) → IsOrdered body
+    → HaveWalls arena solids → contains arena body ≡ true
+    → contains arena (moved body (turn_of body vel way solids).slid.shift) ≡ true
 turn_ends_inside arena body vel way solids ordered have inside =
     let k = (trace_of body way solids).steps in
     let P : Vec3 → Type 0 = λ shift. contains arena (moved body shift) ≡ true in
     subst P (sym (shift-turn_of body vel way solids)) (trace_stays_inside arena body way solids ordered have inside k (omega arith))
 
-places_inside_along : (traces : ℕ) (arena body : Bounds) (vel way : Vec3) (solids : List Bounds) → IsOrdered body → HaveWalls arena solids → contains arena body ≡ true → All (λ place. contains arena place ≡ true) (places_along traces body vel way solids)
+places_inside_along : (traces : ℕ) (arena body : Bounds) (vel way : Vec3) (solids : List Bounds) → IsOrdered body
+    → HaveWalls arena solids → contains arena body ≡ true
+    → All (λ place. contains arena place ≡ true) (places_along traces body vel way solids)
 unfolding places_along
 places_inside_along zero arena body vel way solids ordered have inside = All-none _
 places_inside_along (suc traces) arena body vel way solids ordered have inside =
@@ -36,7 +40,8 @@ places_inside_along (suc traces) arena body vel way solids ordered have inside =
     (All-then P (λ r. places_along traces there turn.slid.vel r solids) turn.rest (anywhere turn.rest) (λ r _. places_inside_along traces arena there turn.slid.vel r solids (IsOrdered-moved body turn.slid.shift ordered) have (turn_ends_inside arena body vel way solids ordered have inside)))
 
 -- the last place is inside where the start and all places are
-last_place_inside : (arena start : Bounds) (places : List Bounds) → contains arena start ≡ true → All (λ place. contains arena place ≡ true) places → contains arena (last_place start places) ≡ true
+last_place_inside : (arena start : Bounds) (places : List Bounds) → contains arena start ≡ true
+    → All (λ place. contains arena place ≡ true) places → contains arena (last_place start places) ≡ true
 last_place_inside arena start [] first each = first
 last_place_inside arena start (place ∷ places) first each =
     let P : Bounds → Type 0 = λ b. contains arena b ≡ true in

@@ -7,3 +7,7 @@ pub mod Places
 pub mod Underway
 pub mod Reaches
 pub mod Insides
+pub mod Findings
+pub mod Hits
+pub mod GoingOn
+pub mod TraceCounts

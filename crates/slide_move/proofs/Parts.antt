@@ -26,7 +26,8 @@ IsPart-trans whole part piece p q =
     }
 
 -- what a piece leaves of a part is a part of what it leaves of the whole
-pub IsPart-minus : (whole part piece : ℤ) → IsPart whole part → IsPart part piece → IsPart (whole -ℤ piece) (part -ℤ piece)
+pub IsPart-minus : (whole part piece : ℤ) → IsPart whole part → IsPart part piece
+    → IsPart (whole -ℤ piece) (part -ℤ piece)
 IsPart-minus (pos n) part piece p q =
     let far = p.no_farther in
     let near = q.no_farther in
@@ -68,7 +69,8 @@ IsPart-left (negsuc n) part p =
     }
 
 -- a part, and then a part of what it leaves
-pub IsPart-plus : (whole first next : ℤ) → IsPart whole first → IsPart (whole -ℤ first) next → IsPart whole (first +ℤ next)
+pub IsPart-plus : (whole first next : ℤ) → IsPart whole first → IsPart (whole -ℤ first) next
+    → IsPart whole (first +ℤ next)
 IsPart-plus (pos n) first next p q =
     let far = p.no_farther in
     let near = q.no_farther in
@@ -106,7 +108,8 @@ IsPart-part_at n k (negsuc a) within = record {
 }
 
 -- what is in range at both ends of the whole is in range at the end of a part
-pub in_range_after_part : (from whole part : ℤ) (far : ℕ) → IsPart whole part → unsigned_abs from ≤ far → unsigned_abs (from +ℤ whole) ≤ far → unsigned_abs (from +ℤ part) ≤ far
+pub in_range_after_part : (from whole part : ℤ) (far : ℕ) → IsPart whole part → unsigned_abs from ≤ far
+    → unsigned_abs (from +ℤ whole) ≤ far → unsigned_abs (from +ℤ part) ≤ far
 in_range_after_part from (pos n) part far p first last =
     let size = p.no_farther in
     let up : pos 0 ≤ℤ part = p.stays_positive (omega (arith, ints)) in

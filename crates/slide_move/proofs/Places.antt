@@ -17,7 +17,7 @@ use Rattle.slide_move.specs.Slides.{still, turn_of, slide_along, slide_of}
 use Rattle.slide_move.specs.Places.{steps_to, places_along, places_of, last_place}
 use Rattle.slide_move.specs.Changes.{IsPartOfWay}
 use Rattle.slide_move.specs.Laws.{PlacesAreFree, EndsAtLastPlace, PlacesAreInRange}
-use Rattle.slide_move.proofs.Ways.{moved-nowhere, moved-moved, shift_at-zero, IsInRange-part, IsPartOfWay-plus}
+use Rattle.slide_move.proofs.Ways.{moved-zero_vector, moved-moved, shift_at-zero, IsInRange-part, IsPartOfWay-plus}
 use Rattle.slide_move.proofs.Turns.{IsTurn-turn_of, shift-turn_of}
 
 pub All-none : (P : Bounds → Type 0) → All P []
@@ -27,14 +27,16 @@ All-one : (P : Bounds → Type 0) (b : Bounds) → P b → All P (b ∷ [])
 All-one P b p = search rules
 
 -- what holds at each step holds of all the steps
-pub All-steps_to : (P : Bounds → Type 0) (k : ℕ) (body : Bounds) (way : Vec3) → ((i : ℕ) → 1 ≤ i → i ≤ k → P (body_at body way i)) → All P (steps_to k body way)
+pub All-steps_to : (P : Bounds → Type 0) (k : ℕ) (body : Bounds) (way : Vec3)
+    → ((i : ℕ) → 1 ≤ i → i ≤ k → P (body_at body way i)) → All P (steps_to k body way)
 All-steps_to P zero body way each = All-none P
 All-steps_to P (suc k) body way each =
     All-append P (steps_to k body way) (body_at body way (suc k) ∷ [])
     (All-steps_to P k body way (λ i from within. each i from (omega arith)))
     (All-one P (body_at body way (suc k)) (each (suc k) (omega arith) (omega arith)))
 
-pub All-then : (P : Bounds → Type 0) (f : Vec3 → List Bounds) (rest : Option Vec3) {Q : Vec3 → Type 0} → IfSome rest Q → ((r : Vec3) → Q r → All P (f r)) → All P (option_map_or f rest [])
+pub All-then : (P : Bounds → Type 0) (f : Vec3 → List Bounds) (rest : Option Vec3) {Q : Vec3 → Type 0} → IfSome rest Q
+    → ((r : Vec3) → Q r → All P (f r)) → All P (option_map_or f rest [])
 All-then P f None is each = All-none P
 All-then P f (Some r) is each = each r is
 
@@ -46,7 +48,8 @@ unfolding IsAnywhere
 anywhere None = tt
 anywhere (Some r) = tt
 
-places_free_along : (traces : ℕ) (body : Bounds) (vel way : Vec3) (solids : List Bounds) → All (λ place. is_blocked place solids ≡ false) (places_along traces body vel way solids)
+places_free_along : (traces : ℕ) (body : Bounds) (vel way : Vec3) (solids : List Bounds)
+    → All (λ place. is_blocked place solids ≡ false) (places_along traces body vel way solids)
 unfolding places_along
 places_free_along zero body vel way solids = All-none _
 places_free_along (suc traces) body vel way solids =
@@ -63,7 +66,8 @@ unfolding places_of
 places_are_free body vel ms solids = places_free_along 4 body vel (displacement vel ms) solids
 
 -- ---- in range
-places_in_range_along : (traces : ℕ) (body : Bounds) (vel way : Vec3) (solids : List Bounds) → IsInRange body → IsInRange (moved body way) → All IsInRange (places_along traces body vel way solids)
+places_in_range_along : (traces : ℕ) (body : Bounds) (vel way : Vec3) (solids : List Bounds) → IsInRange body
+    → IsInRange (moved body way) → All IsInRange (places_along traces body vel way solids)
 unfolding places_along
 places_in_range_along zero body vel way solids first last = All-none _
 places_in_range_along (suc traces) body vel way solids first last =
@@ -77,7 +81,8 @@ places_in_range_along (suc traces) body vel way solids first last =
     (All-steps_to IsInRange k body way (λ i from within. IsInRange-body_at body way i first last (omega arith)))
     (All-then IsInRange (λ r. places_along traces there turn.slid.vel r solids) turn.rest is.leaves (λ r part. places_in_range_along traces there turn.slid.vel r solids here (end_of_rest body way turn.slid.shift r is.goes part first last)))
   where
-    end_of_rest : (b : Bounds) (w shift r : Vec3) → IsPartOfWay w shift → IsPartOfWay (minus w shift) r → IsInRange b → IsInRange (moved b w) → IsInRange (moved (moved b shift) r)
+    end_of_rest : (b : Bounds) (w shift r : Vec3) → IsPartOfWay w shift → IsPartOfWay (minus w shift) r → IsInRange b
+        → IsInRange (moved b w) → IsInRange (moved (moved b shift) r)
     end_of_rest b w shift r p q from to =
         subst IsInRange (sym (moved-moved b shift r)) (IsInRange-part b w (plus shift r) (IsPartOfWay-plus w shift r p q) from to)
 
@@ -86,21 +91,26 @@ unfolding places_of
 places_are_in_range body vel ms solids = places_in_range_along 4 body vel (displacement vel ms) solids
 
 -- ---- the last place
-last_place-append : (start : Bounds) (xs ys : List Bounds) → last_place start (xs ++ ys) ≡ last_place (last_place start xs) ys
+last_place-append : (start : Bounds) (xs ys : List Bounds)
+    → last_place start (xs ++ ys) ≡ last_place (last_place start xs) ys
 last_place-append start [] ys = refl
 last_place-append start (x ∷ xs) ys = last_place-append x xs ys
 
-last_place-steps_to : (k : ℕ) (body : Bounds) (way : Vec3) → last_place body (steps_to k body way) ≡ moved body (shift_at way k)
-last_place-steps_to zero body way = sym (ap (moved body) (shift_at-zero way) ∙ moved-nowhere body)
+last_place-steps_to : (k : ℕ) (body : Bounds) (way : Vec3)
+    → last_place body (steps_to k body way) ≡ moved body (shift_at way k)
+last_place-steps_to zero body way = sym (ap (moved body) (shift_at-zero way) ∙ moved-zero_vector body)
 last_place-steps_to (suc k) body way = last_place-append body (steps_to k body way) (body_at body way (suc k) ∷ [])
 
-last_then : (there : Bounds) (vel : Vec3) (f : Vec3 → Slid) (g : Vec3 → List Bounds) (rest : Option Vec3) → ((r : Vec3) → moved there (f r).shift ≡ last_place there (g r)) → moved there (option_map_or f rest (still vel)).shift ≡ last_place there (option_map_or g rest [])
-last_then there vel f g None each = moved-nowhere there
+last_then : (there : Bounds) (vel : Vec3) (f : Vec3 → Slid) (g : Vec3 → List Bounds) (rest : Option Vec3)
+    → ((r : Vec3) → moved there (f r).shift ≡ last_place there (g r))
+    → moved there (option_map_or f rest (still vel)).shift ≡ last_place there (option_map_or g rest [])
+last_then there vel f g None each = moved-zero_vector there
 last_then there vel f g (Some r) each = each r
 
-last_place_along : (traces : ℕ) (body : Bounds) (vel way : Vec3) (solids : List Bounds) → moved body (slide_along traces body vel way solids).shift ≡ last_place body (places_along traces body vel way solids)
+last_place_along : (traces : ℕ) (body : Bounds) (vel way : Vec3) (solids : List Bounds)
+    → moved body (slide_along traces body vel way solids).shift ≡ last_place body (places_along traces body vel way solids)
 unfolding slide_along places_along
-last_place_along zero body vel way solids = moved-nowhere body
+last_place_along zero body vel way solids = moved-zero_vector body
 last_place_along (suc traces) body vel way solids =
     let turn = turn_of body vel way solids in
     let there = moved body turn.slid.shift in

@@ -9,7 +9,8 @@ use Rattle.box_trace.proofs.Parts.{unsigned_abs-part_at}
 use Rattle.slide_move.specs.Displacements.{distance, displacement}
 use Rattle.slide_move.specs.Laws.{ReachSuffices}
 
-pub distance_near : (speed : ℤ) (ms : ℕ) → unsigned_abs speed ≤ 600000 → ms ≤ 50 → unsigned_abs (distance speed ms) ≤ 30000
+pub distance_near : (speed : ℤ) (ms : ℕ) → unsigned_abs speed ≤ 600000 → ms ≤ 50
+    → unsigned_abs (distance speed ms) ≤ 30000
 distance_near speed ms near most =
     let size = unsigned_abs-part_at 1000 ms speed in
     let product : unsigned_abs speed * ms ≤ 600000 * 50 = mul-le (unsigned_abs speed) ms 600000 50 near most in
@@ -39,10 +40,12 @@ IsNear-displacement vel ms near most = record {
   z = distance_near vel.z ms near.z most;
 }
 
-low_in_range : (lo hi d : ℤ) → lo ≤ℤ hi → unsigned_abs d ≤ 30000 → unsigned_abs (lo -ℤ pos 30000) ≤ 2097152 → unsigned_abs (hi +ℤ pos 30000) ≤ 2097152 → unsigned_abs (lo +ℤ d) ≤ 2097152
+low_in_range : (lo hi d : ℤ) → lo ≤ℤ hi → unsigned_abs d ≤ 30000 → unsigned_abs (lo -ℤ pos 30000) ≤ 2097152
+    → unsigned_abs (hi +ℤ pos 30000) ≤ 2097152 → unsigned_abs (lo +ℤ d) ≤ 2097152
 low_in_range lo hi d ordered near low high = omega (arith, ints)
 
-high_in_range : (lo hi d : ℤ) → lo ≤ℤ hi → unsigned_abs d ≤ 30000 → unsigned_abs (lo -ℤ pos 30000) ≤ 2097152 → unsigned_abs (hi +ℤ pos 30000) ≤ 2097152 → unsigned_abs (hi +ℤ d) ≤ 2097152
+high_in_range : (lo hi d : ℤ) → lo ≤ℤ hi → unsigned_abs d ≤ 30000 → unsigned_abs (lo -ℤ pos 30000) ≤ 2097152
+    → unsigned_abs (hi +ℤ pos 30000) ≤ 2097152 → unsigned_abs (hi +ℤ d) ≤ 2097152
 high_in_range lo hi d ordered near low high = omega (arith, ints)
 
 pub reach_suffices : ReachSuffices

@@ -10,16 +10,18 @@ use Rattle.slide_move.specs.Displacements.{displacement}
 use Rattle.slide_move.specs.Slides.{still, turn_of, slide_along, slide_of}
 use Rattle.slide_move.specs.Changes.{IsPartOfWay, KeepsOrStops, EndsFree}
 use Rattle.slide_move.specs.Laws.{ShiftIsPart, VelocityIsKeptOrStopped}
-use Rattle.slide_move.proofs.Ways.{IsPartOfWay-nowhere, IsPartOfWay-trans, IsPartOfWay-plus, KeepsOrStops-refl, KeepsOrStops-trans}
+use Rattle.slide_move.proofs.Ways.{IsPartOfWay-zero_vector, IsPartOfWay-trans, IsPartOfWay-plus, KeepsOrStops-refl, KeepsOrStops-trans}
 use Rattle.slide_move.proofs.Turns.{IsTurn-turn_of, EndsFree-turn_of, EndsFree-plus}
 
-part_then : (way vel : Vec3) (f : Vec3 → Slid) (rest : Option Vec3) → IfSome rest (λ r. IsPartOfWay way r) → ((r : Vec3) → IsPartOfWay r (f r).shift) → IsPartOfWay way (option_map_or f rest (still vel)).shift
-part_then way vel f None is each = IsPartOfWay-nowhere way
+part_then : (way vel : Vec3) (f : Vec3 → Slid) (rest : Option Vec3) → IfSome rest (λ r. IsPartOfWay way r)
+    → ((r : Vec3) → IsPartOfWay r (f r).shift) → IsPartOfWay way (option_map_or f rest (still vel)).shift
+part_then way vel f None is each = IsPartOfWay-zero_vector way
 part_then way vel f (Some r) is each = IsPartOfWay-trans way r (f r).shift is (each r)
 
-pub shift_is_part_along : (traces : ℕ) (body : Bounds) (vel way : Vec3) (solids : List Bounds) → IsPartOfWay way (slide_along traces body vel way solids).shift
+pub shift_is_part_along : (traces : ℕ) (body : Bounds) (vel way : Vec3) (solids : List Bounds)
+    → IsPartOfWay way (slide_along traces body vel way solids).shift
 unfolding slide_along
-shift_is_part_along zero body vel way solids = IsPartOfWay-nowhere way
+shift_is_part_along zero body vel way solids = IsPartOfWay-zero_vector way
 shift_is_part_along (suc traces) body vel way solids =
     let turn = turn_of body vel way solids in
     let there = moved body turn.slid.shift in
@@ -27,11 +29,13 @@ shift_is_part_along (suc traces) body vel way solids =
     IsPartOfWay-plus way turn.slid.shift _ is.goes
     (part_then (minus way turn.slid.shift) turn.slid.vel (λ r. slide_along traces there turn.slid.vel r solids) turn.rest is.leaves (λ r. shift_is_part_along traces there turn.slid.vel r solids))
 
-vel_then : (vel : Vec3) (f : Vec3 → Slid) (rest : Option Vec3) → ((r : Vec3) → KeepsOrStops vel (f r).vel) → KeepsOrStops vel (option_map_or f rest (still vel)).vel
+vel_then : (vel : Vec3) (f : Vec3 → Slid) (rest : Option Vec3) → ((r : Vec3) → KeepsOrStops vel (f r).vel)
+    → KeepsOrStops vel (option_map_or f rest (still vel)).vel
 vel_then vel f None each = KeepsOrStops-refl vel
 vel_then vel f (Some r) each = each r
 
-pub vel_kept_along : (traces : ℕ) (body : Bounds) (vel way : Vec3) (solids : List Bounds) → KeepsOrStops vel (slide_along traces body vel way solids).vel
+pub vel_kept_along : (traces : ℕ) (body : Bounds) (vel way : Vec3) (solids : List Bounds)
+    → KeepsOrStops vel (slide_along traces body vel way solids).vel
 unfolding slide_along
 vel_kept_along zero body vel way solids = KeepsOrStops-refl vel
 vel_kept_along (suc traces) body vel way solids =
@@ -40,11 +44,13 @@ vel_kept_along (suc traces) body vel way solids =
     KeepsOrStops-trans vel turn.slid.vel _ (IsTurn-turn_of body vel way solids).keeps
     (vel_then turn.slid.vel (λ r. slide_along traces there turn.slid.vel r solids) turn.rest (λ r. vel_kept_along traces there turn.slid.vel r solids))
 
-free_then : (body : Bounds) (vel : Vec3) (solids : List Bounds) (f : Vec3 → Slid) (rest : Option Vec3) → ((r : Vec3) → EndsFree body (f r).shift solids) → EndsFree body (option_map_or f rest (still vel)).shift solids
+free_then : (body : Bounds) (vel : Vec3) (solids : List Bounds) (f : Vec3 → Slid) (rest : Option Vec3)
+    → ((r : Vec3) → EndsFree body (f r).shift solids) → EndsFree body (option_map_or f rest (still vel)).shift solids
 free_then body vel solids f None each = inl refl
 free_then body vel solids f (Some r) each = each r
 
-pub ends_free_along : (traces : ℕ) (body : Bounds) (vel way : Vec3) (solids : List Bounds) → EndsFree body (slide_along traces body vel way solids).shift solids
+pub ends_free_along : (traces : ℕ) (body : Bounds) (vel way : Vec3) (solids : List Bounds)
+    → EndsFree body (slide_along traces body vel way solids).shift solids
 unfolding slide_along
 ends_free_along zero body vel way solids = inl refl
 ends_free_along (suc traces) body vel way solids =
@@ -68,7 +74,8 @@ pub record IsAnswer (body : Bounds) (vel : Vec3) (ms : ℕ) (solids : List Bound
   pub kept : KeepsOrStops vel slid.vel
   pub free : EndsFree body slid.shift solids
 
-answer_of : (body : Bounds) (vel : Vec3) (ms : ℕ) (solids : List Bounds) → IsAnswer body vel ms solids (slide_of body vel ms solids)
+answer_of : (body : Bounds) (vel : Vec3) (ms : ℕ) (solids : List Bounds)
+    → IsAnswer body vel ms solids (slide_of body vel ms solids)
 unfolding slide_of
 answer_of body vel ms solids = record {
   value = refl;
@@ -78,7 +85,8 @@ answer_of body vel ms solids = record {
 }
 
 -- the answer out of the slide along the whole way
-pub answer_along : (body : Bounds) (vel : Vec3) (ms : ℕ) (solids : List Bounds) (way : Vec3) (slid : Slid) → way ≡ displacement vel ms → slid ≡ slide_along 4 body vel way solids → IsAnswer body vel ms solids slid
+pub answer_along : (body : Bounds) (vel : Vec3) (ms : ℕ) (solids : List Bounds) (way : Vec3) (slid : Slid)
+    → way ≡ displacement vel ms → slid ≡ slide_along 4 body vel way solids → IsAnswer body vel ms solids slid
 unfolding slide_of
 answer_along body vel ms solids way slid way_is slid_is =
     subst (IsAnswer body vel ms solids) (sym (slid_is ∙ ap (λ (w : Vec3). slide_along 4 body vel w solids) way_is)) (answer_of body vel ms solids)

@@ -10,7 +10,7 @@ use Rattle.slide_move.specs.declared.slid.Slid.{Slid}
 use Rattle.slide_move.specs.declared.turn.Turn.{Turn}
 use Rattle.slide_move.specs.Slides.{still, joined, turn_of, slide_along}
 use Rattle.slide_move.specs.Changes.{IsPartOfWay}
-use Rattle.slide_move.proofs.Ways.{plus-nowhere, nowhere-plus, plus-assoc, minus-plus, minus-nowhere, moved-nowhere, moved-moved, IsPartOfWay-nowhere, IsPartOfWay-refl, IsPartOfWay-trans, IsPartOfWay-minus, IsPartOfWay-left, IsPartOfWay-plus, IsNear-part, IsNear-more, Fits-near, IsInRange-part}
+use Rattle.slide_move.proofs.Ways.{plus-zero_vector, zero_vector-plus, plus-assoc, minus-plus, minus-zero_vector, moved-zero_vector, moved-moved, IsPartOfWay-zero_vector, IsPartOfWay-refl, IsPartOfWay-trans, IsPartOfWay-minus, IsPartOfWay-left, IsPartOfWay-plus, IsNear-part, IsNear-more, Fits-near, IsInRange-part}
 use Rattle.slide_move.proofs.Turns.{IsTurn, IsTurn-turn_of}
 
 -- the turns so far and the slide of what is left are the slide of all; what is left is a part of what isn't gone yet
@@ -19,7 +19,7 @@ pub record IsUnderway (body : Bounds) (vel way : Vec3) (solids : List Bounds) (t
   pub gone : IsPartOfWay way slid.shift
   pub rest : IsPartOfWay (minus way slid.shift) left
 
-or_false : (a : Bool) → (a || false) ≡ a
+pub or_false : (a : Bool) → (a || false) ≡ a
 or_false true = refl
 or_false false = refl
 
@@ -29,10 +29,10 @@ or_assoc false b c = refl
 
 joined_still : (slid : Slid) → joined slid (still slid.vel) ≡ slid
 joined_still slid =
-    λ i. record { shift = plus-nowhere slid.shift i; vel = slid.vel; side = or_false slid.side i }
+    λ i. record { shift = plus-zero_vector slid.shift i; vel = slid.vel; side = or_false slid.side i }
 
 still_joined : (vel : Vec3) (slid : Slid) → joined (still vel) slid ≡ slid
-still_joined vel slid = λ i. record { shift = nowhere-plus slid.shift i; vel = slid.vel; side = slid.side }
+still_joined vel slid = λ i. record { shift = zero_vector-plus slid.shift i; vel = slid.vel; side = slid.side }
 
 joined-assoc : (a b c : Slid) → joined (joined a b) c ≡ joined a (joined b c)
 joined-assoc a b c = λ i. record {
@@ -43,13 +43,15 @@ joined-assoc a b c = λ i. record {
 
 pub begins : (body : Bounds) (vel way : Vec3) (solids : List Bounds) → IsUnderway body vel way solids 4 (still vel) way
 begins body vel way solids = record {
-  same = still_joined vel _ ∙ ap (λ (b : Bounds). slide_along 4 b vel way solids) (moved-nowhere body);
-  gone = IsPartOfWay-nowhere way;
-  rest = let P : Vec3 → Type 0 = λ v. IsPartOfWay v way in subst P (sym (minus-nowhere way)) (IsPartOfWay-refl way);
+  same = still_joined vel _ ∙ ap (λ (b : Bounds). slide_along 4 b vel way solids) (moved-zero_vector body);
+  gone = IsPartOfWay-zero_vector way;
+  rest = let P : Vec3 → Type 0 = λ v. IsPartOfWay v way in subst P (sym (minus-zero_vector way)) (IsPartOfWay-refl way);
 }
 
 -- a turn that ends the slide, and one that doesn't
-along-last : (traces : ℕ) (body : Bounds) (vel way : Vec3) (solids : List Bounds) → (turn_of body vel way solids).rest ≡ None → slide_along (suc traces) body vel way solids ≡ (turn_of body vel way solids).slid
+pub along-last : (traces : ℕ) (body : Bounds) (vel way : Vec3) (solids : List Bounds)
+    → (turn_of body vel way solids).rest ≡ None
+    → slide_along (suc traces) body vel way solids ≡ (turn_of body vel way solids).slid
 unfolding slide_along
 along-last traces body vel way solids none =
     let turn = turn_of body vel way solids in
@@ -57,14 +59,17 @@ along-last traces body vel way solids none =
     ap (λ (rest : Option Vec3). joined turn.slid (option_map_or (λ r. slide_along traces there turn.slid.vel r solids) rest (still turn.slid.vel))) none
     ∙ joined_still turn.slid
 
-along-next : (traces : ℕ) (body : Bounds) (vel way : Vec3) (solids : List Bounds) (rest : Vec3) → (turn_of body vel way solids).rest ≡ Some rest → slide_along (suc traces) body vel way solids ≡ joined (turn_of body vel way solids).slid (slide_along traces (moved body (turn_of body vel way solids).slid.shift) (turn_of body vel way solids).slid.vel rest solids)
+pub along-next : (traces : ℕ) (body : Bounds) (vel way : Vec3) (solids : List Bounds) (rest : Vec3)
+    → (turn_of body vel way solids).rest ≡ Some rest
+    → slide_along (suc traces) body vel way solids ≡ joined (turn_of body vel way solids).slid (slide_along traces (moved body (turn_of body vel way solids).slid.shift) (turn_of body vel way solids).slid.vel rest solids)
 unfolding slide_along
 along-next traces body vel way solids rest some =
     let turn = turn_of body vel way solids in
     let there = moved body turn.slid.shift in
     ap (λ (rest : Option Vec3). joined turn.slid (option_map_or (λ r. slide_along traces there turn.slid.vel r solids) rest (still turn.slid.vel))) some
 
-pub ends : (body : Bounds) (vel way : Vec3) (solids : List Bounds) (traces : ℕ) (slid : Slid) (left : Vec3) → traces ≡ 0 → IsUnderway body vel way solids traces slid left → slid ≡ slide_along 4 body vel way solids
+pub ends : (body : Bounds) (vel way : Vec3) (solids : List Bounds) (traces : ℕ) (slid : Slid) (left : Vec3) → traces ≡ 0
+    → IsUnderway body vel way solids traces slid left → slid ≡ slide_along 4 body vel way solids
 unfolding slide_along
 ends body vel way solids traces slid left none underway =
     sym (joined_still slid)
@@ -89,7 +94,8 @@ module _ (body : Bounds) (vel way : Vec3) (solids : List Bounds) (traces : ℕ) 
       let P : Option Vec3 → Type 0 = λ o. IfSome o (λ r. IsPartOfWay (minus left next_turn.slid.shift) r) in
       subst P some is_turn.leaves
 
-  next_underway : (fewer : ℕ) (rest : Vec3) → traces ≡ suc fewer → next_turn.rest ≡ Some rest → IsUnderway body vel way solids fewer (joined slid next_turn.slid) rest
+  next_underway : (fewer : ℕ) (rest : Vec3) → traces ≡ suc fewer → next_turn.rest ≡ Some rest
+      → IsUnderway body vel way solids fewer (joined slid next_turn.slid) rest
   unfolding next_turn
   next_underway fewer rest count some =
       let shift = next_turn.slid.shift in
@@ -106,7 +112,8 @@ module _ (body : Bounds) (vel way : Vec3) (solids : List Bounds) (traces : ℕ) 
             subst P (minus-plus way slid.shift shift) (IsPartOfWay-trans _ (minus left shift) rest (IsPartOfWay-minus (minus way slid.shift) left shift underway.rest is_turn.goes) (next_remains rest some));
       }
 
-  next_ends : (fewer : ℕ) → traces ≡ suc fewer → next_turn.rest ≡ None → joined slid next_turn.slid ≡ slide_along 4 body vel way solids
+  next_ends : (fewer : ℕ) → traces ≡ suc fewer → next_turn.rest ≡ None
+      → joined slid next_turn.slid ≡ slide_along 4 body vel way solids
   unfolding next_turn
   next_ends fewer count none =
       ap (joined slid) (sym (along-last fewer (moved body slid.shift) slid.vel left solids none))
@@ -118,7 +125,8 @@ module _ (body : Bounds) (vel way : Vec3) (solids : List Bounds) (traces : ℕ) 
   near_left near =
       IsNear-more left 30000 65536 (omega arith) (IsNear-part way left 30000 (IsPartOfWay-trans way (minus way slid.shift) left (IsPartOfWay-left way slid.shift underway.gone) underway.rest) near)
 
-  pub left_in_range : (here : Bounds) → here ≡ moved body slid.shift → IsInRange body → IsInRange (moved body way) → IsInRange (moved here left)
+  pub left_in_range : (here : Bounds) → here ≡ moved body slid.shift → IsInRange body → IsInRange (moved body way)
+      → IsInRange (moved here left)
   left_in_range here at first last =
       subst IsInRange (sym (ap (λ (b : Bounds). moved b left) at ∙ moved-moved body slid.shift left)) (IsInRange-part body way (plus slid.shift left) (IsPartOfWay-plus way slid.shift left underway.gone underway.rest) first last)
 
@@ -132,19 +140,22 @@ module _ (body : Bounds) (vel way : Vec3) (solids : List Bounds) (traces : ℕ) 
         let P : Turn → Type 0 = λ t. Fits (plus slid.shift t.slid.shift) in
         subst P is_next (Fits-near _ (IsNear-more _ 30000 65536 (omega arith) (IsNear-part way _ 30000 goes_through near)))
 
-    pub turn_in_range : (next : Slid) → next ≡ joined slid turn.slid → IsInRange body → IsInRange (moved body way) → IsInRange (moved body next.shift)
+    pub turn_in_range : (next : Slid) → next ≡ joined slid turn.slid → IsInRange body → IsInRange (moved body way)
+        → IsInRange (moved body next.shift)
     turn_in_range next next_is first last =
         let P : Turn → Type 0 = λ t. IsInRange (moved body (plus slid.shift t.slid.shift)) in
         let Q : Slid → Type 0 = λ s. IsInRange (moved body s.shift) in
         subst Q (sym next_is) (subst P is_next (IsInRange-part body way _ goes_through first last))
 
-    pub goes_on : (fewer : ℕ) (rest : Vec3) (next : Slid) → traces ≡ suc fewer → turn.rest ≡ Some rest → next ≡ joined slid turn.slid → IsUnderway body vel way solids fewer next rest
+    pub goes_on : (fewer : ℕ) (rest : Vec3) (next : Slid) → traces ≡ suc fewer → turn.rest ≡ Some rest
+        → next ≡ joined slid turn.slid → IsUnderway body vel way solids fewer next rest
     goes_on fewer rest next count some next_is =
         let P : Turn → Type 0 = λ t. t.rest ≡ Some rest → IsUnderway body vel way solids fewer (joined slid t.slid) rest in
         let Q : Slid → Type 0 = λ s. IsUnderway body vel way solids fewer s rest in
         subst Q (sym next_is) (subst P is_next (next_underway fewer rest count) some)
 
-    pub ends_early : (fewer : ℕ) (next : Slid) → traces ≡ suc fewer → turn.rest ≡ None → next ≡ joined slid turn.slid → next ≡ slide_along 4 body vel way solids
+    pub ends_early : (fewer : ℕ) (next : Slid) → traces ≡ suc fewer → turn.rest ≡ None → next ≡ joined slid turn.slid
+        → next ≡ slide_along 4 body vel way solids
     ends_early fewer next count none next_is =
         let P : Turn → Type 0 = λ t. t.rest ≡ None → joined slid t.slid ≡ slide_along 4 body vel way solids in
         next_is ∙ subst P is_next (next_ends fewer count) none

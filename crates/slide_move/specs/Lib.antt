@@ -2,11 +2,13 @@
 pub use Rattle.arena_geo.specs.Vectors
 pub use Rattle.arena_geo.specs.Bounds
 pub use Rattle.arena_geo.specs.Boxes
+pub use Rattle.box_trace.specs.Axes
 pub use Rattle.box_trace.specs.Steps
 pub use Rattle.box_trace.specs.Traces
 pub use Rattle.box_trace.specs.Walls
 pub mod Displacements
 pub mod Slides
 pub mod Places
+pub mod Hits
 pub mod Changes
 pub mod Laws

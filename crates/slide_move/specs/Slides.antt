@@ -1,20 +1,23 @@
 -- What a slide is: up to four traces, each of what the solid before it left of the way.
-use Rattle.std.specs.Prelude.{ℕ, zero, suc, nat_lt, false, ◌||◌, if◌then◌else◌, List, Option, Some, None}
+use Rattle.std.specs.Prelude.{ℕ, zero, suc, Bool, true, false, ◌||◌, if◌then◌else◌, List, Option, None, option_and_then}
 use Rattle.std.specs.Option.{option_map_or}
 use Rattle.arena_geo.specs.declared.vec3.Vec3.{Vec3}
-use Rattle.arena_geo.specs.Vectors.{plus, minus}
+use Rattle.arena_geo.specs.Vectors.{zero_vector, plus, minus}
 use Rattle.arena_geo.specs.Bounds.{Bounds}
 use Rattle.arena_geo.specs.Boxes.{moved}
+use Rattle.box_trace.specs.declared.axis.Axis.{Axis}
+use Rattle.box_trace.specs.declared.axis.Axis.TheVariants.{X, Y, Z}
 use Rattle.box_trace.specs.declared.hit.Hit.{Hit}
+use Rattle.box_trace.specs.Axes.{axis_with}
 use Rattle.box_trace.specs.Steps.{shift_at}
 use Rattle.box_trace.specs.Traces.{trace_of}
 use Rattle.slide_move.specs.declared.slid.Slid.{Slid}
 use Rattle.slide_move.specs.declared.turn.Turn.{Turn}
-use Rattle.slide_move.specs.Displacements.{displacement, nowhere, without, some_way}
+use Rattle.slide_move.specs.Displacements.{displacement, without, some_way}
 
 -- a slide that doesn't move
 abbrev pub still : Vec3 → Slid
-still vel = record { shift = nowhere; vel = vel; side = false }
+still vel = record { shift = zero_vector; vel = vel; side = false }
 
 -- a slide, and then another one
 abbrev pub joined : Slid → Slid → Slid
@@ -29,13 +32,23 @@ abbrev pub last_turn : Vec3 → Vec3 → Turn
 last_turn shift vel =
     record { slid = record { shift = shift; vel = vel; side = false }; rest = None }
 
--- a turn that runs into a solid: on an axis it loses that part of the velocity and of the way that is left, else both
-abbrev pub stopped_turn : Vec3 → Vec3 → Vec3 → Option ℕ → Turn
-stopped_turn shift vel left None = last_turn shift nowhere
-stopped_turn shift vel left (Some axis) = record {
-  slid = record { shift = shift; vel = without axis vel; side = nat_lt axis 2 };
+-- the axis is x or y
+abbrev pub is_sideways : Axis → Bool
+is_sideways X = true
+is_sideways Y = true
+is_sideways Z = false
+
+-- a turn that runs into a solid on this axis: it loses that part of the velocity and of the way that is left
+abbrev pub turn_on : Vec3 → Vec3 → Vec3 → Axis → Turn
+turn_on shift vel left axis = record {
+  slid = record { shift = shift; vel = without axis vel; side = is_sideways axis };
   rest = some_way (without axis left);
 }
+
+-- a turn that runs into a solid, on the axis with this number; without an axis it loses all velocity and ends the slide
+abbrev pub stopped_turn : Vec3 → Vec3 → Vec3 → Option ℕ → Turn
+stopped_turn shift vel left number =
+    option_map_or (turn_on shift vel left) (option_and_then axis_with number) (last_turn shift zero_vector)
 
 -- the turn whose trace of this way finds this
 abbrev pub turn_after : Hit → Vec3 → Vec3 → Turn

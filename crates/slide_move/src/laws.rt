@@ -1,4 +1,37 @@
-ghost use Rattle.slide_move.specs.Laws.{ShiftIsPart, VelocityIsKeptOrStopped, PlacesAreFree, EndsAtLastPlace, PlacesAreInRange, ReachSuffices, SlideStaysInside};
+ghost use Rattle.slide_move.specs.Laws.{LimitIsKnown, FreeSlideGoesAll, SideIsSidewaysHit, GoesOnWhereNotStopped};
+ghost use Rattle.slide_move.specs.Laws.{EndsStillWhereStopped, AtMostThreeTraces, ShiftIsPart, VelocityIsKeptOrStopped};
+ghost use Rattle.slide_move.specs.Laws.{PlacesAreFree, EndsAtLastPlace, PlacesAreInRange, ReachSuffices};
+ghost use Rattle.slide_move.specs.Laws.{SlideStaysInside};
+
+/// No part of a slide's velocity is more than 600,000 from 0.
+pub fn limit_is_known()
+    ensures { LimitIsKnown }
+{}
+
+/// A slide of which the whole way is free goes all of it, keeps its velocity, and runs into nothing on x or y.
+pub fn free_slide_goes_all()
+    ensures { FreeSlideGoesAll }
+{}
+
+/// `side` comes exactly where some trace of the slide runs into a solid on x or y.
+pub fn side_is_sideways_hit()
+    ensures { SideIsSidewaysHit }
+{}
+
+/// On an axis on which no trace stops it, a slide goes the whole way and keeps its velocity.
+pub fn goes_on_where_not_stopped()
+    ensures { GoesOnWhereNotStopped }
+{}
+
+/// On an axis on which a trace stops it, a slide ends without velocity.
+pub fn ends_still_where_stopped()
+    ensures { EndsStillWhereStopped }
+{}
+
+/// A slide makes at most three traces, since it runs into at most one solid on each axis.
+pub fn at_most_three_traces()
+    ensures { AtMostThreeTraces }
+{}
 
 /// On no axis does a slide go farther than the velocity does in the open, or the other way.
 pub fn shift_is_part()

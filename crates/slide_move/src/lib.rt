@@ -2,11 +2,13 @@
 #![tactic(auto)]
 
 pub use laws::{
-    ends_at_last_place, places_are_free, places_are_in_range, reach_suffices, shift_is_part,
-    slide_stays_inside, velocity_is_kept_or_stopped,
+    at_most_three_traces, ends_at_last_place, ends_still_where_stopped, free_slide_goes_all,
+    goes_on_where_not_stopped, limit_is_known, places_are_free, places_are_in_range,
+    reach_suffices, shift_is_part, side_is_sideways_hit, slide_stays_inside,
+    velocity_is_kept_or_stopped,
 };
 pub use slid::Slid;
-pub use sliding::slide;
+pub use sliding::{GREATEST_SPEED, slide};
 
 mod laws;
 mod slid;

@@ -2,7 +2,6 @@ ghost use Rattle.std.specs.Prelude.{◌≡◌};
 ghost use Rattle.arena_geo.specs.Vectors.{Fits, plus};
 ghost use Rattle.slide_move.specs.Slides.{joined, still};
 
-use crate::vector::ZERO;
 use arena_geo::Vec3;
 
 /// What a slide does.
@@ -22,7 +21,7 @@ impl Slid {
         ensures { result ≡ still vel }
     {
         Slid {
-            shift: ZERO,
+            shift: Vec3::ZERO,
             vel,
             side: false,
         }

@@ -10,6 +10,10 @@ use crate::slid::Slid;
 use crate::turn::Turn;
 use crate::vector::displacement;
 use arena_geo::{Aabb, Vec3};
+use box_trace::MOST_SOLIDS;
+
+/// The greatest distance from 0 of a part of a slide's velocity, in sub-units a second.
+pub const GREATEST_SPEED: u32 = 600_000;
 
 /// The greatest number of traces in a slide.
 const TRACES: u8 = 4;
@@ -21,15 +25,15 @@ const TRACES: u8 = 4;
 /// runs into a solid, on an axis, it loses the part on that axis, of the velocity and of what is left; where it
 /// already overlaps that solid, it loses all its velocity and stops.
 ///
-/// Each part of `vel`, in sub-units a second, is at most 600,000 from 0, `ms` is 1 to 50, and there are at most 65,535
-/// solids. The body is in range where the whole way would take it, and so wherever it comes: it is where it has
-/// 30,000 sub-units of the range on each side, as [`reach_suffices`](crate::reach_suffices) says.
+/// Each part of `vel`, in sub-units a second, is at most [`GREATEST_SPEED`] from 0, `ms` is 1 to 50, and there are at
+/// most [`MOST_SOLIDS`] solids. The body is in range where the whole way would take it, and so wherever it comes: that
+/// is so where it has 30,000 sub-units of the range on each side, as [`reach_suffices`](crate::reach_suffices) says.
 pub fn slide(body: &Aabb, vel: Vec3, ms: u8, fixed: &[Aabb], moving: &[Aabb]) -> Slid
-    requires near { IsNear 600000 vel }
+    requires near { IsNear GREATEST_SPEED vel }
     requires least { 1 ≤ ms }
     requires most { ms ≤ 50 }
     requires in_range { IsInRange (moved body.now (displacement vel ms)) }
-    requires few { length fixed.now + length moving.now ≤ 65535 }
+    requires few { length fixed.now + length moving.now ≤ MOST_SOLIDS }
     ensures value { result ≡ slide_of body.now vel ms (fixed.now ++ moving.now) }
     ensures shift { IsPartOfWay (displacement vel ms) result.shift }
     ensures vel { KeepsOrStops vel result.vel }
@@ -44,11 +48,12 @@ pub fn slide(body: &Aabb, vel: Vec3, ms: u8, fixed: &[Aabb], moving: &[Aabb]) ->
 fn slide_along(body: &Aabb, vel: Vec3, way: Vec3, fixed: &[Aabb], moving: &[Aabb]) -> Slid
     requires near { IsNear 30000 way }
     requires in_range { IsInRange (moved body.now way) }
-    requires few { length fixed.now + length moving.now ≤ 65535 }
+    requires few { length fixed.now + length moving.now ≤ MOST_SOLIDS }
     ensures value { result ≡ slide_along 4 body.now vel way (fixed.now ++ moving.now) }
     ensures in_range { IsInRange (moved body.now result.shift) }
 {
-    let _ = body.lo();
+    // To read a corner is to know that the box is ordered and in range.
+    let _corner = body.lo();
     let mut slid = Slid::still(vel);
     let mut left = way;
     for _ in 0..TRACES {

@@ -3,12 +3,23 @@ ghost use Rattle.arena_geo.specs.Vectors.{IsNear};
 ghost use Rattle.arena_geo.specs.Bounds.{IsInRange};
 ghost use Rattle.arena_geo.specs.Boxes.{moved};
 ghost use Rattle.box_trace.specs.Steps as steps;
+ghost use Rattle.slide_move.specs.Slides as slides;
 ghost use Rattle.slide_move.specs.Slides.{last_turn, turn_after, turn_of};
 
 use crate::slid::Slid;
-use crate::vector::{ZERO, some_way, without};
+use crate::vector::{some_way, without};
 use arena_geo::{Aabb, Vec3};
-use box_trace::{Hit, shift_at, trace};
+use box_trace::{Axis, Hit, MOST_SOLIDS, REACH, shift_at, trace};
+
+/// Whether the axis is x or y.
+fn is_sideways(axis: Axis) -> bool
+    ensures { result ≡ slides.is_sideways axis }
+{
+    match axis {
+        Axis::X | Axis::Y => true,
+        Axis::Z => false,
+    }
+}
 
 /// One trace of a slide, and what follows from it.
 #[derive(Clone, Copy)]
@@ -21,9 +32,9 @@ pub struct Turn {
 impl Turn {
     /// The turn of a body that goes this way at this velocity.
     pub fn of(body: &Aabb, vel: Vec3, way: Vec3, fixed: &[Aabb], moving: &[Aabb]) -> Turn
-        requires near { IsNear 65536 way }
+        requires near { IsNear REACH way }
         requires in_range { IsInRange (moved body.now way) }
-        requires few { length fixed.now + length moving.now ≤ 65535 }
+        requires few { length fixed.now + length moving.now ≤ MOST_SOLIDS }
         ensures { result ≡ turn_of body.now vel way (fixed.now ++ moving.now) }
     {
         Turn::after(trace(body, way, fixed, moving), vel, way)
@@ -32,22 +43,24 @@ impl Turn {
     /// The turn whose trace finds this: as Quake's `SV_FlyMove`, whose `ClipVelocity` takes from the velocity all of
     /// its part on the axis that was hit.
     fn after(hit: Hit, vel: Vec3, way: Vec3) -> Turn
-        requires near { IsNear 65536 way }
+        requires near { IsNear REACH way }
         requires within { hit.steps ≤ steps.step_count way }
         ensures { result ≡ turn_after hit vel way }
     {
         let shift = shift_at(way, hit.steps);
-        match (hit.whole, hit.axis) {
-            (true, _) => Turn::last(shift, vel),
-            (false, None) => Turn::last(shift, ZERO),
-            (false, Some(axis)) => Turn {
-                slid: Slid {
-                    shift,
-                    vel: without(vel, axis),
-                    side: axis < 2,
-                },
-                rest: some_way(without(way - shift, axis)),
+        if hit.whole {
+            return Turn::last(shift, vel);
+        }
+        let Some(axis) = hit.axis.and_then(Axis::with_number) else {
+            return Turn::last(shift, Vec3::ZERO);
+        };
+        Turn {
+            slid: Slid {
+                shift,
+                vel: without(vel, axis),
+                side: is_sideways(axis),
             },
+            rest: some_way(without(way - shift, axis)),
         }
     }
 

@@ -2,17 +2,16 @@ ghost use Rattle.std.specs.Prelude.{◌≡◌, ◌≤◌, unsigned_abs};
 ghost use Rattle.arena_geo.specs.Vectors.{IsNear};
 ghost use Rattle.slide_move.specs.Displacements as displacements;
 
+use crate::sliding::GREATEST_SPEED;
 use arena_geo::Vec3;
+use box_trace::Axis;
 
 /// The milliseconds in a second.
 const SECOND: i64 = 1_000;
 
-/// No displacement, and no velocity.
-pub const ZERO: Vec3 = Vec3 { x: 0, y: 0, z: 0 };
-
 /// How far a speed goes in `ms` milliseconds, cut toward 0.
 fn distance(speed: i32, ms: u8) -> i32
-    requires near { unsigned_abs speed ≤ 600000 }
+    requires near { unsigned_abs speed ≤ GREATEST_SPEED }
     requires most { ms ≤ 50 }
     ensures value { result ≡ displacements.distance speed ms }
     ensures near { unsigned_abs result ≤ 30000 }
@@ -22,7 +21,7 @@ fn distance(speed: i32, ms: u8) -> i32
 
 /// How far a velocity goes in `ms` milliseconds, cut toward 0 on each axis.
 pub fn displacement(vel: Vec3, ms: u8) -> Vec3
-    requires near { IsNear 600000 vel }
+    requires near { IsNear GREATEST_SPEED vel }
     requires most { ms ≤ 50 }
     ensures value { result ≡ displacements.displacement vel ms }
     ensures near { IsNear 30000 result }
@@ -34,14 +33,14 @@ pub fn displacement(vel: Vec3, ms: u8) -> Vec3
     }
 }
 
-/// The vector with 0 on this axis, 0 for x, 1 for y and 2 for z.
-pub fn without(v: Vec3, axis: u8) -> Vec3
+/// The vector with 0 on this axis.
+pub fn without(v: Vec3, axis: Axis) -> Vec3
     ensures { result ≡ displacements.without axis v }
 {
     match axis {
-        0 => Vec3 { x: 0, ..v },
-        1 => Vec3 { y: 0, ..v },
-        _ => Vec3 { z: 0, ..v },
+        Axis::X => Vec3 { x: 0, ..v },
+        Axis::Y => Vec3 { y: 0, ..v },
+        Axis::Z => Vec3 { z: 0, ..v },
     }
 }
 

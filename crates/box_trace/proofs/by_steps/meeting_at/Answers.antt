@@ -1,4 +1,4 @@
-use Rattle.box_trace.proofs.FirstMeetings.{MeetsAt-front, MeetsAt-behind}
+use Rattle.box_trace.proofs.FirstMeetings.{MeetsAt-front, MeetsAt-back}
 use Rattle.box_trace.proofs.by_steps.meeting_at.Goals as goal
 
 pub returns-in-Some : goal.returns-in-Some
@@ -7,4 +7,4 @@ returns-in-Some c =
 
 pub returns : goal.returns
 returns c =
-    rw (← c.body_at-body.ensures, c.after.ensures) (MeetsAt-behind c.args.step c.body_at-body.result c.args.fixed.now c.args.moving.now c.in_ok-meeting.meeting c.in_default.ensures c.in_ok-meeting.ensures)
+    rw (← c.body_at-body.ensures, c.after.ensures) (MeetsAt-back c.args.step c.body_at-body.result c.args.fixed.now c.args.moving.now c.in_ok-meeting.meeting c.in_default.ensures c.in_ok-meeting.ensures)

@@ -5,7 +5,8 @@ use Rattle.slide_move.proofs.Reaches.{IsNear-displacement}
 use Rattle.slide_move.proofs.Slides.{IsAnswer, answer_along}
 use Rattle.slide_move.proofs.sliding.slide.Goals as goal
 
-answer : (c : goal.After-slide_along) → IsAnswer c.args.body.now c.args.vel c.args.ms (c.args.fixed.now ++ c.args.moving.now) c.slide_along.result
+answer : (c : goal.After-slide_along)
+    → IsAnswer c.args.body.now c.args.vel c.args.ms (c.args.fixed.now ++ c.args.moving.now) c.slide_along.result
 answer c = answer_along _ _ _ _ _ _ c.displacement.ensures.value c.slide_along.ensures.value
 
 pub returns-clause-value : goal.returns-clause-value

@@ -12,14 +12,14 @@ loop-init c =
 
 pub unwrap-here-requires : goal.unwrap-here-requires
 unwrap-here-requires c =
-    some_where_it_holds _ _ _ c.moved.ensures (IsInRange-part c.args.body.now c.args.way c.loop.slid.shift c.loop.invariant.gone c.lo.ensures.is_box.in_range c.requires.in_range)
+    some_where_it_holds _ _ _ c.moved.ensures (IsInRange-part c.args.body.now c.args.way c.loop.slid.shift c.loop.invariant.gone c.lo-corner.ensures.is_box.in_range c.requires.in_range)
 
 pub of-turn-requires-clause-near : goal.of-turn-requires-clause-near
 of-turn-requires-clause-near c = near_left _ _ _ _ _ _ _ c.loop.invariant c.requires.near
 
 pub of-turn-requires-clause-in_range : goal.of-turn-requires-clause-in_range
 of-turn-requires-clause-in_range c =
-    left_in_range _ _ _ _ _ _ _ c.loop.invariant _ (value_in_some _ _ _ _ c.moved.ensures c.unwrap-here.ensures) c.lo.ensures.is_box.in_range c.requires.in_range
+    left_in_range _ _ _ _ _ _ _ c.loop.invariant _ (value_in_some _ _ _ _ c.moved.ensures c.unwrap-here.ensures) c.lo-corner.ensures.is_box.in_range c.requires.in_range
 
 pub then-slid-requires : goal.then-slid-requires
 then-slid-requires c =
@@ -31,7 +31,7 @@ returns-in_default-clause-value c =
 
 pub returns-in_default-clause-in_range : goal.returns-in_default-clause-in_range
 returns-in_default-clause-in_range c =
-    turn_in_range _ _ _ _ _ _ _ c.loop.invariant _ _ (value_in_some _ _ _ _ c.moved.ensures c.unwrap-here.ensures) c.of-turn.ensures _ c.then-slid.ensures c.lo.ensures.is_box.in_range c.requires.in_range
+    turn_in_range _ _ _ _ _ _ _ c.loop.invariant _ _ (value_in_some _ _ _ _ c.moved.ensures c.unwrap-here.ensures) c.of-turn.ensures _ c.then-slid.ensures c.lo-corner.ensures.is_box.in_range c.requires.in_range
 
 pub loop-preserved : goal.loop-preserved
 loop-preserved c =
@@ -42,4 +42,4 @@ returns-clause-value c = ends _ _ _ _ _ _ _ (omega arith) c.loop.invariant
 
 pub returns-clause-in_range : goal.returns-clause-in_range
 returns-clause-in_range c =
-    IsInRange-part c.args.body.now c.args.way c.loop.slid.shift c.loop.invariant.gone c.lo.ensures.is_box.in_range c.requires.in_range
+    IsInRange-part c.args.body.now c.args.way c.loop.slid.shift c.loop.invariant.gone c.lo-corner.ensures.is_box.in_range c.requires.in_range

@@ -1,0 +1,17 @@
+-- A player's command as plain numbers, without the facts that its type keeps.
+use Rattle.std.specs.Prelude.{ℕ, ℤ}
+use Rattle.entity_recs.specs.declared.cmd.Cmd.{Cmd}
+
+-- whose command it is and its number, the frame in which it is done, how many milliseconds it takes, the speed that is wished, and the buttons
+pub record Command : Type 0 where
+  pub slot : ℕ
+  pub seq : ℕ
+  pub frame : ℕ
+  pub ms : ℕ
+  pub wish_x : ℤ
+  pub wish_y : ℤ
+  pub buttons : ℕ
+
+-- the numbers of a command
+abbrev pub command_of : Cmd → Command
+command_of c = record { slot = c.slot; seq = c.seq; frame = c.frame; ms = c.ms; wish_x = c.wish_x; wish_y = c.wish_y; buttons = c.buttons }
