@@ -1,4 +1,4 @@
--- Bytes that break no rule spell what stands in them.
+-- Bytes that break no rule spell the packet that is in them.
 use Rattle.std.proofs.Common.{get_or, rules, lit<, ◌∙◌, ◌++◌, ◌≡◌, ℕ, suc, ◌<◌, ◌≤◌, Bool, true, false, cond, List, [], ◌∷◌, length, refl, sym, ap, subst, arith, inl, inr}
 use Rattle.std.specs.Prelude.{nat_lt, nat_le, ◌==◌, not, ◌&&◌, Option, Some, None, Result, Ok, Err, IfOk}
 use Rattle.std.proofs.lemmas.List.{get_or_default, nil_from_length}
@@ -25,21 +25,21 @@ pub record Keeps (bytes : List ℕ) : Type 0 where
   pub time : breaks bytes Time ≡ false
   pub buttons : breaks bytes Buttons ≡ false
 
--- a rule that is not broken, and those behind it
-passed : (b : Bool) (fault : PacketFault) (others : Option PacketFault) → cond b (Some fault) others ≡ None → (b ≡ false) × (others ≡ None)
-passed true fault others e = absurd cc
-passed false fault others e = (refl, e)
+-- a rule that is not broken, and those after it
+not_broken : (b : Bool) (fault : PacketFault) (others : Option PacketFault) → cond b (Some fault) others ≡ None → (b ≡ false) × (others ≡ None)
+not_broken true fault others e = absurd cc
+not_broken false fault others e = (refl, e)
 
 -- where there is no cause, no rule is broken
 pub keeps : (bytes : List ℕ) → cause_of bytes ≡ None → Keeps bytes
 keeps bytes none =
-    let a = passed (breaks bytes Empty) Empty _ none in
-    let b = passed (breaks bytes Version) Version _ a.1 in
-    let c = passed (breaks bytes Kind) Kind _ b.1 in
-    let d = passed (breaks bytes Short) Short _ c.1 in
-    let e = passed (breaks bytes Long) Long _ d.1 in
-    let f = passed (breaks bytes Time) Time _ e.1 in
-    let g = passed (breaks bytes Buttons) Buttons _ f.1 in
+    let a = not_broken (breaks bytes Empty) Empty _ none in
+    let b = not_broken (breaks bytes Version) Version _ a.1 in
+    let c = not_broken (breaks bytes Kind) Kind _ b.1 in
+    let d = not_broken (breaks bytes Short) Short _ c.1 in
+    let e = not_broken (breaks bytes Long) Long _ d.1 in
+    let f = not_broken (breaks bytes Time) Time _ e.1 in
+    let g = not_broken (breaks bytes Buttons) Buttons _ f.1 in
     record { empty = a.0; version = b.0; kind = c.0; short = d.0; long = e.0; time = f.0; buttons = g.0 }
 
 -- ten bytes, one by one
@@ -48,7 +48,7 @@ ten xs e =
     text_from_reads xs (byte xs 0 ∷ byte xs 1 ∷ byte xs 2 ∷ byte xs 3 ∷ byte xs 4 ∷ byte xs 5 ∷ byte xs 6 ∷ byte xs 7 ∷ byte xs 8 ∷ byte xs 9 ∷ []) e
     (refl, (refl, (refl, (refl, (refl, (refl, (refl, (refl, (refl, (refl, tt))))))))))
 
--- the fields of a move behind its number and round its wish
+-- the fields of a move after its number and around its wish
 joined : (a a' x x' y y' : List ℕ) (ms buttons : ℕ) → a ≡ a' → x ≡ x' → y ≡ y' → a ++ ms ∷ x ++ y ++ buttons ∷ [] ≡ a' ++ ms ∷ x' ++ y' ++ buttons ∷ []
 joined a a' x x' y y' ms buttons p q r = cc
 
@@ -71,19 +71,19 @@ move_fits xs below = record {
 }
 
 -- a join or a leave has two bytes
-nothing_behind : (k : ℕ) (xs : List ℕ) → nat_lt 2 (length (1 ∷ k ∷ xs)) ≡ false → xs ≡ []
-nothing_behind k xs long =
+nothing_after : (k : ℕ) (xs : List ℕ) → nat_lt 2 (length (1 ∷ k ∷ xs)) ≡ false → xs ≡ []
+nothing_after k xs long =
     let le : length (1 ∷ k ∷ xs) ≤ 2 = ltb-false 2 (length (1 ∷ k ∷ xs)) long in
     nil_from_length xs (omega arith)
 
 join_spelled : (xs : List ℕ) → Keeps (1 ∷ 1 ∷ xs) → Spells (1 ∷ 1 ∷ xs) Join
-join_spelled xs kept = record { fits = tt; allowed = tt; spelled = ap (λ (ys : List ℕ). 1 ∷ 1 ∷ ys) (nothing_behind 1 xs kept.long) }
+join_spelled xs kept = record { fits = tt; allowed = tt; spelled = ap (λ (ys : List ℕ). 1 ∷ 1 ∷ ys) (nothing_after 1 xs kept.long) }
 
 leave_spelled : (xs : List ℕ) → Keeps (1 ∷ 3 ∷ xs) → Spells (1 ∷ 3 ∷ xs) Leave
-leave_spelled xs kept = record { fits = tt; allowed = tt; spelled = ap (λ (ys : List ℕ). 1 ∷ 3 ∷ ys) (nothing_behind 3 xs kept.long) }
+leave_spelled xs kept = record { fits = tt; allowed = tt; spelled = ap (λ (ys : List ℕ). 1 ∷ 3 ∷ ys) (nothing_after 3 xs kept.long) }
 
-step_spelled : (xs : List ℕ) → AreBytes (1 ∷ 2 ∷ xs) → Keeps (1 ∷ 2 ∷ xs) → Spells (1 ∷ 2 ∷ xs) (Step (move_in (1 ∷ 2 ∷ xs)))
-step_spelled xs all kept =
+move_form_spelled : (xs : List ℕ) → AreBytes (1 ∷ 2 ∷ xs) → Keeps (1 ∷ 2 ∷ xs) → Spells (1 ∷ 2 ∷ xs) (Step (move_in (1 ∷ 2 ∷ xs)))
+move_form_spelled xs all kept =
     let short = or_parts (length (1 ∷ 2 ∷ xs) == 1) (nat_lt (length (1 ∷ 2 ∷ xs)) 12) kept.short in
     let least : 12 ≤ length (1 ∷ 2 ∷ xs) = ltb-false (length (1 ∷ 2 ∷ xs)) 12 short.1 in
     let most : length (1 ∷ 2 ∷ xs) ≤ 12 = ltb-false 12 (length (1 ∷ 2 ∷ xs)) kept.long in
@@ -100,34 +100,34 @@ step_spelled xs all kept =
       spelled = ap (λ (ys : List ℕ). 1 ∷ 2 ∷ ys) (move_spelled xs ten_bytes below);
     }
 
--- behind version 1 a kind is 1, 2 or 3
+-- after version 1 a kind is 1, 2 or 3
 kind_is : (k n : ℕ) → nat_le 2 n && not (nat_le 1 k && nat_le k 3) ≡ false → 2 ≤ n → (1 ≤ k) × (k ≤ 3)
 kind_is k n e two = grind (arith, nat_tests)
 
 -- what is said of one number holds of an equal one
-abbrev IsSpelledBehind : List ℕ → ℕ → ℕ → Type 0
-IsSpelledBehind xs v k = AreBytes (v ∷ k ∷ xs) → Keeps (v ∷ k ∷ xs) → Spells (v ∷ k ∷ xs) (packet_of (form_in (v ∷ k ∷ xs)) (v ∷ k ∷ xs))
+abbrev IsSpelledAfter : List ℕ → ℕ → ℕ → Type 0
+IsSpelledAfter xs v k = AreBytes (v ∷ k ∷ xs) → Keeps (v ∷ k ∷ xs) → Spells (v ∷ k ∷ xs) (packet_of (form_in (v ∷ k ∷ xs)) (v ∷ k ∷ xs))
 
-kind_spelled : (k : ℕ) (xs : List ℕ) → IsSpelledBehind xs 1 k
+kind_spelled : (k : ℕ) (xs : List ℕ) → IsSpelledAfter xs 1 k
 kind_spelled k xs all kept =
     let kind = kind_is k (length (1 ∷ k ∷ xs)) kept.kind (omega arith) in
     elim (cases_eq k 1) [
-      | inl e ↦ subst (IsSpelledBehind xs 1) (sym e) (λ _ kept. join_spelled xs kept) all kept
+      | inl e ↦ subst (IsSpelledAfter xs 1) (sym e) (λ _ kept. join_spelled xs kept) all kept
       | inr not_join ↦ elim (cases_eq k 2) [
-        | inl e ↦ subst (IsSpelledBehind xs 1) (sym e) (step_spelled xs) all kept
-        | inr not_step ↦
+        | inl e ↦ subst (IsSpelledAfter xs 1) (sym e) (move_form_spelled xs) all kept
+        | inr not_move ↦
             let e : k ≡ 3 = omega arith in
-            subst (IsSpelledBehind xs 1) (sym e) (λ _ kept. leave_spelled xs kept) all kept
+            subst (IsSpelledAfter xs 1) (sym e) (λ _ kept. leave_spelled xs kept) all kept
       ]
     ]
 
--- bytes that break no rule spell the packet that stands in them
+-- bytes that break no rule spell the packet that is in them
 pub kept_spelled : (bytes : List ℕ) → AreBytes bytes → Keeps bytes → Spells bytes (packet_of (form_in bytes) bytes)
 kept_spelled [] all kept = absurd (false≢true (sym kept.empty))
 kept_spelled (v ∷ []) all kept = absurd (false≢true (sym kept.short))
 kept_spelled (v ∷ k ∷ xs) all kept =
     let e : v ≡ 1 = eqb-true v 1 (not-false (v == 1) kept.version) in
-    subst (λ (w : ℕ). IsSpelledBehind xs w k) (sym e) (kind_spelled k xs) all kept
+    subst (λ (w : ℕ). IsSpelledAfter xs w k) (sym e) (kind_spelled k xs) all kept
 
 -- numbers that are below 256 at each index are bytes
 pub bytes_are : (bytes : List ℕ) → ((i : ℕ) → get_or bytes i 0 < 256) → AreBytes bytes

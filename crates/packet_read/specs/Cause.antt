@@ -1,12 +1,13 @@
 -- Why bytes are no packet: the first rule that they break.
-use Rattle.std.specs.Prelude.{ℕ, ◌==◌, nat_lt, nat_le, Bool, false, not, ◌&&◌, ◌||◌, if◌then◌else◌, List, [], ◌∷◌, length, slice_index, find, Option}
+use Rattle.std.specs.Prelude.{ℕ, ◌==◌, nat_lt, nat_le, Bool, false, not, ◌&&◌, ◌||◌, if◌then◌else◌}
+use Rattle.std.specs.Prelude.{List, [], ◌∷◌, length, slice_index, find, Option}
 use Rattle.packet_read.specs.declared.packet_fault.PacketFault.{PacketFault}
 use Rattle.packet_read.specs.declared.packet_fault.PacketFault.TheVariants.{Empty, Version, Kind, Short, Long, Time, Buttons}
 
 -- the forms of a packet
 pub data Form : Type 0 where
   join : Form
-  step : Form
+  move : Form
   leave : Form
 
 -- byte i, or 0 past the end
@@ -23,7 +24,7 @@ is_kind version kind = (version == 1) && (nat_le 1 kind && nat_le kind 3)
 
 -- the form of a kind
 abbrev pub form_of : ℕ → Form
-form_of kind = if kind == 1 then join else if kind == 2 then step else leave
+form_of kind = if kind == 1 then join else if kind == 2 then move else leave
 
 -- the form that the bytes announce
 abbrev pub form_in : List ℕ → Form
@@ -32,19 +33,19 @@ form_in bytes = form_of (byte bytes 1)
 -- how many bytes a packet of the form has
 abbrev pub length_of : Form → ℕ
 length_of join = 2
-length_of step = 12
+length_of move = 12
 length_of leave = 2
 
 -- whether a move in the bytes lasts less than 1 or more than 50 milliseconds
 abbrev pub has_wrong_time : Form → List ℕ → Bool
 has_wrong_time join bytes = false
-has_wrong_time step bytes = nat_lt (byte bytes 6) 1 || nat_lt 50 (byte bytes 6)
+has_wrong_time move bytes = nat_lt (byte bytes 6) 1 || nat_lt 50 (byte bytes 6)
 has_wrong_time leave bytes = false
 
 -- whether a move in the bytes has a button above bit 0
 abbrev pub has_unknown_button : Form → List ℕ → Bool
 has_unknown_button join bytes = false
-has_unknown_button step bytes = nat_lt 1 (byte bytes 11)
+has_unknown_button move bytes = nat_lt 1 (byte bytes 11)
 has_unknown_button leave bytes = false
 
 -- whether the bytes break the rule that the fault is named for

@@ -2,6 +2,7 @@
 use Rattle.std.specs.Prelude.{◌≡◌, ◌↔◌, ℕ, ◌^◌, ◌<◌, List, All, Some, None, Ok, Err}
 use Rattle.packet_read.specs.declared.packet.Packet.{Packet}
 use Rattle.packet_read.specs.declared.packet_fault.PacketFault.{PacketFault}
+use Rattle.packet_read.specs.declared.packet_bytes.TheConstants.{MAX_PACKET_BYTES}
 use Rattle.packet_read.specs.Spelling.{spelling, Fits, Spells}
 use Rattle.packet_read.specs.Cause.{cause_of}
 use Rattle.packet_read.specs.Reading.{reading}
@@ -28,3 +29,7 @@ pub record OneSpelling : Type 0 where
 pub record ReadWhereSpelled : Type 0 where
   pub packet : (bytes : List ℕ) → AreBytes bytes → (p : Packet) → (reading bytes ≡ Ok p) ↔ Spells bytes p
   pub cause : (bytes : List ℕ) (fault : PacketFault) → (reading bytes ≡ Err fault) ↔ (cause_of bytes ≡ Some fault)
+
+-- the number that the list of bytes cites
+pub record LimitIsKnown : Type 0 where
+  pub most_bytes : MAX_PACKET_BYTES ≡ 64

@@ -1,3 +1,4 @@
+-- The definitions of packets, and what holds of them.
 pub mod Spelling
 pub mod Cause
 pub mod Reading

@@ -5,9 +5,9 @@ use Rattle.packet_read.specs.declared.move_packet.MovePacket.{MovePacket}
 use Rattle.packet_read.specs.declared.packet.Packet.{Packet}
 use Rattle.packet_read.specs.declared.packet.Packet.TheVariants.{Join, Step, Leave}
 use Rattle.packet_read.specs.declared.packet_fault.PacketFault.{PacketFault}
-use Rattle.packet_read.specs.Cause.{Form, join, step, leave, byte, form_in, cause_of}
+use Rattle.packet_read.specs.Cause.{Form, join, move, leave, byte, form_in, cause_of}
 
--- the move whose fields stand at their places
+-- the move whose fields are in the bytes at their places
 abbrev pub move_in : List ℕ → MovePacket
 move_in bytes = record {
   seq = from_le_bytes w32 (byte bytes 2 ∷ byte bytes 3 ∷ byte bytes 4 ∷ byte bytes 5 ∷ []);
@@ -17,10 +17,10 @@ move_in bytes = record {
   buttons = byte bytes 11;
 }
 
--- the packet of that form, with the fields that stand in the bytes
+-- the packet of that form, with the fields that are in the bytes
 abbrev pub packet_of : Form → List ℕ → Packet
 packet_of join bytes = Join
-packet_of step bytes = Step (move_in bytes)
+packet_of move bytes = Step (move_in bytes)
 packet_of leave bytes = Leave
 
 -- the cause where there is one, and else the packet

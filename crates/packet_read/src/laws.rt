@@ -1,4 +1,4 @@
-ghost use Rattle.packet_read.specs.Laws.{NoCauseWhereSpelled, OneSpelling, ReadWhereSpelled};
+ghost use Rattle.packet_read.specs.Laws.{NoCauseWhereSpelled, OneSpelling, ReadWhereSpelled, LimitIsKnown};
 
 /// Bytes break no rule of the format exactly where they spell some packet.
 pub fn no_cause_where_spelled()
@@ -13,4 +13,9 @@ pub fn one_spelling()
 /// Bytes are read as a packet exactly where they spell it, and else as the first fault.
 pub fn read_where_spelled()
     ensures { ReadWhereSpelled }
+{}
+
+/// A list of bytes has room for 64.
+pub fn limit_is_known()
+    ensures { LimitIsKnown }
 {}

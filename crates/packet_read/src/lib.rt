@@ -10,7 +10,7 @@ mod reading;
 mod wire;
 mod writing;
 
-pub use laws::{no_cause_where_spelled, one_spelling, read_where_spelled};
+pub use laws::{limit_is_known, no_cause_where_spelled, one_spelling, read_where_spelled};
 pub use move_packet::MovePacket;
 pub use packet::Packet;
 pub use packet_bytes::{MAX_PACKET_BYTES, PacketBytes};

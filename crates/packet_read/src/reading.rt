@@ -27,7 +27,7 @@ pub fn read_packet(bytes: &[u8]) -> Result<Packet, PacketFault>
     }
 }
 
-// Reads what stands behind the version.
+// Reads what follows the version.
 fn read_kind(bytes: &[u8]) -> Result<Packet, PacketFault>
     ensures { result ≡ reading (1 ∷ bytes.now) }
 {
@@ -42,7 +42,7 @@ fn read_kind(bytes: &[u8]) -> Result<Packet, PacketFault>
     }
 }
 
-// Reads the fields of a move, which stand behind version and kind.
+// Reads the fields of a move, which follow version and kind.
 fn read_move(fields: &[u8]) -> Result<Packet, PacketFault>
     ensures { result ≡ reading (1 ∷ 2 ∷ fields.now) }
 {

@@ -17,22 +17,22 @@ pub fn write_packet(p: &Packet) -> PacketBytes
     let mut bytes = PacketBytes::new();
     match p {
         Packet::Join => bytes.append(&[VERSION, JOIN]),
-        Packet::Step(step) => append_move(&mut bytes, *step),
+        Packet::Step(packet) => append_move(&mut bytes, *packet),
         Packet::Leave => bytes.append(&[VERSION, LEAVE]),
     }
     bytes
 }
 
 // Puts the bytes of a move last.
-fn append_move(bytes: &mut PacketBytes, step: MovePacket)
+fn append_move(bytes: &mut PacketBytes, packet: MovePacket)
     requires { length bytes.old + 12 ≤ MAX_PACKET_BYTES }
-    ensures appended { bytes.new ≡ bytes.old ++ spelling (Step step) }
-    ensures fits { MoveFits step }
+    ensures appended { bytes.new ≡ bytes.old ++ spelling (Step packet) }
+    ensures fits { MoveFits packet }
 {
     bytes.append(&[VERSION, MOVE]);
-    bytes.append(&step.seq.to_le_bytes());
-    bytes.append(&[step.ms]);
-    bytes.append(&step.wish_x.to_le_bytes());
-    bytes.append(&step.wish_y.to_le_bytes());
-    bytes.append(&[step.buttons]);
+    bytes.append(&packet.seq.to_le_bytes());
+    bytes.append(&[packet.ms]);
+    bytes.append(&packet.wish_x.to_le_bytes());
+    bytes.append(&packet.wish_y.to_le_bytes());
+    bytes.append(&[packet.buttons]);
 }

@@ -13,7 +13,7 @@ use Rattle.slide_move.specs.Changes.{EndsFree}
 use Rattle.slide_move.specs.Displacements.{displacement}
 use Rattle.slide_move.proofs.Slides.{ends_free_along}
 use Rattle.slide_move.proofs.Turns.{EndsFree-plus}
-use Rattle.slide_move.proofs.Ways.{moved-nowhere, shift_at-zero}
+use Rattle.slide_move.proofs.Ways.{moved-zero_vector, shift_at-zero}
 use Rattle.player_move.specs.declared.walk.Walked.{Walked}
 use Rattle.player_move.specs.Velocities.{walks, velocity_after}
 use Rattle.player_move.specs.Walks.{upwards, downwards, level, way_of, stairs_of, ground_of, walk_of}
@@ -53,7 +53,7 @@ walk_ends_free walks body vel ms solids =
 
 free_there : (body : Bounds) (shift : Vec3) (solids : List Bounds) → EndsFree body shift solids → is_blocked body solids ≡ false → is_blocked (moved body shift) solids ≡ false
 free_there body shift solids (inl stays) free =
-    ap (λ (s : Vec3). is_blocked (moved body s) solids) stays ∙ ap (λ (b : Bounds). is_blocked b solids) (moved-nowhere body) ∙ free
+    ap (λ (s : Vec3). is_blocked (moved body s) solids) stays ∙ ap (λ (b : Bounds). is_blocked b solids) (moved-zero_vector body) ∙ free
 free_there body shift solids (inr there) free = there
 
 pub move_ends_free : MoveEndsFree

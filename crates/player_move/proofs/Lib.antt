@@ -10,3 +10,4 @@ pub mod Insides
 pub mod Agreeing
 pub mod Looking
 pub mod Slows
+pub mod Farther

@@ -2,7 +2,7 @@
 use Rattle.std.proofs.Common.{◌≡◌, ℕ, ◌+◌, ◌≤◌, Bool, true, ◌&&◌, if◌then◌else◌, List, ℤ, pos, ◌+ℤ◌, ◌-ℤ◌, unsigned_abs, sym, ap, ◌∙◌, subst, arith}
 use Rattle.std.proofs.lemmas.Int.{ints}
 use Rattle.arena_geo.specs.declared.vec3.Vec3.{Vec3}
-use Rattle.arena_geo.specs.Vectors.{plus}
+use Rattle.arena_geo.specs.Vectors.{plus, zero_vector}
 use Rattle.arena_geo.specs.Bounds.{Bounds}
 use Rattle.arena_geo.specs.Boxes.{contains_on, contains, grown, moved}
 use Rattle.arena_geo.proofs.Containment.{all_three}
@@ -11,10 +11,10 @@ use Rattle.box_trace.specs.Traces.{trace_of}
 use Rattle.box_trace.proofs.Traces.{IsTrace-trace_of}
 use Rattle.entity_recs.specs.Bodies.{body_of}
 use Rattle.slide_move.specs.declared.slid.Slid.{Slid}
-use Rattle.slide_move.specs.Displacements.{distance, displacement, nowhere}
+use Rattle.slide_move.specs.Displacements.{distance, displacement}
 use Rattle.slide_move.specs.Slides.{slide_of}
 use Rattle.slide_move.specs.Changes.{IsPartOfWay}
-use Rattle.slide_move.proofs.Ways.{plus-nowhere, moved-moved, IsPartOfWay-nowhere, IsPartOfWay-shift_at}
+use Rattle.slide_move.proofs.Ways.{plus-zero_vector, moved-moved, IsPartOfWay-zero_vector, IsPartOfWay-shift_at}
 use Rattle.slide_move.proofs.Slides.{shift_is_part}
 use Rattle.player_move.specs.declared.walk.Walked.{Walked}
 use Rattle.player_move.specs.Velocities.{walks, velocity_after}
@@ -74,7 +74,7 @@ module _ (body : Bounds) (x y z : ℕ) where
     climb_along : (up along : Vec3) → IsPartOfWay (upwards 4608) up → IsPartOfWay (displacement (level vel) ms) along → IsClimb vel ms (plus up along)
     climb_along up along p q =
         let P : Vec3 → Type 0 = IsClimb vel ms in
-        subst P (plus-nowhere (plus up along)) (climb_by_parts vel up along nowhere ms 0 (omega arith) p q (IsPartOfWay-nowhere _))
+        subst P (plus-zero_vector (plus up along)) (climb_by_parts vel up along zero_vector ms 0 (omega arith) p q (IsPartOfWay-zero_vector _))
 
     stays_along : (up : Vec3) → IsPartOfWay (upwards 4608) up → Stays region (moved body up) (displacement (level vel) ms)
     stays_along up p = record { inside = λ along q. inside_then up along (inside_climb _ (climb_along up along p q)) }

@@ -1,56 +1,112 @@
 -- What holds of all moves.
-use Rattle.std.specs.Prelude.{◌≡◌, ℕ, ◌+◌, ◌*◌, ◌/◌, ◌≤◌, min, true, false, List, ℤ, pos, ◌-ℤ◌, unsigned_abs}
+use Rattle.std.specs.Prelude.{◌≡◌, ℕ, ◌+◌, ◌*◌, ◌/◌, ◌<◌, ◌≤◌, ◌⊎◌, min, true, false, List}
+use Rattle.std.specs.Prelude.{ℤ, pos, ◌-ℤ◌, unsigned_abs}
 use Rattle.std.specs.List.{filter}
 use Rattle.arena_geo.specs.declared.vec3.Vec3.{Vec3}
-use Rattle.arena_geo.specs.Vectors.{IsNear}
+use Rattle.arena_geo.specs.Vectors.{IsNear, plus, minus}
 use Rattle.arena_geo.specs.Bounds.{Bounds, IsOrdered}
 use Rattle.arena_geo.specs.Boxes.{overlaps, contains, grown, is_blocked}
 use Rattle.box_trace.specs.Walls.{HaveWalls}
+use Rattle.slide_move.specs.declared.slid.Slid.{Slid}
+use Rattle.slide_move.specs.Slides.{slide_of}
 use Rattle.entity_recs.specs.declared.rec.Rec.{Rec}
-use Rattle.player_move.specs.Intents.{Intent}
 use Rattle.entity_recs.specs.Bodies.{body_of}
+use Rattle.speed_rules.specs.declared.constants.TheConstants.{MAX_SPEED, SECOND}
+use Rattle.speed_rules.specs.Measures.{greatest_velocity}
+use Rattle.player_move.specs.declared.moved.Moved.{Moved}
+use Rattle.player_move.specs.declared.stairs.TheConstants.{STAIR_HEIGHT}
+use Rattle.player_move.specs.Intents.{Intent}
+use Rattle.player_move.specs.Velocities.{walks, velocity_after}
+use Rattle.player_move.specs.Walks.{ground_of, flat_square}
 use Rattle.player_move.specs.Moves.{body_after, move_of}
 
--- how far a move that begins with this speed on an axis comes on it, but for stairs
-abbrev pub reach_on : ℤ → ℕ → ℕ
-reach_on speed ms = min 512000 (unsigned_abs speed + 81920) * ms / 1000
+-- ---- where a move ends
+-- a body that overlaps no solid at the start overlaps none at the end
+abbrev pub MoveEndsFree : Type 0
+MoveEndsFree =
+    (me : Rec) (cmd : Intent) (solids : List Bounds)
+    → is_blocked (body_of me) solids ≡ false
+    → is_blocked (body_after me (move_of me cmd solids)) solids ≡ false
 
--- on x and y the place is within the reach, and on z at most the height of a step beyond it
+-- a body inside the arena, faces counted, ends inside, where the solids have the walls of the arena
+abbrev pub MoveStaysInside : Type 0
+MoveStaysInside =
+    (arena : Bounds) (me : Rec) (cmd : Intent) (solids : List Bounds)
+    → IsOrdered (body_of me)
+    → HaveWalls arena solids
+    → contains arena (body_of me) ≡ true
+    → contains arena (body_after me (move_of me cmd solids)) ≡ true
+
+-- ---- a move and its plain slide
+-- the slide of a move, without stairs
+abbrev pub plain_slide_of : Rec → Intent → List Bounds → Slid
+plain_slide_of me cmd solids =
+    let on_ground = ground_of (body_of me) solids in
+    slide_of (body_of me) (velocity_after on_ground me cmd) cmd.ms solids
+
+-- the square of how far a record has come over the ground
+abbrev pub flat_square_of : Rec → Moved → ℕ
+flat_square_of me moved = flat_square (minus moved.origin me.origin)
+
+-- the move is this slide
+pub record IsSlide (me : Rec) (slid : Slid) (moved : Moved) : Type 0 where
+  pub origin : moved.origin ≡ plus me.origin slid.shift
+  pub vel : moved.vel ≡ slid.vel
+
+-- the move walks, goes strictly farther over the ground than this slide, and ends on the ground
+pub record GoesFarther (me : Rec) (cmd : Intent) (solids : List Bounds) (slid : Slid) (moved : Moved) : Type 0 where
+  pub walks : walks (ground_of (body_of me) solids) cmd ≡ true
+  pub farther : flat_square slid.shift < flat_square_of me moved
+  pub on_ground : ground_of (body_after me moved) solids ≡ true
+
+-- the move goes no less far over the ground than this slide; it is that slide, or goes farther and ends on the ground
+pub record GoesNoLessFar (me : Rec) (cmd : Intent) (solids : List Bounds) (slid : Slid) (moved : Moved) : Type 0 where
+  pub no_less_far : flat_square slid.shift ≤ flat_square_of me moved
+  pub either : IsSlide me slid moved ⊎ GoesFarther me cmd solids slid moved
+
+-- a move goes no less far over the ground than its plain slide, and where the two differ it ends on the ground
+abbrev pub MoveGoesNoLessFar : Type 0
+MoveGoesNoLessFar =
+    (me : Rec) (cmd : Intent) (solids : List Bounds)
+    → GoesNoLessFar me cmd solids (plain_slide_of me cmd solids) (move_of me cmd solids)
+
+-- ---- how far a move goes
+-- how far a move that begins with this speed on an axis goes on it, but for stairs
+abbrev pub reach_on : ℤ → ℕ → ℕ
+reach_on speed ms = min greatest_velocity (unsigned_abs speed + MAX_SPEED) * ms / SECOND
+
+-- on x and y the place is within the reach, and on z at most the height of a stair beyond it
 pub record IsReached (from vel : Vec3) (ms : ℕ) (to : Vec3) : Type 0 where
   pub x : unsigned_abs (to.x -ℤ from.x) ≤ reach_on vel.x ms
   pub y : unsigned_abs (to.y -ℤ from.y) ≤ reach_on vel.y ms
-  pub z : unsigned_abs (to.z -ℤ from.z) ≤ reach_on vel.z ms + 4608
+  pub z : unsigned_abs (to.z -ℤ from.z) ≤ reach_on vel.z ms + STAIR_HEIGHT
 
--- where a move looks: the body, larger on each axis by the reach, and on z by the height of a step and 1 more
+-- where a move looks: the body, larger on each axis by the reach, and on z by the height of a stair and 1 more
 abbrev pub looked_at : Rec → ℕ → Bounds
 looked_at me ms =
     grown (body_of me) (record {
       x = pos (reach_on me.vel.x ms);
       y = pos (reach_on me.vel.y ms);
-      z = pos (reach_on me.vel.z ms + 4609);
+      z = pos (reach_on me.vel.z ms + (STAIR_HEIGHT + 1));
     })
-
--- a body that overlaps no solid at the start overlaps none at the end
-abbrev pub MoveEndsFree : Type 0
-MoveEndsFree =
-    (me : Rec) (cmd : Intent) (solids : List Bounds) → is_blocked (body_of me) solids ≡ false → is_blocked (body_after me (move_of me cmd solids)) solids ≡ false
 
 -- a move ends within its reach
 abbrev pub MoveReach : Type 0
 MoveReach =
-    (me : Rec) (cmd : Intent) (solids : List Bounds) → cmd.ms ≤ 50 → IsReached me.origin me.vel cmd.ms (move_of me cmd solids).origin
+    (me : Rec) (cmd : Intent) (solids : List Bounds)
+    → cmd.ms ≤ 50
+    → IsReached me.origin me.vel cmd.ms (move_of me cmd solids).origin
 
 -- a move is the same over all solids of which the same ones, in the same order, overlap where it looks
 abbrev pub MoveLooksWithin : Type 0
 MoveLooksWithin =
-    (me : Rec) (cmd : Intent) (solids others : List Bounds) → cmd.ms ≤ 50 → filter (overlaps (looked_at me cmd.ms)) solids ≡ filter (overlaps (looked_at me cmd.ms)) others → move_of me cmd solids ≡ move_of me cmd others
+    (me : Rec) (cmd : Intent) (solids others : List Bounds)
+    → cmd.ms ≤ 50
+    → filter (overlaps (looked_at me cmd.ms)) solids ≡ filter (overlaps (looked_at me cmd.ms)) others
+    → move_of me cmd solids ≡ move_of me cmd others
 
--- a body inside the arena, faces counted, ends inside, where the solids have the walls of the arena
-abbrev pub MoveStaysInside : Type 0
-MoveStaysInside =
-    (arena : Bounds) (me : Rec) (cmd : Intent) (solids : List Bounds) → IsOrdered (body_of me) → HaveWalls arena solids → contains arena (body_of me) ≡ true → contains arena (body_after me (move_of me cmd solids)) ≡ true
-
--- on no axis is a record faster than 512,000 behind a move
+-- ---- how fast a record is after a move
+-- on no axis is a record faster than 512,000 after a move
 abbrev pub MoveStaysSlow : Type 0
 MoveStaysSlow =
-    (me : Rec) (cmd : Intent) (solids : List Bounds) → IsNear 512000 (move_of me cmd solids).vel
+    (me : Rec) (cmd : Intent) (solids : List Bounds) → IsNear greatest_velocity (move_of me cmd solids).vel

@@ -13,7 +13,8 @@ use Rattle.player_move.specs.Walks.{ground_of, walk_of}
 
 -- how a record moves that begins on the ground or not
 abbrev pub walk_from : Bool → Rec → Intent → List Bounds → Walked
-walk_from on_ground me cmd solids = walk_of (walks on_ground cmd) (body_of me) (velocity_after on_ground me cmd) cmd.ms solids
+walk_from on_ground me cmd solids =
+    walk_of (walks on_ground cmd) (body_of me) (velocity_after on_ground me cmd) cmd.ms solids
 
 -- the body of a record after a move
 abbrev pub body_after : Rec → Moved → Bounds

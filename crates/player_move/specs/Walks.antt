@@ -1,4 +1,4 @@
--- Where a move comes: the slide, or the stairs where they lead farther.
+-- How far a move goes: the slide, or the stairs where they lead farther.
 use Rattle.std.specs.Prelude.{ℕ, ◌+◌, ◌*◌, nat_lt, Bool, ◌&&◌, if◌then◌else◌, List, pos, neg_ℤ, unsigned_abs}
 use Rattle.arena_geo.specs.declared.vec3.Vec3.{Vec3}
 use Rattle.arena_geo.specs.Vectors.{plus}
@@ -21,7 +21,7 @@ downwards height = record { x = pos 0; y = pos 0; z = neg_ℤ (pos height) }
 abbrev pub level : Vec3 → Vec3
 level vel = record { x = vel.x; y = vel.y; z = pos 0 }
 
--- the body stands on a solid: moved down by 1 it overlaps one
+-- the body is on the ground: moved down by 1 it overlaps a solid
 unfoldable pub ground_of : Bounds → List Bounds → Bool
 ground_of body solids = is_blocked (moved body (downwards 1)) solids
 
@@ -29,7 +29,7 @@ ground_of body solids = is_blocked (moved body (downwards 1)) solids
 abbrev pub way_of : Bounds → Vec3 → List Bounds → Vec3
 way_of body way solids = shift_at way (trace_of body way solids).steps
 
--- up by a step of 4,608 sub-units, along the level, and down by as many steps as up
+-- up by 4,608 sub-units, the height of a stair, along the level, and down by as many steps as the trace up made
 unfoldable pub stairs_of : Bounds → Vec3 → ℕ → List Bounds → Walked
 stairs_of body vel ms solids =
     let steps = (trace_of body (upwards 4608) solids).steps in

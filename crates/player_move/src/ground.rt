@@ -8,8 +8,8 @@ use arena_geo::{Aabb, Vec3};
 /// The way by which a body is moved down for the ground test: 1 sub-unit.
 const BELOW: Vec3 = Vec3 { x: 0, y: 0, z: -1 };
 
-/// Whether the body stands on a solid: moved down by 1 sub-unit, it overlaps one. The solids are those of both slices.
-/// The body is in range there too.
+/// Whether the body is on the ground: moved down by 1 sub-unit, it overlaps a solid. The solids are those of both
+/// slices. The body is in range there too.
 pub fn on_ground(body: &Aabb, fixed: &[Aabb], moving: &[Aabb]) -> bool
     requires { IsInRange (moved body.now (downwards 1)) }
     ensures { result ≡ ground_of body.now (fixed.now ++ moving.now) }

@@ -1,8 +1,15 @@
-ghost use Rattle.player_move.specs.Laws.{MoveEndsFree, MoveReach, MoveLooksWithin, MoveStaysInside, MoveStaysSlow};
+ghost use Rattle.player_move.specs.Laws.{MoveEndsFree, MoveGoesNoLessFar, MoveReach};
+ghost use Rattle.player_move.specs.Laws.{MoveLooksWithin, MoveStaysInside, MoveStaysSlow};
 
 /// A body that overlaps no solid at the start overlaps none at the end.
 pub fn move_ends_free()
     ensures { MoveEndsFree }
+{}
+
+/// A move goes no less far over the ground than its plain slide. It is that slide, or it walks, goes strictly farther
+/// and ends on the ground.
+pub fn move_goes_no_less_far()
+    ensures { MoveGoesNoLessFar }
 {}
 
 /// How far a move reaches: on each axis what the greatest speed on it goes in the time, which is the record's own
@@ -22,7 +29,7 @@ pub fn move_stays_inside()
     ensures { MoveStaysInside }
 {}
 
-/// Behind a move no part of the velocity is more than 512,000 sub-units a second from 0.
+/// After a move no part of the velocity is more than 512,000 sub-units a second from 0.
 pub fn move_stays_slow()
     ensures { MoveStaysSlow }
 {}

@@ -2,13 +2,18 @@
 #![tactic(auto)]
 
 pub use ground::on_ground;
-pub use laws::{move_ends_free, move_looks_within, move_reach, move_stays_inside, move_stays_slow};
+pub use laws::{
+    move_ends_free, move_goes_no_less_far, move_looks_within, move_reach, move_stays_inside,
+    move_stays_slow,
+};
+pub use limits::FARTHEST_ORIGIN;
 pub use moved::Moved;
 pub use moving::move_player;
-pub use stairs::STEP_HEIGHT;
+pub use stairs::STAIR_HEIGHT;
 
 mod ground;
 mod laws;
+mod limits;
 mod moved;
 mod moving;
 mod stairs;

@@ -1,8 +1,10 @@
 ghost use Rattle.std.specs.Prelude.{◌≡◌};
 ghost use Rattle.arena_geo.specs.Vectors.{IsNear};
-ghost use Rattle.speed_rules.specs.Rules.{jumped, unclamped};
+ghost use Rattle.speed_rules.specs.Measures.{greatest_velocity};
+ghost use Rattle.speed_rules.specs.Rules.{jumped};
 ghost use Rattle.player_move.specs.Intents.{intent_of};
-ghost use Rattle.player_move.specs.Velocities.{IsTakeOff, jumps, walks, walking, flying, velocity_after};
+ghost use Rattle.player_move.specs.Velocities.{IsTakeOff, jumps, walks, walking, flying};
+ghost use Rattle.player_move.specs.Velocities.{unclamped_after, velocity_after};
 
 use arena_geo::Vec3;
 use entity_recs::{Cmd, Rec};
@@ -18,7 +20,7 @@ fn jumps(cmd: &Cmd) -> bool
     cmd.buttons & JUMP != 0
 }
 
-/// Whether the player walks: it stands on the ground and doesn't jump. Else it is in the air.
+/// Whether the player walks: it is on the ground and doesn't jump. Else it is in the air.
 pub fn walks(ground: bool, cmd: &Cmd) -> bool
     ensures { result ≡ walks ground (intent_of cmd.now) }
 {
@@ -27,7 +29,7 @@ pub fn walks(ground: bool, cmd: &Cmd) -> bool
 
 /// The velocity of a player that jumps, as in Quake's `PlayerJump`.
 fn jumped(vel: Vec3) -> Vec3
-    requires { IsNear 512000 vel }
+    requires { IsNear greatest_velocity vel }
     ensures value { result ≡ jumped vel }
     ensures take_off { IsTakeOff result }
 {
@@ -39,7 +41,7 @@ fn jumped(vel: Vec3) -> Vec3
 
 /// The velocity of a player that walks, before the clamp.
 fn walking(vel: Vec3, cmd: &Cmd) -> Vec3
-    requires { IsNear 512000 vel }
+    requires { IsNear greatest_velocity vel }
     ensures { result ≡ walking vel (intent_of cmd.now) }
 {
     let slower = friction(vel, cmd.ms);
@@ -58,8 +60,8 @@ fn flying(vel: Vec3, cmd: &Cmd) -> Vec3
 /// The velocity that enters the clamp: a jump, on the ground alone, after which the player is in the air; friction on
 /// the ground; acceleration; gravity in the air.
 fn unclamped(ground: bool, me: &Rec, cmd: &Cmd) -> Vec3
-    requires { IsNear 512000 me.now.vel }
-    ensures { result ≡ unclamped ground (jumps (intent_of cmd.now)) me.now.vel cmd.now.wish_x cmd.now.wish_y cmd.now.ms }
+    requires { IsNear greatest_velocity me.now.vel }
+    ensures { result ≡ unclamped_after ground me.now (intent_of cmd.now) }
 {
     match (ground, jumps(cmd)) {
         (true, false) => walking(me.vel, cmd),
@@ -71,9 +73,9 @@ fn unclamped(ground: bool, me: &Rec, cmd: &Cmd) -> Vec3
 /// The velocity with which a move slides that begins on the ground or not, by the rules of speed in their order. A
 /// button that is held jumps again at each landing.
 pub fn velocity_after(ground: bool, me: &Rec, cmd: &Cmd) -> Vec3
-    requires { IsNear 512000 me.now.vel }
+    requires { IsNear greatest_velocity me.now.vel }
     ensures value { result ≡ velocity_after ground me.now (intent_of cmd.now) }
-    ensures near { IsNear 512000 result }
+    ensures near { IsNear greatest_velocity result }
 {
     clamp(unclamped(ground, me, cmd))
 }

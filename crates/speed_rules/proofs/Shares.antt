@@ -99,7 +99,7 @@ reaches_y x y = (root_is_greatest (x * x + y * y)).greatest y (omega arith)
 pub root_le_legs : (x y m n r : ℕ) → m ≡ x * x → n ≡ y * y → IsRoot (m + n) r → r ≤ x + y
 root_le_legs x y m n r x_is y_is root = le_from_square r (x + y) (omega (arith, root.square))
 
-below_from_times : (a b whole : ℕ) → a * whole < b * whole → a < b
+pub below_from_times : (a b whole : ℕ) → a * whole < b * whole → a < b
 below_from_times a b whole below = grind (arith, mul-le)
 
 -- where two legs are shared out the length is no more than its share

@@ -13,6 +13,7 @@ use Rattle.speed_rules.specs.Measures.{length_of, speed_of, scaled}
 use Rattle.speed_rules.specs.Rules.{slowed, friction_at, friction_of}
 use Rattle.speed_rules.specs.Changes.{IsShortened, Shortens, IsStill}
 use Rattle.speed_rules.specs.Laws.{FrictionShortens, FrictionSlows, FrictionStops}
+use Rattle.speed_rules.proofs.Gaining.{above_quotient, le_from_times, legs_le}
 use Rattle.speed_rules.proofs.Shares.{abs-scaled, scaled_le_part, scaled_stays_positive, scaled_stays_negative, reaches_x, reaches_y, shares_are_short}
 
 pub slowed_le : (ms speed : ℕ) → slowed ms speed ≤ speed
@@ -71,11 +72,42 @@ drop_le ms speed least =
 pub slowed_by : (ms speed : ℕ) → 1 ≤ ms → slowed ms speed ≤ speed - 102
 slowed_by ms speed least = omega (arith, drop_le ms speed least)
 
+-- two legs of which each grows by 1 grow by at most 2 together
+legs_grow_by_2 : (p q left : ℕ) → p * p + q * q < (left + 1) * (left + 1) → (p + 1) * (p + 1) + (q + 1) * (q + 1) < (left + 3) * (left + 3)
+legs_grow_by_2 p q left short =
+    let legs : 2 * (p + q) ≤ 3 * (left + 1) = legs_le p q (left + 1) (omega arith) in
+    omega arith
+
+-- a share with less than 1 more is all that it is a share of
+share_lost : (part : ℤ) (left whole : ℕ) → 0 < whole → unsigned_abs part * left ≤ (unsigned_abs (scaled part (pos left) whole) + 1) * whole
+share_lost part left whole some = rw abs-scaled (omega (arith, above_quotient (unsigned_abs part * left) whole some))
+
+-- the legs p and q, where a length of two legs x and y is shared out to left, but for less than 1 on each
+shares_lose_at_most : (x y left length p q : ℕ) → 0 < length → x * left ≤ (p + 1) * length → y * left ≤ (q + 1) * length → length * length ≤ x * x + y * y → left * left ≤ (p + 1) * (p + 1) + (q + 1) * (q + 1)
+shares_lose_at_most x y left length p q some x_share y_share square =
+    let x_square : (x * left) * (x * left) ≤ ((p + 1) * length) * ((p + 1) * length) = mul-le _ _ _ _ x_share x_share in
+    let y_square : (y * left) * (y * left) ≤ ((q + 1) * length) * ((q + 1) * length) = mul-le _ _ _ _ y_share y_share in
+    let all : (length * length) * (left * left) ≤ (x * x + y * y) * (left * left) = mul-le _ _ _ _ square (omega arith) in
+    let positive : 1 * 1 ≤ length * length = mul-le 1 1 length length some some in
+    le_from_times _ _ (length * length) (omega arith) (omega arith)
+
+length_at_least : (x y : ℤ) (left : ℕ) → left * left ≤ (unsigned_abs x + 1) * (unsigned_abs x + 1) + (unsigned_abs y + 1) * (unsigned_abs y + 1) → left ≤ length_of x y + 2
+length_at_least x y left lost =
+    let below = next_square _ _ (root_is_greatest (unsigned_abs x * unsigned_abs x + unsigned_abs y * unsigned_abs y)) in
+    le_from_square left (length_of x y + 2) (omega (arith, legs_grow_by_2 (unsigned_abs x) (unsigned_abs y) (length_of x y) below))
+
+friction_at_keeps : (speed : ℕ) (v : Vec3) (ms : ℕ) → speed * speed ≤ unsigned_abs v.x * unsigned_abs v.x + unsigned_abs v.y * unsigned_abs v.y → slowed ms speed ≤ speed_of (friction_at speed v ms) + 2
+friction_at_keeps zero v ms most = omega arith
+friction_at_keeps (suc n) v ms most =
+    let left = slowed ms (suc n) in
+    length_at_least (scaled v.x (pos left) (suc n)) (scaled v.y (pos left) (suc n)) left (shares_lose_at_most (unsigned_abs v.x) (unsigned_abs v.y) left (suc n) _ _ (omega arith) (share_lost v.x left (suc n) (omega arith)) (share_lost v.y left (suc n) (omega arith)) most)
+
 pub friction_slows : FrictionSlows
-friction_slows v ms = (
-  friction_at_slows (speed_of v) v ms (next_square _ _ (root_is_greatest _)),
-  λ least some. omega (arith, slowed_by ms (speed_of v) least),
-)
+friction_slows v ms = record {
+  most = friction_at_slows (speed_of v) v ms (next_square _ _ (root_is_greatest _));
+  least = friction_at_keeps (speed_of v) v ms (root_is_greatest _).square;
+  less = λ least some. omega (arith, slowed_by ms (speed_of v) least);
+}
 
 still : (v : Vec3) → speed_of v ≤ 0 → IsStill v
 still v none = record {
@@ -87,5 +119,5 @@ pub friction_stops : FrictionStops
 friction_stops v [] each slow = still v (omega arith)
 friction_stops v (ms ∷ times) each slow =
     let least : 1 ≤ ms = All-head (λ t. 1 ≤ t) ms times each in
-    let slower : speed_of (friction_of v ms) ≤ speed_of v - 102 = omega (arith, (friction_slows v ms).0, slowed_by ms (speed_of v) least) in
+    let slower : speed_of (friction_of v ms) ≤ speed_of v - 102 = omega (arith, (friction_slows v ms).most, slowed_by ms (speed_of v) least) in
     friction_stops (friction_of v ms) times (All-tail (λ t. 1 ≤ t) ms times each) (omega arith)

@@ -28,16 +28,16 @@ dot_is a x b y p q a_fits x_fits b_fits y_fits p_fits q_fits p_is q_is =
     let other = simp to_z-of_z at q_is in
     rw (to_z-of_z w64 p p_fits, to_z-of_z w64 q q_fits, one, other)
 
--- the lesser of a step and of what is missing
-pub gain_is : (f m g : ℤ) (step : ℕ) → step ≤ 40960 → f ≡ pos step → FitsSigned w64 m → FitsSigned w64 g → pos 0 <ℤ m → g ≡ int_min (typed w64 f) (typed w64 m) → typed w32 (typed w64 g) ≡ int_min (pos step) m
-gain_is f m g step small f_is m_fits g_fits some g_is =
-    let step_fits : FitsSigned w64 (pos step) = omega (arith, ints) in
-    let g_min : g ≡ int_min (pos step) m = g_is ∙ (rw (f_is, to_z-of_z w64 (pos step) step_fits, to_z-of_z w64 m m_fits)) in
-    let least_fits : FitsSigned w32 (int_min (pos step) m) = omega (arith, ints, clamps) in
-    rw (to_z-of_z w64 g g_fits, g_min) (to_z-of_z w32 (int_min (pos step) m) least_fits)
+-- the lesser of what is allowed and of what is missing
+pub gain_is : (f m g : ℤ) (allowed : ℕ) → allowed ≤ 40960 → f ≡ pos allowed → FitsSigned w64 m → FitsSigned w64 g → pos 0 <ℤ m → g ≡ int_min (typed w64 f) (typed w64 m) → typed w32 (typed w64 g) ≡ int_min (pos allowed) m
+gain_is f m g allowed small f_is m_fits g_fits some g_is =
+    let allowed_fits : FitsSigned w64 (pos allowed) = omega (arith, ints) in
+    let g_min : g ≡ int_min (pos allowed) m = g_is ∙ (rw (f_is, to_z-of_z w64 (pos allowed) allowed_fits, to_z-of_z w64 m m_fits)) in
+    let least_fits : FitsSigned w32 (int_min (pos allowed) m) = omega (arith, ints, clamps) in
+    rw (to_z-of_z w64 g g_fits, g_min) (to_z-of_z w32 (int_min (pos allowed) m) least_fits)
 
-pub gain_is_positive : (step : ℕ) (m : ℤ) → pos 0 <ℤ m → pos 0 ≤ℤ int_min (pos step) m
-gain_is_positive step m some = omega (arith, ints, clamps)
+pub gain_is_positive : (allowed : ℕ) (m : ℤ) → pos 0 <ℤ m → pos 0 ≤ℤ int_min (pos allowed) m
+gain_is_positive allowed m some = omega (arith, ints, clamps)
 
 -- a test that failed
 pub positive_from_test : (m : ℤ) → FitsSigned w64 m → int_le (typed w64 m) (pos 0) ≡ false → pos 0 <ℤ m

@@ -1,6 +1,8 @@
 -- By how much the rules change a velocity.
-use Rattle.std.specs.Prelude.{◌≡◌, ℕ, ◌≤◌, ℤ, pos, ◌-ℤ◌, ◌≤ℤ◌, unsigned_abs}
+use Rattle.std.specs.Prelude.{◌≡◌, ℕ, ◌≤◌, ℤ, pos, neg_ℤ, ◌-ℤ◌, ◌≤ℤ◌, unsigned_abs}
 use Rattle.arena_geo.specs.declared.vec3.Vec3.{Vec3}
+use Rattle.speed_rules.specs.declared.constants.TheConstants.{MAX_VELOCITY}
+use Rattle.speed_rules.specs.Measures.{speed_of, greatest_velocity}
 
 -- a part is no longer than it was, and its sign isn't turned
 pub record IsShortened (old new : ℤ) : Type 0 where
@@ -24,3 +26,22 @@ pub record AddsAtMost (most : ℕ) (old new : Vec3) : Type 0 where
 pub record IsStill (v : Vec3) : Type 0 where
   pub x : v.x ≡ pos 0
   pub y : v.y ≡ pos 0
+
+-- what is 0 stays 0, z stays as it is, and so does a velocity without speed over the ground
+pub record KeepsZeros (old new : Vec3) : Type 0 where
+  pub x : old.x ≡ pos 0 → new.x ≡ pos 0
+  pub y : old.y ≡ pos 0 → new.y ≡ pos 0
+  pub z : new.z ≡ old.z
+  pub still : speed_of old ≡ 0 → new ≡ old
+
+-- a part in range is kept, and one beyond an end of the range goes to that end
+pub record IsCut (old new : ℤ) : Type 0 where
+  pub kept : unsigned_abs old ≤ greatest_velocity → new ≡ old
+  pub high : MAX_VELOCITY ≤ℤ old → new ≡ MAX_VELOCITY
+  pub low : old ≤ℤ neg_ℤ MAX_VELOCITY → new ≡ neg_ℤ MAX_VELOCITY
+
+-- each part is cut alone
+pub record IsClamped (old new : Vec3) : Type 0 where
+  pub x : IsCut old.x new.x
+  pub y : IsCut old.y new.y
+  pub z : IsCut old.z new.z

@@ -1,7 +1,8 @@
 -- Lengths and shares in whole numbers.
-use Rattle.std.specs.Prelude.{ℕ, ◌+◌, ◌*◌, ℤ, pos, ◌*ℤ◌, unsigned_abs, int_div}
+use Rattle.std.specs.Prelude.{ℕ, ◌+◌, ◌*◌, ℤ, pos, ◌+ℤ◌, ◌*ℤ◌, unsigned_abs, int_div}
 use Rattle.arena_geo.specs.declared.vec3.Vec3.{Vec3}
 use Rattle.arena_geo.specs.Roots.{root_of}
+use Rattle.speed_rules.specs.declared.constants.TheConstants.{MAX_VELOCITY}
 
 -- the length of (x, y), rounded down
 abbrev pub length_of : ℤ → ℤ → ℕ
@@ -11,6 +12,18 @@ length_of x y = root_of (unsigned_abs x * unsigned_abs x + unsigned_abs y * unsi
 abbrev pub speed_of : Vec3 → ℕ
 speed_of v = length_of v.x v.y
 
+-- how far from 0 a part of a velocity is at most after the clamp
+abbrev pub greatest_velocity : ℕ
+greatest_velocity = unsigned_abs MAX_VELOCITY
+
 -- part times by over whole, cut toward 0
 abbrev pub scaled : ℤ → ℤ → ℕ → ℤ
 scaled part by whole = int_div (part *ℤ by) (pos whole)
+
+-- the product of a velocity over the ground with (x, y), axis by axis
+abbrev pub dot_of : Vec3 → ℤ → ℤ → ℤ
+dot_of v x y = v.x *ℤ x +ℤ v.y *ℤ y
+
+-- the part of a velocity along (x, y), of which len is the length
+abbrev pub part_along : Vec3 → ℤ → ℤ → ℕ → ℤ
+part_along v x y len = int_div (dot_of v x y) (pos len)

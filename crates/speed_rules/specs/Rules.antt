@@ -1,9 +1,11 @@
 -- The rules of a player's velocity, in the order in which a move applies them. Each division cuts toward 0 by itself.
-use Rattle.std.specs.Prelude.{ℕ, zero, suc, ◌-◌, ◌*◌, ◌/◌, min, max, Bool, true, false, if◌then◌else◌, ℤ, pos, neg_ℤ, ◌+ℤ◌, ◌-ℤ◌, ◌*ℤ◌, int_lt, int_div}
+use Rattle.std.specs.Prelude.{ℕ, zero, suc, ◌-◌, ◌*◌, ◌/◌, min, max, Bool, true, false, if◌then◌else◌}
+use Rattle.std.specs.Prelude.{ℤ, pos, neg_ℤ, ◌+ℤ◌, ◌-ℤ◌, ◌*ℤ◌, int_lt}
 use Rattle.std.specs.Int.{int_min, int_max}
 use Rattle.arena_geo.specs.declared.vec3.Vec3.{Vec3}
-use Rattle.speed_rules.specs.declared.constants.TheConstants.{UNIT, SECOND, FRICTION, STOP_SPEED, ACCELERATE, MAX_SPEED, MAX_AIR_SPEED, GRAVITY, MAX_VELOCITY, JUMP_SPEED}
-use Rattle.speed_rules.specs.Measures.{length_of, speed_of, scaled}
+use Rattle.speed_rules.specs.declared.constants.TheConstants.{UNIT, SECOND, FRICTION, STOP_SPEED, ACCELERATE, MAX_SPEED}
+use Rattle.speed_rules.specs.declared.constants.TheConstants.{MAX_AIR_SPEED, GRAVITY, MAX_VELOCITY, JUMP_SPEED}
+use Rattle.speed_rules.specs.Measures.{length_of, speed_of, scaled, part_along}
 
 -- the velocity of a player that jumps
 abbrev pub jumped : Vec3 → Vec3
@@ -29,32 +31,28 @@ abbrev pub cap_of : Bool → ℕ → ℕ
 cap_of true wish_speed = wish_speed
 cap_of false wish_speed = min wish_speed MAX_AIR_SPEED
 
--- the velocity's part along (x, y), of which len is the length
-abbrev pub part_along : Vec3 → ℤ → ℤ → ℕ → ℤ
-part_along v x y len = int_div (v.x *ℤ x +ℤ v.y *ℤ y) (pos len)
-
 -- how far the velocity's part along (x, y), of which len is the length, is below the cap
 abbrev pub missing_of : Vec3 → ℤ → ℤ → ℕ → Bool → ℤ
 missing_of v x y len on_ground = pos (cap_of on_ground (min len MAX_SPEED)) -ℤ part_along v x y len
 
 -- the speed that the time may add: by the wish itself, in the air too
-abbrev pub step_of : ℕ → ℕ → ℕ
-step_of len ms = ACCELERATE * min len MAX_SPEED * ms / SECOND
+abbrev pub greatest_gain : ℕ → ℕ → ℕ
+greatest_gain len ms = ACCELERATE * min len MAX_SPEED * ms / SECOND
 
 -- v with the gain along (x, y), of which len is the length
 abbrev pub pushed : Vec3 → ℤ → ℤ → ℕ → ℤ → Vec3
 pushed v x y len gain = record { x = v.x +ℤ scaled x gain len; y = v.y +ℤ scaled y gain len; z = v.z }
 
--- v with the step along (x, y), or with what is missing where that is less, or as it is where nothing is missing
+-- v with the allowed gain along (x, y), or with what is missing where that is less; as it is where nothing is missing
 abbrev pub pushed_up_to : Vec3 → ℤ → ℤ → ℕ → ℕ → ℤ → Vec3
-pushed_up_to v x y len step missing =
-    if int_lt (pos 0) missing then pushed v x y len (int_min (pos step) missing) else v
+pushed_up_to v x y len allowed missing =
+    if int_lt (pos 0) missing then pushed v x y len (int_min (pos allowed) missing) else v
 
 -- the velocity accelerated toward (x, y), of which len is the length
 abbrev pub accelerated_toward : Vec3 → ℤ → ℤ → ℕ → ℕ → Bool → Vec3
 accelerated_toward v x y zero ms on_ground = v
 accelerated_toward v x y (suc n) ms on_ground =
-    pushed_up_to v x y (suc n) (step_of (suc n) ms) (missing_of v x y (suc n) on_ground)
+    pushed_up_to v x y (suc n) (greatest_gain (suc n) ms) (missing_of v x y (suc n) on_ground)
 
 -- the velocity accelerated toward a wish in units
 abbrev pub accelerated : Vec3 → ℤ → ℤ → ℕ → Bool → Vec3
@@ -73,7 +71,7 @@ cut part = int_max (neg_ℤ MAX_VELOCITY) (int_min part MAX_VELOCITY)
 abbrev pub clamped : Vec3 → Vec3
 clamped v = record { x = cut v.x; y = cut v.y; z = cut v.z }
 
--- what enters the clamp of a move that begins on the ground or not, with a jump or not: a jump counts as in the air
+-- what enters the clamp of a move that begins on the ground or not, with a jump or not; a jump counts as in the air
 abbrev pub unclamped : Bool → Bool → Vec3 → ℤ → ℤ → ℕ → Vec3
 unclamped true false v wish_x wish_y ms = accelerated (friction_of v ms) wish_x wish_y ms true
 unclamped true true v wish_x wish_y ms = gravity_of (accelerated (jumped v) wish_x wish_y ms false) ms

@@ -1,10 +1,12 @@
 ghost use Rattle.std.specs.Prelude.{◌≡◌, ℕ, ◌*◌, ◌/◌, ◌^◌, ◌<◌, ◌≤◌, pos, ◌≤ℤ◌, unsigned_abs};
 ghost use Rattle.arena_geo.specs.Vectors.{IsNear};
-ghost use Rattle.speed_rules.specs.Rules.{cap_of, part_along, missing_of, step_of, pushed, accelerated_toward, accelerated};
+ghost use Rattle.speed_rules.specs.Measures.{part_along};
+ghost use Rattle.speed_rules.specs.Rules.{cap_of, missing_of, greatest_gain, pushed};
+ghost use Rattle.speed_rules.specs.Rules.{accelerated_toward, accelerated};
 ghost use Rattle.speed_rules.specs.Changes.{AddsAtMost};
 
 use crate::arithmetic::{length, product, quotient, scale};
-use crate::constants::{ACCELERATE, MAX_AIR_SPEED, MAX_SPEED, SECOND, UNIT};
+use crate::constants::{ACCELERATE, MAX_AIR_SPEED, MAX_SPEED, MAX_UNCLAMPED, SECOND, UNIT};
 use arena_geo::Vec3;
 
 /// The speed along the wish up to which a player is accelerated.
@@ -21,7 +23,7 @@ fn cap(wish_speed: u32, on_ground: bool) -> u32
 
 /// The velocity's part along the wish (x, y), of which `len` is the length.
 fn along(vel: Vec3, x: i32, y: i32, len: u32) -> i64
-    requires near { IsNear 600000 vel }
+    requires near { IsNear MAX_UNCLAMPED vel }
     requires some { 0 < len }
     ensures value { result ≡ part_along vel x y len }
     ensures bound { unsigned_abs result < 2 ^ 62 }
@@ -31,7 +33,7 @@ fn along(vel: Vec3, x: i32, y: i32, len: u32) -> i64
 
 /// How far the velocity's part along the wish is below the cap.
 fn missing(vel: Vec3, x: i32, y: i32, len: u32, on_ground: bool) -> i64
-    requires near { IsNear 600000 vel }
+    requires near { IsNear MAX_UNCLAMPED vel }
     requires some { 0 < len }
     ensures { result ≡ missing_of vel x y len on_ground }
 {
@@ -39,17 +41,17 @@ fn missing(vel: Vec3, x: i32, y: i32, len: u32, on_ground: bool) -> i64
 }
 
 /// The speed that `ms` milliseconds may add.
-fn step(len: u32, ms: u8) -> u32
+fn greatest_gain(len: u32, ms: u8) -> u32
     requires { ms ≤ 50 }
-    ensures value { result ≡ step_of len ms }
-    ensures bound { result ≤ 10 * 81920 * ms / 1000 }
+    ensures value { result ≡ greatest_gain len ms }
+    ensures bound { result ≤ ACCELERATE * MAX_SPEED * ms / SECOND }
 {
     ACCELERATE * len.min(MAX_SPEED) * u32::from(ms) / SECOND
 }
 
 /// The velocity with the gain along the wish.
 fn push(vel: Vec3, x: i32, y: i32, len: u32, gain: i32) -> Vec3
-    requires near { IsNear 600000 vel }
+    requires near { IsNear MAX_UNCLAMPED vel }
     requires some { 0 < len }
     requires x_is_part { unsigned_abs x ≤ len }
     requires y_is_part { unsigned_abs y ≤ len }
@@ -66,7 +68,7 @@ fn push(vel: Vec3, x: i32, y: i32, len: u32, gain: i32) -> Vec3
 
 /// The velocity accelerated toward the wish (x, y), of which `len` is the length.
 fn accelerate_toward(vel: Vec3, x: i32, y: i32, len: u32, ms: u8, on_ground: bool) -> Vec3
-    requires near { IsNear 600000 vel }
+    requires near { IsNear MAX_UNCLAMPED vel }
     requires some { 0 < len }
     requires x_is_part { unsigned_abs x ≤ len }
     requires y_is_part { unsigned_abs y ≤ len }
@@ -77,7 +79,7 @@ fn accelerate_toward(vel: Vec3, x: i32, y: i32, len: u32, ms: u8, on_ground: boo
     if missing <= 0 {
         return vel;
     }
-    let gain = i64::from(step(len, ms)).min(missing) as i32;
+    let gain = i64::from(greatest_gain(len, ms)).min(missing) as i32;
     push(vel, x, y, len, gain)
 }
 
@@ -85,11 +87,11 @@ fn accelerate_toward(vel: Vec3, x: i32, y: i32, len: u32, ms: u8, on_ground: boo
 /// a second, as Quake's `SV_Accelerate` on the ground and `SV_AirAccelerate` in the air.
 /// Each part of `vel` is at most 600,000 from 0, and `ms` is 1 to 50.
 pub fn accelerate(vel: Vec3, wish_x: i16, wish_y: i16, ms: u8, on_ground: bool) -> Vec3
-    requires near { IsNear 600000 vel }
+    requires near { IsNear MAX_UNCLAMPED vel }
     requires least { 1 ≤ ms }
     requires most { ms ≤ 50 }
     ensures value { result ≡ accelerated vel wish_x wish_y ms on_ground }
-    ensures adds { AddsAtMost (10 * 81920 * ms / 1000) vel result }
+    ensures adds { AddsAtMost (ACCELERATE * MAX_SPEED * ms / SECOND) vel result }
 {
     let x = i32::from(wish_x) * UNIT;
     let y = i32::from(wish_y) * UNIT;

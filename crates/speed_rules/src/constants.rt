@@ -7,7 +7,8 @@ pub const SECOND: u32 = 1_000;
 /// What friction takes of a speed in a second, as a multiple of that speed: Quake's `sv_friction`.
 pub const FRICTION: u32 = 4;
 
-/// The speed below which friction takes no less than at this speed, in sub-units a second: 100 units, Quake's `sv_stopspeed`.
+/// The speed below which friction takes no less than at this speed, in sub-units a second: 100 units, Quake's
+/// `sv_stopspeed`.
 pub const STOP_SPEED: u32 = 25_600;
 
 /// What acceleration adds to a speed in a second, as a multiple of the speed that is wished: Quake's `sv_accelerate`.
@@ -28,3 +29,7 @@ pub const MAX_VELOCITY: i32 = 512_000;
 
 /// What a jump adds to the speed upwards, in sub-units a second: 270 units, as in Quake's `PlayerJump`.
 pub const JUMP_SPEED: i32 = 69_120;
+
+/// The greatest distance from 0 of a part of a velocity before the clamp, in sub-units a second: what a move adds to a
+/// velocity within [`MAX_VELOCITY`] stays within it.
+pub const MAX_UNCLAMPED: u32 = 600_000;

@@ -1,6 +1,9 @@
-ghost use Rattle.speed_rules.specs.Laws.{AreQuakesNumbers, FrictionShortens, FrictionSlows, FrictionStops, AccelerationIsBounded, ClampIsIdempotent, WhatEntersTheClampIsNear};
+ghost use Rattle.speed_rules.specs.Laws.{AreQuakesNumbers, FrictionShortens, FrictionKeepsZeros, FrictionSlows};
+ghost use Rattle.speed_rules.specs.Laws.{FrictionStops, AccelerationIsBounded, AccelerationStopsAtTheCap};
+ghost use Rattle.speed_rules.specs.Laws.{AccelerationReachesTheCap, AccelerationActsBelowTheCap};
+ghost use Rattle.speed_rules.specs.Laws.{ClampKeepsWhatIsInRange, ClampIsIdempotent, WhatEntersTheClampIsNear};
 
-/// The rules' numbers are Quake's, in sub-units.
+/// The rules' numbers are Quake's, in sub-units, and they take velocities within 600,000.
 pub fn numbers_are_quakes()
     ensures { AreQuakesNumbers }
 {}
@@ -10,13 +13,19 @@ pub fn friction_shortens()
     ensures { FrictionShortens }
 {}
 
-/// Friction leaves no more than the slowed speed, which is less than the speed as long as there is one.
+/// Friction keeps what is 0: a part on x or y, and all of a velocity without speed over the ground.
+pub fn friction_keeps_zeros()
+    ensures { FrictionKeepsZeros }
+{}
+
+/// Friction leaves the slowed speed over the ground, of which the cuts lose at most 2 more. The slowed speed is less
+/// than the speed while there is one.
 pub fn friction_slows()
     ensures { FrictionSlows }
 {}
 
-/// Friction stops a player: it takes at least 102 sub-units a second of its speed in each move, so 251 moves stop
-/// one that isn't faster than 25,600.
+/// Friction stops a player over the ground: it takes at least 102 sub-units a second of its speed each time, so 251
+/// times stop one that isn't faster than 25,600.
 pub fn friction_stops()
     ensures { FrictionStops }
 {}
@@ -24,6 +33,29 @@ pub fn friction_stops()
 /// Acceleration adds at most what the time allows at the greatest wish, and nothing on z.
 pub fn acceleration_is_bounded()
     ensures { AccelerationIsBounded }
+{}
+
+/// Acceleration pushes the velocity's part along the wish no farther than the cap and than the time allows, but for 1
+/// that the cuts may add.
+pub fn acceleration_stops_at_the_cap()
+    ensures { AccelerationStopsAtTheCap }
+{}
+
+/// Acceleration brings the velocity's part along the wish to the cap, or as near to it as the time allows, but for at
+/// most 3 that the cuts lose.
+pub fn acceleration_reaches_the_cap()
+    ensures { AccelerationReachesTheCap }
+{}
+
+/// Acceleration keeps a velocity whose part along the wish is at the cap, and gains along the wish where 2 or more are
+/// missing.
+pub fn acceleration_acts_below_the_cap()
+    ensures { AccelerationActsBelowTheCap }
+{}
+
+/// The clamp keeps each part that is in range, and takes each other part to the end of the range that it is beyond.
+pub fn clamp_keeps_what_is_in_range()
+    ensures { ClampKeepsWhatIsInRange }
 {}
 
 /// To clamp a velocity again changes nothing.

@@ -3,12 +3,14 @@
 
 pub use acceleration::accelerate;
 pub use constants::{
-    ACCELERATE, FRICTION, GRAVITY, JUMP_SPEED, MAX_AIR_SPEED, MAX_SPEED, MAX_VELOCITY, SECOND,
-    STOP_SPEED, UNIT,
+    ACCELERATE, FRICTION, GRAVITY, JUMP_SPEED, MAX_AIR_SPEED, MAX_SPEED, MAX_UNCLAMPED,
+    MAX_VELOCITY, SECOND, STOP_SPEED, UNIT,
 };
 pub use laws::{
-    acceleration_is_bounded, clamp_is_idempotent, friction_shortens, friction_slows,
-    friction_stops, numbers_are_quakes, what_enters_the_clamp_is_near,
+    acceleration_acts_below_the_cap, acceleration_is_bounded, acceleration_reaches_the_cap,
+    acceleration_stops_at_the_cap, clamp_is_idempotent, clamp_keeps_what_is_in_range,
+    friction_keeps_zeros, friction_shortens, friction_slows, friction_stops, numbers_are_quakes,
+    what_enters_the_clamp_is_near,
 };
 pub use rules::{clamp, friction, gravity};
 

@@ -1,10 +1,11 @@
 ghost use Rattle.std.specs.Prelude.{◌≡◌, ◌≤◌};
 ghost use Rattle.arena_geo.specs.Vectors.{IsNear};
+ghost use Rattle.speed_rules.specs.Measures.{greatest_velocity};
 ghost use Rattle.speed_rules.specs.Rules.{slowed, friction_of, gravity_of, clamped};
 ghost use Rattle.speed_rules.specs.Changes.{Shortens};
 
 use crate::arithmetic::{length, scale};
-use crate::constants::{FRICTION, GRAVITY, MAX_VELOCITY, SECOND, STOP_SPEED};
+use crate::constants::{FRICTION, GRAVITY, MAX_UNCLAMPED, MAX_VELOCITY, SECOND, STOP_SPEED};
 use arena_geo::Vec3;
 
 /// The speed that friction leaves of `speed` after `ms` milliseconds.
@@ -20,7 +21,7 @@ fn slow(speed: u32, ms: u8) -> u32
 /// The velocity after friction on the ground for `ms` milliseconds, as Quake's `SV_UserFriction`, on x and y alone.
 /// Each part of `vel` is at most 600,000 from 0, and `ms` is 1 to 50.
 pub fn friction(vel: Vec3, ms: u8) -> Vec3
-    requires near { IsNear 600000 vel }
+    requires near { IsNear MAX_UNCLAMPED vel }
     requires least { 1 ≤ ms }
     requires most { ms ≤ 50 }
     ensures value { result ≡ friction_of vel ms }
@@ -41,7 +42,7 @@ pub fn friction(vel: Vec3, ms: u8) -> Vec3
 /// The velocity after falling for `ms` milliseconds, as Quake's `SV_AddGravity`.
 /// Each part of `vel` is at most 600,000 from 0, and `ms` is 1 to 50.
 pub fn gravity(vel: Vec3, ms: u8) -> Vec3
-    requires near { IsNear 600000 vel }
+    requires near { IsNear MAX_UNCLAMPED vel }
     requires least { 1 ≤ ms }
     requires most { ms ≤ 50 }
     ensures value { result ≡ gravity_of vel ms }
@@ -57,7 +58,7 @@ pub fn gravity(vel: Vec3, ms: u8) -> Vec3
 /// The velocity with each part cut to -512,000 to 512,000, as Quake's `SV_CheckVelocity`.
 pub fn clamp(vel: Vec3) -> Vec3
     ensures value { result ≡ clamped vel }
-    ensures near { IsNear 512000 result }
+    ensures near { IsNear greatest_velocity result }
 {
     Vec3 {
         x: vel.x.clamp(-MAX_VELOCITY, MAX_VELOCITY),

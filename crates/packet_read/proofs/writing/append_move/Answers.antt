@@ -15,9 +15,9 @@ in_turn a b c d e f g p q r s t u eb ec ed ee ef eg = rw (eg, ef, ee, ed, ec, eb
 
 pub returns-clause-appended : goal.returns-clause-appended
 returns-clause-appended c =
-    let step = c.args.step in
-    let wish_x : c.to_le_bytes-2.result ≡ to_le_bytes w16 (cast_unsigned w16 step.wish_x) = search rules in
-    let wish_y : c.to_le_bytes-3.result ≡ to_le_bytes w16 (cast_unsigned w16 step.wish_y) = search rules in
+    let packet = c.args.packet in
+    let wish_x : c.to_le_bytes-2.result ≡ to_le_bytes w16 (cast_unsigned w16 packet.wish_x) = search rules in
+    let wish_y : c.to_le_bytes-3.result ≡ to_le_bytes w16 (cast_unsigned w16 packet.wish_y) = search rules in
     in_turn _ _ _ _ _ _ _ _ _ _ _ _ _
     c.append.ensures
     (rw c.to_le_bytes.ensures at c.append-2.ensures)

@@ -9,5 +9,5 @@ use Rattle.packet_read.proofs.writing.write_packet.Goals as goal
 pub returns-in-Step-clause-read_again : goal.returns-in-Step-clause-read_again
 returns-in-Step-clause-read_again c =
     let allowed = subst (λ (p : Packet). IsAllowed p) c.in-Step.is c.requires in
-    let spelled : c.append_move.new.bytes ≡ spelling (Step c.in-Step.step) = search rules in
-    rw c.in-Step.is (ap reading spelled ∙ packet_again (Step c.in-Step.step) c.append_move.ensures.fits allowed)
+    let spelled : c.append_move.new.bytes ≡ spelling (Step c.in-Step.packet) = search rules in
+    rw c.in-Step.is (ap reading spelled ∙ packet_again (Step c.in-Step.packet) c.append_move.ensures.fits allowed)

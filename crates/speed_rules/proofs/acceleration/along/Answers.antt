@@ -2,7 +2,7 @@ use Rattle.std.proofs.Common.{◌≡◌, ◌+ℤ◌, ◌*ℤ◌, ◌∙◌, arit
 use Rattle.std.specs.Prelude.{FitsSigned}
 use Rattle.std.specs.Int.{w32, w64, cast_signed, cast_unsigned}
 use Rattle.std.proofs.lemmas.Int.{to_z-of_z, fits_signed_from_abs}
-use Rattle.speed_rules.specs.Rules.{part_along}
+use Rattle.speed_rules.specs.Measures.{part_along}
 use Rattle.speed_rules.proofs.Shares.{dot_is_small, quotient_le}
 use Rattle.speed_rules.proofs.Typed.{dot_is}
 use Rattle.speed_rules.proofs.acceleration.along.Goals as goal

@@ -2,7 +2,8 @@ use Rattle.std.proofs.Common.{◌≡◌, ◌∙◌, ap, pos, min, refl}
 use Rattle.std.specs.Prelude.{FitsSigned}
 use Rattle.std.specs.Int.{w32, w64}
 use Rattle.std.proofs.lemmas.Int.{to_z-of_z}
-use Rattle.speed_rules.specs.Rules.{cap_of, part_along}
+use Rattle.speed_rules.specs.Measures.{part_along}
+use Rattle.speed_rules.specs.Rules.{cap_of}
 use Rattle.speed_rules.proofs.Typed.{difference_is, fits_difference}
 use Rattle.speed_rules.proofs.acceleration.missing.Goals as goal
 

@@ -1,0 +1,78 @@
+-- That a move goes no less far over the ground than its plain slide.
+use Rattle.std.proofs.Common.{◌≡◌, ℕ, ◌<◌, ◌≤◌, Bool, true, false, ◌⊎◌, inl, inr, if◌then◌else◌, List, ℤ, ◌+ℤ◌, ◌-ℤ◌, refl, sym, ap, ◌∙◌, subst, arith}
+use Rattle.std.specs.Prelude.{◌&&◌}
+use Rattle.std.proofs.lemmas.Bool.{ltb-true, and_parts}
+use Rattle.std.proofs.lemmas.Int.{ints}
+use Rattle.arena_geo.specs.declared.vec3.Vec3.{Vec3}
+use Rattle.arena_geo.specs.Vectors.{plus, minus}
+use Rattle.arena_geo.specs.Bounds.{Bounds}
+use Rattle.arena_geo.specs.Boxes.{moved}
+use Rattle.slide_move.specs.declared.slid.Slid.{Slid}
+use Rattle.slide_move.specs.Slides.{slide_of}
+use Rattle.entity_recs.specs.declared.rec.Rec.{Rec}
+use Rattle.entity_recs.specs.Bodies.{body_of}
+use Rattle.player_move.specs.declared.walk.Walked.{Walked}
+use Rattle.player_move.specs.Intents.{Intent}
+use Rattle.player_move.specs.Velocities.{walks, velocity_after}
+use Rattle.player_move.specs.Walks.{ground_of, flat_square, goes_farther, are_taken, stairs_of, walk_of}
+use Rattle.player_move.specs.Moves.{body_after, moved_by, move_of}
+use Rattle.player_move.specs.Laws.{flat_square_of, plain_slide_of, IsSlide, GoesFarther, GoesNoLessFar, MoveGoesNoLessFar}
+use Rattle.player_move.proofs.Walking.{plain_of}
+use Rattle.player_move.proofs.WholeMoves.{standing-moved}
+
+-- ---- what a walk is
+-- the walk is its slide, or it walks, leads strictly farther than it, and ends on the ground
+data Leads (walking : Bool) (body : Bounds) (slid : Slid) (solids : List Bounds) (walk : Walked) : Type 0 where
+  slides : walk ≡ plain_of slid → Leads walking body slid solids walk
+  climbs : walking ≡ true → flat_square slid.shift < flat_square walk.shift → ground_of (moved body walk.shift) solids ≡ true → Leads walking body slid solids walk
+
+choose : (P : Walked → Type 0) (b : Bool) (stairs plain : Walked) → (b ≡ true → P stairs) → P plain → P (if b then stairs else plain)
+choose P true stairs plain where_taken else_plain = where_taken refl
+choose P false stairs plain where_taken else_plain = else_plain
+
+module _ (walking : Bool) (body : Bounds) (slid : Slid) (solids : List Bounds) (stairs : Walked) where
+  climbs_where_taken : (walking && slid.side && are_taken body stairs.shift slid.shift solids) ≡ true → Leads walking body slid solids stairs
+  climbs_where_taken taken =
+      let parts = and_parts (walking && slid.side) (are_taken body stairs.shift slid.shift solids) taken in
+      let ends = and_parts (goes_farther stairs.shift slid.shift) (ground_of (moved body stairs.shift) solids) parts.1 in
+      climbs (and_parts walking slid.side parts.0).0 (ltb-true (flat_square slid.shift) (flat_square stairs.shift) ends.0) ends.1
+
+walk_leads : (walking : Bool) (body : Bounds) (vel : Vec3) (ms : ℕ) (solids : List Bounds) → Leads walking body (slide_of body vel ms solids) solids (walk_of walking body vel ms solids)
+unfolding walk_of
+walk_leads walking body vel ms solids =
+    choose (Leads walking body (slide_of body vel ms solids) solids) _ (stairs_of body vel ms solids) _
+    (climbs_where_taken walking body (slide_of body vel ms solids) solids (stairs_of body vel ms solids))
+    (slides refl)
+
+-- ---- what a move is
+minus-plus : (from shift : Vec3) → minus (plus from shift) from ≡ shift
+minus-plus from shift =
+    λ i. record { x = back from.x shift.x i; y = back from.y shift.y i; z = back from.z shift.z i } where
+      back : (a b : ℤ) → (a +ℤ b) -ℤ a ≡ b
+      back a b = omega (arith, ints)
+
+flat_square_by : (me : Rec) (walk : Walked) (ground : Bool) → flat_square_of me (moved_by me.origin walk ground) ≡ flat_square walk.shift
+flat_square_by me walk ground = ap flat_square (minus-plus me.origin walk.shift)
+
+body_by : (me : Rec) (walk : Walked) (ground : Bool) → body_after me (moved_by me.origin walk ground) ≡ moved (body_of me) walk.shift
+body_by me walk ground = standing-moved me.origin walk.shift me.mins me.maxs
+
+no_less_far : (me : Rec) (cmd : Intent) (solids : List Bounds) (slid : Slid) (walk : Walked) → Leads (walks (ground_of (body_of me) solids) cmd) (body_of me) slid solids walk → GoesNoLessFar me cmd solids slid (moved_by me.origin walk (ground_of (body_of me) solids))
+no_less_far me cmd solids slid walk (slides is) = record {
+  no_less_far = omega (arith, flat_square_by me walk (ground_of (body_of me) solids), ap (λ (w : Walked). flat_square w.shift) is);
+  either = inl (record { origin = ap (λ (w : Walked). plus me.origin w.shift) is; vel = ap (λ (w : Walked). w.vel) is });
+}
+no_less_far me cmd solids slid walk (climbs walking farther on_ground) = record {
+  no_less_far = omega (arith, flat_square_by me walk (ground_of (body_of me) solids), farther);
+  either = inr (record {
+    walks = walking;
+    farther = omega (arith, flat_square_by me walk (ground_of (body_of me) solids), farther);
+    on_ground = ap (λ (b : Bounds). ground_of b solids) (body_by me walk (ground_of (body_of me) solids)) ∙ on_ground;
+  });
+}
+
+pub move_goes_no_less_far : MoveGoesNoLessFar
+unfolding move_of
+move_goes_no_less_far me cmd solids =
+    let ground = ground_of (body_of me) solids in
+    no_less_far me cmd solids _ _ (walk_leads (walks ground cmd) (body_of me) (velocity_after ground me cmd) cmd.ms solids)
