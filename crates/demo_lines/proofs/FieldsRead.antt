@@ -6,11 +6,11 @@ use Rattle.std.proofs.lemmas.Bool.Decides.{nat_tests}
 use Rattle.std.proofs.Math.Seq.{take-append_seam, drop-append_seam}
 use Rattle.arena_geo.specs.declared.vec3.Vec3.{Vec3}
 use Rattle.arena_geo.specs.Vectors.{IsNear}
-use Rattle.demo_lines.specs.Numbers.{integer_up_to}
-use Rattle.demo_lines.specs.Fields.{is_space, cut, field_at}
-use Rattle.demo_lines.specs.Lines.{◌>>=◌, coordinate_at, point_at}
-use Rattle.demo_lines.specs.Spelling.{spelled_field, spelled_point}
-use Rattle.demo_lines.proofs.Decimals.{integer-decimal}
+use Rattle.edge_io.specs.Numbers.{integer_up_to}
+use Rattle.edge_io.specs.Fields.{◌>>=◌, is_space, cut, field_at}
+use Rattle.demo_lines.specs.Lines.{coordinate_at, point_at}
+use Rattle.demo_lines.specs.Spelling.{field_text, point_text}
+use Rattle.edge_io.proofs.Decimals.{integer-decimal}
 use Rattle.demo_lines.proofs.Marks.{AreAbove, signed_above}
 
 -- where a field ends: there is nothing more, or a space
@@ -41,10 +41,10 @@ cut-field field rest above ends =
     ∙ ap (λ f. (f, drop (length field) (field ++ rest))) (take-append_seam field rest)
     ∙ ap (λ r. (field, r)) (drop-append_seam field rest)
 
-pub field_at-field : (field rest : List ℕ) → AreAbove 32 field → IsEnd rest → field_at (spelled_field field ++ rest) ≡ Some (field, rest)
+pub field_at-field : (field rest : List ℕ) → AreAbove 32 field → IsEnd rest → field_at (field_text field ++ rest) ≡ Some (field, rest)
 field_at-field field rest above ends = ap Some (cut-field field rest above ends)
 
-coordinate_at-field : (z : ℤ) (rest : List ℕ) → unsigned_abs z ≤ 1048576 → IsEnd rest → coordinate_at (spelled_field (signed_decimal z) ++ rest) ≡ Some (z, rest)
+coordinate_at-field : (z : ℤ) (rest : List ℕ) → unsigned_abs z ≤ 1048576 → IsEnd rest → coordinate_at (field_text (signed_decimal z) ++ rest) ≡ Some (z, rest)
 coordinate_at-field z rest near ends =
     let Read : Option (List ℕ × List ℕ) → Option (ℤ × List ℕ) = λ f. f >>= (λ field. integer_up_to 1048576 field.0 >>= (λ y. Some (y, field.1))) in
     let Number : Option ℤ → Option (ℤ × List ℕ) = λ y. y >>= (λ x. Some (x, rest)) in
@@ -52,10 +52,10 @@ coordinate_at-field z rest near ends =
     ∙ ap Number (integer-decimal 1048576 z (omega arith) near)
 
 -- three coordinates and what follows them
-pub point_at-point : (p : Vec3) (rest : List ℕ) → IsNear 1048576 p → IsEnd rest → point_at (spelled_point p ++ rest) ≡ Some (p, rest)
+pub point_at-point : (p : Vec3) (rest : List ℕ) → IsNear 1048576 p → IsEnd rest → point_at (point_text p ++ rest) ≡ Some (p, rest)
 point_at-point p rest near ends =
-    let x = spelled_field (signed_decimal p.x) in
-    let y = spelled_field (signed_decimal p.y) in
-    let z = spelled_field (signed_decimal p.z) in
+    let x = field_text (signed_decimal p.x) in
+    let y = field_text (signed_decimal p.y) in
+    let z = field_text (signed_decimal p.z) in
     ap point_at (append_assoc (x ++ y) z rest ∙ append_assoc x y (z ++ rest))
     ∙ rw (coordinate_at-field p.x (y ++ (z ++ rest)) near.x refl, coordinate_at-field p.y (z ++ rest) near.y refl, coordinate_at-field p.z rest near.z ends) refl

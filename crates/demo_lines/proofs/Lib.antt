@@ -1,10 +1,8 @@
 -- Lemmas on recordings.
 pub mod Machines
-pub mod Feeds
 pub mod Ends
 pub mod Consuming
 pub mod Walks
-pub mod Decimals
 pub mod Spellings
 pub mod Prefixes
 pub mod Marks
@@ -14,3 +12,5 @@ pub mod LinesSound
 pub mod LinesBack
 pub mod RecordingsRead
 pub mod SmallRecording
+pub mod LinesLeft
+pub mod LongestRecording

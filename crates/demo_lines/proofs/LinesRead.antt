@@ -1,4 +1,4 @@
--- Lines that were written are read as what was written, and no line feed stands in them.
+-- Lines that were written are read as what was written, and have no line feed in them.
 use Rattle.std.proofs.Common.{◌≡◌, ℕ, suc, ◌+◌, ◌*◌, ◌^◌, ◌≤◌, ◌<◌, true, nat_le, List, [], ◌∷◌, ◌++◌, length, Option, Some, None, cond, codes, bytes_eq, refl, sym, ap, ◌∙◌, arith, ℤ, pos, negsuc, unsigned_abs, decimal, append-nil, length-append, rules}
 use Rattle.std.specs.Fmt.{signed_decimal}
 use Rattle.std.proofs.lemmas.Bool.Decides.{nat_tests}
@@ -11,22 +11,22 @@ use Rattle.arena_geo.specs.Vectors.{IsNear}
 use Rattle.demo_lines.specs.declared.arrival.Arrival.{Arrival}
 use Rattle.demo_lines.specs.declared.line.Line.{Line}
 use Rattle.demo_lines.specs.declared.line.Line.TheVariants.{Arena, Spawn, Block, Frame, From, End}
-use Rattle.demo_lines.specs.Numbers.{natural_up_to}
-use Rattle.demo_lines.specs.Fields.{field_at}
+use Rattle.edge_io.specs.Numbers.{natural_up_to}
+use Rattle.edge_io.specs.Fields.{◌>>=◌, field_at}
 use Rattle.demo_lines.specs.Packets.{packet_bytes}
-use Rattle.demo_lines.specs.Lines.{◌>>=◌, point_at, alone, arena_of, spawn_of, block_of, from_of, line_at}
-use Rattle.demo_lines.specs.Recording.{said_by}
-use Rattle.demo_lines.specs.Spelling.{spelled_field, spelled_point, spelled_packet, spelled, IsLine}
+use Rattle.demo_lines.specs.Lines.{point_at, alone, arena_of, spawn_of, block_of, from_of, line_at}
+use Rattle.demo_lines.specs.Recording.{line_in}
+use Rattle.demo_lines.specs.Spelling.{field_text, point_text, packet_text, line_text, IsLine}
 use Rattle.demo_lines.specs.Laws.{PacketsHaveRoom}
-use Rattle.demo_lines.proofs.Decimals.{natural-decimal}
+use Rattle.edge_io.proofs.Decimals.{natural-decimal}
 use Rattle.demo_lines.proofs.Spellings.{packet_bytes-lower}
 use Rattle.demo_lines.proofs.Marks.{AreAbove, above-append, above-lower, decimal_above, signed_above, packet_above}
 use Rattle.demo_lines.proofs.FieldsRead.{IsEnd, cut-field, field_at-field, point_at-point}
 
 -- ---- the fields
 
-last_point : (p : Vec3) → IsNear 1048576 p → point_at (spelled_point p) ≡ Some (p, [])
-last_point p near = ap point_at (sym (append-nil (spelled_point p))) ∙ point_at-point p [] near tt
+last_point : (p : Vec3) → IsNear 1048576 p → point_at (point_text p) ≡ Some (p, [])
+last_point p near = ap point_at (sym (append-nil (point_text p))) ∙ point_at-point p [] near tt
 
 abbrev pub Corners : Type 0
 Corners = Vec3 → Vec3 → Line
@@ -35,29 +35,29 @@ Corners = Vec3 → Vec3 → Line
 abbrev pub corners_of : Corners → List ℕ → Option Line
 corners_of line rest = point_at rest >>= (λ lo. point_at lo.1 >>= (λ hi. alone (line lo.0 hi.0) hi.1))
 
-corners-read : (line : Corners) (lo hi : Vec3) → IsNear 1048576 lo → IsNear 1048576 hi → corners_of line (spelled_point lo ++ spelled_point hi) ≡ Some (line lo hi)
+corners-read : (line : Corners) (lo hi : Vec3) → IsNear 1048576 lo → IsNear 1048576 hi → corners_of line (point_text lo ++ point_text hi) ≡ Some (line lo hi)
 corners-read line lo hi near_lo near_hi =
-    ap (λ p. p >>= (λ low. point_at low.1 >>= (λ high. alone (line low.0 high.0) high.1))) (point_at-point lo (spelled_point hi) near_lo refl)
+    ap (λ p. p >>= (λ low. point_at low.1 >>= (λ high. alone (line low.0 high.0) high.1))) (point_at-point lo (point_text hi) near_lo refl)
     ∙ ap (λ p. p >>= (λ high. alone (line lo high.0) high.1)) (last_point hi near_hi)
 
-spawn-read : (at : Vec3) → IsNear 1048576 at → spawn_of (spelled_point at) ≡ Some (Spawn at)
+spawn-read : (at : Vec3) → IsNear 1048576 at → spawn_of (point_text at) ≡ Some (Spawn at)
 spawn-read at near = ap (λ p. p >>= (λ q. alone (Spawn q.0) q.1)) (last_point at near)
 
-packet-read : (bytes : List ℕ) → AreBytes bytes → packet_bytes (spelled_packet bytes) ≡ Some bytes
+packet-read : (bytes : List ℕ) → AreBytes bytes → packet_bytes (packet_text bytes) ≡ Some bytes
 packet-read [] are = refl
 packet-read (b ∷ bytes) are = packet_bytes-lower (b ∷ bytes) are (omega arith)
 
-last_field : (field : List ℕ) → AreAbove 32 field → field_at (spelled_field field) ≡ Some (field, [])
-last_field field above = ap field_at (sym (append-nil (spelled_field field))) ∙ field_at-field field [] above tt
+last_field : (field : List ℕ) → AreAbove 32 field → field_at (field_text field) ≡ Some (field, [])
+last_field field above = ap field_at (sym (append-nil (field_text field))) ∙ field_at-field field [] above tt
 
-from-read : (a : Arrival) → a.port < 65536 → AreBytes a.bytes → from_of (spelled_field (decimal a.port) ++ spelled_field (spelled_packet a.bytes)) ≡ Some (From a)
+from-read : (a : Arrival) → a.port < 65536 → AreBytes a.bytes → from_of (field_text (decimal a.port) ++ field_text (packet_text a.bytes)) ≡ Some (From a)
 from-read a port are =
-    let text = spelled_packet a.bytes in
+    let text = packet_text a.bytes in
     let Bytes : ℕ → Option (List ℕ × List ℕ) → Option Line = λ port field. field >>= (λ t. packet_bytes t.0 >>= (λ bytes. alone (From (record { port = port; bytes = bytes })) t.1)) in
     let Port : Option (List ℕ × List ℕ) → Option Line = λ field. field >>= (λ number. natural_up_to 65535 number.0 >>= (λ port. Bytes port (field_at number.1))) in
-    let From_port : Option ℕ → Option Line = λ n. n >>= (λ port. Bytes port (field_at (spelled_field text))) in
+    let From_port : Option ℕ → Option Line = λ n. n >>= (λ port. Bytes port (field_at (field_text text))) in
     let Packet : Option (List ℕ) → Option Line = λ read. read >>= (λ bytes. alone (From (record { port = a.port; bytes = bytes })) []) in
-    ap Port (field_at-field (decimal a.port) (spelled_field text) (decimal_above a.port (omega arith)) refl)
+    ap Port (field_at-field (decimal a.port) (field_text text) (decimal_above a.port (omega arith)) refl)
     ∙ ap From_port (natural-decimal 65535 a.port (omega arith) (omega arith))
     ∙ ap (Bytes a.port) (last_field text (packet_above a.bytes are))
     ∙ ap Packet (packet-read a.bytes are)
@@ -79,27 +79,27 @@ read-word word rest above ends = ap by_word (cut-field word rest above ends)
 
 -- ---- how long they are
 
-coordinate-long : (z : ℤ) → unsigned_abs z ≤ 1048576 → length (spelled_field (signed_decimal z)) ≤ 9
+coordinate-long : (z : ℤ) → unsigned_abs z ≤ 1048576 → length (field_text (signed_decimal z)) ≤ 9
 coordinate-long (pos n) near = omega (arith, length-decimal-le 7 n (omega arith) (omega arith) (omega arith))
 coordinate-long (negsuc n) near = omega (arith, length-decimal-le 7 (suc n) (omega arith) (omega arith) (omega arith))
 
-point-long : (p : Vec3) → IsNear 1048576 p → length (spelled_point p) ≤ 27
+point-long : (p : Vec3) → IsNear 1048576 p → length (point_text p) ≤ 27
 point-long p near =
-    let x = spelled_field (signed_decimal p.x) in
-    let y = spelled_field (signed_decimal p.y) in
-    let z = spelled_field (signed_decimal p.z) in
+    let x = field_text (signed_decimal p.x) in
+    let y = field_text (signed_decimal p.y) in
+    let z = field_text (signed_decimal p.z) in
     omega (arith, length-append (x ++ y) z, length-append x y, coordinate-long p.x near.x, coordinate-long p.y near.y, coordinate-long p.z near.z)
 
-packet-long : (n : ℕ) (bytes : List ℕ) → 0 < n → length bytes ≤ n → length (spelled_packet bytes) ≤ 2 * n
+packet-long : (n : ℕ) (bytes : List ℕ) → 0 < n → length bytes ≤ n → length (packet_text bytes) ≤ 2 * n
 packet-long n [] some few = omega arith
 packet-long n (b ∷ bytes) some few = omega (arith, length-encode_with lower_digits (b ∷ bytes))
 
-from-long : (a : Arrival) → length (spelled (From a)) ≡ 6 + (length (decimal a.port) + length (spelled_packet a.bytes))
-from-long a = omega (arith, length-append (spelled_field (decimal a.port)) (spelled_field (spelled_packet a.bytes)))
+from-long : (a : Arrival) → length (line_text (From a)) ≡ 6 + (length (decimal a.port) + length (packet_text a.bytes))
+from-long a = omega (arith, length-append (field_text (decimal a.port)) (field_text (packet_text a.bytes)))
 
--- so many bytes behind a port of so many digits
+-- so many bytes after a port of so many digits
 room : (digits bytes : ℕ) (a : Arrival) → 0 < digits → a.port < 10 ^ digits → a.port < 2 ^ 64 → 0 < bytes → length a.bytes ≤ bytes → 6 + digits + 2 * bytes ≤ 512
-    → length (spelled (From a)) ≤ 512
+    → length (line_text (From a)) ≤ 512
 room digits bytes a some port small any few fits = omega (arith, from-long a, packet-long bytes a.bytes any few, length-decimal-le digits a.port some port small)
 
 pub packets_have_room : PacketsHaveRoom
@@ -111,8 +111,8 @@ packets_have_room = record {
 
 -- ---- the lines
 
-said_by-read : (bytes : List ℕ) (line : Line) → length bytes ≤ 512 → line_at bytes ≡ Some line → said_by bytes ≡ Some line
-said_by-read bytes line fits is = let short : nat_le (length bytes) 512 ≡ true = grind (arith, nat_tests) in ap (λ b. cond b (line_at bytes) None) short ∙ is
+line_in-read : (bytes : List ℕ) (line : Line) → length bytes ≤ 512 → line_at bytes ≡ Some line → line_in bytes ≡ Some line
+line_in-read bytes line fits is = let short : nat_le (length bytes) 512 ≡ true = grind (arith, nat_tests) in ap (λ b. cond b (line_at bytes) None) short ∙ is
 
 two_fit : (word x y : List ℕ) → length word ≤ 5 → length x ≤ 27 → length y ≤ 27 → length (word ++ (x ++ y)) ≤ 512
 two_fit word x y w p q = omega (arith, length-append word (x ++ y), length-append x y)
@@ -120,43 +120,43 @@ two_fit word x y w p q = omega (arith, length-append word (x ++ y), length-appen
 one_fits : (word x : List ℕ) → length word ≤ 5 → length x ≤ 27 → length (word ++ x) ≤ 512
 one_fits word x w p = omega (arith, length-append word x)
 
-pub line_read_back : (line : Line) → IsLine line → said_by (spelled line) ≡ Some line
+pub line_read_back : (line : Line) → IsLine line → line_in (line_text line) ≡ Some line
 line_read_back (Arena lo hi) is =
-    said_by-read (spelled (Arena lo hi)) (Arena lo hi) (two_fit (codes "arena") (spelled_point lo) (spelled_point hi) (omega arith) (point-long lo is.0) (point-long hi is.1))
-    (read-word (codes "arena") (spelled_point lo ++ spelled_point hi) (search rules) refl ∙ corners-read Arena lo hi is.0 is.1)
+    line_in-read (line_text (Arena lo hi)) (Arena lo hi) (two_fit (codes "arena") (point_text lo) (point_text hi) (omega arith) (point-long lo is.0) (point-long hi is.1))
+    (read-word (codes "arena") (point_text lo ++ point_text hi) (search rules) refl ∙ corners-read Arena lo hi is.0 is.1)
 line_read_back (Spawn at) is =
-    said_by-read (spelled (Spawn at)) (Spawn at) (one_fits (codes "spawn") (spelled_point at) (omega arith) (point-long at is))
-    (read-word (codes "spawn") (spelled_point at) (search rules) refl ∙ spawn-read at is)
+    line_in-read (line_text (Spawn at)) (Spawn at) (one_fits (codes "spawn") (point_text at) (omega arith) (point-long at is))
+    (read-word (codes "spawn") (point_text at) (search rules) refl ∙ spawn-read at is)
 line_read_back (Block lo hi) is =
-    said_by-read (spelled (Block lo hi)) (Block lo hi) (two_fit (codes "block") (spelled_point lo) (spelled_point hi) (omega arith) (point-long lo is.0) (point-long hi is.1))
-    (read-word (codes "block") (spelled_point lo ++ spelled_point hi) (search rules) refl ∙ corners-read Block lo hi is.0 is.1)
+    line_in-read (line_text (Block lo hi)) (Block lo hi) (two_fit (codes "block") (point_text lo) (point_text hi) (omega arith) (point-long lo is.0) (point-long hi is.1))
+    (read-word (codes "block") (point_text lo ++ point_text hi) (search rules) refl ∙ corners-read Block lo hi is.0 is.1)
 line_read_back Frame is = refl
 line_read_back (From a) is =
-    said_by-read (spelled (From a)) (From a) is.fits
-    (read-word (codes "from") (spelled_field (decimal a.port) ++ spelled_field (spelled_packet a.bytes)) (search rules) refl ∙ from-read a is.port is.bytes)
+    line_in-read (line_text (From a)) (From a) is.fits
+    (read-word (codes "from") (field_text (decimal a.port) ++ field_text (packet_text a.bytes)) (search rules) refl ∙ from-read a is.port is.bytes)
 line_read_back End is = refl
 
 -- ---- no line feed
 
-field_above : (field : List ℕ) → AreAbove 32 field → AreAbove 10 (spelled_field field)
+field_above : (field : List ℕ) → AreAbove 32 field → AreAbove 10 (field_text field)
 field_above field above = (omega arith, above-lower 32 10 field (omega arith) above)
 
-point_above : (p : Vec3) → IsNear 1048576 p → AreAbove 10 (spelled_point p)
+point_above : (p : Vec3) → IsNear 1048576 p → AreAbove 10 (point_text p)
 point_above p near =
-    let x = spelled_field (signed_decimal p.x) in
-    let y = spelled_field (signed_decimal p.y) in
-    let z = spelled_field (signed_decimal p.z) in
+    let x = field_text (signed_decimal p.x) in
+    let y = field_text (signed_decimal p.y) in
+    let z = field_text (signed_decimal p.z) in
     above-append 10 (x ++ y) z (above-append 10 x y (field_above _ (signed_above p.x (omega (arith, near.x)))) (field_above _ (signed_above p.y (omega (arith, near.y)))))
     (field_above _ (signed_above p.z (omega (arith, near.z))))
 
-pub line_above : (line : Line) → IsLine line → AreAbove 10 (spelled line)
+pub line_above : (line : Line) → IsLine line → AreAbove 10 (line_text line)
 line_above (Arena lo hi) is =
-    above-append 10 (codes "arena") (spelled_point lo ++ spelled_point hi) (search rules) (above-append 10 (spelled_point lo) (spelled_point hi) (point_above lo is.0) (point_above hi is.1))
-line_above (Spawn at) is = above-append 10 (codes "spawn") (spelled_point at) (search rules) (point_above at is)
+    above-append 10 (codes "arena") (point_text lo ++ point_text hi) (search rules) (above-append 10 (point_text lo) (point_text hi) (point_above lo is.0) (point_above hi is.1))
+line_above (Spawn at) is = above-append 10 (codes "spawn") (point_text at) (search rules) (point_above at is)
 line_above (Block lo hi) is =
-    above-append 10 (codes "block") (spelled_point lo ++ spelled_point hi) (search rules) (above-append 10 (spelled_point lo) (spelled_point hi) (point_above lo is.0) (point_above hi is.1))
+    above-append 10 (codes "block") (point_text lo ++ point_text hi) (search rules) (above-append 10 (point_text lo) (point_text hi) (point_above lo is.0) (point_above hi is.1))
 line_above Frame is = search rules
 line_above (From a) is =
-    above-append 10 (codes "from") (spelled_field (decimal a.port) ++ spelled_field (spelled_packet a.bytes)) (search rules)
-    (above-append 10 (spelled_field (decimal a.port)) (spelled_field (spelled_packet a.bytes)) (field_above _ (decimal_above a.port (omega (arith, is.port)))) (field_above _ (packet_above a.bytes is.bytes)))
+    above-append 10 (codes "from") (field_text (decimal a.port) ++ field_text (packet_text a.bytes)) (search rules)
+    (above-append 10 (field_text (decimal a.port)) (field_text (packet_text a.bytes)) (field_above _ (decimal_above a.port (omega (arith, is.port)))) (field_above _ (packet_above a.bytes is.bytes)))
 line_above End is = search rules

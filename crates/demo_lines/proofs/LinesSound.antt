@@ -10,14 +10,14 @@ use Rattle.arena_geo.specs.declared.vec3.Vec3.{Vec3}
 use Rattle.arena_geo.specs.Vectors.{IsNear}
 use Rattle.demo_lines.specs.declared.line.Line.{Line}
 use Rattle.demo_lines.specs.declared.line.Line.TheVariants.{Arena, Spawn, Block, Frame, From, End}
-use Rattle.demo_lines.specs.Numbers.{natural_up_to, integer_up_to}
-use Rattle.demo_lines.specs.Fields.{cut, field_at}
+use Rattle.edge_io.specs.Numbers.{natural_up_to, integer_up_to}
+use Rattle.edge_io.specs.Fields.{◌>>=◌, cut, field_at}
 use Rattle.demo_lines.specs.Packets.{packet_bytes}
-use Rattle.demo_lines.specs.Lines.{◌>>=◌, coordinate_at, point_at, alone, spawn_of, from_of, line_at}
-use Rattle.demo_lines.proofs.Decimals.{natural-spelled, integer-spelled}
+use Rattle.demo_lines.specs.Lines.{coordinate_at, point_at, alone, spawn_of, from_of, line_at}
+use Rattle.edge_io.proofs.Decimals.{natural-spelled, integer-spelled}
 use Rattle.demo_lines.proofs.LinesRead.{Corners, corners_of, by_word}
 
--- what comes in between, where both steps gave something
+-- the value in between, where both gave one
 record Binds {A B : Type 0} (o : Option A) (f : A → Option B) (y : B) : Type 0 where
   at : A
   is : o ≡ Some at

@@ -8,10 +8,10 @@ use Rattle.std.proofs.lemmas.Fmt.{digits_decimal}
 use Rattle.std.proofs.lemmas.List.Elements.{All-get_or, All-head, All-tail, All-from_recursion}
 use Rattle.edge_io.specs.Lines.{AreBytes, HasNoLineFeed}
 use Rattle.hex.specs.Hex.{encode_with, lower_digits}
-use Rattle.demo_lines.specs.Numbers.{is_digit}
-use Rattle.demo_lines.specs.Spelling.{spelled_packet}
-use Rattle.demo_lines.proofs.Feeds.{each_of_both}
-use Rattle.demo_lines.proofs.Decimals.{own, and_parts}
+use Rattle.edge_io.specs.Numbers.{is_digit}
+use Rattle.demo_lines.specs.Spelling.{packet_text}
+use Rattle.edge_io.proofs.Feeds.{each_of_both}
+use Rattle.edge_io.proofs.Decimals.{own, and_parts}
 
 -- bytes above a number
 abbrev pub AreAbove : ℕ → List ℕ → Type 0
@@ -66,6 +66,6 @@ encoded_above (b ∷ bytes) are =
     let byte : b < 256 = All-head (λ c. c < 256) b bytes are in
     (hex_above (b / 16) (omega arith), (hex_above (b % 16) (omega arith), encoded_above bytes (All-tail (λ c. c < 256) b bytes are)))
 
-pub packet_above : (bytes : List ℕ) → AreBytes bytes → AreAbove 32 (spelled_packet bytes)
+pub packet_above : (bytes : List ℕ) → AreBytes bytes → AreAbove 32 (packet_text bytes)
 packet_above [] are = (omega arith, tt)
 packet_above (b ∷ bytes) are = encoded_above (b ∷ bytes) are

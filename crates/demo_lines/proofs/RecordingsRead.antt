@@ -17,58 +17,59 @@ use Rattle.demo_lines.specs.declared.line.Line.{Line}
 use Rattle.demo_lines.specs.declared.line.Line.TheVariants.{Arena, Spawn, Block, Frame, From, End}
 use Rattle.demo_lines.specs.declared.event.Event.{Event}
 use Rattle.demo_lines.specs.declared.event.Event.TheVariants as events
-use Rattle.demo_lines.specs.Recording.{Reading, start, next, told, after, events_of, step_at, event_of, said_by, is_over, is_refused, bare_map, with_map, goes_to, opens_frame, takes_arrival, with_spawn, with_block}
+use Rattle.demo_lines.specs.Recording.{Reading, start, next, events_of_line, after, events_of, reading_after, event_of, line_in, is_over, is_refused, bare_map, with_map, at_stage, with_frame, with_arrival, with_spawn, with_block}
 use Rattle.demo_lines.specs.Readings.{IsBlock, IsMap}
-use Rattle.demo_lines.specs.Bytes.{whole_lines, fault_at}
-use Rattle.demo_lines.specs.Spelling.{spelled, IsArrival, IsLine, spawn_lines, map_lines, frame_lines, recording_lines, recording_text, frame_events, recording_events, IsFrame, IsRecording}
+use Rattle.edge_io.specs.WholeLines.{whole_lines}
+use Rattle.demo_lines.specs.Bytes.{fault_at}
+use Rattle.demo_lines.specs.Spelling.{line_text, IsArrival, IsLine, spawn_lines, map_lines, frame_lines, recording_lines, recording_text, frame_events, recording_events, IsFrame, IsRecording}
 use Rattle.demo_lines.specs.Laws.{RecordingsReadBack}
-use Rattle.demo_lines.proofs.Machines.{run_of-append, told_over-append}
-use Rattle.demo_lines.proofs.Feeds.{whole_lines-unlines, each_of_both}
+use Rattle.demo_lines.proofs.Machines.{run_of-append, outputs_of-append}
+use Rattle.edge_io.proofs.Feeds.{whole_lines-unlines, each_of_both}
 use Rattle.demo_lines.proofs.Marks.{one_line}
 use Rattle.demo_lines.proofs.LinesRead.{line_read_back, line_above}
 
--- written lines lead from a reading to one of some readings, and tell these events
+-- written lines lead from a reading to one of some readings, and give these events
 record Goes {I : Type 0} (r : Reading) (lines : List Line) (s : I → Reading) (es : List Event) : Type 0 where
   at : I
-  each : AllByRecursion HasNoLineFeed (map spelled lines)
-  reached : after r (map spelled lines) ≡ s at
-  events : events_of r (map spelled lines) ≡ es
+  each : AllByRecursion HasNoLineFeed (map line_text lines)
+  reached : after r (map line_text lines) ≡ s at
+  events : events_of r (map line_text lines) ≡ es
 
 goes-then : {I J : Type 0} (r : Reading) (ls ms : List Line) (s : I → Reading) (t : J → Reading) (es fs : List Event) → Goes r ls s es
     → ((i : I) → Goes (s i) ms t fs) → Goes r (ls ++ ms) t (es ++ fs)
 goes-then r ls ms s t es fs one then =
     let more = then one.at in
-    let both = map-append spelled ls ms in
-    let front = map spelled ls in
-    let back = map spelled ms in
+    let both = map-append line_text ls ms in
+    let front = map line_text ls in
+    let back = map line_text ms in
     record {
       at = more.at;
       each = subst (AllByRecursion HasNoLineFeed) (sym both) (each_of_both HasNoLineFeed front back one.each more.each);
-      reached = ap (after r) both ∙ run_of-append next told r front back ∙ ap (λ u. after u back) one.reached ∙ more.reached;
-      events = ap (events_of r) both ∙ told_over-append next told r front back ∙ ap (λ gs. gs ++ events_of (after r front) back) one.events
+      reached = ap (after r) both ∙ run_of-append next events_of_line r front back ∙ ap (λ u. after u back) one.reached ∙ more.reached;
+      events = ap (events_of r) both ∙ outputs_of-append next events_of_line r front back ∙ ap (λ gs. gs ++ events_of (after r front) back) one.events
           ∙ ap (λ u. es ++ events_of u back) one.reached ∙ ap (λ gs. es ++ gs) more.events;
     }
 
 -- one line that isn't refused
 goes-line : {I : Type 0} (r : Reading) (line : Line) (s : I → Reading) (i : I) → IsLine line → is_over r.stage ≡ false
-    → step_at r.stage r (Some line) ≡ s i → is_refused (s i).stage ≡ false → Goes r (line ∷ []) s (event_of (Some line))
+    → reading_after r.stage r (Some line) ≡ s i → is_refused (s i).stage ≡ false → Goes r (line ∷ []) s (event_of (Some line))
 goes-line r line s i is going step fine =
     let read = line_read_back line is in
-    let reached = ap (step_at r.stage r) read ∙ step in
+    let reached = ap (reading_after r.stage r) read ∙ step in
     record {
       at = i;
-      each = (one_line (spelled line) (line_above line is), tt);
+      each = (one_line (line_text line) (line_above line is), tt);
       reached = reached;
-      events = append-nil (told r (spelled line))
-          ∙ ap (λ over. cond (over || is_refused (next r (spelled line)).stage) [] (event_of (said_by (spelled line)))) going
-          ∙ ap (λ (u : Reading). cond (is_refused u.stage) [] (event_of (said_by (spelled line)))) reached
-          ∙ ap (λ refused. cond refused [] (event_of (said_by (spelled line)))) fine
+      events = append-nil (events_of_line r (line_text line))
+          ∙ ap (λ over. cond (over || is_refused (next r (line_text line)).stage) [] (event_of (line_in (line_text line)))) going
+          ∙ ap (λ (u : Reading). cond (is_refused u.stage) [] (event_of (line_in (line_text line)))) reached
+          ∙ ap (λ refused. cond refused [] (event_of (line_in (line_text line)))) fine
           ∙ ap event_of read;
     }
 
 -- ---- the readings on the way
 
--- the map stands, and this many lines were read
+-- there is a map, and this many lines were read
 abbrev mapping : ArenaMap → ℕ → Reading
 mapping m lines = record { stage = Map; map = Some m; frames = 0; arrivals = 0; lines = lines }
 
@@ -76,7 +77,7 @@ mapping m lines = record { stage = Map; map = Some m; frames = 0; arrivals = 0; 
 abbrev playing : ArenaMap → ℕ → ℕ × ℕ → Reading
 playing m frames at = record { stage = Playing; map = Some m; frames = frames; arrivals = at.0; lines = at.1 }
 
--- behind the end
+-- after the end
 abbrev ended : ArenaMap → ℕ × ℕ × ℕ → Reading
 ended m at = record { stage = Ended; map = Some m; frames = at.0; arrivals = at.1; lines = at.2 }
 
@@ -112,7 +113,7 @@ module _ (arena : Bounds) (lo : IsNear 1048576 arena.lo) (hi : IsNear 1048576 ar
       let r = mapping (map_of_parts arena spawn done) n in
       let room : nat_lt (length done) 1024 ≡ true = grind (arith, nat_tests) in
       goes-line r (block_line b) (mapping (map_of_parts arena spawn (done ++ b ∷ []))) (n + 1) (block_near arena b lo hi is) refl
-      (ap (λ taken. cond taken (with_map r (with_block r.map b.lo b.hi)) (goes_to Refused r)) (all_three room is.thick is.inside)) refl
+      (ap (λ taken. cond taken (with_map r (with_block r.map b.lo b.hi)) (at_stage Refused r)) (all_three room is.thick is.inside)) refl
 
   goes_blocks : (done blocks : List Bounds) (n : ℕ) → AllByRecursion (IsBlock arena) blocks → length done + length blocks ≤ 1024
       → Goes (mapping (map_of_parts arena spawn done) n) (map block_line blocks) (mapping (map_of_parts arena spawn (done ++ blocks))) []
@@ -131,7 +132,7 @@ goes_arena : (arena : Bounds) (spawn : Option Vec3) (blocks : List Bounds) → I
     → Goes start (Arena arena.lo arena.hi ∷ []) (mapping (bare_map arena)) []
 goes_arena arena spawn blocks is =
     goes-line start (Arena arena.lo arena.hi) (mapping (bare_map arena)) 1 (is.lo, is.hi) refl
-    (ap (λ wide. cond wide (with_map start (Some (bare_map arena))) (goes_to Refused start)) is.wide) refl
+    (ap (λ wide. cond wide (with_map start (Some (bare_map arena))) (at_stage Refused start)) is.wide) refl
 
 -- the lines before the blocks
 abbrev front_lines : Bounds → Option Vec3 → List Line
@@ -145,7 +146,7 @@ goes_front arena (Some at) blocks is =
     (λ n.
     let r = mapping (bare_map arena) n in
     goes-line r (Spawn at) (mapping (map_of_parts arena (Some at) [])) (n + 1) is.spawn.near refl
-    (ap (λ taken. cond taken (with_map r (with_spawn r.map at)) (goes_to Refused r)) is.spawn.inside) refl)
+    (ap (λ taken. cond taken (with_map r (with_spawn r.map at)) (at_stage Refused r)) is.spawn.inside) refl)
 
 -- ---- the frames
 
@@ -157,11 +158,11 @@ goes_packets m frames (x ∷ xs) a n each few =
     let Next : Unit {0} → Reading = λ u. playing m frames (a + 1, n + 1) in
     let room : nat_lt a 512 ≡ true = grind (arith, nat_tests) in
     goes-then r (From x ∷ []) (map From xs) Next (playing m frames) (events.From x ∷ []) (map events.From xs)
-    (goes-line r (From x) Next tt each.0 refl (ap (λ taken. cond taken (takes_arrival r) (goes_to Refused r)) room) refl)
+    (goes-line r (From x) Next tt each.0 refl (ap (λ taken. cond taken (with_arrival r) (at_stage Refused r)) room) refl)
     (λ u. goes_packets m frames xs (a + 1) (n + 1) each.1 (omega arith))
 
 goes_frame : (r : Reading) (m : ArenaMap) (frames n : ℕ) (arrivals : List Arrival) → IsFrame arrivals → is_over r.stage ≡ false
-    → step_at r.stage r (Some Frame) ≡ playing m frames (0, n) → Goes r (frame_lines arrivals) (playing m frames) (frame_events arrivals)
+    → reading_after r.stage r (Some Frame) ≡ playing m frames (0, n) → Goes r (frame_lines arrivals) (playing m frames) (frame_events arrivals)
 goes_frame r m frames n arrivals is going opens =
     let Next : Unit {0} → Reading = λ u. playing m frames (0, n) in
     goes-then r (Frame ∷ []) (map From arrivals) Next (playing m frames) (events.Frame ∷ []) (map events.From arrivals)
@@ -172,7 +173,7 @@ abbrev tail_lines : List (List Arrival) → List Line
 tail_lines frames = flat_map frame_lines frames ++ End ∷ []
 
 goes_on : (r : Reading) (m : ArenaMap) (frames n : ℕ) (x : List Arrival) (xs : List (List Arrival)) → IsFrame x → is_over r.stage ≡ false
-    → step_at r.stage r (Some Frame) ≡ playing m frames (0, n)
+    → reading_after r.stage r (Some Frame) ≡ playing m frames (0, n)
     → ((at : ℕ × ℕ) → Goes (playing m frames at) (tail_lines xs) (ended m) (recording_events xs)) → Goes r (tail_lines (x ∷ xs)) (ended m) (recording_events (x ∷ xs))
 goes_on r m frames n x xs is going opens rest =
     let P : List Line → Type 0 = λ ls. Goes r ls (ended m) (recording_events (x ∷ xs)) in
@@ -187,7 +188,7 @@ goes_frames m frames [] at each few = goes-line (playing m frames at) End (ended
 goes_frames m frames (x ∷ xs) at each few =
     let r = playing m frames at in
     let room : nat_lt frames 100000 ≡ true = grind (arith, nat_tests) in
-    goes_on r m (frames + 1) (at.1 + 1) x xs each.0 refl (ap (λ taken. cond taken (opens_frame r) (goes_to Refused r)) room)
+    goes_on r m (frames + 1) (at.1 + 1) x xs each.0 refl (ap (λ taken. cond taken (with_frame r) (at_stage Refused r)) room)
     (λ k. goes_frames m (frames + 1) xs k each.1 (omega arith))
 
 goes_tail : (m : ArenaMap) (xs : List (List Arrival)) (n : ℕ) → AllByRecursion IsFrame xs → length xs ≤ 100000 → (0 < length xs → IsSome m.spawn)
@@ -195,7 +196,7 @@ goes_tail : (m : ArenaMap) (xs : List (List Arrival)) (n : ℕ) → AllByRecursi
 goes_tail m [] n each few spawn = goes-line (mapping m n) End (ended m) (0, 0, n + 1) tt refl refl refl
 goes_tail m (x ∷ xs) n each few spawn =
     let r = mapping m n in
-    goes_on r m 1 (n + 1) x xs each.0 refl (ap (λ taken. cond taken (opens_frame r) (goes_to Refused r)) (spawn (omega arith)))
+    goes_on r m 1 (n + 1) x xs each.0 refl (ap (λ taken. cond taken (with_frame r) (at_stage Refused r)) (spawn (omega arith)))
     (λ k. goes_frames m 1 xs k each.1 (omega arith))
 
 -- ---- the whole
@@ -212,7 +213,7 @@ goes_recording m frames is =
 pub recordings_read_back : RecordingsReadBack
 recordings_read_back m frames is =
     let goes = goes_recording m frames is in
-    let lines = map spelled (recording_lines m frames) in
+    let lines = map line_text (recording_lines m frames) in
     let whole : whole_lines (recording_text m frames) ≡ lines =
     ap whole_lines (sym (append-nil (recording_text m frames))) ∙ whole_lines-unlines lines [] goes.each ∙ append-nil lines in
     record {

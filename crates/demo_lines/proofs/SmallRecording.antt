@@ -1,48 +1,92 @@
 -- A small recording and its text.
-use Rattle.std.proofs.Common.{◌<◌, [], ◌∷◌, refl, arith}
+use Rattle.std.proofs.Common.{◌<◌, [], ◌∷◌, pos, refl, arith}
 use Rattle.std.specs.Fmt.{digits}
 use Rattle.std.proofs.lemmas.Int.{ints}
 use Rattle.std.proofs.lemmas.List.Elements.{All-cons, All-nil}
+use Rattle.arena_geo.specs.declared.vec3.Vec3.{Vec3}
+use Rattle.arena_geo.specs.Vectors.{IsNear}
+use Rattle.arena_geo.specs.Bounds.{Bounds, bounds, IsBox}
 use Rattle.hex.specs.Hex.{encode_with}
 use Rattle.edge_io.specs.Lines.{AreBytes}
-use Rattle.demo_lines.specs.Readings.{IsMap}
-use Rattle.demo_lines.specs.Spelling.{IsRecording, small_map, small_frames}
+use Rattle.demo_lines.specs.declared.arrival.Arrival.{Arrival}
+use Rattle.demo_lines.specs.Readings.{IsSpawn, IsBlock, IsMap}
+use Rattle.demo_lines.specs.Spelling.{IsArrival, IsRecording, small_map, small_frames}
 use Rattle.demo_lines.specs.Laws.{SmallRecording}
 use Rattle.demo_lines.proofs.LinesRead.{packets_have_room}
 
-small_is_map : IsMap small_map
+-- ---- its map
+
+small_lo : IsNear 1048576 small_map.bounds.lo
+small_lo = record { x = omega arith; y = omega arith; z = omega arith }
+
+small_hi : IsNear 1048576 small_map.bounds.hi
+small_hi = record { x = omega arith; y = omega arith; z = omega arith }
+
+small_is_box : IsBox small_map.bounds
+small_is_box = record {
+  ordered = record { x = omega (arith, ints); y = omega (arith, ints); z = omega (arith, ints) };
+  in_range = record {
+    lo = record { x = omega arith; y = omega arith; z = omega arith };
+    hi = record { x = omega arith; y = omega arith; z = omega arith };
+  };
+}
+
+abbrev pub small_spawn : Vec3
+small_spawn = record { x = pos 0; y = pos 4096; z = pos 6144 }
+
+pub small_spawn_is : IsSpawn small_map.bounds small_spawn
+small_spawn_is = record { near = record { x = omega arith; y = omega arith; z = omega arith }; inside = refl }
+
+abbrev pub small_block : Bounds
+small_block = bounds (record { x = pos 1; y = pos 20; z = pos 300 }) (record { x = pos 4000; y = pos 30000; z = pos 32768 })
+
+pub small_block_is : IsBlock small_map.bounds small_block
+small_block_is = record {
+  is_box = record {
+    ordered = record { x = omega (arith, ints); y = omega (arith, ints); z = omega (arith, ints) };
+    in_range = record {
+      lo = record { x = omega arith; y = omega arith; z = omega arith };
+      hi = record { x = omega arith; y = omega arith; z = omega arith };
+    };
+  };
+  thick = refl;
+  inside = refl;
+}
+
+pub small_is_map : IsMap small_map
 small_is_map = record {
-  is_box = record { ordered = record { x = omega (arith, ints); y = omega (arith, ints); z = omega (arith, ints) }; in_range = record { lo = record { x = omega arith; y = omega arith; z = omega arith }; hi = record { x = omega arith; y = omega arith; z = omega arith } } };
-  lo = record { x = omega arith; y = omega arith; z = omega arith };
-  hi = record { x = omega arith; y = omega arith; z = omega arith };
+  is_box = small_is_box;
+  lo = small_lo;
+  hi = small_hi;
   wide = refl;
-  spawn = record { near = record { x = omega arith; y = omega arith; z = omega arith }; inside = refl };
-  blocks = (
-    record {
-      is_box = record { ordered = record { x = omega (arith, ints); y = omega (arith, ints); z = omega (arith, ints) }; in_range = record { lo = record { x = omega arith; y = omega arith; z = omega arith }; hi = record { x = omega arith; y = omega arith; z = omega arith } } };
-      thick = refl;
-      inside = refl;
-    },
-    tt,
-  );
+  spawn = small_spawn_is;
+  blocks = (small_block_is, tt);
   few = omega arith;
 }
 
+-- ---- its frames
+
 two_bytes : AreBytes (1 ∷ 175 ∷ [])
 two_bytes = All-cons (λ b. b < 256) 1 (175 ∷ []) (omega arith) (All-cons (λ b. b < 256) 175 [] (omega arith) (All-nil (λ b. b < 256)))
+
+abbrev pub small_arrival : Arrival
+small_arrival = record { port = 7; bytes = 1 ∷ 175 ∷ [] }
+
+pub small_arrival_is : IsArrival small_arrival
+small_arrival_is = record { port = omega arith; bytes = two_bytes; fits = packets_have_room.lowest small_arrival (omega arith) (omega arith) }
+
+abbrev empty_arrival : Arrival
+empty_arrival = record { port = 65535; bytes = [] }
+
+empty_arrival_is : IsArrival empty_arrival
+empty_arrival_is = record { port = omega arith; bytes = All-nil (λ b. b < 256); fits = packets_have_room.each empty_arrival (omega arith) (omega arith) }
 
 small_is : IsRecording small_map small_frames
 small_is = record {
   is_map = small_is_map;
   few = omega arith;
   each = (
-    record {
-      few = omega arith;
-      each = (
-        record { port = omega arith; bytes = two_bytes; fits = packets_have_room.lowest (record { port = 7; bytes = 1 ∷ 175 ∷ [] }) (omega arith) (omega arith) },
-        (record { port = omega arith; bytes = All-nil (λ b. b < 256); fits = packets_have_room.each (record { port = 65535; bytes = [] }) (omega arith) (omega arith) }, tt),
-      );
-    },
+    record { few = omega arith; each = (small_arrival_is, (empty_arrival_is, tt)) },
     (record { few = omega arith; each = tt }, tt),
   );
   spawn = λ h. refl;

@@ -1,4 +1,4 @@
--- A reader's way over lines that tell nothing, and where it ends.
+-- A reader's way over lines that give no event, and where it ends.
 use Rattle.std.proofs.Common.{◌≡◌, ℕ, ◌≤◌, ◌<◌, Bool, true, false, ◌||◌, nat_lt, List, [], ◌∷◌, Option, Some, None, IfSome, cond, refl, sym, ap, ◌∙◌, subst, arith}
 use Rattle.arena_geo.specs.Bounds.{bounds}
 use Rattle.edge_io.specs.Lines.{GivesLine}
@@ -8,108 +8,115 @@ use Rattle.demo_lines.specs.declared.line.Line.{Line}
 use Rattle.demo_lines.specs.declared.line.Line.TheVariants.{Arena, Spawn, Block, Frame, From, End}
 use Rattle.demo_lines.specs.declared.event.Event.{Event}
 use Rattle.demo_lines.specs.declared.event.Event.TheVariants as events
-use Rattle.demo_lines.specs.Recording.{Reading, next, told, step_at, event_of, said_by, is_over, is_refused, is_wide, bare_map, takes_spawn, takes_block, has_spawn, opens_frame, takes_arrival, goes_to, with_map, with_spawn, with_block, lines_left}
+use Rattle.demo_lines.specs.Recording.{Reading, next, events_of_line, reading_after, event_of, line_in, is_over, is_refused, is_wide, bare_map, is_spawn_allowed, is_block_allowed, has_spawn, with_frame, with_arrival, at_stage, with_map, with_spawn, with_block, lines_left}
 use Rattle.demo_lines.specs.Readings.{IsReading}
-use Rattle.demo_lines.specs.Reads.{Reads, EndsAt, stage_behind}
-use Rattle.demo_lines.proofs.Consuming.{Reads-line, refused_by_line}
+use Rattle.demo_lines.specs.Reads.{Reads, Refuses, EndsAt, stage_after}
+use Rattle.demo_lines.proofs.Consuming.{Reads-nil, Reads-line, Refuses-line, refused_by_line}
 
--- from one reading to another, over lines that told nothing, with the source's count of faults
-pub record Walks (r s : Reading) (a b : Option (List ℕ)) (before later : ℕ) : Type 0 where
+-- from one reading to another, over lines that gave no event
+pub record Walks (r s : Reading) (a b : Option (List ℕ)) : Type 0 where
   pub holds : IsReading s
   pub going : is_over s.stage ≡ false
   pub reads : Reads r s a b []
   pub fewer : lines_left s ≤ lines_left r
-  pub later_on : before ≤ later
 
--- a line that tells something
-pub walk_event : (r s t : Reading) (a b c : Option (List ℕ)) (m n : ℕ) (line : List ℕ) (e : Event) → Walks r s a b m n → GivesLine b c line
-    → t ≡ next s line → told s line ≡ e ∷ [] → Reads r t a c (e ∷ [])
-walk_event r s t a b c m n line e walks gives is tells =
+-- no line yet
+pub walk_none : (r : Reading) (a : Option (List ℕ)) → IsReading r → is_over r.stage ≡ false → Walks r r a a
+walk_none r a holds going = record { holds = holds; going = going; reads = Reads-nil r a going; fewer = omega arith }
+
+-- a line that gives an event
+pub walk_event : (r s t : Reading) (a b c : Option (List ℕ)) (line : List ℕ) (e : Event) → Walks r s a b → GivesLine b c line
+    → t ≡ next s line → events_of_line s line ≡ e ∷ [] → Reads r t a c (e ∷ [])
+walk_event r s t a b c line e walks gives is given =
     let P : List Event → Type 0 = λ es. Reads r (next s line) a c es in
     let Q : Reading → Type 0 = λ u. Reads r u a c (e ∷ []) in
-    subst Q (sym is) (subst P tells (Reads-line r s a b c [] line walks.reads gives))
+    subst Q (sym is) (subst P given (Reads-line r s a b c [] line walks.reads walks.going gives))
 
--- a line that tells nothing
-pub walk_on : (r s t : Reading) (a b c : Option (List ℕ)) (m n k : ℕ) (line : List ℕ) → Walks r s a b m n → GivesLine b c line
-    → t ≡ next s line → told s line ≡ [] → IsReading t → is_over t.stage ≡ false → lines_left t < lines_left s → n ≤ k → Walks r t a c m k
-walk_on r s t a b c m n k line walks gives is quiet holds going fewer later =
+-- a line that gives no event
+pub walk_on : (r s t : Reading) (a b c : Option (List ℕ)) (line : List ℕ) → Walks r s a b → GivesLine b c line
+    → t ≡ next s line → events_of_line s line ≡ [] → IsReading t → is_over t.stage ≡ false → lines_left t < lines_left s → Walks r t a c
+walk_on r s t a b c line walks gives is quiet holds going fewer =
     let P : List Event → Type 0 = λ es. Reads r (next s line) a c es in
     let Q : Reading → Type 0 = λ u. Reads r u a c [] in
     let less : lines_left t ≤ lines_left r = omega (arith, walks.fewer) in
-    let onwards : m ≤ k = omega (arith, walks.later_on) in
     record {
       holds = holds;
       going = going;
-      reads = subst Q (sym is) (subst P quiet (Reads-line r s a b c [] line walks.reads gives));
+      reads = subst Q (sym is) (subst P quiet (Reads-line r s a b c [] line walks.reads walks.going gives));
       fewer = less;
-      later_on = onwards;
     }
 
--- a line that is refused
-pub walk_refused : (r s t : Reading) (a b c : Option (List ℕ)) (m n : ℕ) (line : List ℕ) → Walks r s a b m n → GivesLine b c line
+-- a line that is refused: what is ahead ends there, and it was taken last
+pub walk_refused : (r s t : Reading) (a b c : Option (List ℕ)) (line : List ℕ) → Walks r s a b → GivesLine b c line
     → t ≡ next s line → t.stage ≡ Refused → IfSome a (EndsAt r t.lines)
-walk_refused r s t a b c m n line walks gives is refused =
+walk_refused r s t a b c line walks gives is refused =
     let P : Reading → Type 0 = λ u. IfSome a (EndsAt r u.lines) in
     subst P (sym is) (refused_by_line r s a b c line walks.reads gives (ap (λ (u : Reading). u.stage) (sym is) ∙ refused))
 
--- ---- where a recording stands behind an event
+pub walk_taken : (r s t : Reading) (a b c : Option (List ℕ)) (line : List ℕ) (P Q : Type 0) → Walks r s a b → GivesLine b c line
+    → t ≡ next s line → t.stage ≡ Refused → P → Refuses r a c t.lines P Q
+walk_taken r s t a b c line P Q walks gives is refused p =
+    let R : Reading → Type 0 = λ u. Refuses r a c u.lines P Q in
+    subst R (sym is) (Refuses-line r s a b c line P Q walks.reads walks.going gives (ap (λ (u : Reading). u.stage) (sym is) ∙ refused) p)
+
+-- ---- how far a recording has come after an event
 
 none_either : (b : Bool) (e : Event) → cond b [] [] ≡ e ∷ [] → (A : Type 0) → A
 none_either true e h A = cc
 none_either false e h A = cc
 
-abbrev told_of : Bool → Reading → List Event → List Event
-told_of over t es = cond (over || is_refused t.stage) [] es
+abbrev events_given : Bool → Reading → List Event → List Event
+events_given over t es = cond (over || is_refused t.stage) [] es
 
-behind_choice : (b : Bool) (t r : Reading) (e f : Event) → is_refused t.stage ≡ false → t.stage ≡ stage_behind f
-    → told_of false (cond b t (goes_to Refused r)) (f ∷ []) ≡ e ∷ [] → (cond b t (goes_to Refused r)).stage ≡ stage_behind e
-behind_choice true t r e f fine is tells =
-    let shown : told_of false t (f ∷ []) ≡ f ∷ [] = ap (λ b. cond b [] (f ∷ [])) fine in
-    let same : f ∷ [] ≡ e ∷ [] = sym shown ∙ tells in
-    let one : f ≡ e = cc in is ∙ ap stage_behind one
-behind_choice false t r e f fine is tells = cc
+stage_after-choice : (b : Bool) (t r : Reading) (e f : Event) → is_refused t.stage ≡ false → t.stage ≡ stage_after f
+    → events_given false (cond b t (at_stage Refused r)) (f ∷ []) ≡ e ∷ [] → (cond b t (at_stage Refused r)).stage ≡ stage_after e
+stage_after-choice true t r e f fine is given =
+    let shown : events_given false t (f ∷ []) ≡ f ∷ [] = ap (λ b. cond b [] (f ∷ [])) fine in
+    let same : f ∷ [] ≡ e ∷ [] = sym shown ∙ given in
+    let one : f ≡ e = cc in is ∙ ap stage_after one
+stage_after-choice false t r e f fine is given = cc
 
-behind_end : (r : Reading) (e : Event) → told_of false (goes_to Ended r) (events.End ∷ []) ≡ e ∷ [] → Ended ≡ stage_behind e
-behind_end r e tells = let one : events.End ≡ e = cc in ap stage_behind one
+stage_after-end : (r : Reading) (e : Event) → events_given false (at_stage Ended r) (events.End ∷ []) ≡ e ∷ [] → Ended ≡ stage_after e
+stage_after-end r e given = let one : events.End ≡ e = cc in ap stage_after one
 
-behind : (stage : Stage) (r : Reading) (line : Option Line) (e : Event) → told_of (is_over stage) (step_at stage r line) (event_of line) ≡ e ∷ []
-    → (step_at stage r line).stage ≡ stage_behind e
-behind Start r None e tells = cc
-behind Start r (Some (Arena lo hi)) e tells = none_either (is_refused (step_at Start r (Some (Arena lo hi))).stage) e tells _
-behind Start r (Some (Spawn at)) e tells = cc
-behind Start r (Some (Block lo hi)) e tells = cc
-behind Start r (Some Frame) e tells = cc
-behind Start r (Some (From a)) e tells = cc
-behind Start r (Some End) e tells = cc
-behind Map r None e tells = cc
-behind Map r (Some (Arena lo hi)) e tells = cc
-behind Map r (Some (Spawn at)) e tells = none_either (is_refused (step_at Map r (Some (Spawn at))).stage) e tells _
-behind Map r (Some (Block lo hi)) e tells = none_either (is_refused (step_at Map r (Some (Block lo hi))).stage) e tells _
-behind Map r (Some Frame) e tells = behind_choice (has_spawn r.map) (opens_frame r) r e events.Frame refl refl tells
-behind Map r (Some (From a)) e tells = cc
-behind Map r (Some End) e tells = behind_end r e tells
-behind Playing r None e tells = cc
-behind Playing r (Some (Arena lo hi)) e tells = cc
-behind Playing r (Some (Spawn at)) e tells = cc
-behind Playing r (Some (Block lo hi)) e tells = cc
-behind Playing r (Some Frame) e tells = behind_choice (nat_lt r.frames 100000) (opens_frame r) r e events.Frame refl refl tells
-behind Playing r (Some (From a)) e tells = behind_choice (nat_lt r.arrivals 512) (takes_arrival r) r e (events.From a) refl refl tells
-behind Playing r (Some End) e tells = behind_end r e tells
-behind Ended r line e tells = cc
-behind Refused r line e tells = cc
+stage_after-reading : (stage : Stage) (r : Reading) (line : Option Line) (e : Event) → events_given (is_over stage) (reading_after stage r line) (event_of line) ≡ e ∷ []
+    → (reading_after stage r line).stage ≡ stage_after e
+stage_after-reading Start r None e given = cc
+stage_after-reading Start r (Some (Arena lo hi)) e given = none_either (is_refused (reading_after Start r (Some (Arena lo hi))).stage) e given _
+stage_after-reading Start r (Some (Spawn at)) e given = cc
+stage_after-reading Start r (Some (Block lo hi)) e given = cc
+stage_after-reading Start r (Some Frame) e given = cc
+stage_after-reading Start r (Some (From a)) e given = cc
+stage_after-reading Start r (Some End) e given = cc
+stage_after-reading Map r None e given = cc
+stage_after-reading Map r (Some (Arena lo hi)) e given = cc
+stage_after-reading Map r (Some (Spawn at)) e given = none_either (is_refused (reading_after Map r (Some (Spawn at))).stage) e given _
+stage_after-reading Map r (Some (Block lo hi)) e given = none_either (is_refused (reading_after Map r (Some (Block lo hi))).stage) e given _
+stage_after-reading Map r (Some Frame) e given = stage_after-choice (has_spawn r.map) (with_frame r) r e events.Frame refl refl given
+stage_after-reading Map r (Some (From a)) e given = cc
+stage_after-reading Map r (Some End) e given = stage_after-end r e given
+stage_after-reading Playing r None e given = cc
+stage_after-reading Playing r (Some (Arena lo hi)) e given = cc
+stage_after-reading Playing r (Some (Spawn at)) e given = cc
+stage_after-reading Playing r (Some (Block lo hi)) e given = cc
+stage_after-reading Playing r (Some Frame) e given = stage_after-choice (nat_lt r.frames 100000) (with_frame r) r e events.Frame refl refl given
+stage_after-reading Playing r (Some (From a)) e given = stage_after-choice (nat_lt r.arrivals 512) (with_arrival r) r e (events.From a) refl refl given
+stage_after-reading Playing r (Some End) e given = stage_after-end r e given
+stage_after-reading Ended r line e given = cc
+stage_after-reading Refused r line e given = cc
 
--- behind a line that tells an event the recording stands where the event says
-pub stage-told : (s t : Reading) (line : List ℕ) (e : Event) → t ≡ next s line → told s line ≡ e ∷ [] → t.stage ≡ stage_behind e
-stage-told s t line e is tells = ap (λ (u : Reading). u.stage) is ∙ behind s.stage s (said_by line) e tells
+-- after a line that gives an event the recording is where the event says
+pub stage_after-line : (s t : Reading) (line : List ℕ) (e : Event) → t ≡ next s line → events_of_line s line ≡ e ∷ [] → t.stage ≡ stage_after e
+stage_after-line s t line e is given = ap (λ (u : Reading). u.stage) is ∙ stage_after-reading s.stage s (line_in line) e given
 
--- ---- a line that tells nothing and isn't refused doesn't end the recording
+-- ---- a line that gives no event and isn't refused doesn't end the recording
 
-over_choice : (b : Bool) (t r : Reading) → is_over t.stage ≡ false → is_refused (cond b t (goes_to Refused r)).stage ≡ false → is_over (cond b t (goes_to Refused r)).stage ≡ false
+over_choice : (b : Bool) (t r : Reading) → is_over t.stage ≡ false → is_refused (cond b t (at_stage Refused r)).stage ≡ false → is_over (cond b t (at_stage Refused r)).stage ≡ false
 over_choice true t r fine taken = fine
 over_choice false t r fine taken = cc
 
-quiet_goes_on : (stage : Stage) (r : Reading) (line : Option Line) → is_over stage ≡ false → told_of (is_over stage) (step_at stage r line) (event_of line) ≡ []
-    → is_refused (step_at stage r line).stage ≡ false → is_over (step_at stage r line).stage ≡ false
+quiet_goes_on : (stage : Stage) (r : Reading) (line : Option Line) → is_over stage ≡ false → events_given (is_over stage) (reading_after stage r line) (event_of line) ≡ []
+    → is_refused (reading_after stage r line).stage ≡ false → is_over (reading_after stage r line).stage ≡ false
 quiet_goes_on Start r None going quiet taken = cc
 quiet_goes_on Start r (Some (Arena lo hi)) going quiet taken = over_choice (is_wide lo hi) (with_map r (Some (bare_map (bounds lo hi)))) r refl taken
 quiet_goes_on Start r (Some (Spawn at)) going quiet taken = cc
@@ -119,22 +126,22 @@ quiet_goes_on Start r (Some (From a)) going quiet taken = cc
 quiet_goes_on Start r (Some End) going quiet taken = cc
 quiet_goes_on Map r None going quiet taken = cc
 quiet_goes_on Map r (Some (Arena lo hi)) going quiet taken = cc
-quiet_goes_on Map r (Some (Spawn at)) going quiet taken = over_choice (takes_spawn r.map at) (with_map r (with_spawn r.map at)) r refl taken
-quiet_goes_on Map r (Some (Block lo hi)) going quiet taken = over_choice (takes_block r.map lo hi) (with_map r (with_block r.map lo hi)) r refl taken
-quiet_goes_on Map r (Some Frame) going quiet taken = over_choice (has_spawn r.map) (opens_frame r) r refl taken
+quiet_goes_on Map r (Some (Spawn at)) going quiet taken = over_choice (is_spawn_allowed r.map at) (with_map r (with_spawn r.map at)) r refl taken
+quiet_goes_on Map r (Some (Block lo hi)) going quiet taken = over_choice (is_block_allowed r.map lo hi) (with_map r (with_block r.map lo hi)) r refl taken
+quiet_goes_on Map r (Some Frame) going quiet taken = over_choice (has_spawn r.map) (with_frame r) r refl taken
 quiet_goes_on Map r (Some (From a)) going quiet taken = cc
 quiet_goes_on Map r (Some End) going quiet taken = cc
 quiet_goes_on Playing r None going quiet taken = cc
 quiet_goes_on Playing r (Some (Arena lo hi)) going quiet taken = cc
 quiet_goes_on Playing r (Some (Spawn at)) going quiet taken = cc
 quiet_goes_on Playing r (Some (Block lo hi)) going quiet taken = cc
-quiet_goes_on Playing r (Some Frame) going quiet taken = over_choice (nat_lt r.frames 100000) (opens_frame r) r refl taken
-quiet_goes_on Playing r (Some (From a)) going quiet taken = over_choice (nat_lt r.arrivals 512) (takes_arrival r) r refl taken
+quiet_goes_on Playing r (Some Frame) going quiet taken = over_choice (nat_lt r.frames 100000) (with_frame r) r refl taken
+quiet_goes_on Playing r (Some (From a)) going quiet taken = over_choice (nat_lt r.arrivals 512) (with_arrival r) r refl taken
 quiet_goes_on Playing r (Some End) going quiet taken = cc
 quiet_goes_on Ended r line going quiet taken = cc
 quiet_goes_on Refused r line going quiet taken = cc
 
-pub goes_on-quiet : (s t : Reading) (line : List ℕ) → is_over s.stage ≡ false → t ≡ next s line → told s line ≡ [] → is_refused t.stage ≡ false → is_over t.stage ≡ false
+pub goes_on-quiet : (s t : Reading) (line : List ℕ) → is_over s.stage ≡ false → t ≡ next s line → events_of_line s line ≡ [] → is_refused t.stage ≡ false → is_over t.stage ≡ false
 goes_on-quiet s t line going is quiet taken =
-    let here = quiet_goes_on s.stage s (said_by line) going quiet (ap (λ (u : Reading). is_refused u.stage) (sym is) ∙ taken) in
+    let here = quiet_goes_on s.stage s (line_in line) going quiet (ap (λ (u : Reading). is_refused u.stage) (sym is) ∙ taken) in
     ap (λ (u : Reading). is_over u.stage) is ∙ here

@@ -1,29 +1,30 @@
--- What holds of all recordings, and of the numbers and packets on their lines.
-use Rattle.std.specs.Prelude.{◌≡◌, ◌↔◌, ℕ, ◌≤◌, ◌<◌, ◌^◌, true, List, [], ◌++◌, length, Some, None, ℤ, unsigned_abs, decimal, codes}
-use Rattle.std.specs.Fmt.{signed_decimal}
+-- What holds of all recordings, and of the packets on their lines.
+use Rattle.std.specs.Prelude.{◌≡◌, ◌↔◌, ℕ, ◌≤◌, ◌<◌, true, false, List, [], ◌++◌, length, Some, None, pos, codes}
 use Rattle.edge_io.specs.Lines.{AreBytes}
 use Rattle.hex.specs.Hex.{encode_lower, encode_upper}
-use Rattle.demo_lines.specs.Numbers.{natural_up_to, integer_up_to}
 use Rattle.demo_lines.specs.Packets.{packet_bytes}
 use Rattle.demo_lines.specs.declared.arrival.Arrival.{Arrival}
+use Rattle.demo_lines.specs.declared.arrival.TheConstants.{MOST_BYTES}
+use Rattle.demo_lines.specs.declared.blocks.TheConstants.{MOST_BLOCKS}
+use Rattle.demo_lines.specs.declared.line.TheConstants.{FARTHEST}
+use Rattle.demo_lines.specs.declared.map.TheConstants.{LEAST_SIDE}
+use Rattle.demo_lines.specs.declared.reading.TheConstants.{MOST_FRAMES, MOST_ARRIVALS}
 use Rattle.demo_lines.specs.declared.line.Line.{Line}
 use Rattle.demo_lines.specs.declared.line.Line.TheVariants.{From}
 use Rattle.demo_lines.specs.declared.map.ArenaMap.{ArenaMap}
-use Rattle.demo_lines.specs.Recording.{start, after, is_refused, said_by}
-use Rattle.demo_lines.specs.Spelling.{spelled, IsLine, recording_text, recording_events, IsRecording, small_map, small_frames}
-use Rattle.demo_lines.specs.Bytes.{whole_lines, events, fault, map_of}
+use Rattle.demo_lines.specs.Recording.{start, after, is_refused, is_over, line_in}
+use Rattle.demo_lines.specs.Spelling.{line_text, IsLine, recording_lines, recording_text, recording_events, IsRecording, small_map, small_frames, small_text}
+use Rattle.edge_io.specs.WholeLines.{whole_lines}
+use Rattle.demo_lines.specs.Bytes.{events, fault, map_of}
 
--- a field is a number exactly where it is that number in decimal, and the number is within the limit
-abbrev pub NaturalIsDecimal : Type 0
-NaturalIsDecimal =
-    (limit n : ℕ) (field : List ℕ) → limit < 2 ^ 64
-    → (natural_up_to limit field ≡ Some n) ↔ ((field ≡ decimal n) × (n ≤ limit))
-
--- the same for a number that may be below 0, with a minus in front
-abbrev pub IntegerIsDecimal : Type 0
-IntegerIsDecimal =
-    (limit : ℕ) (z : ℤ) (field : List ℕ) → limit < 2 ^ 64
-    → (integer_up_to limit field ≡ Some z) ↔ ((field ≡ signed_decimal z) × (unsigned_abs z ≤ limit))
+-- the numbers of this crate
+pub record LimitsAreKnown : Type 0 where
+  pub farthest : FARTHEST ≡ 1048576
+  pub least_side : LEAST_SIDE ≡ pos 32768
+  pub blocks : MOST_BLOCKS ≡ 1024
+  pub frames : MOST_FRAMES ≡ 100000
+  pub arrivals : MOST_ARRIVALS ≡ 512
+  pub bytes : MOST_BYTES ≡ 252
 
 -- a packet is read back from its bytes as two hexadecimal digits each, in either case, and an empty one from a dash
 pub record PacketReadsBack : Type 0 where
@@ -31,32 +32,32 @@ pub record PacketReadsBack : Type 0 where
   pub lower : (bytes : List ℕ) → AreBytes bytes → 0 < length bytes → packet_bytes (encode_lower bytes) ≡ Some bytes
   pub upper : (bytes : List ℕ) → AreBytes bytes → 0 < length bytes → packet_bytes (encode_upper bytes) ≡ Some bytes
 
--- more bytes behind these tell nothing, and change neither the fault nor the arena
+-- more bytes after these give no event, and change neither the fault nor the arena
 pub record AddsNothing (bytes more : List ℕ) : Type 0 where
   pub events : events (bytes ++ more) ≡ events bytes
   pub fault : fault (bytes ++ more) ≡ fault bytes
   pub map : map_of (bytes ++ more) ≡ map_of bytes
 
--- what follows the end isn't looked at
-abbrev pub NothingBehindTheEnd : Type 0
-NothingBehindTheEnd = (bytes more : List ℕ) → fault bytes ≡ None → AddsNothing bytes more
+-- the rest of the input after the end is ignored
+abbrev pub NothingAfterTheEnd : Type 0
+NothingAfterTheEnd = (bytes more : List ℕ) → fault bytes ≡ None → AddsNothing bytes more
 
--- what follows a refused line isn't looked at
-abbrev pub NothingBehindARefusal : Type 0
-NothingBehindARefusal =
+-- the rest of the input after a refused line is ignored
+abbrev pub NothingAfterARefusal : Type 0
+NothingAfterARefusal =
     (bytes more : List ℕ) → is_refused (after start (whole_lines bytes)).stage ≡ true → AddsNothing bytes more
 
 -- a line is read back from its text exactly where it can be written
 abbrev pub LinesReadBack : Type 0
-LinesReadBack = (line : Line) → (said_by (spelled line) ≡ Some line) ↔ IsLine line
+LinesReadBack = (line : Line) → (line_in (line_text line) ≡ Some line) ↔ IsLine line
 
 -- a line has room for a packet of 250 bytes from each port, of 251 from one below 10,000, and of 252 from one below 100
 pub record PacketsHaveRoom : Type 0 where
-  pub each : (a : Arrival) → a.port < 65536 → length a.bytes ≤ 250 → length (spelled (From a)) ≤ 512
-  pub low : (a : Arrival) → a.port < 10000 → length a.bytes ≤ 251 → length (spelled (From a)) ≤ 512
-  pub lowest : (a : Arrival) → a.port < 100 → length a.bytes ≤ 252 → length (spelled (From a)) ≤ 512
+  pub each : (a : Arrival) → a.port < 65536 → length a.bytes ≤ 250 → length (line_text (From a)) ≤ 512
+  pub low : (a : Arrival) → a.port < 10000 → length a.bytes ≤ 251 → length (line_text (From a)) ≤ 512
+  pub lowest : (a : Arrival) → a.port < 100 → length a.bytes ≤ 252 → length (line_text (From a)) ≤ 512
 
--- the text of a recording has no fault, gives the map, and tells the frames with their packets and then the end
+-- the text of a recording has no fault, and gives the map, the frames with their packets and then the end
 pub record ReadsBack (m : ArenaMap) (frames : List (List Arrival)) : Type 0 where
   pub fault : fault (recording_text m frames) ≡ None
   pub map : map_of (recording_text m frames) ≡ Some m
@@ -69,4 +70,17 @@ RecordingsReadBack = (m : ArenaMap) (frames : List (List Arrival)) → IsRecordi
 -- a small recording can be written, and this is its text
 pub record SmallRecording : Type 0 where
   pub is : IsRecording small_map small_frames
-  pub text : recording_text small_map small_frames ≡ codes "arena -16384 0 0 16384 32768 32768\nspawn 0 4096 6144\nblock 1 20 300 4000 30000 32768\nframe\nfrom 7 01af\nfrom 65535 -\nframe\nend\n"
+  pub text : recording_text small_map small_frames ≡ small_text
+
+-- a recording that can be written and has so many lines
+pub record HasLines (count : ℕ) : Type 0 where
+  pub map : ArenaMap
+  pub frames : List (List Arrival)
+  pub is : IsRecording map frames
+  pub lines : length (recording_lines map frames) ≡ count
+
+-- up to its end or its refused line a recording has at most 1 line with the arena, 1 with the spawn, 1,024 with blocks,
+-- 100,000 times 1 that opens a frame and 512 with its packets, and 1 that ends it or is refused; and some have so many
+pub record LinesAreBounded : Type 0 where
+  pub bound : (lines : List (List ℕ)) → is_over (after start lines).stage ≡ false → length lines < 51301027
+  pub longest : HasLines 51301027

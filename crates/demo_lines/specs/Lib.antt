@@ -1,6 +1,4 @@
 -- The definitions of recordings.
-pub mod Numbers
-pub mod Fields
 pub mod Packets
 pub mod Lines
 pub mod Machines

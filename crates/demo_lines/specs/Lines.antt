@@ -3,24 +3,18 @@ use Rattle.std.specs.Prelude.{ℕ, List, [], ◌∷◌, Option, Some, None, code
 use Rattle.arena_geo.specs.declared.vec3.Vec3.{Vec3}
 use Rattle.demo_lines.specs.declared.line.Line.{Line}
 use Rattle.demo_lines.specs.declared.line.Line.TheVariants.{Arena, Spawn, Block, Frame, From, End}
-use Rattle.demo_lines.specs.Numbers.{natural_up_to, integer_up_to}
-use Rattle.demo_lines.specs.Fields.{cut, field_at}
+use Rattle.edge_io.specs.Numbers.{natural_up_to, integer_up_to}
+use Rattle.edge_io.specs.Fields.{◌>>=◌, cut, field_at}
 use Rattle.demo_lines.specs.Packets.{packet_bytes}
 
--- what f makes of a value, where there is one
-infixl 10 ◌>>=◌
-abbrev pub ◌>>=◌ : {A B : Type 0} → Option A → (A → Option B) → Option B
-None >>= f = None
-(Some x) >>= f = f x
-
--- a coordinate of at most 1,048,576 sub-units from 0, and what follows it
+-- a coordinate of at most 1,048,576 sub-units from 0, and the rest
 abbrev pub coordinate_at : List ℕ → Option (ℤ × List ℕ)
 coordinate_at rest = do
   field ← field_at rest
   z ← integer_up_to 1048576 field.0
   Some (z, field.1)
 
--- three coordinates, and what follows them
+-- three coordinates, and the rest
 abbrev pub point_at : List ℕ → Option (Vec3 × List ℕ)
 point_at rest = do
   x ← coordinate_at rest
@@ -28,7 +22,7 @@ point_at rest = do
   z ← coordinate_at y.1
   Some (record { x = x.0; y = y.0; z = z.0 }, z.1)
 
--- what the line says, where nothing more stands on it
+-- the line, where nothing more is on it
 abbrev pub alone : Line → List ℕ → Option Line
 alone line [] = Some line
 alone line (b ∷ bytes) = None
@@ -40,7 +34,7 @@ arena_of rest = do
   hi ← point_at lo.1
   alone (Arena lo.0 hi.0) hi.1
 
--- where players come in
+-- where players join
 abbrev pub spawn_of : List ℕ → Option Line
 spawn_of rest = do
   at ← point_at rest
@@ -53,7 +47,7 @@ block_of rest = do
   hi ← point_at lo.1
   alone (Block lo.0 hi.0) hi.1
 
--- the port that a packet came from, and its bytes
+-- the port that sent a packet, and its bytes
 abbrev pub from_of : List ℕ → Option Line
 from_of rest = do
   number ← field_at rest

@@ -1,4 +1,4 @@
--- A machine that goes from state to state, and may tell something at each step.
+-- A machine that goes from state to state over its inputs, and may give outputs at each of them.
 use Rattle.std.specs.Prelude.{List, [], ◌∷◌, ◌++◌}
 
 -- the state after these inputs
@@ -6,7 +6,7 @@ abbrev pub run_of : {S L : Type 0} → (S → L → S) → S → List L → S
 run_of next s [] = s
 run_of next s (l ∷ ls) = run_of next (next s l) ls
 
--- what it tells over these inputs
-abbrev pub told_over : {S L E : Type 0} → (S → L → S) → (S → L → List E) → S → List L → List E
-told_over next told s [] = []
-told_over next told s (l ∷ ls) = told s l ++ told_over next told (next s l) ls
+-- the outputs over these inputs
+abbrev pub outputs_of : {S L E : Type 0} → (S → L → S) → (S → L → List E) → S → List L → List E
+outputs_of next output s [] = []
+outputs_of next output s (l ∷ ls) = output s l ++ outputs_of next output (next s l) ls

@@ -10,7 +10,7 @@ use Rattle.demo_lines.specs.declared.line.Line.TheVariants.{Arena, Spawn, Block,
 use Rattle.demo_lines.specs.declared.stage.Stage.{Stage}
 use Rattle.demo_lines.specs.declared.stage.Stage.TheVariants.{Start, Map, Playing, Ended, Refused}
 use Rattle.demo_lines.specs.declared.map.ArenaMap.{ArenaMap}
-use Rattle.demo_lines.specs.Recording.{Reading, stands_inside, is_wide, is_thick, has_spawn, lines_left}
+use Rattle.demo_lines.specs.Recording.{Reading, is_player_inside, is_wide, is_thick, has_spawn, lines_left}
 
 -- the coordinates of a line are near enough
 abbrev pub IsPlaced : Option Line → Type 0
@@ -22,10 +22,10 @@ IsPlaced (Some Frame) = ⊤
 IsPlaced (Some (From a)) = ⊤
 IsPlaced (Some End) = ⊤
 
--- the spawn is near enough and inside the arena
+-- the spawn is near enough to 0, and a player there is inside the arena
 pub record IsSpawn (arena : Bounds) (at : Vec3) : Type 0 where
   pub near : IsNear 1048576 at
-  pub inside : stands_inside arena at ≡ true
+  pub inside : is_player_inside arena at ≡ true
 
 -- the block is a box with its low corner below its high one on each axis, inside the arena
 pub record IsBlock (arena : Bounds) (block : Bounds) : Type 0 where
@@ -48,7 +48,7 @@ abbrev pub HasRoom : Option ArenaMap → Option (List Bounds) → Type 0
 HasRoom None room = room ≡ Some []
 HasRoom (Some map) room = ⊤
 
--- what stands at each stage
+-- what holds at each stage
 abbrev pub HasMap : Stage → Reading → Type 0
 HasMap Start r = (r.map ≡ None) × (r.frames ≡ 0) × (r.arrivals ≡ 0)
 HasMap Map r = IsSomeAnd r.map IsMap × (r.frames ≡ 0) × (r.arrivals ≡ 0)
@@ -61,4 +61,4 @@ pub record IsReading (r : Reading) : Type 0 where
   pub map : HasMap r.stage r
   pub frames : r.frames ≤ 100000
   pub arrivals : r.arrivals ≤ 512
-  pub lines : r.lines + lines_left r ≤ 60000000
+  pub lines : r.lines + lines_left r ≤ 51301027

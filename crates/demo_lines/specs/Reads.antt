@@ -1,57 +1,92 @@
--- What a call of the reader takes off the bytes that are ahead, and what that tells.
-use Rattle.std.specs.Prelude.{◌≡◌, ℕ, true, false, IsSome, List, [], ◌++◌, Option, Some, None, ⊤}
+-- What a call of the reader takes off the bytes that are ahead, and what it gives.
+use Rattle.std.specs.Prelude.{◌≡◌, ◌⊎◌, ℕ, ◌+◌, ◌≤◌, true, false, IsSome, List, [], ◌∷◌, ◌++◌, length, Option, Some, None, ⊤}
 use Rattle.std.specs.List.{AllByRecursion}
-use Rattle.std.specs.Io.KnownBytes.{Consumes}
+use Rattle.std.specs.Io.KnownBytes.{Consumes, IsAtEnd}
+use Rattle.edge_io.specs.declared.line_reader.TheConstants.{LONGEST}
 use Rattle.edge_io.specs.Lines.{HasNoLineFeed}
+use Rattle.edge_io.specs.WholeLines.{all_but_last, unlines}
 use Rattle.demo_lines.specs.declared.event.Event.{Event}
 use Rattle.demo_lines.specs.declared.event.Event.TheVariants.{Frame, From, End}
 use Rattle.demo_lines.specs.declared.demo_stop.DemoStop.{DemoStop}
 use Rattle.demo_lines.specs.declared.demo_stop.DemoStop.TheVariants.{Refused, ReadFault}
 use Rattle.demo_lines.specs.declared.stage.Stage.{Stage}
-use Rattle.demo_lines.specs.declared.stage.Stage.TheVariants.{Playing, Ended}
-use Rattle.demo_lines.specs.Recording.{Reading, start, after, events_of, is_over, is_refused}
+use Rattle.demo_lines.specs.declared.stage.Stage.TheVariants as stages
+use Rattle.demo_lines.specs.Recording.{Reading, start, next, after, events_of, is_over, is_refused}
 use Rattle.demo_lines.specs.Readings.{IsReading}
-use Rattle.demo_lines.specs.Bytes.{unlines, events_in, fault_in}
+use Rattle.demo_lines.specs.Bytes.{events_in, fault_in}
 
 -- a reader: what it has buffered, what is known of the recording so far, and the stop that it keeps
-pub record Demo : Type 0 where
+pub record DemoReaderView : Type 0 where
   pub pending : List ℕ
   pub reading : Reading
   pub stop : Option DemoStop
 
--- whole lines were taken off what was ahead, and they told these events
-pub record Reads (old new : Reading) (before later : Option (List ℕ)) (told : List Event) : Type 0 where
+-- whole lines were taken off what was ahead, and they gave these events; no line was taken once the recording was over
+pub record Reads (old new : Reading) (before later : Option (List ℕ)) (given : List Event) : Type 0 where
   pub lines : List (List ℕ)
   pub each : AllByRecursion HasNoLineFeed lines
   pub consumed : Consumes before later (unlines lines)
   pub reached : new ≡ after old lines
-  pub events : events_of old lines ≡ told
+  pub events : events_of old lines ≡ given
+  pub going : is_over (after old (all_but_last lines)).stage ≡ false
 
--- whole lines and the front of one more were taken
-pub record ReadsFront (old : Reading) (before later : Option (List ℕ)) (told : List Event) : Type 0 where
+-- whole lines and the front of one more were taken, which the recording still goes on to
+pub record ReadsFront (old : Reading) (before later : Option (List ℕ)) (given : List Event) : Type 0 where
   pub lines : List (List ℕ)
   pub front : List ℕ
   pub each : AllByRecursion HasNoLineFeed lines
   pub one_line : HasNoLineFeed front
+  pub fits : length front ≤ LONGEST
   pub consumed : Consumes before later (unlines lines ++ front)
-  pub events : events_of old lines ≡ told
+  pub events : events_of old lines ≡ given
+  pub going : is_over (after old lines).stage ≡ false
 
--- what is ahead tells nothing more, and has its fault at this line
+-- what was taken last is a line with its line feed, and it is refused
+pub record IsRefusedLine (r : Reading) (taken : List ℕ) : Type 0 where
+  pub line : List ℕ
+  pub one_line : HasNoLineFeed line
+  pub whole : taken ≡ line ++ 10 ∷ []
+  pub refused : (next r line).stage ≡ stages.Refused
+
+-- what was taken last is the front of a line that is too long, one byte more than the longest line has
+pub record IsLongFront (taken : List ℕ) : Type 0 where
+  pub one_line : HasNoLineFeed taken
+  pub long : length taken ≡ LONGEST + 1
+
+-- what was taken last is what the input ended with, without a line feed
+pub record IsLastPart (taken : List ℕ) (later : Option (List ℕ)) : Type 0 where
+  pub one_line : HasNoLineFeed taken
+  pub fits : length taken ≤ LONGEST
+  pub at_end : IsAtEnd later
+
+-- lines were taken that gave no event and that the recording goes on after, and then what is refused: a line or the
+-- front of one, where P holds, or what the input ended with, where Q holds
+pub record Refuses (old : Reading) (before later : Option (List ℕ)) (number : ℕ) (P Q : Type 0) : Type 0 where
+  pub lines : List (List ℕ)
+  pub last : List ℕ
+  pub each : AllByRecursion HasNoLineFeed lines
+  pub consumed : Consumes before later (unlines lines ++ last)
+  pub events : events_of old lines ≡ []
+  pub going : is_over (after old lines).stage ≡ false
+  pub counted : number ≡ (after old lines).lines + 1
+  pub refused : ((IsRefusedLine (after old lines) last ⊎ IsLongFront last) × P) ⊎ (IsLastPart last later × Q)
+
+-- what is ahead gives no more events, and has its fault at this line
 pub record EndsAt (r : Reading) (line : ℕ) (bytes : List ℕ) : Type 0 where
   pub events : events_in r bytes ≡ []
   pub fault : fault_in r bytes ≡ Some line
 
 -- what holds of each reader: it keeps a stop where a line was refused
-pub record IsDemo (reading : Reading) (stop : Option DemoStop) : Type 0 where
+pub record IsDemoReader (reading : Reading) (stop : Option DemoStop) : Type 0 where
   pub holds : IsReading reading
   pub stopped : is_refused reading.stage ≡ true → IsSome stop
 
 -- a reader that has read nothing
-abbrev pub fresh : Demo
-fresh = record { pending = []; reading = start; stop = None }
+abbrev pub fresh_reader : DemoReaderView
+fresh_reader = record { pending = []; reading = start; stop = None }
 
 -- the reader goes on
-pub record IsOpen (demo : Demo) : Type 0 where
+pub record IsOpen (demo : DemoReaderView) : Type 0 where
   pub no_stop : demo.stop ≡ None
   pub not_over : is_over demo.reading.stage ≡ false
 
@@ -65,8 +100,8 @@ abbrev pub OnReadFault : DemoStop → Type 0 → Type 0
 OnReadFault (Refused line) P = ⊤
 OnReadFault ReadFault P = P
 
--- where a recording stands behind an event
-abbrev pub stage_behind : Event → Stage
-stage_behind Frame = Playing
-stage_behind (From a) = Playing
-stage_behind End = Ended
+-- how far a recording has come after an event
+abbrev pub stage_after : Event → Stage
+stage_after Frame = stages.Playing
+stage_after (From a) = stages.Playing
+stage_after End = stages.Ended

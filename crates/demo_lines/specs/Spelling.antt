@@ -12,37 +12,37 @@ use Rattle.demo_lines.specs.declared.line.Line.TheVariants.{Arena, Spawn, Block,
 use Rattle.demo_lines.specs.declared.event.Event.{Event}
 use Rattle.demo_lines.specs.declared.event.Event.TheVariants as events
 use Rattle.demo_lines.specs.declared.map.ArenaMap.{ArenaMap}
-use Rattle.demo_lines.specs.Bytes.{unlines}
+use Rattle.edge_io.specs.WholeLines.{unlines}
 use Rattle.demo_lines.specs.Readings.{IsMap, IsPlaced}
 
--- a field stands behind a space
-abbrev pub spelled_field : List ℕ → List ℕ
-spelled_field field = codes " " ++ field
+-- a field after its space
+abbrev pub field_text : List ℕ → List ℕ
+field_text field = codes " " ++ field
 
--- a point: its three coordinates in decimal, a minus in front of each that is below 0
-abbrev pub spelled_point : Vec3 → List ℕ
-spelled_point p =
-    spelled_field (signed_decimal p.x) ++ spelled_field (signed_decimal p.y) ++ spelled_field (signed_decimal p.z)
+-- a point: its three coordinates in decimal, with a minus in front of each that is below 0
+abbrev pub point_text : Vec3 → List ℕ
+point_text p =
+    field_text (signed_decimal p.x) ++ field_text (signed_decimal p.y) ++ field_text (signed_decimal p.z)
 
 -- a packet: two hexadecimal digits a byte in lower case, or a dash where there is none
-abbrev pub spelled_packet : List ℕ → List ℕ
-spelled_packet [] = codes "-"
-spelled_packet (b ∷ bytes) = encode_lower (b ∷ bytes)
+abbrev pub packet_text : List ℕ → List ℕ
+packet_text [] = codes "-"
+packet_text (b ∷ bytes) = encode_lower (b ∷ bytes)
 
 -- a line: its word and its fields
-abbrev pub spelled : Line → List ℕ
-spelled (Arena lo hi) = codes "arena" ++ spelled_point lo ++ spelled_point hi
-spelled (Spawn at) = codes "spawn" ++ spelled_point at
-spelled (Block lo hi) = codes "block" ++ spelled_point lo ++ spelled_point hi
-spelled Frame = codes "frame"
-spelled (From a) = codes "from" ++ spelled_field (decimal a.port) ++ spelled_field (spelled_packet a.bytes)
-spelled End = codes "end"
+abbrev pub line_text : Line → List ℕ
+line_text (Arena lo hi) = codes "arena" ++ point_text lo ++ point_text hi
+line_text (Spawn at) = codes "spawn" ++ point_text at
+line_text (Block lo hi) = codes "block" ++ point_text lo ++ point_text hi
+line_text Frame = codes "frame"
+line_text (From a) = codes "from" ++ field_text (decimal a.port) ++ field_text (packet_text a.bytes)
+line_text End = codes "end"
 
 -- a packet that a line has room for: its port is below 65,536, its bytes are bytes, and the line is no longer than 512
 pub record IsArrival (a : Arrival) : Type 0 where
   pub port : a.port < 65536
   pub bytes : AreBytes a.bytes
-  pub fits : length (spelled (From a)) ≤ 512
+  pub fits : length (line_text (From a)) ≤ 512
 
 -- a line that can be written: its coordinates are near enough, or its packet has room
 abbrev pub IsLine : Line → Type 0
@@ -62,7 +62,7 @@ spawn_lines (Some at) = Spawn at ∷ []
 abbrev pub map_lines : ArenaMap → List Line
 map_lines m = Arena m.bounds.lo m.bounds.hi ∷ spawn_lines m.spawn ++ map (λ b. Block b.lo b.hi) m.blocks
 
--- the lines of a frame: its packets behind the line that opens it
+-- the lines of a frame: the line that opens it, and its packets
 abbrev pub frame_lines : List Arrival → List Line
 frame_lines arrivals = Frame ∷ map From arrivals
 
@@ -72,13 +72,13 @@ recording_lines m frames = map_lines m ++ (flat_map frame_lines frames ++ End �
 
 -- the text of a recording: each line with its line feed
 abbrev pub recording_text : ArenaMap → List (List Arrival) → List ℕ
-recording_text m frames = unlines (map spelled (recording_lines m frames))
+recording_text m frames = unlines (map line_text (recording_lines m frames))
 
--- what a frame is told as
+-- the events of a frame
 abbrev pub frame_events : List Arrival → List Event
 frame_events arrivals = events.Frame ∷ map events.From arrivals
 
--- what a recording is told as
+-- the events of a recording
 abbrev pub recording_events : List (List Arrival) → List Event
 recording_events frames = flat_map frame_events frames ++ events.End ∷ []
 
@@ -97,11 +97,21 @@ pub record IsRecording (m : ArenaMap) (frames : List (List Arrival)) : Type 0 wh
 -- a small map: the least arena, a spawn and a block
 abbrev pub small_map : ArenaMap
 small_map = record {
-  bounds = bounds (record { x = negsuc 16383; y = pos 0; z = pos 0 }) (record { x = pos 16384; y = pos 32768; z = pos 32768 });
+  bounds = bounds
+      (record { x = negsuc 16383; y = pos 0; z = pos 0 })
+      (record { x = pos 16384; y = pos 32768; z = pos 32768 });
   spawn = Some (record { x = pos 0; y = pos 4096; z = pos 6144 });
-  blocks = bounds (record { x = pos 1; y = pos 20; z = pos 300 }) (record { x = pos 4000; y = pos 30000; z = pos 32768 }) ∷ [];
+  blocks =
+      bounds (record { x = pos 1; y = pos 20; z = pos 300 }) (record { x = pos 4000; y = pos 30000; z = pos 32768 })
+      ∷ [];
 }
 
 -- its two frames, of two packets and of none
 abbrev pub small_frames : List (List Arrival)
 small_frames = (record { port = 7; bytes = 1 ∷ 175 ∷ [] } ∷ record { port = 65535; bytes = [] } ∷ []) ∷ [] ∷ []
+
+-- its text
+abbrev pub small_text : List ℕ
+small_text =
+    codes "arena -16384 0 0 16384 32768 32768\nspawn 0 4096 6144\nblock 1 20 300 4000 30000 32768\n"
+    ++ codes "frame\nfrom 7 01af\nfrom 65535 -\nframe\nend\n"

@@ -16,12 +16,13 @@ pub struct ArrivalBytes {
 
 impl Model for ArrivalBytes {
     ghost use Rattle.std.specs.Prelude.{ℕ, ◌≤◌, List, take};
+    ghost use Rattle.demo_lines.specs.declared.arrival.TheConstants.{MOST_BYTES};
 
     ghost Value = { List ℕ };
 
     ghost view = { λ a. take a.len a.bytes };
 
-    ghost invariant = { λ a. a.len ≤ 252 };
+    ghost invariant = { λ a. a.len ≤ MOST_BYTES };
 }
 
 impl ArrivalBytes {
@@ -53,7 +54,7 @@ impl ArrivalBytes {
     }
 
     /// Puts a byte last. `false` exactly where there are [`MOST_BYTES`], and then nothing changes.
-    pub fn push(&mut self, b: u8) -> bool
+    pub(crate) fn push(&mut self, b: u8) -> bool
         ensures room { IsTrue result ↔ (length self.old < MOST_BYTES) }
         ensures pushed { OnTrue result (self.new ≡ self.old ++ b ∷ []) }
         ensures full { OnFalse result (self.new ≡ self.old) }

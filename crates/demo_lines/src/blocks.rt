@@ -16,12 +16,13 @@ pub struct Blocks {
 impl Model for Blocks {
     ghost use Rattle.std.specs.Prelude.{◌≤◌, List, vec_capacity};
     ghost use Rattle.arena_geo.specs.Bounds.{Bounds};
+    ghost use Rattle.demo_lines.specs.declared.blocks.TheConstants.{MOST_BLOCKS};
 
     ghost Value = { List Bounds };
 
     ghost view = { λ b. b.boxes.items };
 
-    ghost invariant = { λ b. 1024 ≤ vec_capacity b.boxes };
+    ghost invariant = { λ b. MOST_BLOCKS ≤ vec_capacity b.boxes };
 }
 
 impl Blocks {
@@ -42,8 +43,8 @@ impl Blocks {
     }
 
     /// Puts a block last. It takes no memory.
-    pub fn push(&mut self, block: Aabb)
-        requires { length self.old < 1024 }
+    pub(crate) fn push(&mut self, block: Aabb)
+        requires { length self.old < MOST_BLOCKS }
         ensures { self.new ≡ self.old ++ block ∷ [] }
     {
         self.boxes.push_reserved(block);

@@ -1,9 +1,9 @@
-ghost use Rattle.std.specs.Prelude.{◌≡◌, ◌+◌, ◌^◌, ◌≤◌, ◌<◌, false, [], ◌∷◌, length, option_to_list, Ok, Err, None, IfOk, IfErr, OnOk, OnErr, IfSome};
+ghost use Rattle.std.specs.Prelude.{◌≡◌, ◌+◌, ◌^◌, ◌≤◌, ◌<◌, true, false, [], ◌∷◌, length, option_to_list, Ok, Err, None, IfOk, IfErr, OnOk, OnErr, IfSome};
 ghost use Rattle.edge_io.specs.Counts.{HasRisen};
-ghost use Rattle.edge_io.specs.Lines.{ahead};
-ghost use Rattle.demo_lines.specs.Recording.{next, told, lines_left, is_over, is_refused};
+ghost use Rattle.edge_io.specs.Lines.{ahead, HasNotReadAhead};
+ghost use Rattle.demo_lines.specs.Recording.{next, events_of_line, lines_left, is_over, is_refused};
 ghost use Rattle.demo_lines.specs.Readings.{IsReading};
-ghost use Rattle.demo_lines.specs.Reads.{Reads, ReadsFront, EndsAt, OnRefused, OnReadFault, stage_behind};
+ghost use Rattle.demo_lines.specs.Reads.{Reads, ReadsFront, Refuses, EndsAt, OnRefused, OnReadFault, stage_after};
 
 use crate::demo_stop::DemoStop;
 use crate::event::Event;
@@ -11,7 +11,7 @@ use crate::line::line_at;
 use crate::map::ArenaMap;
 use crate::reading::{Reading, event_of};
 use crate::stage::Stage;
-use edge_io::{LineBuf, LineReader, NextLine, Source};
+use edge_io::{LONGEST, LineBuf, LineReader, NextLine, Source};
 use std::alloc::{AllocError, Global};
 use std::marker::Model;
 
@@ -26,39 +26,40 @@ pub struct DemoReader {
 }
 
 impl Model for DemoReader {
-    ghost use Rattle.demo_lines.specs.Reads.{Demo, IsDemo};
+    ghost use Rattle.demo_lines.specs.Reads.{DemoReaderView, IsDemoReader};
 
-    ghost Value = { Demo };
+    ghost Value = { DemoReaderView };
 
     ghost view = { λ d. record { pending = d.lines; reading = d.reading; stop = d.stop } };
 
-    ghost invariant = { λ d. IsDemo d.reading d.stop };
+    ghost invariant = { λ d. IsDemoReader d.reading d.stop };
 }
 
-/// What one more line tells, once it was taken.
+/// Takes one more line, and answers its event.
 fn take_line(reading: &mut Reading, line: &[u8]) -> Result<Option<Event>, DemoStop>
     requires reading { IsReading reading.old }
     requires open { is_over reading.old.stage ≡ false }
-    requires fits { length line.now ≤ 512 }
+    requires fits { length line.now ≤ LONGEST }
     ensures next { reading.new ≡ next reading.old line.now }
-    ensures told { IfOk result (λ event. option_to_list event ≡ told reading.old line.now) }
+    ensures event { IfOk result (λ event. option_to_list event ≡ events_of_line reading.old line.now) }
     ensures goes_on { OnOk result (is_refused reading.new.stage ≡ false) }
-    ensures refused { IfErr result (λ stop. (stop ≡ DemoStop.Refused reading.new.lines) × (reading.new.stage ≡ Stage.Refused)) }
+    ensures refused { IfErr result (λ stop.
+        (stop ≡ DemoStop.Refused reading.new.lines) × (reading.new.stage ≡ Stage.Refused)) }
     ensures holds { IsReading reading.new }
     ensures fewer { lines_left reading.new < lines_left reading.old }
 {
-    let said = line_at(line);
-    reading.step(&said);
+    let line = line_at(line);
+    reading.take(&line);
     if reading.stage() == Stage::Refused {
         return Err(DemoStop::Refused {
             line: reading.lines(),
         });
     }
-    Ok(event_of(said))
+    Ok(event_of(line))
 }
 
-/// The line behind those that were read is refused.
-fn refused_behind(reading: &Reading) -> DemoStop
+/// The line after those that were read is refused.
+fn refused_after(reading: &Reading) -> DemoStop
     requires { reading.now.lines < 2 ^ 63 }
     ensures { result ≡ DemoStop.Refused (reading.now.lines + 1) }
 {
@@ -67,7 +68,7 @@ fn refused_behind(reading: &Reading) -> DemoStop
     }
 }
 
-/// Takes lines up to the first that tells something.
+/// Takes lines up to the first that gives an event.
 fn next_event<S: Source>(
     lines: &mut LineReader,
     line: &mut LineBuf,
@@ -77,19 +78,35 @@ fn next_event<S: Source>(
     requires reading { IsReading reading.old }
     requires going { is_over reading.old.stage ≡ false }
 
-    ensures event { IfOk result (λ e.
-        Reads reading.old reading.new (ahead lines.old (S.left source.old)) (ahead lines.new (S.left source.new)) (e ∷ [])) }
-    ensures stage { IfOk result (λ e. reading.new.stage ≡ stage_behind e) }
+    // An event.
+    ensures event { IfOk result (λ e. Reads reading.old reading.new
+        (ahead lines.old (S.left source.old)) (ahead lines.new (S.left source.new)) (e ∷ [])) }
+    ensures stage { IfOk result (λ e. reading.new.stage ≡ stage_after e) }
     ensures fewer { OnOk result (lines_left reading.new < lines_left reading.old) }
+    ensures needed { OnOk result (HasNotReadAhead source.old source.new (S.last source.new) lines.old lines.new) }
+    ensures before_end { OnOk result (S.ended source.new ≡ S.ended source.old) }
 
+    // A refusal.
     ensures refused { IfErr result (λ stop. OnRefused stop (λ n.
         IfSome (ahead lines.old (S.left source.old)) (EndsAt reading.old n))) }
+    ensures taken { IfErr result (λ stop. OnRefused stop (λ n. Refuses reading.old
+        (ahead lines.old (S.left source.old)) (ahead lines.new (S.left source.new)) n
+        (HasNotReadAhead source.old source.new (S.last source.new) lines.old lines.new
+        × (S.ended source.new ≡ S.ended source.old))
+        (S.ended source.new ≡ true))) }
+
+    // A read fault.
     ensures read_fault { IfErr result (λ stop. OnReadFault stop
         (ReadsFront reading.old (ahead lines.old (S.left source.old)) (S.left source.new) [])) }
+    ensures no_end { IfErr result (λ stop. OnReadFault stop (S.ended source.new ≡ S.ended source.old)) }
+    ensures cause { IfErr result (λ stop. OnReadFault stop (HasRisen (S.faults source.old) (S.faults source.new))) }
+    ensures sure { S.never_fails source.old → IfErr result (λ stop. OnReadFault stop ⊥) }
 
     ensures holds { IsReading reading.new }
     ensures later { S.faults source.old ≤ S.faults source.new }
-    ensures cause { IfErr result (λ stop. OnReadFault stop (HasRisen (S.faults source.old) (S.faults source.new))) }
+    ensures uncounted { OnOk result (S.faults source.new ≡ S.faults source.old) }
+    ensures uncounted_refusal { IfErr result (λ stop. OnRefused stop (λ _. S.faults source.new ≡ S.faults source.old)) }
+    ensures keeps { S.never_fails source.old → S.never_fails source.new }
 {
     loop {
         match lines.next_line(source, line) {
@@ -98,24 +115,24 @@ fn next_event<S: Source>(
                     return Ok(event);
                 }
             }
-            Ok(NextLine::Long) => return Err(refused_behind(reading)),
-            Ok(NextLine::Ended) => return Err(refused_behind(reading)),
+            Ok(NextLine::Long) => return Err(refused_after(reading)),
+            Ok(NextLine::Ended) => return Err(refused_after(reading)),
             Err(_) => return Err(DemoStop::ReadFault),
         }
     }
 }
 
 impl DemoReader {
-    ghost use Rattle.std.specs.Prelude.{◌≡◌, ◌≤◌, ◌<◌, [], ◌∷◌, Ok, Err, None, Some, IfOk, IfErr, OnOk, OnErr, IfSome, option_copied};
+    ghost use Rattle.std.specs.Prelude.{◌≡◌, ◌≤◌, ◌<◌, true, [], ◌∷◌, Ok, Err, None, Some, IfOk, IfErr, OnOk, OnErr, IfSome, option_copied};
     ghost use Rattle.edge_io.specs.Counts.{HasRisen};
-    ghost use Rattle.edge_io.specs.Lines.{ahead};
+    ghost use Rattle.edge_io.specs.Lines.{ahead, HasNotReadAhead};
     ghost use Rattle.demo_lines.specs.Recording.{lines_left};
     ghost use Rattle.demo_lines.specs.Readings.{IsReading};
-    ghost use Rattle.demo_lines.specs.Reads.{fresh, IsOpen, Reads, ReadsFront, EndsAt, OnRefused, OnReadFault, stage_behind};
+    ghost use Rattle.demo_lines.specs.Reads.{fresh_reader, IsOpen, Reads, ReadsFront, Refuses, EndsAt, OnRefused, OnReadFault, stage_after};
 
     /// A reader that has read nothing.
     pub fn new(alloc: Global) -> Result<DemoReader, AllocError>
-        ensures { IfOk result (λ demo. demo ≡ fresh) }
+        ensures { IfOk result (λ demo. demo ≡ fresh_reader) }
     {
         Ok(DemoReader {
             lines: LineReader::new(alloc)?,
@@ -125,7 +142,7 @@ impl DemoReader {
         })
     }
 
-    /// What the lines said of the arena, once the reader has given an event.
+    /// The map of the lines so far, once the reader has given an event.
     pub fn map(&self) -> Option<&ArenaMap>
         ensures value { option_copied result ≡ self.now.reading.map }
         ensures holds { IsReading self.now.reading }
@@ -136,23 +153,47 @@ impl DemoReader {
     /// Reads up to the next event. The reader is to be used with one source alone.
     ///
     /// After [`Event::End`] each later call gives it again, and after a stop each later call gives the stop again;
-    /// neither reads anything. [`DemoStop::ReadFault`] first comes only where the source's count of faults rose.
+    /// neither reads anything. [`DemoStop::ReadFault`] first comes only where the source's count of faults rose, and
+    /// the count rises nowhere else. No more is read than is needed for the event or the refusal.
     pub fn next<S: Source>(&mut self, source: &mut S) -> Result<Event, DemoStop>
+        // An event.
         ensures event { IsOpen self.old → IfOk result (λ e. Reads self.old.reading self.new.reading
             (ahead self.old.pending (S.left source.old)) (ahead self.new.pending (S.left source.new)) (e ∷ [])) }
-        ensures stage { IfOk result (λ e. self.new.reading.stage ≡ stage_behind e) }
+        ensures stage { IfOk result (λ e. self.new.reading.stage ≡ stage_after e) }
         ensures fewer { IsOpen self.old → OnOk result (lines_left self.new.reading < lines_left self.old.reading) }
+        ensures needed { OnOk result
+            (HasNotReadAhead source.old source.new (S.last source.new) self.old.pending self.new.pending) }
+        ensures before_end { OnOk result (S.ended source.new ≡ S.ended source.old) }
 
+        // A refusal.
         ensures refused { IsOpen self.old → IfErr result (λ stop. OnRefused stop (λ n.
             IfSome (ahead self.old.pending (S.left source.old)) (EndsAt self.old.reading n))) }
+        ensures taken { IsOpen self.old → IfErr result (λ stop. OnRefused stop (λ n. Refuses self.old.reading
+            (ahead self.old.pending (S.left source.old)) (ahead self.new.pending (S.left source.new)) n
+            (HasNotReadAhead source.old source.new (S.last source.new) self.old.pending self.new.pending
+            × (S.ended source.new ≡ S.ended source.old))
+            (S.ended source.new ≡ true))) }
+
+        // A read fault.
         ensures read_fault { IsOpen self.old → IfErr result (λ stop. OnReadFault stop
             (ReadsFront self.old.reading (ahead self.old.pending (S.left source.old)) (S.left source.new) [])) }
-        ensures cause { IsOpen self.old → IfErr result (λ stop. OnReadFault stop (HasRisen (S.faults source.old) (S.faults source.new))) }
-        ensures later { S.faults source.old ≤ S.faults source.new }
+        ensures no_end { IfErr result (λ stop. OnReadFault stop (S.ended source.new ≡ S.ended source.old)) }
+        ensures cause { IsOpen self.old → IfErr result (λ stop. OnReadFault stop
+            (HasRisen (S.faults source.old) (S.faults source.new))) }
+        ensures sure { IsOpen self.old → S.never_fails source.old → IfErr result (λ stop. OnReadFault stop ⊥) }
 
+        // The source's count of faults.
+        ensures later { S.faults source.old ≤ S.faults source.new }
+        ensures uncounted { OnOk result (S.faults source.new ≡ S.faults source.old) }
+        ensures uncounted_refusal { IfErr result (λ stop. OnRefused stop (λ _.
+            S.faults source.new ≡ S.faults source.old)) }
+        ensures keeps { S.never_fails source.old → S.never_fails source.new }
+
+        // What the reader keeps.
         ensures ok { OnOk result (self.new.stop ≡ None) }
         ensures err { IfErr result (λ stop. self.new.stop ≡ Some stop) }
-        ensures stopped { IfSome self.old.stop (λ stop. (result ≡ Err stop) × (self.new ≡ self.old) × (source.new ≡ source.old)) }
+        ensures stopped { IfSome self.old.stop (λ stop.
+            (result ≡ Err stop) × (self.new ≡ self.old) × (source.new ≡ source.old)) }
         ensures ended { self.old.stop ≡ None → self.old.reading.stage ≡ Stage.Ended →
             (result ≡ Ok Event.End) × (self.new ≡ self.old) × (source.new ≡ source.old) }
         ensures holds { IsReading self.new.reading }

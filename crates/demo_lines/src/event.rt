@@ -1,6 +1,6 @@
 use crate::arrival::Arrival;
 
-/// What a recording tells the server, one after another.
+/// What a line of a recording gives the server.
 #[derive(Drop)]
 pub enum Event {
     /// A frame begins, and the one before it is closed.

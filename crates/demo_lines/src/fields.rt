@@ -1,14 +1,14 @@
 ghost use Rattle.std.specs.Prelude.{◌≡◌, option_map, position};
-ghost use Rattle.demo_lines.specs.Fields as fields;
+ghost use Rattle.edge_io.specs.Fields as fields;
 
-/// Where the first space stands.
+/// The place of the first space.
 fn first_space(bytes: &[u8]) -> Option<usize>
     ensures { result ≡ position fields.is_space bytes.now }
 {
     bytes.iter().position(|b| *b == b' ')
 }
 
-/// What stands before the first space, and what from it on.
+/// What is before the first space, and the rest, which begins with that space.
 pub fn cut(bytes: &[u8]) -> (&[u8], &[u8])
     ensures { (result.0.now, result.1.now) ≡ fields.cut bytes.now }
 {
@@ -16,12 +16,12 @@ pub fn cut(bytes: &[u8]) -> (&[u8], &[u8])
     bytes.split_at(before)
 }
 
-/// The field behind a space at the front, and what follows it.
+/// The field after a space at the front, and the rest.
 pub fn field_at(rest: &[u8]) -> Option<(&[u8], &[u8])>
     ensures { option_map (λ f. (f.0.now, f.1.now)) result ≡ fields.field_at rest.now }
 {
     match rest {
-        [b' ', behind @ ..] => Some(cut(behind)),
+        [b' ', field @ ..] => Some(cut(field)),
         _ => None,
     }
 }

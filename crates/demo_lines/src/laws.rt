@@ -1,14 +1,8 @@
-ghost use Rattle.demo_lines.specs.Laws.{NaturalIsDecimal, IntegerIsDecimal, PacketReadsBack, NothingBehindTheEnd, NothingBehindARefusal, LinesReadBack, PacketsHaveRoom, RecordingsReadBack, SmallRecording};
+ghost use Rattle.demo_lines.specs.Laws.{LimitsAreKnown, PacketReadsBack, NothingAfterTheEnd, NothingAfterARefusal, LinesReadBack, LinesAreBounded, PacketsHaveRoom, RecordingsReadBack, SmallRecording};
 
-/// A field is read as a number of at most a limit exactly where it is that number in decimal, without a leading zero.
-pub fn natural_is_decimal()
-    ensures { NaturalIsDecimal }
-{}
-
-/// A field is read as a number of at most a limit from 0 exactly where it is that number in decimal, a minus in front
-/// where it is below 0.
-pub fn integer_is_decimal()
-    ensures { IntegerIsDecimal }
+/// The constants of this crate have the values that they say.
+pub fn limits_are_known()
+    ensures { LimitsAreKnown }
 {}
 
 /// A packet is read back from its bytes as two hexadecimal digits each, in either case, and an empty one from `-`.
@@ -16,29 +10,30 @@ pub fn packet_reads_back()
     ensures { PacketReadsBack }
 {}
 
-/// Whatever follows the line `end` tells nothing and is no fault.
-pub fn nothing_behind_the_end()
-    ensures { NothingBehindTheEnd }
+/// The rest of the input after the line `end` gives no event and is no fault.
+pub fn nothing_after_the_end()
+    ensures { NothingAfterTheEnd }
 {}
 
-/// Whatever follows a refused line tells nothing, and the fault stays at that line.
-pub fn nothing_behind_a_refusal()
-    ensures { NothingBehindARefusal }
+/// The rest of the input after a refused line gives no event, and the fault stays at that line.
+pub fn nothing_after_a_refusal()
+    ensures { NothingAfterARefusal }
 {}
 
-/// A line is read back from its text exactly where it can be written: its coordinates are near enough, or its packet has
-/// room.
+/// A line is read back from its text exactly where it can be written: its coordinates are near enough, or its packet
+/// has room.
 pub fn lines_read_back()
     ensures { LinesReadBack }
 {}
 
-/// A line has room for a packet of 250 bytes from each port, of 251 from one below 10,000, and of 252 from one below 100.
+/// A line has room for a packet of 250 bytes from each port, of 251 from one below 10,000, and of 252 from one below
+/// 100.
 pub fn packets_have_room()
     ensures { PacketsHaveRoom }
 {}
 
-/// A recording that can be written is read as what was written: it has no fault, and gives its map, its frames with their
-/// packets, and its end.
+/// A recording that can be written is read as what was written: it has no fault, and gives its map, its frames with
+/// their packets, and its end.
 pub fn recordings_read_back()
     ensures { RecordingsReadBack }
 {}
@@ -46,4 +41,9 @@ pub fn recordings_read_back()
 /// A small recording can be written, and its text is the one that it says.
 pub fn small_recording_can_be_written()
     ensures { SmallRecording }
+{}
+
+/// A recording has at most 51,301,027 lines up to its end or its refused line, and some have so many.
+pub fn lines_are_bounded()
+    ensures { LinesAreBounded }
 {}

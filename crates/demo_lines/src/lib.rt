@@ -7,8 +7,8 @@ pub use demo_reader::DemoReader;
 pub use demo_stop::DemoStop;
 pub use event::Event;
 pub use laws::{
-    integer_is_decimal, lines_read_back, natural_is_decimal, nothing_behind_a_refusal,
-    nothing_behind_the_end, packet_reads_back, packets_have_room, recordings_read_back,
+    limits_are_known, lines_are_bounded, lines_read_back, nothing_after_a_refusal,
+    nothing_after_the_end, packet_reads_back, packets_have_room, recordings_read_back,
     small_recording_can_be_written,
 };
 pub use line::{FARTHEST, Line};

@@ -1,13 +1,14 @@
 ghost use Rattle.std.specs.Prelude.{◌≡◌, ◌+◌, ◌≤◌, length, option_map, IfSome, unsigned_abs};
 ghost use Rattle.demo_lines.specs.Lines as lines;
 ghost use Rattle.arena_geo.specs.Vectors.{IsNear};
-ghost use Rattle.demo_lines.specs.Numbers.{natural_up_to};
+ghost use Rattle.edge_io.specs.Numbers.{natural_up_to};
 ghost use Rattle.demo_lines.specs.Readings.{IsPlaced};
 
 use crate::arrival::{Arrival, ArrivalBytes};
 use crate::fields::{cut, field_at};
 use crate::number::{integer, natural};
 use arena_geo::Vec3;
+use edge_io::LONGEST;
 
 /// The greatest distance of a coordinate on a line from 0, in sub-units.
 pub const FARTHEST: u32 = 1_048_576;
@@ -15,11 +16,11 @@ pub const FARTHEST: u32 = 1_048_576;
 /// What one line of a recording says.
 #[derive(Drop)]
 pub enum Line {
-    /// The arena lies between two corners, in sub-units.
+    /// The arena's low corner and its high one, in sub-units.
     Arena { lo: Vec3, hi: Vec3 },
-    /// Players come in with their origin here, in sub-units.
+    /// Players join with their origin here, in sub-units.
     Spawn { at: Vec3 },
-    /// A block stands between two corners, in sub-units.
+    /// A block's low corner and its high one, in sub-units.
     Block { lo: Vec3, hi: Vec3 },
     /// A frame begins.
     Frame,
@@ -29,7 +30,7 @@ pub enum Line {
     End,
 }
 
-/// A coordinate, and what follows it.
+/// A coordinate, and the rest.
 fn coordinate_at(rest: &[u8]) -> Option<(i32, &[u8])>
     ensures value { option_map (λ c. (c.0, c.1.now)) result ≡ lines.coordinate_at rest.now }
     ensures bound { IfSome result (λ c. unsigned_abs c.0 ≤ FARTHEST) }
@@ -38,7 +39,7 @@ fn coordinate_at(rest: &[u8]) -> Option<(i32, &[u8])>
     Some((integer(field, FARTHEST)?, rest))
 }
 
-/// Three coordinates, and what follows them.
+/// Three coordinates, and the rest.
 fn point_at(rest: &[u8]) -> Option<(Vec3, &[u8])>
     ensures value { option_map (λ p. (p.0, p.1.now)) result ≡ lines.point_at rest.now }
     ensures bound { IfSome result (λ p. IsNear FARTHEST p.0) }
@@ -49,7 +50,7 @@ fn point_at(rest: &[u8]) -> Option<(Vec3, &[u8])>
     Some((Vec3 { x, y, z }, rest))
 }
 
-/// What the line says, where nothing more stands on it.
+/// The line, where nothing more is on it.
 fn alone(line: Line, rest: &[u8]) -> Option<Line>
     ensures value { result ≡ lines.alone line rest.now }
     ensures placed { IsPlaced (Some line) → IsPlaced result }
@@ -67,7 +68,7 @@ fn arena_of(rest: &[u8]) -> Option<Line>
     alone(Line::Arena { lo, hi }, rest)
 }
 
-/// Where players come in.
+/// Where players join.
 fn spawn_of(rest: &[u8]) -> Option<Line>
     ensures value { result ≡ lines.spawn_of rest.now }
     ensures placed { IsPlaced result }
@@ -88,14 +89,14 @@ fn block_of(rest: &[u8]) -> Option<Line>
 
 /// A port is 0 to 65,535.
 fn port_of(field: &[u8]) -> Option<u16>
-    ensures { result ≡ natural_up_to 65535 field.now }
+    ensures { result ≡ natural_up_to u16.MAX field.now }
 {
-    Some(natural(field, 65_535)? as u16)
+    Some(natural(field, u32::from(u16::MAX))? as u16)
 }
 
 /// A packet: its port and its bytes.
 fn from_of(rest: &[u8]) -> Option<Line>
-    requires { length rest.now ≤ 508 }
+    requires { length rest.now + 4 ≤ LONGEST }
     ensures value { result ≡ lines.from_of rest.now }
     ensures placed { IsPlaced result }
 {
@@ -106,9 +107,10 @@ fn from_of(rest: &[u8]) -> Option<Line>
     alone(Line::From(Arrival { port, bytes }), rest)
 }
 
-/// What a line of at most 512 bytes says, without its line feed. `None` exactly where it is no line of a recording.
+/// What a line of at most [`LONGEST`] bytes says, without its line feed. `None` exactly where it is no line of a
+/// recording.
 pub fn line_at(line: &[u8]) -> Option<Line>
-    requires { length line.now ≤ 512 }
+    requires { length line.now ≤ LONGEST }
     ensures value { result ≡ lines.line_at line.now }
     ensures placed { IsPlaced result }
 {

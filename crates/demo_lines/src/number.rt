@@ -1,7 +1,7 @@
 ghost use Rattle.std.specs.Prelude.{◌≡◌, ◌≤◌, ◌^◌, IfSome, unsigned_abs};
-ghost use Rattle.demo_lines.specs.Numbers.{digits_up_to, natural_up_to, integer_up_to, negated};
+ghost use Rattle.edge_io.specs.Numbers.{digits_up_to, natural_up_to, integer_up_to, negated};
 
-/// The number that the digits make, where each is one and it stays at most `limit`.
+/// The number of the digits, where each byte is one and no number on the way is above `limit`.
 fn digits(field: &[u8], limit: u32) -> Option<u32>
     requires { limit ≤ 2 ^ 24 }
     ensures value { result ≡ digits_up_to limit 0 field.now }

@@ -5,7 +5,7 @@ ghost use Rattle.demo_lines.specs.Readings.{IsReading, IsPlaced};
 
 use crate::blocks::Blocks;
 use crate::event::Event;
-use crate::line::Line;
+use crate::line::{FARTHEST, Line};
 use crate::map::{ArenaMap, arena_between};
 use crate::stage::Stage;
 use arena_geo::Vec3;
@@ -18,7 +18,7 @@ pub const MOST_FRAMES: u32 = 100_000;
 /// The most packets of a frame.
 pub const MOST_ARRIVALS: u32 = 512;
 
-/// What is known of a recording, as far as its lines were read.
+/// What is known of a recording from the lines that were read.
 #[derive(Drop)]
 pub struct Reading {
     /// How far the lines have come.
@@ -41,7 +41,13 @@ impl Model for Reading {
 
     ghost Value = { recording.Reading };
 
-    ghost view = { λ r. record { stage = r.stage; map = r.map; frames = r.frames; arrivals = r.arrivals; lines = r.lines } };
+    ghost view = { λ r. record {
+      stage = r.stage;
+      map = r.map;
+      frames = r.frames;
+      arrivals = r.arrivals;
+      lines = r.lines;
+    } };
 
     ghost invariant = { λ r. HasRoom r.map r.room };
 }
@@ -93,19 +99,19 @@ impl Reading {
         }
     }
 
-    /// One more line, behind which the recording stands at this stage.
+    /// One more line, after which the recording is at this stage.
     fn go_to(&mut self, stage: Stage)
         requires { self.old.lines < 2 ^ 63 }
-        ensures { self.new ≡ recording.goes_to stage self.old }
+        ensures { self.new ≡ recording.at_stage stage self.old }
     {
         self.stage = stage;
         self.lines += 1;
     }
 
-    /// One more line, which the map has taken or not.
+    /// One more line of the map, which was taken or not.
     fn go_on(&mut self, is_taken: bool)
         requires { self.old.lines < 2 ^ 63 }
-        ensures { self.new ≡ recording.goes_to (if is_taken then Stage.Map else Stage.Refused) self.old }
+        ensures { self.new ≡ recording.at_stage (if is_taken then Stage.Map else Stage.Refused) self.old }
     {
         self.go_to(if is_taken { Stage::Map } else { Stage::Refused });
     }
@@ -113,31 +119,31 @@ impl Reading {
     /// One more line, which opens a frame.
     fn open_frame(&mut self)
         requires lines { self.old.lines < 2 ^ 63 }
-        requires frames { self.old.frames < 100000 }
-        ensures { self.new ≡ recording.opens_frame self.old }
+        requires frames { self.old.frames < MOST_FRAMES }
+        ensures { self.new ≡ recording.with_frame self.old }
     {
         self.frames += 1;
         self.arrivals = 0;
         self.go_to(Stage::Playing);
     }
 
-    /// One more line, which tells of a packet.
+    /// One more line, which has a packet.
     fn take_arrival(&mut self)
         requires lines { self.old.lines < 2 ^ 63 }
-        requires arrivals { self.old.arrivals < 512 }
-        ensures { self.new ≡ recording.takes_arrival self.old }
+        requires arrivals { self.old.arrivals < MOST_ARRIVALS }
+        ensures { self.new ≡ recording.with_arrival self.old }
     {
         self.arrivals += 1;
         self.go_to(Stage::Playing);
     }
 
-    /// One more line, which gives the arena. It is refused where a side is too short.
+    /// One more line, which has the arena. It is refused where a side is too short.
     fn take_arena(&mut self, lo: Vec3, hi: Vec3)
         requires reading { IsReading self.old }
         requires here { self.old.stage ≡ Stage.Start }
-        requires lo { IsNear 1048576 lo }
-        requires hi { IsNear 1048576 hi }
-        ensures next { self.new ≡ recording.takes_arena self.old lo hi }
+        requires lo { IsNear FARTHEST lo }
+        requires hi { IsNear FARTHEST hi }
+        ensures next { self.new ≡ recording.after_arena self.old lo hi }
         ensures holds { IsReading self.new }
         ensures fewer { recording.lines_left self.new < recording.lines_left self.old }
     {
@@ -153,12 +159,12 @@ impl Reading {
         self.go_to(Stage::Map);
     }
 
-    /// One more line, which tells where players come in. It is refused where the map doesn't take it.
+    /// One more line, which has the spawn. It is refused where the map doesn't allow it.
     fn take_spawn(&mut self, at: Vec3)
         requires reading { IsReading self.old }
         requires here { self.old.stage ≡ Stage.Map }
-        requires near { IsNear 1048576 at }
-        ensures next { self.new ≡ recording.gains_spawn self.old at }
+        requires near { IsNear FARTHEST at }
+        ensures next { self.new ≡ recording.after_spawn self.old at }
         ensures holds { IsReading self.new }
         ensures fewer { recording.lines_left self.new < recording.lines_left self.old }
     {
@@ -169,13 +175,13 @@ impl Reading {
         self.go_on(is_taken);
     }
 
-    /// One more line, which tells of a block. It is refused where the map doesn't take it.
+    /// One more line, which has a block. It is refused where the map doesn't allow it.
     fn take_block(&mut self, lo: Vec3, hi: Vec3)
         requires reading { IsReading self.old }
         requires here { self.old.stage ≡ Stage.Map }
-        requires lo { IsNear 1048576 lo }
-        requires hi { IsNear 1048576 hi }
-        ensures next { self.new ≡ recording.gains_block self.old lo hi }
+        requires lo { IsNear FARTHEST lo }
+        requires hi { IsNear FARTHEST hi }
+        ensures next { self.new ≡ recording.after_block self.old lo hi }
         ensures holds { IsReading self.new }
         ensures fewer { recording.lines_left self.new < recording.lines_left self.old }
     {
@@ -186,7 +192,7 @@ impl Reading {
         self.go_on(is_taken);
     }
 
-    /// One more line where none was read: only the arena is taken.
+    /// The first line: only the arena is taken.
     fn at_start(&mut self, line: &Option<Line>)
         requires reading { IsReading self.old }
         requires here { self.old.stage ≡ Stage.Start }
@@ -201,7 +207,7 @@ impl Reading {
         }
     }
 
-    /// One more line behind the arena: one spawn is taken, blocks, a frame once there is a spawn, or the end.
+    /// One more line after the arena: one spawn is taken, blocks, a frame once there is a spawn, or the end.
     fn at_map(&mut self, line: &Option<Line>)
         requires reading { IsReading self.old }
         requires here { self.old.stage ≡ Stage.Map }
@@ -236,13 +242,14 @@ impl Reading {
         }
     }
 
-    /// What stands after one more line, which says this. Nothing changes behind the end or a refused line.
-    pub fn step(&mut self, line: &Option<Line>)
+    /// Takes one more line, which says this. Nothing changes after the end or a refused line.
+    pub fn take(&mut self, line: &Option<Line>)
         requires reading { IsReading self.old }
         requires placed { IsPlaced line.now }
-        ensures next { self.new ≡ recording.step_at self.old.stage self.old line.now }
+        ensures next { self.new ≡ recording.reading_after self.old.stage self.old line.now }
         ensures holds { IsReading self.new }
-        ensures fewer { recording.is_over self.old.stage ≡ false → recording.lines_left self.new < recording.lines_left self.old }
+        ensures fewer { recording.is_over self.old.stage ≡ false →
+            recording.lines_left self.new < recording.lines_left self.old }
     {
         match self.stage {
             Stage::Start => self.at_start(line),
@@ -253,7 +260,7 @@ impl Reading {
     }
 }
 
-/// What an accepted line tells the server.
+/// The event of an accepted line.
 pub fn event_of(line: Option<Line>) -> Option<Event>
     ensures { option_to_list result ≡ recording.event_of line }
 {

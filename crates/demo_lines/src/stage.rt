@@ -3,12 +3,12 @@
 pub enum Stage {
     /// Nothing was read: the arena comes next.
     Start,
-    /// The arena stands, and no frame yet.
+    /// There is an arena, and no frame yet.
     Map,
     /// A frame is open.
     Playing,
-    /// The line `end` was read. What follows isn't looked at.
+    /// The line `end` was read. The rest of the input is ignored.
     Ended,
-    /// A line was refused. What follows isn't looked at.
+    /// A line was refused. The rest of the input is ignored.
     Refused,
 }

@@ -5,21 +5,21 @@ use std::alloc::Global;
 use std::process::Abort;
 use std::test::Fail;
 
-/// What a call of `next` is to give.
+/// What a call of `next` is to answer.
 #[derive(Clone, Copy, Drop)]
-enum Told<'a> {
+enum Answer<'a> {
     Frame,
     From(u16, &'a [u8]),
     End,
     Stop(DemoStop),
 }
 
-use Told::{End, Frame, From, Stop};
+use Answer::{End, Frame, From, Stop};
 
 /// The arena of most rows.
 const ARENA: &[u8] = b"arena -131072 -131072 0 131072 131072 65536\n";
 
-/// Where players come in: one that stands here touches the arena's floor.
+/// A player that joins here touches the arena's floor.
 const SPAWN: &[u8] = b"spawn 0 0 6144\n";
 
 const FRAME: &[u8] = b"frame\n";
@@ -30,11 +30,11 @@ const WIDEST: &[u8] = b"arena -1048576 -1048576 -1048576 1048576 1048576 1048576
 /// A block that touches the arena's low faces.
 const BLOCK: &[u8] = b"block -131072 -131072 0 -131071 0 1\n";
 
-fn refused(line: u64) -> Told<'static> {
+fn refused(line: u64) -> Answer<'static> {
     Stop(DemoStop::Refused { line })
 }
 
-fn is_told(answer: Result<Event, DemoStop>, want: Told<'_>) -> bool {
+fn is_answer(answer: Result<Event, DemoStop>, want: Answer<'_>) -> bool {
     match (answer, want) {
         (Ok(Event::Frame), Frame) | (Ok(Event::End), End) => true,
         (Ok(Event::From(arrival)), From(port, bytes)) => {
@@ -54,37 +54,60 @@ fn between(lo: (i32, i32, i32), hi: (i32, i32, i32)) -> Option<Aabb> {
 }
 
 /// Reads `source` to these answers.
-fn expect(rt: &impl Abort, demo: &mut DemoReader, source: &mut MemSource<'_>, want: &[Told<'_>]) {
-    for (place, told) in want.iter().enumerate() {
-        let answer = demo.next(source);
-        assert!(rt; is_told(answer, *told), "answer {place}");
+fn expect(rt: &impl Abort, demo: &mut DemoReader, source: &mut MemSource<'_>, want: &[Answer<'_>]) {
+    for (place, answer) in want.iter().enumerate() {
+        let given = demo.next(source);
+        assert!(rt; is_answer(given, *answer), "answer {place}");
     }
 }
 
-/// Reads `front` and then `rest` to the answers in `told` and then to `last`, which is to come again.
+/// The lines as one text.
+fn text_of(alloc: Global, lines: &[&[u8]]) -> Result<Vec<u8>, Fail> {
+    let mut text = Vec::new(alloc);
+    for line in lines {
+        text.extend_from_slice(line)?;
+    }
+    Ok(text)
+}
+
+/// Reads `front` and then `rest` to the answers in `want` and then to `last`, twice.
 fn expect_recording(
     rt: &impl Abort,
     alloc: Global,
     front: &[&[u8]],
     rest: &[u8],
-    told: &[Told<'_>],
-    last: Told<'_>,
+    want: &[Answer<'_>],
+    last: Answer<'_>,
 ) -> Result<(), Fail> {
-    let mut text = Vec::new(alloc);
-    for line in front {
-        text.extend_from_slice(line)?;
-    }
+    let mut text = text_of(alloc, front)?;
     text.extend_from_slice(rest)?;
     let mut demo = DemoReader::new(alloc)?;
     let mut source = MemSource::new(text.as_slice(), 7, &[]);
-    expect(rt, &mut demo, &mut source, told);
+    expect(rt, &mut demo, &mut source, want);
     expect(rt, &mut demo, &mut source, &[last, last]);
     Ok(())
 }
 
+/// A copy of the map that a recording has before its first event.
+fn copied_map(alloc: Global, text: &[u8]) -> Result<ArenaMap, Fail> {
+    let mut demo = DemoReader::new(alloc)?;
+    let mut source = MemSource::new(text, 8_192, &[]);
+    let _ = demo.next(&mut source);
+    let map = demo.map().ok_or("no map")?.clone()?;
+    Ok(map)
+}
+
+fn expect_blocks(rt: &impl Abort, map: &ArenaMap, want: &[Option<Aabb>]) {
+    let blocks = map.blocks.as_slice();
+    assert_eq!(rt; blocks.len(), want.len());
+    for (block, want) in blocks.iter().zip(want) {
+        assert_eq!(rt; Some(*block), *want);
+    }
+}
+
 #[test]
-fn recordings_tell_their_events_to_the_end(rt: HostRuntime) -> Result<(), Fail> {
-    let rows: [(&[&[u8]], &[u8], &[Told<'_>]); 10] = [
+fn recordings_give_their_events_to_the_end(rt: HostRuntime) -> Result<(), Fail> {
+    let rows: [(&[&[u8]], &[u8], &[Answer<'_>]); 10] = [
         (&[ARENA], b"end\n", &[]),
         (&[ARENA], b"end\nfrob\nframe", &[]),
         (&[ARENA, SPAWN], b"end\n", &[]),
@@ -112,8 +135,8 @@ fn recordings_tell_their_events_to_the_end(rt: HostRuntime) -> Result<(), Fail> 
             &[],
         ),
     ];
-    for (front, rest, told) in rows {
-        expect_recording(&rt, rt.alloc(), front, rest, told, End)?;
+    for (front, rest, want) in rows {
+        expect_recording(&rt, rt.alloc(), front, rest, want, End)?;
     }
     Ok(())
 }
@@ -148,7 +171,7 @@ fn the_first_line_is_an_arena(rt: HostRuntime) -> Result<(), Fail> {
 }
 
 #[test]
-fn a_player_stands_inside_the_arena(rt: HostRuntime) -> Result<(), Fail> {
+fn a_player_at_the_spawn_is_inside_the_arena(rt: HostRuntime) -> Result<(), Fail> {
     let bad: [&[u8]; 11] = [
         b"",
         b"end",
@@ -165,7 +188,7 @@ fn a_player_stands_inside_the_arena(rt: HostRuntime) -> Result<(), Fail> {
     for rest in bad {
         expect_recording(&rt, rt.alloc(), &[ARENA], rest, &[], refused(2))?;
     }
-    let behind_the_spawn: [&[u8]; 6] = [
+    let after_the_spawn: [&[u8]; 6] = [
         b"frame\r\n",
         b"frame \n",
         b" frame\n",
@@ -173,15 +196,15 @@ fn a_player_stands_inside_the_arena(rt: HostRuntime) -> Result<(), Fail> {
         b"from 7 0101\n",
         b"spawn 0 0 6144\nend\n",
     ];
-    for rest in behind_the_spawn {
+    for rest in after_the_spawn {
         expect_recording(&rt, rt.alloc(), &[ARENA, SPAWN], rest, &[], refused(3))?;
     }
     Ok(())
 }
 
 #[test]
-fn blocks_stand_on_both_sides_of_the_spawn(rt: HostRuntime) -> Result<(), Fail> {
-    let rows: [(&[&[u8]], &[u8], &[Told<'_>]); 6] = [
+fn blocks_are_before_and_after_the_spawn(rt: HostRuntime) -> Result<(), Fail> {
+    let rows: [(&[&[u8]], &[u8], &[Answer<'_>]); 6] = [
         (&[ARENA, BLOCK], b"end\n", &[]),
         (&[WIDEST], b"block 1048575 0 0 1048576 1 1\nend\n", &[]),
         (&[ARENA, BLOCK, SPAWN], b"frame\nend\n", &[Frame]),
@@ -193,8 +216,8 @@ fn blocks_stand_on_both_sides_of_the_spawn(rt: HostRuntime) -> Result<(), Fail> 
             &[Frame],
         ),
     ];
-    for (front, rest, told) in rows {
-        expect_recording(&rt, rt.alloc(), front, rest, told, End)?;
+    for (front, rest, want) in rows {
+        expect_recording(&rt, rt.alloc(), front, rest, want, End)?;
     }
     Ok(())
 }
@@ -223,15 +246,15 @@ fn a_block_has_an_inside_in_the_arena(rt: HostRuntime) -> Result<(), Fail> {
 }
 
 #[test]
-fn blocks_stand_between_the_arena_and_the_first_frame(rt: HostRuntime) -> Result<(), Fail> {
-    let rows: [(&[&[u8]], &[u8], &[Told<'_>], u64); 4] = [
+fn blocks_are_between_the_arena_and_the_first_frame(rt: HostRuntime) -> Result<(), Fail> {
+    let rows: [(&[&[u8]], &[u8], &[Answer<'_>], u64); 4] = [
         (&[], BLOCK, &[], 1),
         (&[ARENA, BLOCK], b"frame\nend\n", &[], 3),
         (&[ARENA, SPAWN, FRAME], BLOCK, &[Frame], 4),
         (&[WIDEST], b"block 1048575 0 0 1048577 1 1\nend\n", &[], 2),
     ];
-    for (front, rest, told, line) in rows {
-        expect_recording(&rt, rt.alloc(), front, rest, told, refused(line))?;
+    for (front, rest, want, line) in rows {
+        expect_recording(&rt, rt.alloc(), front, rest, want, refused(line))?;
     }
     Ok(())
 }
@@ -293,66 +316,92 @@ fn a_line_has_at_most_512_bytes(rt: HostRuntime) -> Result<(), Fail> {
 #[test]
 fn a_frame_has_at_most_512_packets(rt: HostRuntime) -> Result<(), Fail> {
     let mut front = Vec::new(rt.alloc());
-    let mut told = Vec::new(rt.alloc());
+    let mut want = Vec::new(rt.alloc());
     for line in [ARENA, SPAWN, FRAME] {
         front.push(line)?;
     }
-    told.push(Frame)?;
+    want.push(Frame)?;
     for _ in 0..512 {
         front.push(b"from 7 -\n".as_slice())?;
-        told.push(From(7, &[]))?;
+        want.push(From(7, &[]))?;
     }
-    let (front, told) = (front.as_slice(), told.as_slice());
-    expect_recording(&rt, rt.alloc(), front, b"end\n", told, End)?;
+    let (front, want) = (front.as_slice(), want.as_slice());
+    expect_recording(&rt, rt.alloc(), front, b"end\n", want, End)?;
     expect_recording(
         &rt,
         rt.alloc(),
         front,
         b"from 7 -\nend\n",
-        told,
+        want,
         refused(516),
     )
+}
+
+/// Reads the arena's line, which has 44 bytes, and `rest`, a byte in each read, from a source at which these reads fail.
+fn expect_faults(
+    rt: &impl Abort,
+    alloc: Global,
+    rest: &[u8],
+    fails: &[u64],
+    want: &[Answer<'_>],
+) -> Result<(), Fail> {
+    let mut text = text_of(alloc, &[ARENA])?;
+    text.extend_from_slice(rest)?;
+    let mut demo = DemoReader::new(alloc)?;
+    let mut source = MemSource::new(text.as_slice(), 1, fails);
+    expect(rt, &mut demo, &mut source, want);
+    Ok(())
 }
 
 #[test]
 fn a_fault_of_the_source_stops_the_reader(rt: HostRuntime) -> Result<(), Fail> {
     let stop = Stop(DemoStop::ReadFault);
-    let mut text = Vec::new(rt.alloc());
-    for line in [ARENA, SPAWN, FRAME, b"from 7 0101\nend\n"] {
-        text.extend_from_slice(line)?;
+    // In the arena's line, and in the one after the frame's.
+    expect_faults(&rt, rt.alloc(), b"end\n", &[3], &[stop, stop])?;
+    let rest = b"spawn 0 0 6144\nframe\nfrom 7 0101\nend\n";
+    expect_faults(&rt, rt.alloc(), rest, &[70], &[Frame, stop, stop])
+}
+
+#[test]
+fn a_fault_that_comes_later_changes_nothing(rt: HostRuntime) -> Result<(), Fail> {
+    // After a refused line, the line `end`, and the end of input.
+    let rows: [(&[u8], u64, Answer<'_>); 4] = [
+        (b"frob\n", 49, refused(2)),
+        (b"end\n", 48, End),
+        (b"end\nfrob\n", 48, End),
+        (b"frame", 50, refused(2)),
+    ];
+    for (rest, call, last) in rows {
+        expect_faults(&rt, rt.alloc(), rest, &[call], &[last, last])?;
     }
-
-    // In the arena's line.
-    let mut demo = DemoReader::new(rt.alloc())?;
-    let mut source = MemSource::new(text.as_slice(), 8, &[3]);
-    expect(&rt, &mut demo, &mut source, &[stop, stop]);
-
-    // One byte a read: in the line behind the frame's, which has 65 bytes before it.
-    let mut demo = DemoReader::new(rt.alloc())?;
-    let mut source = MemSource::new(text.as_slice(), 1, &[70]);
-    expect(&rt, &mut demo, &mut source, &[Frame, stop, stop]);
     Ok(())
 }
 
 #[test]
 fn a_recording_gives_its_map(rt: HostRuntime) -> Result<(), Fail> {
-    let mut text = Vec::new(rt.alloc());
-    for line in [ARENA, BLOCK, SPAWN, b"block 0 0 0 1 2 3\n", FRAME] {
-        text.extend_from_slice(line)?;
-    }
-    let mut demo = DemoReader::new(rt.alloc())?;
-    let mut source = MemSource::new(text.as_slice(), 100, &[]);
-    assert!(rt; demo.map().is_none());
-    expect(&rt, &mut demo, &mut source, &[Frame]);
-    let map = demo.map().ok_or("no map")?.clone()?;
+    let lines = [ARENA, BLOCK, SPAWN, b"block 0 0 0 1 2 3\n", FRAME];
+    let text = text_of(rt.alloc(), &lines)?;
+    let map = copied_map(rt.alloc(), text.as_slice())?;
     let arena = between((-131_072, -131_072, 0), (131_072, 131_072, 65_536));
+    let blocks = [
+        between((-131_072, -131_072, 0), (-131_071, 0, 1)),
+        between((0, 0, 0), (1, 2, 3)),
+    ];
     assert_eq!(rt; Some(map.bounds), arena);
     assert_eq!(rt; map.spawn, Some(point((0, 0, 6_144))));
-    let blocks = map.blocks.as_slice();
-    assert_eq!(rt; blocks.len(), 2);
-    let first = between((-131_072, -131_072, 0), (-131_071, 0, 1));
-    assert_eq!(rt; Some(blocks[0]), first);
-    assert_eq!(rt; Some(blocks[1]), between((0, 0, 0), (1, 2, 3)));
+    expect_blocks(&rt, &map, &blocks);
+    Ok(())
+}
+
+#[test]
+fn a_map_with_all_blocks_is_copied(rt: HostRuntime) -> Result<(), Fail> {
+    let mut text = text_of(rt.alloc(), &[ARENA])?;
+    for _ in 0..1024 {
+        text.extend_from_slice(BLOCK)?;
+    }
+    let map = copied_map(rt.alloc(), text.as_slice())?;
+    let block = between((-131_072, -131_072, 0), (-131_071, 0, 1));
+    expect_blocks(&rt, &map, &[block; 1024]);
     Ok(())
 }
 

@@ -1,4 +1,7 @@
--- Lemmas on counts, blocks, lines and writes.
+-- Lemmas on counts, blocks, lines, numbers and writes.
 pub mod Rising
 pub mod Blocks
+pub mod ReadingAhead
 pub mod Writing
+pub mod Feeds
+pub mod Decimals

@@ -1,5 +1,5 @@
 -- The lines of a source: what is ahead of a reader, and what each answer took off it. A line feed is the byte 10.
-use Rattle.std.specs.Prelude.{◌≡◌, ℕ, ◌+◌, ◌<◌, ◌≤◌, ◌==◌, false, List, [], ◌∷◌, ◌++◌, Option, All, length, ⊤}
+use Rattle.std.specs.Prelude.{◌≡◌, ◌⊎◌, ℕ, ◌+◌, ◌<◌, ◌≤◌, ◌==◌, false, List, [], ◌∷◌, ◌++◌, Option, All, length, ⊤}
 use Rattle.std.specs.Io.KnownBytes.{Consumes, IsAtEnd, prepend_known}
 use Rattle.edge_io.specs.declared.line_reader.TheConstants.{LONGEST}
 use Rattle.edge_io.specs.declared.line_reader.NextLine.{NextLine}
@@ -38,10 +38,21 @@ pub record GivesFront (old new : Option (List ℕ)) (line pending : List ℕ) : 
   pub fits : length line ≤ LONGEST
   pub drained : pending ≡ []
 
--- what no line feed ends was taken, and nothing is ahead
+-- what no line feed ends was taken, and nothing is ahead any more
 pub record GivesLastPart (old new : Option (List ℕ)) (line pending : List ℕ) : Type 0 where
   pub front : GivesFront old new line pending
   pub at_end : IsAtEnd new
+
+-- nothing was read ahead: the source is as it was and no more is buffered than before, or a byte of those that the
+-- source's last read gave isn't buffered any more
+abbrev pub HasNotReadAhead : {S : Type 0} → (old new : S) → (last : ℕ) → (before later : List ℕ) → Type 0
+HasNotReadAhead old new last before later = ((new ≡ old) × (length later ≤ length before)) ⊎ (length later < last)
+
+-- P, where a line or the front of one was given
+abbrev pub OnLine : NextLine → Type 0 → Type 0
+OnLine Whole P = P
+OnLine Long P = P
+OnLine Ended P = ⊤
 
 -- P, where a whole line was given
 abbrev pub OnWhole : NextLine → Type 0 → Type 0
@@ -61,8 +72,8 @@ OnEnded Whole P = ⊤
 OnEnded Long P = ⊤
 OnEnded Ended P = P
 
--- a line and the bytes buffered became a longer line and the rest: up to a line feed, up to one byte too many, or with
--- nothing that says where the line ends
+-- a line and the bytes buffered became a longer line and the rest: up to a line feed, up to one byte too many, or
+-- without an end of the line so far
 abbrev pub MovesFront : Front → (line pending longer rest : List ℕ) → Type 0
 MovesFront Closed line pending longer rest =
     (line ++ pending ≡ (longer ++ 10 ∷ []) ++ rest) × (length longer ≤ LONGEST)

@@ -1,4 +1,4 @@
--- What writes of a text leave in a sink that tells its bytes.
+-- What writes of a text leave in a sink that knows its bytes.
 use Rattle.std.specs.Prelude.{ℕ, ◌<◌, List, Option, length, take}
 use Rattle.std.specs.Io.KnownBytes.{Appends}
 

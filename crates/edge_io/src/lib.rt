@@ -1,8 +1,9 @@
-//! Sources and sinks of bytes that count their faults, and the lines of a source.
+//! Sources and sinks of bytes that count their faults, and the lines of a source. Its definitions also say what the
+//! fields and numbers on a line are.
 #![tactic(auto)]
 
 pub use failed::Failed;
-pub use laws::limits_are_known;
+pub use laws::{integer_is_decimal, limits_are_known, natural_is_decimal};
 pub use line_buf::{LineBuf, ROOM};
 pub use line_reader::{LONGEST, LineReader, NextLine};
 pub use mem_sink::MemSink;

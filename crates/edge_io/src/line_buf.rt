@@ -4,10 +4,11 @@ ghost use Rattle.std.specs.Bool.{OnFalse, OnTrue};
 use std::alloc::{AllocError, Global};
 use std::marker::Model;
 
-/// How many bytes a [`LineBuf`] has room for.
+/// How many bytes a [`LineBuf`] has room for: those of the longest line of output. A line of input is shorter and has
+/// at most [`LONGEST`](crate::LONGEST).
 pub const ROOM: usize = 8_300;
 
-/// A list of at most [`ROOM`] bytes, whose room is reserved when it is made.
+/// A list of at most [`ROOM`] bytes, whose room is reserved from the start.
 #[derive(Drop)]
 pub struct LineBuf {
     bytes: Vec<u8>,
@@ -34,7 +35,8 @@ impl LineBuf {
         })
     }
 
-    /// Puts `b` last. It is false exactly where [`ROOM`] is reached, and the list is then unchanged. It takes no memory.
+    /// Puts `b` last. It is false exactly where [`ROOM`] is reached, and the list is then unchanged. It takes no
+    /// memory.
     pub fn push(&mut self, b: u8) -> bool
         ensures room { IsTrue result ↔ (length self.old < ROOM) }
         ensures put { OnTrue result (self.new ≡ self.old ++ b ∷ []) }

@@ -1,7 +1,8 @@
-ghost use Rattle.std.specs.Prelude.{◌≡◌, ℕ, ◌+◌, ◌<◌, ◌≤◌, ◌↔◌, List, [], ◌∷◌, ◌++◌, IfOk, OnOk, OnErr, IsTrue, length, drop};
+ghost use Rattle.std.specs.Prelude.{◌≡◌, ℕ, ◌+◌, ◌<◌, ◌≤◌, ◌↔◌, true, List, [], ◌∷◌, ◌++◌, IsOk, IfOk, OnOk, OnErr, IsTrue, length, drop};
+ghost use Rattle.std.specs.Bool.{OnFalse, OnTrue};
 ghost use Rattle.std.specs.Io.KnownBytes.{Keeps, IsAtEnd};
 ghost use Rattle.edge_io.specs.Counts.{HasRisen};
-ghost use Rattle.edge_io.specs.Lines.{ahead, HasNoLineFeed, AreBytes, GivesLine, GivesLongFront, GivesFront, GivesLastPart, OnWhole, OnLong, OnEnded, MovesFront};
+ghost use Rattle.edge_io.specs.Lines.{ahead, HasNoLineFeed, AreBytes, GivesLine, GivesLongFront, GivesFront, GivesLastPart, HasNotReadAhead, OnLine, OnWhole, OnLong, OnEnded, MovesFront};
 
 use crate::failed::Failed;
 use crate::line_buf::LineBuf;
@@ -10,24 +11,24 @@ use memchr::memchr;
 use std::alloc::{AllocError, Global};
 use std::marker::Model;
 
-/// How many bytes the longest line has, its line feed not counted.
+/// How many bytes the longest line of input has, its line feed not counted.
 pub const LONGEST: usize = 512;
 
 /// How many bytes a source is asked for in one read.
 const BLOCK: usize = 8_192;
 
-/// What a call of [`LineReader::next_line`] came to.
+/// What a call of [`LineReader::next_line`] gave.
 #[derive(Clone, Copy, Debug, PartialEq, Eq)]
 pub enum NextLine {
     /// A line that a line feed ends.
     Whole,
     /// The front of a line that has more than [`LONGEST`] bytes.
     Long,
-    /// The input ended: what came after the last line feed, often nothing.
+    /// The input ended: what follows the last line feed, often nothing.
     Ended,
 }
 
-/// What the bytes that were buffered made of a line.
+/// How the bytes that are buffered continue a line.
 enum Front {
     /// A line feed ended it.
     Closed,
@@ -70,13 +71,13 @@ impl LineReader {
     }
 
     /// Clears `line` and gives it the next line of what is ahead, which is what is buffered and then what `source` has
-    /// left. The reader is to be used with one source alone.
+    /// left. The reader is to be used with one source alone. It reads a block only where the line needs it.
     ///
     /// - [`NextLine::Whole`]: the line without its line feed, at most [`LONGEST`] bytes; the line feed is taken too.
     /// - [`NextLine::Long`]: the first `LONGEST + 1` bytes of a line that has more than [`LONGEST`].
     /// - [`NextLine::Ended`]: what was ahead, without a line feed, at most [`LONGEST`] bytes; nothing is ahead now.
-    /// - [`Failed`]: a read failed, so the source's count of faults rose. `line` has the front of a line that was read
-    ///   so far, and nothing is buffered.
+    /// - [`Failed`]: a read failed, so the source's count of faults rose, which it does in no other case. `line` has
+    ///   the front of a line that was read so far, and nothing is buffered.
     pub fn next_line<S: Source>(
         &mut self,
         source: &mut S,
@@ -86,14 +87,23 @@ impl LineReader {
             (GivesLine (ahead self.old (S.left source.old)) (ahead self.new (S.left source.new)) line.new)) }
         ensures long { IfOk result (λ next. OnLong next
             (GivesLongFront (ahead self.old (S.left source.old)) (ahead self.new (S.left source.new)) line.new)) }
-        ensures ended { IfOk result (λ next. OnEnded next
-            (GivesLastPart (ahead self.old (S.left source.old)) (ahead self.new (S.left source.new)) line.new self.new)) }
+        ensures ended { IfOk result (λ next. OnEnded next (GivesLastPart
+            (ahead self.old (S.left source.old)) (ahead self.new (S.left source.new)) line.new self.new)) }
         ensures failed { OnErr result
             (GivesFront (ahead self.old (S.left source.old)) (ahead self.new (S.left source.new)) line.new self.new) }
 
         ensures bytes { AreBytes line.new }
+        ensures needed { IfOk result (λ next. OnLine next
+            (HasNotReadAhead source.old source.new (S.last source.new) self.old self.new)) }
+        ensures at_end { IfOk result (λ next. OnEnded next (S.ended source.new ≡ true)) }
+        ensures before_end { IfOk result (λ next. OnLine next (S.ended source.new ≡ S.ended source.old)) }
+        ensures no_end { OnErr result (S.ended source.new ≡ S.ended source.old) }
+
         ensures later { S.faults source.old ≤ S.faults source.new }
         ensures cause { OnErr result (HasRisen (S.faults source.old) (S.faults source.new)) }
+        ensures uncounted { OnOk result (S.faults source.new ≡ S.faults source.old) }
+        ensures sure { S.never_fails source.old → IsOk result }
+        ensures keeps { S.never_fails source.old → S.never_fails source.new }
     {
         line.clear();
         while self.fill(source)? {
@@ -112,8 +122,18 @@ impl LineReader {
         ensures some { IfOk result (λ is. IsTrue is ↔ (0 < length self.new)) }
         ensures end { IfOk result (λ _. length self.new ≡ 0 → IsAtEnd (S.left source.new)) }
         ensures err { OnErr result (self.new ≡ []) }
+
+        ensures unasked { 0 < length self.old → (self.new ≡ self.old) × (source.new ≡ source.old) }
+        ensures asked { length self.old ≡ 0 → IfOk result (λ _. length self.new ≡ S.last source.new) }
+        ensures at_end { IfOk result (λ is. OnFalse is (S.ended source.new ≡ true)) }
+        ensures before_end { IfOk result (λ is. OnTrue is (S.ended source.new ≡ S.ended source.old)) }
+        ensures no_end { OnErr result (S.ended source.new ≡ S.ended source.old) }
+
         ensures later { S.faults source.old ≤ S.faults source.new }
         ensures cause { OnErr result (HasRisen (S.faults source.old) (S.faults source.new)) }
+        ensures uncounted { OnOk result (S.faults source.new ≡ S.faults source.old) }
+        ensures sure { S.never_fails source.old → IsOk result }
+        ensures keeps { S.never_fails source.old → S.never_fails source.new }
     {
         if self.start < self.end {
             return Ok(true);
@@ -131,6 +151,7 @@ impl LineReader {
         requires one_line { HasNoLineFeed line.old }
         requires bytes { AreBytes line.old }
         ensures moves { MovesFront result line.old self.old line.new self.new }
+        ensures taken { length self.new < length self.old }
         ensures one_line { HasNoLineFeed line.new }
         ensures bytes { AreBytes line.new }
     {

@@ -1,8 +1,8 @@
-ghost use Rattle.std.specs.Prelude.{◌≡◌, ℕ, ◌<◌, ◌-◌, ◌^◌, ◌≤◌, ◌↔◌, List, [], Some, Ok, IsErr, IfOk, OnErr, length, take};
+ghost use Rattle.std.specs.Prelude.{◌≡◌, ℕ, ◌<◌, ◌+◌, ◌-◌, ◌^◌, ◌≤◌, ◌↔◌, List, [], Some, Ok, IsOk, IsErr, IfOk, OnOk, OnErr, length, take};
 ghost use Rattle.std.specs.Io.{WritesAtMost};
 ghost use Rattle.std.specs.Io.KnownBytes.{WriteAppends};
 ghost use Rattle.edge_io.specs.Counts.{HasRisen};
-ghost use Rattle.edge_io.specs.Memory.{Output, write_count, after_write, after_failed_write};
+ghost use Rattle.edge_io.specs.Memory.{MemSinkView, room_left, write_count, after_write, after_failed_write};
 
 use crate::failed::Failed;
 use crate::sink::Sink;
@@ -20,9 +20,9 @@ pub struct MemSink {
 
 impl Model for MemSink {
     ghost use Rattle.std.specs.Prelude.{◌≤◌, vec_len, vec_capacity};
-    ghost use Rattle.edge_io.specs.Memory.{Output};
+    ghost use Rattle.edge_io.specs.Memory.{MemSinkView};
 
-    ghost Value = { Output };
+    ghost Value = { MemSinkView };
 
     ghost view = { λ s. record { taken = s.bytes.items; room = s.room; most = s.most; faults = s.faults } };
 
@@ -60,15 +60,20 @@ impl Sink for MemSink {
 
     ghost faults = { λ s. s.faults };
 
+    ghost room = { room_left };
+
     fn write(&mut self, piece: &[u8]) -> Result<usize, Failed>
         // What every sink says.
         ensures bound { WritesAtMost result piece.now }
         ensures progress { IfOk result (λ n. 0 < length piece.now → 1 ≤ n) }
-        ensures empty { length piece.now ≡ 0 → (result ≡ Ok 0) × (self.new.faults ≡ self.old.faults) }
+        ensures empty { length piece.now ≡ 0 → result ≡ Ok 0 }
         ensures bytes { WriteAppends (Some self.old.taken) (Some self.new.taken) result piece.now }
         ensures later { self.old.faults ≤ self.new.faults }
         ensures limit { self.new.faults ≤ 2 ^ 64 - 1 }
         ensures cause { OnErr result (HasRisen self.old.faults self.new.faults) }
+        ensures uncounted { OnOk result (self.new.faults ≡ self.old.faults) }
+        ensures sure { 0 < room_left self.old → IsOk result }
+        ensures room { IfOk result (λ n. room_left self.old ≤ room_left self.new + n) }
 
         // Where a write fails, and what each takes and leaves.
         ensures full { IsErr result ↔ ((0 < length piece.now) × (self.old.room ≤ length self.old.taken)) }

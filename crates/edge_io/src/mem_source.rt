@@ -1,14 +1,15 @@
-ghost use Rattle.std.specs.Prelude.{◌≡◌, ℕ, ◌-◌, ◌^◌, ◌≤◌, ◌↔◌, List, Some, IsErr, IfOk, OnErr, Contains, length, take, min};
+ghost use Rattle.std.specs.Prelude.{◌≡◌, ℕ, ◌-◌, ◌^◌, ◌≤◌, ◌↔◌, ◌||◌, true, false, List, Some, IsOk, IsErr, IfOk, OnOk, OnErr, Contains, length, take, min};
 ghost use Rattle.std.specs.Io.{ReadsAtMost};
 ghost use Rattle.std.specs.Io.KnownBytes.{ReadConsumes};
 ghost use Rattle.edge_io.specs.Counts.{HasRisen};
-ghost use Rattle.edge_io.specs.Memory.{Input, read_count, after_read, after_failed_read};
+ghost use Rattle.edge_io.specs.Ends.{is_end_of_input};
+ghost use Rattle.edge_io.specs.Memory.{MemSourceView, read_count, after_read, after_failed_read, HasNoFailingCall};
 
 use crate::failed::Failed;
 use crate::source::Source;
 use std::marker::Model;
 
-/// A source over bytes in memory, which gives them in reads of a bounded size and fails at the calls that it was told.
+/// A source over bytes in memory, which gives them in reads of a bounded size and fails at chosen calls.
 #[derive(Drop)]
 pub struct MemSource<'a> {
     rest: &'a [u8],
@@ -16,13 +17,15 @@ pub struct MemSource<'a> {
     fails: &'a [u64],
     calls: u64,
     faults: u64,
+    last: usize,
+    has_ended: bool,
 }
 
 impl<'a> Model for MemSource<'a> {
-    ghost use Rattle.std.specs.Prelude.{◌≤◌};
-    ghost use Rattle.edge_io.specs.Memory.{Input};
+    ghost use Rattle.std.specs.Prelude.{◌≡◌, ◌≤◌, true, []};
+    ghost use Rattle.edge_io.specs.Memory.{MemSourceView};
 
-    ghost Value = { Input };
+    ghost Value = { MemSourceView };
 
     ghost view = { λ s. record {
       left = s.rest.now;
@@ -30,14 +33,16 @@ impl<'a> Model for MemSource<'a> {
       fails = s.fails.now;
       calls = s.calls;
       faults = s.faults;
+      last = s.last;
+      ended = s.has_ended;
     } };
 
-    ghost invariant = { λ s. 1 ≤ s.most };
+    ghost invariant = { λ s. (1 ≤ s.most) × (s.has_ended ≡ true → s.rest.now ≡ []) };
 }
 
 impl<'a> MemSource<'a> {
     /// A source that has `bytes` left and gives at most `most` of them in a read. The calls of `read` whose numbers,
-    /// counted from 0, are in `fails` fail; after 2^64 - 1 calls the number stands still.
+    /// counted from 0, are in `fails` fail; after 2^64 - 1 calls the number stays.
     pub fn new(bytes: &'a [u8], most: usize, fails: &'a [u64]) -> MemSource<'a>
         requires { 1 ≤ most }
         ensures left { result.left ≡ bytes.now }
@@ -45,6 +50,8 @@ impl<'a> MemSource<'a> {
         ensures fails { result.fails ≡ fails.now }
         ensures calls { result.calls ≡ 0 }
         ensures faults { result.faults ≡ 0 }
+        ensures last { result.last ≡ 0 }
+        ensures ended { result.ended ≡ false }
     {
         MemSource {
             rest: bytes,
@@ -52,6 +59,8 @@ impl<'a> MemSource<'a> {
             fails,
             calls: 0,
             faults: 0,
+            last: 0,
+            has_ended: false,
         }
     }
 }
@@ -61,18 +70,31 @@ impl Source for MemSource<'_> {
 
     ghost faults = { λ s. s.faults };
 
+    ghost last = { λ s. s.last };
+
+    ghost ended = { λ s. s.ended };
+
+    ghost never_fails = { HasNoFailingCall };
+
     fn read(&mut self, buf: &mut [u8]) -> Result<usize, Failed>
         // What every source says.
         ensures bound { ReadsAtMost result buf.new }
         ensures bytes { ReadConsumes (Some self.old.left) (Some self.new.left) result buf.new }
+        ensures last { IfOk result (λ n. self.new.last ≡ n) }
+        ensures last_kept { OnErr result (self.new.last ≡ self.old.last) }
+        ensures end { self.new.ended ≡ (self.old.ended || is_end_of_input result (length buf.old)) }
+        ensures after_end { self.old.ended ≡ true → IfOk result (λ n. n ≡ 0) }
         ensures later { self.old.faults ≤ self.new.faults }
         ensures limit { self.new.faults ≤ 2 ^ 64 - 1 }
         ensures cause { OnErr result (HasRisen self.old.faults self.new.faults) }
+        ensures uncounted { OnOk result (self.new.faults ≡ self.old.faults) }
+        ensures sure { HasNoFailingCall self.old → IsOk result }
+        ensures keeps { HasNoFailingCall self.old → HasNoFailingCall self.new }
 
         // Which calls fail, and what each call gives and leaves.
         ensures fails { IsErr result ↔ Contains self.old.fails self.old.calls }
         ensures count { IfOk result (λ n. n ≡ read_count self.old (length buf.old)) }
-        ensures ok { IfOk result (λ n. self.new ≡ after_read self.old n) }
+        ensures ok { IfOk result (λ n. self.new ≡ after_read self.old (length buf.old) n) }
         ensures err { OnErr result (self.new ≡ after_failed_read self.old) }
     {
         let call = self.calls;
@@ -83,6 +105,8 @@ impl Source for MemSource<'_> {
         }
         let count = copy_front(self.rest, self.most, buf);
         self.rest = &self.rest[count..];
+        self.last = count;
+        self.has_ended = self.has_ended || (count == 0 && !buf.is_empty());
         Ok(count)
     }
 }

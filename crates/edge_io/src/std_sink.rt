@@ -1,4 +1,4 @@
-ghost use Rattle.std.specs.Prelude.{◌≡◌, ◌<◌, ◌-◌, ◌^◌, ◌≤◌, ℕ, None, Ok, IfOk, OnOk, OnErr, length};
+ghost use Rattle.std.specs.Prelude.{◌≡◌, ◌<◌, ◌+◌, ◌-◌, ◌^◌, ◌≤◌, ℕ, None, Ok, IsOk, IfOk, OnOk, OnErr, length};
 ghost use Rattle.std.specs.Io.{WritesAtMost};
 ghost use Rattle.std.specs.Io.KnownBytes.{WriteAppends};
 ghost use Rattle.edge_io.specs.Counts.{HasRisen, one_more};
@@ -8,8 +8,8 @@ use crate::sink::Sink;
 use std::io::Write;
 use std::marker::Model;
 
-/// A sink over a writer of the standard library. It tells no bytes, and counts as a fault each error of the writer, and
-/// each write that takes none of a piece that isn't empty.
+/// A sink over a writer of the standard library. It doesn't know the bytes that were taken, and counts as a fault each
+/// error of the writer, and each write that takes none of a piece that isn't empty.
 #[derive(Drop)]
 pub struct StdSink<W> {
     inner: W,
@@ -18,13 +18,13 @@ pub struct StdSink<W> {
 
 impl<W> Model for StdSink<W> {
     ghost use Rattle.std.specs.Prelude.{◌-◌, ◌^◌, ◌≤◌};
-    ghost use Rattle.edge_io.specs.Adapters.{Adapter};
+    ghost use Rattle.edge_io.specs.Adapters.{StdSinkView};
 
-    ghost Value = { Adapter W };
+    ghost Value = { StdSinkView W };
 
     ghost view = { λ s. record { inner = s.inner; errors = s.errors } };
 
-    ghost invariant = { λ a. a.errors ≤ 2 ^ 64 - 1 };
+    ghost invariant = { λ s. s.errors ≤ 2 ^ 64 - 1 };
 }
 
 impl<W: Write> StdSink<W> {
@@ -42,17 +42,19 @@ impl<W: Write> Sink for StdSink<W> {
 
     ghost faults = { λ s. s.errors };
 
+    ghost room = { λ _. 0 };
+
     fn write(&mut self, piece: &[u8]) -> Result<usize, Failed>
-        // What every sink says of one that tells no bytes.
+        // What every sink says, of one that doesn't know its bytes and may always fail.
         ensures bound { WritesAtMost result piece.now }
         ensures progress { IfOk result (λ n. 0 < length piece.now → 1 ≤ n) }
-        ensures empty { length piece.now ≡ 0 → (result ≡ Ok 0) × (self.new.errors ≡ self.old.errors) }
+        ensures empty { length piece.now ≡ 0 → result ≡ Ok 0 }
         ensures bytes { WriteAppends None None result piece.now }
         ensures later { self.old.errors ≤ self.new.errors }
         ensures limit { self.new.errors ≤ 2 ^ 64 - 1 }
         ensures cause { OnErr result (HasRisen self.old.errors self.new.errors) }
 
-        // The writer took what is answered, where the writer tells its bytes.
+        // The writer took what is answered, where the writer knows its bytes.
         ensures passed { WriteAppends (W.contents self.old.inner) (W.contents self.new.inner) result piece.now }
 
         // Each `Failed` is counted, once, and nothing else is.

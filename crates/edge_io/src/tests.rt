@@ -1,32 +1,48 @@
+ghost use Rattle.std.specs.Prelude.{◌≡◌, ◌≤◌, [], IfOk, IsOk, length};
+
 use super::*;
 use std::io;
 use std::io::{Cursor, ErrorKind, Read, Write};
 use std::process::Abort;
 use std::test::Fail;
 
-/// A reader and a writer whose first call is interrupted. Then nothing is left to read, and each write is taken.
+/// A reader and a writer that counts its calls and answers them by a script: so many bytes at most, or an error. After
+/// the script each call gives or takes all.
 #[derive(Drop)]
-struct InterruptedOnce {
-    was_called: bool,
+struct Scripted<'a> {
+    script: &'a [Option<usize>],
+    calls: usize,
 }
 
-impl Read for InterruptedOnce {
-    fn read(&mut self, _buf: &mut [u8]) -> io::Result<usize> {
-        if self.was_called {
-            return Ok(0);
+impl<'a> Scripted<'a> {
+    fn new(script: &'a [Option<usize>]) -> Scripted<'a> {
+        Scripted { script, calls: 0 }
+    }
+
+    fn answer(&mut self, len: usize) -> io::Result<usize>
+        ensures { IfOk result (λ n. n ≤ len) }
+    {
+        let call = self.calls;
+        self.calls = call.saturating_add(1);
+        match self.script.get(call) {
+            Some(Some(most)) => Ok(len.min(*most)),
+            Some(None) => Err(io::Error::from(ErrorKind::Interrupted)),
+            None => Ok(len),
         }
-        self.was_called = true;
-        Err(io::Error::from(ErrorKind::Interrupted))
     }
 }
 
-impl Write for InterruptedOnce {
+impl Read for Scripted<'_> {
+    fn read(&mut self, buf: &mut [u8]) -> io::Result<usize> {
+        let count = self.answer(buf.len())?;
+        buf[..count].fill(b'x');
+        Ok(count)
+    }
+}
+
+impl Write for Scripted<'_> {
     fn write(&mut self, piece: &[u8]) -> io::Result<usize> {
-        if self.was_called {
-            return Ok(piece.len());
-        }
-        self.was_called = true;
-        Err(io::Error::from(ErrorKind::Interrupted))
+        self.answer(piece.len())
     }
 
     fn flush(&mut self) -> io::Result<()> {
@@ -34,7 +50,41 @@ impl Write for InterruptedOnce {
     }
 }
 
-/// Reads `source` line by line, and compares each answer and the bytes that came with it.
+/// Reads with buffers of 64 bytes from a source over a reader with this script, and compares the answers and how often
+/// the reader was asked.
+fn expect_reads(
+    rt: &impl Abort,
+    script: &[Option<usize>],
+    want: &[Result<usize, Failed>],
+    calls: usize,
+) {
+    let mut reader = Scripted::new(script);
+    let mut source = StdSource::new(&mut reader);
+    for answer in want {
+        let given = source.read(&mut [0; 64]);
+        assert_eq!(rt; given, *answer);
+    }
+    assert_eq!(rt; reader.calls, calls);
+}
+
+/// Writes pieces of 64 bytes to a sink over a writer with this script, and compares the answers and how often the
+/// writer was asked.
+fn expect_writes(
+    rt: &impl Abort,
+    script: &[Option<usize>],
+    want: &[Result<usize, Failed>],
+    calls: usize,
+) {
+    let mut writer = Scripted::new(script);
+    let mut sink = StdSink::new(&mut writer);
+    for answer in want {
+        let taken = sink.write(&[b'x'; 64]);
+        assert_eq!(rt; taken, *answer);
+    }
+    assert_eq!(rt; writer.calls, calls);
+}
+
+/// Reads `source` line by line, and compares each answer and its bytes.
 fn expect_lines(
     rt: &impl Abort,
     reader: &mut LineReader,
@@ -106,59 +156,51 @@ fn a_fault_gives_the_front_of_the_line_and_is_no_end(rt: HostRuntime) -> Result<
     Ok(())
 }
 
+/// Reads a line from a source in memory that has no failing call.
+fn next_line_of(
+    reader: &mut LineReader,
+    line: &mut LineBuf,
+    bytes: &[u8],
+) -> Result<NextLine, Failed>
+    ensures { IsOk result }
+{
+    let mut source = MemSource::new(bytes, 8, &[]);
+    reader.next_line(&mut source, line)
+}
+
+/// Writes a text to a sink in memory that has taken nothing and has room for it.
+fn write_to_room(sink: &mut MemSink, text: &[u8]) -> Result<(), Failed>
+    requires taken { sink.old.taken ≡ [] }
+    requires room { length text.now ≤ sink.old.room }
+    ensures { IsOk result }
+{
+    write_whole(sink, text)
+}
+
 #[test]
-fn a_sink_takes_bytes_until_its_room_is_used_up(rt: HostRuntime) -> Result<(), Fail> {
-    let want: [(&[u8], Result<usize, Failed>); 6] = [
-        (b"abc", Ok(2)),
-        (b"", Ok(0)),
-        (b"cde", Ok(2)),
-        (b"ef", Ok(1)),
-        (b"f", Err(Failed)),
-        (b"", Ok(0)),
-    ];
-    let mut sink = MemSink::new(rt.alloc(), 5, 2)?;
-    for (piece, answer) in want {
-        let took = sink.write(piece);
-        assert_eq!(rt; took, answer);
-    }
-    assert_eq!(rt; sink.bytes(), b"abcde".as_slice());
+fn where_nothing_fails_each_call_succeeds(rt: HostRuntime) -> Result<(), Fail> {
+    let mut reader = LineReader::new(rt.alloc())?;
+    let mut line = LineBuf::new(rt.alloc())?;
+    let next = next_line_of(&mut reader, &mut line, b"abc\n");
+    let mut sink = MemSink::new(rt.alloc(), 3, 2)?;
+    let written = write_to_room(&mut sink, b"abc");
+    assert_eq!(rt; (next, written), (Ok(NextLine::Whole), Ok(())));
     Ok(())
 }
 
 #[test]
-fn a_text_is_written_whole_or_in_part(rt: HostRuntime) -> Result<(), Fail> {
-    let mut sink = MemSink::new(rt.alloc(), 7, 2)?;
-    let whole = write_whole(&mut sink, b"abcde");
-    assert_eq!(rt; whole, Ok(()));
-    let nothing = write_whole(&mut sink, b"");
-    assert_eq!(rt; nothing, Ok(()));
-    let part = write_whole(&mut sink, b"fgh");
-    assert_eq!(rt; part, Err(Failed));
-    assert_eq!(rt; sink.bytes(), b"abcdefg".as_slice());
-    Ok(())
-}
-
-#[test]
-fn readers_and_writers_of_std_serve(rt: HostRuntime) {
+fn readers_of_std_serve(rt: HostRuntime) {
     let mut source = StdSource::new(b"abc".as_slice());
     let mut buf = [0; 2];
-    for (count, bytes) in [(2, b"ab"), (1, b"cb"), (0, b"cb")] {
+    for (count, bytes) in [(2, b"ab"), (1, b"cb"), (0, b"cb"), (0, b"cb")] {
         let answer = source.read(&mut buf);
         assert_eq!(rt; answer, Ok(count));
         assert_eq!(rt; buf, *bytes);
     }
-    // A call that failed isn't tried again.
-    let mut once = StdSource::new(InterruptedOnce { was_called: false });
-    for want in [Err(Failed), Ok(0)] {
-        let answer = once.read(&mut buf);
-        assert_eq!(rt; answer, want);
-    }
-    let mut once = StdSink::new(InterruptedOnce { was_called: false });
-    for want in [Err(Failed), Ok(())] {
-        let whole = write_whole(&mut once, b"abcd");
-        assert_eq!(rt; whole, want);
-    }
+}
 
+#[test]
+fn writers_of_std_serve(rt: HostRuntime) {
     // The cursor takes nothing once its slice is full, which is a fault.
     let mut room = [0; 4];
     let mut sink = StdSink::new(Cursor::new(room.as_mut_slice()));
@@ -166,6 +208,58 @@ fn readers_and_writers_of_std_serve(rt: HostRuntime) {
     assert_eq!(rt; whole, Ok(()));
     let more = write_whole(&mut sink, b"e");
     assert_eq!(rt; more, Err(Failed));
+    assert_eq!(rt; room, *b"abcd");
+}
+
+#[test]
+fn a_read_asks_the_reader_once_for_the_whole_buffer(rt: HostRuntime) {
+    let want = [Ok(64), Ok(3), Ok(64)];
+    expect_reads(&rt, &[Some(64), Some(3)], &want, 3);
+}
+
+#[test]
+fn a_read_that_failed_is_not_tried_again(rt: HostRuntime) {
+    let want = [Err(Failed), Ok(5), Err(Failed), Err(Failed)];
+    expect_reads(&rt, &[None, Some(5), None, None], &want, 4);
+}
+
+#[test]
+fn a_reader_is_not_asked_after_its_end(rt: HostRuntime) {
+    let want = [Ok(2), Ok(0), Ok(0), Ok(0)];
+    expect_reads(&rt, &[Some(2), Some(0), Some(2)], &want, 2);
+}
+
+#[test]
+fn an_empty_buffer_is_no_end(rt: HostRuntime) {
+    let mut source = StdSource::new(b"a".as_slice());
+    let mut buf = [0; 1];
+    let nothing = source.read(&mut []);
+    let byte = source.read(&mut buf);
+    assert_eq!(rt; (nothing, byte), (Ok(0), Ok(1)));
+}
+
+#[test]
+fn a_write_hands_the_writer_the_whole_piece_once(rt: HostRuntime) {
+    let want = [Ok(64), Ok(3), Ok(64)];
+    expect_writes(&rt, &[Some(64), Some(3)], &want, 3);
+}
+
+#[test]
+fn a_write_that_failed_is_not_tried_again(rt: HostRuntime) {
+    let want = [Err(Failed), Ok(5), Err(Failed), Err(Failed)];
+    expect_writes(&rt, &[None, Some(5), None, Some(0)], &want, 4);
+}
+
+#[test]
+fn a_text_is_written_whole_or_in_part(rt: HostRuntime) -> Result<(), Fail> {
+    let text = vec![in rt.alloc(); b'x'; 1_000_000]?;
+    let mut sink = MemSink::new(rt.alloc(), 1_000_000, 300_000)?;
+    let most = write_whole(&mut sink, &text[2..]);
+    let part = write_whole(&mut sink, b"xxx");
+    let nothing = write_whole(&mut sink, b"");
+    assert_eq!(rt; (most, part, nothing), (Ok(()), Err(Failed), Ok(())));
+    assert_eq!(rt; sink.bytes(), text.as_slice());
+    Ok(())
 }
 
 #[test]

@@ -1,4 +1,4 @@
-use Rattle.std.proofs.Common.{arith, ◌<◌, length, ap, length-append}
+use Rattle.std.proofs.Common.{arith, ◌∙◌, ◌<◌, length, ap, length-append}
 use Rattle.std.proofs.lemmas.Result.{err_from_is_err_and}
 use Rattle.edge_io.proofs.Writing.{IsWritten-more, IsWritten-part}
 use Rattle.edge_io.proofs.whole.write_whole.Goals as goal
@@ -15,6 +15,7 @@ loop-rest-preserved g c =
     let written = c.loop-rest.invariant.written in
     record {
       written = IsWritten-more _ _ _ _ _ _ written c.in_ok-count.ensures.bytes;
-      later = omega (arith, c.in_ok-count.ensures.later);
+      uncounted = c.in_ok-count.ensures.uncounted ∙ c.loop-rest.invariant.uncounted;
+      room = omega (arith, c.in_ok-count.ensures.room, c.in_ok-count.ensures.bound, c.loop-rest.invariant.room);
       unmoved = λ none. absurd (omega (arith, ap length written.split, length-append written.front c.loop-rest.rest.now));
     }

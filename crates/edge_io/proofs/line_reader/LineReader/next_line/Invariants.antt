@@ -1,6 +1,6 @@
-use Rattle.std.proofs.Common.{◌≤◌, ◌-◌, ◌+◌, length}
+use Rattle.std.proofs.Common.{◌≡◌, ◌≤◌, ◌-◌, ◌+◌, length}
 use Rattle.std.specs.Io.KnownBytes.{Consumes}
-use Rattle.edge_io.specs.Lines.{ahead, AreBytes, HasNoLineFeed}
+use Rattle.edge_io.specs.Lines.{ahead, AreBytes, HasNoLineFeed, HasNotReadAhead}
 use Rattle.edge_io.specs.declared.line_reader.TheConstants.{LONGEST}
 use Rattle.edge_io.proofs.line_reader.LineReader.next_line.Given as goal
 
@@ -10,7 +10,10 @@ invariant-loop-self g l = record {
   one_line : HasNoLineFeed l.line;
   bytes : AreBytes l.line;
   fits : length l.line ≤ LONGEST;
-  later : g.S.Source.faults l.fn.source ≤ g.S.Source.faults l.source;
+  needed : HasNotReadAhead l.fn.source l.source (g.S.Source.last l.source) l.fn.self l.self;
+  before_end : g.S.Source.ended l.source ≡ g.S.Source.ended l.fn.source;
+  uncounted : g.S.Source.faults l.source ≡ g.S.Source.faults l.fn.source;
+  keeps : g.S.Source.never_fails l.fn.source → g.S.Source.never_fails l.source;
 }
 
 abbrev pub decreases-loop-self : goal.decreases-loop-self

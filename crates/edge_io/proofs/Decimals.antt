@@ -5,9 +5,9 @@ use Rattle.std.specs.Str.{all_ascii_digits}
 use Rattle.std.proofs.lemmas.Str.Parse.{IsNumeralModel, numerals_by_fold}
 use Rattle.std.proofs.lemmas.Fmt.{decimal_digit, first_decimal, decimal_nonempty, digits_decimal, digits_value-decimal, decimal-digits_value}
 use Rattle.std.proofs.lemmas.Bool.Decides.{nat_tests}
-use Rattle.demo_lines.specs.Numbers.{is_digit, digits_up_to, natural_up_to, integer_up_to, negated}
+use Rattle.edge_io.specs.Numbers.{is_digit, digits_up_to, natural_up_to, integer_up_to, negated}
 
--- the number that digits make behind n
+-- the number of the digits of n and then these
 abbrev pub read_on : ℕ → List ℕ → ℕ
 read_on n [] = n
 read_on n (d ∷ ds) = read_on (10 * n + (d - 48)) ds
@@ -15,7 +15,7 @@ read_on n (d ∷ ds) = read_on (10 * n + (d - 48)) ds
 pub own : IsNumeralModel (λ ds. all_ascii_digits ds ≡ true) (read_on 0)
 own = numerals_by_fold _ (search rules) read_on (search rules)
 
--- digits that spell n, read behind m
+-- digits that spell n after those of m
 record Spells (m : ℕ) (ds : List ℕ) (n : ℕ) : Type 0 where
   digits : all_ascii_digits ds ≡ true
   value : read_on m ds ≡ n
@@ -50,7 +50,7 @@ bound-read limit m n (d ∷ ds) h e =
     bound-cons limit (10 * m + (d - 48)) n (is_digit d) (nat_le (10 * m + (d - 48)) limit) (digits_up_to limit (10 * m + (d - 48)) ds) refl
     (bound-read limit (10 * m + (d - 48)) n ds) e
 
--- reading on doesn't make a number smaller
+-- more digits give no smaller number
 read_on-ge : (m : ℕ) (ds : List ℕ) → m ≤ read_on m ds
 read_on-ge m [] = omega arith
 read_on-ge m (d ∷ ds) = let more = read_on-ge (10 * m + (d - 48)) ds in omega arith

@@ -1,11 +1,11 @@
--- Bytes, cut into lines at their line feeds.
+-- Bytes that are split into lines at their line feeds.
 use Rattle.std.proofs.Common.{◌≡◌, ℕ, Bool, true, false, List, [], ◌∷◌, ◌++◌, ◌⊎◌, refl, sym, ap, ◌∙◌, append_assoc, append-nil, inl, inr, cond}
 use Rattle.std.specs.List.{slice_split, onto_first, AllByRecursion}
 use Rattle.std.proofs.lemmas.List.Splits.{slice_split_none, slice_split_at, slice_split-cons_no}
 use Rattle.std.proofs.lemmas.List.Elements.{recursion_from_All}
 use Rattle.std.proofs.lemmas.Grind.{flat_map-append}
 use Rattle.edge_io.specs.Lines.{HasNoLineFeed}
-use Rattle.demo_lines.specs.Bytes.{is_line_feed, all_but_last, whole_lines, unlines}
+use Rattle.edge_io.specs.WholeLines.{is_line_feed, all_but_last, whole_lines, unlines}
 
 -- a list that has a first element
 pub record BeginsWith {X : Type 0} (xs : List X) : Type 0 where
@@ -25,6 +25,17 @@ parts_begin (b ∷ bytes) = begins-onto_first (is_line_feed b) b (slice_split is
 all_but_last-cons : {X : Type 0} (x : X) (xs : List X) → BeginsWith xs → all_but_last (x ∷ xs) ≡ x ∷ all_but_last xs
 all_but_last-cons x xs begins = ap (λ ys. all_but_last (x ∷ ys)) begins.is ∙ ap (λ ys. x ∷ all_but_last ys) (sym begins.is)
 
+-- all but the last of a list and one more element are that list
+pub all_but_last-push : {X : Type 0} (xs : List X) (x : X) → all_but_last (xs ++ x ∷ []) ≡ xs
+all_but_last-push [] x = refl
+all_but_last-push (y ∷ []) x = refl
+all_but_last-push (y ∷ z ∷ xs) x = ap (λ ys. y ∷ ys) (all_but_last-push (z ∷ xs) x)
+
+pub all_but_last-append : {X : Type 0} (xs : List X) (y : X) (ys : List X) → all_but_last (xs ++ y ∷ ys) ≡ xs ++ all_but_last (y ∷ ys)
+all_but_last-append [] y ys = refl
+all_but_last-append (x ∷ []) y ys = refl
+all_but_last-append (x ∷ z ∷ xs) y ys = ap (λ zs. x ∷ zs) (all_but_last-append (z ∷ xs) y ys)
+
 -- a line and its line feed are the first whole line
 pub whole_lines-line : (line rest : List ℕ) → HasNoLineFeed line → whole_lines (line ++ 10 ∷ rest) ≡ line ∷ whole_lines rest
 whole_lines-line line rest none =
@@ -38,7 +49,7 @@ whole_lines-unlines (line ∷ lines) rest none =
     ∙ whole_lines-line line (unlines lines ++ rest) none.0
     ∙ ap (λ ls. line ∷ ls) (whole_lines-unlines lines rest none.1)
 
--- where no line feed comes there is no whole line
+-- where there is no line feed there is no whole line
 pub whole_lines-none : (part : List ℕ) → HasNoLineFeed part → whole_lines part ≡ []
 whole_lines-none part none = ap all_but_last (slice_split_none is_line_feed part none)
 

@@ -5,7 +5,7 @@ use Rattle.std.specs.Prelude.{ℕ, zero, suc, ◌+◌, ◌-◌, ◌*◌, Bool, �
 abbrev pub is_digit : ℕ → Bool
 is_digit b = nat_le 48 b && nat_le b 57
 
--- the number of at most limit that digits make behind n
+-- the number of at most limit that n's digits and these give
 abbrev pub digits_up_to : ℕ → ℕ → List ℕ → Option ℕ
 digits_up_to limit n [] = Some n
 digits_up_to limit n (d ∷ ds) =
@@ -26,4 +26,5 @@ negated (Some (suc n)) = Some (negsuc n)
 -- a number of at most limit, or a minus and one that isn't 0
 abbrev pub integer_up_to : ℕ → List ℕ → Option ℤ
 integer_up_to limit [] = None
-integer_up_to limit (b ∷ bs) = if b == 45 then negated (natural_up_to limit bs) else option_map pos (natural_up_to limit (b ∷ bs))
+integer_up_to limit (b ∷ bs) =
+    if b == 45 then negated (natural_up_to limit bs) else option_map pos (natural_up_to limit (b ∷ bs))

@@ -1,5 +1,0 @@
-use Rattle.demo_lines.proofs.Prefixes.{nothing_behind_a_refusal}
-use Rattle.demo_lines.proofs.laws.nothing_behind_a_refusal.Goals as goal
-
-pub returns : goal.returns
-returns c = nothing_behind_a_refusal
