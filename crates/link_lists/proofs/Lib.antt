@@ -2,3 +2,4 @@ pub mod OneList
 pub mod Pools
 pub mod Walks
 pub mod Linking
+pub mod Absences

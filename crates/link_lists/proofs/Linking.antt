@@ -3,7 +3,7 @@ use Rattle.std.proofs.Common.{◌≡◌, ◌≢◌, ℕ, ◌<◌, ◌⊎◌, Lis
 use Rattle.std.proofs.lemmas.Bool.{cases_eq, cases_lt}
 use Rattle.std.proofs.lemmas.List.{get_or_past, get_or-replicate, length-map, length-replicate}
 use Rattle.std.proofs.lemmas.Option.{none-some, same_Some}
-use Rattle.link_lists.specs.Pool.{Pool, where_of, first_of, next_of, empty_pool, inserted, removed, without, SetsOnly}
+use Rattle.link_lists.specs.Pool.{ListsView, where_of, first_of, next_of, empty_pool, inserted, removed, without, SetsOnly}
 use Rattle.link_lists.specs.Links.{link_at, with_link, IsLinkedAs}
 use Rattle.link_lists.proofs.Pools.{has-where_of, where_of-first, where_of-next, where_of-lt, first_or_next, next_of-Some, next_of-apart, list_of-empty, IsProper-empty, where_of-empty, next_of-nowhere, IsProper-inserted, where_of-inserted, first_of-inserted, first_of-inserted_other, next_of-inserted, next_of-inserted_other, IsProper-removed, where_of-removed, next_of-removed, next_of-removed_before, next_of-removed_other, first_of-removed, first_of-removed_other}
 
@@ -72,7 +72,7 @@ abbrev pub prev_without : List (Option ℕ) → List (Option ℕ) → ℕ → Li
 prev_without next prev id = with_link (set prev id None) (link_at next id) (link_at prev id)
 
 -- each link is to an id of the pool
-module _ (heads next prev places : List (Option ℕ)) (p : Pool) (linked : IsLinkedAs heads next prev places p) where
+module _ (heads next prev places : List (Option ℕ)) (p : ListsView) (linked : IsLinkedAs heads next prev places p) where
   linked_in_range : (id k : ℕ) → where_of p id ≡ Some k → id < p.ids
   linked_in_range id k at = linked.proper.in_range k id (has-where_of p id k at)
 
@@ -89,7 +89,7 @@ module _ (heads next prev places : List (Option ℕ)) (p : Pool) (linked : IsLin
       omega (arith, linked_in_range other w.0 (where_of-next p id other w.0 linked.proper w.1 after))
 
 -- an id that is in no list put in front of the first one of list k
-module _ (heads next prev places : List (Option ℕ)) (p : Pool) (k id : ℕ) (linked : IsLinkedAs heads next prev places p)
+module _ (heads next prev places : List (Option ℕ)) (p : ListsView) (k id : ℕ) (linked : IsLinkedAs heads next prev places p)
     (list_in_range : k < length p.lists) (id_in_range : id < p.ids) (unlinked : where_of p id ≡ None) where
   -- where each id is then
   moved : SetsOnly p (inserted p k id) id (Some k)
@@ -179,7 +179,7 @@ module _ (heads next prev places : List (Option ℕ)) (p : Pool) (k id : ℕ) (l
   }
 
 -- an id of list k taken out
-module _ (heads next prev places : List (Option ℕ)) (p : Pool) (k id : ℕ) (linked : IsLinkedAs heads next prev places p)
+module _ (heads next prev places : List (Option ℕ)) (p : ListsView) (k id : ℕ) (linked : IsLinkedAs heads next prev places p)
     (at : where_of p id ≡ Some k) where
   within_ids : id < p.ids
   within_ids = linked.proper.in_range k id (has-where_of p id k at)

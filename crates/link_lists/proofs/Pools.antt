@@ -7,7 +7,7 @@ use Rattle.std.proofs.lemmas.List.Quantifiers.{position-Some}
 use Rattle.std.proofs.lemmas.List.Sums.{fails_before_first}
 use Rattle.std.proofs.lemmas.Map.Steps.{length-le_from_distinct_below}
 use Rattle.std.proofs.lemmas.Option.{none-some}
-use Rattle.link_lists.specs.Pool.{Pool, has, after, without, list_of, where_of, first_of, next_of, empty_pool, inserted, removed, IsProper, SetsOnly}
+use Rattle.link_lists.specs.Pool.{ListsView, has, after, without, list_of, where_of, first_of, next_of, empty_pool, inserted, removed, IsProper, SetsOnly}
 use Rattle.link_lists.proofs.OneList.{has-slice_get, has-after, has-before, after-at, first_or_after, without-itself, has-without, IsDistinct-first, IsDistinct-without, first-without, first-without_other, after-apart, after-without, after-without_other}
 
 -- an option is empty or has a value
@@ -21,18 +21,18 @@ IfSome-from None P h = tt
 IfSome-from (Some x) P h = h x refl
 
 -- a list past the last has no id
-pub list_of_past : (p : Pool) (k : ℕ) → length p.lists ≤ k → list_of p k ≡ []
+pub list_of_past : (p : ListsView) (k : ℕ) → length p.lists ≤ k → list_of p k ≡ []
 list_of_past p k h = get_or_past p.lists k [] h
 
 -- the list where an id is has it
-pub has-where_of : (p : Pool) (id k : ℕ) → where_of p id ≡ Some k → has (list_of p k) id ≡ true
+pub has-where_of : (p : ListsView) (id k : ℕ) → where_of p id ≡ Some k → has (list_of p k) id ≡ true
 has-where_of p id k e = (position-Some (λ ids. has ids id) p.lists k [] e).1
 
-pub where_of-lt : (p : Pool) (id k : ℕ) → where_of p id ≡ Some k → k < length p.lists
+pub where_of-lt : (p : ListsView) (id k : ℕ) → where_of p id ≡ Some k → k < length p.lists
 where_of-lt p id k e = (position-Some (λ ids. has ids id) p.lists k [] e).0
 
 -- no list has an id that is nowhere
-pub has-nowhere : (p : Pool) (id k : ℕ) → where_of p id ≡ None → has (list_of p k) id ≡ false
+pub has-nowhere : (p : ListsView) (id k : ℕ) → where_of p id ≡ None → has (list_of p k) id ≡ false
 has-nowhere p id k e =
     let test : List ℕ → Bool = λ ids. has ids id in
     elim (cases_lt (position_or_len test p.lists) (length p.lists)) [
@@ -46,39 +46,39 @@ has-nowhere p id k e =
     ]
 
 -- an id is where the one list is that has it
-pub where_of-has : (p : Pool) (id k : ℕ) → IsProper p → has (list_of p k) id ≡ true → where_of p id ≡ Some k
+pub where_of-has : (p : ListsView) (id k : ℕ) → IsProper p → has (list_of p k) id ≡ true → where_of p id ≡ Some k
 where_of-has p id k proper h = elim (cases_option (where_of p id)) [
   | inl none ↦ absurd (false≢true (sym (has-nowhere p id k none) ∙ h))
   | inr w ↦ w.1 ∙ ap (λ (j : ℕ). Some j) (proper.apart w.0 k id (has-where_of p id w.0 w.1) h)
 ]
 
 -- an id is in a list exactly where the list has it
-pub where_of-member : (p : Pool) (id k : ℕ) → IsProper p → (where_of p id ≡ Some k) ↔ (has (list_of p k) id ≡ true)
+pub where_of-member : (p : ListsView) (id k : ℕ) → IsProper p → (where_of p id ≡ Some k) ↔ (has (list_of p k) id ≡ true)
 where_of-member p id k proper = (has-where_of p id k, where_of-has p id k proper)
 
 -- what comes next, by the list that has the id
-pub next_of-in : (p : Pool) (id k : ℕ) → where_of p id ≡ Some k → next_of p id ≡ after id (list_of p k)
+pub next_of-in : (p : ListsView) (id k : ℕ) → where_of p id ≡ Some k → next_of p id ≡ after id (list_of p k)
 next_of-in p id k e = rw e refl
 
-pub next_of-nowhere : (p : Pool) (id : ℕ) → where_of p id ≡ None → next_of p id ≡ None
+pub next_of-nowhere : (p : ListsView) (id : ℕ) → where_of p id ≡ None → next_of p id ≡ None
 next_of-nowhere p id e = rw e refl
 
 -- an id is in the list in which it stands
-pub where_of-at : (p : Pool) (k place id : ℕ) → IsProper p → slice_get (list_of p k) place ≡ Some id → where_of p id ≡ Some k
+pub where_of-at : (p : ListsView) (k place id : ℕ) → IsProper p → slice_get (list_of p k) place ≡ Some id → where_of p id ≡ Some k
 where_of-at p k place id proper e = where_of-has p id k proper (has-slice_get (list_of p k) place id e)
 
 -- no list is longer than there are ids
-pub length-list_of : (p : Pool) (k : ℕ) → IsProper p → length (list_of p k) ≤ p.ids
+pub length-list_of : (p : ListsView) (k : ℕ) → IsProper p → length (list_of p k) ≤ p.ids
 length-list_of p k proper = length-le_from_distinct_below (list_of p k) p.ids (proper.once k) (λ id h. proper.in_range k id h)
 
 -- after the id at a place comes the id at the next place
-pub next_of-at : (p : Pool) (k place id : ℕ)
+pub next_of-at : (p : ListsView) (k place id : ℕ)
     → IsProper p → slice_get (list_of p k) place ≡ Some id → next_of p id ≡ slice_get (list_of p k) (place + 1)
 next_of-at p k place id proper e =
     next_of-in p id k (where_of-at p k place id proper e) ∙ after-at (list_of p k) place id (proper.once k) e ∙ ap (slice_get (list_of p k)) (omega arith)
 
 -- an id that comes next is in the same list
-pub next_of-Some : (p : Pool) (id other : ℕ)
+pub next_of-Some : (p : ListsView) (id other : ℕ)
     → next_of p id ≡ Some other → (k : ℕ) × (where_of p id ≡ Some k) × (after id (list_of p k) ≡ Some other)
 next_of-Some p id other e = elim (cases_option (where_of p id)) [
   | inl none ↦ absurd (none-some other (sym (next_of-nowhere p id none) ∙ e))
@@ -86,29 +86,29 @@ next_of-Some p id other e = elim (cases_option (where_of p id)) [
 ]
 
 -- and the same for any list that the first id is in
-pub where_of-next_same : (p : Pool) (id other : ℕ)
+pub where_of-next_same : (p : ListsView) (id other : ℕ)
     → IsProper p → next_of p id ≡ Some other → where_of p other ≡ where_of p id
 where_of-next_same p id other proper e =
     let w = next_of-Some p id other e in
     where_of-has p other w.0 proper (has-after (list_of p w.0) id other w.2) ∙ sym w.1
 
-pub where_of-next : (p : Pool) (id other k : ℕ)
+pub where_of-next : (p : ListsView) (id other k : ℕ)
     → IsProper p → where_of p id ≡ Some k → next_of p id ≡ Some other → where_of p other ≡ Some k
 where_of-next p id other k proper at e =
     where_of-has p other k proper (has-after (list_of p k) id other (sym (next_of-in p id k at) ∙ e))
 
 -- no id comes next after itself
-pub next_of-apart : (p : Pool) (id : ℕ) → IsProper p → next_of p id ≡ Some id → ⊥
+pub next_of-apart : (p : ListsView) (id : ℕ) → IsProper p → next_of p id ≡ Some id → ⊥
 next_of-apart p id proper e =
     let w = next_of-Some p id id e in
     after-apart (list_of p w.0) id (proper.once w.0) w.2
 
 -- a first id is in its list
-pub where_of-first : (p : Pool) (k id : ℕ) → IsProper p → first_of p k ≡ Some id → where_of p id ≡ Some k
+pub where_of-first : (p : ListsView) (k id : ℕ) → IsProper p → first_of p k ≡ Some id → where_of p id ≡ Some k
 where_of-first p k id proper e = where_of-at p k 0 id proper e
 
 -- an id of a list is its first or comes next after another
-pub first_or_next : (p : Pool) (id k : ℕ)
+pub first_or_next : (p : ListsView) (id k : ℕ)
     → IsProper p → where_of p id ≡ Some k → (first_of p k ≡ Some id) ⊎ ((b : ℕ) × (next_of p b ≡ Some id))
 first_or_next p id k proper at =
     elim (first_or_after (list_of p k) id (proper.once k) (has-where_of p id k at)) [
@@ -119,7 +119,7 @@ first_or_next p id k proper at =
     ]
 
 -- where an id is, is the same in two pools whose lists agree on it
-pub where_of-same : (old new : Pool) (id : ℕ)
+pub where_of-same : (old new : ListsView) (id : ℕ)
     → IsProper new → ((k : ℕ) → has (list_of new k) id ≡ has (list_of old k) id) → where_of new id ≡ where_of old id
 where_of-same old new id proper same = elim (cases_option (where_of old id)) [
   | inl none ↦ elim (cases_option (where_of new id)) [
@@ -154,7 +154,7 @@ where_of-empty ids lists id = elim (cases_option (where_of (empty_pool ids lists
 ]
 
 -- an id inserted as the first of list k
-module _ (p : Pool) (k id : ℕ) (proper : IsProper p)
+module _ (p : ListsView) (k id : ℕ) (proper : IsProper p)
     (list_in_range : k < length p.lists) (id_in_range : id < p.ids) (unlinked : where_of p id ≡ None) where
   pub list_of-inserted : list_of (inserted p k id) k ≡ id ∷ list_of p k
   list_of-inserted = get_or-set_same p.lists k (id ∷ list_of p k) [] list_in_range
@@ -235,7 +235,7 @@ module _ (p : Pool) (k id : ℕ) (proper : IsProper p)
   ]
 
 -- an id removed
-module _ (p : Pool) (id : ℕ) (proper : IsProper p) where
+module _ (p : ListsView) (id : ℕ) (proper : IsProper p) where
   pub list_of-removed : (j : ℕ) → list_of (removed p id) j ≡ without id (list_of p j)
   list_of-removed j = elim (cases_lt j (length p.lists)) [
     | inl within ↦ get_or-map (without id) p.lists j [] [] within

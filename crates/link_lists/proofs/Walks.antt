@@ -3,7 +3,7 @@ use Rattle.std.proofs.Common.{◌≡◌, ℕ, zero, suc, ◌≤◌, true, nat_eq
 use Rattle.std.specs.List.{IsDistinct}
 use Rattle.std.proofs.lemmas.Bool.{or_left, or_right, eq-eqb, ne_eqb, false≢true}
 use Rattle.std.proofs.lemmas.List.{ext_get_or, get_or-map, length-map}
-use Rattle.link_lists.specs.Pool.{Pool, has, after, list_of}
+use Rattle.link_lists.specs.Pool.{ListsView, has, after, list_of}
 use Rattle.link_lists.specs.Links.{link_at, walk, pool_of, IsLinkedAs}
 use Rattle.link_lists.proofs.OneList.{rest_lacks_first, rest_is_distinct}
 use Rattle.link_lists.proofs.Pools.{next_of-in, where_of-has, length-list_of}
@@ -37,7 +37,7 @@ IsChain-from_after next (x ∷ xs) d h =
           grind arith),
     )
 
-module _ (heads next prev places : List (Option ℕ)) (p : Pool) (linked : IsLinkedAs heads next prev places p) where
+module _ (heads next prev places : List (Option ℕ)) (p : ListsView) (linked : IsLinkedAs heads next prev places p) where
   fits : (k : ℕ) → length (list_of p k) ≤ length next
   fits k =
       let count = linked.next_count in

@@ -1,8 +1,8 @@
 -- How the links keep the lists of a pool.
 use Rattle.std.specs.Prelude.{◌≡◌, ℕ, zero, suc, List, [], ◌∷◌, map, length, Option, Some, None, slice_index_or, slice_set}
-use Rattle.link_lists.specs.Pool.{Pool, IsProper, where_of, first_of, next_of}
+use Rattle.link_lists.specs.Pool.{ListsView, IsProper, where_of, first_of, next_of}
 
--- what stands at this place of the links: none past their end
+-- what is at this place of the links: none past their end
 abbrev pub link_at : List (Option ℕ) → ℕ → Option ℕ
 link_at links i = slice_index_or links i None
 
@@ -18,12 +18,12 @@ walk (suc n) next None = []
 walk (suc n) next (Some id) = id ∷ walk n next (link_at next id)
 
 -- the lists that the heads and the links to the next make
-abbrev pub pool_of : List (Option ℕ) → List (Option ℕ) → Pool
+abbrev pub pool_of : List (Option ℕ) → List (Option ℕ) → ListsView
 pool_of heads next = record { ids = length next; lists = map (walk (length next) next) heads }
 
 -- the links are those of the pool's lists: heads and places say which id is first and where an id is,
 -- the links back are those to the next the other way round, and an id in no list has no link
-pub record IsLinkedAs (heads next prev places : List (Option ℕ)) (p : Pool) : Type 0 where
+pub record IsLinkedAs (heads next prev places : List (Option ℕ)) (p : ListsView) : Type 0 where
   pub proper : IsProper p
   pub list_count : length heads ≡ length p.lists
   pub next_count : length next ≡ p.ids

@@ -1,4 +1,4 @@
-ghost use Rattle.std.specs.Prelude.{◌≡◌, ℕ, ◌+◌, ◌<◌, ◌↔◌, length, IsSome, IsTrue, IfOk, IfSome, slice_get};
+ghost use Rattle.std.specs.Prelude.{◌≡◌, ℕ, ◌+◌, ◌<◌, ◌↔◌, false, [], length, None, IsSome, IsTrue, IfOk, IfSome, slice_get};
 ghost use Rattle.std.specs.Option.{ForSome};
 ghost use Rattle.link_lists.specs.Pool.{has, list_of, where_of, first_of, next_of, empty_pool, inserted, removed, IsProper, SetsOnly};
 ghost use Rattle.link_lists.specs.Links.{with_link};
@@ -9,8 +9,8 @@ use std::marker::Model;
 /// Doubly linked lists over one pool of ids, as the area lists of Quake's world: each id is in one
 /// list at most, and there once.
 ///
-/// Ids and lists are counted from 0. Only `new` takes memory, and each call but `new` and
-/// `copy_from` takes constant time.
+/// Ids and lists are counted from 0. Only `new` takes memory. `new` and `copy_from` take time for each id and list, and
+/// every other call takes constant time.
 #[derive(Debug, Drop)]
 pub struct Lists {
     heads: Vec<Option<u16>>,
@@ -21,10 +21,10 @@ pub struct Lists {
 
 // Clauses see how many ids there are, and the ids of each list in order.
 impl Model for Lists {
-    ghost use Rattle.link_lists.specs.Pool.{Pool};
+    ghost use Rattle.link_lists.specs.Pool.{ListsView};
     ghost use Rattle.link_lists.specs.Links.{pool_of, IsLinkedAs};
 
-    ghost Value = { Pool };
+    ghost Value = { ListsView };
 
     ghost view = { λ l. pool_of l.heads.items l.next.items };
 
@@ -96,6 +96,7 @@ impl Lists {
     pub fn where_is(&self, id: u16) -> Option<u8>
         ensures place { result ≡ where_of self.now id }
         ensures member { (list : ℕ) → (result ≡ Some list) ↔ IsTrue (has (list_of self.now list) id) }
+        ensures none { (result ≡ None) ↔ ((list : ℕ) → has (list_of self.now list) id ≡ false) }
         ensures proper { IsProper self.now }
     {
         self.places.get(usize::from(id)).copied().flatten()
@@ -105,6 +106,7 @@ impl Lists {
     /// counts as empty.
     pub fn first(&self, list: u8) -> Option<u16>
         ensures first { result ≡ first_of self.now list }
+        ensures none { (result ≡ None) ↔ (list_of self.now list ≡ []) }
         ensures member { IfSome result (λ id. where_of self.now id ≡ Some list) }
         ensures proper { IsProper self.now }
     {
@@ -116,16 +118,18 @@ impl Lists {
         requires { IsSome (where_of self.now id) }
         ensures next { result ≡ next_of self.now id }
 
-        // Wherever the id stands, the result is what stands at the next place.
+        // Wherever the id is in a list, the result is what is at the next place, and none exactly at the last.
         ensures follows { (list place : ℕ) → slice_get (list_of self.now list) place ≡ Some id
             → result ≡ slice_get (list_of self.now list) (place + 1) }
+        ensures none { (list place : ℕ) → slice_get (list_of self.now list) place ≡ Some id
+            → (result ≡ None) ↔ (length (list_of self.now list) ≡ place + 1) }
         ensures same_list { IfSome result (λ other. where_of self.now other ≡ where_of self.now id) }
         ensures proper { IsProper self.now }
     {
         self.next[usize::from(id)]
     }
 
-    /// Makes these lists as the others are, the order of each too. Takes no memory.
+    /// Makes these lists equal to the others, the order of each too. It takes no memory, and time for each id and list.
     pub fn copy_from(&mut self, o: &Lists)
         requires ids { self.old.ids ≡ o.now.ids }
         requires lists { length self.old.lists ≡ length o.now.lists }
@@ -163,6 +167,15 @@ mod tests {
         assert_eq!(rt; lists.where_is(3), Some(1));
         assert_eq!(rt; lists.where_is(0), None);
         assert_eq!(rt; lists.first(0), None);
+        Ok(())
+    }
+
+    #[test]
+    fn lists_of_a_world_are_as_many_as_its_nodes_ask_for(rt: HostRuntime) -> Result<(), Fail> {
+        let mut lists = Lists::new(rt.alloc(), 256, 62)?;
+        lists.insert(61, 255);
+        assert_eq!(rt; lists.where_is(255), Some(61));
+        assert_eq!(rt; lists.first(61), Some(255));
         Ok(())
     }
 }

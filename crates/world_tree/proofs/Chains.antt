@@ -2,7 +2,7 @@
 use Rattle.std.proofs.Common.{◌≡◌, ◌≢◌, ℕ, true, if◌then◌else◌, nat_eq, List, [], ◌∷◌, Option, Some, None, slice_get, sym, refl, ap, ◌∙◌, inl, inr, arith}
 use Rattle.std.specs.List.{IsDistinct}
 use Rattle.std.proofs.lemmas.Bool.{cases_eq, or_cases, eqb-true, eq-eqb, ne_eqb, false≢true}
-use Rattle.link_lists.specs.Pool.{Pool, has, after, list_of, where_of, first_of, next_of, IsProper}
+use Rattle.link_lists.specs.Pool.{ListsView, has, after, list_of, where_of, first_of, next_of, IsProper}
 use Rattle.link_lists.proofs.OneList.{rest_lacks_first, rest_is_distinct, has-slice_get, has-after}
 use Rattle.link_lists.proofs.Pools.{has-where_of, next_of-in}
 
@@ -53,11 +53,11 @@ rest-next (x ∷ xs) id distinct member =
     ]
 
 -- a walk begins with the whole list
-pub rest-begins : (p : Pool) (k : ℕ) (at : Option ℕ) → at ≡ first_of p k → rest_at at (list_of p k) ≡ list_of p k
+pub rest-begins : (p : ListsView) (k : ℕ) (at : Option ℕ) → at ≡ first_of p k → rest_at at (list_of p k) ≡ list_of p k
 rest-begins p k at e = rw e (rest-first (list_of p k))
 
 -- and goes on with what is left after an id
-pub rest-goes_on : (p : Pool) (k id : ℕ) (at : Option ℕ)
+pub rest-goes_on : (p : ListsView) (k id : ℕ) (at : Option ℕ)
     → IsProper p → where_of p id ≡ Some k → at ≡ next_of p id
     → rest_at (Some id) (list_of p k) ≡ id ∷ rest_at at (list_of p k)
 rest-goes_on p k id at proper there e =

@@ -16,10 +16,10 @@ use Rattle.entity_recs.specs.declared.rec.Rec.{Rec}
 use Rattle.entity_recs.specs.Kinds.{is_solid}
 use Rattle.entity_recs.specs.Bodies.{body_of, abs_of}
 use Rattle.entity_recs.proofs.Standing.{records_have_boxes}
-use Rattle.link_lists.specs.Pool.{Pool, has, list_of}
+use Rattle.link_lists.specs.Pool.{ListsView, has, list_of}
 use Rattle.link_lists.proofs.Pools.{has-where_of, where_of-has}
 use Rattle.world_tree.specs.Live.{record_at, live_in}
-use Rattle.world_tree.specs.Worlds.{LinkedWorld, record_of, list_for, IsLinked}
+use Rattle.world_tree.specs.Worlds.{WorldView, record_of, list_for, IsLinked}
 use Rattle.world_tree.specs.Queries.{is_near, near_in, is_touched, touching_in, solids_in, is_free, nodes_for, looks_for}
 use Rattle.world_tree.specs.Walks.{touches_at, marked, ids_at, triggers_at, marked_record, picked, is_in_the_way}
 use Rattle.world_tree.proofs.Rounds.{looks_at, passing-has, passing-below}
@@ -82,14 +82,14 @@ picked-is test (mark ∷ marks) (Some r ∷ records) same tells =
     by_test false = refl
 
 -- an id is among those of some nodes where one of them has it
-has-ids_at : (lists : Pool) (nodes : List ℕ) (i : ℕ) → has (ids_at lists nodes) i ≡ list_any (λ node. has (list_of lists node ++ list_of lists (31 + node)) i) nodes
+has-ids_at : (lists : ListsView) (nodes : List ℕ) (i : ℕ) → has (ids_at lists nodes) i ≡ list_any (λ node. has (list_of lists node ++ list_of lists (31 + node)) i) nodes
 unfolding ids_at
 has-ids_at lists [] i = refl
 has-ids_at lists (node ∷ nodes) i =
     list_any-append (nat_eq i) (list_of lists node ++ list_of lists (31 + node)) (ids_at lists nodes)
     ∙ ap (λ (b : Bool). has (list_of lists node ++ list_of lists (31 + node)) i || b) (has-ids_at lists nodes i)
 
-has-triggers_at : (lists : Pool) (nodes : List ℕ) (i : ℕ) → has (triggers_at lists nodes) i ≡ list_any (λ node. has (list_of lists (31 + node)) i) nodes
+has-triggers_at : (lists : ListsView) (nodes : List ℕ) (i : ℕ) → has (triggers_at lists nodes) i ≡ list_any (λ node. has (list_of lists (31 + node)) i) nodes
 unfolding triggers_at
 has-triggers_at lists [] i = refl
 has-triggers_at lists (node ∷ nodes) i =
@@ -97,7 +97,7 @@ has-triggers_at lists (node ∷ nodes) i =
     ∙ ap (λ (b : Bool). has (list_of lists (31 + node)) i || b) (has-triggers_at lists nodes i)
 
 -- a linked world and a region of ordered boxes
-module _ (w : LinkedWorld) (linked : IsLinked w) (region : List Bounds) (ordered : All IsOrdered region) where
+module _ (w : WorldView) (linked : IsLinked w) (region : List Bounds) (ordered : All IsOrdered region) where
   abbrev nodes : List ℕ
   nodes = nodes_for w.tree region
 
@@ -229,7 +229,7 @@ module _ (w : LinkedWorld) (linked : IsLinked w) (region : List Bounds) (ordered
       and_true false = refl
 
 -- what `touching` gathers
-pub triggers-found : (w : LinkedWorld) → IsLinked w → (abs : Bounds) → All IsOrdered (abs ∷ [])
+pub triggers-found : (w : WorldView) → IsLinked w → (abs : Bounds) → All IsOrdered (abs ∷ [])
     → picked (marked w.records (abs ∷ []) (triggers_at w.lists (nodes_for w.tree (abs ∷ []))) (replicate 256 false)) w.records ≡ touching_in w.records abs
 triggers-found w linked abs ordered =
     let all = marked w.records (abs ∷ []) (triggers_at w.lists (nodes_for w.tree (abs ∷ []))) (replicate 256 false) in
@@ -255,7 +255,7 @@ in_the_way-is body except (Some r ∷ records) =
     by_test false = refl
 
 -- what the steps of `near` come to
-pub near-is : (w : LinkedWorld) → IsLinked w → (region : List Bounds) → IsRegion region → (except leaves nodes : ℕ)
+pub near-is : (w : WorldView) → IsLinked w → (region : List Bounds) → IsRegion region → (except leaves nodes : ℕ)
     → (walked places : List (Option Rec)) (marks unmarked : List Bool) (out : List Rec)
     → leaves ≡ leaves_of w.tree region → nodes ≡ visited_of 4 leaves → walked ≡ w.records
     → marks ≡ marked walked region (ids_at w.lists (filter (has_bit nodes) (range_with_len 0 31))) (replicate 256 false)
@@ -271,7 +271,7 @@ near-is w linked region is_region except leaves nodes walked places marks unmark
     ∙ near-found w linked region (λ k d below. (is_region.boxes k d below).ordered) except
 
 -- what the steps of `touching` come to
-pub touching-is : (w : LinkedWorld) → IsLinked w → (abs : Bounds) → (region : List Bounds) → region ≡ abs ∷ [] → IsRegion region → (leaves nodes : ℕ)
+pub touching-is : (w : WorldView) → IsLinked w → (abs : Bounds) → (region : List Bounds) → region ≡ abs ∷ [] → IsRegion region → (leaves nodes : ℕ)
     → (walked places : List (Option Rec)) (marks : List Bool) (out : List Rec)
     → leaves ≡ leaves_of w.tree region → nodes ≡ visited_of 4 leaves → walked ≡ w.records
     → marks ≡ marked walked region (triggers_at w.lists (filter (has_bit nodes) (range_with_len 0 31))) (replicate 256 false)
@@ -289,7 +289,7 @@ touching-is w linked abs region one is_region leaves nodes walked places marks o
     ∙ triggers-found w linked abs ordered
 
 -- how many looks that is
-pub looks-are : (w : LinkedWorld) → IsLinked w → (abs : Bounds) → (region : List Bounds) → region ≡ abs ∷ [] → (leaves nodes before after : ℕ)
+pub looks-are : (w : WorldView) → IsLinked w → (abs : Bounds) → (region : List Bounds) → region ≡ abs ∷ [] → (leaves nodes before after : ℕ)
     → leaves ≡ leaves_of w.tree region → nodes ≡ visited_of 4 leaves
     → after ≡ before + looks_at w.lists (filter (has_bit nodes) (range_with_len 0 31))
     → after ≡ before + looks_for w abs

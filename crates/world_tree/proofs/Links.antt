@@ -4,15 +4,15 @@ use Rattle.std.specs.Option.{option_map}
 use Rattle.std.proofs.lemmas.Bool.{cases_eq, cases_lt}
 use Rattle.std.proofs.lemmas.List.{get_or_past, get_or-replicate, length-map, length-replicate, length-set}
 use Rattle.std.proofs.lemmas.Option.{none-some, same_Some}
-use Rattle.areanode.specs.Trees.{AreaTree}
+use Rattle.areanode.specs.Trees.{TreeView}
 use Rattle.entity_recs.specs.declared.kind.Kind.{Kind}
 use Rattle.entity_recs.specs.declared.kind.Kind.TheVariants.{Player, Ammo, Gem, Teleporter, Goal, Lift}
 use Rattle.entity_recs.specs.declared.rec.Rec.{Rec}
 use Rattle.entity_recs.specs.Records.{IsIdOf, IsRecord}
-use Rattle.link_lists.specs.Pool.{Pool, where_of, empty_pool, inserted, removed, IsProper, SetsOnly}
+use Rattle.link_lists.specs.Pool.{ListsView, where_of, empty_pool, inserted, removed, IsProper, SetsOnly}
 use Rattle.link_lists.proofs.Pools.{IsProper-empty, where_of-empty}
 use Rattle.world_tree.specs.Live.{record_at, IsEntry, AreEntries}
-use Rattle.world_tree.specs.Worlds.{LinkedWorld, world_of, list_for, IsLinked}
+use Rattle.world_tree.specs.Worlds.{WorldView, world_of, list_for, IsLinked}
 
 -- the ids of records are below 256
 id_of_kind-below : (kind : Kind) (id : ℕ) → IsIdOf kind id → id < 256
@@ -33,13 +33,13 @@ record_at-empty n id = elim (cases_lt id n) [
   | inr past ↦ get_or_past (replicate n None) id None (simp length-replicate past)
 ]
 
-pub linked_empty : (tree : AreaTree) (records : List (Option Rec)) (lists : Pool)
+pub linked_empty : (tree : TreeView) (records : List (Option Rec)) (lists : ListsView)
     → tree.depth ≡ 4 → records ≡ replicate 256 None → lists ≡ empty_pool 256 62 → IsLinked (world_of tree records lists)
 linked_empty tree records lists depth none empty = record {
   depth = depth;
   places = ap (λ (rs : List (Option Rec)). length rs) none ∙ length-replicate {A = Option Rec} 256 None;
-  ids = ap (λ (p : Pool). p.ids) empty;
-  list_count = ap (λ (p : Pool). length p.lists) empty ∙ length-replicate {A = List ℕ} 62 [];
+  ids = ap (λ (p : ListsView). p.ids) empty;
+  list_count = ap (λ (p : ListsView). length p.lists) empty ∙ length-replicate {A = List ℕ} 62 [];
   entries = λ id r is. absurd (none-some r (sym (ap (λ rs. record_at rs id) none ∙ record_at-empty 256 id) ∙ is));
   proper = subst IsProper (sym empty) (IsProper-empty 256 62);
   linked = λ id.
@@ -48,7 +48,7 @@ linked_empty tree records lists depth none empty = record {
 }
 
 -- a record put in where its id isn't live
-module _ (w : LinkedWorld) (linked : IsLinked w) where
+module _ (w : WorldView) (linked : IsLinked w) where
   entries_with : (r : Rec) → IsRecord r → AreEntries (slice_set w.records r.id (Some r))
   entries_with r is id other e = elim (cases_eq id r.id) [
     | inl same ↦
@@ -58,15 +58,15 @@ module _ (w : LinkedWorld) (linked : IsLinked w) where
     | inr apart ↦ linked.entries id other (sym (get_or-set_other w.records r.id id (Some r) None apart) ∙ e)
   ]
 
-  linked_with_own : (r : Rec) (lists : Pool) (k : ℕ)
+  linked_with_own : (r : Rec) (lists : ListsView) (k : ℕ)
       → IsRecord r → k ≡ list_for w.tree r → lists ≡ inserted w.lists k r.id
       → SetsOnly w.lists lists r.id (Some k) → IsProper lists
       → IsLinked (world_of w.tree (slice_set w.records r.id (Some r)) lists)
   linked_with_own r lists k is list made sets proper = record {
     depth = linked.depth;
     places = length-set w.records r.id (Some r) ∙ linked.places;
-    ids = ap (λ (p : Pool). p.ids) made ∙ linked.ids;
-    list_count = ap (λ (p : Pool). length p.lists) made ∙ length-set w.lists.lists k _ ∙ linked.list_count;
+    ids = ap (λ (p : ListsView). p.ids) made ∙ linked.ids;
+    list_count = ap (λ (p : ListsView). length p.lists) made ∙ length-set w.lists.lists k _ ∙ linked.list_count;
     entries = entries_with r is;
     proper = proper;
     linked = λ id. elim (cases_eq id r.id) [
@@ -81,7 +81,7 @@ module _ (w : LinkedWorld) (linked : IsLinked w) where
     ];
   }
 
-  pub linked_with : (r : Rec) (lists : Pool) (k place : ℕ)
+  pub linked_with : (r : Rec) (lists : ListsView) (k place : ℕ)
       → place ≡ r.id → IsRecord r → k ≡ list_for w.tree r → lists ≡ inserted w.lists k r.id
       → SetsOnly w.lists lists r.id (Some k) → IsProper lists
       → IsLinked (world_of w.tree (slice_set w.records place (Some r)) lists)
@@ -95,14 +95,14 @@ module _ (w : LinkedWorld) (linked : IsLinked w) where
     | inr past ↦ get_or_past (slice_set w.records id None) id None (omega (arith, length-set w.records id None, past))
   ]
 
-  linked_without_own : (id : ℕ) (lists : Pool)
+  linked_without_own : (id : ℕ) (lists : ListsView)
       → lists ≡ removed w.lists id → SetsOnly w.lists lists id None → IsProper lists
       → IsLinked (world_of w.tree (slice_set w.records id None) lists)
   linked_without_own id lists made sets proper = record {
     depth = linked.depth;
     places = length-set w.records id None ∙ linked.places;
-    ids = ap (λ (p : Pool). p.ids) made ∙ linked.ids;
-    list_count = ap (λ (p : Pool). length p.lists) made ∙ (simp length-map) ∙ linked.list_count;
+    ids = ap (λ (p : ListsView). p.ids) made ∙ linked.ids;
+    list_count = ap (λ (p : ListsView). length p.lists) made ∙ (simp length-map) ∙ linked.list_count;
     entries = λ other r e. elim (cases_eq other id) [
       | inl same ↦ absurd (none-some r (sym (record_at-emptied id) ∙ subst (λ i. record_at (slice_set w.records id None) i ≡ Some r) same e))
       | inr apart ↦ linked.entries other r (sym (get_or-set_other w.records id other None None apart) ∙ e)
@@ -118,7 +118,7 @@ module _ (w : LinkedWorld) (linked : IsLinked w) where
     ];
   }
 
-  pub linked_without : (id place : ℕ) (lists : Pool)
+  pub linked_without : (id place : ℕ) (lists : ListsView)
       → place ≡ id → lists ≡ removed w.lists id → SetsOnly w.lists lists id None → IsProper lists
       → IsLinked (world_of w.tree (slice_set w.records place None) lists)
   linked_without id place lists own made sets proper =

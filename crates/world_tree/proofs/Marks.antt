@@ -2,17 +2,17 @@
 use Rattle.std.proofs.Common.{◌≡◌, ℕ, suc, ◌+◌, ◌<◌, Bool, List, length, Option, Some, None, IsSome, slice_set, sym, refl, ap, ◌∙◌, subst, arith}
 use Rattle.arena_geo.specs.Bounds.{Bounds}
 use Rattle.entity_recs.specs.declared.rec.Rec.{Rec}
-use Rattle.link_lists.specs.Pool.{Pool, list_of, where_of, first_of, next_of, IsProper}
+use Rattle.link_lists.specs.Pool.{ListsView, list_of, where_of, first_of, next_of, IsProper}
 use Rattle.link_lists.proofs.Pools.{has-where_of, where_of-first, where_of-next}
 use Rattle.world_tree.specs.Walks.{touches_at, marked}
 use Rattle.world_tree.proofs.Chains.{rest_at, rest-begins, rest-goes_on}
 
 -- the walk stands at an id of the list or past its end, and to mark what is left gives what to mark the whole list would have given
-pub record KeepsMarking (lists : Pool) (list : ℕ) (records : List (Option Rec)) (region : List Bounds) (start : List Bool) (at : Option ℕ) (marks : List Bool) : Type 0 where
+pub record KeepsMarking (lists : ListsView) (list : ℕ) (records : List (Option Rec)) (region : List Bounds) (start : List Bool) (at : Option ℕ) (marks : List Bool) : Type 0 where
   pub member : (id : ℕ) → at ≡ Some id → where_of lists id ≡ Some list
   pub left : marked records region (rest_at at (list_of lists list)) marks ≡ marked records region (list_of lists list) start
 
-module _ (lists : Pool) (list : ℕ) (records : List (Option Rec)) (region : List Bounds) (start : List Bool) where
+module _ (lists : ListsView) (list : ℕ) (records : List (Option Rec)) (region : List Bounds) (start : List Bool) where
   pub marking-begins : (at : Option ℕ) → IsProper lists → at ≡ first_of lists list → KeepsMarking lists list records region start at start
   marking-begins at proper first = record {
     member = λ id e. where_of-first lists list id proper (sym first ∙ e);
@@ -60,11 +60,11 @@ module _ (lists : Pool) (list : ℕ) (records : List (Option Rec)) (region : Lis
   marking-ends at marks keeps none = subst (λ o. marked records region (rest_at o (list_of lists list)) marks ≡ marked records region (list_of lists list) start) none keeps.left
 
 -- a walk that marks, and counts each id that it comes to
-pub record KeepsCounting (lists : Pool) (list : ℕ) (records : List (Option Rec)) (region : List Bounds) (start : List Bool) (before : ℕ) (at : Option ℕ) (marks : List Bool) (steps : ℕ) : Type 0 where
+pub record KeepsCounting (lists : ListsView) (list : ℕ) (records : List (Option Rec)) (region : List Bounds) (start : List Bool) (before : ℕ) (at : Option ℕ) (marks : List Bool) (steps : ℕ) : Type 0 where
   pub marking : KeepsMarking lists list records region start at marks
   pub counted : steps + length (rest_at at (list_of lists list)) ≡ before + length (list_of lists list)
 
-module _ (lists : Pool) (list : ℕ) (records : List (Option Rec)) (region : List Bounds) (start : List Bool) (before : ℕ) where
+module _ (lists : ListsView) (list : ℕ) (records : List (Option Rec)) (region : List Bounds) (start : List Bool) (before : ℕ) where
   pub counting-begins : (at : Option ℕ) → IsProper lists → at ≡ first_of lists list → KeepsCounting lists list records region start before at start before
   counting-begins at proper first = record {
     marking = marking-begins lists list records region start at proper first;

@@ -1,13 +1,14 @@
 -- That the live ids rise, and that they are those that have a record.
-use Rattle.std.proofs.Common.{◌≡◌, ℕ, zero, suc, ◌+◌, ◌<◌, ◌≤◌, Bool, false, ◌||◌, nat_eq, List, [], ◌∷◌, Option, Some, None, is_some, slice_index, zero-add, sym, refl, ap, subst, ◌∙◌, arith}
+use Rattle.std.proofs.Common.{◌≡◌, ℕ, zero, suc, ◌+◌, ◌<◌, ◌≤◌, Bool, true, false, ◌||◌, nat_eq, map, filter, List, [], ◌∷◌, Option, Some, None, is_some, slice_index, zero-add, sym, refl, ap, subst, ◌∙◌, arith}
 use Rattle.std.specs.List.{cons_option, filter_map}
 use Rattle.std.specs.List.Sorted.{IsStrictlyIncreasing}
 use Rattle.std.proofs.lemmas.Bool.{eq-eqb, ne_eqb, or_from, or_left}
 use Rattle.entity_recs.specs.declared.rec.Rec.{Rec}
 use Rattle.link_lists.specs.Pool.{has}
 use Rattle.world_tree.specs.Live.{record_at, live_in, ids_of}
-use Rattle.world_tree.specs.Worlds.{record_of}
-use Rattle.world_tree.specs.Laws.{LiveIdsRise, LiveIdsHaveRecords, LiveRecordsById}
+use Rattle.world_tree.specs.Worlds.{WorldView, record_of, IsLinked}
+use Rattle.world_tree.specs.Laws.{LiveIdsRise, LiveIdsHaveRecords, LiveRecordsById, HaveRisingIds, NearIdsRise, TouchingIdsRise}
+use Rattle.world_tree.specs.Queries.{is_near, is_touched}
 
 -- the first number is at least this, and each later one is above the one before it
 abbrev RisesFrom : ℕ → List ℕ → Type 0
@@ -81,3 +82,27 @@ ids-are start (Some r ∷ records) own (suc i) =
 pub live_ids_have_records : LiveIdsHaveRecords
 live_ids_have_records w linked id =
     ap (has (ids_of w.records)) (sym (zero-add id)) ∙ ids-are 0 w.records (λ i r e. (linked.entries i r e).own_id ∙ omega arith) id
+
+-- ---- what is picked out of rising records rises
+
+-- with or without one id before them
+kept : (low : ℕ) (keep : Bool) (r : Rec) (p : Rec → Bool) (records : List Rec) → p r ≡ keep → low ≤ r.id → RisesFrom (r.id + 1) (map (λ x. x.id) (filter p records))
+    → RisesFrom low (map (λ x. x.id) (filter p (r ∷ records)))
+kept low true r p records is above rises = rw is (above, rises)
+kept low false r p records is above rises = rw is (lower (r.id + 1) low (map (λ x. x.id) (filter p records)) (omega (arith, above)) rises)
+
+filter-rises : (p : Rec → Bool) (low : ℕ) (records : List Rec) → RisesFrom low (map (λ x. x.id) records) → RisesFrom low (map (λ x. x.id) (filter p records))
+filter-rises p low [] rises = tt
+filter-rises p low (r ∷ records) rises = kept low (p r) r p records refl rises.0 (filter-rises p (r.id + 1) records rises.1)
+
+-- the live records that pass a test have rising ids
+passing_rise : (w : WorldView) (p : Rec → Bool) → IsLinked w → HaveRisingIds (filter p (live_in w.records))
+passing_rise w p linked =
+    increasing 0 (map (λ r. r.id) (filter p (live_in w.records)))
+    (filter-rises p 0 (live_in w.records) (ids-rise 0 w.records (λ i r e. (linked.entries i r e).own_id ∙ omega arith)))
+
+pub near_ids_rise : NearIdsRise
+near_ids_rise w region except linked = passing_rise w (is_near region except) linked
+
+pub touching_ids_rise : TouchingIdsRise
+touching_ids_rise w abs linked = passing_rise w (is_touched abs) linked

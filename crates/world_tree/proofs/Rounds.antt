@@ -10,7 +10,7 @@ use Rattle.std.proofs.lemmas.Grind.{flat_map-append}
 use Rattle.arena_geo.specs.Bounds.{Bounds}
 use Rattle.areanode.specs.Laws.{SomeBelow}
 use Rattle.entity_recs.specs.declared.rec.Rec.{Rec}
-use Rattle.link_lists.specs.Pool.{Pool, list_of}
+use Rattle.link_lists.specs.Pool.{ListsView, list_of}
 use Rattle.world_tree.specs.Walks.{marked, ids_at, triggers_at}
 
 -- the numbers below n that pass
@@ -48,19 +48,19 @@ pub marked-none : (records : List (Option Rec)) (region : List Bounds) (marks : 
 unfolding marked
 marked-none records region marks = refl
 
-ids_at-last : (lists : Pool) (nodes : List ℕ) (node : ℕ) → ids_at lists (nodes ++ node ∷ []) ≡ ids_at lists nodes ++ (list_of lists node ++ list_of lists (31 + node))
+ids_at-last : (lists : ListsView) (nodes : List ℕ) (node : ℕ) → ids_at lists (nodes ++ node ∷ []) ≡ ids_at lists nodes ++ (list_of lists node ++ list_of lists (31 + node))
 unfolding ids_at
 ids_at-last lists nodes node =
     flat_map-append (λ n. list_of lists n ++ list_of lists (31 + n)) nodes (node ∷ [])
     ∙ ap (λ (xs : List ℕ). ids_at lists nodes ++ xs) (append-nil (list_of lists node ++ list_of lists (31 + node)))
 
-triggers_at-last : (lists : Pool) (nodes : List ℕ) (node : ℕ) → triggers_at lists (nodes ++ node ∷ []) ≡ triggers_at lists nodes ++ list_of lists (31 + node)
+triggers_at-last : (lists : ListsView) (nodes : List ℕ) (node : ℕ) → triggers_at lists (nodes ++ node ∷ []) ≡ triggers_at lists nodes ++ list_of lists (31 + node)
 unfolding triggers_at
 triggers_at-last lists nodes node =
     flat_map-append (λ n. list_of lists (31 + n)) nodes (node ∷ [])
     ∙ ap (λ (xs : List ℕ). triggers_at lists nodes ++ xs) (append-nil (list_of lists (31 + node)))
 
-module _ (lists : Pool) (records : List (Option Rec)) (region : List Bounds) (start : List Bool) (test : ℕ → Bool) where
+module _ (lists : ListsView) (records : List (Option Rec)) (region : List Bounds) (start : List Bool) (test : ℕ → Bool) where
   pub round-begins : start ≡ marked records region (ids_at lists (passing test 0)) start
   unfolding marked ids_at
   round-begins = refl
@@ -84,21 +84,21 @@ module _ (lists : Pool) (records : List (Option Rec)) (region : List Bounds) (st
   round-skips node marks isnt before = before ∙ ap (λ nodes. marked records region (ids_at lists nodes) start) (sym (passing-skips test node isnt))
 
 -- how many looks there are at the triggers of these nodes
-abbrev pub looks_at : Pool → List ℕ → ℕ
+abbrev pub looks_at : ListsView → List ℕ → ℕ
 looks_at lists nodes = length nodes + sum_by (λ node. length (list_of lists (31 + node))) nodes
 
-looks_at-last : (lists : Pool) (nodes : List ℕ) (node : ℕ) → looks_at lists (nodes ++ node ∷ []) ≡ looks_at lists nodes + (1 + length (list_of lists (31 + node)))
+looks_at-last : (lists : ListsView) (nodes : List ℕ) (node : ℕ) → looks_at lists (nodes ++ node ∷ []) ≡ looks_at lists nodes + (1 + length (list_of lists (31 + node)))
 looks_at-last lists nodes node =
     let longer = length-append nodes (node ∷ []) in
     let sums = sum_by-append (λ n. length (list_of lists (31 + n))) nodes (node ∷ []) in
     omega arith
 
 -- the round over the triggers keeps the marks and the count
-pub record KeepsRound (lists : Pool) (records : List (Option Rec)) (region : List Bounds) (start : List Bool) (before : ℕ) (nodes : List ℕ) (marks : List Bool) (steps : ℕ) : Type 0 where
+pub record KeepsRound (lists : ListsView) (records : List (Option Rec)) (region : List Bounds) (start : List Bool) (before : ℕ) (nodes : List ℕ) (marks : List Bool) (steps : ℕ) : Type 0 where
   pub marking : marks ≡ marked records region (triggers_at lists nodes) start
   pub counted : steps ≡ before + looks_at lists nodes
 
-module _ (lists : Pool) (records : List (Option Rec)) (region : List Bounds) (start : List Bool) (before : ℕ) (test : ℕ → Bool) where
+module _ (lists : ListsView) (records : List (Option Rec)) (region : List Bounds) (start : List Bool) (before : ℕ) (test : ℕ → Bool) where
   pub counted_round-begins : KeepsRound lists records region start before (passing test 0) start before
   unfolding marked triggers_at
   counted_round-begins = record { marking = refl; counted = omega arith }

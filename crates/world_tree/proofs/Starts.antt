@@ -8,15 +8,15 @@ use Rattle.std.proofs.lemmas.Option.{none-some}
 use Rattle.arena_geo.specs.Bounds.{Bounds}
 use Rattle.entity_recs.specs.declared.rec.Rec.{Rec}
 use Rattle.entity_recs.specs.Records.{IsRecord}
-use Rattle.areanode.specs.Trees.{AreaTree}
-use Rattle.link_lists.specs.Pool.{Pool, empty_pool}
+use Rattle.areanode.specs.Trees.{TreeView}
+use Rattle.link_lists.specs.Pool.{ListsView, empty_pool}
 use Rattle.link_lists.proofs.OneList.{rest_lacks_first, rest_is_distinct}
 use Rattle.world_tree.specs.Live.{record_at}
-use Rattle.world_tree.specs.Worlds.{LinkedWorld, world_of, record_of, IsLinked, empty_world, with_record, with_records}
+use Rattle.world_tree.specs.Worlds.{WorldView, world_of, record_of, IsLinked, empty_world, with_record, with_records}
 use Rattle.world_tree.proofs.Links.{id-below, record_at-empty, linked_empty}
 
 -- the world has the first records, and each id has the one of them with that id
-pub record KeepsAdding (bounds : Bounds) (start : List Rec) (i : ℕ) (w : LinkedWorld) : Type 0 where
+pub record KeepsAdding (bounds : Bounds) (start : List Rec) (i : ℕ) (w : WorldView) : Type 0 where
   pub made : w ≡ with_records (empty_world bounds) (take i start)
   pub records : (id : ℕ) → record_of w id ≡ find (λ r. r.id == id) (take i start)
   pub linked : IsLinked w
@@ -36,7 +36,7 @@ find-last_other test (y ∷ ys) x fails = elim (cases_Bool (test y)) [
   | inr later ↦ rw later (find-last_other test ys x fails)
 ]
 
-fold-last : (w : LinkedWorld) (xs : List Rec) (x : Rec) → with_records w (xs ++ x ∷ []) ≡ with_record (with_records w xs) x
+fold-last : (w : WorldView) (xs : List Rec) (x : Rec) → with_records w (xs ++ x ∷ []) ≡ with_record (with_records w xs) x
 fold-last w [] x = refl
 fold-last w (y ∷ ys) x = fold-last (with_record w y) ys x
 
@@ -58,20 +58,20 @@ find-before (x ∷ xs) (suc i) d apart below =
     rw differs (find-before xs i d (rest_is_distinct x.id (map (λ r. r.id) xs) apart) within)
 
 -- a world is its parts
-world-is : (w v : LinkedWorld) → w.tree ≡ v.tree → w.records ≡ v.records → w.lists ≡ v.lists → w ≡ v
+world-is : (w v : WorldView) → w.tree ≡ v.tree → w.records ≡ v.records → w.lists ≡ v.lists → w ≡ v
 world-is w v tree records lists =
     ap (λ t. world_of t w.records w.lists) tree ∙ ap (λ rs. world_of v.tree rs w.lists) records ∙ ap (λ p. world_of v.tree v.records p) lists
 
-pub adding-begins : (bounds : Bounds) (start : List Rec) (tree : AreaTree) (records : List (Option Rec)) (lists : Pool)
+pub adding-begins : (bounds : Bounds) (start : List Rec) (tree : TreeView) (records : List (Option Rec)) (lists : ListsView)
     → tree ≡ record { depth = 4; bounds = bounds } → records ≡ replicate 256 None → lists ≡ empty_pool 256 62
     → KeepsAdding bounds start 0 (world_of tree records lists)
 adding-begins bounds start tree records lists tree_is none empty = record {
   made = world-is (world_of tree records lists) (empty_world bounds) tree_is none empty;
   records = λ id. ap (λ rs. record_at rs id) none ∙ record_at-empty 256 id;
-  linked = linked_empty tree records lists (ap (λ (t : AreaTree). t.depth) tree_is) none empty;
+  linked = linked_empty tree records lists (ap (λ (t : TreeView). t.depth) tree_is) none empty;
 }
 
-pub adding-goes_on : (bounds : Bounds) (start : List Rec) (i : ℕ) (w more : LinkedWorld) (d r : Rec) → i < length start
+pub adding-goes_on : (bounds : Bounds) (start : List Rec) (i : ℕ) (w more : WorldView) (d r : Rec) → i < length start
     → slice_index_or start i d ≡ r → IsRecord r → KeepsAdding bounds start i w → record_of w r.id ≡ None → more ≡ with_record w r → IsLinked more → KeepsAdding bounds start (i + 1) more
 adding-goes_on bounds start i w more d r below here is keeps free does linked =
     let longer : take (i + 1) start ≡ take i start ++ r ∷ [] = take_more start i d below ∙ ap (λ (x : Rec). take i start ++ x ∷ []) here in
@@ -96,15 +96,15 @@ adding-goes_on bounds start i w more d r below here is keeps free does linked =
     }
 
 -- at the end the world has all the records
-pub all-made : (bounds : Bounds) (start : List Rec) (i : ℕ) (w : LinkedWorld) → length start ≤ i → KeepsAdding bounds start i w → w ≡ with_records (empty_world bounds) start
+pub all-made : (bounds : Bounds) (start : List Rec) (i : ℕ) (w : WorldView) → length start ≤ i → KeepsAdding bounds start i w → w ≡ with_records (empty_world bounds) start
 all-made bounds start i w past keeps = keeps.made ∙ ap (with_records (empty_world bounds)) (take_all i start past)
 
-pub all-found : (bounds : Bounds) (start : List Rec) (i : ℕ) (w : LinkedWorld) → length start ≤ i → KeepsAdding bounds start i w → (id : ℕ) → record_of w id ≡ find (λ r. r.id == id) start
+pub all-found : (bounds : Bounds) (start : List Rec) (i : ℕ) (w : WorldView) → length start ≤ i → KeepsAdding bounds start i w → (id : ℕ) → record_of w id ≡ find (λ r. r.id == id) start
 all-found bounds start i w past keeps id = keeps.records id ∙ ap (find (λ r. r.id == id)) (take_all i start past)
 
-tree-with_records : (w : LinkedWorld) (records : List Rec) → (with_records w records).tree ≡ w.tree
+tree-with_records : (w : WorldView) (records : List Rec) → (with_records w records).tree ≡ w.tree
 tree-with_records w [] = refl
 tree-with_records w (r ∷ records) = tree-with_records (with_record w r) records
 
-pub tree-made : (bounds : Bounds) (start : List Rec) (i : ℕ) (w : LinkedWorld) → KeepsAdding bounds start i w → w.tree ≡ (empty_world bounds).tree
+pub tree-made : (bounds : Bounds) (start : List Rec) (i : ℕ) (w : WorldView) → KeepsAdding bounds start i w → w.tree ≡ (empty_world bounds).tree
 tree-made bounds start i w keeps = ap (λ v. v.tree) keeps.made ∙ tree-with_records (empty_world bounds) (take i start)

@@ -1,4 +1,4 @@
--- Records by id: in a list of places, the record with an id stands at that place.
+-- Records by id: in a list of places, the record with an id is at that place.
 use Rattle.std.specs.Prelude.{◌≡◌, ℕ, List, map, Option, Some, None, slice_index_or}
 use Rattle.std.specs.List.{filter_map}
 use Rattle.entity_recs.specs.declared.rec.Rec.{Rec}
@@ -21,6 +21,6 @@ pub record IsEntry (id : ℕ) (r : Rec) : Type 0 where
   pub is_record : IsRecord r
   pub own_id : r.id ≡ id
 
--- each record is within its bounds, and stands at the place of its id
+-- each record is within its bounds, and is at the place of its id
 abbrev pub AreEntries : List (Option Rec) → Type 0
 AreEntries records = (id : ℕ) (r : Rec) → record_at records id ≡ Some r → IsEntry id r

@@ -5,13 +5,13 @@ use Rattle.arena_geo.specs.Bounds.{Bounds}
 use Rattle.arena_geo.specs.Boxes.{touches, is_blocked}
 use Rattle.arena_geo.specs.Regions.{touches_region}
 use Rattle.areanode.specs.Words.{has_bit}
-use Rattle.areanode.specs.Trees.{AreaTree, leaves_of, visited_of}
+use Rattle.areanode.specs.Trees.{TreeView, leaves_of, visited_of}
 use Rattle.entity_recs.specs.declared.rec.Rec.{Rec}
 use Rattle.entity_recs.specs.Kinds.{is_solid}
 use Rattle.entity_recs.specs.Bodies.{body_of, abs_of}
 use Rattle.link_lists.specs.Pool.{list_of}
 use Rattle.world_tree.specs.Live.{live_in}
-use Rattle.world_tree.specs.Worlds.{LinkedWorld}
+use Rattle.world_tree.specs.Worlds.{WorldView}
 
 -- the record is another one, and its absolute box touches the region
 abbrev pub is_near : List Bounds → ℕ → Rec → Bool
@@ -39,10 +39,10 @@ is_free records body fixed except =
     not (is_blocked body fixed) && not (is_blocked body (map body_of (solids_in records except)))
 
 -- the nodes that are visited for the leaves of a region, in rising number
-abbrev pub nodes_for : AreaTree → List Bounds → List ℕ
+abbrev pub nodes_for : TreeView → List Bounds → List ℕ
 nodes_for tree region = filter (has_bit (visited_of tree.depth (leaves_of tree region))) (range_with_len 0 31)
 
 -- how many looks it takes to find the triggers that touch a box: one at each visited node, and one at each trigger linked there
-abbrev pub looks_for : LinkedWorld → Bounds → ℕ
+abbrev pub looks_for : WorldView → Bounds → ℕ
 looks_for w abs =
     length (nodes_for w.tree (abs ∷ [])) + sum_by (λ node. length (list_of w.lists (31 + node))) (nodes_for w.tree (abs ∷ []))

@@ -8,7 +8,7 @@ use Rattle.arena_geo.specs.Regions.{touches_region}
 use Rattle.entity_recs.specs.declared.rec.Rec.{Rec}
 use Rattle.entity_recs.specs.Kinds.{is_solid}
 use Rattle.entity_recs.specs.Bodies.{body_of, abs_of}
-use Rattle.link_lists.specs.Pool.{Pool, list_of}
+use Rattle.link_lists.specs.Pool.{ListsView, list_of}
 use Rattle.world_tree.specs.Live.{record_at}
 
 -- the id is live, and its absolute box touches the region
@@ -22,11 +22,11 @@ marked records region (id ∷ ids) marks =
     marked records region ids (slice_set marks id (touches_at records region id))
 
 -- the ids at these nodes, the solids of each before its triggers
-unfoldable pub ids_at : Pool → List ℕ → List ℕ
+unfoldable pub ids_at : ListsView → List ℕ → List ℕ
 ids_at lists nodes = flat_map (λ node. list_of lists node ++ list_of lists (31 + node)) nodes
 
 -- the triggers at these nodes
-unfoldable pub triggers_at : Pool → List ℕ → List ℕ
+unfoldable pub triggers_at : ListsView → List ℕ → List ℕ
 triggers_at lists nodes = flat_map (λ node. list_of lists (31 + node)) nodes
 
 -- the record of a place, if the place is marked

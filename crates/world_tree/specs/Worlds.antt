@@ -2,34 +2,34 @@
 use Rattle.std.specs.Prelude.{◌≡◌, ℕ, ◌+◌, if◌then◌else◌, List, fold, length, replicate, Option, Some, None, slice_set}
 use Rattle.std.specs.Option.{option_map}
 use Rattle.arena_geo.specs.Bounds.{Bounds}
-use Rattle.areanode.specs.Trees.{AreaTree, node_of}
+use Rattle.areanode.specs.Trees.{TreeView, node_of}
 use Rattle.entity_recs.specs.declared.rec.Rec.{Rec}
 use Rattle.entity_recs.specs.Kinds.{is_solid}
 use Rattle.entity_recs.specs.Bodies.{abs_of}
-use Rattle.link_lists.specs.Pool.{Pool, IsProper, where_of, empty_pool, inserted, removed}
+use Rattle.link_lists.specs.Pool.{ListsView, IsProper, where_of, empty_pool, inserted, removed}
 use Rattle.world_tree.specs.Live.{record_at, AreEntries}
 
 -- the tree, the record at the place of each id, and the ids of each list
-pub record LinkedWorld : Type 0 where
-  pub tree : AreaTree
+pub record WorldView : Type 0 where
+  pub tree : TreeView
   pub records : List (Option Rec)
-  pub lists : Pool
+  pub lists : ListsView
 
 -- the world with this tree, these records and these lists
-abbrev pub world_of : AreaTree → List (Option Rec) → Pool → LinkedWorld
+abbrev pub world_of : TreeView → List (Option Rec) → ListsView → WorldView
 world_of tree records lists = record { tree = tree; records = records; lists = lists }
 
 -- the record with this id, if that id is live
-abbrev pub record_of : LinkedWorld → ℕ → Option Rec
+abbrev pub record_of : WorldView → ℕ → Option Rec
 record_of w id = record_at w.records id
 
 -- the list of a record: that of the node of its absolute box for a solid, and 31 further on for a trigger
-abbrev pub list_for : AreaTree → Rec → ℕ
+abbrev pub list_for : TreeView → Rec → ℕ
 list_for tree r = if is_solid r.kind then node_of tree (abs_of r) else 31 + node_of tree (abs_of r)
 
 -- Quake's SV_LinkEdict: each live id is in one list, there once, and the list is that of its record; no other id is in any.
 -- The records are those of ids below 256, each within its bounds, and the lists are two for each of the 31 nodes.
-pub record IsLinked (w : LinkedWorld) : Type 0 where
+pub record IsLinked (w : WorldView) : Type 0 where
   pub depth : w.tree.depth ≡ 4
   pub places : length w.records ≡ 256
   pub ids : w.lists.ids ≡ 256
@@ -39,7 +39,7 @@ pub record IsLinked (w : LinkedWorld) : Type 0 where
   pub linked : (id : ℕ) → where_of w.lists id ≡ option_map (list_for w.tree) (record_of w id)
 
 -- the world over these bounds in which no id is live
-abbrev pub empty_world : Bounds → LinkedWorld
+abbrev pub empty_world : Bounds → WorldView
 empty_world bounds = record {
   tree = record { depth = 4; bounds = bounds };
   records = replicate 256 None;
@@ -47,7 +47,7 @@ empty_world bounds = record {
 }
 
 -- the world with this record, its id first in the record's list
-abbrev pub with_record : LinkedWorld → Rec → LinkedWorld
+abbrev pub with_record : WorldView → Rec → WorldView
 with_record w r = record {
   tree = w.tree;
   records = slice_set w.records r.id (Some r);
@@ -55,9 +55,9 @@ with_record w r = record {
 }
 
 -- the world without this id, which is in no list; the others keep their order
-abbrev pub without_id : LinkedWorld → ℕ → LinkedWorld
+abbrev pub without_id : WorldView → ℕ → WorldView
 without_id w id = record { tree = w.tree; records = slice_set w.records id None; lists = removed w.lists id }
 
 -- the world with these records put in, one after another
-abbrev pub with_records : LinkedWorld → List Rec → LinkedWorld
+abbrev pub with_records : WorldView → List Rec → WorldView
 with_records w records = fold with_record w records

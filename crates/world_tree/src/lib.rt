@@ -1,7 +1,7 @@
 //! The linked world: live records by id, each linked at the node of the areanode tree that its absolute box demands.
 #![tactic(auto)]
 
-pub use laws::{live_ids_have_records, live_ids_rise, live_records_by_id};
+pub use laws::{found_ids_rise, live_ids_have_records, live_ids_rise, live_records_by_id};
 pub use near_list::{NEAR_RECORDS, NearList};
 pub use steps::Steps;
 pub use world::{IDS, World};

@@ -8,16 +8,14 @@ use std::marker::Model;
 /// The greatest number of records in a [`NearList`].
 pub const NEAR_RECORDS: usize = 256;
 
-// What stands in the places that aren't used.
-const NOWHERE: Vec3 = Vec3 { x: 0, y: 0, z: 0 };
-
+/// What is in the places that aren't used.
 const NOBODY: Rec = Rec {
     id: 0,
     kind: Kind::Player,
-    origin: NOWHERE,
-    mins: NOWHERE,
-    maxs: NOWHERE,
-    vel: NOWHERE,
+    origin: Vec3::ZERO,
+    mins: Vec3::ZERO,
+    maxs: Vec3::ZERO,
+    vel: Vec3::ZERO,
     flags: 0,
     ammo: 0,
     carry: 0,

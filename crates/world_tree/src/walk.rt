@@ -144,11 +144,11 @@ pub fn unmark(marks: &mut [bool; IDS], id: u16)
     }
 }
 
-/// The record of a place, if there is one and the place is marked.
-fn marked_record(place: Option<Rec>, mark: bool) -> Option<Rec>
-    ensures { result ≡ walks.marked_record place mark }
+/// The record of a place, if the place is marked and there is one. The record of a place without a mark isn't read.
+fn marked_record(place: &Option<Rec>, mark: bool) -> Option<Rec>
+    ensures { result ≡ walks.marked_record place.now mark }
 {
-    place.filter(|_| mark)
+    if mark { *place } else { None }
 }
 
 /// Puts the live records at the marked places into the list, in rising id.
@@ -159,7 +159,7 @@ pub fn gather(records: &[Option<Rec>], marks: &[bool; IDS], out: &mut NearList)
     ensures { out.new ≡ walks.picked marks.now records.now }
 {
     for (id, place) in records.iter().enumerate() {
-        if let Some(r) = marked_record(*place, marks[id]) {
+        if let Some(r) = marked_record(place, marks[id]) {
             let _ = out.push(r);
         }
     }

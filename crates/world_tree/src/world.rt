@@ -37,9 +37,9 @@ pub struct World {
 
 // Clauses see the tree, the record at the place of each id, and the ids of each list in order.
 impl Model for World {
-    ghost use Rattle.world_tree.specs.Worlds.{LinkedWorld, IsLinked, world_of};
+    ghost use Rattle.world_tree.specs.Worlds.{WorldView, IsLinked, world_of};
 
-    ghost Value = { LinkedWorld };
+    ghost Value = { WorldView };
 
     ghost view = { λ w. world_of w.tree w.records.items w.lists };
 
@@ -68,7 +68,20 @@ fn no_records(alloc: Global, places: usize) -> Result<Vec<Option<Rec>>, AllocErr
 }
 
 impl World {
-    /// The world over these bounds with these records, put in one after another. The only error is that memory is refused.
+    /// The world over these bounds in which no id is live. It takes all memory that the world ever needs.
+    fn empty(alloc: Global, bounds: &Aabb) -> Result<World, AllocError>
+        ensures made { IfOk result (λ w. w ≡ worlds.empty_world bounds.now) }
+        ensures linked { IfOk result IsLinked }
+    {
+        Ok(World {
+            tree: Tree::new(bounds),
+            records: no_records(alloc, IDS)?,
+            lists: Lists::new(alloc, IDS as u16, 2 * NODE_LISTS)?,
+        })
+    }
+
+    /// The world over these bounds with these records, put in one after another. The only error is that memory is refused,
+    /// however many records there are.
     pub fn new(alloc: Global, bounds: &Aabb, start: &[Rec]) -> Result<World, AllocError>
         requires records { All IsRecord start.now }
         requires apart { IsDistinct nat_eq (map (λ r. r.id) start.now) }
@@ -77,11 +90,7 @@ impl World {
         ensures tree { IfOk result (λ w. w.tree ≡ (worlds.empty_world bounds.now).tree) }
         ensures linked { IfOk result IsLinked }
     {
-        let mut world = World {
-            tree: Tree::new(bounds),
-            records: no_records(alloc, IDS)?,
-            lists: Lists::new(alloc, IDS as u16, 2 * NODE_LISTS)?,
-        };
+        let mut world = World::empty(alloc, bounds)?;
         for r in start {
             world.add(*r);
         }

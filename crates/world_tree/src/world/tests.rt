@@ -170,3 +170,34 @@ fn queries_find_what_touches(rt: HostRuntime) -> Result<(), Fail> {
     assert!(rt; !world.free(&body, &[lower], 3));
     Ok(())
 }
+
+#[test]
+fn a_world_has_room_for_every_id(rt: HostRuntime) -> Result<(), Fail> {
+    let bounds = arena().ok_or("a box")?;
+    let mut world = World::new(rt.alloc(), &bounds, &[])?;
+    for id in 0..64 {
+        put(&rt, &mut world, player(id, at(0, 0, 6_144)));
+    }
+    for id in 64..256 {
+        put(&rt, &mut world, ammo(id, at(0, 0, 0)));
+    }
+    let mut all = NearList::new();
+    world.near(&Region::one(bounds), 256, &mut all);
+    assert_eq!(rt; all.as_slice().len(), 256);
+    Ok(())
+}
+
+#[test]
+fn a_world_begins_with_all_its_records(rt: HostRuntime) -> Result<(), Fail> {
+    let bounds = arena().ok_or("a box")?;
+    let start = [
+        player(3, at(0, 0, 8_704)),
+        ammo(255, at(8_192, 0, 0)),
+        player(63, at(20_000, 0, 8_704)),
+    ];
+    let world = World::new(rt.alloc(), &bounds, &start)?;
+    assert!(rt; world.get(3).is_some());
+    assert!(rt; world.get(63).is_some());
+    assert!(rt; world.get(255).is_some());
+    Ok(())
+}

@@ -2,7 +2,7 @@ use Rattle.std.proofs.Common.{◌≡◌, Some, set, length, sym, ap, subst, arit
 use Rattle.std.proofs.lemmas.Grind.{common_steps}
 use Rattle.std.proofs.lemmas.List.{with_items_is}
 use Rattle.std.specs.Vec.{with_items}
-use Rattle.link_lists.specs.Pool.{Pool, inserted, IsProper, SetsOnly}
+use Rattle.link_lists.specs.Pool.{ListsView, inserted, IsProper, SetsOnly}
 use Rattle.link_lists.specs.Links.{link_at, with_link, IsLinkedAs}
 use Rattle.link_lists.proofs.Pools.{where_of-inserted}
 use Rattle.link_lists.proofs.Walks.{pool_of-linked, IsLinkedAs-itself}
@@ -13,7 +13,7 @@ use Rattle.link_lists.proofs.lists.Lists.insert.Goals.{After-index_mut-3}
 pub link_back-requires : goal.link_back-requires
 link_back-requires c = λ x e.
     let count = c.self.invariant.list_count in
-    let view = ap (λ (p : Pool). length p.lists) c.self.view_is in
+    let view = ap (λ (p : ListsView). length p.lists) c.self.view_is in
     let first : link_at c.self.inside.heads.items c.args.list ≡ Some x = grind (arith, common_steps) in
     omega (arith, head_in_range _ _ _ _ _ c.self.invariant c.args.list x first)
 
@@ -45,7 +45,7 @@ pub returns-clause-place : goal.returns-clause-place
 returns-clause-place c =
     let same = pool_of-linked _ _ _ _ _ (linked (goal.at.returns-clause-place c).After-index_mut-3) in
     let proper = subst IsProper c.self.view_is c.self.invariant.proper in
-    subst (λ (p : Pool). SetsOnly c.args.self.now p c.args.id (Some c.args.list)) (sym same)
+    subst (λ (p : ListsView). SetsOnly c.args.self.now p c.args.id (Some c.args.list)) (sym same)
     (where_of-inserted _ _ _ proper c.requires.list_in_range c.requires.id_in_range c.requires.unlinked)
 
 pub returns-clause-proper : goal.returns-clause-proper

@@ -2,7 +2,7 @@ use Rattle.std.proofs.Common.{◌≡◌, Some, None, set, length, sym, ap, ◌�
 use Rattle.std.proofs.lemmas.Grind.{common_steps}
 use Rattle.std.proofs.lemmas.List.{with_items_is}
 use Rattle.std.specs.Vec.{with_item, with_items}
-use Rattle.link_lists.specs.Pool.{Pool, removed, IsProper, SetsOnly}
+use Rattle.link_lists.specs.Pool.{ListsView, removed, IsProper, SetsOnly}
 use Rattle.link_lists.specs.Links.{link_at, with_link, IsLinkedAs}
 use Rattle.link_lists.proofs.Pools.{where_of-removed}
 use Rattle.link_lists.proofs.Walks.{pool_of-linked, IsLinkedAs-itself}
@@ -13,7 +13,7 @@ use Rattle.link_lists.proofs.lists.Lists.remove.Goals.{After-index_mut-in-Some, 
 pub link_back-requires : goal.link_back-requires
 link_back-requires c = λ x e.
     let next_count = c.self.invariant.next_count in
-    let view = ap (λ (p : Pool). p.ids) c.self.view_is in
+    let view = ap (λ (p : ListsView). p.ids) c.self.view_is in
     let after : link_at c.self.inside.next.items c.args.id ≡ Some x = grind (arith, common_steps) in
     omega (arith, next_in_range _ _ _ _ _ c.self.invariant c.args.id x after)
 
@@ -74,7 +74,7 @@ pub returns-in-Some-clause-place : goal.returns-in-Some-clause-place
 returns-in-Some-clause-place c =
     let same = pool_of-linked _ _ _ _ _ (linked-in-Some (goal.at.returns-in-Some-clause-place c).After-index_mut-in-Some) in
     let proper = subst IsProper c.self.view_is c.self.invariant.proper in
-    subst (λ (p : Pool). SetsOnly c.args.self.now p c.args.id None) (sym same) (where_of-removed _ _ proper)
+    subst (λ (p : ListsView). SetsOnly c.args.self.now p c.args.id None) (sym same) (where_of-removed _ _ proper)
 
 pub returns-in-Some-clause-proper : goal.returns-in-Some-clause-proper
 returns-in-Some-clause-proper c = (IsLinkedAs-itself _ _ _ _ _ (linked-in-Some (goal.at.returns-in-Some-clause-proper c).After-index_mut-in-Some)).proper
@@ -89,7 +89,7 @@ pub returns-in-None-clause-place : goal.returns-in-None-clause-place
 returns-in-None-clause-place c =
     let same = pool_of-linked _ _ _ _ _ (linked-in-None (goal.at.returns-in-None-clause-place c).After-index_mut-in-None) in
     let proper = subst IsProper c.self.view_is c.self.invariant.proper in
-    subst (λ (p : Pool). SetsOnly c.args.self.now p c.args.id None) (sym same) (where_of-removed _ _ proper)
+    subst (λ (p : ListsView). SetsOnly c.args.self.now p c.args.id None) (sym same) (where_of-removed _ _ proper)
 
 pub returns-in-None-clause-proper : goal.returns-in-None-clause-proper
 returns-in-None-clause-proper c = (IsLinkedAs-itself _ _ _ _ _ (linked-in-None (goal.at.returns-in-None-clause-proper c).After-index_mut-in-None)).proper

@@ -1,15 +1,13 @@
 use Rattle.std.proofs.Common.{refl, ap, ◌∙◌}
-use Rattle.areanode.specs.Trees.{AreaTree}
-use Rattle.world_tree.proofs.Links.{linked_empty}
+use Rattle.world_tree.specs.Worlds.{WorldView}
 use Rattle.world_tree.proofs.Starts.{adding-begins, adding-goes_on, find-before, all-made, all-found, tree-made}
 use Rattle.world_tree.proofs.world.World.new.Goals as goal
 
-pub invariant_of-world : goal.invariant_of-world
-invariant_of-world c =
-    linked_empty c.new.result c.in_ok-no_records.field-0.items c.in_ok-new.field-0 (ap (λ (t : AreaTree). t.depth) c.new.ensures) c.in_ok-no_records.ensures c.in_ok-new.ensures
-
 pub loop-r-init : goal.loop-r-init
-loop-r-init c = adding-begins c.args.bounds.now c.args.start.now c.new.result c.in_ok-no_records.field-0.items c.in_ok-new.field-0 c.new.ensures c.in_ok-no_records.ensures c.in_ok-new.ensures
+loop-r-init c =
+    let w = c.in_ok-world.world in
+    let made = c.in_ok-world.ensures.made in
+    adding-begins c.args.bounds.now c.args.start.now w.tree w.records w.lists (ap (λ (v : WorldView). v.tree) made) (ap (λ (v : WorldView). v.records) made) (ap (λ (v : WorldView). v.lists) made)
 
 pub loop-r-preserved : goal.loop-r-preserved
 loop-r-preserved c =
