@@ -1,2 +1,3 @@
--- What the program ends with.
-pub mod Statuses
+-- What the program is asked for, and what it prints on standard error.
+pub mod Asked
+pub mod Notices

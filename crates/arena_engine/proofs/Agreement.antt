@@ -1,4 +1,4 @@
--- The counts that a reading keeps are those of the frames that its lines have told.
+-- The counts that a reading keeps are those of the frames that its lines give.
 use Rattle.std.proofs.Common.{◌≡◌, ℕ, ◌+◌, Bool, true, false, ◌||◌, cond, nat_lt, List, [], ◌∷◌, ◌++◌, length, Option, Some, None, option_map, refl, ap, ◌∙◌, sym, subst, arith, length-append}
 use Rattle.demo_lines.specs.declared.stage.Stage.{Stage}
 use Rattle.demo_lines.specs.declared.stage.Stage.TheVariants.{Start, Map, Playing, Ended, Refused}
@@ -10,7 +10,7 @@ use Rattle.demo_lines.specs.declared.event.Event.{Event}
 use Rattle.demo_lines.specs.declared.event.Event.TheVariants as events
 use Rattle.demo_lines.specs.Machines.{run_of}
 use Rattle.demo_lines.proofs.Machines.{run_of-append}
-use Rattle.demo_lines.specs.Recording.{next, told, said_by, after, events_of, step_at, event_of, is_over, is_refused, goes_to, with_map, with_spawn, opens_frame, takes_arrival, takes_spawn, with_block, takes_block, bare_map, has_spawn, is_wide}
+use Rattle.demo_lines.specs.Recording.{next, events_of_line, line_in, after, events_of, reading_after, event_of, is_over, is_refused, at_stage, with_map, with_spawn, with_frame, with_arrival, is_spawn_allowed, with_block, is_block_allowed, bare_map, has_spawn, is_wide}
 use Rattle.arena_geo.specs.Bounds.{bounds}
 use Rattle.arena_engine.specs.Frames.{Frames, collect, closing}
 
@@ -48,11 +48,11 @@ told_of over t es = cond (over || is_refused t.stage) [] es
 abbrev AgreesBehind : Reading → Frames → List Event → Type 0
 AgreesBehind t f es = AgreesAt t.stage t (run_of collect f (told_of false t es))
 
-behind_choice : (b : Bool) (t r : Reading) (f : Frames) (es : List Event) → AgreesBehind t f es → AgreesBehind (cond b t (goes_to Refused r)) f es
+behind_choice : (b : Bool) (t r : Reading) (f : Frames) (es : List Event) → AgreesBehind t f es → AgreesBehind (cond b t (at_stage Refused r)) f es
 behind_choice true t r f es h = h
 behind_choice false t r f es h = tt
 
-first_frame : (r : Reading) (f : Frames) → NoneYet r f → OneOpen (opens_frame r) (collect f events.Frame)
+first_frame : (r : Reading) (f : Frames) → NoneYet r f → OneOpen (with_frame r) (collect f events.Frame)
 first_frame r f none = record {
   arrivals = [];
   opened = refl;
@@ -60,7 +60,7 @@ first_frame r f none = record {
   frames = omega (arith, length-append f.closed (closing f.opened), ap length none.closed, ap (λ o. length (closing o)) none.opened, none.frames);
 }
 
-next_frame : (r : Reading) (f : Frames) → OneOpen r f → OneOpen (opens_frame r) (collect f events.Frame)
+next_frame : (r : Reading) (f : Frames) → OneOpen r f → OneOpen (with_frame r) (collect f events.Frame)
 next_frame r f one = record {
   arrivals = [];
   opened = refl;
@@ -68,7 +68,7 @@ next_frame r f one = record {
   frames = omega (arith, length-append f.closed (closing f.opened), ap (λ o. length (closing o)) one.opened, one.frames);
 }
 
-one_arrival : (r : Reading) (f : Frames) (a : Arrival) → OneOpen r f → OneOpen (takes_arrival r) (collect f (events.From a))
+one_arrival : (r : Reading) (f : Frames) (a : Arrival) → OneOpen r f → OneOpen (with_arrival r) (collect f (events.From a))
 one_arrival r f a one = record {
   arrivals = one.arrivals ++ a ∷ [];
   opened = ap (option_map (λ arrivals. arrivals ++ a ∷ [])) one.opened;
@@ -76,13 +76,13 @@ one_arrival r f a one = record {
   frames = one.frames;
 }
 
-end_without : (r : Reading) (f : Frames) → NoneYet r f → AllClosed (goes_to Ended r) (collect f events.End)
+end_without : (r : Reading) (f : Frames) → NoneYet r f → AllClosed (at_stage Ended r) (collect f events.End)
 end_without r f none = record {
   opened = refl;
   frames = omega (arith, length-append f.closed (closing f.opened), ap length none.closed, ap (λ o. length (closing o)) none.opened, none.frames);
 }
 
-end_behind : (r : Reading) (f : Frames) → OneOpen r f → AllClosed (goes_to Ended r) (collect f events.End)
+end_behind : (r : Reading) (f : Frames) → OneOpen r f → AllClosed (at_stage Ended r) (collect f events.End)
 end_behind r f one = record {
   opened = refl;
   frames = omega (arith, length-append f.closed (closing f.opened), ap (λ o. length (closing o)) one.opened, one.frames);
@@ -91,8 +91,8 @@ end_behind r f one = record {
 none_still : (r t : Reading) (f : Frames) → t.frames ≡ r.frames → NoneYet r f → NoneYet t f
 none_still r t f same none = record { closed = none.closed; opened = none.opened; frames = same ∙ none.frames }
 
-agrees_step : (stage : Stage) (r : Reading) (line : Option Line) (f : Frames) → r.stage ≡ stage → AgreesAt stage r f
-    → AgreesAt (step_at stage r line).stage (step_at stage r line) (run_of collect f (told_of (is_over stage) (step_at stage r line) (event_of line)))
+pub agrees_step : (stage : Stage) (r : Reading) (line : Option Line) (f : Frames) → r.stage ≡ stage → AgreesAt stage r f
+    → AgreesAt (reading_after stage r line).stage (reading_after stage r line) (run_of collect f (told_of (is_over stage) (reading_after stage r line) (event_of line)))
 agrees_step Start r None f here h = tt
 agrees_step Start r (Some (lines.Arena lo hi)) f here h = behind_choice (is_wide lo hi) (with_map r (Some (bare_map (bounds lo hi)))) r f []
     (none_still r (with_map r (Some (bare_map (bounds lo hi)))) f refl h)
@@ -103,17 +103,17 @@ agrees_step Start r (Some (lines.From a)) f here h = tt
 agrees_step Start r (Some lines.End) f here h = tt
 agrees_step Map r None f here h = tt
 agrees_step Map r (Some (lines.Arena lo hi)) f here h = tt
-agrees_step Map r (Some (lines.Spawn at)) f here h = behind_choice (takes_spawn r.map at) (with_map r (with_spawn r.map at)) r f [] (none_still r (with_map r (with_spawn r.map at)) f refl h)
-agrees_step Map r (Some (lines.Block lo hi)) f here h = behind_choice (takes_block r.map lo hi) (with_map r (with_block r.map lo hi)) r f [] (none_still r (with_map r (with_block r.map lo hi)) f refl h)
-agrees_step Map r (Some lines.Frame) f here h = behind_choice (has_spawn r.map) (opens_frame r) r f (event_of (Some lines.Frame)) (first_frame r f h)
+agrees_step Map r (Some (lines.Spawn at)) f here h = behind_choice (is_spawn_allowed r.map at) (with_map r (with_spawn r.map at)) r f [] (none_still r (with_map r (with_spawn r.map at)) f refl h)
+agrees_step Map r (Some (lines.Block lo hi)) f here h = behind_choice (is_block_allowed r.map lo hi) (with_map r (with_block r.map lo hi)) r f [] (none_still r (with_map r (with_block r.map lo hi)) f refl h)
+agrees_step Map r (Some lines.Frame) f here h = behind_choice (has_spawn r.map) (with_frame r) r f (event_of (Some lines.Frame)) (first_frame r f h)
 agrees_step Map r (Some (lines.From a)) f here h = tt
 agrees_step Map r (Some lines.End) f here h = end_without r f h
 agrees_step Playing r None f here h = tt
 agrees_step Playing r (Some (lines.Arena lo hi)) f here h = tt
 agrees_step Playing r (Some (lines.Spawn at)) f here h = tt
 agrees_step Playing r (Some (lines.Block lo hi)) f here h = tt
-agrees_step Playing r (Some lines.Frame) f here h = behind_choice (nat_lt r.frames 100000) (opens_frame r) r f (event_of (Some lines.Frame)) (next_frame r f h)
-agrees_step Playing r (Some (lines.From a)) f here h = behind_choice (nat_lt r.arrivals 512) (takes_arrival r) r f (event_of (Some (lines.From a))) (one_arrival r f a h)
+agrees_step Playing r (Some lines.Frame) f here h = behind_choice (nat_lt r.frames 100000) (with_frame r) r f (event_of (Some lines.Frame)) (next_frame r f h)
+agrees_step Playing r (Some (lines.From a)) f here h = behind_choice (nat_lt r.arrivals 512) (with_arrival r) r f (event_of (Some (lines.From a))) (one_arrival r f a h)
 agrees_step Playing r (Some lines.End) f here h = end_behind r f h
 agrees_step Ended r line f here h = let P : Stage → Type 0 = λ stage. AgreesAt stage r f in subst P (sym here) h
 agrees_step Refused r line f here h = let P : Stage → Type 0 = λ stage. AgreesAt stage r f in subst P (sym here) tt
@@ -122,7 +122,7 @@ agrees_step Refused r line f here h = let P : Stage → Type 0 = λ stage. Agree
 pub agrees_lines : (r : Reading) (ls : List (List ℕ)) (f : Frames) → Agrees r f → Agrees (after r ls) (run_of collect f (events_of r ls))
 agrees_lines r [] f h = h
 agrees_lines r (l ∷ ls) f h =
-    let here = agrees_step r.stage r (said_by l) f refl h in
-    let rest = agrees_lines (next r l) ls (run_of collect f (told r l)) here in
+    let here = agrees_step r.stage r (line_in l) f refl h in
+    let rest = agrees_lines (next r l) ls (run_of collect f (events_of_line r l)) here in
     let P : Frames → Type 0 = λ g. Agrees (after (next r l) ls) g in
-    subst P (sym (run_of-append {E = Event} collect (λ _ _. []) f (told r l) (events_of (next r l) ls))) rest
+    subst P (sym (run_of-append {E = Event} collect (λ _ _. []) f (events_of_line r l) (events_of (next r l) ls))) rest

@@ -22,10 +22,10 @@ one_more_by true f y rest = refl
 one_more_by false f y rest = refl
 
 -- a loop's step over them
-pub told_step : {X : Type 0} (f : X → List ℕ) (p : X → Bool) (xs : List X) (i : ℕ) (d : X) (out longer all : List ℕ) → i < length xs
+pub bytes_step : {X : Type 0} (f : X → List ℕ) (p : X → Bool) (xs : List X) (i : ℕ) (d : X) (out longer all : List ℕ) → i < length xs
     → longer ≡ out ++ cond (p (get_or xs i d)) (f (get_or xs i d)) [] → out ++ flat_map f (filter p (drop i xs)) ≡ all
     → longer ++ flat_map f (filter p (drop (i + 1) xs)) ≡ all
-told_step f p xs i d out longer all inside is so_far =
+bytes_step f p xs i d out longer all inside is so_far =
     let y = get_or xs i d in
     let rest = drop (suc i) xs in
     let here : drop i xs ≡ y ∷ rest = drop-cons xs i d inside in

@@ -1,4 +1,4 @@
--- The packets that a recording tells have bytes.
+-- The packets that a recording is_entry_of have bytes.
 use Rattle.std.proofs.Common.{ℕ, ◌^◌, ◌<◌, ◌%◌, ◌==◌, Bool, true, false, ◌||◌, cond, nat_le, List, [], ◌∷◌, ◌++◌, length, codes, bytes_eq, Option, Some, None, Result, Ok, Err, IfSome, option_map, ◌≡◌, refl, subst}
 use Rattle.std.specs.Bool.{⊤}
 use Rattle.std.specs.List.{AllByRecursion}
@@ -15,12 +15,14 @@ use Rattle.demo_lines.specs.declared.event.Event.TheVariants as events
 use Rattle.demo_lines.specs.declared.arrival.Arrival.{Arrival}
 use Rattle.demo_lines.specs.Recording.{Reading}
 use Rattle.demo_lines.specs.Machines.{run_of}
-use Rattle.demo_lines.specs.Numbers.{natural_up_to}
-use Rattle.demo_lines.specs.Fields.{cut, field_at}
+use Rattle.edge_io.specs.Numbers.{natural_up_to}
+use Rattle.edge_io.specs.Fields.{cut, field_at}
 use Rattle.demo_lines.specs.Packets.{packet_bytes}
-use Rattle.demo_lines.specs.Lines.{◌>>=◌, point_at, alone, arena_of, spawn_of, block_of, from_of, line_at}
-use Rattle.demo_lines.specs.Recording.{start, next, told, said_by, event_of, events_of, is_over, is_refused}
-use Rattle.demo_lines.specs.Bytes.{whole_lines, events}
+use Rattle.edge_io.specs.Fields.{◌>>=◌}
+use Rattle.demo_lines.specs.Lines.{point_at, alone, arena_of, spawn_of, block_of, from_of, line_at}
+use Rattle.demo_lines.specs.Recording.{start, next, events_of_line, line_in, event_of, events_of, is_over, is_refused}
+use Rattle.edge_io.specs.WholeLines.{whole_lines}
+use Rattle.demo_lines.specs.Bytes.{events}
 use Rattle.arena_geo.specs.declared.vec3.Vec3.{Vec3}
 use Rattle.arena_engine.specs.Frames.{Frames, closing, collect, no_frames}
 use Rattle.arena_engine.specs.Output.{frames_of}
@@ -123,7 +125,7 @@ block_has_bytes rest =
     line_behind (point_at rest) (λ (lo : Vec3 × List ℕ). point_at lo.1 >>= (λ (hi : Vec3 × List ℕ). alone (Block lo.0 hi.0) hi.1)) (λ lo.
     line_behind (point_at lo.1) (λ (hi : Vec3 × List ℕ). alone (Block lo.0 hi.0) hi.1) (λ hi. line_alone (Block lo.0 hi.0) hi.1 tt))
 
--- what a first word and what stands behind it say
+-- what a first word and what is after it say
 abbrev said : List ℕ → List ℕ → Option Line
 said word rest =
     cond (bytes_eq word (codes "arena")) (arena_of rest) (cond (bytes_eq word (codes "spawn")) (spawn_of rest) (cond (bytes_eq word (codes "block")) (block_of rest)
@@ -143,7 +145,7 @@ said_has_bytes word rest =
     (line_choice (bytes_eq word (codes "from")) (from_of rest) end (from_has_bytes rest)
     (line_choice (bytes_eq word (codes "end")) (alone End rest) None (line_alone End rest tt) tt)))))
 
-line_has_bytes : (line : List ℕ) → LineBytes (said_by line)
+line_has_bytes : (line : List ℕ) → LineBytes (line_in line)
 line_has_bytes line = line_choice (nat_le (length line) 512) (line_at line) None (said_has_bytes (cut line).0 (cut line).1) tt
 
 -- ---- what lines tell
@@ -174,15 +176,15 @@ event_has_bytes (Some Frame) h = (tt, tt)
 event_has_bytes (Some (From a)) h = (h, tt)
 event_has_bytes (Some End) h = (tt, tt)
 
-told_has_bytes : (r : Reading) (line : List ℕ) → EventsBytes (told r line)
+told_has_bytes : (r : Reading) (line : List ℕ) → EventsBytes (events_of_line r line)
 told_has_bytes r line =
-    events_choice (is_over r.stage || is_refused (next r line).stage) (event_of (said_by line)) (event_has_bytes (said_by line) (line_has_bytes line))
+    events_choice (is_over r.stage || is_refused (next r line).stage) (event_of (line_in line)) (event_has_bytes (line_in line) (line_has_bytes line))
 
 -- what lines tell has bytes
 pub events_have_bytes : (r : Reading) (lines : List (List ℕ)) → EventsBytes (events_of r lines)
 events_have_bytes r [] = tt
 events_have_bytes r (line ∷ lines) =
-    events_both (told r line) (events_of (next r line) lines) (told_has_bytes r line) (events_have_bytes (next r line) lines)
+    events_both (events_of_line r line) (events_of (next r line) lines) (told_has_bytes r line) (events_have_bytes (next r line) lines)
 
 -- ---- the frames that events make
 

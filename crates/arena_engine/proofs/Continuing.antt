@@ -7,11 +7,12 @@ use Rattle.demo_lines.specs.Recording.{Reading}
 use Rattle.demo_lines.specs.declared.event.Event.{Event}
 use Rattle.demo_lines.specs.declared.event.Event.TheVariants.{Frame, From, End}
 use Rattle.demo_lines.specs.Machines.{run_of}
-use Rattle.demo_lines.specs.Recording.{start, next, told, after, events_of}
-use Rattle.demo_lines.specs.Bytes.{whole_lines, events_in, fault_in, fault_at, events, fault, map_of}
+use Rattle.demo_lines.specs.Recording.{start, next, events_of_line, after, events_of}
+use Rattle.edge_io.specs.WholeLines.{whole_lines}
+use Rattle.demo_lines.specs.Bytes.{events_in, fault_in, fault_at, events, fault, map_of}
 use Rattle.demo_lines.specs.Reads.{Reads}
-use Rattle.demo_lines.proofs.Machines.{run_of-append, told_over-append}
-use Rattle.demo_lines.proofs.Feeds.{whole_lines-unlines}
+use Rattle.demo_lines.proofs.Machines.{run_of-append, outputs_of-append}
+use Rattle.edge_io.proofs.Feeds.{whole_lines-unlines}
 use Rattle.arena_engine.specs.Frames.{Frames, collect, closing, collected, no_frames}
 use Rattle.arena_engine.proofs.Settled.{is_settled, keeps_lines}
 
@@ -25,9 +26,9 @@ pub continues_lines : (r : Reading) (lines : List (List ℕ)) (es : List Event) 
     → r ≡ after start lines → events_of start lines ≡ es → Continues r es bytes rest
 continues_lines r lines es bytes rest cut reached told_so =
     let behind : after start (whole_lines bytes) ≡ after r (whole_lines rest) =
-    ap (after start) cut ∙ run_of-append next told start lines (whole_lines rest) ∙ ap (λ t. after t (whole_lines rest)) (sym reached) in
+    ap (after start) cut ∙ run_of-append next events_of_line start lines (whole_lines rest) ∙ ap (λ t. after t (whole_lines rest)) (sym reached) in
     record {
-      events_are = ap (events_of start) cut ∙ told_over-append next told start lines (whole_lines rest)
+      events_are = ap (events_of start) cut ∙ outputs_of-append next events_of_line start lines (whole_lines rest)
           ∙ ap (λ t. events_of start lines ++ events_of t (whole_lines rest)) (sym reached) ∙ ap (λ xs. xs ++ events_in r rest) told_so;
       fault_is = ap (λ (t : Reading). fault_at t.stage t.lines) behind;
       map_is = ap (λ (t : Reading). t.map) behind;

@@ -3,6 +3,9 @@ pub mod Appending
 pub mod Views
 pub mod Writing
 pub mod Elements
+pub mod Fewness
+pub mod Words
+pub mod Told
 pub mod Standing
 pub mod Moving
 pub mod Rounds

@@ -12,17 +12,19 @@ use Rattle.entity_recs.specs.declared.kind.Kind.TheVariants.{Player}
 use Rattle.entity_recs.specs.declared.bodies.TheConstants.{PLAYER_MINS}
 use Rattle.entity_recs.specs.Records.{IsRecord, IsIdOf, IsShapeOf}
 use Rattle.entity_recs.specs.Bodies.{standing, player_body, body_of}
-use Rattle.box_trace.specs.Walls.{HaveWalls, have_walls_more}
-use Rattle.move_journal.specs.Worlds.{record_with, world_of}
+use Rattle.box_trace.specs.Walls.{HaveWalls, have_walls_first, have_walls_more}
+use Rattle.entity_recs.specs.Worlds.{record_with, world_of}
 use Rattle.move_journal.specs.Lists.{AreNumbered, apart_where_numbered, world_of-is, record-is, numbered_record}
-use Rattle.arena_engine.specs.States.{State, IsPlayer, IsState, IsInside, AreInside}
+use Rattle.arena_engine.specs.States.{PlayersView, IsPlayer, IsState, IsInside, AreInside}
 use Rattle.player_move.specs.declared.moved.Moved.{Moved}
 use Rattle.player_move.specs.Intents.{Intent}
 use Rattle.player_move.specs.Moves.{move_of}
 use Rattle.player_move.proofs.Insides.{move_stays_inside}
 use Rattle.player_move.proofs.Slows.{move_stays_slow}
-use Rattle.arena_engine.specs.Outcomes.{flags_of, after_move}
-use Rattle.arena_engine.specs.Moving.{records_but}
+use Rattle.demo_lines.specs.declared.map.ArenaMap.{ArenaMap}
+use Rattle.demo_lines.specs.Readings.{IsMap}
+use Rattle.arena_engine.specs.Outcomes.{fixed_of, flags_of, after_move}
+use Rattle.arena_engine.specs.Moving.{records_but, AreWithinWalls}
 use Rattle.arena_engine.proofs.Elements.{all_at}
 
 -- ---- the record
@@ -43,12 +45,12 @@ record_with-is rs slot me numbered is =
     let P : ℕ → Type 0 = λ id. record_with rs id ≡ me in
     subst P (numbered_record rs slot me numbered is) (record-is (world_of rs) rs slot me of is)
 
--- ---- the place behind the move
+-- ---- the place after the move
 
 near_on : (lo hi l h : ℤ) → unsigned_abs lo ≤ 1048576 → unsigned_abs hi ≤ 1048576 → contains_on lo hi l h ≡ true → (lo ≤ℤ l) × (h ≤ℤ hi)
 near_on lo hi l h near_lo near_hi inside = (grind (arith, ints), grind (arith, ints))
 
--- a player whose body is inside an arena stands near
+-- a player whose body is inside an arena is near
 pub near_inside : (arena : Bounds) (origin : Vec3) → IsNear 1048576 arena.lo → IsNear 1048576 arena.hi → contains arena (player_body origin) ≡ true → IsNear 1048576 origin
 near_inside arena origin lo hi inside =
     let b = player_body origin in
@@ -78,10 +80,10 @@ flags_are_low : (ground : Bool) → flags_of ground ≤ 3
 flags_are_low true = omega arith
 flags_are_low false = omega arith
 
--- it holds behind a move
-pub one_behind : (arena : Bounds) (solids : List Bounds) (r : Rec) (intent : Intent) (seq : ℕ) → IsNear 1048576 arena.lo → IsNear 1048576 arena.hi → HaveWalls arena solids → IsOne arena r
+-- it holds after a move
+pub one_after : (arena : Bounds) (solids : List Bounds) (r : Rec) (intent : Intent) (seq : ℕ) → IsNear 1048576 arena.lo → IsNear 1048576 arena.hi → HaveWalls arena solids → IsOne arena r
     → IsOne arena (after_move r (move_of r intent solids) seq)
-one_behind arena solids r intent seq lo hi walls is =
+one_after arena solids r intent seq lo hi walls is =
     let at = (move_of r intent solids).origin in
     let ordered : IsOrdered (body_of r) = subst IsOrdered (sym (body-is r is.holds is.player)) (ordered_at r.origin) in
     let inside : contains arena (standing at r.mins r.maxs) ≡ true = move_stays_inside arena r intent solids ordered walls is.inside in
@@ -103,7 +105,7 @@ one_behind arena solids r intent seq lo hi walls is =
     }
 
 -- one of the players in an arena
-pub one_of : (arena : Bounds) (s : State) (slot : ℕ) (me : Rec) → IsState s → AreInside arena s.records → slice_get s.records slot ≡ Some me → IsOne arena me
+pub one_of : (arena : Bounds) (s : PlayersView) (slot : ℕ) (me : Rec) → IsState s → AreInside arena s.records → slice_get s.records slot ≡ Some me → IsOne arena me
 one_of arena s slot me is inside at = record {
   holds = all_at IsRecord s.records slot me is.each at;
   player = all_at IsPlayer s.records slot me is.players at;
@@ -114,7 +116,7 @@ one_of arena s slot me is inside at = record {
 pub one_moved : (arena : Bounds) (fixed bodies : List Bounds) (r new : Rec) (intent : Intent) (moved : Moved) (seq : ℕ) → IsNear 1048576 arena.lo → IsNear 1048576 arena.hi → HaveWalls arena fixed → IsOne arena r
     → moved ≡ move_of r intent (fixed ++ bodies) → new ≡ after_move r moved seq → IsOne arena new
 one_moved arena fixed bodies r new intent moved seq lo hi walls is moved_is new_is =
-    subst (IsOne arena) (sym (new_is ∙ ap (λ m. after_move r m seq) moved_is)) (one_behind arena (fixed ++ bodies) r intent seq lo hi (have_walls_more arena fixed bodies walls) is)
+    subst (IsOne arena) (sym (new_is ∙ ap (λ m. after_move r m seq) moved_is)) (one_after arena (fixed ++ bodies) r intent seq lo hi (have_walls_more arena fixed bodies walls) is)
 
 -- the move that the code computes is that of the list of records
 pub move-is : (fixed : List Bounds) (rs : List Rec) (slot : ℕ) (me : Rec) (bodies : List Bounds) (intent : Intent) (moved : Moved) → record_with rs slot ≡ me → bodies ≡ map body_of (records_but slot rs)
@@ -127,3 +129,19 @@ pub after_move-is : (rs : List Rec) (slot : ℕ) (me new : Rec) (moved there : M
     → new ≡ after_move (record_with rs slot) there seq
 after_move-is rs slot me new moved there seq me_is moved_is new_is =
     new_is ∙ ap (λ m. after_move me m seq) moved_is ∙ ap (λ (r : Rec). after_move r there seq) (sym me_is)
+
+-- ---- a map
+
+-- the fixed solids of a map have its walls
+pub fixed_have_walls : (arena : ArenaMap) → HaveWalls arena.bounds (fixed_of arena)
+fixed_have_walls arena = have_walls_first arena.bounds arena.blocks
+
+-- players that are inside are so among its fixed solids
+pub within_walls : (arena : ArenaMap) (solids : List Bounds) (records : List Rec) → IsMap arena → solids ≡ fixed_of arena → AreInside arena.bounds records → AreWithinWalls solids records
+within_walls arena solids records is_map solids_are inside = record {
+  bounds = arena.bounds;
+  lo = is_map.lo;
+  hi = is_map.hi;
+  walls = subst (HaveWalls arena.bounds) (sym solids_are) (fixed_have_walls arena);
+  inside = inside;
+}

@@ -8,16 +8,16 @@ use Rattle.std.proofs.lemmas.List.Elements.{All-from_recursion}
 use Rattle.std.proofs.lemmas.List.Folds.{flat_map-map}
 use Rattle.hex.specs.Hex.{encode_with, encode_lower, lower_digits}
 use Rattle.edge_io.specs.Lines.{HasNoLineFeed}
-use Rattle.demo_lines.specs.Fields.{is_space, cut}
-use Rattle.demo_lines.specs.Bytes.{is_line_feed, whole_lines, unlines}
-use Rattle.demo_lines.proofs.Feeds.{whole_lines-unlines}
+use Rattle.edge_io.specs.Fields.{is_space, cut}
+use Rattle.edge_io.specs.WholeLines.{is_line_feed, whole_lines, unlines}
+use Rattle.edge_io.proofs.Feeds.{whole_lines-unlines}
 use Rattle.arena_engine.specs.declared.refusal.Refusal.{Refusal}
 use Rattle.arena_engine.specs.declared.refusal.Refusal.TheVariants.{Packet, Already, Full, Crowded, NotJoined, Old}
 use Rattle.packet_read.specs.declared.packet_fault.PacketFault.{PacketFault}
 use Rattle.packet_read.specs.declared.packet_fault.PacketFault.TheVariants.{Empty, Version, Kind, Short, Long, Time, Buttons}
 use Rattle.arena_engine.specs.Entries.{Did, journal_from}
 use Rattle.arena_engine.specs.OutLines.{OutLine, FrameLine, NoLine, JoinedLine, DidLine, ToLine, EndLine, fault_name_of, name_of, ids_text, spelled, text_of}
-use Rattle.arena_engine.specs.Journals.{Mark, Opens, Other, told_did, did_in, mark_of, Split, onto, split_at_frames, dids}
+use Rattle.arena_engine.specs.Journals.{Mark, Other, frame_mark, did_mark, number_at, did_in, mark_of, Split, onto, split_at_frames, dids}
 
 -- ---- bytes among which none passes a test
 
@@ -155,7 +155,7 @@ whole_lines-text lines =
 pub one_more : (m n : ℕ) → m ≡ n → 1 + m ≡ suc n
 one_more m n e = omega arith
 
--- the first space behind a word without one
+-- the first space after a word without one
 position-space : (word rest : List ℕ) → AllByRecursion (λ b. is_space b ≡ false) word → position_or_len is_space (word ++ 32 ∷ rest) ≡ length word
 position-space [] rest none = refl
 position-space (b ∷ word) rest none =
@@ -180,27 +180,24 @@ drop-front (x ∷ xs) ys = drop-front xs ys
 abbrev cut_at : ℕ → List ℕ → List ℕ × List ℕ
 cut_at n bytes = (take n bytes, drop n bytes)
 
--- a word is cut off at the space behind it
+-- a word is cut off at the space after it
 pub cut-word : (word rest : List ℕ) → AllByRecursion (λ b. is_space b ≡ false) word → cut (word ++ 32 ∷ rest) ≡ (word, 32 ∷ rest)
 cut-word word rest none =
     let bytes = word ++ 32 ∷ rest in
     ap (λ n. cut_at n bytes) (position_is (position_or_len is_space bytes) (length bytes) (length word) (position-space word rest none) (is_inside word rest))
     ∙ (λ i. (take-front word (32 ∷ rest) i, drop-front word (32 ∷ rest) i))
 
--- what a first word and what stands behind it are to the journals
-abbrev mark_by : List ℕ × List ℕ → Mark
-mark_by parts =
-    if bytes_eq parts.0 (codes "frame") then Opens
-    else if bytes_eq parts.0 (codes "did") then told_did (did_in parts.1)
+-- what a line is to the journals by its first word and the rest
+abbrev mark_by : List ℕ → List ℕ × List ℕ → Mark
+mark_by line parts =
+    if bytes_eq parts.0 (codes "frame") then frame_mark line (number_at 4294967295 parts.1)
+    else if bytes_eq parts.0 (codes "did") then did_mark line (did_in parts.1)
     else Other
 
-pub mark-word : (word rest : List ℕ) → AllByRecursion (λ b. is_space b ≡ false) word → mark_of (word ++ 32 ∷ rest) ≡ mark_by (word, 32 ∷ rest)
-mark-word word rest none = ap mark_by (cut-word word rest none)
+pub mark-word : (word rest : List ℕ) → AllByRecursion (λ b. is_space b ≡ false) word → mark_of (word ++ 32 ∷ rest) ≡ mark_by (word ++ 32 ∷ rest) (word, 32 ∷ rest)
+mark-word word rest none = ap (mark_by (word ++ 32 ∷ rest)) (cut-word word rest none)
 
-pub mark-frame : (frame : ℕ) → mark_of (spelled (FrameLine frame)) ≡ Opens
-mark-frame frame = mark-word (codes "frame") (decimal frame) (none_where is_space (codes "frame") refl)
-
--- the line opens no frame and tells of no move
+-- the line opens no frame and is_entry_of of no move
 abbrev pub IsSilent : OutLine → Type 0
 IsSilent (FrameLine frame) = ⊥
 IsSilent (NoLine place why) = ⊤

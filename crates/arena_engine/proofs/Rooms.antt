@@ -18,20 +18,24 @@ use Rattle.packet_read.specs.declared.packet.Packet.TheVariants.{Join, Step, Lea
 use Rattle.packet_read.specs.declared.packet_fault.PacketFault.{PacketFault}
 use Rattle.packet_read.specs.Reading.{reading}
 use Rattle.player_move.proofs.Ending.{move_ends_free}
-use Rattle.move_journal.specs.Commands.{Command}
-use Rattle.move_journal.specs.Worlds.{World, nobody, records_of, world_of, others_of}
-use Rattle.move_journal.specs.Histories.{Effect, outcome, apply, world_behind}
+use Rattle.entity_recs.specs.Commands.{Command}
+use Rattle.entity_recs.specs.Worlds.{World, nobody, records_of, world_of, others_of}
+use Rattle.entity_recs.specs.Histories.{outcome, apply, world_after}
+use Rattle.entity_recs.specs.declared.effect.Effect.{Effect}
 use Rattle.move_journal.specs.Lists.{AreNumbered, IsWorldOf, with_effect_in, world_of-is, apart_where_numbered, record-is, others-are, apply-is, numbered_set, numbered_record, numbered_after_set, numbered_push}
 use Rattle.demo_lines.specs.declared.map.ArenaMap.{ArenaMap}
 use Rattle.demo_lines.specs.declared.arrival.Arrival.{Arrival}
 use Rattle.arena_engine.specs.declared.refusal.Refusal.{Refusal}
-use Rattle.arena_engine.specs.States.{State, opening, newcomer, client}
-use Rattle.arena_engine.specs.Receiving.{Pass, untouched, has_port, is_joined, is_crowded, free_spawn, answer, joins, mover, command_in, moves_on, takes, receive, receive_from, received}
+use Rattle.arena_engine.specs.States.{PlayersView, opening, newcomer, client}
+use Rattle.arena_engine.specs.Receiving.{Reception, before_packets, has_port, is_joined, is_crowded, free_spawn, answer, after_join_answer, mover, command_in, after_move_answer, after_packet, after_arrival, after_arrivals, received}
 use Rattle.arena_engine.specs.Outcomes.{fixed_of, asked, moves_among}
 use Rattle.arena_engine.specs.Moving.{HasPlayer, records_but}
-use Rattle.arena_engine.specs.Frames.{moved_in_order, state_behind, state_after}
+use Rattle.arena_engine.specs.Frames.{moved_by, first_of, rest_of, state_played}
 use Rattle.arena_engine.specs.Laws.{bodies_of, HaveRoom, PlayersKeepRoom}
-use Rattle.arena_engine.proofs.Passes.{neither, apart_with, IsNewer, mover_is, let_in}
+use Rattle.arena_engine.proofs.Passes.{neither, apart_with, IsNewer, mover_is, accepted_of, accepted-is, let_in}
+use Rattle.entity_recs.specs.declared.effect.Entry.{Entry}
+use Rattle.move_journal.specs.Merges.{history_of}
+use Rattle.arena_engine.proofs.Told.{history_has}
 use Rattle.arena_engine.proofs.Elements.{all_through, all_with, all_at, all_set}
 
 overlaps_flips : (a b : Bounds) → overlaps a b ≡ overlaps b a
@@ -71,14 +75,14 @@ chosen : (crowded : Bool) (spawn at : Vec3) → (if crowded then None else Some 
 chosen true spawn at h = cc
 chosen false spawn at h = (refl, cc)
 
-not_crowded : (spawn : Option Vec3) (fixed : List Bounds) (state : State) (at : Vec3) → free_spawn spawn fixed state ≡ Some at → is_crowded fixed state at ≡ false
+not_crowded : (spawn : Option Vec3) (fixed : List Bounds) (state : PlayersView) (at : Vec3) → free_spawn spawn fixed state ≡ Some at → is_crowded fixed state at ≡ false
 not_crowded None fixed state at h = cc
 not_crowded (Some s) fixed state at h =
     let both = chosen (is_crowded fixed state s) s at h in
     subst (λ (v : Vec3). is_crowded fixed state v ≡ false) both.1 both.0
 
--- what stands between two packets: all players have room, and each accepted move has its player
-record IsRoomy (fixed : List Bounds) (r : Pass) : Type 0 where
+-- what is between two packets: all players have room, and each accepted move has its player
+record IsRoomy (fixed : List Bounds) (r : Reception) : Type 0 where
   keep : KeepRoom fixed (length r.state.clients) r.state.records
   live : AllByRecursion (HasPlayer (length r.state.clients)) r.moves
 
@@ -86,8 +90,8 @@ record IsRoomy (fixed : List Bounds) (r : Pass) : Type 0 where
 live_with_more : (few many : ℕ) → few ≤ many → (c : Command) → HasPlayer few c → HasPlayer many c
 live_with_more few many more c has = omega arith
 
-room_after_join : (to : Result Vec3 Refusal) (fixed : List Bounds) (r : Pass) (place port : ℕ) → ((at : Vec3) → to ≡ Ok at → is_crowded fixed r.state at ≡ false)
-    → IsRoomy fixed r → IsRoomy fixed (joins to r place port)
+room_after_join : (to : Result Vec3 Refusal) (fixed : List Bounds) (r : Reception) (place port : ℕ) → ((at : Vec3) → to ≡ Ok at → is_crowded fixed r.state at ≡ false)
+    → IsRoomy fixed r → IsRoomy fixed (after_join_answer to r place port)
 room_after_join (Err why) fixed r place port free roomy = record { keep = roomy.keep; live = roomy.live }
 room_after_join (Ok at) fixed r place port free roomy =
     let keep = roomy.keep in
@@ -106,11 +110,9 @@ room_after_join (Ok at) fixed r place port free roomy =
       live = all_through (HasPlayer few) (HasPlayer many) r.moves (live_with_more few many (omega arith)) roomy.live;
     }
 
-room_after_move : (to : Result ℕ Refusal) (fixed : List Bounds) (frame : ℕ) (m : MovePacket) (r : Pass) (place port : ℕ)
-    → ((slot : ℕ) → to ≡ Ok slot → IsNewer r.state.clients slot m.seq) → IsRoomy fixed r → IsRoomy fixed (moves_on to frame m r place port)
-room_after_move (Err why) fixed frame m r place port newer roomy = record { keep = roomy.keep; live = roomy.live }
-room_after_move (Ok slot) fixed frame m r place port newer roomy =
-    let there = newer slot refl in
+room_after_accepted : (fixed : List Bounds) (frame slot : ℕ) (m : MovePacket) (r : Reception) (port : ℕ) → IsNewer r.state.clients slot m.seq → IsRoomy fixed r
+    → IsRoomy fixed (accepted_of frame slot m r port)
+room_after_accepted fixed frame slot m r port there roomy =
     let within = slice_get_within r.state.clients slot there.before there.there in
     let so_many = length-set r.state.clients slot (client port m.seq) in
     let few = length r.state.clients in
@@ -121,34 +123,41 @@ room_after_move (Ok slot) fixed frame m r place port newer roomy =
           (all_through (HasPlayer few) (HasPlayer many) r.moves (live_with_more few many (omega arith)) roomy.live) (omega arith);
     }
 
-room_after_packet : (read : Result Packet PacketFault) (spawn : Option Vec3) (fixed : List Bounds) (frame : ℕ) (r : Pass) (place port : ℕ) → IsRoomy fixed r
-    → IsRoomy fixed (takes read spawn fixed frame r place port)
+room_after_move : (to : Result ℕ Refusal) (fixed : List Bounds) (frame : ℕ) (m : MovePacket) (r : Reception) (place : ℕ)
+    → ((slot : ℕ) → to ≡ Ok slot → IsNewer r.state.clients slot m.seq) → IsRoomy fixed r → IsRoomy fixed (after_move_answer to frame m r place)
+room_after_move (Err why) fixed frame m r place newer roomy = record { keep = roomy.keep; live = roomy.live }
+room_after_move (Ok slot) fixed frame m r place newer roomy =
+    let there = newer slot refl in
+    subst (IsRoomy fixed) (sym (accepted-is frame slot m r place there)) (room_after_accepted fixed frame slot m r there.before.port there roomy)
+
+room_after_packet : (read : Result Packet PacketFault) (spawn : Option Vec3) (fixed : List Bounds) (frame : ℕ) (r : Reception) (place port : ℕ) → IsRoomy fixed r
+    → IsRoomy fixed (after_packet read spawn fixed frame r place port)
 room_after_packet (Err why) spawn fixed frame r place port roomy = record { keep = roomy.keep; live = roomy.live }
 room_after_packet (Ok Join) spawn fixed frame r place port roomy =
     room_after_join (answer spawn fixed r.state port) fixed r place port
     (λ at h. not_crowded spawn fixed r.state at
     (let_in (is_joined r.state port) (nat_le 64 (length r.state.records)) (free_spawn spawn fixed r.state) at h).spawn) roomy
 room_after_packet (Ok (Step m)) spawn fixed frame r place port roomy =
-    room_after_move (mover r.state port m.seq) fixed frame m r place port
+    room_after_move (mover r.state port m.seq) fixed frame m r place
     (λ slot. mover_is r.state.clients (position (has_port port) r.state.clients) m.seq slot) roomy
 room_after_packet (Ok Leave) spawn fixed frame r place port roomy = record { keep = roomy.keep; live = roomy.live }
 
-room_received : (spawn : Option Vec3) (fixed : List Bounds) (frame : ℕ) (r : Pass) (place : ℕ) (arrivals : List Arrival) → IsRoomy fixed r
-    → IsRoomy fixed (receive_from spawn fixed frame r place arrivals)
+room_received : (spawn : Option Vec3) (fixed : List Bounds) (frame : ℕ) (r : Reception) (place : ℕ) (arrivals : List Arrival) → IsRoomy fixed r
+    → IsRoomy fixed (after_arrivals spawn fixed frame r place arrivals)
 room_received spawn fixed frame r place [] roomy = roomy
 room_received spawn fixed frame r place (a ∷ more) roomy =
-    room_received spawn fixed frame (receive spawn fixed frame r place a) (place + 1) more
+    room_received spawn fixed frame (after_arrival spawn fixed frame r place a) (place + 1) more
     (room_after_packet (reading a.bytes) spawn fixed frame r place a.port roomy)
 
 -- ---- a player moves
 
--- what the records with other ids don't block, neither the first of them blocks, nor those behind it
+-- what the records with other ids don't block, neither the first of them blocks, nor those after it
 free_of_first : (b : Bounds) (slot : ℕ) (r : Rec) (rs : List Rec) → (r.id ≡ slot → ⊥) → is_blocked b (map body_of (records_but slot (r ∷ rs))) ≡ false
     → (overlaps b (body_of r) ≡ false) × (is_blocked b (map body_of (records_but slot rs)) ≡ false)
 free_of_first b slot r rs other free =
     let all = rw (ne_eqb r.id slot other) at free in neither (overlaps b (body_of r)) (is_blocked b (map body_of (records_but slot rs))) all
 
--- all records behind a slot have other ids
+-- all records after a slot have other ids
 all_missed : (b : Bounds) (slot n : ℕ) (rs : List Rec) → slot < n → AreNumbered n rs → is_blocked b (map body_of (records_but slot rs)) ≡ false
     → AllByRecursion (λ body. overlaps b body ≡ false) (map body_of rs)
 all_missed b slot n [] below numbered free = tt
@@ -260,40 +269,43 @@ room_after_one fixed count w rs c me of keep at =
       };
     }
 
-room_behind : (fixed : List Bounds) (count : ℕ) (w : World) (rs : List Rec) (moves : List Command) → IsWorldOf w rs → KeepRoom fixed count rs → AllByRecursion (HasPlayer count) moves
-    → KeepRoom fixed count (records_of (world_behind (moves_among fixed) w moves))
-room_behind fixed count w rs [] of keep live = subst (KeepRoom fixed count) (sym of.records) keep
-room_behind fixed count w rs (c ∷ moves) of keep live =
+room_after : (fixed : List Bounds) (count : ℕ) (w : World) (rs : List Rec) (moves : List Command) → IsWorldOf w rs → KeepRoom fixed count rs → AllByRecursion (HasPlayer count) moves
+    → KeepRoom fixed count (records_of (world_after (moves_among fixed) w moves))
+room_after fixed count w rs [] of keep live = subst (KeepRoom fixed count) (sym of.records) keep
+room_after fixed count w rs (c ∷ moves) of keep live =
     let here : c.slot < count = live.0 in
     let so_many = keep.players in
     let one = room_after_one fixed count w rs c (get_or rs c.slot nobody) of keep (slice_get-get_or rs c.slot nobody (omega arith)) in
-    room_behind fixed count (apply (moves_among fixed) w c) one.records moves one.world one.keep live.1
+    room_after fixed count (apply (moves_among fixed) w c) one.records moves one.world one.keep live.1
 
 -- ---- all frames
 
 -- the players of a state keep room
-abbrev IsRoomyState : ArenaMap → State → Type 0
+abbrev IsRoomyState : ArenaMap → PlayersView → Type 0
 IsRoomyState arena s = KeepRoom (fixed_of arena) (length s.clients) s.records
 
-room_moved_in_order : (arena : ArenaMap) (r : Pass) → IsRoomy (fixed_of arena) r → IsRoomyState arena (moved_in_order arena r)
-room_moved_in_order arena r roomy =
+room_moved_by : (arena : ArenaMap) (r : Reception) (journal : List Entry) → IsRoomy (fixed_of arena) r → IsRoomyState arena (moved_by arena r journal)
+room_moved_by arena r journal roomy =
     let records = r.state.records in
-    room_behind (fixed_of arena) (length r.state.clients) (world_of records) records r.moves
-    (world_of-is records (apart_where_numbered 0 records roomy.keep.numbered)) roomy.keep roomy.live
+    room_after (fixed_of arena) (length r.state.clients) (world_of records) records (map (λ item. item.command) (history_of r.moves journal))
+    (world_of-is records (apart_where_numbered 0 records roomy.keep.numbered)) roomy.keep (history_has (HasPlayer (length r.state.clients)) r.moves journal roomy.live)
 
-room_behind_frame : (arena : ArenaMap) (frame : ℕ) (state : State) (arrivals : List Arrival) → IsRoomyState arena state → IsRoomyState arena (state_behind arena frame state arrivals)
-unfolding state_behind received
-room_behind_frame arena frame state arrivals keep =
-    room_moved_in_order arena _ (room_received arena.spawn (fixed_of arena) frame (untouched state) 0 arrivals (record { keep = keep; live = tt }))
+room_after_frame : (arena : ArenaMap) (frame : ℕ) (state : PlayersView) (arrivals : List Arrival) (journal : List Entry) → IsRoomyState arena state
+    → IsRoomyState arena (moved_by arena (received arena frame state arrivals) journal)
+unfolding received
+room_after_frame arena frame state arrivals journal keep =
+    room_moved_by arena _ journal (room_received arena.spawn (fixed_of arena) frame (before_packets state) 0 arrivals (record { keep = keep; live = tt }))
 
-room_through : (arena : ArenaMap) (frame : ℕ) (state : State) (frames : List (List Arrival)) → IsRoomyState arena state → IsRoomyState arena (state_after arena frame state frames)
-room_through arena frame state [] keep = keep
-room_through arena frame state (arrivals ∷ frames) keep =
-    room_through arena (frame + 1) (state_behind arena frame state arrivals) frames (room_behind_frame arena frame state arrivals keep)
+room_through : (arena : ArenaMap) (frame : ℕ) (state : PlayersView) (frames : List (List Arrival)) (journals : List (List Entry)) → IsRoomyState arena state
+    → IsRoomyState arena (state_played arena frame state frames journals)
+room_through arena frame state [] journals keep = keep
+room_through arena frame state (arrivals ∷ frames) journals keep =
+    room_through arena (frame + 1) (moved_by arena (received arena frame state arrivals) (first_of journals)) frames (rest_of journals)
+    (room_after_frame arena frame state arrivals (first_of journals) keep)
 
 nobody_has_room : (arena : ArenaMap) → IsRoomyState arena opening
 unfolding IsDistinct
 nobody_has_room arena = record { room = record { outside_fixed = tt; apart = tt }; numbered = tt; players = refl }
 
 pub players_have_room : PlayersKeepRoom
-players_have_room arena frames = (room_through arena 0 opening frames (nobody_has_room arena)).room
+players_have_room arena frames journals = (room_through arena 0 opening frames journals (nobody_has_room arena)).room

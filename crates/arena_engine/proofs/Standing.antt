@@ -7,7 +7,7 @@ use Rattle.entity_recs.specs.declared.rec.Rec.{Rec}
 use Rattle.entity_recs.specs.Records.{IsRecord}
 use Rattle.move_journal.specs.Lists.{numbered_push, numbered_after_set}
 use Rattle.arena_engine.specs.declared.client.Client.{Client}
-use Rattle.arena_engine.specs.States.{State, newcomer, client, IsPlayer, IsState, state_of, with_newcomer, ArePlayers}
+use Rattle.arena_engine.specs.States.{PlayersView, newcomer, client, IsPlayer, IsState, state_of, with_newcomer, ArePlayers}
 use Rattle.arena_engine.proofs.Elements.{all_with, all_set}
 
 is_record-newcomer : (slot : ℕ) (at : Vec3) → slot < 64 → IsNear 1048576 at → IsRecord (newcomer slot at)
@@ -22,7 +22,7 @@ is_record-newcomer slot at low near = record {
 }
 
 -- a player more
-pub is_state-newcomer : (s : State) (port : ℕ) (at : Vec3) → IsState s → length s.records < 64 → IsNear 1048576 at → IsState (with_newcomer s port at)
+pub is_state-newcomer : (s : PlayersView) (port : ℕ) (at : Vec3) → IsState s → length s.records < 64 → IsNear 1048576 at → IsState (with_newcomer s port at)
 is_state-newcomer s port at is room near =
     let new = newcomer (length s.records) at in
     record {
@@ -34,7 +34,7 @@ is_state-newcomer s port at is room near =
     }
 
 -- another record of a player
-pub is_state-set : (s : State) (slot : ℕ) (me : Rec) → IsState s → me.id ≡ slot → IsRecord me → IsPlayer me → IsState (state_of (slice_set s.records slot me) s.clients)
+pub is_state-set : (s : PlayersView) (slot : ℕ) (me : Rec) → IsState s → me.id ≡ slot → IsRecord me → IsPlayer me → IsState (state_of (slice_set s.records slot me) s.clients)
 is_state-set s slot me is at holds player = record {
   each = all_set IsRecord s.records slot me is.each holds;
   players = all_set IsPlayer s.records slot me is.players player;
@@ -44,7 +44,7 @@ is_state-set s slot me is at holds player = record {
 }
 
 -- another client of a player
-pub is_state-client : (s : State) (slot : ℕ) (c : Client) → IsState s → IsState (state_of s.records (slice_set s.clients slot c))
+pub is_state-client : (s : PlayersView) (slot : ℕ) (c : Client) → IsState s → IsState (state_of s.records (slice_set s.clients slot c))
 is_state-client s slot c is = record {
   each = is.each;
   players = is.players;

@@ -1,19 +1,19 @@
 -- The frames of a recording, and what the plain server says of each.
 use Rattle.std.specs.Prelude.{ℕ, ◌+◌, List, [], ◌∷◌, ◌++◌, map, Option, Some, None, option_map, ⊤}
 use Rattle.entity_recs.specs.declared.rec.Rec.{Rec}
-use Rattle.move_journal.specs.Entries.{Entry}
-use Rattle.move_journal.specs.Worlds.{records_of, world_of}
-use Rattle.move_journal.specs.Histories.{Action, world_behind, run}
+use Rattle.entity_recs.specs.declared.effect.Entry.{Entry}
+use Rattle.entity_recs.specs.Worlds.{records_of, world_of}
+use Rattle.entity_recs.specs.Histories.{Action, world_after, run}
 use Rattle.move_journal.specs.Merges.{history_of, IsRight, IsInOrder, journal_in_order}
 use Rattle.demo_lines.specs.declared.map.ArenaMap.{ArenaMap}
 use Rattle.demo_lines.specs.declared.arrival.Arrival.{Arrival}
 use Rattle.demo_lines.specs.declared.event.Event.{Event}
 use Rattle.demo_lines.specs.declared.event.Event.TheVariants.{Frame, From, End}
 use Rattle.demo_lines.specs.Machines.{run_of}
-use Rattle.arena_engine.specs.States.{State, Table, state_of}
-use Rattle.arena_engine.specs.declared.received.Turned.{Turned}
+use Rattle.arena_engine.specs.States.{PlayersView, ServerView, state_of}
+use Rattle.arena_engine.specs.declared.received.Refused.{Refused}
 use Rattle.arena_engine.specs.declared.received.Joined.{Joined}
-use Rattle.arena_engine.specs.Receiving.{Pass, received}
+use Rattle.arena_engine.specs.Receiving.{Reception, received}
 use Rattle.arena_engine.specs.Outcomes.{fixed_of, moves_among}
 use Rattle.arena_engine.specs.Snapshots.{snapshot}
 use Rattle.arena_engine.specs.Entries.{did_of}
@@ -43,7 +43,7 @@ collect frames End = record { closed = frames.closed ++ closing frames.opened; o
 abbrev pub collected : List Event → Frames
 collected events = run_of collect no_frames events
 
-abbrev pub no_line : Turned → OutLine
+abbrev pub no_line : Refused → OutLine
 no_line t = NoLine t.place t.why
 
 abbrev pub joined_line : Joined → OutLine
@@ -57,20 +57,20 @@ abbrev pub to_line : ℕ → List Rec → Rec → OutLine
 to_line frame records me = ToLine me.id (snapshot frame me records)
 
 -- a frame's lines: its refusals, its joins, the moves of its journal, and the snapshot of each live player
-abbrev pub frame_lines : ℕ → Pass → List Entry → List Rec → List OutLine
+abbrev pub frame_lines : ℕ → Reception → List Entry → List Rec → List OutLine
 frame_lines frame r journal records =
     FrameLine frame ∷ (map no_line r.refused ++ map joined_line r.joined ++ map did_line journal ++ map (to_line frame records) records)
 
 -- what a move does in an arena
 abbrev pub outcome_in : ArenaMap → Action
-outcome_in arena = moves_among (fixed_of arena)
+outcome_in map = moves_among (fixed_of map)
 
--- the state behind the moves that a journal tells
-abbrev pub moved_by : ArenaMap → Pass → List Entry → State
-moved_by arena r journal =
-    state_of (records_of (run (outcome_in arena) (world_of r.state.records) (history_of r.moves journal))) r.state.clients
+-- the state after the moves of a journal
+abbrev pub moved_by : ArenaMap → Reception → List Entry → PlayersView
+moved_by map r journal =
+    state_of (records_of (run (outcome_in map) (world_of r.state.records) (history_of r.moves journal))) r.state.clients
 
--- the first journal, and those of the frames behind it
+-- the first journal, and those of the frames after it
 abbrev pub first_of : List (List Entry) → List Entry
 first_of [] = []
 first_of (j ∷ js) = j
@@ -80,61 +80,67 @@ rest_of [] = []
 rest_of (j ∷ js) = js
 
 -- the lines of frames, the first of which has this number, with these journals
-abbrev pub run_lines : ArenaMap → ℕ → State → List (List Arrival) → List (List Entry) → List OutLine
-run_lines arena frame state [] journals = []
-run_lines arena frame state (arrivals ∷ frames) journals =
-    let r = received arena frame state arrivals in
-    let behind = moved_by arena r (first_of journals) in
-    frame_lines frame r (first_of journals) behind.records ++ run_lines arena (frame + 1) behind frames (rest_of journals)
+abbrev pub run_lines : ArenaMap → ℕ → PlayersView → List (List Arrival) → List (List Entry) → List OutLine
+run_lines map frame state [] journals = []
+run_lines map frame state (arrivals ∷ frames) journals =
+    let r = received map frame state arrivals in
+    let next = moved_by map r (first_of journals) in
+    frame_lines frame r (first_of journals) next.records ++ run_lines map (frame + 1) next frames (rest_of journals)
+
+-- the state after frames, the first of which has this number, with these journals
+abbrev pub state_played : ArenaMap → ℕ → PlayersView → List (List Arrival) → List (List Entry) → PlayersView
+state_played map frame state [] journals = state
+state_played map frame state (arrivals ∷ frames) journals =
+    state_played map (frame + 1) (moved_by map (received map frame state arrivals) (first_of journals)) frames (rest_of journals)
 
 -- there is one journal a frame, and each is right
-abbrev pub AreRight : ArenaMap → ℕ → State → List (List Arrival) → List (List Entry) → Type 0
-AreRight arena frame state [] [] = ⊤
-AreRight arena frame state [] (j ∷ js) = ⊥
-AreRight arena frame state (arrivals ∷ frames) [] = ⊥
-AreRight arena frame state (arrivals ∷ frames) (j ∷ js) =
-    let r = received arena frame state arrivals in
-    IsRight (outcome_in arena) (world_of r.state.records) r.moves j × AreRight arena (frame + 1) (moved_by arena r j) frames js
+abbrev pub AreRight : ArenaMap → ℕ → PlayersView → List (List Arrival) → List (List Entry) → Type 0
+AreRight map frame state [] [] = ⊤
+AreRight map frame state [] (j ∷ js) = ⊥
+AreRight map frame state (arrivals ∷ frames) [] = ⊥
+AreRight map frame state (arrivals ∷ frames) (j ∷ js) =
+    let r = received map frame state arrivals in
+    IsRight (outcome_in map) (world_of r.state.records) r.moves j × AreRight map (frame + 1) (moved_by map r j) frames js
 
--- there is one journal a frame, and each tells the moves in the order of arrival
-abbrev pub AreInOrder : ArenaMap → ℕ → State → List (List Arrival) → List (List Entry) → Type 0
-AreInOrder arena frame state [] [] = ⊤
-AreInOrder arena frame state [] (j ∷ js) = ⊥
-AreInOrder arena frame state (arrivals ∷ frames) [] = ⊥
-AreInOrder arena frame state (arrivals ∷ frames) (j ∷ js) =
-    let r = received arena frame state arrivals in
-    IsInOrder j r.moves × AreInOrder arena (frame + 1) (moved_by arena r j) frames js
+-- there is one journal a frame, and each has the moves in the order of arrival
+abbrev pub AreInOrder : ArenaMap → ℕ → PlayersView → List (List Arrival) → List (List Entry) → Type 0
+AreInOrder map frame state [] [] = ⊤
+AreInOrder map frame state [] (j ∷ js) = ⊥
+AreInOrder map frame state (arrivals ∷ frames) [] = ⊥
+AreInOrder map frame state (arrivals ∷ frames) (j ∷ js) =
+    let r = received map frame state arrivals in
+    IsInOrder j r.moves × AreInOrder map (frame + 1) (moved_by map r j) frames js
 
 -- ---- moves in the order of arrival
 
 -- the journal of a frame
-abbrev pub journal_of : ArenaMap → Pass → List Entry
-journal_of arena r = journal_in_order (outcome_in arena) (world_of r.state.records) r.moves
+abbrev pub journal_of : ArenaMap → Reception → List Entry
+journal_of map r = journal_in_order (outcome_in map) (world_of r.state.records) r.moves
 
--- the state behind the moves
-abbrev pub moved_in_order : ArenaMap → Pass → State
-moved_in_order arena r = state_of (records_of (world_behind (outcome_in arena) (world_of r.state.records) r.moves)) r.state.clients
+-- the state after the moves
+abbrev pub moved_in_order : ArenaMap → Reception → PlayersView
+moved_in_order map r = state_of (records_of (world_after (outcome_in map) (world_of r.state.records) r.moves)) r.state.clients
 
--- the state behind a frame
-unfoldable pub state_behind : ArenaMap → ℕ → State → List Arrival → State
-state_behind arena frame state arrivals = moved_in_order arena (received arena frame state arrivals)
+-- the state after a frame
+unfoldable pub state_after_frame : ArenaMap → ℕ → PlayersView → List Arrival → PlayersView
+state_after_frame map frame state arrivals = moved_in_order map (received map frame state arrivals)
 
 -- the lines of a frame
-unfoldable pub lines_in_order : ArenaMap → ℕ → State → List Arrival → List OutLine
-lines_in_order arena frame state arrivals =
-    let r = received arena frame state arrivals in frame_lines frame r (journal_of arena r) (moved_in_order arena r).records
+unfoldable pub lines_in_order : ArenaMap → ℕ → PlayersView → List Arrival → List OutLine
+lines_in_order map frame state arrivals =
+    let r = received map frame state arrivals in frame_lines frame r (journal_of map r) (moved_in_order map r).records
 
--- the state behind frames, the first of which has this number
-abbrev pub state_after : ArenaMap → ℕ → State → List (List Arrival) → State
-state_after arena frame state [] = state
-state_after arena frame state (arrivals ∷ frames) = state_after arena (frame + 1) (state_behind arena frame state arrivals) frames
+-- the state after frames, the first of which has this number
+abbrev pub state_after : ArenaMap → ℕ → PlayersView → List (List Arrival) → PlayersView
+state_after map frame state [] = state
+state_after map frame state (arrivals ∷ frames) = state_after map (frame + 1) (state_after_frame map frame state arrivals) frames
 
 -- the lines of frames
-abbrev pub run_in_order : ArenaMap → ℕ → State → List (List Arrival) → List OutLine
-run_in_order arena frame state [] = []
-run_in_order arena frame state (arrivals ∷ frames) =
-    lines_in_order arena frame state arrivals ++ run_in_order arena (frame + 1) (state_behind arena frame state arrivals) frames
+abbrev pub run_in_order : ArenaMap → ℕ → PlayersView → List (List Arrival) → List OutLine
+run_in_order map frame state [] = []
+run_in_order map frame state (arrivals ∷ frames) =
+    lines_in_order map frame state arrivals ++ run_in_order map (frame + 1) (state_after_frame map frame state arrivals) frames
 
--- the server behind a frame with these packets
-abbrev pub table_after : Table → List Arrival → Table
-table_after t arrivals = record { arena = t.arena; state = state_behind t.arena t.frames t.state arrivals; frames = t.frames + 1 }
+-- the server after a frame with these packets
+abbrev pub server_after : ServerView → List Arrival → ServerView
+server_after t arrivals = record { map = t.map; state = state_after_frame t.map t.frames t.state arrivals; frames = t.frames + 1 }

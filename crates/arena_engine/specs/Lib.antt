@@ -5,8 +5,8 @@ pub use Rattle.demo_lines.specs.Readings
 pub use Rattle.demo_lines.specs.Spelling
 pub use Rattle.box_trace.specs.Walls
 pub use Rattle.player_move.specs.Moves
-pub use Rattle.move_journal.specs.Worlds
-pub use Rattle.move_journal.specs.Histories
+pub use Rattle.entity_recs.specs.Worlds
+pub use Rattle.entity_recs.specs.Histories
 pub use Rattle.move_journal.specs.Merges
 pub use Rattle.move_journal.specs.Validity
 pub mod States
@@ -18,6 +18,7 @@ pub mod Snapshots
 pub mod Entries
 pub mod OutLines
 pub mod Frames
+pub mod Printing
 pub mod Games
 pub mod Journals
 pub mod StopOf

@@ -4,9 +4,9 @@ use Rattle.arena_geo.specs.Vectors.{IsNear}
 use Rattle.arena_geo.specs.Bounds.{Bounds}
 use Rattle.entity_recs.specs.declared.rec.Rec.{Rec}
 use Rattle.box_trace.specs.Walls.{HaveWalls}
-use Rattle.move_journal.specs.Commands.{Command}
-use Rattle.move_journal.specs.Worlds.{record_with}
-use Rattle.move_journal.specs.Histories.{Effect}
+use Rattle.entity_recs.specs.Commands.{Command}
+use Rattle.entity_recs.specs.Worlds.{record_with}
+use Rattle.entity_recs.specs.declared.effect.Effect.{Effect}
 use Rattle.arena_engine.specs.States.{AreInside}
 use Rattle.arena_engine.specs.Outcomes.{moves_among}
 
@@ -22,10 +22,10 @@ records_but id records = filter (λ r. not (r.id == id)) records
 abbrev pub effect_among : List Bounds → List Rec → Command → Effect
 effect_among fixed records c = moves_among fixed (record_with records c.slot) (records_but c.slot records) c
 
--- all bodies stand in an arena whose walls are among the solids
-pub record StandInside (solids : List Bounds) (records : List Rec) : Type 0 where
-  pub arena : Bounds
-  pub lo : IsNear 1048576 arena.lo
-  pub hi : IsNear 1048576 arena.hi
-  pub walls : HaveWalls arena solids
-  pub inside : AreInside arena records
+-- all bodies are inside bounds whose walls are among the solids
+pub record AreWithinWalls (solids : List Bounds) (records : List Rec) : Type 0 where
+  pub bounds : Bounds
+  pub lo : IsNear 1048576 bounds.lo
+  pub hi : IsNear 1048576 bounds.hi
+  pub walls : HaveWalls bounds solids
+  pub inside : AreInside bounds records

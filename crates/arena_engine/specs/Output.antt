@@ -1,9 +1,16 @@
 -- What the program writes for a recording.
-use Rattle.std.specs.Prelude.{◌≡◌, ℕ, ◌-◌, ◌<◌, ◌≤◌, ◌⊎◌, List, [], ◌∷◌, ◌++◌, length, take, Option, Some, None, IsSome}
+use Rattle.std.specs.Prelude.{◌≡◌, ℕ, ◌-◌, ◌<◌, ◌≤◌, ◌⊎◌, false, List, [], ◌∷◌, ◌++◌, length, take, Option, Some, None, IsSome}
+use Rattle.std.specs.List.{AllByRecursion}
 use Rattle.std.specs.Io.KnownBytes.{Appends, Consumes}
-use Rattle.move_journal.specs.Entries.{Entry}
+use Rattle.entity_recs.specs.declared.effect.Entry.{Entry}
 use Rattle.demo_lines.specs.declared.map.ArenaMap.{ArenaMap}
 use Rattle.demo_lines.specs.declared.arrival.Arrival.{Arrival}
+use Rattle.edge_io.specs.declared.line_reader.TheConstants.{LONGEST}
+use Rattle.edge_io.specs.Lines.{HasNoLineFeed, HasNotReadAhead, ahead}
+use Rattle.edge_io.specs.WholeLines.{all_but_last, unlines}
+use Rattle.demo_lines.specs.declared.stage.Stage.TheVariants.{Ended}
+use Rattle.demo_lines.specs.Recording.{start, after, is_over}
+use Rattle.demo_lines.specs.Reads.{IsRefusedLine, IsLongFront, IsLastPart}
 use Rattle.demo_lines.specs.Bytes.{events, fault, map_of}
 use Rattle.arena_engine.specs.States.{opening}
 use Rattle.arena_engine.specs.OutLines.{OutLine, EndLine, text_of}
@@ -13,17 +20,17 @@ use Rattle.arena_engine.specs.Journals.{dids}
 -- the lines of frames in an arena, from the first frame on; without an arena there are none
 abbrev pub lines_in : Option ArenaMap → List (List Arrival) → List (List Entry) → List OutLine
 lines_in None frames journals = []
-lines_in (Some arena) frames journals = run_lines arena 0 opening frames journals
+lines_in (Some map) frames journals = run_lines map 0 opening frames journals
 
 -- the journals of frames in an arena are right, from the first frame on, and there is one a frame
 abbrev pub AreRightIn : Option ArenaMap → List (List Arrival) → List (List Entry) → Type 0
 AreRightIn None frames journals = (frames ≡ []) × (journals ≡ [])
-AreRightIn (Some arena) frames journals = AreRight arena 0 opening frames journals
+AreRightIn (Some map) frames journals = AreRight map 0 opening frames journals
 
--- they tell the moves in the order of arrival
+-- they have the moves in the order of arrival
 abbrev pub AreInOrderIn : Option ArenaMap → List (List Arrival) → List (List Entry) → Type 0
 AreInOrderIn None frames journals = (frames ≡ []) × (journals ≡ [])
-AreInOrderIn (Some arena) frames journals = AreInOrder arena 0 opening frames journals
+AreInOrderIn (Some map) frames journals = AreInOrder map 0 opening frames journals
 
 -- the frames that a recording closes, each with its packets
 abbrev pub frames_of : List ℕ → List (List Arrival)
@@ -37,77 +44,110 @@ front_text bytes k journals = text_of (lines_in (map_of bytes) (take k (frames_o
 abbrev pub out_text : List ℕ → List (List Entry) → List ℕ
 out_text bytes journals = text_of (lines_in (map_of bytes) (frames_of bytes) journals ++ EndLine (length (frames_of bytes)) ∷ [])
 
--- the text is the whole output of a recording without a fault, with the journals that are read off it, and each frame's is right
-pub record IsOutput (bytes text : List ℕ) : Type 0 where
+-- the text is the whole output of a recording without a fault, with the journals that are read off it; each frame's is
+-- right, and with one worker in the order of arrival
+pub record IsOutput (workers : ℕ) (bytes text : List ℕ) : Type 0 where
   pub accepted : fault bytes ≡ None
-  pub told : text ≡ out_text bytes (dids text)
+  pub spelled : text ≡ out_text bytes (dids text)
   pub right : AreRightIn (map_of bytes) (frames_of bytes) (dids text)
+  pub order : workers ≡ 1 → AreInOrderIn (map_of bytes) (frames_of bytes) (dids text)
 
--- the journals that are read off the text tell the moves of each frame in the order of arrival
-abbrev pub TellsInOrder : List ℕ → List ℕ → Type 0
-TellsInOrder bytes text = AreInOrderIn (map_of bytes) (frames_of bytes) (dids text)
-
--- the text is that of the first k frames, with the journals that are read off it, and each is right
-pub record IsFront (bytes : List ℕ) (k : ℕ) (text : List ℕ) : Type 0 where
+-- the text is that of the first k frames, with the journals that are read off it; each is right, and with one worker in
+-- the order of arrival
+pub record IsFront (workers : ℕ) (bytes : List ℕ) (k : ℕ) (text : List ℕ) : Type 0 where
   pub frames : k ≤ length (frames_of bytes)
-  pub told : text ≡ front_text bytes k (dids text)
+  pub spelled : text ≡ front_text bytes k (dids text)
   pub right : AreRightIn (map_of bytes) (take k (frames_of bytes)) (dids text)
+  pub order : workers ≡ 1 → AreInOrderIn (map_of bytes) (take k (frames_of bytes)) (dids text)
 
 -- the text is that of all frames that are closed
-abbrev pub IsAllFrames : List ℕ → List ℕ → Type 0
-IsAllFrames bytes text = IsFront bytes (length (frames_of bytes)) text
+abbrev pub IsAllFrames : ℕ → List ℕ → List ℕ → Type 0
+IsAllFrames workers bytes text = IsFront workers bytes (length (frames_of bytes)) text
 
--- a front of the text of k frames with right journals, but not all of it, in which all frames but the last are whole; their journals are those that they tell
-pub record IsPart (bytes : List ℕ) (k : ℕ) (whole_with : List (List Entry) → List ℕ) (text : List ℕ) : Type 0 where
+-- a front of the text of k frames, but not all of it, in which all frames but the last are whole; the frames' journals are
+-- right, and with one worker in the order of arrival, and the whole frames spell theirs
+pub record IsPart (workers : ℕ) (bytes : List ℕ) (k : ℕ) (whole_with : List (List Entry) → List ℕ) (text : List ℕ) : Type 0 where
   pub frames : k ≤ length (frames_of bytes)
   pub journals : List (List Entry)
   pub right : AreRightIn (map_of bytes) (take k (frames_of bytes)) journals
+  pub order : workers ≡ 1 → AreInOrderIn (map_of bytes) (take k (frames_of bytes)) journals
   pub front : List ℕ
-  pub all_but_one : IsFront bytes (k - 1) front
+  pub all_but_one : IsFront workers bytes (k - 1) front
   pub spelled : take (k - 1) journals ≡ dids front
   pub count : ℕ
   pub longer : length front ≤ count
   pub short : count < length (whole_with journals)
   pub part : text ≡ take count (whole_with journals)
 
--- a write failed at the text of a frame, or at that of the last frame and the last line
-pub record IsCutFrame (bytes text : List ℕ) : Type 0 where
+-- a write failed at the text of a frame
+pub record IsCutFrame (workers : ℕ) (bytes text : List ℕ) : Type 0 where
   pub k : ℕ
   pub some : 1 ≤ k
-  pub cut : IsPart bytes k (front_text bytes k) text
+  pub cut : IsPart workers bytes k (front_text bytes k) text
 
-pub record IsCutEnd (bytes text : List ℕ) : Type 0 where
+-- a write failed at the text of the last frame and the last line
+pub record IsCutEnd (workers : ℕ) (bytes text : List ℕ) : Type 0 where
   pub accepted : fault bytes ≡ None
-  pub cut : IsPart bytes (length (frames_of bytes)) (out_text bytes) text
+  pub cut : IsPart workers bytes (length (frames_of bytes)) (out_text bytes) text
 
 -- something was written, and P of it
 pub record Writes (old new : Option (List ℕ)) (P : List ℕ → Type 0) : Type 0 where
   pub text : List ℕ
   pub written : Appends old new text
-  pub told : P text
+  pub holds : P text
 
--- a recording with a fault, of which all frames that are closed are told
-pub record IsRefused (bytes text : List ℕ) : Type 0 where
+-- the text is that of all closed frames of a recording with a fault
+pub record IsRefused (workers : ℕ) (bytes text : List ℕ) : Type 0 where
   pub faulty : IsSome (fault bytes)
-  pub told : IsAllFrames bytes text
+  pub frames : IsAllFrames workers bytes text
 
 -- a write failed in a text
-abbrev pub IsCut : List ℕ → List ℕ → Type 0
-IsCut bytes text = IsCutFrame bytes text ⊎ IsCutEnd bytes text
+abbrev pub IsCut : ℕ → List ℕ → List ℕ → Type 0
+IsCut workers bytes text = IsCutFrame workers bytes text ⊎ IsCutEnd workers bytes text
 
--- all frames are told that are closed by whole lines of what was taken from the source
-pub record ReadsSome (old new : Option (List ℕ)) (taken_before taken : Option (List ℕ)) : Type 0 where
-  pub bytes : List ℕ
-  pub consumed : Consumes old new bytes
-  pub told : Writes taken_before taken (IsAllFrames bytes)
+-- lines and the front of one more were taken from the source, which the recording still goes on to, and the frames are
+-- written that those lines close
+pub record ReadsSome (workers : ℕ) (old new : Option (List ℕ)) (taken_before taken : Option (List ℕ)) : Type 0 where
+  pub lines : List (List ℕ)
+  pub front : List ℕ
+  pub each : AllByRecursion HasNoLineFeed lines
+  pub one_line : HasNoLineFeed front
+  pub fits : length front ≤ LONGEST
+  pub going : is_over (after start lines).stage ≡ false
+  pub consumed : Consumes old new (unlines lines ++ front)
+  pub frames : Writes taken_before taken (IsAllFrames workers (unlines lines ++ front))
 
--- a recording was taken from the source up to its line `end`
-pub record ReadsToEnd (old new : Option (List ℕ)) : Type 0 where
-  pub bytes : List ℕ
-  pub consumed : Consumes old new bytes
-  pub accepted : fault bytes ≡ None
+-- the lines of a recording were taken from the source up to its line `end`, and no more was read than the last read had to
+-- give: old, new and last are the source before and after, and how many bytes its last read gave
+pub record ReadsToEnd {S : Type 0} (old new : S) (last : ℕ) (left_before left : Option (List ℕ)) : Type 0 where
+  pub lines : List (List ℕ)
+  pub buffered : List ℕ
+  pub each : AllByRecursion HasNoLineFeed lines
+  pub consumed : Consumes left_before (ahead buffered left) (unlines lines)
+  pub ended : (after start lines).stage ≡ Ended
+  pub going : is_over (after start (all_but_last lines)).stage ≡ false
+  pub needed : HasNotReadAhead old new last [] buffered
 
--- the first frames are told
-pub record IsSomeFrames (bytes text : List ℕ) : Type 0 where
+-- lines were taken from the source that the recording goes on after, and then what is refused: a line or the front of one,
+-- where no more was read than the last read had to give and the input's end wasn't given in this call (same_end), or what
+-- the input ended with (at_end)
+pub record ReadsToRefusal {S : Type 0} (old new : S) (last : ℕ) (same_end at_end : Type 0) (left_before left : Option (List ℕ)) : Type 0 where
+  pub lines : List (List ℕ)
+  pub refused : List ℕ
+  pub buffered : List ℕ
+  pub each : AllByRecursion HasNoLineFeed lines
+  pub consumed : Consumes left_before (ahead buffered left) (unlines lines ++ refused)
+  pub going : is_over (after start lines).stage ≡ false
+  pub why : ((IsRefusedLine (after start lines) refused ⊎ IsLongFront refused) × (HasNotReadAhead old new last [] buffered × same_end))
+      ⊎ (IsLastPart refused (ahead buffered left) × at_end)
+
+-- a sink with so much room can take the whole output of a recording, whichever right journals it has
+abbrev pub HasRoom : ℕ → List ℕ → ℕ → Type 0
+HasRoom workers bytes room =
+    (journals : List (List Entry)) → AreRightIn (map_of bytes) (frames_of bytes) journals
+    → (workers ≡ 1 → AreInOrderIn (map_of bytes) (frames_of bytes) journals) → length (out_text bytes journals) ≤ room
+
+-- the text is that of some of the first frames
+pub record IsSomeFrames (workers : ℕ) (bytes text : List ℕ) : Type 0 where
   pub k : ℕ
-  pub told : IsFront bytes k text
+  pub front : IsFront workers bytes k text

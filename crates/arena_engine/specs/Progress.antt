@@ -6,16 +6,16 @@ use Rattle.demo_lines.specs.Recording.{Reading}
 use Rattle.demo_lines.specs.declared.event.Event.{Event}
 use Rattle.demo_lines.specs.Recording.{start}
 use Rattle.demo_lines.specs.Readings.{IsReading}
-use Rattle.demo_lines.specs.Reads.{Reads, stage_behind}
+use Rattle.demo_lines.specs.Reads.{Reads, stage_after}
 use Rattle.arena_engine.specs.OutLines.{text_of}
 use Rattle.arena_engine.specs.Frames.{collected}
-use Rattle.arena_engine.specs.Games.{Play, front_lines, game_at}
+use Rattle.arena_engine.specs.Games.{GameView, front_lines, game_at}
 
 -- these events were played, and this one comes next
-pub record Progress (arena : ArenaMap) (reading : Reading) (before ahead : Option (List ℕ)) (taken_before taken : Option (List ℕ)) (game : Play) (event : Event) : Type 0 where
+pub record Progress (arena : ArenaMap) (reading : Reading) (before ahead : Option (List ℕ)) (taken_before taken : Option (List ℕ)) (game : GameView) (event : Event) : Type 0 where
   pub events : List Event
   pub reads : Reads start reading before ahead (events ++ event ∷ [])
-  pub stage : reading.stage ≡ stage_behind event
+  pub stage : reading.stage ≡ stage_after event
   pub holds : IsReading reading
   pub map : reading.map ≡ Some arena
   pub few : IfSome (collected events).opened (λ arrivals. length arrivals ≤ 512)

@@ -1,4 +1,4 @@
--- What a player sees at the end of a frame, and the bytes that tell it.
+-- What a player sees at the end of a frame, and the bytes of its snapshot.
 use Rattle.std.specs.Prelude.{ℕ, Bool, ◌&&◌, not, ◌==◌, List, [], ◌∷◌, ◌++◌, length, filter, flat_map, ℤ, pos, if◌then◌else◌}
 use Rattle.std.specs.Int.{to_le_bytes, cast_unsigned, w16, w32}
 use Rattle.arena_geo.specs.declared.vec3.Vec3.{Vec3}
@@ -10,11 +10,11 @@ use Rattle.entity_recs.specs.declared.kind.Kind.{Kind}
 use Rattle.entity_recs.specs.declared.kind.Kind.TheVariants.{Player, Ammo, Gem, Teleporter, Goal, Lift}
 use Rattle.entity_recs.specs.Kinds.{number_of}
 use Rattle.entity_recs.specs.Bodies.{abs_of}
-use Rattle.box_trace.specs.Walls.{place}
+use Rattle.arena_geo.specs.Vectors.{vector}
 
 -- how far a player sees on each axis, in sub-units
 abbrev pub sight : Vec3
-sight = place (pos 262144) (pos 262144) (pos 131072)
+sight = vector (pos 262144) (pos 262144) (pos 131072)
 
 -- the box that a player at this origin sees
 abbrev pub view_of : Vec3 → Bounds
@@ -44,7 +44,7 @@ signed_bytes z = to_le_bytes w32 (cast_unsigned w32 z)
 abbrev pub vector_bytes : Vec3 → List ℕ
 vector_bytes v = signed_bytes v.x ++ signed_bytes v.y ++ signed_bytes v.z
 
--- what is told of a thing that is seen
+-- the bytes of a thing that is seen
 abbrev pub entity_bytes : Rec → List ℕ
 entity_bytes r = to_le_bytes w16 r.id ++ number_of r.kind ∷ status_at r.kind r.state ∷ vector_bytes r.origin
 
@@ -56,11 +56,11 @@ head_bytes frame slot = 1 ∷ [] ++ to_le_bytes w32 frame ++ slot ∷ []
 abbrev pub count_bytes : Rec → List ℕ
 count_bytes me = me.flags ∷ me.ammo ∷ me.carry ∷ [] ++ to_le_bytes w32 me.score ++ to_le_bytes w32 me.seq
 
--- what is told of the player itself
+-- the bytes of the player itself
 abbrev pub own_bytes : ℕ → Rec → List ℕ
 own_bytes frame me = head_bytes frame me.id ++ vector_bytes me.origin ++ vector_bytes me.vel ++ count_bytes me
 
--- the entities behind their number
+-- the entities after their number
 abbrev pub seen_bytes : List Rec → List ℕ
 seen_bytes seen = to_le_bytes w16 (length seen) ++ flat_map entity_bytes seen
 

@@ -1,5 +1,5 @@
 -- The plain server's state between two frames.
-use Rattle.std.specs.Prelude.{◌≡◌, ℕ, ◌<◌, ◌≤◌, true, List, [], ◌∷◌, ◌++◌, length, pos}
+use Rattle.std.specs.Prelude.{◌≡◌, ℕ, ◌<◌, ◌≤◌, true, List, [], ◌∷◌, ◌++◌, length}
 use Rattle.std.specs.List.{AllByRecursion}
 use Rattle.arena_geo.specs.declared.vec3.Vec3.{Vec3}
 use Rattle.arena_geo.specs.Bounds.{Bounds}
@@ -9,23 +9,22 @@ use Rattle.entity_recs.specs.declared.kind.Kind.TheVariants.{Player}
 use Rattle.entity_recs.specs.declared.bodies.TheConstants.{PLAYER_MINS, PLAYER_MAXS}
 use Rattle.entity_recs.specs.Records.{IsRecord}
 use Rattle.entity_recs.specs.Bodies.{body_of}
-use Rattle.box_trace.specs.Walls.{place}
+use Rattle.arena_geo.specs.Vectors.{zero_vector}
 use Rattle.move_journal.specs.Lists.{AreNumbered}
 use Rattle.demo_lines.specs.declared.map.ArenaMap.{ArenaMap}
 use Rattle.demo_lines.specs.Readings.{IsMap}
 use Rattle.arena_engine.specs.declared.client.Client.{Client}
-use Rattle.arena_engine.specs.Outcomes.{fixed_of}
 
 -- the records of all live players in rising id, and the client of each
-pub record State : Type 0 where
+pub record PlayersView : Type 0 where
   pub records : List Rec
   pub clients : List Client
 
 -- before the first frame nobody is there
-abbrev pub opening : State
+abbrev pub opening : PlayersView
 opening = record { records = []; clients = [] }
 
--- a player that has just come in at this place
+-- a player that has just joined at this place
 abbrev pub newcomer : ℕ → Vec3 → Rec
 newcomer slot at = record {
   id = slot;
@@ -33,7 +32,7 @@ newcomer slot at = record {
   origin = at;
   mins = PLAYER_MINS;
   maxs = PLAYER_MAXS;
-  vel = place (pos 0) (pos 0) (pos 0);
+  vel = zero_vector;
   flags = 0;
   ammo = 0;
   carry = 0;
@@ -52,7 +51,7 @@ pub record IsPlayer (r : Rec) : Type 0 where
   pub slot : r.id < 64
 
 -- a state that the server may come to: each record is a player's, the slots are the places in the list and suffice, and each player has its client
-pub record IsState (state : State) : Type 0 where
+pub record IsState (state : PlayersView) : Type 0 where
   pub each : AllByRecursion IsRecord state.records
   pub players : AllByRecursion IsPlayer state.records
   pub numbered : AreNumbered 0 state.records
@@ -61,23 +60,23 @@ pub record IsState (state : State) : Type 0 where
 
 -- the body of the record lies inside the arena
 abbrev pub IsInside : Bounds → Rec → Type 0
-IsInside arena r = contains arena (body_of r) ≡ true
+IsInside bounds r = contains bounds (body_of r) ≡ true
 
 -- all bodies do
 abbrev pub AreInside : Bounds → List Rec → Type 0
-AreInside arena records = AllByRecursion (IsInside arena) records
+AreInside bounds records = AllByRecursion (IsInside bounds) records
 
 -- the state is one that the server may come to in this arena, with all bodies inside
-pub record IsStanding (arena : ArenaMap) (state : State) : Type 0 where
+pub record IsStateIn (map : ArenaMap) (state : PlayersView) : Type 0 where
   pub holds : IsState state
-  pub inside : AreInside arena.bounds state.records
+  pub inside : AreInside map.bounds state.records
 
 -- the state with these records and clients
-abbrev pub state_of : List Rec → List Client → State
+abbrev pub state_of : List Rec → List Client → PlayersView
 state_of records clients = record { records = records; clients = clients }
 
 -- one player more, with the next slot
-abbrev pub with_newcomer : State → ℕ → Vec3 → State
+abbrev pub with_newcomer : PlayersView → ℕ → Vec3 → PlayersView
 with_newcomer state port at = state_of (state.records ++ newcomer (length state.records) at ∷ []) (state.clients ++ client port 0 ∷ [])
 
 -- a state, and room for all players
@@ -87,18 +86,16 @@ pub record ArePlayers (records : List Rec) (clients : List Client) (room_for_rec
   pub clients_fit : 64 ≤ room_for_clients
 
 -- the server between two frames: its arena, its state, and how many frames were run
-pub record Table : Type 0 where
-  pub arena : ArenaMap
-  pub state : State
+pub record ServerView : Type 0 where
+  pub map : ArenaMap
+  pub state : PlayersView
   pub frames : ℕ
 
 -- before the first frame
-abbrev pub set_table : ArenaMap → Table
-set_table arena = record { arena = arena; state = opening; frames = 0 }
+abbrev pub new_server : ArenaMap → ServerView
+new_server map = record { map = map; state = opening; frames = 0 }
 
--- what holds of a server: its solids are those of its arena, its state stands there, and there is room for the bodies of all players
-pub record IsServer (arena : ArenaMap) (solids : List Bounds) (state : State) (room_for_bodies : ℕ) : Type 0 where
-  pub map : IsMap arena
-  pub solids_are : solids ≡ fixed_of arena
-  pub standing : IsStanding arena state
-  pub bodies_fit : 64 ≤ room_for_bodies
+-- what holds of a server: a recording may have its map, and its players are such as may be there
+pub record IsServer (map : ArenaMap) (state : PlayersView) : Type 0 where
+  pub is_map : IsMap map
+  pub standing : IsStateIn map state

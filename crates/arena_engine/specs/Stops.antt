@@ -31,6 +31,20 @@ OnMemory ReadFault P = ⊤
 OnMemory WriteFault P = ⊤
 OnMemory Memory P = P
 
+-- P, unless the source failed
+abbrev pub ButOnReadFault : Stop → Type 0 → Type 0
+ButOnReadFault Refused P = P
+ButOnReadFault ReadFault P = ⊤
+ButOnReadFault WriteFault P = P
+ButOnReadFault Memory P = P
+
+-- P, unless the sink failed
+abbrev pub ButOnWriteFault : Stop → Type 0 → Type 0
+ButOnWriteFault Refused P = P
+ButOnWriteFault ReadFault P = P
+ButOnWriteFault WriteFault P = ⊤
+ButOnWriteFault Memory P = P
+
 -- what a game stops for: a write fault or want of memory
 abbrev pub IsGameStop : Stop → Type 0
 IsGameStop Refused = ⊥

@@ -1,6 +1,7 @@
+use crate::out_line::OutLine;
 use crate::server::Server;
 use crate::stop::Stop;
-use crate::text::push_end;
+use crate::text::push_line;
 use demo_lines::{ArenaMap, Arrival, Event};
 use edge_io::{Sink, write_whole};
 use std::alloc::{AllocError, Global};
@@ -16,27 +17,27 @@ pub struct Game {
 
 impl Model for Game {
     ghost use Rattle.std.specs.Prelude.{Some, None, if◌then◌else◌};
-    ghost use Rattle.arena_engine.specs.Games.{Play};
+    ghost use Rattle.arena_engine.specs.Games.{GameView};
 
-    ghost Value = { Play };
+    ghost Value = { GameView };
 
-    ghost view = { λ g. record { table = g.server; opened = if g.is_open then Some g.arrivals.items else None } };
+    ghost view = { λ g. record { server = g.server; opened = if g.is_open then Some g.arrivals.items else None } };
 }
 
 impl Game {
-    ghost use Rattle.std.specs.Prelude.{◌≡◌, ◌≤◌, ◌++◌, [], Some, None, IfOk, OnOk, OnErr, IfErr, string_bytes};
+    ghost use Rattle.std.specs.Prelude.{◌≡◌, ◌+◌, ◌≤◌, ◌++◌, [], length, Some, None, IfOk, OnOk, OnErr, IfErr, string_bytes};
     ghost use Rattle.std.specs.Io.KnownBytes.{Appends};
     ghost use Rattle.edge_io.specs.Counts.{HasRisen};
     ghost use Rattle.edge_io.specs.Writes.{AppendsPart};
     ghost use Rattle.demo_lines.specs.Readings.{IsMap};
     ghost use Rattle.arena_engine.specs.OutLines.{text_of};
-    ghost use Rattle.arena_engine.specs.Games.{set_game, game_after, event_lines, table_closed, closing_lines, game_closed, IsReady};
+    ghost use Rattle.arena_engine.specs.Games.{new_game, game_after, event_lines, server_closed, closing_lines, game_closed, IsReady};
     ghost use Rattle.arena_engine.specs.Stops.{OnWriteFault, OnMemory, IsGameStop};
 
     /// A game in this arena, before the first event.
     pub fn new(alloc: Global, map: ArenaMap) -> Result<Game, AllocError>
         requires { IsMap map }
-        ensures { IfOk result (λ game. game ≡ set_game map) }
+        ensures { IfOk result (λ game. game ≡ new_game map) }
     {
         Ok(Game {
             server: Server::new(alloc, map)?,
@@ -48,7 +49,7 @@ impl Game {
     /// Closes the frame that is open, and gives its lines. Where none is open there are none.
     fn close(&mut self, alloc: Global) -> Result<String, AllocError>
         requires { IsReady self.old }
-        ensures lines { IfOk result (λ text. string_bytes text ≡ text_of (closing_lines self.old.table self.old.opened)) }
+        ensures lines { IfOk result (λ text. string_bytes text ≡ text_of (closing_lines self.old.server self.old.opened)) }
         ensures next { OnOk result (self.new ≡ game_closed self.old) }
     {
         let mut text = String::new(alloc);
@@ -67,7 +68,7 @@ impl Game {
         ensures next { OnOk result (self.new ≡ game_after self.old Event.End) }
     {
         let mut text = self.close(alloc)?;
-        push_end(&mut text, self.server.frames())?;
+        push_line(alloc, &mut text, &OutLine::End(self.server.frames()))?;
         Ok(text)
     }
 
@@ -123,6 +124,9 @@ impl Game {
         ensures stops { IfErr result IsGameStop }
         ensures later { K.faults sink.old ≤ K.faults sink.new }
         ensures cause { IfErr result (λ stop. OnWriteFault stop (HasRisen (K.faults sink.old) (K.faults sink.new))) }
+        ensures uncounted { OnOk result (K.faults sink.new ≡ K.faults sink.old) }
+        ensures sure { length (text_of (event_lines self.old event)) ≤ K.room sink.old → IfErr result (λ stop. OnWriteFault stop ⊥) }
+        ensures room { OnOk result (K.room sink.old ≤ K.room sink.new + length (text_of (event_lines self.old event))) }
     {
         let text = self.advance(alloc, event)?;
         write_whole(sink, text.as_bytes())?;

@@ -1,11 +1,11 @@
-ghost use Rattle.arena_engine.specs.Laws.{EachPacketIsAnswered, AcceptedNumbersAreApart, PortsStayApart, PlayersKeepRoom, PlayersStayInside, AnyOrderKeepsPlayersInside, WrittenRecordingsHaveOutputs, OrderLeavesOneOutput};
+ghost use Rattle.arena_engine.specs.Laws.{EachPacketIsAnswered, AcceptedNumbersAreApart, PortsStayApart, PlayersKeepRoom, PlayersStayInside, AnyOrderKeepsPlayersInside, WrittenRecordingsHaveOutputs, OneWorkerHasOneOutput, DidLinesAreRead, FrameLinesAreRead};
 
-/// As many refusals, joins and accepted moves come of a frame as packets came.
+/// A frame's refusals, joins and accepted moves are together as many as its packets.
 pub fn each_packet_is_answered()
     ensures { EachPacketIsAnswered }
 {}
 
-/// Of a frame no two accepted moves of one player have one number, so slot and number tell which move it was.
+/// No two accepted moves of one player in a frame share a number, so slot and number say which move it was.
 pub fn accepted_numbers_are_apart()
     ensures { AcceptedNumbersAreApart }
 {}
@@ -15,7 +15,7 @@ pub fn ports_stay_apart()
     ensures { PortsStayApart }
 {}
 
-/// No player ever stands in a wall, in a block or in another player.
+/// No player ever is in a wall, in a block or in another player.
 pub fn players_keep_room()
     ensures { PlayersKeepRoom }
 {}
@@ -31,12 +31,18 @@ pub fn any_order_keeps_players_inside()
     ensures { AnyOrderKeepsPlayersInside }
 {}
 
-/// Each recording that can be written has an output that tells the moves in the order of arrival.
+/// The journals are read off exactly the lines that are printed: no other line opens a frame or reports a move.
+pub fn only_printed_lines_are_read()
+    ensures dids { DidLinesAreRead }
+    ensures frames { FrameLinesAreRead }
+{}
+
+/// Each recording that can be written has an output, with any number of workers.
 pub fn written_recordings_have_outputs()
     ensures { WrittenRecordingsHaveOutputs }
 {}
 
-/// Of a recording there is one output that tells the moves in the order of arrival.
-pub fn order_leaves_one_output()
-    ensures { OrderLeavesOneOutput }
+/// With one worker a recording has at most one output.
+pub fn one_worker_has_one_output()
+    ensures { OneWorkerHasOneOutput }
 {}

@@ -1,9 +1,9 @@
-ghost use Rattle.std.specs.Prelude.{◌≡◌, ◌≤◌, [], ◌∷◌, OnOk, IfErr, IfSome};
+ghost use Rattle.std.specs.Prelude.{◌≡◌, ◌≤◌, true, [], ◌∷◌, OnOk, IfErr, IfSome, IsSomeAnd};
 ghost use Rattle.std.specs.Bool.{OnTrue};
 ghost use Rattle.edge_io.specs.Counts.{HasRisen};
 ghost use Rattle.arena_engine.specs.Games as games;
-ghost use Rattle.arena_engine.specs.Output.{Writes, IsOutput, TellsInOrder, IsRefused, IsCut, IsSomeFrames, ReadsSome, ReadsToEnd};
-ghost use Rattle.arena_engine.specs.Stops.{OnRefused, OnReadFault, OnWriteFault, OnMemory};
+ghost use Rattle.arena_engine.specs.Output.{Writes, IsOutput, IsRefused, IsCut, IsSomeFrames, ReadsSome, ReadsToEnd, ReadsToRefusal, HasRoom};
+ghost use Rattle.arena_engine.specs.Stops.{OnRefused, OnReadFault, OnWriteFault, OnMemory, ButOnReadFault, ButOnWriteFault};
 
 use crate::game::Game;
 use crate::stop::Stop;
@@ -21,24 +21,32 @@ fn is_end(event: &Event) -> bool
     }
 }
 
-/// Plays a recording from the source, and writes its output to the sink, each frame before the next line is looked at.
+/// Plays a recording from the source on one worker, and writes its output to the sink, each frame before the next line
+/// is read.
 pub fn play<S: Source, K: Sink>(alloc: Global, source: &mut S, sink: &mut K) -> Result<(), Stop>
     ensures done { OnOk result (IfSome (S.left source.old) (λ bytes.
-        Writes (K.taken sink.old) (K.taken sink.new) (IsOutput bytes))) }
-    ensures order { OnOk result (IfSome (S.left source.old) (λ bytes.
-        Writes (K.taken sink.old) (K.taken sink.new) (TellsInOrder bytes))) }
-    ensures read { OnOk result (ReadsToEnd (S.left source.old) (S.left source.new)) }
+        Writes (K.taken sink.old) (K.taken sink.new) (IsOutput 1 bytes))) }
+    ensures read { OnOk result (ReadsToEnd source.old source.new (S.last source.new) (S.left source.old) (S.left source.new)) }
     ensures refused { IfErr result (λ stop. OnRefused stop (IfSome (S.left source.old) (λ bytes.
-        Writes (K.taken sink.old) (K.taken sink.new) (IsRefused bytes)))) }
+        Writes (K.taken sink.old) (K.taken sink.new) (IsRefused 1 bytes)))) }
+    ensures refused_read { IfErr result (λ stop. OnRefused stop (ReadsToRefusal source.old source.new (S.last source.new)
+        (S.ended source.new ≡ S.ended source.old) (S.ended source.new ≡ true) (S.left source.old) (S.left source.new))) }
     ensures read_fault { IfErr result (λ stop. OnReadFault stop
-        (ReadsSome (S.left source.old) (S.left source.new) (K.taken sink.old) (K.taken sink.new))) }
+        (ReadsSome 1 (S.left source.old) (S.left source.new) (K.taken sink.old) (K.taken sink.new))) }
     ensures write_fault { IfErr result (λ stop. OnWriteFault stop (IfSome (S.left source.old) (λ bytes.
-        Writes (K.taken sink.old) (K.taken sink.new) (IsCut bytes)))) }
+        Writes (K.taken sink.old) (K.taken sink.new) (IsCut 1 bytes)))) }
     ensures memory { IfErr result (λ stop. OnMemory stop (IfSome (S.left source.old) (λ bytes.
-        Writes (K.taken sink.old) (K.taken sink.new) (IsSomeFrames bytes)))) }
+        Writes (K.taken sink.old) (K.taken sink.new) (IsSomeFrames 1 bytes)))) }
 
     ensures read_cause { IfErr result (λ stop. OnReadFault stop (HasRisen (S.faults source.old) (S.faults source.new))) }
     ensures write_cause { IfErr result (λ stop. OnWriteFault stop (HasRisen (K.faults sink.old) (K.faults sink.new))) }
+    ensures no_end { IfErr result (λ stop. OnReadFault stop (S.ended source.new ≡ S.ended source.old)) }
+    ensures reads_done { OnOk result (S.faults source.new ≡ S.faults source.old) }
+    ensures reads_stopped { IfErr result (λ stop. ButOnReadFault stop (S.faults source.new ≡ S.faults source.old)) }
+    ensures writes_done { OnOk result (K.faults sink.new ≡ K.faults sink.old) }
+    ensures writes_stopped { IfErr result (λ stop. ButOnWriteFault stop (K.faults sink.new ≡ K.faults sink.old)) }
+    ensures sure_reads { S.never_fails source.old → IfErr result (λ stop. OnReadFault stop ⊥) }
+    ensures sure_writes { IsSomeAnd (S.left source.old) (λ bytes. HasRoom 1 bytes (K.room sink.old)) → IfErr result (λ stop. OnWriteFault stop ⊥) }
     ensures read_later { S.faults source.old ≤ S.faults source.new }
     ensures write_later { K.faults sink.old ≤ K.faults sink.new }
 {

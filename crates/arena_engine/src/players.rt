@@ -5,6 +5,7 @@ ghost use Rattle.entity_recs.specs.Bodies.{body_of};
 ghost use Rattle.entity_recs.specs.Records.{IsRecord};
 ghost use Rattle.arena_engine.specs.States as states;
 
+use crate::bodies::Bodies;
 use crate::client::Client;
 use crate::refusal::Refusal;
 use arena_geo::{Aabb, Vec3};
@@ -24,16 +25,16 @@ pub struct Players {
 
 impl Model for Players {
     ghost use Rattle.std.specs.Prelude.{◌≤◌, vec_capacity};
-    ghost use Rattle.arena_engine.specs.States.{State, IsState, ArePlayers, state_of};
+    ghost use Rattle.arena_engine.specs.States.{PlayersView, IsState, ArePlayers, state_of};
 
-    ghost Value = { State };
+    ghost Value = { PlayersView };
 
     ghost view = { λ p. state_of p.records.items p.clients.items };
 
     ghost invariant = { λ p. ArePlayers p.records.items p.clients.items (vec_capacity p.records) (vec_capacity p.clients) };
 }
 
-/// A player that has just come in at this place, with this slot.
+/// A player that has just joined at this place, with this slot.
 fn newcomer(slot: u8, at: Vec3) -> Rec
     ensures { result ≡ states.newcomer slot at }
 {
@@ -43,7 +44,7 @@ fn newcomer(slot: u8, at: Vec3) -> Rec
         origin: at,
         mins: PLAYER_MINS,
         maxs: PLAYER_MAXS,
-        vel: Vec3 { x: 0, y: 0, z: 0 },
+        vel: Vec3::ZERO,
         flags: 0,
         ammo: 0,
         carry: 0,
@@ -67,7 +68,7 @@ fn any_overlaps(records: &[Rec], body: &Aabb) -> bool
 }
 
 impl Players {
-    ghost use Rattle.std.specs.Prelude.{◌≡◌, ◌==◌, ◌<◌, ◌≤◌, not, length, nat_le, map, filter, vec_capacity, slice_set, position, Some, IfSome, IfOk};
+    ghost use Rattle.std.specs.Prelude.{◌≡◌, ◌==◌, ◌<◌, ◌≤◌, not, length, nat_le, map, filter, slice_set, position, Some, IfSome, IfOk};
     ghost use Rattle.std.specs.List.{list_any, slice_get, AllByRecursion};
     ghost use Rattle.arena_geo.specs.Vectors.{IsNear};
     ghost use Rattle.arena_geo.specs.Boxes.{overlaps};
@@ -112,7 +113,7 @@ impl Players {
 
     /// Whether all slots are live.
     pub fn is_full(&self) -> bool
-        ensures { result ≡ nat_le 64 (length self.now.records) }
+        ensures { result ≡ nat_le MOST_PLAYERS (length self.now.records) }
     {
         self.records.len() >= MOST_PLAYERS
     }
@@ -124,9 +125,9 @@ impl Players {
         any_overlaps(self.records.as_slice(), body)
     }
 
-    /// A player of this port comes in at this place, with the next slot. It takes no memory.
+    /// A player of this port joins at this place, and gets the next slot. It takes no memory.
     pub fn add(&mut self, port: u16, at: Vec3) -> u8
-        requires room { length self.old.records < 64 }
+        requires room { length self.old.records < MOST_PLAYERS }
         requires near { IsNear 1048576 at }
         ensures slot { result ≡ length self.old.records }
         ensures joined { self.new ≡ with_newcomer self.old port at }
@@ -151,7 +152,7 @@ impl Players {
     pub fn mover(&self, port: u16, seq: u32) -> Result<u8, Refusal>
         ensures value { result ≡ receiving.mover self.now port seq }
         ensures live { IfOk result (λ slot. slot < length self.now.records) }
-        ensures low { IfOk result (λ slot. slot < 64) }
+        ensures low { IfOk result (λ slot. slot < MOST_PLAYERS) }
     {
         let Some(slot) = self.slot_of(port) else {
             return Err(Refusal::NotJoined);
@@ -162,25 +163,23 @@ impl Players {
         Ok(slot as u8)
     }
 
-    /// The last accepted move of this player, whose port it is, has this number.
-    pub fn accept(&mut self, slot: u8, port: u16, seq: u32)
+    /// The last accepted move of this player has this number.
+    pub fn accept(&mut self, slot: u8, seq: u32)
         requires { slot < length self.old.records }
-        ensures { self.new ≡ receiving.with_last self.old slot port seq }
+        ensures { self.new ≡ receiving.with_last self.old slot seq }
     {
-        self.clients[usize::from(slot)] = Client { port, last: seq };
+        self.clients[usize::from(slot)].last = seq;
     }
 
-    /// Makes `bodies` those of all players but this one, in rising slot. It takes no memory.
-    pub fn others(&self, slot: u8, bodies: &mut Vec<Aabb>)
-        requires { 64 ≤ vec_capacity bodies.old }
-        ensures bodies { bodies.new.items ≡ map body_of (filter (λ r. not (r.id == slot)) self.now.records) }
-        ensures few { length bodies.new.items ≤ 64 }
-        ensures room { vec_capacity bodies.new ≡ vec_capacity bodies.old }
+    /// Fills `bodies` with those of all players but this one, in rising slot. It takes no memory.
+    pub fn others(&self, slot: u8, bodies: &mut Bodies)
+        ensures bodies { bodies.new ≡ map body_of (filter (λ r. not (r.id == slot)) self.now.records) }
+        ensures few { length bodies.new ≤ MOST_PLAYERS }
     {
         bodies.clear();
         for r in self.records.as_slice() {
             if r.id != u16::from(slot) {
-                bodies.push_reserved(body_box(r));
+                bodies.push(body_box(r));
             }
         }
     }

@@ -17,7 +17,7 @@ pub enum Refusal {
     #[error("all slots are live")]
     Full,
     /// A join: at the spawn a player's body would overlap a wall, a block or another player's body.
-    #[error("there is no room to come in")]
+    #[error("there is no room at the spawn")]
     Crowded,
     /// A move: no player of this port is there.
     #[error("the port isn't joined")]
@@ -27,7 +27,7 @@ pub enum Refusal {
     Old,
 }
 
-/// The name by which the output tells a packet's fault.
+/// The name of a packet's fault in the output.
 fn fault_name(fault: PacketFault) -> &'static str
     ensures { result.now ≡ fault_name_of fault }
 {
@@ -46,7 +46,7 @@ impl Refusal {
     ghost use Rattle.std.specs.Prelude.{◌≡◌};
     ghost use Rattle.arena_engine.specs.OutLines.{name_of};
 
-    /// The name by which the output tells it.
+    /// Its name in the output.
     pub fn name(self) -> &'static str
         ensures { result.now ≡ name_of self }
     {

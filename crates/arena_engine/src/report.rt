@@ -6,11 +6,11 @@ pub struct Report {
     /// The status, which the program ends with: 0 done, 1 recording refused, 2 words refused, 3 read fault, 4 write
     /// fault, 5 want of memory.
     pub status: u8,
-    /// The number of the refused line. Until refusals are told by place, 0.
+    /// The number of the refused line. Until refusals are reported by place, 0.
     pub line: u64,
-    /// What the refused line's fault is. Until refusals are told by place, 0.
+    /// What the refused line's fault is. Until refusals are reported by place, 0.
     pub fault: u8,
-    /// Which rule the refused arena breaks. Until refusals are told by place, 0.
+    /// Which rule the refused arena breaks. Until refusals are reported by place, 0.
     pub rule: u8,
 }
 

@@ -79,7 +79,7 @@ fn push_vector(out: &mut LineBuf, v: Vec3)
     push_signed(out, v.z);
 }
 
-/// What is told of a thing that is seen.
+/// The bytes of a thing that is seen.
 fn push_entity(out: &mut LineBuf, r: &Rec)
     requires { length out.old + 16 ≤ 8300 }
     ensures bytes { out.new ≡ out.old ++ spec.entity_bytes r.now }
@@ -112,7 +112,7 @@ fn push_counts(out: &mut LineBuf, me: &Rec)
     out.extend(&me.seq.to_le_bytes());
 }
 
-/// What is told of the player itself.
+/// The bytes of the player itself.
 fn push_own(out: &mut LineBuf, frame: u32, me: &Rec)
     requires room { length out.old + 41 ≤ 8300 }
     requires slot { me.now.id < 64 }
@@ -125,7 +125,7 @@ fn push_own(out: &mut LineBuf, frame: u32, me: &Rec)
     push_counts(out, me);
 }
 
-/// What is told of a record, if the player sees it.
+/// The bytes of a record, if the player sees it.
 fn push_if_seen(out: &mut LineBuf, view: &Aabb, me: &Rec, r: &Rec)
     requires room { length out.old + 16 ≤ 8300 }
     requires record { IsRecord r.now }
@@ -138,7 +138,7 @@ fn push_if_seen(out: &mut LineBuf, view: &Aabb, me: &Rec, r: &Rec)
     }
 }
 
-/// What is told of each of the records that the player sees.
+/// The bytes of each of the records that the player sees.
 fn push_entities(out: &mut LineBuf, view: &Aabb, me: &Rec, records: &[Rec])
     requires room { length out.old + 16 * length records.now ≤ 8300 }
     requires records { AllByRecursion IsRecord records.now }
@@ -150,7 +150,7 @@ fn push_entities(out: &mut LineBuf, view: &Aabb, me: &Rec, records: &[Rec])
     }
 }
 
-/// Puts the snapshot of a player at the end of `out`: what is told of it, and of each thing of all records that it sees.
+/// Puts the snapshot of a player at the end of `out`: the bytes of the player, and of each of the records that it sees.
 pub fn push_snapshot(out: &mut LineBuf, frame: u32, me: &Rec, records: &[Rec])
     requires room { length out.old ≤ 100 }
     requires me { IsRecord me.now }

@@ -1,16 +1,36 @@
+ghost use Rattle.std.specs.Prelude.{◌≡◌, IfOk, None};
+ghost use Rattle.demo_lines.specs.Bytes.{fault};
+ghost use Rattle.arena_engine.specs.Output.{HasRoom};
+ghost use Rattle.arena_engine.specs.Serving.{IsOrMemory};
+
 use super::*;
 use edge_io::{MemSink, MemSource};
 use std::alloc::AllocError;
 use std::process::Abort;
 use std::test::Fail;
 
+mod full;
+mod pipe;
+
 const ARENA: &str = "arena -131072 -131072 0 131072 131072 65536\n";
 
 const ONE_JOIN: &str =
     "arena -131072 -131072 0 131072 131072 65536\nspawn 0 0 6144\nframe\nfrom 7 0101\nend\n";
 
-const ONE_JOIN_TOLD: &str =
+const ONE_JOIN_OUTPUT: &str =
     "frame 0\njoined 7 0\nto 0 01000000000000000000000000000018000000000000000000000000000000000000000000000000000000\nend 1\n";
+
+/// Plays a recording from memory into memory. Where it has no fault and its output fits, the status is 0, or 5 where
+/// memory is short: what `serve` promises is enough to know that.
+fn played(alloc: Global, recording: &[u8], room: usize) -> Result<Report, AllocError>
+    requires whole { fault recording.now ≡ None }
+    requires room { HasRoom 1 recording.now room }
+    ensures { IfOk result (λ report. IsOrMemory report.status 0) }
+{
+    let mut source = MemSource::new(recording, 8, &[]);
+    let mut sink = MemSink::new(alloc, room, 8)?;
+    Ok(serve(alloc, &["play", "1"], &mut source, &mut sink))
+}
 
 /// Plays a recording without a fault, and compares the status and the output.
 fn expect(
@@ -27,22 +47,67 @@ fn expect(
     Ok(())
 }
 
+const SECOND_FRAME: &str =
+    "arena -131072 -131072 0 131072 131072 65536\nspawn 0 0 6144\nframe\nfrom 7 0101\nframe\nend\n";
+
+const SECOND_OUTPUT: &str =
+    "frame 0\njoined 7 0\nto 0 01000000000000000000000000000018000000000000000000000000000000000000000000000000000000\nframe 1\nto 0 01010000000000000000000000000018000000000000000000000000000000000000000000000000000000\nend 2\n";
+
+const CROWDED: &str =
+    "arena -131072 -131072 0 131072 131072 65536\nspawn 0 0 6144\nframe\nfrom 7 0101\nfrom 8 0101\nend\n";
+
+const CROWDED_OUTPUT: &str =
+    "frame 0\nno 1 Crowded\njoined 7 0\nto 0 01000000000000000000000000000018000000000000000000000000000000000000000000000000000000\nend 1\n";
+
+const NO_FRAME: &str = "arena -131072 -131072 0 131072 131072 65536\nend\nframe\n";
+
+const STEP: &str =
+    "arena -131072 -131072 0 131072 131072 65536\nspawn 0 0 6144\nblock 5120 -12800 0 12800 12800 4608\nframe\nfrom 7 0101\nfrom 7 010201000000324001000000\nend\n";
+
+const STEP_OUTPUT: &str =
+    "frame 0\njoined 7 0\ndid 0 1 2048 0 10752 -\nto 0 0100000000000008000000000000002a000000a00000000000000000000001000000000000010000000000\nend 1\n";
+
+const WALL: &str =
+    "arena -131072 -131072 0 131072 131072 65536\nspawn 0 0 6144\nblock 5120 -12800 0 12800 12800 4609\nframe\nfrom 7 0101\nfrom 7 010201000000324001000000\nend\n";
+
+const WALL_OUTPUT: &str =
+    "frame 0\njoined 7 0\ndid 0 1 1024 0 6144 -\nto 0 01000000000000040000000000000018000000000000000000000000000001000000000000010000000000\nend 1\n";
+
+const JUMP: &str =
+    "arena -131072 -131072 0 131072 131072 65536\nspawn 0 0 6144\nframe\nfrom 7 0101\nfrom 7 010201000000320000000001\nfrom 7 010202000000320000000001\nend\n";
+
+const JUMP_OUTPUT: &str =
+    "frame 0\njoined 7 0\ndid 0 1 0 0 9088 -\ndid 0 2 0 0 11520 -\nto 0 0100000000000000000000000000002d0000000000000000000000be000000000000000000020000000000\nend 1\n";
+
+const OLD: &str =
+    "arena -131072 -131072 0 131072 131072 65536\nspawn 0 0 6144\nframe\nfrom 7 0101\nfrom 7 010205000000320000000000\nfrom 7 010205000000320000000000\nfrom 7 010204000000320000000000\nfrom 7 010206000000320000000000\nend\n";
+
+const OLD_OUTPUT: &str =
+    "frame 0\nno 2 Old\nno 3 Old\njoined 7 0\ndid 0 5 0 0 6144 -\ndid 0 6 0 0 6144 -\nto 0 01000000000000000000000000000018000000000000000000000000000001000000000000060000000000\nend 1\n";
+
+const FAULTY: &str =
+    "arena -131072 -131072 0 131072 131072 65536\nspawn 0 0 6144\nframe\nfrom 7 -\nfrom 7 02\nfrom 7 0109\nfrom 7 01\nfrom 7 010100\nfrom 7 010201000000004001000000\nfrom 7 010201000000324001000080\nfrom 7 0103\nfrom 7 010201000000320000000000\nend\n";
+
+const FAULTY_OUTPUT: &str =
+    "frame 0\nno 0 Empty\nno 1 Version\nno 2 Kind\nno 3 Short\nno 4 Long\nno 5 Time\nno 6 Buttons\nno 7 Kind\nno 8 NotJoined\nend 1\n";
+
+const BLOCKED: &str =
+    "arena -131072 -131072 0 131072 131072 65536\nspawn 0 0 6144\nblock 4095 -12800 0 12800 12800 4608\nframe\nfrom 7 0101\nend\n";
+
+/// Two frames: a join, and then three moves along x, with the wish 320 and 50 milliseconds each.
+const THREE_MOVES: &str =
+    "arena -131072 -131072 0 131072 131072 65536\nspawn 0 0 6144\nframe\nfrom 7 0101\nframe\nfrom 7 010201000000324001000000\nfrom 7 010202000000324001000000\nfrom 7 010203000000324001000000\nend\n";
+
+const THREE_MOVES_OUTPUT: &str =
+    "frame 0\njoined 7 0\nto 0 01000000000000000000000000000018000000000000000000000000000000000000000000000000000000\nframe 1\ndid 0 1 2048 0 6144 -\ndid 0 2 5734 0 6144 -\ndid 0 3 9830 0 6144 -\nto 0 01010000000066260000000000000018000000400100000000000000000001000000000000030000000000\nend 2\n";
+
 #[test]
-fn recordings_are_told_frame_by_frame(rt: HostRuntime) -> Result<(), Fail> {
-    let second_frame =
-        "arena -131072 -131072 0 131072 131072 65536\nspawn 0 0 6144\nframe\nfrom 7 0101\nframe\nend\n";
-    let second_told =
-        "frame 0\njoined 7 0\nto 0 01000000000000000000000000000018000000000000000000000000000000000000000000000000000000\nframe 1\nto 0 01010000000000000000000000000018000000000000000000000000000000000000000000000000000000\nend 2\n";
-    let crowded =
-        "arena -131072 -131072 0 131072 131072 65536\nspawn 0 0 6144\nframe\nfrom 7 0101\nfrom 8 0101\nend\n";
-    let crowded_told =
-        "frame 0\nno 1 Crowded\njoined 7 0\nto 0 01000000000000000000000000000018000000000000000000000000000000000000000000000000000000\nend 1\n";
-    let no_frame = "arena -131072 -131072 0 131072 131072 65536\nend\nframe\n";
+fn frames_are_printed_in_order(rt: HostRuntime) -> Result<(), Fail> {
     let rows = [
-        (ONE_JOIN, ONE_JOIN_TOLD),
-        (second_frame, second_told),
-        (crowded, crowded_told),
-        (no_frame, "end 0\n"),
+        (ONE_JOIN, ONE_JOIN_OUTPUT),
+        (SECOND_FRAME, SECOND_OUTPUT),
+        (CROWDED, CROWDED_OUTPUT),
+        (NO_FRAME, "end 0\n"),
     ];
     for (recording, output) in rows {
         expect(&rt, recording, 0, output)?;
@@ -50,32 +115,13 @@ fn recordings_are_told_frame_by_frame(rt: HostRuntime) -> Result<(), Fail> {
     Ok(())
 }
 
-/// Two frames: a join, and then three moves along x, with the wish 320 and 50 milliseconds each.
-const THREE_MOVES: &str =
-    "arena -131072 -131072 0 131072 131072 65536\nspawn 0 0 6144\nframe\nfrom 7 0101\nframe\nfrom 7 010201000000324001000000\nfrom 7 010202000000324001000000\nfrom 7 010203000000324001000000\nend\n";
-
-const THREE_MOVES_TOLD: &str =
-    "frame 0\njoined 7 0\nto 0 01000000000000000000000000000018000000000000000000000000000000000000000000000000000000\nframe 1\ndid 0 1 2048 0 6144 -\ndid 0 2 5734 0 6144 -\ndid 0 3 9830 0 6144 -\nto 0 01010000000066260000000000000018000000400100000000000000000001000000000000030000000000\nend 2\n";
-
 #[test]
 fn players_move(rt: HostRuntime) -> Result<(), Fail> {
-    let step =
-        "arena -131072 -131072 0 131072 131072 65536\nspawn 0 0 6144\nblock 5120 -12800 0 12800 12800 4608\nframe\nfrom 7 0101\nfrom 7 010201000000324001000000\nend\n";
-    let step_told =
-        "frame 0\njoined 7 0\ndid 0 1 2048 0 10752 -\nto 0 0100000000000008000000000000002a000000a00000000000000000000001000000000000010000000000\nend 1\n";
-    let wall =
-        "arena -131072 -131072 0 131072 131072 65536\nspawn 0 0 6144\nblock 5120 -12800 0 12800 12800 4609\nframe\nfrom 7 0101\nfrom 7 010201000000324001000000\nend\n";
-    let wall_told =
-        "frame 0\njoined 7 0\ndid 0 1 1024 0 6144 -\nto 0 01000000000000040000000000000018000000000000000000000000000001000000000000010000000000\nend 1\n";
-    let jump =
-        "arena -131072 -131072 0 131072 131072 65536\nspawn 0 0 6144\nframe\nfrom 7 0101\nfrom 7 010201000000320000000001\nfrom 7 010202000000320000000001\nend\n";
-    let jump_told =
-        "frame 0\njoined 7 0\ndid 0 1 0 0 9088 -\ndid 0 2 0 0 11520 -\nto 0 0100000000000000000000000000002d0000000000000000000000be000000000000000000020000000000\nend 1\n";
     let rows = [
-        (THREE_MOVES, THREE_MOVES_TOLD),
-        (step, step_told),
-        (wall, wall_told),
-        (jump, jump_told),
+        (THREE_MOVES, THREE_MOVES_OUTPUT),
+        (STEP, STEP_OUTPUT),
+        (WALL, WALL_OUTPUT),
+        (JUMP, JUMP_OUTPUT),
     ];
     for (recording, output) in rows {
         expect(&rt, recording, 0, output)?;
@@ -85,20 +131,10 @@ fn players_move(rt: HostRuntime) -> Result<(), Fail> {
 
 #[test]
 fn packets_are_refused_by_name(rt: HostRuntime) -> Result<(), Fail> {
-    let old =
-        "arena -131072 -131072 0 131072 131072 65536\nspawn 0 0 6144\nframe\nfrom 7 0101\nfrom 7 010205000000320000000000\nfrom 7 010205000000320000000000\nfrom 7 010204000000320000000000\nfrom 7 010206000000320000000000\nend\n";
-    let old_told =
-        "frame 0\nno 2 Old\nno 3 Old\njoined 7 0\ndid 0 5 0 0 6144 -\ndid 0 6 0 0 6144 -\nto 0 01000000000000000000000000000018000000000000000000000000000001000000000000060000000000\nend 1\n";
-    let faulty =
-        "arena -131072 -131072 0 131072 131072 65536\nspawn 0 0 6144\nframe\nfrom 7 -\nfrom 7 02\nfrom 7 0109\nfrom 7 01\nfrom 7 010100\nfrom 7 010201000000004001000000\nfrom 7 010201000000324001000080\nfrom 7 0103\nfrom 7 010201000000320000000000\nend\n";
-    let faulty_told =
-        "frame 0\nno 0 Empty\nno 1 Version\nno 2 Kind\nno 3 Short\nno 4 Long\nno 5 Time\nno 6 Buttons\nno 7 Kind\nno 8 NotJoined\nend 1\n";
-    let blocked =
-        "arena -131072 -131072 0 131072 131072 65536\nspawn 0 0 6144\nblock 4095 -12800 0 12800 12800 4608\nframe\nfrom 7 0101\nend\n";
     let rows = [
-        (old, old_told),
-        (faulty, faulty_told),
-        (blocked, "frame 0\nno 0 Crowded\nend 1\n"),
+        (OLD, OLD_OUTPUT),
+        (FAULTY, FAULTY_OUTPUT),
+        (BLOCKED, "frame 0\nno 0 Crowded\nend 1\n"),
     ];
     for (recording, output) in rows {
         expect(&rt, recording, 0, output)?;
@@ -138,7 +174,7 @@ fn other_words_are_refused(rt: HostRuntime) -> Result<(), Fail> {
 }
 
 #[test]
-fn a_failing_read_is_told(rt: HostRuntime) -> Result<(), Fail> {
+fn a_failing_read_is_reported(rt: HostRuntime) -> Result<(), Fail> {
     let mut source = MemSource::new(ONE_JOIN.as_bytes(), 8, &[3]);
     let mut sink = MemSink::new(rt.alloc(), 1_000, 100)?;
     let report = serve(rt.alloc(), &["play", "1"], &mut source, &mut sink);

@@ -2,14 +2,15 @@ ghost use Rattle.std.specs.Prelude.{◌≡◌, ◌<◌, ◌≤◌, [], ◌++◌,
 ghost use Rattle.std.specs.List.{AllByRecursion};
 ghost use Rattle.entity_recs.specs.Records.{IsRecord};
 ghost use Rattle.arena_engine.specs.OutLines.{printed, text_of, FrameLine, NoLine, JoinedLine, DidLine, ToLine, EndLine};
-ghost use Rattle.arena_engine.specs.Frames.{no_line, joined_line, did_line, to_line, frame_lines};
-ghost use Rattle.move_journal.specs.Commands.{command_of};
+ghost use Rattle.arena_engine.specs.Frames.{did_line, to_line, frame_lines};
+ghost use Rattle.arena_engine.specs.Printing.{line_of};
 ghost use Rattle.arena_engine.specs.States.{IsPlayer};
-ghost use Rattle.move_journal.specs.Tellings.{told};
-ghost use Rattle.arena_engine.specs.Receiving.{pass_as};
+ghost use Rattle.move_journal.specs.Entries.{entry_value};
+ghost use Rattle.arena_engine.specs.Receiving.{reception};
 
+use crate::out_line::{OutLine, Printed};
 use crate::players::Players;
-use crate::received::{Joined, Received, Turned};
+use crate::received::{Joined, Received, Refused};
 use crate::snapshot::push_snapshot;
 use arena_geo::Vec3;
 use edge_io::LineBuf;
@@ -25,18 +26,18 @@ fn push_frame(text: &mut String, frame: u32) -> Result<(), AllocError>
 }
 
 /// Puts the output's last line at the end.
-pub fn push_end(text: &mut String, frames: u32) -> Result<(), AllocError>
+fn push_end(text: &mut String, frames: u32) -> Result<(), AllocError>
     ensures ok { OnOk result (string_bytes text.new ≡ string_bytes text.old ++ printed (EndLine frames)) }
 {
     writeln!(text, "end {frames}")
 }
 
 /// Puts the line of a refused packet at the end.
-fn push_no(text: &mut String, turned: Turned) -> Result<(), AllocError>
-    ensures ok { OnOk result (string_bytes text.new ≡ string_bytes text.old ++ printed (NoLine turned.place turned.why)) }
+fn push_no(text: &mut String, refused: Refused) -> Result<(), AllocError>
+    ensures ok { OnOk result (string_bytes text.new ≡ string_bytes text.old ++ printed (NoLine refused.place refused.why)) }
 {
-    let place = turned.place;
-    let name = turned.why.name();
+    let place = refused.place;
+    let name = refused.why.name();
     writeln!(text, "no {place} {name}")
 }
 
@@ -51,7 +52,7 @@ fn push_joined(text: &mut String, joined: Joined) -> Result<(), AllocError>
 
 /// Puts the line of a move that was done at the end. Nothing is got by a move yet.
 fn push_did(text: &mut String, entry: Entry) -> Result<(), AllocError>
-    ensures ok { OnOk result (string_bytes text.new ≡ string_bytes text.old ++ printed (did_line (told entry))) }
+    ensures ok { OnOk result (string_bytes text.new ≡ string_bytes text.old ++ printed (did_line (entry_value entry))) }
 {
     let slot = entry.slot;
     let seq = entry.seq;
@@ -67,33 +68,26 @@ fn push_to(alloc: Global, text: &mut String, slot: u16, bytes: &[u8]) -> Result<
     writeln!(text, "to {slot} {digits}")
 }
 
-/// Puts the lines of the refused packets at the end.
-fn push_refusals(text: &mut String, refused: &[Turned]) -> Result<(), AllocError>
-    ensures ok { OnOk result (string_bytes text.new ≡ string_bytes text.old ++ text_of (map no_line refused.now)) }
+/// Puts a line and its line feed at the end.
+pub fn push_line(alloc: Global, text: &mut String, line: &OutLine) -> Result<(), AllocError>
+    ensures ok { OnOk result (string_bytes text.new ≡ string_bytes text.old ++ printed (line_of line.now)) }
 {
-    for turned in refused {
-        push_no(text, *turned)?;
+    match line {
+        OutLine::Frame(frame) => push_frame(text, *frame),
+        OutLine::No(refused) => push_no(text, *refused),
+        OutLine::Joined(joined) => push_joined(text, *joined),
+        OutLine::Did(entry) => push_did(text, *entry),
+        OutLine::To(slot, bytes) => push_to(alloc, text, *slot, bytes),
+        OutLine::End(frames) => push_end(text, *frames),
     }
-    Ok(())
 }
 
-/// Puts the lines of the players that came in at the end.
-fn push_joins(text: &mut String, joined: &[Joined]) -> Result<(), AllocError>
-    ensures ok { OnOk result (string_bytes text.new ≡ string_bytes text.old ++ text_of (map joined_line joined.now)) }
+/// Puts the lines of these at the end, one each.
+fn push_each<T: Printed>(alloc: Global, text: &mut String, items: &[T]) -> Result<(), AllocError>
+    ensures ok { OnOk result (string_bytes text.new ≡ string_bytes text.old ++ text_of (map T.line items.now)) }
 {
-    for j in joined {
-        push_joined(text, *j)?;
-    }
-    Ok(())
-}
-
-/// Puts the lines of the journal at the end.
-fn push_dids(text: &mut String, journal: &[Entry]) -> Result<(), AllocError>
-    ensures ok { OnOk result (string_bytes text.new
-        ≡ string_bytes text.old ++ text_of (map did_line (map told journal.now))) }
-{
-    for entry in journal {
-        push_did(text, *entry)?;
+    for item in items {
+        push_line(alloc, text, &item.line())?;
     }
     Ok(())
 }
@@ -115,7 +109,7 @@ fn push_reply(
 {
     buf.clear();
     push_snapshot(buf, frame, me, records);
-    push_to(alloc, text, me.id, buf.as_slice())
+    push_line(alloc, text, &OutLine::To(me.id, buf.as_slice()))
 }
 
 /// Puts the line of each player's snapshot at the end.
@@ -148,13 +142,11 @@ pub fn push_frame_lines(
     players: &Players,
 ) -> Result<(), AllocError>
     ensures ok { OnOk result (string_bytes text.new ≡ string_bytes text.old
-        ++ text_of (frame_lines frame
-        (pass_as players.now received.now.refused.items received.now.joined.items (map command_of received.now.moves.items))
-        (map told journal.now) players.now.records)) }
+        ++ text_of (frame_lines frame (reception players.now received.now) (map entry_value journal.now) players.now.records)) }
 {
-    push_frame(text, frame)?;
-    push_refusals(text, received.refused.as_slice())?;
-    push_joins(text, received.joined.as_slice())?;
-    push_dids(text, journal)?;
+    push_line(alloc, text, &OutLine::Frame(frame))?;
+    push_each(alloc, text, received.refused())?;
+    push_each(alloc, text, received.joined())?;
+    push_each(alloc, text, journal)?;
     push_replies(alloc, text, buf, frame, players.records())
 }

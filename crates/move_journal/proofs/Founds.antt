@@ -1,11 +1,11 @@
--- Each entry of moves that run in a row tells the move that it was made of, where the numbers are apart.
+-- Each entry of moves that run in a row is_entry_of the move that it was made of, where the numbers are apart.
 use Rattle.std.specs.Prelude.{◌≡◌, ℕ, ◌+◌, ◌==◌, true, false, List, [], ◌∷◌, find, Some}
 use Rattle.std.specs.List.{IsDistinct, AllByRecursion}
 use Rattle.std.proofs.Common.{refl, ◌∙◌}
 use Rattle.std.proofs.lemmas.Bool.{eq-eqb, and_from, cond-true, cond-false}
-use Rattle.move_journal.specs.Commands.{Command}
-use Rattle.move_journal.specs.Worlds.{World}
-use Rattle.move_journal.specs.Histories.{Action, Item, outcome, apply, entry_of, entries_in_order}
+use Rattle.entity_recs.specs.Commands.{Command}
+use Rattle.entity_recs.specs.Worlds.{World}
+use Rattle.entity_recs.specs.Histories.{Action, Item, outcome, apply, entry_of, entries_in_order}
 use Rattle.move_journal.specs.Merges.{history_of, is_same_move, HasNumbersApart}
 
 -- the first of the moves with this command's player and number is this command

@@ -1,11 +1,11 @@
--- What moves that run in a row leave: a legal history, a merge, and the one journal that tells them in their order.
+-- What moves that run in a row leave: a legal history, a merge, and the one journal that is_entry_of them in their order.
 use Rattle.std.specs.Prelude.{◌≡◌, ℕ, suc, ◌+◌, ◌==◌, List, [], ◌∷◌, ◌++◌, length}
 use Rattle.std.proofs.Common.{refl, ap, subst, inl, inr, arith}
 use Rattle.std.proofs.lemmas.Bool.{cases_Bool}
-use Rattle.move_journal.specs.Commands.{Command}
-use Rattle.move_journal.specs.Worlds.{World}
-use Rattle.move_journal.specs.Histories.{Action, Item, IsLegal, outcome, apply, run, entry_of, entries_in_order}
-use Rattle.move_journal.specs.Merges.{told_numbers, sent_numbers, IsInOrder}
+use Rattle.entity_recs.specs.Commands.{Command}
+use Rattle.entity_recs.specs.Worlds.{World}
+use Rattle.entity_recs.specs.Histories.{Action, Item, IsLegal, outcome, apply, run, entry_of, entries_in_order}
+use Rattle.move_journal.specs.Merges.{reported_numbers, sent_numbers, IsInOrder}
 use Rattle.move_journal.proofs.Founds.{items_in_order}
 
 -- a legal history, the first entry of which has this place
@@ -44,7 +44,7 @@ legal_in_order act w place commands = record { each = entry_in_order act w place
 
 -- of each player their entries tell its commands
 pub told_in_order : (act : Action) (slot : ℕ) (w : World) (place : ℕ) (commands : List Command)
-    → told_numbers slot (entries_in_order act w place commands) ≡ sent_numbers slot commands
+    → reported_numbers slot (entries_in_order act w place commands) ≡ sent_numbers slot commands
 told_in_order act slot w place [] = refl
 told_in_order act slot w place (c ∷ commands) =
     let tail = told_in_order act slot (apply act w c) (place + 1) commands in

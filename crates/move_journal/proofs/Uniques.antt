@@ -2,15 +2,15 @@
 use Rattle.std.specs.Prelude.{◌≡◌, ℕ, suc, ◌+◌, ◌==◌, ◌&&◌, List, [], ◌∷◌, length, find, Option, Some}
 use Rattle.std.specs.List.{AllByRecursion}
 use Rattle.std.proofs.Common.{refl, sym, ap, subst, arith}
-use Rattle.move_journal.specs.Commands.{Command}
-use Rattle.move_journal.specs.Entries.{Entry}
-use Rattle.move_journal.specs.Worlds.{World}
-use Rattle.move_journal.specs.Histories.{Action, Item, IsLegal, outcome, apply, run, entry_of, entries_in_order}
-use Rattle.move_journal.specs.Merges.{history_of, with_command, tells, IsInOrder, Number}
+use Rattle.entity_recs.specs.Commands.{Command}
+use Rattle.entity_recs.specs.declared.effect.Entry.{Entry}
+use Rattle.entity_recs.specs.Worlds.{World}
+use Rattle.entity_recs.specs.Histories.{Action, Item, IsLegal, outcome, apply, run, entry_of, entries_in_order}
+use Rattle.move_journal.specs.Merges.{history_of, with_command, is_entry_of, IsInOrder, Number}
 use Rattle.move_journal.proofs.Founds.{IsFound}
 use Rattle.move_journal.proofs.Orders.{IsLegalFrom}
 
--- the entry tells a command with its player and its number
+-- the entry is_entry_of a command with its player and its number
 pub record HasNumberOf (e : Entry) (c : Command) : Type 0 where
   pub slot : e.slot ≡ c.slot
   pub seq : e.seq ≡ c.seq
@@ -26,13 +26,13 @@ rest_in_order : (e : Entry) (journal : List Entry) (c : Command) (commands : Lis
 rest_in_order e journal c commands order = cc
 
 -- the first command with the number of the entry is the command that is found
-pub told_command : (moves : List Command) (e : Entry) (c : Command) → IsFound moves c → HasNumberOf e c → find (tells e) moves ≡ Some c
+pub told_command : (moves : List Command) (e : Entry) (c : Command) → IsFound moves c → HasNumberOf e c → find (is_entry_of e) moves ≡ Some c
 told_command moves e c found number =
     let by_slot = subst (λ (s : ℕ). find (λ d. (d.slot == s) && (d.seq == c.seq)) moves ≡ Some c) (sym number.slot) found.first in
     subst (λ (s : ℕ). find (λ d. (d.slot == e.slot) && (d.seq == s)) moves ≡ Some c) (sym number.seq) by_slot
 
--- the history of a journal begins with the command that its first entry tells
-pub front_of_history : (moves : List Command) (e : Entry) (journal : List Entry) (c : Command) → find (tells e) moves ≡ Some c
+-- the history of a journal begins with the command that its first entry is_entry_of
+pub front_of_history : (moves : List Command) (e : Entry) (journal : List Entry) (c : Command) → find (is_entry_of e) moves ≡ Some c
     → history_of moves (e ∷ journal) ≡ record { command = c; entry = e } ∷ history_of moves journal
 front_of_history moves e journal c found = ap (λ (told : Option Command). with_command told e (history_of moves journal)) found
 

@@ -6,10 +6,12 @@ use Rattle.std.proofs.lemmas.Bool.{cases_Bool, eqb-true}
 use Rattle.std.proofs.lemmas.List.Elements.{All-head, All-tail, All-map, All-cons, All-nil, All-contains_itself}
 use Rattle.entity_recs.specs.declared.rec.Rec.{Rec}
 use Rattle.entity_recs.specs.Records.{IsRecord, with_state}
-use Rattle.move_journal.specs.Commands.{Command}
-use Rattle.move_journal.specs.Worlds.{World, records_of, record_with, world_of, IsValidWorld}
-use Rattle.move_journal.specs.Histories.{NewState, Effect, Action, outcome, with_new_state, with_effect, apply, world_behind}
-use Rattle.move_journal.specs.Validity.{IsValidFor, IsKept, KeepsRecords, StaysValid}
+use Rattle.entity_recs.specs.Commands.{Command}
+use Rattle.entity_recs.specs.Worlds.{World, records_of, record_with, world_of, HasRecordsInBounds}
+use Rattle.entity_recs.specs.Histories.{Action, outcome, with_new_state, with_effect, apply, world_after}
+use Rattle.entity_recs.specs.declared.effect.NewState.{NewState}
+use Rattle.entity_recs.specs.declared.effect.Effect.{Effect}
+use Rattle.move_journal.specs.Validity.{HasRecordsThatPass, IsKept, KeepsRecords, KeepsRecordsThatPass}
 use Rattle.move_journal.specs.Lists.{AreNumbered, apart_where_numbered, found_at_ids, first_given, others_given}
 
 -- ---- behind a move
@@ -43,9 +45,9 @@ bounds_in_any_state : (r : Rec) (state : ℕ) → IsRecord r → IsRecord (with_
 bounds_in_any_state r state is = record { id = is.id; origin = is.origin; shape = is.shape; vel = is.vel; flags = is.flags; ammo = is.ammo; carry = is.carry }
 
 -- what no state decides holds of all records behind a command, where it held of all before, and holds of the record that a live player has then
-records_behind : (P : Rec → Type 0) → ((r : Rec) (state : ℕ) → P r → P (with_state r state)) → (act : Action) (w : World) (c : Command)
+records_after : (P : Rec → Type 0) → ((r : Rec) (state : ℕ) → P r → P (with_state r state)) → (act : Action) (w : World) (c : Command)
     → (Contains w.ids c.slot → P (outcome act w c).me) → All P (records_of w) → All P (records_of (apply act w c))
-records_behind P any act w c me all =
+records_after P any act w c me all =
     All-map P (apply act w c).record_of w.ids
     (λ k d within. effect_keeps P any w c.slot (outcome act w c) (slice_index_or w.ids k d)
     (λ same. me (subst (Contains w.ids) same (All-contains_itself w.ids k d within))) (at_each_id P w.record_of w.ids all k d within))
@@ -60,21 +62,21 @@ own_behind act w c me own k d within =
 
 -- the world behind a command that keeps its player's record is valid
 valid_behind_one : (act : Action) (takes : Rec → Bool) (w : World) (c : Command) → ((r : Rec) (state : ℕ) → takes (with_state r state) ≡ takes r)
-    → (Contains w.ids c.slot → IsKept takes c.slot (outcome act w c).me) → IsValidFor takes w → IsValidFor takes (apply act w c)
+    → (Contains w.ids c.slot → IsKept takes c.slot (outcome act w c).me) → HasRecordsThatPass takes w → HasRecordsThatPass takes (apply act w c)
 valid_behind_one act takes w c any kept is = record {
   valid = record {
     rising = is.valid.rising;
     own = own_behind act w c (λ live. (kept live).own) is.valid.own;
-    bounds = records_behind IsRecord bounds_in_any_state act w c (λ live. (kept live).bounds) is.valid.bounds;
+    bounds = records_after IsRecord bounds_in_any_state act w c (λ live. (kept live).bounds) is.valid.bounds;
   };
-  taken = records_behind (λ r. takes r ≡ true) (λ r state passes. any r state ∙ passes) act w c (λ live. (kept live).taken) is.taken;
+  taken = records_after (λ r. takes r ≡ true) (λ r state passes. any r state ∙ passes) act w c (λ live. (kept live).taken) is.taken;
 }
 
 -- the world behind commands that keep their players' records is valid
-pub valid_behind : (act : Action) (takes : Rec → Bool) (ids : List ℕ) (commands : List Command) (w : World) → KeepsRecords act takes ids commands
-    → w.ids ≡ ids → IsValidFor takes w → StaysValid takes w (world_behind act w commands)
-valid_behind act takes ids [] w keeps same is = record { holds = is; ids = refl }
-valid_behind act takes ids (c ∷ commands) w keeps same is =
+pub valid_after : (act : Action) (takes : Rec → Bool) (ids : List ℕ) (commands : List Command) (w : World) → KeepsRecords act takes ids commands
+    → w.ids ≡ ids → HasRecordsThatPass takes w → KeepsRecordsThatPass takes w (world_after act w commands)
+valid_after act takes ids [] w keeps same is = record { holds = is; ids = refl }
+valid_after act takes ids (c ∷ commands) w keeps same is =
     let Kept : World → Command → Type 0 = λ v d. Contains ids d.slot → IsKept takes d.slot (outcome act v d).me in
     let here : Contains ids c.slot → IsKept takes c.slot (outcome act w c).me = All-head (Kept w) c commands (keeps.players w same is) in
     let next = valid_behind_one act takes w c keeps.any_state (subst (λ (live : List ℕ). Contains live c.slot → IsKept takes c.slot (outcome act w c).me) (sym same) here) is in
@@ -82,7 +84,7 @@ valid_behind act takes ids (c ∷ commands) w keeps same is =
       any_state = keeps.any_state;
       players = λ v are holds. All-tail (Kept v) c commands (keeps.players v are holds);
     } in
-    let rest = valid_behind act takes ids commands (apply act w c) others same next in
+    let rest = valid_after act takes ids commands (apply act w c) others same next in
     record { holds = rest.holds; ids = rest.ids }
 
 -- ---- numbered records
@@ -109,7 +111,7 @@ own_given f (r ∷ rs) given =
     All-cons (λ id. (f id).id ≡ id) r.id (map (λ r. r.id) rs) (ap (λ (x : Rec). x.id) (first_given f r rs given)) (own_given f rs (others_given f r rs given))
 
 -- numbered records within their bounds make a valid world
-pub valid_where_numbered : (rs : List Rec) → AreNumbered 0 rs → All IsRecord rs → IsValidWorld (world_of rs)
+pub valid_where_numbered : (rs : List Rec) → AreNumbered 0 rs → All IsRecord rs → HasRecordsInBounds (world_of rs)
 valid_where_numbered rs numbered all =
     let found = found_at_ids rs (apart_where_numbered 0 rs numbered) in
     record {

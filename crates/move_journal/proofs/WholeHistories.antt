@@ -5,10 +5,10 @@ use Rattle.std.proofs.Common.{refl, sym, ap, ◌∙◌, subst, inl, inr}
 use Rattle.std.proofs.lemmas.Bool.{cases_Bool, eq-eqb, eqb-true, and_from}
 use Rattle.std.proofs.lemmas.List.Elements.{All-nil, All-cons, All-head, All-tail}
 use Rattle.std.proofs.lemmas.List.Sorted.{All-permutation, IsPermutation-refl, IsPermutation-sym, IsPermutation-trans, IsPermutation-cons, IsPermutation-middle}
-use Rattle.move_journal.specs.Commands.{Command}
-use Rattle.move_journal.specs.Entries.{Entry}
-use Rattle.move_journal.specs.Histories.{Item}
-use Rattle.move_journal.specs.Merges.{IsMerge, IsWholeHistory, told_numbers, sent_numbers, tells, history_of}
+use Rattle.entity_recs.specs.Commands.{Command}
+use Rattle.entity_recs.specs.declared.effect.Entry.{Entry}
+use Rattle.entity_recs.specs.Histories.{Item}
+use Rattle.move_journal.specs.Merges.{IsMerge, IsWholeHistory, reported_numbers, sent_numbers, is_entry_of, history_of}
 use Rattle.move_journal.proofs.Founds.{IsFound}
 use Rattle.move_journal.proofs.Uniques.{HasNumberOf, told_command, front_of_history}
 
@@ -81,12 +81,12 @@ none_sent (m ∷ moves) merge =
 
 -- what its first entry's player sent, by a journal that is a merge
 sent_at_front : (e : Entry) (journal : List Entry) (moves : List Command) → IsMerge (e ∷ journal) moves
-    → e.seq ∷ told_numbers e.slot journal ≡ sent_numbers e.slot moves
+    → e.seq ∷ reported_numbers e.slot journal ≡ sent_numbers e.slot moves
 sent_at_front e journal moves merge = rw (eq-eqb e.slot e.slot refl) at (merge.each e.slot)
 
 -- a player's numbers in a journal that its entry heads, and in the moves that its first move heads
 numbers_at_front : (e : Entry) (journal : List Entry) (moves : List Command) (c : Command) (rest : List Command) → IsMerge (e ∷ journal) moves
-    → IsFront e.slot moves c rest → e.seq ∷ told_numbers e.slot journal ≡ c.seq ∷ sent_numbers e.slot rest
+    → IsFront e.slot moves c rest → e.seq ∷ reported_numbers e.slot journal ≡ c.seq ∷ sent_numbers e.slot rest
 numbers_at_front e journal moves c rest merge front =
     sent_at_front e journal moves merge ∙ ap (map (λ m. m.seq)) front.first
 
@@ -102,12 +102,12 @@ rest_merges : (e : Entry) (journal : List Entry) (moves : List Command) (c : Com
     → IsFront e.slot moves c rest → IsMerge journal rest
 rest_merges e journal moves c rest merge front =
     let numbers = numbers_at_front e journal moves c rest merge front in
-    let own : told_numbers e.slot journal ≡ sent_numbers e.slot rest = cc in
+    let own : reported_numbers e.slot journal ≡ sent_numbers e.slot rest = cc in
     record {
       each = λ slot. elim (cases_Bool (e.slot == slot)) [
-        | inl same ↦ subst (λ (s : ℕ). told_numbers s journal ≡ sent_numbers s rest) (eqb-true e.slot slot same) own
+        | inl same ↦ subst (λ (s : ℕ). reported_numbers s journal ≡ sent_numbers s rest) (eqb-true e.slot slot same) own
         | inr differs ↦
-            let told : told_numbers slot journal ≡ sent_numbers slot moves = rw differs at (merge.each slot) in
+            let told : reported_numbers slot journal ≡ sent_numbers slot moves = rw differs at (merge.each slot) in
             told ∙ ap (map (λ m. m.seq)) (front.others slot differs)
       ];
     }
@@ -117,8 +117,8 @@ whole_with_front : (e : Entry) (journal : List Entry) (moves : List Command) (c 
     → IsFront e.slot moves c rest → IsWholeHistory journal rest items → IsWholeHistory (e ∷ journal) moves (record { command = c; entry = e } ∷ items)
 whole_with_front e journal moves c rest items number front whole = record {
   entries = ap (λ (es : List Entry). e ∷ es) whole.entries;
-  told = All-cons (λ (item : Item). tells item.entry item.command ≡ true) (record { command = c; entry = e }) items
-      (and_from (c.slot == e.slot) (c.seq == e.seq) (eq-eqb c.slot e.slot (sym number.slot)) (eq-eqb c.seq e.seq (sym number.seq))) whole.told;
+  matched = All-cons (λ (item : Item). is_entry_of item.entry item.command ≡ true) (record { command = c; entry = e }) items
+      (and_from (c.slot == e.slot) (c.seq == e.seq) (eq-eqb c.slot e.slot (sym number.slot)) (eq-eqb c.seq e.seq (sym number.seq))) whole.matched;
   sent = λ slot. elim (cases_Bool (e.slot == slot)) [
     | inl same ↦
         let here : (c.slot == slot) ≡ true = ap (λ (s : ℕ). s == slot) front.own ∙ same in
@@ -138,12 +138,12 @@ pub whole_history : (all : List Command) (journal : List Entry) (moves : List Co
     → IsWholeHistory journal moves (history_of all journal)
 whole_history all [] moves found merge = subst (λ (ms : List Command). IsWholeHistory [] ms []) (sym (none_sent moves merge)) (record {
   entries = refl;
-  told = All-nil (λ (item : Item). tells item.entry item.command ≡ true);
+  matched = All-nil (λ (item : Item). is_entry_of item.entry item.command ≡ true);
   sent = λ slot. refl;
   each_once = IsPermutation-refl [];
 })
 whole_history all (e ∷ journal) moves found merge =
-    let front = front_of e.slot e.seq (told_numbers e.slot journal) moves (sent_at_front e journal moves merge) in
+    let front = front_of e.slot e.seq (reported_numbers e.slot journal) moves (sent_at_front e journal moves merge) in
     let c = front.command in
     let rest = front.rest in
     let number = front_number e journal moves c rest merge front.is in

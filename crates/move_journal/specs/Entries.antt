@@ -1,15 +1,8 @@
--- What a journal tells of a move that was done.
-use Rattle.std.specs.Prelude.{ℕ, List}
-use Rattle.arena_geo.specs.declared.vec3.Vec3.{Vec3}
+-- The entries of the program as values.
+use Rattle.std.specs.Prelude.{[]}
+use Rattle.move_journal.specs.declared.entry.Entry.{Entry}
+use Rattle.entity_recs.specs.declared.effect.Entry as journal
 
--- what the player is told: where it is, and the ids of what it got
-pub record Reply : Type 0 where
-  pub origin : Vec3
-  pub got : List ℕ
-
--- the place of the move in its journal from 0, whose move it was and its number, and the reply
-pub record Entry : Type 0 where
-  pub place : ℕ
-  pub slot : ℕ
-  pub seq : ℕ
-  pub reply : Reply
+-- the entry of the journal; nothing can be got yet
+abbrev pub entry_value : Entry → journal.Entry
+entry_value e = record { place = e.place; slot = e.slot; seq = e.seq; reply = record { origin = e.origin; got = [] } }

@@ -4,9 +4,11 @@ use Rattle.std.specs.List.{IsDistinct, AllByRecursion}
 use Rattle.std.proofs.Common.{refl, sym, ap, ◌∙◌, subst, inl, inr, arith}
 use Rattle.std.proofs.lemmas.Bool.{cases_Bool, eq-eqb, eqb-true, ne_eqb, cond-true, cond-false}
 use Rattle.entity_recs.specs.declared.rec.Rec.{Rec}
-use Rattle.move_journal.specs.Commands.{Command}
-use Rattle.move_journal.specs.Worlds.{World, others_of, record_with, world_of}
-use Rattle.move_journal.specs.Histories.{NewState, Effect, Action, outcome, with_new_state, apply}
+use Rattle.entity_recs.specs.Commands.{Command}
+use Rattle.entity_recs.specs.Worlds.{World, others_of, record_with, world_of}
+use Rattle.entity_recs.specs.Histories.{Action, outcome, with_new_state, apply}
+use Rattle.entity_recs.specs.declared.effect.NewState.{NewState}
+use Rattle.entity_recs.specs.declared.effect.Effect.{Effect}
 
 -- no two of the records have one id
 abbrev pub HaveIdsApart : List Rec → Type 0
@@ -128,14 +130,14 @@ effect_records f (r ∷ rs) slot e given =
     let tail = effect_records f rs slot e (others_given f r rs given) in
     rw (head, tail)
 
--- the world behind a command is that of the records with its effect, where the player keeps its id
+-- the world after a command is that of the records with its effect, where the player keeps its id
 pub apply-is : (act : Action) (w : World) (c : Command) (rs : List Rec) → IsWorldOf w rs → (outcome act w c).me.id ≡ c.slot
     → IsWorldOf (apply act w c) (with_effect_in rs c.slot (outcome act w c))
 apply-is act w c rs of own =
-    let behind = effect_records w.record_of rs c.slot (outcome act w c) (given_at_ids w rs of) in
+    let later = effect_records w.record_of rs c.slot (outcome act w c) (given_at_ids w rs of) in
     record {
       ids = of.ids ∙ sym (effect_ids rs c.slot (outcome act w c) own);
-      records = subst (λ (ids : List ℕ). map (apply act w c).record_of ids ≡ with_effect_in rs c.slot (outcome act w c)) (sym of.ids) behind;
+      records = subst (λ (ids : List ℕ). map (apply act w c).record_of ids ≡ with_effect_in rs c.slot (outcome act w c)) (sym of.ids) later;
     }
 
 -- where no others change, an effect of a slot below the first place changes no record
@@ -147,7 +149,7 @@ effect_elsewhere (r ∷ rs) slot n e below numbered none =
     let tail = effect_elsewhere rs slot (n + 1) e (omega arith) numbered.1 none in
     rw (differs, none, tail)
 
--- where no others change, an effect is a new record so far behind the first place
+-- where no others change, an effect is a new record so far after the first place
 set_from : (n k : ℕ) (rs : List Rec) (e : Effect) → AreNumbered n rs → e.states ≡ [] → with_effect_in rs (n + k) e ≡ slice_set rs k e.me
 set_from n k [] e numbered none = refl
 set_from n zero (r ∷ rs) e numbered none =
@@ -168,7 +170,7 @@ numbered_set rs slot e numbered none =
     let from_first : 0 + slot ≡ slot = omega arith in
     subst (λ (place : ℕ). with_effect_in rs place e ≡ slice_set rs slot e.me) from_first (set_from 0 slot rs e numbered none)
 
--- the record so far behind the first place has that number
+-- the record so far after the first place has that number
 record_from : (n k : ℕ) (rs : List Rec) (r : Rec) → AreNumbered n rs → slice_get rs k ≡ Some r → r.id ≡ n + k
 record_from n k [] r numbered at = cc
 record_from n zero (x ∷ rs) r numbered at =
@@ -177,7 +179,7 @@ record_from n zero (x ∷ rs) r numbered at =
     let first : x.id ≡ n = numbered.0 in
     omega arith
 record_from n (suc k) (x ∷ rs) r numbered at =
-    let behind = record_from (n + 1) k rs r numbered.1 at in
+    let later = record_from (n + 1) k rs r numbered.1 at in
     omega arith
 
 -- the record at a place has that id
@@ -186,7 +188,7 @@ numbered_record rs slot r numbered at =
     let from_first = record_from 0 slot rs r numbered at in
     omega arith
 
--- a record so far behind the first place, with that number, leaves the records numbered
+-- a record so far after the first place, with that number, leaves the records numbered
 after_set_from : (n k : ℕ) (rs : List Rec) (me : Rec) → AreNumbered n rs → me.id ≡ n + k → AreNumbered n (slice_set rs k me)
 after_set_from n k [] me numbered own = tt
 after_set_from n zero (r ∷ rs) me numbered own = (omega arith, numbered.1)

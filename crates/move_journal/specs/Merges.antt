@@ -2,41 +2,41 @@
 use Rattle.std.specs.Prelude.{◌≡◌, ℕ, ◌==◌, Bool, ◌&&◌, true, List, [], ◌∷◌, map, filter, find, All, Option, Some, None}
 use Rattle.std.specs.List.{IsDistinct}
 use Rattle.std.specs.List.Sorted.{IsPermutation}
-use Rattle.move_journal.specs.Commands.{Command}
-use Rattle.move_journal.specs.Entries.{Entry}
-use Rattle.move_journal.specs.Worlds.{World}
-use Rattle.move_journal.specs.Histories.{Action, Item, IsLegal, entries_in_order}
+use Rattle.entity_recs.specs.Commands.{Command}
+use Rattle.entity_recs.specs.declared.effect.Entry.{Entry}
+use Rattle.entity_recs.specs.Worlds.{World}
+use Rattle.entity_recs.specs.Histories.{Action, Item, IsLegal, entries_in_order}
 
 -- the numbers of a player's moves in a journal, in its order
-abbrev pub told_numbers : ℕ → List Entry → List ℕ
-told_numbers slot journal = map (λ e. e.seq) (filter (λ e. e.slot == slot) journal)
+abbrev pub reported_numbers : ℕ → List Entry → List ℕ
+reported_numbers slot journal = map (λ e. e.seq) (filter (λ e. e.slot == slot) journal)
 
 -- the numbers of a player's moves, in the order in which they were sent
 abbrev pub sent_numbers : ℕ → List Command → List ℕ
 sent_numbers slot moves = map (λ c. c.seq) (filter (λ c. c.slot == slot) moves)
 
--- a merge of the players' moves: of each player the journal tells the moves that were received, each once and in the order sent, and no others
+-- a merge of the players' moves: of each player the journal has the moves that were received, each once and in the order sent, and no others
 pub record IsMerge (journal : List Entry) (moves : List Command) : Type 0 where
-  pub each : (slot : ℕ) → told_numbers slot journal ≡ sent_numbers slot moves
+  pub each : (slot : ℕ) → reported_numbers slot journal ≡ sent_numbers slot moves
 
--- the entry tells this command
-abbrev pub tells : Entry → Command → Bool
-tells e c = (c.slot == e.slot) && (c.seq == e.seq)
+-- the entry is that of this command
+abbrev pub is_entry_of : Entry → Command → Bool
+is_entry_of e c = (c.slot == e.slot) && (c.seq == e.seq)
 
 -- an entry with its command, where there is one, before more items
 abbrev pub with_command : Option Command → Entry → List Item → List Item
 with_command None e items = items
 with_command (Some c) e items = record { command = c; entry = e } ∷ items
 
--- the history of a journal: each entry with the move that it tells; of a merge of moves with their numbers apart it is whole
+-- the history of a journal: each entry with its move; of a merge of moves with their numbers apart it is whole
 abbrev pub history_of : List Command → List Entry → List Item
 history_of moves [] = []
-history_of moves (e ∷ journal) = with_command (find (tells e) moves) e (history_of moves journal)
+history_of moves (e ∷ journal) = with_command (find (is_entry_of e) moves) e (history_of moves journal)
 
--- a history that tells a whole journal of these moves: its entries are the journal's, each tells its command, and its commands are the moves, each once and each player's in the order sent
+-- the history of a whole journal of these moves: its entries are the journal's, each that of its command, and its commands are the moves, each once and each player's in the order sent
 pub record IsWholeHistory (journal : List Entry) (moves : List Command) (history : List Item) : Type 0 where
   pub entries : map (λ item. item.entry) history ≡ journal
-  pub told : All (λ item. tells item.entry item.command ≡ true) history
+  pub matched : All (λ item. is_entry_of item.entry item.command ≡ true) history
   pub sent : (slot : ℕ) → filter (λ c. c.slot == slot) (map (λ item. item.command) history) ≡ filter (λ c. c.slot == slot) moves
   pub each_once : IsPermutation (map (λ item. item.command) history) moves
 
@@ -50,7 +50,7 @@ pub record Number : Type 0 where
   pub slot : ℕ
   pub seq : ℕ
 
--- the journal tells the moves in the order of arrival
+-- the journal has the moves in the order of arrival
 abbrev pub IsInOrder : List Entry → List Command → Type 0
 IsInOrder journal moves = map (λ e. number e.slot e.seq) journal ≡ map (λ c. number c.slot c.seq) moves
   where

@@ -3,7 +3,7 @@ ghost use Rattle.std.specs.Prelude.{◌≡◌};
 use arena_geo::Vec3;
 use entity_recs::Cmd;
 
-/// What a frame's journal tells of a move that was done.
+/// One move in a frame's journal.
 #[derive(Clone, Copy, Debug, PartialEq, Eq)]
 pub struct Entry {
     /// The place of the move in its frame's journal, from 0.
@@ -17,7 +17,7 @@ pub struct Entry {
 }
 
 impl Entry {
-    /// The entry at this place of a command after which its player stands here.
+    /// The entry at this place of a command after which its player is here.
     pub fn new(place: u32, cmd: &Cmd, origin: Vec3) -> Entry
         ensures place { result.place ≡ place }
         ensures slot { result.slot ≡ cmd.now.slot }
@@ -39,7 +39,7 @@ mod tests {
     use std::test::Fail;
 
     #[test]
-    fn entry_tells_its_command(rt: HostRuntime) -> Result<(), Fail> {
+    fn an_entry_has_its_command(rt: HostRuntime) -> Result<(), Fail> {
         let cmd = Cmd {
             slot: 7,
             seq: 40,

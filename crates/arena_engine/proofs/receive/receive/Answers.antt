@@ -1,21 +1,27 @@
-use Rattle.std.proofs.Common.{◌≡◌, ◌+◌, ◌-◌, ℕ, length, map, subst, arith}
-use Rattle.move_journal.specs.Commands.{command_of}
-use Rattle.arena_engine.specs.Receiving.{pass_as}
-use Rattle.arena_engine.specs.Capacities.{HasRoom}
-use Rattle.arena_engine.proofs.Passes.{receive_step}
+use Rattle.std.proofs.Common.{ap, arith, refl}
+use Rattle.arena_engine.specs.Outcomes.{fixed_of}
+use Rattle.arena_engine.specs.Receiving.{answered, reception, after_arrivals, received}
+use Rattle.arena_engine.proofs.Passes.{arrivals_step, all_received}
 use Rattle.arena_engine.proofs.receive.receive.Goals as goal
 
+pub loop-arrival-init : goal.loop-arrival-init
+loop-arrival-init c = record {
+  place = refl;
+  count = ap answered c.requires.empty;
+  rest = ap (λ r. after_arrivals c.args.arena.now.spawn (fixed_of c.args.arena.now) c.args.frame (reception c.args.players.now r) 0 c.args.arrivals.now) c.requires.empty;
+}
+
 pub loop-arrival-preserved : goal.loop-arrival-preserved
-loop-arrival-preserved c =
-    let n = length c.args.arrivals.now in
-    let i = c.loop-arrival.arrival-index in
-    let less : n - i ≡ n - (i + 1) + 1 = omega (arith, c.loop-arrival-test.true) in
-    let P : ℕ → Type 0 = λ k. HasRoom k c.loop-arrival.out in
-    record {
-      place = omega (arith, c.loop-arrival.invariant.place);
-      room = c.receive_one.ensures.room (n - (i + 1)) (subst P less c.loop-arrival.invariant.room);
-      rest = receive_step c.args.arena.now.spawn c.args.solids.now c.args.frame
-          (pass_as c.loop-arrival.players c.loop-arrival.out.refused.items c.loop-arrival.out.joined.items (map command_of c.loop-arrival.out.moves.items))
-          (pass_as c.receive_one.new.players c.receive_one.new.out.refused.items c.receive_one.new.out.joined.items (map command_of c.receive_one.new.out.moves.items)) _
-          c.loop-arrival.place i c.arrival-item.result c.args.arrivals.now c.loop-arrival-test.true c.arrival-item.is c.receive_one.ensures.received c.loop-arrival.invariant.rest;
-    }
+loop-arrival-preserved c = record {
+  place = omega (arith, c.loop-arrival.invariant.place);
+  count = omega (arith, c.receive_one.ensures.one, c.loop-arrival.invariant.count);
+  rest = arrivals_step c.args.arena.now.spawn (fixed_of c.args.arena.now) c.args.frame (reception c.loop-arrival.players c.loop-arrival.out)
+      (reception c.receive_one.new.players c.receive_one.new.out) _ c.loop-arrival.place c.loop-arrival.arrival-index c.arrival-item.result c.args.arrivals.now
+      c.loop-arrival-test.true c.arrival-item.is c.receive_one.ensures.received c.loop-arrival.invariant.rest;
+}
+
+pub returns : goal.returns
+unfolding received
+returns c =
+    all_received c.args.arena.now.spawn (fixed_of c.args.arena.now) c.args.frame (reception c.loop-arrival.players c.loop-arrival.out) _ c.loop-arrival.place c.loop-arrival.arrival-index
+    c.args.arrivals.now c.loop-arrival-test.false c.loop-arrival.invariant.rest

@@ -1,7 +1,7 @@
 -- The history of moves that run in order is legal, and its entries tell them in their order.
 use Rattle.std.specs.Prelude.{List}
 use Rattle.std.proofs.Common.{sym, subst}
-use Rattle.move_journal.specs.Histories.{Item, IsLegal}
+use Rattle.entity_recs.specs.Histories.{Item, IsLegal}
 use Rattle.move_journal.proofs.Founds.{each_is_found, history_in_order}
 use Rattle.move_journal.proofs.Orders.{legal_in_order, told_in_order, order_in_order, legal_from_first}
 use Rattle.move_journal.proofs.laws.moves_in_order_are_right.Goals as goal

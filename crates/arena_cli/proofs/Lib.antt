@@ -1,0 +1,2 @@
+-- Lemmas on what the program is asked for.
+pub mod Asking

@@ -1,0 +1,83 @@
+ghost use Rattle.std.specs.Prelude.{◌≡◌, Err, IsErr, IfOk, drop, map, string_bytes};
+ghost use Rattle.arena_cli.specs.declared.arguments.NoArguments.TheVariants.{NotUnicode};
+
+use std::alloc::{AllocError, Global};
+use std::env::Args;
+use std::io;
+use std::io::ErrorKind;
+
+/// Why the program's arguments can't be had.
+#[derive(Clone, Copy, Debug, PartialEq, Eq)]
+pub enum NoArguments {
+    /// One of them isn't UTF-8.
+    NotUnicode,
+    /// There was not enough memory.
+    Memory,
+}
+
+/// How a copy of the arguments fails where there was not enough memory.
+const NO_MEMORY: ErrorKind = ErrorKind::OutOfMemory;
+
+impl From<io::Error> for NoArguments {
+    ghost use Rattle.std.specs.Prelude.{◌≡◌, ◌↔◌};
+    ghost use Rattle.std.specs.IoError.{error_kind};
+    ghost use Rattle.arena_cli.specs.declared.arguments.TheConstants.{NO_MEMORY};
+    ghost use Rattle.arena_cli.specs.declared.arguments.NoArguments.TheVariants.{Memory};
+
+    ghost from_gives = { λ error reason. (reason ≡ Memory) ↔ (error_kind error ≡ NO_MEMORY) };
+
+    fn from(error: io::Error) -> NoArguments {
+        if error.kind() == NO_MEMORY {
+            NoArguments::Memory
+        } else {
+            NoArguments::NotUnicode
+        }
+    }
+}
+
+impl From<AllocError> for NoArguments {
+    ghost use Rattle.std.specs.Prelude.{◌≡◌};
+    ghost use Rattle.arena_cli.specs.declared.arguments.NoArguments.TheVariants.{Memory};
+
+    ghost from_gives = { λ _ reason. reason ≡ Memory };
+
+    fn from(_error: AllocError) -> NoArguments {
+        NoArguments::Memory
+    }
+}
+
+/// All arguments of the program, the first of which is its name.
+pub fn arguments_of(alloc: Global, arguments: io::Result<Args>) -> Result<Vec<String>, NoArguments>
+    ensures { result ≡ Err NotUnicode → IsErr arguments }
+{
+    Ok(arguments?.collect(alloc)?)
+}
+
+/// All arguments but the first, which is the program's name.
+fn without_name(arguments: &[String]) -> &[String]
+    ensures { result.now ≡ drop 1 arguments.now }
+{
+    match arguments.split_first() {
+        Some((_, rest)) => rest,
+        None => &[],
+    }
+}
+
+/// The texts as slices.
+#[tactic(auto, using(std::proofs::lemmas::List::take_more))]
+fn texts_of(alloc: Global, texts: &[String]) -> Result<Vec<&str>, AllocError>
+    ensures { IfOk result (λ slices. map (λ slice. slice.now) slices.items ≡ map string_bytes texts.now) }
+{
+    let mut slices = Vec::new(alloc);
+    for text in texts {
+        slices.push(text.as_str())?;
+    }
+    Ok(slices)
+}
+
+/// The words of the command: all arguments but the first.
+pub fn words_of(alloc: Global, arguments: &[String]) -> Result<Vec<&str>, AllocError>
+    ensures { IfOk result (λ words. map (λ word. word.now) words.items ≡ drop 1 (map string_bytes arguments.now)) }
+{
+    texts_of(alloc, without_name(arguments))
+}
