@@ -1,0 +1,47 @@
+-- The limits of the numbers of a map line, and which lines are in force.
+use Rattle.std.specs.Prelude.{◌≡◌, ◌≤◌, Bool, true, false, pos, ◌≤ℤ◌}
+use Rattle.arena_geo.specs.Vectors.{IsNear}
+use Rattle.entity_recs.specs.declared.kind.Kind.{Kind}
+use Rattle.entity_recs.specs.declared.kind.Kind.TheVariants as kinds
+use Rattle.arena_map.specs.declared.map_line.MapLine.{MapLine}
+use Rattle.arena_map.specs.declared.map_line.MapLine.TheVariants.{Arena, Block, Spawn, Item, Teleport, Goal, Lift}
+
+-- the kind is an item's
+abbrev pub is_item : Kind → Bool
+is_item kinds.Player = false
+is_item kinds.Ammo = true
+is_item kinds.Gem = true
+is_item kinds.Teleporter = false
+is_item kinds.Goal = false
+is_item kinds.Lift = false
+
+-- the numbers of a line are within their limits, and an item's kind is one
+abbrev pub IsWithinLimits : MapLine → Type 0
+IsWithinLimits (Arena lo hi) = IsNear 1048576 lo × IsNear 1048576 hi
+IsWithinLimits (Block lo hi) = IsNear 1048576 lo × IsNear 1048576 hi
+IsWithinLimits (Spawn at) = IsNear 1048576 at
+IsWithinLimits (Item at kind delay) = IsNear 1048576 at × (is_item kind ≡ true) × (1 ≤ delay) × (delay ≤ 65535)
+IsWithinLimits (Teleport lo hi dest) = IsNear 1048576 lo × IsNear 1048576 hi × IsNear 1048576 dest
+IsWithinLimits (Goal lo hi) = IsNear 1048576 lo × IsNear 1048576 hi
+IsWithinLimits (Lift lo hi rise speed) =
+    IsNear 1048576 lo × IsNear 1048576 hi × (pos 1 ≤ℤ rise) × (rise ≤ℤ pos 1048576) × (pos 1 ≤ℤ speed) × (speed ≤ℤ pos 2560)
+
+-- the line is that of the arena, with which a map begins
+abbrev pub is_arena : MapLine → Bool
+is_arena (Arena lo hi) = true
+is_arena (Block lo hi) = false
+is_arena (Spawn at) = false
+is_arena (Item at kind delay) = false
+is_arena (Teleport lo hi dest) = false
+is_arena (Goal lo hi) = false
+is_arena (Lift lo hi rise speed) = false
+
+-- the line is in force, and is added to a map that has begun: so far a block or a spawn
+abbrev pub is_added : MapLine → Bool
+is_added (Arena lo hi) = false
+is_added (Block lo hi) = true
+is_added (Spawn at) = true
+is_added (Item at kind delay) = false
+is_added (Teleport lo hi dest) = false
+is_added (Goal lo hi) = false
+is_added (Lift lo hi rise speed) = false

@@ -1,0 +1,51 @@
+-- Which worlds are valid for a map: records by id, each within its bounds, the things as their lines say, and the players inside the arena.
+use Rattle.std.specs.Prelude.{◌≡◌, ℕ, ◌≤◌, ◌==◌, true, List, Option, Some, None, ⊤, pos, ◌+ℤ◌, ◌≤ℤ◌, ℤ, slice_index_or}
+use Rattle.std.specs.List.{find}
+use Rattle.arena_geo.specs.Boxes.{contains}
+use Rattle.entity_recs.specs.declared.kind.Kind.TheVariants.{Player}
+use Rattle.entity_recs.specs.declared.rec.Rec.{Rec}
+use Rattle.entity_recs.specs.Records.{IsRecord, IsStateOf}
+use Rattle.entity_recs.specs.Bodies.{body_of}
+use Rattle.arena_map.specs.declared.lift.Lift.{Lift}
+use Rattle.arena_map.specs.Maps.{MapView, entities_of, lift_of}
+
+-- the record has the kind and the shape of a thing, at its place
+pub record IsSameThing (thing r : Rec) : Type 0 where
+  pub kind : r.kind ≡ thing.kind
+  pub origin : r.origin ≡ thing.origin
+  pub mins : r.mins ≡ thing.mins
+  pub maxs : r.maxs ≡ thing.maxs
+
+-- the record is a lift's, between its lowest place and its highest
+pub record IsSameLift (lift : Lift) (thing r : Rec) : Type 0 where
+  pub kind : r.kind ≡ thing.kind
+  pub x : r.origin.x ≡ thing.origin.x
+  pub y : r.origin.y ≡ thing.origin.y
+  pub low : lift.low ≤ℤ r.origin.z
+  pub high : r.origin.z ≤ℤ (lift.low +ℤ lift.rise)
+  pub mins : r.mins ≡ thing.mins
+  pub maxs : r.maxs ≡ thing.maxs
+
+-- the record is as the line of the thing says
+abbrev pub IsAsItsLine : Option Lift → Rec → Rec → Type 0
+IsAsItsLine None thing r = IsSameThing thing r
+IsAsItsLine (Some lift) thing r = IsSameLift lift thing r
+
+-- a thing of the map is live, and as its line says; where there is none, none is live
+abbrev pub IsThing : MapView → Option Rec → Option Rec → Type 0
+IsThing map None None = ⊤
+IsThing map None (Some r) = ⊥
+IsThing map (Some thing) None = ⊥
+IsThing map (Some thing) (Some r) = IsAsItsLine (lift_of map thing.id) thing r
+
+-- the record is within its bounds, has this id, and is inside the arena where it is a player's
+pub record IsValidRecord (map : MapView) (id : ℕ) (r : Rec) : Type 0 where
+  pub is_record : IsRecord r
+  pub own_id : r.id ≡ id
+  pub state : IsStateOf r.kind r.state
+  pub inside : r.kind ≡ Player → contains map.bounds (body_of r) ≡ true
+
+-- the records, each at the place of its id, are those of a valid world
+pub record IsValidWorld (map : MapView) (records : List (Option Rec)) : Type 0 where
+  pub each : (id : ℕ) (r : Rec) → slice_index_or records id None ≡ Some r → IsValidRecord map id r
+  pub things : (id : ℕ) → 64 ≤ id → IsThing map (find (λ thing. thing.id == id) (entities_of map)) (slice_index_or records id None)

@@ -1,0 +1,213 @@
+-- The laws of the receive pass.
+use Rattle.std.proofs.Common.{◌≡◌, ◌⊎◌, ℕ, zero, suc, ◌+◌, ◌<◌, ◌≤◌, ◌==◌, Bool, true, false, ◌&&◌, ◌||◌, not, nat_le, if◌then◌else◌, List, [], ◌∷◌, filter, length, Option, Some, None, is_some, option_map, Result, Ok, Err, ok_or, IfOk, sym, refl, ap, ◌∙◌, subst, inl, inr, arith}
+use Rattle.std.specs.Prelude.{map as map_list}
+use Rattle.std.specs.List.{find, filter_map, list_any, cons_option}
+use Rattle.std.proofs.lemmas.Bool.{cases_eq, eq-eqb, ne_eqb}
+use Rattle.std.proofs.lemmas.Bool.Decides.{nat_tests}
+use Rattle.std.proofs.lemmas.Option.{none-some, same_Some}
+use Rattle.arena_geo.specs.declared.vec3.Vec3.{Vec3}
+use Rattle.arena_geo.specs.Bounds.{Bounds}
+use Rattle.arena_geo.specs.Boxes.{overlaps, is_blocked}
+use Rattle.entity_recs.specs.declared.rec.Rec.{Rec}
+use Rattle.entity_recs.specs.Bodies.{body_of, player_body}
+use Rattle.entity_recs.specs.Kinds.{is_solid}
+use Rattle.packet_read.specs.declared.move_packet.MovePacket.{MovePacket}
+use Rattle.packet_read.specs.declared.packet.Packet.{Packet}
+use Rattle.packet_read.specs.declared.packet.Packet.TheVariants.{Join, Step, Leave}
+use Rattle.packet_read.specs.declared.packet_fault.PacketFault.{PacketFault}
+use Rattle.packet_read.specs.Reading.{reading}
+use Rattle.entity_slots.specs.declared.join_fault.JoinFault.{JoinFault}
+use Rattle.entity_slots.specs.Ports as slots
+use Rattle.entity_slots.specs.Places.{place_for, IsLeastFree}
+use Rattle.entity_slots.proofs.Found.{place_for-least}
+use Rattle.arena_map.specs.Maps.{MapView, solids_of}
+use Rattle.world_tree.specs.Live.{record_at, live_in}
+use Rattle.world_tree.specs.Queries.{is_free, solids_in}
+use Rattle.client_ports.specs.declared.arrival.Arrival.{Arrival}
+use Rattle.client_ports.specs.declared.client.Client.{Client}
+use Rattle.client_ports.specs.declared.client.LiveSlot.{LiveSlot}
+use Rattle.client_ports.specs.declared.refusal.Refusal.{Refusal}
+use Rattle.client_ports.specs.declared.refusal.Refusal.TheVariants as refusal
+use Rattle.client_ports.specs.declared.spawns.Place.{Place}
+use Rattle.client_ports.specs.Clients.{client, client_at, port_of, ports_of, live_slot, live_at, live_with, AreClients}
+use Rattle.client_ports.specs.States.{State, IsState}
+use Rattle.client_ports.specs.Answers.{free_spawn, place_at, place_in, join_answer, leave_answer, moved, move_by, move_answer, refusal_of}
+use Rattle.client_ports.specs.Receiving.{Receiving, after_join, after_leave, after_move, after_packet, after_arrival, command_in}
+use Rattle.client_ports.specs.Laws.{IsClear, IsAcceptedMove, IsRefused, IsJoined, IsLeave, IsMove}
+use Rattle.client_ports.proofs.Slots.{port_at-client, port_of-none}
+use Rattle.client_ports.proofs.Live.{free-record}
+
+-- two results that are one have one value
+same_Ok : {X E : Type 0} (x y : X) → ◌≡◌ {A = Result X E} (Ok x) (Ok y) → x ≡ y
+same_Ok {X} {E} x y e = ap (λ (r : Result X E). elim r [ Ok v ↦ v | Err f ↦ x ]) e
+
+-- no two live slots share a port
+pub ports_apart : (clients : List (Option Client)) → AreClients clients → (i j : ℕ) (c d : Client) → client_at clients i ≡ Some c → client_at clients j ≡ Some d → c.port ≡ d.port → i ≡ j
+ports_apart clients are i j c d at_i at_j same =
+    are.slots.apart i j c.port
+    (port_at-client clients i ∙ ap port_of at_i)
+    (port_at-client clients j ∙ ap port_of at_j ∙ ap Some (sym same))
+
+-- ---- joins
+
+-- what a join that has a slot gets
+record IsGot (map : MapView) (records : List (Option Rec)) (slots : Result ℕ JoinFault) (to : Place) : Type 0 where
+  slot : slots ≡ Ok to.slot
+  spawn : free_spawn (solids_of map) records to.slot map.spawns ≡ Some to.at
+
+got : (map : MapView) (records : List (Option Rec)) (slots : Result ℕ JoinFault) (to : Place) → place_in map records slots ≡ Ok to → IsGot map records slots to
+got map records (Err why) to e = absurd (err-ok e)
+  where
+    err-ok : {X E : Type 0} {x : X} {f : E} → ◌≡◌ {A = Result X E} (Err f) (Ok x) → ⊥
+    err-ok h = cc
+got map records (Ok slot) to e = by (free_spawn (solids_of map) records slot map.spawns) refl e
+  where
+    by : (o : Option Vec3) → free_spawn (solids_of map) records slot map.spawns ≡ o → ok_or (option_map (place_at slot) o) refusal.Crowded ≡ Ok to → IsGot map records (Ok slot) to
+    by None f h = cc
+    by (Some at) f h =
+        let same = same_Ok (place_at slot at) to h in
+        let P : Place → Type 0 = λ p. IsGot map records (Ok slot) p in
+        subst P same (record { slot = refl; spawn = f })
+
+-- the slot of a join is the least free one
+pub slot_least : (map : MapView) (state : State) (port : ℕ) (to : Place) → AreClients state.clients → join_answer map state port ≡ Ok to → IsLeastFree (ports_of state.clients) to.slot
+slot_least map state port to are e =
+    let g = got map state.records (place_for (ports_of state.clients) port) to e in
+    let P : Result ℕ JoinFault → Type 0 = λ r. IfOk r (IsLeastFree (ports_of state.clients)) in
+    subst P g.slot (place_for-least (ports_of state.clients) port are.slots.count)
+
+-- ---- moves
+
+live_at-found : (clients : List (Option Client)) (slot : Option ℕ) (live : LiveSlot) → live_at clients slot ≡ Some live → client_at clients live.slot ≡ Some live.client
+live_at-found clients None live e = absurd (none-some live e)
+live_at-found clients (Some slot) live e = by (client_at clients slot) refl e
+  where
+    by : (o : Option Client) → client_at clients slot ≡ o → option_map (live_slot slot) o ≡ Some live → client_at clients live.slot ≡ Some live.client
+    by None f h = absurd (none-some live h)
+    by (Some c) f h =
+        let same = same_Some (live_slot slot c) live h in
+        let P : LiveSlot → Type 0 = λ l. client_at clients l.slot ≡ Some l.client in
+        subst P same f
+
+-- an accepted move has a number above the last one, and is one of few
+pub move_accepted : (clients : List (Option Client)) (port seq : ℕ) (live : LiveSlot) → move_answer clients port seq ≡ Ok live → IsAcceptedMove clients seq live
+move_accepted clients port seq live e = by (live_with clients port) refl e
+  where
+    le-false : (m n : ℕ) → nat_le m n ≡ false → n < m
+    le-false m n h = grind (arith, nat_tests)
+
+    at : (l : LiveSlot) → client_at clients l.slot ≡ Some l.client → (leaves old many : Bool) → l.client.leaves ≡ leaves → nat_le seq l.client.last ≡ old → nat_le 8 l.client.moves ≡ many
+        → (if leaves then Err refusal.Leaving else if old then Err refusal.Old else if many then Err refusal.Many else Ok (moved l seq)) ≡ Ok live → IsAcceptedMove clients seq live
+    at l in_slot true old many a b c h = cc
+    at l in_slot false true many a b c h = cc
+    at l in_slot false false true a b c h = cc
+    at l in_slot false false false a b c h =
+        let same = same_Ok (moved l seq) live h in
+        let P : LiveSlot → Type 0 = λ m. IsAcceptedMove clients seq m in
+        subst P same (record {
+          was = l.client;
+          in_slot = in_slot;
+          stays = a;
+          above = le-false seq l.client.last b;
+          few = le-false 8 l.client.moves c;
+          is = ap (λ (leaves : Bool). client l.client.port seq leaves (l.client.moves + 1)) a;
+        })
+
+    by : (o : Option LiveSlot) → live_with clients port ≡ o → move_by o seq ≡ Ok live → IsAcceptedMove clients seq live
+    by None f h = cc
+    by (Some l) f h = at l (live_at-found clients (slots.slot_of (ports_of clients) port) l f) l.client.leaves (nat_le seq l.client.last) (nat_le 8 l.client.moves) refl refl refl h
+
+-- ---- one answer
+
+Answer : Receiving → Receiving → ℕ → ℕ → Type 0
+Answer r next place port = (IsRefused r next place ⊎ IsJoined r next port) ⊎ (IsLeave r next port ⊎ IsMove r next port)
+
+join_one : (to : Result Place Refusal) (r : Receiving) (place port : ℕ) → (IsRefused r (after_join to r place port) place ⊎ IsJoined r (after_join to r place port) port)
+join_one (Err why) r place port = inl (record { why = why; state = refl; lists = refl })
+join_one (Ok to) r place port = inr (record { to = to; state = refl; lists = refl })
+
+pub one_answer : (map : MapView) (frame : ℕ) (read : Result Packet PacketFault) (r : Receiving) (place port : ℕ)
+    → let next = after_packet map frame read r place port in (IsRefused r next place ⊎ IsJoined r next port) ⊎ (IsLeave r next port ⊎ IsMove r next port)
+one_answer map frame (Err why) r place port = inl (inl (record { why = refusal.Packet why; state = refl; lists = refl }))
+one_answer map frame (Ok Join) r place port = inl (join_one (join_answer map r.state port) r place port)
+one_answer map frame (Ok Leave) r place port = by (leave_answer r.state.clients port) refl
+  where
+    by : (to : Result LiveSlot Refusal) → leave_answer r.state.clients port ≡ to
+        → (IsRefused r (after_leave to r place) place ⊎ IsJoined r (after_leave to r place) port) ⊎ (IsLeave r (after_leave to r place) port ⊎ IsMove r (after_leave to r place) port)
+    by (Err why) e = inl (inl (record { why = why; state = refl; lists = refl }))
+    by (Ok live) e = inr (inl (record { live = live; answer = e; state = refl; lists = refl }))
+one_answer map frame (Ok (Step m)) r place port = by (move_answer r.state.clients port m.seq) refl
+  where
+    by : (to : Result LiveSlot Refusal) → move_answer r.state.clients port m.seq ≡ to
+        → (IsRefused r (after_move to frame m r place) place ⊎ IsJoined r (after_move to frame m r place) port) ⊎ (IsLeave r (after_move to frame m r place) port ⊎ IsMove r (after_move to frame m r place) port)
+    by (Err why) e = inl (inl (record { why = why; state = refl; lists = refl }))
+    by (Ok live) e = inr (inr (record { live = live; command = command_in frame live.slot m; answer = e; own = refl; state = refl; lists = refl }))
+
+-- ---- clear places
+
+-- what is found passes
+find-passes : {X : Type 0} (p : X → Bool) (xs : List X) (x : X) → find p xs ≡ Some x → p x ≡ true
+find-passes p [] x e = absurd (none-some x e)
+find-passes {X} p (y ∷ ys) x e = by (p y) refl e (find-passes p ys x)
+  where
+    by : (b : Bool) → p y ≡ b → (if b then Some y else find p ys) ≡ Some x → (find p ys ≡ Some x → p x ≡ true) → p x ≡ true
+    by true f h more = sym (ap p (same_Some y x h)) ∙ f
+    by false f h more = more h
+
+both_not : (a b : Bool) → (not a && not b) ≡ true → (a ≡ false) × (b ≡ false)
+both_not false false h = (refl, refl)
+both_not false true h = cc
+both_not true b h = cc
+
+-- where no body of the live solids but one overlaps the body, that of no live solid does whose id is another
+clear-live : (body : Bounds) (records : List (Option Rec)) (except : ℕ) → is_blocked body (map_list body_of (solids_in records except)) ≡ false
+    → (id : ℕ) (r : Rec) → record_at records id ≡ Some r → is_solid r.kind ≡ true → (r.id == except) ≡ false → overlaps body (body_of r) ≡ false
+clear-live body [] except h id r e solid apart = absurd (none-some r e)
+clear-live body (None ∷ records) except h zero r e solid apart = absurd (none-some r e)
+clear-live body (None ∷ records) except h (suc id) r e solid apart = clear-live body records except h id r e solid apart
+clear-live body (Some s ∷ records) except h id r e solid apart = by (is_solid s.kind && not (s.id == except)) refl h id e (λ g k f. clear-live body records except g k r f solid apart)
+  where
+    rest : List Rec
+    rest = solids_in records except
+
+    first : (a b : Bool) → (a || b) ≡ false → (a ≡ false) × (b ≡ false)
+    first false b h = (refl, h)
+    first true b h = cc
+
+    here : s ≡ r → (is_solid s.kind && not (s.id == except)) ≡ true
+    here same = subst (λ (t : Rec). (is_solid t.kind && not (t.id == except)) ≡ true) (sym same) (both_true (is_solid r.kind) (r.id == except) solid apart)
+      where
+        both_true : (a b : Bool) → a ≡ true → b ≡ false → (a && not b) ≡ true
+        both_true true false p q = refl
+        both_true true true p q = cc
+        both_true false b p q = cc
+
+    by : (taken : Bool) → (is_solid s.kind && not (s.id == except)) ≡ taken → is_blocked body (map_list body_of (if taken then s ∷ rest else rest)) ≡ false
+        → (id : ℕ) → record_at (Some s ∷ records) id ≡ Some r
+        → (is_blocked body (map_list body_of rest) ≡ false → (k : ℕ) → record_at records k ≡ Some r → overlaps body (body_of r) ≡ false) → overlaps body (body_of r) ≡ false
+    by true t g zero f more =
+        let parts = first (overlaps body (body_of s)) (is_blocked body (map_list body_of rest)) g in
+        subst (λ (x : Rec). overlaps body (body_of x) ≡ false) (same_Some s r f) parts.0
+    by true t g (suc id) f more = more (first (overlaps body (body_of s)) (is_blocked body (map_list body_of rest)) g).1 id f
+    by false t g zero f more = absurd (true-false (sym (here (same_Some s r f)) ∙ t))
+      where
+        true-false : true ≡ false → ⊥
+        true-false h = cc
+    by false t g (suc id) f more = more g id f
+
+-- nobody is added into a solid
+pub join_clear : (map : MapView) (state : State) (port : ℕ) (to : Place) → AreClients state.clients → IsState map state → join_answer map state port ≡ Ok to → IsClear map state to
+join_clear map state port to are is e =
+    let g = got map state.records (place_for (ports_of state.clients) port) to e in
+    let least = slot_least map state port to are e in
+    let free = find-passes (λ at. is_free state.records (player_body at) (solids_of map) to.slot) map.spawns to.at g.spawn in
+    let parts = both_not (is_blocked (player_body to.at) (solids_of map)) (is_blocked (player_body to.at) (map_bodies to.slot)) free in
+    let gone = free-record state.clients state.records to.slot least.in_range is.live (port_of-none (client_at state.clients to.slot) (sym (port_at-client state.clients to.slot) ∙ least.free)) in
+    record {
+      of_the_map = parts.0;
+      of_the_live = λ id r at solid. clear-live (player_body to.at) state.records to.slot parts.1 id r at solid
+          (ne_eqb r.id to.slot (λ same. none-some r (sym gone ∙ ap (record_at state.records) (sym same ∙ (is.valid.each id r at).own_id) ∙ at)));
+    }
+  where
+    map_bodies : ℕ → List Bounds
+    map_bodies slot = map_list body_of (solids_in state.records slot)

@@ -1,0 +1,33 @@
+use Rattle.std.proofs.Common.{◌≡◌, ◌+◌, ◌<◌, ℕ, length, drop, refl, sym, ap, ◌∙◌, subst, arith}
+use Rattle.client_ports.specs.States.{state_of}
+use Rattle.client_ports.specs.Lists.{Lists}
+use Rattle.client_ports.specs.Receiving.{receiving_of, after_arrivals, received}
+use Rattle.client_ports.proofs.Arrivals.{arrivals-next, arrivals-end}
+use Rattle.client_ports.proofs.Rooms.{room_after}
+use Rattle.client_ports.proofs.ports.Ports.receive.Goals as goal
+
+pub overflow_add-place : goal.overflow_add-place
+overflow_add-place c = omega (arith, c.loop-arrival.invariant.place, c.loop-arrival-test.true, c.requires.room, c.room-room.ensures, c.room-room.type_inv)
+
+pub loop-arrival-preserved : goal.loop-arrival-preserved
+loop-arrival-preserved c =
+    let i = c.loop-arrival.arrival-index in
+    let before = receiving_of (state_of c.loop-arrival.self c.loop-arrival.world.records) c.loop-arrival.out.lists in
+    let after = receiving_of (state_of c.receive_one.new.self c.receive_one.new.world.records) c.receive_one.new.out.lists in
+    record {
+      place = omega (arith, c.loop-arrival.invariant.place);
+      room = c.receive_one.ensures.room ∙ c.loop-arrival.invariant.room;
+      left = room_after i c.args.map.now c.args.frame before after c.loop-arrival.place c.arrival-item.result c.receive_one.new.out refl c.receive_one.ensures.received c.loop-arrival.invariant.left.short;
+      tree = c.receive_one.ensures.tree ∙ c.loop-arrival.invariant.tree;
+      state = c.receive_one.ensures.state;
+      rest = arrivals-next c.args.map.now c.args.frame before after _ c.loop-arrival.place i c.arrival-item.result c.args.arrivals.now
+          c.loop-arrival-test.true c.arrival-item.is c.receive_one.ensures.received c.loop-arrival.invariant.rest;
+    }
+
+pub returns-clause-received : goal.returns-clause-received
+unfolding received
+returns-clause-received c =
+    let old = state_of c.args.self.now c.args.world.now.records in
+    arrivals-end c.args.map.now c.args.frame (receiving_of (state_of c.loop-arrival.self c.loop-arrival.world.records) c.loop-arrival.out.lists) _ c.loop-arrival.place
+    c.loop-arrival.arrival-index c.args.arrivals.now c.loop-arrival-test.false c.loop-arrival.invariant.rest
+    ∙ ap (λ (l : Lists). after_arrivals c.args.map.now c.args.frame (receiving_of old l) 0 c.args.arrivals.now) c.requires.empty

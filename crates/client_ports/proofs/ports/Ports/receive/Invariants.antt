@@ -1,0 +1,18 @@
+use Rattle.std.proofs.Common.{◌≡◌, ◌≤◌, ◌+◌, length, drop}
+use Rattle.client_ports.specs.States.{state_of, IsState}
+use Rattle.client_ports.specs.Lists.{Lists}
+use Rattle.client_ports.specs.Receiving.{receiving_of, after_arrivals}
+use Rattle.client_ports.proofs.Rooms.{HasRoomLeft}
+use Rattle.client_ports.proofs.ports.Ports.receive.Given as goal
+
+-- what the packets have come to so far and those that are left come to all, and there is room for the rest
+abbrev pub invariant-loop-arrival : goal.invariant-loop-arrival
+invariant-loop-arrival l = record {
+  place : l.place ≡ l.arrival-index;
+  room : l.out.room ≡ l.fn.out.room;
+  left : HasRoomLeft l.arrival-index l.out;
+  tree : l.world.tree ≡ l.fn.world.tree;
+  state : IsState l.map (state_of l.self l.world.records);
+  rest : after_arrivals l.map l.frame (receiving_of (state_of l.self l.world.records) l.out.lists) l.place (drop l.arrival-index l.arrivals)
+      ≡ after_arrivals l.map l.frame (receiving_of (state_of l.fn.self l.fn.world.records) l.fn.out.lists) 0 l.arrivals;
+}

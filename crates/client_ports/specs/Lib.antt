@@ -1,0 +1,24 @@
+-- The definitions of the receive pass.
+pub use Rattle.arena_geo.specs.Bounds
+pub use Rattle.arena_geo.specs.Boxes
+pub use Rattle.arena_geo.specs.Vectors
+pub use Rattle.entity_recs.specs.Records
+pub use Rattle.entity_recs.specs.Kinds
+pub use Rattle.entity_recs.specs.Bodies
+pub use Rattle.entity_recs.specs.Commands
+pub use Rattle.entity_slots.specs.Ports
+pub use Rattle.entity_slots.specs.Places
+pub use Rattle.packet_read.specs.Reading
+pub use Rattle.arena_map.specs.Maps
+pub use Rattle.arena_map.specs.Validity
+pub use Rattle.world_tree.specs.Live
+pub use Rattle.world_tree.specs.Worlds
+pub use Rattle.world_tree.specs.Queries
+pub mod Clients
+pub mod States
+pub mod Rooms
+pub mod Lists
+pub mod Answers
+pub mod Receiving
+pub mod Finishing
+pub mod Laws

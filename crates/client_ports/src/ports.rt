@@ -1,0 +1,181 @@
+ghost use Rattle.std.specs.Prelude.{◌≡◌, ◌<◌, ◌≤◌, IfOk, IfSome, IsSome, None, length, slice_set};
+ghost use Rattle.client_ports.specs.Clients as clients;
+ghost use Rattle.client_ports.specs.Clients.{no_clients, client_at, ports_of, live_slot, new_client, with_client, IsUpdate, IsPlaceFor};
+ghost use Rattle.client_ports.specs.Answers as answers;
+ghost use Rattle.entity_slots.specs.Places as places;
+
+use crate::client::{Client, LiveSlot};
+use crate::refusal::Refusal;
+use entity_slots::{JoinFault, SLOTS, Slots};
+use std::marker::Model;
+
+/// The most moves of a client that are accepted in a frame.
+pub const MOST_MOVES: u8 = 8;
+
+/// The clients of the live slots. No port is joined in two slots, and no client has more than [`MOST_MOVES`] moves in a
+/// frame. No call takes memory.
+#[derive(Drop)]
+pub struct Ports {
+    slots: Slots,
+    clients: [Option<Client>; SLOTS],
+}
+
+// Clauses see the list of the clients by slot.
+impl Model for Ports {
+    ghost use Rattle.std.specs.Prelude.{List, Option};
+    ghost use Rattle.client_ports.specs.declared.client.Client.{Client};
+    ghost use Rattle.client_ports.specs.Clients.{ArePorts};
+
+    ghost Value = { List (Option Client) };
+
+    ghost view = { λ p. p.clients };
+
+    ghost invariant = { λ p. ArePorts p.slots p.clients };
+}
+
+/// The refusal of a join that gets no slot.
+pub(crate) fn refusal_of(fault: JoinFault) -> Refusal
+    ensures { result ≡ answers.refusal_of fault }
+{
+    match fault {
+        JoinFault::Already => Refusal::Already,
+        JoinFault::Full => Refusal::Full,
+    }
+}
+
+/// The answer to a leave of this client.
+fn leave_by(live: Option<LiveSlot>) -> Result<LiveSlot, Refusal>
+    ensures { result ≡ answers.leave_by live }
+{
+    let Some(LiveSlot { slot, client }) = live else {
+        return Err(Refusal::NotJoined);
+    };
+    if client.leaves {
+        return Err(Refusal::Leaving);
+    }
+    let client = Client {
+        leaves: true,
+        ..client
+    };
+    Ok(LiveSlot { slot, client })
+}
+
+/// The answer to a move of this client with this number.
+fn move_by(live: Option<LiveSlot>, seq: u32) -> Result<LiveSlot, Refusal>
+    requires { IfSome live (λ l. l.client.moves ≤ 8) }
+    ensures { result ≡ answers.move_by live seq }
+{
+    let Some(LiveSlot { slot, client }) = live else {
+        return Err(Refusal::NotJoined);
+    };
+    if client.leaves {
+        return Err(Refusal::Leaving);
+    }
+    if seq <= client.last {
+        return Err(Refusal::Old);
+    }
+    if client.moves >= MOST_MOVES {
+        return Err(Refusal::Many);
+    }
+    let client = Client {
+        last: seq,
+        moves: client.moves + 1,
+        ..client
+    };
+    Ok(LiveSlot { slot, client })
+}
+
+impl Ports {
+    /// Nobody is joined.
+    pub fn new() -> Ports
+        ensures { result ≡ no_clients }
+    {
+        Ports {
+            slots: Slots::new(),
+            clients: [None; SLOTS],
+        }
+    }
+
+    /// Makes these clients as the others.
+    pub fn copy_from(&mut self, o: &Ports)
+        ensures { self.new ≡ o.now }
+    {
+        self.slots.copy_from(&o.slots);
+        self.clients = o.clients;
+    }
+
+    /// The client of this slot, and `None` exactly where the slot isn't live.
+    pub fn client_at(&self, slot: u8) -> Option<Client>
+        requires { slot < 64 }
+        ensures { result ≡ client_at self.now slot }
+    {
+        self.clients[usize::from(slot)]
+    }
+
+    /// The least free slot, in which a join of this port goes, or why it gets none.
+    pub(crate) fn place_for(&self, port: u16) -> Result<u8, JoinFault>
+        ensures value { result ≡ places.place_for (ports_of self.now) port }
+        ensures place { IfOk result (IsPlaceFor self.now port) }
+        ensures count { length self.now ≡ 64 }
+    {
+        self.slots.place_for(port)
+    }
+
+    /// Joins a port in a free slot.
+    pub(crate) fn join(&mut self, slot: u8, port: u16)
+        requires { IsPlaceFor self.old port slot }
+        ensures { self.new ≡ with_client self.old (live_slot slot (new_client port)) }
+    {
+        self.slots.seat(slot, port);
+        self.clients[usize::from(slot)] = Some(Client {
+            port,
+            last: 0,
+            leaves: false,
+            moves: 0,
+        });
+    }
+
+    /// The slot in which this port is joined, with its client.
+    fn live_with(&self, port: u16) -> Option<LiveSlot>
+        ensures value { result ≡ clients.live_with self.now port }
+        ensures live { IfSome result (IsUpdate self.now) }
+    {
+        let slot = self.slots.slot_of(port)?;
+        let client = self.clients[usize::from(slot)]?;
+        Some(LiveSlot { slot, client })
+    }
+
+    /// The client of this port, leaving, or why its leave is refused.
+    pub(crate) fn leave_answer(&self, port: u16) -> Result<LiveSlot, Refusal>
+        ensures value { result ≡ answers.leave_answer self.now port }
+        ensures live { IfOk result (IsUpdate self.now) }
+    {
+        leave_by(self.live_with(port))
+    }
+
+    /// The client of this port after a move with this number, or why the move is refused.
+    pub(crate) fn move_answer(&self, port: u16, seq: u32) -> Result<LiveSlot, Refusal>
+        ensures value { result ≡ answers.move_answer self.now port seq }
+        ensures live { IfOk result (IsUpdate self.now) }
+    {
+        move_by(self.live_with(port), seq)
+    }
+
+    /// Frees a live slot.
+    pub(crate) fn free(&mut self, slot: u8)
+        requires in_range { slot < 64 }
+        requires live { IsSome (client_at self.old slot) }
+        ensures { self.new ≡ slice_set self.old slot None }
+    {
+        self.slots.vacate(slot);
+        self.clients[usize::from(slot)] = None;
+    }
+
+    /// Puts another client of the same port in a live slot.
+    pub(crate) fn update(&mut self, live: LiveSlot)
+        requires { IsUpdate self.old live }
+        ensures { self.new ≡ with_client self.old live }
+    {
+        self.clients[usize::from(live.slot)] = Some(live.client);
+    }
+}

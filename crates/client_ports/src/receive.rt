@@ -1,0 +1,201 @@
+ghost use Rattle.std.specs.Prelude.{◌≡◌, ◌<◌, ◌≤◌, List, Option, length, IfOk};
+ghost use Rattle.entity_recs.specs.declared.rec.Rec.{Rec};
+ghost use Rattle.arena_map.specs.Maps.{IsSpawn};
+ghost use Rattle.entity_recs.specs.Commands.{command_of};
+ghost use Rattle.arena_map.specs.Validity.{IsValidWorld};
+ghost use Rattle.client_ports.specs.States as states;
+ghost use Rattle.client_ports.specs.States.{state_of, HaveSameLive, IsState};
+ghost use Rattle.client_ports.specs.Lists.{no_lists, HasRoom};
+ghost use Rattle.client_ports.specs.Answers as answers;
+ghost use Rattle.client_ports.specs.Clients.{IsPlaceFor};
+ghost use Rattle.client_ports.specs.Receiving as receiving;
+ghost use Rattle.client_ports.specs.Receiving.{receiving_of};
+
+use crate::arrival::Arrival;
+use crate::ports::{Ports, refusal_of};
+use crate::received::Received;
+use crate::refusal::Refusal;
+use crate::spawns::{Place, free_spawn};
+use arena_geo::Vec3;
+use arena_map::ArenaMap;
+use entity_recs::{Cmd, Kind, PLAYER_MAXS, PLAYER_MINS, Rec};
+use packet_read::{MovePacket, Packet, read_packet};
+use world_tree::World;
+
+/// A player that has just joined.
+fn newcomer(slot: u8, at: Vec3) -> Rec
+    ensures { result ≡ states.newcomer slot at }
+{
+    Rec {
+        id: u16::from(slot),
+        kind: Kind::Player,
+        origin: at,
+        mins: PLAYER_MINS,
+        maxs: PLAYER_MAXS,
+        vel: Vec3::ZERO,
+        flags: 0,
+        ammo: 0,
+        carry: 0,
+        score: 0,
+        seq: 0,
+        state: 0,
+    }
+}
+
+/// The command of a move in this frame.
+fn command(frame: u32, slot: u8, step: &MovePacket) -> Cmd
+    requires slot { slot < 64 }
+    requires least { 1 ≤ step.now.ms }
+    requires most { step.now.ms ≤ 50 }
+    ensures { command_of result ≡ receiving.command_in frame slot step.now }
+{
+    Cmd {
+        slot,
+        seq: step.seq,
+        frame,
+        ms: step.ms,
+        wish_x: step.wish_x,
+        wish_y: step.wish_y,
+        buttons: step.buttons,
+    }
+}
+
+impl Ports {
+    /// Where a join of this port goes, or why it is refused.
+    fn join_answer(&self, map: &ArenaMap, world: &World, port: u16) -> Result<Place, Refusal>
+        ensures value { result ≡ answers.join_answer map.now (state_of self.now world.now.records) port }
+        ensures place { IfOk result (λ to. IsPlaceFor self.now port to.slot) }
+        ensures spawn { IfOk result (λ to. IsSpawn map.now.bounds to.at) }
+        ensures count { length self.now ≡ 64 }
+    {
+        let slot = self.place_for(port).map_err(refusal_of)?;
+        match free_spawn(map, world, slot) {
+            Some(at) => Ok(Place { slot, at }),
+            None => Err(Refusal::Crowded),
+        }
+    }
+
+    /// What a join changes, at this place of the frame.
+    fn receive_join(
+        &mut self,
+        map: &ArenaMap,
+        world: &mut World,
+        place: u32,
+        port: u16,
+        out: &mut Received,
+    )
+        requires room { HasRoom 1 out.old }
+        requires state { IsState map.now (state_of self.old world.old.records) }
+        ensures received { receiving_of (state_of self.new world.new.records) out.new.lists
+            ≡ receiving.after_join (answers.join_answer map.now (state_of self.old world.old.records) port)
+            (receiving_of (state_of self.old world.old.records) out.old.lists) place port }
+        ensures room { out.new.room ≡ out.old.room }
+        ensures tree { world.new.tree ≡ world.old.tree }
+        ensures state { IsState map.now (state_of self.new world.new.records) }
+    {
+        match self.join_answer(map, world, port) {
+            Ok(Place { slot, at }) => {
+                self.join(slot, port);
+                world.add(newcomer(slot, at));
+                out.join(port, slot);
+            }
+            Err(why) => out.refuse(place, why),
+        }
+    }
+
+    /// What a leave changes, at this place of the frame.
+    fn receive_leave(&mut self, place: u32, port: u16, out: &mut Received)
+        requires { HasRoom 1 out.old }
+        ensures received { (records : List (Option Rec)) → receiving_of (state_of self.new records) out.new.lists
+            ≡ receiving.after_leave (answers.leave_answer self.old port) (receiving_of (state_of self.old records) out.old.lists) place }
+        ensures room { out.new.room ≡ out.old.room }
+        ensures live { (records : List (Option Rec)) → HaveSameLive self.old records → HaveSameLive self.new records }
+    {
+        match self.leave_answer(port) {
+            Ok(live) => self.update(live),
+            Err(why) => out.refuse(place, why),
+        }
+    }
+
+    /// What a move changes, at this place of the frame.
+    fn receive_move(
+        &mut self,
+        frame: u32,
+        place: u32,
+        port: u16,
+        step: &MovePacket,
+        out: &mut Received,
+    )
+        requires least { 1 ≤ step.now.ms }
+        requires most { step.now.ms ≤ 50 }
+        requires room { HasRoom 1 out.old }
+        ensures received { (records : List (Option Rec)) → receiving_of (state_of self.new records) out.new.lists
+            ≡ receiving.after_move (answers.move_answer self.old port step.now.seq) frame step.now
+            (receiving_of (state_of self.old records) out.old.lists) place }
+        ensures room { out.new.room ≡ out.old.room }
+        ensures live { (records : List (Option Rec)) → HaveSameLive self.old records → HaveSameLive self.new records }
+    {
+        match self.move_answer(port, step.seq) {
+            Ok(live) => {
+                self.update(live);
+                out.accept(command(frame, live.slot, step));
+            }
+            Err(why) => out.refuse(place, why),
+        }
+    }
+
+    /// What one packet changes, at this place of the frame.
+    fn receive_one(
+        &mut self,
+        map: &ArenaMap,
+        world: &mut World,
+        frame: u32,
+        place: u32,
+        arrival: &Arrival,
+        out: &mut Received,
+    )
+        requires room { HasRoom 1 out.old }
+        requires state { IsState map.now (state_of self.old world.old.records) }
+        ensures received { receiving_of (state_of self.new world.new.records) out.new.lists
+            ≡ receiving.after_arrival map.now frame (receiving_of (state_of self.old world.old.records) out.old.lists) place arrival.now }
+        ensures room { out.new.room ≡ out.old.room }
+        ensures tree { world.new.tree ≡ world.old.tree }
+        ensures state { IsState map.now (state_of self.new world.new.records) }
+    {
+        match read_packet(arrival.bytes.as_slice()) {
+            Ok(Packet::Join) => self.receive_join(map, world, place, arrival.port, out),
+            Ok(Packet::Step(m)) => self.receive_move(frame, place, arrival.port, &m, out),
+            Ok(Packet::Leave) => self.receive_leave(place, arrival.port, out),
+            Err(fault) => out.refuse(place, Refusal::Packet(fault)),
+        }
+    }
+
+    /// The receive pass: the packets of a frame, in their order. It takes no memory.
+    pub fn receive(
+        &mut self,
+        map: &ArenaMap,
+        world: &mut World,
+        frame: u32,
+        arrivals: &[Arrival],
+        out: &mut Received,
+    )
+        requires empty { out.old.lists ≡ no_lists }
+        requires room { length arrivals.now ≤ out.old.room }
+        requires live { HaveSameLive self.old world.old.records }
+        requires valid { IsValidWorld map.now world.old.records }
+        ensures received { receiving_of (state_of self.new world.new.records) out.new.lists
+            ≡ receiving.received map.now frame (state_of self.old world.old.records) arrivals.now }
+        ensures room { out.new.room ≡ out.old.room }
+        ensures tree { world.new.tree ≡ world.old.tree }
+        ensures live { HaveSameLive self.new world.new.records }
+        ensures valid { IsValidWorld map.now world.new.records }
+    {
+        // A place is below the room, and so is a u32.
+        let _room = out.room();
+        let mut place = 0;
+        for arrival in arrivals {
+            self.receive_one(map, world, frame, place, arrival, out);
+            place += 1;
+        }
+    }
+}
