@@ -1,0 +1,5 @@
+use Rattle.core_steps.proofs.Seats.{ended_seat_keeps_items}
+use Rattle.core_steps.proofs.laws.ended_seat_keeps_items.Goals as goal
+
+pub returns : goal.returns
+returns c = ended_seat_keeps_items

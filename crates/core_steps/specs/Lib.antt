@@ -1,0 +1,7 @@
+-- The definitions of the pure core: its words, a seat's view, its steps, and what they keep.
+pub mod Cells
+pub mod Encoding
+pub mod Views
+pub mod Steps
+pub mod Stands
+pub mod Laws

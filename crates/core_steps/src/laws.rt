@@ -1,0 +1,101 @@
+ghost use Rattle.core_steps.specs.Laws.{StartStands, MadeSeatStands, EndedSeatStands, EndedSeatKeepsItems, LoadedCountStands, GivenNodeStands, YieldedNodeStands, YieldedNothingStands, TakenNodeStands, RefusedNodeStands, LayoutIsRight, EncodedIsDecoded, BegunMoveStands, LoadedOwnStands, LoadedAgainStands, LoadedListStands, LoadedPlayerStands, LoadedStateStands, ClaimedNodeStands, StoredNextStands};
+
+/// The start stands: seat 0 without a command, no entry, and words that are those of the world.
+pub fn start_stands()
+    ensures { StartStands }
+{}
+
+/// A seat that is made from seat 0 keeps what stands.
+pub fn made_seat_stands()
+    ensures { MadeSeatStands }
+{}
+
+/// A seat that is ended into seat 0 keeps what stands.
+pub fn ended_seat_stands()
+    ensures { EndedSeatStands }
+{}
+
+/// The items of all logs are the same, in the same order, after a seat is ended: its log goes under its number to seat 0.
+pub fn ended_seat_keeps_items()
+    ensures { EndedSeatKeepsItems }
+{}
+
+/// A seat that loads the count keeps what stands.
+pub fn loaded_count_stands()
+    ensures { LoadedCountStands }
+{}
+
+/// A node that is given back keeps what stands.
+pub fn given_node_stands()
+    ensures { GivenNodeStands }
+{}
+
+/// Giving up: the first node that is given back, at any take before the commit, keeps what stands.
+pub fn yielded_node_stands()
+    ensures { YieldedNodeStands }
+{}
+
+/// Giving up: a seat that gives up and holds nothing loads the count, which keeps what stands.
+pub fn yielded_nothing_stands()
+    ensures { YieldedNothingStands }
+{}
+
+/// A leaf, an inner node of a visit or a further write node that was free is taken, which keeps what stands.
+pub fn taken_node_stands()
+    ensures { TakenNodeStands }
+{}
+
+/// A take of a held node: the refused take keeps what stands.
+pub fn refused_node_stands()
+    ensures { RefusedNodeStands }
+{}
+
+/// The words lie in the flat table at their indices.
+pub fn layout_is_right()
+    ensures { LayoutIsRight }
+{}
+
+/// The five words of a player's record give it back, with the state that is given.
+pub fn encoded_is_decoded()
+    ensures { EncodedIsDecoded }
+{}
+
+/// The first load for a command, with which it enters the view, keeps what stands.
+pub fn begun_move_stands()
+    ensures { BegunMoveStands }
+{}
+
+/// A further word of the own record, keeps what stands.
+pub fn loaded_own_stands()
+    ensures { LoadedOwnStands }
+{}
+
+/// A word of the own record that is loaded again, keeps what stands.
+pub fn loaded_again_stands()
+    ensures { LoadedAgainStands }
+{}
+
+/// A list word that is loaded keeps what stands.
+pub fn loaded_list_stands()
+    ensures { LoadedListStands }
+{}
+
+/// A word of another player's record, keeps what stands.
+pub fn loaded_player_stands()
+    ensures { LoadedPlayerStands }
+{}
+
+/// The state of a thing of the map, keeps what stands.
+pub fn loaded_state_stands()
+    ensures { LoadedStateStands }
+{}
+
+/// The first write node, with which the effect enters the view: it keeps what stands, where the effect is what the action gives on what was loaded.
+pub fn claimed_node_stands()
+    ensures { ClaimedNodeStands }
+{}
+
+/// The next store that is owed, of the own bit or of a word, keeps what stands.
+pub fn stored_next_stands()
+    ensures { StoredNextStands }
+{}

@@ -1,0 +1,163 @@
+ghost use Rattle.std.specs.Prelude.{◌≡◌, ◌+◌, ◌*◌, ◌<◌, ◌^◌};
+ghost use Rattle.core_steps.specs.Cells.{node_index, links_index, body_index, state_index};
+ghost use Rattle.core_steps.specs.Encoding.{low_half, high_half, joined, words_of, record_from};
+
+use arena_geo::Vec3;
+use entity_recs::{Kind, PLAYER_MAXS, PLAYER_MINS, Rec};
+
+/// The index of the count of commits.
+pub const COUNT_WORD: u16 = 0;
+
+/// The index of the word of a node, 0 to 30.
+pub fn node_word(node: u8) -> u16
+    requires { node < 31 }
+    ensures { result ≡ node_index node }
+{
+    1 + u16::from(node)
+}
+
+/// The index of the list word of a node, 0 to 30, of which bit p is set where player p is linked there.
+pub fn list_word(node: u8) -> u16
+    requires { node < 31 }
+    ensures { result ≡ links_index 31 node }
+{
+    32 + u16::from(node)
+}
+
+/// The index of the first of the five words of a player, of slot 0 to 63.
+pub fn record_word(slot: u8) -> u16
+    requires { slot < 64 }
+    ensures { result ≡ body_index 31 slot }
+{
+    63 + 5 * u16::from(slot)
+}
+
+/// The index of the state word of an entity, of id 0 to 255.
+pub fn state_word(id: u8) -> u16
+    ensures { result ≡ state_index 31 id }
+{
+    383 + u16::from(id)
+}
+
+/// A player's record as five words: x and y; z and vx; vy and vz; score and seq, the low half first; and flags, ammo
+/// and carry in a byte each.
+pub type PlayerWords = [u64; 5];
+
+/// A word of two halves.
+fn halves(low: u32, high: u32) -> u64
+    ensures { result ≡ joined low high }
+{
+    u64::from(low) + (u64::from(high) << 32)
+}
+
+/// The low half of a word.
+fn low(word: u64) -> u32
+    ensures { result ≡ low_half word }
+{
+    (word % 0x1_0000_0000) as u32
+}
+
+/// The high half of a word.
+fn high(word: u64) -> u32
+    ensures { result ≡ high_half word }
+{
+    (word >> 32) as u32
+}
+
+/// Three bytes in a word, the low one first.
+fn bytes(low: u8, middle: u8, high: u8) -> u64
+    ensures { result ≡ low + middle * 2 ^ 8 + high * 2 ^ 16 }
+{
+    u64::from(low) + u64::from(middle) * 256 + u64::from(high) * 65_536
+}
+
+/// The five words of a player's record.
+pub fn encode(r: &Rec) -> PlayerWords
+    ensures { result ≡ words_of r.now }
+{
+    [
+        halves(r.origin.x.cast_unsigned(), r.origin.y.cast_unsigned()),
+        halves(r.origin.z.cast_unsigned(), r.vel.x.cast_unsigned()),
+        halves(r.vel.y.cast_unsigned(), r.vel.z.cast_unsigned()),
+        halves(r.score, r.seq),
+        bytes(r.flags, r.ammo, r.carry),
+    ]
+}
+
+/// The record of the player with this id, these five words and this state.
+pub fn decode(id: u16, w: &PlayerWords, state: u64) -> Rec
+    ensures { result ≡ record_from id w.now state }
+{
+    Rec {
+        id,
+        kind: Kind::Player,
+        origin: Vec3 {
+            x: low(w[0]).cast_signed(),
+            y: high(w[0]).cast_signed(),
+            z: low(w[1]).cast_signed(),
+        },
+        mins: PLAYER_MINS,
+        maxs: PLAYER_MAXS,
+        vel: Vec3 {
+            x: high(w[1]).cast_signed(),
+            y: low(w[2]).cast_signed(),
+            z: high(w[2]).cast_signed(),
+        },
+        flags: (w[4] % 256) as u8,
+        ammo: (w[4] / 256 % 256) as u8,
+        carry: (w[4] / 65_536 % 256) as u8,
+        score: low(w[3]),
+        seq: high(w[3]),
+        state,
+    }
+}
+
+#[cfg(test)]
+mod tests {
+    use super::*;
+    use std::test::Fail;
+
+    #[test]
+    fn words_lie_where_they_should(rt: HostRuntime) -> Result<(), Fail> {
+        assert_eq!(rt; COUNT_WORD, 0);
+        assert_eq!(rt; (node_word(0), node_word(30)), (1, 31));
+        assert_eq!(rt; (list_word(0), list_word(30)), (32, 62));
+        assert_eq!(rt; (record_word(0), record_word(63)), (63, 378));
+        assert_eq!(rt; (state_word(0), state_word(255)), (383, 638));
+        Ok(())
+    }
+
+    #[test]
+    fn record_is_five_words(rt: HostRuntime) -> Result<(), Fail> {
+        let r = Rec {
+            id: 7,
+            kind: Kind::Player,
+            origin: Vec3 {
+                x: 98_304,
+                y: -1,
+                z: 6_144,
+            },
+            mins: PLAYER_MINS,
+            maxs: PLAYER_MAXS,
+            vel: Vec3 {
+                x: -256,
+                y: 0,
+                z: 512_000,
+            },
+            flags: 3,
+            ammo: 100,
+            carry: 8,
+            score: 5,
+            seq: 40,
+            state: 0,
+        };
+        let words = encode(&r);
+        assert_eq!(rt; words[0], 0xffff_ffff_0001_8000);
+        assert_eq!(rt; words[1], 0xffff_ff00_0000_1800);
+        assert_eq!(rt; words[2], 0x0007_d000_0000_0000);
+        assert_eq!(rt; words[3], 0x0000_0028_0000_0005);
+        assert_eq!(rt; words[4], 0x0008_6403);
+        assert_eq!(rt; decode(7, &words, 0), r);
+        Ok(())
+    }
+}
