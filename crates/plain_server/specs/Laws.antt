@@ -1,0 +1,48 @@
+-- What holds of the plain server, after any frames.
+use Rattle.std.specs.Prelude.{◌≡◌, ◌≢◌, ℕ, ◌<◌, true, false, List, Option, Some, All, IsSome}
+use Rattle.arena_geo.specs.Boxes.{overlaps, is_blocked}
+use Rattle.entity_recs.specs.declared.rec.Rec.{Rec}
+use Rattle.entity_recs.specs.declared.effect.Entry.{Entry}
+use Rattle.entity_recs.specs.Commands.{Command}
+use Rattle.entity_recs.specs.Histories.{world_after}
+use Rattle.arena_map.specs.Maps.{MapView, IsMap}
+use Rattle.arena_map.specs.Validity.{IsValidWorld}
+use Rattle.world_tree.specs.Live.{record_at}
+use Rattle.client_ports.specs.declared.arrival.Arrival.{Arrival}
+use Rattle.client_ports.specs.Clients.{AreClients}
+use Rattle.client_ports.specs.States.{IsState}
+use Rattle.plain_server.specs.RecordsById.{world_of, records_in, opening}
+use Rattle.plain_server.specs.Outcomes.{outcome_in}
+use Rattle.plain_server.specs.Frames.{AreRight, AreInOrder, journals_of, state_played}
+
+-- the command is that of a live player
+abbrev pub HasLivePlayer : List (Option Rec) → Command → Type 0
+HasLivePlayer records c = (c.slot < 64) × IsSome (record_at records c.slot)
+
+-- moves of live players, in whatever order they run, keep a valid world valid
+abbrev pub MovesKeepWorldsValid : Type 0
+MovesKeepWorldsValid =
+    (map : MapView) (records : List (Option Rec)) (commands : List Command) → IsMap map → IsValidWorld map records
+    → All (HasLivePlayer records) commands → IsValidWorld map (records_in (world_after (outcome_in map) (world_of records) commands) records)
+
+-- after any frames, with whatever journals, the world is valid and the live slots are the live players
+abbrev pub WorldsStayValid : Type 0
+WorldsStayValid =
+    (map : MapView) (frames : List (List Arrival)) (journals : List (List Entry)) → IsMap map
+    → IsState map (state_played map 0 (opening map) frames journals)
+
+-- after any frames, with whatever journals, no two live slots share a port
+abbrev pub PortsStayApart : Type 0
+PortsStayApart =
+    (map : MapView) (frames : List (List Arrival)) (journals : List (List Entry)) → AreClients (state_played map 0 (opening map) frames journals).clients
+
+-- there are right journals of any frames that have the moves in the order of arrival
+pub record JournalsAreRightInOrder : Type 0 where
+  pub right : (map : MapView) (frames : List (List Arrival)) → AreRight map 0 (opening map) frames (journals_of map 0 (opening map) frames)
+  pub order : (map : MapView) (frames : List (List Arrival)) → AreInOrder map 0 (opening map) frames (journals_of map 0 (opening map) frames)
+
+-- right journals that have the moves in the order of arrival are these
+abbrev pub OrderLeavesOneJournalEach : Type 0
+OrderLeavesOneJournalEach =
+    (map : MapView) (frames : List (List Arrival)) (journals : List (List Entry)) → AreRight map 0 (opening map) frames journals
+    → AreInOrder map 0 (opening map) frames journals → journals ≡ journals_of map 0 (opening map) frames

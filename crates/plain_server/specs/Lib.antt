@@ -1,0 +1,22 @@
+-- The plain server: what a frame does, without tree, lists and threads.
+pub use Rattle.arena_geo.specs.Bounds
+pub use Rattle.arena_geo.specs.Boxes
+pub use Rattle.entity_recs.specs.Records
+pub use Rattle.entity_recs.specs.Bodies
+pub use Rattle.entity_recs.specs.Commands
+pub use Rattle.entity_recs.specs.Worlds
+pub use Rattle.entity_recs.specs.Histories
+pub use Rattle.move_journal.specs.Merges
+pub use Rattle.move_journal.specs.Validity
+pub use Rattle.arena_map.specs.Maps
+pub use Rattle.arena_map.specs.Validity
+pub use Rattle.world_tree.specs.Live
+pub use Rattle.client_ports.specs.Clients
+pub use Rattle.client_ports.specs.States
+pub use Rattle.client_ports.specs.Lists
+pub use Rattle.client_ports.specs.Receiving
+pub use Rattle.client_ports.specs.Finishing
+pub mod RecordsById
+pub mod Outcomes
+pub mod Frames
+pub mod Laws

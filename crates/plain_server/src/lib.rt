@@ -1,0 +1,2 @@
+//! The plain server: what a frame does, without tree, lists and threads, as definitions and laws.
+#![tactic(auto)]
