@@ -7,7 +7,6 @@ pub use Rattle.entity_recs.specs.Commands
 pub use Rattle.entity_recs.specs.Worlds
 pub use Rattle.entity_recs.specs.Histories
 pub use Rattle.move_journal.specs.Merges
-pub use Rattle.move_journal.specs.Validity
 pub use Rattle.arena_map.specs.Maps
 pub use Rattle.arena_map.specs.Validity
 pub use Rattle.world_tree.specs.Live
