@@ -1,4 +1,8 @@
--- Lemmas on records by id and on moves.
+-- Lemmas on records by id, on moves, on journals and on frames.
 pub mod ById
 pub mod OneMove
 pub mod Moves
+pub mod Commands
+pub mod Small
+pub mod Reports
+pub mod Frames

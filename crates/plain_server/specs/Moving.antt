@@ -1,5 +1,5 @@
 -- Moves, one after another, over records by id.
-use Rattle.std.specs.Prelude.{◌≡◌, ℕ, ◌<◌, List, length, Option, is_some, IsSome, slice_set, Some}
+use Rattle.std.specs.Prelude.{◌≡◌, ℕ, ◌<◌, ◌^◌, List, length, Option, is_some, IsSome, slice_set, Some}
 use Rattle.entity_recs.specs.declared.rec.Rec.{Rec}
 use Rattle.entity_recs.specs.declared.effect.Effect.{Effect}
 use Rattle.entity_recs.specs.Commands.{Command}
@@ -15,6 +15,10 @@ use Rattle.plain_server.specs.Outcomes.{outcome_in}
 pub record HasLivePlayer (records : List (Option Rec)) (c : Command) : Type 0 where
   pub slot : c.slot < 64
   pub live : IsSome (record_at records c.slot)
+
+-- the number of a command has 32 bits
+abbrev pub HasSmallNumber : Command → Type 0
+HasSmallNumber c = c.seq < 2 ^ 32
 
 -- what a command does among these records
 abbrev pub effect_among : MapView → List (Option Rec) → Command → Effect
