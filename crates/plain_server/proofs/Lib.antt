@@ -2,6 +2,7 @@
 pub mod ById
 pub mod OneMove
 pub mod Moves
+pub mod Others
 pub mod Commands
 pub mod Small
 pub mod Reports
