@@ -22,4 +22,3 @@ pub mod Answers
 pub mod Receiving
 pub mod Finishing
 pub mod Laws
-pub mod Frames
