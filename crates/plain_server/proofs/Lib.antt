@@ -7,3 +7,4 @@ pub mod Commands
 pub mod Small
 pub mod Reports
 pub mod Frames
+pub mod Clear
