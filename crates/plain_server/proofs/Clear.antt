@@ -39,7 +39,7 @@ use Rattle.plain_server.specs.Frames.{moved_by, state_after, first_of, rest_of, 
 use Rattle.plain_server.proofs.Others.{each_live, others-are}
 use Rattle.plain_server.proofs.Moves.{IsLiveRecord, live_record, slot_is_player, moved_is_valid, moved-none, moved-more, still-live, moved-records}
 use Rattle.plain_server.proofs.Commands.{history_has}
-use Rattle.plain_server.proofs.Frames.{received_is, state_after_is, opening_is}
+use Rattle.plain_server.proofs.Frames.{received_is, state_after_is, opening-is}
 
 overlaps_flips : (a b : Bounds) → overlaps a b ≡ overlaps b a
 overlaps_flips a b =
@@ -218,11 +218,11 @@ clear_through map frame state (arrivals ∷ frames) journals is_map is clear =
     (clear_finished map (moved_by map r (first_of journals)) moved)
 
 -- where nobody is live all have room
-pub opening_clear : (map : MapView) → IsMap map → AreClear map (opening map).records
-opening_clear map is_map = record {
+pub opening_clear : (map : MapView) → AreClear map (opening map).records
+opening_clear map = subst (λ (s : State). AreClear map s.records) (sym (opening-is map)) (record {
   of_the_map = λ id r at kind. absurd (none-some r (sym (none id) ∙ at));
   of_each_other = λ i j r s at_i at_j solid_r solid_s differ. absurd (none-some r (sym (none i) ∙ at_i));
-}
+})
   where
     none : (id : ℕ) → record_at (replicate 256 None) id ≡ None
     none id = elim (cases_lt id 256) [

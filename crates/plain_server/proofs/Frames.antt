@@ -125,12 +125,17 @@ one_journal_each map frame state (arrivals ∷ frames) (j ∷ js) right order =
     let rest = one_journal_each map (frame + 1) (state_after map r j) frames js right.1 order.1 in
     λ i. first i ∷ (rest ∙ ap (λ (k : List Entry). journals_of map (frame + 1) (state_after map r k) frames) first) i
 
--- the opening state of a map without things is a server's
-pub opening_is : (map : MapView) → entities_of map ≡ [] → opening map ≡ state_of no_clients (replicate 256 None) → IsServerState map (opening map)
-opening_is map things is = subst (IsServerState map) (sym is) (record {
+-- the opening state of a map: nobody is joined, and no record is live
+pub opening-is : (map : MapView) → opening map ≡ state_of no_clients (replicate 256 None)
+unfolding opening
+opening-is map = refl
+
+-- it is a server's
+pub opening_is : (map : MapView) → IsServerState map (opening map)
+opening_is map = subst (IsServerState map) (sym (opening-is map)) (record {
   clients = no_clients-are_ports.clients_are;
   places = length-replicate {A = Option Rec} 256 None;
-  fits = opening-fits map (replicate 256 None) things none;
+  fits = opening-fits map (replicate 256 None) refl none;
 })
   where
     none : (id : ℕ) → record_at (replicate 256 None) id ≡ None
@@ -150,4 +155,5 @@ ports_apart_through map frame state (arrivals ∷ frames) journals are =
 
 -- nobody is joined at first
 pub opening_apart : (map : MapView) → AreClients (opening map).clients
+unfolding opening
 opening_apart map = no_clients-are_ports.clients_are
