@@ -13,9 +13,12 @@ pub use Rattle.client_ports.specs.Lists
 pub use Rattle.client_ports.specs.Receiving
 pub use Rattle.plain_server.specs.RecordsById
 pub use Rattle.plain_server.specs.Frames
+pub use Rattle.demo_lines.specs.Bytes
 pub use Rattle.snapshot_write.specs.Snapshots
 pub mod Entries
 pub mod OutLines
 pub mod FrameLines
 pub mod Printing
 pub mod Journals
+pub mod Collecting
+pub mod Output
