@@ -1,1 +1,5 @@
 -- Lemmas on the lines of the output.
+pub mod Writing
+pub mod Players
+pub mod Quiet
+pub mod Spellings

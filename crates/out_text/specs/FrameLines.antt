@@ -1,5 +1,5 @@
 -- The lines of the output: those of a frame, and those of frames.
-use Rattle.std.specs.Prelude.{ℕ, ◌+◌, Bool, true, false, List, [], ◌∷◌, ◌++◌, map, filter, Option}
+use Rattle.std.specs.Prelude.{ℕ, ◌+◌, Bool, true, false, List, [], ◌∷◌, ◌++◌, map, filter, Option, Some, None}
 use Rattle.entity_recs.specs.declared.kind.Kind.{Kind}
 use Rattle.entity_recs.specs.declared.kind.Kind.TheVariants.{Player, Ammo, Gem, Teleporter, Goal, Lift}
 use Rattle.entity_recs.specs.declared.rec.Rec.{Rec}
@@ -45,6 +45,11 @@ is_player Lift = false
 -- the live players in rising slot
 abbrev pub players_in : List (Option Rec) → List Rec
 players_in records = filter (λ (r : Rec). is_player r.kind) (live_in records)
+
+-- the line of the snapshot of a player, where there is one
+abbrev pub reply_lines : ℕ → List (Option Rec) → Option Rec → List OutLine
+reply_lines frame records None = []
+reply_lines frame records (Some me) = to_line frame (live_in records) me ∷ []
 
 -- the lines of the snapshots of the live players
 abbrev pub to_lines : ℕ → List (Option Rec) → List OutLine

@@ -22,3 +22,4 @@ pub mod Printing
 pub mod Journals
 pub mod Collecting
 pub mod Output
+pub mod Laws

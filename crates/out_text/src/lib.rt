@@ -1,6 +1,11 @@
 //! The output: its lines, the text of a frame, and what a text says of the moves that were done.
 #![tactic(auto)]
 
+pub use laws::only_printed_lines_are_read;
 pub use out_line::{OutLine, Printed};
+pub use text::{push_frame_lines, push_line};
 
+mod laws;
+mod names;
 mod out_line;
+mod text;
