@@ -22,3 +22,4 @@ pub mod Answers
 pub mod Receiving
 pub mod Finishing
 pub mod Laws
+pub mod Frames

@@ -1,5 +1,5 @@
 -- What the receive pass changes: the clients by slot, and the records by id.
-use Rattle.std.specs.Prelude.{◌≡◌, ℕ, ◌<◌, List, Option, is_some, slice_set, Some}
+use Rattle.std.specs.Prelude.{◌≡◌, ℕ, ◌<◌, List, length, Option, is_some, slice_set, Some}
 use Rattle.arena_geo.specs.declared.vec3.Vec3.{Vec3}
 use Rattle.arena_geo.specs.Vectors.{zero_vector}
 use Rattle.entity_recs.specs.declared.bodies.TheConstants.{PLAYER_MINS, PLAYER_MAXS}
@@ -10,7 +10,7 @@ use Rattle.arena_map.specs.Validity.{IsValidWorld}
 use Rattle.world_tree.specs.Live.{record_at}
 use Rattle.client_ports.specs.declared.client.Client.{Client}
 use Rattle.client_ports.specs.declared.client.LiveSlot.{LiveSlot}
-use Rattle.client_ports.specs.Clients.{client_at, live_slot, new_client, with_client}
+use Rattle.client_ports.specs.Clients.{client_at, live_slot, new_client, with_client, AreClients}
 
 -- the client of each slot, and the record of each id
 pub record State : Type 0 where
@@ -55,3 +55,9 @@ with_update state live = state_of (with_client state.clients live) state.records
 pub record IsState (map : MapView) (state : State) : Type 0 where
   pub live : HaveSameLive state.clients state.records
   pub valid : IsValidWorld map state.records
+
+-- a server's state on a map: ports are apart, each of 256 ids has a place, and the state fits the map
+pub record IsServerState (map : MapView) (state : State) : Type 0 where
+  pub clients : AreClients state.clients
+  pub places : length state.records ≡ 256
+  pub fits : IsState map state

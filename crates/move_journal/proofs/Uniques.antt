@@ -37,14 +37,14 @@ pub front_of_history : (moves : List Command) (e : Entry) (journal : List Entry)
 front_of_history moves e journal c found = ap (λ (told : Option Command). with_command told e (history_of moves journal)) found
 
 -- the first entry of a legal history is that of its command
-first_entry : (act : Action) (place : ℕ) (w : World) (c : Command) (e : Entry) (items : List Item)
+pub first_entry : (act : Action) (place : ℕ) (w : World) (c : Command) (e : Entry) (items : List Item)
     → IsLegalFrom act place w (record { command = c; entry = e } ∷ items) → e ≡ entry_of place c (outcome act w c)
 first_entry act place w c e items legal =
     let here : place + 0 ≡ place = omega arith in
     subst (λ (p : ℕ). e ≡ entry_of p c (outcome act w c)) here (legal.each [] (record { command = c; entry = e }) items refl)
 
 -- what is behind the first entry is legal from the next place in the world behind its command
-legal_behind : (act : Action) (place : ℕ) (w : World) (c : Command) (e : Entry) (items : List Item)
+pub legal_behind : (act : Action) (place : ℕ) (w : World) (c : Command) (e : Entry) (items : List Item)
     → IsLegalFrom act place w (record { command = c; entry = e } ∷ items) → IsLegalFrom act (place + 1) (apply act w c) items
 legal_behind act place w c e items legal = record {
   each = λ before item behind parts.

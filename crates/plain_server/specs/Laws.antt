@@ -1,5 +1,5 @@
 -- What holds of the plain server, after any frames.
-use Rattle.std.specs.Prelude.{◌≡◌, ◌≢◌, ℕ, ◌<◌, true, false, List, Option, Some, All, IsSome}
+use Rattle.std.specs.Prelude.{◌≡◌, ◌≢◌, ℕ, ◌<◌, true, false, List, Option, Some, All}
 use Rattle.arena_geo.specs.Boxes.{overlaps, is_blocked}
 use Rattle.entity_recs.specs.declared.rec.Rec.{Rec}
 use Rattle.entity_recs.specs.declared.effect.Entry.{Entry}
@@ -13,11 +13,8 @@ use Rattle.client_ports.specs.Clients.{AreClients}
 use Rattle.client_ports.specs.States.{IsState}
 use Rattle.plain_server.specs.RecordsById.{world_of, records_in, opening}
 use Rattle.plain_server.specs.Outcomes.{outcome_in}
+use Rattle.plain_server.specs.Moving.{HasLivePlayer}
 use Rattle.plain_server.specs.Frames.{AreRight, AreInOrder, journals_of, state_played}
-
--- the command is that of a live player
-abbrev pub HasLivePlayer : List (Option Rec) → Command → Type 0
-HasLivePlayer records c = (c.slot < 64) × IsSome (record_at records c.slot)
 
 -- moves of live players, in whatever order they run, keep a valid world valid
 abbrev pub MovesKeepWorldsValid : Type 0

@@ -17,5 +17,7 @@ pub use Rattle.client_ports.specs.Receiving
 pub use Rattle.client_ports.specs.Finishing
 pub mod RecordsById
 pub mod Outcomes
+pub mod Moving
+pub mod Entries
 pub mod Frames
 pub mod Laws

@@ -1,0 +1,14 @@
+//! The frame as one call: the receive pass, the moves, and the leaves.
+#![tactic(auto)]
+
+pub use frame_out::FrameOut;
+pub use journal::Journal;
+pub use limits::{MOST_ARRIVALS, MOST_FRAMES};
+pub use server::Server;
+
+mod bodies;
+mod frame_out;
+mod journal;
+mod limits;
+mod moves;
+mod server;

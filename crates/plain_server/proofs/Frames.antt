@@ -1,0 +1,123 @@
+-- Frames, one after another: what holds of the state after each.
+use Rattle.std.proofs.Common.{◌≡◌, ℕ, zero, suc, ◌+◌, ◌<◌, List, [], ◌∷◌, length, All, Option, Some, None, is_some, IsSome, refl, sym, ap, ◌∙◌, subst, arith}
+use Rattle.std.specs.Prelude.{map as map_list}
+use Rattle.std.proofs.lemmas.List.{length-map}
+use Rattle.std.proofs.lemmas.List.Elements.{All-weaker}
+use Rattle.entity_recs.specs.declared.rec.Rec.{Rec}
+use Rattle.entity_recs.specs.declared.effect.Entry.{Entry}
+use Rattle.entity_recs.specs.Commands.{Command}
+use Rattle.entity_recs.specs.Histories.{Item, world_after}
+use Rattle.move_journal.specs.Merges.{history_of, journal_in_order}
+use Rattle.move_journal.specs.Laws.{MovesInOrderAreRight, OrderLeavesOneJournal}
+use Rattle.arena_map.specs.Maps.{MapView, IsMap}
+use Rattle.arena_map.specs.Validity.{IsValidWorld}
+use Rattle.world_tree.specs.Live.{record_at}
+use Rattle.client_ports.specs.declared.arrival.Arrival.{Arrival}
+use Rattle.client_ports.specs.declared.client.Client.{Client}
+use Rattle.client_ports.specs.Clients.{client_at}
+use Rattle.client_ports.proofs.Slots.{client_count}
+use Rattle.client_ports.specs.States.{State, state_of, IsState, HaveSameLive, IsServerState}
+use Rattle.client_ports.specs.Receiving.{Receiving, received}
+use Rattle.client_ports.specs.Finishing.{finished}
+use Rattle.client_ports.specs.Frames.{NumbersAreApart, MoversAreLive, StatesStayValid}
+use Rattle.plain_server.specs.RecordsById.{world_of, records_in}
+use Rattle.plain_server.specs.Outcomes.{outcome_in}
+use Rattle.plain_server.specs.Moving.{HasLivePlayer, HasSmallNumber, HaveMoved}
+use Rattle.plain_server.specs.Entries.{IsReception}
+use Rattle.plain_server.specs.Frames.{moved_by, state_after, first_of, rest_of, state_played, AreRight, AreInOrder, journal_of, journals_of}
+use Rattle.plain_server.proofs.Moves.{Moved, moved, moved-records}
+use Rattle.plain_server.proofs.Commands.{history_has}
+
+-- a state whose records are those after moves of live players is a server's as before
+pub state_moved : (map : MapView) (state : State) (new : List (Option Rec)) (commands : List Command) → IsServerState map state → HaveMoved map state.records new commands
+    → IsServerState map (state_of state.clients new)
+state_moved map state new commands is has = record {
+  clients = is.clients;
+  places = has.count ∙ is.places;
+  fits = record {
+    live = record { same = λ slot below. is.fits.live.same slot below ∙ sym (has.live slot) };
+    valid = has.valid;
+  };
+}
+
+-- the state after the moves of a journal is a server's
+pub moved_by_is : (map : MapView) (r : Receiving) (journal : List Entry) → IsMap map → IsReception map r → IsServerState map (moved_by map r journal)
+moved_by_is map r journal is_map is =
+    let commands = map_list (λ (item : Item). item.command) (history_of r.lists.moves journal) in
+    let m = moved map r.state.records commands is_map is.state.fits.valid (history_has (HasLivePlayer r.state.records) r.lists.moves journal is.live) in
+    let P : List (Option Rec) → Type 0 = λ records. IsServerState map (state_of r.state.clients records) in
+    subst P (sym (moved-records map r.state.records m.new commands m.is)) (state_moved map r.state m.new commands is.state m.is)
+
+-- a live client's slot has a live player
+live_player : (map : MapView) (state : State) (c : Command) → IsServerState map state → IsSome (client_at state.clients c.slot) → HasLivePlayer state.records c
+live_player map state c is live = record { slot = below; live = sym (is.fits.live.same c.slot below) ∙ live }
+  where
+    within : (clients : List (Option Client)) (slot : ℕ) → IsSome (client_at clients slot) → slot < length clients
+    within [] slot some = cc
+    within (x ∷ clients) zero some = omega arith
+    within (x ∷ clients) (suc slot) some = let rest = within clients slot some in omega (arith, rest)
+
+    below : c.slot < 64
+    below = omega (arith, within state.clients c.slot live, client_count state.clients is.clients.slots)
+
+-- what is received in a frame from a server's state
+pub received_is : NumbersAreApart → MoversAreLive → StatesStayValid → (map : MapView) (frame : ℕ) (state : State) (arrivals : List Arrival) → IsMap map → IsServerState map state
+    → IsReception map (received map frame state arrivals)
+received_is apart live valid map frame state arrivals is_map is =
+    let next = received map frame state arrivals in
+    let there = (valid map frame state arrivals is_map is).0 in
+    record {
+      state = there;
+      live = All-weaker (λ (c : Command). IsSome (client_at next.state.clients c.slot)) (HasLivePlayer next.state.records) (λ c some. live_player map next.state c there some) next.lists.moves
+          (live map frame state arrivals);
+      apart = apart map frame state arrivals;
+    }
+
+-- the state for the next frame is a server's
+pub state_after_is : StatesStayValid → (map : MapView) (r : Receiving) (journal : List Entry) → IsMap map → IsReception map r → IsServerState map (state_after map r journal)
+state_after_is valid map r journal is_map is = (valid map 0 (moved_by map r journal) [] is_map (moved_by_is map r journal is_map is)).1
+
+-- so is the state after any frames
+pub played_is : NumbersAreApart → MoversAreLive → StatesStayValid → (map : MapView) (frame : ℕ) (state : State) (frames : List (List Arrival)) (journals : List (List Entry)) → IsMap map
+    → IsServerState map state → IsServerState map (state_played map frame state frames journals)
+played_is apart live valid map frame state [] journals is_map is = is
+played_is apart live valid map frame state (arrivals ∷ frames) journals is_map is =
+    let r = received map frame state arrivals in
+    let pass = received_is apart live valid map frame state arrivals is_map is in
+    played_is apart live valid map (frame + 1) (state_after map r (first_of journals)) frames (rest_of journals) is_map
+    (state_after_is valid map r (first_of journals) is_map pass)
+
+-- ---- moves in the order of arrival
+
+-- the journals in the order of arrival are right
+pub right_in_order : NumbersAreApart → MovesInOrderAreRight → (map : MapView) (frame : ℕ) (state : State) (frames : List (List Arrival))
+    → AreRight map frame state frames (journals_of map frame state frames)
+right_in_order apart right map frame state [] = tt
+right_in_order apart right map frame state (arrivals ∷ frames) =
+    let r = received map frame state arrivals in (
+      (right (outcome_in map) (world_of r.state.records) r.lists.moves (apart map frame state arrivals)).right,
+      right_in_order apart right map (frame + 1) (state_after map r (journal_of map r)) frames,
+    )
+
+-- and in that order
+pub order_in_order : NumbersAreApart → MovesInOrderAreRight → (map : MapView) (frame : ℕ) (state : State) (frames : List (List Arrival))
+    → AreInOrder map frame state frames (journals_of map frame state frames)
+order_in_order apart right map frame state [] = tt
+order_in_order apart right map frame state (arrivals ∷ frames) =
+    let r = received map frame state arrivals in (
+      (right (outcome_in map) (world_of r.state.records) r.lists.moves (apart map frame state arrivals)).order,
+      order_in_order apart right map (frame + 1) (state_after map r (journal_of map r)) frames,
+    )
+
+-- right journals in the order of arrival are these
+pub one_journal_each : NumbersAreApart → OrderLeavesOneJournal → (map : MapView) (frame : ℕ) (state : State) (frames : List (List Arrival)) (journals : List (List Entry))
+    → AreRight map frame state frames journals → AreInOrder map frame state frames journals → journals ≡ journals_of map frame state frames
+one_journal_each apart one map frame state [] [] right order = refl
+one_journal_each apart one map frame state [] (j ∷ js) right order = absurd right
+one_journal_each apart one map frame state (arrivals ∷ frames) [] right order = absurd right
+one_journal_each apart one map frame state (arrivals ∷ frames) (j ∷ js) right order =
+    let r = received map frame state arrivals in
+    let first : j ≡ journal_of map r =
+    one (outcome_in map) (world_of r.state.records) r.lists.moves j (apart map frame state arrivals) (record { right = right.0; order = order.0 }) in
+    let rest = one_journal_each apart one map (frame + 1) (state_after map r j) frames js right.1 order.1 in
+    λ i. first i ∷ (rest ∙ ap (λ (k : List Entry). journals_of map (frame + 1) (state_after map r k) frames) first) i

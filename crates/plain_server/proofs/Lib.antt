@@ -1,0 +1,9 @@
+-- Lemmas on records by id, on moves, on journals and on frames.
+pub mod ById
+pub mod OneMove
+pub mod Moves
+pub mod Others
+pub mod Commands
+pub mod Small
+pub mod Reports
+pub mod Frames

@@ -1,0 +1,145 @@
+-- Moves, one after another, over records by id: the world after each, and that it is valid.
+use Rattle.std.proofs.Common.{◌≡◌, ◌≢◌, ◌⊎◌, ℕ, zero, suc, ◌+◌, ◌<◌, ◌≤◌, Bool, true, false, List, [], ◌∷◌, ◌++◌, length, Option, Some, None, is_some, IsSome, slice_set, refl, sym, ap, ◌∙◌, subst, inl, inr, arith, get_or-set_same, get_or-set_other}
+use Rattle.std.specs.Prelude.{All}
+use Rattle.std.proofs.lemmas.Bool.{cases_eq}
+use Rattle.std.proofs.lemmas.List.{append-nil, append_assoc, length-set}
+use Rattle.std.proofs.lemmas.List.Elements.{All-head, All-tail}
+use Rattle.entity_recs.specs.declared.rec.Rec.{Rec}
+use Rattle.entity_recs.specs.declared.kind.Kind.{Kind}
+use Rattle.entity_recs.specs.declared.kind.Kind.TheVariants.{Player, Ammo, Gem, Teleporter, Goal, Lift}
+use Rattle.entity_recs.specs.Records.{IsIdOf}
+use Rattle.entity_recs.specs.Commands.{Command}
+use Rattle.entity_recs.specs.Worlds.{World, others_of}
+use Rattle.entity_recs.specs.Histories.{apply, world_after}
+use Rattle.box_trace.specs.Walls.{have_walls_first, have_walls_more}
+use Rattle.arena_map.specs.Maps.{MapView, IsMap, solids_of}
+use Rattle.arena_map.specs.Validity.{IsValidRecord, IsValidWorld}
+use Rattle.world_tree.specs.Live.{record_at}
+use Rattle.client_ports.proofs.Valid.{valid-with}
+use Rattle.plain_server.specs.RecordsById.{record_or_nobody, world_of, records_in}
+use Rattle.plain_server.specs.Outcomes.{outcome_in, solid_bodies, asked}
+use Rattle.plain_server.specs.Moving.{HasLivePlayer, effect_among, records_after, HaveMoved}
+use Rattle.plain_server.proofs.ById.{ids-set, records_in-set, records_in-world_of, world_of-set}
+use Rattle.plain_server.proofs.OneMove.{valid_after_move}
+
+-- the record of a live id
+pub record IsLiveRecord (records : List (Option Rec)) (id : ℕ) : Type 0 where
+  pub r : Rec
+  pub at : record_at records id ≡ Some r
+
+pub live_record : (records : List (Option Rec)) (id : ℕ) → IsSome (record_at records id) → IsLiveRecord records id
+live_record records id some = by (record_at records id) refl some
+  where
+    by : (o : Option Rec) → record_at records id ≡ o → IsSome o → IsLiveRecord records id
+    by None e h = cc
+    by (Some r) e h = record { r = r; at = e }
+
+-- a live id is one of the places
+pub live_below : (records : List (Option Rec)) (id : ℕ) (r : Rec) → record_at records id ≡ Some r → id < length records
+live_below [] id r at = cc
+live_below (x ∷ records) zero r at = omega arith
+live_below (x ∷ records) (suc id) r at = let rest = live_below records id r at in omega (arith, rest)
+
+-- an id below 64 is a player's
+kind_of_slot : (kind : Kind) (id : ℕ) → IsIdOf kind id → id < 64 → kind ≡ Player
+kind_of_slot Player id is below = refl
+kind_of_slot Ammo id is below = absurd (omega (arith, is.least, below))
+kind_of_slot Gem id is below = absurd (omega (arith, is.least, below))
+kind_of_slot Teleporter id is below = absurd (omega (arith, is.least, below))
+kind_of_slot Goal id is below = absurd (omega (arith, is.least, below))
+kind_of_slot Lift id is below = absurd (omega (arith, is.least, below))
+
+-- the valid record of a slot is a player's
+pub slot_is_player : (map : MapView) (id : ℕ) (r : Rec) → IsValidRecord map id r → id < 64 → r.kind ≡ Player
+slot_is_player map id r valid below = kind_of_slot r.kind r.id valid.is_record.id (subst (λ (k : ℕ). k < 64) (sym valid.own_id) below)
+
+-- after its move a live player's record is valid
+pub moved_is_valid : (map : MapView) (records : List (Option Rec)) (c : Command) (r : Rec) → IsMap map → IsValidWorld map records → c.slot < 64
+    → record_at records c.slot ≡ Some r → IsValidRecord map c.slot (effect_among map records c).me
+moved_is_valid map records c r is_map valid below at =
+    let here = valid.each c.slot r at in
+    let bodies = solid_bodies (others_of (world_of records) c.slot) in
+    let walls = have_walls_more map.bounds (solids_of map) bodies (have_walls_first map.bounds map.blocks) in
+    let me : record_or_nobody (record_at records c.slot) ≡ r = ap record_or_nobody at in
+    let valid_there : IsValidRecord map c.slot (record_or_nobody (record_at records c.slot)) = subst (IsValidRecord map c.slot) (sym me) here in
+    let kind : (record_or_nobody (record_at records c.slot)).kind ≡ Player = ap (λ (s : Rec). s.kind) me ∙ slot_is_player map c.slot r here below in
+    valid_after_move map (solids_of map ++ bodies) c.slot (record_or_nobody (record_at records c.slot)) (asked c) c.seq is_map walls kind valid_there
+
+-- before the first command
+pub moved-none : (map : MapView) (records : List (Option Rec)) → IsValidWorld map records → HaveMoved map records records []
+moved-none map records valid = record { world = refl; given = λ w. refl; live = λ id. refl; count = refl; valid = valid }
+
+-- the world after commands and one more
+pub world_after-more : (map : MapView) (w : World) (commands : List Command) (c : Command)
+    → world_after (outcome_in map) w (commands ++ c ∷ []) ≡ apply (outcome_in map) (world_after (outcome_in map) w commands) c
+world_after-more map w [] c = refl
+world_after-more map w (d ∷ commands) c = world_after-more map (apply (outcome_in map) w d) commands c
+
+live-set : (records : List (Option Rec)) (slot : ℕ) (r me : Rec) → record_at records slot ≡ Some r → (id : ℕ)
+    → is_some (record_at (slice_set records slot (Some me)) id) ≡ is_some (record_at records id)
+live-set records slot r me at id = by (cases_eq id slot)
+  where
+    by : (id ≡ slot) ⊎ (id ≢ slot) → is_some (record_at (slice_set records slot (Some me)) id) ≡ is_some (record_at records id)
+    by (inl here) =
+        ap (λ (k : ℕ). is_some (record_at (slice_set records slot (Some me)) k)) here
+        ∙ ap is_some (get_or-set_same records slot (Some me) None (live_below records slot r at))
+        ∙ sym (ap is_some at)
+        ∙ sym (ap (λ (k : ℕ). is_some (record_at records k)) here)
+    by (inr apart) = ap is_some (get_or-set_other records slot id (Some me) None apart)
+
+-- one command more
+pub moved-more : (map : MapView) (old new : List (Option Rec)) (commands : List Command) (c : Command) → IsMap map → HasLivePlayer new c
+    → HaveMoved map old new commands → HaveMoved map old (records_after map new c) (commands ++ c ∷ [])
+moved-more map old new commands c is_map has is =
+    let found = live_record new c.slot has.live in
+    let r = found.r in
+    let at = found.at in
+    let e = effect_among map new c in
+    let me = moved_is_valid map new c r is_map is.valid has.slot at in
+    let own : e.me.id ≡ r.id = me.own_id ∙ sym (is.valid.each c.slot r at).own_id in
+    let step : world_of (records_after map new c) ≡ apply (outcome_in map) (world_of new) c = world_of-set new c.slot r e (live_below new c.slot r at) at own refl in
+    record {
+      world = step ∙ ap (λ (w : World). apply (outcome_in map) w c) is.world ∙ sym (world_after-more map (world_of old) commands c);
+      given = λ w. records_in-set w new c.slot r e.me at own ∙ is.given w;
+      live = λ id. live-set new c.slot r e.me at id ∙ is.live id;
+      count = length-set new c.slot (Some e.me) ∙ is.count;
+      valid = valid-with map new c.slot e.me has.slot me is.valid;
+    }
+
+-- what the commands leave are the new records
+pub moved-records : (map : MapView) (old new : List (Option Rec)) (commands : List Command) → HaveMoved map old new commands
+    → records_in (world_after (outcome_in map) (world_of old) commands) old ≡ new
+moved-records map old new commands is =
+    ap (λ (w : World). records_in w old) (sym is.world)
+    ∙ sym (is.given (world_of new))
+    ∙ records_in-world_of new (λ id r at. (is.valid.each id r at).own_id)
+
+-- a live player stays live
+pub still-live : (map : MapView) (old new : List (Option Rec)) (commands : List Command) (c : Command) → HaveMoved map old new commands → HasLivePlayer old c → HasLivePlayer new c
+still-live map old new commands c is has = record { slot = has.slot; live = is.live c.slot ∙ has.live }
+
+-- the records after some commands
+pub record Moved (map : MapView) (old : List (Option Rec)) (commands : List Command) : Type 0 where
+  pub new : List (Option Rec)
+  pub is : HaveMoved map old new commands
+
+moved-on : (map : MapView) (old new : List (Option Rec)) (before commands : List Command) → IsMap map → HaveMoved map old new before
+    → All (HasLivePlayer old) commands → Moved map old (before ++ commands)
+moved-on map old new before [] is_map is live = record { new = new; is = subst (λ (cs : List Command). HaveMoved map old new cs) (sym (append-nil before)) is }
+moved-on map old new before (c ∷ commands) is_map is live =
+    let here = still-live map old new before c is (All-head (HasLivePlayer old) c commands live) in
+    let more = moved-more map old new before c is_map here is in
+    let rest = moved-on map old (records_after map new c) (before ++ c ∷ []) commands is_map more (All-tail (HasLivePlayer old) c commands live) in
+    record { new = rest.new; is = subst (λ (cs : List Command). HaveMoved map old rest.new cs) (append_assoc before (c ∷ []) commands) rest.is }
+
+-- moves of live players leave such records
+pub moved : (map : MapView) (records : List (Option Rec)) (commands : List Command) → IsMap map → IsValidWorld map records → All (HasLivePlayer records) commands
+    → Moved map records commands
+moved map records commands is_map valid live = moved-on map records records [] commands is_map (moved-none map records valid) live
+
+-- and keep the world valid
+pub moves_keep_valid : (map : MapView) (records : List (Option Rec)) (commands : List Command) → IsMap map → IsValidWorld map records
+    → All (HasLivePlayer records) commands → IsValidWorld map (records_in (world_after (outcome_in map) (world_of records) commands) records)
+moves_keep_valid map records commands is_map valid live =
+    let m = moved map records commands is_map valid live in
+    subst (IsValidWorld map) (sym (moved-records map records m.new commands m.is)) m.is.valid

@@ -1,0 +1,106 @@
+-- The other live records of a move: those that a query over the arena's bounds gives.
+use Rattle.std.specs.Prelude.{◌≡◌, ℕ, zero, suc, ◌<◌, ◌≤◌, ◌==◌, Bool, true, false, ◌&&◌, ◌||◌, not, int_le, List, [], ◌∷◌, filter, Option, Some, None, ◌≤ℤ◌}
+use Rattle.std.specs.Prelude.{map as map_list}
+use Rattle.std.specs.List.{AllByRecursion, find}
+use Rattle.std.proofs.Common.{refl, sym, ap, ◌∙◌, subst, inl, inr, arith}
+use Rattle.std.proofs.lemmas.Int.{ints}
+use Rattle.std.proofs.lemmas.Bool.{cases_Bool}
+use Rattle.arena_geo.specs.Bounds.{Bounds, IsOrdered}
+use Rattle.arena_geo.specs.Boxes.{contains, touches}
+use Rattle.arena_geo.specs.Regions.{touches_region}
+use Rattle.arena_geo.proofs.Containment.{three_pass, all_three}
+use Rattle.entity_recs.specs.declared.kind.Kind.{Kind}
+use Rattle.entity_recs.specs.declared.kind.Kind.TheVariants.{Player, Ammo, Gem, Teleporter, Goal, Lift}
+use Rattle.entity_recs.specs.declared.rec.Rec.{Rec}
+use Rattle.entity_recs.specs.Records.{IsRecord, IsIdOf}
+use Rattle.entity_recs.specs.Bodies.{body_of, abs_of}
+use Rattle.entity_recs.proofs.Standing.{records_have_boxes, abs_contains_body}
+use Rattle.entity_recs.specs.Worlds.{others_of}
+use Rattle.arena_map.specs.Maps.{MapView, entities_of}
+use Rattle.arena_map.specs.Validity.{IsThing, IsValidRecord, IsValidWorld}
+use Rattle.world_tree.specs.Live.{record_at, live_in}
+use Rattle.world_tree.specs.Queries.{is_near, near_in}
+use Rattle.plain_server.specs.RecordsById.{record_or_nobody, world_of}
+
+-- what holds of each record at its place holds of all live records
+pub each_live : (P : Rec → Type 0) (records : List (Option Rec)) → ((k : ℕ) (r : Rec) → record_at records k ≡ Some r → P r) → AllByRecursion P (live_in records)
+each_live P [] each = tt
+each_live P (None ∷ records) each = each_live P records (λ k r at. each (suc k) r at)
+each_live P (Some x ∷ records) each = (each zero x refl, each_live P records (λ k r at. each (suc k) r at))
+
+-- the records but one, where the function gives each at its id
+given_others : (f : ℕ → Rec) (rs : List Rec) (slot : ℕ) → AllByRecursion (λ r. f r.id ≡ r) rs
+    → map_list f (filter (λ other. not (other == slot)) (map_list (λ (r : Rec). r.id) rs)) ≡ filter (λ (r : Rec). not (r.id == slot)) rs
+given_others f [] slot given = refl
+given_others f (r ∷ rs) slot given =
+    let head : f r.id ≡ r = given.0 in
+    let tail = given_others f rs slot given.1 in
+    elim (cases_Bool (r.id == slot)) [ inl e ↦ rw e tail | inr e ↦ rw e (λ i. head i ∷ tail i) ]
+
+-- the other live records of a world are the live records with other ids
+pub others-are : (records : List (Option Rec)) (slot : ℕ) → ((id : ℕ) (r : Rec) → record_at records id ≡ Some r → r.id ≡ id)
+    → others_of (world_of records) slot ≡ filter (λ (r : Rec). not (r.id == slot)) (live_in records)
+others-are records slot own =
+    given_others (world_of records).record_of (live_in records) slot
+    (each_live (λ r. record_or_nobody (record_at records r.id) ≡ r) records
+    (λ k r at. ap (λ (id : ℕ). record_or_nobody (record_at records id)) (own k r at) ∙ ap record_or_nobody at))
+
+-- where all records touch the region, those near it are those with other ids
+all_near : (region : List Bounds) (slot : ℕ) (rs : List Rec) → AllByRecursion (λ r. touches_region (abs_of r) region ≡ true) rs
+    → filter (is_near region slot) rs ≡ filter (λ (r : Rec). not (r.id == slot)) rs
+all_near region slot [] touch = refl
+all_near region slot (r ∷ rs) touch =
+    let here : touches_region (abs_of r) region ≡ true = touch.0 in
+    let tail = all_near region slot rs touch.1 in
+    elim (cases_Bool (r.id == slot)) [ inl e ↦ rw (here, e) tail | inr e ↦ rw (here, e) (ap (λ (l : List Rec). r ∷ l) tail) ]
+
+-- a box that contains a body is touched by the absolute box
+touches_where_inside : (bounds : Bounds) (r : Rec) → IsRecord r → contains bounds (body_of r) ≡ true → touches (abs_of r) bounds ≡ true
+touches_where_inside bounds r is inside =
+    let boxes = records_have_boxes r is in
+    let body = boxes.body.ordered in
+    let t = three_pass _ _ _ inside in
+    let g = three_pass _ _ _ (abs_contains_body r) in
+    all_three (on _ _ _ _ _ _ body.x t.x g.x) (on _ _ _ _ _ _ body.y t.y g.y) (on _ _ _ _ _ _ body.z t.z g.z)
+  where
+    on : (lo hi l h al ah : _) → l ≤ℤ h → (int_le lo l && int_le h hi) ≡ true → (int_le al l && int_le h ah) ≡ true → (int_le al hi && int_le lo ah) ≡ true
+    on lo hi l h al ah ordered inside grown = grind (arith, ints)
+
+-- no thing is live where the map has none
+no_thing : (map : MapView) (thing : Option Rec) (r : Rec) → thing ≡ None → IsThing map thing (Some r) → ⊥
+no_thing map None r none is = is
+no_thing map (Some t) r none is = cc
+
+-- each live record is that of a player
+live_kind : (map : MapView) (records : List (Option Rec)) (id : ℕ) (r : Rec) → IsValidWorld map records → entities_of map ≡ [] → record_at records id ≡ Some r → r.kind ≡ Player
+live_kind map records id r valid none at = by r.kind refl here.is_record.id
+  where
+    here : IsValidRecord map id r
+    here = valid.each id r at
+
+    no : 64 ≤ r.id → ⊥
+    no above =
+        let there : 64 ≤ id = omega (arith, above, here.own_id) in
+        let is : IsThing map (find (λ thing. thing.id == id) (entities_of map)) (Some r) = subst (λ (place : Option Rec). IsThing map (find (λ thing. thing.id == id) (entities_of map)) place) at (valid.things id there) in
+        no_thing map (find (λ thing. thing.id == id) (entities_of map)) r (ap (find (λ thing. thing.id == id)) none) is
+
+    by : (kind : Kind) → r.kind ≡ kind → IsIdOf r.kind r.id → r.kind ≡ Player
+    by Player e is = e
+    by Ammo e is = absurd (no (subst (λ (k : Kind). IsIdOf k r.id) e is).least)
+    by Gem e is = absurd (no (subst (λ (k : Kind). IsIdOf k r.id) e is).least)
+    by Teleporter e is = absurd (no (subst (λ (k : Kind). IsIdOf k r.id) e is).least)
+    by Goal e is = absurd (no (subst (λ (k : Kind). IsIdOf k r.id) e is).least)
+    by Lift e is = absurd (no (subst (λ (k : Kind). IsIdOf k r.id) e is).least)
+
+-- what touches the bounds of the arena, but for one record, are the other live records of a move
+pub near-others : (map : MapView) (records : List (Option Rec)) (slot : ℕ) → IsValidWorld map records
+    → near_in records (map.bounds ∷ []) slot ≡ others_of (world_of records) slot
+near-others map records slot valid =
+    all_near (map.bounds ∷ []) slot (live_in records) (each_live (λ r. touches_region (abs_of r) (map.bounds ∷ []) ≡ true) records touch)
+    ∙ sym (others-are records slot (λ id r at. (valid.each id r at).own_id))
+  where
+    touch : (k : ℕ) (r : Rec) → record_at records k ≡ Some r → touches_region (abs_of r) (map.bounds ∷ []) ≡ true
+    touch k r at =
+        let here = valid.each k r at in
+        let inside = here.inside (live_kind map records k r valid refl at) in
+        ap (λ (b : Bool). b || false) (touches_where_inside map.bounds r here.is_record inside)
