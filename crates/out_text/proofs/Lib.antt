@@ -3,3 +3,5 @@ pub mod Writing
 pub mod Players
 pub mod Quiet
 pub mod Spellings
+pub mod Runs
+pub mod ReadBack
