@@ -5,3 +5,4 @@ pub mod Quiet
 pub mod Spellings
 pub mod Runs
 pub mod ReadBack
+pub mod Reporting
