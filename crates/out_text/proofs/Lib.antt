@@ -1,4 +1,4 @@
--- Lemmas on the lines of the output.
+-- Lemmas on the lines of the output, on runs of frames, and on the frames of recordings.
 pub mod Writing
 pub mod Players
 pub mod Quiet
@@ -6,3 +6,7 @@ pub mod Spellings
 pub mod Runs
 pub mod ReadBack
 pub mod Reporting
+pub mod Growing
+pub mod Agreement
+pub mod Fewness
+pub mod Arrivals

@@ -237,5 +237,5 @@ silent_each f [] silent = tt
 silent_each f (x ∷ xs) silent = (silent x, silent_each f xs silent)
 
 -- the journals of a text are those of its lines
-pub dids-text : (lines : List OutLine) (told : List (List Did)) → split_of lines ≡ record { before = []; frames = told } → dids (text_of lines) ≡ map (journal_from 0) told
-dids-text lines told is = ap (λ ls. map (journal_from 0) (split_at_frames (map mark_of ls)).frames) (whole_lines-text lines) ∙ ap (λ (s : Split). map (journal_from 0) s.frames) is
+pub dids-text : (lines : List OutLine) (reports : List (List Did)) → split_of lines ≡ record { before = []; frames = reports } → dids (text_of lines) ≡ map (journal_from 0) reports
+dids-text lines reports is = ap (λ ls. map (journal_from 0) (split_at_frames (map mark_of ls)).frames) (whole_lines-text lines) ∙ ap (λ (s : Split). map (journal_from 0) s.frames) is

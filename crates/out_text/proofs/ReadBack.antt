@@ -18,7 +18,7 @@ use Rattle.out_text.specs.OutLines.{OutLine, EndLine, text_of}
 use Rattle.out_text.specs.FrameLines.{no_line, joined_line, to_line, players_in, lines_with, run_lines}
 use Rattle.out_text.specs.Journals.{is_coordinate, is_reportable, dids}
 use Rattle.out_text.proofs.Quiet.{IsSilent, split_of, split-silent, silent_both, silent_each, dids-text}
-use Rattle.out_text.proofs.Spellings.{CanBeRead, nat_le-holds, split-told}
+use Rattle.out_text.proofs.Spellings.{CanBeRead, nat_le-holds, split-lines}
 
 -- the entries of each journal have their places and are in range
 abbrev pub AreAllReported : List (List Entry) → Type 0
@@ -77,13 +77,13 @@ all_from-reported (j ∷ js) are =
     ap (λ x. x ∷ map (journal_from 0) (map (map did_of) js)) (journal_from-reported 0 j are.0) ∙ ap (λ xs. j ∷ xs) (all_from-reported js are.1)
 
 -- a frame's lines put the reports of its journal before those of the frames after it
-split-frame : (arena : MapView) (frame : ℕ) → frame ≤ 4294967295 → (r : Receiving) (journal : List Entry) (more : List OutLine) (told : List (List Did)) → AreReported 0 journal
-    → split_of more ≡ record { before = []; frames = told } → split_of (lines_with arena frame r journal ++ more) ≡ record { before = []; frames = map did_of journal ∷ told }
-split-frame arena frame small r journal more told are is =
+split-frame : (arena : MapView) (frame : ℕ) → frame ≤ 4294967295 → (r : Receiving) (journal : List Entry) (more : List OutLine) (reports : List (List Did)) → AreReported 0 journal
+    → split_of more ≡ record { before = []; frames = reports } → split_of (lines_with arena frame r journal ++ more) ≡ record { before = []; frames = map did_of journal ∷ reports }
+split-frame arena frame small r journal more reports are is =
     let records = (moved_by arena r journal).records in
     let refused = map no_line r.lists.refused in
     let joined = map joined_line r.lists.joined in
-    split-told frame small (refused ++ joined) journal (map (to_line frame (live_in records)) (players_in records)) more told
+    split-lines frame small (refused ++ joined) journal (map (to_line frame (live_in records)) (players_in records)) more reports
     (silent_both refused joined (silent_each no_line r.lists.refused (λ t. tt)) (silent_each joined_line r.lists.joined (λ j. tt)))
     (each_reads_back 0 journal are) (silent_each (to_line frame (live_in records)) (players_in records) (λ me. tt)) is
 

@@ -196,9 +196,9 @@ from_slot rest = number_at 255 rest >>= (λ slot. from_seq slot.0 slot.1)
 got-word : (slot seq : ℕ) (x y z : ℤ) (ids word : List ℕ) → Lacks 32 word → ids_in word ≡ Some ids
     → from_got slot seq x y z (32 ∷ word) ≡ Some (record { slot = slot; seq = seq; origin = record { x = x; y = y; z = z }; got = ids })
 got-word slot seq x y z ids word none read =
-    let told : List ℕ → Did = λ is. record { slot = slot; seq = seq; origin = record { x = x; y = y; z = z }; got = is } in
-    ap (λ (parts : List ℕ × List ℕ). ids_in parts.0 >>= (λ is. alone (told is) parts.1)) (cut-last word none)
-    ∙ ap (λ o. o >>= (λ is. alone (told is) [])) read
+    let did : List ℕ → Did = λ is. record { slot = slot; seq = seq; origin = record { x = x; y = y; z = z }; got = is } in
+    ap (λ (parts : List ℕ × List ℕ). ids_in parts.0 >>= (λ is. alone (did is) parts.1)) (cut-last word none)
+    ∙ ap (λ o. o >>= (λ is. alone (did is) [])) read
 
 -- a word that is read as a number, and one that is read as a coordinate
 record SpellsNumber (limit n : ℕ) (word : List ℕ) : Type 0 where
@@ -385,23 +385,23 @@ pub record CanBeRead (d : Did) : Type 0 where
   pub is : IsReport d
   pub fits : is_reportable d ≡ true
 
--- the lines of moves put what they tell before the first frame after
+-- the lines of moves put what they report before the first frame after
 split-dids : (es : List Entry) (more : List OutLine) (fs : List (List Did)) → AllByRecursion (λ e. CanBeRead (did_of e)) es → split_of more ≡ record { before = []; frames = fs }
     → split_of (map did_line es ++ more) ≡ record { before = map did_of es; frames = fs }
-split-dids [] more fs told is = is
-split-dids (e ∷ es) more fs told is =
-    ap (λ mark. onto mark (split_of (map did_line es ++ more))) (mark-did (did_of e) told.0.is told.0.fits) ∙ ap (onto (Reports (did_of e))) (split-dids es more fs told.1 is)
+split-dids [] more fs reports is = is
+split-dids (e ∷ es) more fs reports is =
+    ap (λ mark. onto mark (split_of (map did_line es ++ more))) (mark-did (did_of e) reports.0.is reports.0.fits) ∙ ap (onto (Reports (did_of e))) (split-dids es more fs reports.1 is)
 
 lines_on : (a dids b more : List OutLine) → (a ++ dids ++ b) ++ more ≡ a ++ (dids ++ (b ++ more))
 lines_on a dids b more = simp append_assoc
 
--- a frame's lines put what they tell before what those after tell
-pub split-told : (n : ℕ) → n ≤ 4294967295 → (a : List OutLine) (es : List Entry) (b more : List OutLine) (fs : List (List Did))
+-- a frame's lines put what they report before what those after report
+pub split-lines : (n : ℕ) → n ≤ 4294967295 → (a : List OutLine) (es : List Entry) (b more : List OutLine) (fs : List (List Did))
     → AllByRecursion IsSilent a → AllByRecursion (λ e. CanBeRead (did_of e)) es → AllByRecursion IsSilent b → split_of more ≡ record { before = []; frames = fs }
     → split_of (FrameLine n ∷ ((a ++ map did_line es ++ b) ++ more)) ≡ record { before = []; frames = map did_of es ∷ fs }
-split-told n small a es b more fs silent_a told silent_b is =
+split-lines n small a es b more fs silent_a reports silent_b is =
     let lines = a ++ map did_line es ++ b in
     ap (λ mark. onto mark (split_of (lines ++ more))) (mark-frame n small)
     ∙ ap (onto Opens) (ap split_of (lines_on a (map did_line es) b more)
     ∙ split-silent a (map did_line es ++ (b ++ more)) silent_a
-    ∙ split-dids es (b ++ more) fs told (split-silent b more silent_b ∙ is))
+    ∙ split-dids es (b ++ more) fs reports (split-silent b more silent_b ∙ is))
