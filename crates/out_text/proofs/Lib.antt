@@ -10,3 +10,4 @@ pub mod Growing
 pub mod Agreement
 pub mod Fewness
 pub mod Arrivals
+pub mod Fronts

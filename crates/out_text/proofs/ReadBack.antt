@@ -62,7 +62,6 @@ each_reads_back : (place : ℕ) (es : List Entry) → AreReported place es → A
 each_reads_back place [] are = tt
 each_reads_back place (e ∷ es) are = (reads_back place e are.0, each_reads_back (place + 1) es are.1)
 
-
 -- the journal that is read off its reports
 journal_from-reported : (place : ℕ) (es : List Entry) → AreReported place es → journal_from place (map did_of es) ≡ es
 journal_from-reported place [] are = refl
@@ -99,7 +98,7 @@ split-run arena frame s (x ∷ frames) (j ∷ js) more small same are silent =
     let same_rest : length js ≡ length frames = cc in
     ap split_of (append_assoc (lines_with arena frame r j) rest more)
     ∙ split-frame arena frame (omega arith) r j (rest ++ more) (map (map did_of) js) are.0
-      (split-run arena (frame + 1) (state_after arena r j) frames js more (omega arith) same_rest are.1 silent)
+    (split-run arena (frame + 1) (state_after arena r j) frames js more (omega arith) same_rest are.1 silent)
 
 -- the journals that are read off the text of frames
 pub dids-run : (arena : MapView) (frame : ℕ) (s : State) (frames : List (List Arrival)) (js : List (List Entry)) → frame + length frames ≤ 4294967295 → length js ≡ length frames

@@ -80,7 +80,7 @@ pub run_lines-push : (map : MapView) (frame : ℕ) (s : State) (frames : List (L
 run_lines-push map frame s frames arrivals js j same =
     run_lines-append map frame s frames (arrivals ∷ []) js (j ∷ []) same
     ∙ ap (λ ls. run_lines map frame s frames js ++ ls)
-      (append-nil (lines_with map (frame + length frames) (received map (frame + length frames) (state_played map frame s frames js) arrivals) j))
+    (append-nil (lines_with map (frame + length frames) (received map (frame + length frames) (state_played map frame s frames js) arrivals) j))
 
 pub state_played-push : (map : MapView) (frame : ℕ) (s : State) (frames : List (List Arrival)) (arrivals : List Arrival) (js : List (List Entry)) (j : List Entry) → length js ≡ length frames
     → state_played map frame s (frames ++ arrivals ∷ []) (js ++ j ∷ [])
@@ -150,5 +150,5 @@ fewer_are_shorter map s k frames js same =
     let rest = run_lines map (0 + length first) (state_played map 0 s first journals) (drop k frames) (drop k js) in
     let both = run_lines-append map 0 s first (drop k frames) journals (drop k js) (same_taken k frames js same) in
     let whole = ap (λ fs. text_of (run_lines map 0 s fs js)) (sym (take-append-drop k frames))
-        ∙ ap (λ ls. text_of (run_lines map 0 s (first ++ drop k frames) ls)) (sym (take-append-drop k js)) ∙ ap text_of both in
+    ∙ ap (λ ls. text_of (run_lines map 0 s (first ++ drop k frames) ls)) (sym (take-append-drop k js)) ∙ ap text_of both in
     omega (arith, ap length (whole ∙ text_of-append front rest), length-append (text_of front) (text_of rest))
