@@ -38,7 +38,7 @@ use Rattle.client_ports.proofs.Slots.{port_at-client, port_of-none}
 use Rattle.client_ports.proofs.Live.{free-record}
 
 -- two results that are one have one value
-same_Ok : {X E : Type 0} (x y : X) → ◌≡◌ {A = Result X E} (Ok x) (Ok y) → x ≡ y
+pub same_Ok : {X E : Type 0} (x y : X) → ◌≡◌ {A = Result X E} (Ok x) (Ok y) → x ≡ y
 same_Ok {X} {E} x y e = ap (λ (r : Result X E). elim r [ Ok v ↦ v | Err f ↦ x ]) e
 
 -- no two live slots share a port
@@ -51,11 +51,11 @@ ports_apart clients are i j c d at_i at_j same =
 -- ---- joins
 
 -- what a join that has a slot gets
-record IsGot (map : MapView) (records : List (Option Rec)) (slots : Result ℕ JoinFault) (to : Place) : Type 0 where
-  slot : slots ≡ Ok to.slot
-  spawn : free_spawn (solids_of map) records to.slot map.spawns ≡ Some to.at
+pub record IsGot (map : MapView) (records : List (Option Rec)) (slots : Result ℕ JoinFault) (to : Place) : Type 0 where
+  pub slot : slots ≡ Ok to.slot
+  pub spawn : free_spawn (solids_of map) records to.slot map.spawns ≡ Some to.at
 
-got : (map : MapView) (records : List (Option Rec)) (slots : Result ℕ JoinFault) (to : Place) → place_in map records slots ≡ Ok to → IsGot map records slots to
+pub got : (map : MapView) (records : List (Option Rec)) (slots : Result ℕ JoinFault) (to : Place) → place_in map records slots ≡ Ok to → IsGot map records slots to
 got map records (Err why) to e = absurd (err-ok e)
   where
     err-ok : {X E : Type 0} {x : X} {f : E} → ◌≡◌ {A = Result X E} (Err f) (Ok x) → ⊥
@@ -78,7 +78,7 @@ slot_least map state port to are e =
 
 -- ---- moves
 
-live_at-found : (clients : List (Option Client)) (slot : Option ℕ) (live : LiveSlot) → live_at clients slot ≡ Some live → client_at clients live.slot ≡ Some live.client
+pub live_at-found : (clients : List (Option Client)) (slot : Option ℕ) (live : LiveSlot) → live_at clients slot ≡ Some live → client_at clients live.slot ≡ Some live.client
 live_at-found clients None live e = absurd (none-some live e)
 live_at-found clients (Some slot) live e = by (client_at clients slot) refl e
   where
@@ -119,27 +119,25 @@ move_accepted clients port seq live e = by (live_with clients port) refl e
 
 -- ---- one answer
 
-Answer : Receiving → Receiving → ℕ → ℕ → Type 0
-Answer r next place port = (IsRefused r next place ⊎ IsJoined r next port) ⊎ (IsLeave r next port ⊎ IsMove r next port)
-
-join_one : (to : Result Place Refusal) (r : Receiving) (place port : ℕ) → (IsRefused r (after_join to r place port) place ⊎ IsJoined r (after_join to r place port) port)
-join_one (Err why) r place port = inl (record { why = why; state = refl; lists = refl })
-join_one (Ok to) r place port = inr (record { to = to; state = refl; lists = refl })
-
 pub one_answer : (map : MapView) (frame : ℕ) (read : Result Packet PacketFault) (r : Receiving) (place port : ℕ)
-    → let next = after_packet map frame read r place port in (IsRefused r next place ⊎ IsJoined r next port) ⊎ (IsLeave r next port ⊎ IsMove r next port)
+    → let next = after_packet map frame read r place port in (IsRefused r next place ⊎ IsJoined map r next port) ⊎ (IsLeave r next port ⊎ IsMove r next port)
 one_answer map frame (Err why) r place port = inl (inl (record { why = refusal.Packet why; state = refl; lists = refl }))
-one_answer map frame (Ok Join) r place port = inl (join_one (join_answer map r.state port) r place port)
+one_answer map frame (Ok Join) r place port = by (join_answer map r.state port) refl
+  where
+    by : (to : Result Place Refusal) → join_answer map r.state port ≡ to
+        → (IsRefused r (after_join to r place port) place ⊎ IsJoined map r (after_join to r place port) port) ⊎ (IsLeave r (after_join to r place port) port ⊎ IsMove r (after_join to r place port) port)
+    by (Err why) e = inl (inl (record { why = why; state = refl; lists = refl }))
+    by (Ok to) e = inl (inr (record { to = to; answer = e; state = refl; lists = refl }))
 one_answer map frame (Ok Leave) r place port = by (leave_answer r.state.clients port) refl
   where
     by : (to : Result LiveSlot Refusal) → leave_answer r.state.clients port ≡ to
-        → (IsRefused r (after_leave to r place) place ⊎ IsJoined r (after_leave to r place) port) ⊎ (IsLeave r (after_leave to r place) port ⊎ IsMove r (after_leave to r place) port)
+        → (IsRefused r (after_leave to r place) place ⊎ IsJoined map r (after_leave to r place) port) ⊎ (IsLeave r (after_leave to r place) port ⊎ IsMove r (after_leave to r place) port)
     by (Err why) e = inl (inl (record { why = why; state = refl; lists = refl }))
     by (Ok live) e = inr (inl (record { live = live; answer = e; state = refl; lists = refl }))
 one_answer map frame (Ok (Step m)) r place port = by (move_answer r.state.clients port m.seq) refl
   where
     by : (to : Result LiveSlot Refusal) → move_answer r.state.clients port m.seq ≡ to
-        → (IsRefused r (after_move to frame m r place) place ⊎ IsJoined r (after_move to frame m r place) port) ⊎ (IsLeave r (after_move to frame m r place) port ⊎ IsMove r (after_move to frame m r place) port)
+        → (IsRefused r (after_move to frame m r place) place ⊎ IsJoined map r (after_move to frame m r place) port) ⊎ (IsLeave r (after_move to frame m r place) port ⊎ IsMove r (after_move to frame m r place) port)
     by (Err why) e = inl (inl (record { why = why; state = refl; lists = refl }))
     by (Ok live) e = inr (inr (record { live = live; command = command_in frame live.slot m; answer = e; own = refl; state = refl; lists = refl }))
 

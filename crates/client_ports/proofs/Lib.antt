@@ -5,3 +5,7 @@ pub mod Arrivals
 pub mod Rooms
 pub mod Facts
 pub mod Leavers
+pub mod Changes
+pub mod Advances
+pub mod Counts
+pub mod Staying

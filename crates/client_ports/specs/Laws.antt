@@ -61,8 +61,9 @@ pub record IsRefused (r next : Receiving) (place : ℕ) : Type 0 where
   pub lists : next.lists ≡ with_refusal r.lists place why
 
 -- a packet joins its port
-pub record IsJoined (r next : Receiving) (port : ℕ) : Type 0 where
+pub record IsJoined (map : MapView) (r next : Receiving) (port : ℕ) : Type 0 where
   pub to : Place
+  pub answer : join_answer map r.state port ≡ Ok to
   pub state : next.state ≡ with_newcomer r.state port to.slot to.at
   pub lists : next.lists ≡ with_join r.lists port to.slot
 
@@ -86,7 +87,7 @@ pub record IsMove (r next : Receiving) (port : ℕ) : Type 0 where
 abbrev pub EachPacketHasOneAnswer : Type 0
 EachPacketHasOneAnswer = (map : MapView) (frame : ℕ) (r : Receiving) (place : ℕ) (a : Arrival)
     → let next = after_arrival map frame r place a in
-    (IsRefused r next place ⊎ IsJoined r next a.port) ⊎ (IsLeave r next a.port ⊎ IsMove r next a.port)
+    (IsRefused r next place ⊎ IsJoined map r next a.port) ⊎ (IsLeave r next a.port ⊎ IsMove r next a.port)
 
 -- the end of a frame takes out the clients that leave, with their players, and no other
 abbrev pub FinishTakesLeaversOut : Type 0

@@ -6,6 +6,16 @@ ghost use Rattle.client_ports.specs.Laws.{
   EachPacketHasOneAnswer,
   FinishTakesLeaversOut,
 };
+ghost use Rattle.client_ports.specs.Frames.{
+  EachFrameIsAnswered,
+  NumbersRiseInAFrame,
+  PlayersHaveFewMoves,
+  NumbersAreApart,
+  MoversAreLive,
+  ClientsStayApart,
+  StatesStayValid,
+  BodiesStayClear,
+};
 
 /// No two live slots share a port.
 pub fn ports_are_apart()
@@ -36,4 +46,47 @@ pub fn each_packet_has_one_answer()
 /// The end of a frame takes out the clients that leave, with their players, and no other.
 pub fn finish_takes_leavers_out()
     ensures { FinishTakesLeaversOut }
+{}
+
+/// As many refusals, joins, accepted moves and new leavers come of a frame as packets came.
+pub fn each_frame_is_answered()
+    ensures { EachFrameIsAnswered }
+{}
+
+/// The accepted numbers of each slot rise strictly in a frame, from the last one before it to the last one after it, and the
+/// slot's client counts each.
+pub fn numbers_rise_in_a_frame()
+    ensures { NumbersRiseInAFrame }
+{}
+
+/// A player has at most 8 moves in a frame.
+pub fn players_have_few_moves()
+    ensures { PlayersHaveFewMoves }
+{}
+
+/// No two accepted moves of a frame share slot and number.
+pub fn numbers_are_apart()
+    ensures { NumbersAreApart }
+{}
+
+/// The slot of each accepted move is live after the packets of the frame.
+pub fn movers_are_live()
+    ensures { MoversAreLive }
+{}
+
+/// No two live slots share a port after the packets of a frame, nor after its end, where none did before.
+pub fn clients_stay_apart()
+    ensures { ClientsStayApart }
+{}
+
+/// The live slots are the live players of a valid world after the packets of a frame, and after its end, where they were
+/// before.
+pub fn states_stay_valid()
+    ensures { StatesStayValid }
+{}
+
+/// Where no player's body overlaps a wall or a block, and no bodies of two live solids overlap, none do after the packets of
+/// a frame, with those that joined in it, nor after its end.
+pub fn bodies_stay_clear()
+    ensures { BodiesStayClear }
 {}

@@ -4,8 +4,10 @@
 pub use arrival::{Arrival, ArrivalBytes, MOST_BYTES};
 pub use client::{Client, LiveSlot};
 pub use laws::{
-    accepted_numbers_rise, each_packet_has_one_answer, finish_takes_leavers_out,
-    nobody_is_added_into_a_solid, ports_are_apart, slot_is_least_free,
+    accepted_numbers_rise, bodies_stay_clear, clients_stay_apart, each_frame_is_answered,
+    each_packet_has_one_answer, finish_takes_leavers_out, movers_are_live,
+    nobody_is_added_into_a_solid, numbers_are_apart, numbers_rise_in_a_frame,
+    players_have_few_moves, ports_are_apart, slot_is_least_free, states_stay_valid,
 };
 pub use ports::{MOST_MOVES, Ports};
 pub use received::{Joined, Received, Refused};

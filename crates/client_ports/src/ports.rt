@@ -1,6 +1,6 @@
-ghost use Rattle.std.specs.Prelude.{◌≡◌, ◌<◌, ◌≤◌, IfOk, IfSome, IsSome, None, length, slice_set};
+ghost use Rattle.std.specs.Prelude.{◌≡◌, ◌<◌, ◌≤◌, IfOk, IfSome, IsSome, None, is_some, length, slice_set};
 ghost use Rattle.client_ports.specs.Clients as clients;
-ghost use Rattle.client_ports.specs.Clients.{no_clients, client_at, ports_of, live_slot, new_client, with_client, IsUpdate, IsPlaceFor};
+ghost use Rattle.client_ports.specs.Clients.{no_clients, client_at, ports_of, live_slot, new_client, with_client, AreClients, IsUpdate, IsPlaceFor};
 ghost use Rattle.client_ports.specs.Answers as answers;
 ghost use Rattle.entity_slots.specs.Places as places;
 
@@ -47,17 +47,17 @@ pub(crate) fn refusal_of(fault: JoinFault) -> Refusal
 fn leave_by(live: Option<LiveSlot>) -> Result<LiveSlot, Refusal>
     ensures { result ≡ answers.leave_by live }
 {
-    let Some(LiveSlot { slot, client }) = live else {
-        return Err(Refusal::NotJoined);
-    };
-    if client.leaves {
-        return Err(Refusal::Leaving);
+    match live {
+        None => Err(Refusal::NotJoined),
+        Some(live) if live.client.leaves => Err(Refusal::Leaving),
+        Some(LiveSlot { slot, client }) => Ok(LiveSlot {
+            slot,
+            client: Client {
+                leaves: true,
+                ..client
+            },
+        }),
     }
-    let client = Client {
-        leaves: true,
-        ..client
-    };
-    Ok(LiveSlot { slot, client })
 }
 
 /// The answer to a move of this client with this number.
@@ -104,10 +104,28 @@ impl Ports {
         self.clients = o.clients;
     }
 
+    /// The client of each slot, by the number of the slot. There are 64.
+    pub fn clients(&self) -> &[Option<Client>]
+        ensures value { result.now ≡ self.now }
+        ensures apart { AreClients self.now }
+    {
+        &self.clients
+    }
+
+    /// Whether this slot is live.
+    pub fn is_live(&self, slot: u8) -> bool
+        requires { slot < 64 }
+        ensures value { result ≡ is_some (client_at self.now slot) }
+        ensures apart { AreClients self.now }
+    {
+        self.client_at(slot).is_some()
+    }
+
     /// The client of this slot, and `None` exactly where the slot isn't live.
     pub fn client_at(&self, slot: u8) -> Option<Client>
         requires { slot < 64 }
-        ensures { result ≡ client_at self.now slot }
+        ensures value { result ≡ client_at self.now slot }
+        ensures apart { AreClients self.now }
     {
         self.clients[usize::from(slot)]
     }

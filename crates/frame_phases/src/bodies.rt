@@ -25,10 +25,8 @@ impl Model for Bodies {
 }
 
 impl Bodies {
-    ghost use Rattle.std.specs.Prelude.{◌≡◌, ◌≤◌, [], ◌∷◌, ◌++◌, length, All, IfOk, if◌then◌else◌};
+    ghost use Rattle.std.specs.Prelude.{◌≡◌, ◌+◌, ◌<◌, ◌≤◌, [], ◌∷◌, ◌++◌, length, All, IfOk};
     ghost use Rattle.entity_recs.specs.Records.{IsRecord};
-    ghost use Rattle.entity_recs.specs.Bodies.{body_of};
-    ghost use Rattle.entity_recs.specs.Kinds.{is_solid};
     ghost use Rattle.plain_server.specs.Outcomes.{solid_bodies};
 
     /// No body, with room for all.
@@ -47,6 +45,25 @@ impl Bodies {
         self.boxes.as_slice()
     }
 
+    /// Empties the list and keeps its room.
+    fn clear(&mut self)
+        ensures { self.new ≡ [] }
+    {
+        self.boxes.clear();
+    }
+
+    /// Puts the body of a record last, if it is a solid.
+    fn push_solid(&mut self, r: &Rec)
+        requires record { IsRecord r.now }
+        requires room { length self.old < MOST_BODIES }
+        ensures bodies { self.new ≡ self.old ++ solid_bodies (r.now ∷ []) }
+        ensures count { length self.new ≤ length self.old + 1 }
+    {
+        if r.kind.is_solid() {
+            self.boxes.push_reserved(body_box(r));
+        }
+    }
+
     /// Makes the list that of the bodies of the solids among the records, in their order. It takes no memory.
     pub fn take_solids(&mut self, records: &[Rec])
         requires each { All IsRecord records.now }
@@ -54,11 +71,9 @@ impl Bodies {
         ensures bodies { self.new ≡ solid_bodies records.now }
         ensures few { length self.new ≤ length records.now }
     {
-        self.boxes.clear();
+        self.clear();
         for r in records {
-            if r.kind.is_solid() {
-                self.boxes.push_reserved(body_box(r));
-            }
+            self.push_solid(r);
         }
     }
 }

@@ -1,7 +1,8 @@
 -- Frames, one after another: what holds of the state after each.
-use Rattle.std.proofs.Common.{◌≡◌, ℕ, zero, suc, ◌+◌, ◌<◌, List, [], ◌∷◌, length, All, Option, Some, None, is_some, IsSome, refl, sym, ap, ◌∙◌, subst, arith}
+use Rattle.std.proofs.Common.{◌≡◌, ℕ, zero, suc, ◌+◌, ◌<◌, List, [], ◌∷◌, length, All, Option, Some, None, is_some, IsSome, replicate, inl, inr, refl, sym, ap, ◌∙◌, subst, arith}
 use Rattle.std.specs.Prelude.{map as map_list}
-use Rattle.std.proofs.lemmas.List.{length-map}
+use Rattle.std.proofs.lemmas.List.{length-map, length-replicate, get_or-replicate, get_or_past}
+use Rattle.std.proofs.lemmas.Bool.{cases_lt}
 use Rattle.std.proofs.lemmas.List.Elements.{All-weaker}
 use Rattle.entity_recs.specs.declared.rec.Rec.{Rec}
 use Rattle.entity_recs.specs.declared.effect.Entry.{Entry}
@@ -9,18 +10,19 @@ use Rattle.entity_recs.specs.Commands.{Command}
 use Rattle.entity_recs.specs.Histories.{Item, world_after}
 use Rattle.move_journal.specs.Merges.{history_of, journal_in_order}
 use Rattle.move_journal.specs.Laws.{MovesInOrderAreRight, OrderLeavesOneJournal}
-use Rattle.arena_map.specs.Maps.{MapView, IsMap}
+use Rattle.arena_map.specs.Maps.{MapView, IsMap, entities_of}
 use Rattle.arena_map.specs.Validity.{IsValidWorld}
 use Rattle.world_tree.specs.Live.{record_at}
 use Rattle.client_ports.specs.declared.arrival.Arrival.{Arrival}
 use Rattle.client_ports.specs.declared.client.Client.{Client}
-use Rattle.client_ports.specs.Clients.{client_at}
-use Rattle.client_ports.proofs.Slots.{client_count}
+use Rattle.client_ports.specs.Clients.{client_at, no_clients}
+use Rattle.client_ports.proofs.Slots.{client_count, no_clients-are_ports}
+use Rattle.client_ports.proofs.Valid.{opening-fits}
 use Rattle.client_ports.specs.States.{State, state_of, IsState, HaveSameLive, IsServerState}
 use Rattle.client_ports.specs.Receiving.{Receiving, received}
 use Rattle.client_ports.specs.Finishing.{finished}
 use Rattle.client_ports.specs.Frames.{NumbersAreApart, MoversAreLive, StatesStayValid}
-use Rattle.plain_server.specs.RecordsById.{world_of, records_in}
+use Rattle.plain_server.specs.RecordsById.{world_of, records_in, opening}
 use Rattle.plain_server.specs.Outcomes.{outcome_in}
 use Rattle.plain_server.specs.Moving.{HasLivePlayer, HasSmallNumber, HaveMoved}
 use Rattle.plain_server.specs.Entries.{IsReception}
@@ -121,3 +123,17 @@ one_journal_each apart one map frame state (arrivals ∷ frames) (j ∷ js) righ
     one (outcome_in map) (world_of r.state.records) r.lists.moves j (apart map frame state arrivals) (record { right = right.0; order = order.0 }) in
     let rest = one_journal_each apart one map (frame + 1) (state_after map r j) frames js right.1 order.1 in
     λ i. first i ∷ (rest ∙ ap (λ (k : List Entry). journals_of map (frame + 1) (state_after map r k) frames) first) i
+
+-- the opening state of a map without things is a server's
+pub opening_is : (map : MapView) → entities_of map ≡ [] → opening map ≡ state_of no_clients (replicate 256 None) → IsServerState map (opening map)
+opening_is map things is = subst (IsServerState map) (sym is) (record {
+  clients = no_clients-are_ports.clients_are;
+  places = length-replicate {A = Option Rec} 256 None;
+  fits = opening-fits map (replicate 256 None) things none;
+})
+  where
+    none : (id : ℕ) → record_at (replicate 256 None) id ≡ None
+    none id = elim (cases_lt id 256) [
+      | inl below ↦ get_or-replicate {A = Option Rec} 256 id None None below
+      | inr above ↦ get_or_past (replicate 256 None) id None (omega (arith, above, length-replicate {A = Option Rec} 256 None))
+    ]

@@ -1,0 +1,79 @@
+-- What an answer changes in each slot.
+use Rattle.std.proofs.Common.{◌≡◌, ◌≢◌, ◌⊎◌, ℕ, ◌+◌, ◌<◌, ◌≤◌, ◌==◌, Bool, true, false, if◌then◌else◌, List, length, Option, Some, None, is_some, is_none, IsSome, option_map, Result, Ok, Err, ok_or, slice_index_or, slice_set, sym, refl, ap, ◌∙◌, subst, inl, inr, arith, get_or-set_same, get_or-set_other}
+use Rattle.std.proofs.lemmas.Bool.{cases_eq, cases_lt}
+use Rattle.std.proofs.lemmas.List.{get_or_past, length-map}
+use Rattle.std.proofs.lemmas.List.Quantifiers.{position-Some}
+use Rattle.std.proofs.lemmas.Option.{none-some, same_Some}
+use Rattle.entity_slots.specs.declared.join_fault.JoinFault.{JoinFault}
+use Rattle.entity_slots.specs.declared.join_fault.JoinFault.TheVariants as fault
+use Rattle.entity_slots.specs.Ports as slots
+use Rattle.entity_slots.specs.Ports.{port_at}
+use Rattle.entity_slots.specs.Places.{free_slot, place_for}
+use Rattle.arena_map.specs.Maps.{MapView}
+use Rattle.client_ports.specs.declared.client.Client.{Client}
+use Rattle.client_ports.specs.declared.client.LiveSlot.{LiveSlot}
+use Rattle.client_ports.specs.declared.refusal.Refusal.{Refusal}
+use Rattle.client_ports.specs.declared.refusal.Refusal.TheVariants as refusal
+use Rattle.client_ports.specs.declared.spawns.Place.{Place}
+use Rattle.client_ports.specs.Clients.{client, client_at, port_of, ports_of, live_with, with_client}
+use Rattle.client_ports.specs.States.{State}
+use Rattle.client_ports.specs.Answers.{join_answer, leaving, leave_by, leave_answer}
+use Rattle.client_ports.proofs.Facts.{same_Ok, got, live_at-found}
+use Rattle.client_ports.proofs.Slots.{port_at-client, port_of-none}
+
+-- a live slot is one of the list's
+pub live-inside : (clients : List (Option Client)) (slot : ℕ) (c : Client) → client_at clients slot ≡ Some c → slot < length clients
+live-inside clients slot c e = elim (cases_lt slot (length clients)) [
+  | inl below ↦ below
+  | inr past ↦ absurd (none-some c (sym (get_or_past clients slot None past) ∙ e))
+]
+
+-- the port may join: its slot is free, and the port isn't joined
+pub record IsNewcomer (clients : List (Option Client)) (port slot : ℕ) : Type 0 where
+  pub inside : slot < length clients
+  pub free : client_at clients slot ≡ None
+  pub not_joined : slots.is_joined (ports_of clients) port ≡ false
+
+-- which is so where a join gets a slot
+pub join-newcomer : (map : MapView) (state : State) (port : ℕ) (to : Place) → join_answer map state port ≡ Ok to → IsNewcomer state.clients port to.slot
+join-newcomer map state port to e = by (slots.is_joined ports port) (free_slot ports) refl refl (got map state.records (place_for ports port) to e).slot
+  where
+    ports : List (Option ℕ)
+    ports = ports_of state.clients
+
+    none-is : (o : Option ℕ) → is_none o ≡ true → o ≡ None
+    none-is None h = refl
+    none-is (Some p) h = cc
+
+    by : (joined : Bool) (o : Option ℕ) → slots.is_joined ports port ≡ joined → free_slot ports ≡ o
+        → (if joined then Err fault.Already else ok_or o fault.Full) ≡ Ok to.slot → IsNewcomer state.clients port to.slot
+    by true o j f h = cc
+    by false None j f h = cc
+    by false (Some slot) j f h =
+        let same = same_Ok slot to.slot h in
+        let first = position-Some is_none ports slot None f in
+        let free = port_of-none (client_at state.clients slot) (sym (port_at-client state.clients slot) ∙ none-is (port_at ports slot) first.1) in
+        let P : ℕ → Type 0 = λ s. IsNewcomer state.clients port s in
+        subst P same (record { inside = omega (arith, first.0, length-map state.clients port_of); free = free; not_joined = j })
+
+-- a leave is accepted: the client didn't leave before, and nothing else of it changes
+pub record IsAcceptedLeave (clients : List (Option Client)) (live : LiveSlot) : Type 0 where
+  pub was : Client
+  pub in_slot : client_at clients live.slot ≡ Some was
+  pub stays : was.leaves ≡ false
+  pub is : live.client ≡ client was.port was.last true was.moves
+
+pub leave_accepted : (clients : List (Option Client)) (port : ℕ) (live : LiveSlot) → leave_answer clients port ≡ Ok live → IsAcceptedLeave clients live
+leave_accepted clients port live e = by (live_with clients port) refl e
+  where
+    at : (l : LiveSlot) → client_at clients l.slot ≡ Some l.client → (leaves : Bool) → l.client.leaves ≡ leaves
+        → (if leaves then Err refusal.Leaving else Ok (leaving l)) ≡ Ok live → IsAcceptedLeave clients live
+    at l in_slot true a h = cc
+    at l in_slot false a h =
+        let same = same_Ok (leaving l) live h in
+        let P : LiveSlot → Type 0 = λ m. IsAcceptedLeave clients m in
+        subst P same (record { was = l.client; in_slot = in_slot; stays = a; is = refl })
+
+    by : (o : Option LiveSlot) → live_with clients port ≡ o → leave_by o ≡ Ok live → IsAcceptedLeave clients live
+    by None f h = cc
+    by (Some l) f h = at l (live_at-found clients (slots.slot_of (ports_of clients) port) l f) l.client.leaves refl h

@@ -1,0 +1,99 @@
+-- The moves of a frame, one after another.
+use Rattle.std.proofs.Common.{◌≡◌, ℕ, suc, ◌+◌, ◌<◌, ◌≤◌, List, [], ◌∷◌, ◌++◌, length, take, map, get_or, Option, refl, sym, ap, ◌∙◌, subst, arith}
+use Rattle.std.specs.Prelude.{All}
+use Rattle.std.proofs.Math.Seq.{take-suc}
+use Rattle.std.proofs.lemmas.List.{map-append, length-map, length-take-le, get_or-map}
+use Rattle.arena_geo.specs.declared.vec3.Vec3.{Vec3}
+use Rattle.entity_recs.specs.declared.rec.Rec.{Rec}
+use Rattle.entity_recs.specs.declared.cmd.Cmd.{Cmd}
+use Rattle.entity_recs.specs.declared.effect.Entry as reports
+use Rattle.entity_recs.specs.Commands.{Command, command_of}
+use Rattle.entity_recs.specs.Worlds.{World}
+use Rattle.entity_recs.specs.Histories.{Action, apply, outcome, world_after, entry_of, entries_in_order}
+use Rattle.move_journal.specs.declared.entry.Entry.{Entry}
+use Rattle.move_journal.specs.Entries.{entry_value}
+use Rattle.move_journal.specs.Merges.{journal_in_order}
+use Rattle.arena_map.specs.Maps.{MapView, IsMap}
+use Rattle.arena_map.specs.Validity.{IsValidWorld}
+use Rattle.plain_server.specs.RecordsById.{world_of}
+use Rattle.plain_server.specs.Outcomes.{outcome_in}
+use Rattle.plain_server.specs.Moving.{HasLivePlayer, HaveMoved, effect_among, records_after}
+use Rattle.plain_server.proofs.Moves.{moved-none, moved-more, still-live}
+
+-- the entries of commands and of one more
+entries-more : (act : Action) (w : World) (place : ℕ) (commands : List Command) (c : Command)
+    → entries_in_order act w place (commands ++ c ∷ [])
+    ≡ entries_in_order act w place commands ++ entry_of (place + length commands) c (outcome act (world_after act w commands) c) ∷ []
+entries-more act w place [] c =
+    let here : place ≡ place + 0 = omega arith in
+    ap (λ (p : ℕ). entry_of p c (outcome act w c) ∷ []) here
+entries-more act w place (d ∷ commands) c =
+    let there : place + 1 + length commands ≡ place + suc (length commands) = omega arith in
+    let rest = entries-more act (apply act w d) (place + 1) commands c in
+    ap (λ (es : List reports.Entry). entry_of place d (outcome act w d) ∷ es)
+    (rest ∙ ap (λ (p : ℕ). entries_in_order act (apply act w d) (place + 1) commands ++ entry_of p c (outcome act (world_after act (apply act w d) commands) c) ∷ []) there)
+
+-- these commands were run, and the journal is theirs
+pub record RunsMoves (map : MapView) (old new : List (Option Rec)) (commands : List Command) (journal : List reports.Entry) : Type 0 where
+  pub moved : HaveMoved map old new commands
+  pub entries : journal ≡ journal_in_order (outcome_in map) (world_of old) commands
+
+-- before the first
+pub runs-none : (map : MapView) (records : List (Option Rec)) → IsValidWorld map records → RunsMoves map records records [] []
+runs-none map records valid = record { moved = moved-none map records valid; entries = refl }
+
+-- one command more
+runs-more : (map : MapView) (old new after : List (Option Rec)) (commands : List Command) (journal : List reports.Entry) (c : Command) (e : reports.Entry) → IsMap map → HasLivePlayer new c
+    → after ≡ records_after map new c → e ≡ entry_of (length commands) c (effect_among map new c) → RunsMoves map old new commands journal
+    → RunsMoves map old after (commands ++ c ∷ []) (journal ++ e ∷ [])
+runs-more map old new after commands journal c e is_map has after_is e_is runs =
+    let P : List (Option Rec) → Type 0 = λ rs. HaveMoved map old rs (commands ++ c ∷ []) in
+    record {
+      moved = subst P (sym after_is) (moved-more map old new commands c is_map has runs.moved);
+      entries = ap (λ (es : List reports.Entry). es ++ e ∷ []) runs.entries
+          ∙ ap (λ (x : reports.Entry). journal_in_order (outcome_in map) (world_of old) commands ++ x ∷ [])
+          (e_is ∙ ap (λ (w : World). entry_of (length commands) c (outcome (outcome_in map) w c)) runs.moved.world)
+          ∙ sym (entries-more (outcome_in map) (world_of old) 0 commands c);
+    }
+
+-- the first commands and the next one
+commands-next : (moves : List Cmd) (i : ℕ) (m : Cmd) → i < length moves → m ≡ get_or moves i m
+    → map command_of (take (i + 1) moves) ≡ map command_of (take i moves) ++ command_of m ∷ []
+commands-next moves i m inside is =
+    let next : i + 1 ≡ suc i = omega arith in
+    ap (λ (k : ℕ). map command_of (take k moves)) next
+    ∙ ap (map command_of) (take-suc moves i m inside)
+    ∙ ap (λ (x : Cmd). map command_of (take i moves ++ x ∷ [])) (sym is)
+    ∙ map-append command_of (take i moves) (m ∷ [])
+
+-- the entry that the code makes
+entry-is : (map : MapView) (records : List (Option Rec)) (c : Command) (place : ℕ) (e : Entry) → e.place ≡ place → e.slot ≡ c.slot → e.seq ≡ c.seq → e.origin ≡ (effect_among map records c).reply.origin
+    → entry_value e ≡ entry_of place c (effect_among map records c)
+entry-is map records c place e place_is slot_is seq_is origin_is =
+    λ i. record { place = place_is i; slot = slot_is i; seq = seq_is i; reply = record { origin = origin_is i; got = [] } }
+
+-- the loop's step
+pub runs-next : (map_view : MapView) (old new after : List (Option Rec)) (moves : List Cmd) (i : ℕ) (m : Cmd) (entries : List Entry) (e : Entry) (place : ℕ) → IsMap map_view → i < length moves
+    → m ≡ get_or moves i m → HasLivePlayer new (command_of m) → place ≡ i → after ≡ records_after map_view new (command_of m) → e.place ≡ place → e.slot ≡ m.slot → e.seq ≡ m.seq
+    → e.origin ≡ (effect_among map_view new (command_of m)).reply.origin → RunsMoves map_view old new (map command_of (take i moves)) (map entry_value entries)
+    → RunsMoves map_view old after (map command_of (take (i + 1) moves)) (map entry_value (entries ++ e ∷ []))
+runs-next map_view old new after moves i m entries e place is_map inside is has at after_is place_is slot_is seq_is origin_is runs =
+    let commands = map command_of (take i moves) in
+    let count : length commands ≡ i = length-map (take i moves) command_of ∙ length-take-le i moves (omega (arith, inside)) in
+    let entry = entry-is map_view new (command_of m) (length commands) e (place_is ∙ at ∙ sym count) slot_is seq_is origin_is in
+    let more = runs-more map_view old new after commands (map entry_value entries) (command_of m) (entry_value e) is_map has after_is entry runs in
+    let P : List Command → List reports.Entry → Type 0 = λ cs es. RunsMoves map_view old after cs es in
+    subst (λ (cs : List Command). P cs (map entry_value (entries ++ e ∷ []))) (sym (commands-next moves i m inside is))
+    (subst (P (commands ++ command_of m ∷ [])) (sym (map-append entry_value entries (e ∷ []))) more)
+
+-- the player of a command is live before it
+pub live-next : (map_view : MapView) (old new : List (Option Rec)) (moves : List Cmd) (i : ℕ) (m : Cmd) (entries : List reports.Entry) → i < length moves → m ≡ get_or moves i m
+    → All (HasLivePlayer old) (map command_of moves) → RunsMoves map_view old new (map command_of (take i moves)) entries → HasLivePlayer new (command_of m)
+live-next map_view old new moves i m entries inside is live runs =
+    still-live map_view old new (map command_of (take i moves)) (command_of m) runs.moved
+    (subst (λ (x : Cmd). HasLivePlayer old (command_of x)) (sym is) (at_map moves i inside live))
+  where
+    at_map : (ms : List Cmd) (k : ℕ) → k < length ms → All (HasLivePlayer old) (map command_of ms) → HasLivePlayer old (command_of (get_or ms k m))
+    at_map ms k within all =
+        let long : k < length (map command_of ms) = omega (arith, within, length-map ms command_of) in
+        subst (HasLivePlayer old) (get_or-map command_of ms k m (command_of m) within) (all k (command_of m) long)
