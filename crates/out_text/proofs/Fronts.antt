@@ -5,10 +5,10 @@ use Rattle.std.proofs.lemmas.List.{take-append-le}
 use Rattle.entity_recs.specs.declared.effect.Entry.{Entry}
 use Rattle.arena_map.specs.Maps.{MapView, IsMap}
 use Rattle.client_ports.specs.declared.arrival.Arrival.{Arrival}
-use Rattle.client_ports.specs.States.{IsServerState}
 use Rattle.client_ports.specs.Receiving.{received}
 use Rattle.plain_server.specs.RecordsById.{opening}
 use Rattle.plain_server.specs.Frames.{state_played, AreRight, AreInOrder}
+use Rattle.plain_server.proofs.Frames.{opening_is}
 use Rattle.demo_lines.specs.Bytes.{fault, map_of}
 use Rattle.out_text.specs.OutLines.{OutLine, EndLine, text_of}
 use Rattle.out_text.specs.FrameLines.{lines_with, run_lines}
@@ -17,7 +17,7 @@ use Rattle.out_text.specs.Collecting.{Frames, closing, frames_of}
 use Rattle.out_text.specs.Output.{lines_in, AreRightIn, AreInOrderIn, front_text, out_text, IsFront, IsAllFrames, IsOutput, IsPart, IsCutFrame, IsCutEnd}
 use Rattle.out_text.proofs.Runs.{length-right, run_lines-push, right-take, in_order-take, run_lines-take, text_of-append, fewer_are_shorter}
 use Rattle.out_text.proofs.ReadBack.{AreAllReported, dids-run, dids-whole}
-use Rattle.out_text.proofs.Reporting.{PassesAreSound, right_are_reported}
+use Rattle.out_text.proofs.Reporting.{right_are_reported}
 use Rattle.out_text.proofs.Growing.{GoesOnWith, goes_on_all, take-goes_on, length-goes_on}
 use Rattle.out_text.proofs.Fewness.{frames_are_few}
 use Rattle.out_text.proofs.Arrivals.{frames_have_bytes, fore_have_bytes}
@@ -89,17 +89,16 @@ take-but_last closed arrivals =
     let one_less : length (closed ++ arrivals ∷ []) - 1 ≡ length closed = omega (arith, length-append closed (arrivals ∷ [])) in
     ap (λ k. take k (closed ++ arrivals ∷ [])) one_less ∙ take-append_seam closed (arrivals ∷ [])
 
--- a recording with an arena, whose opening state is a server's
+-- a recording with an arena
 pub record IsPlayed (bytes : List ℕ) (arena : MapView) : Type 0 where
   pub has : map_of bytes ≡ Some arena
   pub is_map : IsMap arena
-  pub opens : IsServerState arena (opening arena)
 
-module _ (sound : PassesAreSound) (workers : ℕ) (bytes : List ℕ) (arena : MapView) (played : IsPlayed bytes arena) where
+module _ (workers : ℕ) (bytes : List ℕ) (arena : MapView) (played : IsPlayed bytes arena) where
   -- the entries of the journals of the first frames can be read back
   reported : (closed : List (List Arrival)) (js : List (List Entry)) → GoesOnWith closed (frames_of bytes) → AreRun workers arena closed js → AreAllReported js
   reported closed js on run =
-      right_are_reported sound arena 0 (opening arena) closed js played.is_map played.opens (fore_have_bytes closed (frames_of bytes) on (frames_have_bytes bytes)) run.right
+      right_are_reported arena 0 (opening arena) closed js played.is_map (opening_is arena refl refl) (fore_have_bytes closed (frames_of bytes) on (frames_have_bytes bytes)) run.right
 
   few : (closed : List (List Arrival)) → GoesOnWith closed (frames_of bytes) → 0 + length closed ≤ 4294967295
   few closed on = omega (arith, length-goes_on closed (frames_of bytes) on, frames_are_few bytes)

@@ -11,3 +11,4 @@ pub mod Agreement
 pub mod Fewness
 pub mod Arrivals
 pub mod Fronts
+pub mod Outputs
