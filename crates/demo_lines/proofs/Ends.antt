@@ -6,10 +6,10 @@ use Rattle.std.proofs.lemmas.Bool.Decides.{nat_tests}
 use Rattle.demo_lines.specs.declared.stage.Stage.{Stage}
 use Rattle.demo_lines.specs.declared.stage.Stage.TheVariants.{Start, Map, Playing, Ended, Refused}
 use Rattle.demo_lines.specs.declared.line.Line.{Line}
-use Rattle.demo_lines.specs.declared.line.Line.TheVariants.{Arena, Spawn, Block, Frame, From, End}
+use Rattle.demo_lines.specs.declared.line.Line.TheVariants.{OfMap, Frame, From, End}
 use Rattle.demo_lines.specs.declared.event.Event.{Event}
 use Rattle.demo_lines.specs.Lines.{line_at}
-use Rattle.demo_lines.specs.Recording.{Reading, next, events_of_line, reading_after, at_stage, is_wide, is_spawn_allowed, is_block_allowed, has_spawn, line_in, after, events_of, is_over, is_refused, event_of}
+use Rattle.demo_lines.specs.Recording.{Reading, next, events_of_line, reading_after, at_stage, is_first_allowed, is_line_allowed, has_spawn, line_in, after, events_of, is_over, is_refused, event_of}
 use Rattle.edge_io.specs.WholeLines.{unlines, whole_lines}
 use Rattle.demo_lines.specs.Bytes.{events_in, fault_at}
 use Rattle.demo_lines.specs.Reads.{EndsAt}
@@ -71,23 +71,17 @@ counts-choice false s t n one other = other
 
 reading_after-counts : (stage : Stage) (r : Reading) (line : Option Line) → is_over stage ≡ false → (reading_after stage r line).lines ≡ r.lines + 1
 reading_after-counts Start r None going = refl
-reading_after-counts Start r (Some (Arena lo hi)) going = counts-choice (is_wide lo hi) _ _ _ refl refl
-reading_after-counts Start r (Some (Spawn at)) going = refl
-reading_after-counts Start r (Some (Block lo hi)) going = refl
+reading_after-counts Start r (Some (OfMap line)) going = counts-choice (is_first_allowed line) _ _ _ refl refl
 reading_after-counts Start r (Some Frame) going = refl
 reading_after-counts Start r (Some (From a)) going = refl
 reading_after-counts Start r (Some End) going = refl
 reading_after-counts Map r None going = refl
-reading_after-counts Map r (Some (Arena lo hi)) going = refl
-reading_after-counts Map r (Some (Spawn at)) going = counts-choice (is_spawn_allowed r.map at) _ _ _ refl refl
-reading_after-counts Map r (Some (Block lo hi)) going = counts-choice (is_block_allowed r.map lo hi) _ _ _ refl refl
+reading_after-counts Map r (Some (OfMap line)) going = counts-choice (is_line_allowed r.map line) _ _ _ refl refl
 reading_after-counts Map r (Some Frame) going = counts-choice (has_spawn r.map) _ _ _ refl refl
 reading_after-counts Map r (Some (From a)) going = refl
 reading_after-counts Map r (Some End) going = refl
 reading_after-counts Playing r None going = refl
-reading_after-counts Playing r (Some (Arena lo hi)) going = refl
-reading_after-counts Playing r (Some (Spawn at)) going = refl
-reading_after-counts Playing r (Some (Block lo hi)) going = refl
+reading_after-counts Playing r (Some (OfMap line)) going = refl
 reading_after-counts Playing r (Some Frame) going = counts-choice (nat_lt r.frames 100000) _ _ _ refl refl
 reading_after-counts Playing r (Some (From a)) going = counts-choice (nat_lt r.arrivals 512) _ _ _ refl refl
 reading_after-counts Playing r (Some End) going = refl

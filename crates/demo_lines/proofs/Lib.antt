@@ -5,6 +5,7 @@ pub mod Consuming
 pub mod Walks
 pub mod Spellings
 pub mod Prefixes
+pub mod MapGiven
 pub mod Marks
 pub mod FieldsRead
 pub mod LinesRead
@@ -14,3 +15,5 @@ pub mod RecordingsRead
 pub mod SmallRecording
 pub mod LinesLeft
 pub mod LongestRecording
+pub mod MapRules
+pub mod Given

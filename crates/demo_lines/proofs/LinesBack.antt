@@ -2,7 +2,7 @@
 use Rattle.std.proofs.Common.{◌≡◌, ℕ, ◌≤◌, Bool, true, false, nat_le, List, length, Some, None, cond, refl, arith}
 use Rattle.std.proofs.lemmas.Bool.Decides.{nat_tests}
 use Rattle.demo_lines.specs.declared.line.Line.{Line}
-use Rattle.demo_lines.specs.declared.line.Line.TheVariants.{Arena, Spawn, Block, Frame, From, End}
+use Rattle.demo_lines.specs.declared.line.Line.TheVariants.{OfMap, Frame, From, End}
 use Rattle.demo_lines.specs.Lines.{line_at}
 use Rattle.demo_lines.specs.Recording.{line_in}
 use Rattle.demo_lines.specs.Spelling.{line_text, IsLine}
@@ -18,9 +18,7 @@ fits_and_reads bytes line h = by (nat_le (length bytes) 512) refl h
     by false long e = cc
 
 can_be_written : (line : Line) → (length (line_text line) ≤ 512) → IsSound line → IsLine line
-can_be_written (Arena lo hi) fits sound = sound
-can_be_written (Spawn at) fits sound = sound
-can_be_written (Block lo hi) fits sound = sound
+can_be_written (OfMap line) fits sound = sound
 can_be_written Frame fits sound = tt
 can_be_written (From a) fits sound = record { port = sound.0; bytes = sound.1; fits = fits }
 can_be_written End fits sound = tt

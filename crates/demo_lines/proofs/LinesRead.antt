@@ -8,15 +8,17 @@ use Rattle.hex.proofs.HexLemmas.{length-encode_with}
 use Rattle.edge_io.specs.Lines.{AreBytes}
 use Rattle.arena_geo.specs.declared.vec3.Vec3.{Vec3}
 use Rattle.arena_geo.specs.Vectors.{IsNear}
-use Rattle.demo_lines.specs.declared.arrival.Arrival.{Arrival}
+use Rattle.client_ports.specs.declared.arrival.Arrival.{Arrival}
 use Rattle.demo_lines.specs.declared.line.Line.{Line}
-use Rattle.demo_lines.specs.declared.line.Line.TheVariants.{Arena, Spawn, Block, Frame, From, End}
+use Rattle.demo_lines.specs.declared.line.Line.TheVariants.{OfMap, Frame, From, End}
+use Rattle.arena_map.specs.declared.map_line.MapLine.{MapLine}
+use Rattle.arena_map.specs.declared.map_line.MapLine.TheVariants.{Arena, Block, Spawn, Item, Teleport, Goal, Lift}
 use Rattle.edge_io.specs.Numbers.{natural_up_to}
 use Rattle.edge_io.specs.Fields.{◌>>=◌, field_at}
 use Rattle.demo_lines.specs.Packets.{packet_bytes}
 use Rattle.demo_lines.specs.Lines.{point_at, alone, arena_of, spawn_of, block_of, from_of, line_at}
 use Rattle.demo_lines.specs.Recording.{line_in}
-use Rattle.demo_lines.specs.Spelling.{field_text, point_text, packet_text, line_text, IsLine}
+use Rattle.demo_lines.specs.Spelling.{field_text, point_text, packet_text, map_line_text, line_text, IsMapLine, IsLine}
 use Rattle.demo_lines.specs.Laws.{PacketsHaveRoom}
 use Rattle.edge_io.proofs.Decimals.{natural-decimal}
 use Rattle.demo_lines.proofs.Spellings.{packet_bytes-lower}
@@ -40,8 +42,8 @@ corners-read line lo hi near_lo near_hi =
     ap (λ p. p >>= (λ low. point_at low.1 >>= (λ high. alone (line low.0 high.0) high.1))) (point_at-point lo (point_text hi) near_lo refl)
     ∙ ap (λ p. p >>= (λ high. alone (line lo high.0) high.1)) (last_point hi near_hi)
 
-spawn-read : (at : Vec3) → IsNear 1048576 at → spawn_of (point_text at) ≡ Some (Spawn at)
-spawn-read at near = ap (λ p. p >>= (λ q. alone (Spawn q.0) q.1)) (last_point at near)
+spawn-read : (at : Vec3) → IsNear 1048576 at → spawn_of (point_text at) ≡ Some (OfMap (Spawn at))
+spawn-read at near = ap (λ p. p >>= (λ q. alone (OfMap (Spawn q.0)) q.1)) (last_point at near)
 
 packet-read : (bytes : List ℕ) → AreBytes bytes → packet_bytes (packet_text bytes) ≡ Some bytes
 packet-read [] are = refl
@@ -120,16 +122,23 @@ two_fit word x y w p q = omega (arith, length-append word (x ++ y), length-appen
 one_fits : (word x : List ℕ) → length word ≤ 5 → length x ≤ 27 → length (word ++ x) ≤ 512
 one_fits word x w p = omega (arith, length-append word x)
 
-pub line_read_back : (line : Line) → IsLine line → line_in (line_text line) ≡ Some line
-line_read_back (Arena lo hi) is =
-    line_in-read (line_text (Arena lo hi)) (Arena lo hi) (two_fit (codes "arena") (point_text lo) (point_text hi) (omega arith) (point-long lo is.0) (point-long hi is.1))
-    (read-word (codes "arena") (point_text lo ++ point_text hi) (search rules) refl ∙ corners-read Arena lo hi is.0 is.1)
-line_read_back (Spawn at) is =
-    line_in-read (line_text (Spawn at)) (Spawn at) (one_fits (codes "spawn") (point_text at) (omega arith) (point-long at is))
+map_line_read_back : (line : MapLine) → IsMapLine line → line_in (map_line_text line) ≡ Some (OfMap line)
+map_line_read_back (Arena lo hi) is =
+    line_in-read (map_line_text (Arena lo hi)) (OfMap (Arena lo hi)) (two_fit (codes "arena") (point_text lo) (point_text hi) (omega arith) (point-long lo is.0) (point-long hi is.1))
+    (read-word (codes "arena") (point_text lo ++ point_text hi) (search rules) refl ∙ corners-read (λ x y. OfMap (Arena x y)) lo hi is.0 is.1)
+map_line_read_back (Block lo hi) is =
+    line_in-read (map_line_text (Block lo hi)) (OfMap (Block lo hi)) (two_fit (codes "block") (point_text lo) (point_text hi) (omega arith) (point-long lo is.0) (point-long hi is.1))
+    (read-word (codes "block") (point_text lo ++ point_text hi) (search rules) refl ∙ corners-read (λ x y. OfMap (Block x y)) lo hi is.0 is.1)
+map_line_read_back (Spawn at) is =
+    line_in-read (map_line_text (Spawn at)) (OfMap (Spawn at)) (one_fits (codes "spawn") (point_text at) (omega arith) (point-long at is))
     (read-word (codes "spawn") (point_text at) (search rules) refl ∙ spawn-read at is)
-line_read_back (Block lo hi) is =
-    line_in-read (line_text (Block lo hi)) (Block lo hi) (two_fit (codes "block") (point_text lo) (point_text hi) (omega arith) (point-long lo is.0) (point-long hi is.1))
-    (read-word (codes "block") (point_text lo ++ point_text hi) (search rules) refl ∙ corners-read Block lo hi is.0 is.1)
+map_line_read_back (Item at kind delay) is = absurd is
+map_line_read_back (Teleport lo hi dest) is = absurd is
+map_line_read_back (Goal lo hi) is = absurd is
+map_line_read_back (Lift lo hi rise speed) is = absurd is
+
+pub line_read_back : (line : Line) → IsLine line → line_in (line_text line) ≡ Some line
+line_read_back (OfMap line) is = map_line_read_back line is
 line_read_back Frame is = refl
 line_read_back (From a) is =
     line_in-read (line_text (From a)) (From a) is.fits
@@ -149,12 +158,19 @@ point_above p near =
     above-append 10 (x ++ y) z (above-append 10 x y (field_above _ (signed_above p.x (omega (arith, near.x)))) (field_above _ (signed_above p.y (omega (arith, near.y)))))
     (field_above _ (signed_above p.z (omega (arith, near.z))))
 
-pub line_above : (line : Line) → IsLine line → AreAbove 10 (line_text line)
-line_above (Arena lo hi) is =
+map_line_above : (line : MapLine) → IsMapLine line → AreAbove 10 (map_line_text line)
+map_line_above (Arena lo hi) is =
     above-append 10 (codes "arena") (point_text lo ++ point_text hi) (search rules) (above-append 10 (point_text lo) (point_text hi) (point_above lo is.0) (point_above hi is.1))
-line_above (Spawn at) is = above-append 10 (codes "spawn") (point_text at) (search rules) (point_above at is)
-line_above (Block lo hi) is =
+map_line_above (Block lo hi) is =
     above-append 10 (codes "block") (point_text lo ++ point_text hi) (search rules) (above-append 10 (point_text lo) (point_text hi) (point_above lo is.0) (point_above hi is.1))
+map_line_above (Spawn at) is = above-append 10 (codes "spawn") (point_text at) (search rules) (point_above at is)
+map_line_above (Item at kind delay) is = tt
+map_line_above (Teleport lo hi dest) is = tt
+map_line_above (Goal lo hi) is = tt
+map_line_above (Lift lo hi rise speed) is = tt
+
+pub line_above : (line : Line) → IsLine line → AreAbove 10 (line_text line)
+line_above (OfMap line) is = map_line_above line is
 line_above Frame is = search rules
 line_above (From a) is =
     above-append 10 (codes "from") (field_text (decimal a.port) ++ field_text (packet_text a.bytes)) (search rules)

@@ -9,9 +9,11 @@ use Rattle.edge_io.specs.Lines.{AreBytes}
 use Rattle.arena_geo.specs.declared.vec3.Vec3.{Vec3}
 use Rattle.arena_geo.specs.Vectors.{IsNear}
 use Rattle.demo_lines.specs.declared.line.Line.{Line}
-use Rattle.demo_lines.specs.declared.line.Line.TheVariants.{Arena, Spawn, Block, Frame, From, End}
+use Rattle.demo_lines.specs.declared.line.Line.TheVariants.{OfMap, Frame, From, End}
+use Rattle.arena_map.specs.declared.map_line.MapLine.TheVariants.{Arena, Block, Spawn}
 use Rattle.edge_io.specs.Numbers.{natural_up_to, integer_up_to}
 use Rattle.edge_io.specs.Fields.{◌>>=◌, cut, field_at}
+use Rattle.demo_lines.specs.Spelling.{IsMapLine}
 use Rattle.demo_lines.specs.Packets.{packet_bytes}
 use Rattle.demo_lines.specs.Lines.{coordinate_at, point_at, alone, spawn_of, from_of, line_at}
 use Rattle.edge_io.proofs.Decimals.{natural-spelled, integer-spelled}
@@ -65,9 +67,7 @@ packet_are text bytes h = by (bytes_eq text (codes "-")) (length text == 0) h
 
 -- what holds of a line that was read, but for its length
 abbrev pub IsSound : Line → Type 0
-IsSound (Arena lo hi) = IsNear 1048576 lo × IsNear 1048576 hi
-IsSound (Spawn at) = IsNear 1048576 at
-IsSound (Block lo hi) = IsNear 1048576 lo × IsNear 1048576 hi
+IsSound (OfMap line) = IsMapLine line
 IsSound Frame = Unit {0}
 IsSound (From a) = (a.port < 65536) × AreBytes a.bytes
 IsSound End = Unit {0}
@@ -86,7 +86,7 @@ corners-sound line rest l sound h =
 spawn-sound : (rest : List ℕ) (l : Line) → spawn_of rest ≡ Some l → IsSound l
 spawn-sound rest l h =
     let at = binds (point_at rest) _ l h in
-    alone-sound (Spawn at.at.0) l at.at.1 (point-near rest at.at at.is) at.gives
+    alone-sound (OfMap (Spawn at.at.0)) l at.at.1 (point-near rest at.at at.is) at.gives
 
 from-sound : (rest : List ℕ) (l : Line) → from_of rest ≡ Some l → IsSound l
 from-sound rest l h =
@@ -106,9 +106,9 @@ none-sound l h = cc
 
 by_word-sound : (parts : List ℕ × List ℕ) (l : Line) → by_word parts ≡ Some l → IsSound l
 by_word-sound parts l =
-    choice-sound _ _ _ l (corners-sound Arena parts.1 l (λ lo hi p q. (p, q)))
+    choice-sound _ _ _ l (corners-sound (λ x y. OfMap (Arena x y)) parts.1 l (λ lo hi p q. (p, q)))
     (choice-sound _ _ _ l (spawn-sound parts.1 l)
-    (choice-sound _ _ _ l (corners-sound Block parts.1 l (λ lo hi p q. (p, q)))
+    (choice-sound _ _ _ l (corners-sound (λ x y. OfMap (Block x y)) parts.1 l (λ lo hi p q. (p, q)))
     (choice-sound _ _ _ l (alone-sound Frame l parts.1 tt)
     (choice-sound _ _ _ l (from-sound parts.1 l)
     (choice-sound _ _ _ l (alone-sound End l parts.1 tt) (none-sound l))))))

@@ -8,8 +8,8 @@ use Rattle.arena_geo.specs.Vectors.{IsNear}
 use Rattle.arena_geo.specs.Bounds.{Bounds, bounds, IsBox}
 use Rattle.hex.specs.Hex.{encode_with}
 use Rattle.edge_io.specs.Lines.{AreBytes}
-use Rattle.demo_lines.specs.declared.arrival.Arrival.{Arrival}
-use Rattle.demo_lines.specs.Readings.{IsSpawn, IsBlock, IsMap}
+use Rattle.client_ports.specs.declared.arrival.Arrival.{Arrival}
+use Rattle.arena_map.specs.Maps.{IsSpawn, IsBlock, IsMap}
 use Rattle.demo_lines.specs.Spelling.{IsArrival, IsRecording, small_map, small_frames}
 use Rattle.demo_lines.specs.Laws.{SmallRecording}
 use Rattle.demo_lines.proofs.LinesRead.{packets_have_room}
@@ -40,6 +40,12 @@ small_spawn_is = record { near = record { x = omega arith; y = omega arith; z = 
 abbrev pub small_block : Bounds
 small_block = bounds (record { x = pos 1; y = pos 20; z = pos 300 }) (record { x = pos 4000; y = pos 30000; z = pos 32768 })
 
+abbrev other_spawn : Vec3
+other_spawn = record { x = pos 12288; y = pos 4096; z = pos 6144 }
+
+other_spawn_is : IsSpawn small_map.bounds other_spawn
+other_spawn_is = record { near = record { x = omega arith; y = omega arith; z = omega arith }; inside = refl }
+
 pub small_block_is : IsBlock small_map.bounds small_block
 small_block_is = record {
   is_box = record {
@@ -59,9 +65,11 @@ small_is_map = record {
   lo = small_lo;
   hi = small_hi;
   wide = refl;
-  spawn = small_spawn_is;
-  blocks = (small_block_is, tt);
-  few = omega arith;
+  blocks = All-cons (IsBlock small_map.bounds) small_block [] small_block_is (All-nil (IsBlock small_map.bounds));
+  few_blocks = omega arith;
+  spawns = All-cons (IsSpawn small_map.bounds) small_spawn (other_spawn ∷ []) small_spawn_is
+      (All-cons (IsSpawn small_map.bounds) other_spawn [] other_spawn_is (All-nil (IsSpawn small_map.bounds)));
+  few_spawns = omega arith;
 }
 
 -- ---- its frames

@@ -3,7 +3,7 @@ use Rattle.std.specs.Prelude.{ℕ, ◌+◌, List, Option, Some, None}
 use Rattle.edge_io.specs.WholeLines.{whole_lines}
 use Rattle.demo_lines.specs.declared.stage.Stage.{Stage}
 use Rattle.demo_lines.specs.declared.stage.Stage.TheVariants.{Start, Map, Playing, Ended, Refused}
-use Rattle.demo_lines.specs.declared.map.ArenaMap.{ArenaMap}
+use Rattle.arena_map.specs.Maps.{MapView}
 use Rattle.demo_lines.specs.declared.event.Event.{Event}
 use Rattle.demo_lines.specs.Recording.{Reading, start, after, events_of}
 
@@ -32,5 +32,5 @@ abbrev pub fault : List ℕ → Option ℕ
 fault bytes = fault_in start bytes
 
 -- the map of a recording
-abbrev pub map_of : List ℕ → Option ArenaMap
+abbrev pub map_of : List ℕ → Option MapView
 map_of bytes = (after start (whole_lines bytes)).map

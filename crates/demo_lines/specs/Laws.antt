@@ -1,27 +1,23 @@
 -- What holds of all recordings, and of the packets on their lines.
-use Rattle.std.specs.Prelude.{◌≡◌, ◌↔◌, ℕ, ◌≤◌, ◌<◌, true, false, List, [], ◌++◌, length, Some, None, pos, codes}
+use Rattle.std.specs.Prelude.{◌≡◌, ◌↔◌, ℕ, ◌≤◌, ◌<◌, true, false, List, [], ◌++◌, length, Some, None, codes}
 use Rattle.edge_io.specs.Lines.{AreBytes}
 use Rattle.hex.specs.Hex.{encode_lower, encode_upper}
 use Rattle.demo_lines.specs.Packets.{packet_bytes}
-use Rattle.demo_lines.specs.declared.arrival.Arrival.{Arrival}
-use Rattle.demo_lines.specs.declared.arrival.TheConstants.{MOST_BYTES}
-use Rattle.demo_lines.specs.declared.blocks.TheConstants.{MOST_BLOCKS}
+use Rattle.arena_map.specs.Maps.{MapView}
+use Rattle.client_ports.specs.declared.arrival.Arrival.{Arrival}
+use Rattle.client_ports.specs.declared.arrival.TheConstants.{MOST_BYTES}
 use Rattle.demo_lines.specs.declared.line.TheConstants.{FARTHEST}
-use Rattle.demo_lines.specs.declared.map.TheConstants.{LEAST_SIDE}
 use Rattle.demo_lines.specs.declared.reading.TheConstants.{MOST_FRAMES, MOST_ARRIVALS}
 use Rattle.demo_lines.specs.declared.line.Line.{Line}
 use Rattle.demo_lines.specs.declared.line.Line.TheVariants.{From}
-use Rattle.demo_lines.specs.declared.map.ArenaMap.{ArenaMap}
-use Rattle.demo_lines.specs.Recording.{start, after, is_refused, is_over, line_in}
+use Rattle.demo_lines.specs.Recording.{Reading, start, after, events_of, without_map, is_map_whole, is_refused, is_over, line_in}
 use Rattle.demo_lines.specs.Spelling.{line_text, IsLine, recording_lines, recording_text, recording_events, IsRecording, small_map, small_frames, small_text}
 use Rattle.edge_io.specs.WholeLines.{whole_lines}
 use Rattle.demo_lines.specs.Bytes.{events, fault, map_of}
 
--- the numbers of this crate
+-- the numbers of this crate, and how many bytes a packet has at the most
 pub record LimitsAreKnown : Type 0 where
   pub farthest : FARTHEST ≡ 1048576
-  pub least_side : LEAST_SIDE ≡ pos 32768
-  pub blocks : MOST_BLOCKS ≡ 1024
   pub frames : MOST_FRAMES ≡ 100000
   pub arrivals : MOST_ARRIVALS ≡ 512
   pub bytes : MOST_BYTES ≡ 252
@@ -32,7 +28,7 @@ pub record PacketReadsBack : Type 0 where
   pub lower : (bytes : List ℕ) → AreBytes bytes → 0 < length bytes → packet_bytes (encode_lower bytes) ≡ Some bytes
   pub upper : (bytes : List ℕ) → AreBytes bytes → 0 < length bytes → packet_bytes (encode_upper bytes) ≡ Some bytes
 
--- more bytes after these give no event, and change neither the fault nor the arena
+-- more bytes after these give no event, and change neither the fault nor the map
 pub record AddsNothing (bytes more : List ℕ) : Type 0 where
   pub events : events (bytes ++ more) ≡ events bytes
   pub fault : fault (bytes ++ more) ≡ fault bytes
@@ -47,6 +43,15 @@ abbrev pub NothingAfterARefusal : Type 0
 NothingAfterARefusal =
     (bytes more : List ℕ) → is_refused (after start (whole_lines bytes)).stage ≡ true → AddsNothing bytes more
 
+-- once the map is whole, the lines are read as well without it
+pub record MapMayBeGivenOut (r : Reading) (lines : List (List ℕ)) : Type 0 where
+  pub reached : after (without_map r) lines ≡ without_map (after r lines)
+  pub events : events_of (without_map r) lines ≡ events_of r lines
+
+-- this holds of all lines
+abbrev pub NothingNeedsTheMap : Type 0
+NothingNeedsTheMap = (r : Reading) (lines : List (List ℕ)) → is_map_whole r.stage ≡ true → MapMayBeGivenOut r lines
+
 -- a line is read back from its text exactly where it can be written
 abbrev pub LinesReadBack : Type 0
 LinesReadBack = (line : Line) → (line_in (line_text line) ≡ Some line) ↔ IsLine line
@@ -58,14 +63,14 @@ pub record PacketsHaveRoom : Type 0 where
   pub lowest : (a : Arrival) → a.port < 100 → length a.bytes ≤ 252 → length (line_text (From a)) ≤ 512
 
 -- the text of a recording has no fault, and gives the map, the frames with their packets and then the end
-pub record ReadsBack (m : ArenaMap) (frames : List (List Arrival)) : Type 0 where
+pub record ReadsBack (m : MapView) (frames : List (List Arrival)) : Type 0 where
   pub fault : fault (recording_text m frames) ≡ None
   pub map : map_of (recording_text m frames) ≡ Some m
   pub events : events (recording_text m frames) ≡ recording_events frames
 
 -- a recording that can be written is read as what was written
 abbrev pub RecordingsReadBack : Type 0
-RecordingsReadBack = (m : ArenaMap) (frames : List (List Arrival)) → IsRecording m frames → ReadsBack m frames
+RecordingsReadBack = (m : MapView) (frames : List (List Arrival)) → IsRecording m frames → ReadsBack m frames
 
 -- a small recording can be written, and this is its text
 pub record SmallRecording : Type 0 where
@@ -74,13 +79,13 @@ pub record SmallRecording : Type 0 where
 
 -- a recording that can be written and has so many lines
 pub record HasLines (count : ℕ) : Type 0 where
-  pub map : ArenaMap
+  pub map : MapView
   pub frames : List (List Arrival)
   pub is : IsRecording map frames
   pub lines : length (recording_lines map frames) ≡ count
 
--- up to its end or its refused line a recording has at most 1 line with the arena, 1 with the spawn, 1,024 with blocks,
+-- up to its end or its refused line a recording has at most 1 line with the arena, 64 with spawns, 1,024 with blocks,
 -- 100,000 times 1 that opens a frame and 512 with its packets, and 1 that ends it or is refused; and some have so many
 pub record LinesAreBounded : Type 0 where
-  pub bound : (lines : List (List ℕ)) → is_over (after start lines).stage ≡ false → length lines < 51301027
-  pub longest : HasLines 51301027
+  pub bound : (lines : List (List ℕ)) → is_over (after start lines).stage ≡ false → length lines < 51301090
+  pub longest : HasLines 51301090

@@ -1,4 +1,7 @@
 -- The definitions of recordings.
+pub use Rattle.arena_map.specs.Maps
+pub use Rattle.arena_map.specs.MapLines
+pub use Rattle.arena_map.specs.Rules
 pub mod Packets
 pub mod Lines
 pub mod Machines

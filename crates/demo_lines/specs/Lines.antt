@@ -2,7 +2,8 @@
 use Rattle.std.specs.Prelude.{ℕ, List, [], ◌∷◌, Option, Some, None, codes, bytes_eq, ℤ, if◌then◌else◌}
 use Rattle.arena_geo.specs.declared.vec3.Vec3.{Vec3}
 use Rattle.demo_lines.specs.declared.line.Line.{Line}
-use Rattle.demo_lines.specs.declared.line.Line.TheVariants.{Arena, Spawn, Block, Frame, From, End}
+use Rattle.demo_lines.specs.declared.line.Line.TheVariants.{OfMap, Frame, From, End}
+use Rattle.arena_map.specs.declared.map_line.MapLine.TheVariants.{Arena, Spawn, Block}
 use Rattle.edge_io.specs.Numbers.{natural_up_to, integer_up_to}
 use Rattle.edge_io.specs.Fields.{◌>>=◌, cut, field_at}
 use Rattle.demo_lines.specs.Packets.{packet_bytes}
@@ -32,20 +33,20 @@ abbrev pub arena_of : List ℕ → Option Line
 arena_of rest = do
   lo ← point_at rest
   hi ← point_at lo.1
-  alone (Arena lo.0 hi.0) hi.1
+  alone (OfMap (Arena lo.0 hi.0)) hi.1
 
 -- where players join
 abbrev pub spawn_of : List ℕ → Option Line
 spawn_of rest = do
   at ← point_at rest
-  alone (Spawn at.0) at.1
+  alone (OfMap (Spawn at.0)) at.1
 
 -- a block's low corner and its high one
 abbrev pub block_of : List ℕ → Option Line
 block_of rest = do
   lo ← point_at rest
   hi ← point_at lo.1
-  alone (Block lo.0 hi.0) hi.1
+  alone (OfMap (Block lo.0 hi.0)) hi.1
 
 -- the port that sent a packet, and its bytes
 abbrev pub from_of : List ℕ → Option Line

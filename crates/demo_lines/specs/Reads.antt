@@ -7,11 +7,12 @@ use Rattle.edge_io.specs.Lines.{HasNoLineFeed}
 use Rattle.edge_io.specs.WholeLines.{all_but_last, unlines}
 use Rattle.demo_lines.specs.declared.event.Event.{Event}
 use Rattle.demo_lines.specs.declared.event.Event.TheVariants.{Frame, From, End}
+use Rattle.demo_lines.specs.declared.line.Line.{Line}
 use Rattle.demo_lines.specs.declared.demo_stop.DemoStop.{DemoStop}
-use Rattle.demo_lines.specs.declared.demo_stop.DemoStop.TheVariants.{Refused, ReadFault}
+use Rattle.demo_lines.specs.declared.demo_stop.DemoStop.TheVariants.{Refused, ReadFault, NoMemory}
 use Rattle.demo_lines.specs.declared.stage.Stage.{Stage}
 use Rattle.demo_lines.specs.declared.stage.Stage.TheVariants as stages
-use Rattle.demo_lines.specs.Recording.{Reading, start, next, after, events_of, is_over, is_refused}
+use Rattle.demo_lines.specs.Recording.{Reading, start, next, after, events_of, reading_after, event_of, without_map, is_map_whole, is_over, is_refused}
 use Rattle.demo_lines.specs.Readings.{IsReading}
 use Rattle.demo_lines.specs.Bytes.{events_in, fault_in}
 
@@ -40,6 +41,28 @@ pub record ReadsFront (old : Reading) (before later : Option (List ℕ)) (given 
   pub consumed : Consumes before later (unlines lines ++ front)
   pub events : events_of old lines ≡ given
   pub going : is_over (after old lines).stage ≡ false
+
+-- whole lines were taken that gave no event, and that the recording goes on after
+pub record ReadsQuietly (old : Reading) (before later : Option (List ℕ)) : Type 0 where
+  pub reading : Reading
+  pub reads : Reads old reading before later []
+  pub going : is_over reading.stage ≡ false
+
+-- the line would be added to the map, or begin it: it gives no event, and the recording goes on after it
+pub record IsQuiet (r : Reading) (line : Option Line) : Type 0 where
+  pub event : event_of line ≡ []
+  pub stage : (reading_after r.stage r line).stage ≡ stages.Map
+
+-- the line is refused, and counted
+pub record IsRefusedAt (old new : Reading) (line : List ℕ) (number : ℕ) : Type 0 where
+  pub is_next : new ≡ next old line
+  pub counted : number ≡ new.lines
+  pub stage : new.stage ≡ stages.Refused
+
+-- an event keeps a map that was whole, and else completes one
+pub record KeepsMap (old new : Reading) : Type 0 where
+  pub kept : is_map_whole old.stage ≡ true → new.map ≡ old.map
+  pub completed : is_map_whole old.stage ≡ false → IsSome new.map
 
 -- what was taken last is a line with its line feed, and it is refused
 pub record IsRefusedLine (r : Reading) (taken : List ℕ) : Type 0 where
@@ -85,6 +108,10 @@ pub record IsDemoReader (reading : Reading) (stop : Option DemoStop) : Type 0 wh
 abbrev pub fresh_reader : DemoReaderView
 fresh_reader = record { pending = []; reading = start; stop = None }
 
+-- the reader, after its map was given out
+abbrev pub map_taken : DemoReaderView → DemoReaderView
+map_taken demo = record { pending = demo.pending; reading = without_map demo.reading; stop = demo.stop }
+
 -- the reader goes on
 pub record IsOpen (demo : DemoReaderView) : Type 0 where
   pub no_stop : demo.stop ≡ None
@@ -94,11 +121,19 @@ pub record IsOpen (demo : DemoReaderView) : Type 0 where
 abbrev pub OnRefused : DemoStop → (ℕ → Type 0) → Type 0
 OnRefused (Refused line) P = P line
 OnRefused ReadFault P = ⊤
+OnRefused NoMemory P = ⊤
 
 -- P, where the source failed
 abbrev pub OnReadFault : DemoStop → Type 0 → Type 0
 OnReadFault (Refused line) P = ⊤
 OnReadFault ReadFault P = P
+OnReadFault NoMemory P = ⊤
+
+-- P, where memory was refused
+abbrev pub OnNoMemory : DemoStop → Type 0 → Type 0
+OnNoMemory (Refused line) P = ⊤
+OnNoMemory ReadFault P = ⊤
+OnNoMemory NoMemory P = P
 
 -- how far a recording has come after an event
 abbrev pub stage_after : Event → Stage

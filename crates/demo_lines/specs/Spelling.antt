@@ -1,19 +1,21 @@
 -- The text of a recording: how each line is written, and the lines of a map and of frames in their order.
-use Rattle.std.specs.Prelude.{ℕ, ◌≤◌, ◌<◌, List, [], ◌∷◌, ◌++◌, length, Option, Some, None, IsSome, codes, map, flat_map, pos, negsuc, decimal, ⊤}
+use Rattle.std.specs.Prelude.{◌≡◌, ℕ, ◌≤◌, ◌<◌, true, List, [], ◌∷◌, ◌++◌, length, codes, map, flat_map, pos, negsuc, decimal, ⊤}
 use Rattle.std.specs.Fmt.{signed_decimal}
 use Rattle.std.specs.List.{AllByRecursion}
 use Rattle.hex.specs.Hex.{encode_lower}
 use Rattle.edge_io.specs.Lines.{AreBytes}
+use Rattle.edge_io.specs.WholeLines.{unlines}
 use Rattle.arena_geo.specs.declared.vec3.Vec3.{Vec3}
-use Rattle.arena_geo.specs.Bounds.{bounds}
-use Rattle.demo_lines.specs.declared.arrival.Arrival.{Arrival}
+use Rattle.arena_geo.specs.Bounds.{Bounds, bounds}
+use Rattle.arena_map.specs.declared.map_line.MapLine.{MapLine}
+use Rattle.arena_map.specs.declared.map_line.MapLine.TheVariants.{Arena, Block, Spawn, Item, Teleport, Goal, Lift}
+use Rattle.arena_map.specs.Maps.{MapView, IsMap, is_ready, map_of}
+use Rattle.arena_map.specs.MapLines.{IsWithinLimits}
+use Rattle.client_ports.specs.declared.arrival.Arrival.{Arrival}
 use Rattle.demo_lines.specs.declared.line.Line.{Line}
-use Rattle.demo_lines.specs.declared.line.Line.TheVariants.{Arena, Spawn, Block, Frame, From, End}
+use Rattle.demo_lines.specs.declared.line.Line.TheVariants.{OfMap, Frame, From, End}
 use Rattle.demo_lines.specs.declared.event.Event.{Event}
 use Rattle.demo_lines.specs.declared.event.Event.TheVariants as events
-use Rattle.demo_lines.specs.declared.map.ArenaMap.{ArenaMap}
-use Rattle.edge_io.specs.WholeLines.{unlines}
-use Rattle.demo_lines.specs.Readings.{IsMap, IsPlaced}
 
 -- a field after its space
 abbrev pub field_text : List ℕ → List ℕ
@@ -29,11 +31,19 @@ abbrev pub packet_text : List ℕ → List ℕ
 packet_text [] = codes "-"
 packet_text (b ∷ bytes) = encode_lower (b ∷ bytes)
 
+-- a line of the map: its word and its fields; the lines that aren't in force yet have no text
+abbrev pub map_line_text : MapLine → List ℕ
+map_line_text (Arena lo hi) = codes "arena" ++ point_text lo ++ point_text hi
+map_line_text (Block lo hi) = codes "block" ++ point_text lo ++ point_text hi
+map_line_text (Spawn at) = codes "spawn" ++ point_text at
+map_line_text (Item at kind delay) = []
+map_line_text (Teleport lo hi dest) = []
+map_line_text (Goal lo hi) = []
+map_line_text (Lift lo hi rise speed) = []
+
 -- a line: its word and its fields
 abbrev pub line_text : Line → List ℕ
-line_text (Arena lo hi) = codes "arena" ++ point_text lo ++ point_text hi
-line_text (Spawn at) = codes "spawn" ++ point_text at
-line_text (Block lo hi) = codes "block" ++ point_text lo ++ point_text hi
+line_text (OfMap line) = map_line_text line
 line_text Frame = codes "frame"
 line_text (From a) = codes "from" ++ field_text (decimal a.port) ++ field_text (packet_text a.bytes)
 line_text End = codes "end"
@@ -44,34 +54,49 @@ pub record IsArrival (a : Arrival) : Type 0 where
   pub bytes : AreBytes a.bytes
   pub fits : length (line_text (From a)) ≤ 512
 
--- a line that can be written: its coordinates are near enough, or its packet has room
+-- a line of the map that can be written: it is in force, and its numbers are within their limits
+abbrev pub IsMapLine : MapLine → Type 0
+IsMapLine (Arena lo hi) = IsWithinLimits (Arena lo hi)
+IsMapLine (Block lo hi) = IsWithinLimits (Block lo hi)
+IsMapLine (Spawn at) = IsWithinLimits (Spawn at)
+IsMapLine (Item at kind delay) = ⊥
+IsMapLine (Teleport lo hi dest) = ⊥
+IsMapLine (Goal lo hi) = ⊥
+IsMapLine (Lift lo hi rise speed) = ⊥
+
+-- a line that can be written: its numbers are within their limits, or its packet has room
 abbrev pub IsLine : Line → Type 0
-IsLine (Arena lo hi) = IsPlaced (Some (Arena lo hi))
-IsLine (Spawn at) = IsPlaced (Some (Spawn at))
-IsLine (Block lo hi) = IsPlaced (Some (Block lo hi))
+IsLine (OfMap line) = IsMapLine line
 IsLine Frame = ⊤
 IsLine (From a) = IsArrival a
 IsLine End = ⊤
 
--- the line of the spawn, where there is one
-abbrev pub spawn_lines : Option Vec3 → List Line
-spawn_lines None = []
-spawn_lines (Some at) = Spawn at ∷ []
+-- the line of the arena
+abbrev pub arena_line : Bounds → Line
+arena_line b = OfMap (Arena b.lo b.hi)
 
--- the lines of a map: the arena, the spawn, the blocks in their order
-abbrev pub map_lines : ArenaMap → List Line
-map_lines m = Arena m.bounds.lo m.bounds.hi ∷ spawn_lines m.spawn ++ map (λ b. Block b.lo b.hi) m.blocks
+-- the line of a block
+abbrev pub block_line : Bounds → Line
+block_line b = OfMap (Block b.lo b.hi)
+
+-- the line of a spawn
+abbrev pub spawn_line : Vec3 → Line
+spawn_line at = OfMap (Spawn at)
+
+-- the lines of a map: the arena, the spawns and the blocks, each in their order
+abbrev pub map_lines : MapView → List Line
+map_lines m = arena_line m.bounds ∷ map spawn_line m.spawns ++ map block_line m.blocks
 
 -- the lines of a frame: the line that opens it, and its packets
 abbrev pub frame_lines : List Arrival → List Line
 frame_lines arrivals = Frame ∷ map From arrivals
 
 -- the lines of a recording
-abbrev pub recording_lines : ArenaMap → List (List Arrival) → List Line
+abbrev pub recording_lines : MapView → List (List Arrival) → List Line
 recording_lines m frames = map_lines m ++ (flat_map frame_lines frames ++ End ∷ [])
 
 -- the text of a recording: each line with its line feed
-abbrev pub recording_text : ArenaMap → List (List Arrival) → List ℕ
+abbrev pub recording_text : MapView → List (List Arrival) → List ℕ
 recording_text m frames = unlines (map line_text (recording_lines m frames))
 
 -- the events of a frame
@@ -88,23 +113,20 @@ pub record IsFrame (arrivals : List Arrival) : Type 0 where
   pub each : AllByRecursion IsArrival arrivals
 
 -- a recording that can be written: a map with a spawn where there is a frame, and at most 100,000 frames
-pub record IsRecording (m : ArenaMap) (frames : List (List Arrival)) : Type 0 where
+pub record IsRecording (m : MapView) (frames : List (List Arrival)) : Type 0 where
   pub is_map : IsMap m
   pub few : length frames ≤ 100000
   pub each : AllByRecursion IsFrame frames
-  pub spawn : 0 < length frames → IsSome m.spawn
+  pub spawn : 0 < length frames → is_ready m ≡ true
 
--- a small map: the least arena, a spawn and a block
-abbrev pub small_map : ArenaMap
-small_map = record {
-  bounds = bounds
-      (record { x = negsuc 16383; y = pos 0; z = pos 0 })
-      (record { x = pos 16384; y = pos 32768; z = pos 32768 });
-  spawn = Some (record { x = pos 0; y = pos 4096; z = pos 6144 });
-  blocks =
-      bounds (record { x = pos 1; y = pos 20; z = pos 300 }) (record { x = pos 4000; y = pos 30000; z = pos 32768 })
-      ∷ [];
-}
+-- a small map: the least arena, a block and two spawns
+abbrev pub small_map : MapView
+small_map = map_of
+    (bounds
+    (record { x = negsuc 16383; y = pos 0; z = pos 0 })
+    (record { x = pos 16384; y = pos 32768; z = pos 32768 }))
+    (bounds (record { x = pos 1; y = pos 20; z = pos 300 }) (record { x = pos 4000; y = pos 30000; z = pos 32768 }) ∷ [])
+    (record { x = pos 0; y = pos 4096; z = pos 6144 } ∷ record { x = pos 12288; y = pos 4096; z = pos 6144 } ∷ [])
 
 -- its two frames, of two packets and of none
 abbrev pub small_frames : List (List Arrival)
@@ -113,5 +135,5 @@ small_frames = (record { port = 7; bytes = 1 ∷ 175 ∷ [] } ∷ record { port 
 -- its text
 abbrev pub small_text : List ℕ
 small_text =
-    codes "arena -16384 0 0 16384 32768 32768\nspawn 0 4096 6144\nblock 1 20 300 4000 30000 32768\n"
+    codes "arena -16384 0 0 16384 32768 32768\nspawn 0 4096 6144\nspawn 12288 4096 6144\nblock 1 20 300 4000 30000 32768\n"
     ++ codes "frame\nfrom 7 01af\nfrom 65535 -\nframe\nend\n"

@@ -1,22 +1,22 @@
 ghost use Rattle.std.specs.Prelude.{◌≡◌, ◌+◌, ◌^◌, ◌≤◌, ◌<◌, true, false, [], ◌∷◌, length, option_to_list, Ok, Err, None, IfOk, IfErr, OnOk, OnErr, IfSome};
 ghost use Rattle.edge_io.specs.Counts.{HasRisen};
 ghost use Rattle.edge_io.specs.Lines.{ahead, HasNotReadAhead};
-ghost use Rattle.demo_lines.specs.Recording.{next, events_of_line, lines_left, is_over, is_refused};
+ghost use Rattle.demo_lines.specs.Recording.{next, events_of_line, line_in, lines_left, is_over, is_refused};
 ghost use Rattle.demo_lines.specs.Readings.{IsReading};
-ghost use Rattle.demo_lines.specs.Reads.{Reads, ReadsFront, Refuses, EndsAt, OnRefused, OnReadFault, stage_after};
+ghost use Rattle.demo_lines.specs.Reads.{Reads, ReadsFront, ReadsQuietly, Refuses, EndsAt, IsQuiet, IsRefusedAt, KeepsMap, OnRefused, OnReadFault, OnNoMemory, stage_after};
 
 use crate::demo_stop::DemoStop;
 use crate::event::Event;
 use crate::line::line_at;
-use crate::map::ArenaMap;
 use crate::reading::{Reading, event_of};
 use crate::stage::Stage;
+use arena_map::ArenaMap;
 use edge_io::{LONGEST, LineBuf, LineReader, NextLine, Source};
 use std::alloc::{AllocError, Global};
 use std::marker::Model;
 
-/// Reads a recording from a source, one event after another. It holds a buffer of input, one line of it, and
-/// room for all blocks of the arena.
+/// Reads a recording from a source, one event after another. It holds a buffer of input, one line of it, and the map
+/// until it is taken.
 #[derive(Drop)]
 pub struct DemoReader {
     lines: LineReader,
@@ -36,20 +36,22 @@ impl Model for DemoReader {
 }
 
 /// Takes one more line, and answers its event.
-fn take_line(reading: &mut Reading, line: &[u8]) -> Result<Option<Event>, DemoStop>
+fn take_line(alloc: Global, reading: &mut Reading, line: &[u8]) -> Result<Option<Event>, DemoStop>
     requires reading { IsReading reading.old }
     requires open { is_over reading.old.stage ≡ false }
     requires fits { length line.now ≤ LONGEST }
-    ensures next { reading.new ≡ next reading.old line.now }
+    ensures next { OnOk result (reading.new ≡ next reading.old line.now) }
     ensures event { IfOk result (λ event. option_to_list event ≡ events_of_line reading.old line.now) }
     ensures goes_on { OnOk result (is_refused reading.new.stage ≡ false) }
-    ensures refused { IfErr result (λ stop.
-        (stop ≡ DemoStop.Refused reading.new.lines) × (reading.new.stage ≡ Stage.Refused)) }
+    ensures refused { IfErr result (λ stop. OnRefused stop (IsRefusedAt reading.old reading.new line.now)) }
+    ensures memory { IfErr result (λ stop. OnNoMemory stop
+        ((reading.new ≡ reading.old) × IsQuiet reading.old (line_in line.now))) }
+    ensures no_fault { IfErr result (λ stop. OnReadFault stop ⊥) }
     ensures holds { IsReading reading.new }
-    ensures fewer { lines_left reading.new < lines_left reading.old }
+    ensures fewer { OnOk result (lines_left reading.new < lines_left reading.old) }
 {
     let line = line_at(line);
-    reading.take(&line);
+    reading.take(alloc, &line)?;
     if reading.stage() == Stage::Refused {
         return Err(DemoStop::Refused {
             line: reading.lines(),
@@ -70,6 +72,7 @@ fn refused_after(reading: &Reading) -> DemoStop
 
 /// Takes lines up to the first that gives an event.
 fn next_event<S: Source>(
+    alloc: Global,
     lines: &mut LineReader,
     line: &mut LineBuf,
     reading: &mut Reading,
@@ -102,16 +105,23 @@ fn next_event<S: Source>(
     ensures cause { IfErr result (λ stop. OnReadFault stop (HasRisen (S.faults source.old) (S.faults source.new))) }
     ensures sure { S.never_fails source.old → IfErr result (λ stop. OnReadFault stop ⊥) }
 
+    // Want of memory.
+    ensures memory { IfErr result (λ stop. OnNoMemory stop (ReadsQuietly reading.old
+        (ahead lines.old (S.left source.old)) (ahead lines.new (S.left source.new)))) }
+    ensures memory_end { IfErr result (λ stop. OnNoMemory stop (S.ended source.new ≡ S.ended source.old)) }
+
     ensures holds { IsReading reading.new }
+    ensures map { OnOk result (KeepsMap reading.old reading.new) }
     ensures later { S.faults source.old ≤ S.faults source.new }
     ensures uncounted { OnOk result (S.faults source.new ≡ S.faults source.old) }
     ensures uncounted_refusal { IfErr result (λ stop. OnRefused stop (λ _. S.faults source.new ≡ S.faults source.old)) }
+    ensures uncounted_memory { IfErr result (λ stop. OnNoMemory stop (S.faults source.new ≡ S.faults source.old)) }
     ensures keeps { S.never_fails source.old → S.never_fails source.new }
 {
     loop {
         match lines.next_line(source, line) {
             Ok(NextLine::Whole) => {
-                if let Some(event) = take_line(reading, line.as_slice())? {
+                if let Some(event) = take_line(alloc, reading, line.as_slice())? {
                     return Ok(event);
                 }
             }
@@ -123,12 +133,12 @@ fn next_event<S: Source>(
 }
 
 impl DemoReader {
-    ghost use Rattle.std.specs.Prelude.{◌≡◌, ◌≤◌, ◌<◌, true, [], ◌∷◌, Ok, Err, None, Some, IfOk, IfErr, OnOk, OnErr, IfSome, option_copied};
+    ghost use Rattle.std.specs.Prelude.{◌≡◌, ◌≤◌, ◌<◌, true, [], ◌∷◌, Ok, Err, None, Some, IfOk, IfErr, OnOk, OnErr, IfSome};
     ghost use Rattle.edge_io.specs.Counts.{HasRisen};
     ghost use Rattle.edge_io.specs.Lines.{ahead, HasNotReadAhead};
-    ghost use Rattle.demo_lines.specs.Recording.{lines_left};
+    ghost use Rattle.demo_lines.specs.Recording.{lines_left, is_map_whole};
     ghost use Rattle.demo_lines.specs.Readings.{IsReading};
-    ghost use Rattle.demo_lines.specs.Reads.{fresh_reader, IsOpen, Reads, ReadsFront, Refuses, EndsAt, OnRefused, OnReadFault, stage_after};
+    ghost use Rattle.demo_lines.specs.Reads.{fresh_reader, map_taken, IsOpen, Reads, ReadsFront, ReadsQuietly, Refuses, EndsAt, KeepsMap, OnRefused, OnReadFault, OnNoMemory, stage_after};
 
     /// A reader that has read nothing.
     pub fn new(alloc: Global) -> Result<DemoReader, AllocError>
@@ -137,25 +147,30 @@ impl DemoReader {
         Ok(DemoReader {
             lines: LineReader::new(alloc)?,
             line: LineBuf::new(alloc)?,
-            reading: Reading::new(alloc)?,
+            reading: Reading::new(),
             stop: None,
         })
     }
 
-    /// The map of the lines so far, once the reader has given an event.
-    pub fn map(&self) -> Option<&ArenaMap>
-        ensures value { option_copied result ≡ self.now.reading.map }
-        ensures holds { IsReading self.now.reading }
+    /// Gives the map, once. `None` exactly where it was taken before. It is to be called after [`next`](Self::next) has
+    /// given an event, and nothing that is read later needs the map.
+    pub fn take_map(&mut self) -> Option<ArenaMap>
+        requires holds { IsReading self.old.reading }
+        requires given { is_map_whole self.old.reading.stage ≡ true }
+        ensures map { result ≡ self.old.reading.map }
+        ensures rest { self.new ≡ map_taken self.old }
+        ensures holds { IsReading self.new.reading }
     {
-        self.reading.map()
+        self.reading.take_map()
     }
 
     /// Reads up to the next event. The reader is to be used with one source alone.
     ///
     /// After [`Event::End`] each later call gives it again, and after a stop each later call gives the stop again;
     /// neither reads anything. [`DemoStop::ReadFault`] first comes only where the source's count of faults rose, and
-    /// the count rises nowhere else. No more is read than is needed for the event or the refusal.
-    pub fn next<S: Source>(&mut self, source: &mut S) -> Result<Event, DemoStop>
+    /// the count rises nowhere else. No more is read than is needed for the event or the refusal. Memory is taken for
+    /// the map alone.
+    pub fn next<S: Source>(&mut self, alloc: Global, source: &mut S) -> Result<Event, DemoStop>
         // An event.
         ensures event { IsOpen self.old → IfOk result (λ e. Reads self.old.reading self.new.reading
             (ahead self.old.pending (S.left source.old)) (ahead self.new.pending (S.left source.new)) (e ∷ [])) }
@@ -182,14 +197,21 @@ impl DemoReader {
             (HasRisen (S.faults source.old) (S.faults source.new))) }
         ensures sure { IsOpen self.old → S.never_fails source.old → IfErr result (λ stop. OnReadFault stop ⊥) }
 
+        // Want of memory.
+        ensures memory { IsOpen self.old → IfErr result (λ stop. OnNoMemory stop (ReadsQuietly self.old.reading
+            (ahead self.old.pending (S.left source.old)) (ahead self.new.pending (S.left source.new)))) }
+        ensures memory_end { IfErr result (λ stop. OnNoMemory stop (S.ended source.new ≡ S.ended source.old)) }
+
         // The source's count of faults.
         ensures later { S.faults source.old ≤ S.faults source.new }
         ensures uncounted { OnOk result (S.faults source.new ≡ S.faults source.old) }
         ensures uncounted_refusal { IfErr result (λ stop. OnRefused stop (λ _.
             S.faults source.new ≡ S.faults source.old)) }
+        ensures uncounted_memory { IfErr result (λ stop. OnNoMemory stop (S.faults source.new ≡ S.faults source.old)) }
         ensures keeps { S.never_fails source.old → S.never_fails source.new }
 
         // What the reader keeps.
+        ensures map { OnOk result (KeepsMap self.old.reading self.new.reading) }
         ensures ok { OnOk result (self.new.stop ≡ None) }
         ensures err { IfErr result (λ stop. self.new.stop ≡ Some stop) }
         ensures stopped { IfSome self.old.stop (λ stop.
@@ -204,7 +226,13 @@ impl DemoReader {
         if self.reading.stage() == Stage::Ended {
             return Ok(Event::End);
         }
-        let result = next_event(&mut self.lines, &mut self.line, &mut self.reading, source);
+        let result = next_event(
+            alloc,
+            &mut self.lines,
+            &mut self.line,
+            &mut self.reading,
+            source,
+        );
         self.stop = result.as_ref().err().copied();
         result
     }

@@ -1,3 +1,7 @@
+ghost use Rattle.std.specs.Prelude.{◌≡◌};
+ghost use Rattle.demo_lines.specs.declared.demo_stop.DemoStop.TheVariants.{NoMemory};
+
+use std::alloc::AllocError;
 use thiserror::Error;
 
 /// Why a recording isn't read further.
@@ -9,4 +13,15 @@ pub enum DemoStop {
     /// The source failed.
     #[error("the recording could not be read")]
     ReadFault,
+    /// There was no memory left for the map.
+    #[error("out of memory")]
+    NoMemory,
+}
+
+impl From<AllocError> for DemoStop {
+    ghost from_gives = { λ _ stop. stop ≡ NoMemory };
+
+    fn from(_error: AllocError) -> DemoStop {
+        DemoStop::NoMemory
+    }
 }

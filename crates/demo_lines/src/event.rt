@@ -1,4 +1,4 @@
-use crate::arrival::Arrival;
+use client_ports::Arrival;
 
 /// What a line of a recording gives the server.
 #[derive(Drop)]

@@ -1,4 +1,4 @@
-ghost use Rattle.demo_lines.specs.Laws.{LimitsAreKnown, PacketReadsBack, NothingAfterTheEnd, NothingAfterARefusal, LinesReadBack, LinesAreBounded, PacketsHaveRoom, RecordingsReadBack, SmallRecording};
+ghost use Rattle.demo_lines.specs.Laws.{LimitsAreKnown, PacketReadsBack, NothingAfterTheEnd, NothingAfterARefusal, NothingNeedsTheMap, LinesReadBack, LinesAreBounded, PacketsHaveRoom, RecordingsReadBack, SmallRecording};
 
 /// The constants of this crate have the values that they say.
 pub fn limits_are_known()
@@ -18,6 +18,11 @@ pub fn nothing_after_the_end()
 /// The rest of the input after a refused line gives no event, and the fault stays at that line.
 pub fn nothing_after_a_refusal()
     ensures { NothingAfterARefusal }
+{}
+
+/// From the first frame on, the lines are read as well after the map was given out.
+pub fn nothing_needs_the_map()
+    ensures { NothingNeedsTheMap }
 {}
 
 /// A line is read back from its text exactly where it can be written: its coordinates are near enough, or its packet
@@ -43,7 +48,7 @@ pub fn small_recording_can_be_written()
     ensures { SmallRecording }
 {}
 
-/// A recording has at most 51,301,027 lines up to its end or its refused line, and some have so many.
+/// A recording has at most 51,301,090 lines up to its end or its refused line, and some have so many.
 pub fn lines_are_bounded()
     ensures { LinesAreBounded }
 {}

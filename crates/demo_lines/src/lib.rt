@@ -1,31 +1,26 @@
 //! Recordings: an arena, and the packets that reached it frame by frame, as lines of text.
 #![tactic(auto)]
 
-pub use arrival::{Arrival, ArrivalBytes, MOST_BYTES};
-pub use blocks::{Blocks, MOST_BLOCKS};
 pub use demo_reader::DemoReader;
 pub use demo_stop::DemoStop;
 pub use event::Event;
 pub use laws::{
     limits_are_known, lines_are_bounded, lines_read_back, nothing_after_a_refusal,
-    nothing_after_the_end, packet_reads_back, packets_have_room, recordings_read_back,
-    small_recording_can_be_written,
+    nothing_after_the_end, nothing_needs_the_map, packet_reads_back, packets_have_room,
+    recordings_read_back, small_recording_can_be_written,
 };
 pub use line::{FARTHEST, Line};
-pub use map::{ArenaMap, LEAST_SIDE};
 pub use reading::{MOST_ARRIVALS, MOST_FRAMES};
 pub use stage::Stage;
 
-mod arrival;
-mod blocks;
 mod demo_reader;
 mod demo_stop;
 mod event;
 mod fields;
 mod laws;
 mod line;
-mod map;
 mod number;
+mod packet;
 mod reading;
 mod stage;
 #[cfg(test)]

@@ -4,10 +4,12 @@ ghost use Rattle.arena_geo.specs.Vectors.{IsNear};
 ghost use Rattle.edge_io.specs.Numbers.{natural_up_to};
 ghost use Rattle.demo_lines.specs.Readings.{IsPlaced};
 
-use crate::arrival::{Arrival, ArrivalBytes};
 use crate::fields::{cut, field_at};
 use crate::number::{integer, natural};
+use crate::packet::packet_of;
 use arena_geo::Vec3;
+use arena_map::MapLine;
+use client_ports::Arrival;
 use edge_io::LONGEST;
 
 /// The greatest distance of a coordinate on a line from 0, in sub-units.
@@ -16,12 +18,8 @@ pub const FARTHEST: u32 = 1_048_576;
 /// What one line of a recording says.
 #[derive(Drop)]
 pub enum Line {
-    /// The arena's low corner and its high one, in sub-units.
-    Arena { lo: Vec3, hi: Vec3 },
-    /// Players join with their origin here, in sub-units.
-    Spawn { at: Vec3 },
-    /// A block's low corner and its high one, in sub-units.
-    Block { lo: Vec3, hi: Vec3 },
+    /// A line of the map.
+    OfMap(MapLine),
     /// A frame begins.
     Frame,
     /// A packet reached the server in this frame.
@@ -65,7 +63,7 @@ fn arena_of(rest: &[u8]) -> Option<Line>
 {
     let (lo, rest) = point_at(rest)?;
     let (hi, rest) = point_at(rest)?;
-    alone(Line::Arena { lo, hi }, rest)
+    alone(Line::OfMap(MapLine::Arena { lo, hi }), rest)
 }
 
 /// Where players join.
@@ -74,7 +72,7 @@ fn spawn_of(rest: &[u8]) -> Option<Line>
     ensures placed { IsPlaced result }
 {
     let (at, rest) = point_at(rest)?;
-    alone(Line::Spawn { at }, rest)
+    alone(Line::OfMap(MapLine::Spawn { at }), rest)
 }
 
 /// The corners of a block.
@@ -84,7 +82,7 @@ fn block_of(rest: &[u8]) -> Option<Line>
 {
     let (lo, rest) = point_at(rest)?;
     let (hi, rest) = point_at(rest)?;
-    alone(Line::Block { lo, hi }, rest)
+    alone(Line::OfMap(MapLine::Block { lo, hi }), rest)
 }
 
 /// A port is 0 to 65,535.
@@ -103,7 +101,7 @@ fn from_of(rest: &[u8]) -> Option<Line>
     let (port, rest) = field_at(rest)?;
     let port = port_of(port)?;
     let (text, rest) = field_at(rest)?;
-    let bytes = ArrivalBytes::from_hex(text)?;
+    let bytes = packet_of(text)?;
     alone(Line::From(Arrival { port, bytes }), rest)
 }
 

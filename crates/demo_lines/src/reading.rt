@@ -1,14 +1,15 @@
-ghost use Rattle.std.specs.Prelude.{◌≡◌, ◌<◌, ◌^◌, false, IfOk, option_copied, option_to_list, if◌then◌else◌};
-ghost use Rattle.arena_geo.specs.Vectors.{IsNear};
+ghost use Rattle.std.specs.Prelude.{◌≡◌, ◌<◌, ◌^◌, true, false, Some, None, is_some, IfOk, OnOk, OnErr, option_to_list, if◌then◌else◌};
+ghost use Rattle.arena_map.specs.MapLines as map_lines;
+ghost use Rattle.arena_map.specs.MapLines.{IsWithinLimits};
+ghost use Rattle.arena_map.specs.Rules.{begun_map, with_line};
 ghost use Rattle.demo_lines.specs.Recording as recording;
 ghost use Rattle.demo_lines.specs.Readings.{IsReading, IsPlaced};
+ghost use Rattle.demo_lines.specs.Reads.{IsQuiet};
 
-use crate::blocks::Blocks;
 use crate::event::Event;
-use crate::line::{FARTHEST, Line};
-use crate::map::{ArenaMap, arena_between};
+use crate::line::Line;
 use crate::stage::Stage;
-use arena_geo::Vec3;
+use arena_map::{ArenaMap, MapLine, MapRefusal};
 use std::alloc::{AllocError, Global};
 use std::marker::Model;
 
@@ -23,10 +24,8 @@ pub const MOST_ARRIVALS: u32 = 512;
 pub struct Reading {
     /// How far the lines have come.
     stage: Stage,
-    /// The map, once the arena's line was read.
+    /// The map, from the arena's line on, until it is given out.
     map: Option<ArenaMap>,
-    /// Room for the blocks, until the arena's line gives it to the map.
-    room: Option<Blocks>,
     /// How many frames were opened, at most [`MOST_FRAMES`].
     frames: u32,
     /// How many packets the open frame has so far, at most [`MOST_ARRIVALS`].
@@ -37,7 +36,6 @@ pub struct Reading {
 
 impl Model for Reading {
     ghost use Rattle.demo_lines.specs.Recording as recording;
-    ghost use Rattle.demo_lines.specs.Readings.{HasRoom};
 
     ghost Value = { recording.Reading };
 
@@ -48,24 +46,71 @@ impl Model for Reading {
       arrivals = r.arrivals;
       lines = r.lines;
     } };
+}
 
-    ghost invariant = { λ r. HasRoom r.map r.room };
+/// Whether the line is the arena's.
+fn is_arena(line: &MapLine) -> bool
+    ensures { result ≡ map_lines.is_arena line.now }
+{
+    matches!(line, MapLine::Arena { .. })
+}
+
+/// Whether the line may be added to a map: it is of a kind in force, and not the arena's.
+fn is_added(line: &MapLine) -> bool
+    ensures { result ≡ map_lines.is_added line.now }
+{
+    matches!(line, MapLine::Block { .. } | MapLine::Spawn { .. })
+}
+
+/// The map that a line begins. `None` exactly where it isn't the arena's or breaks a rule.
+fn begin(alloc: Global, line: &MapLine) -> Result<Option<ArenaMap>, AllocError>
+    requires { IsWithinLimits line.now }
+    ensures map { IfOk result (λ map. map ≡ (if recording.is_first_allowed line.now then begun_map line.now else None)) }
+    ensures there { IfOk result (λ map. is_some map ≡ recording.is_first_allowed line.now) }
+    ensures quiet { OnErr result (recording.is_first_allowed line.now ≡ true) }
+{
+    if !is_arena(line) {
+        return Ok(None);
+    }
+    match ArenaMap::new(alloc, line) {
+        Ok(map) => Ok(Some(map)),
+        Err(MapRefusal::Rule(_)) => Ok(None),
+        Err(MapRefusal::NoMemory) => Err(AllocError),
+    }
+}
+
+/// Adds a line to a map, and answers whether it was added. It isn't where it can't be or breaks a rule; the map is then
+/// unchanged.
+fn add_line(map: &mut ArenaMap, line: &MapLine) -> Result<bool, AllocError>
+    requires { IsWithinLimits line.now }
+    ensures added { IfOk result (λ added. added ≡ recording.is_line_allowed (Some map.old) line.now) }
+    ensures map { IfOk result (λ added. map.new ≡ (if added then with_line map.old line.now else map.old)) }
+    ensures unchanged { OnErr result (map.new ≡ map.old) }
+    ensures quiet { OnErr result (recording.is_line_allowed (Some map.old) line.now ≡ true) }
+{
+    if !is_added(line) {
+        return Ok(false);
+    }
+    match map.add(line) {
+        Ok(()) => Ok(true),
+        Err(MapRefusal::Rule(_)) => Ok(false),
+        Err(MapRefusal::NoMemory) => Err(AllocError),
+    }
 }
 
 impl Reading {
-    /// Before the first line, with room for all blocks.
-    pub fn new(alloc: Global) -> Result<Reading, AllocError>
-        ensures value { IfOk result (λ reading. reading ≡ recording.start) }
-        ensures holds { IfOk result IsReading }
+    /// Before the first line.
+    pub fn new() -> Reading
+        ensures value { result ≡ recording.start }
+        ensures holds { IsReading result }
     {
-        Ok(Reading {
+        Reading {
             stage: Stage::Start,
             map: None,
-            room: Some(Blocks::new(alloc)?),
             frames: 0,
             arrivals: 0,
             lines: 0,
-        })
+        }
     }
 
     /// How far the lines have come.
@@ -82,21 +127,22 @@ impl Reading {
         self.lines
     }
 
-    /// The map, once the arena's line was read.
-    pub fn map(&self) -> Option<&ArenaMap>
-        ensures { option_copied result ≡ self.now.map }
+    /// Gives out the map.
+    pub fn take_map(&mut self) -> Option<ArenaMap>
+        requires reading { IsReading self.old }
+        requires whole { recording.is_map_whole self.old.stage ≡ true }
+        ensures map { result ≡ self.old.map }
+        ensures rest { self.new ≡ recording.without_map self.old }
+        ensures holds { IsReading self.new }
     {
-        self.map.as_ref()
+        self.map.take()
     }
 
     /// Whether the map has a spawn.
     fn has_spawn(&self) -> bool
         ensures { result ≡ recording.has_spawn self.now.map }
     {
-        match &self.map {
-            Some(map) => map.spawn.is_some(),
-            None => false,
-        }
+        self.map.as_ref().is_some_and(|map| map.ready())
     }
 
     /// One more line, after which the recording is at this stage.
@@ -106,14 +152,6 @@ impl Reading {
     {
         self.stage = stage;
         self.lines += 1;
-    }
-
-    /// One more line of the map, which was taken or not.
-    fn go_on(&mut self, is_taken: bool)
-        requires { self.old.lines < 2 ^ 63 }
-        ensures { self.new ≡ recording.at_stage (if is_taken then Stage.Map else Stage.Refused) self.old }
-    {
-        self.go_to(if is_taken { Stage::Map } else { Stage::Refused });
     }
 
     /// One more line, which opens a frame.
@@ -137,99 +175,88 @@ impl Reading {
         self.go_to(Stage::Playing);
     }
 
-    /// One more line, which has the arena. It is refused where a side is too short.
-    fn take_arena(&mut self, lo: Vec3, hi: Vec3)
+    /// One more line, which begins the map. It is refused where it isn't the arena's or breaks a rule.
+    fn take_first(&mut self, alloc: Global, line: &MapLine) -> Result<(), AllocError>
         requires reading { IsReading self.old }
         requires here { self.old.stage ≡ Stage.Start }
-        requires lo { IsNear FARTHEST lo }
-        requires hi { IsNear FARTHEST hi }
-        ensures next { self.new ≡ recording.after_arena self.old lo hi }
+        requires limits { IsWithinLimits line.now }
+        ensures next { OnOk result (self.new ≡ recording.after_first self.old line.now) }
+        ensures unchanged { OnErr result (self.new ≡ self.old) }
+        ensures quiet { OnErr result (recording.is_first_allowed line.now ≡ true) }
         ensures holds { IsReading self.new }
-        ensures fewer { recording.lines_left self.new < recording.lines_left self.old }
+        ensures fewer { OnOk result (recording.lines_left self.new < recording.lines_left self.old) }
     {
-        let Some(bounds) = arena_between(lo, hi) else {
-            self.go_to(Stage::Refused);
-            return;
-        };
-        self.map = self.room.take().map(|blocks| ArenaMap {
-            bounds,
-            spawn: None,
-            blocks,
-        });
-        self.go_to(Stage::Map);
+        match begin(alloc, line)? {
+            Some(map) => {
+                self.map = Some(map);
+                self.go_to(Stage::Map);
+            }
+            None => self.go_to(Stage::Refused),
+        }
+        Ok(())
     }
 
-    /// One more line, which has the spawn. It is refused where the map doesn't allow it.
-    fn take_spawn(&mut self, at: Vec3)
+    /// One more line, which is added to the map. It is refused where it can't be added or breaks a rule.
+    fn take_map_line(&mut self, line: &MapLine) -> Result<(), AllocError>
         requires reading { IsReading self.old }
         requires here { self.old.stage ≡ Stage.Map }
-        requires near { IsNear FARTHEST at }
-        ensures next { self.new ≡ recording.after_spawn self.old at }
+        requires limits { IsWithinLimits line.now }
+        ensures next { OnOk result (self.new ≡ recording.after_map_line self.old line.now) }
+        ensures unchanged { OnErr result (self.new ≡ self.old) }
+        ensures quiet { OnErr result (recording.is_line_allowed self.old.map line.now ≡ true) }
         ensures holds { IsReading self.new }
-        ensures fewer { recording.lines_left self.new < recording.lines_left self.old }
+        ensures fewer { OnOk result (recording.lines_left self.new < recording.lines_left self.old) }
     {
-        let is_taken = match &mut self.map {
-            Some(map) => map.take_spawn(at),
+        let is_added = match &mut self.map {
+            Some(map) => add_line(map, line)?,
             None => false,
         };
-        self.go_on(is_taken);
+        self.go_to(if is_added { Stage::Map } else { Stage::Refused });
+        Ok(())
     }
 
-    /// One more line, which has a block. It is refused where the map doesn't allow it.
-    fn take_block(&mut self, lo: Vec3, hi: Vec3)
-        requires reading { IsReading self.old }
-        requires here { self.old.stage ≡ Stage.Map }
-        requires lo { IsNear FARTHEST lo }
-        requires hi { IsNear FARTHEST hi }
-        ensures next { self.new ≡ recording.after_block self.old lo hi }
-        ensures holds { IsReading self.new }
-        ensures fewer { recording.lines_left self.new < recording.lines_left self.old }
-    {
-        let is_taken = match &mut self.map {
-            Some(map) => map.take_block(lo, hi),
-            None => false,
-        };
-        self.go_on(is_taken);
-    }
-
-    /// The first line: only the arena is taken.
-    fn at_start(&mut self, line: &Option<Line>)
+    /// The first line: only the arena's is taken.
+    fn at_start(&mut self, alloc: Global, line: &Option<Line>) -> Result<(), AllocError>
         requires reading { IsReading self.old }
         requires here { self.old.stage ≡ Stage.Start }
         requires placed { IsPlaced line.now }
-        ensures next { self.new ≡ recording.at_start self.old line.now }
+        ensures next { OnOk result (self.new ≡ recording.at_start self.old line.now) }
+        ensures unchanged { OnErr result (self.new ≡ self.old) }
+        ensures quiet { OnErr result (IsQuiet self.old line.now) }
         ensures holds { IsReading self.new }
-        ensures fewer { recording.lines_left self.new < recording.lines_left self.old }
+        ensures fewer { OnOk result (recording.lines_left self.new < recording.lines_left self.old) }
     {
         match line {
-            Some(Line::Arena { lo, hi }) => self.take_arena(*lo, *hi),
+            Some(Line::OfMap(line)) => self.take_first(alloc, line)?,
             _ => self.go_to(Stage::Refused),
         }
+        Ok(())
     }
 
-    /// One more line after the arena: one spawn is taken, blocks, a frame once there is a spawn, or the end.
-    fn at_map(&mut self, line: &Option<Line>)
+    /// One more line after the arena's: another line of the map, a frame once there is a spawn, or the end.
+    fn at_map(&mut self, line: &Option<Line>) -> Result<(), AllocError>
         requires reading { IsReading self.old }
         requires here { self.old.stage ≡ Stage.Map }
         requires placed { IsPlaced line.now }
-        ensures next { self.new ≡ recording.at_map self.old line.now }
+        ensures next { OnOk result (self.new ≡ recording.at_map self.old line.now) }
+        ensures unchanged { OnErr result (self.new ≡ self.old) }
+        ensures quiet { OnErr result (IsQuiet self.old line.now) }
         ensures holds { IsReading self.new }
-        ensures fewer { recording.lines_left self.new < recording.lines_left self.old }
+        ensures fewer { OnOk result (recording.lines_left self.new < recording.lines_left self.old) }
     {
         match line {
-            Some(Line::Spawn { at }) => self.take_spawn(*at),
-            Some(Line::Block { lo, hi }) => self.take_block(*lo, *hi),
+            Some(Line::OfMap(line)) => self.take_map_line(line)?,
             Some(Line::Frame) if self.has_spawn() => self.open_frame(),
             Some(Line::End) => self.go_to(Stage::Ended),
             _ => self.go_to(Stage::Refused),
         }
+        Ok(())
     }
 
     /// One more line in a frame: the next frame, a packet of this one, or the end.
     fn at_play(&mut self, line: &Option<Line>)
         requires reading { IsReading self.old }
         requires here { self.old.stage ≡ Stage.Playing }
-        requires placed { IsPlaced line.now }
         ensures next { self.new ≡ recording.at_play self.old line.now }
         ensures holds { IsReading self.new }
         ensures fewer { recording.lines_left self.new < recording.lines_left self.old }
@@ -242,21 +269,25 @@ impl Reading {
         }
     }
 
-    /// Takes one more line, which says this. Nothing changes after the end or a refused line.
-    pub fn take(&mut self, line: &Option<Line>)
+    /// Takes one more line, which says this. Nothing changes after the end or a refused line, nor where memory is
+    /// refused, which comes only at a line of the map that would be taken.
+    pub fn take(&mut self, alloc: Global, line: &Option<Line>) -> Result<(), AllocError>
         requires reading { IsReading self.old }
         requires placed { IsPlaced line.now }
-        ensures next { self.new ≡ recording.reading_after self.old.stage self.old line.now }
+        ensures next { OnOk result (self.new ≡ recording.reading_after self.old.stage self.old line.now) }
+        ensures unchanged { OnErr result (self.new ≡ self.old) }
+        ensures quiet { OnErr result (IsQuiet self.old line.now) }
         ensures holds { IsReading self.new }
         ensures fewer { recording.is_over self.old.stage ≡ false →
-            recording.lines_left self.new < recording.lines_left self.old }
+            OnOk result (recording.lines_left self.new < recording.lines_left self.old) }
     {
         match self.stage {
-            Stage::Start => self.at_start(line),
-            Stage::Map => self.at_map(line),
+            Stage::Start => self.at_start(alloc, line)?,
+            Stage::Map => self.at_map(line)?,
             Stage::Playing => self.at_play(line),
             Stage::Ended | Stage::Refused => (),
         }
+        Ok(())
     }
 }
 
@@ -268,6 +299,6 @@ pub fn event_of(line: Option<Line>) -> Option<Event>
         Line::Frame => Some(Event::Frame),
         Line::From(arrival) => Some(Event::From(arrival)),
         Line::End => Some(Event::End),
-        Line::Arena { .. } | Line::Spawn { .. } | Line::Block { .. } => None,
+        Line::OfMap(_) => None,
     }
 }

@@ -1,5 +1,6 @@
 use super::*;
 use arena_geo::{Aabb, Vec3};
+use arena_map::ArenaMap;
 use edge_io::MemSource;
 use std::alloc::Global;
 use std::process::Abort;
@@ -54,9 +55,15 @@ fn between(lo: (i32, i32, i32), hi: (i32, i32, i32)) -> Option<Aabb> {
 }
 
 /// Reads `source` to these answers.
-fn expect(rt: &impl Abort, demo: &mut DemoReader, source: &mut MemSource<'_>, want: &[Answer<'_>]) {
+fn expect(
+    rt: &impl Abort,
+    alloc: Global,
+    demo: &mut DemoReader,
+    source: &mut MemSource<'_>,
+    want: &[Answer<'_>],
+) {
     for (place, answer) in want.iter().enumerate() {
-        let given = demo.next(source);
+        let given = demo.next(alloc, source);
         assert!(rt; is_answer(given, *answer), "answer {place}");
     }
 }
@@ -83,22 +90,25 @@ fn expect_recording(
     text.extend_from_slice(rest)?;
     let mut demo = DemoReader::new(alloc)?;
     let mut source = MemSource::new(text.as_slice(), 7, &[]);
-    expect(rt, &mut demo, &mut source, want);
-    expect(rt, &mut demo, &mut source, &[last, last]);
+    expect(rt, alloc, &mut demo, &mut source, want);
+    expect(rt, alloc, &mut demo, &mut source, &[last, last]);
     Ok(())
 }
 
-/// A copy of the map that a recording has before its first event.
-fn copied_map(alloc: Global, text: &[u8]) -> Result<ArenaMap, Fail> {
+/// The map that a recording has before its first event, which is given once.
+fn taken_map(rt: &impl Abort, alloc: Global, text: &[u8]) -> Result<ArenaMap, Fail> {
     let mut demo = DemoReader::new(alloc)?;
     let mut source = MemSource::new(text, 8_192, &[]);
-    let _ = demo.next(&mut source);
-    let map = demo.map().ok_or("no map")?.clone()?;
+    if demo.next(alloc, &mut source).is_err() {
+        return Err(Fail::from("no event"));
+    }
+    let map = demo.take_map().ok_or("no map")?;
+    assert!(rt; demo.take_map().is_none());
     Ok(map)
 }
 
 fn expect_blocks(rt: &impl Abort, map: &ArenaMap, want: &[Option<Aabb>]) {
-    let blocks = map.blocks.as_slice();
+    let blocks = &map.solids()[6..];
     assert_eq!(rt; blocks.len(), want.len());
     for (block, want) in blocks.iter().zip(want) {
         assert_eq!(rt; Some(*block), *want);
@@ -110,7 +120,7 @@ fn recordings_give_their_events_to_the_end(rt: HostRuntime) -> Result<(), Fail> 
     let rows: [(&[&[u8]], &[u8], &[Answer<'_>]); 10] = [
         (&[ARENA], b"end\n", &[]),
         (&[ARENA], b"end\nfrob\nframe", &[]),
-        (&[ARENA, SPAWN], b"end\n", &[]),
+        (&[ARENA, SPAWN, SPAWN], b"end\n", &[]),
         (&[ARENA], b"spawn 126976 -126976 57344\nend\n", &[]),
         (&[ARENA, SPAWN], b"frame\nend\n", &[Frame]),
         (
@@ -194,7 +204,7 @@ fn a_player_at_the_spawn_is_inside_the_arena(rt: HostRuntime) -> Result<(), Fail
         b" frame\n",
         b"\n",
         b"from 7 0101\n",
-        b"spawn 0 0 6144\nend\n",
+        b"spawn 0 0 6143\nend\n",
     ];
     for rest in after_the_spawn {
         expect_recording(&rt, rt.alloc(), &[ARENA, SPAWN], rest, &[], refused(3))?;
@@ -349,7 +359,7 @@ fn expect_faults(
     text.extend_from_slice(rest)?;
     let mut demo = DemoReader::new(alloc)?;
     let mut source = MemSource::new(text.as_slice(), 1, fails);
-    expect(rt, &mut demo, &mut source, want);
+    expect(rt, alloc, &mut demo, &mut source, want);
     Ok(())
 }
 
@@ -378,42 +388,37 @@ fn a_fault_that_comes_later_changes_nothing(rt: HostRuntime) -> Result<(), Fail>
 }
 
 #[test]
-fn a_recording_gives_its_map(rt: HostRuntime) -> Result<(), Fail> {
-    let lines = [ARENA, BLOCK, SPAWN, b"block 0 0 0 1 2 3\n", FRAME];
+fn a_recording_gives_its_map_once(rt: HostRuntime) -> Result<(), Fail> {
+    let lines = [
+        ARENA,
+        BLOCK,
+        SPAWN,
+        b"block 0 0 0 1 2 3\n",
+        b"spawn 1 2 6145\n",
+        FRAME,
+    ];
     let text = text_of(rt.alloc(), &lines)?;
-    let map = copied_map(rt.alloc(), text.as_slice())?;
+    let map = taken_map(&rt, rt.alloc(), text.as_slice())?;
     let arena = between((-131_072, -131_072, 0), (131_072, 131_072, 65_536));
     let blocks = [
         between((-131_072, -131_072, 0), (-131_071, 0, 1)),
         between((0, 0, 0), (1, 2, 3)),
     ];
-    assert_eq!(rt; Some(map.bounds), arena);
-    assert_eq!(rt; map.spawn, Some(point((0, 0, 6_144))));
+    let spawns = [point((0, 0, 6_144)), point((1, 2, 6_145))];
+    assert_eq!(rt; Some(*map.bounds()), arena);
+    assert_eq!(rt; map.spawns(), spawns.as_slice());
     expect_blocks(&rt, &map, &blocks);
     Ok(())
 }
 
 #[test]
-fn a_map_with_all_blocks_is_copied(rt: HostRuntime) -> Result<(), Fail> {
-    let mut text = text_of(rt.alloc(), &[ARENA])?;
-    for _ in 0..1024 {
-        text.extend_from_slice(BLOCK)?;
+fn a_map_has_at_most_64_spawns(rt: HostRuntime) -> Result<(), Fail> {
+    let mut front = Vec::new(rt.alloc());
+    front.push(ARENA)?;
+    for _ in 0..64 {
+        front.push(SPAWN)?;
     }
-    let map = copied_map(rt.alloc(), text.as_slice())?;
-    let block = between((-131_072, -131_072, 0), (-131_071, 0, 1));
-    expect_blocks(&rt, &map, &[block; 1024]);
-    Ok(())
-}
-
-#[test]
-fn a_packet_is_full_at_252_bytes(rt: HostRuntime) {
-    let mut bytes = ArrivalBytes::new();
-    for count in 0..252 {
-        assert_eq!(rt; bytes.as_slice().len(), count);
-        let took = bytes.push(7);
-        assert!(rt; took);
-    }
-    let over = bytes.push(8);
-    assert!(rt; !over);
-    assert_eq!(rt; bytes.as_slice(), [7; 252].as_slice());
+    let front = front.as_slice();
+    expect_recording(&rt, rt.alloc(), front, b"frame\nend\n", &[Frame], End)?;
+    expect_recording(&rt, rt.alloc(), front, SPAWN, &[], refused(66))
 }

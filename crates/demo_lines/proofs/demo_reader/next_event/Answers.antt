@@ -1,6 +1,8 @@
 use Rattle.std.proofs.Common.{sym, ◌∙◌, ap, option_to_list}
 use Rattle.std.proofs.lemmas.Result.{err_from_is_err_and}
-use Rattle.demo_lines.proofs.Walks.{walk_event, walk_on, walk_refused, walk_taken, stage_after-line, goes_on-quiet}
+use Rattle.demo_lines.proofs.Walks.{walk_event, walk_on, walk_refused_at, walk_taken_at, walk_quiet, on_refused, on_no_memory, no_read_fault, at_refused, at_no_memory, whole_after, stage_after-line, goes_on-quiet}
+use Rattle.demo_lines.specs.Recording.{is_map_whole}
+use Rattle.demo_lines.proofs.MapGiven.{so_far-line, keeps_map}
 use Rattle.demo_lines.proofs.Consuming.{Refuses-long, Refuses-end, refused_by_length, refused_by_end, ReadsFront-drained}
 use Rattle.edge_io.proofs.ReadingAhead.{HasNotReadAhead-trans}
 use Rattle.demo_lines.proofs.demo_reader.next_event.Goals as goal
@@ -9,21 +11,21 @@ pub returns-in_err-event-in-Ok-Whole-clause-refused : goal.returns-in_err-event-
 returns-in_err-event-in-Ok-Whole-clause-refused g c =
     let gives = rw c.in-Ok-Whole.field-0-is at c.in-Ok-Whole.ensures.whole in
     let line = rw (← c.as_slice.ensures.value) at gives in
-    let stop = c.in_err-event-in-Ok-Whole.ensures.refused in
     let p = err_from_is_err_and c.from_residual.result c.from_residual.ensures.1 in
-    rw (p.1, p.2, stop.0) (walk_refused _ _ _ _ _ _ c.as_slice.result.now c.loop-reading.invariant.walks line c.take_line.ensures.next stop.1)
+    rw (p.1, p.2)
+    (on_refused _ _ _ (λ n at. walk_refused_at _ _ _ _ _ _ c.as_slice.result.now n c.loop-reading.invariant.walks line at) c.in_err-event-in-Ok-Whole.ensures.refused)
 
 pub returns-in-Some-clause-event : goal.returns-in-Some-clause-event
 returns-in-Some-clause-event g c =
     let gives = rw c.in-Ok-Whole.field-0-is at c.in-Ok-Whole.ensures.whole in
     let line = rw (← c.as_slice.ensures.value) at gives in
     let given = sym c.in_ok-event-in-Ok-Whole.ensures.event ∙ ap option_to_list c.in-Some.is in
-    walk_event _ c.loop-reading.reading _ _ _ _ c.as_slice.result.now c.in-Some.event c.loop-reading.invariant.walks line c.take_line.ensures.next given
+    walk_event _ c.loop-reading.reading _ _ _ _ c.as_slice.result.now c.in-Some.event c.loop-reading.invariant.walks line c.in_ok-event-in-Ok-Whole.ensures.next given
 
 pub returns-in-Some-clause-stage : goal.returns-in-Some-clause-stage
 returns-in-Some-clause-stage g c =
     let given = sym c.in_ok-event-in-Ok-Whole.ensures.event ∙ ap option_to_list c.in-Some.is in
-    stage_after-line c.loop-reading.reading c.take_line.new.reading c.as_slice.result.now c.in-Some.event c.take_line.ensures.next given
+    stage_after-line c.loop-reading.reading c.take_line.new.reading c.as_slice.result.now c.in-Some.event c.in_ok-event-in-Ok-Whole.ensures.next given
 
 pub returns-in-Ok-Long-clause-refused : goal.returns-in-Ok-Long-clause-refused
 returns-in-Ok-Long-clause-refused g c =
@@ -49,11 +51,20 @@ returns-in_err-event-in-Ok-Whole-clause-taken g c =
     let line = rw (← c.as_slice.ensures.value) at gives in
     let needed = rw c.in-Ok-Whole.field-0-is at c.in-Ok-Whole.ensures.needed in
     let before_end = rw c.in-Ok-Whole.field-0-is at c.in-Ok-Whole.ensures.before_end in
-    let stop = c.in_err-event-in-Ok-Whole.ensures.refused in
     let p = err_from_is_err_and c.from_residual.result c.from_residual.ensures.1 in
-    rw (p.1, p.2, stop.0)
-    (walk_taken _ _ _ _ _ _ c.as_slice.result.now _ _ inv.walks line c.take_line.ensures.next stop.1
+    rw (p.1, p.2)
+    (on_refused _ _ _
+    (λ n at. walk_taken_at _ _ _ _ _ _ c.as_slice.result.now n _ _ inv.walks line at
     (HasNotReadAhead-trans g.S.Source.last _ _ _ _ _ _ inv.needed needed, before_end ∙ inv.before_end))
+    c.in_err-event-in-Ok-Whole.ensures.refused)
+
+pub returns-in_err-event-in-Ok-Whole-clause-memory : goal.returns-in_err-event-in-Ok-Whole-clause-memory
+returns-in_err-event-in-Ok-Whole-clause-memory g c =
+    let gives = rw c.in-Ok-Whole.field-0-is at c.in-Ok-Whole.ensures.whole in
+    let line = rw (← c.as_slice.ensures.value) at gives in
+    let p = err_from_is_err_and c.from_residual.result c.from_residual.ensures.1 in
+    rw (p.1, p.2)
+    (on_no_memory _ _ _ (λ quiet. walk_quiet _ _ _ _ _ c.as_slice.result.now c.loop-reading.invariant.walks line quiet.1) c.in_err-event-in-Ok-Whole.ensures.memory)
 
 pub loop-reading-preserved : goal.loop-reading-preserved
 loop-reading-preserved g c =
@@ -63,9 +74,11 @@ loop-reading-preserved g c =
     let needed = rw c.in-Ok-Whole.field-0-is at c.in-Ok-Whole.ensures.needed in
     let before_end = rw c.in-Ok-Whole.field-0-is at c.in-Ok-Whole.ensures.before_end in
     let given = sym c.in_ok-event-in-Ok-Whole.ensures.event ∙ ap option_to_list c.in_default.is in
-    let going = goes_on-quiet c.loop-reading.reading c.take_line.new.reading c.as_slice.result.now inv.walks.going c.take_line.ensures.next given c.in_ok-event-in-Ok-Whole.ensures.goes_on in
+    let going = goes_on-quiet c.loop-reading.reading c.take_line.new.reading c.as_slice.result.now inv.walks.going c.in_ok-event-in-Ok-Whole.ensures.next given c.in_ok-event-in-Ok-Whole.ensures.goes_on in
     record {
-      walks = walk_on _ c.loop-reading.reading _ _ _ _ c.as_slice.result.now inv.walks line c.take_line.ensures.next given c.take_line.ensures.holds going c.take_line.ensures.fewer;
+      map = so_far-line _ c.loop-reading.reading c.take_line.new.reading c.as_slice.result.now inv.map inv.walks.holds c.in_ok-event-in-Ok-Whole.ensures.next
+          c.in_ok-event-in-Ok-Whole.ensures.goes_on;
+      walks = walk_on _ c.loop-reading.reading _ _ _ _ c.as_slice.result.now inv.walks line c.in_ok-event-in-Ok-Whole.ensures.next given c.take_line.ensures.holds going c.in_ok-event-in-Ok-Whole.ensures.fewer;
       needed = HasNotReadAhead-trans g.S.Source.last _ _ _ _ _ _ inv.needed needed;
       before_end = before_end ∙ inv.before_end;
       uncounted = c.in-Ok-Whole.ensures.uncounted ∙ inv.uncounted;
@@ -89,3 +102,13 @@ returns-in-Ok-Ended-clause-taken g c =
     let at_end = rw c.in-Ok-Ended.field-0-is at c.in-Ok-Ended.ensures.at_end in
     rw c.refused_after-in-Ok-Ended.ensures
     (Refuses-end _ c.loop-reading.reading _ _ _ c.next_line.new.line _ _ _ inv.walks.reads inv.walks.going gives at_end)
+
+pub returns-in-Some-clause-map : goal.returns-in-Some-clause-map
+returns-in-Some-clause-map g c =
+    let inv = c.loop-reading.invariant in
+    let given = sym c.in_ok-event-in-Ok-Whole.ensures.event ∙ ap option_to_list c.in-Some.is in
+    let stage = stage_after-line c.loop-reading.reading c.take_line.new.reading c.as_slice.result.now c.in-Some.event c.in_ok-event-in-Ok-Whole.ensures.next given in
+    keeps_map _ c.take_line.new.reading
+    (so_far-line _ c.loop-reading.reading c.take_line.new.reading c.as_slice.result.now inv.map inv.walks.holds c.in_ok-event-in-Ok-Whole.ensures.next
+    c.in_ok-event-in-Ok-Whole.ensures.goes_on)
+    (ap is_map_whole stage ∙ whole_after c.in-Some.event)

@@ -2,12 +2,14 @@ use Rattle.std.proofs.Common.{◌≡◌}
 use Rattle.edge_io.specs.Lines.{ahead, HasNotReadAhead}
 use Rattle.demo_lines.specs.Recording.{lines_left}
 use Rattle.demo_lines.proofs.Walks.{Walks}
+use Rattle.demo_lines.proofs.MapGiven.{MapSoFar}
 use Rattle.demo_lines.proofs.demo_reader.next_event.Given as goal
 
 -- the lines so far gave no event, and no more was read than they needed
 abbrev pub invariant-loop-reading : goal.invariant-loop-reading
 invariant-loop-reading g l = record {
   walks : Walks l.fn.reading l.reading (ahead l.fn.lines (g.S.Source.left l.fn.source)) (ahead l.lines (g.S.Source.left l.source));
+  map : MapSoFar l.fn.reading l.reading;
   needed : HasNotReadAhead l.fn.source l.source (g.S.Source.last l.source) l.fn.lines l.lines;
   before_end : g.S.Source.ended l.source ≡ g.S.Source.ended l.fn.source;
   uncounted : g.S.Source.faults l.source ≡ g.S.Source.faults l.fn.source;

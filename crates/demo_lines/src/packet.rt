@@ -1,0 +1,34 @@
+ghost use Rattle.std.specs.Prelude.{◌≡◌, ◌+◌, ◌*◌, ◌<◌, ◌≤◌, length};
+ghost use Rattle.demo_lines.specs.Packets.{packet_bytes};
+
+use client_ports::{ArrivalBytes, MOST_BYTES};
+
+/// The same bytes as a packet.
+fn arrival_bytes(bytes: &[u8]) -> ArrivalBytes
+    requires { length bytes.now ≤ MOST_BYTES }
+    ensures { result ≡ bytes.now }
+{
+    let mut packet = ArrivalBytes::new();
+    for byte in bytes {
+        let _ = packet.push(*byte);
+    }
+    packet
+}
+
+/// The packet that hexadecimal digits of either case spell, two a byte, or `-` for no byte. `None` exactly where the
+/// text spells none.
+pub fn packet_of(text: &[u8]) -> Option<ArrivalBytes>
+    requires { length text.now < 2 * MOST_BYTES + 2 }
+    ensures { result ≡ packet_bytes text.now }
+{
+    if text == b"-".as_slice() {
+        return Some(ArrivalBytes::new());
+    }
+    if text.is_empty() {
+        return None;
+    }
+    let len = text.len() / 2;
+    let mut bytes = [0; MOST_BYTES];
+    hex::decode_to_slice(text, &mut bytes[..len]).ok()?;
+    Some(arrival_bytes(&bytes[..len]))
+}

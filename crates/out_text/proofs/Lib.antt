@@ -1,0 +1,14 @@
+-- Lemmas on the lines of the output, on runs of frames, and on the frames of recordings.
+pub mod Writing
+pub mod Players
+pub mod Quiet
+pub mod Spellings
+pub mod Runs
+pub mod ReadBack
+pub mod Reporting
+pub mod Growing
+pub mod Agreement
+pub mod Fewness
+pub mod Arrivals
+pub mod Fronts
+pub mod Outputs

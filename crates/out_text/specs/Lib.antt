@@ -1,0 +1,26 @@
+-- The definitions of the output: its lines, the text of frames, and the journals that are read off a text.
+pub use Rattle.edge_io.specs.Fields
+pub use Rattle.edge_io.specs.Numbers
+pub use Rattle.edge_io.specs.WholeLines
+pub use Rattle.entity_recs.specs.Commands
+pub use Rattle.entity_recs.specs.Worlds
+pub use Rattle.entity_recs.specs.Histories
+pub use Rattle.move_journal.specs.Merges
+pub use Rattle.arena_map.specs.Maps
+pub use Rattle.world_tree.specs.Live
+pub use Rattle.client_ports.specs.States
+pub use Rattle.client_ports.specs.Lists
+pub use Rattle.client_ports.specs.Receiving
+pub use Rattle.plain_server.specs.RecordsById
+pub use Rattle.plain_server.specs.Frames
+pub use Rattle.demo_lines.specs.Bytes
+pub use Rattle.demo_lines.specs.Spelling
+pub use Rattle.snapshot_write.specs.Snapshots
+pub mod Entries
+pub mod OutLines
+pub mod FrameLines
+pub mod Printing
+pub mod Journals
+pub mod Collecting
+pub mod Output
+pub mod Laws

@@ -1,0 +1,17 @@
+ghost use Rattle.out_text.specs.Laws.{DidLinesAreRead, FrameLinesAreRead, WrittenRecordingsHaveOutputs, OneWorkerHasOneOutput};
+
+/// The journals are read off exactly the lines that are printed: no other line opens a frame or reports a move.
+pub fn only_printed_lines_are_read()
+    ensures dids { DidLinesAreRead }
+    ensures frames { FrameLinesAreRead }
+{}
+
+/// Each recording that can be written has an output, with any number of workers.
+pub fn written_recordings_have_outputs()
+    ensures { WrittenRecordingsHaveOutputs }
+{}
+
+/// With one worker a recording has at most one output.
+pub fn one_worker_has_one_output()
+    ensures { OneWorkerHasOneOutput }
+{}

@@ -1,0 +1,13 @@
+//! The output: its lines, the text of a frame, and what a text says of the moves that were done.
+#![tactic(auto)]
+
+pub use laws::{
+    one_worker_has_one_output, only_printed_lines_are_read, written_recordings_have_outputs,
+};
+pub use out_line::{OutLine, Printed};
+pub use text::{push_frame_lines, push_line};
+
+mod laws;
+mod names;
+mod out_line;
+mod text;

@@ -1,0 +1,5 @@
+-- Lemmas on snapshots.
+pub mod Appending
+pub mod Views
+pub mod Seen
+pub mod Written
