@@ -49,7 +49,7 @@ fn opening_world(alloc: Global, map: &ArenaMap) -> Result<World, AllocError>
 }
 
 impl Server {
-    ghost use Rattle.std.specs.Prelude.{◌≡◌, ◌<◌, ◌≤◌, length, map as map_list, IfOk};
+    ghost use Rattle.std.specs.Prelude.{◌≡◌, ◌<◌, ◌≤◌, length, map as map_list, IfOk, OnOk};
     ghost use Rattle.move_journal.specs.Entries.{entry_value};
     ghost use Rattle.move_journal.specs.Merges.{IsInOrder};
     ghost use Rattle.client_ports.specs.Receiving.{received};
@@ -60,7 +60,8 @@ impl Server {
 
     /// A server of this map before the first frame. It takes all memory that the server ever needs.
     pub fn new(alloc: Global, map: ArenaMap) -> Result<Server, AllocError>
-        ensures { IfOk result (λ server. server ≡ new_server map) }
+        ensures server { IfOk result (λ server. server ≡ new_server map) }
+        ensures rules { OnOk result (IsMap map) }
     {
         let world = opening_world(alloc, &map)?;
         let shown = opening_world(alloc, &map)?;
