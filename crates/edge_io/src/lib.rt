@@ -3,7 +3,7 @@
 
 pub use failed::Failed;
 pub use field::{cut, field_at};
-pub use laws::{integer_is_decimal, limits_are_known, natural_is_decimal};
+pub use laws::{integer_is_decimal, integers_have_form, limits_are_known, natural_is_decimal};
 pub use line_buf::{LineBuf, ROOM};
 pub use line_reader::{LONGEST, LineReader, NextLine};
 pub use mem_sink::MemSink;
