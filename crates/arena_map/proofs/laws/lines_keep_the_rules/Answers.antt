@@ -1,0 +1,5 @@
+use Rattle.arena_map.proofs.Keeping.{begun-is_map, with_line-is_map}
+use Rattle.arena_map.proofs.laws.lines_keep_the_rules.Goals as goal
+
+pub returns : goal.returns
+returns c = record { begun = begun-is_map; added = with_line-is_map }
