@@ -7,3 +7,5 @@ pub mod Kept
 pub mod ThingRecords
 pub mod Lifts
 pub mod ThingsFound
+pub mod LinesSound
+pub mod LinesBack
