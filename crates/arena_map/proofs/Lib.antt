@@ -9,3 +9,4 @@ pub mod Lifts
 pub mod ThingsFound
 pub mod LinesSound
 pub mod LinesBack
+pub mod Opening
