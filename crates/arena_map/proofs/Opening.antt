@@ -19,23 +19,15 @@ use Rattle.arena_map.specs.declared.map_line.MapLine.TheVariants.{Arena, Block, 
 use Rattle.arena_map.specs.MapLines.{is_item, is_thing_line}
 use Rattle.arena_map.specs.Things.{record_of, records_from, lift_data}
 use Rattle.arena_map.specs.Maps.{MapView, entities_of, thing_of, lift_of, IsThingInside, IsMap}
-use Rattle.arena_map.specs.Validity.{IsSameThing, IsSameLift, IsAsItsLine, IsThing, IsValidRecord, IsValidWorld}
-use Rattle.arena_map.specs.Laws.{IsOpeningWorld, OpeningWorldIsValid}
+use Rattle.arena_map.specs.Validity.{IsSameThing, IsSameLift, IsAsItsLine, IsThing, IsValidRecord, IsOpeningWorld, IsValidWorld}
+use Rattle.arena_map.specs.Laws.{OpeningWorldIsValid}
 use Rattle.arena_map.proofs.Kept.{each-of, few_things}
-use Rattle.arena_map.proofs.ThingRecords.{thing-is_record}
+use Rattle.arena_map.proofs.ThingRecords.{own-id, thing-is_record}
 
 -- ---- the thing with an id
 
 eqb-from : (m n : ℕ) → (m == n) ≡ true → m ≡ n
 eqb-from m n h = grind (arith, nat_tests)
-
--- the record of a thing has its id
-own-id : (id : ℕ) (line : MapLine) → is_thing_line line ≡ true → (record_of id line).id ≡ id
-own-id id (Item at kind delay) thing = refl
-own-id id (Teleport lo hi dest) thing = refl
-own-id id (Goal lo hi) thing = refl
-own-id id (Lift lo hi rise speed) thing = refl
-own-id id line thing = cc
 
 -- the thing that was found by its id: its line, the place of it, and its record
 pub record IsFound (arena : Bounds) (first : ℕ) (things : List MapLine) (id : ℕ) (thing : Rec) : Type 0 where
@@ -166,3 +158,11 @@ opening-is_valid map records is opening = record {
       let P : Option Rec → Type 0 = IsThing map (find (λ t. t.id == id) (entities_of map)) in
       subst P (sym (opening id)) (things-at-start map id (find (λ t. t.id == id) (entities_of map)) is refl);
 }
+
+-- no slot of a player is the id of a thing
+pub no-thing-below : (map : MapView) (slot : ℕ) → IsMap map → slot < 64 → find (λ t. t.id == slot) (entities_of map) ≡ None
+no-thing-below map slot is below = by (find (λ t. t.id == slot) (entities_of map)) refl
+  where
+    by : (o : Option Rec) → find (λ t. t.id == slot) (entities_of map) ≡ o → o ≡ None
+    by None h = refl
+    by (Some thing) h = let found = found-in map slot thing is h in absurd (omega (arith, below, found.low))

@@ -1,5 +1,5 @@
 -- What holds of all maps and their lines.
-use Rattle.std.specs.Prelude.{◌≡◌, ◌↔◌, ℕ, ◌==◌, true, List, Option, Some, None, Ok, ◌+ℤ◌, ◌≤ℤ◌, pos, slice_index_or}
+use Rattle.std.specs.Prelude.{◌≡◌, ◌↔◌, ℕ, ◌==◌, true, List, Option, Some, None, Ok}
 use Rattle.std.specs.List.{find}
 use Rattle.arena_geo.specs.declared.vec3.Vec3.{Vec3}
 use Rattle.arena_geo.specs.Vectors.{IsNear}
@@ -15,7 +15,7 @@ use Rattle.arena_map.specs.Reading.{map_line_of}
 use Rattle.arena_map.specs.Spelling.{map_line_text}
 use Rattle.arena_map.specs.Maps.{MapView, IsMap, solids_of, entities_of, lift_of}
 use Rattle.arena_map.specs.Rules.{bare_map, broken_by_arena, broken_rule, with_line}
-use Rattle.arena_map.specs.Validity.{IsSameLift, IsValidWorld}
+use Rattle.arena_map.specs.Validity.{IsSameLift, IsOpeningWorld, IsValidWorld}
 
 -- an arena that breaks no rule begins a map that keeps them, and a line that breaks none leaves such a map
 pub record LinesKeepTheRules : Type 0 where
@@ -30,11 +30,7 @@ SolidsHaveWalls = (map : MapView) → HaveWalls map.bounds (solids_of map)
 abbrev pub MapLinesReadBack : Type 0
 MapLinesReadBack = (text : List ℕ) (line : MapLine) → (map_line_of text ≡ Ok line) ↔ ((text ≡ map_line_text line) × IsWithinLimits line)
 
--- the world in which the things of the map are live, each at its id and as at the start, and nothing else is
-abbrev pub IsOpeningWorld : MapView → List (Option Rec) → Type 0
-IsOpeningWorld map records = (id : ℕ) → slice_index_or records id None ≡ find (λ thing. thing.id == id) (entities_of map)
-
--- that world is valid
+-- the opening world of a map is valid
 abbrev pub OpeningWorldIsValid : Type 0
 OpeningWorldIsValid = (map : MapView) (records : List (Option Rec)) → IsMap map → IsOpeningWorld map records → IsValidWorld map records
 

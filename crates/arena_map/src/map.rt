@@ -1,4 +1,5 @@
-ghost use Rattle.std.specs.Prelude.{◌≡◌, ◌↔◌, ◌+◌, ◌≤◌, ◌<◌, [], ◌∷◌, ◌++◌, length, count_by, Option, Some, None, Err, true, All, IfOk, IfSome, OnOk, OnErr};
+ghost use Rattle.std.specs.Prelude.{◌≡◌, ◌↔◌, ◌+◌, ◌≤◌, ◌<◌, [], ◌∷◌, ◌++◌, length, count_by, map, nat_eq, Option, Some, None, Err, true, All, IfOk, IfSome, OnOk, OnErr};
+ghost use Rattle.std.specs.List.{IsDistinct};
 ghost use Rattle.arena_geo.specs.Vectors.{IsNear};
 ghost use Rattle.arena_geo.specs.Bounds.{bounds};
 ghost use Rattle.entity_recs.specs.Records.{IsRecord};
@@ -291,6 +292,7 @@ impl ArenaMap {
         ensures value { result.now ≡ entities_of self.now }
         ensures few { length result.now ≤ 192 }
         ensures records { All IsRecord result.now }
+        ensures apart { IsDistinct nat_eq (map (λ r. r.id) result.now) }
         ensures rules { IsMap self.now }
     {
         self.entities.as_slice()
