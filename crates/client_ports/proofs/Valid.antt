@@ -12,9 +12,9 @@ use Rattle.world_tree.specs.Live.{record_at}
 use Rattle.client_ports.specs.declared.client.Client.{Client}
 use Rattle.std.proofs.lemmas.List.{get_or-replicate}
 use Rattle.client_ports.specs.Clients.{no_clients, new_client}
-use Rattle.client_ports.specs.States.{newcomer, state_of, with_newcomer, IsState}
+use Rattle.client_ports.specs.States.{newcomer, state_of, with_newcomer, IsState, IsServerState}
 use Rattle.client_ports.proofs.Live.{live-written}
-use Rattle.client_ports.proofs.Slots.{read-set}
+use Rattle.client_ports.proofs.Slots.{no_clients-are_ports, read-set}
 
 -- what is written in a slot changes no thing of the map
 things-kept : (map : MapView) (records : List (Option Rec)) (slot : ℕ) (place : Option Rec) → slot < 64 → IsValidWorld map records
@@ -87,3 +87,7 @@ opening-fits map records is opening = record {
   live = record { same = λ slot below. ap is_some (get_or-replicate 64 slot None None below) ∙ sym (ap is_some (opening slot ∙ no-thing-below map slot is below)) };
   valid = opening-is_valid map records is opening;
 }
+
+-- and is a server's
+pub opening-is_server : (map : MapView) (records : List (Option Rec)) → IsMap map → length records ≡ 256 → IsOpeningWorld map records → IsServerState map (state_of no_clients records)
+opening-is_server map records is places opening = record { clients = no_clients-are_ports.clients_are; places = places; fits = opening-fits map records is opening }
