@@ -16,7 +16,7 @@ use Rattle.client_ports.specs.declared.client.Client.{Client}
 use Rattle.client_ports.specs.Clients.{no_clients, client_at, AreClients}
 use Rattle.client_ports.specs.States.{State, state_of, IsServerState}
 use Rattle.client_ports.specs.Finishing.{is_leaver, finished}
-use Rattle.client_ports.specs.Receiving.{Receiving, received}
+use Rattle.client_ports.specs.Receiving.{received}
 
 -- ---- the packets of a frame, counted
 
