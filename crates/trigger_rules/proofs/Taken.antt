@@ -12,12 +12,14 @@ use Rattle.arena_geo.specs.Bounds.{Bounds}
 use Rattle.arena_geo.specs.Boxes.{is_blocked}
 use Rattle.entity_recs.specs.declared.bodies.TheConstants.{PLAYER_MINS, PLAYER_MAXS}
 use Rattle.entity_recs.specs.declared.effect.NewState.{NewState}
+use Rattle.entity_recs.specs.declared.kind.Kind.{Kind}
+use Rattle.entity_recs.specs.declared.kind.Kind.TheVariants.{Player, Ammo, Gem, Teleporter, Goal, Lift}
 use Rattle.entity_recs.specs.declared.rec.Rec.{Rec}
 use Rattle.entity_recs.specs.Records.{HasCorners}
 use Rattle.entity_recs.specs.Bodies.{body_of, abs_of, player_body, standing}
-use Rattle.arena_map.specs.Maps.{MapView}
+use Rattle.arena_map.specs.Maps.{MapView, dest_of}
 use Rattle.item_rules.specs.Items.{after_item}
-use Rattle.trigger_rules.specs.Touching.{is_touched, touched_by, solids_among, Walk, walk_of, first_walk, new_state, scored, leapt, after_trigger, touched}
+use Rattle.trigger_rules.specs.Touching.{is_touched, touched_by, solids_among, Walk, walk_of, first_walk, new_state, scored, leapt, after_teleporter, after_kind, after_trigger, touched}
 use Rattle.trigger_rules.specs.Laws.{HasFewThings, ThingsStayFew, IsTaken, ids_of, AreTaken, ItemsWereThere, GotIdsRise, ScoresNeverFall, HasLeapt, LeapsAreFree, IsInPlace, OnlyLeapsMove, IsSamePlayer, PlayersStayThemselves, OnlyTouchedMatters}
 use Rattle.trigger_rules.proofs.Steps.{IsTake, IsLeap, Step, step, IsItemsChange, item-change, was-there, few-with, walk-keeps, walk-keeps-in}
 
@@ -140,10 +142,41 @@ only_leaps map frame me near on = (placed map frame me near).stays on
 
 -- ---- what touches
 
+-- a record changes the same where the ways that matter are the same
+trigger-same : (map : MapView) (solids others : List Bounds) (frame : ℕ) (w : Walk) (r : Rec)
+    → ((dest : Vec3) → r.kind ≡ Teleporter → dest_of map r.id ≡ Some dest → is_blocked (player_body dest) solids ≡ is_blocked (player_body dest) others)
+    → after_trigger map solids frame w r ≡ after_trigger map others frame w r
+trigger-same map solids others frame w r ways = by w.ended
+  where
+    teleport : (dest : Option Vec3) → ((d : Vec3) → dest ≡ Some d → is_blocked (player_body d) solids ≡ is_blocked (player_body d) others) → after_teleporter dest solids w ≡ after_teleporter dest others w
+    teleport None same = refl
+    teleport (Some d) same = ap (λ (b : Bool). if b then w else walk_of (leapt w.me d) w.states w.got true) (same d refl)
+
+    kinds : (k : Kind) → r.kind ≡ k → after_kind k map solids frame w r ≡ after_kind k map others frame w r
+    kinds Player e = refl
+    kinds Ammo e = refl
+    kinds Gem e = refl
+    kinds Teleporter e = teleport (dest_of map r.id) (λ d is. ways d e is)
+    kinds Goal e = refl
+    kinds Lift e = refl
+
+    by : (ended : Bool) → (if ended then w else after_kind r.kind map solids frame w r) ≡ (if ended then w else after_kind r.kind map others frame w r)
+    by true = refl
+    by false = kinds r.kind refl
+
+walk-same : (f g : Walk → Rec → Walk) (Q : Rec → Type 0) (w : Walk) (rs : List Rec) → ((v : Walk) (r : Rec) → Q r → f v r ≡ g v r) → AllByRecursion Q rs → fold f w rs ≡ fold g w rs
+walk-same f g Q w [] same all = refl
+walk-same f g Q w (r ∷ rs) same all = ap (λ (v : Walk). fold f v rs) (same w r all.0) ∙ walk-same f g Q (g w r) rs same all.1
+
 pub only_touched : OnlyTouchedMatters
 unfolding touched
-only_touched map frame me near others same solids =
-    ap (λ (s : List Bounds). fold (after_trigger map s frame) (first_walk me) (touched_by me near)) solids ∙ ap (fold (after_trigger map (solids_among map others) frame) (first_walk me)) same
+only_touched map frame me near others same ways =
+    let rs = touched_by me near in
+    let f = after_trigger map (solids_among map near) frame in
+    let g = after_trigger map (solids_among map others) frame in
+    walk-same f g (Contains rs) (first_walk me) rs (λ v r listed. trigger-same map (solids_among map near) (solids_among map others) frame v r (λ dest kind is. ways r dest listed kind is))
+    (recursion_from_All (Contains rs) rs (All-contains_itself rs))
+    ∙ ap (fold g (first_walk me)) same
 
 -- ---- what was taken
 

@@ -33,17 +33,6 @@ unfolding solids_among
 blocked-among map near body =
     list_any-append (overlaps body) (solids_of map) (bodies_of_solids near) ∙ ap (λ b. is_blocked body (solids_of map) || b) (any-of-solids body near)
 
--- a teleporter is passed over
-pub passed : (o : Option Vec3) (dest : Vec3) (solids : List Bounds) (w : Walk) → o ≡ Some dest → is_blocked (player_body dest) solids ≡ true → w ≡ after_teleporter o solids w
-passed o dest solids w is blocked =
-    sym (ap (λ p. after_teleporter p solids w) is ∙ ap (λ b. if b then w else walk_of (leapt w.me dest) w.states w.got true) blocked)
-
--- or moves the player
-pub moved : (o : Option Vec3) (dest : Vec3) (solids : List Bounds) (w : Walk) → o ≡ Some dest → is_blocked (player_body dest) solids ≡ false
-    → walk_of (leapt w.me dest) w.states w.got true ≡ after_teleporter o solids w
-moved o dest solids w is free =
-    sym (ap (λ p. after_teleporter p solids w) is ∙ ap (λ b. if b then w else walk_of (leapt w.me dest) w.states w.got true) free)
-
 -- ---- the loop
 
 -- a walk that has ended stays as it is

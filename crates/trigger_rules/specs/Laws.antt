@@ -1,15 +1,17 @@
 -- What holds of every walk over what a player touches.
 use Rattle.std.specs.Prelude.{◌≡◌, ◌↔◌, ℕ, ◌+◌, ◌≤◌, Bool, true, false, List, map, filter, length, Contains, All, Option, Some}
 use Rattle.std.specs.List.Sorted.{IsStrictlyIncreasing}
+use Rattle.arena_geo.specs.declared.vec3.Vec3.{Vec3}
 use Rattle.arena_geo.specs.Vectors.{zero_vector}
 use Rattle.arena_geo.specs.Boxes.{is_blocked}
 use Rattle.entity_recs.specs.declared.bodies.TheConstants.{PLAYER_MINS, PLAYER_MAXS}
 use Rattle.entity_recs.specs.declared.effect.NewState.{NewState}
+use Rattle.entity_recs.specs.declared.kind.Kind.TheVariants.{Teleporter}
 use Rattle.entity_recs.specs.declared.rec.Rec.{Rec}
 use Rattle.entity_recs.specs.Kinds.{is_solid}
 use Rattle.entity_recs.specs.Records.{HasCorners}
-use Rattle.entity_recs.specs.Bodies.{body_of, abs_of}
-use Rattle.arena_map.specs.Maps.{MapView, delay_of}
+use Rattle.entity_recs.specs.Bodies.{body_of, abs_of, player_body}
+use Rattle.arena_map.specs.Maps.{MapView, dest_of, delay_of}
 use Rattle.item_rules.specs.Items.{is_item}
 use Rattle.trigger_rules.specs.Touching.{is_touched, touched_by, solids_among, touched}
 
@@ -89,7 +91,12 @@ pub record IsSamePlayer (before after : Rec) : Type 0 where
 abbrev pub PlayersStayThemselves : Type 0
 PlayersStayThemselves = (arena : MapView) (frame : ℕ) (me : Rec) (near : List Rec) → IsSamePlayer me (touched arena frame me near).me
 
--- records that the player doesn't touch change nothing, unless they are solids
+-- the destination of each teleporter that a player touches is free among these records exactly where it is among the others
+abbrev pub HaveSameWays : MapView → Rec → List Rec → List Rec → Type 0
+HaveSameWays arena me near others = (r : Rec) (dest : Vec3) → Contains (touched_by me near) r → r.kind ≡ Teleporter → dest_of arena r.id ≡ Some dest
+    → is_blocked (player_body dest) (solids_among arena near) ≡ is_blocked (player_body dest) (solids_among arena others)
+
+-- records that the player doesn't touch change nothing, unless they are in the way at the destination of a teleporter that it touches
 abbrev pub OnlyTouchedMatters : Type 0
-OnlyTouchedMatters = (arena : MapView) (frame : ℕ) (me : Rec) (near others : List Rec) → touched_by me near ≡ touched_by me others → solids_among arena near ≡ solids_among arena others
+OnlyTouchedMatters = (arena : MapView) (frame : ℕ) (me : Rec) (near others : List Rec) → touched_by me near ≡ touched_by me others → HaveSameWays arena me near others
     → touched arena frame me near ≡ touched arena frame me others

@@ -45,7 +45,8 @@ pub fn players_stay_themselves()
     ensures { PlayersStayThemselves }
 {}
 
-/// Records that the player doesn't touch change nothing, unless they are solids, which may be in the way of a leap.
+/// Records that the player doesn't touch change nothing, unless they are in the way at the destination of a teleporter that it
+/// touches.
 pub fn only_touched_matters()
     ensures { OnlyTouchedMatters }
 {}

@@ -1,14 +1,15 @@
-ghost use Rattle.std.specs.Prelude.{◌≡◌, ◌&&◌, ℕ, List, [], All, length, false, true};
+ghost use Rattle.std.specs.Prelude.{◌≡◌, ◌&&◌, ℕ, List, [], All, Some, length, false, not, true};
 ghost use Rattle.arena_geo.specs.Vectors.{IsNear};
 ghost use Rattle.std.specs.List.{list_any};
-ghost use Rattle.arena_geo.specs.Boxes.{overlaps, contains};
+ghost use Rattle.arena_geo.specs.Boxes.{overlaps, is_blocked, contains};
 ghost use Rattle.entity_recs.specs.declared.effect.NewState.{NewState};
 ghost use Rattle.entity_recs.specs.declared.kind.Kind.TheVariants.{Player};
 ghost use Rattle.entity_recs.specs.Kinds.{is_solid};
 ghost use Rattle.entity_recs.specs.Records.{IsRecord};
-ghost use Rattle.entity_recs.specs.Bodies.{body_of};
+ghost use Rattle.entity_recs.specs.Bodies.{body_of, player_body};
 ghost use Rattle.item_rules.specs.Items.{is_item};
 ghost use Rattle.arena_map.specs.Maps as maps;
+ghost use Rattle.arena_map.specs.Maps.{IsSpawn};
 ghost use Rattle.trigger_rules.specs.Touching as touching;
 ghost use Rattle.trigger_rules.specs.Touching.{walk_of, solids_among, after_touched_item, after_teleporter, after_trigger};
 
@@ -93,22 +94,29 @@ fn leap(me: &mut Rec, dest: Vec3)
     me.flags |= LEAPT;
 }
 
+/// Whether a player's body at this destination overlaps no wall, no block, and no body of another solid.
+fn is_free(map: &ArenaMap, near: &[Rec], dest: Vec3) -> bool
+    requires near { IsNear 1048576 dest }
+    requires records { All IsRecord near.now }
+    ensures { result ≡ not (is_blocked (player_body dest) (solids_among map.now near.now)) }
+{
+    let body = player_box(dest);
+    !body.is_blocked(map.solids()) && !is_blocked_by_solids(&body, near)
+}
+
 /// A player touches a teleporter: it is moved to the destination, where no solid is in its way. Whether it is.
-fn touch_teleporter(map: &ArenaMap, me: &mut Rec, near: &[Rec], teleporter: &Rec) -> bool
+fn touch_teleporter(map: &ArenaMap, me: &mut Rec, near: &[Rec], dest: Vec3) -> bool
     requires player { me.old.kind ≡ Player }
     requires record { IsRecord me.old }
     requires records { All IsRecord near.now }
+    requires stand { IsSpawn map.now.bounds dest }
     ensures walk { (states : List NewState) (ids : List ℕ) → walk_of me.new states ids result
-        ≡ after_teleporter (maps.dest_of map.now teleporter.now.id) (solids_among map.now near.now) (walk_of me.old states ids false) }
+        ≡ after_teleporter (Some dest) (solids_among map.now near.now) (walk_of me.old states ids false) }
     ensures record { IsRecord me.new }
     ensures kind { me.new.kind ≡ Player }
     ensures inside { contains map.now.bounds (body_of me.old) ≡ true → contains map.now.bounds (body_of me.new) ≡ true }
 {
-    let Some(dest) = map.dest_of(teleporter.id) else {
-        return false;
-    };
-    let body = player_box(dest);
-    if body.is_blocked(map.solids()) || is_blocked_by_solids(&body, near) {
+    if !is_free(map, near, dest) {
         return false;
     }
     leap(me, dest);
@@ -145,7 +153,10 @@ fn touch(
             touch_goal(me);
             false
         }
-        Kind::Teleporter => touch_teleporter(map, me, near, trigger),
+        Kind::Teleporter => match map.dest_of(trigger.id) {
+            Some(dest) => touch_teleporter(map, me, near, dest),
+            None => false,
+        },
         Kind::Player | Kind::Lift => false,
     }
 }
@@ -180,3 +191,6 @@ pub fn touch_all(
         }
     }
 }
+
+#[cfg(test)]
+mod tests;
