@@ -1,2 +1,12 @@
+-- Lemmas on lines, their boxes and the rules of maps.
+pub mod Boxes
+pub mod Counting
+pub mod FieldLists
 pub mod Keeping
 pub mod Kept
+pub mod ThingRecords
+pub mod Lifts
+pub mod ThingsFound
+pub mod LinesSound
+pub mod LinesBack
+pub mod Opening

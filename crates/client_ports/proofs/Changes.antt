@@ -1,10 +1,9 @@
 -- What an answer changes in each slot.
-use Rattle.std.proofs.Common.{◌≡◌, ◌≢◌, ◌⊎◌, ℕ, ◌+◌, ◌<◌, ◌≤◌, ◌==◌, Bool, true, false, if◌then◌else◌, List, length, Option, Some, None, is_some, is_none, IsSome, option_map, Result, Ok, Err, ok_or, slice_index_or, slice_set, sym, refl, ap, ◌∙◌, subst, inl, inr, arith, get_or-set_same, get_or-set_other}
-use Rattle.std.proofs.lemmas.Bool.{cases_eq, cases_lt}
+use Rattle.std.proofs.Common.{◌≡◌, ℕ, ◌<◌, Bool, true, false, if◌then◌else◌, List, length, Option, Some, None, is_none, Ok, Err, ok_or, sym, refl, ◌∙◌, subst, inl, inr, arith}
+use Rattle.std.proofs.lemmas.Bool.{cases_lt}
 use Rattle.std.proofs.lemmas.List.{get_or_past, length-map}
 use Rattle.std.proofs.lemmas.List.Quantifiers.{position-Some}
-use Rattle.std.proofs.lemmas.Option.{none-some, same_Some}
-use Rattle.entity_slots.specs.declared.join_fault.JoinFault.{JoinFault}
+use Rattle.std.proofs.lemmas.Option.{none-some}
 use Rattle.entity_slots.specs.declared.join_fault.JoinFault.TheVariants as fault
 use Rattle.entity_slots.specs.Ports as slots
 use Rattle.entity_slots.specs.Ports.{port_at}
@@ -12,10 +11,9 @@ use Rattle.entity_slots.specs.Places.{free_slot, place_for}
 use Rattle.arena_map.specs.Maps.{MapView}
 use Rattle.client_ports.specs.declared.client.Client.{Client}
 use Rattle.client_ports.specs.declared.client.LiveSlot.{LiveSlot}
-use Rattle.client_ports.specs.declared.refusal.Refusal.{Refusal}
 use Rattle.client_ports.specs.declared.refusal.Refusal.TheVariants as refusal
 use Rattle.client_ports.specs.declared.spawns.Place.{Place}
-use Rattle.client_ports.specs.Clients.{client, client_at, port_of, ports_of, live_with, with_client}
+use Rattle.client_ports.specs.Clients.{client, client_at, port_of, ports_of, live_with}
 use Rattle.client_ports.specs.States.{State}
 use Rattle.client_ports.specs.Answers.{join_answer, leaving, leave_by, leave_answer}
 use Rattle.client_ports.proofs.Facts.{same_Ok, got, live_at-found}

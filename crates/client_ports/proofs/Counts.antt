@@ -1,6 +1,5 @@
 -- The packets of a frame, counted by their answers.
-use Rattle.std.proofs.Common.{◌≡◌, ◌⊎◌, ℕ, zero, suc, ◌+◌, ◌<◌, Bool, true, false, cond, List, [], ◌∷◌, ◌++◌, length, Option, Some, None, slice_set, sym, refl, ap, ◌∙◌, subst, inl, inr, arith}
-use Rattle.std.specs.List.{count_by}
+use Rattle.std.proofs.Common.{◌≡◌, ◌⊎◌, ℕ, ◌+◌, ◌<◌, Bool, true, false, cond, List, [], ◌∷◌, length, Option, Some, None, slice_set, refl, ap, ◌∙◌, inl, inr, arith}
 use Rattle.std.proofs.lemmas.List.{length_push}
 use Rattle.std.proofs.lemmas.List.Sums.{sum_by-set}
 use Rattle.packet_read.specs.Reading.{reading}
@@ -8,7 +7,7 @@ use Rattle.arena_map.specs.Maps.{MapView}
 use Rattle.client_ports.specs.declared.arrival.Arrival.{Arrival}
 use Rattle.client_ports.specs.declared.client.Client.{Client}
 use Rattle.client_ports.specs.declared.client.LiveSlot.{LiveSlot}
-use Rattle.client_ports.specs.Clients.{client, client_at, live_slot, new_client, with_client}
+use Rattle.client_ports.specs.Clients.{client_at, live_slot, new_client, with_client}
 use Rattle.client_ports.specs.States.{State}
 use Rattle.client_ports.specs.Lists.{Lists, no_lists}
 use Rattle.client_ports.specs.Finishing.{is_leaver}
@@ -16,7 +15,7 @@ use Rattle.client_ports.specs.Receiving.{Receiving, receiving_of, after_arrival,
 use Rattle.client_ports.specs.Laws.{IsAcceptedMove, IsRefused, IsJoined, IsLeave, IsMove}
 use Rattle.client_ports.specs.Frames.{leaver_count}
 use Rattle.client_ports.proofs.Facts.{move_accepted, one_answer}
-use Rattle.client_ports.proofs.Changes.{live-inside, IsNewcomer, join-newcomer, IsAcceptedLeave, leave_accepted}
+use Rattle.client_ports.proofs.Changes.{live-inside, join-newcomer, IsAcceptedLeave, leave_accepted}
 
 -- ---- leavers
 

@@ -1,30 +1,24 @@
 -- What the packets of a frame and its end keep: ports are apart, the state fits the map, and bodies are clear.
-use Rattle.std.proofs.Common.{◌≡◌, ◌≢◌, ◌⊎◌, ℕ, zero, suc, ◌+◌, ◌<◌, ◌≤◌, Bool, true, false, if◌then◌else◌, List, [], ◌∷◌, length, All, Option, Some, None, is_some, IsSome, Ok, slice_set, int_lt, sym, refl, ap, ◌∙◌, subst, inl, inr, arith}
+use Rattle.std.proofs.Common.{◌≡◌, ◌⊎◌, ℕ, zero, suc, ◌+◌, ◌<◌, ◌≤◌, Bool, true, false, if◌then◌else◌, List, [], ◌∷◌, All, Option, Some, None, Ok, slice_set, int_lt, sym, refl, ap, ◌∙◌, subst, inl, inr, arith}
 use Rattle.std.specs.List.{find}
 use Rattle.std.proofs.Math.Bool.{and_comm}
 use Rattle.std.proofs.lemmas.List.{length-set, set-get_or}
 use Rattle.std.proofs.lemmas.List.Elements.{All-head, All-tail}
 use Rattle.std.proofs.lemmas.Option.{none-some, same_Some}
-use Rattle.arena_geo.specs.declared.vec3.Vec3.{Vec3}
 use Rattle.arena_geo.specs.Bounds.{Bounds}
 use Rattle.arena_geo.specs.Boxes.{overlaps, is_blocked}
-use Rattle.entity_recs.specs.declared.kind.Kind.{Kind}
-use Rattle.entity_recs.specs.declared.kind.Kind.TheVariants.{Player}
 use Rattle.entity_recs.specs.declared.rec.Rec.{Rec}
 use Rattle.entity_recs.specs.Bodies.{body_of}
-use Rattle.entity_recs.specs.Kinds.{is_solid}
 use Rattle.packet_read.specs.Reading.{reading}
 use Rattle.entity_slots.specs.Places.{place_for}
 use Rattle.arena_map.specs.Maps.{MapView, IsMap, IsSpawn, solids_of}
-use Rattle.arena_map.specs.Validity.{IsValidWorld}
 use Rattle.world_tree.specs.Live.{record_at}
-use Rattle.world_tree.specs.Queries.{is_free}
 use Rattle.client_ports.specs.declared.arrival.Arrival.{Arrival}
 use Rattle.client_ports.specs.declared.client.Client.{Client}
 use Rattle.client_ports.specs.declared.client.LiveSlot.{LiveSlot}
 use Rattle.client_ports.specs.declared.spawns.Place.{Place}
-use Rattle.client_ports.specs.Clients.{client, client_at, port_of, ports_of, live_slot, new_client, with_client, AreClients, IsUpdate, IsPlaceFor}
-use Rattle.client_ports.specs.States.{State, state_of, with_newcomer, with_update, newcomer, HaveSameLive, IsState, IsServerState}
+use Rattle.client_ports.specs.Clients.{client, client_at, port_of, ports_of, live_slot, new_client, with_client, AreClients, IsUpdate}
+use Rattle.client_ports.specs.States.{State, state_of, with_newcomer, with_update, newcomer, IsServerState}
 use Rattle.client_ports.specs.Answers.{join_answer}
 use Rattle.client_ports.specs.Finishing.{finished_client, records_after, finished_at, finished_up_to, finished}
 use Rattle.client_ports.specs.Receiving.{Receiving, after_arrival, after_arrivals, received}

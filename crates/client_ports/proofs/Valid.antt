@@ -1,19 +1,20 @@
 -- That a valid world stays valid.
-use Rattle.std.proofs.Common.{◌≡◌, ◌≢◌, ◌⊎◌, ℕ, ◌<◌, ◌≤◌, ◌==◌, true, List, [], length, is_some, Option, Some, None, slice_index_or, slice_set, sym, refl, ap, ◌∙◌, subst, inl, inr, arith, get_or-set_other, unsigned_abs, pos}
+use Rattle.std.proofs.Common.{◌≡◌, ◌≢◌, ℕ, ◌<◌, ◌≤◌, ◌==◌, List, length, is_some, Option, Some, None, slice_set, sym, refl, ap, ◌∙◌, subst, inl, inr, arith, get_or-set_other}
 use Rattle.std.specs.List.{find}
 use Rattle.std.proofs.lemmas.Option.{none-some, same_Some}
 use Rattle.arena_geo.specs.declared.vec3.Vec3.{Vec3}
 use Rattle.entity_recs.specs.declared.rec.Rec.{Rec}
 use Rattle.entity_recs.specs.Records.{IsRecord}
-use Rattle.arena_map.specs.Maps.{MapView, IsSpawn, entities_of}
-use Rattle.arena_map.specs.Validity.{IsThing, IsValidRecord, IsValidWorld}
+use Rattle.arena_map.specs.Maps.{MapView, IsSpawn, IsMap, entities_of}
+use Rattle.arena_map.specs.Validity.{IsThing, IsValidRecord, IsOpeningWorld, IsValidWorld}
+use Rattle.arena_map.proofs.Opening.{no-thing-below, opening-is_valid}
 use Rattle.world_tree.specs.Live.{record_at}
 use Rattle.client_ports.specs.declared.client.Client.{Client}
 use Rattle.std.proofs.lemmas.List.{get_or-replicate}
 use Rattle.client_ports.specs.Clients.{no_clients, new_client}
-use Rattle.client_ports.specs.States.{newcomer, state_of, with_newcomer, IsState}
+use Rattle.client_ports.specs.States.{newcomer, state_of, with_newcomer, IsState, IsServerState}
 use Rattle.client_ports.proofs.Live.{live-written}
-use Rattle.client_ports.proofs.Slots.{read-set}
+use Rattle.client_ports.proofs.Slots.{no_clients-are_ports, read-set}
 
 -- what is written in a slot changes no thing of the map
 things-kept : (map : MapView) (records : List (Option Rec)) (slot : ℕ) (place : Option Rec) → slot < 64 → IsValidWorld map records
@@ -80,12 +81,13 @@ state-joined map clients records port slot at few many below spawn is = record {
   valid = valid-with map records slot (newcomer slot at) below (newcomer-is_valid map slot at below spawn) is.valid;
 }
 
--- the opening state fits a map without things: nobody is joined, and no record is live
-pub opening-fits : (map : MapView) (records : List (Option Rec)) → entities_of map ≡ [] → ((id : ℕ) → record_at records id ≡ None) → IsState map (state_of no_clients records)
-opening-fits map records things none = record {
-  live = record { same = λ slot below. ap is_some (get_or-replicate 64 slot None None below) ∙ sym (ap is_some (none slot)) };
-  valid = record {
-    each = λ id r e. absurd (none-some r (sym (none id) ∙ e));
-    things = λ id thing. subst (λ (r : Option Rec). IsThing map (find (λ thing. thing.id == id) (entities_of map)) r) (sym (none id)) tt;
-  };
+-- the opening state fits the map: nobody is joined, and only the things of the map are live
+pub opening-fits : (map : MapView) (records : List (Option Rec)) → IsMap map → IsOpeningWorld map records → IsState map (state_of no_clients records)
+opening-fits map records is opening = record {
+  live = record { same = λ slot below. ap is_some (get_or-replicate 64 slot None None below) ∙ sym (ap is_some (opening slot ∙ no-thing-below map slot is below)) };
+  valid = opening-is_valid map records is opening;
 }
+
+-- and is a server's
+pub opening-is_server : (map : MapView) (records : List (Option Rec)) → IsMap map → length records ≡ 256 → IsOpeningWorld map records → IsServerState map (state_of no_clients records)
+opening-is_server map records is places opening = record { clients = no_clients-are_ports.clients_are; places = places; fits = opening-fits map records is opening }

@@ -9,13 +9,14 @@ use Rattle.entity_recs.specs.Bodies.{body_of}
 use Rattle.entity_recs.specs.Commands.{Command}
 use Rattle.entity_recs.specs.Kinds.{is_solid}
 use Rattle.arena_map.specs.Maps.{MapView, IsMap, solids_of}
+use Rattle.arena_map.specs.Validity.{IsOpeningWorld}
 use Rattle.world_tree.specs.Live.{record_at}
 use Rattle.client_ports.specs.declared.arrival.Arrival.{Arrival}
 use Rattle.client_ports.specs.declared.client.Client.{Client}
-use Rattle.client_ports.specs.Clients.{client_at, AreClients}
-use Rattle.client_ports.specs.States.{State, IsServerState}
+use Rattle.client_ports.specs.Clients.{no_clients, client_at, AreClients}
+use Rattle.client_ports.specs.States.{State, state_of, IsServerState}
 use Rattle.client_ports.specs.Finishing.{is_leaver, finished}
-use Rattle.client_ports.specs.Receiving.{Receiving, received}
+use Rattle.client_ports.specs.Receiving.{received}
 
 -- ---- the packets of a frame, counted
 
@@ -80,6 +81,10 @@ MoversAreLive = (map : MapView) (frame : ℕ) (state : State) (arrivals : List A
     → let next = received map frame state arrivals in All (λ c. IsSome (client_at next.state.clients c.slot)) next.lists.moves
 
 -- ---- what is kept
+
+-- the state in which a server begins, with nobody joined and only the things of the map live, is a server's
+abbrev pub OpeningIsAServerState : Type 0
+OpeningIsAServerState = (map : MapView) (records : List (Option Rec)) → IsMap map → length records ≡ 256 → IsOpeningWorld map records → IsServerState map (state_of no_clients records)
 
 -- ports stay apart, and moves few, through the packets and the end of a frame
 abbrev pub ClientsStayApart : Type 0

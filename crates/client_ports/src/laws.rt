@@ -12,6 +12,7 @@ ghost use Rattle.client_ports.specs.Frames.{
   PlayersHaveFewMoves,
   NumbersAreApart,
   MoversAreLive,
+  OpeningIsAServerState,
   ClientsStayApart,
   StatesStayValid,
   BodiesStayClear,
@@ -72,6 +73,12 @@ pub fn numbers_are_apart()
 /// The slot of each accepted move is live after the packets of the frame.
 pub fn movers_are_live()
     ensures { MoversAreLive }
+{}
+
+/// The state in which a server begins, with nobody joined and only the things of the map live, is a server's: ports are apart,
+/// the live slots are the live players, and the world is valid.
+pub fn opening_is_a_server_state()
+    ensures { OpeningIsAServerState }
 {}
 
 /// No two live slots share a port after the packets of a frame, nor after its end, where none did before.

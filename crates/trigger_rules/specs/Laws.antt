@@ -1,0 +1,102 @@
+-- What holds of every walk over what a player touches.
+use Rattle.std.specs.Prelude.{◌≡◌, ◌↔◌, ℕ, ◌+◌, ◌≤◌, Bool, true, false, List, map, filter, length, Contains, All, Option, Some}
+use Rattle.std.specs.List.Sorted.{IsStrictlyIncreasing}
+use Rattle.arena_geo.specs.declared.vec3.Vec3.{Vec3}
+use Rattle.arena_geo.specs.Vectors.{zero_vector}
+use Rattle.arena_geo.specs.Boxes.{is_blocked}
+use Rattle.entity_recs.specs.declared.bodies.TheConstants.{PLAYER_MINS, PLAYER_MAXS}
+use Rattle.entity_recs.specs.declared.effect.NewState.{NewState}
+use Rattle.entity_recs.specs.declared.kind.Kind.TheVariants.{Teleporter}
+use Rattle.entity_recs.specs.declared.rec.Rec.{Rec}
+use Rattle.entity_recs.specs.Kinds.{is_solid}
+use Rattle.entity_recs.specs.Records.{HasCorners}
+use Rattle.entity_recs.specs.Bodies.{body_of, abs_of, player_body}
+use Rattle.arena_map.specs.Maps.{MapView, dest_of, delay_of}
+use Rattle.item_rules.specs.Items.{is_item}
+use Rattle.trigger_rules.specs.Touching.{is_touched, touched_by, solids_among, touched}
+
+-- the player has at most 100 of ammunition and carries at most 8 gems
+pub record HasFewThings (me : Rec) : Type 0 where
+  pub ammo : me.ammo ≤ 100
+  pub carry : me.carry ≤ 8
+
+-- nobody's ammunition passes 100, and nobody carries more than 8
+abbrev pub ThingsStayFew : Type 0
+ThingsStayFew = (arena : MapView) (frame : ℕ) (me : Rec) (near : List Rec) → HasFewThings me → HasFewThings (touched arena frame me near).me
+
+-- a new state is that of an item that was there and is touched: the frame plus the item's delay
+pub record IsTaken (arena : MapView) (frame : ℕ) (me : Rec) (near : List Rec) (new : NewState) : Type 0 where
+  pub item : Rec
+  pub listed : Contains near item
+  pub own : item.id ≡ new.id
+  pub kind : is_item item.kind ≡ true
+  pub there : item.state ≡ 0
+  pub is_near : is_touched (abs_of me) item ≡ true
+  pub delay : ℕ
+  pub delay_is : delay_of arena item.id ≡ Some delay
+  pub state : new.state ≡ frame + delay
+
+-- the ids of new states
+abbrev pub ids_of : List NewState → List ℕ
+ids_of states = map (λ s. s.id) states
+
+-- the ids in `got` are those of the new states, each of which is that of an item that was there; they are at most 8
+pub record AreTaken (arena : MapView) (frame : ℕ) (me : Rec) (near : List Rec) (states : List NewState) (got : List ℕ) : Type 0 where
+  pub got_are : got ≡ ids_of states
+  pub each : All (IsTaken arena frame me near) states
+  pub few : length got ≤ 8
+
+-- what a player got was there, and returns after its delay; nothing else changes state
+abbrev pub ItemsWereThere : Type 0
+ItemsWereThere = (arena : MapView) (frame : ℕ) (me : Rec) (near : List Rec) → let w = touched arena frame me near in AreTaken arena frame me near w.states w.got
+
+-- the ids of what it got rise, where those of the records do
+abbrev pub GotIdsRise : Type 0
+GotIdsRise = (arena : MapView) (frame : ℕ) (me : Rec) (near : List Rec) → IsStrictlyIncreasing (map (λ r. r.id) near) → IsStrictlyIncreasing (touched arena frame me near).got
+
+-- no score falls
+abbrev pub ScoresNeverFall : Type 0
+ScoresNeverFall = (arena : MapView) (frame : ℕ) (me : Rec) (near : List Rec) → me.score ≤ 4294967295 → me.score ≤ (touched arena frame me near).me.score
+
+-- a player that a teleporter has moved: its body overlaps no solid, and it is at rest
+pub record HasLeapt (arena : MapView) (near : List Rec) (me : Rec) : Type 0 where
+  pub free : is_blocked (body_of me) (solids_among arena near) ≡ false
+  pub at_rest : me.vel ≡ zero_vector
+
+-- after a leap the body overlaps no solid
+abbrev pub LeapsAreFree : Type 0
+LeapsAreFree = (arena : MapView) (frame : ℕ) (me : Rec) (near : List Rec) → HasCorners PLAYER_MINS PLAYER_MAXS me.mins me.maxs
+    → (touched arena frame me near).ended ≡ true → HasLeapt arena near (touched arena frame me near).me
+
+-- the player is where it was, as fast as it was
+pub record IsInPlace (before after : Rec) : Type 0 where
+  pub origin : after.origin ≡ before.origin
+  pub vel : after.vel ≡ before.vel
+  pub flags : after.flags ≡ before.flags
+
+-- without a leap the player stays where it is
+abbrev pub OnlyLeapsMove : Type 0
+OnlyLeapsMove = (arena : MapView) (frame : ℕ) (me : Rec) (near : List Rec) → (touched arena frame me near).ended ≡ false → IsInPlace me (touched arena frame me near).me
+
+-- the player is the same one, in the same shape
+pub record IsSamePlayer (before after : Rec) : Type 0 where
+  pub id : after.id ≡ before.id
+  pub kind : after.kind ≡ before.kind
+  pub mins : after.mins ≡ before.mins
+  pub maxs : after.maxs ≡ before.maxs
+  pub seq : after.seq ≡ before.seq
+  pub state : after.state ≡ before.state
+
+-- nobody becomes another, or another shape
+abbrev pub PlayersStayThemselves : Type 0
+PlayersStayThemselves = (arena : MapView) (frame : ℕ) (me : Rec) (near : List Rec) → IsSamePlayer me (touched arena frame me near).me
+
+-- the destination of each teleporter that a player touches is free among these records exactly where it is among the others
+abbrev pub HaveSameWays : MapView → Rec → List Rec → List Rec → Type 0
+HaveSameWays arena me near others = (r : Rec) (dest : Vec3) → Contains (touched_by me near) r → r.kind ≡ Teleporter → dest_of arena r.id ≡ Some dest
+    → is_blocked (player_body dest) (solids_among arena near) ≡ is_blocked (player_body dest) (solids_among arena others)
+
+-- records that the player doesn't touch change nothing, unless they are in the way at the destination of a teleporter that it touches
+abbrev pub OnlyTouchedMatters : Type 0
+OnlyTouchedMatters = (arena : MapView) (frame : ℕ) (me : Rec) (near others : List Rec) → touched_by me near ≡ touched_by me others → HaveSameWays arena me near others
+    → touched arena frame me near ≡ touched arena frame me others
