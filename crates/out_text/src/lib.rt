@@ -10,4 +10,6 @@ pub use text::{push_frame_lines, push_line};
 mod laws;
 mod names;
 mod out_line;
+#[cfg(test)]
+mod tests;
 mod text;
