@@ -1,73 +1,69 @@
--- The plain server as a machine over the events of a recording.
-use Rattle.std.specs.Prelude.{◌<◌, ◌≤◌, Bool, true, false, List, [], ◌∷◌, ◌++◌, length, Option, Some, None, option_map, IfSome}
-use Rattle.demo_lines.specs.declared.map.ArenaMap.{ArenaMap}
-use Rattle.demo_lines.specs.declared.arrival.Arrival.{Arrival}
+-- The server over the events of a recording: what an event closes, and how the game goes on.
+use Rattle.std.specs.Prelude.{◌≡◌, ◌<◌, ◌≤◌, Bool, true, false, List, [], ◌∷◌, ◌++◌, length, Option, Some, None, option_map, IfSome}
+use Rattle.entity_recs.specs.declared.effect.Entry.{Entry}
+use Rattle.move_journal.specs.Merges.{IsInOrder}
+use Rattle.arena_map.specs.Maps.{MapView}
+use Rattle.client_ports.specs.declared.arrival.Arrival.{Arrival}
+use Rattle.client_ports.specs.Receiving.{received}
+use Rattle.plain_server.specs.Frames.{IsRightAfter}
+use Rattle.frame_phases.specs.Servers.{ServerView, new_server, server_after}
 use Rattle.demo_lines.specs.declared.event.Event.{Event}
 use Rattle.demo_lines.specs.declared.event.Event.TheVariants.{Frame, From, End}
-use Rattle.demo_lines.specs.Machines.{run_of, outputs_of}
-use Rattle.arena_engine.specs.States.{ServerView, new_server, opening}
-use Rattle.arena_engine.specs.OutLines.{OutLine, EndLine}
-use Rattle.arena_engine.specs.Frames.{Frames, lines_in_order, server_after, state_after, run_in_order}
+use Rattle.out_text.specs.OutLines.{OutLine, EndLine}
+use Rattle.out_text.specs.FrameLines.{lines_with}
 
--- the server, and the packets of the frame that is open
+-- the server, the packets of the frame that is open, and the journal of the last frame that was run
 pub record GameView : Type 0 where
   pub server : ServerView
   pub opened : Option (List Arrival)
+  pub journal : List Entry
 
 -- before the first event
-abbrev pub new_game : ArenaMap → GameView
-new_game map = record { server = new_server map; opened = None }
+abbrev pub new_game : MapView → GameView
+new_game map = record { server = new_server map; opened = None; journal = [] }
 
--- the server after the frame that was open
-abbrev pub server_closed : ServerView → Option (List Arrival) → ServerView
-server_closed t None = t
-server_closed t (Some arrivals) = server_after t arrivals
+-- a frame with these packets was run: its journal is right, with the moves in the order of arrival
+pub record RunsFrame (old new : ServerView) (arrivals : List Arrival) (journal : List Entry) : Type 0 where
+  pub right : IsRightAfter old.map (received old.map old.frames old.state arrivals) journal
+  pub order : IsInOrder journal (received old.map old.frames old.state arrivals).lists.moves
+  pub next : new ≡ server_after old arrivals journal
 
--- the lines of the frame that was open
-abbrev pub closing_lines : ServerView → Option (List Arrival) → List OutLine
-closing_lines t None = []
-closing_lines t (Some arrivals) = lines_in_order t.map t.frames t.state arrivals
+-- the frame that was open was run; where none was, the server is as it was
+abbrev pub ClosesFrame : ServerView → ServerView → Option (List Arrival) → List Entry → Type 0
+ClosesFrame old new None journal = new ≡ old
+ClosesFrame old new (Some arrivals) journal = RunsFrame old new arrivals journal
+
+-- the lines of the frame that was open, with this journal
+abbrev pub closing_lines : ServerView → Option (List Arrival) → List Entry → List OutLine
+closing_lines server None journal = []
+closing_lines server (Some arrivals) journal = lines_with server.map server.frames (received server.map server.frames server.state arrivals) journal
 
 -- the game after an event
-abbrev pub game_after : GameView → Event → GameView
-game_after g Frame = record { server = server_closed g.server g.opened; opened = Some [] }
-game_after g (From a) = record { server = g.server; opened = option_map (λ arrivals. arrivals ++ a ∷ []) g.opened }
-game_after g End = record { server = server_closed g.server g.opened; opened = None }
+pub record Goes (old new : GameView) (opened : Option (List Arrival)) : Type 0 where
+  pub closed : ClosesFrame old.server new.server old.opened new.journal
+  pub opened_is : new.opened ≡ opened
 
--- the lines that an event closes
-abbrev pub event_lines : GameView → Event → List OutLine
-event_lines g Frame = closing_lines g.server g.opened
-event_lines g (From a) = []
-event_lines g End = closing_lines g.server g.opened ++ EndLine (server_closed g.server g.opened).frames ∷ []
+-- one packet more
+pub record Takes (old new : GameView) (a : Arrival) : Type 0 where
+  pub server : new.server ≡ old.server
+  pub opened_is : new.opened ≡ option_map (λ arrivals. arrivals ++ a ∷ []) old.opened
 
--- the game after events
-abbrev pub game_of : ArenaMap → List Event → GameView
-game_of map events = run_of game_after (new_game map) events
+-- how an event leaves the game
+abbrev pub GoesOn : GameView → GameView → Event → Type 0
+GoesOn old new Frame = Goes old new (Some [])
+GoesOn old new (From a) = Takes old new a
+GoesOn old new End = Goes old new None
 
--- the lines of events
-abbrev pub lines_of : ArenaMap → List Event → List OutLine
-lines_of map events = outputs_of game_after event_lines (new_game map) events
+-- the lines that an event closes: those of the frame that was open, and at the end the last line
+abbrev pub event_lines : GameView → GameView → Event → List OutLine
+event_lines old new Frame = closing_lines old.server old.opened new.journal
+event_lines old new (From a) = []
+event_lines old new End = closing_lines old.server old.opened new.journal ++ EndLine new.server.frames ∷ []
 
 -- an event may come: the open frame has few packets, and there are few frames
 pub record IsReady (g : GameView) : Type 0 where
   pub few : IfSome g.opened (λ arrivals. length arrivals ≤ 512)
   pub frames : IfSome g.opened (λ _. g.server.frames < 100000)
-
--- the game after the frame that was open
-abbrev pub game_closed : GameView → GameView
-game_closed g = record { server = server_closed g.server g.opened; opened = None }
-
--- the lines of frames, from the first frame on
-abbrev pub front_lines : ArenaMap → List (List Arrival) → List OutLine
-front_lines map frames = run_in_order map 0 opening frames
-
--- the server after these frames
-abbrev pub server_at : ArenaMap → List (List Arrival) → ServerView
-server_at map frames = record { map = map; state = state_after map 0 opening frames; frames = length frames }
-
--- the game that has run these frames
-abbrev pub game_at : ArenaMap → Frames → GameView
-game_at map frames = record { server = server_at map frames.closed; opened = frames.opened }
 
 -- the event is the recording's end
 abbrev pub is_end : Event → Bool

@@ -1,29 +1,22 @@
--- The definitions of the plain server and of what it writes.
+-- The definitions of what the top call reads and writes.
 pub use Rattle.demo_lines.specs.Recording
 pub use Rattle.demo_lines.specs.Bytes
 pub use Rattle.demo_lines.specs.Readings
 pub use Rattle.demo_lines.specs.Spelling
-pub use Rattle.box_trace.specs.Walls
-pub use Rattle.player_move.specs.Moves
-pub use Rattle.entity_recs.specs.Worlds
-pub use Rattle.entity_recs.specs.Histories
-pub use Rattle.move_journal.specs.Merges
-pub use Rattle.move_journal.specs.Validity
-pub mod States
-pub mod Receiving
-pub mod Capacities
-pub mod Outcomes
-pub mod Moving
-pub mod Snapshots
-pub mod Entries
-pub mod OutLines
-pub mod Frames
-pub mod Printing
+pub use Rattle.arena_map.specs.Maps
+pub use Rattle.client_ports.specs.States
+pub use Rattle.client_ports.specs.Receiving
+pub use Rattle.plain_server.specs.RecordsById
+pub use Rattle.plain_server.specs.Outcomes
+pub use Rattle.plain_server.specs.Frames
+pub use Rattle.frame_phases.specs.Servers
+pub use Rattle.out_text.specs.OutLines
+pub use Rattle.out_text.specs.FrameLines
+pub use Rattle.out_text.specs.Journals
+pub use Rattle.out_text.specs.Collecting
+pub use Rattle.out_text.specs.Output as Outputs
 pub mod Games
-pub mod Journals
 pub mod StopOf
 pub mod Stops
-pub mod Progress
 pub mod Output
 pub mod Serving
-pub mod Laws

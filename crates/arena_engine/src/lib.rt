@@ -4,43 +4,22 @@
 ghost use Rattle.std.specs.Prelude.{◌≡◌, ◌≤◌, ◌↔◌, ℕ, true, IfSome, IsSomeAnd, IsSome, IsTrue, None};
 ghost use Rattle.edge_io.specs.Counts.{HasRisen};
 ghost use Rattle.demo_lines.specs.Bytes.{fault};
-ghost use Rattle.arena_engine.specs.Output.{Writes, IsOutput, IsRefused, IsCut, IsSomeFrames, ReadsSome, ReadsToEnd, ReadsToRefusal, HasRoom};
+ghost use Rattle.out_text.specs.Output.{IsOutput, IsRefused, IsCut, IsSomeFrames};
+ghost use Rattle.arena_engine.specs.Output.{Writes, ReadsSome, ReadsToEnd, ReadsToRefusal, HasRoom};
 ghost use Rattle.arena_engine.specs.Serving.{IsPlay, ArePlayOne, AskForNothing, NothingFailed, IsOrMemory};
 
-pub use client::Client;
 use edge_io::{Sink, Source};
-pub use laws::{
-    accepted_numbers_are_apart, any_order_keeps_players_inside, each_packet_is_answered,
-    one_worker_has_one_output, only_printed_lines_are_read, players_keep_room, players_stay_inside,
-    ports_stay_apart, written_recordings_have_outputs,
-};
 use play::play;
-pub use received::{Joined, Refused};
-pub use refusal::Refusal;
 pub use report::Report;
 use std::alloc::Global;
 use stop::Stop;
 
-mod arena;
-mod bodies;
-mod client;
 mod game;
-mod journal;
-mod laws;
-mod moves;
-mod out_line;
 mod play;
-mod players;
-mod receive;
-mod received;
-mod refusal;
 mod report;
-mod server;
-mod snapshot;
 mod stop;
 #[cfg(test)]
 mod tests;
-mod text;
 
 /// Whether the words are `play 1`, the only command so far.
 fn are_play_one(words: &[&str]) -> bool

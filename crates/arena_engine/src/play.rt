@@ -2,7 +2,8 @@ ghost use Rattle.std.specs.Prelude.{◌≡◌, ◌≤◌, true, [], ◌∷◌, O
 ghost use Rattle.std.specs.Bool.{OnTrue};
 ghost use Rattle.edge_io.specs.Counts.{HasRisen};
 ghost use Rattle.arena_engine.specs.Games as games;
-ghost use Rattle.arena_engine.specs.Output.{Writes, IsOutput, IsRefused, IsCut, IsSomeFrames, ReadsSome, ReadsToEnd, ReadsToRefusal, HasRoom};
+ghost use Rattle.out_text.specs.Output.{IsOutput, IsRefused, IsCut, IsSomeFrames};
+ghost use Rattle.arena_engine.specs.Output.{Writes, ReadsSome, ReadsToEnd, ReadsToRefusal, HasRoom};
 ghost use Rattle.arena_engine.specs.Stops.{OnRefused, OnReadFault, OnWriteFault, OnMemory, ButOnReadFault, ButOnWriteFault};
 
 use crate::game::Game;
@@ -51,8 +52,8 @@ pub fn play<S: Source, K: Sink>(alloc: Global, source: &mut S, sink: &mut K) -> 
     ensures write_later { K.faults sink.old ≤ K.faults sink.new }
 {
     let mut demo = DemoReader::new(alloc)?;
-    let mut event = demo.next(source)?;
-    let map = demo.map().unwrap().clone()?;
+    let mut event = demo.next(alloc, source)?;
+    let map = demo.take_map().unwrap();
     let mut game = Game::new(alloc, map)?;
     'events: loop {
         let is_last = is_end(&event);
@@ -60,6 +61,6 @@ pub fn play<S: Source, K: Sink>(alloc: Global, source: &mut S, sink: &mut K) -> 
         if is_last {
             return Ok(());
         }
-        event = demo.next(source)?;
+        event = demo.next(alloc, source)?;
     }
 }

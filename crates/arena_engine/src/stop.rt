@@ -55,6 +55,7 @@ impl From<DemoStop> for Stop {
         match stop {
             DemoStop::Refused { .. } => Stop::Refused,
             DemoStop::ReadFault => Stop::ReadFault,
+            DemoStop::NoMemory => Stop::Memory,
         }
     }
 }

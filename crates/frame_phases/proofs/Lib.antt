@@ -2,3 +2,5 @@
 pub mod Solids
 pub mod OneMove
 pub mod Running
+pub mod Frames
+pub mod Openings

@@ -42,18 +42,25 @@ pub record RunsMoves (map : MapView) (old new : List (Option Rec)) (commands : L
 pub runs-none : (map : MapView) (records : List (Option Rec)) → IsValidWorld map records → RunsMoves map records records [] []
 runs-none map records valid = record { moved = moved-none map records valid; entries = refl }
 
+first : (n : ℕ) → n ≡ 0 + n
+first n = omega arith
+
 -- one command more
-runs-more : (map : MapView) (old new after : List (Option Rec)) (commands : List Command) (journal : List reports.Entry) (c : Command) (e : reports.Entry) → IsMap map → HasLivePlayer new c
-    → after ≡ records_after map new c → e ≡ entry_of (length commands) c (effect_among map new c) → RunsMoves map old new commands journal
-    → RunsMoves map old after (commands ++ c ∷ []) (journal ++ e ∷ [])
-runs-more map old new after commands journal c e is_map has after_is e_is runs =
+runs-more : (map : MapView) (old new after : List (Option Rec)) (commands : List Command) (entries : List reports.Entry) (c : Command) (e : reports.Entry) → IsMap map → HasLivePlayer new c
+    → after ≡ records_after map new c → e ≡ entry_of (length commands) c (effect_among map new c) → RunsMoves map old new commands entries
+    → RunsMoves map old after (commands ++ c ∷ []) (entries ++ e ∷ [])
+runs-more map old new after commands entries c e is_map has after_is e_is runs =
     let P : List (Option Rec) → Type 0 = λ rs. HaveMoved map old rs (commands ++ c ∷ []) in
     record {
       moved = subst P (sym after_is) (moved-more map old new commands c is_map has runs.moved);
-      entries = ap (λ (es : List reports.Entry). es ++ e ∷ []) runs.entries
-          ∙ ap (λ (x : reports.Entry). journal_in_order (outcome_in map) (world_of old) commands ++ x ∷ [])
-          (e_is ∙ ap (λ (w : World). entry_of (length commands) c (outcome (outcome_in map) w c)) runs.moved.world)
-          ∙ sym (entries-more (outcome_in map) (world_of old) 0 commands c);
+      entries =
+          let w = world_of old in
+          let act = outcome_in map in
+          let entry : e ≡ entry_of (0 + length commands) c (outcome act (world_after act w commands) c) =
+          e_is ∙ ap (λ (v : World). entry_of (length commands) c (outcome act v c)) runs.moved.world ∙ ap (λ (n : ℕ). entry_of n c (outcome act (world_after act w commands) c)) (first (length commands)) in
+          ap (λ (es : List reports.Entry). es ++ e ∷ []) runs.entries
+          ∙ ap (λ (x : reports.Entry). entries_in_order act w 0 commands ++ x ∷ []) entry
+          ∙ sym (entries-more act w 0 commands c);
     }
 
 -- the first commands and the next one
@@ -73,18 +80,18 @@ entry-is map records c place e place_is slot_is seq_is origin_is =
     λ i. record { place = place_is i; slot = slot_is i; seq = seq_is i; reply = record { origin = origin_is i; got = [] } }
 
 -- the loop's step
-pub runs-next : (map_view : MapView) (old new after : List (Option Rec)) (moves : List Cmd) (i : ℕ) (m : Cmd) (entries : List Entry) (e : Entry) (place : ℕ) → IsMap map_view → i < length moves
+pub runs-next : (map_view : MapView) (old new after : List (Option Rec)) (moves : List Cmd) (i : ℕ) (m : Cmd) (entries later : List Entry) (e : Entry) (place : ℕ) → IsMap map_view → i < length moves
     → m ≡ get_or moves i m → HasLivePlayer new (command_of m) → place ≡ i → after ≡ records_after map_view new (command_of m) → e.place ≡ place → e.slot ≡ m.slot → e.seq ≡ m.seq
     → e.origin ≡ (effect_among map_view new (command_of m)).reply.origin → RunsMoves map_view old new (map command_of (take i moves)) (map entry_value entries)
-    → RunsMoves map_view old after (map command_of (take (i + 1) moves)) (map entry_value (entries ++ e ∷ []))
-runs-next map_view old new after moves i m entries e place is_map inside is has at after_is place_is slot_is seq_is origin_is runs =
+    → later ≡ entries ++ e ∷ [] → RunsMoves map_view old after (map command_of (take (i + 1) moves)) (map entry_value later)
+runs-next map_view old new after moves i m entries later e place is_map inside is has at after_is place_is slot_is seq_is origin_is runs later_is =
     let commands = map command_of (take i moves) in
     let count : length commands ≡ i = length-map (take i moves) command_of ∙ length-take-le i moves (omega (arith, inside)) in
     let entry = entry-is map_view new (command_of m) (length commands) e (place_is ∙ at ∙ sym count) slot_is seq_is origin_is in
     let more = runs-more map_view old new after commands (map entry_value entries) (command_of m) (entry_value e) is_map has after_is entry runs in
     let P : List Command → List reports.Entry → Type 0 = λ cs es. RunsMoves map_view old after cs es in
-    subst (λ (cs : List Command). P cs (map entry_value (entries ++ e ∷ []))) (sym (commands-next moves i m inside is))
-    (subst (P (commands ++ command_of m ∷ [])) (sym (map-append entry_value entries (e ∷ []))) more)
+    subst (λ (cs : List Command). P cs (map entry_value later)) (sym (commands-next moves i m inside is))
+    (subst (P (commands ++ command_of m ∷ [])) (sym (ap (map entry_value) later_is ∙ map-append entry_value entries (e ∷ []))) more)
 
 -- the player of a command is live before it
 pub live-next : (map_view : MapView) (old new : List (Option Rec)) (moves : List Cmd) (i : ℕ) (m : Cmd) (entries : List reports.Entry) → i < length moves → m ≡ get_or moves i m

@@ -1,3 +1,8 @@
+ghost use Rattle.std.specs.Prelude.{◌≡◌, IfOk};
+ghost use Rattle.arena_map.specs.Maps.{IsMap, entities_of};
+ghost use Rattle.world_tree.specs.Worlds.{empty_world, with_records};
+ghost use Rattle.plain_server.specs.RecordsById.{opening};
+
 use crate::bodies::Bodies;
 use crate::frame_out::FrameOut;
 use crate::limits::{MOST_ARRIVALS, MOST_FRAMES};
@@ -34,28 +39,51 @@ impl Model for Server {
     ghost invariant = { λ s. IsServer s.map (state_of s.ports s.world.records) × (s.shown.tree ≡ s.world.tree) };
 }
 
+/// The world before the first frame: the things of the map, each at its id.
+fn opening_world(alloc: Global, map: &ArenaMap) -> Result<World, AllocError>
+    ensures made { IfOk result (λ w. w ≡ with_records (empty_world map.now.bounds) (entities_of map.now)) }
+    ensures records { IfOk result (λ w. w.records ≡ (opening map.now).records) }
+    ensures rules { IsMap map.now }
+{
+    World::new(alloc, map.bounds(), map.entities())
+}
+
 impl Server {
-    ghost use Rattle.std.specs.Prelude.{◌≡◌, ◌<◌, ◌≤◌, length, map as map_list, IfOk};
+    ghost use Rattle.std.specs.Prelude.{◌≡◌, ◌<◌, ◌≤◌, length, map as map_list, IfOk, OnOk};
     ghost use Rattle.move_journal.specs.Entries.{entry_value};
     ghost use Rattle.move_journal.specs.Merges.{IsInOrder};
     ghost use Rattle.client_ports.specs.Receiving.{received};
+    ghost use Rattle.arena_map.specs.Maps.{IsMap};
+    ghost use Rattle.plain_server.specs.RecordsById.{opening};
     ghost use Rattle.plain_server.specs.Frames.{IsRightAfter};
     ghost use Rattle.frame_phases.specs.Servers.{new_server, server_after, IsServer};
 
     /// A server of this map before the first frame. It takes all memory that the server ever needs.
     pub fn new(alloc: Global, map: ArenaMap) -> Result<Server, AllocError>
-        ensures { IfOk result (λ server. server ≡ new_server map) }
+        ensures server { IfOk result (λ server. server ≡ new_server map) }
+        ensures rules { OnOk result (IsMap map) }
     {
-        let world = World::new(alloc, map.bounds(), map.entities())?;
-        let shown = World::new(alloc, map.bounds(), map.entities())?;
-        Ok(Server {
+        let world = opening_world(alloc, &map)?;
+        let shown = opening_world(alloc, &map)?;
+        let bodies = Bodies::new(alloc)?;
+        Ok(Server::opened(map, world, shown, bodies))
+    }
+
+    /// The server of a map before the first frame, from its parts.
+    fn opened(map: ArenaMap, world: World, shown: World, bodies: Bodies) -> Server
+        requires is_map { IsMap map }
+        requires world { world.records ≡ (opening map).records }
+        requires shown { shown ≡ world }
+        ensures { result ≡ new_server map }
+    {
+        Server {
             map,
             world,
             ports: Ports::new(),
             frames: 0,
             shown,
-            bodies: Bodies::new(alloc)?,
-        })
+            bodies,
+        }
     }
 
     /// How many frames were run.

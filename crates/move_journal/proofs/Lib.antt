@@ -4,3 +4,4 @@ pub mod Orders
 pub mod Uniques
 pub mod ValidWorlds
 pub mod WholeHistories
+pub mod JournalLaws

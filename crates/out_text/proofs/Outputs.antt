@@ -1,15 +1,8 @@
 -- A recording that can be written has an output, and with one worker no other.
 use Rattle.std.proofs.Common.{◌≡◌, ℕ, List, Option, Some, None, refl, sym, ap, ◌∙◌, subst}
 use Rattle.entity_recs.specs.declared.effect.Entry.{Entry}
-use Rattle.entity_recs.specs.Histories.{Item, IsLegal}
-use Rattle.move_journal.specs.Merges.{history_of}
-use Rattle.move_journal.specs.Laws.{MovesInOrderAreRight, OrderLeavesOneJournal}
-use Rattle.move_journal.proofs.Founds.{each_is_found, history_in_order}
-use Rattle.move_journal.proofs.Orders.{legal_in_order, told_in_order, order_in_order, legal_from_first}
-use Rattle.move_journal.proofs.Uniques.{one_journal, legal_at_first}
 use Rattle.arena_map.specs.Maps.{MapView}
 use Rattle.client_ports.specs.declared.arrival.Arrival.{Arrival}
-use Rattle.client_ports.proofs.Advances.{numbers_apart}
 use Rattle.plain_server.specs.RecordsById.{opening}
 use Rattle.plain_server.specs.Frames.{journals_of}
 use Rattle.plain_server.proofs.Frames as frames
@@ -22,27 +15,11 @@ use Rattle.out_text.specs.Output.{AreRightIn, AreInOrderIn, out_text}
 use Rattle.out_text.specs.Laws.{WrittenRecordingsHaveOutputs, OneWorkerHasOneOutput}
 use Rattle.out_text.proofs.Fronts.{AreRun, whole_text, is_output}
 
-moves_in_order : MovesInOrderAreRight
-moves_in_order act w moves apart =
-    let history = history_in_order act moves w 0 moves (each_is_found moves apart) in
-    let legal = legal_from_first act w _ (legal_in_order act w 0 moves) in
-    record {
-      right = record {
-        merge = record { each = λ slot. told_in_order act slot w 0 moves };
-        legal = subst (λ (items : List Item). IsLegal act w items) (sym history) legal;
-      };
-      order = order_in_order act w 0 moves;
-    }
-
-order_leaves_one : OrderLeavesOneJournal
-order_leaves_one act w moves journal apart right =
-    one_journal act moves 0 w journal moves (each_is_found moves apart) right.order (legal_at_first act w (history_of moves journal) right.right.legal)
-
 -- frames are run with the moves in the order of arrival
 pub run_in_order : (workers : ℕ) (arena : MapView) (closed : List (List Arrival)) → AreRun workers arena closed (journals_of arena 0 (opening arena) closed)
 run_in_order workers arena closed = record {
-  right = frames.right_in_order numbers_apart moves_in_order arena 0 (opening arena) closed;
-  order = λ one. frames.order_in_order numbers_apart moves_in_order arena 0 (opening arena) closed;
+  right = frames.right_in_order arena 0 (opening arena) closed;
+  order = λ one. frames.order_in_order arena 0 (opening arena) closed;
 }
 
 pub some_output : WrittenRecordingsHaveOutputs
@@ -60,8 +37,8 @@ some_output workers arena fs is =
 one_list_in : (m : Option MapView) (fs : List (List Arrival)) (js ks : List (List Entry)) → AreRightIn m fs js → AreInOrderIn m fs js → AreRightIn m fs ks → AreInOrderIn m fs ks → js ≡ ks
 one_list_in None fs js ks right order right' order' = right.1 ∙ sym right'.1
 one_list_in (Some arena) fs js ks right order right' order' =
-    frames.one_journal_each numbers_apart order_leaves_one arena 0 (opening arena) fs js right order
-    ∙ sym (frames.one_journal_each numbers_apart order_leaves_one arena 0 (opening arena) fs ks right' order')
+    frames.one_journal_each arena 0 (opening arena) fs js right order
+    ∙ sym (frames.one_journal_each arena 0 (opening arena) fs ks right' order')
 
 pub one_output : OneWorkerHasOneOutput
 one_output bytes text other is is' =

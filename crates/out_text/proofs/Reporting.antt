@@ -1,18 +1,11 @@
 -- Right journals can be read back: their entries have their places, and are in range.
 use Rattle.std.proofs.Common.{◌≡◌, ℕ, ◌+◌, List, [], ◌∷◌, ◌++◌, All, subst}
 use Rattle.std.specs.List.{AllByRecursion}
-use Rattle.std.proofs.lemmas.List.Elements.{All-from_recursion}
 use Rattle.entity_recs.specs.declared.effect.Entry.{Entry}
-use Rattle.move_journal.specs.Laws.{MergesHaveWholeHistories}
-use Rattle.move_journal.proofs.Founds.{IsFound, each_is_found}
-use Rattle.move_journal.proofs.WholeHistories.{whole_history}
 use Rattle.arena_map.specs.Maps.{MapView, IsMap}
 use Rattle.client_ports.specs.declared.arrival.Arrival.{Arrival}
 use Rattle.client_ports.specs.States.{State, IsServerState}
 use Rattle.client_ports.specs.Receiving.{received}
-use Rattle.client_ports.specs.Frames.{StatesStayValid}
-use Rattle.client_ports.proofs.Advances.{numbers_apart, movers_live}
-use Rattle.client_ports.proofs.Staying.{server_received, server_finished}
 use Rattle.plain_server.specs.Entries.{HasBytes}
 use Rattle.plain_server.specs.Frames.{state_after, AreRight}
 use Rattle.plain_server.proofs.Small.{numbers_are_small}
@@ -24,12 +17,6 @@ use Rattle.out_text.proofs.ReadBack.{AreAllReported}
 abbrev pub HaveBytes : List (List Arrival) → Type 0
 HaveBytes frames = AllByRecursion (λ arrivals. All HasBytes arrivals) frames
 
-whole_histories : MergesHaveWholeHistories
-whole_histories moves journal apart merge = whole_history moves journal moves (All-from_recursion (IsFound moves) moves (each_is_found moves apart)) merge
-
-stay_valid : StatesStayValid
-stay_valid map frame state arrivals rules is = (server_received map frame state arrivals rules is, server_finished map state is)
-
 -- the entries of right journals have their places, and are in range
 pub right_are_reported : (arena : MapView) (frame : ℕ) (s : State) (frames : List (List Arrival)) (js : List (List Entry)) → IsMap arena → IsServerState arena s → HaveBytes frames
     → AreRight arena frame s frames js → AreAllReported js
@@ -38,7 +25,7 @@ right_are_reported arena frame s [] (j ∷ js) is_map is bytes right = absurd ri
 right_are_reported arena frame s (arrivals ∷ frames) [] is_map is bytes right = absurd right
 right_are_reported arena frame s (arrivals ∷ frames) (j ∷ js) is_map is bytes right =
     let r = received arena frame s arrivals in
-    let pass = received_is numbers_apart movers_live stay_valid arena frame s arrivals is_map is in (
-      right_is_reported whole_histories arena r j is_map pass (numbers_are_small arena frame s arrivals bytes.0) right.0,
-      right_are_reported arena (frame + 1) (state_after arena r j) frames js is_map (state_after_is stay_valid arena r j is_map pass) bytes.1 right.1,
+    let pass = received_is arena frame s arrivals is_map is in (
+      right_is_reported arena r j is_map pass (numbers_are_small arena frame s arrivals bytes.0) right.0,
+      right_are_reported arena (frame + 1) (state_after arena r j) frames js is_map (state_after_is arena r j is_map pass) bytes.1 right.1,
     )

@@ -9,19 +9,20 @@ use Rattle.entity_recs.specs.declared.effect.Entry.{Entry}
 use Rattle.entity_recs.specs.Commands.{Command}
 use Rattle.entity_recs.specs.Histories.{Item, world_after}
 use Rattle.move_journal.specs.Merges.{history_of, journal_in_order}
-use Rattle.move_journal.specs.Laws.{MovesInOrderAreRight, OrderLeavesOneJournal}
+use Rattle.move_journal.proofs.JournalLaws.{moves_in_order_are_right, order_leaves_one_journal}
 use Rattle.arena_map.specs.Maps.{MapView, IsMap, entities_of}
 use Rattle.arena_map.specs.Validity.{IsValidWorld}
 use Rattle.world_tree.specs.Live.{record_at}
 use Rattle.client_ports.specs.declared.arrival.Arrival.{Arrival}
 use Rattle.client_ports.specs.declared.client.Client.{Client}
-use Rattle.client_ports.specs.Clients.{client_at, no_clients}
+use Rattle.client_ports.specs.Clients.{client_at, no_clients, AreClients}
 use Rattle.client_ports.proofs.Slots.{client_count, no_clients-are_ports}
 use Rattle.client_ports.proofs.Valid.{opening-fits}
 use Rattle.client_ports.specs.States.{State, state_of, IsState, HaveSameLive, IsServerState}
 use Rattle.client_ports.specs.Receiving.{Receiving, received}
 use Rattle.client_ports.specs.Finishing.{finished}
-use Rattle.client_ports.specs.Frames.{NumbersAreApart, MoversAreLive, StatesStayValid}
+use Rattle.client_ports.proofs.Advances.{numbers_apart, movers_live}
+use Rattle.client_ports.proofs.Staying.{clients_received, clients_finished, server_received, server_finished}
 use Rattle.plain_server.specs.RecordsById.{world_of, records_in, opening}
 use Rattle.plain_server.specs.Outcomes.{outcome_in}
 use Rattle.plain_server.specs.Moving.{HasLivePlayer, HasSmallNumber, HaveMoved}
@@ -63,73 +64,78 @@ live_player map state c is live = record { slot = below; live = sym (is.fits.liv
     below = omega (arith, within state.clients c.slot live, client_count state.clients is.clients.slots)
 
 -- what is received in a frame from a server's state
-pub received_is : NumbersAreApart → MoversAreLive → StatesStayValid → (map : MapView) (frame : ℕ) (state : State) (arrivals : List Arrival) → IsMap map → IsServerState map state
+pub received_is : (map : MapView) (frame : ℕ) (state : State) (arrivals : List Arrival) → IsMap map → IsServerState map state
     → IsReception map (received map frame state arrivals)
-received_is apart live valid map frame state arrivals is_map is =
+received_is map frame state arrivals is_map is =
     let next = received map frame state arrivals in
-    let there = (valid map frame state arrivals is_map is).0 in
+    let there = server_received map frame state arrivals is_map is in
     record {
       state = there;
       live = All-weaker (λ (c : Command). IsSome (client_at next.state.clients c.slot)) (HasLivePlayer next.state.records) (λ c some. live_player map next.state c there some) next.lists.moves
-          (live map frame state arrivals);
-      apart = apart map frame state arrivals;
+          (movers_live map frame state arrivals);
+      apart = numbers_apart map frame state arrivals;
     }
 
 -- the state for the next frame is a server's
-pub state_after_is : StatesStayValid → (map : MapView) (r : Receiving) (journal : List Entry) → IsMap map → IsReception map r → IsServerState map (state_after map r journal)
-state_after_is valid map r journal is_map is = (valid map 0 (moved_by map r journal) [] is_map (moved_by_is map r journal is_map is)).1
+pub state_after_is : (map : MapView) (r : Receiving) (journal : List Entry) → IsMap map → IsReception map r → IsServerState map (state_after map r journal)
+state_after_is map r journal is_map is = server_finished map (moved_by map r journal) (moved_by_is map r journal is_map is)
 
 -- so is the state after any frames
-pub played_is : NumbersAreApart → MoversAreLive → StatesStayValid → (map : MapView) (frame : ℕ) (state : State) (frames : List (List Arrival)) (journals : List (List Entry)) → IsMap map
+pub played_is : (map : MapView) (frame : ℕ) (state : State) (frames : List (List Arrival)) (journals : List (List Entry)) → IsMap map
     → IsServerState map state → IsServerState map (state_played map frame state frames journals)
-played_is apart live valid map frame state [] journals is_map is = is
-played_is apart live valid map frame state (arrivals ∷ frames) journals is_map is =
+played_is map frame state [] journals is_map is = is
+played_is map frame state (arrivals ∷ frames) journals is_map is =
     let r = received map frame state arrivals in
-    let pass = received_is apart live valid map frame state arrivals is_map is in
-    played_is apart live valid map (frame + 1) (state_after map r (first_of journals)) frames (rest_of journals) is_map
-    (state_after_is valid map r (first_of journals) is_map pass)
+    let pass = received_is map frame state arrivals is_map is in
+    played_is map (frame + 1) (state_after map r (first_of journals)) frames (rest_of journals) is_map
+    (state_after_is map r (first_of journals) is_map pass)
 
 -- ---- moves in the order of arrival
 
 -- the journals in the order of arrival are right
-pub right_in_order : NumbersAreApart → MovesInOrderAreRight → (map : MapView) (frame : ℕ) (state : State) (frames : List (List Arrival))
+pub right_in_order : (map : MapView) (frame : ℕ) (state : State) (frames : List (List Arrival))
     → AreRight map frame state frames (journals_of map frame state frames)
-right_in_order apart right map frame state [] = tt
-right_in_order apart right map frame state (arrivals ∷ frames) =
+right_in_order map frame state [] = tt
+right_in_order map frame state (arrivals ∷ frames) =
     let r = received map frame state arrivals in (
-      (right (outcome_in map) (world_of r.state.records) r.lists.moves (apart map frame state arrivals)).right,
-      right_in_order apart right map (frame + 1) (state_after map r (journal_of map r)) frames,
+      (moves_in_order_are_right (outcome_in map) (world_of r.state.records) r.lists.moves (numbers_apart map frame state arrivals)).right,
+      right_in_order map (frame + 1) (state_after map r (journal_of map r)) frames,
     )
 
 -- and in that order
-pub order_in_order : NumbersAreApart → MovesInOrderAreRight → (map : MapView) (frame : ℕ) (state : State) (frames : List (List Arrival))
+pub order_in_order : (map : MapView) (frame : ℕ) (state : State) (frames : List (List Arrival))
     → AreInOrder map frame state frames (journals_of map frame state frames)
-order_in_order apart right map frame state [] = tt
-order_in_order apart right map frame state (arrivals ∷ frames) =
+order_in_order map frame state [] = tt
+order_in_order map frame state (arrivals ∷ frames) =
     let r = received map frame state arrivals in (
-      (right (outcome_in map) (world_of r.state.records) r.lists.moves (apart map frame state arrivals)).order,
-      order_in_order apart right map (frame + 1) (state_after map r (journal_of map r)) frames,
+      (moves_in_order_are_right (outcome_in map) (world_of r.state.records) r.lists.moves (numbers_apart map frame state arrivals)).order,
+      order_in_order map (frame + 1) (state_after map r (journal_of map r)) frames,
     )
 
 -- right journals in the order of arrival are these
-pub one_journal_each : NumbersAreApart → OrderLeavesOneJournal → (map : MapView) (frame : ℕ) (state : State) (frames : List (List Arrival)) (journals : List (List Entry))
+pub one_journal_each : (map : MapView) (frame : ℕ) (state : State) (frames : List (List Arrival)) (journals : List (List Entry))
     → AreRight map frame state frames journals → AreInOrder map frame state frames journals → journals ≡ journals_of map frame state frames
-one_journal_each apart one map frame state [] [] right order = refl
-one_journal_each apart one map frame state [] (j ∷ js) right order = absurd right
-one_journal_each apart one map frame state (arrivals ∷ frames) [] right order = absurd right
-one_journal_each apart one map frame state (arrivals ∷ frames) (j ∷ js) right order =
+one_journal_each map frame state [] [] right order = refl
+one_journal_each map frame state [] (j ∷ js) right order = absurd right
+one_journal_each map frame state (arrivals ∷ frames) [] right order = absurd right
+one_journal_each map frame state (arrivals ∷ frames) (j ∷ js) right order =
     let r = received map frame state arrivals in
     let first : j ≡ journal_of map r =
-    one (outcome_in map) (world_of r.state.records) r.lists.moves j (apart map frame state arrivals) (record { right = right.0; order = order.0 }) in
-    let rest = one_journal_each apart one map (frame + 1) (state_after map r j) frames js right.1 order.1 in
+    order_leaves_one_journal (outcome_in map) (world_of r.state.records) r.lists.moves j (numbers_apart map frame state arrivals) (record { right = right.0; order = order.0 }) in
+    let rest = one_journal_each map (frame + 1) (state_after map r j) frames js right.1 order.1 in
     λ i. first i ∷ (rest ∙ ap (λ (k : List Entry). journals_of map (frame + 1) (state_after map r k) frames) first) i
 
--- the opening state of a map without things is a server's
-pub opening_is : (map : MapView) → entities_of map ≡ [] → opening map ≡ state_of no_clients (replicate 256 None) → IsServerState map (opening map)
-opening_is map things is = subst (IsServerState map) (sym is) (record {
+-- the opening state of a map: nobody is joined, and no record is live
+pub opening-is : (map : MapView) → opening map ≡ state_of no_clients (replicate 256 None)
+unfolding opening
+opening-is map = refl
+
+-- it is a server's
+pub opening_is : (map : MapView) → IsServerState map (opening map)
+opening_is map = subst (IsServerState map) (sym (opening-is map)) (record {
   clients = no_clients-are_ports.clients_are;
   places = length-replicate {A = Option Rec} 256 None;
-  fits = opening-fits map (replicate 256 None) things none;
+  fits = opening-fits map (replicate 256 None) refl none;
 })
   where
     none : (id : ℕ) → record_at (replicate 256 None) id ≡ None
@@ -137,3 +143,17 @@ opening_is map things is = subst (IsServerState map) (sym is) (record {
       | inl below ↦ get_or-replicate {A = Option Rec} 256 id None None below
       | inr above ↦ get_or_past (replicate 256 None) id None (omega (arith, above, length-replicate {A = Option Rec} 256 None))
     ]
+
+-- no two live slots share a port, after any frames
+pub ports_apart_through : (map : MapView) (frame : ℕ) (state : State) (frames : List (List Arrival)) (journals : List (List Entry)) → AreClients state.clients
+    → AreClients (state_played map frame state frames journals).clients
+ports_apart_through map frame state [] journals are = are
+ports_apart_through map frame state (arrivals ∷ frames) journals are =
+    let r = received map frame state arrivals in
+    ports_apart_through map (frame + 1) (state_after map r (first_of journals)) frames (rest_of journals)
+    (clients_finished (moved_by map r (first_of journals)) (clients_received map frame state arrivals are))
+
+-- nobody is joined at first
+pub opening_apart : (map : MapView) → AreClients (opening map).clients
+unfolding opening
+opening_apart map = no_clients-are_ports.clients_are

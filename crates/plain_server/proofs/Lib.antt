@@ -5,5 +5,7 @@ pub mod Moves
 pub mod Others
 pub mod Commands
 pub mod Small
+pub mod Short
 pub mod Reports
 pub mod Frames
+pub mod Clear

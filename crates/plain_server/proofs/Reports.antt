@@ -11,7 +11,7 @@ use Rattle.entity_recs.specs.Histories.{Item, apply, entry_of, outcome}
 use Rattle.move_journal.specs.Merges.{is_entry_of, history_of, IsWholeHistory}
 use Rattle.move_journal.proofs.Orders.{IsLegalFrom}
 use Rattle.move_journal.proofs.Uniques.{first_entry, legal_behind, legal_at_first}
-use Rattle.move_journal.specs.Laws.{MergesHaveWholeHistories}
+use Rattle.move_journal.proofs.JournalLaws.{merges_have_whole_histories}
 use Rattle.arena_map.specs.Maps.{MapView, IsMap}
 use Rattle.arena_map.specs.Validity.{IsValidWorld}
 use Rattle.client_ports.specs.Receiving.{Receiving}
@@ -58,12 +58,12 @@ reported_items map w records place (item ∷ items) is_map valid is live small l
         All-weaker (HasLivePlayer records) (HasLivePlayer (records_after map records item.command)) (λ d has. still-live map records (records_after map records item.command) (item.command ∷ []) d more has) commands all
 
 -- the entries of a right journal of what was received
-pub right_is_reported : MergesHaveWholeHistories → (map : MapView) (r : Receiving) (journal : List Entry) → IsMap map → IsReception map r → All HasSmallNumber r.lists.moves
+pub right_is_reported : (map : MapView) (r : Receiving) (journal : List Entry) → IsMap map → IsReception map r → All HasSmallNumber r.lists.moves
     → IsRightAfter map r journal → AreReported 0 journal
-right_is_reported whole map r journal is_map is small right =
+right_is_reported map r journal is_map is small right =
     let w = world_of r.state.records in
     let history = history_of r.lists.moves journal in
-    let all = whole r.lists.moves journal is.apart right.merge in
+    let all = merges_have_whole_histories r.lists.moves journal is.apart right.merge in
     subst (AreReported 0) all.entries
     (reported_items map w r.state.records 0 history is_map is.state.fits.valid refl (history_has (HasLivePlayer r.state.records) r.lists.moves journal is.live)
     (history_has HasSmallNumber r.lists.moves journal small) (legal_at_first (outcome_in map) w history right.legal))

@@ -10,7 +10,8 @@ use Rattle.arena_map.specs.Validity.{IsValidWorld}
 use Rattle.world_tree.specs.Live.{record_at}
 use Rattle.client_ports.specs.declared.arrival.Arrival.{Arrival}
 use Rattle.client_ports.specs.Clients.{AreClients}
-use Rattle.client_ports.specs.States.{IsState}
+use Rattle.client_ports.specs.States.{IsServerState}
+use Rattle.client_ports.specs.Frames.{AreClear}
 use Rattle.plain_server.specs.RecordsById.{world_of, records_in, opening}
 use Rattle.plain_server.specs.Outcomes.{outcome_in}
 use Rattle.plain_server.specs.Moving.{HasLivePlayer}
@@ -22,16 +23,23 @@ MovesKeepWorldsValid =
     (map : MapView) (records : List (Option Rec)) (commands : List Command) → IsMap map → IsValidWorld map records
     → All (HasLivePlayer records) commands → IsValidWorld map (records_in (world_after (outcome_in map) (world_of records) commands) records)
 
--- after any frames, with whatever journals, the world is valid and the live slots are the live players
+-- after any frames, with whatever journals, the state is one of the map: the world is valid, and the live slots are the live players
 abbrev pub WorldsStayValid : Type 0
 WorldsStayValid =
     (map : MapView) (frames : List (List Arrival)) (journals : List (List Entry)) → IsMap map
-    → IsState map (state_played map 0 (opening map) frames journals)
+    → IsServerState map (state_played map 0 (opening map) frames journals)
 
 -- after any frames, with whatever journals, no two live slots share a port
 abbrev pub PortsStayApart : Type 0
 PortsStayApart =
     (map : MapView) (frames : List (List Arrival)) (journals : List (List Entry)) → AreClients (state_played map 0 (opening map) frames journals).clients
+
+-- after any frames, with whatever journals, no player's body overlaps a wall or a block, and no bodies of two live solids
+-- overlap
+abbrev pub PlayersKeepRoom : Type 0
+PlayersKeepRoom =
+    (map : MapView) (frames : List (List Arrival)) (journals : List (List Entry)) → IsMap map
+    → AreClear map (state_played map 0 (opening map) frames journals).records
 
 -- there are right journals of any frames that have the moves in the order of arrival
 pub record JournalsAreRightInOrder : Type 0 where

@@ -26,5 +26,5 @@ abbrev pub with_record_at : List (Option Rec) → Rec → List (Option Rec)
 with_record_at records r = slice_set records r.id (Some r)
 
 -- before the first frame the things of the map are there, and nobody is joined
-abbrev pub opening : MapView → State
+unfoldable pub opening : MapView → State
 opening map = state_of no_clients (fold with_record_at (replicate 256 None) (entities_of map))

@@ -1,6 +1,32 @@
-ghost use Rattle.plain_server.specs.Laws.{MovesKeepWorldsValid};
+ghost use Rattle.plain_server.specs.Laws.{MovesKeepWorldsValid, WorldsStayValid, PortsStayApart, PlayersKeepRoom, JournalsAreRightInOrder, OrderLeavesOneJournalEach};
 
 /// Moves of live players, in whatever order they run, keep a valid world valid.
 pub fn moves_keep_worlds_valid()
     ensures { MovesKeepWorldsValid }
+{}
+
+/// After any frames, with whatever journals, the state is one of the map: the world is valid, ports are apart, and the live
+/// slots are the live players.
+pub fn worlds_stay_valid()
+    ensures { WorldsStayValid }
+{}
+
+/// After any frames, with whatever journals, no two live slots share a port.
+pub fn ports_stay_apart()
+    ensures { PortsStayApart }
+{}
+
+/// After any frames, with whatever journals, no player is in a wall, in a block or in another live solid.
+pub fn players_keep_room()
+    ensures { PlayersKeepRoom }
+{}
+
+/// Any frames have right journals with the moves in the order of arrival.
+pub fn journals_are_right_in_order()
+    ensures { JournalsAreRightInOrder }
+{}
+
+/// Right journals that have the moves in the order of arrival are those that running them in that order gives.
+pub fn order_leaves_one_journal_each()
+    ensures { OrderLeavesOneJournalEach }
 {}

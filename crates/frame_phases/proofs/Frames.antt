@@ -1,0 +1,91 @@
+-- A frame of the server is one of the plain server.
+use Rattle.std.proofs.Common.{◌≡◌, ℕ, ◌+◌, ◌≤◌, List, [], length, map, Option, refl, sym, ap, ◌∙◌, subst, arith}
+use Rattle.std.specs.Prelude.{All}
+use Rattle.std.proofs.lemmas.List.{length-map}
+use Rattle.entity_recs.specs.declared.rec.Rec.{Rec}
+use Rattle.entity_recs.specs.declared.cmd.Cmd.{Cmd}
+use Rattle.entity_recs.specs.declared.effect.Entry as reports
+use Rattle.entity_recs.specs.Commands.{Command, command_of}
+use Rattle.entity_recs.specs.Worlds.{World}
+use Rattle.entity_recs.specs.Histories.{world_after}
+use Rattle.move_journal.specs.Merges.{IsInOrder, journal_in_order}
+use Rattle.move_journal.proofs.JournalLaws.{moves_in_order_are_right, run-in_order}
+use Rattle.arena_map.specs.Maps.{MapView, IsMap}
+use Rattle.client_ports.specs.declared.arrival.Arrival.{Arrival}
+use Rattle.client_ports.specs.declared.client.Client.{Client}
+use Rattle.client_ports.specs.States.{State, state_of, IsServerState}
+use Rattle.client_ports.specs.Lists.{Lists}
+use Rattle.client_ports.specs.Receiving.{Receiving, receiving_of, received}
+use Rattle.client_ports.specs.Finishing.{finished}
+use Rattle.client_ports.proofs.Staying.{server_finished}
+use Rattle.frame_phases.specs.Servers.{ServerView, server_after}
+use Rattle.plain_server.specs.RecordsById.{world_of, records_in}
+use Rattle.plain_server.specs.Outcomes.{outcome_in}
+use Rattle.plain_server.specs.Moving.{HasLivePlayer, HaveMoved}
+use Rattle.plain_server.specs.Entries.{IsReception}
+use Rattle.plain_server.specs.Frames.{moved_by, state_after, IsRightAfter}
+use Rattle.plain_server.proofs.Moves.{moved-records}
+use Rattle.plain_server.proofs.Short.{moves_are_few}
+use Rattle.plain_server.proofs.Frames.{received_is, state_moved}
+
+-- what the receive pass leaves for the moves: a reception, and few moves
+pub record IsReceived (map : MapView) (r : Receiving) (arrivals : List Arrival) : Type 0 where
+  pub pass : IsReception map r
+  pub few : length r.lists.moves ≤ length arrivals
+
+pub is_received : (map : MapView) (frame : ℕ) (state : State) (arrivals : List Arrival) (r : Receiving) → IsMap map → IsServerState map state → r ≡ received map frame state arrivals
+    → IsReceived map r arrivals
+is_received map frame state arrivals r is_map is r_is =
+    let P : Receiving → Type 0 = λ q. IsReceived map q arrivals in
+    subst P (sym r_is) (record { pass = received_is map frame state arrivals is_map is; few = moves_are_few map frame state arrivals })
+
+-- the moves that the code runs are those of live players
+pub live_moves : (map_view : MapView) (r : Receiving) (arrivals : List Arrival) (moves : List Cmd) → map command_of moves ≡ r.lists.moves → IsReceived map_view r arrivals
+    → All (HasLivePlayer r.state.records) (map command_of moves)
+live_moves map_view r arrivals moves is got = subst (All (HasLivePlayer r.state.records)) (sym is) got.pass.live
+
+-- and few
+pub few_moves : (map_view : MapView) (r : Receiving) (arrivals : List Arrival) (moves : List Cmd) → map command_of moves ≡ r.lists.moves → IsReceived map_view r arrivals → length moves ≤ length arrivals
+few_moves map_view r arrivals moves is got = omega (arith, got.few, ap length is, length-map moves command_of)
+
+-- what a frame comes to: its journal is right and in order, and the records and the state are those after it
+pub record IsFrame (map : MapView) (r : Receiving) (new : List (Option Rec)) (next : State) (journal : List reports.Entry) : Type 0 where
+  pub right : IsRightAfter map r journal
+  pub order : IsInOrder journal r.lists.moves
+  pub shown : state_of r.state.clients new ≡ moved_by map r journal
+  pub next_is : next ≡ state_after map r journal
+  pub fits : IsServerState map next
+
+pub is_frame : (map_view : MapView) (r : Receiving) (arrivals : List Arrival) (moves : List Cmd) (new : List (Option Rec)) (next : State) (journal : List reports.Entry) → IsReceived map_view r arrivals
+    → map command_of moves ≡ r.lists.moves → HaveMoved map_view r.state.records new (map command_of moves)
+    → journal ≡ journal_in_order (outcome_in map_view) (world_of r.state.records) (map command_of moves) → next ≡ finished (state_of r.state.clients new)
+    → IsFrame map_view r new next journal
+is_frame map_view r arrivals moves new next journal got moves_are moved journal_is next_is =
+    let act = outcome_in map_view in
+    let w = world_of r.state.records in
+    let in_order : journal ≡ journal_in_order act w r.lists.moves = journal_is ∙ ap (journal_in_order act w) moves_are in
+    let right = moves_in_order_are_right act w r.lists.moves got.pass.apart in
+    let have : HaveMoved map_view r.state.records new r.lists.moves = subst (HaveMoved map_view r.state.records new) moves_are moved in
+    let shown : state_of r.state.clients new ≡ moved_by map_view r (journal_in_order act w r.lists.moves) =
+    ap (state_of r.state.clients)
+    (sym (moved-records map_view r.state.records new r.lists.moves have) ∙ sym (ap (λ (v : World). records_in v r.state.records) (run-in_order act w r.lists.moves got.pass.apart))) in
+    let shown_so = shown ∙ sym (ap (moved_by map_view r) in_order) in
+    record {
+      right = subst (IsRightAfter map_view r) (sym in_order) right.right;
+      order = subst (λ (j : List reports.Entry). IsInOrder j r.lists.moves) (sym in_order) right.order;
+      shown = shown_so;
+      next_is = next_is ∙ ap finished shown_so;
+      fits = subst (IsServerState map_view) (sym next_is) (server_finished map_view (state_of r.state.clients new) (state_moved map_view r.state new r.lists.moves got.pass.state have));
+    }
+
+-- a server from its parts
+abbrev pub view_of : MapView → State → ℕ → List (Option Rec) → ServerView
+view_of map state frames shown = record { map = map; state = state; frames = frames; shown = shown }
+
+-- the server after the frame
+pub server-is : (t : ServerView) (arrivals : List Arrival) (r : Receiving) (new : List (Option Rec)) (next : State) (journal : List reports.Entry) → r ≡ received t.map t.frames t.state arrivals
+    → IsFrame t.map r new next journal → ◌≡◌ {A = ServerView} (record { map = t.map; state = next; frames = t.frames + 1; shown = new }) (server_after t arrivals journal)
+server-is t arrivals r new next journal r_is frame =
+    let state = frame.next_is ∙ ap (λ (q : Receiving). state_after t.map q journal) r_is in
+    let shown = ap (λ (s : State). s.records) frame.shown ∙ ap (λ (q : Receiving). (moved_by t.map q journal).records) r_is in
+    λ i. record { map = t.map; state = state i; frames = t.frames + 1; shown = shown i }

@@ -1,0 +1,46 @@
+-- The laws of journals, for callers in other crates.
+use Rattle.std.specs.Prelude.{◌≡◌, ℕ, ◌+◌, List, [], ◌∷◌, map}
+use Rattle.std.proofs.Common.{refl, sym, ap, ◌∙◌, subst}
+use Rattle.std.proofs.lemmas.List.Elements.{All-from_recursion}
+use Rattle.entity_recs.specs.Histories.{Action, Item, IsLegal, apply, run, world_after}
+use Rattle.entity_recs.specs.Commands.{Command}
+use Rattle.entity_recs.specs.Worlds.{World}
+use Rattle.move_journal.specs.Merges.{history_of, HasNumbersApart, journal_in_order}
+use Rattle.move_journal.specs.Laws.{MergesHaveWholeHistories, MovesInOrderAreRight, OrderLeavesOneJournal}
+use Rattle.move_journal.proofs.Founds.{IsFound, each_is_found, items_in_order, history_in_order}
+use Rattle.move_journal.proofs.Orders.{legal_in_order, told_in_order, order_in_order, legal_from_first}
+use Rattle.move_journal.proofs.Uniques.{one_journal, legal_at_first}
+use Rattle.move_journal.proofs.WholeHistories.{whole_history}
+
+-- one entry after another takes its player's first move that is left
+pub merges_have_whole_histories : MergesHaveWholeHistories
+merges_have_whole_histories =
+    λ moves journal apart merge. whole_history moves journal moves (All-from_recursion (IsFound moves) moves (each_is_found moves apart)) merge
+
+-- the history of moves that run in order is legal, and its entries report them in their order
+pub moves_in_order_are_right : MovesInOrderAreRight
+moves_in_order_are_right = λ act w moves apart.
+    let history = history_in_order act moves w 0 moves (each_is_found moves apart) in
+    let legal = legal_from_first act w _ (legal_in_order act w 0 moves) in
+    record {
+      right = record {
+        merge = record { each = λ slot. told_in_order act slot w 0 moves };
+        legal = subst (λ (items : List Item). IsLegal act w items) (sym history) legal;
+      };
+      order = order_in_order act w 0 moves;
+    }
+
+-- each entry of the journal is that of its command, one after another
+pub order_leaves_one_journal : OrderLeavesOneJournal
+order_leaves_one_journal = λ act w moves journal apart right.
+    one_journal act moves 0 w journal moves (each_is_found moves apart) right.order (legal_at_first act w (history_of moves journal) right.right.legal)
+
+-- the commands of moves that are run in this order
+commands_in_order : (act : Action) (w : World) (place : ℕ) (commands : List Command) → map (λ item. item.command) (items_in_order act w place commands) ≡ commands
+commands_in_order act w place [] = refl
+commands_in_order act w place (c ∷ commands) = ap (λ (cs : List Command). c ∷ cs) (commands_in_order act (apply act w c) (place + 1) commands)
+
+-- the run of the journal in order is the moves, one after another
+pub run-in_order : (act : Action) (w : World) (moves : List Command) → HasNumbersApart moves → run act w (history_of moves (journal_in_order act w moves)) ≡ world_after act w moves
+run-in_order act w moves apart =
+    ap (run act w) (history_in_order act moves w 0 moves (each_is_found moves apart)) ∙ ap (world_after act w) (commands_in_order act w 0 moves)
