@@ -1,5 +1,6 @@
--- The map of a recording keeps the rules of maps.
-use Rattle.std.proofs.Common.{◌≡◌, ℕ, Bool, true, false, ◌&&◌, cond, nat_le, nat_lt, List, [], ◌∷◌, length, Option, Some, None, IfSome, is_none, refl, sym, ap, ◌∙◌, subst}
+-- The map of a recording keeps the rules of maps, and a recording without a fault has one.
+use Rattle.std.proofs.Common.{◌≡◌, ℕ, Bool, true, false, ◌&&◌, cond, nat_le, nat_lt, List, [], ◌∷◌, length, Option, Some, None, IfSome, IsSome, is_none, refl, sym, ap, ◌∙◌, subst}
+use Rattle.std.specs.Bool.{⊤}
 use Rattle.edge_io.specs.WholeLines.{whole_lines}
 use Rattle.edge_io.proofs.Decimals.{and_parts}
 use Rattle.arena_map.specs.declared.map_line.MapLine.{MapLine}
@@ -15,7 +16,7 @@ use Rattle.demo_lines.specs.declared.line.Line.TheVariants.{OfMap, Frame, From, 
 use Rattle.demo_lines.specs.Recording.{Reading, start, next, line_in, after, reading_after, after_first, after_map_line, at_stage, with_map, with_map_line, with_frame, with_arrival, has_spawn, is_line_allowed}
 use Rattle.demo_lines.specs.Lines.{line_at}
 use Rattle.demo_lines.specs.Spelling.{IsMapLine}
-use Rattle.demo_lines.specs.Bytes.{map_of}
+use Rattle.demo_lines.specs.Bytes.{fault_at, fault, map_of}
 use Rattle.demo_lines.proofs.LinesSound.{IsSound, line_at-sound}
 
 -- the map, where there is one, keeps the rules
@@ -95,3 +96,68 @@ lines_keep r (l ∷ ls) kept =
 -- the map of a recording keeps the rules
 pub map_keeps_rules : (bytes : List ℕ) (arena : MapView) → map_of bytes ≡ Some arena → IsMap arena
 map_keeps_rules bytes arena has = subst HasKeptRules has (lines_keep start (whole_lines bytes) tt)
+
+-- ---- a recording without a fault has a map
+
+-- from the line of the arena on there is a map, unless a line was refused
+abbrev HasMapAt : Stage → Reading → Type 0
+HasMapAt Start r = ⊤
+HasMapAt Map r = IsSome r.map
+HasMapAt Playing r = IsSome r.map
+HasMapAt Ended r = IsSome r.map
+HasMapAt Refused r = ⊤
+
+abbrev HasMapNow : Reading → Type 0
+HasMapNow r = HasMapAt r.stage r
+
+either_has : (b : Bool) (t r : Reading) → HasMapNow t → HasMapNow (cond b t (at_stage Refused r))
+either_has true t r has = has
+either_has false t r has = tt
+
+begins : (r : Reading) (line : MapLine) → HasMapNow (after_first r line)
+begins r (of_map.Arena lo hi) = either_has (is_none (broken_by_arena lo hi)) (with_map r (Some (bare_map lo hi))) r refl
+begins r (of_map.Block lo hi) = tt
+begins r (of_map.Spawn at) = tt
+begins r (of_map.Item at kind delay) = tt
+begins r (of_map.Teleport lo hi dest) = tt
+begins r (of_map.Goal lo hi) = tt
+begins r (of_map.Lift lo hi rise speed) = tt
+
+goes_on : (m : Option MapView) (r : Reading) (line : MapLine) → HasMapNow (cond (is_line_allowed m line) (with_map r (with_map_line m line)) (at_stage Refused r))
+goes_on None r line = tt
+goes_on (Some map) r line = either_has (is_added line && is_none (broken_rule map line)) (with_map r (Some (with_line map line))) r refl
+
+step_has : (stage : Stage) (r : Reading) (line : Option Line) → r.stage ≡ stage → HasMapAt stage r → HasMapNow (reading_after stage r line)
+step_has Start r None here has = tt
+step_has Start r (Some (OfMap line)) here has = begins r line
+step_has Start r (Some Frame) here has = tt
+step_has Start r (Some (From a)) here has = tt
+step_has Start r (Some End) here has = tt
+step_has Map r None here has = tt
+step_has Map r (Some (OfMap line)) here has = goes_on r.map r line
+step_has Map r (Some Frame) here has = either_has (has_spawn r.map) (with_frame r) r has
+step_has Map r (Some (From a)) here has = tt
+step_has Map r (Some End) here has = has
+step_has Playing r None here has = tt
+step_has Playing r (Some (OfMap line)) here has = tt
+step_has Playing r (Some Frame) here has = either_has (nat_lt r.frames 100000) (with_frame r) r has
+step_has Playing r (Some (From a)) here has = either_has (nat_lt r.arrivals 512) (with_arrival r) r has
+step_has Playing r (Some End) here has = has
+step_has Ended r line here has = let P : Stage → Type 0 = λ stage. HasMapAt stage r in subst P (sym here) has
+step_has Refused r line here has = let P : Stage → Type 0 = λ stage. HasMapAt stage r in subst P (sym here) tt
+
+lines_have : (r : Reading) (ls : List (List ℕ)) → HasMapNow r → HasMapNow (after r ls)
+lines_have r [] has = has
+lines_have r (l ∷ ls) has = lines_have (next r l) ls (step_has r.stage r (line_in l) refl has)
+
+ended_has : (stage : Stage) (r : Reading) → HasMapAt stage r → fault_at stage r.lines ≡ None → IsSome r.map
+ended_has Start r has none = cc
+ended_has Map r has none = cc
+ended_has Playing r has none = cc
+ended_has Ended r has none = has
+ended_has Refused r has none = cc
+
+-- a recording without a fault has a map
+pub faultless_has_map : (bytes : List ℕ) → fault bytes ≡ None → IsSome (map_of bytes)
+faultless_has_map bytes none =
+    let r = after start (whole_lines bytes) in ended_has r.stage r (lines_have start (whole_lines bytes) tt) none

@@ -1,21 +1,21 @@
--- A recording that can be written has an output, and with one worker no other.
-use Rattle.std.proofs.Common.{◌≡◌, ℕ, List, [], ◌∷◌, ◌++◌, length, take, drop, Option, Some, None, refl, sym, ap, ◌∙◌, arith, take-append-drop}
+-- A recording without a fault has an output, with one worker no other, and an output spells its journals.
+use Rattle.std.proofs.Common.{◌≡◌, ℕ, List, [], ◌∷◌, ◌++◌, length, take, drop, Option, Some, None, IsSome, refl, sym, ap, ◌∙◌, arith, take-append-drop}
 use Rattle.entity_recs.specs.declared.effect.Entry.{Entry}
 use Rattle.arena_map.specs.Maps.{MapView}
 use Rattle.client_ports.specs.declared.arrival.Arrival.{Arrival}
 use Rattle.plain_server.specs.RecordsById.{opening}
 use Rattle.plain_server.specs.Frames.{AreRight, journals_of}
 use Rattle.plain_server.proofs.Frames as frames
-use Rattle.demo_lines.specs.Bytes.{map_of}
+use Rattle.demo_lines.specs.Bytes.{fault, map_of}
 use Rattle.demo_lines.specs.Spelling.{recording_text}
 use Rattle.demo_lines.proofs.RecordingsRead.{recordings_read_back}
 use Rattle.out_text.specs.OutLines.{EndLine, text_of}
 use Rattle.out_text.specs.Journals.{dids}
 use Rattle.out_text.specs.Collecting.{frames_of}
 use Rattle.out_text.specs.Output.{lines_in, AreRightIn, AreInOrderIn, out_text}
-use Rattle.out_text.specs.Laws.{WrittenRecordingsHaveOutputs, OneWorkerHasOneOutput, OutputsSpellTheirJournals}
+use Rattle.out_text.specs.Laws.{HasOutput, FaultlessRecordingsHaveOutputs, WrittenRecordingsHaveOutputs, OneWorkerHasOneOutput, OutputsSpellTheirJournals}
 use Rattle.out_text.proofs.Quiet.{split-silent, dids-text}
-use Rattle.out_text.proofs.KeptRules.{map_keeps_rules}
+use Rattle.out_text.proofs.KeptRules.{map_keeps_rules, faultless_has_map}
 use Rattle.out_text.proofs.Fronts.{AreRun, whole_text, dids-front, dids-out, is_output}
 
 -- frames are run with the moves in the order of arrival
@@ -25,16 +25,23 @@ run_in_order workers arena closed = record {
   order = λ one. frames.order_in_order arena 0 (opening arena) closed;
 }
 
-pub some_output : WrittenRecordingsHaveOutputs
-some_output workers arena fs is =
-    let bytes = recording_text arena fs in
+-- a recording without a fault has an output: its frames, run with the moves in the order of arrival
+output_in : (workers : ℕ) (bytes : List ℕ) (m : Option MapView) → fault bytes ≡ None → map_of bytes ≡ m → IsSome m → HasOutput workers bytes
+output_in workers bytes None accepted has some = cc
+output_in workers bytes (Some arena) accepted has some =
     let closed = frames_of bytes in
     let js = journals_of arena 0 (opening arena) closed in
-    let back = recordings_read_back arena fs is in
     record {
       text = whole_text arena closed js;
-      is_output = is_output workers bytes arena (record { has = back.map; is_map = is.is_map }) closed js back.fault refl (run_in_order workers arena closed);
+      is_output = is_output workers bytes arena (record { has = has; is_map = map_keeps_rules bytes arena has }) closed js accepted refl (run_in_order workers arena closed);
     }
+
+pub faultless_output : FaultlessRecordingsHaveOutputs
+faultless_output workers bytes accepted = output_in workers bytes (map_of bytes) accepted refl (faultless_has_map bytes accepted)
+
+-- a recording that can be written is without a fault
+pub some_output : WrittenRecordingsHaveOutputs
+some_output workers arena fs is = faultless_output workers (recording_text arena fs) (recordings_read_back arena fs is).fault
 
 -- of frames there is one list of right journals in the order of arrival
 one_list_in : (m : Option MapView) (fs : List (List Arrival)) (js ks : List (List Entry)) → AreRightIn m fs js → AreInOrderIn m fs js → AreRightIn m fs ks → AreInOrderIn m fs ks → js ≡ ks

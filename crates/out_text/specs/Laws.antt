@@ -1,9 +1,9 @@
 -- What holds of every text, and of the outputs of recordings.
-use Rattle.std.specs.Prelude.{◌≡◌, ℕ, ◌≤◌, ◌↔◌, true, List, take}
+use Rattle.std.specs.Prelude.{◌≡◌, ℕ, ◌≤◌, ◌↔◌, true, List, take, None}
 use Rattle.entity_recs.specs.declared.effect.Entry.{Entry}
 use Rattle.arena_map.specs.Maps.{MapView}
 use Rattle.client_ports.specs.declared.arrival.Arrival.{Arrival}
-use Rattle.demo_lines.specs.Bytes.{map_of}
+use Rattle.demo_lines.specs.Bytes.{fault, map_of}
 use Rattle.demo_lines.specs.Spelling.{IsRecording, recording_text}
 use Rattle.out_text.specs.Entries.{Did}
 use Rattle.out_text.specs.OutLines.{FrameLine, DidLine, spelled}
@@ -29,6 +29,10 @@ FrameLinesAreRead = (line : List ℕ) → (mark_of line ≡ Opens) ↔ IsFrameLi
 pub record HasOutput (workers : ℕ) (bytes : List ℕ) : Type 0 where
   pub text : List ℕ
   pub is_output : IsOutput workers bytes text
+
+-- each recording without a fault has an output, for every number of workers
+abbrev pub FaultlessRecordingsHaveOutputs : Type 0
+FaultlessRecordingsHaveOutputs = (workers : ℕ) (bytes : List ℕ) → fault bytes ≡ None → HasOutput workers bytes
 
 -- each recording that can be written has an output, for every number of workers
 abbrev pub WrittenRecordingsHaveOutputs : Type 0

@@ -2,8 +2,8 @@
 #![tactic(auto)]
 
 pub use laws::{
-    one_worker_has_one_output, only_printed_lines_are_read, outputs_spell_their_journals,
-    written_recordings_have_outputs,
+    faultless_recordings_have_outputs, one_worker_has_one_output, only_printed_lines_are_read,
+    outputs_spell_their_journals, written_recordings_have_outputs,
 };
 pub use out_line::{OutLine, Printed};
 pub use text::{push_frame_lines, push_line};
