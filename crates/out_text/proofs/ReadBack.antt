@@ -11,7 +11,7 @@ use Rattle.client_ports.specs.States.{State}
 use Rattle.client_ports.specs.Receiving.{Receiving, received}
 use Rattle.plain_server.specs.Entries.{IsReported, AreReported}
 use Rattle.plain_server.specs.Frames.{moved_by, state_after}
-use Rattle.out_text.specs.Entries.{Did, did_of, journal_from}
+use Rattle.out_text.specs.Dids.{Did, did_of, journal_from}
 use Rattle.out_text.specs.OutLines.{OutLine, EndLine, text_of}
 use Rattle.out_text.specs.FrameLines.{no_line, joined_line, to_line, players_in, lines_with, run_lines}
 use Rattle.out_text.specs.Journals.{is_coordinate, is_reportable, dids}

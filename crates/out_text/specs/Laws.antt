@@ -5,7 +5,7 @@ use Rattle.arena_map.specs.Maps.{MapView}
 use Rattle.client_ports.specs.declared.arrival.Arrival.{Arrival}
 use Rattle.demo_lines.specs.Bytes.{fault, map_of}
 use Rattle.demo_lines.specs.Spelling.{IsRecording, recording_text}
-use Rattle.out_text.specs.Entries.{Did}
+use Rattle.out_text.specs.Dids.{Did}
 use Rattle.out_text.specs.OutLines.{FrameLine, DidLine, spelled}
 use Rattle.out_text.specs.Journals.{Opens, Reports, is_reportable, mark_of, dids}
 use Rattle.out_text.specs.Collecting.{frames_of}
