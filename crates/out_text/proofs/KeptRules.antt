@@ -1,5 +1,5 @@
 -- The map of a recording keeps the rules of maps, and a recording without a fault has one.
-use Rattle.std.proofs.Common.{◌≡◌, ℕ, Bool, true, false, ◌&&◌, cond, nat_le, nat_lt, List, [], ◌∷◌, length, Option, Some, None, IfSome, IsSome, is_none, refl, sym, ap, ◌∙◌, subst}
+use Rattle.std.proofs.Common.{◌≡◌, ℕ, Bool, true, false, ◌&&◌, cond, nat_le, nat_lt, List, [], ◌∷◌, length, Option, Some, None, IfSome, IsSome, is_none, refl, sym, subst}
 use Rattle.std.specs.Bool.{⊤}
 use Rattle.edge_io.specs.WholeLines.{whole_lines}
 use Rattle.edge_io.proofs.Decimals.{and_parts}
@@ -13,7 +13,7 @@ use Rattle.demo_lines.specs.declared.stage.Stage.{Stage}
 use Rattle.demo_lines.specs.declared.stage.Stage.TheVariants.{Start, Map, Playing, Ended, Refused}
 use Rattle.demo_lines.specs.declared.line.Line.{Line}
 use Rattle.demo_lines.specs.declared.line.Line.TheVariants.{OfMap, Frame, From, End}
-use Rattle.demo_lines.specs.Recording.{Reading, start, next, line_in, after, reading_after, after_first, after_map_line, at_stage, with_map, with_map_line, with_frame, with_arrival, has_spawn, is_line_allowed}
+use Rattle.demo_lines.specs.Recording.{Reading, start, next, line_in, after, reading_after, after_first, at_stage, with_map, with_map_line, with_frame, with_arrival, has_spawn, is_line_allowed}
 use Rattle.demo_lines.specs.Lines.{line_at}
 use Rattle.demo_lines.specs.Spelling.{IsMapLine}
 use Rattle.demo_lines.specs.Bytes.{fault_at, fault, map_of}
