@@ -1,13 +1,13 @@
 -- The players keep room: moves end free of all solids.
-use Rattle.std.specs.Prelude.{◌≡◌, ◌≢◌, ◌⊎◌, ℕ, zero, suc, ◌+◌, ◌<◌, ◌==◌, Bool, true, false, ◌&&◌, ◌||◌, not, int_lt, List, [], ◌∷◌, ◌++◌, length, filter, All, Option, Some, None, if◌then◌else◌, replicate}
+use Rattle.std.specs.Prelude.{◌≡◌, ◌≢◌, ℕ, zero, suc, ◌+◌, ◌<◌, ◌==◌, Bool, true, false, ◌||◌, not, int_lt, List, [], ◌∷◌, ◌++◌, filter, All, Option, Some, None, if◌then◌else◌}
 use Rattle.std.specs.Prelude.{map as map_list}
-use Rattle.std.specs.List.{AllByRecursion, list_any}
+use Rattle.std.specs.List.{AllByRecursion}
 use Rattle.std.proofs.Common.{refl, sym, ap, ◌∙◌, subst, inl, inr, arith}
-use Rattle.std.proofs.lemmas.Bool.{cases_Bool, cases_lt, eq-eqb, ne_eqb}
+use Rattle.std.proofs.lemmas.Bool.{cases_Bool, cases_order, eq-eqb, ne_eqb}
 use Rattle.std.proofs.lemmas.List.Folds.{list_any-append}
-use Rattle.std.proofs.lemmas.List.Elements.{All-head, All-tail, All-weaker}
-use Rattle.std.proofs.lemmas.Option.{same_Some, none-some}
-use Rattle.std.proofs.lemmas.List.{append-nil, append_assoc, length-replicate, get_or-replicate, get_or_past}
+use Rattle.std.proofs.lemmas.List.Elements.{All-head, All-tail}
+use Rattle.std.proofs.lemmas.Option.{same_Some}
+use Rattle.std.proofs.lemmas.List.{append-nil, append_assoc}
 use Rattle.std.proofs.Math.Bool.{and_comm}
 use Rattle.arena_geo.specs.Bounds.{Bounds}
 use Rattle.arena_geo.specs.Boxes.{overlaps, is_blocked}
@@ -15,6 +15,7 @@ use Rattle.entity_recs.specs.declared.kind.Kind.{Kind}
 use Rattle.entity_recs.specs.declared.kind.Kind.TheVariants.{Player}
 use Rattle.entity_recs.specs.declared.rec.Rec.{Rec}
 use Rattle.entity_recs.specs.declared.effect.Entry.{Entry}
+use Rattle.entity_recs.specs.Records.{IsIdOf}
 use Rattle.entity_recs.specs.Bodies.{body_of}
 use Rattle.entity_recs.specs.Kinds.{is_solid}
 use Rattle.entity_recs.specs.Commands.{Command}
@@ -23,7 +24,8 @@ use Rattle.entity_recs.specs.Histories.{Item, world_after}
 use Rattle.move_journal.specs.Merges.{history_of}
 use Rattle.player_move.proofs.Ending.{move_ends_free}
 use Rattle.arena_map.specs.Maps.{MapView, IsMap, solids_of}
-use Rattle.arena_map.specs.Validity.{IsValidRecord, IsValidWorld}
+use Rattle.arena_map.specs.Validity.{IsValidWorld}
+use Rattle.arena_map.proofs.Opening.{IsFound, found-in}
 use Rattle.world_tree.specs.Live.{record_at, live_in}
 use Rattle.client_ports.specs.declared.arrival.Arrival.{Arrival}
 use Rattle.client_ports.specs.States.{State, IsServerState}
@@ -37,9 +39,10 @@ use Rattle.plain_server.specs.Moving.{HasLivePlayer, HaveMoved, effect_among, re
 use Rattle.plain_server.specs.Entries.{IsReception}
 use Rattle.plain_server.specs.Frames.{moved_by, state_after, first_of, rest_of, state_played}
 use Rattle.plain_server.proofs.Others.{each_live, others-are}
-use Rattle.plain_server.proofs.Moves.{IsLiveRecord, live_record, slot_is_player, moved_is_valid, moved-none, moved-more, still-live, moved-records}
+use Rattle.plain_server.proofs.Moves.{IsLiveRecord, live_record, slot_is_player, moved-none, moved-more, still-live, moved-records}
 use Rattle.plain_server.proofs.Commands.{history_has}
-use Rattle.plain_server.proofs.Frames.{received_is, state_after_is, opening-is}
+use Rattle.plain_server.proofs.Frames.{received_is, state_after_is, opening_world, opening_is}
+use Rattle.plain_server.proofs.Lifts.{solids_apart}
 
 overlaps_flips : (a b : Bounds) → overlaps a b ≡ overlaps b a
 overlaps_flips a b =
@@ -217,15 +220,30 @@ clear_through map frame state (arrivals ∷ frames) journals is_map is clear =
     clear_through map (frame + 1) (state_after map r (first_of journals)) frames (rest_of journals) is_map (state_after_is map r (first_of journals) is_map pass)
     (clear_finished map (moved_by map r (first_of journals)) moved)
 
--- where nobody is live all have room
-pub opening_clear : (map : MapView) → AreClear map (opening map).records
-opening_clear map = subst (λ (s : State). AreClear map s.records) (sym (opening-is map)) (record {
-  of_the_map = λ id r at kind. absurd (none-some r (sym (none id) ∙ at));
-  of_each_other = λ i j r s at_i at_j solid_r solid_s differ. absurd (none-some r (sym (none i) ∙ at_i));
-})
-  where
-    none : (id : ℕ) → record_at (replicate 256 None) id ≡ None
-    none id = elim (cases_lt id 256) [
-      | inl below ↦ get_or-replicate {A = Option Rec} 256 id None None below
-      | inr above ↦ get_or_past (replicate 256 None) id None (omega (arith, above, length-replicate {A = Option Rec} 256 None))
+-- ---- at the start
+
+-- the thing of a place of the opening world
+opening_thing : (map : MapView) (id : ℕ) (r : Rec) → IsMap map → record_at (opening map).records id ≡ Some r → IsFound map.bounds 64 map.things id r
+opening_thing map id r is at = found-in map id r is (sym (opening_world map is id) ∙ at)
+
+-- no player is there
+opening_lacks : (map : MapView) (id : ℕ) (r : Rec) → IsMap map → record_at (opening map).records id ≡ Some r → r.kind ≡ Player → ⊥
+opening_lacks map id r is at kind =
+    let here = (opening_is map is).fits.valid.each id r at in
+    let slot : r.id < 64 = subst (λ (k : Kind). IsIdOf k r.id) kind here.is_record.id in
+    omega (arith, slot, here.own_id, (opening_thing map id r is at).low)
+
+-- where only the things of the map are live all have room
+pub opening_clear : (map : MapView) → IsMap map → AreClear map (opening map).records
+opening_clear map is = record {
+  of_the_map = λ id r at kind. absurd (opening_lacks map id r is at kind);
+  of_each_other = λ i j r s at_i at_j solid_r solid_s differ. elim (cases_order i j) [
+    | inl same ↦ absurd (differ same)
+    | inr other ↦ elim other [
+      | inl before ↦ solids_apart map i j r s is (opening_thing map i r is at_i) (opening_thing map j s is at_j) solid_r solid_s before
+      | inr after ↦
+          overlaps_flips (body_of r) (body_of s)
+          ∙ solids_apart map j i s r is (opening_thing map j s is at_j) (opening_thing map i r is at_i) solid_s solid_r after
     ]
+  ];
+}

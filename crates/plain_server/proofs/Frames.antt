@@ -1,34 +1,36 @@
 -- Frames, one after another: what holds of the state after each.
-use Rattle.std.proofs.Common.{◌≡◌, ℕ, zero, suc, ◌+◌, ◌<◌, List, [], ◌∷◌, length, All, Option, Some, None, is_some, IsSome, replicate, inl, inr, refl, sym, ap, ◌∙◌, subst, arith}
+use Rattle.std.proofs.Common.{◌≡◌, ℕ, zero, suc, ◌+◌, ◌<◌, List, [], ◌∷◌, length, Option, None, IsSome, replicate, refl, sym, ap, ◌∙◌, subst, arith}
 use Rattle.std.specs.Prelude.{map as map_list}
-use Rattle.std.proofs.lemmas.List.{length-map, length-replicate, get_or-replicate, get_or_past}
-use Rattle.std.proofs.lemmas.Bool.{cases_lt}
+use Rattle.std.proofs.lemmas.List.{length-replicate}
 use Rattle.std.proofs.lemmas.List.Elements.{All-weaker}
 use Rattle.entity_recs.specs.declared.rec.Rec.{Rec}
 use Rattle.entity_recs.specs.declared.effect.Entry.{Entry}
+use Rattle.entity_recs.specs.Records.{IsRecord}
 use Rattle.entity_recs.specs.Commands.{Command}
-use Rattle.entity_recs.specs.Histories.{Item, world_after}
-use Rattle.move_journal.specs.Merges.{history_of, journal_in_order}
+use Rattle.entity_recs.specs.Histories.{Item}
+use Rattle.move_journal.specs.Merges.{history_of}
 use Rattle.move_journal.proofs.JournalLaws.{moves_in_order_are_right, order_leaves_one_journal}
 use Rattle.arena_map.specs.Maps.{MapView, IsMap, entities_of}
-use Rattle.arena_map.specs.Validity.{IsValidWorld}
-use Rattle.world_tree.specs.Live.{record_at}
+use Rattle.arena_map.specs.Validity.{IsOpeningWorld}
+use Rattle.arena_map.proofs.Kept.{each-of}
+use Rattle.arena_map.proofs.ThingRecords.{entities-are, entities-apart}
+use Rattle.world_tree.proofs.Links.{id-below, record_at-empty}
 use Rattle.client_ports.specs.declared.arrival.Arrival.{Arrival}
 use Rattle.client_ports.specs.declared.client.Client.{Client}
-use Rattle.client_ports.specs.Clients.{client_at, no_clients, AreClients}
+use Rattle.client_ports.specs.Clients.{client_at, AreClients}
 use Rattle.client_ports.proofs.Slots.{client_count, no_clients-are_ports}
-use Rattle.client_ports.proofs.Valid.{opening-fits}
-use Rattle.client_ports.specs.States.{State, state_of, IsState, HaveSameLive, IsServerState}
+use Rattle.client_ports.proofs.Valid.{opening-is_server}
+use Rattle.client_ports.specs.States.{State, state_of, IsServerState}
 use Rattle.client_ports.specs.Receiving.{Receiving, received}
-use Rattle.client_ports.specs.Finishing.{finished}
 use Rattle.client_ports.proofs.Advances.{numbers_apart, movers_live}
 use Rattle.client_ports.proofs.Staying.{clients_received, clients_finished, server_received, server_finished}
-use Rattle.plain_server.specs.RecordsById.{world_of, records_in, opening}
+use Rattle.plain_server.specs.RecordsById.{world_of, opening}
 use Rattle.plain_server.specs.Outcomes.{outcome_in}
-use Rattle.plain_server.specs.Moving.{HasLivePlayer, HasSmallNumber, HaveMoved}
+use Rattle.plain_server.specs.Moving.{HasLivePlayer, HaveMoved}
 use Rattle.plain_server.specs.Entries.{IsReception}
 use Rattle.plain_server.specs.Frames.{moved_by, state_after, first_of, rest_of, state_played, AreRight, AreInOrder, journal_of, journals_of}
-use Rattle.plain_server.proofs.Moves.{Moved, moved, moved-records}
+use Rattle.plain_server.proofs.Moves.{moved, moved-records}
+use Rattle.plain_server.proofs.Placing.{placed-count, placed-at}
 use Rattle.plain_server.proofs.Commands.{history_has}
 
 -- a state whose records are those after moves of live players is a server's as before
@@ -125,24 +127,24 @@ one_journal_each map frame state (arrivals ∷ frames) (j ∷ js) right order =
     let rest = one_journal_each map (frame + 1) (state_after map r j) frames js right.1 order.1 in
     λ i. first i ∷ (rest ∙ ap (λ (k : List Entry). journals_of map (frame + 1) (state_after map r k) frames) first) i
 
--- the opening state of a map: nobody is joined, and no record is live
-pub opening-is : (map : MapView) → opening map ≡ state_of no_clients (replicate 256 None)
+-- there are 256 places at the start
+opening_places : (map : MapView) → length (opening map).records ≡ 256
 unfolding opening
-opening-is map = refl
+opening_places map = placed-count (entities_of map) (replicate 256 None) ∙ length-replicate {A = Option Rec} 256 None
 
--- it is a server's
-pub opening_is : (map : MapView) → IsServerState map (opening map)
-opening_is map = subst (IsServerState map) (sym (opening-is map)) (record {
-  clients = no_clients-are_ports.clients_are;
-  places = length-replicate {A = Option Rec} 256 None;
-  fits = opening-fits map (replicate 256 None) refl none;
-})
-  where
-    none : (id : ℕ) → record_at (replicate 256 None) id ≡ None
-    none id = elim (cases_lt id 256) [
-      | inl below ↦ get_or-replicate {A = Option Rec} 256 id None None below
-      | inr above ↦ get_or_past (replicate 256 None) id None (omega (arith, above, length-replicate {A = Option Rec} 256 None))
-    ]
+-- and the things of the map are live there, each at its id
+pub opening_world : (map : MapView) → IsMap map → IsOpeningWorld map (opening map).records
+unfolding opening
+opening_world map is id =
+    let few = length-replicate {A = Option Rec} 256 None in
+    placed-at (entities_of map) (replicate 256 None) id (entities-apart map is)
+    (each-of IsRecord (λ r. r.id < length (replicate {A = Option Rec} 256 None)) (entities_of map) (λ r here. omega (arith, id-below r here, few)) (entities-are map is))
+    (record_at-empty 256 id)
+
+-- the opening state is a server's
+pub opening_is : (map : MapView) → IsMap map → IsServerState map (opening map)
+unfolding opening
+opening_is map is = opening-is_server map (opening map).records is (opening_places map) (opening_world map is)
 
 -- no two live slots share a port, after any frames
 pub ports_apart_through : (map : MapView) (frame : ℕ) (state : State) (frames : List (List Arrival)) (journals : List (List Entry)) → AreClients state.clients

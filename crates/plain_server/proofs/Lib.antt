@@ -2,6 +2,9 @@
 pub mod ById
 pub mod OneMove
 pub mod Moves
+pub mod Placing
+pub mod Things
+pub mod Lifts
 pub mod Others
 pub mod Commands
 pub mod Small

@@ -1,26 +1,25 @@
 -- The other live records of a move: those that a query over the arena's bounds gives.
-use Rattle.std.specs.Prelude.{◌≡◌, ℕ, zero, suc, ◌<◌, ◌≤◌, ◌==◌, Bool, true, false, ◌&&◌, ◌||◌, not, int_le, List, [], ◌∷◌, filter, Option, Some, None, ◌≤ℤ◌}
+use Rattle.std.specs.Prelude.{◌≡◌, ℕ, zero, suc, ◌==◌, Bool, true, false, ◌&&◌, ◌||◌, not, int_le, List, [], ◌∷◌, filter, Option, Some, None, ◌≤ℤ◌}
 use Rattle.std.specs.Prelude.{map as map_list}
-use Rattle.std.specs.List.{AllByRecursion, find}
-use Rattle.std.proofs.Common.{refl, sym, ap, ◌∙◌, subst, inl, inr, arith}
+use Rattle.std.specs.List.{AllByRecursion}
+use Rattle.std.proofs.Common.{refl, sym, ap, ◌∙◌, inl, inr, arith}
 use Rattle.std.proofs.lemmas.Int.{ints}
 use Rattle.std.proofs.lemmas.Bool.{cases_Bool}
-use Rattle.arena_geo.specs.Bounds.{Bounds, IsOrdered}
+use Rattle.arena_geo.specs.Bounds.{Bounds}
 use Rattle.arena_geo.specs.Boxes.{contains, touches}
 use Rattle.arena_geo.specs.Regions.{touches_region}
 use Rattle.arena_geo.proofs.Containment.{three_pass, all_three}
-use Rattle.entity_recs.specs.declared.kind.Kind.{Kind}
-use Rattle.entity_recs.specs.declared.kind.Kind.TheVariants.{Player, Ammo, Gem, Teleporter, Goal, Lift}
 use Rattle.entity_recs.specs.declared.rec.Rec.{Rec}
-use Rattle.entity_recs.specs.Records.{IsRecord, IsIdOf}
+use Rattle.entity_recs.specs.Records.{IsRecord}
 use Rattle.entity_recs.specs.Bodies.{body_of, abs_of}
 use Rattle.entity_recs.proofs.Standing.{records_have_boxes, abs_contains_body}
 use Rattle.entity_recs.specs.Worlds.{others_of}
-use Rattle.arena_map.specs.Maps.{MapView, entities_of}
-use Rattle.arena_map.specs.Validity.{IsThing, IsValidRecord, IsValidWorld}
+use Rattle.arena_map.specs.Maps.{MapView, IsMap}
+use Rattle.arena_map.specs.Validity.{IsValidWorld}
 use Rattle.world_tree.specs.Live.{record_at, live_in}
 use Rattle.world_tree.specs.Queries.{is_near, near_in}
 use Rattle.plain_server.specs.RecordsById.{record_or_nobody, world_of}
+use Rattle.plain_server.proofs.Things.{live_inside}
 
 -- what holds of each record at its place holds of all live records
 pub each_live : (P : Rec → Type 0) (records : List (Option Rec)) → ((k : ℕ) (r : Rec) → record_at records k ≡ Some r → P r) → AllByRecursion P (live_in records)
@@ -66,41 +65,13 @@ touches_where_inside bounds r is inside =
     on : (lo hi l h al ah : _) → l ≤ℤ h → (int_le lo l && int_le h hi) ≡ true → (int_le al l && int_le h ah) ≡ true → (int_le al hi && int_le lo ah) ≡ true
     on lo hi l h al ah ordered inside grown = grind (arith, ints)
 
--- no thing is live where the map has none
-no_thing : (map : MapView) (thing : Option Rec) (r : Rec) → thing ≡ None → IsThing map thing (Some r) → ⊥
-no_thing map None r none is = is
-no_thing map (Some t) r none is = cc
-
--- each live record is that of a player
-live_kind : (map : MapView) (records : List (Option Rec)) (id : ℕ) (r : Rec) → IsValidWorld map records → entities_of map ≡ [] → record_at records id ≡ Some r → r.kind ≡ Player
-live_kind map records id r valid none at = by r.kind refl here.is_record.id
-  where
-    here : IsValidRecord map id r
-    here = valid.each id r at
-
-    no : 64 ≤ r.id → ⊥
-    no above =
-        let there : 64 ≤ id = omega (arith, above, here.own_id) in
-        let is : IsThing map (find (λ thing. thing.id == id) (entities_of map)) (Some r) = subst (λ (place : Option Rec). IsThing map (find (λ thing. thing.id == id) (entities_of map)) place) at (valid.things id there) in
-        no_thing map (find (λ thing. thing.id == id) (entities_of map)) r (ap (find (λ thing. thing.id == id)) none) is
-
-    by : (kind : Kind) → r.kind ≡ kind → IsIdOf r.kind r.id → r.kind ≡ Player
-    by Player e is = e
-    by Ammo e is = absurd (no (subst (λ (k : Kind). IsIdOf k r.id) e is).least)
-    by Gem e is = absurd (no (subst (λ (k : Kind). IsIdOf k r.id) e is).least)
-    by Teleporter e is = absurd (no (subst (λ (k : Kind). IsIdOf k r.id) e is).least)
-    by Goal e is = absurd (no (subst (λ (k : Kind). IsIdOf k r.id) e is).least)
-    by Lift e is = absurd (no (subst (λ (k : Kind). IsIdOf k r.id) e is).least)
-
 -- what touches the bounds of the arena, but for one record, are the other live records of a move
-pub near-others : (map : MapView) (records : List (Option Rec)) (slot : ℕ) → IsValidWorld map records
+pub near-others : (map : MapView) (records : List (Option Rec)) (slot : ℕ) → IsMap map → IsValidWorld map records
     → near_in records (map.bounds ∷ []) slot ≡ others_of (world_of records) slot
-near-others map records slot valid =
+near-others map records slot is valid =
     all_near (map.bounds ∷ []) slot (live_in records) (each_live (λ r. touches_region (abs_of r) (map.bounds ∷ []) ≡ true) records touch)
     ∙ sym (others-are records slot (λ id r at. (valid.each id r at).own_id))
   where
     touch : (k : ℕ) (r : Rec) → record_at records k ≡ Some r → touches_region (abs_of r) (map.bounds ∷ []) ≡ true
     touch k r at =
-        let here = valid.each k r at in
-        let inside = here.inside (live_kind map records k r valid refl at) in
-        ap (λ (b : Bool). b || false) (touches_where_inside map.bounds r here.is_record inside)
+        ap (λ (b : Bool). b || false) (touches_where_inside map.bounds r (valid.each k r at).is_record (live_inside map records k r is valid at))
