@@ -1,5 +1,5 @@
 -- One move, from what its code computes.
-use Rattle.std.proofs.Common.{◌≡◌, ℕ, ◌<◌, List, [], ◌∷◌, ◌++◌, All, Option, Some, None, IsSome, is_some, slice_set, refl, sym, ap, ◌∙◌, subst}
+use Rattle.std.proofs.Common.{◌≡◌, ℕ, ◌<◌, List, [], ◌∷◌, ◌++◌, All, Option, Some, None, IsSome, is_some, slice_set, sym, ap, ◌∙◌, subst}
 use Rattle.std.proofs.lemmas.List.{set-set}
 use Rattle.std.proofs.lemmas.List.Elements.{All-filter, All-from_recursion}
 use Rattle.arena_geo.specs.Bounds.{Bounds}
@@ -34,11 +34,11 @@ pub record RunsOne (map : MapView) (records : List (Option Rec)) (c : Command) (
   pub new_is : new ≡ after_move me moved c.seq
 
 -- the bodies are those of the other solids
-pub bodies_are : (map : MapView) (records : List (Option Rec)) (slot : ℕ) (region : List Bounds) (near taken : List Rec) (bodies : List Bounds) → IsValidWorld map records
+pub bodies_are : (map : MapView) (records : List (Option Rec)) (slot : ℕ) (region : List Bounds) (near taken : List Rec) (bodies : List Bounds) → IsMap map → IsValidWorld map records
     → region ≡ map.bounds ∷ [] → near ≡ near_in records region slot → taken ≡ near → bodies ≡ solid_bodies taken → bodies ≡ solid_bodies (others_of (world_of records) slot)
-bodies_are map records slot region near taken bodies valid region_is near_is taken_is bodies_is =
+bodies_are map records slot region near taken bodies is_map valid region_is near_is taken_is bodies_is =
     bodies_is
-    ∙ ap solid_bodies (taken_is ∙ near_is ∙ ap (λ (boxes : List Bounds). near_in records boxes slot) region_is ∙ near-others map records slot valid)
+    ∙ ap solid_bodies (taken_is ∙ near_is ∙ ap (λ (boxes : List Bounds). near_in records boxes slot) region_is ∙ near-others map records slot is_map valid)
 
 module _ (map : MapView) (records : List (Option Rec)) (c : Command) (me new : Rec) (moved : Moved) (runs : RunsOne map records c me new moved) where
   -- the effect of the command is that of the move
@@ -75,13 +75,13 @@ module _ (map : MapView) (records : List (Option Rec)) (c : Command) (me new : R
 
 -- the same, from what the code's calls ensure
 pub runs_one : (map : MapView) (records : List (Option Rec)) (c : Command) (slot : ℕ) (me new : Rec) (moved : Moved) (region : List Bounds) (near taken : List Rec) (bodies moving fixed : List Bounds)
-    → IsValidWorld map records → slot ≡ c.slot → record_at records slot ≡ Some me → region ≡ map.bounds ∷ [] → near ≡ near_in records region slot → taken ≡ near → bodies ≡ solid_bodies taken
+    → IsMap map → IsValidWorld map records → slot ≡ c.slot → record_at records slot ≡ Some me → region ≡ map.bounds ∷ [] → near ≡ near_in records region slot → taken ≡ near → bodies ≡ solid_bodies taken
     → moving ≡ bodies → fixed ≡ solids_of map → moved ≡ move_of me (asked c) (fixed ++ moving) → new ≡ after_move me moved c.seq → RunsOne map records c me new moved
-runs_one map records c slot me new moved region near taken bodies moving fixed valid slot_is at region_is near_is taken_is bodies_is moving_is fixed_is moved_is new_is = record {
+runs_one map records c slot me new moved region near taken bodies moving fixed is_map valid slot_is at region_is near_is taken_is bodies_is moving_is fixed_is moved_is new_is = record {
   at = ap (record_at records) (sym slot_is) ∙ at;
   moved_is = moved_is
       ∙ ap (λ (f : List Bounds). move_of me (asked c) (f ++ moving)) fixed_is
-      ∙ ap (λ (m : List Bounds). move_of me (asked c) (solids_of map ++ m)) (moving_is ∙ bodies_are map records slot region near taken bodies valid region_is near_is taken_is bodies_is)
+      ∙ ap (λ (m : List Bounds). move_of me (asked c) (solids_of map ++ m)) (moving_is ∙ bodies_are map records slot region near taken bodies is_map valid region_is near_is taken_is bodies_is)
       ∙ ap (λ (k : ℕ). move_of me (asked c) (solids_of map ++ solid_bodies (others_of (world_of records) k))) slot_is;
   new_is = new_is;
 }

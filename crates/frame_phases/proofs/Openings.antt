@@ -39,5 +39,5 @@ pub opened_is_server : (map : MapView) (records : List (Option Rec)) (clients : 
     → IsServer map (state_of clients records)
 opened_is_server map records clients is_map records_are nobody = record {
   is_map = is_map;
-  fits = subst (IsServerState map) (sym (opened-is map records clients records_are nobody)) (opening_is map);
+  fits = subst (IsServerState map) (sym (opened-is map records clients records_are nobody)) (opening_is map is_map);
 }

@@ -1,13 +1,9 @@
-use Rattle.std.proofs.Common.{refl, List, [], ◌∷◌, ◌++◌, Option, sym, subst, ◌∙◌, ap, All}
+use Rattle.std.proofs.Common.{refl, [], ◌∷◌, sym, subst, ◌∙◌, ap, All}
 use Rattle.arena_geo.specs.Bounds.{Bounds}
-use Rattle.entity_recs.specs.declared.rec.Rec.{Rec}
 use Rattle.entity_recs.specs.Records.{IsRecord}
 use Rattle.entity_recs.specs.Commands.{command_of}
-use Rattle.player_move.specs.Intents.{intent_of}
-use Rattle.player_move.specs.Moves.{move_of}
-use Rattle.world_tree.specs.Live.{record_at}
 use Rattle.world_tree.specs.Worlds.{WorldView}
-use Rattle.frame_phases.proofs.OneMove.{near_are_records, bodies_are, runs_one, RunsOne, origin-is, new_is_valid, new_is_live, relinked-is}
+use Rattle.frame_phases.proofs.OneMove.{near_are_records, runs_one, origin-is, new_is_valid, new_is_live, relinked-is}
 use Rattle.frame_phases.proofs.moves.run_move.Goals as goal
 
 pub take_solids-requires-clause-each : goal.take_solids-requires-clause-each
@@ -22,7 +18,7 @@ pub relink-requires-clause-record : goal.relink-requires-clause-record
 relink-requires-clause-record c =
     (new_is_valid c.args.map.now c.args.world.now.records (command_of c.args.cmd.now) c.unwrap-me.result c.after_move.result c.move_player-moved.result
     (runs_one c.args.map.now c.args.world.now.records (command_of c.args.cmd.now) c.from-slot.result c.unwrap-me.result c.after_move.result c.move_player-moved.result c.one.result c.near.new.out
-    c.as_slice.result.now c.take_solids.new.self c.as_slice-2.result.now c.solids.result.now c.requires.valid c.from-slot.ensures (sym c.get.ensures.record ∙ c.unwrap-me.ensures)
+    c.as_slice.result.now c.take_solids.new.self c.as_slice-2.result.now c.solids.result.now c.bounds.ensures.rules c.requires.valid c.from-slot.ensures (sym c.get.ensures.record ∙ c.unwrap-me.ensures)
     (c.one.ensures ∙ ap (λ (b : Bounds). b ∷ []) c.bounds.ensures.value) c.near.ensures.records c.as_slice.ensures.value c.take_solids.ensures.bodies c.as_slice-2.ensures c.solids.ensures.value
     c.move_player-moved.ensures.value c.after_move.ensures)
     c.bounds.ensures.rules c.requires.valid c.requires.live.slot).is_record
@@ -31,7 +27,7 @@ pub relink-requires-clause-live : goal.relink-requires-clause-live
 relink-requires-clause-live c =
     new_is_live c.args.map.now c.args.world.now.records (command_of c.args.cmd.now) c.unwrap-me.result c.after_move.result c.move_player-moved.result
     (runs_one c.args.map.now c.args.world.now.records (command_of c.args.cmd.now) c.from-slot.result c.unwrap-me.result c.after_move.result c.move_player-moved.result c.one.result c.near.new.out
-    c.as_slice.result.now c.take_solids.new.self c.as_slice-2.result.now c.solids.result.now c.requires.valid c.from-slot.ensures (sym c.get.ensures.record ∙ c.unwrap-me.ensures)
+    c.as_slice.result.now c.take_solids.new.self c.as_slice-2.result.now c.solids.result.now c.bounds.ensures.rules c.requires.valid c.from-slot.ensures (sym c.get.ensures.record ∙ c.unwrap-me.ensures)
     (c.one.ensures ∙ ap (λ (b : Bounds). b ∷ []) c.bounds.ensures.value) c.near.ensures.records c.as_slice.ensures.value c.take_solids.ensures.bodies c.as_slice-2.ensures c.solids.ensures.value
     c.move_player-moved.ensures.value c.after_move.ensures)
     c.bounds.ensures.rules c.requires.valid c.requires.live.slot
@@ -40,7 +36,7 @@ pub returns-clause-origin : goal.returns-clause-origin
 returns-clause-origin c =
     origin-is c.args.map.now c.args.world.now.records (command_of c.args.cmd.now) c.unwrap-me.result c.after_move.result c.move_player-moved.result
     (runs_one c.args.map.now c.args.world.now.records (command_of c.args.cmd.now) c.from-slot.result c.unwrap-me.result c.after_move.result c.move_player-moved.result c.one.result c.near.new.out
-    c.as_slice.result.now c.take_solids.new.self c.as_slice-2.result.now c.solids.result.now c.requires.valid c.from-slot.ensures (sym c.get.ensures.record ∙ c.unwrap-me.ensures)
+    c.as_slice.result.now c.take_solids.new.self c.as_slice-2.result.now c.solids.result.now c.bounds.ensures.rules c.requires.valid c.from-slot.ensures (sym c.get.ensures.record ∙ c.unwrap-me.ensures)
     (c.one.ensures ∙ ap (λ (b : Bounds). b ∷ []) c.bounds.ensures.value) c.near.ensures.records c.as_slice.ensures.value c.take_solids.ensures.bodies c.as_slice-2.ensures c.solids.ensures.value
     c.move_player-moved.ensures.value c.after_move.ensures)
 
@@ -49,7 +45,7 @@ returns-clause-moved c =
     ap (λ (w : WorldView). w.records) c.relink.ensures.world
     ∙ relinked-is c.args.map.now c.args.world.now.records (command_of c.args.cmd.now) c.unwrap-me.result c.after_move.result c.move_player-moved.result
     (runs_one c.args.map.now c.args.world.now.records (command_of c.args.cmd.now) c.from-slot.result c.unwrap-me.result c.after_move.result c.move_player-moved.result c.one.result c.near.new.out
-    c.as_slice.result.now c.take_solids.new.self c.as_slice-2.result.now c.solids.result.now c.requires.valid c.from-slot.ensures (sym c.get.ensures.record ∙ c.unwrap-me.ensures)
+    c.as_slice.result.now c.take_solids.new.self c.as_slice-2.result.now c.solids.result.now c.bounds.ensures.rules c.requires.valid c.from-slot.ensures (sym c.get.ensures.record ∙ c.unwrap-me.ensures)
     (c.one.ensures ∙ ap (λ (b : Bounds). b ∷ []) c.bounds.ensures.value) c.near.ensures.records c.as_slice.ensures.value c.take_solids.ensures.bodies c.as_slice-2.ensures c.solids.ensures.value
     c.move_player-moved.ensures.value c.after_move.ensures)
     c.args.world.now refl c.bounds.ensures.rules c.requires.valid c.requires.live.slot
