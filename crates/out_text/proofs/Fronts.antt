@@ -97,7 +97,7 @@ module _ (workers : ℕ) (bytes : List ℕ) (arena : MapView) (played : IsPlayed
   -- the entries of the journals of the first frames can be read back
   reported : (closed : List (List Arrival)) (js : List (List Entry)) → GoesOnWith closed (frames_of bytes) → AreRun workers arena closed js → AreAllReported js
   reported closed js on run =
-      right_are_reported arena 0 (opening arena) closed js played.is_map (opening_is arena) (fore_have_bytes closed (frames_of bytes) on (frames_have_bytes bytes)) run.right
+      right_are_reported arena 0 (opening arena) closed js played.is_map (opening_is arena played.is_map) (fore_have_bytes closed (frames_of bytes) on (frames_have_bytes bytes)) run.right
 
   few : (closed : List (List Arrival)) → GoesOnWith closed (frames_of bytes) → 0 + length closed ≤ 4294967295
   few closed on = omega (arith, length-goes_on closed (frames_of bytes) on, frames_are_few bytes)
