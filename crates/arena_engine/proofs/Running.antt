@@ -13,7 +13,7 @@ use Rattle.demo_lines.specs.declared.demo_stop.DemoStop.{DemoStop}
 use Rattle.demo_lines.specs.declared.demo_stop.DemoStop.TheVariants as demo_stop
 use Rattle.demo_lines.specs.Recording.{Reading, start, is_over, is_map_whole, without_map, having_map}
 use Rattle.demo_lines.specs.Readings.{IsReading}
-use Rattle.demo_lines.specs.Reads.{DemoReaderView, fresh_reader, IsOpen, Reads, ReadsFront, Refuses, EndsAt, stage_after}
+use Rattle.demo_lines.specs.Reads.{DemoReaderView, fresh_reader, map_taken, IsOpen, Reads, ReadsFront, Refuses, EndsAt, stage_after}
 use Rattle.demo_lines.specs.Reads as reads_of
 use Rattle.demo_lines.proofs.Walks.{whole_after}
 use Rattle.demo_lines.proofs.Given.{Reads-given, Reads-no_map, ReadsFront-given, EndsAt-given, Refuses-given}
@@ -269,6 +269,14 @@ module _ {S : Type 0} (last : S → ℕ) (ended : S → Bool) (sure : S → Type
   unread_first s0 s1 demo demo' is needed same keeps =
       let P : DemoReaderView → Type 0 = λ d. HasNotReadAhead s0 s1 (last s1) d.pending demo'.pending in
       record { needed = subst P is needed; same_end = same; keeps = keeps }
+
+  -- the first event was read, and then the map was given out
+  pub runs_first : (demo' taken : DemoReaderView) (arena : MapView) (a l t : Option (List ℕ)) (g : GameView) (e : Event) (m0 m1 n k : ℕ) (s0 s1 : S) → taken ≡ map_taken demo'
+      → Progress 1 arena demo'.reading a (ahead demo'.pending l) t t g e → demo'.stop ≡ None → m1 ≡ m0 → Unread last ended sure s0 s1 demo'.pending
+      → Runs taken a (ahead taken.pending l) t t g e m0 m1 n n k k × Unread last ended sure s0 s1 taken.pending
+  runs_first demo' taken arena a l t g e m0 m1 n k s0 s1 is progress no_stop same unread =
+      let P : DemoReaderView → Type 0 = λ d. Runs d a (ahead d.pending l) t t g e m0 m1 n n k k × Unread last ended sure s0 s1 d.pending in
+      subst P (sym is) (record { arena = arena; full = demo'.reading; given = refl; progress = progress; no_stop = no_stop; read_same = same; write_same = refl; roomy = omega arith }, unread)
 
   -- and more
   pub unread_on : (s0 s1 s2 : S) (pending pending' : List ℕ) → Unread last ended sure s0 s1 pending → HasNotReadAhead s1 s2 (last s2) pending pending' → ended s2 ≡ ended s1 → (sure s1 → sure s2)
