@@ -1,2 +1,7 @@
 -- Lemmas on the words, and on how a recording is played.
 pub mod Words
+pub mod Closing
+pub mod Continuing
+pub mod Exits
+pub mod Playing
+mod Running

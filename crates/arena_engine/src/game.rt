@@ -67,19 +67,21 @@ impl Game {
         ensures opened { OnOk result (self.new.opened ≡ None) }
     {
         let mut text = String::new(alloc);
-        if self.is_open {
-            self.server.run_frame(self.arrivals.as_slice(), &mut self.out);
-            push_frame_lines(
-                alloc,
-                &mut text,
-                &mut self.reply,
-                self.out.frame,
-                &self.out.received,
-                self.out.journal.as_slice(),
-                self.server.before_leaves(),
-            )?;
-            self.is_open = false;
+        if !self.is_open {
+            return Ok(text);
         }
+        self.server
+            .run_frame(self.arrivals.as_slice(), &mut self.out);
+        push_frame_lines(
+            alloc,
+            &mut text,
+            &mut self.reply,
+            self.out.frame,
+            &self.out.received,
+            self.out.journal.as_slice(),
+            self.server.before_leaves(),
+        )?;
+        self.is_open = false;
         Ok(text)
     }
 

@@ -1,0 +1,172 @@
+-- How the playing of a recording ends, and what was written then.
+use Rattle.std.proofs.Common.{◌≡◌, ℕ, true, List, [], ◌∷◌, ◌++◌, length, ◌⊎◌, inl, inr, Option, Some, None, IfSome, IsSome, refl, sym, ap, ◌∙◌, subst, append_assoc, append-nil}
+use Rattle.std.specs.Io.KnownBytes.{Appends, Consumes}
+use Rattle.std.proofs.lemmas.Grind.{flat_map-append}
+use Rattle.std.proofs.KnownBytes.{Appends-nil, Consumes-trans}
+use Rattle.arena_map.specs.Maps.{MapView, IsMap}
+use Rattle.entity_recs.specs.declared.effect.Entry.{Entry}
+use Rattle.demo_lines.specs.Recording.{Reading}
+use Rattle.demo_lines.specs.declared.event.Event.{Event}
+use Rattle.demo_lines.specs.Recording.{start, next, events_of_line, after, events_of, is_map_whole, is_over}
+use Rattle.edge_io.specs.Lines.{HasNoLineFeed, HasNotReadAhead, ahead}
+use Rattle.edge_io.proofs.ReadingAhead.{HasNotReadAhead-trans}
+use Rattle.edge_io.specs.WholeLines.{unlines}
+use Rattle.demo_lines.specs.Bytes.{events_in, events, fault}
+use Rattle.demo_lines.specs.Reads.{Reads, ReadsFront, Refuses, IsRefusedLine, IsLongFront, IsLastPart, EndsAt}
+use Rattle.demo_lines.proofs.Machines.{run_of-append, outputs_of-append}
+use Rattle.edge_io.proofs.Feeds.{whole_lines-unlines, whole_lines-none, each_of_both}
+use Rattle.out_text.specs.Collecting.{collected, frames_of}
+use Rattle.out_text.specs.Output.{IsFront, IsAllFrames, IsRefused, IsSomeFrames}
+use Rattle.arena_engine.specs.Output.{Writes, ReadsSome, ReadsToRefusal}
+use Rattle.demo_lines.proofs.MapGiven.{after-whole, after-kept}
+use Rattle.out_text.proofs.Fronts.{AreRun, IsPlayed, text_with, no_front, is_front, is_all_frames}
+use Rattle.arena_engine.proofs.Continuing.{continues, continues_lines, map_of-whole, frames_of-all, goes_on_frames}
+
+-- ---- before the first event
+
+-- memory was refused before the first event was played
+pub memory_at_first : (workers : ℕ) (a : Option (List ℕ)) (t : Option (List ℕ)) → IfSome a (λ bytes. Writes t t (IsSomeFrames workers bytes))
+memory_at_first workers None t = tt
+memory_at_first workers (Some bytes) t = record { text = []; written = Appends-nil t; holds = record { k = 0; front = no_front workers bytes } }
+
+frames_of-none : (bytes : List ℕ) → events bytes ≡ [] → frames_of bytes ≡ []
+frames_of-none bytes none = ap (λ es. (collected es).closed) none
+
+all_of_none : (workers : ℕ) (bytes : List ℕ) → events bytes ≡ [] → IsAllFrames workers bytes []
+all_of_none workers bytes none =
+    let P : ℕ → Type 0 = λ k. IsFront workers bytes k [] in subst P (ap length (sym (frames_of-none bytes none))) (no_front workers bytes)
+
+some_is_some : {X : Type 0} (o : Option X) (x : X) → o ≡ Some x → IsSome o
+some_is_some None x is = cc
+some_is_some (Some y) x is = refl
+
+-- the recording was refused before it gave an event
+pub refused_at_first : (workers : ℕ) (a : Option (List ℕ)) (t : Option (List ℕ)) (n : ℕ) → IfSome a (EndsAt start n) → IfSome a (λ bytes. Writes t t (IsRefused workers bytes))
+refused_at_first workers None t n ends = tt
+refused_at_first workers (Some bytes) t n ends = record {
+  text = [];
+  written = Appends-nil t;
+  holds = record { faulty = some_is_some (fault bytes) n ends.fault; frames = all_of_none workers bytes ends.events };
+}
+
+-- the source failed before the first event
+pub fault_at_first : (workers : ℕ) (a l : Option (List ℕ)) (t : Option (List ℕ)) → ReadsFront start a l [] → ReadsSome workers a l t t
+fault_at_first workers a l t reads =
+    let bytes = unlines reads.lines ++ reads.front in
+    let cut = whole_lines-unlines reads.lines reads.front reads.each ∙ ap (λ ls. reads.lines ++ ls) (whole_lines-none reads.front reads.one_line) ∙ append-nil reads.lines in
+    record {
+      lines = reads.lines;
+      front = reads.front;
+      each = reads.each;
+      one_line = reads.one_line;
+      fits = reads.fits;
+      going = reads.going;
+      consumed = reads.consumed;
+      frames = record { text = []; written = Appends-nil t; holds = all_of_none workers bytes (ap (events_of start) cut ∙ reads.events) };
+    }
+
+-- ---- while frames are played
+
+module _ (workers : ℕ) (arena : MapView) (r : Reading) (a b : Option (List ℕ)) (t0 t1 : Option (List ℕ)) (es : List Event) (js : List (List Entry)) where
+  -- all events so far were played, with these journals
+  pub record Played : Type 0 where
+    pub reads : Reads start r a b es
+    pub whole : is_map_whole r.stage ≡ true
+    pub map : r.map ≡ Some arena
+    pub is_map : IsMap arena
+    pub run : AreRun workers arena (collected es).closed js
+    pub written : Appends t0 t1 (text_with arena (collected es).closed js)
+
+  -- memory was refused
+  pub memory_on : Played → IfSome a (λ bytes. Writes t0 t1 (IsSomeFrames workers bytes))
+  memory_on played =
+      continues r a b es (λ bytes. Writes t0 t1 (IsSomeFrames workers bytes)) played.reads (λ bytes rest is so.
+      let has = map_of-whole r es bytes rest arena so played.whole played.map in
+      record {
+        text = text_with arena (collected es).closed js;
+        written = played.written;
+        holds = record {
+          k = length (collected es).closed;
+          front = is_front workers bytes arena (record { has = has; is_map = played.is_map }) (collected es).closed js (goes_on_frames r es bytes rest so) played.run;
+        };
+      })
+
+  -- the recording was refused
+  pub refused_on : (n : ℕ) → Played → IfSome b (EndsAt r n) → IfSome a (λ bytes. Writes t0 t1 (IsRefused workers bytes))
+  refused_on n played ends =
+      continues r a b es (λ bytes. Writes t0 t1 (IsRefused workers bytes)) played.reads (λ bytes rest is so.
+      let here : EndsAt r n rest = let P : Option (List ℕ) → Type 0 = λ o. IfSome o (EndsAt r n) in subst P is ends in
+      let has = map_of-whole r es bytes rest arena so played.whole played.map in
+      record {
+        text = text_with arena (collected es).closed js;
+        written = played.written;
+        holds = record {
+          faulty = some_is_some (fault bytes) n (so.fault_is ∙ here.fault);
+          frames = is_all_frames workers bytes arena (record { has = has; is_map = played.is_map }) (collected es).closed js (frames_of-all r es bytes rest so here.events) played.run;
+        };
+      })
+
+  -- the source failed
+  pub fault_on : (l : Option (List ℕ)) → Played → ReadsFront r b l [] → ReadsSome workers a l t0 t1
+  fault_on l played reads =
+      let lines = played.reads.lines ++ reads.lines in
+      let u = after r reads.lines in
+      let bytes = unlines lines ++ reads.front in
+      let each = each_of_both HasNoLineFeed played.reads.lines reads.lines played.reads.each reads.each in
+      let cut = whole_lines-unlines lines reads.front each in
+      let joined : unlines lines ++ reads.front ≡ unlines played.reads.lines ++ (unlines reads.lines ++ reads.front) =
+      ap (λ bs. bs ++ reads.front) (flat_map-append (λ line. line ++ 10 ∷ []) played.reads.lines reads.lines)
+      ∙ append_assoc (unlines played.reads.lines) (unlines reads.lines) reads.front in
+      let reached : u ≡ after start lines =
+      ap (λ t. after t reads.lines) played.reads.reached ∙ sym (run_of-append next events_of_line start played.reads.lines reads.lines) in
+      let given : events_of start lines ≡ es =
+      outputs_of-append next events_of_line start played.reads.lines reads.lines
+      ∙ ap (λ t. events_of start played.reads.lines ++ events_of t reads.lines) (sym played.reads.reached)
+      ∙ ap (λ xs. events_of start played.reads.lines ++ xs) reads.events ∙ append-nil (events_of start played.reads.lines) ∙ played.reads.events in
+      let so = continues_lines u lines es bytes reads.front cut reached given in
+      let has = map_of-whole u es bytes reads.front arena so (after-whole r reads.lines played.whole) (after-kept r reads.lines played.whole ∙ played.map) in
+      let none : events_in u reads.front ≡ [] = ap (events_of u) (whole_lines-none reads.front reads.one_line) in
+      record {
+        lines = lines;
+        front = reads.front;
+        each = each;
+        one_line = reads.one_line;
+        fits = reads.fits;
+        going = ap (λ (t : Reading). is_over t.stage) (sym reached) ∙ reads.going;
+        consumed = subst (Consumes a l) (sym joined) (Consumes-trans a b l (unlines played.reads.lines) (unlines reads.lines ++ reads.front) played.reads.consumed reads.consumed);
+        frames = record {
+          text = text_with arena (collected es).closed js;
+          written = played.written;
+          holds = is_all_frames workers bytes arena (record { has = has; is_map = played.is_map }) (collected es).closed js (frames_of-all u es bytes reads.front so none) played.run;
+        };
+      }
+
+-- lines were taken, and then a refusal
+pub refusal_on : {S : Type 0} (last : S → ℕ) (s0 s1 s2 : S) (r : Reading) (a b l : Option (List ℕ)) (es : List Event) (n : ℕ) (pending buffered : List ℕ)
+    (same_then same at_end : Type 0) → Reads start r a b es → HasNotReadAhead s0 s1 (last s1) [] pending → (same_then → same)
+    → Refuses r b (ahead buffered l) n (HasNotReadAhead s1 s2 (last s2) pending buffered × same_then) at_end
+    → ReadsToRefusal s0 s2 (last s2) same at_end a l
+refusal_on last s0 s1 s2 r a b l es n pending buffered same_then same at_end reads needed same_end refuses =
+    let lines = reads.lines ++ refuses.lines in
+    let reached : after r refuses.lines ≡ after start lines =
+    ap (λ t. after t refuses.lines) reads.reached ∙ sym (run_of-append next events_of_line start reads.lines refuses.lines) in
+    let joined : unlines lines ++ refuses.last ≡ unlines reads.lines ++ (unlines refuses.lines ++ refuses.last) =
+    ap (λ bs. bs ++ refuses.last) (flat_map-append (λ line. line ++ 10 ∷ []) reads.lines refuses.lines)
+    ∙ append_assoc (unlines reads.lines) (unlines refuses.lines) refuses.last in
+    let c = ahead buffered l in
+    let Why : Reading → Type 0 = λ t.
+    ((IsRefusedLine t refuses.last ⊎ IsLongFront refuses.last) × (HasNotReadAhead s0 s2 (last s2) [] buffered × same)) ⊎ (IsLastPart refuses.last c × at_end) in
+    record {
+      lines = lines;
+      refused = refuses.last;
+      buffered = buffered;
+      each = each_of_both HasNoLineFeed reads.lines refuses.lines reads.each refuses.each;
+      consumed = subst (Consumes a c) (sym joined) (Consumes-trans a b c (unlines reads.lines) (unlines refuses.lines ++ refuses.last) reads.consumed refuses.consumed);
+      going = ap (λ (t : Reading). is_over t.stage) (sym reached) ∙ refuses.going;
+      why = subst Why reached (why_on refuses.refused);
+    }
+  where
+    why_on : ((IsRefusedLine (after r refuses.lines) refuses.last ⊎ IsLongFront refuses.last) × (HasNotReadAhead s1 s2 (last s2) pending buffered × same_then)) ⊎ (IsLastPart refuses.last (ahead buffered l) × at_end)
+        → ((IsRefusedLine (after r refuses.lines) refuses.last ⊎ IsLongFront refuses.last) × (HasNotReadAhead s0 s2 (last s2) [] buffered × same)) ⊎ (IsLastPart refuses.last (ahead buffered l) × at_end)
+    why_on (inl (line, (more, at))) = inl (line, (HasNotReadAhead-trans last s0 s1 s2 [] pending buffered needed more, same_end at))
+    why_on (inr (last_part, at)) = inr (last_part, at)
