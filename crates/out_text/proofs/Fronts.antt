@@ -1,7 +1,6 @@
 -- The texts of the first frames of a recording, and of all of them, with right journals.
-use Rattle.std.proofs.Common.{◌≡◌, ℕ, ◌+◌, ◌-◌, ◌<◌, ◌≤◌, List, [], ◌∷◌, ◌++◌, length, take, drop, Option, Some, None, refl, sym, ap, ◌∙◌, subst, append_assoc, append-nil, arith, length-append, take-append-drop}
+use Rattle.std.proofs.Common.{◌≡◌, ℕ, ◌+◌, ◌-◌, ◌<◌, ◌≤◌, List, [], ◌∷◌, ◌++◌, length, take, drop, Option, Some, None, refl, sym, ap, ◌∙◌, subst, append_assoc, arith, length-append, take-append-drop}
 use lib.Seq.{take-append-add, take-append_seam, length-take-le}
-use Rattle.std.proofs.lemmas.List.{take-append-le}
 use Rattle.entity_recs.specs.declared.effect.Entry.{Entry}
 use Rattle.arena_map.specs.Maps.{MapView, IsMap}
 use Rattle.client_ports.specs.declared.arrival.Arrival.{Arrival}
@@ -13,9 +12,9 @@ use Rattle.demo_lines.specs.Bytes.{fault, map_of}
 use Rattle.out_text.specs.OutLines.{OutLine, EndLine, text_of}
 use Rattle.out_text.specs.FrameLines.{lines_with, run_lines}
 use Rattle.out_text.specs.Journals.{dids}
-use Rattle.out_text.specs.Collecting.{Frames, closing, frames_of}
+use Rattle.out_text.specs.Collecting.{frames_of}
 use Rattle.out_text.specs.Output.{lines_in, AreRightIn, AreInOrderIn, front_text, out_text, IsFront, IsAllFrames, IsOutput, IsPart, IsCutFrame, IsCutEnd}
-use Rattle.out_text.proofs.Runs.{length-right, run_lines-push, right-take, in_order-take, run_lines-take, text_of-append, fewer_are_shorter}
+use Rattle.out_text.proofs.Runs.{length-right, run_lines-push, right-take, in_order-take, text_of-append, fewer_are_shorter}
 use Rattle.out_text.proofs.ReadBack.{AreAllReported, dids-run, dids-whole}
 use Rattle.out_text.proofs.Reporting.{right_are_reported}
 use Rattle.out_text.proofs.Growing.{GoesOnWith, goes_on_all, take-goes_on, length-goes_on}

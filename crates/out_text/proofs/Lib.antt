@@ -10,5 +10,6 @@ pub mod Growing
 pub mod Agreement
 pub mod Fewness
 pub mod Arrivals
+pub mod KeptRules
 pub mod Fronts
 pub mod Outputs

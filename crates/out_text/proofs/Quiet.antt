@@ -15,7 +15,7 @@ use Rattle.client_ports.specs.declared.refusal.Refusal.{Refusal}
 use Rattle.client_ports.specs.declared.refusal.Refusal.TheVariants.{Packet, Already, Full, Crowded, NotJoined, Leaving, Old, Many}
 use Rattle.packet_read.specs.declared.packet_fault.PacketFault.{PacketFault}
 use Rattle.packet_read.specs.declared.packet_fault.PacketFault.TheVariants.{Empty, Version, Kind, Short, Long, Time, Buttons}
-use Rattle.out_text.specs.Entries.{Did, journal_from}
+use Rattle.out_text.specs.Dids.{Did, journal_from}
 use Rattle.out_text.specs.OutLines.{OutLine, FrameLine, NoLine, JoinedLine, DidLine, ToLine, EndLine, fault_name_of, name_of, ids_text, spelled, text_of}
 use Rattle.out_text.specs.Journals.{Mark, Other, frame_mark, did_mark, number_at, did_in, mark_of, Split, onto, split_at_frames, dids}
 

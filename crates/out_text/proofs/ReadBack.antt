@@ -3,17 +3,15 @@ use Rattle.std.proofs.Common.{◌≡◌, ℕ, suc, ◌+◌, ◌^◌, ◌<◌, �
 use Rattle.std.proofs.lemmas.Bool.{and_from}
 use Rattle.std.proofs.lemmas.Bool.Decides.{nat_tests}
 use Rattle.std.specs.List.{list_all, AllByRecursion}
-use Rattle.entity_recs.specs.declared.rec.Rec.{Rec}
 use Rattle.entity_recs.specs.declared.effect.Entry.{Entry}
 use Rattle.arena_map.specs.Maps.{MapView}
 use Rattle.world_tree.specs.Live.{live_in}
 use Rattle.client_ports.specs.declared.arrival.Arrival.{Arrival}
-use Rattle.client_ports.specs.Lists.{Lists}
 use Rattle.client_ports.specs.States.{State}
 use Rattle.client_ports.specs.Receiving.{Receiving, received}
 use Rattle.plain_server.specs.Entries.{IsReported, AreReported}
 use Rattle.plain_server.specs.Frames.{moved_by, state_after}
-use Rattle.out_text.specs.Entries.{Did, did_of, journal_from}
+use Rattle.out_text.specs.Dids.{Did, did_of, journal_from}
 use Rattle.out_text.specs.OutLines.{OutLine, EndLine, text_of}
 use Rattle.out_text.specs.FrameLines.{no_line, joined_line, to_line, players_in, lines_with, run_lines}
 use Rattle.out_text.specs.Journals.{is_coordinate, is_reportable, dids}

@@ -14,7 +14,7 @@ use Rattle.edge_io.specs.Fields.{◌>>=◌}
 use Rattle.edge_io.proofs.Decimals.{own, and_parts, first_of_decimal, natural-decimal, integer-decimal}
 use Rattle.edge_io.specs.Numbers.{is_digit, natural_up_to, integer_up_to}
 use Rattle.entity_recs.specs.declared.effect.Entry.{Entry}
-use Rattle.out_text.specs.Entries.{Did, did_of}
+use Rattle.out_text.specs.Dids.{Did, did_of}
 use Rattle.out_text.specs.OutLines.{OutLine, FrameLine, DidLine, ids_text, spelled}
 use Rattle.out_text.specs.FrameLines.{did_line}
 use Rattle.out_text.specs.Laws.{IsFrameLine, DidLinesAreRead, FrameLinesAreRead}

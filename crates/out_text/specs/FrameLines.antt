@@ -14,7 +14,7 @@ use Rattle.client_ports.specs.States.{State}
 use Rattle.client_ports.specs.Receiving.{Receiving, received}
 use Rattle.plain_server.specs.Frames.{moved_by, state_after, first_of, rest_of}
 use Rattle.snapshot_write.specs.Snapshots.{snapshot}
-use Rattle.out_text.specs.Entries.{did_of}
+use Rattle.out_text.specs.Dids.{did_of}
 use Rattle.out_text.specs.OutLines.{OutLine, FrameLine, NoLine, JoinedLine, DidLine, ToLine}
 
 -- the line of a packet that was refused

@@ -6,7 +6,7 @@ use Rattle.edge_io.specs.Fields.{cut, field_at}
 use Rattle.edge_io.specs.Fields.{◌>>=◌}
 use Rattle.edge_io.specs.WholeLines.{whole_lines}
 use Rattle.entity_recs.specs.declared.effect.Entry.{Entry}
-use Rattle.out_text.specs.Entries.{Did, journal_from}
+use Rattle.out_text.specs.Dids.{Did, journal_from}
 use Rattle.out_text.specs.OutLines.{OutLine, FrameLine, DidLine, spelled}
 
 -- a number of at most limit, and what follows it

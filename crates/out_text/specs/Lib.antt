@@ -5,6 +5,7 @@ pub use Rattle.edge_io.specs.WholeLines
 pub use Rattle.entity_recs.specs.Commands
 pub use Rattle.entity_recs.specs.Worlds
 pub use Rattle.entity_recs.specs.Histories
+pub use Rattle.move_journal.specs.Entries
 pub use Rattle.move_journal.specs.Merges
 pub use Rattle.arena_map.specs.Maps
 pub use Rattle.world_tree.specs.Live
@@ -16,7 +17,7 @@ pub use Rattle.plain_server.specs.Frames
 pub use Rattle.demo_lines.specs.Bytes
 pub use Rattle.demo_lines.specs.Spelling
 pub use Rattle.snapshot_write.specs.Snapshots
-pub mod Entries
+pub mod Dids
 pub mod OutLines
 pub mod FrameLines
 pub mod Printing

@@ -7,7 +7,7 @@ use Rattle.client_ports.specs.declared.refusal.Refusal.{Refusal}
 use Rattle.client_ports.specs.declared.refusal.Refusal.TheVariants.{Packet, Already, Full, Crowded, NotJoined, Leaving, Old, Many}
 use Rattle.packet_read.specs.declared.packet_fault.PacketFault.{PacketFault}
 use Rattle.packet_read.specs.declared.packet_fault.PacketFault.TheVariants.{Empty, Version, Kind, Short, Long, Time, Buttons}
-use Rattle.out_text.specs.Entries.{Did}
+use Rattle.out_text.specs.Dids.{Did}
 
 -- one line of the output
 pub data OutLine : Type 0 where

@@ -2,7 +2,8 @@
 #![tactic(auto)]
 
 pub use laws::{
-    one_worker_has_one_output, only_printed_lines_are_read, written_recordings_have_outputs,
+    faultless_recordings_have_outputs, one_worker_has_one_output, only_printed_lines_are_read,
+    outputs_spell_their_journals, written_recordings_have_outputs,
 };
 pub use out_line::{OutLine, Printed};
 pub use text::{push_frame_lines, push_line};
@@ -10,4 +11,6 @@ pub use text::{push_frame_lines, push_line};
 mod laws;
 mod names;
 mod out_line;
+#[cfg(test)]
+mod tests;
 mod text;

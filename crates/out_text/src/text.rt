@@ -1,4 +1,4 @@
-ghost use Rattle.std.specs.Prelude.{◌≡◌, ◌<◌, ◌++◌, map, OnOk, string_bytes};
+ghost use Rattle.std.specs.Prelude.{◌≡◌, ◌++◌, map, OnOk, string_bytes};
 ghost use Rattle.move_journal.specs.Entries.{entry_value};
 ghost use Rattle.world_tree.specs.Worlds.{record_of};
 ghost use Rattle.out_text.specs.OutLines.{printed, text_of, FrameLine, NoLine, JoinedLine, ToLine, EndLine};

@@ -6,3 +6,5 @@ pub use snapshot::write_snapshot;
 
 mod reply_buf;
 mod snapshot;
+#[cfg(test)]
+mod tests;

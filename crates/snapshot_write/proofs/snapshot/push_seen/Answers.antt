@@ -1,4 +1,4 @@
-use Rattle.std.proofs.Common.{rules, ◌+◌, arith, length-drop}
+use Rattle.std.proofs.Common.{◌+◌, arith, length-drop}
 use Rattle.snapshot_write.specs.Snapshots.{entity_bytes}
 use Rattle.snapshot_write.proofs.Appending.{bytes_step}
 use Rattle.snapshot_write.proofs.snapshot.push_seen.Goals as goal

@@ -1,7 +1,4 @@
-use Rattle.std.proofs.Common.{◌≡◌, ℕ, ◌+◌, List, [], ◌∷◌, length, sym, ap, ◌∙◌, arith}
-use Rattle.entity_recs.specs.declared.rec.Rec.{Rec}
-use Rattle.world_tree.specs.Live.{live_in}
-use Rattle.snapshot_write.specs.Snapshots.{own_bytes, seen_by}
+use Rattle.std.proofs.Common.{ℕ, ◌+◌, List, length, ap, ◌∙◌}
 use Rattle.snapshot_write.proofs.Written.{IsLookedUp, entry_at, seen_is, room_for, snapshot_is}
 use Rattle.snapshot_write.proofs.snapshot.write_snapshot.Goals as goal
 

@@ -1,0 +1,190 @@
+ghost use Rattle.std.specs.Prelude.{◌≡◌, ◌<◌};
+ghost use Rattle.arena_geo.specs.Vectors.{IsNear};
+ghost use Rattle.entity_recs.specs.Records.{IsRecord};
+
+use super::*;
+use arena_geo::{Aabb, Vec3};
+use client_ports::{Joined, Received, Refusal, Refused};
+use entity_recs::{Kind, PLAYER_MAXS, PLAYER_MINS, Rec};
+use move_journal::Entry;
+use packet_read::PacketFault;
+use snapshot_write::ReplyBuf;
+use std::alloc::AllocGlobal;
+use std::process::Abort;
+use std::test::Fail;
+use world_tree::World;
+
+/// The frame of the row of three moves, with a player more.
+const FRAME: &str =
+    "frame 1\ndid 0 1 2048 0 6144 -\ndid 0 2 5734 0 6144 -\ndid 0 3 9830 0 6144 -\nto 0 01010000000066260000000000000018000000400100000000000000000001000000000000030000000000\nto 63 01010000003f6044f2ff000000000018000000000000000000000000000000000000000000000000000000\n";
+
+fn at(x: i32, y: i32, z: i32) -> Vec3
+    ensures { result ≡ record { x = x; y = y; z = z } }
+{
+    Vec3 { x, y, z }
+}
+
+/// A player in this slot, here and at rest.
+fn player(id: u16, origin: Vec3) -> Rec
+    requires slot { id < 64 }
+    requires near { IsNear 1048576 origin }
+    ensures { IsRecord result }
+{
+    Rec {
+        id,
+        kind: Kind::Player,
+        origin,
+        mins: PLAYER_MINS,
+        maxs: PLAYER_MAXS,
+        vel: Vec3::ZERO,
+        flags: 0,
+        ammo: 0,
+        carry: 0,
+        score: 0,
+        seq: 0,
+        state: 0,
+    }
+}
+
+/// The player in slot 0 after three moves along x.
+fn player_that_moved() -> Rec
+    ensures { IsRecord result }
+{
+    Rec {
+        id: 0,
+        kind: Kind::Player,
+        origin: at(9_830, 0, 6_144),
+        mins: PLAYER_MINS,
+        maxs: PLAYER_MAXS,
+        vel: at(81_920, 0, 0),
+        flags: 1,
+        ammo: 0,
+        carry: 0,
+        score: 0,
+        seq: 3,
+        state: 0,
+    }
+}
+
+/// A thing of the map that is out of all players' sight.
+fn far_goal() -> Rec
+    ensures { IsRecord result }
+{
+    Rec {
+        id: 64,
+        kind: Kind::Goal,
+        origin: at(0, 900_000, 0),
+        mins: Vec3::ZERO,
+        maxs: at(8_192, 8_192, 8_192),
+        vel: Vec3::ZERO,
+        flags: 0,
+        ammo: 0,
+        carry: 0,
+        score: 0,
+        seq: 0,
+        state: 0,
+    }
+}
+
+/// The world after the moves of the row of three moves, with a player far off in the last slot, and a goal.
+fn world_after_moves(rt: &(impl AllocGlobal + Abort)) -> Result<World, Fail> {
+    let bounds = Aabb::new(
+        at(-1_048_576, -1_048_576, 0),
+        at(1_048_576, 1_048_576, 65_536),
+    )
+    .ok_or("a box")?;
+    let mut world = World::new(rt.alloc(), &bounds, &[])?;
+    for r in [
+        player(63, at(-900_000, 0, 6_144)),
+        player_that_moved(),
+        far_goal(),
+    ] {
+        assert!(rt; world.get(r.id).is_none());
+        world.add(r);
+    }
+    Ok(world)
+}
+
+/// An entry of slot 0 at this place, whose move ends here.
+fn entry(place: u32, x: i32) -> Entry
+    requires { place < 8 }
+{
+    Entry {
+        place,
+        slot: 0,
+        seq: place + 1,
+        origin: at(x, 0, 6_144),
+    }
+}
+
+/// Compares what is printed of a line.
+fn expect(rt: &(impl AllocGlobal + Abort), line: &OutLine, printed: &str) -> Result<(), Fail> {
+    let mut text = String::new(rt.alloc());
+    push_line(rt.alloc(), &mut text, line)?;
+    assert_eq!(rt; text.as_str(), printed);
+    Ok(())
+}
+
+#[test]
+fn each_line_is_printed(rt: HostRuntime) -> Result<(), Fail> {
+    let refused = Refused {
+        place: 3,
+        why: Refusal::Leaving,
+    };
+    let joined = Joined { port: 7, slot: 0 };
+    let did = Entry {
+        place: 1,
+        slot: 1,
+        seq: 1,
+        origin: at(24_096, -11_952, 6_144),
+    };
+    expect(&rt, &OutLine::Frame(0), "frame 0\n")?;
+    expect(&rt, &refused.line(), "no 3 Leaving\n")?;
+    expect(&rt, &joined.line(), "joined 7 0\n")?;
+    expect(&rt, &did.line(), "did 1 1 24096 -11952 6144 -\n")?;
+    expect(&rt, &OutLine::To(9, &[0x01, 0xab]), "to 9 01ab\n")?;
+    expect(&rt, &OutLine::End(2), "end 2\n")
+}
+
+#[test]
+fn each_refusal_has_its_name(rt: HostRuntime) -> Result<(), Fail> {
+    for (why, printed) in [
+        (Refusal::Packet(PacketFault::Empty), "no 0 Empty\n"),
+        (Refusal::Packet(PacketFault::Version), "no 0 Version\n"),
+        (Refusal::Packet(PacketFault::Kind), "no 0 Kind\n"),
+        (Refusal::Packet(PacketFault::Short), "no 0 Short\n"),
+        (Refusal::Packet(PacketFault::Long), "no 0 Long\n"),
+        (Refusal::Packet(PacketFault::Time), "no 0 Time\n"),
+        (Refusal::Packet(PacketFault::Buttons), "no 0 Buttons\n"),
+        (Refusal::Already, "no 0 Already\n"),
+        (Refusal::Full, "no 0 Full\n"),
+        (Refusal::Crowded, "no 0 Crowded\n"),
+        (Refusal::NotJoined, "no 0 NotJoined\n"),
+        (Refusal::Leaving, "no 0 Leaving\n"),
+        (Refusal::Old, "no 0 Old\n"),
+        (Refusal::Many, "no 0 Many\n"),
+    ] {
+        expect(&rt, &OutLine::No(Refused { place: 0, why }), printed)?;
+    }
+    Ok(())
+}
+
+#[test]
+fn a_frame_has_its_journal_and_a_snapshot_for_each_player(rt: HostRuntime) -> Result<(), Fail> {
+    let world = world_after_moves(&rt)?;
+    let received = Received::new(rt.alloc(), 0)?;
+    let mut reply = ReplyBuf::new(rt.alloc())?;
+    let journal = [entry(0, 2_048), entry(1, 5_734), entry(2, 9_830)];
+    let mut text = String::new(rt.alloc());
+    push_frame_lines(
+        rt.alloc(),
+        &mut text,
+        &mut reply,
+        1,
+        &received,
+        &journal,
+        &world,
+    )?;
+    assert_eq!(rt; text.as_str(), FRAME);
+    Ok(())
+}

@@ -1,0 +1,215 @@
+ghost use Rattle.std.specs.Prelude.{◌≡◌, ◌<◌, ◌≤◌};
+ghost use Rattle.arena_geo.specs.Vectors.{IsNear};
+ghost use Rattle.entity_recs.specs.Records.{IsRecord};
+
+use super::*;
+use arena_geo::{Aabb, Vec3};
+use entity_recs::{ITEM_MAXS, ITEM_MINS, Kind, PLAYER_MAXS, PLAYER_MINS, Rec};
+use std::alloc::AllocGlobal;
+use std::process::Abort;
+use std::test::Fail;
+use world_tree::World;
+
+/// What the only player sees, here and at rest, in frame 0: the arena's row of a join.
+const ALONE: &[u8] =
+    b"\x01\0\0\0\0\0\0\0\0\0\0\0\0\0\0\x18\0\0\0\0\0\0\0\0\0\0\0\0\0\0\0\0\0\0\0\0\0\0\0\0\0\0\0";
+
+/// The same player in frame 1, after three moves along x.
+const MOVED: &[u8] =
+    b"\x01\x01\0\0\0\0\x66\x26\0\0\0\0\0\0\0\x18\0\0\0\x40\x01\0\0\0\0\0\0\0\0\0\x01\0\0\0\0\0\0\x03\0\0\0\0\0";
+
+/// A player on a lift that has risen, beside an item that was taken and a gem at the edge of its view.
+const AMONG_THINGS: &[u8] =
+    b"\x01\0\0\0\0\0\0\0\0\0\0\0\0\0\0\x2c\0\0\0\0\0\0\0\0\0\0\0\0\0\0\0\0\0\0\0\0\0\0\0\0\0\x03\0\
+\x40\0\x05\x01\0\xce\xff\xff\0\xce\xff\xff\0\x0a\0\0\
+\x41\0\x01\0\0\x20\0\0\0\0\0\0\0\x2c\0\0\
+\x42\0\x02\x01\0\x0f\x04\0\0\0\0\0\0\x2c\x02\0";
+
+fn at(x: i32, y: i32, z: i32) -> Vec3
+    ensures { result ≡ record { x = x; y = y; z = z } }
+{
+    Vec3 { x, y, z }
+}
+
+/// A player in this slot, here and at rest.
+fn player(id: u16, origin: Vec3) -> Rec
+    requires slot { id < 64 }
+    requires near { IsNear 1048576 origin }
+    ensures { IsRecord result }
+{
+    Rec {
+        id,
+        kind: Kind::Player,
+        origin,
+        mins: PLAYER_MINS,
+        maxs: PLAYER_MAXS,
+        vel: Vec3::ZERO,
+        flags: 0,
+        ammo: 0,
+        carry: 0,
+        score: 0,
+        seq: 0,
+        state: 0,
+    }
+}
+
+/// The player in slot 0 after three moves along x.
+fn player_that_moved() -> Rec
+    ensures { IsRecord result }
+{
+    Rec {
+        id: 0,
+        kind: Kind::Player,
+        origin: at(9_830, 0, 6_144),
+        mins: PLAYER_MINS,
+        maxs: PLAYER_MAXS,
+        vel: at(81_920, 0, 0),
+        flags: 1,
+        ammo: 0,
+        carry: 0,
+        score: 0,
+        seq: 3,
+        state: 0,
+    }
+}
+
+/// Ammunition, which was taken where its state isn't 0.
+fn ammo(id: u16, origin: Vec3, state: u64) -> Rec
+    requires least { 64 ≤ id }
+    requires most { id ≤ 255 }
+    requires near { IsNear 1048576 origin }
+    ensures { IsRecord result }
+{
+    Rec {
+        id,
+        kind: Kind::Ammo,
+        origin,
+        mins: ITEM_MINS,
+        maxs: ITEM_MAXS,
+        vel: Vec3::ZERO,
+        flags: 0,
+        ammo: 0,
+        carry: 0,
+        score: 0,
+        seq: 0,
+        state,
+    }
+}
+
+/// A gem that is there.
+fn gem(id: u16, origin: Vec3) -> Rec
+    requires least { 64 ≤ id }
+    requires most { id ≤ 255 }
+    requires near { IsNear 1048576 origin }
+    ensures { IsRecord result }
+{
+    Rec {
+        id,
+        kind: Kind::Gem,
+        origin,
+        mins: ITEM_MINS,
+        maxs: ITEM_MAXS,
+        vel: Vec3::ZERO,
+        flags: 0,
+        ammo: 0,
+        carry: 0,
+        score: 0,
+        seq: 0,
+        state: 0,
+    }
+}
+
+/// A lift that is 12,800 long on x, 25,600 on y and 2,560 on z.
+fn lift(id: u16, origin: Vec3) -> Rec
+    requires least { 64 ≤ id }
+    requires most { id ≤ 255 }
+    requires near { IsNear 524288 origin }
+    ensures { IsRecord result }
+{
+    Rec {
+        id,
+        kind: Kind::Lift,
+        origin,
+        mins: Vec3::ZERO,
+        maxs: at(12_800, 25_600, 2_560),
+        vel: Vec3::ZERO,
+        flags: 0,
+        ammo: 0,
+        carry: 0,
+        score: 0,
+        seq: 0,
+        state: 0,
+    }
+}
+
+/// A world without records.
+fn empty_world(rt: &impl AllocGlobal) -> Result<World, Fail> {
+    let bounds = Aabb::new(at(-524_288, -524_288, 0), at(524_288, 524_288, 524_288)).ok_or(
+        "a box",
+    )?;
+    Ok(World::new(rt.alloc(), &bounds, &[])?)
+}
+
+/// Puts in a record, in place of the one with its id where there is one.
+fn put(world: &mut World, r: Rec)
+    requires { IsRecord r }
+{
+    if world.get(r.id).is_some() {
+        world.relink(r);
+    } else {
+        world.add(r);
+    }
+}
+
+/// Compares the snapshot of the player in slot 0.
+fn expect(
+    rt: &(impl AllocGlobal + Abort),
+    world: &World,
+    frame: u32,
+    bytes: &[u8],
+) -> Result<(), Fail> {
+    let mut reply = ReplyBuf::new(rt.alloc())?;
+    assert!(rt; world.get(0).is_some());
+    write_snapshot(world, frame, 0, &mut reply);
+    assert_eq!(rt; reply.as_slice(), bytes);
+    Ok(())
+}
+
+#[test]
+fn a_snapshot_has_the_player_and_what_it_sees(rt: HostRuntime) -> Result<(), Fail> {
+    let mut world = empty_world(&rt)?;
+    put(&mut world, player(0, at(0, 0, 6_144)));
+    expect(&rt, &world, 0, ALONE)?;
+
+    put(&mut world, player_that_moved());
+    expect(&rt, &world, 1, MOVED)?;
+
+    put(&mut world, player(0, at(0, 0, 11_264)));
+    put(&mut world, gem(66, at(265_984, 0, 142_336)));
+    put(&mut world, lift(64, at(-12_800, -12_800, 2_560)));
+    put(&mut world, ammo(65, at(8_192, 0, 11_264), 7));
+    // One farther on x, and one farther on z.
+    put(&mut world, gem(67, at(265_985, 0, 142_336)));
+    put(&mut world, gem(68, at(265_984, 0, 142_337)));
+    expect(&rt, &world, 0, AMONG_THINGS)
+}
+
+#[test]
+fn the_longest_snapshot_fits(rt: HostRuntime) -> Result<(), Fail> {
+    let mut world = empty_world(&rt)?;
+    for id in 0..64 {
+        put(&mut world, player(id, at(0, 0, 6_144)));
+    }
+    for id in 64..256 {
+        put(&mut world, ammo(id, at(0, 0, 0), 0));
+    }
+    let mut reply = ReplyBuf::new(rt.alloc())?;
+    assert!(rt; world.get(63).is_some());
+    write_snapshot(&world, 0, 63, &mut reply);
+    assert_eq!(rt; reply.as_slice().len(), REPLY_ROOM);
+    assert!(rt; !reply.push(0));
+    reply.clear();
+    assert!(rt; reply.push(7));
+    assert_eq!(rt; reply.as_slice(), [7].as_slice());
+    Ok(())
+}
