@@ -23,3 +23,5 @@ mod receive;
 mod received;
 mod refusal;
 mod spawns;
+#[cfg(test)]
+mod tests;

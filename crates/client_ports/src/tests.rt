@@ -1,0 +1,249 @@
+ghost use Rattle.std.specs.Prelude.{◌≡◌, ◌<◌, ◌≤◌, IfOk, true, length, vec_len};
+ghost use Rattle.arena_map.specs.MapLines.{IsWithinLimits, is_arena, is_added};
+ghost use Rattle.client_ports.specs.Clients.{no_clients};
+ghost use Rattle.client_ports.specs.States.{state_of, IsState};
+
+use crate::{Arrival, ArrivalBytes, Joined, Ports, Received, Refusal, Refused};
+use arena_geo::Vec3;
+use arena_map::{ArenaMap, MapLine, MapRefusal};
+use std::alloc::{AllocError, Global};
+use std::process::Abort;
+use std::test::Fail;
+use world_tree::World;
+
+/// What a port sends.
+#[derive(Clone, Copy)]
+enum Sent {
+    Join,
+    Leave,
+    /// A move with this number.
+    Move(u8),
+}
+
+/// A packet with these bytes.
+fn arrival(port: u16, bytes: &[u8]) -> Arrival {
+    let mut a = Arrival {
+        port,
+        bytes: ArrivalBytes::new(),
+    };
+    for byte in bytes {
+        let _fits = a.bytes.push(*byte);
+    }
+    a
+}
+
+/// The packet of what a port sends.
+fn packet(port: u16, sent: Sent) -> Arrival {
+    match sent {
+        Sent::Join => arrival(port, &[1, 1]),
+        Sent::Leave => arrival(port, &[1, 3]),
+        Sent::Move(number) => arrival(port, &[1, 2, number, 0, 0, 0, 16, 0, 0, 0, 0, 0]),
+    }
+}
+
+/// The arena from (-131072, -131072, 0) to (131072, 131072, 65536).
+fn arena() -> MapLine
+    ensures arena { is_arena result ≡ true }
+    ensures limits { IsWithinLimits result }
+{
+    MapLine::Arena {
+        lo: Vec3 {
+            x: -131_072,
+            y: -131_072,
+            z: 0,
+        },
+        hi: Vec3 {
+            x: 131_072,
+            y: 131_072,
+            z: 65_536,
+        },
+    }
+}
+
+/// The i-th of 64 spawns in rows of 8.
+fn spawn(i: u8) -> MapLine
+    requires { i < 64 }
+    ensures added { is_added result ≡ true }
+    ensures limits { IsWithinLimits result }
+{
+    MapLine::Spawn {
+        at: Vec3 {
+            x: i32::from(i % 8) * 10_240 - 35_840,
+            y: i32::from(i / 8) * 10_240 - 35_840,
+            z: 6_144,
+        },
+    }
+}
+
+/// The map of the arena with the first so many spawns.
+fn map_with(alloc: Global, spawns: u8) -> Result<ArenaMap, MapRefusal>
+    requires { spawns ≤ 64 }
+{
+    let mut map = ArenaMap::new(alloc, &arena())?;
+    for i in 0..spawns {
+        map.add(&spawn(i))?;
+    }
+    Ok(map)
+}
+
+/// The world of a map, before anybody has joined.
+fn opening(alloc: Global, map: &ArenaMap) -> Result<World, AllocError>
+    ensures { IfOk result (λ w. IsState map.now (state_of no_clients w.records)) }
+{
+    World::new(alloc, map.bounds(), map.entities())
+}
+
+/// The joins of ports 1 to 65.
+fn joins(alloc: Global) -> Result<Vec<Arrival>, AllocError>
+    ensures { IfOk result (λ v. vec_len v ≡ 65) }
+{
+    (1..66).map(|port| packet(port, Sent::Join)).collect(alloc)
+}
+
+#[test]
+fn the_65th_join_is_full(rt: HostRuntime) -> Result<(), Fail> {
+    let map = map_with(rt.alloc(), 64).map_err(|_| "a map")?;
+    let mut world = opening(rt.alloc(), &map)?;
+    let mut ports = Ports::new();
+    let mut out = Received::new(rt.alloc(), 65)?;
+    let joins = joins(rt.alloc())?;
+    ports.receive(&map, &mut world, 0, &joins, &mut out);
+    let (place, why) = (64, Refusal::Full);
+    assert_eq!(rt; out.refused(), [Refused { place, why }].as_slice());
+    assert_eq!(rt; out.joined().len(), 64);
+    for (slot, joined) in (0..64).zip(out.joined()) {
+        let port = u16::from(slot) + 1;
+        assert_eq!(rt; *joined, Joined { port, slot });
+    }
+    Ok(())
+}
+
+/// A frame: what is sent, the numbers of the moves that are accepted, and the places and reasons of the refusals.
+#[derive(Clone, Copy)]
+struct Row {
+    sent: &'static [(u16, Sent)],
+    numbers: &'static [u32],
+    refused: &'static [(u32, Refusal)],
+}
+
+/// Frames in a row, with one spawn.
+const ROWS: [Row; 4] = [
+    Row {
+        sent: &[
+            (7, Sent::Leave),
+            (7, Sent::Move(1)),
+            (7, Sent::Join),
+            (8, Sent::Join),
+            (7, Sent::Join),
+            (7, Sent::Move(5)),
+            (7, Sent::Move(5)),
+            (7, Sent::Move(4)),
+            (7, Sent::Move(6)),
+        ],
+        numbers: &[5, 6],
+        refused: &[
+            (0, Refusal::NotJoined),
+            (1, Refusal::NotJoined),
+            (3, Refusal::Crowded),
+            (4, Refusal::Already),
+            (6, Refusal::Old),
+            (7, Refusal::Old),
+        ],
+    },
+    Row {
+        sent: &[
+            (7, Sent::Move(7)),
+            (7, Sent::Leave),
+            (7, Sent::Move(8)),
+            (7, Sent::Move(1)),
+            (7, Sent::Leave),
+            (7, Sent::Join),
+            (8, Sent::Join),
+        ],
+        numbers: &[7],
+        refused: &[
+            (2, Refusal::Leaving),
+            (3, Refusal::Leaving),
+            (4, Refusal::Leaving),
+            (5, Refusal::Already),
+            (6, Refusal::Crowded),
+        ],
+    },
+    Row {
+        sent: &[
+            (7, Sent::Join),
+            (7, Sent::Move(1)),
+            (7, Sent::Move(2)),
+            (7, Sent::Move(3)),
+            (7, Sent::Move(4)),
+            (7, Sent::Move(5)),
+            (7, Sent::Move(6)),
+            (7, Sent::Move(7)),
+            (7, Sent::Move(8)),
+            (7, Sent::Move(9)),
+        ],
+        numbers: &[1, 2, 3, 4, 5, 6, 7, 8],
+        refused: &[(9, Refusal::Many)],
+    },
+    Row {
+        sent: &[(7, Sent::Move(9))],
+        numbers: &[9],
+        refused: &[],
+    },
+];
+
+/// What these packets come to in a frame of their own.
+fn play(
+    rt: &impl Abort,
+    alloc: Global,
+    map: &ArenaMap,
+    world: &mut World,
+    ports: &mut Ports,
+    sent: &[(u16, Sent)],
+) -> Result<Received, AllocError>
+    requires { IsState map.now (state_of ports.old world.old.records) }
+    ensures { IsState map.now (state_of ports.new world.new.records) }
+{
+    assert!(rt; sent.len() <= 16);
+    let packets: Vec<Arrival> = sent.iter().map(|s| packet(s.0, s.1)).collect(alloc)?;
+    let mut out = Received::new(alloc, 16)?;
+    ports.receive(map, world, 3, &packets, &mut out);
+    ports.finish(world);
+    Ok(out)
+}
+
+/// Whether these are the numbers of the accepted moves, and these the refusals.
+fn is_row(alloc: Global, out: &Received, row: &Row) -> Result<bool, AllocError> {
+    let numbers: Vec<u32> = out.moves().iter().map(|m| m.seq).collect(alloc)?;
+    let refused: Vec<(u32, Refusal)> = out
+        .refused()
+        .iter()
+        .map(|r| (r.place, r.why))
+        .collect(alloc)?;
+    Ok(numbers.as_slice() == row.numbers && refused.as_slice() == row.refused)
+}
+
+/// How many frames are as their rows say, up to the first that isn't.
+fn right_rows(
+    rt: &impl Abort,
+    alloc: Global,
+    map: &ArenaMap,
+    rows: &[Row],
+) -> Result<usize, AllocError> {
+    let mut world = opening(alloc, map)?;
+    let mut ports = Ports::new();
+    for (i, row) in rows.iter().enumerate() {
+        let out = play(rt, alloc, map, &mut world, &mut ports, row.sent)?;
+        if !is_row(alloc, &out, row)? {
+            return Ok(i);
+        }
+    }
+    Ok(rows.len())
+}
+
+#[test]
+fn a_player_joins_moves_leaves_and_joins_again(rt: HostRuntime) -> Result<(), Fail> {
+    let map = map_with(rt.alloc(), 1).map_err(|_| "a map")?;
+    assert_eq!(rt; right_rows(&rt, rt.alloc(), &map, &ROWS)?, ROWS.len());
+    Ok(())
+}
