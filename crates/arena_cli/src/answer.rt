@@ -1,6 +1,7 @@
 ghost use Rattle.std.specs.Prelude.{◌≡◌, ◌≤◌, ◌⊎◌, ℕ, true, IfSome, IfOk, IsOkAnd, map, string_bytes};
 ghost use Rattle.edge_io.specs.Counts.{HasRisen};
-ghost use Rattle.arena_engine.specs.Output.{Writes, IsOutput, IsRefused, IsCut, IsSomeFrames, ReadsSome, ReadsToEnd, ReadsToRefusal};
+ghost use Rattle.out_text.specs.Output.{IsOutput, IsRefused, IsCut, IsSomeFrames};
+ghost use Rattle.arena_engine.specs.Output.{Writes, ReadsSome, ReadsToEnd, ReadsToRefusal};
 ghost use Rattle.arena_cli.specs.Asked.{AsksToPlay, AskForNothing};
 
 use crate::arguments::{NoArguments, words_of};

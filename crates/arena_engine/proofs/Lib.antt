@@ -4,3 +4,4 @@ pub mod Closing
 pub mod Continuing
 pub mod Exits
 pub mod Playing
+mod Running

@@ -85,11 +85,25 @@ const OLD: &str =
 const OLD_OUTPUT: &str =
     "frame 0\nno 2 Old\nno 3 Old\njoined 7 0\ndid 0 5 0 0 6144 -\ndid 0 6 0 0 6144 -\nto 0 01000000000000000000000000000018000000000000000000000000000001000000000000060000000000\nend 1\n";
 
+/// More moves of a player than a frame takes.
+const MANY: &str =
+    "arena -131072 -131072 0 131072 131072 65536\nspawn 0 0 6144\nframe\nfrom 7 0101\nfrom 7 010201000000320000000000\nfrom 7 010202000000320000000000\nfrom 7 010203000000320000000000\nfrom 7 010204000000320000000000\nfrom 7 010205000000320000000000\nfrom 7 010206000000320000000000\nfrom 7 010207000000320000000000\nfrom 7 010208000000320000000000\nfrom 7 010209000000320000000000\nend\n";
+
+const MANY_OUTPUT: &str =
+    "frame 0\nno 9 Many\njoined 7 0\ndid 0 1 0 0 6144 -\ndid 0 2 0 0 6144 -\ndid 0 3 0 0 6144 -\ndid 0 4 0 0 6144 -\ndid 0 5 0 0 6144 -\ndid 0 6 0 0 6144 -\ndid 0 7 0 0 6144 -\ndid 0 8 0 0 6144 -\nto 0 01000000000000000000000000000018000000000000000000000000000001000000000000080000000000\nend 1\n";
+
+/// A player that leaves between two moves, and one that takes its place in the next frame.
+const LEAVING: &str =
+    "arena -131072 -131072 0 131072 131072 65536\nspawn 0 0 6144\nframe\nfrom 7 0101\nfrom 7 010201000000320000000000\nfrom 7 0103\nfrom 7 010202000000320000000000\nframe\nfrom 8 0101\nend\n";
+
+const LEAVING_OUTPUT: &str =
+    "frame 0\nno 3 Leaving\njoined 7 0\ndid 0 1 0 0 6144 -\nto 0 01000000000000000000000000000018000000000000000000000000000001000000000000010000000000\nframe 1\njoined 8 0\nto 0 01010000000000000000000000000018000000000000000000000000000000000000000000000000000000\nend 2\n";
+
 const FAULTY: &str =
     "arena -131072 -131072 0 131072 131072 65536\nspawn 0 0 6144\nframe\nfrom 7 -\nfrom 7 02\nfrom 7 0109\nfrom 7 01\nfrom 7 010100\nfrom 7 010201000000004001000000\nfrom 7 010201000000324001000080\nfrom 7 0103\nfrom 7 010201000000320000000000\nend\n";
 
 const FAULTY_OUTPUT: &str =
-    "frame 0\nno 0 Empty\nno 1 Version\nno 2 Kind\nno 3 Short\nno 4 Long\nno 5 Time\nno 6 Buttons\nno 7 Kind\nno 8 NotJoined\nend 1\n";
+    "frame 0\nno 0 Empty\nno 1 Version\nno 2 Kind\nno 3 Short\nno 4 Long\nno 5 Time\nno 6 Buttons\nno 7 NotJoined\nno 8 NotJoined\nend 1\n";
 
 const BLOCKED: &str =
     "arena -131072 -131072 0 131072 131072 65536\nspawn 0 0 6144\nblock 4095 -12800 0 12800 12800 4608\nframe\nfrom 7 0101\nend\n";
@@ -133,6 +147,7 @@ fn players_move(rt: HostRuntime) -> Result<(), Fail> {
 fn packets_are_refused_by_name(rt: HostRuntime) -> Result<(), Fail> {
     let rows = [
         (OLD, OLD_OUTPUT),
+        (MANY, MANY_OUTPUT),
         (FAULTY, FAULTY_OUTPUT),
         (BLOCKED, "frame 0\nno 0 Crowded\nend 1\n"),
     ];
@@ -140,6 +155,11 @@ fn packets_are_refused_by_name(rt: HostRuntime) -> Result<(), Fail> {
         expect(&rt, recording, 0, output)?;
     }
     Ok(())
+}
+
+#[test]
+fn players_leave_after_the_replies(rt: HostRuntime) -> Result<(), Fail> {
+    expect(&rt, LEAVING, 0, LEAVING_OUTPUT)
 }
 
 #[test]

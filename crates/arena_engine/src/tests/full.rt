@@ -9,22 +9,35 @@ const WIDE: &str = "arena -150000 -150000 0 150000 150000 65536\nspawn 0 0 6144\
 
 const BLOCK: &str = "block 149000 149000 60000 150000 150000 61000\n";
 
-/// The wishes of 320 along x and y, both ways.
-const WISHES: [&str; 4] = ["40010000", "c0fe0000", "00004001", "0000c0fe"];
+/// Where a row of 8 spawns lies, and where each of its spawns does: in sub-units.
+const PLACES: [i32; 8] = [-35840, -25600, -15360, -5120, 5120, 15360, 25600, 35840];
 
-/// In each of 64 frames a player joins, and moves off the spawn until a wall or another player stops it. A join more
-/// comes last.
+/// An arena with 64 spawns, and a frame of 65 joins.
 fn full_of_players(alloc: Global) -> Result<String, AllocError> {
     let mut text = String::new(alloc);
-    text.push_str(WIDE)?;
-    for port in 1..65_usize {
-        let wish = WISHES[port % 4];
-        writeln!(text, "frame\nfrom {port} 0101")?;
-        for seq in 10..50_u8 {
-            writeln!(text, "from {port} 0102{seq}00000032{wish}00")?;
+    text.push_str("arena -131072 -131072 0 131072 131072 65536\n")?;
+    for y in PLACES {
+        for x in PLACES {
+            writeln!(text, "spawn {x} {y} 6144")?;
         }
     }
-    text.push_str("frame\nfrom 65 0101\nend\n")?;
+    text.push_str("frame\n")?;
+    for port in 1..66_u16 {
+        writeln!(text, "from {port} 0101")?;
+    }
+    text.push_str("end\n")?;
+    Ok(text)
+}
+
+/// The lines of that frame before its replies.
+fn joined_lines(alloc: Global) -> Result<String, AllocError> {
+    let mut text = String::new(alloc);
+    text.push_str("frame 0\nno 64 Full\n")?;
+    for slot in 0..64_u16 {
+        let port = slot + 1;
+        writeln!(text, "joined {port} {slot}")?;
+    }
+    text.push_str("to 0 ")?;
     Ok(text)
 }
 
@@ -53,15 +66,15 @@ fn has(text: &[u8], part: &[u8]) -> bool
 }
 
 #[test]
-fn sixty_four_players_are_played(rt: HostRuntime) -> Result<(), Fail> {
+fn sixty_four_players_join(rt: HostRuntime) -> Result<(), Fail> {
     let text = full_of_players(rt.alloc())?;
+    let lines = joined_lines(rt.alloc())?;
     let mut source = MemSource::new(text.as_bytes(), 65_536, &[]);
-    let mut sink = MemSink::new(rt.alloc(), 10_000_000, 65_536)?;
+    let mut sink = MemSink::new(rt.alloc(), 1_000_000, 65_536)?;
     let report = serve(rt.alloc(), &["play", "1"], &mut source, &mut sink);
     assert_eq!(rt; report.status, 0);
-    assert!(rt; has(sink.bytes(), b"\njoined 64 63\n"));
-    assert!(rt; has(sink.bytes(), b"\nframe 64\nno 0 Full\nto 0 "));
-    assert!(rt; sink.bytes().ends_with(b"\nend 65\n"));
+    assert!(rt; sink.bytes().starts_with(lines.as_bytes()));
+    assert!(rt; sink.bytes().ends_with(b"\nend 1\n"));
     Ok(())
 }
 
@@ -72,7 +85,7 @@ fn a_frame_of_512_packets_is_played(rt: HostRuntime) -> Result<(), Fail> {
     let mut sink = MemSink::new(rt.alloc(), 100_000, 65_536)?;
     let report = serve(rt.alloc(), &["play", "1"], &mut source, &mut sink);
     assert_eq!(rt; report.status, 0);
-    assert!(rt; has(sink.bytes(), b"\njoined 7 0\ndid 0 "));
+    assert!(rt; has(sink.bytes(), b"\nno 511 Many\njoined 7 0\ndid 0 "));
     assert!(rt; sink.bytes().ends_with(b"\nend 1\n"));
     Ok(())
 }

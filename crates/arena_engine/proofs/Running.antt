@@ -1,0 +1,356 @@
+-- The loop that plays a recording, and its exits.
+use Rattle.std.proofs.Common.{◌≡◌, ℕ, ◌+◌, ◌≤◌, Bool, true, false, List, [], ◌∷◌, ◌++◌, length, Option, Some, None, IfSome, IsSome, IsSomeAnd, refl, sym, ap, ◌∙◌, subst, arith, length-append}
+use Rattle.std.specs.Io.KnownBytes.{Appends}
+use Rattle.std.proofs.KnownBytes.{prepend_known-nil}
+use Rattle.edge_io.specs.Counts.{HasRisen}
+use Rattle.edge_io.specs.Lines.{ahead, HasNotReadAhead}
+use Rattle.edge_io.proofs.ReadingAhead.{HasNotReadAhead-trans}
+use Rattle.edge_io.specs.Writes.{AppendsPart}
+use Rattle.arena_map.specs.Maps.{MapView, IsMap}
+use Rattle.demo_lines.specs.declared.event.Event.{Event}
+use Rattle.demo_lines.specs.declared.event.Event.TheVariants.{Frame, From, End}
+use Rattle.demo_lines.specs.declared.demo_stop.DemoStop.{DemoStop}
+use Rattle.demo_lines.specs.declared.demo_stop.DemoStop.TheVariants as demo_stop
+use Rattle.demo_lines.specs.Recording.{Reading, start, is_over, is_map_whole, without_map, having_map}
+use Rattle.demo_lines.specs.Readings.{IsReading}
+use Rattle.demo_lines.specs.Reads.{DemoReaderView, fresh_reader, map_taken, IsOpen, Reads, ReadsFront, Refuses, EndsAt, stage_after}
+use Rattle.demo_lines.specs.Reads as reads_of
+use Rattle.demo_lines.proofs.Walks.{whole_after}
+use Rattle.demo_lines.proofs.Given.{Reads-given, Reads-no_map, ReadsFront-given, EndsAt-given, Refuses-given}
+use Rattle.out_text.specs.OutLines.{text_of}
+use Rattle.out_text.specs.Collecting.{collected}
+use Rattle.out_text.specs.Output.{IsOutput, IsRefused, IsCut, IsSomeFrames}
+use Rattle.out_text.proofs.Fronts.{text_with}
+use Rattle.arena_engine.specs.declared.stop.Stop.{Stop}
+use Rattle.arena_engine.specs.declared.stop.Stop.TheVariants.{Refused, ReadFault, WriteFault, Memory}
+use Rattle.arena_engine.specs.StopOf.{stop_of}
+use Rattle.arena_engine.specs.Stops.{OnRefused, OnReadFault, OnWriteFault, OnMemory, ButOnReadFault, ButOnWriteFault, IsGameStop}
+use Rattle.arena_engine.specs.Games.{GameView, new_game, GoesOn, event_lines, IsReady, is_end}
+use Rattle.arena_engine.specs.Output.{Writes, ReadsSome, ReadsToEnd, ReadsToRefusal, HasRoom}
+use Rattle.arena_engine.proofs.Exits.{memory_at_first, refused_at_first, fault_at_first, refused_on, fault_on, refusal_on}
+use Rattle.arena_engine.proofs.Exits as exits
+use Rattle.arena_engine.proofs.Playing.{Progress, is_ready, memory_on, cut_on, done_on, whole_on, played_on, text_so_far, fits_on, goes_on, begins}
+
+-- how far the recording was played, by a reader whose map was given out; neither count of faults has changed, and what room the sink was sure to have is that
+-- which it has and the text so far
+pub record Runs (demo : DemoReaderView) (before ahead : Option (List ℕ)) (taken_before taken : Option (List ℕ)) (game : GameView) (event : Event)
+    (reads_before reads writes_before writes room_before room : ℕ) : Type 0 where
+  pub arena : MapView
+  pub full : Reading
+  pub given : demo.reading ≡ without_map full
+  pub progress : Progress 1 arena full before ahead taken_before taken game event
+  pub no_stop : demo.stop ≡ None
+  pub read_same : reads ≡ reads_before
+  pub write_same : writes ≡ writes_before
+  pub roomy : room_before ≤ room + length (text_with arena (collected progress.events).closed progress.journals)
+
+-- how the source was read: no more than was needed, without its end, and it is as sure as before
+pub record Unread {S : Type 0} (last : S → ℕ) (ended : S → Bool) (sure : S → Type 0) (old new : S) (pending : List ℕ) : Type 0 where
+  pub needed : HasNotReadAhead old new (last new) [] pending
+  pub same_end : ended new ≡ ended old
+  pub keeps : sure old → sure new
+
+-- ---- the reader is fresh
+
+fresh_is_open : IsOpen fresh_reader
+fresh_is_open = record { no_stop = refl; not_over = refl }
+
+read_fault_of : (d : DemoStop) (P Q : Type 0) → (P → Q) → reads_of.OnReadFault d P → OnReadFault (stop_of d) Q
+read_fault_of (demo_stop.Refused line) P Q f p = tt
+read_fault_of demo_stop.ReadFault P Q f p = f p
+read_fault_of demo_stop.NoMemory P Q f p = tt
+
+refused_of : (d : DemoStop) (P : ℕ → Type 0) (Q : Type 0) → ((n : ℕ) → P n → Q) → reads_of.OnRefused d P → OnRefused (stop_of d) Q
+refused_of (demo_stop.Refused line) P Q f p = f line p
+refused_of demo_stop.ReadFault P Q f p = tt
+refused_of demo_stop.NoMemory P Q f p = tt
+
+-- a reader's stop is want of memory, where P holds
+no_memory_of : (d : DemoStop) (P : Type 0) → P → OnMemory (stop_of d) P
+no_memory_of (demo_stop.Refused line) P p = tt
+no_memory_of demo_stop.ReadFault P p = tt
+no_memory_of demo_stop.NoMemory P p = p
+
+pub first_no_memory : (d : DemoStop) (l t : Option (List ℕ)) → OnMemory (stop_of d) (IfSome l (λ bytes. Writes t t (IsSomeFrames 1 bytes)))
+first_no_memory d l t = no_memory_of d (IfSome l (λ bytes. Writes t t (IsSomeFrames 1 bytes))) (memory_at_first 1 l t)
+
+pub first_refused : (workers : ℕ) (demo : DemoReaderView) (d : DemoStop) (l t : Option (List ℕ)) → demo ≡ fresh_reader
+    → (IsOpen demo → reads_of.OnRefused d (λ n. IfSome (ahead demo.pending l) (EndsAt demo.reading n))) → OnRefused (stop_of d) (IfSome l (λ bytes. Writes t t (IsRefused workers bytes)))
+first_refused workers demo d l t is h =
+    let P : DemoReaderView → Type 0 = λ x. IsOpen x → reads_of.OnRefused d (λ n. IfSome (ahead x.pending l) (EndsAt x.reading n)) in
+    let at_first = subst P is h fresh_is_open in
+    let Q : ℕ → Option (List ℕ) → Type 0 = λ n o. IfSome o (EndsAt start n) in
+    refused_of d (λ n. IfSome (ahead [] l) (EndsAt start n)) (IfSome l (λ bytes. Writes t t (IsRefused workers bytes)))
+    (λ n ends. refused_at_first workers l t n (subst (Q n) (prepend_known-nil l) ends)) at_first
+
+pub first_fault : (workers : ℕ) (demo : DemoReaderView) (d : DemoStop) (l l' t : Option (List ℕ)) → demo ≡ fresh_reader
+    → (IsOpen demo → reads_of.OnReadFault d (ReadsFront demo.reading (ahead demo.pending l) l' [])) → OnReadFault (stop_of d) (ReadsSome workers l l' t t)
+first_fault workers demo d l l' t is h =
+    let P : DemoReaderView → Type 0 = λ x. IsOpen x → reads_of.OnReadFault d (ReadsFront x.reading (ahead x.pending l) l' []) in
+    let Q : Option (List ℕ) → Type 0 = λ o. ReadsFront start o l' [] in
+    read_fault_of d (ReadsFront start (ahead [] l) l' []) (ReadsSome workers l l' t t) (λ reads. fault_at_first workers l l' t (subst Q (prepend_known-nil l) reads)) (subst P is h fresh_is_open)
+
+pub first_cause : (demo : DemoReaderView) (d : DemoStop) (P : Type 0) → demo ≡ fresh_reader → (IsOpen demo → reads_of.OnReadFault d P) → OnReadFault (stop_of d) P
+first_cause demo d P is h =
+    let Q : DemoReaderView → Type 0 = λ x. IsOpen x → reads_of.OnReadFault d P in read_fault_of d P P (λ p. p) (subst Q is h fresh_is_open)
+
+pub first_event : (demo : DemoReaderView) (r : Reading) (l b t : Option (List ℕ)) (e : Event) (arena : MapView) (g : GameView) → demo ≡ fresh_reader
+    → (IsOpen demo → Reads demo.reading r (ahead demo.pending l) b (e ∷ [])) → r.stage ≡ stage_after e → IsReading r → r.map ≡ Some arena → IsMap arena → g ≡ new_game arena
+    → Progress 1 arena r l b t t g e
+first_event demo r l b t e arena g is h stage holds has is_map sets =
+    let P : DemoReaderView → Type 0 = λ x. IsOpen x → Reads x.reading r (ahead x.pending l) b (e ∷ []) in
+    let Q : Option (List ℕ) → Type 0 = λ o. Reads start r o b (e ∷ []) in
+    begins 1 arena r l b t g e (subst Q (prepend_known-nil l) (subst P is h fresh_is_open)) stage holds.frames holds.arrivals has is_map sets
+
+-- the map is whole then
+pub map_is_given : (r : Reading) (e : Event) → r.stage ≡ stage_after e → is_map_whole r.stage ≡ true
+map_is_given r e stage = ap is_map_whole stage ∙ whole_after e
+
+-- and there is one
+pub map_is_there : (demo : DemoReaderView) (r : Reading) → demo ≡ fresh_reader → reads_of.KeepsMap demo.reading r → IsSome r.map
+map_is_there demo r is keeps = keeps.completed (ap (λ (x : DemoReaderView). is_map_whole x.reading.stage) is)
+
+-- ---- in the loop
+
+on_write_fault : (s : Stop) (P Q : Type 0) → (P → Q) → OnWriteFault s P → OnWriteFault s Q
+on_write_fault Refused P Q f p = tt
+on_write_fault ReadFault P Q f p = tt
+on_write_fault WriteFault P Q f p = f p
+on_write_fault Memory P Q f p = tt
+
+-- what a reader stops for is no write fault
+pub no_write_fault : (d : DemoStop) (P : Type 0) → OnWriteFault (stop_of d) P
+no_write_fault (demo_stop.Refused line) P = tt
+no_write_fault demo_stop.ReadFault P = tt
+no_write_fault demo_stop.NoMemory P = tt
+
+-- a game stops for no other reason
+pub no_refusal : (s : Stop) (P : Type 0) → IsGameStop s → OnRefused s P
+no_refusal Refused P stop = absurd stop
+no_refusal ReadFault P stop = tt
+no_refusal WriteFault P stop = tt
+no_refusal Memory P stop = tt
+
+pub no_read_fault : (s : Stop) (P : Type 0) → IsGameStop s → OnReadFault s P
+no_read_fault Refused P stop = tt
+no_read_fault ReadFault P stop = absurd stop
+no_read_fault WriteFault P stop = tt
+no_read_fault Memory P stop = tt
+
+pub on_memory : (s : Stop) (P Q : Type 0) → (P → Q) → OnMemory s P → OnMemory s Q
+on_memory Refused P Q f p = tt
+on_memory ReadFault P Q f p = tt
+on_memory WriteFault P Q f p = tt
+on_memory Memory P Q f p = f p
+
+pub end_is_end : (e : Event) → is_end e ≡ true → e ≡ End
+end_is_end Frame h = cc
+end_is_end (From a) h = cc
+end_is_end End h = refl
+
+not_over : (e : Event) → is_end e ≡ false → is_over (stage_after e) ≡ false
+not_over Frame h = refl
+not_over (From a) h = refl
+not_over End h = cc
+
+module _ (demo : DemoReaderView) (a b t0 t1 : Option (List ℕ)) (g : GameView) (e : Event) (m0 m1 n0 n1 k0 k1 : ℕ) (runs : Runs demo a b t0 t1 g e m0 m1 n0 n1 k0 k1) where
+  pub game_is_ready : IsReady g
+  game_is_ready = is_ready 1 runs.arena runs.full a b t0 t1 g e runs.progress
+
+  map_is_whole : is_map_whole runs.full.stage ≡ true
+  map_is_whole = map_is_given runs.full e runs.progress.stage
+
+  pub reader_is_open : is_end e ≡ false → IsOpen demo
+  reader_is_open going = record { no_stop = runs.no_stop; not_over = ap (λ (r : Reading). is_over r.stage) runs.given ∙ ap is_over runs.progress.stage ∙ not_over e going }
+
+  pub memory_failed : (s : Stop) (t2 : Option (List ℕ)) → OnMemory s (t2 ≡ t1) → OnMemory s (IfSome a (λ bytes. Writes t0 t2 (IsSomeFrames 1 bytes)))
+  memory_failed s t2 same =
+      let P : Option (List ℕ) → Type 0 = λ t. IfSome a (λ bytes. Writes t0 t (IsSomeFrames 1 bytes)) in
+      on_memory s (t2 ≡ t1) (P t2) (λ is. subst P (sym is) (memory_on 1 runs.arena runs.full a b t0 t1 g e runs.progress)) same
+
+  pub write_cause : (s : Stop) (n2 : ℕ) → OnWriteFault s (HasRisen n1 n2) → OnWriteFault s (HasRisen n0 n2)
+  write_cause s n2 risen = on_write_fault s (HasRisen n1 n2) (HasRisen n0 n2) (λ h. subst (λ n. HasRisen n n2) runs.write_same h) risen
+
+  pub all_read : {S : Type 0} (last : S → ℕ) (s0 s1 : S) (pending : List ℕ) (l : Option (List ℕ)) → is_end e ≡ true → b ≡ ahead pending l
+      → HasNotReadAhead s0 s1 (last s1) [] pending → ReadsToEnd s0 s1 (last s1) a l
+  all_read last s0 s1 pending l is_last is needed = whole_on 1 runs.arena runs.full a b t0 t1 g e runs.progress s0 s1 (last s1) pending l (end_is_end e is_last) is needed
+
+  pub next_refusal : {S : Type 0} (last : S → ℕ) (ended : S → Bool) (sure : S → Type 0) (s0 s1 s2 : S) (d : DemoStop) (pending : List ℕ) (l : Option (List ℕ)) → is_end e ≡ false
+      → Unread last ended sure s0 s1 demo.pending
+      → (IsOpen demo → reads_of.OnRefused d (λ n. Refuses demo.reading b (ahead pending l) n
+      (HasNotReadAhead s1 s2 (last s2) demo.pending pending × (ended s2 ≡ ended s1)) (ended s2 ≡ true)))
+      → OnRefused (stop_of d) (ReadsToRefusal s0 s2 (last s2) (ended s2 ≡ ended s0) (ended s2 ≡ true) a l)
+  next_refusal last ended sure s0 s1 s2 d pending l going unread h =
+      let P = HasNotReadAhead s1 s2 (last s2) demo.pending pending × (ended s2 ≡ ended s1) in
+      let R : Reading → ℕ → Type 0 = λ r n. Refuses r b (ahead pending l) n P (ended s2 ≡ true) in
+      refused_of d (R demo.reading) (ReadsToRefusal s0 s2 (last s2) (ended s2 ≡ ended s0) (ended s2 ≡ true) a l)
+      (λ n refuses. refusal_on last s0 s1 s2 runs.full a b l (runs.progress.events ++ e ∷ []) n demo.pending pending (ended s2 ≡ ended s1) (ended s2 ≡ ended s0) (ended s2 ≡ true)
+      runs.progress.reads unread.needed (λ same. same ∙ unread.same_end)
+      (Refuses-given runs.full map_is_whole b (ahead pending l) n P (ended s2 ≡ true) (subst (λ (r : Reading). R r n) runs.given refuses)))
+      (h (reader_is_open going))
+
+  pub next_cause : (d : DemoStop) (m2 : ℕ) → is_end e ≡ false → (IsOpen demo → reads_of.OnReadFault d (HasRisen m1 m2)) → OnReadFault (stop_of d) (HasRisen m0 m2)
+  next_cause d m2 going h =
+      read_fault_of d (HasRisen m1 m2) (HasRisen m0 m2) (λ risen. subst (λ m. HasRisen m m2) runs.read_same risen) (h (reader_is_open going))
+
+  pub write_failed : (s : Stop) (g2 : GameView) (t2 : Option (List ℕ)) → OnWriteFault s (GoesOn g g2 e) → OnWriteFault s (AppendsPart t1 t2 (text_of (event_lines g g2 e)))
+      → OnWriteFault s (IfSome a (λ bytes. Writes t0 t2 (IsCut 1 bytes)))
+  write_failed Refused g2 t2 goes failed = tt
+  write_failed ReadFault g2 t2 goes failed = tt
+  write_failed WriteFault g2 t2 goes failed = cut_on 1 runs.arena runs.full a b t0 t1 g e runs.progress g2 goes t2 failed
+  write_failed Memory g2 t2 goes failed = tt
+
+  -- where the sink has room for every right output, this text fits
+  pub not_cut : (s : Stop) (g2 : GameView) → OnWriteFault s (GoesOn g g2 e) → (length (text_of (event_lines g g2 e)) ≤ k1 → OnWriteFault s ⊥) → IsSomeAnd a (λ bytes. HasRoom 1 bytes k0) → OnWriteFault s ⊥
+  not_cut Refused g2 goes sure roomy = tt
+  not_cut ReadFault g2 goes sure roomy = tt
+  not_cut WriteFault g2 goes sure roomy = sure (fits_on 1 runs.arena runs.full a b t0 t1 g e runs.progress g2 goes k0 k1 roomy runs.roomy)
+  not_cut Memory g2 goes sure roomy = tt
+
+  -- ---- the event was played
+
+  module _ (g2 : GameView) (t2 : Option (List ℕ)) (goes : GoesOn g g2 e) (written : Appends t1 t2 (text_of (event_lines g g2 e))) where
+    pub all_done : is_end e ≡ true → IfSome a (λ bytes. Writes t0 t2 (IsOutput 1 bytes))
+    all_done last = done_on 1 runs.arena runs.full a b t0 t1 g e runs.progress g2 goes t2 (end_is_end e last) written
+
+    pub next_refused : (d : DemoStop) → is_end e ≡ false → (IsOpen demo → reads_of.OnRefused d (λ n. IfSome b (EndsAt demo.reading n)))
+        → OnRefused (stop_of d) (IfSome a (λ bytes. Writes t0 t2 (IsRefused 1 bytes)))
+    next_refused d going h =
+        let R : Reading → ℕ → Type 0 = λ r n. IfSome b (EndsAt r n) in
+        refused_of d (R demo.reading) (IfSome a (λ bytes. Writes t0 t2 (IsRefused 1 bytes)))
+        (λ n ends. refused_on 1 runs.arena runs.full a b t0 t2 (runs.progress.events ++ e ∷ []) _ n (played_on 1 runs.arena runs.full a b t0 t1 g e runs.progress g2 goes t2 going written)
+        (ends_given n b (subst (λ (r : Reading). R r n) runs.given ends)))
+        (h (reader_is_open going))
+      where
+        ends_given : (n : ℕ) (o : Option (List ℕ)) → IfSome o (EndsAt (without_map runs.full) n) → IfSome o (EndsAt runs.full n)
+        ends_given n None ends = tt
+        ends_given n (Some bytes) ends = EndsAt-given runs.full map_is_whole n bytes ends
+
+    pub next_fault : (d : DemoStop) (l : Option (List ℕ)) → is_end e ≡ false → (IsOpen demo → reads_of.OnReadFault d (ReadsFront demo.reading b l []))
+        → OnReadFault (stop_of d) (ReadsSome 1 a l t0 t2)
+    next_fault d l going h =
+        let R : Reading → Type 0 = λ r. ReadsFront r b l [] in
+        read_fault_of d (R demo.reading) (ReadsSome 1 a l t0 t2)
+        (λ reads. fault_on 1 runs.arena runs.full a b t0 t2 (runs.progress.events ++ e ∷ []) _ l (played_on 1 runs.arena runs.full a b t0 t1 g e runs.progress g2 goes t2 going written)
+        (ReadsFront-given runs.full map_is_whole b l [] (subst R runs.given reads)))
+        (h (reader_is_open going))
+
+    pub next_no_memory : (d : DemoStop) → is_end e ≡ false → OnMemory (stop_of d) (IfSome a (λ bytes. Writes t0 t2 (IsSomeFrames 1 bytes)))
+    next_no_memory d going =
+        no_memory_of d (IfSome a (λ bytes. Writes t0 t2 (IsSomeFrames 1 bytes)))
+        (exits.memory_on 1 runs.arena runs.full a b t0 t2 (runs.progress.events ++ e ∷ []) _ (played_on 1 runs.arena runs.full a b t0 t1 g e runs.progress g2 goes t2 going written))
+
+    pub runs_on : (demo' : DemoReaderView) (b' : Option (List ℕ)) (e' : Event) (m2 n2 k2 : ℕ) → is_end e ≡ false
+        → (IsOpen demo → Reads demo.reading demo'.reading b b' (e' ∷ [])) → demo'.reading.stage ≡ stage_after e' → IsReading demo'.reading → demo'.stop ≡ None → m2 ≡ m1 → n2 ≡ n1
+        → k1 ≤ k2 + length (text_of (event_lines g g2 e)) → Runs demo' a b' t0 t2 g2 e' m0 m2 n0 n2 k0 k2
+    runs_on demo' b' e' m2 n2 k2 going reads stage holds no_stop read_on write_on room_on =
+        let so_far = text_so_far 1 runs.arena runs.full a b t0 t1 g e runs.progress g2 goes in
+        let left = runs.roomy in
+        let here : Reads (without_map runs.full) demo'.reading b b' (e' ∷ []) =
+        let R : Reading → Type 0 = λ r. Reads r demo'.reading b b' (e' ∷ []) in subst R runs.given (reads (reader_is_open going)) in
+        let next = goes_on 1 runs.arena runs.full a b t0 t1 g e runs.progress g2 goes (having_map runs.full.map demo'.reading) b' t2 e' going written
+        (Reads-given runs.full map_is_whole demo'.reading b b' (e' ∷ []) here) stage holds.frames holds.arrivals in
+        let text = ap length next.text ∙ length-append so_far (text_of (event_lines g g2 e)) in
+        record {
+          arena = runs.arena;
+          full = having_map runs.full.map demo'.reading;
+          given = Reads-no_map runs.full map_is_whole demo'.reading b b' (e' ∷ []) here;
+          progress = next.progress;
+          no_stop = no_stop;
+          read_same = read_on ∙ runs.read_same;
+          write_same = write_on ∙ runs.write_same;
+          roomy = omega (arith, text, left, room_on);
+        }
+
+module _ {S : Type 0} (last : S → ℕ) (ended : S → Bool) (sure : S → Type 0) where
+  -- the first reads
+  pub unread_first : (s0 s1 : S) (demo demo' : DemoReaderView) → demo ≡ fresh_reader → HasNotReadAhead s0 s1 (last s1) demo.pending demo'.pending → ended s1 ≡ ended s0 → (sure s0 → sure s1)
+      → Unread last ended sure s0 s1 demo'.pending
+  unread_first s0 s1 demo demo' is needed same keeps =
+      let P : DemoReaderView → Type 0 = λ d. HasNotReadAhead s0 s1 (last s1) d.pending demo'.pending in
+      record { needed = subst P is needed; same_end = same; keeps = keeps }
+
+  -- the first event was read, and then the map was given out
+  pub runs_first : (demo' taken : DemoReaderView) (arena : MapView) (a l t : Option (List ℕ)) (g : GameView) (e : Event) (m0 m1 n k : ℕ) (s0 s1 : S) → taken ≡ map_taken demo'
+      → Progress 1 arena demo'.reading a (ahead demo'.pending l) t t g e → demo'.stop ≡ None → m1 ≡ m0 → Unread last ended sure s0 s1 demo'.pending
+      → Runs taken a (ahead taken.pending l) t t g e m0 m1 n n k k × Unread last ended sure s0 s1 taken.pending
+  runs_first demo' taken arena a l t g e m0 m1 n k s0 s1 is progress no_stop same unread =
+      let P : DemoReaderView → Type 0 = λ d. Runs d a (ahead d.pending l) t t g e m0 m1 n n k k × Unread last ended sure s0 s1 d.pending in
+      subst P (sym is) (record { arena = arena; full = demo'.reading; given = refl; progress = progress; no_stop = no_stop; read_same = same; write_same = refl; roomy = omega arith }, unread)
+
+  -- and more
+  pub unread_on : (s0 s1 s2 : S) (pending pending' : List ℕ) → Unread last ended sure s0 s1 pending → HasNotReadAhead s1 s2 (last s2) pending pending' → ended s2 ≡ ended s1 → (sure s1 → sure s2)
+      → Unread last ended sure s0 s2 pending'
+  unread_on s0 s1 s2 pending pending' unread needed same keeps = record {
+    needed = HasNotReadAhead-trans last s0 s1 s2 [] pending pending' unread.needed needed;
+    same_end = same ∙ unread.same_end;
+    keeps = λ h. keeps (unread.keeps h);
+  }
+
+  -- the recording was refused before it gave an event
+  pub first_refusal : (s0 s1 : S) (demo : DemoReaderView) (pending : List ℕ) (d : DemoStop) (a l : Option (List ℕ)) → demo ≡ fresh_reader
+      → (IsOpen demo → reads_of.OnRefused d (λ n. Refuses demo.reading (ahead demo.pending a) (ahead pending l) n
+      (HasNotReadAhead s0 s1 (last s1) demo.pending pending × (ended s1 ≡ ended s0)) (ended s1 ≡ true)))
+      → OnRefused (stop_of d) (ReadsToRefusal s0 s1 (last s1) (ended s1 ≡ ended s0) (ended s1 ≡ true) a l)
+  first_refusal s0 s1 demo pending d a l is h =
+      let P : DemoReaderView → Type 0 = λ x. IsOpen x → reads_of.OnRefused d (λ n. Refuses x.reading (ahead x.pending a) (ahead pending l) n
+      (HasNotReadAhead s0 s1 (last s1) x.pending pending × (ended s1 ≡ ended s0)) (ended s1 ≡ true)) in
+      let Q : Option (List ℕ) → ℕ → Type 0 = λ o n. Refuses start o (ahead pending l) n (HasNotReadAhead s0 s1 (last s1) [] pending × (ended s1 ≡ ended s0)) (ended s1 ≡ true) in
+      refused_of d (Q (ahead [] a)) (ReadsToRefusal s0 s1 (last s1) (ended s1 ≡ ended s0) (ended s1 ≡ true) a l)
+      (λ n refuses. first_of_all n (let R : Option (List ℕ) → Type 0 = λ o. Q o n in subst R (prepend_known-nil a) refuses))
+      (subst P is h fresh_is_open)
+    where
+      first_of_all : (n : ℕ) → Refuses start a (ahead pending l) n (HasNotReadAhead s0 s1 (last s1) [] pending × (ended s1 ≡ ended s0)) (ended s1 ≡ true)
+          → ReadsToRefusal s0 s1 (last s1) (ended s1 ≡ ended s0) (ended s1 ≡ true) a l
+      first_of_all n refuses = record {
+        lines = refuses.lines;
+        refused = refuses.last;
+        buffered = pending;
+        each = refuses.each;
+        consumed = refuses.consumed;
+        going = refuses.going;
+        why = refuses.refused;
+      }
+
+-- ---- what is sure
+
+-- a fault that can't be, isn't
+pub no_fault_of : (d : DemoStop) → reads_of.OnReadFault d ⊥ → OnReadFault (stop_of d) ⊥
+no_fault_of (demo_stop.Refused line) h = tt
+no_fault_of demo_stop.ReadFault h = h
+no_fault_of demo_stop.NoMemory h = tt
+
+pub first_sure : (demo : DemoReaderView) (d : DemoStop) (P : Type 0) → demo ≡ fresh_reader → (IsOpen demo → P → reads_of.OnReadFault d ⊥) → P → OnReadFault (stop_of d) ⊥
+first_sure demo d P is h p =
+    let Q : DemoReaderView → Type 0 = λ x. IsOpen x → P → reads_of.OnReadFault d ⊥ in no_fault_of d (subst Q is h fresh_is_open p)
+
+-- but where a read failed the source's count of faults is as it was
+pub same_reads : (d : DemoStop) (m0 m1 m2 : ℕ) → m1 ≡ m0 → reads_of.OnRefused d (λ _. m2 ≡ m1) → reads_of.OnNoMemory d (m2 ≡ m1) → ButOnReadFault (stop_of d) (m2 ≡ m0)
+same_reads (demo_stop.Refused line) m0 m1 m2 so_far refused memory = refused ∙ so_far
+same_reads demo_stop.ReadFault m0 m1 m2 so_far refused memory = tt
+same_reads demo_stop.NoMemory m0 m1 m2 so_far refused memory = memory ∙ so_far
+
+-- where a read failed the input's end wasn't given
+pub same_end_at_fault : (d : DemoStop) (ended0 ended1 ended2 : Bool) → ended1 ≡ ended0 → reads_of.OnReadFault d (ended2 ≡ ended1) → OnReadFault (stop_of d) (ended2 ≡ ended0)
+same_end_at_fault (demo_stop.Refused line) ended0 ended1 ended2 so_far h = tt
+same_end_at_fault demo_stop.ReadFault ended0 ended1 ended2 so_far h = h ∙ so_far
+same_end_at_fault demo_stop.NoMemory ended0 ended1 ended2 so_far h = tt
+
+pub but_write_fault : (s : Stop) (P : Type 0) → P → ButOnWriteFault s P
+but_write_fault Refused P h = h
+but_write_fault ReadFault P h = h
+but_write_fault WriteFault P h = tt
+but_write_fault Memory P h = h
+
+pub but_read_fault : (s : Stop) (P : Type 0) → P → ButOnReadFault s P
+but_read_fault Refused P h = h
+but_read_fault ReadFault P h = tt
+but_read_fault WriteFault P h = h
+but_read_fault Memory P h = h
+
+-- where a game stops for want of memory the sink is as it was
+pub but_write_fault_of_game : (s : Stop) (P Q : Type 0) → IsGameStop s → OnMemory s P → (P → Q) → ButOnWriteFault s Q
+but_write_fault_of_game Refused P Q stop h f = absurd stop
+but_write_fault_of_game ReadFault P Q stop h f = absurd stop
+but_write_fault_of_game WriteFault P Q stop h f = tt
+but_write_fault_of_game Memory P Q stop h f = f h
