@@ -1,2 +1,5 @@
+-- Lemmas on lines, their boxes and the rules of maps.
+pub mod Boxes
+pub mod Counting
+pub mod FieldLists
 pub mod Keeping
-pub mod Kept

@@ -1,12 +1,19 @@
--- The definitions of maps: what contracts see of a map, its rules, and what its lines give.
+-- The definitions of maps: their lines as text, what contracts see of a map, its rules, and what its lines give.
 pub use Rattle.arena_geo.specs.Vectors
 pub use Rattle.arena_geo.specs.Bounds
 pub use Rattle.arena_geo.specs.Boxes
 pub use Rattle.box_trace.specs.Walls
 pub use Rattle.entity_recs.specs.Bodies
+pub use Rattle.edge_io.specs.Numbers
+pub use Rattle.edge_io.specs.Fields
 pub mod Faults
-pub mod Maps
 pub mod MapLines
+pub mod Words
+pub mod Reading
+pub mod Spelling
+pub mod Places
+pub mod Things
+pub mod Maps
 pub mod Rules
 pub mod Validity
 pub mod Laws

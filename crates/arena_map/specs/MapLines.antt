@@ -1,5 +1,5 @@
--- The limits of the numbers of a map line, and which lines are in force.
-use Rattle.std.specs.Prelude.{◌≡◌, ◌≤◌, Bool, true, false, pos, ◌≤ℤ◌}
+-- The limits of the numbers of a map line, and what kinds of lines there are.
+use Rattle.std.specs.Prelude.{◌≡◌, ◌≤◌, Bool, true, false, not, pos, ◌≤ℤ◌}
 use Rattle.arena_geo.specs.Vectors.{IsNear}
 use Rattle.entity_recs.specs.declared.kind.Kind.{Kind}
 use Rattle.entity_recs.specs.declared.kind.Kind.TheVariants as kinds
@@ -36,12 +36,56 @@ is_arena (Teleport lo hi dest) = false
 is_arena (Goal lo hi) = false
 is_arena (Lift lo hi rise speed) = false
 
--- the line is in force, and is added to a map that has begun: so far a block or a spawn
+-- the line is one that is added to a map that has begun: any but that of the arena
 abbrev pub is_added : MapLine → Bool
-is_added (Arena lo hi) = false
-is_added (Block lo hi) = true
-is_added (Spawn at) = true
-is_added (Item at kind delay) = false
-is_added (Teleport lo hi dest) = false
-is_added (Goal lo hi) = false
-is_added (Lift lo hi rise speed) = false
+is_added line = not (is_arena line)
+
+-- the line is an item's
+abbrev pub is_item_line : MapLine → Bool
+is_item_line (Arena lo hi) = false
+is_item_line (Block lo hi) = false
+is_item_line (Spawn at) = false
+is_item_line (Item at kind delay) = true
+is_item_line (Teleport lo hi dest) = false
+is_item_line (Goal lo hi) = false
+is_item_line (Lift lo hi rise speed) = false
+
+-- the line is a teleporter's
+abbrev pub is_teleport_line : MapLine → Bool
+is_teleport_line (Arena lo hi) = false
+is_teleport_line (Block lo hi) = false
+is_teleport_line (Spawn at) = false
+is_teleport_line (Item at kind delay) = false
+is_teleport_line (Teleport lo hi dest) = true
+is_teleport_line (Goal lo hi) = false
+is_teleport_line (Lift lo hi rise speed) = false
+
+-- the line is a goal's
+abbrev pub is_goal_line : MapLine → Bool
+is_goal_line (Arena lo hi) = false
+is_goal_line (Block lo hi) = false
+is_goal_line (Spawn at) = false
+is_goal_line (Item at kind delay) = false
+is_goal_line (Teleport lo hi dest) = false
+is_goal_line (Goal lo hi) = true
+is_goal_line (Lift lo hi rise speed) = false
+
+-- the line is a lift's
+abbrev pub is_lift_line : MapLine → Bool
+is_lift_line (Arena lo hi) = false
+is_lift_line (Block lo hi) = false
+is_lift_line (Spawn at) = false
+is_lift_line (Item at kind delay) = false
+is_lift_line (Teleport lo hi dest) = false
+is_lift_line (Goal lo hi) = false
+is_lift_line (Lift lo hi rise speed) = true
+
+-- the line gives a thing: an item, a teleporter, a goal or a lift
+abbrev pub is_thing_line : MapLine → Bool
+is_thing_line (Arena lo hi) = false
+is_thing_line (Block lo hi) = false
+is_thing_line (Spawn at) = false
+is_thing_line (Item at kind delay) = true
+is_thing_line (Teleport lo hi dest) = true
+is_thing_line (Goal lo hi) = true
+is_thing_line (Lift lo hi rise speed) = true

@@ -1,39 +1,63 @@
--- A map as contracts see it: its bounds, its blocks and its spawns, each in the order of their lines.
-use Rattle.std.specs.Prelude.{◌≡◌, ℕ, ◌≤◌, Bool, true, ◌&&◌, List, [], ◌++◌, length, Option, None, All, ℤ, pos, ◌-ℤ◌, int_lt, int_le, nat_lt, drop}
+-- A map as contracts see it: its bounds, its blocks, its spawns, and the lines of its things, each in line order.
+use Rattle.std.specs.Prelude.{◌≡◌, ℕ, ◌-◌, ◌≤◌, Bool, true, false, List, [], ◌++◌, length, Option, None, option_and_then, All, AllPairs, count_by, filter_map, ℤ, pos, ◌+ℤ◌, ◌≤ℤ◌, nat_lt, nat_le, unsigned_abs, slice_get, drop, if◌then◌else◌}
 use Rattle.arena_geo.specs.declared.vec3.Vec3.{Vec3}
 use Rattle.arena_geo.specs.Vectors.{IsNear}
 use Rattle.arena_geo.specs.Bounds.{Bounds, IsBox}
-use Rattle.arena_geo.specs.Boxes.{contains}
+use Rattle.arena_geo.specs.Boxes.{contains, overlaps, is_blocked}
 use Rattle.box_trace.specs.Walls.{walls_of}
 use Rattle.entity_recs.specs.declared.rec.Rec.{Rec}
-use Rattle.entity_recs.specs.Bodies.{player_body}
 use Rattle.arena_map.specs.declared.lift.Lift.{Lift}
+use Rattle.arena_map.specs.declared.map_line.MapLine.{MapLine}
+use Rattle.arena_map.specs.MapLines.{IsWithinLimits, is_thing_line, is_item_line, is_teleport_line, is_goal_line, is_lift_line}
+use Rattle.arena_map.specs.Places.{is_wide, is_thick, is_player_inside, shaft_of, keeps_box, keeps_stand, keeps_item, keeps_travel}
+use Rattle.arena_map.specs.Things.{records_from, dest_in, delay_in, lift_data}
 
--- the arena, the blocks and the spawns
+-- the arena, the blocks, the spawns, and the lines of items, teleporters, goals and lifts
 pub record MapView : Type 0 where
   pub bounds : Bounds
   pub blocks : List Bounds
   pub spawns : List Vec3
+  pub things : List MapLine
 
 -- the map with these parts
-abbrev pub map_of : Bounds → List Bounds → List Vec3 → MapView
-map_of bounds blocks spawns = record { bounds = bounds; blocks = blocks; spawns = spawns }
+abbrev pub map_of : Bounds → List Bounds → List Vec3 → List MapLine → MapView
+map_of bounds blocks spawns things = record { bounds = bounds; blocks = blocks; spawns = spawns; things = things }
 
--- a side is at least 32,768 long
-abbrev pub is_long : ℤ → ℤ → Bool
-is_long from to = int_le (pos 32768) (to -ℤ from)
+-- ---- what a map gives
 
--- each side is
-abbrev pub is_wide : Vec3 → Vec3 → Bool
-is_wide lo hi = is_long lo.x hi.x && is_long lo.y hi.y && is_long lo.z hi.z
+-- the solids of a map: the six walls, and then the blocks in line order
+abbrev pub solids_of : MapView → List Bounds
+solids_of map = walls_of map.bounds ++ map.blocks
 
--- the low corner is below the high one on each axis
-abbrev pub is_thick : Vec3 → Vec3 → Bool
-is_thick lo hi = int_lt lo.x hi.x && int_lt lo.y hi.y && int_lt lo.z hi.z
+-- there is a spawn
+abbrev pub is_ready : MapView → Bool
+is_ready map = nat_lt 0 (length map.spawns)
 
--- the body of a player with its origin there is inside the arena
-abbrev pub is_player_inside : Bounds → Vec3 → Bool
-is_player_inside arena at = contains arena (player_body at)
+-- the things of the map at the start, by id from 64 in line order
+abbrev pub entities_of : MapView → List Rec
+entities_of map = records_from 64 map.things
+
+-- the line of the thing with this id
+abbrev pub thing_of : MapView → ℕ → Option MapLine
+thing_of map id = if nat_le 64 id then slice_get map.things (id - 64) else None
+
+-- where a teleporter moves players
+abbrev pub dest_of : MapView → ℕ → Option Vec3
+dest_of map id = option_and_then dest_in (thing_of map id)
+
+-- how many frames an item stays away
+abbrev pub delay_of : MapView → ℕ → Option ℕ
+delay_of map id = option_and_then delay_in (thing_of map id)
+
+-- the data of a lift
+abbrev pub lift_of : MapView → ℕ → Option Lift
+lift_of map id = option_and_then lift_data (thing_of map id)
+
+-- the shafts of the lifts, in line order
+abbrev pub shafts_of : MapView → List Bounds
+shafts_of map = filter_map shaft_of map.things
+
+-- ---- what a map keeps
 
 -- the spawn is near enough, and a player there is inside the arena
 pub record IsSpawn (arena : Bounds) (at : Vec3) : Type 0 where
@@ -46,6 +70,29 @@ pub record IsBlock (arena : Bounds) (block : Bounds) : Type 0 where
   pub thick : is_thick block.lo block.hi ≡ true
   pub inside : contains arena block ≡ true
 
+-- the line gives a thing, its numbers are within their limits, and it keeps the rules on places
+pub record IsThingInside (arena : Bounds) (line : MapLine) : Type 0 where
+  pub thing : is_thing_line line ≡ true
+  pub limits : IsWithinLimits line
+  pub inside : keeps_box arena line ≡ true
+  pub stand : keeps_stand arena line ≡ true
+  pub item : keeps_item arena line ≡ true
+  pub travel : keeps_travel arena line ≡ true
+
+-- the data of a lift: its lowest and its highest place are near enough, it rises, and it moves at most 2,560 in a frame
+pub record IsLift (lift : Lift) : Type 0 where
+  pub low : unsigned_abs lift.low ≤ 1048576
+  pub high : unsigned_abs (lift.low +ℤ lift.rise) ≤ 1048576
+  pub least_rise : pos 1 ≤ℤ lift.rise
+  pub most_rise : lift.rise ≤ℤ pos 1048576
+  pub least_speed : pos 1 ≤ℤ lift.speed
+  pub most_speed : lift.speed ≤ℤ pos 2560
+
+-- the delay of an item, in frames
+pub record IsDelay (frames : ℕ) : Type 0 where
+  pub least : 1 ≤ frames
+  pub most : frames ≤ 65535
+
 -- the map keeps the rules
 pub record IsMap (map : MapView) : Type 0 where
   pub is_box : IsBox map.bounds
@@ -56,32 +103,18 @@ pub record IsMap (map : MapView) : Type 0 where
   pub few_blocks : length map.blocks ≤ 1024
   pub spawns : All (IsSpawn map.bounds) map.spawns
   pub few_spawns : length map.spawns ≤ 64
+  pub things : All (IsThingInside map.bounds) map.things
+  pub few_items : count_by is_item_line map.things ≤ 144
+  pub few_teleporters : count_by is_teleport_line map.things ≤ 16
+  pub few_goals : count_by is_goal_line map.things ≤ 16
+  pub few_lifts : count_by is_lift_line map.things ≤ 16
+  pub clear_shafts : All (λ shaft. is_blocked shaft map.blocks ≡ false) (shafts_of map)
+  pub shafts_apart : AllPairs (λ one other. overlaps one other ≡ false) (shafts_of map)
 
--- the solids of a map: the six walls, and then the blocks in line order
-abbrev pub solids_of : MapView → List Bounds
-solids_of map = walls_of map.bounds ++ map.blocks
-
--- there is a spawn
-abbrev pub is_ready : MapView → Bool
-is_ready map = nat_lt 0 (length map.spawns)
-
--- the things of the map at the start, by id
-abbrev pub entities_of : MapView → List Rec
-entities_of map = []
-
--- where a teleporter moves players
-abbrev pub dest_of : MapView → ℕ → Option Vec3
-dest_of map id = None
-
--- how many frames an item stays away
-abbrev pub delay_of : MapView → ℕ → Option ℕ
-delay_of map id = None
-
--- the data of a lift
-abbrev pub lift_of : MapView → ℕ → Option Lift
-lift_of map id = None
-
--- a map is kept as its bounds, its solids and its spawns: the blocks are the solids after the six walls
-pub record IsKept (bounds : Bounds) (solids : List Bounds) (spawns : List Vec3) : Type 0 where
-  pub solids_are : solids ≡ solids_of (map_of bounds (drop 6 solids) spawns)
-  pub is_map : IsMap (map_of bounds (drop 6 solids) spawns)
+-- a map is kept as its bounds, its solids, its spawns, the lines of its things, the records that these give, and the
+-- shafts of its lifts: the blocks are the solids after the six walls
+pub record IsKept (bounds : Bounds) (solids : List Bounds) (spawns : List Vec3) (things : List MapLine) (entities : List Rec) (shafts : List Bounds) : Type 0 where
+  pub solids_are : solids ≡ solids_of (map_of bounds (drop 6 solids) spawns things)
+  pub entities_are : entities ≡ records_from 64 things
+  pub shafts_are : shafts ≡ filter_map shaft_of things
+  pub is_map : IsMap (map_of bounds (drop 6 solids) spawns things)

@@ -1,55 +1,22 @@
 -- The rules of a map: the first that a line breaks, and the map with a line that breaks none.
-use Rattle.std.specs.Prelude.{Bool, ◌&&◌, nat_lt, [], ◌∷◌, ◌++◌, length, Option, Some, None, if◌then◌else◌}
+use Rattle.std.specs.Prelude.{Bool, true, false, not, ◌&&◌, nat_lt, List, [], ◌∷◌, ◌++◌, length, count_by, Option, Some, None, ℤ, if◌then◌else◌}
+use Rattle.std.specs.List.{list_any}
 use Rattle.arena_geo.specs.declared.vec3.Vec3.{Vec3}
 use Rattle.arena_geo.specs.Bounds.{Bounds, bounds}
-use Rattle.arena_geo.specs.Boxes.{contains}
+use Rattle.arena_geo.specs.Boxes.{overlaps, is_blocked}
 use Rattle.arena_map.specs.declared.map_fault.MapFault.{MapFault}
 use Rattle.arena_map.specs.declared.map_fault.MapFault.TheVariants as fault
 use Rattle.arena_map.specs.declared.map_line.MapLine.{MapLine}
 use Rattle.arena_map.specs.declared.map_line.MapLine.TheVariants.{Arena, Block, Spawn, Item, Teleport, Goal, Lift}
-use Rattle.arena_map.specs.Maps.{MapView, map_of, is_wide, is_thick, is_player_inside}
+use Rattle.arena_map.specs.MapLines.{is_item_line, is_teleport_line, is_goal_line, is_lift_line}
+use Rattle.arena_map.specs.Places.{is_wide, shaft, keeps_box, keeps_stand, keeps_item, keeps_travel}
+use Rattle.arena_map.specs.Maps.{MapView, map_of, shafts_of}
 
--- the rule that the arena's line breaks
+-- ---- the arena
+
+-- rule 1: the rule that the arena's line breaks
 abbrev pub broken_by_arena : Vec3 → Vec3 → Option MapFault
 broken_by_arena lo hi = if is_wide lo hi then None else Some fault.Arena
-
--- the block has an inside, and is inside the arena
-abbrev pub is_block_inside : Bounds → Vec3 → Vec3 → Bool
-is_block_inside arena lo hi = is_thick lo hi && contains arena (bounds lo hi)
-
--- the first rule that a block's line breaks
-abbrev pub broken_by_block : MapView → Vec3 → Vec3 → Option MapFault
-broken_by_block map lo hi =
-    if is_block_inside map.bounds lo hi then (if nat_lt (length map.blocks) 1024 then None else Some fault.Count) else Some fault.Box
-
--- the first rule that a spawn's line breaks
-abbrev pub broken_by_spawn : MapView → Vec3 → Option MapFault
-broken_by_spawn map at =
-    if nat_lt (length map.spawns) 64 then (if is_player_inside map.bounds at then None else Some fault.Stand) else Some fault.Count
-
--- the first rule that a line breaks, added to a map; the lines that aren't in force break none
-abbrev pub broken_rule : MapView → MapLine → Option MapFault
-broken_rule map (Arena lo hi) = None
-broken_rule map (Block lo hi) = broken_by_block map lo hi
-broken_rule map (Spawn at) = broken_by_spawn map at
-broken_rule map (Item at kind delay) = None
-broken_rule map (Teleport lo hi dest) = None
-broken_rule map (Goal lo hi) = None
-broken_rule map (Lift lo hi rise speed) = None
-
--- the map of an arena, with no block and no spawn
-abbrev pub bare_map : Vec3 → Vec3 → MapView
-bare_map lo hi = map_of (bounds lo hi) [] []
-
--- the map with a line that breaks no rule
-abbrev pub with_line : MapView → MapLine → MapView
-with_line map (Arena lo hi) = map
-with_line map (Block lo hi) = map_of map.bounds (map.blocks ++ bounds lo hi ∷ []) map.spawns
-with_line map (Spawn at) = map_of map.bounds map.blocks (map.spawns ++ at ∷ [])
-with_line map (Item at kind delay) = map
-with_line map (Teleport lo hi dest) = map
-with_line map (Goal lo hi) = map
-with_line map (Lift lo hi rise speed) = map
 
 -- the rule that the line of an arena breaks
 abbrev pub broken_at_first : MapLine → Option MapFault
@@ -61,6 +28,10 @@ broken_at_first (Teleport lo hi dest) = None
 broken_at_first (Goal lo hi) = None
 broken_at_first (Lift lo hi rise speed) = None
 
+-- the map of an arena, with nothing in it
+abbrev pub bare_map : Vec3 → Vec3 → MapView
+bare_map lo hi = map_of (bounds lo hi) [] [] []
+
 -- the map that the line of an arena begins
 abbrev pub begun_map : MapLine → Option MapView
 begun_map (Arena lo hi) = Some (bare_map lo hi)
@@ -70,3 +41,61 @@ begun_map (Item at kind delay) = None
 begun_map (Teleport lo hi dest) = None
 begun_map (Goal lo hi) = None
 begun_map (Lift lo hi rise speed) = None
+
+-- ---- the other lines
+
+-- rule 3: there is room for one more of the line's kind
+abbrev pub keeps_count : MapView → MapLine → Bool
+keeps_count map (Arena lo hi) = true
+keeps_count map (Block lo hi) = nat_lt (length map.blocks) 1024
+keeps_count map (Spawn at) = nat_lt (length map.spawns) 64
+keeps_count map (Item at kind delay) = nat_lt (count_by is_item_line map.things) 144
+keeps_count map (Teleport lo hi dest) = nat_lt (count_by is_teleport_line map.things) 16
+keeps_count map (Goal lo hi) = nat_lt (count_by is_goal_line map.things) 16
+keeps_count map (Lift lo hi rise speed) = nat_lt (count_by is_lift_line map.things) 16
+
+-- the shaft of an earlier lift overlaps the box
+abbrev pub meets_shaft : List Bounds → Bounds → Bool
+meets_shaft shafts box = list_any (λ shaft. overlaps shaft box) shafts
+
+-- rule 8: a block overlaps no earlier shaft, and a lift's shaft no earlier block and no earlier shaft
+abbrev pub keeps_shafts : MapView → MapLine → Bool
+keeps_shafts map (Arena lo hi) = true
+keeps_shafts map (Block lo hi) = not (meets_shaft (shafts_of map) (bounds lo hi))
+keeps_shafts map (Spawn at) = true
+keeps_shafts map (Item at kind delay) = true
+keeps_shafts map (Teleport lo hi dest) = true
+keeps_shafts map (Goal lo hi) = true
+keeps_shafts map (Lift lo hi rise speed) =
+    not (is_blocked (shaft lo hi rise) map.blocks) && not (meets_shaft (shafts_of map) (shaft lo hi rise))
+
+-- the first rule that a line breaks, added to a map
+abbrev pub broken_rule : MapView → MapLine → Option MapFault
+broken_rule map line =
+    if not (keeps_box map.bounds line) then Some fault.Box
+    else if not (keeps_count map line) then Some fault.Count
+    else if not (keeps_stand map.bounds line) then Some fault.Stand
+    else if not (keeps_item map.bounds line) then Some fault.Item
+    else if not (keeps_travel map.bounds line) then Some fault.Travel
+    else if not (keeps_shafts map line) then Some fault.Shaft
+    else None
+
+-- the map with one more of its parts
+abbrev pub with_block : MapView → Bounds → MapView
+with_block map block = map_of map.bounds (map.blocks ++ block ∷ []) map.spawns map.things
+
+abbrev pub with_spawn : MapView → Vec3 → MapView
+with_spawn map at = map_of map.bounds map.blocks (map.spawns ++ at ∷ []) map.things
+
+abbrev pub with_thing : MapView → MapLine → MapView
+with_thing map line = map_of map.bounds map.blocks map.spawns (map.things ++ line ∷ [])
+
+-- the map with a line that breaks no rule
+abbrev pub with_line : MapView → MapLine → MapView
+with_line map (Arena lo hi) = map
+with_line map (Block lo hi) = with_block map (bounds lo hi)
+with_line map (Spawn at) = with_spawn map at
+with_line map (Item at kind delay) = with_thing map (Item at kind delay)
+with_line map (Teleport lo hi dest) = with_thing map (Teleport lo hi dest)
+with_line map (Goal lo hi) = with_thing map (Goal lo hi)
+with_line map (Lift lo hi rise speed) = with_thing map (Lift lo hi rise speed)

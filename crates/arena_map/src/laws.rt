@@ -1,4 +1,4 @@
-ghost use Rattle.arena_map.specs.Laws.{LinesKeepTheRules, SolidsHaveWalls};
+ghost use Rattle.arena_map.specs.Laws.{LinesKeepTheRules, SolidsHaveWalls, MapLinesReadBack, OpeningWorldIsValid, LiftsStayInside};
 
 /// A map that lines begin and lengthen without breaking a rule keeps all of them.
 pub fn lines_keep_the_rules()
@@ -8,4 +8,19 @@ pub fn lines_keep_the_rules()
 /// The solids of a map block what the walls of its arena block.
 pub fn solids_have_walls()
     ensures { SolidsHaveWalls }
+{}
+
+/// A text is read as a line exactly where it is what is printed for that line.
+pub fn map_lines_read_back()
+    ensures { MapLinesReadBack }
+{}
+
+/// The world in which only the things of a map are live, as at the start, is valid for the map.
+pub fn opening_world_is_valid()
+    ensures { OpeningWorldIsValid }
+{}
+
+/// A lift between its lowest place and its highest is within the bounds of records and inside the arena.
+pub fn lifts_stay_inside()
+    ensures { LiftsStayInside }
 {}

@@ -1,16 +1,26 @@
-//! The map of an arena: its lines, its rules, and the solids and spawns that the lines give.
+//! The map of an arena: its lines as text, its rules, and the solids, spawns and things that the lines give.
 #![tactic(auto)]
 
-pub use laws::{lines_keep_the_rules, solids_have_walls};
+pub use laws::{
+    lifts_stay_inside, lines_keep_the_rules, map_lines_read_back, opening_world_is_valid,
+    solids_have_walls,
+};
 pub use lift::Lift;
 pub use map::ArenaMap;
 pub use map_fault::{MapFault, MapRefusal};
 pub use map_line::MapLine;
-pub use rules::{LEAST_SIDE, MOST_BLOCKS, MOST_SPAWNS};
+pub use map_word::{MapField, MapWord};
+pub use reading::read_map_line;
+pub use rules::{LEAST_SIDE, MOST_BLOCKS, MOST_BOXES, MOST_ITEMS, MOST_SPAWNS};
+pub use spelling::print_map_line;
 
 mod laws;
 mod lift;
 mod map;
 mod map_fault;
 mod map_line;
+mod map_word;
+mod reading;
 mod rules;
+mod spelling;
+mod things;

@@ -1,51 +1,66 @@
-ghost use Rattle.std.specs.Prelude.{◌≡◌, ◌↔◌, ◌+◌, ◌≤◌, [], length, Some, None, Err, true, IfOk, OnOk, OnErr};
+ghost use Rattle.std.specs.Prelude.{◌≡◌, ◌↔◌, ◌+◌, ◌≤◌, ◌<◌, [], ◌∷◌, ◌++◌, length, count_by, Option, Some, None, Err, true, All, IfOk, IfSome, OnOk, OnErr};
 ghost use Rattle.arena_geo.specs.Vectors.{IsNear};
 ghost use Rattle.arena_geo.specs.Bounds.{bounds};
+ghost use Rattle.entity_recs.specs.Records.{IsRecord};
 ghost use Rattle.arena_map.specs.declared.map_fault.MapFault.{MapFault};
 ghost use Rattle.arena_map.specs.declared.map_fault.MapRefusal.TheVariants.{Rule};
 ghost use Rattle.arena_map.specs.declared.map_line.MapLine.TheVariants.{Block, Spawn};
+ghost use Rattle.arena_map.specs.Places as places;
 ghost use Rattle.arena_map.specs.Maps as maps;
-ghost use Rattle.arena_map.specs.Maps.{IsMap, solids_of, entities_of};
-ghost use Rattle.arena_map.specs.MapLines.{IsWithinLimits, is_arena, is_added};
-ghost use Rattle.arena_map.specs.Rules.{broken_at_first, begun_map, broken_rule, with_line};
+ghost use Rattle.arena_map.specs.Maps.{IsMap, IsSpawn, IsDelay, IsLift, solids_of, entities_of};
+ghost use Rattle.arena_map.specs.MapLines as lines;
+ghost use Rattle.arena_map.specs.MapLines.{IsWithinLimits, is_arena, is_added, is_thing_line};
+ghost use Rattle.arena_map.specs.Rules as rules;
+ghost use Rattle.arena_map.specs.Rules.{broken_at_first, begun_map, broken_rule, with_line, with_thing};
 
 use crate::lift::Lift;
 use crate::map_fault::{MapFault, MapRefusal};
 use crate::map_line::MapLine;
-use crate::rules::{MOST_BLOCKS, MOST_SPAWNS, is_thick, is_wide};
+use crate::rules::{
+    MOST_BLOCKS, MOST_BOXES, MOST_ITEMS, MOST_SPAWNS, box_between, is_wide, keeps_box, keeps_item,
+    keeps_stand, keeps_travel, shaft,
+};
+use crate::things::{delay_in, dest_in, lift_data, push_shaft, record_of};
 use arena_geo::{Aabb, Vec3};
 use box_trace::arena_walls;
-use entity_recs::{Rec, player_box};
-use std::alloc::Global;
+use entity_recs::Rec;
+use std::alloc::{AllocError, Global};
 use std::marker::Model;
 
 /// How many walls an arena has.
 const WALLS: usize = 6;
 
+/// The id of the first thing.
+const FIRST_THING: u16 = 64;
+
 /// The map of an arena, made of its lines. It keeps the rules: each side of the arena is at least
-/// [`LEAST_SIDE`](crate::LEAST_SIDE) long, there are at most [`MOST_BLOCKS`] blocks, each with an inside and inside the
-/// arena, and at most [`MOST_SPAWNS`] spawns, at each of which a player is inside the arena.
+/// [`LEAST_SIDE`](crate::LEAST_SIDE) long; each block has an inside and is inside the arena; a player at a spawn or at a
+/// teleporter's destination is inside it, and so are each item, each teleporter, each goal and each lift on all its way;
+/// no lift's way meets a block or another lift's; and there are no more of each than there may be.
 #[derive(Drop)]
 pub struct ArenaMap {
     bounds: Aabb,
     solids: Vec<Aabb>,
     spawns: Vec<Vec3>,
+    things: Vec<MapLine>,
+    entities: Vec<Rec>,
+    shafts: Vec<Aabb>,
 }
 
-// Clauses see the bounds, the blocks and the spawns.
+// Clauses see the bounds, the blocks, the spawns and the lines of the things.
 impl Model for ArenaMap {
     ghost use Rattle.std.specs.Prelude.{drop};
     ghost use Rattle.arena_map.specs.Maps.{MapView, map_of, IsKept};
 
     ghost Value = { MapView };
 
-    ghost view = { λ m. map_of m.bounds (drop 6 m.solids.items) m.spawns.items };
+    ghost view = { λ m. map_of m.bounds (drop 6 m.solids.items) m.spawns.items m.things.items };
 
-    ghost invariant = { λ m. IsKept m.bounds m.solids.items m.spawns.items };
+    ghost invariant = { λ m. IsKept m.bounds m.solids.items m.spawns.items m.things.items m.entities.items m.shafts.items };
 }
 
 impl ArenaMap {
-    /// The map that the line of an arena begins, with no block and no spawn. `Rule` exactly where the line breaks a rule.
+    /// The map that the line of an arena begins, with nothing in it. `Rule` exactly where the line breaks a rule.
     pub fn new(alloc: Global, bounds: &MapLine) -> Result<ArenaMap, MapRefusal>
         requires arena { is_arena bounds.now ≡ true }
         requires limits { IsWithinLimits bounds.now }
@@ -66,11 +81,14 @@ impl ArenaMap {
             bounds,
             solids,
             spawns: Vec::new(alloc),
+            things: Vec::new(alloc),
+            entities: Vec::new(alloc),
+            shafts: Vec::new(alloc),
         })
     }
 
-    /// Adds a line, which is of a kind in force: so far a block or a spawn. `Rule` exactly where the line breaks that rule
-    /// and none before it. The map is unchanged where the line isn't added.
+    /// Adds a line, any but an arena's. `Rule` exactly where the line breaks that rule and none before it. The map is
+    /// unchanged where the line isn't added.
     pub fn add(&mut self, l: &MapLine) -> Result<(), MapRefusal>
         requires in_force { is_added l.now ≡ true }
         requires limits { IsWithinLimits l.now }
@@ -78,49 +96,161 @@ impl ArenaMap {
         ensures unchanged { OnErr result (self.new ≡ self.old) }
         ensures rule { (fault : MapFault) → (result ≡ Err (Rule fault)) ↔ (broken_rule self.old l.now ≡ Some fault) }
     {
-        match *l {
-            MapLine::Block { lo, hi } => self.add_block(lo, hi),
-            MapLine::Spawn { at } => self.add_spawn(at),
-            _ => unreachable!(),
+        match self.broken_rule(l) {
+            Some(fault) => Err(MapRefusal::Rule(fault)),
+            None => Ok(self.put(l)?),
         }
     }
 
-    /// Adds a block.
-    fn add_block(&mut self, lo: Vec3, hi: Vec3) -> Result<(), MapRefusal>
+    /// The first rule that a line breaks.
+    fn broken_rule(&self, l: &MapLine) -> Option<MapFault>
+        requires { IsWithinLimits l.now }
+        ensures { result ≡ broken_rule self.now l.now }
+    {
+        if !keeps_box(&self.bounds, l) {
+            Some(MapFault::Box)
+        } else if !self.keeps_count(l) {
+            Some(MapFault::Count)
+        } else if !keeps_stand(&self.bounds, l) {
+            Some(MapFault::Stand)
+        } else if !keeps_item(&self.bounds, l) {
+            Some(MapFault::Item)
+        } else if !keeps_travel(&self.bounds, l) {
+            Some(MapFault::Travel)
+        } else if !self.keeps_shafts(l) {
+            Some(MapFault::Shaft)
+        } else {
+            None
+        }
+    }
+
+    /// Rule 3: there is room for one more of the line's kind.
+    fn keeps_count(&self, l: &MapLine) -> bool
+        ensures { result ≡ rules.keeps_count self.now l.now }
+    {
+        match l {
+            MapLine::Arena { .. } => true,
+            MapLine::Block { .. } => self.blocks().len() < MOST_BLOCKS,
+            MapLine::Spawn { .. } => self.spawns.len() < MOST_SPAWNS,
+            MapLine::Item { .. } => self.items() < MOST_ITEMS,
+            MapLine::Teleport { .. } => self.teleporters() < MOST_BOXES,
+            MapLine::Goal { .. } => self.goals() < MOST_BOXES,
+            MapLine::Lift { .. } => self.shafts.len() < MOST_BOXES,
+        }
+    }
+
+    /// How many items there are.
+    fn items(&self) -> usize
+        ensures { result ≡ count_by lines.is_item_line self.now.things }
+    {
+        let is_item = |line: &&MapLine| matches!(line, MapLine::Item { .. });
+        self.things.iter().filter(is_item).count()
+    }
+
+    /// How many teleporters there are.
+    fn teleporters(&self) -> usize
+        ensures { result ≡ count_by lines.is_teleport_line self.now.things }
+    {
+        let is_teleporter = |line: &&MapLine| matches!(line, MapLine::Teleport { .. });
+        self.things.iter().filter(is_teleporter).count()
+    }
+
+    /// How many goals there are.
+    fn goals(&self) -> usize
+        ensures { result ≡ count_by lines.is_goal_line self.now.things }
+    {
+        let is_goal = |line: &&MapLine| matches!(line, MapLine::Goal { .. });
+        self.things.iter().filter(is_goal).count()
+    }
+
+    /// Rule 8: a block overlaps no earlier shaft, and a lift's shaft no earlier block and no earlier shaft. The line keeps
+    /// rule 2.
+    fn keeps_shafts(&self, l: &MapLine) -> bool
+        requires limits { IsWithinLimits l.now }
+        requires inside { places.keeps_box self.now.bounds l.now ≡ true }
+        ensures { result ≡ rules.keeps_shafts self.now l.now }
+    {
+        match *l {
+            MapLine::Block { lo, hi } => !self.meets_shaft(&box_between(lo, hi)),
+            MapLine::Lift { lo, hi, rise, .. } => {
+                let own = shaft(lo, hi, rise);
+                !own.is_blocked(self.blocks()) && !self.meets_shaft(&own)
+            }
+            _ => true,
+        }
+    }
+
+    /// Whether the shaft of an earlier lift overlaps the box.
+    fn meets_shaft(&self, own: &Aabb) -> bool
+        ensures { result ≡ rules.meets_shaft (maps.shafts_of self.now) own.now }
+    {
+        self.shafts.iter().any(|shaft| shaft.overlaps(own))
+    }
+
+    /// The blocks in line order.
+    fn blocks(&self) -> &[Aabb]
+        ensures { result.now ≡ self.now.blocks }
+    {
+        &self.solids[WALLS..]
+    }
+
+    /// Puts what a line gives to the rest. The line breaks no rule.
+    fn put(&mut self, l: &MapLine) -> Result<(), AllocError>
+        requires in_force { is_added l.now ≡ true }
+        requires limits { IsWithinLimits l.now }
+        requires kept { broken_rule self.old l.now ≡ None }
+        ensures map { OnOk result (self.new ≡ with_line self.old l.now) }
+        ensures unchanged { OnErr result (self.new ≡ self.old) }
+    {
+        match *l {
+            MapLine::Arena { .. } => unreachable!(),
+            MapLine::Block { lo, hi } => self.put_block(lo, hi),
+            MapLine::Spawn { at } => self.put_spawn(at),
+            MapLine::Item { .. }
+            | MapLine::Teleport { .. }
+            | MapLine::Goal { .. }
+            | MapLine::Lift { .. } => self.put_thing(l),
+        }
+    }
+
+    /// Puts a block to the others.
+    fn put_block(&mut self, lo: Vec3, hi: Vec3) -> Result<(), AllocError>
         requires lo { IsNear 1048576 lo }
         requires hi { IsNear 1048576 hi }
-        ensures map { OnOk result (self.new ≡ with_line self.old (Block lo hi)) }
+        requires kept { broken_rule self.old (Block lo hi) ≡ None }
+        ensures map { OnOk result (self.new ≡ rules.with_block self.old (bounds lo hi)) }
         ensures unchanged { OnErr result (self.new ≡ self.old) }
-        ensures rule { (fault : MapFault) → (result ≡ Err (Rule fault)) ↔ (broken_rule self.old (Block lo hi) ≡ Some fault) }
     {
-        if !is_thick(lo, hi) {
-            return Err(MapRefusal::Rule(MapFault::Box));
-        }
-        let block = Aabb::new(lo, hi).unwrap();
-        if !self.bounds.contains(&block) {
-            return Err(MapRefusal::Rule(MapFault::Box));
-        }
-        if self.solids.len() - WALLS >= MOST_BLOCKS {
-            return Err(MapRefusal::Rule(MapFault::Count));
-        }
-        self.solids.push(block)?;
+        self.solids.push(box_between(lo, hi))?;
         Ok(())
     }
 
-    /// Adds a spawn.
-    fn add_spawn(&mut self, at: Vec3) -> Result<(), MapRefusal>
-        requires { IsNear 1048576 at }
-        ensures map { OnOk result (self.new ≡ with_line self.old (Spawn at)) }
+    /// Puts a spawn to the others.
+    fn put_spawn(&mut self, at: Vec3) -> Result<(), AllocError>
+        requires near { IsNear 1048576 at }
+        requires kept { broken_rule self.old (Spawn at) ≡ None }
+        ensures map { OnOk result (self.new ≡ rules.with_spawn self.old at) }
         ensures unchanged { OnErr result (self.new ≡ self.old) }
-        ensures rule { (fault : MapFault) → (result ≡ Err (Rule fault)) ↔ (broken_rule self.old (Spawn at) ≡ Some fault) }
     {
-        if self.spawns.len() >= MOST_SPAWNS {
-            return Err(MapRefusal::Rule(MapFault::Count));
-        }
-        if !self.bounds.contains(&player_box(at)) {
-            return Err(MapRefusal::Rule(MapFault::Stand));
-        }
         self.spawns.push(at)?;
+        Ok(())
+    }
+
+    /// Puts a thing to the others, with the next id.
+    fn put_thing(&mut self, l: &MapLine) -> Result<(), AllocError>
+        requires thing { is_thing_line l.now ≡ true }
+        requires limits { IsWithinLimits l.now }
+        requires kept { broken_rule self.old l.now ≡ None }
+        ensures map { OnOk result (self.new ≡ with_thing self.old l.now) }
+        ensures unchanged { OnErr result (self.new ≡ self.old) }
+    {
+        self.things.reserve(1)?;
+        self.entities.reserve(1)?;
+        self.shafts.reserve(1)?;
+        let id = FIRST_THING + self.things.len() as u16;
+        self.entities.push_reserved(record_of(id, l));
+        push_shaft(&mut self.shafts, &self.bounds, l);
+        self.things.push_reserved(*l);
         Ok(())
     }
 
@@ -156,32 +286,49 @@ impl ArenaMap {
         self.spawns.as_slice()
     }
 
-    /// The things of the map at the start, by id. So far there are none.
+    /// The things of the map at the start, by id from 64 in the order of their lines.
     pub fn entities(&self) -> &[Rec]
-        ensures { result.now ≡ entities_of self.now }
+        ensures value { result.now ≡ entities_of self.now }
+        ensures few { length result.now ≤ 192 }
+        ensures records { All IsRecord result.now }
+        ensures rules { IsMap self.now }
     {
-        &[]
+        self.entities.as_slice()
     }
 
-    /// The origin of players that this teleporter has moved. `None` exactly where the id isn't a teleporter; so far none is.
-    pub fn dest_of(&self, _id: u16) -> Option<Vec3>
-        ensures { result ≡ maps.dest_of self.now _id }
+    /// The line of the thing with this id.
+    fn thing_of(&self, id: u16) -> Option<MapLine>
+        ensures value { result ≡ maps.thing_of self.now id }
+        ensures inside { IfSome result (maps.IsThingInside self.now.bounds) }
+        ensures rules { IsMap self.now }
     {
-        None
+        let place = id.checked_sub(FIRST_THING)?;
+        self.things.get(usize::from(place)).copied()
     }
 
-    /// After how many frames this item returns. `None` exactly where the id isn't an item; so far none is.
-    pub fn delay_of(&self, _id: u16) -> Option<u16>
-        ensures { result ≡ maps.delay_of self.now _id }
+    /// The origin of players that this teleporter has moved, at which a player is inside the arena. `None` exactly where
+    /// the id isn't a teleporter.
+    pub fn dest_of(&self, id: u16) -> Option<Vec3>
+        ensures value { result ≡ maps.dest_of self.now id }
+        ensures stand { IfSome result (IsSpawn self.now.bounds) }
     {
-        None
+        dest_in(&self.thing_of(id)?)
     }
 
-    /// The data of this lift. `None` exactly where the id isn't a lift; so far none is.
-    pub fn lift_of(&self, _id: u16) -> Option<Lift>
-        ensures { result ≡ maps.lift_of self.now _id }
+    /// After how many frames this item returns, 1 to 65,535. `None` exactly where the id isn't an item.
+    pub fn delay_of(&self, id: u16) -> Option<u16>
+        ensures value { result ≡ maps.delay_of self.now id }
+        ensures delay { IfSome result IsDelay }
     {
-        None
+        delay_in(&self.thing_of(id)?)
+    }
+
+    /// The data of this lift. `None` exactly where the id isn't a lift.
+    pub fn lift_of(&self, id: u16) -> Option<Lift>
+        ensures value { result ≡ maps.lift_of self.now id }
+        ensures lift { IfSome result IsLift }
+    {
+        lift_data(&self.thing_of(id)?)
     }
 }
 

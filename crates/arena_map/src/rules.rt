@@ -1,10 +1,12 @@
-ghost use Rattle.std.specs.Prelude.{◌≡◌, ◌≤◌, true, unsigned_abs, length};
+ghost use Rattle.std.specs.Prelude.{◌≡◌, ◌≤◌, ◌≤ℤ◌, true, pos, unsigned_abs, length};
 ghost use Rattle.arena_geo.specs.Vectors.{IsNear};
 ghost use Rattle.arena_geo.specs.Bounds.{bounds};
-ghost use Rattle.arena_map.specs.Maps as maps;
-ghost use Rattle.arena_map.specs.Rules as rules;
+ghost use Rattle.arena_map.specs.MapLines.{IsWithinLimits};
+ghost use Rattle.arena_map.specs.Places as places;
 
+use crate::map_line::MapLine;
 use arena_geo::{Aabb, Vec3};
+use entity_recs::{ITEM_MAXS, ITEM_MINS, player_box};
 
 /// The least length of a side of the arena, in sub-units.
 pub const LEAST_SIDE: i32 = 32_768;
@@ -15,11 +17,17 @@ pub const MOST_BLOCKS: usize = 1_024;
 /// The most spawns of a map.
 pub const MOST_SPAWNS: usize = 64;
 
+/// The most items of a map.
+pub const MOST_ITEMS: usize = 144;
+
+/// The most teleporters of a map, the most goals, and the most lifts.
+pub const MOST_BOXES: usize = 16;
+
 /// Whether a side is at least [`LEAST_SIDE`] long.
 fn is_long(from: i32, to: i32) -> bool
     requires from { unsigned_abs from ≤ 1048576 }
     requires to { unsigned_abs to ≤ 1048576 }
-    ensures { result ≡ maps.is_long from to }
+    ensures { result ≡ places.is_long from to }
 {
     LEAST_SIDE <= to - from
 }
@@ -28,14 +36,131 @@ fn is_long(from: i32, to: i32) -> bool
 pub fn is_wide(lo: Vec3, hi: Vec3) -> bool
     requires lo { IsNear 1048576 lo }
     requires hi { IsNear 1048576 hi }
-    ensures { result ≡ maps.is_wide lo hi }
+    ensures { result ≡ places.is_wide lo hi }
 {
     is_long(lo.x, hi.x) && is_long(lo.y, hi.y) && is_long(lo.z, hi.z)
 }
 
 /// Whether the low corner is below the high one on each axis.
 pub fn is_thick(lo: Vec3, hi: Vec3) -> bool
-    ensures { result ≡ maps.is_thick lo hi }
+    ensures { result ≡ places.is_thick lo hi }
 {
     lo.x < hi.x && lo.y < hi.y && lo.z < hi.z
+}
+
+/// The box between corners of which the low one is below the high one on each axis.
+pub fn box_between(lo: Vec3, hi: Vec3) -> Aabb
+    requires lo { IsNear 1048576 lo }
+    requires hi { IsNear 1048576 hi }
+    requires thick { places.is_thick lo hi ≡ true }
+    ensures { result ≡ bounds lo hi }
+{
+    Aabb::new(lo, hi).unwrap()
+}
+
+/// Whether the box between the corners has an inside and is inside the arena.
+fn is_box_inside(arena: &Aabb, lo: Vec3, hi: Vec3) -> bool
+    requires lo { IsNear 1048576 lo }
+    requires hi { IsNear 1048576 hi }
+    ensures { result ≡ places.is_box_inside arena.now lo hi }
+{
+    is_thick(lo, hi) && arena.contains(&box_between(lo, hi))
+}
+
+/// Whether a player with its origin there is inside the arena.
+fn is_player_inside(arena: &Aabb, at: Vec3) -> bool
+    requires { IsNear 1048576 at }
+    ensures { result ≡ places.is_player_inside arena.now at }
+{
+    arena.contains(&player_box(at))
+}
+
+/// The body of an item with its origin there.
+fn item_box(at: Vec3) -> Aabb
+    requires { IsNear 1048576 at }
+    ensures { result ≡ places.item_body at }
+{
+    Aabb::new(at + ITEM_MINS, at + ITEM_MAXS).unwrap()
+}
+
+/// So far up, in sub-units.
+fn upwards(rise: i32) -> Vec3
+    ensures { result ≡ places.upwards rise }
+{
+    Vec3 {
+        x: 0,
+        y: 0,
+        z: rise,
+    }
+}
+
+/// A lift's box at its highest place.
+fn raised(lo: Vec3, hi: Vec3, rise: i32) -> Aabb
+    requires lo { IsNear 1048576 lo }
+    requires hi { IsNear 1048576 hi }
+    requires thick { places.is_thick lo hi ≡ true }
+    requires rise { unsigned_abs rise ≤ 1048576 }
+    ensures { result ≡ places.raised lo hi rise }
+{
+    box_between(lo, hi).moved(upwards(rise)).unwrap()
+}
+
+/// A lift's shaft: its box from the lowest place to the highest.
+pub fn shaft(lo: Vec3, hi: Vec3, rise: i32) -> Aabb
+    requires lo { IsNear 1048576 lo }
+    requires hi { IsNear 1048576 hi }
+    requires thick { places.is_thick lo hi ≡ true }
+    requires least { pos 1 ≤ℤ rise }
+    requires most { rise ≤ℤ pos 1048576 }
+    ensures { result ≡ places.shaft lo hi rise }
+{
+    Aabb::new(lo, hi + upwards(rise)).unwrap()
+}
+
+/// Rule 2: a block, teleporter, goal or lift has an inside, and is inside the arena.
+pub fn keeps_box(arena: &Aabb, l: &MapLine) -> bool
+    requires { IsWithinLimits l.now }
+    ensures { result ≡ places.keeps_box arena.now l.now }
+{
+    match *l {
+        MapLine::Block { lo, hi }
+        | MapLine::Teleport { lo, hi, .. }
+        | MapLine::Goal { lo, hi }
+        | MapLine::Lift { lo, hi, .. } => is_box_inside(arena, lo, hi),
+        MapLine::Arena { .. } | MapLine::Spawn { .. } | MapLine::Item { .. } => true,
+    }
+}
+
+/// Rule 4: a player at the spawn or the destination is inside the arena.
+pub fn keeps_stand(arena: &Aabb, l: &MapLine) -> bool
+    requires { IsWithinLimits l.now }
+    ensures { result ≡ places.keeps_stand arena.now l.now }
+{
+    match *l {
+        MapLine::Spawn { at } | MapLine::Teleport { dest: at, .. } => is_player_inside(arena, at),
+        _ => true,
+    }
+}
+
+/// Rule 5: an item's body is inside the arena.
+pub fn keeps_item(arena: &Aabb, l: &MapLine) -> bool
+    requires { IsWithinLimits l.now }
+    ensures { result ≡ places.keeps_item arena.now l.now }
+{
+    match *l {
+        MapLine::Item { at, .. } => arena.contains(&item_box(at)),
+        _ => true,
+    }
+}
+
+/// Rule 6: a lift at its highest place is inside the arena. Its line keeps rule 2.
+pub fn keeps_travel(arena: &Aabb, l: &MapLine) -> bool
+    requires limits { IsWithinLimits l.now }
+    requires inside { places.keeps_box arena.now l.now ≡ true }
+    ensures { result ≡ places.keeps_travel arena.now l.now }
+{
+    match *l {
+        MapLine::Lift { lo, hi, rise, .. } => arena.contains(&raised(lo, hi, rise)),
+        _ => true,
+    }
 }

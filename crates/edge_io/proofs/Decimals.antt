@@ -1,11 +1,13 @@
 -- Fields that are numbers, and the decimal text of a number.
-use Rattle.std.proofs.Common.{◌≡◌, ℕ, zero, suc, ◌+◌, ◌-◌, ◌*◌, ◌^◌, ◌≤◌, ◌<◌, ◌==◌, Bool, true, false, ◌&&◌, nat_le, List, [], ◌∷◌, length, get_or, Option, Some, None, option_map, ◌⊎◌, inl, inr, cond, refl, sym, ap, ◌∙◌, subst, arith, ℤ, pos, negsuc, decimal, unsigned_abs, rules}
+use Rattle.std.proofs.Common.{◌≡◌, ℕ, zero, suc, ◌+◌, ◌-◌, ◌*◌, ◌^◌, ◌≤◌, ◌<◌, ◌==◌, Bool, true, false, ◌&&◌, nat_le, List, [], ◌∷◌, length, get_or, Option, Some, None, option_map, ◌⊎◌, inl, inr, cond, refl, sym, ap, ◌∙◌, subst, arith, ℤ, pos, negsuc, decimal, unsigned_abs, rules, not, codes, bytes_eq}
 use Rattle.std.specs.Fmt.{signed_decimal}
 use Rattle.std.specs.Str.{all_ascii_digits}
 use Rattle.std.proofs.lemmas.Str.Parse.{IsNumeralModel, numerals_by_fold}
 use Rattle.std.proofs.lemmas.Fmt.{decimal_digit, first_decimal, decimal_nonempty, digits_decimal, digits_value-decimal, decimal-digits_value}
 use Rattle.std.proofs.lemmas.Bool.Decides.{nat_tests}
-use Rattle.edge_io.specs.Numbers.{is_digit, digits_up_to, natural_up_to, integer_up_to, negated}
+use Rattle.std.proofs.lemmas.Slice.Eq.{bytes_eq-Decides}
+use Rattle.edge_io.specs.Numbers.{is_digit, digits_up_to, natural_up_to, integer_up_to, negated, are_digits, is_natural, is_integer}
+use Rattle.edge_io.specs.Laws.{IsReadWithin, IntegersHaveForm}
 
 -- the number of the digits of n and then these
 abbrev pub read_on : ℕ → List ℕ → ℕ
@@ -155,3 +157,132 @@ pub integer-decimal : (limit : ℕ) (z : ℤ) → unsigned_abs z < 2 ^ 64 → un
 integer-decimal limit (pos n) small h =
     integer-natural limit n (decimal n) (begins_with_digit n (first_of_decimal n small)) (natural-decimal limit n small h)
 integer-decimal limit (negsuc n) small h = ap negated (natural-decimal limit (suc n) small h)
+
+-- ---- numbers of any size
+
+-- digits are digits by either word
+same_digits : (ds : List ℕ) → are_digits ds ≡ all_ascii_digits ds
+same_digits [] = refl
+same_digits (d ∷ ds) = ap (λ b. is_digit d && b) (same_digits ds)
+
+digits-form : (limit m n : ℕ) (ds : List ℕ) → digits_up_to limit m ds ≡ Some n → are_digits ds ≡ true
+digits-form limit m n ds e = same_digits ds ∙ (spells-read limit m n ds e).digits
+
+-- what is read within a limit has the form of a number
+pub natural-form : (limit n : ℕ) (field : List ℕ) → natural_up_to limit field ≡ Some n → is_natural field ≡ true
+natural-form limit n [] e = cc
+natural-form limit n (d ∷ []) e = digits-form limit 0 n (d ∷ []) e
+natural-form limit n (d ∷ f ∷ ds) e = by_first (d == 48) refl e
+  where
+    by_first : (b : Bool) → (d == 48) ≡ b → cond b None (digits_up_to limit 0 (d ∷ f ∷ ds)) ≡ Some n → is_natural (d ∷ f ∷ ds) ≡ true
+    by_first true is e = cc
+    by_first false is e = ap (λ b. not b && are_digits (d ∷ f ∷ ds)) is ∙ digits-form limit 0 n (d ∷ f ∷ ds) e
+
+-- a number above 0 isn't written 0
+not_zero : (limit n : ℕ) (field : List ℕ) (b : Bool) → bytes_eq field (codes "0") ≡ b → natural_up_to limit field ≡ Some (suc n) → b ≡ false
+not_zero limit n field false is e = refl
+not_zero limit n field true is e =
+    let zero_text : field ≡ 48 ∷ [] = (bytes_eq-Decides field (codes "0")).0 is in
+    let read : digits_up_to limit 0 (48 ∷ []) ≡ Some (suc n) = ap (natural_up_to limit) (sym zero_text) ∙ e in
+    let spells = spells-read limit 0 (suc n) (48 ∷ []) read in
+    let value : 0 ≡ suc n = spells.value in
+    absurd (omega (arith, value))
+
+negated-form : (limit : ℕ) (z : ℤ) (ds : List ℕ) (read : Option ℕ) → natural_up_to limit ds ≡ read → negated read ≡ Some z
+    → (is_natural ds && not (bytes_eq ds (codes "0"))) ≡ true
+negated-form limit z ds None is e = cc
+negated-form limit z ds (Some zero) is e = cc
+negated-form limit z ds (Some (suc n)) is e =
+    ap (λ b. is_natural ds && not b) (not_zero limit n ds (bytes_eq ds (codes "0")) refl is)
+    ∙ ap (λ b. b && true) (natural-form limit (suc n) ds is)
+
+pos-form : (limit : ℕ) (z : ℤ) (ds : List ℕ) (read : Option ℕ) → natural_up_to limit ds ≡ read → option_map pos read ≡ Some z → is_natural ds ≡ true
+pos-form limit z ds None is e = cc
+pos-form limit z ds (Some n) is e = natural-form limit n ds is
+
+pub integer-form : (limit : ℕ) (z : ℤ) (field : List ℕ) → integer_up_to limit field ≡ Some z → is_integer field ≡ true
+integer-form limit z [] e = cc
+integer-form limit z (b ∷ bs) e = by_sign (b == 45) refl e
+  where
+    by_sign : (s : Bool) → (b == 45) ≡ s → cond s (negated (natural_up_to limit bs)) (option_map pos (natural_up_to limit (b ∷ bs))) ≡ Some z → is_integer (b ∷ bs) ≡ true
+    by_sign true is e =
+        ap (λ s. cond s (is_natural bs && not (bytes_eq bs (codes "0"))) (is_natural (b ∷ bs))) is
+        ∙ negated-form limit z bs (natural_up_to limit bs) refl e
+    by_sign false is e =
+        ap (λ s. cond s (is_natural bs && not (bytes_eq bs (codes "0"))) (is_natural (b ∷ bs))) is
+        ∙ pos-form limit z (b ∷ bs) (natural_up_to limit (b ∷ bs)) refl e
+
+-- a natural is an integer too
+pub natural-integer : (limit n : ℕ) (field : List ℕ) → natural_up_to limit field ≡ Some n → limit < 2 ^ 64 → is_integer field ≡ true
+natural-integer limit n field e low =
+    let spelled = natural-spelled limit n field low e in
+    let back : integer_up_to limit (decimal n) ≡ Some (pos n) = integer-decimal limit (pos n) (omega (arith, spelled.1)) spelled.1 in
+    integer-form limit (pos n) field (ap (integer_up_to limit) spelled.0 ∙ back)
+
+-- ---- a field of the form of a number is read within some limit
+
+natural-within : (ds : List ℕ) → is_natural ds ≡ true → natural_up_to (read_on 0 ds) ds ≡ Some (read_on 0 ds)
+natural-within [] h = cc
+natural-within (d ∷ []) h = read-spelled _ 0 _ (d ∷ []) (record { digits = sym (same_digits (d ∷ [])) ∙ h; value = refl }) (omega arith)
+natural-within (d ∷ f ∷ ds) h = by_first (d == 48) refl h
+  where
+    by_first : (b : Bool) → (d == 48) ≡ b → (not b && are_digits (d ∷ f ∷ ds)) ≡ true
+        → natural_up_to (read_on 0 (d ∷ f ∷ ds)) (d ∷ f ∷ ds) ≡ Some (read_on 0 (d ∷ f ∷ ds))
+    by_first true is e = cc
+    by_first false is e =
+        ap (λ b. cond b None (digits_up_to (read_on 0 (d ∷ f ∷ ds)) 0 (d ∷ f ∷ ds))) is
+        ∙ read-spelled _ 0 _ (d ∷ f ∷ ds) (record { digits = sym (same_digits (d ∷ f ∷ ds)) ∙ e; value = refl }) (omega arith)
+
+other_digit : (d : ℕ) → is_digit d ≡ true → (d == 48) ≡ false → 48 < d
+other_digit d digit other = grind (arith, nat_tests)
+
+-- a number that isn't written 0 is above 0
+above_zero : (ds : List ℕ) → is_natural ds ≡ true → bytes_eq ds (codes "0") ≡ false → 0 < read_on 0 ds
+above_zero [] h z = cc
+above_zero (d ∷ []) h z = by (d == 48) refl z
+  where
+    by : (b : Bool) → (d == 48) ≡ b → (b && true) ≡ false → 0 < read_on 0 (d ∷ [])
+    by true is e = cc
+    by false is e = let more = other_digit d (and_parts (is_digit d) true h).0 is in omega arith
+above_zero (d ∷ f ∷ ds) h z = by (d == 48) refl h
+  where
+    by : (b : Bool) → (d == 48) ≡ b → (not b && are_digits (d ∷ f ∷ ds)) ≡ true → 0 < read_on 0 (d ∷ f ∷ ds)
+    by true is e = cc
+    by false is e =
+        let digit = (and_parts (is_digit d) (are_digits (f ∷ ds)) e).0 in
+        let more = other_digit d digit is in
+        let grown = read_on-ge (10 * 0 + (d - 48)) (f ∷ ds) in
+        omega arith
+
+natural-read : (ds : List ℕ) (b : ℕ) → (b == 45) ≡ false → is_natural (b ∷ ds) ≡ true → IsReadWithin (b ∷ ds)
+natural-read ds b other h = record {
+  limit = read_on 0 (b ∷ ds);
+  number = pos (read_on 0 (b ∷ ds));
+  read = ap (λ s. cond s (negated (natural_up_to (read_on 0 (b ∷ ds)) ds)) (option_map pos (natural_up_to (read_on 0 (b ∷ ds)) (b ∷ ds)))) other
+      ∙ ap (option_map pos) (natural-within (b ∷ ds) h);
+}
+
+minus-read : (ds : List ℕ) (b n : ℕ) → (b == 45) ≡ true → natural_up_to n ds ≡ Some n → 0 < n → IsReadWithin (b ∷ ds)
+minus-read ds b zero minus e some = absurd (omega (arith, some))
+minus-read ds b (suc m) minus e some = record {
+  limit = suc m;
+  number = negsuc m;
+  read = ap (λ s. cond s (negated (natural_up_to (suc m) ds)) (option_map pos (natural_up_to (suc m) (b ∷ ds)))) minus ∙ ap negated e;
+}
+
+not-true : (b : Bool) → not b ≡ true → b ≡ false
+not-true true h = cc
+not-true false h = refl
+
+pub integer-within : (field : List ℕ) → is_integer field ≡ true → IsReadWithin field
+integer-within [] h = cc
+integer-within (b ∷ bs) h = by (b == 45) refl h
+  where
+    by : (s : Bool) → (b == 45) ≡ s → cond s (is_natural bs && not (bytes_eq bs (codes "0"))) (is_natural (b ∷ bs)) ≡ true → IsReadWithin (b ∷ bs)
+    by true is e =
+        let parts = and_parts (is_natural bs) (not (bytes_eq bs (codes "0"))) e in
+        minus-read bs b (read_on 0 bs) is (natural-within bs parts.0) (above_zero bs parts.0 (not-true (bytes_eq bs (codes "0")) parts.1))
+    by false is e = natural-read bs b is e
+
+pub integers_have_form : IntegersHaveForm
+integers_have_form field = (integer-within field, λ within. integer-form within.limit within.number field within.read)

@@ -1,7 +1,8 @@
--- Lemmas on counts, blocks, lines, numbers and writes.
+-- Lemmas on counts, blocks, lines, numbers, fields and writes.
 pub mod Rising
 pub mod Blocks
 pub mod ReadingAhead
 pub mod Writing
 pub mod Feeds
 pub mod Decimals
+pub mod FieldTexts

@@ -1,5 +1,5 @@
 -- The fields of a line, which single spaces separate.
-use Rattle.std.specs.Prelude.{ℕ, Bool, ◌==◌, List, [], ◌∷◌, Option, Some, None, take, drop, length, position, unwrap_or, if◌then◌else◌}
+use Rattle.std.specs.Prelude.{ℕ, Bool, ◌==◌, List, [], ◌∷◌, Option, Some, None, ◌++◌, codes, take, drop, length, position, unwrap_or, if◌then◌else◌}
 
 -- f of the value, where there is one
 infixl 10 ◌>>=◌
@@ -22,3 +22,7 @@ cut bytes = (
 abbrev pub field_at : List ℕ → Option (List ℕ × List ℕ)
 field_at [] = None
 field_at (b ∷ bytes) = if is_space b then Some (cut bytes) else None
+
+-- the text of a field after the one before it: a space and the field
+abbrev pub field_text : List ℕ → List ℕ
+field_text field = codes " " ++ field

@@ -1,5 +1,6 @@
--- Numbers as a line spells them: decimal digits without a leading zero, up to a limit.
-use Rattle.std.specs.Prelude.{ℕ, zero, suc, ◌+◌, ◌-◌, ◌*◌, Bool, ◌&&◌, nat_le, ◌==◌, List, [], ◌∷◌, Option, Some, None, option_map, ℤ, pos, negsuc, if◌then◌else◌}
+-- Numbers as a line spells them: decimal digits without a leading zero, and those up to a limit.
+use Rattle.std.specs.Prelude.{ℕ, zero, suc, ◌+◌, ◌-◌, ◌*◌, Bool, false, not, ◌&&◌, nat_le, ◌==◌, List, [], ◌∷◌, Option, Some, None, option_map, codes, bytes_eq, ℤ, pos, negsuc, if◌then◌else◌}
+use Rattle.std.specs.List.{list_all}
 
 -- the byte is a decimal digit
 abbrev pub is_digit : ℕ → Bool
@@ -28,3 +29,18 @@ abbrev pub integer_up_to : ℕ → List ℕ → Option ℤ
 integer_up_to limit [] = None
 integer_up_to limit (b ∷ bs) =
     if b == 45 then negated (natural_up_to limit bs) else option_map pos (natural_up_to limit (b ∷ bs))
+
+-- each byte is a decimal digit
+abbrev pub are_digits : List ℕ → Bool
+are_digits bytes = list_all is_digit bytes
+
+-- the field is a number, however large: digits of which the first is no 0, or 0 alone
+abbrev pub is_natural : List ℕ → Bool
+is_natural [] = false
+is_natural (d ∷ []) = are_digits (d ∷ [])
+is_natural (d ∷ e ∷ ds) = not (d == 48) && are_digits (d ∷ e ∷ ds)
+
+-- the same, or a minus and such a number that isn't 0
+abbrev pub is_integer : List ℕ → Bool
+is_integer [] = false
+is_integer (b ∷ bs) = if b == 45 then is_natural bs && not (bytes_eq bs (codes "0")) else is_natural (b ∷ bs)

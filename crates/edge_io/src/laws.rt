@@ -1,4 +1,4 @@
-ghost use Rattle.edge_io.specs.Laws.{LimitsAreKnown, NaturalIsDecimal, IntegerIsDecimal};
+ghost use Rattle.edge_io.specs.Laws.{LimitsAreKnown, NaturalIsDecimal, IntegerIsDecimal, IntegersHaveForm};
 
 /// A line buffer has room for 8,300 bytes, and the longest line of input has 512, its line feed not counted.
 pub fn limits_are_known()
@@ -14,4 +14,9 @@ pub fn natural_is_decimal()
 /// front where it is below 0.
 pub fn integer_is_decimal()
     ensures { IntegerIsDecimal }
+{}
+
+/// A field has the form of a number exactly where it is read as one within some limit.
+pub fn integers_have_form()
+    ensures { IntegersHaveForm }
 {}

@@ -1,0 +1,96 @@
+-- Where the things of a line may be, and the shafts of lifts.
+use Rattle.std.specs.Prelude.{Bool, true, ◌&&◌, ℤ, pos, ◌-ℤ◌, int_lt, int_le, Option, Some, None}
+use Rattle.arena_geo.specs.declared.vec3.Vec3.{Vec3}
+use Rattle.arena_geo.specs.Vectors.{vector, plus}
+use Rattle.arena_geo.specs.Bounds.{Bounds, bounds}
+use Rattle.arena_geo.specs.Boxes.{contains, moved}
+use Rattle.entity_recs.specs.declared.bodies.TheConstants.{ITEM_MINS, ITEM_MAXS}
+use Rattle.entity_recs.specs.Bodies.{standing, player_body}
+use Rattle.arena_map.specs.declared.map_line.MapLine.{MapLine}
+use Rattle.arena_map.specs.declared.map_line.MapLine.TheVariants.{Arena, Block, Spawn, Item, Teleport, Goal, Lift}
+
+-- a side is at least 32,768 long
+abbrev pub is_long : ℤ → ℤ → Bool
+is_long from to = int_le (pos 32768) (to -ℤ from)
+
+-- each side is
+abbrev pub is_wide : Vec3 → Vec3 → Bool
+is_wide lo hi = is_long lo.x hi.x && is_long lo.y hi.y && is_long lo.z hi.z
+
+-- the low corner is below the high one on each axis
+abbrev pub is_thick : Vec3 → Vec3 → Bool
+is_thick lo hi = int_lt lo.x hi.x && int_lt lo.y hi.y && int_lt lo.z hi.z
+
+-- the box has an inside, and is inside the arena
+abbrev pub is_box_inside : Bounds → Vec3 → Vec3 → Bool
+is_box_inside arena lo hi = is_thick lo hi && contains arena (bounds lo hi)
+
+-- the body of a player with its origin there is inside the arena
+abbrev pub is_player_inside : Bounds → Vec3 → Bool
+is_player_inside arena at = contains arena (player_body at)
+
+-- the body of an item with its origin there
+abbrev pub item_body : Vec3 → Bounds
+item_body at = standing at ITEM_MINS ITEM_MAXS
+
+-- so far up
+abbrev pub upwards : ℤ → Vec3
+upwards rise = vector (pos 0) (pos 0) rise
+
+-- a lift at its highest place
+abbrev pub raised : Vec3 → Vec3 → ℤ → Bounds
+raised lo hi rise = moved (bounds lo hi) (upwards rise)
+
+-- a lift's shaft: its box from the lowest place to the highest
+abbrev pub shaft : Vec3 → Vec3 → ℤ → Bounds
+shaft lo hi rise = bounds lo (plus hi (upwards rise))
+
+-- the shaft of the lift on a line
+abbrev pub shaft_of : MapLine → Option Bounds
+shaft_of (Arena lo hi) = None
+shaft_of (Block lo hi) = None
+shaft_of (Spawn at) = None
+shaft_of (Item at kind delay) = None
+shaft_of (Teleport lo hi dest) = None
+shaft_of (Goal lo hi) = None
+shaft_of (Lift lo hi rise speed) = Some (shaft lo hi rise)
+
+-- rule 2: a block, teleporter, goal or lift has an inside, and is inside the arena
+abbrev pub keeps_box : Bounds → MapLine → Bool
+keeps_box arena (Arena lo hi) = true
+keeps_box arena (Block lo hi) = is_box_inside arena lo hi
+keeps_box arena (Spawn at) = true
+keeps_box arena (Item at kind delay) = true
+keeps_box arena (Teleport lo hi dest) = is_box_inside arena lo hi
+keeps_box arena (Goal lo hi) = is_box_inside arena lo hi
+keeps_box arena (Lift lo hi rise speed) = is_box_inside arena lo hi
+
+-- rule 4: a player at the spawn or the destination is inside the arena
+abbrev pub keeps_stand : Bounds → MapLine → Bool
+keeps_stand arena (Arena lo hi) = true
+keeps_stand arena (Block lo hi) = true
+keeps_stand arena (Spawn at) = is_player_inside arena at
+keeps_stand arena (Item at kind delay) = true
+keeps_stand arena (Teleport lo hi dest) = is_player_inside arena dest
+keeps_stand arena (Goal lo hi) = true
+keeps_stand arena (Lift lo hi rise speed) = true
+
+-- rule 5: an item's body is inside the arena
+abbrev pub keeps_item : Bounds → MapLine → Bool
+keeps_item arena (Arena lo hi) = true
+keeps_item arena (Block lo hi) = true
+keeps_item arena (Spawn at) = true
+keeps_item arena (Item at kind delay) = contains arena (item_body at)
+keeps_item arena (Teleport lo hi dest) = true
+keeps_item arena (Goal lo hi) = true
+keeps_item arena (Lift lo hi rise speed) = true
+
+-- rule 6: a lift at its highest place is inside the arena
+abbrev pub keeps_travel : Bounds → MapLine → Bool
+keeps_travel arena (Arena lo hi) = true
+keeps_travel arena (Block lo hi) = true
+keeps_travel arena (Spawn at) = true
+keeps_travel arena (Item at kind delay) = true
+keeps_travel arena (Teleport lo hi dest) = true
+keeps_travel arena (Goal lo hi) = true
+keeps_travel arena (Lift lo hi rise speed) = contains arena (raised lo hi rise)

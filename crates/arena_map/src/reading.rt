@@ -1,0 +1,234 @@
+ghost use Rattle.std.specs.Prelude.{◌≡◌, ◌≤◌, ◌^◌, true, false, option_map, IfOk, IfSome, unsigned_abs};
+ghost use Rattle.arena_geo.specs.Vectors.{IsNear};
+ghost use Rattle.edge_io.specs.Fields as fields;
+ghost use Rattle.arena_map.specs.MapLines.{IsWithinLimits, is_item};
+ghost use Rattle.arena_map.specs.Reading as reading;
+
+use crate::map_line::MapLine;
+use crate::map_word::{MapField, MapWord, item_kind};
+use arena_geo::Vec3;
+use edge_io::{cut, field_at, integer, is_integer, natural};
+use entity_recs::Kind;
+
+/// The greatest distance of a coordinate on a line from 0, in sub-units.
+const FARTHEST: u32 = 1_048_576;
+
+/// The most frames after which an item returns.
+const LONGEST_DELAY: u32 = 65_535;
+
+/// The most that a lift rises, in sub-units.
+const HIGHEST_RISE: u32 = 1_048_576;
+
+/// The most that a lift moves in a frame, in sub-units.
+const FASTEST: u32 = 2_560;
+
+/// The fault of a line whose first word is no word.
+const NO_WORD: u8 = 3;
+
+/// The fault of a line that has too few or too many fields, or a field that isn't a number or a kind.
+const NO_FORM: u8 = 4;
+
+/// The fault of a line with a number out of its limit.
+const OUT_OF_LIMIT: u8 = 6;
+
+/// Whether the text is one for this field.
+fn is_field(field: MapField, text: &[u8]) -> bool
+    ensures { result ≡ reading.is_field field text.now }
+{
+    match field {
+        MapField::Number => is_integer(text),
+        MapField::ItemKind => item_kind(text).is_some(),
+    }
+}
+
+/// Whether these fields are on the line, and nothing more.
+fn has_fields(fields: &[MapField], rest: &[u8]) -> bool
+    ensures { result ≡ reading.has_fields fields.now rest.now }
+{
+    let mut rest = rest;
+    for field in fields {
+        let Some((text, after)) = field_at(rest) else {
+            return false;
+        };
+        if !is_field(*field, text) {
+            return false;
+        }
+        rest = after;
+    }
+    rest.is_empty()
+}
+
+/// A coordinate, and the rest.
+fn coordinate_at(rest: &[u8]) -> Option<(i32, &[u8])>
+    ensures value { option_map (λ c. (c.0, c.1.now)) result ≡ reading.coordinate_at rest.now }
+    ensures bound { IfSome result (λ c. unsigned_abs c.0 ≤ FARTHEST) }
+{
+    let (field, rest) = field_at(rest)?;
+    Some((integer(field, FARTHEST)?, rest))
+}
+
+/// Three coordinates, and the rest.
+fn point_at(rest: &[u8]) -> Option<(Vec3, &[u8])>
+    ensures value { option_map (λ p. (p.0, p.1.now)) result ≡ reading.point_at rest.now }
+    ensures bound { IfSome result (λ p. IsNear FARTHEST p.0) }
+{
+    let (x, rest) = coordinate_at(rest)?;
+    let (y, rest) = coordinate_at(rest)?;
+    let (z, rest) = coordinate_at(rest)?;
+    Some((Vec3 { x, y, z }, rest))
+}
+
+/// A number from 1 to `limit`, and the rest.
+fn count_at(rest: &[u8], limit: u32) -> Option<(u32, &[u8])>
+    requires { limit ≤ 2 ^ 24 }
+    ensures value { option_map (λ c. (c.0, c.1.now)) result ≡ reading.count_at limit rest.now }
+    ensures least { IfSome result (λ c. 1 ≤ c.0) }
+    ensures most { IfSome result (λ c. c.0 ≤ limit) }
+{
+    let (field, rest) = field_at(rest)?;
+    match natural(field, limit)? {
+        0 => None,
+        count => Some((count, rest)),
+    }
+}
+
+/// The kind of an item, and the rest.
+fn kind_at(rest: &[u8]) -> Option<(Kind, &[u8])>
+    ensures value { option_map (λ k. (k.0, k.1.now)) result ≡ reading.kind_at rest.now }
+    ensures item { IfSome result (λ k. is_item k.0 ≡ true) }
+{
+    let (field, rest) = field_at(rest)?;
+    Some((item_kind(field)?, rest))
+}
+
+/// A low corner, a high one, and the rest.
+fn corners_at(rest: &[u8]) -> Option<(Vec3, Vec3, &[u8])>
+    ensures value { option_map (λ c. (c.0, c.1, c.2.now)) result ≡ reading.corners_at rest.now }
+    ensures lo { IfSome result (λ c. IsNear FARTHEST c.0) }
+    ensures hi { IfSome result (λ c. IsNear FARTHEST c.1) }
+{
+    let (lo, rest) = point_at(rest)?;
+    let (hi, rest) = point_at(rest)?;
+    Some((lo, hi, rest))
+}
+
+/// The line, where nothing more is on it.
+fn alone(line: MapLine, rest: &[u8]) -> Option<MapLine>
+    ensures value { result ≡ reading.alone line rest.now }
+    ensures limits { IsWithinLimits line → IfSome result IsWithinLimits }
+{
+    if rest.is_empty() { Some(line) } else { None }
+}
+
+/// The arena's corners.
+fn arena_in(rest: &[u8]) -> Option<MapLine>
+    ensures value { result ≡ reading.arena_in rest.now }
+    ensures limits { IfSome result IsWithinLimits }
+{
+    let (lo, hi, rest) = corners_at(rest)?;
+    alone(MapLine::Arena { lo, hi }, rest)
+}
+
+/// A block's corners.
+fn block_in(rest: &[u8]) -> Option<MapLine>
+    ensures value { result ≡ reading.block_in rest.now }
+    ensures limits { IfSome result IsWithinLimits }
+{
+    let (lo, hi, rest) = corners_at(rest)?;
+    alone(MapLine::Block { lo, hi }, rest)
+}
+
+/// Where players join.
+fn spawn_in(rest: &[u8]) -> Option<MapLine>
+    ensures value { result ≡ reading.spawn_in rest.now }
+    ensures limits { IfSome result IsWithinLimits }
+{
+    let (at, rest) = point_at(rest)?;
+    alone(MapLine::Spawn { at }, rest)
+}
+
+/// Where an item is, its kind, and after how many frames it returns.
+fn item_in(rest: &[u8]) -> Option<MapLine>
+    ensures value { result ≡ reading.item_in rest.now }
+    ensures limits { IfSome result IsWithinLimits }
+{
+    let (at, rest) = point_at(rest)?;
+    let (kind, rest) = kind_at(rest)?;
+    let (delay, rest) = count_at(rest, LONGEST_DELAY)?;
+    let delay = delay as u16;
+    alone(MapLine::Item { at, kind, delay }, rest)
+}
+
+/// A teleporter's corners, and where it moves players.
+fn teleport_in(rest: &[u8]) -> Option<MapLine>
+    ensures value { result ≡ reading.teleport_in rest.now }
+    ensures limits { IfSome result IsWithinLimits }
+{
+    let (lo, hi, rest) = corners_at(rest)?;
+    let (dest, rest) = point_at(rest)?;
+    alone(MapLine::Teleport { lo, hi, dest }, rest)
+}
+
+/// A goal's corners.
+fn goal_in(rest: &[u8]) -> Option<MapLine>
+    ensures value { result ≡ reading.goal_in rest.now }
+    ensures limits { IfSome result IsWithinLimits }
+{
+    let (lo, hi, rest) = corners_at(rest)?;
+    alone(MapLine::Goal { lo, hi }, rest)
+}
+
+/// A lift's corners at its lowest place, how far it rises, and how far it moves in a frame.
+fn lift_in(rest: &[u8]) -> Option<MapLine>
+    ensures value { result ≡ reading.lift_in rest.now }
+    ensures limits { IfSome result IsWithinLimits }
+{
+    let (lo, hi, rest) = corners_at(rest)?;
+    let (rise, rest) = count_at(rest, HIGHEST_RISE)?;
+    let (speed, rest) = count_at(rest, FASTEST)?;
+    let (rise, speed) = (rise as i32, speed as i32);
+    alone(
+        MapLine::Lift {
+            lo,
+            hi,
+            rise,
+            speed,
+        },
+        rest,
+    )
+}
+
+/// The line with these fields, where each number is within its limit.
+fn line_within(word: MapWord, rest: &[u8]) -> Option<MapLine>
+    ensures value { result ≡ reading.line_within word rest.now }
+    ensures limits { IfSome result IsWithinLimits }
+{
+    match word {
+        MapWord::Arena => arena_in(rest),
+        MapWord::Block => block_in(rest),
+        MapWord::Spawn => spawn_in(rest),
+        MapWord::Item => item_in(rest),
+        MapWord::Teleport => teleport_in(rest),
+        MapWord::Goal => goal_in(rest),
+        MapWord::Lift => lift_in(rest),
+    }
+}
+
+/// What a line of a map says, without its line feed. Its first word isn't `frame`, `from` or `end`.
+///
+/// Else the first fault that holds: 3 where the first word is no word of a recording; 4 where the number of fields is
+/// wrong, or a field that should be a number or an item's kind isn't one; 6 where a number is out of its limit.
+pub fn read_map_line(line: &[u8]) -> Result<MapLine, u8>
+    requires { reading.is_word_of_play (fields.cut line.now).0 ≡ false }
+    ensures value { result ≡ reading.map_line_of line.now }
+    ensures limits { IfOk result IsWithinLimits }
+{
+    let (text, rest) = cut(line);
+    let Some(word) = MapWord::read(text) else {
+        return Err(NO_WORD);
+    };
+    if !has_fields(word.fields(), rest) {
+        return Err(NO_FORM);
+    }
+    line_within(word, rest).ok_or(OUT_OF_LIMIT)
+}
