@@ -302,8 +302,9 @@ impl ArenaMap {
         ensures inside { IfSome result (maps.IsThingInside self.now.bounds) }
         ensures rules { IsMap self.now }
     {
+        let things = self.things.as_slice();
         let place = id.checked_sub(FIRST_THING)?;
-        self.things.get(usize::from(place)).copied()
+        things.get(usize::from(place)).copied()
     }
 
     /// The origin of players that this teleporter has moved, at which a player is inside the arena. `None` exactly where

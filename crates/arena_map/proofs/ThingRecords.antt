@@ -1,0 +1,118 @@
+-- The records of things are within their bounds.
+use Rattle.std.proofs.Common.{◌≡◌, ℕ, ◌+◌, ◌<◌, ◌≤◌, Bool, true, false, ◌&&◌, List, [], ◌∷◌, length, ℤ, pos, ◌+ℤ◌, ◌-ℤ◌, ◌≤ℤ◌, ◌<ℤ◌, int_lt, int_le, unsigned_abs, All, refl, sym, ap, ◌∙◌, subst, arith}
+use Rattle.std.specs.List.{AllByRecursion}
+use Rattle.std.proofs.lemmas.Int.{ints}
+use Rattle.std.proofs.lemmas.List.Elements.{All-from_recursion}
+use Rattle.arena_geo.specs.declared.vec3.Vec3.{Vec3}
+use Rattle.arena_geo.specs.Vectors.{IsNear, plus, minus, vector, zero_vector}
+use Rattle.arena_geo.specs.Bounds.{Bounds, bounds}
+use Rattle.arena_geo.specs.Boxes.{contains}
+use Rattle.entity_recs.specs.declared.kind.Kind.{Kind}
+use Rattle.entity_recs.specs.declared.kind.Kind.TheVariants as kinds
+use Rattle.entity_recs.specs.declared.rec.Rec.{Rec}
+use Rattle.entity_recs.specs.Records.{IsMapId, IsAboveZero, IsMapBox, IsRecord}
+use Rattle.arena_map.specs.declared.map_line.MapLine.{MapLine}
+use Rattle.arena_map.specs.declared.map_line.MapLine.TheVariants.{Arena, Block, Spawn, Item, Teleport, Goal, Lift}
+use Rattle.arena_map.specs.MapLines.{is_item}
+use Rattle.arena_map.specs.Places.{is_thick}
+use Rattle.arena_map.specs.Things.{thing_at_rest, box_at_rest, record_of, records_from}
+use Rattle.arena_map.specs.Maps.{MapView, entities_of, IsThingInside, IsMap}
+use Rattle.arena_map.proofs.Boxes.{both_parts, three_parts}
+use Rattle.arena_map.proofs.Kept.{each-of, few_things}
+
+above : (lo hi : ℤ) → int_lt lo hi ≡ true → pos 0 <ℤ (hi -ℤ lo)
+above lo hi h = grind (arith, ints)
+
+-- a place and the way from there to another give the other
+pub there : (lo hi : ℤ) → lo +ℤ (hi -ℤ lo) ≡ hi
+there lo hi = omega (arith, ints)
+
+-- a box with an inside has a size, and ends at its high corner
+pub sized : (lo hi : Vec3) → is_thick lo hi ≡ true → IsAboveZero (minus hi lo)
+sized lo hi thick =
+    let parts = three_parts (int_lt lo.x hi.x) (int_lt lo.y hi.y) (int_lt lo.z hi.z) thick in
+    record { x = above lo.x hi.x parts.0; y = above lo.y hi.y parts.1; z = above lo.z hi.z parts.2 }
+
+pub corner : (lo hi : Vec3) → plus lo (minus hi lo) ≡ hi
+corner lo hi =
+    ap (λ x. vector x (lo.y +ℤ (hi.y -ℤ lo.y)) (lo.z +ℤ (hi.z -ℤ lo.z))) (there lo.x hi.x)
+    ∙ ap (λ y. vector hi.x y (lo.z +ℤ (hi.z -ℤ lo.z))) (there lo.y hi.y)
+    ∙ ap (λ z. vector hi.x hi.y z) (there lo.z hi.z)
+
+pub map_box : (lo hi : Vec3) → IsNear 1048576 hi → is_thick lo hi ≡ true → IsMapBox lo zero_vector (minus hi lo)
+map_box lo hi near thick = record { low_is = refl; has_size = sized lo hi thick; high = subst (IsNear 1048576) (sym (corner lo hi)) near }
+
+at_rest : IsNear 512000 zero_vector
+at_rest = record { x = omega arith; y = omega arith; z = omega arith }
+
+item-is_record : (id : ℕ) (kind : Kind) (at : Vec3) → IsMapId id → is_item kind ≡ true → IsNear 1048576 at → IsRecord (record_of id (Item at kind 1))
+item-is_record id kinds.Ammo at own item near = record {
+  id = own;
+  origin = near;
+  shape = record { low_is = refl; high_is = refl };
+  vel = at_rest;
+  flags = omega arith;
+  ammo = omega arith;
+  carry = omega arith;
+}
+item-is_record id kinds.Gem at own item near = record {
+  id = own;
+  origin = near;
+  shape = record { low_is = refl; high_is = refl };
+  vel = at_rest;
+  flags = omega arith;
+  ammo = omega arith;
+  carry = omega arith;
+}
+item-is_record id kind at own item near = cc
+
+thick-of : (arena : Bounds) (lo hi : Vec3) → (is_thick lo hi && contains arena (bounds lo hi)) ≡ true → is_thick lo hi ≡ true
+thick-of arena lo hi h = (both_parts (is_thick lo hi) (contains arena (bounds lo hi)) h).0
+
+-- the record of a thing that is placed by the rules
+pub thing-is_record : (arena : Bounds) (id : ℕ) (line : MapLine) → IsMapId id → IsThingInside arena line → IsRecord (record_of id line)
+thing-is_record arena id (Item at kind delay) own inside = item-is_record id kind at own inside.limits.1 inside.limits.0
+thing-is_record arena id (Teleport lo hi dest) own inside = record {
+  id = own;
+  origin = inside.limits.0;
+  shape = map_box lo hi inside.limits.1 (thick-of arena lo hi inside.inside);
+  vel = at_rest;
+  flags = omega arith;
+  ammo = omega arith;
+  carry = omega arith;
+}
+thing-is_record arena id (Goal lo hi) own inside = record {
+  id = own;
+  origin = inside.limits.0;
+  shape = map_box lo hi inside.limits.1 (thick-of arena lo hi inside.inside);
+  vel = at_rest;
+  flags = omega arith;
+  ammo = omega arith;
+  carry = omega arith;
+}
+thing-is_record arena id (Lift lo hi rise speed) own inside = record {
+  id = own;
+  origin = inside.limits.0;
+  shape = map_box lo hi inside.limits.1 (thick-of arena lo hi inside.inside);
+  vel = at_rest;
+  flags = omega arith;
+  ammo = omega arith;
+  carry = omega arith;
+}
+thing-is_record arena id (Arena lo hi) own inside = let no = inside.thing in cc
+thing-is_record arena id (Block lo hi) own inside = let no = inside.thing in cc
+thing-is_record arena id (Spawn at) own inside = let no = inside.thing in cc
+
+records-are : (arena : Bounds) (first : ℕ) (things : List MapLine) → 64 ≤ first → first + length things ≤ 256 → AllByRecursion (IsThingInside arena) things
+    → AllByRecursion IsRecord (records_from first things)
+records-are arena first [] low high each = tt
+records-are arena first (line ∷ things) low high each = (
+  thing-is_record arena first line (record { least = low; most = omega (arith, high) }) each.0,
+  records-are arena (first + 1) things (omega (arith, low)) (omega (arith, high)) each.1,
+)
+
+-- each thing of a map has a record within its bounds
+pub entities-are : (map : MapView) → IsMap map → All IsRecord (entities_of map)
+entities-are map is =
+    All-from_recursion IsRecord (entities_of map)
+    (records-are map.bounds 64 map.things (omega arith) (omega (arith, few_things map is)) (each-of (IsThingInside map.bounds) (IsThingInside map.bounds) map.things (λ line inside. inside) is.things))

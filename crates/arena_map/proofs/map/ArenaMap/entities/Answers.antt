@@ -1,0 +1,19 @@
+use Rattle.std.proofs.Common.{length, List, All, drop, sym, ap, ◌∙◌, subst, arith}
+use Rattle.entity_recs.specs.declared.rec.Rec.{Rec}
+use Rattle.entity_recs.specs.Records.{IsRecord}
+use Rattle.arena_map.specs.Maps.{map_of}
+use Rattle.arena_map.proofs.Kept.{records-count, few_things}
+use Rattle.arena_map.proofs.ThingRecords.{entities-are}
+use Rattle.arena_map.proofs.map.ArenaMap.entities.Goals as goal
+
+pub returns-clause-few : goal.returns-clause-few
+returns-clause-few c =
+    let map = map_of c.self.inside.bounds (drop 6 c.self.inside.solids.items) c.self.inside.spawns.items c.self.inside.things.items in
+    let count = ap length (c.as_slice.ensures.value ∙ c.self.invariant.entities_are) ∙ records-count 64 c.self.inside.things.items in
+    omega (arith, count, few_things map c.self.invariant.is_map)
+
+pub returns-clause-records : goal.returns-clause-records
+returns-clause-records c =
+    let map = map_of c.self.inside.bounds (drop 6 c.self.inside.solids.items) c.self.inside.spawns.items c.self.inside.things.items in
+    let Records : List Rec → Type 0 = λ records. All IsRecord records in
+    subst Records (sym (c.as_slice.ensures.value ∙ c.self.invariant.entities_are)) (entities-are map c.self.invariant.is_map)
