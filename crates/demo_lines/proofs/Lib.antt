@@ -1,19 +1,13 @@
 -- Lemmas on recordings.
 pub mod Machines
+pub mod OnePass
+pub mod MapWords
+pub mod Taking
+pub mod MapRules
+pub mod Parts
 pub mod Ends
 pub mod Consuming
 pub mod Walks
-pub mod Spellings
-pub mod Prefixes
 pub mod MapGiven
-pub mod Marks
-pub mod FieldsRead
-pub mod LinesRead
-pub mod LinesSound
-pub mod LinesBack
-pub mod RecordingsRead
-pub mod SmallRecording
-pub mod LinesLeft
-pub mod LongestRecording
-pub mod MapRules
-pub mod Given
+pub mod Prefixes
+pub mod Spellings

@@ -2,10 +2,17 @@
 pub use Rattle.arena_map.specs.Maps
 pub use Rattle.arena_map.specs.MapLines
 pub use Rattle.arena_map.specs.Rules
+pub use Rattle.arena_map.specs.Words
+pub use Rattle.arena_map.specs.Reading
+pub use Rattle.arena_map.specs.Spelling
 pub mod Packets
+pub mod Words
 pub mod Lines
 pub mod Machines
+pub mod Known
+pub mod Faults
 pub mod Recording
+pub mod Said
 pub mod Bytes
 pub mod Readings
 pub mod Spelling
