@@ -334,6 +334,3 @@ impl ArenaMap {
         lift_data(&self.thing_of(id)?)
     }
 }
-
-#[cfg(test)]
-mod tests;
