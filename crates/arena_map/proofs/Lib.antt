@@ -7,3 +7,7 @@ pub mod Kept
 pub mod ThingRecords
 pub mod Lifts
 pub mod ThingsFound
+pub mod LinesSound
+pub mod LinesBack
+pub mod Opening
+pub mod ThingData

@@ -1,6 +1,8 @@
 -- The records of things are within their bounds.
 use Rattle.std.proofs.Common.{◌≡◌, ℕ, ◌+◌, ◌<◌, ◌≤◌, Bool, true, false, ◌&&◌, List, [], ◌∷◌, length, ℤ, pos, ◌+ℤ◌, ◌-ℤ◌, ◌≤ℤ◌, ◌<ℤ◌, int_lt, int_le, unsigned_abs, All, refl, sym, ap, ◌∙◌, subst, arith}
-use Rattle.std.specs.List.{AllByRecursion}
+use Rattle.std.specs.List.{AllByRecursion, IsDistinct}
+use Rattle.std.specs.Prelude.{map as map_list, nat_eq}
+use Rattle.std.proofs.lemmas.Bool.Decides.{nat_tests}
 use Rattle.std.proofs.lemmas.Int.{ints}
 use Rattle.std.proofs.lemmas.List.Elements.{All-from_recursion}
 use Rattle.arena_geo.specs.declared.vec3.Vec3.{Vec3}
@@ -13,7 +15,7 @@ use Rattle.entity_recs.specs.declared.rec.Rec.{Rec}
 use Rattle.entity_recs.specs.Records.{IsMapId, IsAboveZero, IsMapBox, IsRecord}
 use Rattle.arena_map.specs.declared.map_line.MapLine.{MapLine}
 use Rattle.arena_map.specs.declared.map_line.MapLine.TheVariants.{Arena, Block, Spawn, Item, Teleport, Goal, Lift}
-use Rattle.arena_map.specs.MapLines.{is_item}
+use Rattle.arena_map.specs.MapLines.{is_item, is_thing_line}
 use Rattle.arena_map.specs.Places.{is_thick}
 use Rattle.arena_map.specs.Things.{thing_at_rest, box_at_rest, record_of, records_from}
 use Rattle.arena_map.specs.Maps.{MapView, entities_of, IsThingInside, IsMap}
@@ -116,3 +118,36 @@ pub entities-are : (map : MapView) → IsMap map → All IsRecord (entities_of m
 entities-are map is =
     All-from_recursion IsRecord (entities_of map)
     (records-are map.bounds 64 map.things (omega arith) (omega (arith, few_things map is)) (each-of (IsThingInside map.bounds) (IsThingInside map.bounds) map.things (λ line inside. inside) is.things))
+
+-- ---- ids
+
+-- the record of a thing has its id
+pub own-id : (id : ℕ) (line : MapLine) → is_thing_line line ≡ true → (record_of id line).id ≡ id
+own-id id (Item at kind delay) thing = refl
+own-id id (Teleport lo hi dest) thing = refl
+own-id id (Goal lo hi) thing = refl
+own-id id (Lift lo hi rise speed) thing = refl
+own-id id line thing = cc
+
+-- later things have other ids
+ids-later : (n first : ℕ) (things : List MapLine) → n < first → AllByRecursion (λ line. is_thing_line line ≡ true) things
+    → AllByRecursion (λ id. nat_eq n id ≡ false) (map_list (λ (r : Rec). r.id) (records_from first things))
+ids-later n first [] below each = tt
+ids-later n first (line ∷ things) below each =
+    let own = own-id first line each.0 in
+    let other : nat_eq n first ≡ false = grind (arith, nat_tests) in
+    (ap (nat_eq n) own ∙ other, ids-later n (first + 1) things (omega (arith, below)) each.1)
+
+ids-apart : (first : ℕ) (things : List MapLine) → AllByRecursion (λ line. is_thing_line line ≡ true) things
+    → IsDistinct nat_eq (map_list (λ (r : Rec). r.id) (records_from first things))
+unfolding IsDistinct
+ids-apart first [] each = tt
+ids-apart first (line ∷ things) each =
+    let own = own-id first line each.0 in
+    let Apart : ℕ → Type 0 = λ id. AllByRecursion (λ other. nat_eq id other ≡ false) (map_list (λ (r : Rec). r.id) (records_from (first + 1) things)) in
+    (subst Apart (sym own) (ids-later first (first + 1) things (omega arith) each.1), ids-apart (first + 1) things each.1)
+
+-- no two things of a map have one id
+pub entities-apart : (map : MapView) → IsMap map → IsDistinct nat_eq (map_list (λ (r : Rec). r.id) (entities_of map))
+entities-apart map is =
+    ids-apart 64 map.things (each-of (IsThingInside map.bounds) (λ line. is_thing_line line ≡ true) map.things (λ line inside. inside.thing) is.things)

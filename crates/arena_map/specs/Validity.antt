@@ -49,3 +49,7 @@ pub record IsValidRecord (map : MapView) (id : ℕ) (r : Rec) : Type 0 where
 pub record IsValidWorld (map : MapView) (records : List (Option Rec)) : Type 0 where
   pub each : (id : ℕ) (r : Rec) → slice_index_or records id None ≡ Some r → IsValidRecord map id r
   pub things : (id : ℕ) → 64 ≤ id → IsThing map (find (λ thing. thing.id == id) (entities_of map)) (slice_index_or records id None)
+
+-- the world in which the things of the map are live, each at its id and as at the start, and nothing else is
+abbrev pub IsOpeningWorld : MapView → List (Option Rec) → Type 0
+IsOpeningWorld map records = (id : ℕ) → slice_index_or records id None ≡ find (λ thing. thing.id == id) (entities_of map)

@@ -1,4 +1,5 @@
-ghost use Rattle.std.specs.Prelude.{◌≡◌, ◌↔◌, ◌+◌, ◌≤◌, ◌<◌, [], ◌∷◌, ◌++◌, length, count_by, Option, Some, None, Err, true, All, IfOk, IfSome, OnOk, OnErr};
+ghost use Rattle.std.specs.Prelude.{◌≡◌, ◌↔◌, ◌+◌, ◌≤◌, ◌<◌, [], ◌∷◌, ◌++◌, length, count_by, map, nat_eq, Option, Some, None, Err, true, All, IfOk, IfSome, OnOk, OnErr};
+ghost use Rattle.std.specs.List.{IsDistinct};
 ghost use Rattle.arena_geo.specs.Vectors.{IsNear};
 ghost use Rattle.arena_geo.specs.Bounds.{bounds};
 ghost use Rattle.entity_recs.specs.Records.{IsRecord};
@@ -90,7 +91,7 @@ impl ArenaMap {
     /// Adds a line, any but an arena's. `Rule` exactly where the line breaks that rule and none before it. The map is
     /// unchanged where the line isn't added.
     pub fn add(&mut self, l: &MapLine) -> Result<(), MapRefusal>
-        requires in_force { is_added l.now ≡ true }
+        requires no_arena { is_added l.now ≡ true }
         requires limits { IsWithinLimits l.now }
         ensures map { OnOk result (self.new ≡ with_line self.old l.now) }
         ensures unchanged { OnErr result (self.new ≡ self.old) }
@@ -196,7 +197,7 @@ impl ArenaMap {
 
     /// Puts what a line gives to the rest. The line breaks no rule.
     fn put(&mut self, l: &MapLine) -> Result<(), AllocError>
-        requires in_force { is_added l.now ≡ true }
+        requires no_arena { is_added l.now ≡ true }
         requires limits { IsWithinLimits l.now }
         requires kept { broken_rule self.old l.now ≡ None }
         ensures map { OnOk result (self.new ≡ with_line self.old l.now) }
@@ -291,6 +292,7 @@ impl ArenaMap {
         ensures value { result.now ≡ entities_of self.now }
         ensures few { length result.now ≤ 192 }
         ensures records { All IsRecord result.now }
+        ensures apart { IsDistinct nat_eq (map (λ r. r.id) result.now) }
         ensures rules { IsMap self.now }
     {
         self.entities.as_slice()
@@ -332,6 +334,3 @@ impl ArenaMap {
         lift_data(&self.thing_of(id)?)
     }
 }
-
-#[cfg(test)]
-mod tests;

@@ -5,8 +5,9 @@ use Rattle.std.proofs.lemmas.Option.{none-some, same_Some}
 use Rattle.arena_geo.specs.declared.vec3.Vec3.{Vec3}
 use Rattle.entity_recs.specs.declared.rec.Rec.{Rec}
 use Rattle.entity_recs.specs.Records.{IsRecord}
-use Rattle.arena_map.specs.Maps.{MapView, IsSpawn, entities_of}
-use Rattle.arena_map.specs.Validity.{IsThing, IsValidRecord, IsValidWorld}
+use Rattle.arena_map.specs.Maps.{MapView, IsSpawn, IsMap, entities_of}
+use Rattle.arena_map.specs.Validity.{IsThing, IsValidRecord, IsOpeningWorld, IsValidWorld}
+use Rattle.arena_map.proofs.Opening.{no-thing-below, opening-is_valid}
 use Rattle.world_tree.specs.Live.{record_at}
 use Rattle.client_ports.specs.declared.client.Client.{Client}
 use Rattle.std.proofs.lemmas.List.{get_or-replicate}
@@ -80,12 +81,9 @@ state-joined map clients records port slot at few many below spawn is = record {
   valid = valid-with map records slot (newcomer slot at) below (newcomer-is_valid map slot at below spawn) is.valid;
 }
 
--- the opening state fits a map without things: nobody is joined, and no record is live
-pub opening-fits : (map : MapView) (records : List (Option Rec)) → entities_of map ≡ [] → ((id : ℕ) → record_at records id ≡ None) → IsState map (state_of no_clients records)
-opening-fits map records things none = record {
-  live = record { same = λ slot below. ap is_some (get_or-replicate 64 slot None None below) ∙ sym (ap is_some (none slot)) };
-  valid = record {
-    each = λ id r e. absurd (none-some r (sym (none id) ∙ e));
-    things = λ id thing. subst (λ (r : Option Rec). IsThing map (find (λ thing. thing.id == id) (entities_of map)) r) (sym (none id)) tt;
-  };
+-- the opening state fits the map: nobody is joined, and only the things of the map are live
+pub opening-fits : (map : MapView) (records : List (Option Rec)) → IsMap map → IsOpeningWorld map records → IsState map (state_of no_clients records)
+opening-fits map records is opening = record {
+  live = record { same = λ slot below. ap is_some (get_or-replicate 64 slot None None below) ∙ sym (ap is_some (opening slot ∙ no-thing-below map slot is below)) };
+  valid = opening-is_valid map records is opening;
 }

@@ -1,9 +1,11 @@
 use Rattle.std.proofs.Common.{length, List, All, drop, sym, ap, ◌∙◌, subst, arith}
+use Rattle.std.specs.List.{IsDistinct}
+use Rattle.std.specs.Prelude.{map as map_list, nat_eq}
 use Rattle.entity_recs.specs.declared.rec.Rec.{Rec}
 use Rattle.entity_recs.specs.Records.{IsRecord}
 use Rattle.arena_map.specs.Maps.{map_of}
 use Rattle.arena_map.proofs.Kept.{records-count, few_things}
-use Rattle.arena_map.proofs.ThingRecords.{entities-are}
+use Rattle.arena_map.proofs.ThingRecords.{entities-are, entities-apart}
 use Rattle.arena_map.proofs.map.ArenaMap.entities.Goals as goal
 
 pub returns-clause-few : goal.returns-clause-few
@@ -17,3 +19,9 @@ returns-clause-records c =
     let map = map_of c.self.inside.bounds (drop 6 c.self.inside.solids.items) c.self.inside.spawns.items c.self.inside.things.items in
     let Records : List Rec → Type 0 = λ records. All IsRecord records in
     subst Records (sym (c.as_slice.ensures.value ∙ c.self.invariant.entities_are)) (entities-are map c.self.invariant.is_map)
+
+pub returns-clause-apart : goal.returns-clause-apart
+returns-clause-apart c =
+    let map = map_of c.self.inside.bounds (drop 6 c.self.inside.solids.items) c.self.inside.spawns.items c.self.inside.things.items in
+    let Apart : List Rec → Type 0 = λ records. IsDistinct nat_eq (map_list (λ (r : Rec). r.id) records) in
+    subst Apart (sym (c.as_slice.ensures.value ∙ c.self.invariant.entities_are)) (entities-apart map c.self.invariant.is_map)
