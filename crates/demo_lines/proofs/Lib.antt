@@ -11,3 +11,10 @@ pub mod Walks
 pub mod MapGiven
 pub mod Prefixes
 pub mod Spellings
+pub mod Ink
+pub mod Written
+pub mod LinesBounded
+pub mod RecordingsRead
+pub mod SmallRecording
+pub mod LinesBack
+pub mod Given

@@ -156,9 +156,9 @@ said-without r (Ok line) is whole = ap (λ f. after_test (without_map r) f (Some
 said-without r (Err why) is whole = refl
 
 -- what is known, and the fault of the line
-record SameWithout (r : Reading) (raw : List ℕ) : Type 0 where
-  reached : next (without_map r) raw ≡ without_map (next r raw)
-  fault : is_over r.stage ≡ false → fault_of (without_map r) false raw ≡ fault_of r false raw
+pub record SameWithout (r : Reading) (raw : List ℕ) : Type 0 where
+  pub reached : next (without_map r) raw ≡ without_map (next r raw)
+  pub fault : is_over r.stage ≡ false → fault_of (without_map r) false raw ≡ fault_of r false raw
 
 fault-without : (r : Reading) (said : Result Line LineFault) → IfOk said (IsTaken r.stage) → is_map_whole r.stage ≡ true → fault_said (without_map r) said ≡ fault_said r said
 fault-without r (Ok line) is whole = same-fault r line is whole
@@ -185,7 +185,7 @@ without-over r raw true whole is = record {
 }
 without-over r raw false whole is = without-long r raw (is_long raw) whole is refl
 
-same_without : (r : Reading) (raw : List ℕ) → is_map_whole r.stage ≡ true → SameWithout r raw
+pub same_without : (r : Reading) (raw : List ℕ) → is_map_whole r.stage ≡ true → SameWithout r raw
 same_without r raw whole = without-over r raw (is_over r.stage) whole refl
 
 pub next-without : (r : Reading) (raw : List ℕ) → is_map_whole r.stage ≡ true → next (without_map r) raw ≡ without_map (next r raw)

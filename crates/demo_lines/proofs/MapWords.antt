@@ -21,7 +21,7 @@ use Rattle.demo_lines.specs.Readings.{IsOfMap}
 -- ---- a line's kind is its word's
 
 -- if there is a line, it is the arena's or not, as P says
-abbrev IsKind : Bool → Option MapLine → Type 0
+abbrev pub IsKind : Bool → Option MapLine → Type 0
 IsKind b None = Unit {0}
 IsKind b (Some line) = is_arena line ≡ b
 
@@ -33,7 +33,7 @@ then-kind : {A : Type 0} (o : Option A) (f : A → Option MapLine) (b : Bool) �
 then-kind None f b each = tt
 then-kind (Some a) f b each = each a
 
-within-kind : (word : MapWord) (rest : List ℕ) → IsKind (is_arena_word word) (line_within word rest)
+pub within-kind : (word : MapWord) (rest : List ℕ) → IsKind (is_arena_word word) (line_within word rest)
 within-kind map_words.Arena rest =
     then-kind (corners_at rest) (λ c. alone (Arena c.0 c.1) c.2) true (λ c. alone-kind (Arena c.0 c.1) c.2 true refl)
 within-kind map_words.Block rest =

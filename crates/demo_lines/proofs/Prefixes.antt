@@ -180,7 +180,7 @@ cut_fault r part no_end none =
     let shown : fault_of r true part ≡ cond (is_long part) (Some faults.Long) (Some faults.NoEnd) = ap (λ b. cond (is_long part) (Some faults.Long) (cond (not b) (Some faults.NoEnd) rest)) no_end in
     cut_has_fault (is_long part) rest (sym shown ∙ none)
 
-bytes_eq-same : (xs ys : List ℕ) → bytes_eq xs ys ≡ true → xs ≡ ys
+pub bytes_eq-same : (xs ys : List ℕ) → bytes_eq xs ys ≡ true → xs ≡ ys
 bytes_eq-same [] [] h = refl
 bytes_eq-same [] (y ∷ ys) h = cc
 bytes_eq-same (x ∷ xs) [] h = cc
@@ -188,7 +188,7 @@ bytes_eq-same (x ∷ xs) (y ∷ ys) h =
     let same : x ≡ y = grind (arith, nat_tests, and_first (x == y) (bytes_eq xs ys) h) in
     ap (λ z. z ∷ xs) same ∙ ap (λ zs. y ∷ zs) (bytes_eq-same xs ys (and_second (x == y) (bytes_eq xs ys) h))
 
-end_says : (raw : List ℕ) → is_end raw ≡ true → line_in raw ≡ Some End
+pub end_says : (raw : List ℕ) → is_end raw ≡ true → line_in raw ≡ Some End
 end_says raw end = ap (λ text. line_of_first (first_word text) (rest_of text)) (bytes_eq-same (text_of raw) (codes "end") end)
 
 -- after a line that is an end the recording is over

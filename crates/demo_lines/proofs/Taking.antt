@@ -67,20 +67,44 @@ added-fewer map (Block lo hi) added count = omega (arith, room (length map.block
 added-fewer map (Spawn at) added count = omega (arith, room (length map.spawns) 64 count, length-append map.spawns (at ∷ []))
 added-fewer map (Item at kind delay) added count =
     let line = Item at kind delay in
-    omega (arith, room (count_by is_item_line map.things) 144 count, count-push is_item_line map.things line, count-push is_teleport_line map.things line,
-        count-push is_goal_line map.things line, count-push is_lift_line map.things line)
+    omega (
+      arith,
+      room (count_by is_item_line map.things) 144 count,
+      count-push is_item_line map.things line,
+      count-push is_teleport_line map.things line,
+      count-push is_goal_line map.things line,
+      count-push is_lift_line map.things line,
+    )
 added-fewer map (Teleport lo hi dest) added count =
     let line = Teleport lo hi dest in
-    omega (arith, room (count_by is_teleport_line map.things) 16 count, count-push is_item_line map.things line, count-push is_teleport_line map.things line,
-        count-push is_goal_line map.things line, count-push is_lift_line map.things line)
+    omega (
+      arith,
+      room (count_by is_teleport_line map.things) 16 count,
+      count-push is_item_line map.things line,
+      count-push is_teleport_line map.things line,
+      count-push is_goal_line map.things line,
+      count-push is_lift_line map.things line,
+    )
 added-fewer map (Goal lo hi) added count =
     let line = Goal lo hi in
-    omega (arith, room (count_by is_goal_line map.things) 16 count, count-push is_item_line map.things line, count-push is_teleport_line map.things line,
-        count-push is_goal_line map.things line, count-push is_lift_line map.things line)
+    omega (
+      arith,
+      room (count_by is_goal_line map.things) 16 count,
+      count-push is_item_line map.things line,
+      count-push is_teleport_line map.things line,
+      count-push is_goal_line map.things line,
+      count-push is_lift_line map.things line,
+    )
 added-fewer map (Lift lo hi rise speed) added count =
     let line = Lift lo hi rise speed in
-    omega (arith, room (count_by is_lift_line map.things) 16 count, count-push is_item_line map.things line, count-push is_teleport_line map.things line,
-        count-push is_goal_line map.things line, count-push is_lift_line map.things line)
+    omega (
+      arith,
+      room (count_by is_lift_line map.things) 16 count,
+      count-push is_item_line map.things line,
+      count-push is_teleport_line map.things line,
+      count-push is_goal_line map.things line,
+      count-push is_lift_line map.things line,
+    )
 
 begun-goes_on : (r : Reading) (line : MapLine) → r.frames ≡ 0 → r.arrivals ≡ 0 → r.lines + left_at Start r ≤ 51301282 → is_arena line ≡ true
     → GoesOn (left_at Start r) (with_map r (begun_map line))

@@ -84,9 +84,9 @@ fault_after_word r word rest =
     else if not (is_allowed r.stage word) then Some Place
     else if is_out_of_limit word rest then Some Limit
     else option_or (option_map Rule (broken_by r word rest))
-        (if has_no_packet word rest then Some Packet
-        else if is_one_too_many r word then Some Count
-        else None)
+    (if has_no_packet word rest then Some Packet
+    else if is_one_too_many r word then Some Count
+    else None)
 
 -- of the tests 3 to 9
 abbrev pub fault_of_words : Reading → Option word_types.Word → List ℕ → Option LineFault

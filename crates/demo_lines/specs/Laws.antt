@@ -11,7 +11,10 @@ use Rattle.demo_lines.specs.declared.line.Line.{Line}
 use Rattle.demo_lines.specs.declared.line.Line.TheVariants.{From}
 use Rattle.demo_lines.specs.declared.stage.Stage.TheVariants.{Ended}
 use Rattle.demo_lines.specs.Known.{Reading, start, without_map, is_map_whole, is_refused, is_over}
-use Rattle.demo_lines.specs.Lines.{line_in}
+use Rattle.demo_lines.specs.declared.word.Word.{Word}
+use Rattle.demo_lines.specs.Words.{has_form}
+use Rattle.demo_lines.specs.Lines.{text_of, are_printable, first_word, rest_of, line_in}
+use Rattle.demo_lines.specs.Faults.{is_long}
 use Rattle.demo_lines.specs.Recording.{after, events_of}
 use Rattle.demo_lines.specs.Spelling.{line_text, IsLine, recording_lines, recording_text, recording_events, IsRecording, small_map, small_frames, small_text}
 use Rattle.edge_io.specs.WholeLines.{whole_lines}
@@ -54,9 +57,20 @@ pub record MapMayBeGivenOut (r : Reading) (lines : List (List ℕ)) : Type 0 whe
 abbrev pub NothingNeedsTheMap : Type 0
 NothingNeedsTheMap = (r : Reading) (lines : List (List ℕ)) → is_map_whole r.stage ≡ true → MapMayBeGivenOut r lines
 
+-- a text is a line that says this: it has at most 512 bytes, all printed and the last no carriage return, a word and
+-- fields of its form, and their values
+pub record IsReadAs (raw : List ℕ) (line : Line) : Type 0 where
+  pub word : Word
+  pub whole : text_of raw ≡ raw
+  pub short : is_long raw ≡ false
+  pub printable : are_printable (text_of raw) ≡ true
+  pub first : first_word (text_of raw) ≡ Some word
+  pub form : has_form word (rest_of (text_of raw)) ≡ true
+  pub says : line_in raw ≡ Some line
+
 -- a line is read back from its text exactly where it can be written
 abbrev pub LinesReadBack : Type 0
-LinesReadBack = (line : Line) → (line_in (line_text line) ≡ Some line) ↔ IsLine line
+LinesReadBack = (line : Line) → IsReadAs (line_text line) line ↔ IsLine line
 
 -- a line has room for a packet of 250 bytes from each port, of 251 from one below 10,000, and of 252 from one below 100
 pub record PacketsHaveRoom : Type 0 where
@@ -79,15 +93,7 @@ pub record SmallRecording : Type 0 where
   pub is : IsRecording small_map small_frames
   pub text : recording_text small_map small_frames ≡ small_text
 
--- a recording that can be written and has so many lines
-pub record HasLines (count : ℕ) : Type 0 where
-  pub map : MapView
-  pub frames : List (List Arrival)
-  pub is : IsRecording map frames
-  pub lines : length (recording_lines map frames) ≡ count
-
--- up to its end or its refused line a recording has at most 1 line with the arena, 64 with spawns, 1,024 with blocks, 192 with things,
--- 100,000 times 1 that opens a frame and 512 with its packets, and 1 that ends it or is refused; and some have so many
-pub record LinesAreBounded : Type 0 where
-  pub bound : (lines : List (List ℕ)) → is_over (after start lines).stage ≡ false → length lines < 51301282
-  pub longest : HasLines 51301282
+-- up to its end or its refused line a recording has at most 1 line with the arena, 64 with spawns, 1,024 with blocks, 192
+-- with things, 100,000 times 1 that opens a frame and 512 with its packets, and 1 that ends it or is refused
+abbrev pub LinesAreBounded : Type 0
+LinesAreBounded = (lines : List (List ℕ)) → is_over (after start lines).stage ≡ false → length lines < 51301282

@@ -2,9 +2,9 @@
 pub use Rattle.arena_map.specs.Maps
 pub use Rattle.arena_map.specs.MapLines
 pub use Rattle.arena_map.specs.Rules
-pub use Rattle.arena_map.specs.Words
-pub use Rattle.arena_map.specs.Reading
-pub use Rattle.arena_map.specs.Spelling
+pub use Rattle.arena_map.specs.Words as MapWords
+pub use Rattle.arena_map.specs.Reading as MapReading
+pub use Rattle.arena_map.specs.Spelling as MapSpelling
 pub mod Packets
 pub mod Words
 pub mod Lines

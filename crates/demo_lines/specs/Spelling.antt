@@ -57,7 +57,7 @@ spawn_line at = OfMap (Spawn at)
 
 -- the lines of a map: the arena, the spawns, the blocks and the things, each in their order
 abbrev pub map_lines : MapView → List Line
-map_lines m = arena_line m.bounds ∷ map spawn_line m.spawns ++ map block_line m.blocks ++ map OfMap m.things
+map_lines m = arena_line m.bounds ∷ map spawn_line m.spawns ++ (map block_line m.blocks ++ map OfMap m.things)
 
 -- the lines of a frame: the line that opens it, and its packets
 abbrev pub frame_lines : List Arrival → List Line

@@ -24,6 +24,6 @@ mod line_fault;
 mod packet;
 mod reading;
 mod stage;
-mod word;
 #[cfg(test)]
 mod tests;
+mod word;
