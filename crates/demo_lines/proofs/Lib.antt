@@ -18,3 +18,4 @@ pub mod RecordingsRead
 pub mod SmallRecording
 pub mod LinesBack
 pub mod Given
+pub mod Joins

@@ -201,7 +201,7 @@ end_is_over s false None line is here = ap (λ l. is_over (after_test s None l).
 after_end : (s : Reading) (raw : List ℕ) → is_end raw ≡ true → is_over (next s raw).stage ≡ true
 after_end s raw end = end_is_over s (is_over s.stage) (fault_of s false raw) (line_in raw) (end_says raw end) refl
 
-after_last : (r : Reading) (lines : List (List ℕ)) (raw : List ℕ) → is_end raw ≡ true → is_over (after r (lines ++ raw ∷ [])).stage ≡ true
+pub after_last : (r : Reading) (lines : List (List ℕ)) (raw : List ℕ) → is_end raw ≡ true → is_over (after r (lines ++ raw ∷ [])).stage ≡ true
 after_last r lines raw end =
     ap (λ (t : Reading). is_over t.stage) (run_of-append next events_of_line r lines (raw ∷ [])) ∙ after_end (after r lines) raw end
 

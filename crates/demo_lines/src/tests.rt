@@ -151,39 +151,44 @@ fn recordings_give_their_events_to_the_end(rt: HostRuntime) -> Result<(), Fail> 
     Ok(())
 }
 
-/// Recordings that begin with an arena and are refused, with the line, the fault and the rule of the map.
-type Refusals<'a> = (&'a [&'a [u8]], &'a [u8], u64, u8, u8);
-
-fn expect_refusals(rt: &impl Abort, alloc: Global, rows: &[Refusals<'_>]) -> Result<(), Fail> {
-    for (front, rest, line, fault, rule) in rows {
-        expect_recording(rt, alloc, front, rest, &[], refused(*line, *fault, *rule))?;
+#[test]
+fn the_first_line_has_its_first_fault(rt: HostRuntime) -> Result<(), Fail> {
+    let rows: [(&[u8], u8, u8); 8] = [
+        (b"frob\n", 3, 0),
+        (b"\n", 3, 0),
+        (b"arena 1 2\n", 4, 0),
+        (b"frame\n", 5, 0),
+        (b"end", 5, 0),
+        (b"arena -2000000 0 0 1 1 1\n", 6, 0),
+        (b"arena 0 0 0 0 1 1\n", 7, 1),
+        (b"", 10, 0),
+    ];
+    for (rest, fault, rule) in rows {
+        let last = refused(1, fault, rule);
+        expect_recording(&rt, rt.alloc(), &[], rest, &[], last)?;
     }
     Ok(())
 }
 
 #[test]
-fn the_first_faulty_line_has_its_first_fault(rt: HostRuntime) -> Result<(), Fail> {
-    let rows: [Refusals<'_>; 18] = [
-        (&[], b"frob\n", 1, 3, 0),
-        (&[], b"\n", 1, 3, 0),
-        (&[], b"arena 1 2\n", 1, 4, 0),
-        (&[], b"frame\n", 1, 5, 0),
-        (&[], b"end", 1, 5, 0),
-        (&[], b"arena -2000000 0 0 1 1 1\n", 1, 6, 0),
-        (&[], b"arena 0 0 0 0 1 1\n", 1, 7, 1),
-        (&[], b"", 1, 10, 0),
-        (&[ARENA], b"frame\n", 2, 7, 7),
-        (&[ARENA], &[b'a'; 513], 2, 1, 0),
-        (&[ARENA], b"spawn 0 0\t6144\n", 2, 2, 0),
-        (&[ARENA], ARENA, 2, 5, 0),
-        (&[ARENA], b"spawn 0 0 6143\n", 2, 7, 4),
-        (&[ARENA], b"spawn 0 0 06144\n", 2, 4, 0),
-        (&[ARENA], b"lift 0 0 0 10000 10000 100 70000 10\n", 2, 7, 6),
-        (&[ARENA], b"block 0 0 0 0 10 10\n", 2, 7, 2),
-        (&[ARENA, SPAWN], b"", 3, 10, 0),
-        (&[ARENA], b"from 7 -\n", 2, 5, 0),
+fn a_line_after_the_arena_has_its_first_fault(rt: HostRuntime) -> Result<(), Fail> {
+    let rows: [(&[u8], u8, u8); 9] = [
+        (b"frame\n", 7, 7),
+        (b"spawn 0 0\t6144\n", 2, 0),
+        (b"arena 0 0 0 1 1 1\n", 5, 0),
+        (b"spawn 0 0 6143\n", 7, 4),
+        (b"spawn 0 0 06144\n", 4, 0),
+        (b"lift 0 0 0 10000 10000 100 70000 10\n", 7, 6),
+        (b"block 0 0 0 0 10 10\n", 7, 2),
+        (b"from 7 -\n", 5, 0),
+        (b"", 10, 0),
     ];
-    expect_refusals(&rt, rt.alloc(), &rows)
+    for (rest, fault, rule) in rows {
+        let last = refused(2, fault, rule);
+        expect_recording(&rt, rt.alloc(), &[ARENA], rest, &[], last)?;
+    }
+    let long = [b'a'; 513];
+    expect_recording(&rt, rt.alloc(), &[ARENA], &long, &[], refused(2, 1, 0))
 }
 
 #[test]
