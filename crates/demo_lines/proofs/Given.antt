@@ -1,12 +1,38 @@
 -- What a reader read after its map was given out, as if it were still there.
-use Rattle.std.proofs.Common.{◌≡◌, ℕ, ◌+◌, true, false, List, [], ◌∷◌, ◌++◌, ◌⊎◌, inl, inr, Option, refl, sym, ap, ◌∙◌, subst}
+use Rattle.std.proofs.Common.{◌≡◌, ℕ, ◌+◌, Bool, true, false, List, [], ◌∷◌, ◌++◌, ◌⊎◌, inl, inr, Option, Some, None, option_map, cond, refl, sym, ap, ◌∙◌, subst}
 use Rattle.edge_io.specs.WholeLines.{all_but_last, whole_lines}
 use Rattle.demo_lines.specs.declared.event.Event.{Event}
-use Rattle.demo_lines.specs.declared.stage.Stage.TheVariants.{Refused}
-use Rattle.demo_lines.specs.Recording.{Reading, next, after, events_of, without_map, having_map, is_map_whole, is_over}
-use Rattle.demo_lines.specs.Bytes.{fault_at}
+use Rattle.demo_lines.specs.declared.stage.Stage.{Stage}
+use Rattle.demo_lines.specs.declared.stage.Stage.TheVariants.{Start, Map, Playing, Ended, Refused}
+use Rattle.demo_lines.specs.declared.line_fault.LineFault.{LineFault}
+use Rattle.demo_lines.specs.declared.line_fault.LineFault.TheVariants as faults
+use Rattle.demo_lines.specs.Lines.{text_of, first_word, rest_of}
+use Rattle.demo_lines.specs.Faults.{is_long, is_cut, has_strange_byte, fault_of_words}
+use Rattle.demo_lines.specs.Known.{Reading, without_map, having_map, is_map_whole, is_over, is_refused}
+use Rattle.demo_lines.specs.Recording.{next, after, events_of}
+use Rattle.demo_lines.specs.Bytes.{Refusal, refusal, refused_at, refused_where, lines_of, last_part}
 use Rattle.demo_lines.specs.Reads.{Reads, ReadsFront, ReadsQuietly, Refuses, IsRefusedLine, IsLongFront, IsLastPart, EndsAt}
-use Rattle.demo_lines.proofs.MapGiven.{nothing_needs_the_map, after-whole, after-kept, next-without}
+use Rattle.demo_lines.proofs.MapGiven.{nothing_needs_the_map, same_without, after-whole, after-kept, next-without}
+
+cut-fault : (long cut : Bool) (x y : Option LineFault) → cond long (Some faults.Long) x ≡ cond long (Some faults.Long) y
+    → cond long (Some faults.Long) (cond cut (Some faults.NoEnd) x) ≡ cond long (Some faults.Long) (cond cut (Some faults.NoEnd) y)
+cut-fault true cut x y same = refl
+cut-fault false true x y same = refl
+cut-fault false false x y same = same
+
+-- the tests after those of the length and the end of the input
+abbrev rest_fault : Reading → List ℕ → Option LineFault
+rest_fault r raw = cond (has_strange_byte raw) (Some faults.Byte) (fault_of_words r (first_word (text_of raw)) (rest_of (text_of raw)))
+
+-- what the bytes end with is refused for the same
+refused_at-given : (stage : Stage) (t : Reading) (part : List ℕ) → t.stage ≡ stage → is_map_whole stage ≡ true → refused_at stage t part ≡ refused_at stage (without_map t) part
+refused_at-given Start t part is there = cc
+refused_at-given Map t part is there = cc
+refused_at-given Playing t part is there =
+    let same = (same_without t part (ap is_map_whole is)).fault (ap is_over is) in
+    ap (option_map (refusal (t.lines + 1))) (cut-fault (is_long part) (is_cut true part) (rest_fault t part) (rest_fault (without_map t) part) (sym same))
+refused_at-given Ended t part is there = refl
+refused_at-given (Refused why) t part is there = refl
 
 module _ (r : Reading) (whole : is_map_whole r.stage ≡ true) where
   with_its_map : (lines : List (List ℕ)) → having_map r.map (after (without_map r) lines) ≡ after r lines
@@ -19,7 +45,9 @@ module _ (r : Reading) (whole : is_map_whole r.stage ≡ true) where
   pub Reads-given : (s : Reading) (a b : Option (List ℕ)) (es : List Event) → Reads (without_map r) s a b es → Reads r (having_map r.map s) a b es
   Reads-given s a b es reads = record {
     lines = reads.lines;
+    text = reads.text;
     each = reads.each;
+    spelled = reads.spelled;
     consumed = reads.consumed;
     reached = ap (having_map r.map) reads.reached ∙ with_its_map reads.lines;
     events = sym (nothing_needs_the_map r reads.lines whole).events ∙ reads.events;
@@ -45,20 +73,33 @@ module _ (r : Reading) (whole : is_map_whole r.stage ≡ true) where
   }
 
   pub ReadsQuietly-given : (a b : Option (List ℕ)) → ReadsQuietly (without_map r) a b → ReadsQuietly r a b
-  ReadsQuietly-given a b quiet = record { reading = having_map r.map quiet.reading; reads = Reads-given quiet.reading a b [] quiet.reads; going = quiet.going }
-
-  pub EndsAt-given : (n : ℕ) (bytes : List ℕ) → EndsAt (without_map r) n bytes → EndsAt r n bytes
-  EndsAt-given n bytes ends = record {
-    events = sym (nothing_needs_the_map r (whole_lines bytes) whole).events ∙ ends.events;
-    fault = ap (λ (t : Reading). fault_at t.stage t.lines) (sym (nothing_needs_the_map r (whole_lines bytes) whole).reached) ∙ ends.fault;
+  ReadsQuietly-given a b reads = record {
+    lines = reads.lines;
+    each = reads.each;
+    consumed = reads.consumed;
+    events = sym (nothing_needs_the_map r reads.lines whole).events ∙ reads.events;
+    going = same_stage reads.lines ∙ reads.going;
   }
+
+  refused-given : (t : Reading) (part : List ℕ) → is_map_whole t.stage ≡ true → refused_where t part ≡ refused_where (without_map t) part
+  refused-given t part there = refused_at-given t.stage t part refl there
+
+  pub EndsAt-given : (why : Refusal) (bytes : List ℕ) → EndsAt (without_map r) why bytes → EndsAt r why bytes
+  EndsAt-given why bytes ends =
+      let lines = lines_of bytes in
+      record {
+        events = sym (nothing_needs_the_map r lines whole).events ∙ ends.events;
+        fault = refused-given (after r lines) (last_part bytes) (after-whole r lines whole)
+            ∙ ap (λ t. refused_where t (last_part bytes)) (sym (nothing_needs_the_map r lines whole).reached)
+            ∙ ends.fault;
+      }
 
   refused_line-given : (t : Reading) (last : List ℕ) → is_map_whole t.stage ≡ true → IsRefusedLine (without_map t) last → IsRefusedLine t last
   refused_line-given t last there is = record {
     line = is.line;
     one_line = is.one_line;
     whole = is.whole;
-    refused = ap (λ (u : Reading). u.stage) (sym (next-without t is.line there)) ∙ is.refused;
+    refused = ap (λ (u : Reading). is_refused u.stage) (sym (next-without t is.line there)) ∙ is.refused;
   }
 
   part-given : (t : Reading) (last : List ℕ) (later : Option (List ℕ)) (P Q : Type 0) → is_map_whole t.stage ≡ true

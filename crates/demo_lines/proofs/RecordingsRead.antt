@@ -1,37 +1,55 @@
 -- A recording that was written is read as what was written.
-use Rattle.std.proofs.Common.{◌≡◌, ℕ, ◌+◌, ◌≤◌, ◌<◌, ◌≤ℤ◌, Bool, true, false, ◌&&◌, ◌||◌, nat_lt, List, [], ◌∷◌, ◌++◌, length, map, flat_map, Option, Some, None, is_none, cond, refl, sym, ap, ◌∙◌, subst, arith, ℤ, unsigned_abs, append_assoc, append-nil, length-append}
-use Rattle.std.specs.List.{AllByRecursion}
+use Rattle.std.proofs.Common.{◌≡◌, ℕ, ◌+◌, ◌≤◌, ◌<◌, ◌≤ℤ◌, Bool, true, false, not, ◌&&◌, ◌||◌, nat_le, nat_lt, List, [], ◌∷◌, ◌++◌, length, map, flat_map, filter_map, count_by, Option, Some, None, Result, Ok, option_map, is_some, cond, refl, sym, ap, ◌∙◌, subst, arith, ℤ, unsigned_abs, append_assoc, append-nil, length-append, All}
+use Rattle.std.specs.Option.{option_or}
+use Rattle.std.specs.Result.{result_ok}
+use Rattle.std.specs.List.{AllByRecursion, AllPairs, list_any}
 use Rattle.std.proofs.lemmas.Bool.Decides.{nat_tests}
 use Rattle.std.proofs.lemmas.Int.{ints}
 use Rattle.std.proofs.lemmas.List.{map-append}
+use Rattle.std.proofs.lemmas.List.Sums.{sum_by-append, sum_by-cons}
+use Rattle.std.proofs.lemmas.List.Folds.{list_any_none}
+use Rattle.std.proofs.lemmas.List.Elements.{recursion_from_All, filter_map-append}
+use Rattle.std.proofs.Math.ListN.{get_or-append}
+use Rattle.std.proofs.Math.Seq.{get_or-append_seam}
 use Rattle.edge_io.specs.Lines.{HasNoLineFeed}
+use Rattle.edge_io.specs.WholeLines.{whole_lines}
+use Rattle.edge_io.proofs.Feeds.{each_of_both}
 use Rattle.arena_geo.specs.declared.vec3.Vec3.{Vec3}
 use Rattle.arena_geo.specs.Vectors.{IsNear}
-use Rattle.arena_geo.specs.Bounds.{Bounds}
-use Rattle.arena_geo.specs.Boxes.{contains_on}
-use Rattle.arena_geo.specs.Boxes.{contains}
+use Rattle.arena_geo.specs.Bounds.{Bounds, bounds}
+use Rattle.arena_geo.specs.Boxes.{contains, contains_on, overlaps, is_blocked}
 use Rattle.arena_geo.proofs.Containment.{three_pass}
-use Rattle.std.proofs.lemmas.List.Elements.{recursion_from_All}
+use Rattle.arena_map.specs.declared.map_line.MapLine.{MapLine}
+use Rattle.arena_map.specs.declared.map_line.MapLine.TheVariants.{Arena, Block, Spawn, Item, Teleport, Goal, Lift}
+use Rattle.arena_map.specs.declared.map_fault.MapFault.{MapFault}
+use Rattle.arena_map.specs.declared.map_fault.MapFault.TheVariants as fault
+use Rattle.arena_map.specs.Places.{is_thick, is_player_inside, shaft, shaft_of, keeps_box, keeps_stand, keeps_item, keeps_travel}
+use Rattle.arena_map.specs.MapLines.{IsWithinLimits, is_thing_line, is_arena, is_item_line, is_teleport_line, is_goal_line, is_lift_line}
+use Rattle.arena_map.specs.Maps.{MapView, map_of, IsMap, IsBlock, IsSpawn, IsThingInside, is_ready, shafts_of}
+use Rattle.arena_map.specs.Rules.{with_line, broken_rule, keeps_count, keeps_shafts, meets_shaft}
+use Rattle.arena_map.proofs.Keeping.{KeepsAll}
 use Rattle.client_ports.specs.declared.arrival.Arrival.{Arrival}
-use Rattle.arena_map.specs.Maps.{MapView, IsMap, IsBlock, IsSpawn, is_ready, is_thick, is_player_inside, map_of}
-use Rattle.demo_lines.specs.declared.stage.Stage.TheVariants.{Map, Playing, Ended, Refused}
+use Rattle.demo_lines.specs.declared.stage.Stage.{Stage}
+use Rattle.demo_lines.specs.declared.stage.Stage.TheVariants.{Start, Map, Playing, Ended, Refused}
 use Rattle.demo_lines.specs.declared.line.Line.{Line}
 use Rattle.demo_lines.specs.declared.line.Line.TheVariants.{OfMap, Frame, From, End}
-use Rattle.arena_map.specs.declared.map_line.MapLine.{MapLine}
-use Rattle.arena_map.specs.declared.map_line.MapLine.TheVariants.{Arena, Block, Spawn}
-use Rattle.arena_map.specs.declared.map_fault.MapFault.TheVariants as fault
-use Rattle.arena_map.specs.Rules.{bare_map, with_line, broken_by_arena, broken_by_block, broken_by_spawn}
+use Rattle.demo_lines.specs.declared.line_fault.LineFault.{LineFault}
+use Rattle.demo_lines.specs.declared.line_fault.LineFault.TheVariants as faults
 use Rattle.demo_lines.specs.declared.event.Event.{Event}
 use Rattle.demo_lines.specs.declared.event.Event.TheVariants as events
-use Rattle.demo_lines.specs.Recording.{Reading, start, next, events_of_line, after, events_of, reading_after, event_of, line_in, is_over, is_refused, with_map, with_map_line, at_stage, with_frame, with_arrival}
-use Rattle.edge_io.specs.WholeLines.{whole_lines}
-use Rattle.demo_lines.specs.Bytes.{fault_at}
+use Rattle.demo_lines.specs.Known.{Reading, start, is_over, is_refused, with_map, with_frame, with_arrival, at_stage}
+use Rattle.demo_lines.specs.Lines.{is_end}
+use Rattle.demo_lines.specs.Recording.{next, after_line, after_test, with_map_line, event_of, events_of_line, after, events_of}
+use Rattle.demo_lines.specs.Said.{line_said, place_fault, after_said}
+use Rattle.demo_lines.specs.Bytes.{last_part, cut_end, lines_of, refused_where, refused_at}
 use Rattle.demo_lines.specs.Spelling.{line_text, IsArrival, IsLine, arena_line, block_line, spawn_line, map_lines, frame_lines, recording_lines, recording_text, frame_events, recording_events, IsFrame, IsRecording}
 use Rattle.demo_lines.specs.Laws.{RecordingsReadBack}
 use Rattle.demo_lines.proofs.Machines.{run_of-append, outputs_of-append}
-use Rattle.edge_io.proofs.Feeds.{whole_lines-unlines, each_of_both}
-use Rattle.demo_lines.proofs.Marks.{one_line}
-use Rattle.demo_lines.proofs.LinesRead.{line_read_back, line_above}
+use Rattle.demo_lines.proofs.OnePass.{next-short, events-short}
+use Rattle.demo_lines.proofs.Parts.{lines_of-unlines, last_part-unlines}
+use Rattle.demo_lines.proofs.Taking.{IsTaken}
+use Rattle.demo_lines.proofs.Ink.{one_line}
+use Rattle.demo_lines.proofs.Written.{line_reads, line_said-back}
 
 -- written lines lead from a reading to one of some readings, and give these events
 record Goes {I : Type 0} (r : Reading) (lines : List Line) (s : I → Reading) (es : List Event) : Type 0 where
@@ -55,21 +73,26 @@ goes-then r ls ms s t es fs one then =
           ∙ ap (λ u. es ++ events_of u back) one.reached ∙ ap (λ gs. es ++ gs) more.events;
     }
 
--- one line that isn't refused
-goes-line : {I : Type 0} (r : Reading) (line : Line) (s : I → Reading) (i : I) → IsLine line → is_over r.stage ≡ false
-    → reading_after r.stage r (Some line) ≡ s i → is_refused (s i).stage ≡ false → Goes r (line ∷ []) s (event_of (Some line))
-goes-line r line s i is going step fine =
-    let read = line_read_back line is in
-    let reached = ap (reading_after r.stage r) read ∙ step in
+fine-after : (r : Reading) (line : Line) → is_refused (after_line r (Some line)).stage ≡ false
+fine-after r (OfMap line) = refl
+fine-after r Frame = refl
+fine-after r (From a) = refl
+fine-after r End = refl
+
+-- one line that has no fault at its place
+goes-line : {I : Type 0} (r : Reading) (line : Line) (s : I → Reading) (i : I) → IsLine line → is_over r.stage ≡ false → IsTaken r.stage line
+    → place_fault r line ≡ None → after_line r (Some line) ≡ s i → Goes r (line ∷ []) s (event_of (Some line))
+goes-line r line s i is going taken none step =
+    let raw = line_text line in
+    let reads = line_reads line is in
+    let said = line_said-back r.stage line is taken in
+    let there : next r raw ≡ after_line r (Some line) = next-short r raw going reads.fits ∙ ap (after_said r) said ∙ ap (λ f. after_test r f (Some line)) none in
+    let fine : is_refused (next r raw).stage ≡ false = ap (λ (t : Reading). is_refused t.stage) there ∙ fine-after r line in
     record {
       at = i;
-      each = (one_line (line_text line) (line_above line is), tt);
-      reached = reached;
-      events = append-nil (events_of_line r (line_text line))
-          ∙ ap (λ over. cond (over || is_refused (next r (line_text line)).stage) [] (event_of (line_in (line_text line)))) going
-          ∙ ap (λ (u : Reading). cond (is_refused u.stage) [] (event_of (line_in (line_text line)))) reached
-          ∙ ap (λ refused. cond refused [] (event_of (line_in (line_text line)))) fine
-          ∙ ap event_of read;
+      each = (one_line raw reads.ink, tt);
+      reached = there ∙ step;
+      events = append-nil (events_of_line r raw) ∙ events-short r raw going reads.fits fine ∙ ap (λ x. event_of (result_ok x)) said;
     }
 
 -- ---- the readings on the way
@@ -104,74 +127,192 @@ block_near arena b lo hi is =
     let z = near_on arena.lo.z arena.hi.z b.lo.z b.hi.z lo.z hi.z is.is_box.ordered.z t.z in
     (record { x = x.0; y = y.0; z = z.0 }, record { x = x.1; y = y.1; z = z.1 })
 
+-- ---- which rules are kept
+
+none-by : (a b c d e f : Bool) → a ≡ true → b ≡ true → c ≡ true → d ≡ true → e ≡ true → f ≡ true
+    → cond (not a) (Some fault.Box) (cond (not b) (Some fault.Count) (cond (not c) (Some fault.Stand) (cond (not d) (Some fault.Item)
+    (cond (not e) (Some fault.Travel) (cond (not f) (Some fault.Shaft) None))))) ≡ None
+none-by true true true true true true p q r s t u = refl
+none-by true true true true true false p q r s t u = cc
+none-by true true true true false f p q r s t u = cc
+none-by true true true false e f p q r s t u = cc
+none-by true true false d e f p q r s t u = cc
+none-by true false c d e f p q r s t u = cc
+none-by false b c d e f p q r s t u = cc
+
+-- a line that keeps all rules has no fault at its place
+kept-fault : (map : MapView) (line : MapLine) → KeepsAll map line → option_map faults.Rule (broken_rule map line) ≡ None
+kept-fault map line keeps =
+    ap (option_map faults.Rule)
+    (none-by (keeps_box map.bounds line) (keeps_count map line) (keeps_stand map.bounds line) (keeps_item map.bounds line) (keeps_travel map.bounds line) (keeps_shafts map line)
+    keeps.inside keeps.count keeps.stand keeps.item keeps.travel keeps.shafts)
+
+both : (a b : Bool) → a ≡ true → b ≡ true → (a && b) ≡ true
+both true b p q = q
+both false b p q = cc
+
 -- the line of an arena that is wide enough breaks no rule
-arena_passes : (b : Bool) → b ≡ true → is_none (cond b None (Some fault.Arena)) ≡ true
+arena_passes : (b : Bool) → b ≡ true → option_map faults.Rule (cond b None (Some fault.Arena)) ≡ None
 arena_passes true h = refl
 arena_passes false h = cc
 
-block_passes : (thick inside room : Bool) → thick ≡ true → inside ≡ true → room ≡ true
-    → is_none (cond (thick && inside) (cond room None (Some fault.Count)) (Some fault.Box)) ≡ true
-block_passes true true true p q r = refl
-block_passes true true false p q r = cc
-block_passes true false room p q r = cc
-block_passes false inside room p q r = cc
+count-split : (p : MapLine → Bool) (done rest : List MapLine) (line : MapLine) → count_by p (done ++ line ∷ rest) ≡ count_by p done + (cond (p line) 1 0 + count_by p rest)
+count-split p done rest line =
+    let whole = sum_by-append (λ l. cond (p l) 1 0) done (line ∷ rest) in
+    let one = sum_by-cons (λ l. cond (p l) 1 0) line rest in
+    omega (arith, whole, one)
 
-spawn_passes : (room inside : Bool) → room ≡ true → inside ≡ true → is_none (cond room (cond inside None (Some fault.Stand)) (Some fault.Count)) ≡ true
-spawn_passes true true p q = refl
-spawn_passes true false p q = cc
-spawn_passes false inside p q = cc
+below : (n limit : ℕ) → n < limit → nat_lt n limit ≡ true
+below n limit h = grind (arith, nat_tests)
+
+pairs-before : {X : Type 0} (R : X → X → Type 0) (xs : List X) (s : X) (ys : List X) → AllPairs R (xs ++ s ∷ ys) → All (λ x. R x s) xs
+pairs-before R xs s ys pairs k d within =
+    let longer : length xs < length (xs ++ s ∷ ys) = omega (arith, length-append xs (s ∷ ys)) in
+    let pair = pairs k (length xs) d within longer in
+    let one = rw (get_or-append xs (s ∷ ys) d k within) at pair in
+    rw (get_or-append_seam xs s ys d) at one
+
+all-at : {X : Type 0} (P : X → Type 0) (xs : List X) (s : X) (ys : List X) → All P (xs ++ s ∷ ys) → P s
+all-at P xs s ys all =
+    let longer : length xs < length (xs ++ s ∷ ys) = omega (arith, length-append xs (s ∷ ys)) in
+    rw (get_or-append_seam xs s ys s) at (all (length xs) s longer)
 
 module _ (arena : Bounds) (lo : IsNear 1048576 arena.lo) (hi : IsNear 1048576 arena.hi) where
   goes_block : (spawns : List Vec3) (done : List Bounds) (b : Bounds) (n : ℕ) → IsBlock arena b → length done < 1024
-      → Goes (mapping (map_of arena done spawns) n) (block_line b ∷ []) (mapping (map_of arena (done ++ b ∷ []) spawns)) []
+      → Goes (mapping (map_of arena done spawns []) n) (block_line b ∷ []) (mapping (map_of arena (done ++ b ∷ []) spawns [])) []
   goes_block spawns done b n is few =
-      let r = mapping (map_of arena done spawns) n in
-      let room : nat_lt (length done) 1024 ≡ true = grind (arith, nat_tests) in
-      let passes = block_passes (is_thick b.lo b.hi) (contains arena b) (nat_lt (length done) 1024) is.thick is.inside room in
-      goes-line r (block_line b) (mapping (map_of arena (done ++ b ∷ []) spawns)) (n + 1) (block_near arena b lo hi is) refl
-      (ap (λ taken. cond taken (with_map r (with_map_line r.map (Block b.lo b.hi))) (at_stage Refused r)) passes) refl
+      let m = map_of arena done spawns [] in
+      let keeps : KeepsAll m (Block b.lo b.hi) = record {
+        inside = both (is_thick b.lo b.hi) (contains arena b) is.thick is.inside;
+        count = below (length done) 1024 few;
+        stand = refl;
+        item = refl;
+        travel = refl;
+        shafts = refl;
+      } in
+      goes-line (mapping m n) (block_line b) (mapping (map_of arena (done ++ b ∷ []) spawns [])) (n + 1) (block_near arena b lo hi is) refl refl
+      (kept-fault m (Block b.lo b.hi) keeps) refl
 
   goes_blocks : (spawns : List Vec3) (done blocks : List Bounds) (n : ℕ) → AllByRecursion (IsBlock arena) blocks → length done + length blocks ≤ 1024
-      → Goes (mapping (map_of arena done spawns) n) (map block_line blocks) (mapping (map_of arena (done ++ blocks) spawns)) []
+      → Goes (mapping (map_of arena done spawns []) n) (map block_line blocks) (mapping (map_of arena (done ++ blocks) spawns [])) []
   goes_blocks spawns done [] n each few =
-      let P : List Bounds → Type 0 = λ bs. Goes (mapping (map_of arena done spawns) n) [] (mapping (map_of arena bs spawns)) [] in
+      let P : List Bounds → Type 0 = λ bs. Goes (mapping (map_of arena done spawns []) n) [] (mapping (map_of arena bs spawns [])) [] in
       subst P (sym (append-nil done)) (record { at = n; each = tt; reached = refl; events = refl })
   goes_blocks spawns done (b ∷ blocks) n each few =
-      let r = mapping (map_of arena done spawns) n in
-      let P : List Bounds → Type 0 = λ bs. Goes r (map block_line (b ∷ blocks)) (mapping (map_of arena bs spawns)) [] in
+      let r = mapping (map_of arena done spawns []) n in
+      let P : List Bounds → Type 0 = λ bs. Goes r (map block_line (b ∷ blocks)) (mapping (map_of arena bs spawns [])) [] in
       let fewer : length (done ++ b ∷ []) + length blocks ≤ 1024 = grind (arith, length-append) in
       subst P (append_assoc done (b ∷ []) blocks)
-      (goes-then r (block_line b ∷ []) (map block_line blocks) (mapping (map_of arena (done ++ b ∷ []) spawns)) (mapping (map_of arena (done ++ b ∷ [] ++ blocks) spawns)) [] []
+      (goes-then r (block_line b ∷ []) (map block_line blocks) (mapping (map_of arena (done ++ b ∷ []) spawns [])) (mapping (map_of arena (done ++ b ∷ [] ++ blocks) spawns [])) [] []
       (goes_block spawns done b n each.0 (omega arith)) (λ k. goes_blocks spawns (done ++ b ∷ []) blocks k each.1 fewer))
 
   goes_spawn : (done : List Vec3) (at : Vec3) (n : ℕ) → IsSpawn arena at → length done < 64
-      → Goes (mapping (map_of arena [] done) n) (spawn_line at ∷ []) (mapping (map_of arena [] (done ++ at ∷ []))) []
+      → Goes (mapping (map_of arena [] done []) n) (spawn_line at ∷ []) (mapping (map_of arena [] (done ++ at ∷ []) [])) []
   goes_spawn done at n is few =
-      let r = mapping (map_of arena [] done) n in
-      let room : nat_lt (length done) 64 ≡ true = grind (arith, nat_tests) in
-      let passes = spawn_passes (nat_lt (length done) 64) (is_player_inside arena at) room is.inside in
-      goes-line r (spawn_line at) (mapping (map_of arena [] (done ++ at ∷ []))) (n + 1) is.near refl
-      (ap (λ taken. cond taken (with_map r (with_map_line r.map (Spawn at))) (at_stage Refused r)) passes) refl
+      let m = map_of arena [] done [] in
+      let keeps : KeepsAll m (Spawn at) = record { inside = refl; count = below (length done) 64 few; stand = is.inside; item = refl; travel = refl; shafts = refl } in
+      goes-line (mapping m n) (spawn_line at) (mapping (map_of arena [] (done ++ at ∷ []) [])) (n + 1) is.near refl refl (kept-fault m (Spawn at) keeps) refl
 
   goes_spawns : (done spawns : List Vec3) (n : ℕ) → AllByRecursion (IsSpawn arena) spawns → length done + length spawns ≤ 64
-      → Goes (mapping (map_of arena [] done) n) (map spawn_line spawns) (mapping (map_of arena [] (done ++ spawns))) []
+      → Goes (mapping (map_of arena [] done []) n) (map spawn_line spawns) (mapping (map_of arena [] (done ++ spawns) [])) []
   goes_spawns done [] n each few =
-      let P : List Vec3 → Type 0 = λ ss. Goes (mapping (map_of arena [] done) n) [] (mapping (map_of arena [] ss)) [] in
+      let P : List Vec3 → Type 0 = λ ss. Goes (mapping (map_of arena [] done []) n) [] (mapping (map_of arena [] ss [])) [] in
       subst P (sym (append-nil done)) (record { at = n; each = tt; reached = refl; events = refl })
   goes_spawns done (at ∷ spawns) n each few =
-      let r = mapping (map_of arena [] done) n in
-      let P : List Vec3 → Type 0 = λ ss. Goes r (map spawn_line (at ∷ spawns)) (mapping (map_of arena [] ss)) [] in
+      let r = mapping (map_of arena [] done []) n in
+      let P : List Vec3 → Type 0 = λ ss. Goes r (map spawn_line (at ∷ spawns)) (mapping (map_of arena [] ss [])) [] in
       let fewer : length (done ++ at ∷ []) + length spawns ≤ 64 = grind (arith, length-append) in
       subst P (append_assoc done (at ∷ []) spawns)
-      (goes-then r (spawn_line at ∷ []) (map spawn_line spawns) (mapping (map_of arena [] (done ++ at ∷ []))) (mapping (map_of arena [] (done ++ at ∷ [] ++ spawns))) [] []
+      (goes-then r (spawn_line at ∷ []) (map spawn_line spawns) (mapping (map_of arena [] (done ++ at ∷ []) [])) (mapping (map_of arena [] (done ++ at ∷ [] ++ spawns) [])) [] []
       (goes_spawn done at n each.0 (omega arith)) (λ k. goes_spawns (done ++ at ∷ []) spawns k each.1 fewer))
 
-goes_arena : (m : MapView) → IsMap m → Goes start (arena_line m.bounds ∷ []) (mapping (map_of m.bounds [] [])) []
+-- ---- the things
+
+added-thing : (arena : Bounds) (blocks : List Bounds) (spawns : List Vec3) (done : List MapLine) (line : MapLine) → is_thing_line line ≡ true
+    → with_line (map_of arena blocks spawns done) line ≡ map_of arena blocks spawns (done ++ line ∷ [])
+added-thing arena blocks spawns done (Arena lo hi) thing = cc
+added-thing arena blocks spawns done (Block lo hi) thing = cc
+added-thing arena blocks spawns done (Spawn at) thing = cc
+added-thing arena blocks spawns done (Item at kind delay) thing = refl
+added-thing arena blocks spawns done (Teleport lo hi dest) thing = refl
+added-thing arena blocks spawns done (Goal lo hi) thing = refl
+added-thing arena blocks spawns done (Lift lo hi rise speed) thing = refl
+
+thing-added : (line : MapLine) → is_thing_line line ≡ true → not (is_arena line) ≡ true
+thing-added (Arena lo hi) thing = cc
+thing-added (Block lo hi) thing = cc
+thing-added (Spawn at) thing = cc
+thing-added (Item at kind delay) thing = refl
+thing-added (Teleport lo hi dest) thing = refl
+thing-added (Goal lo hi) thing = refl
+thing-added (Lift lo hi rise speed) thing = refl
+
+module _ (arena : Bounds) (blocks : List Bounds) (spawns : List Vec3) (all : List MapLine) (is : IsMap (map_of arena blocks spawns all)) where
+  thing-count : (done rest : List MapLine) (line : MapLine) → done ++ line ∷ rest ≡ all → is_thing_line line ≡ true → keeps_count (map_of arena blocks spawns done) line ≡ true
+  thing-count done rest (Arena lo hi) whole thing = cc
+  thing-count done rest (Block lo hi) whole thing = cc
+  thing-count done rest (Spawn at) whole thing = cc
+  thing-count done rest (Item at kind delay) whole thing =
+      below (count_by is_item_line done) 144 (omega (arith, count-split is_item_line done rest (Item at kind delay), ap (count_by is_item_line) whole, is.few_items))
+  thing-count done rest (Teleport lo hi dest) whole thing =
+      below (count_by is_teleport_line done) 16 (omega (arith, count-split is_teleport_line done rest (Teleport lo hi dest), ap (count_by is_teleport_line) whole, is.few_teleporters))
+  thing-count done rest (Goal lo hi) whole thing =
+      below (count_by is_goal_line done) 16 (omega (arith, count-split is_goal_line done rest (Goal lo hi), ap (count_by is_goal_line) whole, is.few_goals))
+  thing-count done rest (Lift lo hi rise speed) whole thing =
+      below (count_by is_lift_line done) 16 (omega (arith, count-split is_lift_line done rest (Lift lo hi rise speed), ap (count_by is_lift_line) whole, is.few_lifts))
+
+  lift-shafts : (done rest : List MapLine) (s : Bounds) → filter_map shaft_of all ≡ filter_map shaft_of done ++ s ∷ filter_map shaft_of rest
+      → (not (is_blocked s blocks) && not (meets_shaft (filter_map shaft_of done) s)) ≡ true
+  lift-shafts done rest s split =
+      let clear = all-at (λ own. is_blocked own blocks ≡ false) (filter_map shaft_of done) s (filter_map shaft_of rest)
+      (subst (All (λ own. is_blocked own blocks ≡ false)) split is.clear_shafts) in
+      let apart = pairs-before (λ one other. overlaps one other ≡ false) (filter_map shaft_of done) s (filter_map shaft_of rest)
+      (subst (AllPairs (λ one other. overlaps one other ≡ false)) split is.shafts_apart) in
+      both _ _ (ap not clear) (ap not (list_any_none (λ own. overlaps own s) (filter_map shaft_of done) apart))
+
+  thing-shafts : (done rest : List MapLine) (line : MapLine) → done ++ line ∷ rest ≡ all → is_thing_line line ≡ true → keeps_shafts (map_of arena blocks spawns done) line ≡ true
+  thing-shafts done rest (Arena lo hi) whole thing = cc
+  thing-shafts done rest (Block lo hi) whole thing = cc
+  thing-shafts done rest (Spawn at) whole thing = cc
+  thing-shafts done rest (Item at kind delay) whole thing = refl
+  thing-shafts done rest (Teleport lo hi dest) whole thing = refl
+  thing-shafts done rest (Goal lo hi) whole thing = refl
+  thing-shafts done rest (Lift lo hi rise speed) whole thing =
+      lift-shafts done rest (shaft lo hi rise) (ap (filter_map shaft_of) (sym whole) ∙ filter_map-append shaft_of done (Lift lo hi rise speed ∷ rest))
+
+  goes_thing : (done rest : List MapLine) (line : MapLine) (n : ℕ) → done ++ line ∷ rest ≡ all → IsThingInside arena line
+      → Goes (mapping (map_of arena blocks spawns done) n) (OfMap line ∷ []) (mapping (map_of arena blocks spawns (done ++ line ∷ []))) []
+  goes_thing done rest line n whole inside =
+      let m = map_of arena blocks spawns done in
+      let keeps : KeepsAll m line = record {
+        inside = inside.inside;
+        count = thing-count done rest line whole inside.thing;
+        stand = inside.stand;
+        item = inside.item;
+        travel = inside.travel;
+        shafts = thing-shafts done rest line whole inside.thing;
+      } in
+      goes-line (mapping m n) (OfMap line) (mapping (map_of arena blocks spawns (done ++ line ∷ []))) (n + 1) inside.limits refl (thing-added line inside.thing)
+      (kept-fault m line keeps) (ap (λ (x : MapView). mapping x (n + 1)) (added-thing arena blocks spawns done line inside.thing))
+
+  goes_things : (done things : List MapLine) (n : ℕ) → done ++ things ≡ all → AllByRecursion (IsThingInside arena) things
+      → Goes (mapping (map_of arena blocks spawns done) n) (map OfMap things) (mapping (map_of arena blocks spawns all)) []
+  goes_things done [] n whole each =
+      let P : List MapLine → Type 0 = λ ts. Goes (mapping (map_of arena blocks spawns done) n) [] (mapping (map_of arena blocks spawns ts)) [] in
+      subst P (sym (append-nil done) ∙ whole) (record { at = n; each = tt; reached = refl; events = refl })
+  goes_things done (line ∷ things) n whole each =
+      goes-then (mapping (map_of arena blocks spawns done) n) (OfMap line ∷ []) (map OfMap things) (mapping (map_of arena blocks spawns (done ++ line ∷ [])))
+      (mapping (map_of arena blocks spawns all)) [] [] (goes_thing done things line n whole each.0)
+      (λ k. goes_things (done ++ line ∷ []) things k (append_assoc done (line ∷ []) things ∙ whole) each.1)
+
+goes_arena : (m : MapView) → IsMap m → Goes start (arena_line m.bounds ∷ []) (mapping (map_of m.bounds [] [] [])) []
 goes_arena m is =
-    goes-line start (arena_line m.bounds) (mapping (map_of m.bounds [] [])) 1 (is.lo, is.hi) refl
-    (ap (λ taken. cond taken (with_map start (Some (map_of m.bounds [] []))) (at_stage Refused start)) (arena_passes _ is.wide)) refl
+    goes-line start (arena_line m.bounds) (mapping (map_of m.bounds [] [] [])) 1 (is.lo, is.hi) refl refl (arena_passes _ is.wide) refl
 
 -- ---- the frames
+
+no_count : (limit n : ℕ) → n < limit → cond (nat_le limit n) (Some faults.Count) None ≡ None
+no_count limit n few = let under : nat_le limit n ≡ false = grind (arith, nat_tests) in ap (λ b. cond b (Some faults.Count) None) under
 
 goes_packets : (m : MapView) (frames : ℕ) (arrivals : List Arrival) (a n : ℕ) → AllByRecursion IsArrival arrivals → a + length arrivals ≤ 512
     → Goes (playing m frames (a, n)) (map From arrivals) (playing m frames) (map events.From arrivals)
@@ -179,47 +320,50 @@ goes_packets m frames [] a n each few = record { at = (a, n); each = tt; reached
 goes_packets m frames (x ∷ xs) a n each few =
     let r = playing m frames (a, n) in
     let Next : Unit {0} → Reading = λ u. playing m frames (a + 1, n + 1) in
-    let room : nat_lt a 512 ≡ true = grind (arith, nat_tests) in
     goes-then r (From x ∷ []) (map From xs) Next (playing m frames) (events.From x ∷ []) (map events.From xs)
-    (goes-line r (From x) Next tt each.0 refl (ap (λ taken. cond taken (with_arrival r) (at_stage Refused r)) room) refl)
+    (goes-line r (From x) Next tt each.0 refl refl (no_count 512 a (omega arith)) refl)
     (λ u. goes_packets m frames xs (a + 1) (n + 1) each.1 (omega arith))
 
-goes_frame : (r : Reading) (m : MapView) (frames n : ℕ) (arrivals : List Arrival) → IsFrame arrivals → is_over r.stage ≡ false
-    → reading_after r.stage r (Some Frame) ≡ playing m frames (0, n) → Goes r (frame_lines arrivals) (playing m frames) (frame_events arrivals)
-goes_frame r m frames n arrivals is going opens =
+-- the line of a frame, which has no fault here, and its packets
+goes_frame : (r : Reading) (m : MapView) (frames n : ℕ) (arrivals : List Arrival) → IsFrame arrivals → is_over r.stage ≡ false → IsTaken r.stage Frame
+    → place_fault r Frame ≡ None → with_frame r ≡ playing m frames (0, n) → Goes r (frame_lines arrivals) (playing m frames) (frame_events arrivals)
+goes_frame r m frames n arrivals is going taken none opens =
     let Next : Unit {0} → Reading = λ u. playing m frames (0, n) in
     goes-then r (Frame ∷ []) (map From arrivals) Next (playing m frames) (events.Frame ∷ []) (map events.From arrivals)
-    (goes-line r Frame Next tt tt going opens refl) (λ u. goes_packets m frames arrivals 0 n is.each (omega (arith, is.few)))
+    (goes-line r Frame Next tt tt going taken none opens) (λ u. goes_packets m frames arrivals 0 n is.each (omega (arith, is.few)))
 
 -- the lines of frames and the end
 abbrev tail_lines : List (List Arrival) → List Line
 tail_lines frames = flat_map frame_lines frames ++ End ∷ []
 
-goes_on : (r : Reading) (m : MapView) (frames n : ℕ) (x : List Arrival) (xs : List (List Arrival)) → IsFrame x → is_over r.stage ≡ false
-    → reading_after r.stage r (Some Frame) ≡ playing m frames (0, n)
+goes_on : (r : Reading) (m : MapView) (frames n : ℕ) (x : List Arrival) (xs : List (List Arrival)) → IsFrame x → is_over r.stage ≡ false → IsTaken r.stage Frame
+    → place_fault r Frame ≡ None → with_frame r ≡ playing m frames (0, n)
     → ((at : ℕ × ℕ) → Goes (playing m frames at) (tail_lines xs) (ended m) (recording_events xs)) → Goes r (tail_lines (x ∷ xs)) (ended m) (recording_events (x ∷ xs))
-goes_on r m frames n x xs is going opens rest =
+goes_on r m frames n x xs is going taken none opens rest =
     let P : List Line → Type 0 = λ ls. Goes r ls (ended m) (recording_events (x ∷ xs)) in
     let Q : List Event → Type 0 = λ es. Goes r (frame_lines x ++ tail_lines xs) (ended m) es in
     subst P (sym (append_assoc (frame_lines x) (flat_map frame_lines xs) (End ∷ [])))
     (subst Q (sym (append_assoc (frame_events x) (flat_map frame_events xs) (events.End ∷ [])))
-    (goes-then r (frame_lines x) (tail_lines xs) (playing m frames) (ended m) (frame_events x) (recording_events xs) (goes_frame r m frames n x is going opens) rest))
+    (goes-then r (frame_lines x) (tail_lines xs) (playing m frames) (ended m) (frame_events x) (recording_events xs) (goes_frame r m frames n x is going taken none opens) rest))
 
 goes_frames : (m : MapView) (frames : ℕ) (xs : List (List Arrival)) (at : ℕ × ℕ) → AllByRecursion IsFrame xs → frames + length xs ≤ 100000
     → Goes (playing m frames at) (tail_lines xs) (ended m) (recording_events xs)
-goes_frames m frames [] at each few = goes-line (playing m frames at) End (ended m) (frames, at.0, at.1 + 1) tt refl refl refl
+goes_frames m frames [] at each few = goes-line (playing m frames at) End (ended m) (frames, at.0, at.1 + 1) tt refl refl refl refl
 goes_frames m frames (x ∷ xs) at each few =
     let r = playing m frames at in
-    let room : nat_lt frames 100000 ≡ true = grind (arith, nat_tests) in
-    goes_on r m (frames + 1) (at.1 + 1) x xs each.0 refl (ap (λ taken. cond taken (with_frame r) (at_stage Refused r)) room)
+    goes_on r m (frames + 1) (at.1 + 1) x xs each.0 refl refl (no_count 100000 frames (omega arith)) refl
     (λ k. goes_frames m (frames + 1) xs k each.1 (omega arith))
+
+first-frame : (b : Bool) → b ≡ true → option_or (option_map faults.Rule (cond b None (Some fault.NoSpawn))) None ≡ None
+first-frame true h = refl
+first-frame false h = cc
 
 goes_tail : (m : MapView) (xs : List (List Arrival)) (n : ℕ) → AllByRecursion IsFrame xs → length xs ≤ 100000 → (0 < length xs → is_ready m ≡ true)
     → Goes (mapping m n) (tail_lines xs) (ended m) (recording_events xs)
-goes_tail m [] n each few spawn = goes-line (mapping m n) End (ended m) (0, 0, n + 1) tt refl refl refl
+goes_tail m [] n each few spawn = goes-line (mapping m n) End (ended m) (0, 0, n + 1) tt refl refl refl refl
 goes_tail m (x ∷ xs) n each few spawn =
     let r = mapping m n in
-    goes_on r m 1 (n + 1) x xs each.0 refl (ap (λ taken. cond taken (with_frame r) (at_stage Refused r)) (spawn (omega arith)))
+    goes_on r m 1 (n + 1) x xs each.0 refl refl (first-frame (is_ready m) (spawn (omega arith))) refl
     (λ k. goes_frames m 1 xs k each.1 (omega arith))
 
 -- ---- the whole
@@ -227,11 +371,14 @@ goes_tail m (x ∷ xs) n each few spawn =
 goes_map : (m : MapView) → IsMap m → Goes start (map_lines m) (mapping m) []
 goes_map m is =
     let arena = m.bounds in
-    goes-then start (arena_line arena ∷ []) (map spawn_line m.spawns ++ map block_line m.blocks) (mapping (map_of arena [] [])) (mapping m) [] []
-    (goes_arena m is)
-    (λ n. goes-then (mapping (map_of arena [] []) n) (map spawn_line m.spawns) (map block_line m.blocks) (mapping (map_of arena [] m.spawns)) (mapping m) [] []
+    let blocks = map block_line m.blocks in
+    let things = map OfMap m.things in
+    goes-then start (arena_line arena ∷ []) (map spawn_line m.spawns ++ (blocks ++ things)) (mapping (map_of arena [] [] [])) (mapping m) [] [] (goes_arena m is)
+    (λ n. goes-then (mapping (map_of arena [] [] []) n) (map spawn_line m.spawns) (blocks ++ things) (mapping (map_of arena [] m.spawns [])) (mapping m) [] []
     (goes_spawns arena is.lo is.hi [] m.spawns n (recursion_from_All (IsSpawn arena) m.spawns is.spawns) (omega (arith, is.few_spawns)))
-    (λ k. goes_blocks arena is.lo is.hi m.spawns [] m.blocks k (recursion_from_All (IsBlock arena) m.blocks is.blocks) (omega (arith, is.few_blocks))))
+    (λ k. goes-then (mapping (map_of arena [] m.spawns []) k) blocks things (mapping (map_of arena m.blocks m.spawns [])) (mapping m) [] []
+    (goes_blocks arena is.lo is.hi m.spawns [] m.blocks k (recursion_from_All (IsBlock arena) m.blocks is.blocks) (omega (arith, is.few_blocks)))
+    (λ j. goes_things arena m.blocks m.spawns m.things is [] m.things j refl (recursion_from_All (IsThingInside arena) m.things is.things))))
 
 goes_recording : (m : MapView) (frames : List (List Arrival)) → IsRecording m frames → Goes start (recording_lines m frames) (ended m) (recording_events frames)
 goes_recording m frames is =
@@ -241,10 +388,11 @@ pub recordings_read_back : RecordingsReadBack
 recordings_read_back m frames is =
     let goes = goes_recording m frames is in
     let lines = map line_text (recording_lines m frames) in
-    let whole : whole_lines (recording_text m frames) ≡ lines =
-    ap whole_lines (sym (append-nil (recording_text m frames))) ∙ whole_lines-unlines lines [] goes.each ∙ append-nil lines in
+    let whole : lines_of (recording_text m frames) ≡ lines =
+    ap lines_of (sym (append-nil (recording_text m frames))) ∙ lines_of-unlines lines [] goes.each ∙ append-nil lines in
     record {
-      fault = ap (λ ls. fault_at (after start ls).stage (after start ls).lines) whole ∙ ap (λ (r : Reading). fault_at r.stage r.lines) goes.reached;
+      fault = ap (λ ls. refused_where (after start ls) (last_part (recording_text m frames))) whole
+          ∙ ap (λ r. refused_where r (last_part (recording_text m frames))) goes.reached;
       map = ap (λ ls. (after start ls).map) whole ∙ ap (λ (r : Reading). r.map) goes.reached;
       events = ap (events_of start) whole ∙ goes.events;
     }

@@ -1,5 +1,5 @@
 -- A small recording and its text.
-use Rattle.std.proofs.Common.{◌<◌, [], ◌∷◌, pos, refl, arith}
+use Rattle.std.proofs.Common.{◌≡◌, ◌<◌, false, [], ◌∷◌, pos, refl, arith}
 use Rattle.std.specs.Fmt.{digits}
 use Rattle.std.proofs.lemmas.Int.{ints}
 use Rattle.std.proofs.lemmas.List.Elements.{All-cons, All-nil}
@@ -9,10 +9,11 @@ use Rattle.arena_geo.specs.Bounds.{Bounds, bounds, IsBox}
 use Rattle.hex.specs.Hex.{encode_with}
 use Rattle.edge_io.specs.Lines.{AreBytes}
 use Rattle.client_ports.specs.declared.arrival.Arrival.{Arrival}
-use Rattle.arena_map.specs.Maps.{IsSpawn, IsBlock, IsMap}
+use Rattle.arena_map.specs.Maps.{IsSpawn, IsBlock, IsThingInside, IsMap}
+use Rattle.arena_geo.specs.Boxes.{is_blocked}
 use Rattle.demo_lines.specs.Spelling.{IsArrival, IsRecording, small_map, small_frames}
 use Rattle.demo_lines.specs.Laws.{SmallRecording}
-use Rattle.demo_lines.proofs.LinesRead.{packets_have_room}
+use Rattle.demo_lines.proofs.Written.{packets_have_room}
 
 -- ---- its map
 
@@ -70,6 +71,13 @@ small_is_map = record {
   spawns = All-cons (IsSpawn small_map.bounds) small_spawn (other_spawn ∷ []) small_spawn_is
       (All-cons (IsSpawn small_map.bounds) other_spawn [] other_spawn_is (All-nil (IsSpawn small_map.bounds)));
   few_spawns = omega arith;
+  things = All-nil (IsThingInside small_map.bounds);
+  few_items = omega arith;
+  few_teleporters = omega arith;
+  few_goals = omega arith;
+  few_lifts = omega arith;
+  clear_shafts = All-nil (λ shaft. is_blocked shaft small_map.blocks ≡ false);
+  shafts_apart = λ i j d below within. absurd (omega arith);
 }
 
 -- ---- its frames

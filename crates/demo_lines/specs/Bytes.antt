@@ -1,36 +1,77 @@
--- A recording as bytes: the events of its lines, its map, and the first fault.
-use Rattle.std.specs.Prelude.{ℕ, ◌+◌, List, Option, Some, None}
-use Rattle.edge_io.specs.WholeLines.{whole_lines}
+-- A recording as bytes: its lines, their events, its map, and the first fault.
+use Rattle.std.specs.Prelude.{ℕ, ◌+◌, true, List, [], ◌∷◌, ◌++◌, Option, Some, None, option_map, if◌then◌else◌}
+use Rattle.std.specs.List.{slice_split}
+use Rattle.edge_io.specs.WholeLines.{is_line_feed, whole_lines}
+use Rattle.arena_map.specs.Maps.{MapView}
 use Rattle.demo_lines.specs.declared.stage.Stage.{Stage}
 use Rattle.demo_lines.specs.declared.stage.Stage.TheVariants.{Start, Map, Playing, Ended, Refused}
-use Rattle.arena_map.specs.Maps.{MapView}
+use Rattle.demo_lines.specs.declared.line_fault.LineFault.{LineFault}
 use Rattle.demo_lines.specs.declared.event.Event.{Event}
-use Rattle.demo_lines.specs.Recording.{Reading, start, after, events_of}
+use Rattle.demo_lines.specs.Known.{Reading, start}
+use Rattle.demo_lines.specs.Lines.{is_end}
+use Rattle.demo_lines.specs.Faults.{fault_of, fault_number, rule_number}
+use Rattle.demo_lines.specs.Recording.{after, events_of}
 
--- the number of the faulty line, where the bytes end here: the refused one, or the last where there is no end
-abbrev pub fault_at : Stage → ℕ → Option ℕ
-fault_at Start lines = Some (lines + 1)
-fault_at Map lines = Some (lines + 1)
-fault_at Playing lines = Some (lines + 1)
-fault_at Ended lines = None
-fault_at Refused lines = Some lines
+-- the last of some parts
+abbrev pub last_of : List (List ℕ) → List ℕ
+last_of [] = []
+last_of (part ∷ []) = part
+last_of (part ∷ other ∷ parts) = last_of (other ∷ parts)
+
+-- what no line feed ends, at the end of the bytes
+abbrev pub last_part : List ℕ → List ℕ
+last_part bytes = last_of (slice_split is_line_feed bytes)
+
+-- what no line feed ends is a line where it is the end
+abbrev pub cut_end : List ℕ → List (List ℕ)
+cut_end part = if is_end part then part ∷ [] else []
+
+-- the lines of bytes: those that a line feed ends, and the end without one
+abbrev pub lines_of : List ℕ → List (List ℕ)
+lines_of bytes = whole_lines bytes ++ cut_end (last_part bytes)
+
+-- a line, counted from 1, its fault, and the rule of the map that it breaks, 0 where it breaks none
+pub record Refusal : Type 0 where
+  pub line : ℕ
+  pub fault : ℕ
+  pub rule : ℕ
+
+-- the refusal of this line for this fault
+abbrev pub refusal : ℕ → LineFault → Refusal
+refusal line why = record { line = line; fault = fault_number why; rule = rule_number why }
+
+-- the refusal of what is known, where the bytes end here, after this part without a line feed
+abbrev pub refused_at : Stage → Reading → List ℕ → Option Refusal
+refused_at Start r part = option_map (refusal (r.lines + 1)) (fault_of r true part)
+refused_at Map r part = option_map (refusal (r.lines + 1)) (fault_of r true part)
+refused_at Playing r part = option_map (refusal (r.lines + 1)) (fault_of r true part)
+refused_at Ended r part = None
+refused_at (Refused why) r part = Some (refusal r.lines why)
+
+-- the same, by the stage that it is at
+abbrev pub refused_where : Reading → List ℕ → Option Refusal
+refused_where r part = refused_at r.stage r part
 
 -- the events of bytes, from what was read before
 abbrev pub events_in : Reading → List ℕ → List Event
-events_in r bytes = events_of r (whole_lines bytes)
+events_in r bytes = events_of r (lines_of bytes)
 
--- the number of the first faulty line, from what was read before
-abbrev pub fault_in : Reading → List ℕ → Option ℕ
-fault_in r bytes = fault_at (after r (whole_lines bytes)).stage (after r (whole_lines bytes)).lines
+-- the first faulty line, from what was read before
+abbrev pub fault_in : Reading → List ℕ → Option Refusal
+fault_in r bytes = refused_where (after r (lines_of bytes)) (last_part bytes)
 
 -- the events of a recording: up to its end, or up to the line before the faulty one
 abbrev pub events : List ℕ → List Event
 events bytes = events_in start bytes
 
--- the number of the first faulty line, before or at the first `end`
-abbrev pub fault : List ℕ → Option ℕ
+-- the first faulty line, before or at the first `end`, and its fault
+abbrev pub fault : List ℕ → Option Refusal
 fault bytes = fault_in start bytes
 
 -- the map of a recording
 abbrev pub map_of : List ℕ → Option MapView
-map_of bytes = (after start (whole_lines bytes)).map
+map_of bytes = (after start (lines_of bytes)).map
+
+-- the events of the lines that a line feed ends
+abbrev pub events_of_whole_lines : List ℕ → List Event
+events_of_whole_lines bytes = events_of start (whole_lines bytes)

@@ -1,23 +1,27 @@
 -- What holds of all recordings, and of the packets on their lines.
-use Rattle.std.specs.Prelude.{◌≡◌, ◌↔◌, ℕ, ◌≤◌, ◌<◌, true, false, List, [], ◌++◌, length, Some, None, codes}
+use Rattle.std.specs.Prelude.{◌≡◌, ◌↔◌, ℕ, ◌≤◌, ◌<◌, true, false, List, [], ◌∷◌, ◌++◌, length, Some, None, codes}
 use Rattle.edge_io.specs.Lines.{AreBytes}
 use Rattle.hex.specs.Hex.{encode_lower, encode_upper}
 use Rattle.demo_lines.specs.Packets.{packet_bytes}
 use Rattle.arena_map.specs.Maps.{MapView}
 use Rattle.client_ports.specs.declared.arrival.Arrival.{Arrival}
 use Rattle.client_ports.specs.declared.arrival.TheConstants.{MOST_BYTES}
-use Rattle.demo_lines.specs.declared.line.TheConstants.{FARTHEST}
 use Rattle.demo_lines.specs.declared.reading.TheConstants.{MOST_FRAMES, MOST_ARRIVALS}
 use Rattle.demo_lines.specs.declared.line.Line.{Line}
 use Rattle.demo_lines.specs.declared.line.Line.TheVariants.{From}
-use Rattle.demo_lines.specs.Recording.{Reading, start, after, events_of, without_map, is_map_whole, is_refused, is_over, line_in}
+use Rattle.demo_lines.specs.declared.stage.Stage.TheVariants.{Ended}
+use Rattle.demo_lines.specs.Known.{Reading, start, without_map, is_map_whole, is_refused, is_over}
+use Rattle.demo_lines.specs.declared.word.Word.{Word}
+use Rattle.demo_lines.specs.Words.{has_form}
+use Rattle.demo_lines.specs.Lines.{text_of, are_printable, first_word, rest_of, line_in}
+use Rattle.demo_lines.specs.Faults.{is_long}
+use Rattle.demo_lines.specs.Recording.{after, events_of}
 use Rattle.demo_lines.specs.Spelling.{line_text, IsLine, recording_lines, recording_text, recording_events, IsRecording, small_map, small_frames, small_text}
 use Rattle.edge_io.specs.WholeLines.{whole_lines}
 use Rattle.demo_lines.specs.Bytes.{events, fault, map_of}
 
 -- the numbers of this crate, and how many bytes a packet has at the most
 pub record LimitsAreKnown : Type 0 where
-  pub farthest : FARTHEST ≡ 1048576
   pub frames : MOST_FRAMES ≡ 100000
   pub arrivals : MOST_ARRIVALS ≡ 512
   pub bytes : MOST_BYTES ≡ 252
@@ -34,9 +38,10 @@ pub record AddsNothing (bytes more : List ℕ) : Type 0 where
   pub fault : fault (bytes ++ more) ≡ fault bytes
   pub map : map_of (bytes ++ more) ≡ map_of bytes
 
--- the rest of the input after the end is ignored
-abbrev pub NothingAfterTheEnd : Type 0
-NothingAfterTheEnd = (bytes more : List ℕ) → fault bytes ≡ None → AddsNothing bytes more
+-- the rest of the input after the end is ignored: after its line feed, and, where it has none, after a line feed that follows
+pub record NothingAfterTheEnd : Type 0 where
+  pub whole : (bytes more : List ℕ) → (after start (whole_lines bytes)).stage ≡ Ended → AddsNothing bytes more
+  pub cut : (bytes more : List ℕ) → fault bytes ≡ None → AddsNothing bytes (10 ∷ more)
 
 -- the rest of the input after a refused line is ignored
 abbrev pub NothingAfterARefusal : Type 0
@@ -52,9 +57,20 @@ pub record MapMayBeGivenOut (r : Reading) (lines : List (List ℕ)) : Type 0 whe
 abbrev pub NothingNeedsTheMap : Type 0
 NothingNeedsTheMap = (r : Reading) (lines : List (List ℕ)) → is_map_whole r.stage ≡ true → MapMayBeGivenOut r lines
 
+-- a text is a line that says this: it has at most 512 bytes, all printed and the last no carriage return, a word and
+-- fields of its form, and their values
+pub record IsReadAs (raw : List ℕ) (line : Line) : Type 0 where
+  pub word : Word
+  pub whole : text_of raw ≡ raw
+  pub short : is_long raw ≡ false
+  pub printable : are_printable (text_of raw) ≡ true
+  pub first : first_word (text_of raw) ≡ Some word
+  pub form : has_form word (rest_of (text_of raw)) ≡ true
+  pub says : line_in raw ≡ Some line
+
 -- a line is read back from its text exactly where it can be written
 abbrev pub LinesReadBack : Type 0
-LinesReadBack = (line : Line) → (line_in (line_text line) ≡ Some line) ↔ IsLine line
+LinesReadBack = (line : Line) → IsReadAs (line_text line) line ↔ IsLine line
 
 -- a line has room for a packet of 250 bytes from each port, of 251 from one below 10,000, and of 252 from one below 100
 pub record PacketsHaveRoom : Type 0 where
@@ -77,15 +93,7 @@ pub record SmallRecording : Type 0 where
   pub is : IsRecording small_map small_frames
   pub text : recording_text small_map small_frames ≡ small_text
 
--- a recording that can be written and has so many lines
-pub record HasLines (count : ℕ) : Type 0 where
-  pub map : MapView
-  pub frames : List (List Arrival)
-  pub is : IsRecording map frames
-  pub lines : length (recording_lines map frames) ≡ count
-
--- up to its end or its refused line a recording has at most 1 line with the arena, 64 with spawns, 1,024 with blocks,
--- 100,000 times 1 that opens a frame and 512 with its packets, and 1 that ends it or is refused; and some have so many
-pub record LinesAreBounded : Type 0 where
-  pub bound : (lines : List (List ℕ)) → is_over (after start lines).stage ≡ false → length lines < 51301090
-  pub longest : HasLines 51301090
+-- up to its end or its refused line a recording has at most 1 line with the arena, 64 with spawns, 1,024 with blocks, 192
+-- with things, 100,000 times 1 that opens a frame and 512 with its packets, and 1 that ends it or is refused
+abbrev pub LinesAreBounded : Type 0
+LinesAreBounded = (lines : List (List ℕ)) → is_over (after start lines).stage ≡ false → length lines < 51301282

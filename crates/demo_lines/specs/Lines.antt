@@ -1,69 +1,74 @@
--- What one line of a recording says.
-use Rattle.std.specs.Prelude.{ℕ, List, [], ◌∷◌, Option, Some, None, codes, bytes_eq, ℤ, if◌then◌else◌}
-use Rattle.arena_geo.specs.declared.vec3.Vec3.{Vec3}
+-- What one line of a recording says: its text, its word, and the values of its fields.
+use Rattle.std.specs.Prelude.{ℕ, ◌-◌, ◌==◌, Bool, true, false, ◌&&◌, nat_le, List, [], ◌∷◌, length, take, drop, Option, Some, None, is_some, option_map, codes, bytes_eq, if◌then◌else◌}
+use Rattle.std.specs.List.{list_all}
+use Rattle.edge_io.specs.Numbers.{natural_up_to}
+use Rattle.edge_io.specs.Fields.{◌>>=◌, cut}
+use Rattle.arena_map.specs.Reading.{line_within}
+use Rattle.demo_lines.specs.declared.word.Word.{Word}
+use Rattle.demo_lines.specs.declared.word.Word.TheVariants as words
 use Rattle.demo_lines.specs.declared.line.Line.{Line}
 use Rattle.demo_lines.specs.declared.line.Line.TheVariants.{OfMap, Frame, From, End}
-use Rattle.arena_map.specs.declared.map_line.MapLine.TheVariants.{Arena, Spawn, Block}
-use Rattle.edge_io.specs.Numbers.{natural_up_to, integer_up_to}
-use Rattle.edge_io.specs.Fields.{◌>>=◌, cut, field_at}
 use Rattle.demo_lines.specs.Packets.{packet_bytes}
+use Rattle.demo_lines.specs.Words.{word_in, from_fields}
 
--- a coordinate of at most 1,048,576 sub-units from 0, and the rest
-abbrev pub coordinate_at : List ℕ → Option (ℤ × List ℕ)
-coordinate_at rest = do
-  field ← field_at rest
-  z ← integer_up_to 1048576 field.0
-  Some (z, field.1)
+-- the last byte is a carriage return
+abbrev pub ends_in_return : List ℕ → Bool
+ends_in_return raw = bytes_eq (drop (length raw - 1) raw) (codes "\r")
 
--- three coordinates, and the rest
-abbrev pub point_at : List ℕ → Option (Vec3 × List ℕ)
-point_at rest = do
-  x ← coordinate_at rest
-  y ← coordinate_at x.1
-  z ← coordinate_at y.1
-  Some (record { x = x.0; y = y.0; z = z.0 }, z.1)
+-- the text of a line: all of it, but for a carriage return that is its last byte
+abbrev pub text_of : List ℕ → List ℕ
+text_of raw = if ends_in_return raw then take (length raw - 1) raw else raw
 
--- the line, where nothing more is on it
-abbrev pub alone : Line → List ℕ → Option Line
-alone line [] = Some line
-alone line (b ∷ bytes) = None
+-- the line says that the recording ends
+abbrev pub is_end : List ℕ → Bool
+is_end raw = bytes_eq (text_of raw) (codes "end")
 
--- the arena's low corner and its high one
-abbrev pub arena_of : List ℕ → Option Line
-arena_of rest = do
-  lo ← point_at rest
-  hi ← point_at lo.1
-  alone (OfMap (Arena lo.0 hi.0)) hi.1
+-- the byte is one of ASCII that is printed, or the space
+abbrev pub is_printable : ℕ → Bool
+is_printable b = nat_le 32 b && nat_le b 126
 
--- where players join
-abbrev pub spawn_of : List ℕ → Option Line
-spawn_of rest = do
-  at ← point_at rest
-  alone (OfMap (Spawn at.0)) at.1
+-- each byte is
+abbrev pub are_printable : List ℕ → Bool
+are_printable text = list_all is_printable text
 
--- a block's low corner and its high one
-abbrev pub block_of : List ℕ → Option Line
-block_of rest = do
-  lo ← point_at rest
-  hi ← point_at lo.1
-  alone (OfMap (Block lo.0 hi.0)) hi.1
+-- the word of a text, and what follows it
+abbrev pub first_word : List ℕ → Option Word
+first_word text = word_in (cut text).0
+
+abbrev pub rest_of : List ℕ → List ℕ
+rest_of text = (cut text).1
+
+-- the port on a line, where it is at most 65,535
+abbrev pub port_in : List ℕ → Option ℕ
+port_in rest = do
+  fields ← from_fields rest
+  natural_up_to 65535 fields.0
+
+-- the bytes of the packet on a line, where it spells some
+abbrev pub bytes_in : List ℕ → Option (List ℕ)
+bytes_in rest = do
+  fields ← from_fields rest
+  packet_bytes fields.1
 
 -- the port that sent a packet, and its bytes
 abbrev pub from_of : List ℕ → Option Line
 from_of rest = do
-  number ← field_at rest
-  port ← natural_up_to 65535 number.0
-  text ← field_at number.1
-  bytes ← packet_bytes text.0
-  alone (From (record { port = port; bytes = bytes })) text.1
+  port ← port_in rest
+  bytes ← bytes_in rest
+  Some (From (record { port = port; bytes = bytes }))
 
--- what a line says: its first word, and the fields that this word wants
-abbrev pub line_at : List ℕ → Option Line
-line_at line =
-    if bytes_eq (cut line).0 (codes "arena") then arena_of (cut line).1
-    else if bytes_eq (cut line).0 (codes "spawn") then spawn_of (cut line).1
-    else if bytes_eq (cut line).0 (codes "block") then block_of (cut line).1
-    else if bytes_eq (cut line).0 (codes "frame") then alone Frame (cut line).1
-    else if bytes_eq (cut line).0 (codes "from") then from_of (cut line).1
-    else if bytes_eq (cut line).0 (codes "end") then alone End (cut line).1
-    else None
+-- what a word and its fields say, where their values are within their limits
+abbrev pub line_of : Word → List ℕ → Option Line
+line_of (words.OfMap word) rest = option_map OfMap (line_within word rest)
+line_of words.Frame rest = Some Frame
+line_of words.From rest = from_of rest
+line_of words.End rest = Some End
+
+-- the same, where there is a word
+abbrev pub line_of_first : Option Word → List ℕ → Option Line
+line_of_first None rest = None
+line_of_first (Some word) rest = line_of word rest
+
+-- what a line says
+abbrev pub line_in : List ℕ → Option Line
+line_in raw = line_of_first (first_word (text_of raw)) (rest_of (text_of raw))

@@ -1,6 +1,7 @@
 -- What a call of the reader takes off the bytes that are ahead, and what it gives.
-use Rattle.std.specs.Prelude.{◌≡◌, ◌⊎◌, ℕ, ◌+◌, ◌≤◌, true, false, IsSome, List, [], ◌∷◌, ◌++◌, length, Option, Some, None, ⊤}
+use Rattle.std.specs.Prelude.{◌≡◌, ◌⊎◌, ℕ, ◌+◌, ◌≤◌, true, false, IsSome, List, [], ◌∷◌, ◌++◌, length, Option, Some, None, Result, ⊤}
 use Rattle.std.specs.List.{AllByRecursion}
+use Rattle.std.specs.Result.{result_ok}
 use Rattle.std.specs.Io.KnownBytes.{Consumes, IsAtEnd}
 use Rattle.edge_io.specs.declared.line_reader.TheConstants.{LONGEST}
 use Rattle.edge_io.specs.Lines.{HasNoLineFeed}
@@ -8,13 +9,18 @@ use Rattle.edge_io.specs.WholeLines.{all_but_last, unlines}
 use Rattle.demo_lines.specs.declared.event.Event.{Event}
 use Rattle.demo_lines.specs.declared.event.Event.TheVariants.{Frame, From, End}
 use Rattle.demo_lines.specs.declared.line.Line.{Line}
+use Rattle.demo_lines.specs.declared.line_fault.LineFault.{LineFault}
+use Rattle.demo_lines.specs.declared.line_fault.LineFault.TheVariants as faults
 use Rattle.demo_lines.specs.declared.demo_stop.DemoStop.{DemoStop}
 use Rattle.demo_lines.specs.declared.demo_stop.DemoStop.TheVariants.{Refused, ReadFault, NoMemory}
 use Rattle.demo_lines.specs.declared.stage.Stage.{Stage}
 use Rattle.demo_lines.specs.declared.stage.Stage.TheVariants as stages
-use Rattle.demo_lines.specs.Recording.{Reading, start, next, after, events_of, reading_after, event_of, without_map, is_map_whole, is_over, is_refused}
+use Rattle.demo_lines.specs.Known.{Reading, start, without_map, is_map_whole, is_over, is_refused}
+use Rattle.demo_lines.specs.Lines.{is_end}
+use Rattle.demo_lines.specs.Recording.{next, after, events_of, event_of}
+use Rattle.demo_lines.specs.Said.{after_said}
 use Rattle.demo_lines.specs.Readings.{IsReading}
-use Rattle.demo_lines.specs.Bytes.{events_in, fault_in}
+use Rattle.demo_lines.specs.Bytes.{Refusal, refusal, events_in, fault_in}
 
 -- a reader: what it has buffered, what is known of the recording so far, and the stop that it keeps
 pub record DemoReaderView : Type 0 where
@@ -22,14 +28,37 @@ pub record DemoReaderView : Type 0 where
   pub reading : Reading
   pub stop : Option DemoStop
 
--- whole lines were taken off what was ahead, and they gave these events; no line was taken once the recording was over
+-- the last of the lines is an end without a line feed, and nothing is left after it
+pub record EndsWithoutFeed (lines : List (List ℕ)) (text : List ℕ) (later : Option (List ℕ)) : Type 0 where
+  pub front : List (List ℕ)
+  pub last : List ℕ
+  pub lines_are : lines ≡ front ++ last ∷ []
+  pub text_is : text ≡ unlines front ++ last
+  pub is_the_end : is_end last ≡ true
+  pub at_end : IsAtEnd later
+
+-- the text is that of the lines, each with its line feed, or the last without, where it ends both recording and input
+abbrev pub IsTextOf : List (List ℕ) → List ℕ → Option (List ℕ) → Type 0
+IsTextOf lines text later = (text ≡ unlines lines) ⊎ EndsWithoutFeed lines text later
+
+-- lines were taken off what was ahead, and they gave these events; no line was taken once the recording was over
 pub record Reads (old new : Reading) (before later : Option (List ℕ)) (given : List Event) : Type 0 where
   pub lines : List (List ℕ)
+  pub text : List ℕ
   pub each : AllByRecursion HasNoLineFeed lines
-  pub consumed : Consumes before later (unlines lines)
+  pub spelled : IsTextOf lines text later
+  pub consumed : Consumes before later text
   pub reached : new ≡ after old lines
   pub events : events_of old lines ≡ given
   pub going : is_over (after old (all_but_last lines)).stage ≡ false
+
+-- an end without a line feed was taken last, and nothing is left after it
+pub record TakesCutEnd (before later : Option (List ℕ)) : Type 0 where
+  pub lines : List (List ℕ)
+  pub text : List ℕ
+  pub each : AllByRecursion HasNoLineFeed lines
+  pub cut : EndsWithoutFeed lines text later
+  pub consumed : Consumes before later text
 
 -- whole lines and the front of one more were taken, which the recording still goes on to
 pub record ReadsFront (old : Reading) (before later : Option (List ℕ)) (given : List Event) : Type 0 where
@@ -44,20 +73,28 @@ pub record ReadsFront (old : Reading) (before later : Option (List ℕ)) (given 
 
 -- whole lines were taken that gave no event, and that the recording goes on after
 pub record ReadsQuietly (old : Reading) (before later : Option (List ℕ)) : Type 0 where
-  pub reading : Reading
-  pub reads : Reads old reading before later []
-  pub going : is_over reading.stage ≡ false
+  pub lines : List (List ℕ)
+  pub each : AllByRecursion HasNoLineFeed lines
+  pub consumed : Consumes before later (unlines lines)
+  pub events : events_of old lines ≡ []
+  pub going : is_over (after old lines).stage ≡ false
 
--- the line would be added to the map, or begin it: it gives no event, and the recording goes on after it
-pub record IsQuiet (r : Reading) (line : Option Line) : Type 0 where
-  pub event : event_of line ≡ []
-  pub stage : (reading_after r.stage r line).stage ≡ stages.Map
+-- a line that says this would be taken into the map: it gives no event, and the recording goes on after it
+pub record IsQuiet (r : Reading) (said : Result Line LineFault) : Type 0 where
+  pub event : event_of (result_ok said) ≡ []
+  pub stage : (after_said r said).stage ≡ stages.Map
 
 -- the line is refused, and counted
-pub record IsRefusedAt (old new : Reading) (line : List ℕ) (number : ℕ) : Type 0 where
+pub record IsRefusedAt (old new : Reading) (line : List ℕ) (why : Refusal) : Type 0 where
   pub is_next : new ≡ next old line
-  pub counted : number ≡ new.lines
-  pub stage : new.stage ≡ stages.Refused
+  pub fault : LineFault
+  pub stage : new.stage ≡ stages.Refused fault
+  pub counted : why ≡ refusal new.lines fault
+
+-- what the input ended with is refused: an end as a line, and anything else since the input ended
+abbrev pub IsRefusedLast : Reading → Reading → List ℕ → Refusal → Type 0
+IsRefusedLast old new line why =
+    ((is_end line ≡ true) × IsRefusedAt old new line why) ⊎ ((is_end line ≡ false) × (why ≡ refusal (old.lines + 1) faults.NoEnd))
 
 -- an event keeps a map that was whole, and else completes one
 pub record KeepsMap (old new : Reading) : Type 0 where
@@ -69,7 +106,7 @@ pub record IsRefusedLine (r : Reading) (taken : List ℕ) : Type 0 where
   pub line : List ℕ
   pub one_line : HasNoLineFeed line
   pub whole : taken ≡ line ++ 10 ∷ []
-  pub refused : (next r line).stage ≡ stages.Refused
+  pub refused : is_refused (next r line).stage ≡ true
 
 -- what was taken last is the front of a line that is too long, one byte more than the longest line has
 pub record IsLongFront (taken : List ℕ) : Type 0 where
@@ -94,10 +131,10 @@ pub record Refuses (old : Reading) (before later : Option (List ℕ)) (number : 
   pub counted : number ≡ (after old lines).lines + 1
   pub refused : ((IsRefusedLine (after old lines) last ⊎ IsLongFront last) × P) ⊎ (IsLastPart last later × Q)
 
--- what is ahead gives no more events, and has its fault at this line
-pub record EndsAt (r : Reading) (line : ℕ) (bytes : List ℕ) : Type 0 where
+-- what is ahead gives no more events, and this line of it is the first faulty one, for this fault
+pub record EndsAt (r : Reading) (why : Refusal) (bytes : List ℕ) : Type 0 where
   pub events : events_in r bytes ≡ []
-  pub fault : fault_in r bytes ≡ Some line
+  pub fault : fault_in r bytes ≡ Some why
 
 -- what holds of each reader: it keeps a stop where a line was refused
 pub record IsDemoReader (reading : Reading) (stop : Option DemoStop) : Type 0 where
@@ -117,21 +154,25 @@ pub record IsOpen (demo : DemoReaderView) : Type 0 where
   pub no_stop : demo.stop ≡ None
   pub not_over : is_over demo.reading.stage ≡ false
 
--- P of the line, where the recording was refused
-abbrev pub OnRefused : DemoStop → (ℕ → Type 0) → Type 0
-OnRefused (Refused line) P = P line
+-- the stop of a refusal
+abbrev pub stop_at : Refusal → DemoStop
+stop_at why = Refused why.line why.fault why.rule
+
+-- P of the line and its fault, where the recording was refused
+abbrev pub OnRefused : DemoStop → (Refusal → Type 0) → Type 0
+OnRefused (Refused line fault rule) P = P (record { line = line; fault = fault; rule = rule })
 OnRefused ReadFault P = ⊤
 OnRefused NoMemory P = ⊤
 
 -- P, where the source failed
 abbrev pub OnReadFault : DemoStop → Type 0 → Type 0
-OnReadFault (Refused line) P = ⊤
+OnReadFault (Refused line fault rule) P = ⊤
 OnReadFault ReadFault P = P
 OnReadFault NoMemory P = ⊤
 
 -- P, where memory was refused
 abbrev pub OnNoMemory : DemoStop → Type 0 → Type 0
-OnNoMemory (Refused line) P = ⊤
+OnNoMemory (Refused line fault rule) P = ⊤
 OnNoMemory ReadFault P = ⊤
 OnNoMemory NoMemory P = P
 

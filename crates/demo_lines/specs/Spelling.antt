@@ -1,6 +1,5 @@
 -- The text of a recording: how each line is written, and the lines of a map and of frames in their order.
 use Rattle.std.specs.Prelude.{◌≡◌, ℕ, ◌≤◌, ◌<◌, true, List, [], ◌∷◌, ◌++◌, length, codes, map, flat_map, pos, negsuc, decimal, ⊤}
-use Rattle.std.specs.Fmt.{signed_decimal}
 use Rattle.std.specs.List.{AllByRecursion}
 use Rattle.hex.specs.Hex.{encode_lower}
 use Rattle.edge_io.specs.Lines.{AreBytes}
@@ -8,38 +7,21 @@ use Rattle.edge_io.specs.WholeLines.{unlines}
 use Rattle.arena_geo.specs.declared.vec3.Vec3.{Vec3}
 use Rattle.arena_geo.specs.Bounds.{Bounds, bounds}
 use Rattle.arena_map.specs.declared.map_line.MapLine.{MapLine}
-use Rattle.arena_map.specs.declared.map_line.MapLine.TheVariants.{Arena, Block, Spawn, Item, Teleport, Goal, Lift}
+use Rattle.arena_map.specs.declared.map_line.MapLine.TheVariants.{Arena, Block, Spawn}
 use Rattle.arena_map.specs.Maps.{MapView, IsMap, is_ready, map_of}
 use Rattle.arena_map.specs.MapLines.{IsWithinLimits}
+use Rattle.arena_map.specs.Spelling.{map_line_text}
+use Rattle.edge_io.specs.Fields.{field_text}
 use Rattle.client_ports.specs.declared.arrival.Arrival.{Arrival}
 use Rattle.demo_lines.specs.declared.line.Line.{Line}
 use Rattle.demo_lines.specs.declared.line.Line.TheVariants.{OfMap, Frame, From, End}
 use Rattle.demo_lines.specs.declared.event.Event.{Event}
 use Rattle.demo_lines.specs.declared.event.Event.TheVariants as events
 
--- a field after its space
-abbrev pub field_text : List ℕ → List ℕ
-field_text field = codes " " ++ field
-
--- a point: its three coordinates in decimal, with a minus in front of each that is below 0
-abbrev pub point_text : Vec3 → List ℕ
-point_text p =
-    field_text (signed_decimal p.x) ++ field_text (signed_decimal p.y) ++ field_text (signed_decimal p.z)
-
 -- a packet: two hexadecimal digits a byte in lower case, or a dash where there is none
 abbrev pub packet_text : List ℕ → List ℕ
 packet_text [] = codes "-"
 packet_text (b ∷ bytes) = encode_lower (b ∷ bytes)
-
--- a line of the map: its word and its fields; the lines that aren't in force yet have no text
-abbrev pub map_line_text : MapLine → List ℕ
-map_line_text (Arena lo hi) = codes "arena" ++ point_text lo ++ point_text hi
-map_line_text (Block lo hi) = codes "block" ++ point_text lo ++ point_text hi
-map_line_text (Spawn at) = codes "spawn" ++ point_text at
-map_line_text (Item at kind delay) = []
-map_line_text (Teleport lo hi dest) = []
-map_line_text (Goal lo hi) = []
-map_line_text (Lift lo hi rise speed) = []
 
 -- a line: its word and its fields
 abbrev pub line_text : Line → List ℕ
@@ -54,19 +36,9 @@ pub record IsArrival (a : Arrival) : Type 0 where
   pub bytes : AreBytes a.bytes
   pub fits : length (line_text (From a)) ≤ 512
 
--- a line of the map that can be written: it is in force, and its numbers are within their limits
-abbrev pub IsMapLine : MapLine → Type 0
-IsMapLine (Arena lo hi) = IsWithinLimits (Arena lo hi)
-IsMapLine (Block lo hi) = IsWithinLimits (Block lo hi)
-IsMapLine (Spawn at) = IsWithinLimits (Spawn at)
-IsMapLine (Item at kind delay) = ⊥
-IsMapLine (Teleport lo hi dest) = ⊥
-IsMapLine (Goal lo hi) = ⊥
-IsMapLine (Lift lo hi rise speed) = ⊥
-
 -- a line that can be written: its numbers are within their limits, or its packet has room
 abbrev pub IsLine : Line → Type 0
-IsLine (OfMap line) = IsMapLine line
+IsLine (OfMap line) = IsWithinLimits line
 IsLine Frame = ⊤
 IsLine (From a) = IsArrival a
 IsLine End = ⊤
@@ -83,9 +55,9 @@ block_line b = OfMap (Block b.lo b.hi)
 abbrev pub spawn_line : Vec3 → Line
 spawn_line at = OfMap (Spawn at)
 
--- the lines of a map: the arena, the spawns and the blocks, each in their order
+-- the lines of a map: the arena, the spawns, the blocks and the things, each in their order
 abbrev pub map_lines : MapView → List Line
-map_lines m = arena_line m.bounds ∷ map spawn_line m.spawns ++ map block_line m.blocks
+map_lines m = arena_line m.bounds ∷ map spawn_line m.spawns ++ (map block_line m.blocks ++ map OfMap m.things)
 
 -- the lines of a frame: the line that opens it, and its packets
 abbrev pub frame_lines : List Arrival → List Line
@@ -127,6 +99,7 @@ small_map = map_of
     (record { x = pos 16384; y = pos 32768; z = pos 32768 }))
     (bounds (record { x = pos 1; y = pos 20; z = pos 300 }) (record { x = pos 4000; y = pos 30000; z = pos 32768 }) ∷ [])
     (record { x = pos 0; y = pos 4096; z = pos 6144 } ∷ record { x = pos 12288; y = pos 4096; z = pos 6144 } ∷ [])
+    []
 
 -- its two frames, of two packets and of none
 abbrev pub small_frames : List (List Arrival)

@@ -1,13 +1,18 @@
-ghost use Rattle.std.specs.Prelude.{◌≡◌, ◌+◌, ◌^◌, ◌≤◌, ◌<◌, true, false, [], ◌∷◌, length, option_to_list, Ok, Err, None, IfOk, IfErr, OnOk, OnErr, IfSome};
+ghost use Rattle.std.specs.Prelude.{◌≡◌, ◌⊎◌, ◌+◌, ◌^◌, ◌≤◌, ◌<◌, true, false, [], ◌∷◌, length, option_to_list, Ok, Err, None, IfOk, IfErr, OnOk, OnErr, IfSome};
 ghost use Rattle.edge_io.specs.Counts.{HasRisen};
 ghost use Rattle.edge_io.specs.Lines.{ahead, HasNotReadAhead};
-ghost use Rattle.demo_lines.specs.Recording.{next, events_of_line, line_in, lines_left, is_over, is_refused};
+ghost use Rattle.demo_lines.specs.Known.{is_over, is_refused};
+ghost use Rattle.demo_lines.specs.Lines.{is_end};
+ghost use Rattle.demo_lines.specs.Recording.{next, events_of_line, lines_left};
+ghost use Rattle.demo_lines.specs.Said.{line_said};
+ghost use Rattle.demo_lines.specs.Bytes.{refusal};
 ghost use Rattle.demo_lines.specs.Readings.{IsReading};
-ghost use Rattle.demo_lines.specs.Reads.{Reads, ReadsFront, ReadsQuietly, Refuses, EndsAt, IsQuiet, IsRefusedAt, KeepsMap, OnRefused, OnReadFault, OnNoMemory, stage_after};
+ghost use Rattle.demo_lines.specs.Reads.{Reads, ReadsFront, ReadsQuietly, TakesCutEnd, stop_at, Refuses, EndsAt, IsQuiet, IsRefusedAt, IsRefusedLast, KeepsMap, OnRefused, OnReadFault, OnNoMemory, stage_after};
 
 use crate::demo_stop::DemoStop;
 use crate::event::Event;
-use crate::line::line_at;
+use crate::line::{is_end, line_at};
+use crate::line_fault::LineFault;
 use crate::reading::{Reading, event_of};
 use crate::stage::Stage;
 use arena_map::ArenaMap;
@@ -35,6 +40,17 @@ impl Model for DemoReader {
     ghost invariant = { λ d. IsDemoReader d.reading d.stop };
 }
 
+/// The stop at this line, for this fault.
+fn refused(line: u64, why: LineFault) -> DemoStop
+    ensures { result ≡ stop_at (refusal line why) }
+{
+    DemoStop::Refused {
+        line,
+        fault: why.number(),
+        rule: why.rule(),
+    }
+}
+
 /// Takes one more line, and answers its event.
 fn take_line(alloc: Global, reading: &mut Reading, line: &[u8]) -> Result<Option<Event>, DemoStop>
     requires reading { IsReading reading.old }
@@ -45,28 +61,48 @@ fn take_line(alloc: Global, reading: &mut Reading, line: &[u8]) -> Result<Option
     ensures goes_on { OnOk result (is_refused reading.new.stage ≡ false) }
     ensures refused { IfErr result (λ stop. OnRefused stop (IsRefusedAt reading.old reading.new line.now)) }
     ensures memory { IfErr result (λ stop. OnNoMemory stop
-        ((reading.new ≡ reading.old) × IsQuiet reading.old (line_in line.now))) }
+        ((reading.new ≡ reading.old) × IsQuiet reading.old (line_said reading.old.stage line.now))) }
     ensures no_fault { IfErr result (λ stop. OnReadFault stop ⊥) }
     ensures holds { IsReading reading.new }
     ensures fewer { OnOk result (lines_left reading.new < lines_left reading.old) }
 {
-    let line = line_at(line);
-    reading.take(alloc, &line)?;
-    if reading.stage() == Stage::Refused {
-        return Err(DemoStop::Refused {
-            line: reading.lines(),
-        });
+    let said = line_at(reading.stage(), line);
+    reading.take(alloc, &said)?;
+    if let Stage::Refused(why) = reading.stage() {
+        return Err(refused(reading.lines(), why));
     }
-    Ok(event_of(line))
+    Ok(event_of(said.ok()))
 }
 
 /// The line after those that were read is refused.
-fn refused_after(reading: &Reading) -> DemoStop
+fn refused_after(reading: &Reading, why: LineFault) -> DemoStop
     requires { reading.now.lines < 2 ^ 63 }
-    ensures { result ≡ DemoStop.Refused (reading.now.lines + 1) }
+    ensures { result ≡ stop_at (refusal (reading.now.lines + 1) why) }
 {
-    DemoStop::Refused {
-        line: reading.lines() + 1,
+    refused(reading.lines() + 1, why)
+}
+
+/// Takes what the input ended with and no line feed ends: a line where it is `end`.
+fn take_last(alloc: Global, reading: &mut Reading, line: &[u8]) -> Result<Event, DemoStop>
+    requires reading { IsReading reading.old }
+    requires open { is_over reading.old.stage ≡ false }
+    requires fits { length line.now ≤ LONGEST }
+    ensures end { OnOk result (is_end line.now ≡ true) }
+    ensures next { OnOk result (reading.new ≡ next reading.old line.now) }
+    ensures event { IfOk result (λ e. events_of_line reading.old line.now ≡ e ∷ []) }
+    ensures goes_on { OnOk result (is_refused reading.new.stage ≡ false) }
+    ensures refused { IfErr result (λ stop. OnRefused stop (IsRefusedLast reading.old reading.new line.now)) }
+    ensures no_memory { IfErr result (λ stop. OnNoMemory stop ⊥) }
+    ensures no_fault { IfErr result (λ stop. OnReadFault stop ⊥) }
+    ensures holds { IsReading reading.new }
+    ensures fewer { OnOk result (lines_left reading.new < lines_left reading.old) }
+{
+    if !is_end(line) {
+        return Err(refused_after(reading, LineFault::NoEnd));
+    }
+    match take_line(alloc, reading, line)? {
+        Some(event) => Ok(event),
+        None => unreachable!(),
     }
 }
 
@@ -86,14 +122,15 @@ fn next_event<S: Source>(
         (ahead lines.old (S.left source.old)) (ahead lines.new (S.left source.new)) (e ∷ [])) }
     ensures stage { IfOk result (λ e. reading.new.stage ≡ stage_after e) }
     ensures fewer { OnOk result (lines_left reading.new < lines_left reading.old) }
-    ensures needed { OnOk result (HasNotReadAhead source.old source.new (S.last source.new) lines.old lines.new) }
-    ensures before_end { OnOk result (S.ended source.new ≡ S.ended source.old) }
+    ensures needed { OnOk result
+        ((HasNotReadAhead source.old source.new (S.last source.new) lines.old lines.new × (S.ended source.new ≡ S.ended source.old))
+        ⊎ (TakesCutEnd (ahead lines.old (S.left source.old)) (ahead lines.new (S.left source.new)) × (S.ended source.new ≡ true))) }
 
     // A refusal.
-    ensures refused { IfErr result (λ stop. OnRefused stop (λ n.
-        IfSome (ahead lines.old (S.left source.old)) (EndsAt reading.old n))) }
-    ensures taken { IfErr result (λ stop. OnRefused stop (λ n. Refuses reading.old
-        (ahead lines.old (S.left source.old)) (ahead lines.new (S.left source.new)) n
+    ensures refused { IfErr result (λ stop. OnRefused stop (λ why.
+        IfSome (ahead lines.old (S.left source.old)) (EndsAt reading.old why))) }
+    ensures taken { IfErr result (λ stop. OnRefused stop (λ why. Refuses reading.old
+        (ahead lines.old (S.left source.old)) (ahead lines.new (S.left source.new)) why.line
         (HasNotReadAhead source.old source.new (S.last source.new) lines.old lines.new
         × (S.ended source.new ≡ S.ended source.old))
         (S.ended source.new ≡ true))) }
@@ -125,20 +162,21 @@ fn next_event<S: Source>(
                     return Ok(event);
                 }
             }
-            Ok(NextLine::Long) => return Err(refused_after(reading)),
-            Ok(NextLine::Ended) => return Err(refused_after(reading)),
+            Ok(NextLine::Long) => return Err(refused_after(reading, LineFault::Long)),
+            Ok(NextLine::Ended) => return take_last(alloc, reading, line.as_slice()),
             Err(_) => return Err(DemoStop::ReadFault),
         }
     }
 }
 
 impl DemoReader {
-    ghost use Rattle.std.specs.Prelude.{◌≡◌, ◌≤◌, ◌<◌, true, [], ◌∷◌, Ok, Err, None, Some, IfOk, IfErr, OnOk, OnErr, IfSome};
+    ghost use Rattle.std.specs.Prelude.{◌≡◌, ◌⊎◌, ◌≤◌, ◌<◌, true, [], ◌∷◌, Ok, Err, None, Some, IfOk, IfErr, OnOk, OnErr, IfSome};
     ghost use Rattle.edge_io.specs.Counts.{HasRisen};
     ghost use Rattle.edge_io.specs.Lines.{ahead, HasNotReadAhead};
-    ghost use Rattle.demo_lines.specs.Recording.{lines_left, is_map_whole};
+    ghost use Rattle.demo_lines.specs.Known.{is_map_whole};
+    ghost use Rattle.demo_lines.specs.Recording.{lines_left};
     ghost use Rattle.demo_lines.specs.Readings.{IsReading};
-    ghost use Rattle.demo_lines.specs.Reads.{fresh_reader, map_taken, IsOpen, Reads, ReadsFront, ReadsQuietly, Refuses, EndsAt, KeepsMap, OnRefused, OnReadFault, OnNoMemory, stage_after};
+    ghost use Rattle.demo_lines.specs.Reads.{fresh_reader, map_taken, IsOpen, Reads, ReadsFront, ReadsQuietly, TakesCutEnd, stop_at, Refuses, EndsAt, KeepsMap, OnRefused, OnReadFault, OnNoMemory, stage_after};
 
     /// A reader that has read nothing.
     pub fn new(alloc: Global) -> Result<DemoReader, AllocError>
@@ -176,15 +214,15 @@ impl DemoReader {
             (ahead self.old.pending (S.left source.old)) (ahead self.new.pending (S.left source.new)) (e ∷ [])) }
         ensures stage { IfOk result (λ e. self.new.reading.stage ≡ stage_after e) }
         ensures fewer { IsOpen self.old → OnOk result (lines_left self.new.reading < lines_left self.old.reading) }
-        ensures needed { OnOk result
-            (HasNotReadAhead source.old source.new (S.last source.new) self.old.pending self.new.pending) }
-        ensures before_end { OnOk result (S.ended source.new ≡ S.ended source.old) }
+        ensures needed { IsOpen self.old → OnOk result
+            ((HasNotReadAhead source.old source.new (S.last source.new) self.old.pending self.new.pending × (S.ended source.new ≡ S.ended source.old))
+            ⊎ (TakesCutEnd (ahead self.old.pending (S.left source.old)) (ahead self.new.pending (S.left source.new)) × (S.ended source.new ≡ true))) }
 
         // A refusal.
-        ensures refused { IsOpen self.old → IfErr result (λ stop. OnRefused stop (λ n.
-            IfSome (ahead self.old.pending (S.left source.old)) (EndsAt self.old.reading n))) }
-        ensures taken { IsOpen self.old → IfErr result (λ stop. OnRefused stop (λ n. Refuses self.old.reading
-            (ahead self.old.pending (S.left source.old)) (ahead self.new.pending (S.left source.new)) n
+        ensures refused { IsOpen self.old → IfErr result (λ stop. OnRefused stop (λ why.
+            IfSome (ahead self.old.pending (S.left source.old)) (EndsAt self.old.reading why))) }
+        ensures taken { IsOpen self.old → IfErr result (λ stop. OnRefused stop (λ why. Refuses self.old.reading
+            (ahead self.old.pending (S.left source.old)) (ahead self.new.pending (S.left source.new)) why.line
             (HasNotReadAhead source.old source.new (S.last source.new) self.old.pending self.new.pending
             × (S.ended source.new ≡ S.ended source.old))
             (S.ended source.new ≡ true))) }

@@ -10,7 +10,8 @@ pub fn packet_reads_back()
     ensures { PacketReadsBack }
 {}
 
-/// The rest of the input after the line `end` gives no event and is no fault.
+/// The rest of the input after the line `end` gives no event and is no fault: after its line feed, and, where it has none,
+/// after a line feed that follows.
 pub fn nothing_after_the_end()
     ensures { NothingAfterTheEnd }
 {}
@@ -25,7 +26,7 @@ pub fn nothing_needs_the_map()
     ensures { NothingNeedsTheMap }
 {}
 
-/// A line is read back from its text exactly where it can be written: its coordinates are near enough, or its packet
+/// A line is read back from its text exactly where it can be written: its numbers are within their limits, or its packet
 /// has room.
 pub fn lines_read_back()
     ensures { LinesReadBack }
@@ -48,7 +49,7 @@ pub fn small_recording_can_be_written()
     ensures { SmallRecording }
 {}
 
-/// A recording has at most 51,301,090 lines up to its end or its refused line, and some have so many.
+/// A recording has at most 51,301,282 lines up to its end or its refused line.
 pub fn lines_are_bounded()
     ensures { LinesAreBounded }
 {}

@@ -9,19 +9,21 @@ pub use laws::{
     nothing_after_the_end, nothing_needs_the_map, packet_reads_back, packets_have_room,
     recordings_read_back, small_recording_can_be_written,
 };
-pub use line::{FARTHEST, Line};
+pub use line::Line;
+pub use line_fault::LineFault;
 pub use reading::{MOST_ARRIVALS, MOST_FRAMES};
 pub use stage::Stage;
+pub use word::Word;
 
 mod demo_reader;
 mod demo_stop;
 mod event;
-mod fields;
 mod laws;
 mod line;
-mod number;
+mod line_fault;
 mod packet;
 mod reading;
 mod stage;
 #[cfg(test)]
 mod tests;
+mod word;

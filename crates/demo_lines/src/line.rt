@@ -1,19 +1,25 @@
-ghost use Rattle.std.specs.Prelude.{◌≡◌, ◌+◌, ◌≤◌, length, option_map, IfSome, unsigned_abs};
-ghost use Rattle.demo_lines.specs.Lines as lines;
-ghost use Rattle.arena_geo.specs.Vectors.{IsNear};
+ghost use Rattle.std.specs.Prelude.{◌≡◌, ◌+◌, ◌≤◌, Some, Err, Ok, false, true, length, option_map, IfOk, IfSome, ok_or};
+ghost use Rattle.edge_io.specs.Fields as fields;
 ghost use Rattle.edge_io.specs.Numbers.{natural_up_to};
-ghost use Rattle.demo_lines.specs.Readings.{IsPlaced};
+ghost use Rattle.arena_map.specs.MapLines.{IsWithinLimits};
+ghost use Rattle.arena_map.specs.Words.{map_word};
+ghost use Rattle.arena_map.specs.Reading.{is_word_of_play};
+ghost use Rattle.demo_lines.specs.Lines as lines;
+ghost use Rattle.demo_lines.specs.Words as words;
+ghost use Rattle.demo_lines.specs.Words.{word_in};
+ghost use Rattle.demo_lines.specs.Said as said;
+ghost use Rattle.demo_lines.specs.Readings.{IsPlaced, IsOfMap};
 
-use crate::fields::{cut, field_at};
-use crate::number::{integer, natural};
+use crate::line_fault::LineFault;
 use crate::packet::packet_of;
-use arena_geo::Vec3;
-use arena_map::MapLine;
+use crate::stage::Stage;
+use crate::word::Word;
+use arena_map::{MapLine, MapWord, read_map_line};
 use client_ports::Arrival;
-use edge_io::LONGEST;
+use edge_io::{LONGEST, cut, field_at, is_integer, natural};
 
-/// The greatest distance of a coordinate on a line from 0, in sub-units.
-pub const FARTHEST: u32 = 1_048_576;
+/// The number that [`read_map_line`] answers where the fields of a line have no form.
+const NO_FORM: u8 = 4;
 
 /// What one line of a recording says.
 #[derive(Drop)]
@@ -28,104 +34,120 @@ pub enum Line {
     End,
 }
 
-/// A coordinate, and the rest.
-fn coordinate_at(rest: &[u8]) -> Option<(i32, &[u8])>
-    ensures value { option_map (λ c. (c.0, c.1.now)) result ≡ lines.coordinate_at rest.now }
-    ensures bound { IfSome result (λ c. unsigned_abs c.0 ≤ FARTHEST) }
+/// The text of a line: all of it, but for a carriage return that is its last byte.
+fn text_of(raw: &[u8]) -> &[u8]
+    ensures value { result.now ≡ lines.text_of raw.now }
+    ensures short { length result.now ≤ length raw.now }
 {
-    let (field, rest) = field_at(rest)?;
-    Some((integer(field, FARTHEST)?, rest))
+    raw.strip_suffix(b"\r".as_slice()).unwrap_or(raw)
 }
 
-/// Three coordinates, and the rest.
-fn point_at(rest: &[u8]) -> Option<(Vec3, &[u8])>
-    ensures value { option_map (λ p. (p.0, p.1.now)) result ≡ lines.point_at rest.now }
-    ensures bound { IfSome result (λ p. IsNear FARTHEST p.0) }
+/// Whether the line says that the recording ends.
+pub fn is_end(raw: &[u8]) -> bool
+    ensures { result ≡ lines.is_end raw.now }
 {
-    let (x, rest) = coordinate_at(rest)?;
-    let (y, rest) = coordinate_at(rest)?;
-    let (z, rest) = coordinate_at(rest)?;
-    Some((Vec3 { x, y, z }, rest))
+    text_of(raw) == b"end".as_slice()
 }
 
-/// The line, where nothing more is on it.
-fn alone(line: Line, rest: &[u8]) -> Option<Line>
-    ensures value { result ≡ lines.alone line rest.now }
-    ensures placed { IsPlaced (Some line) → IsPlaced result }
+/// Whether each byte is one of ASCII that is printed, or a space.
+fn are_printable(text: &[u8]) -> bool
+    ensures { result ≡ lines.are_printable text.now }
 {
-    if rest.is_empty() { Some(line) } else { None }
+    text.iter().all(|b| 32 <= *b && *b <= 126)
 }
 
-/// The corners of the arena.
-fn arena_of(rest: &[u8]) -> Option<Line>
-    ensures value { result ≡ lines.arena_of rest.now }
-    ensures placed { IsPlaced result }
+/// The answer of [`read_map_line`], where the line is allowed here or not: that comes after its form and before its limits.
+fn in_order(read: Result<MapLine, u8>, is_here: bool) -> Result<MapLine, LineFault>
+    requires { IfOk read IsWithinLimits }
+    ensures value { result ≡ said.in_order is_here read }
+    ensures limits { IfOk result IsWithinLimits }
 {
-    let (lo, rest) = point_at(rest)?;
-    let (hi, rest) = point_at(rest)?;
-    alone(Line::OfMap(MapLine::Arena { lo, hi }), rest)
+    match read {
+        Err(NO_FORM) => Err(LineFault::Form),
+        _ if !is_here => Err(LineFault::Place),
+        Err(_) => Err(LineFault::Limit),
+        Ok(line) => Ok(line),
+    }
 }
 
-/// Where players join.
-fn spawn_of(rest: &[u8]) -> Option<Line>
-    ensures value { result ≡ lines.spawn_of rest.now }
-    ensures placed { IsPlaced result }
+/// The line of the map that begins with this word.
+fn map_line_of(stage: Stage, word: MapWord, text: &[u8]) -> Result<MapLine, LineFault>
+    requires word { map_word (fields.cut text.now).0 ≡ Some word }
+    requires no_play { is_word_of_play (fields.cut text.now).0 ≡ false }
+    ensures value { result ≡ said.map_line_said stage word (fields.cut text.now).1 }
+    ensures limits { IfOk result IsWithinLimits }
+    ensures here { IfOk result (IsOfMap stage) }
 {
-    let (at, rest) = point_at(rest)?;
-    alone(Line::OfMap(MapLine::Spawn { at }), rest)
+    in_order(read_map_line(text), Word::OfMap(word).is_allowed(stage))
 }
 
-/// The corners of a block.
-fn block_of(rest: &[u8]) -> Option<Line>
-    ensures value { result ≡ lines.block_of rest.now }
-    ensures placed { IsPlaced result }
+/// The line of a word alone.
+fn bare(stage: Stage, word: Word, line: Line, rest: &[u8]) -> Result<Line, LineFault>
+    ensures { result ≡ said.bare_said stage word line rest.now }
 {
-    let (lo, rest) = point_at(rest)?;
-    let (hi, rest) = point_at(rest)?;
-    alone(Line::OfMap(MapLine::Block { lo, hi }), rest)
+    if !rest.is_empty() {
+        return Err(LineFault::Form);
+    }
+    if !word.is_allowed(stage) {
+        return Err(LineFault::Place);
+    }
+    Ok(line)
+}
+
+/// The texts of a port and of a packet, where the first is a number of any size and nothing more is on the line.
+fn from_fields(rest: &[u8]) -> Option<(&[u8], &[u8])>
+    ensures value { option_map (λ f. (f.0.now, f.1.now)) result ≡ words.from_fields rest.now }
+    ensures short { IfSome result (λ f. length f.1.now + 3 ≤ length rest.now) }
+{
+    let (port, rest) = field_at(rest)?;
+    let (packet, rest) = field_at(rest)?;
+    if is_integer(port) && rest.is_empty() {
+        Some((port, packet))
+    } else {
+        None
+    }
 }
 
 /// A port is 0 to 65,535.
-fn port_of(field: &[u8]) -> Option<u16>
-    ensures { result ≡ natural_up_to u16.MAX field.now }
+fn port_of(text: &[u8]) -> Option<u16>
+    ensures { result ≡ natural_up_to u16.MAX text.now }
 {
-    Some(natural(field, u32::from(u16::MAX))? as u16)
+    Some(natural(text, u32::from(u16::MAX))? as u16)
 }
 
-/// A packet: its port and its bytes.
-fn from_of(rest: &[u8]) -> Option<Line>
+/// A packet with its port.
+fn from_of(stage: Stage, rest: &[u8]) -> Result<Line, LineFault>
     requires { length rest.now + 4 ≤ LONGEST }
-    ensures value { result ≡ lines.from_of rest.now }
-    ensures placed { IsPlaced result }
+    ensures value { result ≡ said.from_said stage (words.from_fields rest.now) }
+    ensures placed { IfOk result (IsPlaced stage) }
 {
-    let (port, rest) = field_at(rest)?;
-    let port = port_of(port)?;
-    let (text, rest) = field_at(rest)?;
-    let bytes = packet_of(text)?;
-    alone(Line::From(Arrival { port, bytes }), rest)
+    let Some((port, packet)) = from_fields(rest) else {
+        return Err(LineFault::Form);
+    };
+    if !Word::From.is_allowed(stage) {
+        return Err(LineFault::Place);
+    }
+    let port = port_of(port).ok_or(LineFault::Limit)?;
+    let bytes = packet_of(packet).ok_or(LineFault::Packet)?;
+    Ok(Line::From(Arrival { port, bytes }))
 }
 
-/// What a line of at most [`LONGEST`] bytes says, without its line feed. `None` exactly where it is no line of a
-/// recording.
-pub fn line_at(line: &[u8]) -> Option<Line>
-    requires { length line.now ≤ LONGEST }
-    ensures value { result ≡ lines.line_at line.now }
-    ensures placed { IsPlaced result }
+/// What a line of at most [`LONGEST`] bytes says at this stage, without its line feed, or the first of its faults that
+/// neither the map nor a count decides.
+pub fn line_at(stage: Stage, raw: &[u8]) -> Result<Line, LineFault>
+    requires { length raw.now ≤ LONGEST }
+    ensures value { result ≡ said.line_said stage raw.now }
+    ensures placed { IfOk result (IsPlaced stage) }
 {
-    let (word, rest) = cut(line);
-    if word == b"arena".as_slice() {
-        arena_of(rest)
-    } else if word == b"spawn".as_slice() {
-        spawn_of(rest)
-    } else if word == b"block".as_slice() {
-        block_of(rest)
-    } else if word == b"frame".as_slice() {
-        alone(Line::Frame, rest)
-    } else if word == b"from".as_slice() {
-        from_of(rest)
-    } else if word == b"end".as_slice() {
-        alone(Line::End, rest)
-    } else {
-        None
+    let text = text_of(raw);
+    if !are_printable(text) {
+        return Err(LineFault::Byte);
+    }
+    let (word, rest) = cut(text);
+    match Word::read(word).ok_or(LineFault::Word)? {
+        Word::OfMap(word) => Ok(Line::OfMap(map_line_of(stage, word, text)?)),
+        Word::Frame => bare(stage, Word::Frame, Line::Frame, rest),
+        Word::From => from_of(stage, rest),
+        Word::End => bare(stage, Word::End, Line::End, rest),
     }
 }

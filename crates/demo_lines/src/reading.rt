@@ -1,15 +1,21 @@
-ghost use Rattle.std.specs.Prelude.{◌≡◌, ◌<◌, ◌^◌, true, false, Some, None, is_some, IfOk, OnOk, OnErr, option_to_list, if◌then◌else◌};
+ghost use Rattle.std.specs.Prelude.{◌≡◌, ◌↔◌, ◌<◌, ◌^◌, true, false, Some, None, Ok, Err, IsSome, IfOk, OnOk, OnErr, option_to_list};
+ghost use Rattle.arena_map.specs.declared.map_fault.MapFault.{MapFault};
+ghost use Rattle.arena_map.specs.declared.map_fault.MapRefusal.TheVariants as refusal;
 ghost use Rattle.arena_map.specs.MapLines as map_lines;
+ghost use Rattle.client_ports.specs.declared.arrival.Arrival.{Arrival};
 ghost use Rattle.arena_map.specs.MapLines.{IsWithinLimits};
-ghost use Rattle.arena_map.specs.Rules.{begun_map, with_line};
+ghost use Rattle.demo_lines.specs.Known as known;
+ghost use Rattle.demo_lines.specs.Faults as faults;
 ghost use Rattle.demo_lines.specs.Recording as recording;
-ghost use Rattle.demo_lines.specs.Readings.{IsReading, IsPlaced};
+ghost use Rattle.demo_lines.specs.Said as said;
+ghost use Rattle.demo_lines.specs.Readings.{IsReading, IsPlaced, IsOfMap};
 ghost use Rattle.demo_lines.specs.Reads.{IsQuiet};
 
 use crate::event::Event;
 use crate::line::Line;
+use crate::line_fault::LineFault;
 use crate::stage::Stage;
-use arena_map::{ArenaMap, MapLine, MapRefusal};
+use arena_map::{ArenaMap, MapFault, MapLine, MapRefusal};
 use std::alloc::{AllocError, Global};
 use std::marker::Model;
 
@@ -35,9 +41,9 @@ pub struct Reading {
 }
 
 impl Model for Reading {
-    ghost use Rattle.demo_lines.specs.Recording as recording;
+    ghost use Rattle.demo_lines.specs.Known as known;
 
-    ghost Value = { recording.Reading };
+    ghost Value = { known.Reading };
 
     ghost view = { λ r. record {
       stage = r.stage;
@@ -48,60 +54,32 @@ impl Model for Reading {
     } };
 }
 
-/// Whether the line is the arena's.
-fn is_arena(line: &MapLine) -> bool
-    ensures { result ≡ map_lines.is_arena line.now }
-{
-    matches!(line, MapLine::Arena { .. })
-}
-
-/// Whether the line may be added to a map: it is of a kind in force, and not the arena's.
-fn is_added(line: &MapLine) -> bool
-    ensures { result ≡ map_lines.is_added line.now }
-{
-    matches!(line, MapLine::Block { .. } | MapLine::Spawn { .. })
-}
-
-/// The map that a line begins. `None` exactly where it isn't the arena's or breaks a rule.
-fn begin(alloc: Global, line: &MapLine) -> Result<Option<ArenaMap>, AllocError>
-    requires { IsWithinLimits line.now }
-    ensures map { IfOk result (λ map. map ≡ (if recording.is_first_allowed line.now then begun_map line.now else None)) }
-    ensures there { IfOk result (λ map. is_some map ≡ recording.is_first_allowed line.now) }
-    ensures quiet { OnErr result (recording.is_first_allowed line.now ≡ true) }
-{
-    if !is_arena(line) {
-        return Ok(None);
-    }
-    match ArenaMap::new(alloc, line) {
-        Ok(map) => Ok(Some(map)),
-        Err(MapRefusal::Rule(_)) => Ok(None),
-        Err(MapRefusal::NoMemory) => Err(AllocError),
-    }
-}
-
-/// Adds a line to a map, and answers whether it was added. It isn't where it can't be or breaks a rule; the map is then
-/// unchanged.
-fn add_line(map: &mut ArenaMap, line: &MapLine) -> Result<bool, AllocError>
-    requires { IsWithinLimits line.now }
-    ensures added { IfOk result (λ added. added ≡ recording.is_line_allowed (Some map.old) line.now) }
-    ensures map { IfOk result (λ added. map.new ≡ (if added then with_line map.old line.now else map.old)) }
+/// Adds a line to a map, or begins the map with it where there is none. `Rule` exactly where the line breaks that rule and
+/// none before it. The map is unchanged where the line isn't added.
+fn add_to(map: &mut Option<ArenaMap>, alloc: Global, line: &MapLine) -> Result<(), MapRefusal>
+    requires limits { IsWithinLimits line.now }
+    requires first { map.old ≡ None → map_lines.is_arena line.now ≡ true }
+    requires later { IsSome map.old → map_lines.is_added line.now ≡ true }
+    ensures map { OnOk result (map.new ≡ recording.with_map_line map.old line.now) }
     ensures unchanged { OnErr result (map.new ≡ map.old) }
-    ensures quiet { OnErr result (recording.is_line_allowed (Some map.old) line.now ≡ true) }
+    ensures rule { (fault : MapFault) → (result ≡ Err (refusal.Rule fault)) ↔ (faults.broken_by_line map.old line.now ≡ Some fault) }
 {
-    if !is_added(line) {
-        return Ok(false);
-    }
-    match map.add(line) {
-        Ok(()) => Ok(true),
-        Err(MapRefusal::Rule(_)) => Ok(false),
-        Err(MapRefusal::NoMemory) => Err(AllocError),
+    match map {
+        Some(map) => map.add(line),
+        None => match ArenaMap::new(alloc, line) {
+            Ok(begun) => {
+                *map = Some(begun);
+                Ok(())
+            }
+            Err(refusal) => Err(refusal),
+        },
     }
 }
 
 impl Reading {
     /// Before the first line.
     pub fn new() -> Reading
-        ensures value { result ≡ recording.start }
+        ensures value { result ≡ known.start }
         ensures holds { IsReading result }
     {
         Reading {
@@ -130,9 +108,9 @@ impl Reading {
     /// Gives out the map.
     pub fn take_map(&mut self) -> Option<ArenaMap>
         requires reading { IsReading self.old }
-        requires whole { recording.is_map_whole self.old.stage ≡ true }
+        requires whole { known.is_map_whole self.old.stage ≡ true }
         ensures map { result ≡ self.old.map }
-        ensures rest { self.new ≡ recording.without_map self.old }
+        ensures rest { self.new ≡ known.without_map self.old }
         ensures holds { IsReading self.new }
     {
         self.map.take()
@@ -140,7 +118,7 @@ impl Reading {
 
     /// Whether the map has a spawn.
     fn has_spawn(&self) -> bool
-        ensures { result ≡ recording.has_spawn self.now.map }
+        ensures { result ≡ faults.has_spawn self.now.map }
     {
         self.map.as_ref().is_some_and(|map| map.ready())
     }
@@ -148,146 +126,103 @@ impl Reading {
     /// One more line, after which the recording is at this stage.
     fn go_to(&mut self, stage: Stage)
         requires { self.old.lines < 2 ^ 63 }
-        ensures { self.new ≡ recording.at_stage stage self.old }
+        ensures { self.new ≡ known.at_stage stage self.old }
     {
         self.stage = stage;
         self.lines += 1;
     }
 
-    /// One more line, which opens a frame.
-    fn open_frame(&mut self)
-        requires lines { self.old.lines < 2 ^ 63 }
-        requires frames { self.old.frames < MOST_FRAMES }
-        ensures { self.new ≡ recording.with_frame self.old }
+    /// The fault of a line that opens a frame.
+    fn frame_fault(&self) -> Option<LineFault>
+        ensures { result ≡ said.place_fault self.now Line.Frame }
     {
-        self.frames += 1;
-        self.arrivals = 0;
-        self.go_to(Stage::Playing);
+        if !self.stage.is_map_whole() && !self.has_spawn() {
+            Some(LineFault::Rule(MapFault::NoSpawn))
+        } else if self.frames >= MOST_FRAMES {
+            Some(LineFault::Count)
+        } else {
+            None
+        }
+    }
+
+    /// One more line, which opens a frame.
+    fn take_frame(&mut self)
+        requires { self.old.lines < 2 ^ 63 }
+        ensures { self.new ≡ said.after_said self.old (Ok Line.Frame) }
+    {
+        match self.frame_fault() {
+            Some(why) => self.go_to(Stage::Refused(why)),
+            None => {
+                self.frames += 1;
+                self.arrivals = 0;
+                self.go_to(Stage::Playing);
+            }
+        }
     }
 
     /// One more line, which has a packet.
     fn take_arrival(&mut self)
+        requires { self.old.lines < 2 ^ 63 }
+        ensures { (a : Arrival) → self.new ≡ said.after_said self.old (Ok (Line.From a)) }
+    {
+        if self.arrivals >= MOST_ARRIVALS {
+            self.go_to(Stage::Refused(LineFault::Count));
+        } else {
+            self.arrivals += 1;
+            self.go_to(Stage::Playing);
+        }
+    }
+
+    /// One more line, which is one of the map.
+    fn take_map_line(&mut self, alloc: Global, line: &MapLine) -> Result<(), AllocError>
         requires lines { self.old.lines < 2 ^ 63 }
-        requires arrivals { self.old.arrivals < MOST_ARRIVALS }
-        ensures { self.new ≡ recording.with_arrival self.old }
-    {
-        self.arrivals += 1;
-        self.go_to(Stage::Playing);
-    }
-
-    /// One more line, which begins the map. It is refused where it isn't the arena's or breaks a rule.
-    fn take_first(&mut self, alloc: Global, line: &MapLine) -> Result<(), AllocError>
-        requires reading { IsReading self.old }
-        requires here { self.old.stage ≡ Stage.Start }
         requires limits { IsWithinLimits line.now }
-        ensures next { OnOk result (self.new ≡ recording.after_first self.old line.now) }
+        requires first { self.old.map ≡ None → map_lines.is_arena line.now ≡ true }
+        requires later { IsSome self.old.map → map_lines.is_added line.now ≡ true }
+        ensures next { OnOk result (self.new ≡ said.after_said self.old (Ok (Line.OfMap line.now))) }
         ensures unchanged { OnErr result (self.new ≡ self.old) }
-        ensures quiet { OnErr result (recording.is_first_allowed line.now ≡ true) }
-        ensures holds { IsReading self.new }
-        ensures fewer { OnOk result (recording.lines_left self.new < recording.lines_left self.old) }
+        ensures quiet { OnErr result (faults.broken_by_line self.old.map line.now ≡ None) }
     {
-        match begin(alloc, line)? {
-            Some(map) => {
-                self.map = Some(map);
-                self.go_to(Stage::Map);
-            }
-            None => self.go_to(Stage::Refused),
+        match add_to(&mut self.map, alloc, line) {
+            Ok(()) => self.go_to(Stage::Map),
+            Err(MapRefusal::Rule(rule)) => self.go_to(Stage::Refused(LineFault::Rule(rule))),
+            Err(MapRefusal::NoMemory) => return Err(AllocError),
         }
         Ok(())
     }
 
-    /// One more line, which is added to the map. It is refused where it can't be added or breaks a rule.
-    fn take_map_line(&mut self, line: &MapLine) -> Result<(), AllocError>
+    /// What is known after a line that says this, or has this fault.
+    fn go_on(&mut self, alloc: Global, line: &Result<Line, LineFault>) -> Result<(), AllocError>
         requires reading { IsReading self.old }
-        requires here { self.old.stage ≡ Stage.Map }
-        requires limits { IsWithinLimits line.now }
-        ensures next { OnOk result (self.new ≡ recording.after_map_line self.old line.now) }
+        requires going { known.is_over self.old.stage ≡ false }
+        requires placed { IfOk line.now (IsPlaced self.old.stage) }
+        ensures next { OnOk result (self.new ≡ said.after_said self.old line.now) }
         ensures unchanged { OnErr result (self.new ≡ self.old) }
-        ensures quiet { OnErr result (recording.is_line_allowed self.old.map line.now ≡ true) }
-        ensures holds { IsReading self.new }
-        ensures fewer { OnOk result (recording.lines_left self.new < recording.lines_left self.old) }
+        ensures quiet { OnErr result (IsQuiet self.old line.now) }
     {
-        let is_added = match &mut self.map {
-            Some(map) => add_line(map, line)?,
-            None => false,
-        };
-        self.go_to(if is_added { Stage::Map } else { Stage::Refused });
+        match line {
+            Err(why) => self.go_to(Stage::Refused(*why)),
+            Ok(Line::OfMap(line)) => self.take_map_line(alloc, line)?,
+            Ok(Line::Frame) => self.take_frame(),
+            Ok(Line::From(_)) => self.take_arrival(),
+            Ok(Line::End) => self.go_to(Stage::Ended),
+        }
         Ok(())
     }
 
-    /// The first line: only the arena's is taken.
-    fn at_start(&mut self, alloc: Global, line: &Option<Line>) -> Result<(), AllocError>
+    /// Takes one more line, which says this, or has this fault. Nothing changes where memory is refused, which comes only
+    /// at a line of the map that would be taken.
+    pub fn take(&mut self, alloc: Global, line: &Result<Line, LineFault>) -> Result<(), AllocError>
         requires reading { IsReading self.old }
-        requires here { self.old.stage ≡ Stage.Start }
-        requires placed { IsPlaced line.now }
-        ensures next { OnOk result (self.new ≡ recording.at_start self.old line.now) }
+        requires going { known.is_over self.old.stage ≡ false }
+        requires placed { IfOk line.now (IsPlaced self.old.stage) }
+        ensures next { OnOk result (self.new ≡ said.after_said self.old line.now) }
         ensures unchanged { OnErr result (self.new ≡ self.old) }
         ensures quiet { OnErr result (IsQuiet self.old line.now) }
         ensures holds { IsReading self.new }
         ensures fewer { OnOk result (recording.lines_left self.new < recording.lines_left self.old) }
     {
-        match line {
-            Some(Line::OfMap(line)) => self.take_first(alloc, line)?,
-            _ => self.go_to(Stage::Refused),
-        }
-        Ok(())
-    }
-
-    /// One more line after the arena's: another line of the map, a frame once there is a spawn, or the end.
-    fn at_map(&mut self, line: &Option<Line>) -> Result<(), AllocError>
-        requires reading { IsReading self.old }
-        requires here { self.old.stage ≡ Stage.Map }
-        requires placed { IsPlaced line.now }
-        ensures next { OnOk result (self.new ≡ recording.at_map self.old line.now) }
-        ensures unchanged { OnErr result (self.new ≡ self.old) }
-        ensures quiet { OnErr result (IsQuiet self.old line.now) }
-        ensures holds { IsReading self.new }
-        ensures fewer { OnOk result (recording.lines_left self.new < recording.lines_left self.old) }
-    {
-        match line {
-            Some(Line::OfMap(line)) => self.take_map_line(line)?,
-            Some(Line::Frame) if self.has_spawn() => self.open_frame(),
-            Some(Line::End) => self.go_to(Stage::Ended),
-            _ => self.go_to(Stage::Refused),
-        }
-        Ok(())
-    }
-
-    /// One more line in a frame: the next frame, a packet of this one, or the end.
-    fn at_play(&mut self, line: &Option<Line>)
-        requires reading { IsReading self.old }
-        requires here { self.old.stage ≡ Stage.Playing }
-        ensures next { self.new ≡ recording.at_play self.old line.now }
-        ensures holds { IsReading self.new }
-        ensures fewer { recording.lines_left self.new < recording.lines_left self.old }
-    {
-        match line {
-            Some(Line::Frame) if self.frames < MOST_FRAMES => self.open_frame(),
-            Some(Line::From(_)) if self.arrivals < MOST_ARRIVALS => self.take_arrival(),
-            Some(Line::End) => self.go_to(Stage::Ended),
-            _ => self.go_to(Stage::Refused),
-        }
-    }
-
-    /// Takes one more line, which says this. Nothing changes after the end or a refused line, nor where memory is
-    /// refused, which comes only at a line of the map that would be taken.
-    pub fn take(&mut self, alloc: Global, line: &Option<Line>) -> Result<(), AllocError>
-        requires reading { IsReading self.old }
-        requires placed { IsPlaced line.now }
-        ensures next { OnOk result (self.new ≡ recording.reading_after self.old.stage self.old line.now) }
-        ensures unchanged { OnErr result (self.new ≡ self.old) }
-        ensures quiet { OnErr result (IsQuiet self.old line.now) }
-        ensures holds { IsReading self.new }
-        ensures fewer { recording.is_over self.old.stage ≡ false →
-            OnOk result (recording.lines_left self.new < recording.lines_left self.old) }
-    {
-        match self.stage {
-            Stage::Start => self.at_start(alloc, line)?,
-            Stage::Map => self.at_map(line)?,
-            Stage::Playing => self.at_play(line),
-            Stage::Ended | Stage::Refused => (),
-        }
-        Ok(())
+        self.go_on(alloc, line)
     }
 }
 

@@ -31,8 +31,8 @@ const WIDEST: &[u8] = b"arena -1048576 -1048576 -1048576 1048576 1048576 1048576
 /// A block that touches the arena's low faces.
 const BLOCK: &[u8] = b"block -131072 -131072 0 -131071 0 1\n";
 
-fn refused(line: u64) -> Answer<'static> {
-    Stop(DemoStop::Refused { line })
+fn refused(line: u64, fault: u8, rule: u8) -> Answer<'static> {
+    Stop(DemoStop::Refused { line, fault, rule })
 }
 
 fn is_answer(answer: Result<Event, DemoStop>, want: Answer<'_>) -> bool {
@@ -152,63 +152,96 @@ fn recordings_give_their_events_to_the_end(rt: HostRuntime) -> Result<(), Fail> 
 }
 
 #[test]
-fn the_first_line_is_an_arena(rt: HostRuntime) -> Result<(), Fail> {
-    let bad: [&[u8]; 19] = [
-        b"",
-        b"\n",
-        b"frob\n",
-        b"frame\n",
-        b"spawn 0 0 6144\n",
-        b"end\n",
-        b"arena 1 2\n",
-        b"arena 0 0 0 0 1 1\n",
-        b"arena 0 0 0 32767 32768 32768\nend\n",
-        b"arena 0 0 0 32768 32767 32768\nend\n",
-        b"arena 0 0 0 32768 32768 32767\nend\n",
-        b"arena 32768 32768 32768 0 0 0\nend\n",
-        b"arena -2000000 0 0 1 1 1\n",
-        b"arena -1048577 0 0 32768 32768 32768\nend\n",
-        b"arena -0 0 0 32768 32768 32768\nend\n",
-        b"arena 0 01 0 32768 32769 32768\nend\n",
-        b"arena 0 0 0 +32768 32768 32768\nend\n",
-        b"arena 0  0 0 32768 32768 32768\nend\n",
-        b"arena 0 0 0 32768 32768 32768 \nend\n",
+fn the_first_line_has_its_first_fault(rt: HostRuntime) -> Result<(), Fail> {
+    let rows: [(&[u8], u8, u8); 8] = [
+        (b"frob\n", 3, 0),
+        (b"\n", 3, 0),
+        (b"arena 1 2\n", 4, 0),
+        (b"frame\n", 5, 0),
+        (b"end", 5, 0),
+        (b"arena -2000000 0 0 1 1 1\n", 6, 0),
+        (b"arena 0 0 0 0 1 1\n", 7, 1),
+        (b"", 10, 0),
     ];
-    for rest in bad {
-        expect_recording(&rt, rt.alloc(), &[], rest, &[], refused(1))?;
+    for (rest, fault, rule) in rows {
+        let last = refused(1, fault, rule);
+        expect_recording(&rt, rt.alloc(), &[], rest, &[], last)?;
     }
     Ok(())
 }
 
 #[test]
-fn a_player_at_the_spawn_is_inside_the_arena(rt: HostRuntime) -> Result<(), Fail> {
-    let bad: [&[u8]; 11] = [
-        b"",
-        b"end",
-        b"end\r\n",
-        b"end \n",
-        b"frame\nend\n",
-        b"from 7 0101\n",
-        b"arena 0 0 0 32768 32768 32768\nend\n",
-        b"spawn 0 0 6143\nend\n",
-        b"spawn 0 0 57345\nend\n",
-        b"spawn 126977 0 6144\nend\n",
-        b"spawn 0 -126977 6144\nend\n",
+fn a_line_after_the_arena_has_its_first_fault(rt: HostRuntime) -> Result<(), Fail> {
+    let rows: [(&[u8], u8, u8); 9] = [
+        (b"frame\n", 7, 7),
+        (b"spawn 0 0\t6144\n", 2, 0),
+        (b"arena 0 0 0 1 1 1\n", 5, 0),
+        (b"spawn 0 0 6143\n", 7, 4),
+        (b"spawn 0 0 06144\n", 4, 0),
+        (b"lift 0 0 0 10000 10000 100 70000 10\n", 7, 6),
+        (b"block 0 0 0 0 10 10\n", 7, 2),
+        (b"from 7 -\n", 5, 0),
+        (b"", 10, 0),
     ];
-    for rest in bad {
-        expect_recording(&rt, rt.alloc(), &[ARENA], rest, &[], refused(2))?;
+    for (rest, fault, rule) in rows {
+        let last = refused(2, fault, rule);
+        expect_recording(&rt, rt.alloc(), &[ARENA], rest, &[], last)?;
     }
-    let after_the_spawn: [&[u8]; 6] = [
-        b"frame\r\n",
-        b"frame \n",
-        b" frame\n",
-        b"\n",
-        b"from 7 0101\n",
-        b"spawn 0 0 6143\nend\n",
+    let long = [b'a'; 513];
+    expect_recording(&rt, rt.alloc(), &[ARENA], &long, &[], refused(2, 1, 0))
+}
+
+#[test]
+fn a_packet_has_a_port_and_digits(rt: HostRuntime) -> Result<(), Fail> {
+    let rows: [(&[u8], u8); 8] = [
+        (b"from 7 010\n", 8),
+        (b"from 7 \n", 8),
+        (b"from 65536 -\n", 6),
+        (b"from -7 010\n", 6),
+        (b"from 7\n", 4),
+        (b"from 07 -\n", 4),
+        (b"from 7  -\n", 4),
+        (b"from 7 01", 10),
     ];
-    for rest in after_the_spawn {
-        expect_recording(&rt, rt.alloc(), &[ARENA, SPAWN], rest, &[], refused(3))?;
+    for (rest, fault) in rows {
+        let front = &[ARENA, SPAWN, FRAME];
+        let last = refused(4, fault, 0);
+        expect_recording(&rt, rt.alloc(), front, rest, &[Frame], last)?;
     }
+    Ok(())
+}
+
+#[test]
+fn a_carriage_return_and_an_end_without_a_line_feed_pass(rt: HostRuntime) -> Result<(), Fail> {
+    let lines = [
+        b"arena -131072 -131072 0 131072 131072 65536\r\n".as_slice(),
+        b"spawn 0 0 6144\r\nframe\r\nfrom 7 0101\r\n",
+    ];
+    let want = [Frame, From(7, &[1, 1])];
+    expect_recording(&rt, rt.alloc(), &lines, b"end", &want, End)?;
+    expect_recording(&rt, rt.alloc(), &lines, b"end\r", &want, End)?;
+    expect_recording(
+        &rt,
+        rt.alloc(),
+        &lines,
+        b"end\r\r",
+        &want,
+        refused(5, 10, 0),
+    )
+}
+
+#[test]
+fn a_map_has_things(rt: HostRuntime) -> Result<(), Fail> {
+    let lines = [
+        ARENA,
+        b"item 0 0 6144 gem 30\nteleport 0 0 0 10 10 10 0 0 6144\n",
+        b"goal 0 0 0 10 10 10\nlift 0 0 0 10 10 10 5 1\nend",
+    ];
+    let text = text_of(rt.alloc(), &lines)?;
+    let map = taken_map(&rt, rt.alloc(), text.as_slice())?;
+    assert_eq!(rt; map.entities().len(), 4);
+    assert_eq!(rt; map.delay_of(64), Some(30));
+    assert_eq!(rt; map.dest_of(65), Some(point((0, 0, 6_144))));
     Ok(())
 }
 
@@ -233,43 +266,6 @@ fn blocks_are_before_and_after_the_spawn(rt: HostRuntime) -> Result<(), Fail> {
 }
 
 #[test]
-fn a_block_has_an_inside_in_the_arena(rt: HostRuntime) -> Result<(), Fail> {
-    let bad: [&[u8]; 13] = [
-        b"block 0 0 0 0 10 10\nend\n",
-        b"block 0 0 0 10 0 10\nend\n",
-        b"block 0 0 0 10 10 0\nend\n",
-        b"block 10 0 0 0 10 10\nend\n",
-        b"block -131073 0 0 10 10 10\nend\n",
-        b"block 0 -131073 0 10 10 10\nend\n",
-        b"block 0 0 -1 10 10 10\nend\n",
-        b"block 0 0 0 131073 10 10\nend\n",
-        b"block 0 0 0 10 131073 10\nend\n",
-        b"block 0 0 0 10 10 65537\nend\n",
-        b"block 0 0 0 10 10\nend\n",
-        b"block 0 0 0 10 10 10 \nend\n",
-        b"block 0 0 0 10 10 10 10\nend\n",
-    ];
-    for rest in bad {
-        expect_recording(&rt, rt.alloc(), &[ARENA], rest, &[], refused(2))?;
-    }
-    Ok(())
-}
-
-#[test]
-fn blocks_are_between_the_arena_and_the_first_frame(rt: HostRuntime) -> Result<(), Fail> {
-    let rows: [(&[&[u8]], &[u8], &[Answer<'_>], u64); 4] = [
-        (&[], BLOCK, &[], 1),
-        (&[ARENA, BLOCK], b"frame\nend\n", &[], 3),
-        (&[ARENA, SPAWN, FRAME], BLOCK, &[Frame], 4),
-        (&[WIDEST], b"block 1048575 0 0 1048577 1 1\nend\n", &[], 2),
-    ];
-    for (front, rest, want, line) in rows {
-        expect_recording(&rt, rt.alloc(), front, rest, want, refused(line))?;
-    }
-    Ok(())
-}
-
-#[test]
 fn an_arena_has_at_most_1024_blocks(rt: HostRuntime) -> Result<(), Fail> {
     let mut front = Vec::new(rt.alloc());
     front.push(ARENA)?;
@@ -280,35 +276,7 @@ fn an_arena_has_at_most_1024_blocks(rt: HostRuntime) -> Result<(), Fail> {
     let front = front.as_slice();
     let over: &[u8] = b"block 0 0 0 1 1 1\nend\n";
     expect_recording(&rt, rt.alloc(), front, b"frame\nend\n", &[Frame], End)?;
-    expect_recording(&rt, rt.alloc(), front, over, &[], refused(1027))
-}
-
-#[test]
-fn a_packet_has_a_port_and_digits(rt: HostRuntime) -> Result<(), Fail> {
-    let bad: [&[u8]; 17] = [
-        b"from 7 01",
-        b"from 7 010\n",
-        b"from 7 0g\n",
-        b"from 7 --\n",
-        b"from 7 \n",
-        b"from 7\n",
-        b"from 7  -\n",
-        b"from 7 - \n",
-        b"from  -\n",
-        b"from 65536 -\n",
-        b"from 07 -\n",
-        b"from +7 -\n",
-        b"from -7 -\n",
-        b"from -0 -\n",
-        b"from 0x7 -\n",
-        b"spawn 0 0 6144\n",
-        b"arena 0 0 0 32768 32768 32768\n",
-    ];
-    for rest in bad {
-        let front = &[ARENA, SPAWN, FRAME];
-        expect_recording(&rt, rt.alloc(), front, rest, &[Frame], refused(4))?;
-    }
-    Ok(())
+    expect_recording(&rt, rt.alloc(), front, over, &[], refused(1027, 7, 3))
 }
 
 #[test]
@@ -318,9 +286,16 @@ fn a_line_has_at_most_512_bytes(rt: HostRuntime) -> Result<(), Fail> {
     let most = From(75, &[0xaa; 252]);
     expect_recording(&rt, rt.alloc(), longest, b"end\n", &[Frame, most], End)?;
     let long: &[&[u8]] = &[ARENA, SPAWN, FRAME, b"from 750 ", &digits, b"\n"];
-    expect_recording(&rt, rt.alloc(), long, b"end\n", &[Frame], refused(4))?;
+    expect_recording(&rt, rt.alloc(), long, b"end\n", &[Frame], refused(4, 1, 0))?;
     let number: &[&[u8]] = &[ARENA, SPAWN, FRAME, b"from ", &[b'7'; 400], b" -\n"];
-    expect_recording(&rt, rt.alloc(), number, b"end\n", &[Frame], refused(4))
+    expect_recording(
+        &rt,
+        rt.alloc(),
+        number,
+        b"end\n",
+        &[Frame],
+        refused(4, 6, 0),
+    )
 }
 
 #[test]
@@ -343,7 +318,7 @@ fn a_frame_has_at_most_512_packets(rt: HostRuntime) -> Result<(), Fail> {
         front,
         b"from 7 -\nend\n",
         want,
-        refused(516),
+        refused(516, 9, 0),
     )
 }
 
@@ -376,10 +351,10 @@ fn a_fault_of_the_source_stops_the_reader(rt: HostRuntime) -> Result<(), Fail> {
 fn a_fault_that_comes_later_changes_nothing(rt: HostRuntime) -> Result<(), Fail> {
     // After a refused line, the line `end`, and the end of input.
     let rows: [(&[u8], u64, Answer<'_>); 4] = [
-        (b"frob\n", 49, refused(2)),
+        (b"frob\n", 49, refused(2, 3, 0)),
         (b"end\n", 48, End),
         (b"end\nfrob\n", 48, End),
-        (b"frame", 50, refused(2)),
+        (b"frame", 50, refused(2, 10, 0)),
     ];
     for (rest, call, last) in rows {
         expect_faults(&rt, rt.alloc(), rest, &[call], &[last, last])?;
@@ -420,5 +395,5 @@ fn a_map_has_at_most_64_spawns(rt: HostRuntime) -> Result<(), Fail> {
     }
     let front = front.as_slice();
     expect_recording(&rt, rt.alloc(), front, b"frame\nend\n", &[Frame], End)?;
-    expect_recording(&rt, rt.alloc(), front, SPAWN, &[], refused(66))
+    expect_recording(&rt, rt.alloc(), front, SPAWN, &[], refused(66, 7, 3))
 }

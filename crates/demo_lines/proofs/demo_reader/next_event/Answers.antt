@@ -1,7 +1,7 @@
 use Rattle.std.proofs.Common.{sym, ◌∙◌, ap, option_to_list}
 use Rattle.std.proofs.lemmas.Result.{err_from_is_err_and}
-use Rattle.demo_lines.proofs.Walks.{walk_event, walk_on, walk_refused_at, walk_taken_at, walk_quiet, on_refused, on_no_memory, no_read_fault, at_refused, at_no_memory, whole_after, stage_after-line, goes_on-quiet}
-use Rattle.demo_lines.specs.Recording.{is_map_whole}
+use Rattle.demo_lines.proofs.Walks.{walk_event, walk_on, walk_refused_at, walk_taken_at, walk_quiet, last_event, last_needed, last_refused, last_taken, on_refused, on_no_memory, whole_after, stage_after-line, goes_on-quiet}
+use Rattle.demo_lines.specs.Known.{is_map_whole}
 use Rattle.demo_lines.proofs.MapGiven.{so_far-line, keeps_map}
 use Rattle.demo_lines.proofs.Consuming.{Refuses-long, Refuses-end, refused_by_length, refused_by_end, ReadsFront-drained}
 use Rattle.edge_io.proofs.ReadingAhead.{HasNotReadAhead-trans}
@@ -13,7 +13,7 @@ returns-in_err-event-in-Ok-Whole-clause-refused g c =
     let line = rw (← c.as_slice.ensures.value) at gives in
     let p = err_from_is_err_and c.from_residual.result c.from_residual.ensures.1 in
     rw (p.1, p.2)
-    (on_refused _ _ _ (λ n at. walk_refused_at _ _ _ _ _ _ c.as_slice.result.now n c.loop-reading.invariant.walks line at) c.in_err-event-in-Ok-Whole.ensures.refused)
+    (on_refused _ _ _ (λ why at. walk_refused_at _ _ _ _ _ _ c.as_slice.result.now why c.loop-reading.invariant.walks line at) c.in_err-event-in-Ok-Whole.ensures.refused)
 
 pub returns-in-Some-clause-event : goal.returns-in-Some-clause-event
 returns-in-Some-clause-event g c =
@@ -33,12 +33,6 @@ returns-in-Ok-Long-clause-refused g c =
     let walks = c.loop-reading.invariant.walks in
     rw c.refused_after.ensures (refused_by_length _ c.loop-reading.reading _ _ _ c.next_line.new.line walks.reads gives walks.going)
 
-pub returns-in-Ok-Ended-clause-refused : goal.returns-in-Ok-Ended-clause-refused
-returns-in-Ok-Ended-clause-refused g c =
-    let gives = rw c.in-Ok-Ended.field-0-is at c.in-Ok-Ended.ensures.ended in
-    let walks = c.loop-reading.invariant.walks in
-    rw c.refused_after-in-Ok-Ended.ensures (refused_by_end _ c.loop-reading.reading _ _ _ c.next_line.new.line _ walks.reads gives walks.going)
-
 pub returns-in-Err-clause-read_fault : goal.returns-in-Err-clause-read_fault
 returns-in-Err-clause-read_fault g c =
     let walks = c.loop-reading.invariant.walks in
@@ -54,7 +48,7 @@ returns-in_err-event-in-Ok-Whole-clause-taken g c =
     let p = err_from_is_err_and c.from_residual.result c.from_residual.ensures.1 in
     rw (p.1, p.2)
     (on_refused _ _ _
-    (λ n at. walk_taken_at _ _ _ _ _ _ c.as_slice.result.now n _ _ inv.walks line at
+    (λ why at. walk_taken_at _ _ _ _ _ _ c.as_slice.result.now why _ _ inv.walks line at
     (HasNotReadAhead-trans g.S.Source.last _ _ _ _ _ _ inv.needed needed, before_end ∙ inv.before_end))
     c.in_err-event-in-Ok-Whole.ensures.refused)
 
@@ -95,14 +89,6 @@ returns-in-Ok-Long-clause-taken g c =
     (Refuses-long _ c.loop-reading.reading _ _ _ c.next_line.new.line _ _ inv.walks.reads inv.walks.going gives
     (HasNotReadAhead-trans g.S.Source.last _ _ _ _ _ _ inv.needed needed, before_end ∙ inv.before_end))
 
-pub returns-in-Ok-Ended-clause-taken : goal.returns-in-Ok-Ended-clause-taken
-returns-in-Ok-Ended-clause-taken g c =
-    let inv = c.loop-reading.invariant in
-    let gives = rw c.in-Ok-Ended.field-0-is at c.in-Ok-Ended.ensures.ended in
-    let at_end = rw c.in-Ok-Ended.field-0-is at c.in-Ok-Ended.ensures.at_end in
-    rw c.refused_after-in-Ok-Ended.ensures
-    (Refuses-end _ c.loop-reading.reading _ _ _ c.next_line.new.line _ _ _ inv.walks.reads inv.walks.going gives at_end)
-
 pub returns-in-Some-clause-map : goal.returns-in-Some-clause-map
 returns-in-Some-clause-map g c =
     let inv = c.loop-reading.invariant in
@@ -112,3 +98,35 @@ returns-in-Some-clause-map g c =
     (so_far-line _ c.loop-reading.reading c.take_line.new.reading c.as_slice.result.now inv.map inv.walks.holds c.in_ok-event-in-Ok-Whole.ensures.next
     c.in_ok-event-in-Ok-Whole.ensures.goes_on)
     (ap is_map_whole stage ∙ whole_after c.in-Some.event)
+
+-- ---- what the input ended with
+
+pub returns-in-Ok-Ended-clause-event : goal.returns-in-Ok-Ended-clause-event
+returns-in-Ok-Ended-clause-event g c =
+    let gives = rw c.in-Ok-Ended.field-0-is at c.in-Ok-Ended.ensures.ended in
+    let last = rw (← c.as_slice-in-Ok-Ended.ensures.value) at gives in
+    let walks = c.loop-reading.invariant.walks in
+    last_event c.take_last.result _ c.loop-reading.reading _ _ _ _ c.as_slice-in-Ok-Ended.result.now _ walks last c.take_last.ensures.end c.take_last.ensures.next c.take_last.ensures.event
+
+pub returns-in-Ok-Ended-clause-needed : goal.returns-in-Ok-Ended-clause-needed
+returns-in-Ok-Ended-clause-needed g c =
+    let gives = rw c.in-Ok-Ended.field-0-is at c.in-Ok-Ended.ensures.ended in
+    let last = rw (← c.as_slice-in-Ok-Ended.ensures.value) at gives in
+    let walks = c.loop-reading.invariant.walks in
+    let at_end = rw c.in-Ok-Ended.field-0-is at c.in-Ok-Ended.ensures.at_end in
+    last_needed c.take_last.result _ c.loop-reading.reading _ _ _ c.as_slice-in-Ok-Ended.result.now _ _ _ walks last c.take_last.ensures.end at_end
+
+pub returns-in-Ok-Ended-clause-refused : goal.returns-in-Ok-Ended-clause-refused
+returns-in-Ok-Ended-clause-refused g c =
+    let gives = rw c.in-Ok-Ended.field-0-is at c.in-Ok-Ended.ensures.ended in
+    let last = rw (← c.as_slice-in-Ok-Ended.ensures.value) at gives in
+    let walks = c.loop-reading.invariant.walks in
+    last_refused c.take_last.result _ c.loop-reading.reading c.take_last.new.reading _ _ _ c.as_slice-in-Ok-Ended.result.now _ walks last c.take_last.ensures.refused
+
+pub returns-in-Ok-Ended-clause-taken : goal.returns-in-Ok-Ended-clause-taken
+returns-in-Ok-Ended-clause-taken g c =
+    let gives = rw c.in-Ok-Ended.field-0-is at c.in-Ok-Ended.ensures.ended in
+    let last = rw (← c.as_slice-in-Ok-Ended.ensures.value) at gives in
+    let walks = c.loop-reading.invariant.walks in
+    let at_end = rw c.in-Ok-Ended.field-0-is at c.in-Ok-Ended.ensures.at_end in
+    last_taken c.take_last.result _ c.loop-reading.reading c.take_last.new.reading _ _ _ c.as_slice-in-Ok-Ended.result.now _ _ _ walks last c.take_last.ensures.refused at_end

@@ -1,4 +1,4 @@
-use Rattle.demo_lines.proofs.LinesRead.{packets_have_room}
+use Rattle.demo_lines.proofs.Written.{packets_have_room}
 use Rattle.demo_lines.proofs.laws.packets_have_room.Goals as goal
 
 pub returns : goal.returns
