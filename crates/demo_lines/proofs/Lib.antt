@@ -19,3 +19,4 @@ pub mod SmallRecording
 pub mod LinesBack
 pub mod Given
 pub mod Joins
+pub mod LongestRecording

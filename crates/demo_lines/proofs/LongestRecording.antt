@@ -1,5 +1,5 @@
 -- A recording that has as many lines as a recording may have.
-use Rattle.std.proofs.Common.{◌≡◌, ℕ, zero, suc, ◌+◌, ◌*◌, ◌≤◌, ◌<◌, Bool, true, false, ◌&&◌, List, [], ◌∷◌, ◌++◌, length, map, flat_map, filter_map, count_by, nat_lt, Option, Some, None, cond, refl, sym, ap, ◌∙◌, subst, arith, ℤ, pos, negsuc, ◌+ℤ◌, int_lt, int_le, length-append, All}
+use Rattle.std.proofs.Common.{◌≡◌, ℕ, zero, suc, ◌+◌, ◌*◌, ◌≤◌, ◌<◌, Bool, true, false, ◌&&◌, ◌||◌, List, [], ◌∷◌, ◌++◌, length, map, flat_map, filter_map, count_by, nat_lt, Option, Some, None, cond, refl, sym, ap, ◌∙◌, subst, arith, ℤ, pos, negsuc, ◌+ℤ◌, int_lt, int_le, length-append, All}
 use Rattle.std.specs.List.{AllByRecursion, AllPairs, list_any}
 use Rattle.std.proofs.lemmas.Bool.Decides.{nat_tests}
 use Rattle.std.proofs.lemmas.Int.{ints}
@@ -52,7 +52,7 @@ count-both p xs ys = sum_by-append (λ l. cond (p l) 1 0) xs ys
 
 count-copies : (p : MapLine → Bool) (n : ℕ) (x : MapLine) (one : ℕ) → cond (p x) 1 0 ≡ one → count_by p (copies n x) ≡ n * one
 unfolding copies
-count-copies p zero x one is = refl
+count-copies p zero x one is = omega arith
 count-copies p (suc n) x one is = let rest = count-copies p n x one is in let step = count-cons p x (copies n x) in omega (arith, rest, step, is)
 
 no_shafts : (n : ℕ) (x : MapLine) → shaft_of x ≡ None → filter_map shaft_of (copies n x) ≡ []
@@ -67,7 +67,7 @@ no_shafts (suc n) x none = ap (λ o. shafts_then o (filter_map shaft_of (copies 
 free-copies : (n : ℕ) (s b : Bounds) → overlaps s b ≡ false → is_blocked s (copies n b) ≡ false
 unfolding copies
 free-copies zero s b free = refl
-free-copies (suc n) s b free = ap (λ x. cond x true (is_blocked s (copies n b))) free ∙ free-copies n s b free
+free-copies (suc n) s b free = ap (λ x. x || is_blocked s (copies n b)) free ∙ free-copies n s b free
 
 both : (a b : Bool) → a ≡ true → b ≡ true → (a && b) ≡ true
 both true b p q = q
@@ -99,7 +99,7 @@ length-lifts (suc n) = omega (arith, length-lifts n)
 
 count-lifts : (p : MapLine → Bool) (n one : ℕ) → ((k : ℕ) → cond (p (lift_at k)) 1 0 ≡ one) → count_by p (lifts n) ≡ n * one
 unfolding lifts
-count-lifts p zero one is = refl
+count-lifts p zero one is = omega arith
 count-lifts p (suc n) one is = let rest = count-lifts p n one is in let step = count-cons p (lift_at n) (lifts n) in let here = is n in omega (arith, rest, step, here)
 
 shafts-are : (n : ℕ) → filter_map shaft_of (lifts n) ≡ shafts n
@@ -228,14 +228,29 @@ things-inside =
 count-things : (p : MapLine → Bool) (i t g l : ℕ) → cond (p some_item) 1 0 ≡ i → cond (p some_teleport) 1 0 ≡ t → cond (p some_goal) 1 0 ≡ g
     → ((k : ℕ) → cond (p (lift_at k)) 1 0 ≡ l) → count_by p most_things ≡ 144 * i + (16 * t + (16 * g + 16 * l))
 count-things p i t g l items teleports goals each =
-    omega (arith, count-both p (copies 144 some_item) boxes, count-both p (copies 16 some_teleport) (copies 16 some_goal ++ lifts 16),
-        count-both p (copies 16 some_goal) (lifts 16), count-copies p 144 some_item i items, count-copies p 16 some_teleport t teleports,
-        count-copies p 16 some_goal g goals, count-lifts p 16 l each)
+    omega (
+      arith,
+      count-both p (copies 144 some_item) boxes,
+      count-both p (copies 16 some_teleport) (copies 16 some_goal ++ lifts 16),
+      count-both p (copies 16 some_goal) (lifts 16),
+      count-copies p 144 some_item i items,
+      count-copies p 16 some_teleport t teleports,
+      count-copies p 16 some_goal g goals,
+      count-lifts p 16 l each,
+    )
 
 length-things : length most_things ≡ 192
 length-things =
-    omega (arith, length-append (copies 144 some_item) boxes, length-append (copies 16 some_teleport) (copies 16 some_goal ++ lifts 16),
-        length-append (copies 16 some_goal) (lifts 16), length-copies 144 some_item, length-copies 16 some_teleport, length-copies 16 some_goal, length-lifts 16)
+    omega (
+      arith,
+      length-append (copies 144 some_item) boxes,
+      length-append (copies 16 some_teleport) (copies 16 some_goal ++ lifts 16),
+      length-append (copies 16 some_goal) (lifts 16),
+      length-copies 144 some_item,
+      length-copies 16 some_teleport,
+      length-copies 16 some_goal,
+      length-lifts 16,
+    )
 
 shafts-of-things : filter_map shaft_of most_things ≡ shafts 16
 shafts-of-things =
