@@ -22,6 +22,7 @@ use Rattle.demo_lines.specs.Reads.{Reads, ReadsQuietly, Refuses, EndsAt, IsQuiet
 use Rattle.demo_lines.proofs.Consuming.{ReadsWhole, whole-nil, whole-line, quiet-whole, reads-whole, Reads-cut, takes_cut_end, Refuses-line, Refuses-end, refused_by_line, refused_by_end, refused_by_cut_end}
 use Rattle.demo_lines.proofs.Ends.{next-counts}
 use Rattle.demo_lines.proofs.OnePass.{next-short, events-short}
+use Rattle.demo_lines.proofs.Prefixes.{end_says}
 
 -- from one reading to another, over lines that gave no event
 pub record Walks (r s : Reading) (a b : Option (List ℕ)) : Type 0 where
@@ -174,10 +175,20 @@ pub last_event : (result : Result Event DemoStop) (r s t : Reading) (a b c : Opt
 last_event (Ok e) r s t a b c line pending walks gives end is given = walk_cut r s t a b c line pending e walks gives end is given
 last_event (Err stop) r s t a b c line pending walks gives end is given = tt
 
+-- an end gives no event but the recording's end
+end_event-by : (over : Bool) (fault : Option LineFault) (line : Option Line) (e : Event) → line ≡ Some End → cond over [] (events_of_test fault line) ≡ e ∷ []
+    → e ≡ events.End
+end_event-by true fault line e is given = cc
+end_event-by false (Some why) line e is given = cc
+end_event-by false None line e is given = sym (one_event events.End e (ap event_of (sym is) ∙ given))
+
+end_event : (s : Reading) (line : List ℕ) (e : Event) → is_end line ≡ true → events_of_line s line ≡ e ∷ [] → e ≡ events.End
+end_event s line e end given = end_event-by (is_over s.stage) (fault_of s false line) (line_in line) e (end_says line end) given
+
 pub last_needed : (result : Result Event DemoStop) (r s : Reading) (a b c : Option (List ℕ)) (line pending : List ℕ) (P Q : Type 0) → Walks r s a b → GivesLastPart b c line pending
-    → OnOk result (is_end line ≡ true) → Q → OnOk result (P ⊎ (TakesCutEnd a c × Q))
-last_needed (Ok e) r s a b c line pending P Q walks gives end q = inr (walk_takes_cut r s a b c line pending walks gives end, q)
-last_needed (Err stop) r s a b c line pending P Q walks gives end q = tt
+    → OnOk result (is_end line ≡ true) → IfOk result (λ e. events_of_line s line ≡ e ∷ []) → Q → IfOk result (λ e. P ⊎ ((e ≡ events.End) × TakesCutEnd a c × Q))
+last_needed (Ok e) r s a b c line pending P Q walks gives end given q = inr (end_event s line e end given, walk_takes_cut r s a b c line pending walks gives end, q)
+last_needed (Err stop) r s a b c line pending P Q walks gives end given q = tt
 
 pub last_stage : (result : Result Event DemoStop) (s t : Reading) (line : List ℕ) → OnOk result (t ≡ next s line) → IfOk result (λ e. events_of_line s line ≡ e ∷ [])
     → IfOk result (λ e. t.stage ≡ stage_after e)

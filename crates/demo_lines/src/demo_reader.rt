@@ -122,9 +122,9 @@ fn next_event<S: Source>(
         (ahead lines.old (S.left source.old)) (ahead lines.new (S.left source.new)) (e ∷ [])) }
     ensures stage { IfOk result (λ e. reading.new.stage ≡ stage_after e) }
     ensures fewer { OnOk result (lines_left reading.new < lines_left reading.old) }
-    ensures needed { OnOk result
-        ((HasNotReadAhead source.old source.new (S.last source.new) lines.old lines.new × (S.ended source.new ≡ S.ended source.old))
-        ⊎ (TakesCutEnd (ahead lines.old (S.left source.old)) (ahead lines.new (S.left source.new)) × (S.ended source.new ≡ true))) }
+    ensures needed { IfOk result (λ e.
+        (HasNotReadAhead source.old source.new (S.last source.new) lines.old lines.new × (S.ended source.new ≡ S.ended source.old))
+        ⊎ ((e ≡ Event.End) × TakesCutEnd (ahead lines.old (S.left source.old)) (ahead lines.new (S.left source.new)) × (S.ended source.new ≡ true))) }
 
     // A refusal.
     ensures refused { IfErr result (λ stop. OnRefused stop (λ why.
@@ -214,9 +214,9 @@ impl DemoReader {
             (ahead self.old.pending (S.left source.old)) (ahead self.new.pending (S.left source.new)) (e ∷ [])) }
         ensures stage { IfOk result (λ e. self.new.reading.stage ≡ stage_after e) }
         ensures fewer { IsOpen self.old → OnOk result (lines_left self.new.reading < lines_left self.old.reading) }
-        ensures needed { IsOpen self.old → OnOk result
-            ((HasNotReadAhead source.old source.new (S.last source.new) self.old.pending self.new.pending × (S.ended source.new ≡ S.ended source.old))
-            ⊎ (TakesCutEnd (ahead self.old.pending (S.left source.old)) (ahead self.new.pending (S.left source.new)) × (S.ended source.new ≡ true))) }
+        ensures needed { IsOpen self.old → IfOk result (λ e.
+            (HasNotReadAhead source.old source.new (S.last source.new) self.old.pending self.new.pending × (S.ended source.new ≡ S.ended source.old))
+            ⊎ ((e ≡ Event.End) × TakesCutEnd (ahead self.old.pending (S.left source.old)) (ahead self.new.pending (S.left source.new)) × (S.ended source.new ≡ true))) }
 
         // A refusal.
         ensures refused { IsOpen self.old → IfErr result (λ stop. OnRefused stop (λ why.

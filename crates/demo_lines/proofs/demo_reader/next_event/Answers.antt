@@ -114,7 +114,7 @@ returns-in-Ok-Ended-clause-needed g c =
     let last = rw (← c.as_slice-in-Ok-Ended.ensures.value) at gives in
     let walks = c.loop-reading.invariant.walks in
     let at_end = rw c.in-Ok-Ended.field-0-is at c.in-Ok-Ended.ensures.at_end in
-    last_needed c.take_last.result _ c.loop-reading.reading _ _ _ c.as_slice-in-Ok-Ended.result.now _ _ _ walks last c.take_last.ensures.end at_end
+    last_needed c.take_last.result _ c.loop-reading.reading _ _ _ c.as_slice-in-Ok-Ended.result.now _ _ _ walks last c.take_last.ensures.end c.take_last.ensures.event at_end
 
 pub returns-in-Ok-Ended-clause-refused : goal.returns-in-Ok-Ended-clause-refused
 returns-in-Ok-Ended-clause-refused g c =
