@@ -1,18 +1,19 @@
 -- The counts that a reading keeps are those of the frames that its lines give.
-use Rattle.std.proofs.Common.{◌≡◌, ℕ, ◌+◌, Bool, true, false, ◌||◌, cond, nat_lt, List, [], ◌∷◌, ◌++◌, length, Option, Some, None, option_map, refl, ap, ◌∙◌, sym, subst, arith, length-append}
+use Rattle.std.proofs.Common.{◌≡◌, ℕ, ◌+◌, false, List, [], ◌∷◌, ◌++◌, length, Some, None, option_map, refl, ap, ◌∙◌, sym, subst, arith, length-append}
+use Rattle.client_ports.specs.declared.arrival.Arrival.{Arrival}
 use Rattle.demo_lines.specs.declared.stage.Stage.{Stage}
 use Rattle.demo_lines.specs.declared.stage.Stage.TheVariants.{Start, Map, Playing, Ended, Refused}
 use Rattle.demo_lines.specs.declared.line.Line.{Line}
 use Rattle.demo_lines.specs.declared.line.Line.TheVariants as lines
-use Rattle.arena_map.specs.Rules.{begun_map}
-use Rattle.demo_lines.specs.Recording.{Reading}
-use Rattle.client_ports.specs.declared.arrival.Arrival.{Arrival}
 use Rattle.demo_lines.specs.declared.event.Event.{Event}
 use Rattle.demo_lines.specs.declared.event.Event.TheVariants as events
 use Rattle.demo_lines.specs.Machines.{run_of}
+use Rattle.demo_lines.specs.Known.{Reading, is_over, at_stage, with_map, with_frame, with_arrival}
+use Rattle.demo_lines.specs.Recording.{next, after_line, event_of, events_of_line, after, events_of, with_map_line}
 use Rattle.demo_lines.proofs.Machines.{run_of-append}
-use Rattle.demo_lines.specs.Recording.{next, events_of_line, line_in, after, events_of, reading_after, event_of, is_over, is_refused, at_stage, with_map, with_map_line, with_frame, with_arrival, is_first_allowed, is_line_allowed, has_spawn}
+use Rattle.demo_lines.proofs.Taking.{IsTaken}
 use Rattle.out_text.specs.Collecting.{Frames, collect, closing}
+use Rattle.out_text.proofs.EachLine.{of_each_line}
 
 -- no frame was opened
 pub record NoneYet (r : Reading) (f : Frames) : Type 0 where
@@ -37,20 +38,10 @@ AgreesAt Start r f = NoneYet r f
 AgreesAt Map r f = NoneYet r f
 AgreesAt Playing r f = OneOpen r f
 AgreesAt Ended r f = AllClosed r f
-AgreesAt Refused r f = Unit {0}
+AgreesAt (Refused why) r f = Unit {0}
 
 abbrev pub Agrees : Reading → Frames → Type 0
 Agrees r f = AgreesAt r.stage r f
-
-abbrev given : Bool → Reading → List Event → List Event
-given over t es = cond (over || is_refused t.stage) [] es
-
-abbrev AgreesAfter : Reading → Frames → List Event → Type 0
-AgreesAfter t f es = AgreesAt t.stage t (run_of collect f (given false t es))
-
-either_way : (b : Bool) (t r : Reading) (f : Frames) (es : List Event) → AgreesAfter t f es → AgreesAfter (cond b t (at_stage Refused r)) f es
-either_way true t r f es h = h
-either_way false t r f es h = tt
 
 first_frame : (r : Reading) (f : Frames) → NoneYet r f → OneOpen (with_frame r) (collect f events.Frame)
 first_frame r f none = record {
@@ -91,33 +82,34 @@ end_after_one r f one = record {
 none_still : (r t : Reading) (f : Frames) → t.frames ≡ r.frames → NoneYet r f → NoneYet t f
 none_still r t f same none = record { closed = none.closed; opened = none.opened; frames = same ∙ none.frames }
 
-pub agrees_step : (stage : Stage) (r : Reading) (line : Option Line) (f : Frames) → r.stage ≡ stage → AgreesAt stage r f
-    → AgreesAt (reading_after stage r line).stage (reading_after stage r line) (run_of collect f (given (is_over stage) (reading_after stage r line) (event_of line)))
-agrees_step Start r None f here h = tt
-agrees_step Start r (Some (lines.OfMap line)) f here h =
-    either_way (is_first_allowed line) (with_map r (begun_map line)) r f [] (none_still r (with_map r (begun_map line)) f refl h)
-agrees_step Start r (Some lines.Frame) f here h = tt
-agrees_step Start r (Some (lines.From a)) f here h = tt
-agrees_step Start r (Some lines.End) f here h = tt
-agrees_step Map r None f here h = tt
-agrees_step Map r (Some (lines.OfMap line)) f here h =
-    either_way (is_line_allowed r.map line) (with_map r (with_map_line r.map line)) r f [] (none_still r (with_map r (with_map_line r.map line)) f refl h)
-agrees_step Map r (Some lines.Frame) f here h = either_way (has_spawn r.map) (with_frame r) r f (event_of (Some lines.Frame)) (first_frame r f h)
-agrees_step Map r (Some (lines.From a)) f here h = tt
-agrees_step Map r (Some lines.End) f here h = end_without r f h
-agrees_step Playing r None f here h = tt
-agrees_step Playing r (Some (lines.OfMap line)) f here h = tt
-agrees_step Playing r (Some lines.Frame) f here h = either_way (nat_lt r.frames 100000) (with_frame r) r f (event_of (Some lines.Frame)) (next_frame r f h)
-agrees_step Playing r (Some (lines.From a)) f here h = either_way (nat_lt r.arrivals 512) (with_arrival r) r f (event_of (Some (lines.From a))) (one_arrival r f a h)
-agrees_step Playing r (Some lines.End) f here h = end_after_one r f h
-agrees_step Ended r line f here h = let P : Stage → Type 0 = λ stage. AgreesAt stage r f in subst P (sym here) h
-agrees_step Refused r line f here h = let P : Stage → Type 0 = λ stage. AgreesAt stage r f in subst P (sym here) tt
+-- a line that is taken keeps them so
+taken_agrees : (stage : Stage) (r : Reading) (line : Line) (f : Frames) → is_over stage ≡ false → IsTaken stage line → AgreesAt stage r f
+    → Agrees (after_line r (Some line)) (run_of collect f (event_of (Some line)))
+taken_agrees Start r (lines.OfMap line) f going is h = none_still r (with_map r (with_map_line r.map line)) f refl h
+taken_agrees Start r lines.Frame f going is h = cc
+taken_agrees Start r (lines.From a) f going is h = cc
+taken_agrees Start r lines.End f going is h = cc
+taken_agrees Map r (lines.OfMap line) f going is h = none_still r (with_map r (with_map_line r.map line)) f refl h
+taken_agrees Map r lines.Frame f going is h = first_frame r f h
+taken_agrees Map r (lines.From a) f going is h = cc
+taken_agrees Map r lines.End f going is h = end_without r f h
+taken_agrees Playing r (lines.OfMap line) f going is h = absurd is
+taken_agrees Playing r lines.Frame f going is h = next_frame r f h
+taken_agrees Playing r (lines.From a) f going is h = one_arrival r f a h
+taken_agrees Playing r lines.End f going is h = end_after_one r f h
+taken_agrees Ended r line f going is h = cc
+taken_agrees (Refused why) r line f going is h = cc
+
+-- a line keeps them so
+pub agrees_line : (r : Reading) (raw : List ℕ) (f : Frames) → Agrees r f → Agrees (next r raw) (run_of collect f (events_of_line r raw))
+agrees_line =
+    of_each_line (λ r s es. (f : Frames) → Agrees r f → Agrees s (run_of collect f es)) (λ r f h. h) (λ r why f h. tt)
+    (λ r line is f h. taken_agrees r.stage r line f is.going is.taken h)
 
 -- lines keep them so
 pub agrees_lines : (r : Reading) (ls : List (List ℕ)) (f : Frames) → Agrees r f → Agrees (after r ls) (run_of collect f (events_of r ls))
 agrees_lines r [] f h = h
 agrees_lines r (l ∷ ls) f h =
-    let here = agrees_step r.stage r (line_in l) f refl h in
-    let rest = agrees_lines (next r l) ls (run_of collect f (events_of_line r l)) here in
+    let rest = agrees_lines (next r l) ls (run_of collect f (events_of_line r l)) (agrees_line r l f h) in
     let P : Frames → Type 0 = λ g. Agrees (after (next r l) ls) g in
     subst P (sym (run_of-append {E = Event} collect (λ _ _. []) f (events_of_line r l) (events_of (next r l) ls))) rest

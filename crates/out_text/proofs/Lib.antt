@@ -7,6 +7,8 @@ pub mod Runs
 pub mod ReadBack
 pub mod Reporting
 pub mod Growing
+pub mod Saying
+pub mod EachLine
 pub mod Agreement
 pub mod Fewness
 pub mod Arrivals
