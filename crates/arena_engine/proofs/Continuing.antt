@@ -1,14 +1,26 @@
 -- What is known of a whole recording once its front was read.
-use Rattle.std.proofs.Common.{◌≡◌, ℕ, true, List, [], ◌++◌, Option, Some, None, IfSome, refl, sym, ap, ◌∙◌, subst, append_assoc, append-nil}
+use Rattle.std.proofs.Common.{◌≡◌, ℕ, true, false, ◌⊎◌, inl, inr, List, [], ◌∷◌, ◌++◌, Option, Some, None, IfSome, refl, sym, ap, ◌∙◌, subst, append_assoc, append-nil, cond}
+use Rattle.std.specs.List.{AllByRecursion}
+use Rattle.std.specs.Io.KnownBytes.{Consumes}
+use Rattle.std.proofs.lemmas.Grind.{flat_map-append}
+use Rattle.std.proofs.KnownBytes.{Consumes-trans}
+use Rattle.edge_io.specs.Lines.{HasNoLineFeed}
+use Rattle.edge_io.specs.WholeLines.{unlines}
+use Rattle.edge_io.proofs.Feeds.{each_of_both}
 use Rattle.arena_map.specs.Maps.{MapView}
-use Rattle.demo_lines.specs.Recording.{Reading}
+use Rattle.demo_lines.specs.declared.stage.Stage.{Stage}
+use Rattle.demo_lines.specs.declared.stage.Stage.TheVariants.{Start, Map, Playing, Ended, Refused}
 use Rattle.demo_lines.specs.declared.event.Event.{Event}
-use Rattle.demo_lines.specs.Recording.{start, next, events_of_line, after, events_of, is_map_whole}
-use Rattle.edge_io.specs.WholeLines.{whole_lines}
-use Rattle.demo_lines.specs.Bytes.{events_in, fault_in, fault_at, events, fault, map_of}
-use Rattle.demo_lines.specs.Reads.{Reads}
+use Rattle.demo_lines.specs.Known.{Reading, start, is_map_whole, is_over}
+use Rattle.demo_lines.specs.Lines.{is_end}
+use Rattle.demo_lines.specs.Recording.{next, events_of_line, after, events_of}
+use Rattle.demo_lines.specs.Bytes.{last_part, lines_of, refused_at, refused_where, events_in, fault_in, events, fault, map_of}
+use Rattle.demo_lines.specs.Reads.{Reads, TakesCutEnd, IsTextOf}
 use Rattle.demo_lines.proofs.Machines.{run_of-append, outputs_of-append}
-use Rattle.edge_io.proofs.Feeds.{whole_lines-unlines}
+use Rattle.demo_lines.proofs.Parts.{lines_of-unlines, lines_of-none, last_part-unlines}
+use Rattle.demo_lines.proofs.Ends.{after-over}
+use Rattle.demo_lines.proofs.Prefixes.{after_last}
+use Rattle.demo_lines.proofs.Joins.{whole_text}
 use Rattle.demo_lines.proofs.MapGiven.{after-kept}
 use Rattle.out_text.specs.Collecting.{collected, frames_of}
 use Rattle.out_text.proofs.Growing.{GoesOnWith, goes_on_collected}
@@ -17,19 +29,65 @@ use Rattle.out_text.proofs.Growing.{GoesOnWith, goes_on_collected}
 pub record Continues (r : Reading) (es : List Event) (bytes rest : List ℕ) : Type 0 where
   pub events_are : events bytes ≡ es ++ events_in r rest
   pub fault_is : fault bytes ≡ fault_in r rest
-  pub map_is : map_of bytes ≡ (after r (whole_lines rest)).map
+  pub map_is : map_of bytes ≡ (after r (lines_of rest)).map
 
-pub continues_lines : (r : Reading) (lines : List (List ℕ)) (es : List Event) (bytes rest : List ℕ) → whole_lines bytes ≡ lines ++ whole_lines rest
+-- the lines of the whole are those that were read and those of the rest, and the last part is that of the rest, unless the
+-- recording is over
+pub record IsCutAt (r : Reading) (lines : List (List ℕ)) (bytes rest : List ℕ) : Type 0 where
+  pub lines_are : lines_of bytes ≡ lines ++ lines_of rest
+  pub last_is : (last_part bytes ≡ last_part rest) ⊎ (is_over r.stage ≡ true)
+
+refused_at-over : (stage : Stage) (r : Reading) (p q : List ℕ) → is_over stage ≡ true → refused_at stage r p ≡ refused_at stage r q
+refused_at-over Start r p q over = cc
+refused_at-over Map r p q over = cc
+refused_at-over Playing r p q over = cc
+refused_at-over Ended r p q over = refl
+refused_at-over (Refused why) r p q over = refl
+
+same_refusal : (r : Reading) (lines : List (List ℕ)) (p q : List ℕ) → (p ≡ q) ⊎ (is_over r.stage ≡ true) → refused_where (after r lines) p ≡ refused_where (after r lines) q
+same_refusal r lines p q (inl same) = ap (refused_where (after r lines)) same
+same_refusal r lines p q (inr over) =
+    let here : is_over (after r lines).stage ≡ true = ap (λ (t : Reading). is_over t.stage) (after-over r lines over) ∙ over in
+    refused_at-over (after r lines).stage (after r lines) p q here
+
+pub continues_lines : (r : Reading) (lines : List (List ℕ)) (es : List Event) (bytes rest : List ℕ) → IsCutAt r lines bytes rest
     → r ≡ after start lines → events_of start lines ≡ es → Continues r es bytes rest
 continues_lines r lines es bytes rest cut reached given =
-    let later : after start (whole_lines bytes) ≡ after r (whole_lines rest) =
-    ap (after start) cut ∙ run_of-append next events_of_line start lines (whole_lines rest) ∙ ap (λ t. after t (whole_lines rest)) (sym reached) in
+    let later : after start (lines_of bytes) ≡ after r (lines_of rest) =
+    ap (after start) cut.lines_are ∙ run_of-append next events_of_line start lines (lines_of rest) ∙ ap (λ t. after t (lines_of rest)) (sym reached) in
     record {
-      events_are = ap (events_of start) cut ∙ outputs_of-append next events_of_line start lines (whole_lines rest)
-          ∙ ap (λ t. events_of start lines ++ events_of t (whole_lines rest)) (sym reached) ∙ ap (λ xs. xs ++ events_in r rest) given;
-      fault_is = ap (λ (t : Reading). fault_at t.stage t.lines) later;
+      events_are = ap (events_of start) cut.lines_are ∙ outputs_of-append next events_of_line start lines (lines_of rest)
+          ∙ ap (λ t. events_of start lines ++ events_of t (lines_of rest)) (sym reached) ∙ ap (λ xs. xs ++ events_in r rest) given;
+      fault_is = ap (λ t. refused_where t (last_part bytes)) later ∙ same_refusal r (lines_of rest) (last_part bytes) (last_part rest) cut.last_is;
       map_is = ap (λ (t : Reading). t.map) later;
     }
+
+-- whole lines, and then the rest
+pub cut_after_lines : (r : Reading) (lines : List (List ℕ)) (rest : List ℕ) → AllByRecursion HasNoLineFeed lines → IsCutAt r lines (unlines lines ++ rest) rest
+cut_after_lines r lines rest each = record { lines_are = lines_of-unlines lines rest each; last_is = inl (last_part-unlines lines rest each) }
+
+-- lines of which the last is an end without a line feed, and nothing after it
+cut_after_end : (r : Reading) (front : List (List ℕ)) (last : List ℕ) → AllByRecursion HasNoLineFeed (front ++ last ∷ []) → is_end last ≡ true → r ≡ after start (front ++ last ∷ [])
+    → IsCutAt r (front ++ last ∷ []) ((unlines front ++ last) ++ []) []
+cut_after_end r front last each end reached =
+    let parts = each_of_front front (last ∷ []) each in
+    record {
+      lines_are = ap lines_of (append-nil (unlines front ++ last)) ∙ lines_of-unlines front last parts.0
+          ∙ ap (λ ls. front ++ ls) (lines_of-none last parts.1.0 ∙ ap (λ b. cond b (last ∷ []) []) end) ∙ sym (append-nil (front ++ last ∷ []));
+      last_is = inr (ap (λ (t : Reading). is_over t.stage) reached ∙ after_last start front last end);
+    }
+  where
+    each_of_front : (xs ys : List (List ℕ)) → AllByRecursion HasNoLineFeed (xs ++ ys) → AllByRecursion HasNoLineFeed xs × AllByRecursion HasNoLineFeed ys
+    each_of_front [] ys h = (tt, h)
+    each_of_front (x ∷ xs) ys h = let more = each_of_front xs ys h.1 in ((h.0, more.0), more.1)
+
+cut_by_text : (r : Reading) (lines : List (List ℕ)) (text rest : List ℕ) → AllByRecursion HasNoLineFeed lines → r ≡ after start lines → IsTextOf lines text (Some rest)
+    → IsCutAt r lines (text ++ rest) rest
+cut_by_text r lines text rest each reached (inl is) = subst (λ t. IsCutAt r lines (t ++ rest) rest) (sym is) (cut_after_lines r lines rest each)
+cut_by_text r lines text rest each reached (inr cut) =
+    let here = cut_after_end r cut.front cut.last (subst (AllByRecursion HasNoLineFeed) cut.lines_are each) cut.is_the_end (reached ∙ ap (after start) cut.lines_are) in
+    subst (λ bs. IsCutAt r lines (text ++ bs) bs) (sym cut.at_end)
+    (subst (λ t. IsCutAt r lines (t ++ []) []) (sym cut.text_is) (subst (λ ls. IsCutAt r ls ((unlines cut.front ++ cut.last) ++ []) []) (sym cut.lines_are) here))
 
 -- what was read, and what is ahead, make the whole
 pub continues : (r : Reading) (a b : Option (List ℕ)) (es : List Event) (P : List ℕ → Type 0) → Reads start r a b es
@@ -37,12 +95,34 @@ pub continues : (r : Reading) (a b : Option (List ℕ)) (es : List Event) (P : L
 continues r None b es P reads h = tt
 continues r (Some bytes) None es P reads h = absurd reads.consumed
 continues r (Some bytes) (Some rest) es P reads h =
-    h bytes rest refl (continues_lines r reads.lines es bytes rest (ap whole_lines reads.consumed ∙ whole_lines-unlines reads.lines rest reads.each) reads.reached reads.events)
+    let cut = subst (λ bs. IsCutAt r reads.lines bs rest) (sym reads.consumed) (cut_by_text r reads.lines reads.text rest reads.each reads.reached reads.spelled) in
+    h bytes rest refl (continues_lines r reads.lines es bytes rest cut reads.reached reads.events)
+
+-- an end without a line feed that is taken after what was read
+pub cut_end_after : (r s : Reading) (a b c : Option (List ℕ)) (es : List Event) → Reads r s a b es → is_over s.stage ≡ false → TakesCutEnd b c → TakesCutEnd a c
+cut_end_after r s a b c es reads going more =
+    let whole = whole_text r s reads.lines reads.text b reads.reached going reads.spelled in
+    let cut = more.cut in
+    record {
+      lines = reads.lines ++ more.lines;
+      text = unlines reads.lines ++ more.text;
+      each = each_of_both HasNoLineFeed reads.lines more.lines reads.each more.each;
+      cut = record {
+        front = reads.lines ++ cut.front;
+        last = cut.last;
+        lines_are = ap (λ ls. reads.lines ++ ls) cut.lines_are ∙ sym (append_assoc reads.lines cut.front (cut.last ∷ []));
+        text_is = ap (λ t. unlines reads.lines ++ t) cut.text_is ∙ sym (append_assoc (unlines reads.lines) (unlines cut.front) cut.last)
+            ∙ ap (λ t. t ++ cut.last) (sym (flat_map-append (λ line. line ++ 10 ∷ []) reads.lines cut.front));
+        is_the_end = cut.is_the_end;
+        at_end = cut.at_end;
+      };
+      consumed = Consumes-trans a b c (unlines reads.lines) more.text (subst (Consumes a b) whole reads.consumed) more.consumed;
+    }
 
 -- the map of the whole
 pub map_of-whole : (r : Reading) (es : List Event) (bytes rest : List ℕ) (arena : MapView) → Continues r es bytes rest → is_map_whole r.stage ≡ true → r.map ≡ Some arena
     → map_of bytes ≡ Some arena
-map_of-whole r es bytes rest arena so whole has = so.map_is ∙ after-kept r (whole_lines rest) whole ∙ has
+map_of-whole r es bytes rest arena so whole has = so.map_is ∙ after-kept r (lines_of rest) whole ∙ has
 
 -- where nothing more is given, these are all frames
 pub frames_of-all : (r : Reading) (es : List Event) (bytes rest : List ℕ) → Continues r es bytes rest → events_in r rest ≡ [] → frames_of bytes ≡ (collected es).closed

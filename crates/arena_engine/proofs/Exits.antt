@@ -1,26 +1,30 @@
 -- How the playing of a recording ends, and what was written then.
-use Rattle.std.proofs.Common.{◌≡◌, ℕ, true, List, [], ◌∷◌, ◌++◌, length, ◌⊎◌, inl, inr, Option, Some, None, IfSome, IsSome, refl, sym, ap, ◌∙◌, subst, append_assoc, append-nil}
+use Rattle.std.proofs.Common.{◌≡◌, ℕ, Bool, true, false, List, [], ◌∷◌, ◌++◌, length, ◌⊎◌, inl, inr, Option, Some, None, IfSome, IsSome, refl, sym, ap, ◌∙◌, subst, append_assoc, append-nil}
+use Rattle.std.specs.List.{AllByRecursion}
 use Rattle.std.specs.Io.KnownBytes.{Appends, Consumes}
 use Rattle.std.proofs.lemmas.Grind.{flat_map-append}
 use Rattle.std.proofs.KnownBytes.{Appends-nil, Consumes-trans}
 use Rattle.arena_map.specs.Maps.{MapView, IsMap}
 use Rattle.entity_recs.specs.declared.effect.Entry.{Entry}
-use Rattle.demo_lines.specs.Recording.{Reading}
+use Rattle.demo_lines.specs.Known.{Reading, start, is_map_whole, is_over}
 use Rattle.demo_lines.specs.declared.event.Event.{Event}
-use Rattle.demo_lines.specs.Recording.{start, next, events_of_line, after, events_of, is_map_whole, is_over}
+use Rattle.demo_lines.specs.Recording.{next, events_of_line, after, events_of}
 use Rattle.edge_io.specs.Lines.{HasNoLineFeed, HasNotReadAhead, ahead}
 use Rattle.edge_io.proofs.ReadingAhead.{HasNotReadAhead-trans}
 use Rattle.edge_io.specs.WholeLines.{unlines}
-use Rattle.demo_lines.specs.Bytes.{events_in, events, fault}
+use Rattle.demo_lines.specs.Bytes.{Refusal, lines_of, events, fault}
 use Rattle.demo_lines.specs.Reads.{Reads, ReadsFront, Refuses, IsRefusedLine, IsLongFront, IsLastPart, EndsAt}
 use Rattle.demo_lines.proofs.Machines.{run_of-append, outputs_of-append}
-use Rattle.edge_io.proofs.Feeds.{whole_lines-unlines, whole_lines-none, each_of_both}
+use Rattle.demo_lines.proofs.Parts.{lines_of-unlines}
+use Rattle.demo_lines.proofs.Ends.{after-over}
+use Rattle.demo_lines.proofs.Joins.{whole_text}
+use Rattle.edge_io.proofs.Feeds.{each_of_both}
 use Rattle.out_text.specs.Collecting.{collected, frames_of}
 use Rattle.out_text.specs.Output.{IsFront, IsAllFrames, IsRefused, IsSomeFrames}
 use Rattle.arena_engine.specs.Output.{Writes, ReadsSome, ReadsToRefusal}
 use Rattle.demo_lines.proofs.MapGiven.{after-whole, after-kept}
-use Rattle.out_text.proofs.Fronts.{AreRun, IsPlayed, text_with, no_front, is_front, is_all_frames}
-use Rattle.arena_engine.proofs.Continuing.{continues, continues_lines, map_of-whole, frames_of-all, goes_on_frames}
+use Rattle.out_text.proofs.Fronts.{AreRun, text_with, no_front, is_front, is_all_frames}
+use Rattle.arena_engine.proofs.Continuing.{IsCutAt, continues, continues_lines, cut_after_lines, map_of-whole, frames_of-all, goes_on_frames}
 
 -- ---- before the first event
 
@@ -41,29 +45,42 @@ some_is_some None x is = cc
 some_is_some (Some y) x is = refl
 
 -- the recording was refused before it gave an event
-pub refused_at_first : (workers : ℕ) (a : Option (List ℕ)) (t : Option (List ℕ)) (n : ℕ) → IfSome a (EndsAt start n) → IfSome a (λ bytes. Writes t t (IsRefused workers bytes))
-refused_at_first workers None t n ends = tt
-refused_at_first workers (Some bytes) t n ends = record {
+pub refused_at_first : (workers : ℕ) (a : Option (List ℕ)) (t : Option (List ℕ)) (why : Refusal) → IfSome a (EndsAt start why) → IfSome a (λ bytes. Writes t t (IsRefused workers bytes))
+refused_at_first workers None t why ends = tt
+refused_at_first workers (Some bytes) t why ends = record {
   text = [];
   written = Appends-nil t;
-  holds = record { faulty = some_is_some (fault bytes) n ends.fault; frames = all_of_none workers bytes ends.events };
+  holds = record { faulty = some_is_some (fault bytes) why ends.fault; frames = all_of_none workers bytes ends.events };
 }
+
+-- the lines of a text in which each has its line feed
+lines_of-whole : (lines : List (List ℕ)) → AllByRecursion HasNoLineFeed lines → lines_of (unlines lines) ≡ lines
+lines_of-whole lines each = ap lines_of (sym (append-nil (unlines lines))) ∙ lines_of-unlines lines [] each ∙ append-nil lines
 
 -- the source failed before the first event
 pub fault_at_first : (workers : ℕ) (a l : Option (List ℕ)) (t : Option (List ℕ)) → ReadsFront start a l [] → ReadsSome workers a l t t
-fault_at_first workers a l t reads =
-    let bytes = unlines reads.lines ++ reads.front in
-    let cut = whole_lines-unlines reads.lines reads.front reads.each ∙ ap (λ ls. reads.lines ++ ls) (whole_lines-none reads.front reads.one_line) ∙ append-nil reads.lines in
-    record {
-      lines = reads.lines;
-      front = reads.front;
-      each = reads.each;
-      one_line = reads.one_line;
-      fits = reads.fits;
-      going = reads.going;
-      consumed = reads.consumed;
-      frames = record { text = []; written = Appends-nil t; holds = all_of_none workers bytes (ap (events_of start) cut ∙ reads.events) };
-    }
+fault_at_first workers a l t reads = record {
+  lines = reads.lines;
+  front = reads.front;
+  each = reads.each;
+  one_line = reads.one_line;
+  fits = reads.fits;
+  going = reads.going;
+  consumed = reads.consumed;
+  frames = record {
+    text = [];
+    written = Appends-nil t;
+    holds = all_of_none workers (unlines reads.lines) (ap (events_of start) (lines_of-whole reads.lines reads.each) ∙ reads.events);
+  };
+}
+
+-- where the recording goes on after lines it went on before them
+pub going_before : (r : Reading) (lines : List (List ℕ)) → is_over (after r lines).stage ≡ false → is_over r.stage ≡ false
+going_before r lines going = by (is_over r.stage) refl
+  where
+    by : (over : Bool) → is_over r.stage ≡ over → is_over r.stage ≡ false
+    by true is = let over : is_over (after r lines).stage ≡ true = ap (λ (t : Reading). is_over t.stage) (after-over r lines is) ∙ is in cc
+    by false is = is
 
 -- ---- while frames are played
 
@@ -92,16 +109,16 @@ module _ (workers : ℕ) (arena : MapView) (r : Reading) (a b : Option (List ℕ
       })
 
   -- the recording was refused
-  pub refused_on : (n : ℕ) → Played → IfSome b (EndsAt r n) → IfSome a (λ bytes. Writes t0 t1 (IsRefused workers bytes))
-  refused_on n played ends =
+  pub refused_on : (why : Refusal) → Played → IfSome b (EndsAt r why) → IfSome a (λ bytes. Writes t0 t1 (IsRefused workers bytes))
+  refused_on why played ends =
       continues r a b es (λ bytes. Writes t0 t1 (IsRefused workers bytes)) played.reads (λ bytes rest is so.
-      let here : EndsAt r n rest = let P : Option (List ℕ) → Type 0 = λ o. IfSome o (EndsAt r n) in subst P is ends in
+      let here : EndsAt r why rest = let P : Option (List ℕ) → Type 0 = λ o. IfSome o (EndsAt r why) in subst P is ends in
       let has = map_of-whole r es bytes rest arena so played.whole played.map in
       record {
         text = text_with arena (collected es).closed js;
         written = played.written;
         holds = record {
-          faulty = some_is_some (fault bytes) n (so.fault_is ∙ here.fault);
+          faulty = some_is_some (fault bytes) why (so.fault_is ∙ here.fault);
           frames = is_all_frames workers bytes arena (record { has = has; is_map = played.is_map }) (collected es).closed js (frames_of-all r es bytes rest so here.events) played.run;
         };
       })
@@ -111,9 +128,9 @@ module _ (workers : ℕ) (arena : MapView) (r : Reading) (a b : Option (List ℕ
   fault_on l played reads =
       let lines = played.reads.lines ++ reads.lines in
       let u = after r reads.lines in
-      let bytes = unlines lines ++ reads.front in
+      let bytes = unlines lines in
       let each = each_of_both HasNoLineFeed played.reads.lines reads.lines played.reads.each reads.each in
-      let cut = whole_lines-unlines lines reads.front each in
+      let taken = whole_text start r played.reads.lines played.reads.text b played.reads.reached (going_before r reads.lines reads.going) played.reads.spelled in
       let joined : unlines lines ++ reads.front ≡ unlines played.reads.lines ++ (unlines reads.lines ++ reads.front) =
       ap (λ bs. bs ++ reads.front) (flat_map-append (λ line. line ++ 10 ∷ []) played.reads.lines reads.lines)
       ∙ append_assoc (unlines played.reads.lines) (unlines reads.lines) reads.front in
@@ -123,9 +140,9 @@ module _ (workers : ℕ) (arena : MapView) (r : Reading) (a b : Option (List ℕ
       outputs_of-append next events_of_line start played.reads.lines reads.lines
       ∙ ap (λ t. events_of start played.reads.lines ++ events_of t reads.lines) (sym played.reads.reached)
       ∙ ap (λ xs. events_of start played.reads.lines ++ xs) reads.events ∙ append-nil (events_of start played.reads.lines) ∙ played.reads.events in
-      let so = continues_lines u lines es bytes reads.front cut reached given in
-      let has = map_of-whole u es bytes reads.front arena so (after-whole r reads.lines played.whole) (after-kept r reads.lines played.whole ∙ played.map) in
-      let none : events_in u reads.front ≡ [] = ap (events_of u) (whole_lines-none reads.front reads.one_line) in
+      let cut = subst (λ bs. IsCutAt u lines bs []) (append-nil bytes) (cut_after_lines u lines [] each) in
+      let so = continues_lines u lines es bytes [] cut reached given in
+      let has = map_of-whole u es bytes [] arena so (after-whole r reads.lines played.whole) (after-kept r reads.lines played.whole ∙ played.map) in
       record {
         lines = lines;
         front = reads.front;
@@ -133,11 +150,12 @@ module _ (workers : ℕ) (arena : MapView) (r : Reading) (a b : Option (List ℕ
         one_line = reads.one_line;
         fits = reads.fits;
         going = ap (λ (t : Reading). is_over t.stage) (sym reached) ∙ reads.going;
-        consumed = subst (Consumes a l) (sym joined) (Consumes-trans a b l (unlines played.reads.lines) (unlines reads.lines ++ reads.front) played.reads.consumed reads.consumed);
+        consumed = subst (Consumes a l) (sym joined)
+            (Consumes-trans a b l (unlines played.reads.lines) (unlines reads.lines ++ reads.front) (subst (Consumes a b) taken played.reads.consumed) reads.consumed);
         frames = record {
           text = text_with arena (collected es).closed js;
           written = played.written;
-          holds = is_all_frames workers bytes arena (record { has = has; is_map = played.is_map }) (collected es).closed js (frames_of-all u es bytes reads.front so none) played.run;
+          holds = is_all_frames workers bytes arena (record { has = has; is_map = played.is_map }) (collected es).closed js (frames_of-all u es bytes [] so refl) played.run;
         };
       }
 
@@ -148,6 +166,7 @@ pub refusal_on : {S : Type 0} (last : S → ℕ) (s0 s1 s2 : S) (r : Reading) (a
     → ReadsToRefusal s0 s2 (last s2) same at_end a l
 refusal_on last s0 s1 s2 r a b l es n pending buffered same_then same at_end reads needed same_end refuses =
     let lines = reads.lines ++ refuses.lines in
+    let taken = whole_text start r reads.lines reads.text b reads.reached (going_before r refuses.lines refuses.going) reads.spelled in
     let reached : after r refuses.lines ≡ after start lines =
     ap (λ t. after t refuses.lines) reads.reached ∙ sym (run_of-append next events_of_line start reads.lines refuses.lines) in
     let joined : unlines lines ++ refuses.last ≡ unlines reads.lines ++ (unlines refuses.lines ++ refuses.last) =
@@ -161,7 +180,8 @@ refusal_on last s0 s1 s2 r a b l es n pending buffered same_then same at_end rea
       refused = refuses.last;
       buffered = buffered;
       each = each_of_both HasNoLineFeed reads.lines refuses.lines reads.each refuses.each;
-      consumed = subst (Consumes a c) (sym joined) (Consumes-trans a b c (unlines reads.lines) (unlines refuses.lines ++ refuses.last) reads.consumed refuses.consumed);
+      consumed = subst (Consumes a c) (sym joined)
+          (Consumes-trans a b c (unlines reads.lines) (unlines refuses.lines ++ refuses.last) (subst (Consumes a b) taken reads.consumed) refuses.consumed);
       going = ap (λ (t : Reading). is_over t.stage) (sym reached) ∙ refuses.going;
       why = subst Why reached (why_on refuses.refused);
     }

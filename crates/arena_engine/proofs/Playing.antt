@@ -1,10 +1,9 @@
 -- One event of a recording that is played.
-use Rattle.std.proofs.Common.{◌≡◌, ℕ, ◌+◌, ◌-◌, ◌<◌, ◌≤◌, Bool, true, false, List, [], ◌∷◌, ◌++◌, length, take, drop, Option, Some, None, option_map, IfSome, IsSomeAnd, ◌⊎◌, inl, inr, refl, sym, ap, ◌∙◌, subst, append_assoc, append-nil, arith, length-append}
+use Rattle.std.proofs.Common.{◌≡◌, ℕ, ◌+◌, ◌-◌, ◌<◌, ◌≤◌, true, false, List, [], ◌∷◌, ◌++◌, length, take, Option, Some, None, option_map, IfSome, IsSomeAnd, ◌⊎◌, inl, inr, refl, sym, ap, ◌∙◌, subst, append_assoc, append-nil, arith, length-append}
 use Rattle.std.specs.Io.KnownBytes.{Appends, Consumes}
 use Rattle.std.proofs.KnownBytes.{Appends-nil, Appends-trans}
 use Rattle.edge_io.specs.Lines.{ahead, HasNotReadAhead}
 use Rattle.edge_io.specs.Writes.{AppendsPart}
-use Rattle.edge_io.specs.WholeLines.{unlines, whole_lines}
 use Rattle.entity_recs.specs.declared.effect.Entry.{Entry}
 use Rattle.move_journal.specs.Merges.{IsInOrder}
 use Rattle.arena_map.specs.Maps.{MapView, IsMap}
@@ -19,22 +18,23 @@ use Rattle.demo_lines.specs.declared.stage.Stage.{Stage}
 use Rattle.demo_lines.specs.declared.stage.Stage.TheVariants.{Playing, Ended}
 use Rattle.demo_lines.specs.declared.event.Event.{Event}
 use Rattle.demo_lines.specs.declared.event.Event.TheVariants.{Frame, From, End}
-use Rattle.demo_lines.specs.Recording.{Reading, start, after, is_map_whole, is_over}
-use Rattle.demo_lines.specs.Bytes.{fault, fault_at, map_of}
-use Rattle.demo_lines.specs.Reads.{Reads, stage_after}
+use Rattle.demo_lines.specs.Known.{Reading, start, is_map_whole, is_over}
+use Rattle.demo_lines.specs.Recording.{after}
+use Rattle.demo_lines.specs.Bytes.{last_part, lines_of as lines_in, refused_at, refused_where, fault, map_of}
+use Rattle.demo_lines.specs.Reads.{Reads, IsTextOf, TakesCutEnd, stage_after}
 use Rattle.demo_lines.proofs.Ends.{after-over, events_of-over}
-use Rattle.demo_lines.proofs.Consuming.{Reads-trans}
+use Rattle.demo_lines.proofs.Joins.{Reads-trans}
 use Rattle.demo_lines.proofs.MapGiven.{after-kept}
 use Rattle.demo_lines.proofs.Walks.{whole_after}
 use Rattle.out_text.specs.OutLines.{OutLine, EndLine, text_of}
 use Rattle.out_text.specs.FrameLines.{lines_with, run_lines}
 use Rattle.out_text.specs.Collecting.{Frames, closing, collect, collected, no_frames, frames_of}
-use Rattle.out_text.specs.Output.{out_text, AreRightIn, AreInOrderIn, IsOutput, IsCut, IsSomeFrames}
-use Rattle.out_text.proofs.Growing.{GoesOnWith, goes_on_all, collected-append, length-goes_on, take-goes_on}
+use Rattle.out_text.specs.Output.{AreRightIn, AreInOrderIn, IsOutput, IsCut, IsSomeFrames}
+use Rattle.out_text.proofs.Growing.{GoesOnWith, collected-append}
 use Rattle.out_text.proofs.Agreement.{Agrees, AgreesAt, NoneYet, OneOpen, AllClosed, agrees_lines}
-use Rattle.out_text.proofs.Runs.{length-right, run_lines-append, run_lines-push, state_played-push, right-append, right-push, in_order-append, in_order-push, text_of-append, fewer_are_shorter}
+use Rattle.out_text.proofs.Runs.{length-right, run_lines-append, run_lines-push, state_played-push, right-append, right-push, in_order-append, in_order-push, text_of-append}
 use Rattle.out_text.proofs.Fronts.{AreRun, IsPlayed, lines_of, text_with, whole_text, none_are_run, out_text-is, is_front, is_output, frame_cut, end_cut, last_cut}
-use Rattle.arena_engine.specs.Games.{GameView, new_game, RunsFrame, ClosesFrame, Goes, GoesOn, closing_lines, event_lines, IsReady, is_end}
+use Rattle.arena_engine.specs.Games.{GameView, new_game, RunsFrame, ClosesFrame, GoesOn, closing_lines, event_lines, IsReady, is_end}
 use Rattle.arena_engine.specs.Output.{HasRoom, Writes, ReadsToEnd}
 use Rattle.arena_engine.proofs.Continuing.{Continues, continues, map_of-whole, frames_of-all, goes_on_frames, goes_on_events}
 use Rattle.arena_engine.proofs.Exits.{Played}
@@ -243,12 +243,18 @@ module _ (workers : ℕ) (bytes : List ℕ) (arena : MapView) (played : IsPlayed
 
 fault-at_end : (r : Reading) (es : List Event) (bytes rest : List ℕ) → Continues r es bytes rest → r.stage ≡ Ended → fault bytes ≡ None
 fault-at_end r es bytes rest so ended =
-    so.fault_is ∙ ap (λ (t : Reading). fault_at t.stage t.lines) (after-over r (whole_lines rest) (ap is_over ended)) ∙ ap (λ stage. fault_at stage r.lines) ended
+    so.fault_is ∙ ap (λ t. refused_where t (last_part rest)) (after-over r (lines_in rest) (ap is_over ended)) ∙ ap (λ stage. refused_at stage r (last_part rest)) ended
 
 frames-at_end : (r : Reading) (es : List Event) (bytes rest : List ℕ) → Continues r (es ++ End ∷ []) bytes rest → r.stage ≡ Ended
     → frames_of bytes ≡ (collected es).closed ++ closing (collected es).opened
 frames-at_end r es bytes rest so ended =
-    frames_of-all r (es ++ End ∷ []) bytes rest so (events_of-over r (whole_lines rest) (ap is_over ended)) ∙ ap (λ (f : Frames). f.closed) (collected-push es End)
+    frames_of-all r (es ++ End ∷ []) bytes rest so (events_of-over r (lines_in rest) (ap is_over ended)) ∙ ap (λ (f : Frames). f.closed) (collected-push es End)
+
+-- before the end the recording isn't over
+pub not_over : (e : Event) → is_end e ≡ false → is_over (stage_after e) ≡ false
+not_over Frame h = refl
+not_over (From a) h = refl
+not_over End h = cc
 
 few_after : (r : Reading) (f : Frames) (stage : Stage) → r.arrivals ≤ 512 → AgreesAt stage r f → (stage ≡ Playing) ⊎ (stage ≡ Ended) → IfSome f.opened (λ arrivals. length arrivals ≤ 512)
 few_after r f stage fits agrees (inl playing) = few_open r f fits (let P : Stage → Type 0 = λ s. AgreesAt s r f in subst P playing agrees)
@@ -515,7 +521,7 @@ module _ (workers : ℕ) (arena : MapView) (r : Reading) (a b : Option (List ℕ
         record {
           progress = record {
             events = p.events ++ e ∷ [];
-            reads = Reads-trans start r r' a b b' (p.events ++ e ∷ []) (e' ∷ []) p.reads reads;
+            reads = Reads-trans start r r' a b b' (p.events ++ e ∷ []) (e' ∷ []) p.reads (ap is_over p.stage ∙ not_over e going) reads;
             stage = stage;
             frames = frames;
             arrivals = arrivals;
@@ -536,16 +542,20 @@ module _ (workers : ℕ) (arena : MapView) (r : Reading) (a b : Option (List ℕ
         stage_here (inr is) = inr (p.stage ∙ is)
 
   -- the recording was taken from the source up to its end
-  pub whole_on : {S : Type 0} (old new : S) (last : ℕ) (pending : List ℕ) (l : Option (List ℕ)) → e ≡ End → b ≡ ahead pending l → HasNotReadAhead old new last [] pending
-      → ReadsToEnd old new last a l
-  whole_on old new last pending l is_last is needed =
-      let P : Option (List ℕ) → Type 0 = λ o. Consumes a o (unlines p.reads.lines) in
+  pub whole_on : {S : Type 0} (old new : S) (last : ℕ) (same_end at_end : Type 0) (pending : List ℕ) (l : Option (List ℕ)) → e ≡ End → b ≡ ahead pending l
+      → (HasNotReadAhead old new last [] pending × same_end) ⊎ (TakesCutEnd a b × at_end) → ReadsToEnd old new last same_end at_end a l
+  whole_on old new last same_end at_end pending l is_last is needed =
+      let P : Option (List ℕ) → Type 0 = λ o. Consumes a o p.reads.text in
+      let Q : Option (List ℕ) → Type 0 = λ o. IsTextOf p.reads.lines p.reads.text o in
+      let R : Option (List ℕ) → Type 0 = λ o. (HasNotReadAhead old new last [] pending × same_end) ⊎ (TakesCutEnd a o × at_end) in
       record {
         lines = p.reads.lines;
+        text = p.reads.text;
         buffered = pending;
         each = p.reads.each;
+        spelled = subst Q is p.reads.spelled;
         consumed = subst P is p.reads.consumed;
         ended = ap (λ (t : Reading). t.stage) (sym p.reads.reached) ∙ p.stage ∙ ap stage_after is_last;
         going = p.reads.going;
-        needed = needed;
+        needed = subst R is needed;
       }

@@ -1,5 +1,5 @@
 -- The loop that plays a recording, and its exits.
-use Rattle.std.proofs.Common.{◌≡◌, ℕ, ◌+◌, ◌≤◌, Bool, true, false, List, [], ◌∷◌, ◌++◌, length, Option, Some, None, IfSome, IsSome, IsSomeAnd, refl, sym, ap, ◌∙◌, subst, arith, length-append}
+use Rattle.std.proofs.Common.{◌≡◌, ℕ, ◌+◌, ◌≤◌, Bool, true, false, List, [], ◌∷◌, ◌++◌, length, Option, Some, None, IfSome, IsSome, IsSomeAnd, ◌⊎◌, inl, inr, refl, sym, ap, ◌∙◌, subst, arith, length-append}
 use Rattle.std.specs.Io.KnownBytes.{Appends}
 use Rattle.std.proofs.KnownBytes.{prepend_known-nil}
 use Rattle.edge_io.specs.Counts.{HasRisen}
@@ -11,9 +11,10 @@ use Rattle.demo_lines.specs.declared.event.Event.{Event}
 use Rattle.demo_lines.specs.declared.event.Event.TheVariants.{Frame, From, End}
 use Rattle.demo_lines.specs.declared.demo_stop.DemoStop.{DemoStop}
 use Rattle.demo_lines.specs.declared.demo_stop.DemoStop.TheVariants as demo_stop
-use Rattle.demo_lines.specs.Recording.{Reading, start, is_over, is_map_whole, without_map, having_map}
+use Rattle.demo_lines.specs.Known.{Reading, start, is_over, is_map_whole, without_map, having_map}
+use Rattle.demo_lines.specs.Bytes.{Refusal}
 use Rattle.demo_lines.specs.Readings.{IsReading}
-use Rattle.demo_lines.specs.Reads.{DemoReaderView, fresh_reader, map_taken, IsOpen, Reads, ReadsFront, Refuses, EndsAt, stage_after}
+use Rattle.demo_lines.specs.Reads.{DemoReaderView, fresh_reader, map_taken, IsOpen, Reads, ReadsFront, TakesCutEnd, Refuses, EndsAt, stage_after}
 use Rattle.demo_lines.specs.Reads as reads_of
 use Rattle.demo_lines.proofs.Walks.{whole_after}
 use Rattle.demo_lines.proofs.Given.{Reads-given, Reads-no_map, ReadsFront-given, EndsAt-given, Refuses-given}
@@ -29,7 +30,8 @@ use Rattle.arena_engine.specs.Games.{GameView, new_game, GoesOn, event_lines, Is
 use Rattle.arena_engine.specs.Output.{Writes, ReadsSome, ReadsToEnd, ReadsToRefusal, HasRoom}
 use Rattle.arena_engine.proofs.Exits.{memory_at_first, refused_at_first, fault_at_first, refused_on, fault_on, refusal_on}
 use Rattle.arena_engine.proofs.Exits as exits
-use Rattle.arena_engine.proofs.Playing.{Progress, is_ready, memory_on, cut_on, done_on, whole_on, played_on, text_so_far, fits_on, goes_on, begins}
+use Rattle.arena_engine.proofs.Continuing.{cut_end_after}
+use Rattle.arena_engine.proofs.Playing.{Progress, not_over, is_ready, memory_on, cut_on, done_on, whole_on, played_on, text_so_far, fits_on, goes_on, begins}
 
 -- how far the recording was played, by a reader whose map was given out; neither count of faults has changed, and what room the sink was sure to have is that
 -- which it has and the text so far
@@ -44,11 +46,16 @@ pub record Runs (demo : DemoReaderView) (before ahead : Option (List ℕ)) (take
   pub write_same : writes ≡ writes_before
   pub roomy : room_before ≤ room + length (text_with arena (collected progress.events).closed progress.journals)
 
--- how the source was read: no more than was needed, without its end, and it is as sure as before
-pub record Unread {S : Type 0} (last : S → ℕ) (ended : S → Bool) (sure : S → Type 0) (old new : S) (pending : List ℕ) : Type 0 where
-  pub needed : HasNotReadAhead old new (last new) [] pending
-  pub same_end : ended new ≡ ended old
+-- how the source was read: no more than was needed, and without its end, but for an end without a line feed; and it is as sure
+-- as before
+pub record Unread {S : Type 0} (last : S → ℕ) (ended : S → Bool) (sure : S → Type 0) (a b : Option (List ℕ)) (old new : S) (pending : List ℕ) (e : Event) : Type 0 where
+  pub needed : (HasNotReadAhead old new (last new) [] pending × (ended new ≡ ended old)) ⊎ ((e ≡ End) × TakesCutEnd a b × (ended new ≡ true))
   pub keeps : sure old → sure new
+
+-- before the end no more was read than was needed, and the input's end wasn't given
+pub unread_going : (e : Event) (P Q R : Type 0) → is_end e ≡ false → P ⊎ ((e ≡ End) × Q × R) → P
+unread_going e P Q R going (inl h) = h
+unread_going e P Q R going (inr (is, q, r)) = let last : is_end e ≡ true = ap is_end is in cc
 
 -- ---- the reader is fresh
 
@@ -56,18 +63,18 @@ fresh_is_open : IsOpen fresh_reader
 fresh_is_open = record { no_stop = refl; not_over = refl }
 
 read_fault_of : (d : DemoStop) (P Q : Type 0) → (P → Q) → reads_of.OnReadFault d P → OnReadFault (stop_of d) Q
-read_fault_of (demo_stop.Refused line) P Q f p = tt
+read_fault_of (demo_stop.Refused line fault rule) P Q f p = tt
 read_fault_of demo_stop.ReadFault P Q f p = f p
 read_fault_of demo_stop.NoMemory P Q f p = tt
 
-refused_of : (d : DemoStop) (P : ℕ → Type 0) (Q : Type 0) → ((n : ℕ) → P n → Q) → reads_of.OnRefused d P → OnRefused (stop_of d) Q
-refused_of (demo_stop.Refused line) P Q f p = f line p
+refused_of : (d : DemoStop) (P : Refusal → Type 0) (Q : Type 0) → ((why : Refusal) → P why → Q) → reads_of.OnRefused d P → OnRefused (stop_of d) Q
+refused_of (demo_stop.Refused line fault rule) P Q f p = f _ p
 refused_of demo_stop.ReadFault P Q f p = tt
 refused_of demo_stop.NoMemory P Q f p = tt
 
 -- a reader's stop is want of memory, where P holds
 no_memory_of : (d : DemoStop) (P : Type 0) → P → OnMemory (stop_of d) P
-no_memory_of (demo_stop.Refused line) P p = tt
+no_memory_of (demo_stop.Refused line fault rule) P p = tt
 no_memory_of demo_stop.ReadFault P p = tt
 no_memory_of demo_stop.NoMemory P p = p
 
@@ -75,13 +82,13 @@ pub first_no_memory : (d : DemoStop) (l t : Option (List ℕ)) → OnMemory (sto
 first_no_memory d l t = no_memory_of d (IfSome l (λ bytes. Writes t t (IsSomeFrames 1 bytes))) (memory_at_first 1 l t)
 
 pub first_refused : (workers : ℕ) (demo : DemoReaderView) (d : DemoStop) (l t : Option (List ℕ)) → demo ≡ fresh_reader
-    → (IsOpen demo → reads_of.OnRefused d (λ n. IfSome (ahead demo.pending l) (EndsAt demo.reading n))) → OnRefused (stop_of d) (IfSome l (λ bytes. Writes t t (IsRefused workers bytes)))
+    → (IsOpen demo → reads_of.OnRefused d (λ why. IfSome (ahead demo.pending l) (EndsAt demo.reading why))) → OnRefused (stop_of d) (IfSome l (λ bytes. Writes t t (IsRefused workers bytes)))
 first_refused workers demo d l t is h =
-    let P : DemoReaderView → Type 0 = λ x. IsOpen x → reads_of.OnRefused d (λ n. IfSome (ahead x.pending l) (EndsAt x.reading n)) in
+    let P : DemoReaderView → Type 0 = λ x. IsOpen x → reads_of.OnRefused d (λ why. IfSome (ahead x.pending l) (EndsAt x.reading why)) in
     let at_first = subst P is h fresh_is_open in
-    let Q : ℕ → Option (List ℕ) → Type 0 = λ n o. IfSome o (EndsAt start n) in
-    refused_of d (λ n. IfSome (ahead [] l) (EndsAt start n)) (IfSome l (λ bytes. Writes t t (IsRefused workers bytes)))
-    (λ n ends. refused_at_first workers l t n (subst (Q n) (prepend_known-nil l) ends)) at_first
+    let Q : Refusal → Option (List ℕ) → Type 0 = λ why o. IfSome o (EndsAt start why) in
+    refused_of d (λ why. IfSome (ahead [] l) (EndsAt start why)) (IfSome l (λ bytes. Writes t t (IsRefused workers bytes)))
+    (λ why ends. refused_at_first workers l t why (subst (Q why) (prepend_known-nil l) ends)) at_first
 
 pub first_fault : (workers : ℕ) (demo : DemoReaderView) (d : DemoStop) (l l' t : Option (List ℕ)) → demo ≡ fresh_reader
     → (IsOpen demo → reads_of.OnReadFault d (ReadsFront demo.reading (ahead demo.pending l) l' [])) → OnReadFault (stop_of d) (ReadsSome workers l l' t t)
@@ -120,7 +127,7 @@ on_write_fault Memory P Q f p = tt
 
 -- what a reader stops for is no write fault
 pub no_write_fault : (d : DemoStop) (P : Type 0) → OnWriteFault (stop_of d) P
-no_write_fault (demo_stop.Refused line) P = tt
+no_write_fault (demo_stop.Refused line fault rule) P = tt
 no_write_fault demo_stop.ReadFault P = tt
 no_write_fault demo_stop.NoMemory P = tt
 
@@ -148,11 +155,6 @@ end_is_end Frame h = cc
 end_is_end (From a) h = cc
 end_is_end End h = refl
 
-not_over : (e : Event) → is_end e ≡ false → is_over (stage_after e) ≡ false
-not_over Frame h = refl
-not_over (From a) h = refl
-not_over End h = cc
-
 module _ (demo : DemoReaderView) (a b t0 t1 : Option (List ℕ)) (g : GameView) (e : Event) (m0 m1 n0 n1 k0 k1 : ℕ) (runs : Runs demo a b t0 t1 g e m0 m1 n0 n1 k0 k1) where
   pub game_is_ready : IsReady g
   game_is_ready = is_ready 1 runs.arena runs.full a b t0 t1 g e runs.progress
@@ -171,22 +173,28 @@ module _ (demo : DemoReaderView) (a b t0 t1 : Option (List ℕ)) (g : GameView) 
   pub write_cause : (s : Stop) (n2 : ℕ) → OnWriteFault s (HasRisen n1 n2) → OnWriteFault s (HasRisen n0 n2)
   write_cause s n2 risen = on_write_fault s (HasRisen n1 n2) (HasRisen n0 n2) (λ h. subst (λ n. HasRisen n n2) runs.write_same h) risen
 
-  pub all_read : {S : Type 0} (last : S → ℕ) (s0 s1 : S) (pending : List ℕ) (l : Option (List ℕ)) → is_end e ≡ true → b ≡ ahead pending l
-      → HasNotReadAhead s0 s1 (last s1) [] pending → ReadsToEnd s0 s1 (last s1) a l
-  all_read last s0 s1 pending l is_last is needed = whole_on 1 runs.arena runs.full a b t0 t1 g e runs.progress s0 s1 (last s1) pending l (end_is_end e is_last) is needed
+  pub all_read : {S : Type 0} (last : S → ℕ) (ended : S → Bool) (sure : S → Type 0) (s0 s1 : S) (pending : List ℕ) (l : Option (List ℕ)) → is_end e ≡ true → b ≡ ahead pending l
+      → Unread last ended sure a b s0 s1 pending e → ReadsToEnd s0 s1 (last s1) (ended s1 ≡ ended s0) (ended s1 ≡ true) a l
+  all_read last ended sure s0 s1 pending l is_last is unread =
+      whole_on 1 runs.arena runs.full a b t0 t1 g e runs.progress s0 s1 (last s1) (ended s1 ≡ ended s0) (ended s1 ≡ true) pending l (end_is_end e is_last) is (by_end unread.needed)
+    where
+      by_end : {P Q R : Type 0} → P ⊎ ((e ≡ End) × Q × R) → P ⊎ (Q × R)
+      by_end (inl h) = inl h
+      by_end (inr (end, q, r)) = inr (q, r)
 
   pub next_refusal : {S : Type 0} (last : S → ℕ) (ended : S → Bool) (sure : S → Type 0) (s0 s1 s2 : S) (d : DemoStop) (pending : List ℕ) (l : Option (List ℕ)) → is_end e ≡ false
-      → Unread last ended sure s0 s1 demo.pending
-      → (IsOpen demo → reads_of.OnRefused d (λ n. Refuses demo.reading b (ahead pending l) n
+      → Unread last ended sure a b s0 s1 demo.pending e
+      → (IsOpen demo → reads_of.OnRefused d (λ why. Refuses demo.reading b (ahead pending l) why.line
       (HasNotReadAhead s1 s2 (last s2) demo.pending pending × (ended s2 ≡ ended s1)) (ended s2 ≡ true)))
       → OnRefused (stop_of d) (ReadsToRefusal s0 s2 (last s2) (ended s2 ≡ ended s0) (ended s2 ≡ true) a l)
   next_refusal last ended sure s0 s1 s2 d pending l going unread h =
       let P = HasNotReadAhead s1 s2 (last s2) demo.pending pending × (ended s2 ≡ ended s1) in
-      let R : Reading → ℕ → Type 0 = λ r n. Refuses r b (ahead pending l) n P (ended s2 ≡ true) in
+      let R : Reading → Refusal → Type 0 = λ r why. Refuses r b (ahead pending l) why.line P (ended s2 ≡ true) in
+      let so_far = unread_going e (HasNotReadAhead s0 s1 (last s1) [] demo.pending × (ended s1 ≡ ended s0)) (TakesCutEnd a b) (ended s1 ≡ true) going unread.needed in
       refused_of d (R demo.reading) (ReadsToRefusal s0 s2 (last s2) (ended s2 ≡ ended s0) (ended s2 ≡ true) a l)
-      (λ n refuses. refusal_on last s0 s1 s2 runs.full a b l (runs.progress.events ++ e ∷ []) n demo.pending pending (ended s2 ≡ ended s1) (ended s2 ≡ ended s0) (ended s2 ≡ true)
-      runs.progress.reads unread.needed (λ same. same ∙ unread.same_end)
-      (Refuses-given runs.full map_is_whole b (ahead pending l) n P (ended s2 ≡ true) (subst (λ (r : Reading). R r n) runs.given refuses)))
+      (λ why refuses. refusal_on last s0 s1 s2 runs.full a b l (runs.progress.events ++ e ∷ []) why.line demo.pending pending (ended s2 ≡ ended s1) (ended s2 ≡ ended s0) (ended s2 ≡ true)
+      runs.progress.reads so_far.0 (λ same. same ∙ so_far.1)
+      (Refuses-given runs.full map_is_whole b (ahead pending l) why.line P (ended s2 ≡ true) (subst (λ (r : Reading). R r why) runs.given refuses)))
       (h (reader_is_open going))
 
   pub next_cause : (d : DemoStop) (m2 : ℕ) → is_end e ≡ false → (IsOpen demo → reads_of.OnReadFault d (HasRisen m1 m2)) → OnReadFault (stop_of d) (HasRisen m0 m2)
@@ -213,18 +221,18 @@ module _ (demo : DemoReaderView) (a b t0 t1 : Option (List ℕ)) (g : GameView) 
     pub all_done : is_end e ≡ true → IfSome a (λ bytes. Writes t0 t2 (IsOutput 1 bytes))
     all_done last = done_on 1 runs.arena runs.full a b t0 t1 g e runs.progress g2 goes t2 (end_is_end e last) written
 
-    pub next_refused : (d : DemoStop) → is_end e ≡ false → (IsOpen demo → reads_of.OnRefused d (λ n. IfSome b (EndsAt demo.reading n)))
+    pub next_refused : (d : DemoStop) → is_end e ≡ false → (IsOpen demo → reads_of.OnRefused d (λ why. IfSome b (EndsAt demo.reading why)))
         → OnRefused (stop_of d) (IfSome a (λ bytes. Writes t0 t2 (IsRefused 1 bytes)))
     next_refused d going h =
-        let R : Reading → ℕ → Type 0 = λ r n. IfSome b (EndsAt r n) in
+        let R : Reading → Refusal → Type 0 = λ r why. IfSome b (EndsAt r why) in
         refused_of d (R demo.reading) (IfSome a (λ bytes. Writes t0 t2 (IsRefused 1 bytes)))
-        (λ n ends. refused_on 1 runs.arena runs.full a b t0 t2 (runs.progress.events ++ e ∷ []) _ n (played_on 1 runs.arena runs.full a b t0 t1 g e runs.progress g2 goes t2 going written)
-        (ends_given n b (subst (λ (r : Reading). R r n) runs.given ends)))
+        (λ why ends. refused_on 1 runs.arena runs.full a b t0 t2 (runs.progress.events ++ e ∷ []) _ why (played_on 1 runs.arena runs.full a b t0 t1 g e runs.progress g2 goes t2 going written)
+        (ends_given why b (subst (λ (r : Reading). R r why) runs.given ends)))
         (h (reader_is_open going))
       where
-        ends_given : (n : ℕ) (o : Option (List ℕ)) → IfSome o (EndsAt (without_map runs.full) n) → IfSome o (EndsAt runs.full n)
-        ends_given n None ends = tt
-        ends_given n (Some bytes) ends = EndsAt-given runs.full map_is_whole n bytes ends
+        ends_given : (why : Refusal) (o : Option (List ℕ)) → IfSome o (EndsAt (without_map runs.full) why) → IfSome o (EndsAt runs.full why)
+        ends_given why None ends = tt
+        ends_given why (Some bytes) ends = EndsAt-given runs.full map_is_whole why bytes ends
 
     pub next_fault : (d : DemoStop) (l : Option (List ℕ)) → is_end e ≡ false → (IsOpen demo → reads_of.OnReadFault d (ReadsFront demo.reading b l []))
         → OnReadFault (stop_of d) (ReadsSome 1 a l t0 t2)
@@ -262,42 +270,53 @@ module _ (demo : DemoReaderView) (a b t0 t1 : Option (List ℕ)) (g : GameView) 
           roomy = omega (arith, text, left, room_on);
         }
 
+  -- more was read, for one event more
+  pub unread_on : {S : Type 0} (last : S → ℕ) (ended : S → Bool) (sure : S → Type 0) (s0 s1 s2 : S) (pending' : List ℕ) (c : Option (List ℕ)) (e' : Event) → is_end e ≡ false
+      → Unread last ended sure a b s0 s1 demo.pending e
+      → (IsOpen demo → (HasNotReadAhead s1 s2 (last s2) demo.pending pending' × (ended s2 ≡ ended s1)) ⊎ ((e' ≡ End) × TakesCutEnd b c × (ended s2 ≡ true)))
+      → (sure s1 → sure s2) → Unread last ended sure a c s0 s2 pending' e'
+  unread_on last ended sure s0 s1 s2 pending' c e' going unread more keeps =
+      let so_far = unread_going e (HasNotReadAhead s0 s1 (last s1) [] demo.pending × (ended s1 ≡ ended s0)) (TakesCutEnd a b) (ended s1 ≡ true) going unread.needed in
+      let open_still = ap is_over runs.progress.stage ∙ not_over e going in
+      record { needed = by_end so_far open_still (more (reader_is_open going)); keeps = λ h. keeps (unread.keeps h) }
+    where
+      by_end : HasNotReadAhead s0 s1 (last s1) [] demo.pending × (ended s1 ≡ ended s0) → is_over runs.full.stage ≡ false
+          → (HasNotReadAhead s1 s2 (last s2) demo.pending pending' × (ended s2 ≡ ended s1)) ⊎ ((e' ≡ End) × TakesCutEnd b c × (ended s2 ≡ true))
+          → (HasNotReadAhead s0 s2 (last s2) [] pending' × (ended s2 ≡ ended s0)) ⊎ ((e' ≡ End) × TakesCutEnd a c × (ended s2 ≡ true))
+      by_end so_far open_still (inl (needed, same)) = inl (HasNotReadAhead-trans last s0 s1 s2 [] demo.pending pending' so_far.0 needed, same ∙ so_far.1)
+      by_end so_far open_still (inr (end, cut, at)) =
+          inr (end, cut_end_after start runs.full a b c (runs.progress.events ++ e ∷ []) runs.progress.reads open_still cut, at)
+
 module _ {S : Type 0} (last : S → ℕ) (ended : S → Bool) (sure : S → Type 0) where
   -- the first reads
-  pub unread_first : (s0 s1 : S) (demo demo' : DemoReaderView) → demo ≡ fresh_reader → HasNotReadAhead s0 s1 (last s1) demo.pending demo'.pending → ended s1 ≡ ended s0 → (sure s0 → sure s1)
-      → Unread last ended sure s0 s1 demo'.pending
-  unread_first s0 s1 demo demo' is needed same keeps =
-      let P : DemoReaderView → Type 0 = λ d. HasNotReadAhead s0 s1 (last s1) d.pending demo'.pending in
-      record { needed = subst P is needed; same_end = same; keeps = keeps }
+  pub unread_first : (s0 s1 : S) (demo demo' : DemoReaderView) (l b : Option (List ℕ)) (e : Event) → demo ≡ fresh_reader
+      → (IsOpen demo → (HasNotReadAhead s0 s1 (last s1) demo.pending demo'.pending × (ended s1 ≡ ended s0)) ⊎ ((e ≡ End) × TakesCutEnd (ahead demo.pending l) b × (ended s1 ≡ true)))
+      → (sure s0 → sure s1) → Unread last ended sure l b s0 s1 demo'.pending e
+  unread_first s0 s1 demo demo' l b e is needed keeps =
+      let P : DemoReaderView → Type 0 = λ d.
+      IsOpen d → (HasNotReadAhead s0 s1 (last s1) d.pending demo'.pending × (ended s1 ≡ ended s0)) ⊎ ((e ≡ End) × TakesCutEnd (ahead d.pending l) b × (ended s1 ≡ true)) in
+      let Q : Option (List ℕ) → Type 0 = λ o. (HasNotReadAhead s0 s1 (last s1) [] demo'.pending × (ended s1 ≡ ended s0)) ⊎ ((e ≡ End) × TakesCutEnd o b × (ended s1 ≡ true)) in
+      record { needed = subst Q (prepend_known-nil l) (subst P is needed fresh_is_open); keeps = keeps }
 
   -- the first event was read, and then the map was given out
   pub runs_first : (demo' taken : DemoReaderView) (arena : MapView) (a l t : Option (List ℕ)) (g : GameView) (e : Event) (m0 m1 n k : ℕ) (s0 s1 : S) → taken ≡ map_taken demo'
-      → Progress 1 arena demo'.reading a (ahead demo'.pending l) t t g e → demo'.stop ≡ None → m1 ≡ m0 → Unread last ended sure s0 s1 demo'.pending
-      → Runs taken a (ahead taken.pending l) t t g e m0 m1 n n k k × Unread last ended sure s0 s1 taken.pending
+      → Progress 1 arena demo'.reading a (ahead demo'.pending l) t t g e → demo'.stop ≡ None → m1 ≡ m0 → Unread last ended sure a (ahead demo'.pending l) s0 s1 demo'.pending e
+      → Runs taken a (ahead taken.pending l) t t g e m0 m1 n n k k × Unread last ended sure a (ahead taken.pending l) s0 s1 taken.pending e
   runs_first demo' taken arena a l t g e m0 m1 n k s0 s1 is progress no_stop same unread =
-      let P : DemoReaderView → Type 0 = λ d. Runs d a (ahead d.pending l) t t g e m0 m1 n n k k × Unread last ended sure s0 s1 d.pending in
+      let P : DemoReaderView → Type 0 = λ d. Runs d a (ahead d.pending l) t t g e m0 m1 n n k k × Unread last ended sure a (ahead d.pending l) s0 s1 d.pending e in
       subst P (sym is) (record { arena = arena; full = demo'.reading; given = refl; progress = progress; no_stop = no_stop; read_same = same; write_same = refl; roomy = omega arith }, unread)
-
-  -- and more
-  pub unread_on : (s0 s1 s2 : S) (pending pending' : List ℕ) → Unread last ended sure s0 s1 pending → HasNotReadAhead s1 s2 (last s2) pending pending' → ended s2 ≡ ended s1 → (sure s1 → sure s2)
-      → Unread last ended sure s0 s2 pending'
-  unread_on s0 s1 s2 pending pending' unread needed same keeps = record {
-    needed = HasNotReadAhead-trans last s0 s1 s2 [] pending pending' unread.needed needed;
-    same_end = same ∙ unread.same_end;
-    keeps = λ h. keeps (unread.keeps h);
-  }
 
   -- the recording was refused before it gave an event
   pub first_refusal : (s0 s1 : S) (demo : DemoReaderView) (pending : List ℕ) (d : DemoStop) (a l : Option (List ℕ)) → demo ≡ fresh_reader
-      → (IsOpen demo → reads_of.OnRefused d (λ n. Refuses demo.reading (ahead demo.pending a) (ahead pending l) n
+      → (IsOpen demo → reads_of.OnRefused d (λ why. Refuses demo.reading (ahead demo.pending a) (ahead pending l) why.line
       (HasNotReadAhead s0 s1 (last s1) demo.pending pending × (ended s1 ≡ ended s0)) (ended s1 ≡ true)))
       → OnRefused (stop_of d) (ReadsToRefusal s0 s1 (last s1) (ended s1 ≡ ended s0) (ended s1 ≡ true) a l)
   first_refusal s0 s1 demo pending d a l is h =
-      let P : DemoReaderView → Type 0 = λ x. IsOpen x → reads_of.OnRefused d (λ n. Refuses x.reading (ahead x.pending a) (ahead pending l) n
+      let P : DemoReaderView → Type 0 = λ x. IsOpen x → reads_of.OnRefused d (λ why. Refuses x.reading (ahead x.pending a) (ahead pending l) why.line
       (HasNotReadAhead s0 s1 (last s1) x.pending pending × (ended s1 ≡ ended s0)) (ended s1 ≡ true)) in
-      let Q : Option (List ℕ) → ℕ → Type 0 = λ o n. Refuses start o (ahead pending l) n (HasNotReadAhead s0 s1 (last s1) [] pending × (ended s1 ≡ ended s0)) (ended s1 ≡ true) in
+      let Q : Option (List ℕ) → Refusal → Type 0 = λ o why. Refuses start o (ahead pending l) why.line (HasNotReadAhead s0 s1 (last s1) [] pending × (ended s1 ≡ ended s0)) (ended s1 ≡ true) in
       refused_of d (Q (ahead [] a)) (ReadsToRefusal s0 s1 (last s1) (ended s1 ≡ ended s0) (ended s1 ≡ true) a l)
-      (λ n refuses. first_of_all n (let R : Option (List ℕ) → Type 0 = λ o. Q o n in subst R (prepend_known-nil a) refuses))
+      (λ why refuses. first_of_all why.line (let R : Option (List ℕ) → Type 0 = λ o. Q o why in subst R (prepend_known-nil a) refuses))
       (subst P is h fresh_is_open)
     where
       first_of_all : (n : ℕ) → Refuses start a (ahead pending l) n (HasNotReadAhead s0 s1 (last s1) [] pending × (ended s1 ≡ ended s0)) (ended s1 ≡ true)
@@ -316,7 +335,7 @@ module _ {S : Type 0} (last : S → ℕ) (ended : S → Bool) (sure : S → Type
 
 -- a fault that can't be, isn't
 pub no_fault_of : (d : DemoStop) → reads_of.OnReadFault d ⊥ → OnReadFault (stop_of d) ⊥
-no_fault_of (demo_stop.Refused line) h = tt
+no_fault_of (demo_stop.Refused line fault rule) h = tt
 no_fault_of demo_stop.ReadFault h = h
 no_fault_of demo_stop.NoMemory h = tt
 
@@ -326,13 +345,13 @@ first_sure demo d P is h p =
 
 -- but where a read failed the source's count of faults is as it was
 pub same_reads : (d : DemoStop) (m0 m1 m2 : ℕ) → m1 ≡ m0 → reads_of.OnRefused d (λ _. m2 ≡ m1) → reads_of.OnNoMemory d (m2 ≡ m1) → ButOnReadFault (stop_of d) (m2 ≡ m0)
-same_reads (demo_stop.Refused line) m0 m1 m2 so_far refused memory = refused ∙ so_far
+same_reads (demo_stop.Refused line fault rule) m0 m1 m2 so_far refused memory = refused ∙ so_far
 same_reads demo_stop.ReadFault m0 m1 m2 so_far refused memory = tt
 same_reads demo_stop.NoMemory m0 m1 m2 so_far refused memory = memory ∙ so_far
 
 -- where a read failed the input's end wasn't given
 pub same_end_at_fault : (d : DemoStop) (ended0 ended1 ended2 : Bool) → ended1 ≡ ended0 → reads_of.OnReadFault d (ended2 ≡ ended1) → OnReadFault (stop_of d) (ended2 ≡ ended0)
-same_end_at_fault (demo_stop.Refused line) ended0 ended1 ended2 so_far h = tt
+same_end_at_fault (demo_stop.Refused line fault rule) ended0 ended1 ended2 so_far h = tt
 same_end_at_fault demo_stop.ReadFault ended0 ended1 ended2 so_far h = h ∙ so_far
 same_end_at_fault demo_stop.NoMemory ended0 ended1 ended2 so_far h = tt
 

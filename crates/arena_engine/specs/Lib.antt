@@ -1,4 +1,5 @@
 -- The definitions of what the top call reads and writes.
+pub use Rattle.demo_lines.specs.Known
 pub use Rattle.demo_lines.specs.Recording
 pub use Rattle.demo_lines.specs.Bytes
 pub use Rattle.demo_lines.specs.Readings

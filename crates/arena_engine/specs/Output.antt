@@ -1,5 +1,5 @@
 -- What the top call reads from its source and writes to its sink.
-use Rattle.std.specs.Prelude.{◌≡◌, ℕ, ◌≤◌, ◌⊎◌, false, List, [], ◌∷◌, ◌++◌, length, Option}
+use Rattle.std.specs.Prelude.{◌≡◌, ℕ, ◌≤◌, ◌⊎◌, false, List, [], ◌++◌, length, Option}
 use Rattle.std.specs.List.{AllByRecursion}
 use Rattle.std.specs.Io.KnownBytes.{Appends, Consumes}
 use Rattle.entity_recs.specs.declared.effect.Entry.{Entry}
@@ -7,8 +7,9 @@ use Rattle.edge_io.specs.declared.line_reader.TheConstants.{LONGEST}
 use Rattle.edge_io.specs.Lines.{HasNoLineFeed, HasNotReadAhead, ahead}
 use Rattle.edge_io.specs.WholeLines.{all_but_last, unlines}
 use Rattle.demo_lines.specs.declared.stage.Stage.TheVariants.{Ended}
-use Rattle.demo_lines.specs.Recording.{start, after, is_over}
-use Rattle.demo_lines.specs.Reads.{IsRefusedLine, IsLongFront, IsLastPart}
+use Rattle.demo_lines.specs.Known.{start, is_over}
+use Rattle.demo_lines.specs.Recording.{after}
+use Rattle.demo_lines.specs.Reads.{IsTextOf, TakesCutEnd, IsRefusedLine, IsLongFront, IsLastPart}
 use Rattle.demo_lines.specs.Bytes.{map_of}
 use Rattle.out_text.specs.Collecting.{frames_of}
 use Rattle.out_text.specs.Output.{AreRightIn, AreInOrderIn, out_text, IsAllFrames}
@@ -19,8 +20,8 @@ pub record Writes (old new : Option (List ℕ)) (P : List ℕ → Type 0) : Type
   pub written : Appends old new text
   pub holds : P text
 
--- lines and the front of one more were taken from the source, which the recording still goes on to, and the frames are
--- written that those lines close
+-- lines with their line feeds and the front of one more were taken from the source, which the recording still goes on to,
+-- and the frames are written that those lines close: the front closes none, also where it reads `end`
 pub record ReadsSome (workers : ℕ) (old new : Option (List ℕ)) (taken_before taken : Option (List ℕ)) : Type 0 where
   pub lines : List (List ℕ)
   pub front : List ℕ
@@ -29,18 +30,22 @@ pub record ReadsSome (workers : ℕ) (old new : Option (List ℕ)) (taken_before
   pub fits : length front ≤ LONGEST
   pub going : is_over (after start lines).stage ≡ false
   pub consumed : Consumes old new (unlines lines ++ front)
-  pub frames : Writes taken_before taken (IsAllFrames workers (unlines lines ++ front))
+  pub frames : Writes taken_before taken (IsAllFrames workers (unlines lines))
 
--- the lines of a recording were taken from the source up to its line `end`, and no more was read than the last read had to
--- give: old, new and last are the source before and after, and how many bytes its last read gave
-pub record ReadsToEnd {S : Type 0} (old new : S) (last : ℕ) (left_before left : Option (List ℕ)) : Type 0 where
+-- the lines of a recording were taken from the source up to its line `end`, each with its line feed, but for an `end` that
+-- the input ends with. No more was read than the last read had to give and the input's end wasn't given in this call
+-- (same_end), or such an `end` without a line feed was taken, and the input's end was given (at_end). old, new and last are
+-- the source before and after, and how many bytes its last read gave
+pub record ReadsToEnd {S : Type 0} (old new : S) (last : ℕ) (same_end at_end : Type 0) (left_before left : Option (List ℕ)) : Type 0 where
   pub lines : List (List ℕ)
+  pub text : List ℕ
   pub buffered : List ℕ
   pub each : AllByRecursion HasNoLineFeed lines
-  pub consumed : Consumes left_before (ahead buffered left) (unlines lines)
+  pub spelled : IsTextOf lines text (ahead buffered left)
+  pub consumed : Consumes left_before (ahead buffered left) text
   pub ended : (after start lines).stage ≡ Ended
   pub going : is_over (after start (all_but_last lines)).stage ≡ false
-  pub needed : HasNotReadAhead old new last [] buffered
+  pub needed : (HasNotReadAhead old new last [] buffered × same_end) ⊎ (TakesCutEnd left_before (ahead buffered left) × at_end)
 
 -- lines were taken from the source that the recording goes on after, and then what is refused: a line or the front of one,
 -- where no more was read than the last read had to give and the input's end wasn't given in this call (same_end), or what

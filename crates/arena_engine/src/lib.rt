@@ -60,7 +60,8 @@ pub fn serve<S: Source, K: Sink>(
     ensures done { (n : ℕ) → IsPlay words.now n → result.status ≡ 0 → IfSome (S.left source.old) (λ bytes.
         Writes (K.taken sink.old) (K.taken sink.new) (IsOutput n bytes)) }
     ensures read { (n : ℕ) → IsPlay words.now n → result.status ≡ 0 →
-        ReadsToEnd source.old source.new (S.last source.new) (S.left source.old) (S.left source.new) }
+        ReadsToEnd source.old source.new (S.last source.new) (S.ended source.new ≡ S.ended source.old) (S.ended source.new ≡ true)
+        (S.left source.old) (S.left source.new) }
     ensures refused { (n : ℕ) → IsPlay words.now n → result.status ≡ 1 → IfSome (S.left source.old) (λ bytes.
         Writes (K.taken sink.old) (K.taken sink.new) (IsRefused n bytes)) }
     ensures refused_read { (n : ℕ) → IsPlay words.now n → result.status ≡ 1 →

@@ -27,7 +27,8 @@ fn is_end(event: &Event) -> bool
 pub fn play<S: Source, K: Sink>(alloc: Global, source: &mut S, sink: &mut K) -> Result<(), Stop>
     ensures done { OnOk result (IfSome (S.left source.old) (λ bytes.
         Writes (K.taken sink.old) (K.taken sink.new) (IsOutput 1 bytes))) }
-    ensures read { OnOk result (ReadsToEnd source.old source.new (S.last source.new) (S.left source.old) (S.left source.new)) }
+    ensures read { OnOk result (ReadsToEnd source.old source.new (S.last source.new)
+        (S.ended source.new ≡ S.ended source.old) (S.ended source.new ≡ true) (S.left source.old) (S.left source.new)) }
     ensures refused { IfErr result (λ stop. OnRefused stop (IfSome (S.left source.old) (λ bytes.
         Writes (K.taken sink.old) (K.taken sink.new) (IsRefused 1 bytes)))) }
     ensures refused_read { IfErr result (λ stop. OnRefused stop (ReadsToRefusal source.old source.new (S.last source.new)

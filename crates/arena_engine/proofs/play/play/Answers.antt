@@ -1,7 +1,6 @@
 use Rattle.std.proofs.Common.{refl, sym, ◌∙◌, ap}
-use Rattle.edge_io.specs.Counts.{HasRisen}
 use Rattle.std.proofs.lemmas.Result.{err_from_is_err_and}
-use Rattle.arena_engine.proofs.Running.{no_refusal, no_read_fault, write_cause, first_refused, first_fault, first_no_memory, first_event, game_is_ready, reader_is_open, write_failed, memory_failed, on_memory, all_done, all_read, next_refused, next_fault, next_no_memory, next_cause, no_write_fault, runs_first, runs_on, unread_first, unread_on, first_refusal, next_refusal, not_cut, no_fault_of, same_reads, same_end_at_fault, but_read_fault, but_write_fault_of_game}
+use Rattle.arena_engine.proofs.Running.{no_refusal, no_read_fault, write_cause, first_refused, first_fault, first_no_memory, first_event, game_is_ready, reader_is_open, write_failed, memory_failed, on_memory, all_done, all_read, next_refused, next_fault, next_no_memory, next_cause, no_write_fault, runs_first, runs_on, unread_first, unread_on, unread_going, first_refusal, next_refusal, not_cut, no_fault_of, same_reads, same_end_at_fault, but_read_fault, but_write_fault, but_write_fault_of_game}
 use Rattle.arena_engine.proofs.Exits.{memory_at_first}
 use Rattle.arena_engine.proofs.play.play.Goals as goal
 
@@ -20,6 +19,11 @@ returns-in_err-event-clause-memory g c =
     let p = err_from_is_err_and c.from_residual-in_err-event.result c.from_residual-in_err-event.ensures.1 in
     rw (p.1, p.2) (first_no_memory _ _ _)
 
+pub returns-in_err-demo-clause-memory : goal.returns-in_err-demo-clause-memory
+returns-in_err-demo-clause-memory g c =
+    let p = err_from_is_err_and c.from_residual.result c.from_residual.ensures.1 in
+    rw (p.1, p.2) (memory_at_first _ _ _)
+
 pub returns-in_err-game-clause-memory : goal.returns-in_err-game-clause-memory
 returns-in_err-game-clause-memory g c =
     let p = err_from_is_err_and c.from_residual-in_err-game.result c.from_residual-in_err-game.ensures.1 in
@@ -30,8 +34,8 @@ events-init g c =
     let has = sym c.take_map.ensures.map ∙ c.unwrap-map.ensures in
     let begun = first_event _ c.next.new.self.reading _ _ (g.K.Sink.taken c.args.sink.now) c.in_ok-event.event c.unwrap-map.result c.in_ok-game.game
     c.in_ok-demo.ensures c.in_ok-event.ensures.event c.in_ok-event.ensures.stage c.in_ok-event.ensures.holds has c.in_ok-game.ensures.rules c.in_ok-game.ensures.game in
-    let unread = unread_first g.S.Source.last g.S.Source.ended g.S.Source.never_fails c.args.source.now c.next.new.source _ c.next.new.self c.in_ok-demo.ensures
-    c.in_ok-event.ensures.needed c.in_ok-event.ensures.before_end c.next.ensures.keeps in
+    let unread = unread_first g.S.Source.last g.S.Source.ended g.S.Source.never_fails c.args.source.now c.next.new.source _ c.next.new.self _ _ c.in_ok-event.event c.in_ok-demo.ensures
+    c.in_ok-event.ensures.needed c.next.ensures.keeps in
     runs_first g.S.Source.last g.S.Source.ended g.S.Source.never_fails c.next.new.self c.take_map.new.self c.unwrap-map.result _ _ _ c.in_ok-game.game c.in_ok-event.event _ _ _ _ _ _
     c.take_map.ensures.rest begun c.in_ok-event.ensures.ok c.in_ok-event.ensures.uncounted unread
 
@@ -74,7 +78,7 @@ returns-then-is_last-clause-done g c =
 
 pub returns-then-is_last-clause-read : goal.returns-then-is_last-clause-read
 returns-then-is_last-clause-read g c =
-    all_read _ _ _ _ _ _ _ _ _ _ _ _ _ c.events.invariant.0 g.S.Source.last _ _ _ _ (sym c.is_end-is_last.ensures ∙ c.if-is_last.true) refl c.events.invariant.1.needed
+    all_read _ _ _ _ _ _ _ _ _ _ _ _ _ c.events.invariant.0 g.S.Source.last g.S.Source.ended g.S.Source.never_fails _ _ _ _ (sym c.is_end-is_last.ensures ∙ c.if-is_last.true) refl c.events.invariant.1
 
 pub returns-in_err-event-2-clause-refused : goal.returns-in_err-event-2-clause-refused
 returns-in_err-event-2-clause-refused g c =
@@ -116,8 +120,8 @@ events-preserved g c =
       runs_on _ _ _ _ _ _ _ _ _ _ _ _ _ c.events.invariant.0 c.take.new.self _ c.in_ok-take.ensures.next c.in_ok-take.ensures.written c.next-in-events.new.self _ c.in_ok-event-2.event _ _ _ going
           c.in_ok-event-2.ensures.event c.in_ok-event-2.ensures.stage c.in_ok-event-2.ensures.holds c.in_ok-event-2.ensures.ok c.in_ok-event-2.ensures.uncounted
           c.in_ok-take.ensures.uncounted c.in_ok-take.ensures.room,
-      unread_on g.S.Source.last g.S.Source.ended g.S.Source.never_fails _ _ _ _ _ c.events.invariant.1 c.in_ok-event-2.ensures.needed c.in_ok-event-2.ensures.before_end
-          c.next-in-events.ensures.keeps,
+      unread_on _ _ _ _ _ _ _ _ _ _ _ _ _ c.events.invariant.0 g.S.Source.last g.S.Source.ended g.S.Source.never_fails _ _ _ _ _ c.in_ok-event-2.event going c.events.invariant.1
+          c.in_ok-event-2.ensures.needed c.next-in-events.ensures.keeps,
     )
 
 -- ---- what was read for a refusal, and what is sure
@@ -157,12 +161,18 @@ returns-in_err-take-clause-sure_writes g c =
 pub returns-in_err-event-2-clause-no_end : goal.returns-in_err-event-2-clause-no_end
 returns-in_err-event-2-clause-no_end g c =
     let p = err_from_is_err_and c.from_residual-in_err-event-2.result c.from_residual-in_err-event-2.ensures.1 in
-    rw (p.1, p.2) (same_end_at_fault _ _ _ _ c.events.invariant.1.same_end c.in_err-event-2.ensures.no_end)
+    let going = sym c.is_end-is_last.ensures ∙ c.if-is_last.false in
+    rw (p.1, p.2) (same_end_at_fault _ _ _ _ (unread_going _ _ _ _ going c.events.invariant.1.needed).1 c.in_err-event-2.ensures.no_end)
 
 pub returns-in_err-event-2-clause-reads_stopped : goal.returns-in_err-event-2-clause-reads_stopped
 returns-in_err-event-2-clause-reads_stopped g c =
     let p = err_from_is_err_and c.from_residual-in_err-event-2.result c.from_residual-in_err-event-2.ensures.1 in
     rw (p.1, p.2) (same_reads _ _ _ _ c.events.invariant.0.read_same c.in_err-event-2.ensures.uncounted_refusal c.in_err-event-2.ensures.uncounted_memory)
+
+pub returns-in_err-event-2-clause-writes_stopped : goal.returns-in_err-event-2-clause-writes_stopped
+returns-in_err-event-2-clause-writes_stopped g c =
+    let p = err_from_is_err_and c.from_residual-in_err-event-2.result c.from_residual-in_err-event-2.ensures.1 in
+    rw (p.1, p.2) (but_write_fault _ _ (c.in_ok-take.ensures.uncounted ∙ c.events.invariant.0.write_same))
 
 pub returns-in_err-event-2-clause-sure_reads : goal.returns-in_err-event-2-clause-sure_reads
 returns-in_err-event-2-clause-sure_reads g c =
