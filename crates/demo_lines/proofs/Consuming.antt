@@ -1,12 +1,11 @@
 -- Reads that follow each other.
-use Rattle.std.proofs.Common.{◌≡◌, ℕ, ◌+◌, ◌≤◌, true, false, List, [], ◌∷◌, ◌++◌, ◌⊎◌, inl, inr, length, Option, Some, None, IfSome, cond, refl, sym, ap, ◌∙◌, subst, append_assoc, append-nil}
+use Rattle.std.proofs.Common.{◌≡◌, ℕ, ◌+◌, true, false, List, [], ◌∷◌, ◌++◌, ◌⊎◌, inl, inr, Option, Some, None, IfSome, cond, refl, sym, ap, ◌∙◌, subst, append_assoc, append-nil}
 use Rattle.std.specs.List.{AllByRecursion}
 use Rattle.std.specs.Io.KnownBytes.{Consumes, IsAtEnd}
 use Rattle.std.proofs.KnownBytes.{Consumes-nil, Consumes-trans, prepend_known-nil}
-use Rattle.std.proofs.lemmas.Grind.{flat_map-append}
 use Rattle.edge_io.specs.Lines.{HasNoLineFeed, GivesLine, GivesLongFront, GivesFront, GivesLastPart, ahead}
-use Rattle.edge_io.specs.WholeLines.{all_but_last, unlines, whole_lines}
-use Rattle.edge_io.proofs.Feeds.{unlines-push, AllByRecursion-push, all_but_last-push, all_but_last-append, each_of_both, whole_lines-line, whole_lines-none}
+use Rattle.edge_io.specs.WholeLines.{all_but_last, unlines}
+use Rattle.edge_io.proofs.Feeds.{unlines-push, AllByRecursion-push, all_but_last-push}
 use Rattle.demo_lines.specs.declared.stage.Stage.TheVariants.{Refused}
 use Rattle.demo_lines.specs.declared.line_fault.LineFault.{LineFault}
 use Rattle.demo_lines.specs.declared.line_fault.LineFault.TheVariants as faults
@@ -14,8 +13,8 @@ use Rattle.demo_lines.specs.declared.event.Event.{Event}
 use Rattle.demo_lines.specs.Known.{Reading, is_over, is_refused}
 use Rattle.demo_lines.specs.Lines.{is_end}
 use Rattle.demo_lines.specs.Recording.{next, events_of_line, after, events_of}
-use Rattle.demo_lines.specs.Bytes.{Refusal, refusal, lines_of, cut_end}
-use Rattle.demo_lines.specs.Reads.{Reads, ReadsFront, ReadsQuietly, TakesCutEnd, EndsWithoutFeed, IsTextOf, Refuses, IsRefusedLine, IsLongFront, IsLastPart, EndsAt}
+use Rattle.demo_lines.specs.Bytes.{Refusal, refusal, lines_of}
+use Rattle.demo_lines.specs.Reads.{Reads, ReadsFront, ReadsQuietly, TakesCutEnd, EndsWithoutFeed, Refuses, IsRefusedLine, IsLongFront, IsLastPart, EndsAt}
 use Rattle.demo_lines.proofs.Machines.{run_of-append, outputs_of-append}
 use Rattle.demo_lines.proofs.Parts.{lines_of-unlines, lines_of-none}
 use Rattle.demo_lines.proofs.Ends.{next-counts, ends_after, ends_where_first, ends_long, ends_cut}

@@ -1,20 +1,19 @@
 -- Where a recording is refused.
-use Rattle.std.proofs.Common.{◌≡◌, ℕ, ◌+◌, ◌≤◌, ◌<◌, Bool, true, false, not, ◌&&◌, nat_lt, List, [], ◌∷◌, ◌++◌, length, Option, Some, None, ◌⊎◌, inl, inr, refl, sym, ap, ◌∙◌, subst, cond, arith, option_map, length-append}
+use Rattle.std.proofs.Common.{◌≡◌, ℕ, ◌+◌, ◌≤◌, ◌<◌, Bool, true, false, not, List, [], ◌∷◌, ◌++◌, length, Option, Some, None, ◌⊎◌, inl, inr, refl, ap, ◌∙◌, subst, cond, arith, option_map, length-append}
 use Rattle.std.specs.List.{AllByRecursion}
 use Rattle.std.proofs.lemmas.Bool.Decides.{nat_tests}
 use Rattle.edge_io.specs.Lines.{HasNoLineFeed}
-use Rattle.edge_io.specs.WholeLines.{unlines, whole_lines}
+use Rattle.edge_io.specs.WholeLines.{unlines}
 use Rattle.demo_lines.specs.declared.stage.Stage.{Stage}
 use Rattle.demo_lines.specs.declared.stage.Stage.TheVariants.{Start, Map, Playing, Ended, Refused}
 use Rattle.demo_lines.specs.declared.line.Line.{Line}
 use Rattle.demo_lines.specs.declared.line.Line.TheVariants.{OfMap, Frame, From, End}
 use Rattle.demo_lines.specs.declared.line_fault.LineFault.{LineFault}
 use Rattle.demo_lines.specs.declared.line_fault.LineFault.TheVariants as faults
-use Rattle.demo_lines.specs.declared.event.Event.{Event}
 use Rattle.demo_lines.specs.Known.{Reading, is_over, is_refused, at_stage}
 use Rattle.demo_lines.specs.Lines.{text_of, first_word, rest_of, is_end, line_in}
 use Rattle.demo_lines.specs.Faults.{is_long, is_cut, has_strange_byte, fault_of_words, fault_of}
-use Rattle.demo_lines.specs.Recording.{next, after_test, event_of, events_of_test, events_of_line, after, events_of}
+use Rattle.demo_lines.specs.Recording.{next, after_test, events_of_test, events_of_line, after, events_of}
 use Rattle.demo_lines.specs.Bytes.{Refusal, refusal, refused_at, refused_where, last_part, cut_end, lines_of, events_in}
 use Rattle.demo_lines.specs.Reads.{EndsAt}
 use Rattle.demo_lines.proofs.Machines.{run_of-append, outputs_of-append, run_of-fixed, outputs_of-fixed}

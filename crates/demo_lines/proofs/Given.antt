@@ -1,6 +1,6 @@
 -- What a reader read after its map was given out, as if it were still there.
-use Rattle.std.proofs.Common.{◌≡◌, ℕ, ◌+◌, Bool, true, false, List, [], ◌∷◌, ◌++◌, ◌⊎◌, inl, inr, Option, Some, None, option_map, cond, refl, sym, ap, ◌∙◌, subst}
-use Rattle.edge_io.specs.WholeLines.{all_but_last, whole_lines}
+use Rattle.std.proofs.Common.{◌≡◌, ℕ, ◌+◌, Bool, true, false, List, ◌⊎◌, inl, inr, Option, Some, option_map, cond, refl, sym, ap, ◌∙◌, subst}
+use Rattle.edge_io.specs.WholeLines.{all_but_last}
 use Rattle.demo_lines.specs.declared.event.Event.{Event}
 use Rattle.demo_lines.specs.declared.stage.Stage.{Stage}
 use Rattle.demo_lines.specs.declared.stage.Stage.TheVariants.{Start, Map, Playing, Ended, Refused}
@@ -9,7 +9,7 @@ use Rattle.demo_lines.specs.declared.line_fault.LineFault.TheVariants as faults
 use Rattle.demo_lines.specs.Lines.{text_of, first_word, rest_of}
 use Rattle.demo_lines.specs.Faults.{is_long, is_cut, has_strange_byte, fault_of_words}
 use Rattle.demo_lines.specs.Known.{Reading, without_map, having_map, is_map_whole, is_over, is_refused}
-use Rattle.demo_lines.specs.Recording.{next, after, events_of}
+use Rattle.demo_lines.specs.Recording.{after}
 use Rattle.demo_lines.specs.Bytes.{Refusal, refusal, refused_at, refused_where, lines_of, last_part}
 use Rattle.demo_lines.specs.Reads.{Reads, ReadsFront, ReadsQuietly, Refuses, IsRefusedLine, IsLongFront, IsLastPart, EndsAt}
 use Rattle.demo_lines.proofs.MapGiven.{nothing_needs_the_map, same_without, after-whole, after-kept, next-without}

@@ -1,7 +1,7 @@
 -- The bytes of written lines: all are printed, so none is a line feed or a carriage return.
-use Rattle.std.proofs.Common.{◌≡◌, ℕ, zero, suc, ◌+◌, ◌-◌, ◌^◌, ◌≤◌, ◌<◌, ◌/◌, ◌%◌, ◌==◌, ◌&&◌, Bool, true, false, slice_index, nat_le, List, [], ◌∷◌, ◌++◌, length, take, drop, cond, codes, bytes_eq, refl, sym, ap, ◌∙◌, subst, arith, ℤ, ◌≤ℤ◌, pos, negsuc, decimal, unsigned_abs, rules}
+use Rattle.std.proofs.Common.{◌≡◌, ℕ, zero, suc, ◌-◌, ◌^◌, ◌≤◌, ◌<◌, ◌/◌, ◌%◌, ◌==◌, ◌&&◌, Bool, true, false, slice_index, nat_le, List, [], ◌∷◌, ◌++◌, length, take, drop, cond, codes, bytes_eq, refl, ap, subst, arith, ℤ, ◌≤ℤ◌, pos, negsuc, decimal, unsigned_abs, rules}
 use Rattle.std.specs.Fmt.{signed_decimal}
-use Rattle.std.specs.List.{AllByRecursion, list_all}
+use Rattle.std.specs.List.{AllByRecursion}
 use Rattle.std.specs.Str.{all_ascii_digits}
 use Rattle.std.proofs.lemmas.Bool.Decides.{nat_tests}
 use Rattle.std.proofs.lemmas.Int.{ints}

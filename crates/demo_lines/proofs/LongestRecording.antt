@@ -1,6 +1,6 @@
 -- A recording that has as many lines as a recording may have.
-use Rattle.std.proofs.Common.{◌≡◌, ℕ, zero, suc, ◌+◌, ◌*◌, ◌≤◌, ◌<◌, Bool, true, false, ◌&&◌, ◌||◌, List, [], ◌∷◌, ◌++◌, length, map, flat_map, filter_map, count_by, nat_lt, Option, Some, None, cond, refl, sym, ap, ◌∙◌, subst, arith, ℤ, pos, negsuc, ◌+ℤ◌, int_lt, int_le, length-append, All}
-use Rattle.std.specs.List.{AllByRecursion, AllPairs, list_any}
+use Rattle.std.proofs.Common.{◌≡◌, ℕ, zero, suc, ◌+◌, ◌*◌, ◌<◌, Bool, true, false, ◌&&◌, ◌||◌, List, [], ◌∷◌, ◌++◌, length, map, flat_map, filter_map, count_by, nat_lt, Option, Some, None, cond, refl, sym, ap, ◌∙◌, subst, arith, pos, negsuc, ◌+ℤ◌, int_lt, int_le, length-append, All}
+use Rattle.std.specs.List.{AllByRecursion, AllPairs}
 use Rattle.std.proofs.lemmas.Bool.Decides.{nat_tests}
 use Rattle.std.proofs.lemmas.Int.{ints}
 use Rattle.std.proofs.lemmas.List.{length-map}
@@ -9,14 +9,14 @@ use Rattle.std.proofs.lemmas.List.Sums.{sum_by-append, sum_by-cons}
 use Rattle.std.proofs.lemmas.List.Elements.{All-from_recursion, filter_map-append}
 use Rattle.edge_io.proofs.Feeds.{each_of_both}
 use Rattle.arena_geo.specs.declared.vec3.Vec3.{Vec3}
-use Rattle.arena_geo.specs.Bounds.{Bounds, bounds}
-use Rattle.arena_geo.specs.Boxes.{contains, overlaps, overlaps_on, is_blocked}
+use Rattle.arena_geo.specs.Bounds.{Bounds}
+use Rattle.arena_geo.specs.Boxes.{overlaps, overlaps_on, is_blocked}
 use Rattle.entity_recs.specs.declared.kind.Kind.TheVariants.{Gem}
 use Rattle.arena_map.specs.declared.map_line.MapLine.{MapLine}
 use Rattle.arena_map.specs.declared.map_line.MapLine.TheVariants.{Item, Teleport, Goal, Lift}
 use Rattle.arena_map.specs.MapLines.{is_item_line, is_teleport_line, is_goal_line, is_lift_line}
-use Rattle.arena_map.specs.Places.{is_thick, shaft, shaft_of, raised}
-use Rattle.arena_map.specs.Maps.{MapView, IsSpawn, IsBlock, IsThingInside, IsMap, map_of, shafts_of}
+use Rattle.arena_map.specs.Places.{shaft, shaft_of}
+use Rattle.arena_map.specs.Maps.{MapView, IsSpawn, IsBlock, IsThingInside, IsMap, map_of}
 use Rattle.client_ports.specs.declared.arrival.Arrival.{Arrival}
 use Rattle.demo_lines.specs.declared.line.Line.TheVariants.{OfMap, From, End}
 use Rattle.demo_lines.specs.Spelling.{IsArrival, IsFrame, IsRecording, frame_lines, map_lines, recording_lines, block_line, spawn_line, small_map}

@@ -1,12 +1,10 @@
 -- Once the map is whole, the lines are read as well without it; and how events keep or complete it.
-use Rattle.std.proofs.Common.{◌≡◌, ℕ, ◌≤◌, ◌<◌, Bool, true, false, nat_le, nat_lt, List, [], ◌∷◌, ◌++◌, length, Option, Some, None, Result, Ok, Err, IfOk, IsSome, is_some, option_map, cond, refl, sym, ap, ◌∙◌, subst, arith}
+use Rattle.std.proofs.Common.{◌≡◌, ℕ, ◌<◌, Bool, true, false, nat_le, List, [], ◌∷◌, ◌++◌, length, Option, Some, None, Result, Ok, Err, IfOk, IsSome, option_map, cond, refl, sym, ap, ◌∙◌, subst, arith}
 use Rattle.std.specs.Option.{option_or}
 use Rattle.std.proofs.lemmas.Bool.Decides.{nat_tests}
 use Rattle.edge_io.specs.Numbers.{natural_up_to}
 use Rattle.arena_map.specs.declared.map_line.MapLine.{MapLine}
 use Rattle.arena_map.specs.declared.map_fault.MapFault.TheVariants as rules
-use Rattle.arena_map.specs.Words.{fields_of}
-use Rattle.arena_map.specs.Reading.{has_fields}
 use Rattle.demo_lines.specs.declared.stage.Stage.{Stage}
 use Rattle.demo_lines.specs.declared.stage.Stage.TheVariants.{Start, Map, Playing, Ended, Refused}
 use Rattle.demo_lines.specs.declared.word.Word.{Word}
@@ -15,21 +13,20 @@ use Rattle.demo_lines.specs.declared.line.Line.{Line}
 use Rattle.demo_lines.specs.declared.line.Line.TheVariants.{OfMap, Frame, From, End}
 use Rattle.demo_lines.specs.declared.line_fault.LineFault.{LineFault}
 use Rattle.demo_lines.specs.declared.line_fault.LineFault.TheVariants as faults
-use Rattle.demo_lines.specs.declared.event.Event.{Event}
 use Rattle.demo_lines.specs.Packets.{packet_bytes}
 use Rattle.demo_lines.specs.Known.{Reading, without_map, is_map_whole, is_over, is_refused, at_stage}
 use Rattle.demo_lines.specs.Words.{is_nothing, is_allowed, is_first, from_fields}
 use Rattle.demo_lines.specs.Lines.{text_of, are_printable, first_word, rest_of, line_in}
 use Rattle.demo_lines.specs.Faults.{is_long, has_spawn, fault_of}
-use Rattle.demo_lines.specs.Recording.{next, after_test, events_of_test, events_of_line, after, events_of, lines_left}
-use Rattle.demo_lines.specs.Said.{of_map, map_line_said, packet_said, port_said, from_said, word_said, first_said, line_said, place_fault, after_said}
+use Rattle.demo_lines.specs.Recording.{next, after_test, events_of_test, events_of_line, after, events_of}
+use Rattle.demo_lines.specs.Said.{of_map, map_line_said, packet_said, port_said, from_said, first_said, line_said, place_fault, after_said}
 use Rattle.demo_lines.specs.Readings.{IsReading, IsOfMap, HasMap}
 use Rattle.demo_lines.specs.Reads.{KeepsMap}
-use Rattle.demo_lines.specs.Laws.{MapMayBeGivenOut, NothingNeedsTheMap}
+use Rattle.demo_lines.specs.Laws.{NothingNeedsTheMap}
 use Rattle.demo_lines.proofs.Ends.{next-over, next-long, events_of_line-over, fault_of-long}
 use Rattle.demo_lines.proofs.OnePass.{next-said, fault-said, fault_said}
 use Rattle.demo_lines.proofs.MapWords.{if_ok-here}
-use Rattle.demo_lines.proofs.Taking.{IsTaken, GoesOn, said-goes_on, refusing-goes_on}
+use Rattle.demo_lines.proofs.Taking.{IsTaken}
 
 -- ---- what is said may be taken
 

@@ -1,13 +1,13 @@
 -- A line of the map is of its word's kind, and what reading it in the order of the faults gives.
-use Rattle.std.proofs.Common.{◌≡◌, ℕ, ◌==◌, Bool, true, false, not, List, [], ◌∷◌, Option, Some, None, Result, Ok, Err, cond, IfOk, pos, refl, sym, ap, ◌∙◌, subst}
+use Rattle.std.proofs.Common.{◌≡◌, ℕ, Bool, true, false, not, List, [], ◌∷◌, Option, Some, None, Result, Ok, Err, cond, IfOk, pos, refl, sym, ap, ◌∙◌}
 use Rattle.std.specs.Option.{ok_or}
 use Rattle.edge_io.specs.Fields.{◌>>=◌}
 use Rattle.arena_map.specs.declared.map_line.MapLine.{MapLine}
 use Rattle.arena_map.specs.declared.map_line.MapLine.TheVariants.{Arena, Block, Spawn, Item, Teleport, Goal, Lift}
 use Rattle.arena_map.specs.declared.map_word.MapWord.{MapWord}
 use Rattle.arena_map.specs.declared.map_word.MapWord.TheVariants as map_words
-use Rattle.arena_map.specs.MapLines.{is_arena, is_added}
-use Rattle.arena_map.specs.Words.{map_word, fields_of}
+use Rattle.arena_map.specs.MapLines.{is_arena}
+use Rattle.arena_map.specs.Words.{fields_of}
 use Rattle.arena_map.specs.Reading.{alone, corners_at, point_at, kind_at, count_at, has_fields, line_within, line_of_first}
 use Rattle.demo_lines.specs.declared.stage.Stage.{Stage}
 use Rattle.demo_lines.specs.declared.stage.Stage.TheVariants.{Start, Map, Playing, Ended, Refused}

@@ -1,5 +1,5 @@
 -- A line read in one pass has the same fault and says the same as by the tests one after another.
-use Rattle.std.proofs.Common.{◌≡◌, ℕ, ◌≤◌, Bool, true, false, ◌&&◌, ◌||◌, not, nat_le, nat_lt, List, [], ◌∷◌, length, Option, Some, None, Result, Ok, Err, is_some, is_none, option_map, cond, refl, sym, ap, ◌∙◌, subst, arith, codes, bytes_eq}
+use Rattle.std.proofs.Common.{◌≡◌, ℕ, ◌≤◌, Bool, true, false, not, nat_le, List, [], length, Option, Some, None, Result, Ok, Err, is_some, is_none, option_map, cond, refl, sym, ap, ◌∙◌, arith}
 use Rattle.std.specs.Option.{option_or, ok_or}
 use Rattle.std.specs.Result.{result_ok}
 use Rattle.std.proofs.lemmas.Bool.Decides.{nat_tests}
@@ -16,13 +16,12 @@ use Rattle.demo_lines.specs.declared.line.Line.{Line}
 use Rattle.demo_lines.specs.declared.line.Line.TheVariants.{OfMap, Frame, From, End}
 use Rattle.demo_lines.specs.declared.line_fault.LineFault.{LineFault}
 use Rattle.demo_lines.specs.declared.line_fault.LineFault.TheVariants as faults
-use Rattle.demo_lines.specs.declared.event.Event.{Event}
 use Rattle.demo_lines.specs.Packets.{packet_bytes}
-use Rattle.demo_lines.specs.Known.{Reading, is_over, is_refused, at_stage}
+use Rattle.demo_lines.specs.Known.{Reading, is_over, is_refused}
 use Rattle.demo_lines.specs.Words.{is_nothing, is_allowed, from_fields}
-use Rattle.demo_lines.specs.Lines.{text_of, are_printable, first_word, rest_of, line_of, line_of_first, line_in}
-use Rattle.demo_lines.specs.Faults.{is_long, broken_by_line, broken_by_some, broken_by_frame, fault_of_words, fault_of}
-use Rattle.demo_lines.specs.Recording.{next, after_line, after_test, event_of, events_of_test, events_of_line}
+use Rattle.demo_lines.specs.Lines.{text_of, are_printable, first_word, rest_of, line_of_first, line_in}
+use Rattle.demo_lines.specs.Faults.{is_long, broken_by_line, broken_by_some, fault_of_words, fault_of}
+use Rattle.demo_lines.specs.Recording.{next, after_test, event_of, events_of_test, events_of_line}
 use Rattle.demo_lines.specs.Said.{of_map, from_said, port_said, packet_said, first_said, line_said, place_fault, after_said}
 
 -- the fault of what a line says at its place

@@ -1,7 +1,6 @@
 -- The lines of bytes, and what no line feed ends after them.
-use Rattle.std.proofs.Common.{◌≡◌, ℕ, suc, ◌+◌, ◌-◌, ◌≤◌, ◌<◌, Bool, true, false, ◌&&◌, List, [], ◌∷◌, ◌++◌, ◌⊎◌, inl, inr, length, take, drop, cond, codes, bytes_eq, refl, sym, ap, ◌∙◌, subst, arith, append_assoc, append-nil, length-append, length-take}
+use Rattle.std.proofs.Common.{◌≡◌, ℕ, suc, ◌+◌, ◌-◌, ◌≤◌, ◌<◌, Bool, true, false, ◌&&◌, List, [], ◌∷◌, ◌++◌, ◌⊎◌, inl, inr, length, take, cond, codes, bytes_eq, refl, sym, ap, ◌∙◌, arith, append_assoc, length-take}
 use Rattle.std.specs.List.{slice_split, onto_first, AllByRecursion}
-use Rattle.std.proofs.lemmas.Bool.Decides.{nat_tests}
 use Rattle.std.proofs.lemmas.List.Splits.{slice_split_none, slice_split_at, slice_split-cons_no}
 use Rattle.std.proofs.lemmas.List.Elements.{recursion_from_All}
 use Rattle.edge_io.specs.Lines.{HasNoLineFeed}

@@ -1,8 +1,8 @@
 -- A recording that was written is read as what was written.
-use Rattle.std.proofs.Common.{◌≡◌, ℕ, ◌+◌, ◌≤◌, ◌<◌, ◌≤ℤ◌, Bool, true, false, not, ◌&&◌, ◌||◌, nat_le, nat_lt, List, [], ◌∷◌, ◌++◌, length, map, flat_map, filter_map, count_by, Option, Some, None, Result, Ok, option_map, is_some, cond, refl, sym, ap, ◌∙◌, subst, arith, ℤ, unsigned_abs, append_assoc, append-nil, length-append, All}
+use Rattle.std.proofs.Common.{◌≡◌, ℕ, ◌+◌, ◌≤◌, ◌<◌, ◌≤ℤ◌, Bool, true, false, not, ◌&&◌, nat_le, nat_lt, List, [], ◌∷◌, ◌++◌, length, map, flat_map, filter_map, count_by, Some, None, option_map, cond, refl, sym, ap, ◌∙◌, subst, arith, ℤ, unsigned_abs, append_assoc, append-nil, length-append, All}
 use Rattle.std.specs.Option.{option_or}
 use Rattle.std.specs.Result.{result_ok}
-use Rattle.std.specs.List.{AllByRecursion, AllPairs, list_any}
+use Rattle.std.specs.List.{AllByRecursion, AllPairs}
 use Rattle.std.proofs.lemmas.Bool.Decides.{nat_tests}
 use Rattle.std.proofs.lemmas.Int.{ints}
 use Rattle.std.proofs.lemmas.List.{map-append}
@@ -12,41 +12,36 @@ use Rattle.std.proofs.lemmas.List.Elements.{recursion_from_All, filter_map-appen
 use Rattle.std.proofs.Math.ListN.{get_or-append}
 use Rattle.std.proofs.Math.Seq.{get_or-append_seam}
 use Rattle.edge_io.specs.Lines.{HasNoLineFeed}
-use Rattle.edge_io.specs.WholeLines.{whole_lines}
 use Rattle.edge_io.proofs.Feeds.{each_of_both}
 use Rattle.arena_geo.specs.declared.vec3.Vec3.{Vec3}
 use Rattle.arena_geo.specs.Vectors.{IsNear}
-use Rattle.arena_geo.specs.Bounds.{Bounds, bounds}
+use Rattle.arena_geo.specs.Bounds.{Bounds}
 use Rattle.arena_geo.specs.Boxes.{contains, contains_on, overlaps, is_blocked}
 use Rattle.arena_geo.proofs.Containment.{three_pass}
 use Rattle.arena_map.specs.declared.map_line.MapLine.{MapLine}
 use Rattle.arena_map.specs.declared.map_line.MapLine.TheVariants.{Arena, Block, Spawn, Item, Teleport, Goal, Lift}
-use Rattle.arena_map.specs.declared.map_fault.MapFault.{MapFault}
 use Rattle.arena_map.specs.declared.map_fault.MapFault.TheVariants as fault
-use Rattle.arena_map.specs.Places.{is_thick, is_player_inside, shaft, shaft_of, keeps_box, keeps_stand, keeps_item, keeps_travel}
-use Rattle.arena_map.specs.MapLines.{IsWithinLimits, is_thing_line, is_arena, is_item_line, is_teleport_line, is_goal_line, is_lift_line}
-use Rattle.arena_map.specs.Maps.{MapView, map_of, IsMap, IsBlock, IsSpawn, IsThingInside, is_ready, shafts_of}
+use Rattle.arena_map.specs.Places.{is_thick, shaft, shaft_of, keeps_box, keeps_stand, keeps_item, keeps_travel}
+use Rattle.arena_map.specs.MapLines.{is_thing_line, is_arena, is_item_line, is_teleport_line, is_goal_line, is_lift_line}
+use Rattle.arena_map.specs.Maps.{MapView, map_of, IsMap, IsBlock, IsSpawn, IsThingInside, is_ready}
 use Rattle.arena_map.specs.Rules.{with_line, broken_rule, keeps_count, keeps_shafts, meets_shaft}
 use Rattle.arena_map.proofs.Keeping.{KeepsAll}
 use Rattle.client_ports.specs.declared.arrival.Arrival.{Arrival}
-use Rattle.demo_lines.specs.declared.stage.Stage.{Stage}
-use Rattle.demo_lines.specs.declared.stage.Stage.TheVariants.{Start, Map, Playing, Ended, Refused}
+use Rattle.demo_lines.specs.declared.stage.Stage.TheVariants.{Map, Playing, Ended}
 use Rattle.demo_lines.specs.declared.line.Line.{Line}
 use Rattle.demo_lines.specs.declared.line.Line.TheVariants.{OfMap, Frame, From, End}
-use Rattle.demo_lines.specs.declared.line_fault.LineFault.{LineFault}
 use Rattle.demo_lines.specs.declared.line_fault.LineFault.TheVariants as faults
 use Rattle.demo_lines.specs.declared.event.Event.{Event}
 use Rattle.demo_lines.specs.declared.event.Event.TheVariants as events
-use Rattle.demo_lines.specs.Known.{Reading, start, is_over, is_refused, with_map, with_frame, with_arrival, at_stage}
-use Rattle.demo_lines.specs.Lines.{is_end}
-use Rattle.demo_lines.specs.Recording.{next, after_line, after_test, with_map_line, event_of, events_of_line, after, events_of}
-use Rattle.demo_lines.specs.Said.{line_said, place_fault, after_said}
-use Rattle.demo_lines.specs.Bytes.{last_part, cut_end, lines_of, refused_where, refused_at}
+use Rattle.demo_lines.specs.Known.{Reading, start, is_over, is_refused, with_frame}
+use Rattle.demo_lines.specs.Recording.{next, after_line, after_test, event_of, events_of_line, after, events_of}
+use Rattle.demo_lines.specs.Said.{place_fault, after_said}
+use Rattle.demo_lines.specs.Bytes.{last_part, lines_of, refused_where}
 use Rattle.demo_lines.specs.Spelling.{line_text, IsArrival, IsLine, arena_line, block_line, spawn_line, map_lines, frame_lines, recording_lines, recording_text, frame_events, recording_events, IsFrame, IsRecording}
 use Rattle.demo_lines.specs.Laws.{RecordingsReadBack}
 use Rattle.demo_lines.proofs.Machines.{run_of-append, outputs_of-append}
 use Rattle.demo_lines.proofs.OnePass.{next-short, events-short}
-use Rattle.demo_lines.proofs.Parts.{lines_of-unlines, last_part-unlines}
+use Rattle.demo_lines.proofs.Parts.{lines_of-unlines}
 use Rattle.demo_lines.proofs.Taking.{IsTaken}
 use Rattle.demo_lines.proofs.Ink.{one_line}
 use Rattle.demo_lines.proofs.Written.{line_reads, line_said-back}

@@ -11,8 +11,7 @@ use Rattle.arena_map.specs.declared.map_fault.MapFault.TheVariants as rules
 use Rattle.arena_map.specs.Maps.{MapView, is_ready}
 use Rattle.arena_map.specs.MapLines.{is_arena, is_added, is_item_line, is_teleport_line, is_goal_line, is_lift_line}
 use Rattle.arena_map.specs.Places.{keeps_box}
-use Rattle.arena_map.specs.Rules.{begun_map, with_line, broken_rule, keeps_count}
-use Rattle.client_ports.specs.declared.arrival.Arrival.{Arrival}
+use Rattle.arena_map.specs.Rules.{begun_map, with_line, keeps_count}
 use Rattle.demo_lines.specs.declared.stage.Stage.{Stage}
 use Rattle.demo_lines.specs.declared.stage.Stage.TheVariants.{Start, Map, Playing, Ended, Refused}
 use Rattle.demo_lines.specs.declared.word.Word.TheVariants as words
@@ -20,10 +19,10 @@ use Rattle.demo_lines.specs.declared.line.Line.{Line}
 use Rattle.demo_lines.specs.declared.line.Line.TheVariants.{OfMap, Frame, From, End}
 use Rattle.demo_lines.specs.declared.line_fault.LineFault.{LineFault}
 use Rattle.demo_lines.specs.declared.line_fault.LineFault.TheVariants as faults
-use Rattle.demo_lines.specs.Known.{Reading, is_over, is_map_whole, at_stage, with_map, with_frame, with_arrival}
+use Rattle.demo_lines.specs.Known.{Reading, is_over, is_map_whole, at_stage, with_map}
 use Rattle.demo_lines.specs.Words.{is_allowed}
 use Rattle.demo_lines.specs.Faults.{broken_by_line, broken_by_frame, has_spawn}
-use Rattle.demo_lines.specs.Recording.{after_line, after_test, with_map_line, things_left, map_lines_left, left_at, lines_left}
+use Rattle.demo_lines.specs.Recording.{after_line, after_test, with_map_line, map_lines_left, left_at, lines_left}
 use Rattle.demo_lines.specs.Said.{place_fault, after_said}
 use Rattle.demo_lines.specs.Readings.{IsReading, IsOfMap, IsPlaced, HasMap}
 

@@ -1,9 +1,6 @@
 -- A reader's way over lines that give no event, and where it ends.
 use Rattle.std.proofs.Common.{◌≡◌, ℕ, ◌≤◌, ◌<◌, Bool, true, false, List, [], ◌∷◌, ◌⊎◌, inl, inr, Option, Some, None, Result, Ok, Err, IfSome, IfOk, IfErr, OnOk, cond, refl, sym, ap, ◌∙◌, subst, arith}
-use Rattle.std.specs.Result.{result_ok}
 use Rattle.edge_io.specs.Lines.{GivesLine, GivesLastPart}
-use Rattle.demo_lines.specs.declared.stage.Stage.{Stage}
-use Rattle.demo_lines.specs.declared.stage.Stage.TheVariants.{Start, Map, Playing, Ended, Refused}
 use Rattle.demo_lines.specs.declared.line.Line.{Line}
 use Rattle.demo_lines.specs.declared.line.Line.TheVariants.{OfMap, Frame, From, End}
 use Rattle.demo_lines.specs.declared.line_fault.LineFault.{LineFault}
@@ -13,12 +10,12 @@ use Rattle.demo_lines.specs.declared.event.Event.{Event}
 use Rattle.demo_lines.specs.declared.event.Event.TheVariants as events
 use Rattle.demo_lines.specs.Known.{Reading, is_over, is_refused, is_map_whole}
 use Rattle.demo_lines.specs.Lines.{is_end, line_in}
-use Rattle.demo_lines.specs.Faults.{fault_of, is_long}
-use Rattle.demo_lines.specs.Recording.{next, after_test, event_of, events_of_test, events_of_line, lines_left}
-use Rattle.demo_lines.specs.Said.{line_said, after_said}
+use Rattle.demo_lines.specs.Faults.{fault_of}
+use Rattle.demo_lines.specs.Recording.{next, after_test, events_of_test, events_of_line, lines_left}
+use Rattle.demo_lines.specs.Said.{line_said}
 use Rattle.demo_lines.specs.Bytes.{Refusal, refusal}
 use Rattle.demo_lines.specs.Readings.{IsReading}
-use Rattle.demo_lines.specs.Reads.{Reads, ReadsQuietly, Refuses, EndsAt, IsQuiet, IsRefusedAt, IsRefusedLast, TakesCutEnd, OnRefused, OnReadFault, OnNoMemory, stage_after}
+use Rattle.demo_lines.specs.Reads.{Reads, ReadsQuietly, Refuses, EndsAt, IsQuiet, IsRefusedAt, IsRefusedLast, TakesCutEnd, OnRefused, OnNoMemory, stage_after}
 use Rattle.demo_lines.proofs.Consuming.{ReadsWhole, whole-nil, whole-line, quiet-whole, reads-whole, Reads-cut, takes_cut_end, Refuses-line, Refuses-end, refused_by_line, refused_by_end, refused_by_cut_end}
 use Rattle.demo_lines.proofs.Ends.{next-counts}
 use Rattle.demo_lines.proofs.OnePass.{next-short, events-short}

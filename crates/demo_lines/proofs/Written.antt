@@ -1,8 +1,7 @@
 -- Lines that were written are read as what was written.
-use Rattle.std.proofs.Common.{◌≡◌, ℕ, suc, ◌+◌, ◌*◌, ◌^◌, ◌≤◌, ◌<◌, ◌==◌, ◌&&◌, Bool, true, false, not, List, [], ◌∷◌, ◌++◌, length, Option, Some, None, Result, Ok, Err, is_some, option_map, cond, codes, bytes_eq, refl, sym, ap, ◌∙◌, subst, arith, ℤ, ◌≤ℤ◌, pos, negsuc, unsigned_abs, decimal, append-nil, length-append, rules}
+use Rattle.std.proofs.Common.{◌≡◌, ℕ, suc, ◌+◌, ◌*◌, ◌^◌, ◌≤◌, ◌<◌, ◌&&◌, Bool, true, false, not, List, [], ◌∷◌, ◌++◌, length, Option, Some, None, Result, Ok, Err, is_some, option_map, cond, codes, bytes_eq, refl, sym, ap, ◌∙◌, subst, arith, ℤ, ◌≤ℤ◌, pos, negsuc, unsigned_abs, decimal, append-nil, length-append, rules}
 use Rattle.std.specs.Option.{ok_or}
 use Rattle.std.specs.Fmt.{signed_decimal}
-use Rattle.std.proofs.lemmas.Bool.Decides.{nat_tests}
 use Rattle.std.proofs.lemmas.Int.{ints}
 use Rattle.std.proofs.lemmas.Fmt.{length-decimal-le}
 use Rattle.hex.specs.Hex.{lower_digits}
@@ -11,7 +10,7 @@ use Rattle.edge_io.specs.Lines.{AreBytes}
 use Rattle.edge_io.specs.Numbers.{natural_up_to, is_integer}
 use Rattle.edge_io.specs.Fields.{◌>>=◌, cut, field_at, field_text}
 use Rattle.edge_io.proofs.Decimals.{natural-decimal, natural-integer}
-use Rattle.edge_io.proofs.FieldTexts.{AreAbove, IsEnd, decimal_above, cut-field, field_at-field}
+use Rattle.edge_io.proofs.FieldTexts.{decimal_above, cut-field, field_at-field}
 use Rattle.arena_geo.specs.declared.vec3.Vec3.{Vec3}
 use Rattle.arena_geo.specs.Vectors.{IsNear}
 use Rattle.arena_map.specs.declared.map_line.MapLine.{MapLine}
@@ -22,7 +21,7 @@ use Rattle.entity_recs.specs.declared.kind.Kind.{Kind}
 use Rattle.entity_recs.specs.declared.kind.Kind.TheVariants as kinds
 use Rattle.arena_map.specs.MapLines.{IsWithinLimits, is_item, is_arena}
 use Rattle.arena_map.specs.Words.{map_word, fields_of, word_text, kind_text}
-use Rattle.arena_map.specs.Reading.{has_fields, line_within, line_of_first, map_line_of}
+use Rattle.arena_map.specs.Reading.{has_fields, line_within, line_of_first}
 use Rattle.arena_map.specs.Spelling.{word_of, point_text, fields_text, map_line_text}
 use Rattle.arena_map.proofs.LinesBack.{line-back}
 use Rattle.client_ports.specs.declared.arrival.Arrival.{Arrival}
@@ -38,7 +37,6 @@ use Rattle.demo_lines.specs.Packets.{packet_bytes}
 use Rattle.demo_lines.specs.Words.{word_in, is_arena_word, is_nothing, from_fields, has_form, is_allowed}
 use Rattle.demo_lines.specs.Lines.{text_of, are_printable, first_word, rest_of, from_of, line_in}
 use Rattle.demo_lines.specs.Lines as lines
-use Rattle.demo_lines.specs.Faults.{is_long}
 use Rattle.demo_lines.specs.Said.{of_map, packet_said, port_said, from_said, word_said, first_said, line_said}
 use Rattle.demo_lines.specs.Spelling.{packet_text, line_text, IsArrival, IsLine}
 use Rattle.demo_lines.specs.Laws.{PacketsHaveRoom, IsReadAs}

@@ -206,8 +206,8 @@ impl DemoReader {
     ///
     /// After [`Event::End`] each later call gives it again, and after a stop each later call gives the stop again;
     /// neither reads anything. [`DemoStop::ReadFault`] first comes only where the source's count of faults rose, and
-    /// the count rises nowhere else. No more is read than is needed for the event or the refusal. Memory is taken for
-    /// the map alone.
+    /// the count rises nowhere else. No more is read than is needed for the event or the refusal: an `end` without its
+    /// line feed is known where the source has given its end. Memory is taken for the map alone.
     pub fn next<S: Source>(&mut self, alloc: Global, source: &mut S) -> Result<Event, DemoStop>
         // An event.
         ensures event { IsOpen self.old → IfOk result (λ e. Reads self.old.reading self.new.reading

@@ -3,7 +3,7 @@ use Rattle.std.proofs.lemmas.Result.{err_from_is_err_and}
 use Rattle.demo_lines.proofs.Walks.{walk_event, walk_on, walk_refused_at, walk_taken_at, walk_quiet, last_event, last_needed, last_refused, last_taken, on_refused, on_no_memory, whole_after, stage_after-line, goes_on-quiet}
 use Rattle.demo_lines.specs.Known.{is_map_whole}
 use Rattle.demo_lines.proofs.MapGiven.{so_far-line, keeps_map}
-use Rattle.demo_lines.proofs.Consuming.{Refuses-long, Refuses-end, refused_by_length, refused_by_end, ReadsFront-drained}
+use Rattle.demo_lines.proofs.Consuming.{Refuses-long, refused_by_length, ReadsFront-drained}
 use Rattle.edge_io.proofs.ReadingAhead.{HasNotReadAhead-trans}
 use Rattle.demo_lines.proofs.demo_reader.next_event.Goals as goal
 

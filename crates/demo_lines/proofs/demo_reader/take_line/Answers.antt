@@ -1,8 +1,8 @@
-use Rattle.std.proofs.Common.{◌≡◌, false, option_to_list, sym, ap, ◌∙◌}
+use Rattle.std.proofs.Common.{sym, ap, ◌∙◌}
 use Rattle.std.specs.Result.{result_ok}
 use Rattle.demo_lines.specs.Known.{Reading, is_refused}
 use Rattle.demo_lines.specs.Bytes.{refusal}
-use Rattle.demo_lines.specs.Recording.{event_of, next}
+use Rattle.demo_lines.specs.Recording.{event_of}
 use Rattle.demo_lines.specs.Said.{line_said, after_said}
 use Rattle.demo_lines.proofs.OnePass.{next-short, events-short, not_refused}
 use Rattle.demo_lines.proofs.demo_reader.take_line.Goals as goal

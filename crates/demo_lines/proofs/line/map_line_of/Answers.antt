@@ -1,5 +1,4 @@
 use Rattle.std.proofs.Common.{ap, ◌∙◌}
-use Rattle.arena_map.specs.Reading.{map_line_of}
 use Rattle.demo_lines.specs.Said.{in_order}
 use Rattle.demo_lines.proofs.MapWords.{map_line-in_order, if_ok-here}
 use Rattle.demo_lines.proofs.line.map_line_of.Goals as goal

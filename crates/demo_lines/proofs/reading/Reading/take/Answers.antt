@@ -1,4 +1,3 @@
-use Rattle.std.proofs.Common.{Ok, Err, subst, sym}
 use Rattle.demo_lines.proofs.Taking.{placed-goes_on, holds_either, fewer_either}
 use Rattle.demo_lines.proofs.reading.Reading.take.Goals as goal
 

@@ -1,4 +1,4 @@
-use Rattle.std.proofs.Common.{◌≡◌, Ok, Err, Some, None, sym, ap, ◌∙◌, subst, option_map, rules}
+use Rattle.std.proofs.Common.{◌≡◌, Err, Some, sym, ap, ◌∙◌, subst, option_map, rules}
 use Rattle.demo_lines.specs.declared.line.Line.TheVariants.{OfMap}
 use Rattle.demo_lines.specs.declared.line_fault.LineFault.TheVariants.{Rule}
 use Rattle.demo_lines.specs.declared.stage.Stage.TheVariants.{Refused}
