@@ -35,7 +35,8 @@ fn serve_arguments<S: Source, K: Sink>(
     ensures done { IfOk result (λ report. (n : ℕ) → AsksToPlay (map string_bytes arguments.now) n → report.status ≡ 0 → IfSome (S.left source.old) (λ bytes.
         Writes (K.taken sink.old) (K.taken sink.new) (IsOutput n bytes))) }
     ensures read { IfOk result (λ report. (n : ℕ) → AsksToPlay (map string_bytes arguments.now) n → report.status ≡ 0 →
-        ReadsToEnd source.old source.new (S.last source.new) (S.left source.old) (S.left source.new)) }
+        ReadsToEnd source.old source.new (S.last source.new) (S.ended source.new ≡ S.ended source.old) (S.ended source.new ≡ true)
+        (S.left source.old) (S.left source.new)) }
     ensures recording_refused { IfOk result (λ report. (n : ℕ) → AsksToPlay (map string_bytes arguments.now) n → report.status ≡ 1 → IfSome (S.left source.old) (λ bytes.
         Writes (K.taken sink.old) (K.taken sink.new) (IsRefused n bytes))) }
     ensures untouched { IfOk result (λ report. report.status ≡ 2 → (source.new ≡ source.old) × (sink.new ≡ sink.old)) }
@@ -64,7 +65,8 @@ pub fn answer<S: Source, K: Sink>(
     ensures done { (n : ℕ) → IsOkAnd arguments (λ all. AsksToPlay (map string_bytes all.items) n) → result.status ≡ 0 → IfSome (S.left source.old) (λ bytes.
         Writes (K.taken sink.old) (K.taken sink.new) (IsOutput n bytes)) }
     ensures read { (n : ℕ) → IsOkAnd arguments (λ all. AsksToPlay (map string_bytes all.items) n) → result.status ≡ 0 →
-        ReadsToEnd source.old source.new (S.last source.new) (S.left source.old) (S.left source.new) }
+        ReadsToEnd source.old source.new (S.last source.new) (S.ended source.new ≡ S.ended source.old) (S.ended source.new ≡ true)
+        (S.left source.old) (S.left source.new) }
     ensures recording_refused { (n : ℕ) → IsOkAnd arguments (λ all. AsksToPlay (map string_bytes all.items) n) → result.status ≡ 1 → IfSome (S.left source.old) (λ bytes.
         Writes (K.taken sink.old) (K.taken sink.new) (IsRefused n bytes)) }
     ensures untouched { result.status ≡ 2 → (source.new ≡ source.old) × (sink.new ≡ sink.old) }

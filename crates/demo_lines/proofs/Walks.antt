@@ -11,7 +11,7 @@ use Rattle.demo_lines.specs.declared.event.Event.TheVariants as events
 use Rattle.demo_lines.specs.Known.{Reading, is_over, is_refused, is_map_whole}
 use Rattle.demo_lines.specs.Lines.{is_end, line_in}
 use Rattle.demo_lines.specs.Faults.{fault_of}
-use Rattle.demo_lines.specs.Recording.{next, after_test, events_of_test, events_of_line, lines_left}
+use Rattle.demo_lines.specs.Recording.{next, after_test, event_of, events_of_test, events_of_line, lines_left}
 use Rattle.demo_lines.specs.Said.{line_said}
 use Rattle.demo_lines.specs.Bytes.{Refusal, refusal}
 use Rattle.demo_lines.specs.Readings.{IsReading}
