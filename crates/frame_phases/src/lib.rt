@@ -12,3 +12,5 @@ mod journal;
 mod limits;
 mod moves;
 mod server;
+#[cfg(test)]
+mod tests;
