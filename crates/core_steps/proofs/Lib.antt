@@ -27,3 +27,4 @@ pub mod Resolved
 pub mod Claiming
 pub mod Stores
 pub mod Storing
+pub mod Appending
