@@ -28,3 +28,4 @@ pub mod Claiming
 pub mod Stores
 pub mod Storing
 pub mod Appending
+pub mod Changes
