@@ -29,3 +29,4 @@ pub mod Stores
 pub mod Storing
 pub mod Appending
 pub mod Changes
+pub mod Elsewhere
