@@ -30,3 +30,4 @@ pub mod Storing
 pub mod Appending
 pub mod Changes
 pub mod Elsewhere
+pub mod Committing
