@@ -31,3 +31,4 @@ pub mod Appending
 pub mod Changes
 pub mod Elsewhere
 pub mod Committing
+pub mod Commits

@@ -1,5 +1,5 @@
 -- That each kind of step keeps what stands.
-use Rattle.std.specs.Prelude.{◌≡◌, ℕ, ◌<◌, ◌==◌, length, true, false, List, [], ◌∷◌, Some, None}
+use Rattle.std.specs.Prelude.{◌≡◌, ℕ, ◌<◌, ◌==◌, length, true, false, List, [], ◌∷◌, ◌++◌, Some, None}
 use Rattle.entity_recs.specs.declared.kind.Kind.TheVariants.{Player}
 use Rattle.entity_recs.specs.declared.rec.Rec.{Rec}
 use Rattle.entity_recs.specs.Records.{with_state}
@@ -9,9 +9,9 @@ use Rattle.core_steps.specs.Encoding.{words_of, record_from}
 use Rattle.entity_recs.specs.declared.effect.Effect.{Effect}
 use Rattle.entity_recs.specs.Commands.{Command}
 use Rattle.entity_recs.specs.Worlds.{World}
-use Rattle.entity_recs.specs.Histories.{Item}
-use Rattle.core_steps.specs.Views.{Store, Storing, Fixed, Resolving, record_read, write_nodes, effect_loaded, Idle, Owning, Checking, Sensing, Loading, Entered, stage_of, is_busy}
-use Rattle.core_steps.specs.Steps.{store_next, Core, first, claim_node, next_take, take_node, refuse_node, next_give, give_node, is_taking, first_yield, yield_node, yield_nothing, load_list, begin_move, load_own, load_again, load_player, load_state, make_seat, end_seat, load_count}
+use Rattle.entity_recs.specs.Histories.{Item, apply}
+use Rattle.core_steps.specs.Views.{Store, Storing, Fixed, Resolving, Claiming, record_read, write_nodes, effect_loaded, Idle, Owning, Checking, Sensing, Loading, Entered, stage_of, is_busy}
+use Rattle.core_steps.specs.Steps.{store_next, item_at, commit, Core, first, claim_node, next_take, take_node, refuse_node, next_give, give_node, is_taking, first_yield, yield_node, yield_nothing, load_list, begin_move, load_own, load_again, load_player, load_state, make_seat, end_seat, load_count}
 use Rattle.core_steps.specs.Stands.{IsGiven, IsLawful, IsStart, Stands, start_core, items_of, IsNumbered}
 
 -- a seat is there and has no command in hand
@@ -137,3 +137,17 @@ abbrev pub StoredNextStands : Type 0
 StoredNextStands =
     (F : Fixed) (core : Core) (history : List Item) (now : World) (i : ℕ) (nodes : List ℕ) (store : Store) (stores : List Store) → IsLawful F → IsStart F
     → (core.view i).point ≡ Storing nodes (store ∷ stores) → Stands F core history now → Stands F (store_next core i nodes store stores) history now
+
+-- a commit of the effect in view, where the write nodes are held, appends the seat's command with its entry to the history, and leaves what stands
+abbrev pub CommittedHeldStands : Type 0
+CommittedHeldStands =
+    (F : Fixed) (core : Core) (history : List Item) (now : World) (i : ℕ) (nodes : List ℕ) (e : Effect) → IsLawful F → IsStart F
+    → (core.view i).point ≡ Claiming nodes [] → (core.view i).effect ≡ Some e → Stands F core history now
+    → Stands F (commit F core i e nodes) (history ++ item_at core.words.commits (core.view i) e ∷ []) (apply F.effect_of now (core.view i).cmd)
+
+-- a commit without write nodes, with which the effect that the action gives on what was loaded enters the view, does the same
+abbrev pub CommittedFreeStands : Type 0
+CommittedFreeStands =
+    (F : Fixed) (core : Core) (history : List Item) (now : World) (i : ℕ) (e : Effect) → IsLawful F → IsStart F → (core.view i).point ≡ Resolving
+    → e ≡ effect_loaded F (core.view i) → write_nodes F (record_read (core.view i).cmd.slot (core.view i).again) e ≡ [] → Stands F core history now
+    → Stands F (commit F core i e []) (history ++ item_at core.words.commits (core.view i) e ∷ []) (apply F.effect_of now (core.view i).cmd)

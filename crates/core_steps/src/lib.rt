@@ -2,7 +2,7 @@
 #![tactic(auto)]
 
 pub use laws::{
-    begun_move_stands, claimed_node_stands, encoded_is_decoded, ended_seat_keeps_items,
+    begun_move_stands, claimed_node_stands, committed_free_stands, committed_held_stands, encoded_is_decoded, ended_seat_keeps_items,
     ended_seat_stands, given_node_stands, layout_is_right, loaded_again_stands,
     loaded_count_stands, loaded_list_stands, loaded_own_stands, loaded_player_stands,
     loaded_state_stands, made_seat_stands, refused_node_stands, start_stands, stored_next_stands,
