@@ -1,8 +1,8 @@
 -- What an effect that is applied changes, what it leaves, and that its stores put just that.
-use Rattle.std.proofs.Common.{◌≡◌, ℕ, suc, ◌+◌, ◌<◌, ◌≤◌, true, false, List, [], ◌∷◌, ◌++◌, length, map, refl, sym, ap, ◌∙◌, subst, inl, inr, Some, None, arith}
-use Rattle.std.specs.Prelude.{◌==◌, ◌||◌, ◌&&◌, nat_lt, is_some}
+use Rattle.std.proofs.Common.{◌≡◌, ℕ, suc, ◌+◌, ◌<◌, ◌≤◌, true, false, List, [], ◌∷◌, ◌++◌, length, map, refl, sym, ap, ◌∙◌, subst, inl, inr, Some, arith}
+use Rattle.std.specs.Prelude.{◌==◌, ◌||◌, nat_lt, is_some}
 use Rattle.std.specs.List.{AllByRecursion, IsDistinct}
-use Rattle.std.proofs.lemmas.Bool.{cases_Bool, false≢true, true≢false, eqb-true, eq-eqb, and_parts, and_from, or_cases, or_parts, or_left, or_right, ltb-true, cond-true, cond-false, ne_eqb}
+use Rattle.std.proofs.lemmas.Bool.{cases_Bool, false≢true, true≢false, eqb-true, eq-eqb, and_parts, and_from, or_cases, or_parts, ltb-true, cond-true, cond-false}
 use Rattle.std.proofs.lemmas.Map.Keys.{IsDistinct-head, IsDistinct-tail}
 use Rattle.entity_recs.specs.declared.rec.Rec.{Rec}
 use Rattle.entity_recs.specs.declared.effect.NewState.{NewState}
@@ -109,9 +109,10 @@ written_is_owed F slot old e (State id) live written =
 pub each_listed : (P : NewState → Type 0) (all states : List NewState) → ((t : NewState) → is_some (state_at states t.id) ≡ true → is_some (state_at all t.id) ≡ true)
     → ((s : NewState) → is_some (state_at all s.id) ≡ true → P s) → AllByRecursion P states
 each_listed P all [] more each = tt
-each_listed P all (s ∷ states) more each =
-    (each s (more s (ap is_some (cond-true (s.id == s.id) (Some s.state) (state_at states s.id) (eq-eqb s.id s.id refl)))),
-    each_listed P all states (λ t there. more t (later s t states there)) each)
+each_listed P all (s ∷ states) more each = (
+  each s (more s (ap is_some (cond-true (s.id == s.id) (Some s.state) (state_at states s.id) (eq-eqb s.id s.id refl)))),
+  each_listed P all states (λ t there. more t (later s t states there)) each,
+)
   where
     later : (s t : NewState) (states : List NewState) → is_some (state_at states t.id) ≡ true → is_some (state_at (s ∷ states) t.id) ≡ true
     later s t states there = elim (cases_Bool (s.id == t.id)) [ inl e ↦ rw e refl | inr e ↦ rw e there ]
@@ -120,17 +121,19 @@ each_listed P all (s ∷ states) more each =
 new_states : (states : List NewState) (f : ℕ → Rec) → IsDistinct (λ (a b : NewState). a.id == b.id) states
     → AllByRecursion (λ (s : NewState). s.state ≡ (with_new_state states s.id (f s.id)).state) states
 new_states [] f apart = tt
-new_states (s ∷ states) f apart =
-    (ap (λ (r : Rec). r.state) (sym (cond-true (s.id == s.id) (record (f s.id) { state = s.state }) (with_new_state states s.id (f s.id)) (eq-eqb s.id s.id refl))),
-    skipped states (IsDistinct-head (λ (a b : NewState). a.id == b.id) s states apart) (new_states states f (IsDistinct-tail (λ (a b : NewState). a.id == b.id) s states apart)))
+new_states (s ∷ states) f apart = (
+  ap (λ (r : Rec). r.state) (sym (cond-true (s.id == s.id) (record (f s.id) { state = s.state }) (with_new_state states s.id (f s.id)) (eq-eqb s.id s.id refl))),
+  skipped states (IsDistinct-head (λ (a b : NewState). a.id == b.id) s states apart) (new_states states f (IsDistinct-tail (λ (a b : NewState). a.id == b.id) s states apart)),
+)
   where
     skipped : (some : List NewState) → AllByRecursion (λ (t : NewState). (s.id == t.id) ≡ false) some
         → AllByRecursion (λ (t : NewState). t.state ≡ (with_new_state states t.id (f t.id)).state) some
         → AllByRecursion (λ (t : NewState). t.state ≡ (with_new_state (s ∷ states) t.id (f t.id)).state) some
     skipped [] differ all = tt
-    skipped (t ∷ some) differ all =
-        (all.0 ∙ ap (λ (r : Rec). r.state) (sym (cond-false (s.id == t.id) (record (f t.id) { state = s.state }) (with_new_state states t.id (f t.id)) differ.0)),
-        skipped some differ.1 all.1)
+    skipped (t ∷ some) differ all = (
+      all.0 ∙ ap (λ (r : Rec). r.state) (sym (cond-false (s.id == t.id) (record (f t.id) { state = s.state }) (with_new_state states t.id (f t.id)) differ.0)),
+      skipped some differ.1 all.1,
+    )
 
 owes_states : (now : World) (states : List NewState) (rest : List Store) → AllByRecursion (λ (s : NewState). s.state ≡ (now.record_of s.id).state) states → OwesRight now rest
     → OwesRight now (map (λ (s : NewState). Put (State s.id) s.state) states ++ rest)
@@ -145,26 +148,44 @@ owes_outcome F w c old apart others =
     let e = outcome F.effect_of w c in
     let new = apply F.effect_of w c in
     let me : e.me ≡ new.record_of c.slot = sym (cond-true (c.slot == c.slot) e.me (with_new_state e.states c.slot (w.record_of c.slot)) (eq-eqb c.slot c.slot refl)) in
-    let word : (k : ℕ) → nth_word (words_of e.me) k ≡ nth_word (words_of (new.record_of c.slot)) k = λ k. ap (λ (r : Rec). nth_word (words_of r) k) me in
-    (word 0, (word 1, (word 2, (word 3, (word 4, (ap (λ (r : Rec). r.state) me,
-    owes_states new e.states (Link (home F e.me) ∷ []) (moved e.states (each_listed (λ (s : NewState). (s.id == c.slot) ≡ false) e.states e.states (λ t there. there) (λ s there. others s.id there))
-    (new_states e.states w.record_of apart)) tt))))))
+    let word : (k : ℕ) → nth_word (words_of e.me) k ≡ nth_word (words_of (new.record_of c.slot)) k = λ k. ap (λ (r : Rec). nth_word (words_of r) k) me in (
+      word 0,
+      (
+        word 1,
+        (
+          word 2,
+          (
+            word 3,
+            (
+              word 4,
+              (
+                ap (λ (r : Rec). r.state) me,
+                owes_states new e.states (Link (home F e.me) ∷ []) (moved e.states (each_listed (λ (s : NewState). (s.id == c.slot) ≡ false) e.states e.states (λ t there. there) (λ s there. others s.id there))
+                    (new_states e.states w.record_of apart)) tt,
+              ),
+            ),
+          ),
+        ),
+      ),
+    )
   where
     moved : (some : List NewState) → AllByRecursion (λ (s : NewState). (s.id == c.slot) ≡ false) some
         → AllByRecursion (λ (s : NewState). s.state ≡ (with_new_state (outcome F.effect_of w c).states s.id (w.record_of s.id)).state) some
         → AllByRecursion (λ (s : NewState). s.state ≡ ((apply F.effect_of w c).record_of s.id).state) some
     moved [] differ all = tt
-    moved (s ∷ some) differ all =
-        (all.0 ∙ ap (λ (r : Rec). r.state) (sym (cond-false (s.id == c.slot) (outcome F.effect_of w c).me (with_new_state (outcome F.effect_of w c).states s.id (w.record_of s.id)) differ.0)),
-        moved some differ.1 all.1)
+    moved (s ∷ some) differ all = (
+      all.0 ∙ ap (λ (r : Rec). r.state) (sym (cond-false (s.id == c.slot) (outcome F.effect_of w c).me (with_new_state (outcome F.effect_of w c).states s.id (w.record_of s.id)) differ.0)),
+      moved some differ.1 all.1,
+    )
 
 -- what is owed of a list is right in another world that gives the same values to its cells
 pub owes_still : (now new : World) (stores : List Store) → ((cell : Cell) → is_some (owed_at stores cell) ≡ true → value_in new cell ≡ value_in now cell) → OwesRight now stores → OwesRight new stores
 owes_still now new [] same right = tt
 owes_still now new (Clear node ∷ stores) same right = owes_still now new stores same right
-owes_still now new (Put cell x ∷ stores) same right =
-    (right.0 ∙ sym (same cell (ap is_some (cond-true (is_cell cell cell) (Some x) (owed_at stores cell) (is_itself cell)))),
-    owes_still now new stores (λ other owed. same other (owed_second (Put cell x ∷ []) stores other owed)) right.1)
+owes_still now new (Put cell x ∷ stores) same right = (
+  right.0 ∙ sym (same cell (ap is_some (cond-true (is_cell cell cell) (Some x) (owed_at stores cell) (is_itself cell)))),
+  owes_still now new stores (λ other owed. same other (owed_second (Put cell x ∷ []) stores other owed)) right.1,
+)
   where
     is_itself : (cell : Cell) → is_cell cell cell ≡ true
     is_itself (Body p k) = and_from (p == p) (k == k) (eq-eqb p p refl) (eq-eqb k k refl)

@@ -1,9 +1,9 @@
 -- The two kinds of commit: with write nodes held, and without any.
-use Rattle.std.proofs.Common.{◌≡◌, ℕ, true, List, [], ◌∷◌, ◌++◌, refl, sym, ap, ◌∙◌, subst, Some, append-nil}
+use Rattle.std.proofs.Common.{◌≡◌, ℕ, true, List, [], ◌∷◌, ◌++◌, refl, sym, ap, ◌∙◌, subst, append-nil}
 use Rattle.entity_recs.specs.declared.effect.Effect.{Effect}
 use Rattle.entity_recs.specs.Worlds.{World}
 use Rattle.entity_recs.specs.Histories.{Item, outcome, apply}
-use Rattle.core_steps.specs.Views.{Fixed, Point, Resolving, Claiming, AtReading, AtClaiming, AtStoring, stage_of, is_settled, is_read_again, record_read, write_nodes, inner_held, leaves_held, holds, held_word}
+use Rattle.core_steps.specs.Views.{Fixed, Point, Resolving, Claiming, AtReading, AtClaiming, AtStoring, stage_of, is_settled, is_read_again, record_read, write_nodes, inner_held, holds, held_word}
 use Rattle.core_steps.specs.Steps.{Core, item_at, commit}
 use Rattle.core_steps.specs.Stands.{IsStart, IsLawful, Stands}
 use Rattle.core_steps.specs.Laws.{CommittedHeldStands, CommittedFreeStands}

@@ -1,30 +1,25 @@
 -- The commit: the seat's item joins the history, its stores are owed, and all other seats stand in the run of the longer history.
-use Rattle.std.proofs.Common.{◌≡◌, ℕ, suc, ◌+◌, ◌<◌, ◌≤◌, Bool, true, false, List, [], ◌∷◌, ◌++◌, length, refl, sym, ap, ◌∙◌, subst, inl, inr, Option, Some, None, arith, append_assoc, length-append}
+use Rattle.std.proofs.Common.{◌≡◌, ℕ, suc, ◌<◌, Bool, true, false, List, [], ◌∷◌, ◌++◌, length, refl, sym, ap, ◌∙◌, subst, inl, inr, Some, None, arith, append_assoc, length-append}
 use Rattle.std.specs.Prelude.{◌==◌, ◌||◌, ◌&&◌, nat_lt, is_some, All}
-use Rattle.std.specs.List.{AllByRecursion}
 use Rattle.std.specs.List.Sorted.{IsPermutation}
-use Rattle.std.proofs.lemmas.Bool.{cases_Bool, false≢true, true≢false, eqb-true, eq-eqb, and_from, and_parts, or_cases, or_parts, or_left, or_right, lt-ltb, cond-true, cond-false, false_from_ne_true}
-use Rattle.std.proofs.lemmas.List.Elements.{All-append, All-weaker, All-from_recursion, recursion_from_All}
+use Rattle.std.proofs.lemmas.Bool.{cases_Bool, false≢true, true≢false, eqb-true, and_parts, or_cases, or_parts, or_left, or_right, cond-true, cond-false, false_from_ne_true}
+use Rattle.std.proofs.lemmas.List.Elements.{All-append, All-weaker, All-from_recursion}
 use Rattle.std.proofs.lemmas.List.Sorted.{IsPermutation-trans, IsPermutation-append_left}
-use Rattle.arena_geo.specs.Bounds.{Bounds}
 use Rattle.entity_recs.specs.declared.rec.Rec.{Rec}
 use Rattle.entity_recs.specs.declared.effect.Effect.{Effect}
-use Rattle.entity_recs.specs.Bodies.{abs_of}
-use Rattle.entity_recs.specs.Commands.{Command}
 use Rattle.entity_recs.specs.Worlds.{World, others_of}
 use Rattle.entity_recs.specs.Histories.{Item, entry_of, outcome, apply, run}
 use Rattle.areanode.specs.Words.{has_bit}
-use Rattle.areanode.specs.Trees.{node_of}
 use Rattle.core_steps.specs.Cells.{Words, Cell, Body, State, put, word_in, cell_of}
 use Rattle.core_steps.specs.Encoding.{words_of, nth_word}
-use Rattle.core_steps.specs.Views.{Fixed, Store, Point, Storing, Stage, AtRest, AtOwning, AtTaking, AtChecking, AtReading, AtClaiming, AtStoring, AtReleasing, AtReturning, AtYielding, stage_of, is_busy, is_open, is_settled, is_committed, is_read_again, is_storing, PlayerRead, Ended, View, spent, has, home, record_read, region_in, write_nodes, stores_of, inner_held, leaves_held, holds, held_word, stores_owed, list_at, player_at, state_at}
+use Rattle.core_steps.specs.Views.{Fixed, Store, Stage, AtRest, AtOwning, AtTaking, AtChecking, AtReading, AtClaiming, AtStoring, AtReleasing, AtReturning, AtYielding, stage_of, is_busy, is_open, is_settled, is_committed, is_read_again, is_storing, Ended, View, spent, has, home, record_read, region_in, write_nodes, inner_held, leaves_held, holds, held_word, stores_owed, list_at, state_at}
 use Rattle.core_steps.specs.Steps.{Core, item_at, view_after_commit, commit}
-use Rattle.core_steps.specs.Stands.{IsGiven, IsStart, IsLawful, IsLogWithin, IsNumbered, is_ended, ended_log, log_of, items_below, items_of, LeavesAlone, IsLastItem, IsCommitted, IsReadRight, HasOwn, SeatStands, SeatsApart, Stands, is_player, is_live_cell, value_in, touches_own, owed_at, is_storing_for, is_linked_at}
+use Rattle.core_steps.specs.Stands.{IsGiven, IsStart, IsLawful, IsLogWithin, IsNumbered, is_ended, ended_log, log_of, items_below, items_of, LeavesAlone, IsLastItem, IsReadRight, SeatStands, SeatsApart, Stands, is_player, is_live_cell, value_in, touches_own, owed_at, is_storing_for}
 use Rattle.core_steps.proofs.Puts.{each_put, put_same, put_other, kept_put, eqb_sym}
 use Rattle.core_steps.proofs.Frames.{apart_put, busy_lives}
 use Rattle.core_steps.proofs.Giving.{current_unsettled, same_holding}
 use Rattle.core_steps.proofs.Seats.{within_more}
-use Rattle.core_steps.proofs.Owned.{cell_low, given_player}
+use Rattle.core_steps.proofs.Owned.{given_player}
 use Rattle.core_steps.proofs.Owing.{is_written, owed_written, stores_written, settled_owes_nothing}
 use Rattle.core_steps.proofs.Runs.{run_append, other_after, is_call}
 use Rattle.core_steps.proofs.Exclusion.{IsSettledStage, settled_stage, all_leaves, now_world, settled_seat, own_touches}
@@ -32,7 +27,7 @@ use Rattle.core_steps.proofs.Quiet.{has_committed, writes_elsewhere}
 use Rattle.core_steps.proofs.Storing.{storing_busy}
 use Rattle.core_steps.proofs.Resolved.{again_is}
 use Rattle.core_steps.proofs.Appending.{legal_with, items_with, within_with}
-use Rattle.core_steps.proofs.Changes.{unwritten_record, unwritten_body, unwritten_value, written_is_owed, owes_outcome}
+use Rattle.core_steps.proofs.Changes.{unwritten_body, unwritten_value, written_is_owed, owes_outcome}
 use Rattle.core_steps.proofs.Elsewhere.{listed_here, written_is_unowed, owes_after, same_there, same_after, same_own, same_outcome}
 
 -- the seat holds all its leaves and these write nodes, and has read all that it needs
@@ -102,7 +97,6 @@ numbered_with view i new lives live made ended is =
     }
 
 module _ (F : Fixed) (core : Core) (history : List Item) (now : World) (i : ℕ) (nodes : List ℕ) (lawful : IsLawful F) (start : IsStart F) (is : Stands F core history now) (step : IsCommitting F core now i nodes) where
-
   abbrev view : View
   view = core.view i
 

@@ -1,23 +1,20 @@
 -- What the commit of a seat that holds its region leaves: the records that touch the region of another seat that holds all its leaves.
-use Rattle.std.proofs.Common.{◌≡◌, ℕ, Bool, true, false, not, List, [], ◌∷◌, ◌++◌, map, refl, sym, ap, ◌∙◌, subst, inl, inr, Some, None}
+use Rattle.std.proofs.Common.{◌≡◌, ℕ, Bool, true, false, not, List, [], ◌∷◌, map, refl, sym, ap, ◌∙◌, subst, inl, inr, None}
 use Rattle.std.specs.Prelude.{◌==◌, ◌||◌, filter, is_some}
-use Rattle.std.specs.List.{AllByRecursion}
-use Rattle.std.proofs.lemmas.Bool.{cases_Bool, false≢true, true≢false, eqb-true, eq-eqb, or_cases, or_parts, or_left, or_right, cond-true, cond-false, false_from_ne_true, not-true}
+use Rattle.std.proofs.lemmas.Bool.{cases_Bool, false≢true, true≢false, eqb-true, or_cases, cond-true, cond-false, false_from_ne_true}
 use Rattle.std.proofs.lemmas.List.Elements.{recursion_from_All}
 use Rattle.arena_geo.specs.Bounds.{Bounds}
 use Rattle.arena_geo.specs.Regions.{is_inside}
 use Rattle.entity_recs.specs.declared.rec.Rec.{Rec}
 use Rattle.entity_recs.specs.declared.effect.NewState.{NewState}
-use Rattle.entity_recs.specs.declared.effect.Effect.{Effect}
 use Rattle.entity_recs.specs.Bodies.{abs_of}
 use Rattle.entity_recs.specs.Worlds.{World, others_of}
-use Rattle.entity_recs.specs.Histories.{Item, outcome, with_new_state, apply}
+use Rattle.entity_recs.specs.Histories.{Item, outcome, apply}
 use Rattle.entity_recs.specs.Actions.{touching, is_of_one_inside}
 use Rattle.core_steps.specs.Cells.{Cell}
-use Rattle.core_steps.specs.Views.{Fixed, Store, stage_of, is_settled, has, region_in, stores_owed, state_at}
+use Rattle.core_steps.specs.Views.{Fixed, stage_of, is_settled, region_in, stores_owed, state_at}
 use Rattle.core_steps.specs.Steps.{Core}
-use Rattle.core_steps.specs.Stands.{IsStart, IsLawful, OwesRight, Stands, value_in, touches_own, owed_at}
-use Rattle.core_steps.proofs.Lists.{has_filter}
+use Rattle.core_steps.specs.Stands.{IsStart, IsLawful, OwesRight, Stands, touches_own, owed_at}
 use Rattle.core_steps.proofs.Runs.{IsRunWorld, is_call, live_ordered, other_after, actor_after, world_after_one}
 use Rattle.core_steps.proofs.Exclusion.{now_world, settled_seat, inside_touches, own_touches, regions_apart}
 use Rattle.core_steps.proofs.Owing.{is_written}
@@ -42,7 +39,6 @@ same_passing test g h (id ∷ ids) one two =
     ]
 
 module _ (F : Fixed) (core : Core) (history : List Item) (now : World) (i : ℕ) (lawful : IsLawful F) (start : IsStart F) (is : Stands F core history now) (settled : is_settled (stage_of (core.view i).point) ≡ true) where
-
   -- the id is the actor's or one whose state the outcome lists
   abbrev is_changed : ℕ → Bool
   is_changed id = (id == (core.view i).cmd.slot) || is_some (state_at (outcome F.effect_of now (core.view i).cmd).states id)

@@ -32,3 +32,4 @@ pub mod Changes
 pub mod Elsewhere
 pub mod Committing
 pub mod Commits
+pub mod Waiting

@@ -11,7 +11,7 @@ use Rattle.entity_recs.specs.Commands.{Command}
 use Rattle.entity_recs.specs.Worlds.{World}
 use Rattle.entity_recs.specs.Histories.{Item, apply}
 use Rattle.core_steps.specs.Views.{Store, Storing, Fixed, Resolving, Claiming, record_read, write_nodes, effect_loaded, Idle, Owning, Checking, Sensing, Loading, Entered, stage_of, is_busy}
-use Rattle.core_steps.specs.Steps.{store_next, item_at, commit, Core, first, claim_node, next_take, take_node, refuse_node, next_give, give_node, is_taking, first_yield, yield_node, yield_nothing, load_list, begin_move, load_own, load_again, load_player, load_state, make_seat, end_seat, load_count}
+use Rattle.core_steps.specs.Steps.{store_next, item_at, commit, SomeSeatGoesOn, Core, first, claim_node, next_take, take_node, refuse_node, next_give, give_node, is_taking, first_yield, yield_node, yield_nothing, load_list, begin_move, load_own, load_again, load_player, load_state, make_seat, end_seat, load_count}
 use Rattle.core_steps.specs.Stands.{IsGiven, IsLawful, IsStart, Stands, start_core, items_of, IsNumbered}
 
 -- a seat is there and has no command in hand
@@ -151,3 +151,9 @@ CommittedFreeStands =
     (F : Fixed) (core : Core) (history : List Item) (now : World) (i : ℕ) (e : Effect) → IsLawful F → IsStart F → (core.view i).point ≡ Resolving
     → e ≡ effect_loaded F (core.view i) → write_nodes F (record_read (core.view i).cmd.slot (core.view i).again) e ≡ [] → Stands F core history now
     → Stands F (commit F core i e []) (history ++ item_at core.words.commits (core.view i) e ∷ []) (apply F.effect_of now (core.view i).cmd)
+
+-- where a seat has a command in hand, some seat with a command in hand doesn't wait
+abbrev pub NotAllWait : Type 0
+NotAllWait =
+    (F : Fixed) (core : Core) (history : List Item) (now : World) (i : ℕ) → Stands F core history now → is_busy (stage_of (core.view i).point) ≡ true
+    → SomeSeatGoesOn F core

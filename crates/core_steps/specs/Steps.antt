@@ -1,10 +1,10 @@
 -- The steps of a seat, kind by kind: which step comes next, and the core after it.
-use Rattle.std.specs.Prelude.{ℕ, suc, ◌+◌, ◌-◌, ◌^◌, ◌==◌, min, Bool, true, false, if◌then◌else◌, List, [], ◌∷◌, ◌++◌, length, Option, Some, None}
+use Rattle.std.specs.Prelude.{ℕ, suc, ◌+◌, ◌-◌, ◌^◌, ◌==◌, min, ◌≡◌, Bool, true, false, if◌then◌else◌, List, [], ◌∷◌, ◌++◌, length, Option, Some, None}
 use Rattle.entity_recs.specs.declared.effect.Effect.{Effect}
 use Rattle.entity_recs.specs.Commands.{Command}
 use Rattle.entity_recs.specs.Histories.{Item, entry_of}
 use Rattle.core_steps.specs.Cells.{Words, put, word_in, with_word, cell_of, with_bit, without_bit}
-use Rattle.core_steps.specs.Views.{Fixed, Store, Clear, Put, Link, Point, Idle, Owning, Taking, Checking, Entering, Entered, Loading, Leaving, Sensing, Resolving, Claiming, Storing, Releasing, Returning, Yielding, AtClaiming, stage_of, View, new_view, spent, without_command, leaf_nodes, plan_of, is_leaf, region_in, things_in, players_in, home, record_read, write_nodes, stores_of, inner_held, leaves_held, held_word}
+use Rattle.core_steps.specs.Views.{Fixed, Store, Clear, Put, Link, Point, Idle, Owning, Taking, Checking, Entering, Entered, Loading, Leaving, Sensing, Resolving, Claiming, Storing, Releasing, Returning, Yielding, AtClaiming, stage_of, is_busy, effect_loaded, holds, View, new_view, spent, without_command, leaf_nodes, plan_of, is_leaf, region_in, things_in, players_in, home, record_read, write_nodes, stores_of, inner_held, leaves_held, held_word}
 
 -- the words, and each seat's view by its number
 pub record Core : Type 0 where
@@ -360,3 +360,41 @@ end_seat core i = record core { view = put i spent (put 0 (with_ended i (core.vi
 -- the core after the seat has loaded the count
 abbrev pub load_count : Core → ℕ → Core
 load_count core i = with_view core i (record (core.view i) { seen = core.words.commits })
+
+-- ---- waiting
+
+-- the node that is taken next, also where the effect enters the view with it
+abbrev pub next_node_at : Fixed → View → Point → Option ℕ
+next_node_at F view Idle = None
+next_node_at F view Owning = None
+next_node_at F view (Taking got rest) = first rest
+next_node_at F view Checking = None
+next_node_at F view (Entering node plan) = Some node
+next_node_at F view (Entered node plan) = None
+next_node_at F view (Loading node part players plan) = None
+next_node_at F view (Leaving node plan) = None
+next_node_at F view (Sensing ids) = None
+next_node_at F view Resolving = first (write_nodes F (record_read view.cmd.slot view.again) (effect_loaded F view))
+next_node_at F view (Claiming got rest) = first rest
+next_node_at F view (Storing nodes stores) = None
+next_node_at F view (Releasing nodes) = None
+next_node_at F view (Returning leaves) = None
+next_node_at F view (Yielding nodes leaves) = None
+
+-- the node that the seat takes next, where its next step is a take
+abbrev pub next_node : Fixed → View → Option ℕ
+next_node F view = next_node_at F view view.point
+
+-- the seat waits: its next step is a take of a node that another seat holds
+pub record Waits (F : Fixed) (core : Core) (i : ℕ) : Type 0 where
+  pub node : ℕ
+  pub next : next_node F (core.view i) ≡ Some node
+  pub holder : ℕ
+  pub other : (holder == i) ≡ false
+  pub held : holds F (core.view holder).point (core.view holder).wanted node ≡ true
+
+-- some seat with a command in hand doesn't wait
+pub record SomeSeatGoesOn (F : Fixed) (core : Core) : Type 0 where
+  pub seat : ℕ
+  pub busy : is_busy (stage_of (core.view seat).point) ≡ true
+  pub goes_on : Waits F core seat → ⊥

@@ -1,4 +1,4 @@
-ghost use Rattle.core_steps.specs.Laws.{StartStands, MadeSeatStands, EndedSeatStands, EndedSeatKeepsItems, LoadedCountStands, GivenNodeStands, YieldedNodeStands, YieldedNothingStands, TakenNodeStands, RefusedNodeStands, LayoutIsRight, EncodedIsDecoded, BegunMoveStands, LoadedOwnStands, LoadedAgainStands, LoadedListStands, LoadedPlayerStands, LoadedStateStands, ClaimedNodeStands, StoredNextStands, CommittedHeldStands, CommittedFreeStands};
+ghost use Rattle.core_steps.specs.Laws.{StartStands, MadeSeatStands, EndedSeatStands, EndedSeatKeepsItems, LoadedCountStands, GivenNodeStands, YieldedNodeStands, YieldedNothingStands, TakenNodeStands, RefusedNodeStands, LayoutIsRight, EncodedIsDecoded, BegunMoveStands, LoadedOwnStands, LoadedAgainStands, LoadedListStands, LoadedPlayerStands, LoadedStateStands, ClaimedNodeStands, StoredNextStands, CommittedHeldStands, CommittedFreeStands, NotAllWait};
 
 /// The start stands: seat 0 without a command, no entry, and words that are those of the world.
 pub fn start_stands()
@@ -110,4 +110,9 @@ pub fn committed_held_stands()
 /// action gives on what was loaded.
 pub fn committed_free_stands()
     ensures { CommittedFreeStands }
+{}
+
+/// Where a seat has a command in hand, some seat with a command in hand doesn't wait for a node that another one holds.
+pub fn not_all_wait()
+    ensures { NotAllWait }
 {}
