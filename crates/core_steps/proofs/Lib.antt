@@ -33,3 +33,5 @@ pub mod Elsewhere
 pub mod Committing
 pub mod Commits
 pub mod Waiting
+pub mod Machines
+pub mod NextSteps

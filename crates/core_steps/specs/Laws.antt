@@ -1,5 +1,5 @@
 -- That each kind of step keeps what stands.
-use Rattle.std.specs.Prelude.{◌≡◌, ℕ, ◌<◌, ◌==◌, length, true, false, List, [], ◌∷◌, ◌++◌, Some, None}
+use Rattle.std.specs.Prelude.{◌≡◌, ℕ, ◌<◌, ◌==◌, length, true, false, if◌then◌else◌, is_some, List, [], ◌∷◌, ◌++◌, Some, None}
 use Rattle.entity_recs.specs.declared.kind.Kind.TheVariants.{Player}
 use Rattle.entity_recs.specs.declared.rec.Rec.{Rec}
 use Rattle.entity_recs.specs.Records.{with_state}
@@ -9,9 +9,10 @@ use Rattle.core_steps.specs.Encoding.{words_of, record_from}
 use Rattle.entity_recs.specs.declared.effect.Effect.{Effect}
 use Rattle.entity_recs.specs.Commands.{Command}
 use Rattle.entity_recs.specs.Worlds.{World}
-use Rattle.entity_recs.specs.Histories.{Item, apply}
+use Rattle.entity_recs.specs.Histories.{Item, apply, run}
 use Rattle.core_steps.specs.Views.{Store, Storing, Fixed, Resolving, Claiming, record_read, write_nodes, effect_loaded, Idle, Owning, Checking, Sensing, Loading, Entered, stage_of, is_busy}
 use Rattle.core_steps.specs.Steps.{store_next, item_at, commit, SomeSeatGoesOn, Core, first, claim_node, next_take, take_node, refuse_node, next_give, give_node, is_taking, first_yield, yield_node, yield_nothing, load_list, begin_move, load_own, load_again, load_player, load_state, make_seat, end_seat, load_count}
+use Rattle.core_steps.specs.Machine.{Next, Machine, MachineStands, StandsSomehow, SomeGoesOn, MayBeGiven, Call, MayAllBeCalled, has_command, items_after, machine_after, next_of, start_machine, with_given, with_quitting, after_calls}
 use Rattle.core_steps.specs.Stands.{IsGiven, IsLawful, IsStart, Stands, start_core, items_of, IsNumbered}
 
 -- a seat is there and has no command in hand
@@ -157,3 +158,49 @@ abbrev pub NotAllWait : Type 0
 NotAllWait =
     (F : Fixed) (core : Core) (history : List Item) (now : World) (i : ℕ) → Stands F core history now → is_busy (stage_of (core.view i).point) ≡ true
     → SomeSeatGoesOn F core
+
+-- ---- the machine
+
+-- the machine at the start stands, with no history
+abbrev pub MachineStartStands : Type 0
+MachineStartStands = (F : Fixed) (room : ℕ) (rooms : List ℕ) → MachineStands F (start_machine F room rooms) [] F.start
+
+-- a command that is given leaves what stands
+abbrev pub GivenCommandStands : Type 0
+GivenCommandStands =
+    (F : Fixed) (m : Machine) (history : List Item) (now : World) (i : ℕ) (c : Command) → MayBeGiven F m i c → MachineStands F m history now
+    → MachineStands F (with_given m i c) history now
+
+-- each step that a seat makes leaves what stands, with its item at the end of the history where it commits
+abbrev pub NextStepStands : Type 0
+NextStepStands =
+    (F : Fixed) (m : Machine) (history : List Item) (now : World) (i : ℕ) (next : Next) → IsLawful F → IsStart F → next_of F m i ≡ Some next
+    → MachineStands F m history now
+    → MachineStands F (machine_after F m i next) (history ++ items_after m.core i next) (run F.effect_of now (items_after m.core i next))
+
+-- a seat that is told to give up, at any take before its commit, leaves what stands
+abbrev pub QuittingStands : Type 0
+QuittingStands =
+    (F : Fixed) (m : Machine) (history : List Item) (now : World) (i : ℕ) → is_taking (m.core.view i).point ≡ true → MachineStands F m history now
+    → MachineStands F (with_quitting m i) history now
+
+-- whatever calls are made, each under its condition, the machine stands
+abbrev pub EachMachineStands : Type 0
+EachMachineStands =
+    (F : Fixed) (room : ℕ) (rooms : List ℕ) (calls : List Call) → IsLawful F → IsStart F → MayAllBeCalled F (start_machine F room rooms) calls
+    → StandsSomehow F (after_calls F (start_machine F room rooms) calls)
+
+-- a seat has a next step exactly where it has a command in hand
+abbrev pub NextExists : Type 0
+NextExists =
+    (F : Fixed) (m : Machine) (history : List Item) (now : World) (i : ℕ) → MachineStands F m history now → is_some (next_of F m i) ≡ has_command m i
+
+-- the step that commits appends the seat's command with its entry to the seat's log, and no other step changes a log
+abbrev pub LogsGrowByCommits : Type 0
+LogsGrowByCommits =
+    (F : Fixed) (m : Machine) (i j : ℕ) (next : Next)
+    → ((machine_after F m i next).core.view j).log ≡ (if j == i then (m.core.view j).log ++ items_after m.core i next else (m.core.view j).log)
+
+-- where a seat has a command in hand, some seat with a command in hand doesn't wait
+abbrev pub SomeSeatIsFree : Type 0
+SomeSeatIsFree = (F : Fixed) (m : Machine) (history : List Item) (now : World) (i : ℕ) → MachineStands F m history now → has_command m i ≡ true → SomeGoesOn F m

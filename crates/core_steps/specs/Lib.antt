@@ -5,3 +5,4 @@ pub mod Views
 pub mod Steps
 pub mod Stands
 pub mod Laws
+pub mod Machine

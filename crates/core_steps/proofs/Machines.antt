@@ -1,0 +1,127 @@
+-- The machine: each step that a seat makes keeps what stands.
+use Rattle.std.proofs.Common.{◌≡◌, ℕ, suc, ◌+◌, ◌<◌, Bool, true, false, List, [], ◌∷◌, ◌++◌, length, refl, sym, ap, ◌∙◌, subst, inl, inr, Option, Some, None, arith, append-nil}
+use Rattle.std.specs.Prelude.{◌==◌, if◌then◌else◌}
+use Rattle.std.proofs.lemmas.Bool.{cases_Bool, false≢true, true≢false, eqb-true, eq-eqb, cond-true, cond-false}
+use Rattle.entity_recs.specs.declared.effect.Effect.{Effect}
+use Rattle.entity_recs.specs.Commands.{Command}
+use Rattle.entity_recs.specs.Worlds.{World}
+use Rattle.entity_recs.specs.Histories.{Item, run}
+use Rattle.core_steps.specs.Cells.{Words, put}
+use Rattle.core_steps.specs.Views.{Fixed, Store, Point, Idle, Owning, Taking, Checking, Entering, Entered, Loading, Leaving, Sensing, Resolving, Claiming, Storing, Releasing, Returning, Yielding, stage_of, is_busy, is_whole, View, is_leaf, record_read, write_nodes, effect_loaded, things_in, region_in, inner_held, leaves_held}
+use Rattle.core_steps.specs.Steps.{Core, sensing, visiting, loading, taking, storing, returning, yielding, released, yielded, rest_of, first, first_yield, is_taking, next_take, next_give}
+use Rattle.core_steps.specs.Stands.{IsStart, IsLawful, Stands}
+use Rattle.core_steps.specs.Machine.{Machine, Next, Begin, LoadOwn, LoadAgain, TakeNode, ClaimNode, ReadList, ReadPlayer, ReadState, CommitMove, StoreWord, GiveNode, YieldNode, YieldCount, next_at, next_of, quitting, resolving, committing, giving, beginning, core_after, machine_after, items_after, IsPending, SomeIsLeft, HasNext, MachineStands}
+use Rattle.core_steps.specs.Laws.{NextStepStands}
+use Rattle.core_steps.proofs.Puts.{each_put, put_same, put_other, eqb_sym}
+use Rattle.core_steps.proofs.Giving.{seat_at}
+
+-- ---- a seat goes on
+
+-- what is known of a seat's new view
+pub record GoesOn (old new : View) : Type 0 where
+  pub cmd : is_busy (stage_of new.point) ≡ true → new.cmd ≡ old.cmd
+  pub next : HasNext new.point new.wanted
+
+-- the seat has another point
+pub goes_to : (view : View) (point : Point) → 0 < length view.wanted → SomeIsLeft point → GoesOn view (record view { point = point })
+goes_to view point some left = record { cmd = λ _. refl; next = record { some_wanted = λ _. some; left = left } }
+
+-- the seat has done with its command
+pub goes_idle : (view new : View) → new.point ≡ Idle → GoesOn view new
+goes_idle view new e = record {
+  cmd = λ busy. absurd (false≢true (ap (λ (p : Point). is_busy (stage_of p)) (sym e) ∙ busy));
+  next = record {
+    some_wanted = λ whole. absurd (false≢true (ap (λ (p : Point). is_whole (stage_of p)) (sym e) ∙ whole));
+    left = subst SomeIsLeft (sym e) tt;
+  };
+}
+
+pub left_sensing : (ids : List ℕ) → SomeIsLeft (sensing ids)
+left_sensing [] = tt
+left_sensing (id ∷ ids) = omega arith
+
+pub left_visiting : (F : Fixed) (view : View) (plan : List ℕ) → SomeIsLeft (visiting F view plan)
+left_visiting F view [] = left_sensing (things_in F (region_in F view.cmd view.own))
+left_visiting F view (node ∷ plan) = elim (cases_Bool (is_leaf F node)) [ inl leaf ↦ rw leaf tt | inr inner ↦ rw inner tt ]
+
+pub left_loading : (F : Fixed) (view : View) (node : ℕ) (players plan : List ℕ) → SomeIsLeft (loading F view node players plan)
+left_loading F view node [] plan = elim (cases_Bool (is_leaf F node)) [ inl leaf ↦ rw leaf (left_visiting F view plan) | inr inner ↦ rw inner tt ]
+left_loading F view node (slot ∷ players) plan = tt
+
+pub left_taking : (got rest : List ℕ) → SomeIsLeft (taking got rest)
+left_taking got [] = tt
+left_taking got (leaf ∷ rest) = tt
+
+pub left_storing : (nodes : List ℕ) (stores : List Store) → SomeIsLeft (storing nodes stores)
+left_storing nodes [] = tt
+left_storing nodes (store ∷ stores) = tt
+
+pub goes_returning : (view : View) (leaves : List ℕ) → 0 < length view.wanted → GoesOn view (returning view leaves)
+goes_returning view [] some = goes_idle view (returning view []) refl
+goes_returning view (leaf ∷ leaves) some = goes_to view (Returning (leaf ∷ leaves)) some (omega arith)
+
+pub goes_released : (view : View) (nodes : List ℕ) → 0 < length view.wanted → GoesOn view (released view nodes)
+goes_released view [] some = goes_returning view (rest_of view.wanted) some
+goes_released view (node ∷ nodes) some = goes_to view (Releasing nodes) some tt
+
+pub goes_yielding : (view : View) (nodes leaves : List ℕ) → 0 < length view.wanted → GoesOn view (yielding view nodes leaves)
+goes_yielding view [] [] some = goes_idle view (yielding view [] []) refl
+goes_yielding view [] (leaf ∷ leaves) some = goes_to view (Yielding [] (leaf ∷ leaves)) some (omega arith)
+goes_yielding view (node ∷ nodes) leaves some = goes_to view (Yielding (node ∷ nodes) leaves) some (omega arith)
+
+pub goes_yielded : (view : View) (nodes leaves : List ℕ) → 0 < length view.wanted → GoesOn view (yielded view nodes leaves)
+goes_yielded view [] leaves some = goes_yielding view [] (rest_of leaves) some
+goes_yielded view (node ∷ nodes) leaves some = goes_yielding view nodes leaves some
+
+-- ---- the other seats
+
+record IsLeft (given : ℕ → Option Command) (i j : ℕ) (c : Command) : Type 0 where
+  other : (j == i) ≡ false
+  is : given j ≡ Some c
+
+-- a command that is left to be begun is another seat's
+given_left : (given : ℕ → Option Command) (i j : ℕ) (c : Command) → put i None given j ≡ Some c → IsLeft given i j c
+given_left given i j c e =
+    elim (cases_Bool (j == i)) [
+      | inl same ↦ none_some (put i None given j) (cond-true (j == i) None (given j) same) e
+      | inr other ↦ record { other = other; is = sym (put_other i j None given other) ∙ e }
+    ]
+  where
+    none_some : (o : Option Command) → o ≡ None → o ≡ Some c → IsLeft given i j c
+    none_some o none some = cc
+
+-- the machine stands after a step of one seat
+pub machine_on : (F : Fixed) (m : Machine) (history history' : List Item) (now now' : World) (i : ℕ) (words : Words) (new : View) → MachineStands F m history now
+    → ((j : ℕ) (d : Command) → (j == i) ≡ false → m.given j ≡ Some d → is_busy (stage_of new.point) ≡ true → (d.slot == new.cmd.slot) ≡ false)
+    → HasNext new.point new.wanted → Stands F (record { words = words; view = put i new m.core.view }) history' now'
+    → MachineStands F (record { core = record { words = words; view = put i new m.core.view }; given = put i None m.given; quits = put i false m.quits }) history' now'
+machine_on F m history history' now now' i words new is apart next stands = record {
+  core = stands;
+  pending = λ j c e.
+      let left = given_left m.given i j c e in
+      subst (λ (v : View). IsPending F v c) (sym (put_other i j new m.core.view left.other)) (is.pending j c left.is);
+  given_apart = λ j k c d differ e f. is.given_apart j k c d differ (given_left m.given i j c e).is (given_left m.given i k d f).is;
+  busy_apart = λ j k c differ e busy.
+      let left = given_left m.given i j c e in
+      each_put (λ (n : ℕ) (v : View). (j == n) ≡ false → is_busy (stage_of v.point) ≡ true → (c.slot == v.cmd.slot) ≡ false) i new m.core.view
+      (λ _ b. apart j c left.other left.is b) (λ n _ other b. is.busy_apart j n c other left.is b) k differ busy;
+  quits = λ j q. elim (cases_Bool (j == i)) [
+    | inl same ↦ absurd (false≢true (sym (cond-true (j == i) false (m.quits j) same) ∙ q))
+    | inr other ↦ subst (λ (v : View). is_taking v.point ≡ true) (sym (put_other i j new m.core.view other)) (is.quits j (sym (put_other i j false m.quits other) ∙ q))
+  ];
+  next = each_put (λ (n : ℕ) (v : View). HasNext v.point v.wanted) i new m.core.view next (λ n _. is.next n);
+}
+
+-- a busy seat was given no command that is left to be begun
+pub none_given : (F : Fixed) (m : Machine) (history : List Item) (now : World) (i : ℕ) (d : Command) → MachineStands F m history now → is_busy (stage_of (m.core.view i).point) ≡ true
+    → m.given i ≡ Some d → ⊥
+none_given F m history now i d is busy given =
+    true≢false (sym busy ∙ ap (λ (p : Point). is_busy (stage_of p)) (is.pending i d given).idle)
+
+-- the machine stands after a step of a seat with a command in view
+pub busy_on : (F : Fixed) (m : Machine) (history history' : List Item) (now now' : World) (i : ℕ) (words : Words) (new : View) → MachineStands F m history now
+    → is_busy (stage_of (m.core.view i).point) ≡ true → GoesOn (m.core.view i) new → Stands F (record { words = words; view = put i new m.core.view }) history' now'
+    → MachineStands F (record { core = record { words = words; view = put i new m.core.view }; given = put i None m.given; quits = put i false m.quits }) history' now'
+busy_on F m history history' now now' i words new is busy goes stands =
+    machine_on F m history history' now now' i words new is
+    (λ j d other given still. subst (λ (c : Command). (d.slot == c.slot) ≡ false) (sym (goes.cmd still)) (is.busy_apart j i d other given busy)) goes.next stands

@@ -1,0 +1,338 @@
+-- The core as a machine: which step a seat makes next, and the machine after it.
+use Rattle.std.specs.Prelude.{ℕ, suc, ◌+◌, ◌<◌, ◌≡◌, ◌==◌, ◌||◌, Bool, true, false, not, if◌then◌else◌, List, [], ◌∷◌, ◌++◌, length, Option, Some, None, is_some}
+use Rattle.entity_recs.specs.declared.effect.Effect.{Effect}
+use Rattle.entity_recs.specs.Commands.{Command}
+use Rattle.entity_recs.specs.Worlds.{World}
+use Rattle.entity_recs.specs.Histories.{Item, apply}
+use Rattle.core_steps.specs.declared.step.Step.{Step}
+use Rattle.core_steps.specs.declared.step.StepKind.{StepKind}
+use Rattle.core_steps.specs.declared.step.StepKind.TheVariants.{Take, GiveBack, LoadList, Load, Commit, Bit, Store, Count}
+use Rattle.core_steps.specs.Cells as cells
+use Rattle.core_steps.specs.Cells.{put, cell_of, count_index, node_index, links_index, cell_index, state_index}
+use Rattle.core_steps.specs.Views as views
+use Rattle.core_steps.specs.Views.{Fixed, Point, Idle, Owning, Taking, Checking, Entering, Entered, Loading, Leaving, Sensing, Resolving, Claiming, Storing, Releasing, Returning, Yielding, stage_of, is_busy, is_whole, View, record_read, write_nodes, effect_loaded, nodes_of, holds}
+use Rattle.core_steps.specs.Steps.{Core, first, item_at, take_node, claim_node, refuse_node, next_give, give_node, is_taking, first_yield, yield_node, yield_nothing, load_list, begin_move, load_own, load_again, load_player, load_state, commit, store_next, make_seat}
+use Rattle.core_steps.specs.Stands.{IsGiven, Stands, start_core}
+
+-- the core, with what no view has yet: the commands that were given and aren't begun, and which seats are to give up
+pub record Machine : Type 0 where
+  pub core : Core
+  pub given : ℕ → Option Command
+  pub quits : ℕ → Bool
+
+-- what a seat does next, with what it takes from its view
+pub data Next : Type 0 where
+  -- the command enters the view with the first word of the own record
+  Begin : Command → Next
+  -- one more word of the own record is loaded
+  LoadOwn : Next
+  -- one more word of the own record is loaded again
+  LoadAgain : Next
+  -- a node is taken
+  TakeNode : ℕ → Next
+  -- the first write node is taken, with which this effect enters the view
+  ClaimNode : Effect → ℕ → Next
+  -- the list word of the entered node is loaded; then comes the rest of the plan
+  ReadList : ℕ → List ℕ → Next
+  -- under the node one more word of this player is loaded, before the other players and the rest of the plan
+  ReadPlayer : ℕ → List ℕ → ℕ → List ℕ → List ℕ → Next
+  -- the state of this thing of the map is loaded, before those of the others
+  ReadState : ℕ → List ℕ → Next
+  -- the command is committed with this effect, where these write nodes are held
+  CommitMove : Effect → List ℕ → Next
+  -- with these write nodes held, the store is made, before the other stores
+  StoreWord : List ℕ → views.Store → List views.Store → Next
+  -- a node is given back
+  GiveNode : ℕ → Next
+  -- a node is given back, with which giving up begins
+  YieldNode : ℕ → Next
+  -- nothing is held: giving up loads the count
+  YieldCount : Next
+
+-- ---- which comes next
+
+-- a node is given back, if there is one
+abbrev pub giving : Option ℕ → Option Next
+giving None = None
+giving (Some node) = Some (GiveNode node)
+
+-- giving up begins with this node, if there is one
+abbrev pub quitting : Option ℕ → Next
+quitting None = YieldCount
+quitting (Some node) = YieldNode node
+
+-- a command that was given is begun, if there is one
+abbrev pub beginning : Option Command → Option Next
+beginning None = None
+beginning (Some c) = Some (Begin c)
+
+-- the first of these write nodes is taken with this effect, or there is none and the command is committed
+abbrev pub resolving : Effect → List ℕ → Next
+resolving e [] = CommitMove e []
+resolving e (node ∷ nodes) = ClaimNode e node
+
+-- the command is committed with the effect in view
+abbrev pub committing : Option Effect → List ℕ → Option Next
+committing None nodes = None
+committing (Some e) nodes = Some (CommitMove e nodes)
+
+-- what comes next at this point, where the seat isn't to give up
+abbrev pub next_at : Fixed → View → Option Command → Point → Option Next
+next_at F view given Idle = beginning given
+next_at F view given Owning = Some LoadOwn
+next_at F view given (Taking got []) = None
+next_at F view given (Taking got (leaf ∷ rest)) = Some (TakeNode leaf)
+next_at F view given Checking = Some LoadAgain
+next_at F view given (Entering node plan) = Some (TakeNode node)
+next_at F view given (Entered node plan) = Some (ReadList node plan)
+next_at F view given (Loading node part [] plan) = None
+next_at F view given (Loading node part (slot ∷ players) plan) = Some (ReadPlayer node part slot players plan)
+next_at F view given (Leaving node plan) = Some (GiveNode node)
+next_at F view given (Sensing []) = None
+next_at F view given (Sensing (id ∷ ids)) = Some (ReadState id ids)
+next_at F view given Resolving = Some (resolving (effect_loaded F view) (write_nodes F (record_read view.cmd.slot view.again) (effect_loaded F view)))
+next_at F view given (Claiming got []) = committing view.effect got
+next_at F view given (Claiming got (node ∷ rest)) = Some (TakeNode node)
+next_at F view given (Storing nodes []) = None
+next_at F view given (Storing nodes (store ∷ stores)) = Some (StoreWord nodes store stores)
+next_at F view given (Releasing nodes) = giving (next_give (Releasing nodes) view.wanted)
+next_at F view given (Returning leaves) = giving (next_give (Returning leaves) view.wanted)
+next_at F view given (Yielding nodes leaves) = giving (next_give (Yielding nodes leaves) view.wanted)
+
+-- what the seat does next
+abbrev pub next_of : Fixed → Machine → ℕ → Option Next
+next_of F m i =
+    if m.quits i then Some (quitting (first_yield F (m.core.view i))) else next_at F (m.core.view i) (m.given i) (m.core.view i).point
+
+-- ---- as a step on one word
+
+-- the kind of a store that is owed
+abbrev pub kind_of_store : views.Store → StepKind
+kind_of_store (views.Clear node) = Bit
+kind_of_store (views.Put cell x) = Store
+kind_of_store (views.Link node) = Bit
+
+-- the index of the word of a store that is owed, in the table of a tree with this many nodes
+abbrev pub index_of_store : ℕ → views.Store → ℕ
+index_of_store nodes (views.Clear node) = links_index nodes node
+index_of_store nodes (views.Put cell x) = cell_index nodes cell
+index_of_store nodes (views.Link node) = links_index nodes node
+
+-- the kind of what comes next
+abbrev pub kind_of : Next → StepKind
+kind_of (Begin c) = Load
+kind_of LoadOwn = Load
+kind_of LoadAgain = Load
+kind_of (TakeNode node) = Take
+kind_of (ClaimNode e node) = Take
+kind_of (ReadList node plan) = LoadList
+kind_of (ReadPlayer node part slot players plan) = Load
+kind_of (ReadState id ids) = Load
+kind_of (CommitMove e nodes) = Commit
+kind_of (StoreWord nodes store stores) = kind_of_store store
+kind_of (GiveNode node) = GiveBack
+kind_of (YieldNode node) = GiveBack
+kind_of YieldCount = Count
+
+-- the index of its word, in the table of a tree with this many nodes
+abbrev pub index_of : ℕ → View → Next → ℕ
+index_of nodes view (Begin c) = cell_index nodes (cell_of c.slot 0)
+index_of nodes view LoadOwn = cell_index nodes (cell_of view.cmd.slot (length view.own))
+index_of nodes view LoadAgain = cell_index nodes (cell_of view.cmd.slot (length view.again))
+index_of nodes view (TakeNode node) = node_index node
+index_of nodes view (ClaimNode e node) = node_index node
+index_of nodes view (ReadList node plan) = links_index nodes node
+index_of nodes view (ReadPlayer node part slot players plan) = cell_index nodes (cell_of slot (length part))
+index_of nodes view (ReadState id ids) = state_index nodes id
+index_of nodes view (CommitMove e held) = count_index
+index_of nodes view (StoreWord held store stores) = index_of_store nodes store
+index_of nodes view (GiveNode node) = node_index node
+index_of nodes view (YieldNode node) = node_index node
+index_of nodes view YieldCount = count_index
+
+-- the step that the seat makes next, by its kind and its word
+abbrev pub step_of : Fixed → ℕ → View → Next → Step
+step_of F i view next = record { seat = i; word = index_of (nodes_of F) view next; kind = kind_of next }
+
+-- ---- the machine after it
+
+-- the core after what the seat does next; a take of a held node is refused
+abbrev pub core_after : Fixed → Core → ℕ → Next → Core
+core_after F core i (Begin c) = begin_move core i c
+core_after F core i LoadOwn = load_own F core i
+core_after F core i LoadAgain = load_again F core i
+core_after F core i (TakeNode node) = if core.words.node node == 0 then take_node F core i node else refuse_node core i node
+core_after F core i (ClaimNode e node) = if core.words.node node == 0 then claim_node F core i e node else refuse_node core i node
+core_after F core i (ReadList node plan) = load_list F core i node plan
+core_after F core i (ReadPlayer node part slot players plan) = load_player F core i node part slot players plan
+core_after F core i (ReadState id ids) = load_state core i id ids
+core_after F core i (CommitMove e nodes) = commit F core i e nodes
+core_after F core i (StoreWord nodes store stores) = store_next core i nodes store stores
+core_after F core i (GiveNode node) = give_node F core i node
+core_after F core i (YieldNode node) = yield_node F core i node
+core_after F core i YieldCount = yield_nothing core i
+
+-- the machine after what the seat does next: no command of the seat is left to be begun, and the seat isn't to give up any more
+abbrev pub machine_after : Fixed → Machine → ℕ → Next → Machine
+machine_after F m i next = record { core = core_after F m.core i next; given = put i None m.given; quits = put i false m.quits }
+
+-- the item that it commits, if any
+abbrev pub items_after : Core → ℕ → Next → List Item
+items_after core i (Begin c) = []
+items_after core i LoadOwn = []
+items_after core i LoadAgain = []
+items_after core i (TakeNode node) = []
+items_after core i (ClaimNode e node) = []
+items_after core i (ReadList node plan) = []
+items_after core i (ReadPlayer node part slot players plan) = []
+items_after core i (ReadState id ids) = []
+items_after core i (CommitMove e nodes) = item_at core.words.commits (core.view i) e ∷ []
+items_after core i (StoreWord nodes store stores) = []
+items_after core i (GiveNode node) = []
+items_after core i (YieldNode node) = []
+items_after core i YieldCount = []
+
+-- ---- what holds of a machine
+
+-- a command that was given and isn't begun: its seat is there, has no other command in hand, and has room
+pub record IsPending (F : Fixed) (view : View) (c : Command) : Type 0 where
+  pub lives : view.live ≡ true
+  pub idle : view.point ≡ Idle
+  pub command : IsGiven F c
+  pub room : length view.log < view.room
+
+-- something is left where the point says so
+abbrev pub SomeIsLeft : Point → Type 0
+SomeIsLeft Idle = Unit {0}
+SomeIsLeft Owning = Unit {0}
+SomeIsLeft (Taking got rest) = Unit {0}
+SomeIsLeft Checking = Unit {0}
+SomeIsLeft (Entering node plan) = Unit {0}
+SomeIsLeft (Entered node plan) = Unit {0}
+SomeIsLeft (Loading node part players plan) = Unit {0}
+SomeIsLeft (Leaving node plan) = Unit {0}
+SomeIsLeft (Sensing ids) = 0 < length ids
+SomeIsLeft Resolving = Unit {0}
+SomeIsLeft (Claiming got rest) = Unit {0}
+SomeIsLeft (Storing nodes stores) = Unit {0}
+SomeIsLeft (Releasing nodes) = Unit {0}
+SomeIsLeft (Returning leaves) = 0 < length leaves
+SomeIsLeft (Yielding nodes leaves) = 0 < length nodes + length leaves
+
+-- a seat has something to do where it has a command in hand
+pub record HasNext (point : Point) (wanted : List ℕ) : Type 0 where
+  pub some_wanted : is_whole (stage_of point) ≡ true → 0 < length wanted
+  pub left : SomeIsLeft point
+
+-- what holds of the machine, the history of all commits, and the run of it
+pub record MachineStands (F : Fixed) (m : Machine) (history : List Item) (now : World) : Type 0 where
+  pub core : Stands F m.core history now
+  pub pending : (i : ℕ) (c : Command) → m.given i ≡ Some c → IsPending F (m.core.view i) c
+  pub given_apart : (i j : ℕ) (c d : Command) → (i == j) ≡ false → m.given i ≡ Some c → m.given j ≡ Some d → (c.slot == d.slot) ≡ false
+  pub busy_apart : (i j : ℕ) (c : Command) → (i == j) ≡ false → m.given i ≡ Some c → is_busy (stage_of (m.core.view j).point) ≡ true
+      → (c.slot == (m.core.view j).cmd.slot) ≡ false
+  pub quits : (i : ℕ) → m.quits i ≡ true → is_taking (m.core.view i).point ≡ true
+  pub next : (i : ℕ) → HasNext (m.core.view i).point (m.core.view i).wanted
+
+-- ---- from the start on
+
+-- the core after seats with these rooms are made from seat 0
+abbrev pub with_seats : Core → List ℕ → Core
+with_seats core [] = core
+with_seats core (room ∷ rooms) = with_seats (make_seat core room) rooms
+
+-- the machine at the start: a seat for each room, and nothing given
+abbrev pub start_machine : Fixed → ℕ → List ℕ → Machine
+start_machine F room rooms = record { core = with_seats (start_core F room) rooms; given = λ i. None; quits = λ i. false }
+
+-- a call: a command is given to a seat, a seat makes its next step, or a seat is to give up
+pub data Call : Type 0 where
+  Give : ℕ → Command → Call
+  Go : ℕ → Call
+  GiveUp : ℕ → Call
+
+-- the machine after a command is given to a seat
+abbrev pub with_given : Machine → ℕ → Command → Machine
+with_given m i c = record m { given = put i (Some c) m.given }
+
+-- the machine after a seat is told to give up
+abbrev pub with_quitting : Machine → ℕ → Machine
+with_quitting m i = record m { quits = put i true m.quits }
+
+-- the machine after a seat's next step, if it has one
+abbrev pub gone_on : Fixed → Machine → ℕ → Option Next → Machine
+gone_on F m i None = m
+gone_on F m i (Some next) = machine_after F m i next
+
+-- the machine after a call
+abbrev pub after_call : Fixed → Machine → Call → Machine
+after_call F m (Give i c) = with_given m i c
+after_call F m (Go i) = gone_on F m i (next_of F m i)
+after_call F m (GiveUp i) = with_quitting m i
+
+-- a command may be given to the seat: it has none, and no other seat has one of that slot
+pub record MayBeGiven (F : Fixed) (m : Machine) (i : ℕ) (c : Command) : Type 0 where
+  pub pending : IsPending F (m.core.view i) c
+  pub none : m.given i ≡ None
+  pub given_apart : (j : ℕ) (d : Command) → (j == i) ≡ false → m.given j ≡ Some d → (c.slot == d.slot) ≡ false
+  pub busy_apart : (j : ℕ) → (j == i) ≡ false → is_busy (stage_of (m.core.view j).point) ≡ true → (c.slot == (m.core.view j).cmd.slot) ≡ false
+
+-- the condition of a call; a seat may be told to give up at any take before its commit
+abbrev pub MayBeCalled : Fixed → Machine → Call → Type 0
+MayBeCalled F m (Give i c) = MayBeGiven F m i c
+MayBeCalled F m (Go i) = Unit {0}
+MayBeCalled F m (GiveUp i) = is_taking (m.core.view i).point ≡ true
+
+-- the machine after calls, one after another
+abbrev pub after_calls : Fixed → Machine → List Call → Machine
+after_calls F m [] = m
+after_calls F m (call ∷ calls) = after_calls F (after_call F m call) calls
+
+-- each of the calls meets its condition in the machine in which it is made
+abbrev pub MayAllBeCalled : Fixed → Machine → List Call → Type 0
+MayAllBeCalled F m [] = Unit {0}
+MayAllBeCalled F m (call ∷ calls) = MayBeCalled F m call × MayAllBeCalled F (after_call F m call) calls
+
+-- the machine stands, with some history of all commits
+pub record StandsSomehow (F : Fixed) (m : Machine) : Type 0 where
+  pub history : List Item
+  pub now : World
+  pub stands : MachineStands F m history now
+
+-- ---- who waits
+
+-- the node of a take
+abbrev pub node_taken : Next → Option ℕ
+node_taken (Begin c) = None
+node_taken LoadOwn = None
+node_taken LoadAgain = None
+node_taken (TakeNode node) = Some node
+node_taken (ClaimNode e node) = Some node
+node_taken (ReadList node plan) = None
+node_taken (ReadPlayer node part slot players plan) = None
+node_taken (ReadState id ids) = None
+node_taken (CommitMove e nodes) = None
+node_taken (StoreWord nodes store stores) = None
+node_taken (GiveNode node) = None
+node_taken (YieldNode node) = None
+node_taken YieldCount = None
+
+-- the seat waits: it takes a node next that another seat holds
+pub record IsWaiting (F : Fixed) (m : Machine) (i : ℕ) : Type 0 where
+  pub next : Next
+  pub comes : next_of F m i ≡ Some next
+  pub node : ℕ
+  pub taken : node_taken next ≡ Some node
+  pub holder : ℕ
+  pub other : (holder == i) ≡ false
+  pub held : holds F (m.core.view holder).point (m.core.view holder).wanted node ≡ true
+
+-- the seat has a command in hand
+abbrev pub has_command : Machine → ℕ → Bool
+has_command m i = is_some (m.given i) || is_busy (stage_of (m.core.view i).point)
+
+-- some seat with a command in hand doesn't wait
+pub record SomeGoesOn (F : Fixed) (m : Machine) : Type 0 where
+  pub seat : ℕ
+  pub busy : has_command m seat ≡ true
+  pub goes_on : IsWaiting F m seat → ⊥
