@@ -35,3 +35,4 @@ pub mod Commits
 pub mod Waiting
 pub mod Machines
 pub mod NextSteps
+pub mod Reached
