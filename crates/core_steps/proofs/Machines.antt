@@ -1,19 +1,16 @@
 -- The machine: each step that a seat makes keeps what stands.
-use Rattle.std.proofs.Common.{◌≡◌, ℕ, suc, ◌+◌, ◌<◌, Bool, true, false, List, [], ◌∷◌, ◌++◌, length, refl, sym, ap, ◌∙◌, subst, inl, inr, Option, Some, None, arith, append-nil}
-use Rattle.std.specs.Prelude.{◌==◌, if◌then◌else◌}
-use Rattle.std.proofs.lemmas.Bool.{cases_Bool, false≢true, true≢false, eqb-true, eq-eqb, cond-true, cond-false}
-use Rattle.entity_recs.specs.declared.effect.Effect.{Effect}
+use Rattle.std.proofs.Common.{◌≡◌, ℕ, ◌<◌, true, false, List, [], ◌∷◌, length, refl, sym, ap, ◌∙◌, subst, inl, inr, Option, Some, None, arith}
+use Rattle.std.specs.Prelude.{◌==◌}
+use Rattle.std.proofs.lemmas.Bool.{cases_Bool, false≢true, true≢false, cond-true}
 use Rattle.entity_recs.specs.Commands.{Command}
 use Rattle.entity_recs.specs.Worlds.{World}
-use Rattle.entity_recs.specs.Histories.{Item, run}
+use Rattle.entity_recs.specs.Histories.{Item}
 use Rattle.core_steps.specs.Cells.{Words, put}
-use Rattle.core_steps.specs.Views.{Fixed, Store, Point, Idle, Owning, Taking, Checking, Entering, Entered, Loading, Leaving, Sensing, Resolving, Claiming, Storing, Releasing, Returning, Yielding, stage_of, is_busy, is_whole, View, is_leaf, record_read, write_nodes, effect_loaded, things_in, region_in, inner_held, leaves_held}
-use Rattle.core_steps.specs.Steps.{Core, sensing, visiting, loading, taking, storing, returning, yielding, released, yielded, rest_of, first, first_yield, is_taking, next_take, next_give}
-use Rattle.core_steps.specs.Stands.{IsStart, IsLawful, Stands}
-use Rattle.core_steps.specs.Machine.{Machine, Next, Begin, LoadOwn, LoadAgain, TakeNode, ClaimNode, ReadList, ReadPlayer, ReadState, CommitMove, StoreWord, GiveNode, YieldNode, YieldCount, next_at, next_of, quitting, resolving, committing, giving, beginning, core_after, machine_after, items_after, IsPending, SomeIsLeft, HasNext, MachineStands}
-use Rattle.core_steps.specs.Laws.{NextStepStands}
-use Rattle.core_steps.proofs.Puts.{each_put, put_same, put_other, eqb_sym}
-use Rattle.core_steps.proofs.Giving.{seat_at}
+use Rattle.core_steps.specs.Views.{Fixed, Store, Point, Idle, Releasing, Returning, Yielding, stage_of, is_busy, is_whole, View, is_leaf, things_in, region_in}
+use Rattle.core_steps.specs.Steps.{sensing, visiting, loading, taking, storing, returning, yielding, released, yielded, rest_of, is_taking}
+use Rattle.core_steps.specs.Stands.{Stands}
+use Rattle.core_steps.specs.Machine.{Machine, IsPending, SomeIsLeft, HasNext, MachineStands}
+use Rattle.core_steps.proofs.Puts.{each_put, put_other}
 
 -- ---- a seat goes on
 

@@ -1,19 +1,18 @@
 -- Each next step of a seat keeps what the machine holds, kind by kind.
-use Rattle.std.proofs.Common.{◌≡◌, ℕ, suc, ◌+◌, ◌<◌, true, false, List, [], ◌∷◌, ◌++◌, length, refl, sym, ap, ◌∙◌, subst, inl, inr, Option, Some, None, arith, append-nil}
+use Rattle.std.proofs.Common.{◌≡◌, ℕ, ◌<◌, true, false, List, [], ◌∷◌, ◌++◌, length, refl, sym, ap, ◌∙◌, subst, inl, inr, Option, Some, None, append-nil}
 use Rattle.std.specs.Prelude.{◌==◌}
-use Rattle.std.proofs.lemmas.Bool.{cases_Bool, false≢true, true≢false, eqb-true, cond-true, cond-false}
+use Rattle.std.proofs.lemmas.Bool.{cases_Bool, false≢true, eqb-true, cond-true, cond-false}
 use Rattle.entity_recs.specs.declared.effect.Effect.{Effect}
 use Rattle.entity_recs.specs.Commands.{Command}
 use Rattle.entity_recs.specs.Worlds.{World}
 use Rattle.entity_recs.specs.Histories.{Item, run}
 use Rattle.core_steps.specs.Cells.{put, word_in, cell_of}
 use Rattle.core_steps.specs.Views.{Fixed, Store, Point, Idle, Owning, Taking, Checking, Entering, Entered, Loading, Leaving, Sensing, Resolving, Claiming, Storing, Releasing, Returning, Yielding, stage_of, is_busy, is_whole, View, without_command, record_read, write_nodes, effect_loaded, leaf_nodes, plan_of, region_in, players_in, inner_held, leaves_held}
-use Rattle.core_steps.specs.Steps.{Core, item_at, commit, store_next, storing, yielded, view_after_refusal, view_after_take, view_after_claim, view_after_list, view_after_state, view_after_commit, rest_of, first, first_yield, is_taking, next_take, next_give, point_after_take, view_after_give, view_after_own, view_after_again, player_loaded, take_node, refuse_node, claim_node, give_node, yield_node, sensing, visiting, loading, taking, load_own, load_again}
-use Rattle.core_steps.specs.Stands.{IsStart, IsLawful, SeatStands, Stands}
-use Rattle.core_steps.specs.Machine.{Machine, Next, Begin, LoadOwn, LoadAgain, TakeNode, ClaimNode, ReadList, ReadPlayer, ReadState, CommitMove, StoreWord, GiveNode, YieldNode, YieldCount, next_at, next_of, quitting, resolving, beginning, committing, giving, core_after, machine_after, items_after, SomeIsLeft, HasNext, MachineStands}
+use Rattle.core_steps.specs.Steps.{Core, item_at, commit, store_next, storing, yielded, view_after_refusal, view_after_take, view_after_claim, view_after_list, view_after_state, view_after_commit, rest_of, first, first_yield, is_taking, next_take, next_give, point_after_take, view_after_give, view_after_own, view_after_again, player_loaded, take_node, refuse_node, claim_node, give_node, yield_node, visiting, loading}
+use Rattle.core_steps.specs.Stands.{IsStart, IsLawful, SeatStands}
+use Rattle.core_steps.specs.Machine.{Machine, Next, Begin, LoadOwn, LoadAgain, TakeNode, ClaimNode, ReadList, ReadPlayer, ReadState, CommitMove, StoreWord, GiveNode, YieldNode, YieldCount, next_at, quitting, resolving, beginning, committing, giving, core_after, machine_after, items_after, SomeIsLeft, MachineStands}
 use Rattle.core_steps.specs.Laws.{NextStepStands}
 use Rattle.core_steps.proofs.Puts.{put_same, eqb_sym}
-use Rattle.core_steps.proofs.Giving.{seat_at}
 use Rattle.core_steps.proofs.Owned.{begun_move_stands, loaded_own_stands}
 use Rattle.core_steps.proofs.Again.{loaded_again_stands}
 use Rattle.core_steps.proofs.Listing.{loaded_list_stands}
@@ -27,7 +26,6 @@ use Rattle.core_steps.proofs.GiveBacks.{given_node_stands, yielded_node_stands, 
 use Rattle.core_steps.proofs.Machines.{GoesOn, goes_to, goes_idle, goes_returning, goes_released, goes_yielded, left_sensing, left_visiting, left_loading, left_taking, left_storing, machine_on, busy_on}
 
 module _ (F : Fixed) (m : Machine) (history : List Item) (now : World) (i : ℕ) (lawful : IsLawful F) (start : IsStart F) (is : MachineStands F m history now) where
-
   abbrev view : View
   view = m.core.view i
 

@@ -199,7 +199,7 @@ NextExists =
 abbrev pub LogsGrowByCommits : Type 0
 LogsGrowByCommits =
     (F : Fixed) (m : Machine) (i j : ℕ) (next : Next)
-    → ((machine_after F m i next).core.view j).log ≡ (if j == i then (m.core.view j).log ++ items_after m.core i next else (m.core.view j).log)
+    → ((machine_after F m i next).core.view j).log ≡ (if j == i then (m.core.view i).log ++ items_after m.core i next else (m.core.view j).log)
 
 -- where a seat has a command in hand, some seat with a command in hand doesn't wait
 abbrev pub SomeSeatIsFree : Type 0

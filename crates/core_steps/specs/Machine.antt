@@ -1,17 +1,16 @@
 -- The core as a machine: which step a seat makes next, and the machine after it.
-use Rattle.std.specs.Prelude.{ℕ, suc, ◌+◌, ◌<◌, ◌≡◌, ◌==◌, ◌||◌, Bool, true, false, not, if◌then◌else◌, List, [], ◌∷◌, ◌++◌, length, Option, Some, None, is_some}
+use Rattle.std.specs.Prelude.{ℕ, ◌+◌, ◌<◌, ◌≡◌, ◌==◌, ◌||◌, Bool, true, false, if◌then◌else◌, List, [], ◌∷◌, length, Option, Some, None, is_some}
 use Rattle.entity_recs.specs.declared.effect.Effect.{Effect}
 use Rattle.entity_recs.specs.Commands.{Command}
 use Rattle.entity_recs.specs.Worlds.{World}
-use Rattle.entity_recs.specs.Histories.{Item, apply}
+use Rattle.entity_recs.specs.Histories.{Item}
 use Rattle.core_steps.specs.declared.step.Step.{Step}
 use Rattle.core_steps.specs.declared.step.StepKind.{StepKind}
 use Rattle.core_steps.specs.declared.step.StepKind.TheVariants.{Take, GiveBack, LoadList, Load, Commit, Bit, Store, Count}
-use Rattle.core_steps.specs.Cells as cells
 use Rattle.core_steps.specs.Cells.{put, cell_of, count_index, node_index, links_index, cell_index, state_index}
 use Rattle.core_steps.specs.Views as views
 use Rattle.core_steps.specs.Views.{Fixed, Point, Idle, Owning, Taking, Checking, Entering, Entered, Loading, Leaving, Sensing, Resolving, Claiming, Storing, Releasing, Returning, Yielding, stage_of, is_busy, is_whole, View, record_read, write_nodes, effect_loaded, nodes_of, holds}
-use Rattle.core_steps.specs.Steps.{Core, first, item_at, take_node, claim_node, refuse_node, next_give, give_node, is_taking, first_yield, yield_node, yield_nothing, load_list, begin_move, load_own, load_again, load_player, load_state, commit, store_next, make_seat}
+use Rattle.core_steps.specs.Steps.{Core, item_at, take_node, claim_node, refuse_node, next_give, give_node, is_taking, first_yield, yield_node, yield_nothing, load_list, begin_move, load_own, load_again, load_player, load_state, commit, store_next, make_seat}
 use Rattle.core_steps.specs.Stands.{IsGiven, Stands, start_core}
 
 -- the core, with what no view has yet: the commands that were given and aren't begun, and which seats are to give up

@@ -1,4 +1,5 @@
 ghost use Rattle.core_steps.specs.Laws.{StartStands, MadeSeatStands, EndedSeatStands, EndedSeatKeepsItems, LoadedCountStands, GivenNodeStands, YieldedNodeStands, YieldedNothingStands, TakenNodeStands, RefusedNodeStands, LayoutIsRight, EncodedIsDecoded, BegunMoveStands, LoadedOwnStands, LoadedAgainStands, LoadedListStands, LoadedPlayerStands, LoadedStateStands, ClaimedNodeStands, StoredNextStands, CommittedHeldStands, CommittedFreeStands, NotAllWait};
+ghost use Rattle.core_steps.specs.Laws.{MachineStartStands, GivenCommandStands, NextStepStands, QuittingStands, EachMachineStands, NextExists, LogsGrowByCommits, SomeSeatIsFree};
 
 /// The start stands: seat 0 without a command, no entry, and words that are those of the world.
 pub fn start_stands()
@@ -115,4 +116,46 @@ pub fn committed_free_stands()
 /// Where a seat has a command in hand, some seat with a command in hand doesn't wait for a node that another one holds.
 pub fn not_all_wait()
     ensures { NotAllWait }
+{}
+
+/// The machine at the start stands: a seat for each room, no command given, and no history.
+pub fn machine_start_stands()
+    ensures { MachineStartStands }
+{}
+
+/// A command that is given to a seat keeps what the machine holds.
+pub fn given_command_stands()
+    ensures { GivenCommandStands }
+{}
+
+/// The next step of a seat, whichever it is, keeps what the machine holds; where it commits, the seat's command with its
+/// entry is the last item of the history.
+pub fn next_step_stands()
+    ensures { NextStepStands }
+{}
+
+/// A seat that is told to give up, at any take before its commit, keeps what the machine holds.
+pub fn quitting_stands()
+    ensures { QuittingStands }
+{}
+
+/// Whatever commands are given, whatever seats make their next steps in whatever order, and whatever seats give up: the
+/// machine stands.
+pub fn each_machine_stands()
+    ensures { EachMachineStands }
+{}
+
+/// A seat has a next step exactly where it has a command in hand.
+pub fn next_exists()
+    ensures { NextExists }
+{}
+
+/// The step that commits appends the seat's command with its entry to the seat's log, and no other step changes a log.
+pub fn logs_grow_by_commits()
+    ensures { LogsGrowByCommits }
+{}
+
+/// Where a seat of the machine has a command in hand, some seat with a command in hand doesn't wait.
+pub fn some_seat_is_free()
+    ensures { SomeSeatIsFree }
 {}
