@@ -36,3 +36,4 @@ pub mod Waiting
 pub mod Machines
 pub mod NextSteps
 pub mod Reached
+pub mod Rowing

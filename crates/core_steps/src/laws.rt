@@ -1,4 +1,5 @@
 ghost use Rattle.core_steps.specs.Laws.{StartStands, MadeSeatStands, EndedSeatStands, EndedSeatKeepsItems, LoadedCountStands, GivenNodeStands, YieldedNodeStands, YieldedNothingStands, TakenNodeStands, RefusedNodeStands, LayoutIsRight, EncodedIsDecoded, BegunMoveStands, LoadedOwnStands, LoadedAgainStands, LoadedListStands, LoadedPlayerStands, LoadedStateStands, ClaimedNodeStands, StoredNextStands, CommittedHeldStands, CommittedFreeStands, NotAllWait};
+ghost use Rattle.core_steps.specs.Rows.{FirstView, NearRow};
 ghost use Rattle.core_steps.specs.Laws.{MachineStartStands, GivenCommandStands, NextStepStands, QuittingStands, EachMachineStands, NextExists, LogsGrowByCommits, SomeSeatIsFree};
 
 /// The start stands: seat 0 without a command, no entry, and words that are those of the world.
@@ -158,4 +159,16 @@ pub fn logs_grow_by_commits()
 /// Where a seat of the machine has a command in hand, some seat with a command in hand doesn't wait.
 pub fn some_seat_is_free()
     ensures { SomeSeatIsFree }
+{}
+
+/// Worked row: the first view. A seat's first step loads the first word of its player's record, which enters its view with the
+/// command.
+pub fn first_view_is_right()
+    ensures { FirstView }
+{}
+
+/// Worked row: two players share leaf 0. Once seat 0 holds node 15, seat 1's take of it is refused, and its view holds what
+/// it found: the node, its word, the own record and the leaves wanted.
+pub fn refused_take_is_right()
+    ensures { NearRow }
 {}
