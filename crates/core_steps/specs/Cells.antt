@@ -81,5 +81,6 @@ word_at nodes words index =
     if index == 0 then words.commits
     else (if nat_lt index (links_index nodes 0) then words.node (index - 1)
     else (if nat_lt index (body_index nodes 0) then words.links (index - links_index nodes 0)
-    else (if nat_lt index (state_index nodes 0) then words.body ((index - body_index nodes 0) / 5) ((index - body_index nodes 0) % 5)
+    else (if nat_lt index (state_index nodes 0) then
+    words.body ((index - body_index nodes 0) / 5) ((index - body_index nodes 0) % 5)
     else words.state (index - state_index nodes 0))))

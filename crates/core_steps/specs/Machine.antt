@@ -1,16 +1,22 @@
 -- The core as a machine: which step a seat makes next, and the machine after it.
-use Rattle.std.specs.Prelude.{ℕ, ◌+◌, ◌<◌, ◌≡◌, ◌==◌, ◌||◌, Bool, true, false, if◌then◌else◌, List, [], ◌∷◌, length, Option, Some, None, is_some}
+use Rattle.std.specs.Prelude.{ℕ, ◌+◌, ◌<◌, ◌≡◌, ◌==◌, ◌||◌, Bool, true, false, if◌then◌else◌, List, [], ◌∷◌, length}
+use Rattle.std.specs.Prelude.{Option, Some, None, is_some}
 use Rattle.entity_recs.specs.declared.effect.Effect.{Effect}
 use Rattle.entity_recs.specs.Commands.{Command}
 use Rattle.entity_recs.specs.Worlds.{World}
 use Rattle.entity_recs.specs.Histories.{Item}
 use Rattle.core_steps.specs.declared.step.Step.{Step}
 use Rattle.core_steps.specs.declared.step.StepKind.{StepKind}
-use Rattle.core_steps.specs.declared.step.StepKind.TheVariants.{Take, GiveBack, LoadList, Load, Commit, Bit, Store, Count}
+use Rattle.core_steps.specs.declared.step.StepKind.TheVariants.{Take, GiveBack, LoadList, Load, Commit, Bit, Store}
+use Rattle.core_steps.specs.declared.step.StepKind.TheVariants.{Count}
 use Rattle.core_steps.specs.Cells.{put, cell_of, count_index, node_index, links_index, cell_index, state_index}
 use Rattle.core_steps.specs.Views as views
-use Rattle.core_steps.specs.Views.{Fixed, Point, Idle, Owning, Taking, Checking, Entering, Entered, Loading, Leaving, Sensing, Resolving, Claiming, Storing, Releasing, Returning, Yielding, stage_of, is_busy, is_whole, View, record_read, write_nodes, effect_loaded, nodes_of, holds}
-use Rattle.core_steps.specs.Steps.{Core, item_at, take_node, claim_node, refuse_node, next_give, give_node, is_taking, first_yield, yield_node, yield_nothing, load_list, begin_move, load_own, load_again, load_player, load_state, commit, store_next, make_seat}
+use Rattle.core_steps.specs.Views.{Fixed, Point, Idle, Owning, Taking, Checking, Entering, Entered, Loading, Leaving}
+use Rattle.core_steps.specs.Views.{Sensing, Resolving, Claiming, Storing, Releasing, Returning, Yielding, stage_of}
+use Rattle.core_steps.specs.Views.{is_busy, is_whole, View, record_read, write_nodes, effect_loaded, nodes_of, holds}
+use Rattle.core_steps.specs.Steps.{Core, item_at, take_node, claim_node, refuse_node, next_give, give_node, is_taking}
+use Rattle.core_steps.specs.Steps.{first_yield, yield_node, yield_nothing, load_list, begin_move, load_own, load_again}
+use Rattle.core_steps.specs.Steps.{load_player, load_state, commit, store_next, make_seat}
 use Rattle.core_steps.specs.Stands.{IsGiven, Stands, start_core}
 
 -- the core, with what no view has yet: the commands that were given and aren't begun, and which seats are to give up
@@ -89,7 +95,8 @@ next_at F view given (Loading node part (slot ∷ players) plan) = Some (ReadPla
 next_at F view given (Leaving node plan) = Some (GiveNode node)
 next_at F view given (Sensing []) = None
 next_at F view given (Sensing (id ∷ ids)) = Some (ReadState id ids)
-next_at F view given Resolving = Some (resolving (effect_loaded F view) (write_nodes F (record_read view.cmd.slot view.again) (effect_loaded F view)))
+next_at F view given Resolving = Some
+    (resolving (effect_loaded F view) (write_nodes F (record_read view.cmd.slot view.again) (effect_loaded F view)))
 next_at F view given (Claiming got []) = committing view.effect got
 next_at F view given (Claiming got (node ∷ rest)) = Some (TakeNode node)
 next_at F view given (Storing nodes []) = None
@@ -101,7 +108,8 @@ next_at F view given (Yielding nodes leaves) = giving (next_give (Yielding nodes
 -- what the seat does next
 abbrev pub next_of : Fixed → Machine → ℕ → Option Next
 next_of F m i =
-    if m.quits i then Some (quitting (first_yield F (m.core.view i))) else next_at F (m.core.view i) (m.given i) (m.core.view i).point
+    if m.quits i then Some (quitting (first_yield F (m.core.view i)))
+    else next_at F (m.core.view i) (m.given i) (m.core.view i).point
 
 -- ---- as a step on one word
 
@@ -160,8 +168,10 @@ abbrev pub core_after : Fixed → Core → ℕ → Next → Core
 core_after F core i (Begin c) = begin_move core i c
 core_after F core i LoadOwn = load_own F core i
 core_after F core i LoadAgain = load_again F core i
-core_after F core i (TakeNode node) = if core.words.node node == 0 then take_node F core i node else refuse_node core i node
-core_after F core i (ClaimNode e node) = if core.words.node node == 0 then claim_node F core i e node else refuse_node core i node
+core_after F core i (TakeNode node) = if core.words.node node == 0 then take_node F core i node
+    else refuse_node core i node
+core_after F core i (ClaimNode e node) = if core.words.node node == 0 then claim_node F core i e node
+    else refuse_node core i node
 core_after F core i (ReadList node plan) = load_list F core i node plan
 core_after F core i (ReadPlayer node part slot players plan) = load_player F core i node part slot players plan
 core_after F core i (ReadState id ids) = load_state core i id ids
@@ -171,9 +181,11 @@ core_after F core i (GiveNode node) = give_node F core i node
 core_after F core i (YieldNode node) = yield_node F core i node
 core_after F core i YieldCount = yield_nothing core i
 
--- the machine after what the seat does next: no command of the seat is left to be begun, and the seat isn't to give up any more
+-- the machine after what the seat does next: no command of the seat is left to be begun, and the seat isn't to give up
+-- any more
 abbrev pub machine_after : Fixed → Machine → ℕ → Next → Machine
-machine_after F m i next = record { core = core_after F m.core i next; given = put i None m.given; quits = put i false m.quits }
+machine_after F m i next = record
+    { core = core_after F m.core i next; given = put i None m.given; quits = put i false m.quits }
 
 -- the item that it commits, if any
 abbrev pub items_after : Core → ℕ → Next → List Item
@@ -227,8 +239,10 @@ pub record HasNext (point : Point) (wanted : List ℕ) : Type 0 where
 pub record MachineStands (F : Fixed) (m : Machine) (history : List Item) (now : World) : Type 0 where
   pub core : Stands F m.core history now
   pub pending : (i : ℕ) (c : Command) → m.given i ≡ Some c → IsPending F (m.core.view i) c
-  pub given_apart : (i j : ℕ) (c d : Command) → (i == j) ≡ false → m.given i ≡ Some c → m.given j ≡ Some d → (c.slot == d.slot) ≡ false
-  pub busy_apart : (i j : ℕ) (c : Command) → (i == j) ≡ false → m.given i ≡ Some c → is_busy (stage_of (m.core.view j).point) ≡ true
+  pub given_apart : (i j : ℕ) (c d : Command) → (i == j) ≡ false → m.given i ≡ Some c → m.given j ≡ Some d
+      → (c.slot == d.slot) ≡ false
+  pub busy_apart : (i j : ℕ) (c : Command) → (i == j) ≡ false → m.given i ≡ Some c
+      → is_busy (stage_of (m.core.view j).point) ≡ true
       → (c.slot == (m.core.view j).cmd.slot) ≡ false
   pub quits : (i : ℕ) → m.quits i ≡ true → is_taking (m.core.view i).point ≡ true
   pub next : (i : ℕ) → HasNext (m.core.view i).point (m.core.view i).wanted
@@ -242,7 +256,8 @@ with_seats core (room ∷ rooms) = with_seats (make_seat core room) rooms
 
 -- the machine at the start: a seat for each room, and nothing given
 abbrev pub start_machine : Fixed → ℕ → List ℕ → Machine
-start_machine F room rooms = record { core = with_seats (start_core F room) rooms; given = λ i. None; quits = λ i. false }
+start_machine F room rooms = record
+    { core = with_seats (start_core F room) rooms; given = λ i. None; quits = λ i. false }
 
 -- a call: a command is given to a seat, a seat makes its next step, or a seat is to give up
 pub data Call : Type 0 where
@@ -274,7 +289,8 @@ pub record MayBeGiven (F : Fixed) (m : Machine) (i : ℕ) (c : Command) : Type 0
   pub pending : IsPending F (m.core.view i) c
   pub none : m.given i ≡ None
   pub given_apart : (j : ℕ) (d : Command) → (j == i) ≡ false → m.given j ≡ Some d → (c.slot == d.slot) ≡ false
-  pub busy_apart : (j : ℕ) → (j == i) ≡ false → is_busy (stage_of (m.core.view j).point) ≡ true → (c.slot == (m.core.view j).cmd.slot) ≡ false
+  pub busy_apart : (j : ℕ) → (j == i) ≡ false → is_busy (stage_of (m.core.view j).point) ≡ true
+      → (c.slot == (m.core.view j).cmd.slot) ≡ false
 
 -- the condition of a call; a seat may be told to give up at any take before its commit
 abbrev pub MayBeCalled : Fixed → Machine → Call → Type 0

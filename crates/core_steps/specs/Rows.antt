@@ -8,7 +8,8 @@ use Rattle.entity_recs.specs.Commands.{Command}
 use Rattle.entity_recs.specs.Worlds.{zero_vector, world_of}
 use Rattle.core_steps.specs.Views.{Fixed, Owning, new_view}
 use Rattle.core_steps.specs.declared.step.StepKind.TheVariants.{Take, Load}
-use Rattle.core_steps.specs.Machine.{Machine, Begin, TakeNode, next_of, step_of, start_machine, Call, Give, Go, after_calls}
+use Rattle.core_steps.specs.Machine.{Machine, Begin, TakeNode, next_of, step_of, start_machine, Call, Give, Go}
+use Rattle.core_steps.specs.Machine.{after_calls}
 
 -- a player at rest
 abbrev pub player_at_rest : ℕ → ℤ → ℤ → Rec
@@ -32,7 +33,8 @@ abbrev pub staying : List Rec → Fixed
 staying records = record {
   takes = λ r. true;
   region_of = λ me c. abs_of me ∷ [];
-  effect_of = λ me near c. record { me = record me { seq = c.seq }; states = []; reply = record { origin = me.origin; got = [] } };
+  effect_of = λ me near c. record
+      { me = record me { seq = c.seq }; states = []; reply = record { origin = me.origin; got = [] } };
   tree = record {
     depth = 4;
     bounds = record {
@@ -60,7 +62,8 @@ times (suc n) i = Go i ∷ times n i
 abbrev pub with_two : Fixed → Machine
 with_two F = after_calls F (start_machine F 1 (1 ∷ [])) (Give 0 (plain 0) ∷ Give 1 (plain 1) ∷ [])
 
--- the six words of the second near player: x and y; z and vx; vy and vz; score and seq; flags, ammo and carry; and the state
+-- the six words of the second near player: x and y; z and vx; vy and vz; score and seq; flags, ammo and carry; and the
+-- state
 abbrev pub second_words : List ℕ
 second_words = 422212465151488 ∷ 6144 ∷ 0 ∷ 0 ∷ 0 ∷ 0 ∷ []
 
@@ -70,7 +73,8 @@ first_load = after_calls near_players (with_two near_players) (times 1 1)
 
 -- the first view: the command and the first word of the own record, of which the other words are to be loaded
 pub record FirstView : Type 0 where
-  pub step : step_of near_players 1 ((with_two near_players).core.view 1) (Begin (plain 1)) ≡ record { seat = 1; word = 68; kind = Load }
+  pub step : step_of near_players 1 ((with_two near_players).core.view 1) (Begin (plain 1))
+      ≡ record { seat = 1; word = 68; kind = Load }
   pub view : first_load.core.view 1 ≡ record (new_view 1) { cmd = plain 1; own = 422212465151488 ∷ []; point = Owning }
 
 -- near: seat 1 has loaded its own record, and seat 0 has made seven steps
@@ -85,7 +89,9 @@ after_refusal = after_calls near_players before_refusal (times 1 1)
 pub record NearRow : Type 0 where
   pub held : before_refusal.core.words.node 15 ≡ 257
   pub next : next_of near_players before_refusal 1 ≡ Some (TakeNode 15)
-  pub step : step_of near_players 1 (before_refusal.core.view 1) (TakeNode 15) ≡ record { seat = 1; word = 16; kind = Take }
-  pub refused : (after_refusal.core.view 1).refused ≡ Some (record { node = 15; word = 257; own = second_words; wanted = 15 ∷ [] })
+  pub step : step_of near_players 1 (before_refusal.core.view 1) (TakeNode 15)
+      ≡ record { seat = 1; word = 16; kind = Take }
+  pub refused : (after_refusal.core.view 1).refused
+      ≡ Some (record { node = 15; word = 257; own = second_words; wanted = 15 ∷ [] })
   pub count : (after_refusal.core.view 1).refusals ≡ 1
   pub still : after_refusal.core.words.node 15 ≡ 257
