@@ -37,3 +37,4 @@ pub mod Machines
 pub mod NextSteps
 pub mod Reached
 pub mod Rowing
+pub mod OneWord

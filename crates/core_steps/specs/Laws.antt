@@ -12,14 +12,14 @@ use Rattle.entity_recs.specs.Commands.{Command}
 use Rattle.entity_recs.specs.Worlds.{World}
 use Rattle.entity_recs.specs.Histories.{Item, apply, run}
 use Rattle.core_steps.specs.Views.{Store, Storing, Fixed, Resolving, Claiming, record_read, write_nodes, effect_loaded}
-use Rattle.core_steps.specs.Views.{Idle, Owning, Checking, Sensing, Loading, Entered, stage_of, is_busy}
+use Rattle.core_steps.specs.Views.{Idle, Owning, Checking, Sensing, Loading, Entered, stage_of, is_busy, nodes_of}
 use Rattle.core_steps.specs.Steps.{store_next, item_at, commit, SomeSeatGoesOn, Core, first, claim_node, next_take}
 use Rattle.core_steps.specs.Steps.{take_node, refuse_node, next_give, give_node, is_taking, first_yield, yield_node}
 use Rattle.core_steps.specs.Steps.{yield_nothing, load_list, begin_move, load_own, load_again, load_player, load_state}
 use Rattle.core_steps.specs.Steps.{make_seat, end_seat, load_count}
 use Rattle.core_steps.specs.Machine.{Next, Machine, MachineStands, StandsSomehow, SomeGoesOn, MayBeGiven, Call}
 use Rattle.core_steps.specs.Machine.{MayAllBeCalled, has_command, items_after, machine_after, next_of, start_machine}
-use Rattle.core_steps.specs.Machine.{with_given, with_quitting, after_calls}
+use Rattle.core_steps.specs.Machine.{with_given, with_quitting, after_calls, index_of, core_after, node_taken}
 use Rattle.core_steps.specs.Stands.{IsGiven, IsLawful, IsStart, Stands, start_core, items_of, IsNumbered}
 
 -- a seat is there and has no command in hand
@@ -251,3 +251,16 @@ LogsGrowByCommits =
 abbrev pub SomeSeatIsFree : Type 0
 SomeSeatIsFree = (F : Fixed) (m : Machine) (history : List Item) (now : World) (i : ℕ) → MachineStands F m history now
     → has_command m i ≡ true → SomeGoesOn F m
+
+-- a step changes no word of the table but its own
+abbrev pub StepsChangeOneWord : Type 0
+StepsChangeOneWord =
+    (F : Fixed) (core : Core) (i index : ℕ) (next : Next)
+    → (index == index_of (nodes_of F) (core.view i) next) ≡ false
+    → word_at (nodes_of F) (core_after F core i next).words index ≡ word_at (nodes_of F) core.words index
+
+-- a take of a held node changes nothing but the record of the refused take in the view of its seat
+abbrev pub RefusedTakesChangeTheirRecord : Type 0
+RefusedTakesChangeTheirRecord =
+    (F : Fixed) (m : Machine) (i node : ℕ) (next : Next) → node_taken next ≡ Some node
+    → (m.core.words.node node == 0) ≡ false → core_after F m.core i next ≡ refuse_node m.core i node

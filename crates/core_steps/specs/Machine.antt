@@ -1,6 +1,7 @@
 -- The core as a machine: which step a seat makes next, and the machine after it.
 use Rattle.std.specs.Prelude.{ℕ, ◌+◌, ◌<◌, ◌≡◌, ◌==◌, ◌||◌, Bool, true, false, if◌then◌else◌, List, [], ◌∷◌, length}
 use Rattle.std.specs.Prelude.{Option, Some, None, is_some}
+use Rattle.std.specs.Option.{option_map}
 use Rattle.entity_recs.specs.declared.effect.Effect.{Effect}
 use Rattle.entity_recs.specs.Commands.{Command}
 use Rattle.entity_recs.specs.Worlds.{World}
@@ -160,6 +161,10 @@ index_of nodes view YieldCount = count_index
 -- the step that the seat makes next, by its kind and its word
 abbrev pub step_of : Fixed → ℕ → View → Next → Step
 step_of F i view next = record { seat = i; word = index_of (nodes_of F) view next; kind = kind_of next }
+
+-- the seat's next step, if it has one
+abbrev pub next_step_of : Fixed → Machine → ℕ → Option Step
+next_step_of F m i = option_map (step_of F i (m.core.view i)) (next_of F m i)
 
 -- ---- the machine after it
 

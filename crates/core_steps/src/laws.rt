@@ -1,6 +1,6 @@
 ghost use Rattle.core_steps.specs.Laws.{StartStands, MadeSeatStands, EndedSeatStands, EndedSeatKeepsItems, LoadedCountStands, GivenNodeStands, YieldedNodeStands, YieldedNothingStands, TakenNodeStands, RefusedNodeStands, LayoutIsRight, EncodedIsDecoded, BegunMoveStands, LoadedOwnStands, LoadedAgainStands, LoadedListStands, LoadedPlayerStands, LoadedStateStands, ClaimedNodeStands, StoredNextStands, CommittedHeldStands, CommittedFreeStands, NotAllWait};
 ghost use Rattle.core_steps.specs.Rows.{FirstView, NearRow};
-ghost use Rattle.core_steps.specs.Laws.{MachineStartStands, GivenCommandStands, NextStepStands, QuittingStands, EachMachineStands, NextExists, LogsGrowByCommits, SomeSeatIsFree};
+ghost use Rattle.core_steps.specs.Laws.{MachineStartStands, GivenCommandStands, NextStepStands, QuittingStands, EachMachineStands, NextExists, LogsGrowByCommits, SomeSeatIsFree, StepsChangeOneWord, RefusedTakesChangeTheirRecord};
 
 /// The start stands: seat 0 without a command, no entry, and words that are those of the world.
 pub fn start_stands()
@@ -171,4 +171,14 @@ pub fn first_view_is_right()
 /// it found: the node, its word, the own record and the leaves wanted.
 pub fn refused_take_is_right()
     ensures { NearRow }
+{}
+
+/// A step changes no word of the table but its own.
+pub fn steps_change_one_word()
+    ensures { StepsChangeOneWord }
+{}
+
+/// A take of a held node changes nothing but the record of the refused take in the view of its seat.
+pub fn refused_takes_change_their_record()
+    ensures { RefusedTakesChangeTheirRecord }
 {}

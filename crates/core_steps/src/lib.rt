@@ -8,8 +8,9 @@ pub use laws::{
     loaded_again_stands, loaded_count_stands, loaded_list_stands, loaded_own_stands,
     loaded_player_stands, loaded_state_stands, logs_grow_by_commits, machine_start_stands,
     made_seat_stands, next_exists, next_step_stands, not_all_wait, quitting_stands,
-    refused_node_stands, refused_take_is_right, some_seat_is_free, start_stands,
-    stored_next_stands, taken_node_stands, yielded_node_stands, yielded_nothing_stands,
+    refused_node_stands, refused_take_is_right, refused_takes_change_their_record,
+    some_seat_is_free, start_stands, steps_change_one_word, stored_next_stands, taken_node_stands,
+    yielded_node_stands, yielded_nothing_stands,
 };
 pub use step::{Step, StepKind};
 pub use words::{
