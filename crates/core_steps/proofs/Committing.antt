@@ -40,7 +40,7 @@ pub record IsCommitting (F : Fixed) (core : Core) (now : World) (i : ℕ) (nodes
       → held_word F i (stage_of (core.view i).point) (core.view i).wanted v ≡ held_word F i AtStoring (core.view i).wanted v
 
 -- a command that isn't committed is in hand
-open_busy : (stage : Stage) → is_open stage ≡ true → is_busy stage ≡ true
+pub open_busy : (stage : Stage) → is_open stage ≡ true → is_busy stage ≡ true
 open_busy AtRest e = absurd (false≢true e)
 open_busy AtOwning e = refl
 open_busy AtTaking e = refl

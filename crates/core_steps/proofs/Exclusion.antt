@@ -69,7 +69,7 @@ player_from_words F w slot state words lawful is below live same =
     ∙ encoded_is_decoded r state keep kind
 
 -- the own record as loaded is, its state aside, as in the run
-own_record_is : (F : Fixed) (w : World) (cmd : Command) (stage : Stage) (own wanted : List ℕ) → IsLawful F → IsRunWorld F w → IsGiven F cmd → is_open stage ≡ true → is_whole stage ≡ true
+pub own_record_is : (F : Fixed) (w : World) (cmd : Command) (stage : Stage) (own wanted : List ℕ) → IsLawful F → IsRunWorld F w → IsGiven F cmd → is_open stage ≡ true → is_whole stage ≡ true
     → HasOwn F w cmd stage own wanted → record_read cmd.slot own ≡ with_state (w.record_of cmd.slot) (nth_word own 5)
 own_record_is F w cmd stage own wanted lawful is given open' whole has_own =
     let long = has_own.whole whole in

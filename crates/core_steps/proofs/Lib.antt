@@ -38,3 +38,4 @@ pub mod NextSteps
 pub mod Reached
 pub mod Rowing
 pub mod OneWord
+pub mod Asking

@@ -28,7 +28,7 @@ this_player : (others : List PlayerRead) (slot : ℕ) (words : List ℕ) (v : �
 this_player others slot words v same = cond-true (slot == v) (Some words) (player_at others v) (eq-eqb slot v (sym (eqb-true v slot same)))
 
 -- the words of the present load are the player's words, also with one more
-part_words : (F : Fixed) (core : Core) (history : List Item) (now : World) (i node p : ℕ) (part players plan : List ℕ) → Stands F core history now
+pub part_words : (F : Fixed) (core : Core) (history : List Item) (now : World) (i node p : ℕ) (part players plan : List ℕ) → Stands F core history now
     → (core.view i).point ≡ Loading node part (p ∷ players) plan
     → (k : ℕ) → k < length (part ++ word_in core.words (cell_of p (length part)) ∷ []) → k < 5 → core.words.body p k ≡ nth_word (part ++ word_in core.words (cell_of p (length part)) ∷ []) k
 part_words F core history now i node p part players plan is e k below five =

@@ -4,15 +4,16 @@ use Rattle.std.specs.Prelude.{Some, None}
 use Rattle.entity_recs.specs.declared.kind.Kind.TheVariants.{Player}
 use Rattle.entity_recs.specs.declared.rec.Rec.{Rec}
 use Rattle.entity_recs.specs.Records.{with_state}
-use Rattle.entity_recs.specs.Actions.{IsKeepable}
-use Rattle.core_steps.specs.Cells.{Words, Body, State, count_index, node_index, links_index, cell_index, word_at}
+use Rattle.entity_recs.specs.Actions.{IsKeepable, HasPlayer, IsCall}
+use Rattle.core_steps.specs.Cells.{Words, Body, State, word_in, cell_of, count_index, node_index, links_index, cell_index, word_at}
 use Rattle.core_steps.specs.Encoding.{words_of, record_from}
 use Rattle.entity_recs.specs.declared.effect.Effect.{Effect}
 use Rattle.entity_recs.specs.Commands.{Command}
 use Rattle.entity_recs.specs.Worlds.{World}
 use Rattle.entity_recs.specs.Histories.{Item, apply, run}
 use Rattle.core_steps.specs.Views.{Store, Storing, Fixed, Resolving, Claiming, record_read, write_nodes, effect_loaded}
-use Rattle.core_steps.specs.Views.{Idle, Owning, Checking, Sensing, Loading, Entered, stage_of, is_busy, nodes_of}
+use Rattle.core_steps.specs.Views.{Idle, Owning, Checking, Sensing, Loading, Entered, stage_of, is_busy, is_open, is_whole, nodes_of}
+use Rattle.core_steps.specs.Views.{loaded_near}
 use Rattle.core_steps.specs.Steps.{store_next, item_at, commit, SomeSeatGoesOn, Core, first, claim_node, next_take}
 use Rattle.core_steps.specs.Steps.{take_node, refuse_node, next_give, give_node, is_taking, first_yield, yield_node}
 use Rattle.core_steps.specs.Steps.{yield_nothing, load_list, begin_move, load_own, load_again, load_player, load_state}
@@ -264,3 +265,30 @@ abbrev pub RefusedTakesChangeTheirRecord : Type 0
 RefusedTakesChangeTheirRecord =
     (F : Fixed) (m : Machine) (i node : ℕ) (next : Next) → node_taken next ≡ Some node
     → (m.core.words.node node == 0) ≡ false → core_after F m.core i next ≡ refuse_node m.core i node
+
+-- ---- what the action may be asked
+
+-- the own record of a command that isn't committed, once it is loaded whole, is one for which the action may be asked
+-- its region
+abbrev pub RegionMayBeAsked : Type 0
+RegionMayBeAsked =
+    (F : Fixed) (core : Core) (history : List Item) (now : World) (i : ℕ) → IsLawful F → IsStart F
+    → is_open (stage_of (core.view i).point) ≡ true → is_whole (stage_of (core.view i).point) ≡ true
+    → Stands F core history now
+    → HasPlayer F.takes (record_read (core.view i).cmd.slot (core.view i).own) (core.view i).cmd
+
+-- the record of another player, once its last word is loaded, is one that the action takes
+abbrev pub LoadedRecordIsTaken : Type 0
+LoadedRecordIsTaken =
+    (F : Fixed) (core : Core) (history : List Item) (now : World) (i node p : ℕ) (part players plan : List ℕ)
+    → IsLawful F → IsStart F → (core.view i).point ≡ Loading node part (p ∷ players) plan → length part ≡ 5
+    → Stands F core history now
+    → F.takes (record_read p (part ++ word_in core.words (cell_of p 5) ∷ [])) ≡ true
+
+-- once all is read the action may be asked the effect on what was loaded
+abbrev pub EffectMayBeAsked : Type 0
+EffectMayBeAsked =
+    (F : Fixed) (core : Core) (history : List Item) (now : World) (i : ℕ) → IsLawful F → IsStart F
+    → (core.view i).point ≡ Resolving → Stands F core history now
+    → IsCall F.takes (record_read (core.view i).cmd.slot (core.view i).again) (loaded_near F (core.view i))
+    (core.view i).cmd

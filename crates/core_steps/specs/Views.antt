@@ -450,11 +450,13 @@ near_loaded F region slot others states =
     filter (λ r. touches_region (abs_of r) region)
     (filter_map (record_loaded F others states) (filter (λ id. not (id == slot)) F.start.ids))
 
+-- the records that a seat has loaded of what touches its region, but its player's
+abbrev pub loaded_near : Fixed → View → List Rec
+loaded_near F view = near_loaded F (region_in F view.cmd view.own) view.cmd.slot view.others view.states
+
 -- the effect that the action gives on what was loaded
 abbrev pub effect_loaded : Fixed → View → Effect
-effect_loaded F view =
-    F.effect_of (record_read view.cmd.slot view.again)
-    (near_loaded F (region_in F view.cmd view.own) view.cmd.slot view.others view.states) view.cmd
+effect_loaded F view = F.effect_of (record_read view.cmd.slot view.again) (loaded_near F view) view.cmd
 
 -- the write nodes of an effect on this record
 abbrev pub write_nodes : Fixed → Rec → Effect → List ℕ

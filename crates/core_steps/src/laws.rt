@@ -1,6 +1,6 @@
 ghost use Rattle.core_steps.specs.Laws.{StartStands, MadeSeatStands, EndedSeatStands, EndedSeatKeepsItems, LoadedCountStands, GivenNodeStands, YieldedNodeStands, YieldedNothingStands, TakenNodeStands, RefusedNodeStands, LayoutIsRight, EncodedIsDecoded, BegunMoveStands, LoadedOwnStands, LoadedAgainStands, LoadedListStands, LoadedPlayerStands, LoadedStateStands, ClaimedNodeStands, StoredNextStands, CommittedHeldStands, CommittedFreeStands, NotAllWait};
 ghost use Rattle.core_steps.specs.Rows.{FirstView, NearRow};
-ghost use Rattle.core_steps.specs.Laws.{MachineStartStands, GivenCommandStands, NextStepStands, QuittingStands, EachMachineStands, NextExists, LogsGrowByCommits, SomeSeatIsFree, StepsChangeOneWord, RefusedTakesChangeTheirRecord};
+ghost use Rattle.core_steps.specs.Laws.{MachineStartStands, GivenCommandStands, NextStepStands, QuittingStands, EachMachineStands, NextExists, LogsGrowByCommits, SomeSeatIsFree, StepsChangeOneWord, RefusedTakesChangeTheirRecord, RegionMayBeAsked, LoadedRecordIsTaken, EffectMayBeAsked};
 
 /// The start stands: seat 0 without a command, no entry, and words that are those of the world.
 pub fn start_stands()
@@ -181,4 +181,19 @@ pub fn steps_change_one_word()
 /// A take of a held node changes nothing but the record of the refused take in the view of its seat.
 pub fn refused_takes_change_their_record()
     ensures { RefusedTakesChangeTheirRecord }
+{}
+
+/// The own record of a command that isn't committed, once it is loaded whole, meets the action's condition on its region.
+pub fn region_may_be_asked()
+    ensures { RegionMayBeAsked }
+{}
+
+/// The record of another player, once its last word is loaded, is one that the action takes.
+pub fn loaded_record_is_taken()
+    ensures { LoadedRecordIsTaken }
+{}
+
+/// Once all is read, what was loaded meets the action's condition on its effect.
+pub fn effect_may_be_asked()
+    ensures { EffectMayBeAsked }
 {}
