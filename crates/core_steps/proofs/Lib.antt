@@ -39,3 +39,4 @@ pub mod Reached
 pub mod Rowing
 pub mod OneWord
 pub mod Asking
+pub mod Places

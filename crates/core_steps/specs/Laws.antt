@@ -1,6 +1,8 @@
 -- That each kind of step keeps what stands.
 use Rattle.std.specs.Prelude.{◌≡◌, ℕ, ◌<◌, ◌==◌, length, true, false, if◌then◌else◌, is_some, List, [], ◌∷◌, ◌++◌}
-use Rattle.std.specs.Prelude.{Some, None}
+use Rattle.std.specs.Prelude.{Some, None, map, All}
+use Rattle.std.specs.List.{range_with_len}
+use Rattle.std.specs.List.Sorted.{IsStrictlyIncreasing, IsPermutation}
 use Rattle.entity_recs.specs.declared.kind.Kind.TheVariants.{Player}
 use Rattle.entity_recs.specs.declared.rec.Rec.{Rec}
 use Rattle.entity_recs.specs.Records.{with_state}
@@ -13,7 +15,7 @@ use Rattle.entity_recs.specs.Worlds.{World}
 use Rattle.entity_recs.specs.Histories.{Item, apply, run}
 use Rattle.core_steps.specs.Views.{Store, Storing, Fixed, Resolving, Claiming, record_read, write_nodes, effect_loaded}
 use Rattle.core_steps.specs.Views.{Idle, Owning, Checking, Sensing, Loading, Entered, stage_of, is_busy, is_open, is_whole, nodes_of}
-use Rattle.core_steps.specs.Views.{loaded_near}
+use Rattle.core_steps.specs.Views.{loaded_near, Ended}
 use Rattle.core_steps.specs.Steps.{store_next, item_at, commit, SomeSeatGoesOn, Core, first, claim_node, next_take}
 use Rattle.core_steps.specs.Steps.{take_node, refuse_node, next_give, give_node, is_taking, first_yield, yield_node}
 use Rattle.core_steps.specs.Steps.{yield_nothing, load_list, begin_move, load_own, load_again, load_player, load_state}
@@ -292,3 +294,22 @@ EffectMayBeAsked =
     → (core.view i).point ≡ Resolving → Stands F core history now
     → IsCall F.takes (record_read (core.view i).cmd.slot (core.view i).again) (loaded_near F (core.view i))
     (core.view i).cmd
+
+-- ---- what a history says of the logs
+
+-- the places of a list of items
+abbrev pub places_of : List Item → List ℕ
+places_of = map (λ (item : Item). item.entry.place)
+
+-- the places in the history are the numbers below the count of commits in order, those in all logs are the same
+-- numbers, and those in each log rise
+pub record HasItsPlaces (core : Core) (history : List Item) : Type 0 where
+  pub in_order : places_of history ≡ range_with_len 0 core.words.commits
+  pub in_logs : IsPermutation (range_with_len 0 core.words.commits) (places_of (items_of core.view))
+  pub rising : (i : ℕ) → IsStrictlyIncreasing (places_of (core.view i).log)
+  pub rising_ended : All (λ (e : Ended). IsStrictlyIncreasing (places_of e.log)) (core.view 0).ended
+
+-- each place below the count of commits is in one log, once
+abbrev pub EachPlaceIsLoggedOnce : Type 0
+EachPlaceIsLoggedOnce =
+    (F : Fixed) (core : Core) (history : List Item) (now : World) → Stands F core history now → HasItsPlaces core history

@@ -1,6 +1,6 @@
 ghost use Rattle.core_steps.specs.Laws.{StartStands, MadeSeatStands, EndedSeatStands, EndedSeatKeepsItems, LoadedCountStands, GivenNodeStands, YieldedNodeStands, YieldedNothingStands, TakenNodeStands, RefusedNodeStands, LayoutIsRight, EncodedIsDecoded, BegunMoveStands, LoadedOwnStands, LoadedAgainStands, LoadedListStands, LoadedPlayerStands, LoadedStateStands, ClaimedNodeStands, StoredNextStands, CommittedHeldStands, CommittedFreeStands, NotAllWait};
 ghost use Rattle.core_steps.specs.Rows.{FirstView, NearRow};
-ghost use Rattle.core_steps.specs.Laws.{MachineStartStands, GivenCommandStands, NextStepStands, QuittingStands, EachMachineStands, NextExists, LogsGrowByCommits, SomeSeatIsFree, StepsChangeOneWord, RefusedTakesChangeTheirRecord, RegionMayBeAsked, LoadedRecordIsTaken, EffectMayBeAsked};
+ghost use Rattle.core_steps.specs.Laws.{MachineStartStands, GivenCommandStands, NextStepStands, QuittingStands, EachMachineStands, NextExists, LogsGrowByCommits, SomeSeatIsFree, StepsChangeOneWord, RefusedTakesChangeTheirRecord, RegionMayBeAsked, LoadedRecordIsTaken, EffectMayBeAsked, EachPlaceIsLoggedOnce};
 
 /// The start stands: seat 0 without a command, no entry, and words that are those of the world.
 pub fn start_stands()
@@ -196,4 +196,9 @@ pub fn loaded_record_is_taken()
 /// Once all is read, what was loaded meets the action's condition on its effect.
 pub fn effect_may_be_asked()
     ensures { EffectMayBeAsked }
+{}
+
+/// Each place below the count of commits is in one log, once, and the places of each log rise.
+pub fn each_place_is_logged_once()
+    ensures { EachPlaceIsLoggedOnce }
 {}
