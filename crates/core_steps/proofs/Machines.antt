@@ -1,12 +1,12 @@
 -- The machine: each step that a seat makes keeps what stands.
 use Rattle.std.proofs.Common.{◌≡◌, ℕ, ◌<◌, true, false, List, [], ◌∷◌, length, refl, sym, ap, ◌∙◌, subst, inl, inr, Option, Some, None, arith}
 use Rattle.std.specs.Prelude.{◌==◌}
-use Rattle.std.proofs.lemmas.Bool.{cases_Bool, false≢true, true≢false, cond-true}
+use Rattle.std.proofs.lemmas.Bool.{cases_Bool, false≢true, true≢false, or_right, cond-true}
 use Rattle.entity_recs.specs.Commands.{Command}
 use Rattle.entity_recs.specs.Worlds.{World}
 use Rattle.entity_recs.specs.Histories.{Item}
 use Rattle.core_steps.specs.Cells.{Words, put}
-use Rattle.core_steps.specs.Views.{Fixed, Store, Point, Idle, Releasing, Returning, Yielding, stage_of, is_busy, is_whole, View, is_leaf, things_in, region_in}
+use Rattle.core_steps.specs.Views.{Fixed, Store, Point, Idle, Releasing, Returning, Yielding, stage_of, is_busy, is_whole, View, is_leaf, has, things_in, region_in}
 use Rattle.core_steps.specs.Steps.{sensing, visiting, loading, taking, storing, returning, yielding, released, yielded, rest_of, is_taking}
 use Rattle.core_steps.specs.Stands.{Stands}
 use Rattle.core_steps.specs.Machine.{Machine, IsPending, SomeIsLeft, HasNext, MachineStands}
@@ -20,7 +20,7 @@ pub record GoesOn (old new : View) : Type 0 where
   pub next : HasNext new.point new.wanted
 
 -- the seat has another point
-pub goes_to : (view : View) (point : Point) → 0 < length view.wanted → SomeIsLeft point → GoesOn view (record view { point = point })
+pub goes_to : (view : View) (point : Point) → 0 < length view.wanted → SomeIsLeft point view.wanted → GoesOn view (record view { point = point })
 goes_to view point some left = record { cmd = λ _. refl; next = record { some_wanted = λ _. some; left = left } }
 
 -- the seat has done with its command
@@ -29,46 +29,57 @@ goes_idle view new e = record {
   cmd = λ busy. absurd (false≢true (ap (λ (p : Point). is_busy (stage_of p)) (sym e) ∙ busy));
   next = record {
     some_wanted = λ whole. absurd (false≢true (ap (λ (p : Point). is_whole (stage_of p)) (sym e) ∙ whole));
-    left = subst SomeIsLeft (sym e) tt;
+    left = subst (λ (p : Point). SomeIsLeft p new.wanted) (sym e) tt;
   };
 }
 
-pub left_sensing : (ids : List ℕ) → SomeIsLeft (sensing ids)
-left_sensing [] = tt
-left_sensing (id ∷ ids) = omega arith
+pub left_sensing : (ids wanted : List ℕ) → SomeIsLeft (sensing ids) wanted
+left_sensing [] wanted = tt
+left_sensing (id ∷ ids) wanted = omega arith
 
-pub left_visiting : (F : Fixed) (view : View) (plan : List ℕ) → SomeIsLeft (visiting F view plan)
-left_visiting F view [] = left_sensing (things_in F (region_in F view.cmd view.own))
-left_visiting F view (node ∷ plan) = elim (cases_Bool (is_leaf F node)) [ inl leaf ↦ rw leaf tt | inr inner ↦ rw inner tt ]
+pub left_visiting : (F : Fixed) (view : View) (plan wanted : List ℕ) → SomeIsLeft (visiting F view plan) wanted
+left_visiting F view [] wanted = left_sensing (things_in F (region_in F view.cmd view.own)) wanted
+left_visiting F view (node ∷ plan) wanted = elim (cases_Bool (is_leaf F node)) [ inl leaf ↦ rw leaf tt | inr inner ↦ rw inner tt ]
 
-pub left_loading : (F : Fixed) (view : View) (node : ℕ) (players plan : List ℕ) → SomeIsLeft (loading F view node players plan)
-left_loading F view node [] plan = elim (cases_Bool (is_leaf F node)) [ inl leaf ↦ rw leaf (left_visiting F view plan) | inr inner ↦ rw inner tt ]
-left_loading F view node (slot ∷ players) plan = tt
+pub left_loading : (F : Fixed) (view : View) (node : ℕ) (players plan wanted : List ℕ) → SomeIsLeft (loading F view node players plan) wanted
+left_loading F view node [] plan wanted = elim (cases_Bool (is_leaf F node)) [ inl leaf ↦ rw leaf (left_visiting F view plan wanted) | inr inner ↦ rw inner tt ]
+left_loading F view node (slot ∷ players) plan wanted = tt
 
-pub left_taking : (got rest : List ℕ) → SomeIsLeft (taking got rest)
-left_taking got [] = tt
-left_taking got (leaf ∷ rest) = tt
+pub left_taking : (got rest wanted : List ℕ) → SomeIsLeft (taking got rest) wanted
+left_taking got [] wanted = tt
+left_taking got (leaf ∷ rest) wanted = tt
 
-pub left_storing : (nodes : List ℕ) (stores : List Store) → SomeIsLeft (storing nodes stores)
-left_storing nodes [] = tt
-left_storing nodes (store ∷ stores) = tt
+pub left_storing : (nodes : List ℕ) (stores : List Store) (wanted : List ℕ) → SomeIsLeft (storing nodes stores) wanted
+left_storing nodes [] wanted = tt
+left_storing nodes (store ∷ stores) wanted = tt
 
-pub goes_returning : (view : View) (leaves : List ℕ) → 0 < length view.wanted → GoesOn view (returning view leaves)
-goes_returning view [] some = goes_idle view (returning view []) refl
-goes_returning view (leaf ∷ leaves) some = goes_to view (Returning (leaf ∷ leaves)) some (omega arith)
+-- the one list has no more than the other
+abbrev pub IsAmong : List ℕ → List ℕ → Type 0
+IsAmong xs ys = (v : ℕ) → has xs v ≡ true → has ys v ≡ true
+
+rest_among : (xs : List ℕ) → IsAmong (rest_of xs) xs
+rest_among [] v there = there
+rest_among (x ∷ xs) v there = or_right (x == v) (has xs v) there
+
+pub goes_returning : (view : View) (leaves : List ℕ) → 0 < length view.wanted → IsAmong leaves view.wanted → GoesOn view (returning view leaves)
+goes_returning view [] some among = goes_idle view (returning view []) refl
+goes_returning view (leaf ∷ leaves) some among = goes_to view (Returning (leaf ∷ leaves)) some (record { some = omega arith; among = among })
+
+pub goes_returned : (view : View) (leaves : List ℕ) → 0 < length view.wanted → IsAmong leaves view.wanted → GoesOn view (returning view (rest_of leaves))
+goes_returned view leaves some among = goes_returning view (rest_of leaves) some (λ v there. among v (rest_among leaves v there))
 
 pub goes_released : (view : View) (nodes : List ℕ) → 0 < length view.wanted → GoesOn view (released view nodes)
-goes_released view [] some = goes_returning view (rest_of view.wanted) some
+goes_released view [] some = goes_returned view view.wanted some (λ v there. there)
 goes_released view (node ∷ nodes) some = goes_to view (Releasing nodes) some tt
 
-pub goes_yielding : (view : View) (nodes leaves : List ℕ) → 0 < length view.wanted → GoesOn view (yielding view nodes leaves)
-goes_yielding view [] [] some = goes_idle view (yielding view [] []) refl
-goes_yielding view [] (leaf ∷ leaves) some = goes_to view (Yielding [] (leaf ∷ leaves)) some (omega arith)
-goes_yielding view (node ∷ nodes) leaves some = goes_to view (Yielding (node ∷ nodes) leaves) some (omega arith)
+pub goes_yielding : (view : View) (nodes leaves : List ℕ) → 0 < length view.wanted → IsAmong leaves view.wanted → GoesOn view (yielding view nodes leaves)
+goes_yielding view [] [] some among = goes_idle view (yielding view [] []) refl
+goes_yielding view [] (leaf ∷ leaves) some among = goes_to view (Yielding [] (leaf ∷ leaves)) some (record { some = omega arith; among = among })
+goes_yielding view (node ∷ nodes) leaves some among = goes_to view (Yielding (node ∷ nodes) leaves) some (record { some = omega arith; among = among })
 
-pub goes_yielded : (view : View) (nodes leaves : List ℕ) → 0 < length view.wanted → GoesOn view (yielded view nodes leaves)
-goes_yielded view [] leaves some = goes_yielding view [] (rest_of leaves) some
-goes_yielded view (node ∷ nodes) leaves some = goes_yielding view nodes leaves some
+pub goes_yielded : (view : View) (nodes leaves : List ℕ) → 0 < length view.wanted → IsAmong leaves view.wanted → GoesOn view (yielded view nodes leaves)
+goes_yielded view [] leaves some among = goes_yielding view [] (rest_of leaves) some (λ v there. among v (rest_among leaves v there))
+goes_yielded view (node ∷ nodes) leaves some among = goes_yielding view nodes leaves some among
 
 -- ---- the other seats
 

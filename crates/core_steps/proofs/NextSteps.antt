@@ -7,11 +7,13 @@ use Rattle.entity_recs.specs.Commands.{Command}
 use Rattle.entity_recs.specs.Worlds.{World}
 use Rattle.entity_recs.specs.Histories.{Item, run}
 use Rattle.core_steps.specs.Cells.{put, word_in, cell_of}
-use Rattle.core_steps.specs.Views.{Fixed, Store, Point, Idle, Owning, Taking, Checking, Entering, Entered, Loading, Leaving, Sensing, Resolving, Claiming, Storing, Releasing, Returning, Yielding, stage_of, is_busy, is_whole, View, without_command, record_read, write_nodes, effect_loaded, leaf_nodes, plan_of, region_in, players_in, inner_held, leaves_held}
-use Rattle.core_steps.specs.Steps.{Core, item_at, commit, store_next, storing, yielded, view_after_refusal, view_after_take, view_after_claim, view_after_list, view_after_state, view_after_commit, rest_of, first, first_yield, is_taking, next_take, next_give, point_after_take, view_after_give, view_after_own, view_after_again, player_loaded, take_node, refuse_node, claim_node, give_node, yield_node, visiting, loading}
-use Rattle.core_steps.specs.Stands.{IsStart, IsLawful, SeatStands}
+use Rattle.core_steps.specs.Views.{has, Fixed, Store, Point, Idle, Owning, Taking, Checking, Entering, Entered, Loading, Leaving, Sensing, Resolving, Claiming, Storing, Releasing, Returning, Yielding, stage_of, is_busy, is_whole, View, without_command, record_read, write_nodes, effect_loaded, leaf_nodes, plan_of, region_in, players_in, inner_held, leaves_held}
+use Rattle.core_steps.specs.Steps.{Core, item_at, commit, store_next, storing, yielded, view_after_refusal, view_after_take, view_after_claim, view_after_list, view_after_state, view_after_commit, first, first_yield, is_taking, next_take, next_give, point_after_take, view_after_give, view_after_own, view_after_again, player_loaded, take_node, refuse_node, claim_node, give_node, yield_node, visiting, loading}
+use Rattle.core_steps.specs.Stands.{IsStart, IsLawful, SeatStands, Stands}
 use Rattle.core_steps.specs.Machine.{Machine, Next, Begin, LoadOwn, LoadAgain, TakeNode, ClaimNode, ReadList, ReadPlayer, ReadState, CommitMove, StoreWord, GiveNode, YieldNode, YieldCount, next_at, quitting, resolving, beginning, committing, giving, core_after, machine_after, items_after, SomeIsLeft, MachineStands}
 use Rattle.core_steps.specs.Laws.{NextStepStands}
+use Rattle.core_steps.proofs.Giving.{seat_at}
+use Rattle.core_steps.proofs.Lists.{has_front}
 use Rattle.core_steps.proofs.Puts.{put_same, eqb_sym}
 use Rattle.core_steps.proofs.Owned.{begun_move_stands, loaded_own_stands}
 use Rattle.core_steps.proofs.Again.{loaded_again_stands}
@@ -23,7 +25,28 @@ use Rattle.core_steps.proofs.Claiming.{claimed_node_stands}
 use Rattle.core_steps.proofs.Commits.{committed_held_stands, committed_free_stands}
 use Rattle.core_steps.proofs.Storing.{stored_next_stands}
 use Rattle.core_steps.proofs.GiveBacks.{given_node_stands, yielded_node_stands, yielded_nothing_stands, taking_point}
-use Rattle.core_steps.proofs.Machines.{GoesOn, goes_to, goes_idle, goes_returning, goes_released, goes_yielded, left_sensing, left_visiting, left_loading, left_taking, left_storing, machine_on, busy_on}
+use Rattle.core_steps.proofs.Machines.{GoesOn, goes_to, goes_idle, goes_returned, goes_released, goes_yielded, IsAmong, left_sensing, left_visiting, left_loading, left_taking, left_storing, machine_on, busy_on}
+
+-- where a node is to be taken next, the leaves held are among those wanted
+held_among : (F : Fixed) (core : Core) (history : List Item) (now : World) (i : ℕ) (point : Point) → Stands F core history now → (core.view i).point ≡ point → is_taking point ≡ true
+    → IsAmong (leaves_held point (core.view i).wanted) (core.view i).wanted
+held_among F core history now i Idle is e takes = absurd (false≢true takes)
+held_among F core history now i Owning is e takes = absurd (false≢true takes)
+held_among F core history now i (Taking got rest) is e takes = λ v there.
+    let at = (seat_at F core history now i (Taking got rest) is e).at in
+    subst (λ (ns : List ℕ). has ns v ≡ true) at.all (has_front got rest v there)
+held_among F core history now i Checking is e takes = absurd (false≢true takes)
+held_among F core history now i (Entering n plan) is e takes = λ v there. there
+held_among F core history now i (Entered n plan) is e takes = absurd (false≢true takes)
+held_among F core history now i (Loading n part players plan) is e takes = absurd (false≢true takes)
+held_among F core history now i (Leaving n plan) is e takes = absurd (false≢true takes)
+held_among F core history now i (Sensing ids) is e takes = absurd (false≢true takes)
+held_among F core history now i Resolving is e takes = λ v there. there
+held_among F core history now i (Claiming got rest) is e takes = λ v there. there
+held_among F core history now i (Storing nodes stores) is e takes = absurd (false≢true takes)
+held_among F core history now i (Releasing nodes) is e takes = absurd (false≢true takes)
+held_among F core history now i (Returning leaves) is e takes = absurd (false≢true takes)
+held_among F core history now i (Yielding nodes leaves) is e takes = absurd (false≢true takes)
 
 module _ (F : Fixed) (m : Machine) (history : List Item) (now : World) (i : ℕ) (lawful : IsLawful F) (start : IsStart F) (is : MachineStands F m history now) where
   abbrev view : View
@@ -67,7 +90,7 @@ module _ (F : Fixed) (m : Machine) (history : List Item) (now : World) (i : ℕ)
             subst (GoesOn view) (sym same) (record { cmd = λ _. refl; next = record { some_wanted = λ _. stood.at.left; left = tt } })
         | inr fewer ↦ subst (GoesOn view) (sym (cond-false (length own == 6) full more fewer)) (record {
           cmd = λ _. refl;
-          next = record { some_wanted = λ whole. absurd (false≢true (sym (ap (λ (p : Point). is_whole (stage_of p)) e) ∙ whole)); left = subst SomeIsLeft (sym e) tt };
+          next = record { some_wanted = λ whole. absurd (false≢true (sym (ap (λ (p : Point). is_whole (stage_of p)) e) ∙ whole)); left = subst (λ (p : Point). SomeIsLeft p view.wanted) (sym e) tt };
         })
       ]) stands)
 
@@ -81,11 +104,11 @@ module _ (F : Fixed) (m : Machine) (history : List Item) (now : World) (i : ℕ)
       (busy_at Checking e refl) (elim (cases_Bool (length again == 6)) [
         | inl six ↦ subst (GoesOn view) (sym (cond-true (length again == 6) (record more { point = point }) more six)) (record {
           cmd = λ _. refl;
-          next = record { some_wanted = λ _. some; left = left_visiting F more (plan_of F (region_in F view.cmd view.own)) };
+          next = record { some_wanted = λ _. some; left = left_visiting F more (plan_of F (region_in F view.cmd view.own)) view.wanted };
         })
         | inr fewer ↦ subst (GoesOn view) (sym (cond-false (length again == 6) (record more { point = point }) more fewer)) (record {
           cmd = λ _. refl;
-          next = record { some_wanted = λ _. some; left = subst SomeIsLeft (sym e) tt };
+          next = record { some_wanted = λ _. some; left = subst (λ (p : Point). SomeIsLeft p view.wanted) (sym e) tt };
         })
       ]) (loaded_again_stands F m.core history now i lawful start e is.core))
 
@@ -98,7 +121,7 @@ module _ (F : Fixed) (m : Machine) (history : List Item) (now : World) (i : ℕ)
       (busy_on F m history history now now i m.core.words (view_after_refusal node (m.core.words.node node) view) is point.busy (record { cmd = λ _. refl; next = is.next i })
       (refused_node_stands F m.core history now i node takes is.core))
 
-  on_take : (node : ℕ) (point : Point) → view.point ≡ point → is_taking point ≡ true → next_take point ≡ Some node → is_whole (stage_of point) ≡ true → SomeIsLeft (point_after_take node point)
+  on_take : (node : ℕ) (point : Point) → view.point ≡ point → is_taking point ≡ true → next_take point ≡ Some node → is_whole (stage_of point) ≡ true → SomeIsLeft (point_after_take node point) view.wanted
       → StandsAfter (TakeNode node)
   on_take node point e takes next whole left =
       let takes_here : is_taking view.point ≡ true = ap is_taking e ∙ takes in
@@ -107,7 +130,7 @@ module _ (F : Fixed) (m : Machine) (history : List Item) (now : World) (i : ℕ)
             let same = cond-true (m.core.words.node node == 0) (take_node F m.core i node) (refuse_node m.core i node) free in
             subst (λ (core : Core). MachineStands F (record { core = core; given = put i None m.given; quits = put i false m.quits }) history now) (sym same)
             (busy_on F m history history now now i (take_node F m.core i node).words (view_after_take node view) is (taking_point view.point takes_here).busy
-            (record { cmd = λ _. refl; next = record { some_wanted = λ _. some_at point e whole; left = subst (λ (p : Point). SomeIsLeft (point_after_take node p)) (sym e) left } })
+            (record { cmd = λ _. refl; next = record { some_wanted = λ _. some_at point e whole; left = subst (λ (p : Point). SomeIsLeft (point_after_take node p) view.wanted) (sym e) left } })
             (taken_node_stands F m.core history now i node (ap next_take e ∙ next) (eqb-true (m.core.words.node node) 0 free) is.core))
         | inr held ↦ on_refused (TakeNode node) node takes_here (cond-false (m.core.words.node node == 0) (take_node F m.core i node) (refuse_node m.core i node) held)
       ])
@@ -131,7 +154,7 @@ module _ (F : Fixed) (m : Machine) (history : List Item) (now : World) (i : ℕ)
       let word = m.core.words.links node in
       let read = record view { lists = record { node = node; word = word } ∷ view.lists } in
       stays (machine_after F m i (ReadList node plan)) (busy_on F m history history now now i m.core.words (view_after_list F node plan word view) is (busy_at (Entered node plan) e refl)
-      (record { cmd = λ _. refl; next = record { some_wanted = λ _. some_at (Entered node plan) e refl; left = left_loading F view node (players_in word view.cmd.slot) plan } })
+      (record { cmd = λ _. refl; next = record { some_wanted = λ _. some_at (Entered node plan) e refl; left = left_loading F view node (players_in word view.cmd.slot) plan view.wanted } })
       (loaded_list_stands F m.core history now i node plan lawful start e is.core))
 
   on_player : (node : ℕ) (part : List ℕ) (slot : ℕ) (players plan : List ℕ) → view.point ≡ Loading node part (slot ∷ players) plan → StandsAfter (ReadPlayer node part slot players plan)
@@ -142,14 +165,14 @@ module _ (F : Fixed) (m : Machine) (history : List Item) (now : World) (i : ℕ)
       let more = record view { point = Loading node words (slot ∷ players) plan } in
       stays (machine_after F m i (ReadPlayer node part slot players plan)) (busy_on F m history history now now i m.core.words (player_loaded F node words slot players plan view) is
       (busy_at (Loading node part (slot ∷ players) plan) e refl) (elim (cases_Bool (length words == 6)) [
-        | inl six ↦ subst (GoesOn view) (sym (cond-true (length words == 6) full more six)) (record { cmd = λ _. refl; next = record { some_wanted = λ _. some; left = left_loading F view node players plan } })
+        | inl six ↦ subst (GoesOn view) (sym (cond-true (length words == 6) full more six)) (record { cmd = λ _. refl; next = record { some_wanted = λ _. some; left = left_loading F view node players plan view.wanted } })
         | inr fewer ↦ subst (GoesOn view) (sym (cond-false (length words == 6) full more fewer)) (record { cmd = λ _. refl; next = record { some_wanted = λ _. some; left = tt } })
       ]) (loaded_player_stands F m.core history now i node slot part players plan lawful start e is.core))
 
   on_state : (id : ℕ) (ids : List ℕ) → view.point ≡ Sensing (id ∷ ids) → StandsAfter (ReadState id ids)
   on_state id ids e =
       stays (machine_after F m i (ReadState id ids)) (busy_on F m history history now now i m.core.words (view_after_state id (m.core.words.state id) ids view) is (busy_at (Sensing (id ∷ ids)) e refl)
-      (record { cmd = λ _. refl; next = record { some_wanted = λ _. some_at (Sensing (id ∷ ids)) e refl; left = left_sensing ids } })
+      (record { cmd = λ _. refl; next = record { some_wanted = λ _. some_at (Sensing (id ∷ ids)) e refl; left = left_sensing ids view.wanted } })
       (loaded_state_stands F m.core history now i id ids lawful start e is.core))
 
   goes_committed : (e : Effect) (nodes : List ℕ) → 0 < length view.wanted → GoesOn view (view_after_commit F m.core.words.commits e nodes view)
@@ -176,7 +199,7 @@ module _ (F : Fixed) (m : Machine) (history : List Item) (now : World) (i : ℕ)
   on_store : (nodes : List ℕ) (store : Store) (stores : List Store) → view.point ≡ Storing nodes (store ∷ stores) → StandsAfter (StoreWord nodes store stores)
   on_store nodes store stores e =
       stays (machine_after F m i (StoreWord nodes store stores)) (busy_on F m history history now now i (store_next m.core i nodes store stores).words (record view { point = storing nodes stores }) is
-      (busy_at (Storing nodes (store ∷ stores)) e refl) (goes_to view (storing nodes stores) (some_at (Storing nodes (store ∷ stores)) e refl) (left_storing nodes stores))
+      (busy_at (Storing nodes (store ∷ stores)) e refl) (goes_to view (storing nodes stores) (some_at (Storing nodes (store ∷ stores)) e refl) (left_storing nodes stores view.wanted))
       (stored_next_stands F m.core history now i nodes store stores lawful start e is.core))
 
   on_give : (node : ℕ) (point : Point) → view.point ≡ point → is_busy (stage_of point) ≡ true → next_give point view.wanted ≡ Some node → GoesOn view (view_after_give F view point) → StandsAfter (GiveNode node)
@@ -195,7 +218,7 @@ module _ (F : Fixed) (m : Machine) (history : List Item) (now : World) (i : ℕ)
       let wanted = (is.next i).some_wanted point.whole in
       stays (machine_after F m i (YieldNode node)) (busy_on F m history history now now i (yield_node F m.core i node).words
       (yielded view (inner_held F view.point) (leaves_held view.point view.wanted)) is point.busy
-      (goes_yielded view (inner_held F view.point) (leaves_held view.point view.wanted) wanted) (yielded_node_stands F m.core history now i node takes some is.core))
+      (goes_yielded view (inner_held F view.point) (leaves_held view.point view.wanted) wanted (held_among F m.core history now i view.point is.core refl takes)) (yielded_node_stands F m.core history now i node takes some is.core))
 
   -- ---- what comes next
 
@@ -222,14 +245,14 @@ module _ (F : Fixed) (m : Machine) (history : List Item) (now : World) (i : ℕ)
   on_point Idle next e comes = on_beginning (m.given i) next refl comes
   on_point Owning next e comes = as_next LoadOwn next comes (on_own e)
   on_point (Taking got []) next e comes = no_next next comes
-  on_point (Taking got (leaf ∷ rest)) next e comes = as_next (TakeNode leaf) next comes (on_take leaf (Taking got (leaf ∷ rest)) e refl refl refl (left_taking (got ++ leaf ∷ []) rest))
+  on_point (Taking got (leaf ∷ rest)) next e comes = as_next (TakeNode leaf) next comes (on_take leaf (Taking got (leaf ∷ rest)) e refl refl refl (left_taking (got ++ leaf ∷ []) rest view.wanted))
   on_point Checking next e comes = as_next LoadAgain next comes (on_again e)
   on_point (Entering node plan) next e comes = as_next (TakeNode node) next comes (on_take node (Entering node plan) e refl refl refl tt)
   on_point (Entered node plan) next e comes = as_next (ReadList node plan) next comes (on_list node plan e)
   on_point (Loading node part [] plan) next e comes = no_next next comes
   on_point (Loading node part (slot ∷ players) plan) next e comes = as_next (ReadPlayer node part slot players plan) next comes (on_player node part slot players plan e)
   on_point (Leaving node plan) next e comes =
-      as_next (GiveNode node) next comes (on_give node (Leaving node plan) e refl refl (goes_to view (visiting F view plan) (some_at (Leaving node plan) e refl) (left_visiting F view plan)))
+      as_next (GiveNode node) next comes (on_give node (Leaving node plan) e refl refl (goes_to view (visiting F view plan) (some_at (Leaving node plan) e refl) (left_visiting F view plan view.wanted)))
   on_point (Sensing []) next e comes = no_next next comes
   on_point (Sensing (id ∷ ids)) next e comes = as_next (ReadState id ids) next comes (on_state id ids e)
   on_point Resolving next e comes =
@@ -243,9 +266,9 @@ module _ (F : Fixed) (m : Machine) (history : List Item) (now : World) (i : ℕ)
   on_point (Releasing nodes) next e comes =
       on_giving (next_give (Releasing nodes) view.wanted) (Releasing nodes) next e refl refl (goes_released view nodes (some_at (Releasing nodes) e refl)) comes
   on_point (Returning leaves) next e comes =
-      on_giving (next_give (Returning leaves) view.wanted) (Returning leaves) next e refl refl (goes_returning view (rest_of leaves) (some_at (Returning leaves) e refl)) comes
+      on_giving (next_give (Returning leaves) view.wanted) (Returning leaves) next e refl refl (goes_returned view leaves (some_at (Returning leaves) e refl) (subst (λ (p : Point). SomeIsLeft p view.wanted) e (is.next i).left).among) comes
   on_point (Yielding nodes leaves) next e comes =
-      on_giving (next_give (Yielding nodes leaves) view.wanted) (Yielding nodes leaves) next e refl refl (goes_yielded view nodes leaves (some_at (Yielding nodes leaves) e refl)) comes
+      on_giving (next_give (Yielding nodes leaves) view.wanted) (Yielding nodes leaves) next e refl refl (goes_yielded view nodes leaves (some_at (Yielding nodes leaves) e refl) (subst (λ (p : Point). SomeIsLeft p view.wanted) e (is.next i).left).among) comes
 
 pub next_step_stands : NextStepStands
 next_step_stands F m history now i next lawful start comes is =

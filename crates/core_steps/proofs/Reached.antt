@@ -74,7 +74,7 @@ machine_start_stands F room rooms =
       quits = λ i e. absurd (false≢true e);
       next = λ i. record {
         some_wanted = λ whole. absurd (false≢true (ap (λ (p : Point). is_whole (stage_of p)) (sym (is.rest.idle i)) ∙ whole));
-        left = subst SomeIsLeft (sym (is.rest.idle i)) tt;
+        left = subst (λ (p : Point). SomeIsLeft p (core.view i).wanted) (sym (is.rest.idle i)) tt;
       };
     }
 
@@ -265,7 +265,7 @@ next_at_exists F m history now i (Entered node plan) is e = sym (or_right _ _ re
 next_at_exists F m history now i (Loading node part [] plan) is e = let at = (seat_at F m.core history now i (Loading node part [] plan) is.core e).at in absurd (omega (arith, at.load.left))
 next_at_exists F m history now i (Loading node part (slot ∷ players) plan) is e = sym (or_right _ _ refl)
 next_at_exists F m history now i (Leaving node plan) is e = sym (or_right _ _ refl)
-next_at_exists F m history now i (Sensing []) is e = let left = subst SomeIsLeft e (is.next i).left in absurd (omega (arith, left))
+next_at_exists F m history now i (Sensing []) is e = let left = subst (λ (p : Point). SomeIsLeft p (m.core.view i).wanted) e (is.next i).left in absurd (omega (arith, left))
 next_at_exists F m history now i (Sensing (id ∷ ids)) is e = sym (or_right _ _ refl)
 next_at_exists F m history now i Resolving is e = sym (or_right _ _ refl)
 next_at_exists F m history now i (Claiming got []) is e =
@@ -278,11 +278,11 @@ next_at_exists F m history now i (Releasing nodes) is e =
     let some = (is.next i).some_wanted (ap (λ (p : Point). is_whole (stage_of p)) e) in
     some_given (first_of_two nodes (m.core.view i).wanted) (some_first nodes (m.core.view i).wanted (omega (arith, some))) ∙ sym (or_right (is_some (m.given i)) true refl)
 next_at_exists F m history now i (Returning leaves) is e =
-    let left = subst SomeIsLeft e (is.next i).left in
-    some_given (first leaves) (some_first [] leaves (omega (arith, left))) ∙ sym (or_right (is_some (m.given i)) true refl)
+    let left = subst (λ (p : Point). SomeIsLeft p (m.core.view i).wanted) e (is.next i).left in
+    some_given (first leaves) (some_first [] leaves left.some) ∙ sym (or_right (is_some (m.given i)) true refl)
 next_at_exists F m history now i (Yielding nodes leaves) is e =
-    let left = subst SomeIsLeft e (is.next i).left in
-    some_given (first_of_two nodes leaves) (some_first nodes leaves left) ∙ sym (or_right (is_some (m.given i)) true refl)
+    let left = subst (λ (p : Point). SomeIsLeft p (m.core.view i).wanted) e (is.next i).left in
+    some_given (first_of_two nodes leaves) (some_first nodes leaves left.some) ∙ sym (or_right (is_some (m.given i)) true refl)
 
 pub next_exists : NextExists
 next_exists F m history now i is =

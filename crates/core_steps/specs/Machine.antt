@@ -14,7 +14,7 @@ use Rattle.core_steps.specs.Cells.{put, cell_of, count_index, node_index, links_
 use Rattle.core_steps.specs.Views as views
 use Rattle.core_steps.specs.Views.{Fixed, Point, Idle, Owning, Taking, Checking, Entering, Entered, Loading, Leaving}
 use Rattle.core_steps.specs.Views.{Sensing, Resolving, Claiming, Storing, Releasing, Returning, Yielding, stage_of}
-use Rattle.core_steps.specs.Views.{is_busy, is_whole, View, record_read, write_nodes, effect_loaded, nodes_of, holds}
+use Rattle.core_steps.specs.Views.{is_busy, is_whole, View, record_read, write_nodes, effect_loaded, nodes_of, holds, has}
 use Rattle.core_steps.specs.Steps.{Core, item_at, take_node, claim_node, refuse_node, next_give, give_node, is_taking}
 use Rattle.core_steps.specs.Steps.{first_yield, yield_node, yield_nothing, load_list, begin_move, load_own, load_again}
 use Rattle.core_steps.specs.Steps.{load_player, load_state, commit, store_next, make_seat}
@@ -217,28 +217,33 @@ pub record IsPending (F : Fixed) (view : View) (c : Command) : Type 0 where
   pub command : IsGiven F c
   pub room : length view.log < view.room
 
+-- leaves are left to be given back, and they are among those wanted
+pub record AreLeavesLeft (inner leaves wanted : List ℕ) : Type 0 where
+  pub some : 0 < length inner + length leaves
+  pub among : (node : ℕ) → has leaves node ≡ true → has wanted node ≡ true
+
 -- something is left where the point says so
-abbrev pub SomeIsLeft : Point → Type 0
-SomeIsLeft Idle = Unit {0}
-SomeIsLeft Owning = Unit {0}
-SomeIsLeft (Taking got rest) = Unit {0}
-SomeIsLeft Checking = Unit {0}
-SomeIsLeft (Entering node plan) = Unit {0}
-SomeIsLeft (Entered node plan) = Unit {0}
-SomeIsLeft (Loading node part players plan) = Unit {0}
-SomeIsLeft (Leaving node plan) = Unit {0}
-SomeIsLeft (Sensing ids) = 0 < length ids
-SomeIsLeft Resolving = Unit {0}
-SomeIsLeft (Claiming got rest) = Unit {0}
-SomeIsLeft (Storing nodes stores) = Unit {0}
-SomeIsLeft (Releasing nodes) = Unit {0}
-SomeIsLeft (Returning leaves) = 0 < length leaves
-SomeIsLeft (Yielding nodes leaves) = 0 < length nodes + length leaves
+abbrev pub SomeIsLeft : Point → List ℕ → Type 0
+SomeIsLeft Idle wanted = Unit {0}
+SomeIsLeft Owning wanted = Unit {0}
+SomeIsLeft (Taking got rest) wanted = Unit {0}
+SomeIsLeft Checking wanted = Unit {0}
+SomeIsLeft (Entering node plan) wanted = Unit {0}
+SomeIsLeft (Entered node plan) wanted = Unit {0}
+SomeIsLeft (Loading node part players plan) wanted = Unit {0}
+SomeIsLeft (Leaving node plan) wanted = Unit {0}
+SomeIsLeft (Sensing ids) wanted = 0 < length ids
+SomeIsLeft Resolving wanted = Unit {0}
+SomeIsLeft (Claiming got rest) wanted = Unit {0}
+SomeIsLeft (Storing nodes stores) wanted = Unit {0}
+SomeIsLeft (Releasing nodes) wanted = Unit {0}
+SomeIsLeft (Returning leaves) wanted = AreLeavesLeft [] leaves wanted
+SomeIsLeft (Yielding nodes leaves) wanted = AreLeavesLeft nodes leaves wanted
 
 -- a seat has something to do where it has a command in hand
 pub record HasNext (point : Point) (wanted : List ℕ) : Type 0 where
   pub some_wanted : is_whole (stage_of point) ≡ true → 0 < length wanted
-  pub left : SomeIsLeft point
+  pub left : SomeIsLeft point wanted
 
 -- what holds of the machine, the history of all commits, and the run of it
 pub record MachineStands (F : Fixed) (m : Machine) (history : List Item) (now : World) : Type 0 where
