@@ -40,3 +40,4 @@ pub mod Rowing
 pub mod OneWord
 pub mod Asking
 pub mod Places
+pub mod TableWords

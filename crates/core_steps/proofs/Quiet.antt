@@ -69,6 +69,7 @@ pub record HasWritten (F : Fixed) (now : World) (view : View) : Type 0 where
   pub holds_it : HoldsRegion F view (region_in F view.cmd view.own)
   pub actor : is_inside (abs_of (now.record_of view.cmd.slot)) (region_in F view.cmd view.own) ≡ true
   pub listed : (id : ℕ) → is_some (state_at e.states id) ≡ true → is_inside (abs_of (now.record_of id)) (region_in F view.cmd view.own) ≡ true
+  pub live : (id : ℕ) → is_some (state_at e.states id) ≡ true → has F.start.ids id ≡ true
   pub before : is_inside (abs_of (record_read view.cmd.slot view.again)) (region_in F view.cmd view.own) ≡ true
   pub before_ordered : IsOrdered (abs_of (record_read view.cmd.slot view.again))
   pub me : abs_of (now.record_of view.cmd.slot) ≡ abs_of e.me
@@ -161,6 +162,7 @@ has_committed F core history now j lawful start is committed =
           ap (λ (v : World). abs_of (v.record_of id)) now_is ∙ box_kept F item.after w' id (alone_listed slot id e.states item.after listed alone)
           ∙ ap abs_of (other_after F w cmd id thing.other) in
           ap (λ b. is_inside b region) box ∙ ap (is_inside (abs_of (w.record_of id))) item.region ∙ thing.inside;
+      live = λ id listed. (listed_inside F w slot there e.states id world listed_all listed).live;
       before = ap (λ r. is_inside (abs_of r) region) item.actor ∙ ap (is_inside (abs_of (w.record_of slot))) item.region ∙ within.before;
       me =
           ap (λ (v : World). abs_of (v.record_of slot)) now_is

@@ -70,7 +70,7 @@ place_of_leaf F node leaf = cond-true (is_leaf F node) (node - inner_nodes F) (2
 place_of_inner : (F : Fixed) (node : ℕ) → is_leaf F node ≡ false → place_of F node ≡ 2 ^ F.tree.depth + node
 place_of_inner F node inner = cond-false (is_leaf F node) (node - inner_nodes F) (2 ^ F.tree.depth + node) inner
 
-leaf_below : (F : Fixed) (region : List Bounds) (v : ℕ) → has (leaf_nodes F region) v ≡ true → v < inner_nodes F + 2 ^ F.tree.depth
+pub leaf_below : (F : Fixed) (region : List Bounds) (v : ℕ) → has (leaf_nodes F region) v ≡ true → v < inner_nodes F + 2 ^ F.tree.depth
 leaf_below F region v there =
     let s = has_shifted (2 ^ F.tree.depth - 1) (filter (has_bit (leaves_of F.tree region)) (range_with_len 0 (2 ^ F.tree.depth))) v there in
     let kept = has_filter (has_bit (leaves_of F.tree region)) (range_with_len 0 (2 ^ F.tree.depth)) s.from s.listed in
@@ -97,12 +97,12 @@ inner_most F node inner =
     rw is (omega arith)
 
 -- the leaves wanted are in range
-wanted_below : (F : Fixed) (core : Core) (history : List Item) (now : World) (j : ℕ) → Stands F core history now → is_whole (stage_of (core.view j).point) ≡ true
+pub wanted_below : (F : Fixed) (core : Core) (history : List Item) (now : World) (j : ℕ) → Stands F core history now → is_whole (stage_of (core.view j).point) ≡ true
     → (v : ℕ) → has (core.view j).wanted v ≡ true → v < inner_nodes F + 2 ^ F.tree.depth
 wanted_below F core history now j is whole v there =
     leaf_below F (region_in F (core.view j).cmd (core.view j).own) v (subst (λ (leaves : List ℕ). has leaves v ≡ true) ((is.seats j).own.leaves whole) there)
 
-first_there : (nodes : List ℕ) (node : ℕ) → first nodes ≡ Some node → has nodes node ≡ true
+pub first_there : (nodes : List ℕ) (node : ℕ) → first nodes ≡ Some node → has nodes node ≡ true
 first_there [] node e = cc
 first_there (n ∷ nodes) node e = let same : n ≡ node = cc in or_left _ _ (eq-eqb n node same)
 

@@ -75,6 +75,10 @@ abbrev pub cell_index : ℕ → Cell → ℕ
 cell_index nodes (Body slot k) = body_index nodes slot + k
 cell_index nodes (State id) = state_index nodes id
 
+-- how many words the flat table has
+abbrev pub table_size : ℕ → ℕ
+table_size nodes = 577 + 2 * nodes
+
 -- the word at an index of the flat table
 abbrev pub word_at : ℕ → Words → ℕ → ℕ
 word_at nodes words index =

@@ -7,14 +7,16 @@ use Rattle.entity_recs.specs.declared.kind.Kind.TheVariants.{Player}
 use Rattle.entity_recs.specs.declared.rec.Rec.{Rec}
 use Rattle.entity_recs.specs.Records.{with_state}
 use Rattle.entity_recs.specs.Actions.{IsKeepable, HasPlayer, IsCall}
-use Rattle.core_steps.specs.Cells.{Words, Body, State, word_in, cell_of, count_index, node_index, links_index, cell_index, word_at}
+use Rattle.core_steps.specs.Cells.{Words, Body, State, word_in, cell_of, count_index, node_index, links_index}
+use Rattle.core_steps.specs.Cells.{cell_index, word_at, table_size}
 use Rattle.core_steps.specs.Encoding.{words_of, record_from}
 use Rattle.entity_recs.specs.declared.effect.Effect.{Effect}
 use Rattle.entity_recs.specs.Commands.{Command}
 use Rattle.entity_recs.specs.Worlds.{World}
 use Rattle.entity_recs.specs.Histories.{Item, apply, run}
 use Rattle.core_steps.specs.Views.{Store, Storing, Fixed, Resolving, Claiming, record_read, write_nodes, effect_loaded}
-use Rattle.core_steps.specs.Views.{Idle, Owning, Checking, Sensing, Loading, Entered, stage_of, is_busy, is_open, is_whole, nodes_of}
+use Rattle.core_steps.specs.Views.{Idle, Owning, Checking, Sensing, Loading, Entered, stage_of, is_busy, is_open}
+use Rattle.core_steps.specs.Views.{is_whole, nodes_of}
 use Rattle.core_steps.specs.Views.{loaded_near, Ended}
 use Rattle.core_steps.specs.Steps.{store_next, item_at, commit, SomeSeatGoesOn, Core, first, claim_node, next_take}
 use Rattle.core_steps.specs.Steps.{take_node, refuse_node, next_give, give_node, is_taking, first_yield, yield_node}
@@ -22,7 +24,8 @@ use Rattle.core_steps.specs.Steps.{yield_nothing, load_list, begin_move, load_ow
 use Rattle.core_steps.specs.Steps.{make_seat, end_seat, load_count}
 use Rattle.core_steps.specs.Machine.{Next, Machine, MachineStands, StandsSomehow, SomeGoesOn, MayBeGiven, Call}
 use Rattle.core_steps.specs.Machine.{MayAllBeCalled, has_command, items_after, machine_after, next_of, start_machine}
-use Rattle.core_steps.specs.Machine.{with_given, with_quitting, after_calls, index_of, core_after, node_taken}
+use Rattle.core_steps.specs.Machine.{with_given, with_quitting, after_calls, index_of, word_of_next, core_after}
+use Rattle.core_steps.specs.Machine.{node_taken}
 use Rattle.core_steps.specs.Stands.{IsGiven, IsLawful, IsStart, Stands, start_core, items_of, IsNumbered}
 
 -- a seat is there and has no command in hand
@@ -312,4 +315,19 @@ pub record HasItsPlaces (core : Core) (history : List Item) : Type 0 where
 -- each place below the count of commits is in one log, once
 abbrev pub EachPlaceIsLoggedOnce : Type 0
 EachPlaceIsLoggedOnce =
-    (F : Fixed) (core : Core) (history : List Item) (now : World) → Stands F core history now → HasItsPlaces core history
+    (F : Fixed) (core : Core) (history : List Item) (now : World) → Stands F core history now
+    → HasItsPlaces core history
+
+-- the word of what comes next lies in the table at the step's index, before the step and after it
+pub record HasItsWord (F : Fixed) (core : Core) (i : ℕ) (next : Next) : Type 0 where
+  pub in_table : index_of (nodes_of F) (core.view i) next < table_size (nodes_of F)
+  pub before : word_at (nodes_of F) core.words (index_of (nodes_of F) (core.view i) next)
+      ≡ word_of_next core.words (core.view i) next
+  pub after : word_at (nodes_of F) (core_after F core i next).words (index_of (nodes_of F) (core.view i) next)
+      ≡ word_of_next (core_after F core i next).words (core.view i) next
+
+-- each step is one on a word of the table
+abbrev pub StepsHaveTheirWord : Type 0
+StepsHaveTheirWord =
+    (F : Fixed) (m : Machine) (history : List Item) (now : World) (i : ℕ) (next : Next) → IsLawful F → IsStart F
+    → next_of F m i ≡ Some next → MachineStands F m history now → HasItsWord F m.core i next

@@ -10,11 +10,13 @@ use Rattle.core_steps.specs.declared.step.Step.{Step}
 use Rattle.core_steps.specs.declared.step.StepKind.{StepKind}
 use Rattle.core_steps.specs.declared.step.StepKind.TheVariants.{Take, GiveBack, LoadList, Load, Commit, Bit, Store}
 use Rattle.core_steps.specs.declared.step.StepKind.TheVariants.{Count}
-use Rattle.core_steps.specs.Cells.{put, cell_of, count_index, node_index, links_index, cell_index, state_index}
+use Rattle.core_steps.specs.Cells.{Words, put, word_in, cell_of, count_index, node_index, links_index, cell_index}
+use Rattle.core_steps.specs.Cells.{state_index}
 use Rattle.core_steps.specs.Views as views
 use Rattle.core_steps.specs.Views.{Fixed, Point, Idle, Owning, Taking, Checking, Entering, Entered, Loading, Leaving}
 use Rattle.core_steps.specs.Views.{Sensing, Resolving, Claiming, Storing, Releasing, Returning, Yielding, stage_of}
-use Rattle.core_steps.specs.Views.{is_busy, is_whole, View, record_read, write_nodes, effect_loaded, nodes_of, holds, has}
+use Rattle.core_steps.specs.Views.{is_busy, is_whole, View, record_read, write_nodes, effect_loaded, nodes_of, holds}
+use Rattle.core_steps.specs.Views.{has}
 use Rattle.core_steps.specs.Steps.{Core, item_at, take_node, claim_node, refuse_node, next_give, give_node, is_taking}
 use Rattle.core_steps.specs.Steps.{first_yield, yield_node, yield_nothing, load_list, begin_move, load_own, load_again}
 use Rattle.core_steps.specs.Steps.{load_player, load_state, commit, store_next, make_seat}
@@ -207,6 +209,28 @@ items_after core i (StoreWord nodes store stores) = []
 items_after core i (GiveNode node) = []
 items_after core i (YieldNode node) = []
 items_after core i YieldCount = []
+
+-- the word of a store
+abbrev pub word_of_store : Words → views.Store → ℕ
+word_of_store words (views.Clear node) = words.links node
+word_of_store words (views.Put cell x) = word_in words cell
+word_of_store words (views.Link node) = words.links node
+
+-- the word of what comes next
+abbrev pub word_of_next : Words → View → Next → ℕ
+word_of_next words view (Begin c) = word_in words (cell_of c.slot 0)
+word_of_next words view LoadOwn = word_in words (cell_of view.cmd.slot (length view.own))
+word_of_next words view LoadAgain = word_in words (cell_of view.cmd.slot (length view.again))
+word_of_next words view (TakeNode node) = words.node node
+word_of_next words view (ClaimNode e node) = words.node node
+word_of_next words view (ReadList node plan) = words.links node
+word_of_next words view (ReadPlayer node part slot players plan) = word_in words (cell_of slot (length part))
+word_of_next words view (ReadState id ids) = words.state id
+word_of_next words view (CommitMove e nodes) = words.commits
+word_of_next words view (StoreWord nodes store stores) = word_of_store words store
+word_of_next words view (GiveNode node) = words.node node
+word_of_next words view (YieldNode node) = words.node node
+word_of_next words view YieldCount = words.commits
 
 -- ---- what holds of a machine
 

@@ -1,6 +1,6 @@
 ghost use Rattle.core_steps.specs.Laws.{StartStands, MadeSeatStands, EndedSeatStands, EndedSeatKeepsItems, LoadedCountStands, GivenNodeStands, YieldedNodeStands, YieldedNothingStands, TakenNodeStands, RefusedNodeStands, LayoutIsRight, EncodedIsDecoded, BegunMoveStands, LoadedOwnStands, LoadedAgainStands, LoadedListStands, LoadedPlayerStands, LoadedStateStands, ClaimedNodeStands, StoredNextStands, CommittedHeldStands, CommittedFreeStands, NotAllWait};
 ghost use Rattle.core_steps.specs.Rows.{FirstView, NearRow};
-ghost use Rattle.core_steps.specs.Laws.{MachineStartStands, GivenCommandStands, NextStepStands, QuittingStands, EachMachineStands, NextExists, LogsGrowByCommits, SomeSeatIsFree, StepsChangeOneWord, RefusedTakesChangeTheirRecord, RegionMayBeAsked, LoadedRecordIsTaken, EffectMayBeAsked, EachPlaceIsLoggedOnce};
+ghost use Rattle.core_steps.specs.Laws.{MachineStartStands, GivenCommandStands, NextStepStands, QuittingStands, EachMachineStands, NextExists, LogsGrowByCommits, SomeSeatIsFree, StepsChangeOneWord, RefusedTakesChangeTheirRecord, RegionMayBeAsked, LoadedRecordIsTaken, EffectMayBeAsked, EachPlaceIsLoggedOnce, StepsHaveTheirWord};
 
 /// The start stands: seat 0 without a command, no entry, and words that are those of the world.
 pub fn start_stands()
@@ -201,4 +201,10 @@ pub fn effect_may_be_asked()
 /// Each place below the count of commits is in one log, once, and the places of each log rise.
 pub fn each_place_is_logged_once()
     ensures { EachPlaceIsLoggedOnce }
+{}
+
+/// Each step is one on a word of the table: the step's index lies in the table, and there the word is found that the step
+/// loads or changes, before it and after it.
+pub fn steps_have_their_word()
+    ensures { StepsHaveTheirWord }
 {}

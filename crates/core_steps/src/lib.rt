@@ -10,8 +10,8 @@ pub use laws::{
     loaded_state_stands, logs_grow_by_commits, machine_start_stands, made_seat_stands, next_exists,
     next_step_stands, not_all_wait, quitting_stands, refused_node_stands, refused_take_is_right,
     refused_takes_change_their_record, region_may_be_asked, some_seat_is_free, start_stands,
-    steps_change_one_word, stored_next_stands, taken_node_stands, yielded_node_stands,
-    yielded_nothing_stands,
+    steps_change_one_word, steps_have_their_word, stored_next_stands, taken_node_stands,
+    yielded_node_stands, yielded_nothing_stands,
 };
 pub use step::{Step, StepKind};
 pub use words::{
