@@ -7,7 +7,7 @@ use Rattle.entity_recs.specs.Commands.{Command}
 use Rattle.entity_recs.specs.Worlds.{World}
 use Rattle.entity_recs.specs.Histories.{Item, run}
 use Rattle.core_steps.specs.Cells.{put, word_in, cell_of}
-use Rattle.core_steps.specs.Views.{has, Fixed, Store, Point, Idle, Owning, Taking, Checking, Entering, Entered, Loading, Leaving, Sensing, Resolving, Claiming, Storing, Releasing, Returning, Yielding, stage_of, is_busy, is_whole, View, without_command, record_read, write_nodes, effect_loaded, leaf_nodes, plan_of, region_in, players_in, inner_held, leaves_held}
+use Rattle.core_steps.specs.Views.{has, Fixed, Store, Point, Idle, Owning, Taking, Checking, Entering, Entered, Loading, Leaving, Sensing, Resolving, Claiming, Storing, Releasing, Returning, Yielding, stage_of, is_busy, is_whole, View, without_command, record_read, write_nodes, effect_loaded, leaf_nodes, plan_of, region_in, players_in, inner_held, leaves_held, without_player}
 use Rattle.core_steps.specs.Steps.{Core, item_at, commit, store_next, storing, yielded, view_after_refusal, view_after_take, view_after_claim, view_after_list, view_after_state, view_after_commit, first, first_yield, is_taking, next_take, next_give, point_after_take, view_after_give, view_after_own, view_after_again, player_loaded, take_node, refuse_node, claim_node, give_node, yield_node, visiting, loading}
 use Rattle.core_steps.specs.Stands.{IsStart, IsLawful, SeatStands, Stands}
 use Rattle.core_steps.specs.Machine.{Machine, Next, Begin, LoadOwn, LoadAgain, TakeNode, ClaimNode, ReadList, ReadPlayer, ReadState, CommitMove, StoreWord, GiveNode, YieldNode, YieldCount, next_at, quitting, resolving, beginning, committing, giving, core_after, machine_after, items_after, SomeIsLeft, MachineStands}
@@ -161,7 +161,7 @@ module _ (F : Fixed) (m : Machine) (history : List Item) (now : World) (i : ℕ)
   on_player node part slot players plan e =
       let some = some_at (Loading node part (slot ∷ players) plan) e refl in
       let words = part ++ word_in m.core.words (cell_of slot (length part)) ∷ [] in
-      let full = record view { others = record { slot = slot; words = words } ∷ view.others; point = loading F view node players plan } in
+      let full = record view { others = record { slot = slot; words = words } ∷ without_player slot view.others; point = loading F view node players plan } in
       let more = record view { point = Loading node words (slot ∷ players) plan } in
       stays (machine_after F m i (ReadPlayer node part slot players plan)) (busy_on F m history history now now i m.core.words (player_loaded F node words slot players plan view) is
       (busy_at (Loading node part (slot ∷ players) plan) e refl) (elim (cases_Bool (length words == 6)) [

@@ -7,7 +7,7 @@ use Rattle.entity_recs.specs.Commands.{Command}
 use Rattle.entity_recs.specs.Worlds.{World}
 use Rattle.entity_recs.specs.Histories.{Item, run}
 use Rattle.core_steps.specs.Cells.{put, word_in, cell_of}
-use Rattle.core_steps.specs.Views.{Fixed, Point, Idle, Owning, Taking, Checking, Entering, Entered, Loading, Leaving, Sensing, Resolving, Claiming, Storing, Releasing, Returning, Yielding, stage_of, is_busy, is_whole, View, new_view, spent, without_command, leaf_nodes, plan_of, region_in, write_nodes, record_read, effect_loaded, leaves_held, inner_held}
+use Rattle.core_steps.specs.Views.{Fixed, Point, Idle, Owning, Taking, Checking, Entering, Entered, Loading, Leaving, Sensing, Resolving, Claiming, Storing, Releasing, Returning, Yielding, stage_of, is_busy, is_whole, View, new_view, spent, without_command, leaf_nodes, plan_of, region_in, write_nodes, record_read, effect_loaded, leaves_held, inner_held, without_player}
 use Rattle.core_steps.specs.Steps.{Core, rest_of, returning, released, yielding, yielded, visiting, loading, storing, owned, checked, player_loaded, item_at, take_node, claim_node, refuse_node, view_after_begin, view_after_take, view_after_claim, view_after_refusal, view_after_list, view_after_state, view_after_commit, view_after_give, first, first_of_two, first_yield, is_taking, next_give, next_node, next_node_at, Waits, make_seat}
 use Rattle.core_steps.specs.Stands.{IsStart, IsLawful, Stands, start_core}
 use Rattle.core_steps.specs.Machine.{Machine, Next, Begin, LoadOwn, LoadAgain, TakeNode, ClaimNode, ReadList, ReadPlayer, ReadState, CommitMove, StoreWord, GiveNode, YieldNode, YieldCount, next_at, next_of, quitting, resolving, beginning, committing, giving, core_after, items_after, IsPending, SomeIsLeft, MachineStands, with_seats, start_machine, Call, Give, Go, GiveUp, gone_on, after_call, MayBeCalled, after_calls, MayAllBeCalled, StandsSomehow, node_taken, IsWaiting}
@@ -225,7 +225,7 @@ logs_after F core i j next = by_kind next
         let view = core.view i in
         let words = part ++ word_in core.words (cell_of slot (length part)) ∷ [] in
         kept (player_loaded F node words slot players plan view) (log_of_two (length words == 6)
-        (record view { others = record { slot = slot; words = words } ∷ view.others; point = loading F view node players plan }) (record view { point = Loading node words (slot ∷ players) plan }) view.log refl refl)
+        (record view { others = record { slot = slot; words = words } ∷ without_player slot view.others; point = loading F view node players plan }) (record view { point = Loading node words (slot ∷ players) plan }) view.log refl refl)
     by_kind (ReadState id ids) = kept (view_after_state id (core.words.state id) ids (core.view i)) refl
     by_kind (CommitMove e nodes) = same_log core.view i j (view_after_commit F core.words.commits e nodes (core.view i)) (item_at core.words.commits (core.view i) e ∷ []) refl
     by_kind (StoreWord nodes store stores) = kept (record (core.view i) { point = storing nodes stores }) refl

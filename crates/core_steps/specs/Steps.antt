@@ -10,7 +10,7 @@ use Rattle.core_steps.specs.Views.{Entered, Loading, Leaving, Sensing, Resolving
 use Rattle.core_steps.specs.Views.{Returning, Yielding, AtClaiming, stage_of, is_busy, effect_loaded, holds, View}
 use Rattle.core_steps.specs.Views.{new_view, spent, without_command, leaf_nodes, plan_of, is_leaf, region_in}
 use Rattle.core_steps.specs.Views.{things_in, players_in, home, record_read, write_nodes, stores_of, inner_held}
-use Rattle.core_steps.specs.Views.{leaves_held, held_word}
+use Rattle.core_steps.specs.Views.{leaves_held, held_word, without_player}
 
 -- the words, and each seat's view by its number
 pub record Core : Type 0 where
@@ -311,12 +311,12 @@ load_again F core i = with_view core i
     (view_after_again F (word_in core.words (cell_of (core.view i).cmd.slot (length (core.view i).again)))
     (core.view i))
 
--- the view with these words of the player that is loaded under the node, before the other players
+-- the view with these words of the player that is loaded under the node, before the other players; once they are whole,
+-- what was loaded of it earlier is dropped
 abbrev pub player_loaded : Fixed → ℕ → List ℕ → ℕ → List ℕ → List ℕ → View → View
 player_loaded F node part slot players plan view =
     if length part == 6 then record view {
-      others = record { slot = slot; words = part }
-          ∷ view.others;
+      others = record { slot = slot; words = part } ∷ without_player slot view.others;
       point = loading F view node players plan;
     }
     else record view { point = Loading node part (slot ∷ players) plan }

@@ -371,6 +371,10 @@ abbrev pub player_at : List PlayerRead → ℕ → Option (List ℕ)
 player_at [] slot = None
 player_at (read ∷ others) slot = if read.slot == slot then Some read.words else player_at others slot
 
+-- what was loaded of the players but this one
+abbrev pub without_player : ℕ → List PlayerRead → List PlayerRead
+without_player slot others = filter (λ read. not (read.slot == slot)) others
+
 -- the state loaded of a thing of the map
 abbrev pub state_at : List NewState → ℕ → Option ℕ
 state_at [] id = None
