@@ -41,3 +41,4 @@ pub mod OneWord
 pub mod Asking
 pub mod Places
 pub mod TableWords
+pub mod Fitting

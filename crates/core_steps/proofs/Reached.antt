@@ -10,34 +10,43 @@ use Rattle.core_steps.specs.Cells.{put, word_in, cell_of}
 use Rattle.core_steps.specs.Views.{Fixed, Point, Idle, Owning, Taking, Checking, Entering, Entered, Loading, Leaving, Sensing, Resolving, Claiming, Storing, Releasing, Returning, Yielding, stage_of, is_busy, is_whole, View, new_view, spent, without_command, leaf_nodes, plan_of, region_in, write_nodes, record_read, effect_loaded, leaves_held, inner_held, without_player}
 use Rattle.core_steps.specs.Steps.{Core, rest_of, returning, released, yielding, yielded, visiting, loading, storing, owned, checked, player_loaded, item_at, take_node, claim_node, refuse_node, view_after_begin, view_after_take, view_after_claim, view_after_refusal, view_after_list, view_after_state, view_after_commit, view_after_give, first, first_of_two, first_yield, is_taking, next_give, next_node, next_node_at, Waits, make_seat}
 use Rattle.core_steps.specs.Stands.{IsStart, IsLawful, Stands, start_core}
-use Rattle.core_steps.specs.Machine.{Machine, Next, Begin, LoadOwn, LoadAgain, TakeNode, ClaimNode, ReadList, ReadPlayer, ReadState, CommitMove, StoreWord, GiveNode, YieldNode, YieldCount, next_at, next_of, quitting, resolving, beginning, committing, giving, core_after, items_after, IsPending, SomeIsLeft, MachineStands, with_seats, start_machine, Call, Give, Go, GiveUp, gone_on, after_call, MayBeCalled, after_calls, MayAllBeCalled, StandsSomehow, node_taken, IsWaiting}
+use Rattle.core_steps.specs.Machine.{Machine, Next, Begin, LoadOwn, LoadAgain, TakeNode, ClaimNode, ReadList, ReadPlayer, ReadState, CommitMove, StoreWord, GiveNode, YieldNode, YieldCount, next_at, next_of, quitting, resolving, beginning, committing, giving, core_after, items_after, IsPending, SomeIsLeft, ViewFits, MachineStands, with_seats, start_machine, Call, Give, Go, GiveUp, gone_on, after_call, MayBeCalled, after_calls, MayAllBeCalled, StandsSomehow, node_taken, IsWaiting}
 use Rattle.core_steps.specs.Laws.{MachineStartStands, GivenCommandStands, QuittingStands, EachMachineStands, NextExists, LogsGrowByCommits, SomeSeatIsFree}
 use Rattle.core_steps.proofs.Puts.{each_put, put_other, eqb_sym}
 use Rattle.core_steps.proofs.Giving.{seat_at}
 use Rattle.core_steps.proofs.GiveBacks.{taking_point}
 use Rattle.core_steps.proofs.Starts.{start_stands}
 use Rattle.core_steps.proofs.Seats.{made_seat_stands}
+use Rattle.core_steps.proofs.Machines.{fits_none}
 use Rattle.core_steps.proofs.NextSteps.{next_step_stands}
 use Rattle.core_steps.proofs.Waiting.{not_all_wait}
 
 -- ---- the start
 
 -- no seat has a command in view, and seat 0 is there
-record AllRest (core : Core) : Type 0 where
+record AllRest (F : Fixed) (core : Core) : Type 0 where
   lives : (core.view 0).live ≡ true
   idle : (i : ℕ) → (core.view i).point ≡ Idle
+  fits : (i : ℕ) → ViewFits F (core.view i)
 
-rest_at_start : (F : Fixed) (room : ℕ) → AllRest (start_core F room)
+rest_at_start : (F : Fixed) (room : ℕ) → AllRest F (start_core F room)
 rest_at_start F room = record {
   lives = refl;
   idle = λ i. elim (cases_Bool (i == 0)) [
     | inl e ↦ ap (λ (v : View). v.point) (cond-true (i == 0) (record (new_view room) { made = 1 }) spent e)
     | inr e ↦ ap (λ (v : View). v.point) (cond-false (i == 0) (record (new_view room) { made = 1 }) spent e)
   ];
+  fits = λ i. elim (cases_Bool (i == 0)) [
+    | inl e ↦ subst (ViewFits F) (sym (cond-true (i == 0) (record (new_view room) { made = 1 }) spent e)) (fits_none F)
+    | inr e ↦ subst (ViewFits F) (sym (cond-false (i == 0) (record (new_view room) { made = 1 }) spent e)) (fits_none F)
+  ];
 }
 
-rest_made : (core : Core) (room : ℕ) → AllRest core → AllRest (make_seat core room)
-rest_made core room is =
+same_fits : (F : Fixed) (core : Core) → ViewFits F (core.view 0) → ViewFits F (record (core.view 0) { made = suc (core.view 0).made })
+same_fits F core is = is
+
+rest_made : (F : Fixed) (core : Core) (room : ℕ) → AllRest F core → AllRest F (make_seat core room)
+rest_made F core room is =
     let made = (core.view 0).made in
     let zeroth = record (core.view 0) { made = suc made } in
     record {
@@ -45,18 +54,20 @@ rest_made core room is =
           (λ n _. each_put (λ (k : ℕ) (v : View). k ≡ 0 → v.live ≡ true) 0 zeroth core.view (λ _. is.lives) (λ k _ e. subst (λ (j : ℕ). (core.view j).live ≡ true) (sym e) is.lives) n) 0 refl;
       idle = each_put (λ (n : ℕ) (v : View). v.point ≡ Idle) made (new_view room) (put 0 zeroth core.view) refl
           (λ n _. each_put (λ (k : ℕ) (v : View). v.point ≡ Idle) 0 zeroth core.view (is.idle 0) (λ k _. is.idle k) n);
+      fits = each_put (λ (n : ℕ) (v : View). ViewFits F v) made (new_view room) (put 0 zeroth core.view) (fits_none F)
+          (λ n _. each_put (λ (k : ℕ) (v : View). ViewFits F v) 0 zeroth core.view (same_fits F core (is.fits 0)) (λ k _. is.fits k) n);
     }
 
 -- a core stands whose seats all rest
 record StandsAtRest (F : Fixed) (core : Core) (history : List Item) (now : World) : Type 0 where
   stands : Stands F core history now
-  rest : AllRest core
+  rest : AllRest F core
 
 seats_made : (F : Fixed) (core : Core) (history : List Item) (now : World) (rooms : List ℕ) → StandsAtRest F core history now → StandsAtRest F (with_seats core rooms) history now
 seats_made F core history now [] is = is
 seats_made F core history now (room ∷ rooms) is = seats_made F (make_seat core room) history now rooms (record {
   stands = made_seat_stands F core history now room (record { lives = is.rest.lives; idle = is.rest.idle 0 }) is.stands;
-  rest = rest_made core room is.rest;
+  rest = rest_made F core room is.rest;
 })
 
 no_command_yet : {R : Type 0} (c : Command) → None ≡ Some c → R
@@ -76,6 +87,7 @@ machine_start_stands F room rooms =
         some_wanted = λ whole. absurd (false≢true (ap (λ (p : Point). is_whole (stage_of p)) (sym (is.rest.idle i)) ∙ whole));
         left = subst (λ (p : Point). SomeIsLeft p (core.view i).wanted) (sym (is.rest.idle i)) tt;
       };
+      fits = is.rest.fits;
     }
 
 -- ---- calls that make no step
@@ -110,6 +122,7 @@ given_command_stands F m history now i c may is = record {
       (λ other. may.busy_apart k (eqb_sym i k other) busy) (λ n x _ h other. is.busy_apart n k x other h busy) j d e differ;
   quits = is.quits;
   next = is.next;
+  fits = is.fits;
 }
 
 pub quitting_stands : QuittingStands
@@ -120,6 +133,7 @@ quitting_stands F m history now i takes is = record {
   busy_apart = is.busy_apart;
   quits = each_put (λ (j : ℕ) (b : Bool). b ≡ true → is_taking (m.core.view j).point ≡ true) i true m.quits (λ _. takes) (λ j _. is.quits j);
   next = is.next;
+  fits = is.fits;
 }
 
 -- ---- all calls

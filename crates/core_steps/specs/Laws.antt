@@ -1,6 +1,6 @@
 -- That each kind of step keeps what stands.
 use Rattle.std.specs.Prelude.{◌≡◌, ℕ, ◌<◌, ◌==◌, length, true, false, if◌then◌else◌, is_some, List, [], ◌∷◌, ◌++◌}
-use Rattle.std.specs.Prelude.{Some, None, map, All}
+use Rattle.std.specs.Prelude.{Some, None, map, All, ◌≤◌, ◌^◌}
 use Rattle.std.specs.List.{range_with_len}
 use Rattle.std.specs.List.Sorted.{IsStrictlyIncreasing, IsPermutation}
 use Rattle.entity_recs.specs.declared.kind.Kind.TheVariants.{Player}
@@ -17,7 +17,7 @@ use Rattle.entity_recs.specs.Histories.{Item, apply, run}
 use Rattle.core_steps.specs.Views.{Store, Storing, Fixed, Resolving, Claiming, record_read, write_nodes, effect_loaded}
 use Rattle.core_steps.specs.Views.{Idle, Owning, Checking, Sensing, Loading, Entered, stage_of, is_busy, is_open}
 use Rattle.core_steps.specs.Views.{is_whole, nodes_of}
-use Rattle.core_steps.specs.Views.{loaded_near, Ended}
+use Rattle.core_steps.specs.Views.{loaded_near, Ended, View}
 use Rattle.core_steps.specs.Steps.{store_next, item_at, commit, SomeSeatGoesOn, Core, first, claim_node, next_take}
 use Rattle.core_steps.specs.Steps.{take_node, refuse_node, next_give, give_node, is_taking, first_yield, yield_node}
 use Rattle.core_steps.specs.Steps.{yield_nothing, load_list, begin_move, load_own, load_again, load_player, load_state}
@@ -331,3 +331,18 @@ abbrev pub StepsHaveTheirWord : Type 0
 StepsHaveTheirWord =
     (F : Fixed) (m : Machine) (history : List Item) (now : World) (i : ℕ) (next : Next) → IsLawful F → IsStart F
     → next_of F m i ≡ Some next → MachineStands F m history now → HasItsWord F m.core i next
+
+-- ---- how much a view reads
+
+-- how much a view has read at most
+pub record ReadsLittle (F : Fixed) (view : View) : Type 0 where
+  pub wanted : length view.wanted ≤ 2 ^ F.tree.depth
+  pub lists : length view.lists ≤ nodes_of F
+  pub others : length view.others ≤ 64
+  pub states : length view.states ≤ length F.start.ids
+
+-- a view has at most one list word for each node, one record for each slot and one state for each live id
+abbrev pub EachViewReadsLittle : Type 0
+EachViewReadsLittle =
+    (F : Fixed) (m : Machine) (history : List Item) (now : World) (i : ℕ) → MachineStands F m history now
+    → ReadsLittle F (m.core.view i)

@@ -1,5 +1,6 @@
 -- The core as a machine: which step a seat makes next, and the machine after it.
-use Rattle.std.specs.Prelude.{ℕ, ◌+◌, ◌<◌, ◌≡◌, ◌==◌, ◌||◌, Bool, true, false, if◌then◌else◌, List, [], ◌∷◌, length}
+use Rattle.std.specs.Prelude.{ℕ, suc, map, ◌≤◌, ◌+◌, ◌<◌, ◌≡◌, ◌==◌, ◌||◌, Bool, true, false, if◌then◌else◌, List, []}
+use Rattle.std.specs.Prelude.{◌∷◌, length}
 use Rattle.std.specs.Prelude.{Option, Some, None, is_some}
 use Rattle.std.specs.Option.{option_map}
 use Rattle.entity_recs.specs.declared.effect.Effect.{Effect}
@@ -13,6 +14,8 @@ use Rattle.core_steps.specs.declared.step.StepKind.TheVariants.{Count}
 use Rattle.core_steps.specs.Cells.{Words, put, word_in, cell_of, count_index, node_index, links_index, cell_index}
 use Rattle.core_steps.specs.Cells.{state_index}
 use Rattle.core_steps.specs.Views as views
+use Rattle.entity_recs.specs.declared.effect.NewState.{NewState}
+use Rattle.core_steps.specs.Views.{ListRead, PlayerRead}
 use Rattle.core_steps.specs.Views.{Fixed, Point, Idle, Owning, Taking, Checking, Entering, Entered, Loading, Leaving}
 use Rattle.core_steps.specs.Views.{Sensing, Resolving, Claiming, Storing, Releasing, Returning, Yielding, stage_of}
 use Rattle.core_steps.specs.Views.{is_busy, is_whole, View, record_read, write_nodes, effect_loaded, nodes_of, holds}
@@ -20,7 +23,7 @@ use Rattle.core_steps.specs.Views.{has}
 use Rattle.core_steps.specs.Steps.{Core, item_at, take_node, claim_node, refuse_node, next_give, give_node, is_taking}
 use Rattle.core_steps.specs.Steps.{first_yield, yield_node, yield_nothing, load_list, begin_move, load_own, load_again}
 use Rattle.core_steps.specs.Steps.{load_player, load_state, commit, store_next, make_seat}
-use Rattle.core_steps.specs.Stands.{IsGiven, Stands, start_core}
+use Rattle.core_steps.specs.Stands.{IsGiven, AreDistinct, Stands, start_core}
 
 -- the core, with what no view has yet: the commands that were given and aren't begun, and which seats are to give up
 pub record Machine : Type 0 where
@@ -264,6 +267,60 @@ SomeIsLeft (Releasing nodes) wanted = Unit {0}
 SomeIsLeft (Returning leaves) wanted = AreLeavesLeft [] leaves wanted
 SomeIsLeft (Yielding nodes leaves) wanted = AreLeavesLeft nodes leaves wanted
 
+-- how many list words may still be read: as many as there are nodes before the first is read, and then the nodes of the
+-- plan that are ahead
+abbrev pub lists_ahead : Fixed → Point → ℕ
+lists_ahead F Idle = nodes_of F
+lists_ahead F Owning = nodes_of F
+lists_ahead F (Taking got rest) = nodes_of F
+lists_ahead F Checking = nodes_of F
+lists_ahead F (Entering node plan) = suc (length plan)
+lists_ahead F (Entered node plan) = suc (length plan)
+lists_ahead F (Loading node part players plan) = length plan
+lists_ahead F (Leaving node plan) = length plan
+lists_ahead F (Sensing ids) = 0
+lists_ahead F Resolving = 0
+lists_ahead F (Claiming got rest) = 0
+lists_ahead F (Storing nodes stores) = 0
+lists_ahead F (Releasing nodes) = 0
+lists_ahead F (Returning leaves) = 0
+lists_ahead F (Yielding nodes leaves) = 0
+
+-- how many states may still be loaded: as many as there are live ids before all lists are read, and then those left
+abbrev pub states_ahead : Fixed → Point → ℕ
+states_ahead F Idle = length F.start.ids
+states_ahead F Owning = length F.start.ids
+states_ahead F (Taking got rest) = length F.start.ids
+states_ahead F Checking = length F.start.ids
+states_ahead F (Entering node plan) = length F.start.ids
+states_ahead F (Entered node plan) = length F.start.ids
+states_ahead F (Loading node part players plan) = length F.start.ids
+states_ahead F (Leaving node plan) = length F.start.ids
+states_ahead F (Sensing ids) = length ids
+states_ahead F Resolving = 0
+states_ahead F (Claiming got rest) = 0
+states_ahead F (Storing nodes stores) = 0
+states_ahead F (Releasing nodes) = 0
+states_ahead F (Returning leaves) = 0
+states_ahead F (Yielding nodes leaves) = 0
+
+-- the slots of the players that were loaded
+abbrev pub slots_of : List PlayerRead → List ℕ
+slots_of = map (λ (read : PlayerRead). read.slot)
+
+-- no list word, player or state is read more often than there are nodes, slots or live ids
+pub record Fits (F : Fixed) (point : Point) (lists : List ListRead) (others : List PlayerRead)
+    (states : List NewState) :
+    Type 0 where
+  pub few_lists : length lists + lists_ahead F point ≤ nodes_of F
+  pub once : AreDistinct (slots_of others)
+  pub below : (slot : ℕ) → has (slots_of others) slot ≡ true → slot < 64
+  pub few_states : length states + states_ahead F point ≤ length F.start.ids
+
+-- what a view has read fits
+abbrev pub ViewFits : Fixed → View → Type 0
+ViewFits F view = Fits F view.point view.lists view.others view.states
+
 -- a seat has something to do where it has a command in hand
 pub record HasNext (point : Point) (wanted : List ℕ) : Type 0 where
   pub some_wanted : is_whole (stage_of point) ≡ true → 0 < length wanted
@@ -280,6 +337,7 @@ pub record MachineStands (F : Fixed) (m : Machine) (history : List Item) (now : 
       → (c.slot == (m.core.view j).cmd.slot) ≡ false
   pub quits : (i : ℕ) → m.quits i ≡ true → is_taking (m.core.view i).point ≡ true
   pub next : (i : ℕ) → HasNext (m.core.view i).point (m.core.view i).wanted
+  pub fits : (i : ℕ) → ViewFits F (m.core.view i)
 
 -- ---- from the start on
 

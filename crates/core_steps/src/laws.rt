@@ -1,6 +1,6 @@
 ghost use Rattle.core_steps.specs.Laws.{StartStands, MadeSeatStands, EndedSeatStands, EndedSeatKeepsItems, LoadedCountStands, GivenNodeStands, YieldedNodeStands, YieldedNothingStands, TakenNodeStands, RefusedNodeStands, LayoutIsRight, EncodedIsDecoded, BegunMoveStands, LoadedOwnStands, LoadedAgainStands, LoadedListStands, LoadedPlayerStands, LoadedStateStands, ClaimedNodeStands, StoredNextStands, CommittedHeldStands, CommittedFreeStands, NotAllWait};
 ghost use Rattle.core_steps.specs.Rows.{FirstView, NearRow};
-ghost use Rattle.core_steps.specs.Laws.{MachineStartStands, GivenCommandStands, NextStepStands, QuittingStands, EachMachineStands, NextExists, LogsGrowByCommits, SomeSeatIsFree, StepsChangeOneWord, RefusedTakesChangeTheirRecord, RegionMayBeAsked, LoadedRecordIsTaken, EffectMayBeAsked, EachPlaceIsLoggedOnce, StepsHaveTheirWord};
+ghost use Rattle.core_steps.specs.Laws.{MachineStartStands, GivenCommandStands, NextStepStands, QuittingStands, EachMachineStands, NextExists, LogsGrowByCommits, SomeSeatIsFree, StepsChangeOneWord, RefusedTakesChangeTheirRecord, RegionMayBeAsked, LoadedRecordIsTaken, EffectMayBeAsked, EachPlaceIsLoggedOnce, StepsHaveTheirWord, EachViewReadsLittle};
 
 /// The start stands: seat 0 without a command, no entry, and words that are those of the world.
 pub fn start_stands()
@@ -207,4 +207,10 @@ pub fn each_place_is_logged_once()
 /// loads or changes, before it and after it.
 pub fn steps_have_their_word()
     ensures { StepsHaveTheirWord }
+{}
+
+/// A view has at most as many leaves as the tree, one list word for each node, one record for each slot and one state for
+/// each live id.
+pub fn each_view_reads_little()
+    ensures { EachViewReadsLittle }
 {}
