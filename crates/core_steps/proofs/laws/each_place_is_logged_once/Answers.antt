@@ -1,5 +1,0 @@
-use Rattle.core_steps.proofs.Places.{each_place_is_logged_once}
-use Rattle.core_steps.proofs.laws.each_place_is_logged_once.Goals as goal
-
-pub returns : goal.returns
-returns c = each_place_is_logged_once

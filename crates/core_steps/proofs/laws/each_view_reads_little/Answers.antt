@@ -1,5 +1,0 @@
-use Rattle.core_steps.proofs.Fitting.{each_view_reads_little}
-use Rattle.core_steps.proofs.laws.each_view_reads_little.Goals as goal
-
-pub returns : goal.returns
-returns c = each_view_reads_little

@@ -1,5 +1,0 @@
-use Rattle.core_steps.proofs.Asking.{effect_may_be_asked}
-use Rattle.core_steps.proofs.laws.effect_may_be_asked.Goals as goal
-
-pub returns : goal.returns
-returns c = effect_may_be_asked

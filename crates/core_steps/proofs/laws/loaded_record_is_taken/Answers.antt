@@ -1,5 +1,0 @@
-use Rattle.core_steps.proofs.Asking.{loaded_record_is_taken}
-use Rattle.core_steps.proofs.laws.loaded_record_is_taken.Goals as goal
-
-pub returns : goal.returns
-returns c = loaded_record_is_taken

@@ -1,5 +1,0 @@
-use Rattle.core_steps.proofs.Reached.{logs_grow_by_commits}
-use Rattle.core_steps.proofs.laws.logs_grow_by_commits.Goals as goal
-
-pub returns : goal.returns
-returns c = logs_grow_by_commits

@@ -1,5 +1,0 @@
-use Rattle.core_steps.proofs.Reached.{next_exists}
-use Rattle.core_steps.proofs.laws.next_exists.Goals as goal
-
-pub returns : goal.returns
-returns c = next_exists

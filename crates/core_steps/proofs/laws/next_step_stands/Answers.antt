@@ -1,5 +1,0 @@
-use Rattle.core_steps.proofs.NextSteps.{next_step_stands}
-use Rattle.core_steps.proofs.laws.next_step_stands.Goals as goal
-
-pub returns : goal.returns
-returns c = next_step_stands

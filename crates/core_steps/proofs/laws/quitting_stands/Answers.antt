@@ -1,5 +1,0 @@
-use Rattle.core_steps.proofs.Reached.{quitting_stands}
-use Rattle.core_steps.proofs.laws.quitting_stands.Goals as goal
-
-pub returns : goal.returns
-returns c = quitting_stands

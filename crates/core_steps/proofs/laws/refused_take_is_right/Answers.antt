@@ -1,5 +1,0 @@
-use Rattle.core_steps.proofs.Rowing.{near_row}
-use Rattle.core_steps.proofs.laws.refused_take_is_right.Goals as goal
-
-pub returns : goal.returns
-returns c = near_row

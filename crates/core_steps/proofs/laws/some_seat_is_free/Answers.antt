@@ -1,5 +1,0 @@
-use Rattle.core_steps.proofs.Reached.{some_seat_is_free}
-use Rattle.core_steps.proofs.laws.some_seat_is_free.Goals as goal
-
-pub returns : goal.returns
-returns c = some_seat_is_free

@@ -1,5 +1,0 @@
-use Rattle.core_steps.proofs.OneWord.{steps_change_one_word}
-use Rattle.core_steps.proofs.laws.steps_change_one_word.Goals as goal
-
-pub returns : goal.returns
-returns c = steps_change_one_word

@@ -1,5 +1,0 @@
-use Rattle.core_steps.proofs.TableWords.{steps_have_their_word}
-use Rattle.core_steps.proofs.laws.steps_have_their_word.Goals as goal
-
-pub returns : goal.returns
-returns c = steps_have_their_word
