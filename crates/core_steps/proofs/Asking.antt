@@ -13,7 +13,7 @@ use Rattle.core_steps.specs.Encoding.{words_of, nth_word}
 use Rattle.core_steps.specs.Cells.{word_in, cell_of}
 use Rattle.core_steps.specs.Views.{Point, stage_of, is_settled, is_read_again, has, region_in, record_read}
 use Rattle.core_steps.specs.Stands.{touches_own}
-use Rattle.core_steps.specs.Laws.{RegionMayBeAsked, LoadedRecordIsTaken, EffectMayBeAsked}
+use Rattle.core_steps.specs.MachineLaws.{RegionMayBeAsked, LoadedRecordIsTaken, EffectMayBeAsked}
 use Rattle.core_steps.proofs.Lists.{has_filter}
 use Rattle.core_steps.proofs.Runs.{is_call}
 use Rattle.core_steps.proofs.Exclusion.{now_world, own_record_is, player_from_words, settled_seat}

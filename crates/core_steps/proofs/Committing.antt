@@ -1,10 +1,8 @@
 -- The commit: the seat's item joins the history, its stores are owed, and all other seats stand in the run of the longer history.
-use Rattle.std.proofs.Common.{◌≡◌, ℕ, suc, ◌<◌, Bool, true, false, List, [], ◌∷◌, ◌++◌, length, refl, sym, ap, ◌∙◌, subst, inl, inr, Some, None, arith, append_assoc, length-append}
+use Rattle.std.proofs.Common.{◌≡◌, ℕ, suc, Bool, true, false, List, [], ◌∷◌, ◌++◌, length, refl, sym, ap, ◌∙◌, subst, inl, inr, Some, None, arith, append_assoc, length-append}
 use Rattle.std.specs.Prelude.{◌==◌, ◌||◌, ◌&&◌, nat_lt, is_some, All}
-use Rattle.std.specs.List.Sorted.{IsPermutation}
 use Rattle.std.proofs.lemmas.Bool.{cases_Bool, false≢true, true≢false, eqb-true, and_parts, or_cases, or_parts, or_left, or_right, cond-true, cond-false, false_from_ne_true}
 use Rattle.std.proofs.lemmas.List.Elements.{All-append, All-weaker, All-from_recursion}
-use Rattle.std.proofs.lemmas.List.Sorted.{IsPermutation-trans, IsPermutation-append_left}
 use Rattle.entity_recs.specs.declared.rec.Rec.{Rec}
 use Rattle.entity_recs.specs.declared.effect.Effect.{Effect}
 use Rattle.entity_recs.specs.Worlds.{World, others_of}
@@ -12,9 +10,9 @@ use Rattle.entity_recs.specs.Histories.{Item, entry_of, outcome, apply, run}
 use Rattle.areanode.specs.Words.{has_bit}
 use Rattle.core_steps.specs.Cells.{Words, Cell, Body, State, put, word_in, cell_of}
 use Rattle.core_steps.specs.Encoding.{words_of, nth_word}
-use Rattle.core_steps.specs.Views.{Fixed, Store, Stage, AtRest, AtOwning, AtTaking, AtChecking, AtReading, AtClaiming, AtStoring, AtReleasing, AtReturning, AtYielding, stage_of, is_busy, is_open, is_settled, is_committed, is_read_again, is_storing, Ended, View, spent, has, home, record_read, region_in, write_nodes, inner_held, leaves_held, holds, held_word, stores_owed, list_at, state_at}
+use Rattle.core_steps.specs.Views.{Fixed, Store, Stage, AtRest, AtOwning, AtTaking, AtChecking, AtReading, AtClaiming, AtStoring, AtReleasing, AtReturning, AtYielding, stage_of, is_busy, is_open, is_settled, is_committed, is_read_again, is_storing, Ended, View, has, home, record_read, region_in, write_nodes, inner_held, leaves_held, holds, held_word, stores_owed, list_at, state_at}
 use Rattle.core_steps.specs.Steps.{Core, item_at, view_after_commit, commit}
-use Rattle.core_steps.specs.Stands.{IsGiven, IsStart, IsLawful, IsLogWithin, IsNumbered, is_ended, ended_log, log_of, items_below, items_of, LeavesAlone, IsLastItem, IsReadRight, SeatStands, SeatsApart, Stands, is_player, is_live_cell, value_in, touches_own, owed_at, is_storing_for}
+use Rattle.core_steps.specs.Stands.{IsGiven, IsStart, IsLawful, IsLogWithin, LeavesAlone, IsLastItem, IsReadRight, SeatStands, SeatsApart, Stands, is_player, is_live_cell, value_in, touches_own, owed_at, is_storing_for}
 use Rattle.core_steps.proofs.Puts.{each_put, put_same, put_other, kept_put, eqb_sym}
 use Rattle.core_steps.proofs.Frames.{apart_put, busy_lives}
 use Rattle.core_steps.proofs.Giving.{current_unsettled, same_holding}
@@ -26,9 +24,10 @@ use Rattle.core_steps.proofs.Exclusion.{IsSettledStage, settled_stage, all_leave
 use Rattle.core_steps.proofs.Quiet.{has_committed, writes_elsewhere}
 use Rattle.core_steps.proofs.Storing.{storing_busy}
 use Rattle.core_steps.proofs.Resolved.{again_is}
-use Rattle.core_steps.proofs.Appending.{legal_with, items_with, within_with}
+use Rattle.core_steps.proofs.Appending.{legal_with, within_with}
 use Rattle.core_steps.proofs.Changes.{unwritten_body, unwritten_value, written_is_owed, owes_outcome}
 use Rattle.core_steps.proofs.Elsewhere.{listed_here, written_is_unowed, owes_after, same_there, same_after, same_own, same_outcome}
+use Rattle.core_steps.proofs.Logged.{logs_with, numbered_with}
 
 -- the seat holds all its leaves and these write nodes, and has read all that it needs
 pub record IsCommitting (F : Fixed) (core : Core) (now : World) (i : ℕ) (nodes : List ℕ) : Type 0 where
@@ -59,42 +58,6 @@ same_cell w new slot k same =
       | inl low ↦ subst (λ (c : Cell). value_in w c ≡ value_in new c) (sym (cond-true (nat_lt k 5) (Body slot k) (State slot) low)) (ap (λ (r : Rec). nth_word (words_of r) k) (sym same))
       | inr high ↦ subst (λ (c : Cell). value_in w c ≡ value_in new c) (sym (cond-false (nat_lt k 5) (Body slot k) (State slot) high)) (ap (λ (r : Rec). r.state) (sym same))
     ]
-
--- the items of all logs where one log has an item more
-logs_with : (view : ℕ → View) (i : ℕ) (new : View) (item : Item) (history : List Item) → (view i).live ≡ true → IsNumbered view → new.live ≡ (view i).live → new.made ≡ (view i).made
-    → new.ended ≡ (view i).ended → new.log ≡ (view i).log ++ item ∷ [] → IsPermutation history (items_of view) → IsPermutation (history ++ item ∷ []) (items_of (put i new view))
-logs_with view i new item history lives numbers live made ended log is =
-    let views = put i new view in
-    let same_ended : (views 0).ended ≡ (view 0).ended = kept_put (λ (v : View). v.ended) i new view ended 0 in
-    let same_live = kept_put (λ (v : View). v.live) i new view live in
-    let here : log_of views i ≡ log_of view i ++ item ∷ [] =
-    cond-true (views i).live (views i).log (ended_log (views 0).ended i) (same_live i ∙ lives)
-    ∙ ap (λ (v : View). v.log) (put_same i new view) ∙ log
-    ∙ ap (λ (items : List Item). items ++ item ∷ []) (sym (cond-true (view i).live (view i).log (ended_log (view 0).ended i) lives)) in
-    let others : (k : ℕ) → (k == i) ≡ false → log_of views k ≡ log_of view k =
-    λ k other. let same_log = ap (λ (v : View). v.log) (put_other i k new view other) in rw (same_live k, same_log, same_ended) refl in
-    let grown : IsPermutation (items_of view ++ item ∷ []) (items_below (view 0).made (log_of views)) =
-    items_with (view 0).made i (log_of view) (log_of views) item (numbers.live i lives) here others in
-    let all : IsPermutation (items_of view ++ item ∷ []) (items_of views) =
-    subst (λ (n : ℕ). IsPermutation (items_of view ++ item ∷ []) (items_below n (log_of views))) (sym (kept_put (λ (v : View). v.made) i new view made 0)) grown in
-    IsPermutation-trans (history ++ item ∷ []) (items_of view ++ item ∷ []) (items_of views) (IsPermutation-append_left (item ∷ []) history (items_of view) is) all
-
--- numbers don't speak of logs
-numbered_with : (view : ℕ → View) (i : ℕ) (new : View) → (view i).live ≡ true → new.live ≡ (view i).live → new.made ≡ (view i).made → new.ended ≡ (view i).ended → IsNumbered view → IsNumbered (put i new view)
-numbered_with view i new lives live made ended is =
-    let same_live = kept_put (λ (v : View). v.live) i new view live in
-    let same_made = kept_put (λ (v : View). v.made) i new view made 0 in
-    let same_ended = kept_put (λ (v : View). v.ended) i new view ended 0 in
-    record {
-      first = same_live 0 ∙ is.first;
-      live = λ n living. subst (λ (m : ℕ). n < m) (sym same_made) (is.live n (sym (same_live n) ∙ living));
-      ended = λ n ends. subst (λ (m : ℕ). n < m) (sym same_made) (is.ended n (ap (λ (es : List Ended). is_ended es n) (sym same_ended) ∙ ends));
-      differ = λ n living. ap (λ (es : List Ended). is_ended es n) same_ended ∙ is.differ n (sym (same_live n) ∙ living);
-      once = rw same_ended is.once;
-      all = λ n below. ap (λ (b : Bool). b || is_ended (put i new view 0).ended n) (same_live n)
-          ∙ ap (λ (es : List Ended). (view n).live || is_ended es n) same_ended ∙ is.all n (subst (λ (m : ℕ). n < m) same_made below);
-      others = each_put (λ (n : ℕ) (v : View). v.live ≡ false → v ≡ spent) i new view (λ dead. absurd (true≢false (sym lives ∙ sym live ∙ dead))) (λ n _. is.others n);
-    }
 
 module _ (F : Fixed) (core : Core) (history : List Item) (now : World) (i : ℕ) (nodes : List ℕ) (lawful : IsLawful F) (start : IsStart F) (is : Stands F core history now) (step : IsCommitting F core now i nodes) where
   abbrev view : View

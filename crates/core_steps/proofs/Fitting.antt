@@ -6,9 +6,9 @@ use Rattle.std.proofs.lemmas.List.{length-map}
 use Rattle.core_steps.specs.Views.{PlayerRead, stage_of, is_whole, has, region_in}
 use Rattle.core_steps.specs.Stands.{AreDistinct}
 use Rattle.core_steps.specs.Machine.{slots_of}
-use Rattle.core_steps.specs.Laws.{EachViewReadsLittle}
+use Rattle.core_steps.specs.MachineLaws.{EachViewReadsLittle}
 use Rattle.core_steps.proofs.Lists.{has_filter, distinct_filter}
-use Rattle.core_steps.proofs.NextSteps.{leaf_nodes_length}
+use Rattle.core_steps.proofs.Planned.{leaf_nodes_length}
 
 -- a list without a number is as long, where the number isn't there
 none_less : (n : ℕ) (xs : List ℕ) → has xs n ≡ false → length (filter (λ v. not (v == n)) xs) ≡ length xs

@@ -30,12 +30,16 @@ pub mod Storing
 pub mod Appending
 pub mod Changes
 pub mod Elsewhere
+pub mod Logged
 pub mod Committing
 pub mod Commits
 pub mod Waiting
 pub mod Machines
+pub mod Planned
 pub mod NextSteps
 pub mod Reached
+pub mod Logs
+pub mod Nexts
 pub mod Rowing
 pub mod OneWord
 pub mod Asking

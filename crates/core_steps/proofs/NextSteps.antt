@@ -1,24 +1,17 @@
 -- Each next step of a seat keeps what the machine holds, kind by kind.
-use Rattle.std.proofs.Common.{◌≡◌, ℕ, ◌+◌, ◌*◌, ◌^◌, ◌<◌, ◌≤◌, Bool, true, false, not, List, [], ◌∷◌, ◌++◌, length, refl, sym, ap, ◌∙◌, subst, inl, inr, Option, Some, None, arith, append-nil, add-one}
+use Rattle.std.proofs.Common.{◌≡◌, ℕ, ◌<◌, ◌≤◌, true, false, not, List, [], ◌∷◌, ◌++◌, length, refl, sym, ap, ◌∙◌, subst, inl, inr, Option, Some, None, arith, append-nil}
 use Rattle.std.specs.Prelude.{◌==◌, filter}
-use Rattle.std.proofs.lemmas.Bool.{cases_Bool, false≢true, true≢false, eqb-true, eq-eqb, or_cases, or_left, not-true, false_from_ne_true, cond-true, cond-false}
-use Rattle.std.proofs.lemmas.List.{length-map, length-append}
-use Rattle.std.proofs.lemmas.List.FromFn.{length-range_with_len}
-use Rattle.std.proofs.Math.Nat.{pow-suc}
-use Rattle.std.specs.List.{range_with_len}
-use Rattle.arena_geo.specs.Bounds.{Bounds}
-use Rattle.areanode.specs.Words.{has_bit}
-use Rattle.areanode.specs.Trees.{leaf_node, leaves_of, visited_of}
+use Rattle.std.proofs.lemmas.Bool.{cases_Bool, false≢true, eqb-true, eq-eqb, or_cases, or_left, cond-true, cond-false}
 use Rattle.entity_recs.specs.declared.effect.Effect.{Effect}
 use Rattle.entity_recs.specs.Commands.{Command}
 use Rattle.entity_recs.specs.Worlds.{World}
 use Rattle.entity_recs.specs.Histories.{Item, run}
 use Rattle.core_steps.specs.Cells.{put, word_in, cell_of}
-use Rattle.core_steps.specs.Views.{has, Fixed, Store, Point, Idle, Owning, Taking, Checking, Entering, Entered, Loading, Leaving, Sensing, Resolving, Claiming, Storing, Releasing, Returning, Yielding, stage_of, is_busy, is_whole, View, without_command, record_read, write_nodes, effect_loaded, leaf_nodes, plan_of, region_in, players_in, inner_held, leaves_held, without_player, PlayerRead, nodes_of, inner_nodes, inner_visited, home, stores_of}
+use Rattle.core_steps.specs.Views.{has, Fixed, Store, Point, Idle, Owning, Taking, Checking, Entering, Entered, Loading, Leaving, Sensing, Resolving, Claiming, Storing, Releasing, Returning, Yielding, stage_of, is_busy, is_whole, View, without_command, record_read, write_nodes, effect_loaded, leaf_nodes, plan_of, region_in, players_in, inner_held, leaves_held, without_player, home, stores_of}
 use Rattle.core_steps.specs.Steps.{Core, item_at, commit, store_next, storing, yielded, view_after_refusal, view_after_take, view_after_claim, view_after_list, view_after_state, view_after_commit, first, first_yield, is_taking, next_take, next_give, point_after_take, view_after_give, view_after_own, view_after_again, player_loaded, take_node, refuse_node, claim_node, give_node, yield_node, visiting, loading, taking, rest_of, sensing}
 use Rattle.core_steps.specs.Stands.{IsStart, IsLawful, SeatStands, Stands, AreDistinct}
 use Rattle.core_steps.specs.Machine.{Machine, Next, Begin, LoadOwn, LoadAgain, TakeNode, ClaimNode, ReadList, ReadPlayer, ReadState, CommitMove, StoreWord, GiveNode, YieldNode, YieldCount, next_at, quitting, resolving, beginning, committing, giving, core_after, machine_after, items_after, SomeIsLeft, Fits, lists_ahead, states_ahead, slots_of, MachineStands}
-use Rattle.core_steps.specs.Laws.{NextStepStands}
+use Rattle.core_steps.specs.MachineLaws.{NextStepStands}
 use Rattle.core_steps.proofs.Giving.{seat_at}
 use Rattle.core_steps.proofs.Lists.{has_front, has_filter, distinct_filter}
 use Rattle.core_steps.proofs.Puts.{put_same, eqb_sym}
@@ -33,6 +26,7 @@ use Rattle.core_steps.proofs.Commits.{committed_held_stands, committed_free_stan
 use Rattle.core_steps.proofs.Storing.{stored_next_stands}
 use Rattle.core_steps.proofs.GiveBacks.{given_node_stands, yielded_node_stands, yielded_nothing_stands, taking_point}
 use Rattle.core_steps.proofs.Machines.{fits_less, fits_none, fits_last, lists_sensing, states_sensing, lists_visiting, states_visiting, lists_loading, states_loading, GoesOn, goes_to, goes_idle, goes_returned, goes_released, goes_yielded, IsAmong, left_sensing, left_visiting, left_loading, left_taking, left_storing, machine_on, busy_on}
+use Rattle.core_steps.proofs.Planned.{plan_length, slots_without, gone}
 
 -- where a node is to be taken next, the leaves held are among those wanted
 held_among : (F : Fixed) (core : Core) (history : List Item) (now : World) (i : ℕ) (point : Point) → Stands F core history now → (core.view i).point ≡ point → is_taking point ≡ true
@@ -54,50 +48,6 @@ held_among F core history now i (Storing nodes stores) is e takes = absurd (fals
 held_among F core history now i (Releasing nodes) is e takes = absurd (false≢true takes)
 held_among F core history now i (Returning leaves) is e takes = absurd (false≢true takes)
 held_among F core history now i (Yielding nodes leaves) is e takes = absurd (false≢true takes)
-
--- ---- how much is planned
-
-filter_few : (test : ℕ → Bool) (xs : List ℕ) → length (filter test xs) ≤ length xs
-filter_few test [] = omega arith
-filter_few test (x ∷ xs) =
-    let rest = filter_few test xs in
-    elim (cases_Bool (test x)) [ inl e ↦ rw e (omega arith) | inr e ↦ rw e (omega arith) ]
-
--- a region has at most as many leaves as the tree
-pub leaf_nodes_length : (F : Fixed) (region : List Bounds) → length (leaf_nodes F region) ≤ 2 ^ F.tree.depth
-leaf_nodes_length F region =
-    let leaves = filter (has_bit (leaves_of F.tree region)) (range_with_len 0 (2 ^ F.tree.depth)) in
-    let few = filter_few (has_bit (leaves_of F.tree region)) (range_with_len 0 (2 ^ F.tree.depth)) in
-    let all = length-range_with_len 0 (2 ^ F.tree.depth) in
-    let same = length-map leaves (leaf_node F.tree.depth) in
-    omega (arith, few, all, same)
-
--- a plan has at most as many nodes as the tree
-plan_length : (F : Fixed) (region : List Bounds) → length (plan_of F region) ≤ nodes_of F
-plan_length F region =
-    let leaves = leaf_nodes_length F region in
-    let few = filter_few (has_bit (visited_of F.tree.depth (leaves_of F.tree region))) (range_with_len 0 (inner_nodes F)) in
-    let all = length-range_with_len 0 (inner_nodes F) in
-    let both = length-append (leaf_nodes F region) (inner_visited F region) in
-    let twice : 2 ^ (F.tree.depth + 1) ≡ 2 ^ F.tree.depth * 2 = rw add-one (pow-suc 2 F.tree.depth) in
-    omega (arith, leaves, few, all, both, twice)
-
--- the slots of the players but one
-slots_without : (slot : ℕ) (others : List PlayerRead) → slots_of (without_player slot others) ≡ filter (λ v. not (v == slot)) (slots_of others)
-slots_without slot [] = refl
-slots_without slot (read ∷ others) =
-    let rest = slots_without slot others in
-    elim (cases_Bool (not (read.slot == slot))) [
-      | inl e ↦ ap slots_of (cond-true (not (read.slot == slot)) (read ∷ without_player slot others) (without_player slot others) e) ∙ ap (λ (ns : List ℕ). read.slot ∷ ns) rest
-          ∙ sym (cond-true (not (read.slot == slot)) (read.slot ∷ filter (λ v. not (v == slot)) (slots_of others)) (filter (λ v. not (v == slot)) (slots_of others)) e)
-      | inr e ↦ ap slots_of (cond-false (not (read.slot == slot)) (read ∷ without_player slot others) (without_player slot others) e) ∙ rest
-          ∙ sym (cond-false (not (read.slot == slot)) (read.slot ∷ filter (λ v. not (v == slot)) (slots_of others)) (filter (λ v. not (v == slot)) (slots_of others)) e)
-    ]
-
-gone : (n : ℕ) (xs : List ℕ) → has (filter (λ v. not (v == n)) xs) n ≡ false
-gone n xs = false_from_ne_true _ (λ there.
-    let kept = has_filter (λ v. not (v == n)) xs n there in
-    true≢false (sym (eq-eqb n n refl) ∙ not-true (n == n) kept.passes))
 
 module _ (F : Fixed) (m : Machine) (history : List Item) (now : World) (i : ℕ) (lawful : IsLawful F) (start : IsStart F) (is : MachineStands F m history now) where
   abbrev view : View

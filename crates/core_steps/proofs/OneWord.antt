@@ -6,7 +6,7 @@ use Rattle.core_steps.specs.Cells.{Words, Cell, Body, State, put, with_word, wit
 use Rattle.core_steps.specs.Views.{Store, Clear, Put, Link, AtClaiming, stage_of, nodes_of, held_word}
 use Rattle.core_steps.specs.Steps.{Core, words_after_store, point_after_take, take_node, claim_node, refuse_node}
 use Rattle.core_steps.specs.Machine.{Next, Begin, LoadOwn, LoadAgain, TakeNode, ClaimNode, ReadList, ReadPlayer, ReadState, CommitMove, StoreWord, GiveNode, YieldNode, YieldCount, index_of_store, index_of, core_after, node_taken}
-use Rattle.core_steps.specs.Laws.{StepsChangeOneWord, RefusedTakesChangeTheirRecord}
+use Rattle.core_steps.specs.MachineLaws.{StepsChangeOneWord, RefusedTakesChangeTheirRecord}
 use Rattle.core_steps.proofs.Puts.{put_other}
 
 -- two lists of words have the same word at an index, by the part of the table in which it lies

@@ -25,7 +25,7 @@ use Rattle.core_steps.specs.Views.{Fixed, Store, Clear, Put, Link, Point, Idle, 
 use Rattle.core_steps.specs.Steps.{first, first_of_two, first_yield, next_give}
 use Rattle.core_steps.specs.Stands.{IsStart, IsLawful}
 use Rattle.core_steps.specs.Machine.{Machine, Next, Begin, LoadOwn, LoadAgain, TakeNode, ClaimNode, ReadList, ReadPlayer, ReadState, CommitMove, StoreWord, GiveNode, YieldNode, YieldCount, next_at, quitting, resolving, beginning, committing, giving, index_of, index_of_store, word_of_store, word_of_next, core_after, SomeIsLeft, MachineStands}
-use Rattle.core_steps.specs.Laws.{StepsHaveTheirWord}
+use Rattle.core_steps.specs.MachineLaws.{StepsHaveTheirWord}
 use Rattle.core_steps.proofs.Lists.{has_append, has_filter, has_range, has_front}
 use Rattle.core_steps.proofs.Layouts.{layout_is_right}
 use Rattle.core_steps.proofs.Giving.{seat_at}

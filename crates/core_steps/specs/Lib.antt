@@ -6,4 +6,5 @@ pub mod Steps
 pub mod Stands
 pub mod Laws
 pub mod Machine
+pub mod MachineLaws
 pub mod Rows

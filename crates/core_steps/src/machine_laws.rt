@@ -1,8 +1,8 @@
-ghost use Rattle.core_steps.specs.Laws.{MachineStartStands, GivenCommandStands, NextStepStands, QuittingStands};
-ghost use Rattle.core_steps.specs.Laws.{EachMachineStands, NextExists, LogsGrowByCommits, SomeSeatIsFree};
-ghost use Rattle.core_steps.specs.Laws.{StepsChangeOneWord, RefusedTakesChangeTheirRecord, RegionMayBeAsked};
-ghost use Rattle.core_steps.specs.Laws.{LoadedRecordIsTaken, EffectMayBeAsked, EachPlaceIsLoggedOnce};
-ghost use Rattle.core_steps.specs.Laws.{StepsHaveTheirWord, EachViewReadsLittle};
+ghost use Rattle.core_steps.specs.MachineLaws.{MachineStartStands, GivenCommandStands, NextStepStands, QuittingStands};
+ghost use Rattle.core_steps.specs.MachineLaws.{EachMachineStands, NextExists, LogsGrowByCommits, SomeSeatIsFree};
+ghost use Rattle.core_steps.specs.MachineLaws.{StepsChangeOneWord, RefusedTakesChangeTheirRecord, RegionMayBeAsked};
+ghost use Rattle.core_steps.specs.MachineLaws.{LoadedRecordIsTaken, EffectMayBeAsked, EachPlaceIsLoggedOnce};
+ghost use Rattle.core_steps.specs.MachineLaws.{StepsHaveTheirWord, EachViewReadsLittle};
 ghost use Rattle.core_steps.specs.Rows.{FirstView, NearRow};
 
 /// The machine at the start stands: a seat for each room, no command given, and no history.

@@ -1,4 +1,4 @@
-use Rattle.core_steps.proofs.Reached.{next_exists}
+use Rattle.core_steps.proofs.Nexts.{next_exists}
 use Rattle.core_steps.proofs.machine_laws.next_exists.Goals as goal
 
 pub returns : goal.returns
