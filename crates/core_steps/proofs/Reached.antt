@@ -24,6 +24,7 @@ record AllRest (F : Fixed) (core : Core) : Type 0 where
   lives : (core.view 0).live ≡ true
   idle : (i : ℕ) → (core.view i).point ≡ Idle
   fits : (i : ℕ) → ViewFits F (core.view i)
+  log : (i : ℕ) → (core.view i).log ≡ []
 
 rest_at_start : (F : Fixed) (room : ℕ) → AllRest F (start_core F room)
 rest_at_start F room = record {
@@ -35,6 +36,10 @@ rest_at_start F room = record {
   fits = λ i. elim (cases_Bool (i == 0)) [
     | inl e ↦ subst (ViewFits F) (sym (cond-true (i == 0) (record (new_view room) { made = 1 }) spent e)) (fits_none F)
     | inr e ↦ subst (ViewFits F) (sym (cond-false (i == 0) (record (new_view room) { made = 1 }) spent e)) (fits_none F)
+  ];
+  log = λ i. elim (cases_Bool (i == 0)) [
+    | inl e ↦ ap (λ (v : View). v.log) (cond-true (i == 0) (record (new_view room) { made = 1 }) spent e)
+    | inr e ↦ ap (λ (v : View). v.log) (cond-false (i == 0) (record (new_view room) { made = 1 }) spent e)
   ];
 }
 
@@ -52,6 +57,8 @@ rest_made F core room is =
           (λ n _. each_put (λ (k : ℕ) (v : View). v.point ≡ Idle) 0 zeroth core.view (is.idle 0) (λ k _. is.idle k) n);
       fits = each_put (λ (n : ℕ) (v : View). ViewFits F v) made (new_view room) (put 0 zeroth core.view) (fits_none F)
           (λ n _. each_put (λ (k : ℕ) (v : View). ViewFits F v) 0 zeroth core.view (same_fits F core (is.fits 0)) (λ k _. is.fits k) n);
+      log = each_put (λ (n : ℕ) (v : View). v.log ≡ []) made (new_view room) (put 0 zeroth core.view) refl
+          (λ n _. each_put (λ (k : ℕ) (v : View). v.log ≡ []) 0 zeroth core.view (is.log 0) (λ k _. is.log k) n);
     }
 
 -- a core stands whose seats all rest
@@ -68,6 +75,16 @@ seats_made F core history now (room ∷ rooms) is = seats_made F (make_seat core
 
 no_command_yet : {R : Type 0} (c : Command) → None ≡ Some c → R
 no_command_yet c e = cc
+
+made_at_start : (F : Fixed) (room : ℕ) (rooms : List ℕ) → StandsAtRest F (with_seats (start_core F room) rooms) [] F.start
+made_at_start F room rooms = seats_made F (start_core F room) [] F.start rooms (record { stands = start_stands F room; rest = rest_at_start F room })
+
+-- at the start each seat rests, and its log is empty
+pub idle_at_start : (F : Fixed) (room : ℕ) (rooms : List ℕ) (i : ℕ) → ((with_seats (start_core F room) rooms).view i).point ≡ Idle
+idle_at_start F room rooms i = (made_at_start F room rooms).rest.idle i
+
+pub log_at_start : (F : Fixed) (room : ℕ) (rooms : List ℕ) (i : ℕ) → ((with_seats (start_core F room) rooms).view i).log ≡ []
+log_at_start F room rooms i = (made_at_start F room rooms).rest.log i
 
 pub machine_start_stands : MachineStartStands
 machine_start_stands F room rooms =
@@ -142,7 +159,7 @@ stands_gone_on F m i (Some next) lawful start e is = record {
   stands = next_step_stands F m is.history is.now i next lawful start e is.stands;
 }
 
-stands_called : (F : Fixed) (m : Machine) (call : Call) → IsLawful F → IsStart F → MayBeCalled F m call → StandsSomehow F m → StandsSomehow F (after_call F m call)
+pub stands_called : (F : Fixed) (m : Machine) (call : Call) → IsLawful F → IsStart F → MayBeCalled F m call → StandsSomehow F m → StandsSomehow F (after_call F m call)
 stands_called F m (Give i c) lawful start may is = record { history = is.history; now = is.now; stands = given_command_stands F m is.history is.now i c may is.stands }
 stands_called F m (Go i) lawful start may is = stands_gone_on F m i (next_of F m i) lawful start refl is
 stands_called F m (GiveUp i) lawful start may is = record { history = is.history; now = is.now; stands = quitting_stands F m is.history is.now i may is.stands }

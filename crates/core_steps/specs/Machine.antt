@@ -1,7 +1,7 @@
 -- The core as a machine: which step a seat makes next, and the machine after it.
 use Rattle.std.specs.Prelude.{ℕ, suc, map, ◌≤◌, ◌+◌, ◌<◌, ◌≡◌, ◌==◌, ◌||◌, Bool, true, false, if◌then◌else◌, List, []}
 use Rattle.std.specs.Prelude.{◌∷◌, length}
-use Rattle.std.specs.Prelude.{Option, Some, None, is_some}
+use Rattle.std.specs.Prelude.{Option, Some, None, is_some, not, ◌&&◌, ◌++◌}
 use Rattle.std.specs.Option.{option_map}
 use Rattle.entity_recs.specs.declared.effect.Effect.{Effect}
 use Rattle.entity_recs.specs.Commands.{Command}
@@ -15,7 +15,8 @@ use Rattle.core_steps.specs.Cells.{Words, put, word_in, cell_of, count_index, no
 use Rattle.core_steps.specs.Cells.{state_index}
 use Rattle.core_steps.specs.Views as views
 use Rattle.entity_recs.specs.declared.effect.NewState.{NewState}
-use Rattle.core_steps.specs.Views.{ListRead, PlayerRead}
+use Rattle.core_steps.specs.Views.{ListRead, PlayerRead, Stage, AtRest, AtOwning, AtTaking, AtChecking, AtReading}
+use Rattle.core_steps.specs.Views.{AtClaiming, AtStoring, AtReleasing, AtReturning, AtYielding}
 use Rattle.core_steps.specs.Views.{Fixed, Point, Idle, Owning, Taking, Checking, Entering, Entered, Loading, Leaving}
 use Rattle.core_steps.specs.Views.{Sensing, Resolving, Claiming, Storing, Releasing, Returning, Yielding, stage_of}
 use Rattle.core_steps.specs.Views.{is_busy, is_whole, View, record_read, write_nodes, effect_loaded, nodes_of, holds}
@@ -443,3 +444,51 @@ pub record SomeGoesOn (F : Fixed) (m : Machine) : Type 0 where
   pub seat : ℕ
   pub busy : has_command m seat ≡ true
   pub goes_on : IsWaiting F m seat → ⊥
+
+-- ---- which commands a log holds
+
+-- a command is in view that isn't committed and isn't being given up
+abbrev pub is_pursued : Stage → Bool
+is_pursued AtRest = false
+is_pursued AtOwning = true
+is_pursued AtTaking = true
+is_pursued AtChecking = true
+is_pursued AtReading = true
+is_pursued AtClaiming = true
+is_pursued AtStoring = false
+is_pursued AtReleasing = false
+is_pursued AtReturning = false
+is_pursued AtYielding = false
+
+-- the command that a seat has in hand, where it isn't committed and isn't to be given up
+abbrev pub pursued_of : Option Command → Bool → View → List Command
+pursued_of (Some c) quits view = c ∷ []
+pursued_of None true view = []
+pursued_of None false view = if is_pursued (stage_of view.point) then view.cmd ∷ [] else []
+
+-- that command of a seat of the machine
+abbrev pub pursued : Machine → ℕ → List Command
+pursued m i = pursued_of (m.given i) (m.quits i) (m.core.view i)
+
+-- the commands of a log
+abbrev pub commands_of : List Item → List Command
+commands_of = map (λ (item : Item). item.command)
+
+-- all but the last command
+abbrev pub without_last : List Command → List Command
+without_last [] = []
+without_last (c ∷ []) = []
+without_last (c ∷ d ∷ commands) = c ∷ without_last (d ∷ commands)
+
+-- the commands that a seat was given and didn't give up, after a call: a command that is given comes last, and is dropped
+-- where the seat is told to give up
+abbrev pub kept_after : Machine → ℕ → Call → List Command → List Command
+kept_after m i (Give j c) kept = if j == i then kept ++ c ∷ [] else kept
+kept_after m i (Go j) kept = kept
+kept_after m i (GiveUp j) kept = if (j == i) && not (m.quits i) then without_last kept else kept
+
+-- the commands that a seat was given and didn't give up, after calls
+abbrev pub kept_by : Fixed → Machine → ℕ → List Call → List Command → List Command
+kept_by F m i [] kept = kept
+kept_by F m i (call ∷ calls) kept = kept_by F (after_call F m call) i calls (kept_after m i call kept)
+

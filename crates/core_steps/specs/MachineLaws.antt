@@ -18,7 +18,7 @@ use Rattle.core_steps.specs.Steps.{refuse_node, is_taking}
 use Rattle.core_steps.specs.Machine.{Next, Machine, MachineStands, StandsSomehow, SomeGoesOn, MayBeGiven, Call}
 use Rattle.core_steps.specs.Machine.{MayAllBeCalled, has_command, items_after, machine_after, next_of, start_machine}
 use Rattle.core_steps.specs.Machine.{with_given, with_quitting, after_calls, index_of, word_of_next, core_after}
-use Rattle.core_steps.specs.Machine.{node_taken}
+use Rattle.core_steps.specs.Machine.{node_taken, commands_of, pursued, kept_by}
 use Rattle.core_steps.specs.Stands.{IsLawful, IsStart, Stands, items_of}
 
 -- the machine at the start stands, with no history
@@ -161,3 +161,14 @@ abbrev pub EachViewReadsLittle : Type 0
 EachViewReadsLittle =
     (F : Fixed) (m : Machine) (history : List Item) (now : World) (i : ℕ) → MachineStands F m history now
     → ReadsLittle F (m.core.view i)
+
+-- whatever calls are made from the start on: the commands of a seat's log, and the one that it still pursues, are those
+-- that it was given and didn't give up, each once and in its order
+abbrev pub LogHoldsTheCommandsKept : Type 0
+LogHoldsTheCommandsKept =
+    (F : Fixed) (room : ℕ) (rooms : List ℕ) (calls : List Call) (i : ℕ) → IsLawful F → IsStart F
+    → MayAllBeCalled F (start_machine F room rooms) calls
+    → commands_of ((after_calls F (start_machine F room rooms) calls).core.view i).log
+    ++ pursued (after_calls F (start_machine F room rooms) calls) i
+    ≡ kept_by F (start_machine F room rooms) i calls []
+

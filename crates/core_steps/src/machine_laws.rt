@@ -3,31 +3,32 @@ ghost use Rattle.core_steps.specs.MachineLaws.{EachMachineStands, NextExists, Lo
 ghost use Rattle.core_steps.specs.MachineLaws.{StepsChangeOneWord, RefusedTakesChangeTheirRecord, RegionMayBeAsked};
 ghost use Rattle.core_steps.specs.MachineLaws.{LoadedRecordIsTaken, EffectMayBeAsked, EachPlaceIsLoggedOnce};
 ghost use Rattle.core_steps.specs.MachineLaws.{StepsHaveTheirWord, EachViewReadsLittle};
+ghost use Rattle.core_steps.specs.MachineLaws.{LogHoldsTheCommandsKept};
 ghost use Rattle.core_steps.specs.Rows.{FirstView, NearRow};
 
-/// The machine at the start stands: a seat for each room, no command given, and no history.
+/// What the machine keeps holds at the start: a seat for each room, no command given, and no history.
 pub fn machine_start_stands()
     ensures { MachineStartStands }
 {}
 
-/// A command that is given to a seat keeps what the machine holds.
+/// A command that is given to a seat keeps what holds of the machine.
 pub fn given_command_stands()
     ensures { GivenCommandStands }
 {}
 
-/// The next step of a seat, whichever it is, keeps what the machine holds; where it commits, the seat's command with its
+/// The next step of a seat, whichever it is, keeps what holds of the machine; where it commits, the seat's command with its
 /// entry is the last item of the history.
 pub fn next_step_stands()
     ensures { NextStepStands }
 {}
 
-/// A seat that is told to give up, at any take before its commit, keeps what the machine holds.
+/// A seat that is told to give up, at any take before its commit, keeps what holds of the machine.
 pub fn quitting_stands()
     ensures { QuittingStands }
 {}
 
-/// Whatever commands are given, whatever seats make their next steps in whatever order, and whatever seats give up: the
-/// machine stands.
+/// Whatever commands are given, whatever seats make their next steps in whatever order, and whatever seats give up: what
+/// the machine keeps holds.
 pub fn each_machine_stands()
     ensures { EachMachineStands }
 {}
@@ -99,4 +100,10 @@ pub fn first_view_is_right()
 /// it found: the node, its word, the own record and the leaves wanted.
 pub fn refused_take_is_right()
     ensures { NearRow }
+{}
+
+/// The commands of a seat's log, and the one that it still pursues, are those that it was given and didn't give up, each
+/// once and in its order.
+pub fn log_holds_the_commands_kept()
+    ensures { LogHoldsTheCommandsKept }
 {}
