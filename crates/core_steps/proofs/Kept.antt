@@ -1,22 +1,22 @@
 -- A log holds the commands that its seat was given and didn't give up, but the one that it still pursues.
-use Rattle.std.proofs.Common.{◌≡◌, ℕ, Bool, true, false, List, [], ◌∷◌, ◌++◌, length, map, refl, sym, ap, ◌∙◌, subst, inl, inr, Option, Some, None, append_assoc, append-nil}
+use Rattle.std.proofs.Common.{◌≡◌, ℕ, Bool, true, false, List, [], ◌∷◌, ◌++◌, length, refl, sym, ap, ◌∙◌, subst, inl, inr, Option, Some, None, append_assoc, append-nil}
 use Rattle.std.specs.Prelude.{◌==◌, ◌&&◌, not, if◌then◌else◌}
-use Rattle.std.proofs.lemmas.Bool.{cases_Bool, false≢true, true≢false, eqb-true, eq-eqb, and_from, cond-true, cond-false}
+use Rattle.std.proofs.lemmas.Bool.{cases_Bool, false≢true, eqb-true, eq-eqb, and_from, cond-true, cond-false}
 use Rattle.std.proofs.lemmas.List.{map-append}
 use Rattle.entity_recs.specs.declared.effect.Effect.{Effect}
 use Rattle.entity_recs.specs.Commands.{Command}
 use Rattle.entity_recs.specs.Worlds.{World}
 use Rattle.entity_recs.specs.Histories.{Item}
 use Rattle.core_steps.specs.Cells.{put, word_in, cell_of}
-use Rattle.core_steps.specs.Views.{Fixed, Store, Point, Idle, Owning, Taking, Checking, Entering, Entered, Loading, Leaving, Sensing, Resolving, Claiming, Storing, Releasing, Returning, Yielding, Stage, AtReading, stage_of, is_busy, View, without_command, record_read, write_nodes, effect_loaded, leaf_nodes, plan_of, region_in, players_in, without_player, inner_held, leaves_held}
-use Rattle.core_steps.specs.Steps.{Core, rest_of, first_yield, next_give, is_taking, returning, released, yielding, yielded, visiting, loading, sensing, taking, storing, owned, checked, player_loaded, take_node, claim_node, refuse_node, view_after_take, view_after_claim, view_after_refusal, view_after_list, view_after_state, view_after_commit, view_after_give, view_after_own, view_after_again}
+use Rattle.core_steps.specs.Views.{Fixed, Store, Point, Idle, Owning, Taking, Checking, Entering, Entered, Loading, Leaving, Sensing, Resolving, Claiming, Storing, Releasing, Returning, Yielding, AtReading, stage_of, View, without_command, record_read, write_nodes, effect_loaded, leaf_nodes, plan_of, region_in, players_in, without_player, inner_held, leaves_held}
+use Rattle.core_steps.specs.Steps.{Core, rest_of, first_yield, next_give, is_taking, returning, released, yielding, yielded, visiting, loading, sensing, taking, storing, owned, checked, player_loaded, take_node, claim_node, refuse_node, view_after_take, view_after_claim, view_after_refusal, view_after_list, view_after_state, view_after_commit, view_after_give}
 use Rattle.core_steps.specs.Stands.{IsStart, IsLawful}
-use Rattle.core_steps.specs.Machine.{Machine, Next, Begin, LoadOwn, LoadAgain, TakeNode, ClaimNode, ReadList, ReadPlayer, ReadState, CommitMove, StoreWord, GiveNode, YieldNode, YieldCount, next_at, next_of, quitting, resolving, beginning, committing, giving, core_after, machine_after, items_after, MachineStands, Call, Give, Go, GiveUp, gone_on, after_call, after_calls, MayBeCalled, MayAllBeCalled, StandsSomehow, start_machine, is_pursued, pursued_of, pursued, commands_of, without_last, kept_after, kept_by, MayBeGiven, with_given, with_quitting}
+use Rattle.core_steps.specs.Machine.{Machine, Next, Begin, LoadOwn, LoadAgain, TakeNode, ClaimNode, ReadList, ReadPlayer, ReadState, CommitMove, StoreWord, GiveNode, YieldNode, YieldCount, next_at, next_of, quitting, resolving, committing, giving, core_after, machine_after, items_after, MachineStands}
+use Rattle.core_steps.specs.Calls.{Call, Give, Go, GiveUp, gone_on, after_call, after_calls, MayBeCalled, MayAllBeCalled, StandsSomehow, start_machine, is_pursued, pursued_of, pursued, commands_of, without_last, kept_after, kept_by, MayBeGiven, with_given, with_quitting}
 use Rattle.core_steps.specs.MachineLaws.{LogHoldsTheCommandsKept}
 use Rattle.core_steps.proofs.Puts.{put_same, put_other, eqb_sym}
 use Rattle.core_steps.proofs.Points.{sensing_between, visiting_between}
 use Rattle.core_steps.proofs.Listing.{loading_listed}
-use Rattle.core_steps.proofs.Machines.{none_given}
 use Rattle.core_steps.proofs.Reached.{machine_start_stands, stands_called, idle_at_start, log_at_start}
 use Rattle.core_steps.proofs.Logs.{logs_grow_by_commits}
 
@@ -66,7 +66,6 @@ taking_pursued got [] = refl
 taking_pursued got (leaf ∷ rest) = refl
 
 module _ (F : Fixed) (m : Machine) (history : List Item) (now : World) (i : ℕ) (is : MachineStands F m history now) where
-
   abbrev view : View
   view = m.core.view i
 
@@ -76,7 +75,6 @@ module _ (F : Fixed) (m : Machine) (history : List Item) (now : World) (i : ℕ)
 
   -- the seat goes on with its command
   module _ (none : m.given i ≡ None) (goes : m.quits i ≡ false) where
-
     pursued_is : pursued m i ≡ pursued_view view
     pursued_is = ap (λ (o : Option Command). pursued_of o (m.quits i) view) none ∙ ap (λ (b : Bool). pursued_of None b view) goes
 

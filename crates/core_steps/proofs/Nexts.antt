@@ -8,7 +8,8 @@ use Rattle.entity_recs.specs.Worlds.{World}
 use Rattle.entity_recs.specs.Histories.{Item}
 use Rattle.core_steps.specs.Views.{Fixed, Point, Idle, Owning, Taking, Checking, Entering, Entered, Loading, Leaving, Sensing, Resolving, Claiming, Storing, Releasing, Returning, Yielding, stage_of, is_busy, is_whole, View, write_nodes, record_read, effect_loaded}
 use Rattle.core_steps.specs.Steps.{first, first_of_two, first_yield, next_give, next_node, next_node_at, Waits}
-use Rattle.core_steps.specs.Machine.{Machine, Next, Begin, LoadOwn, LoadAgain, TakeNode, ReadList, ReadPlayer, ReadState, CommitMove, StoreWord, GiveNode, YieldNode, YieldCount, next_at, quitting, resolving, beginning, committing, giving, SomeIsLeft, MachineStands, node_taken, IsWaiting}
+use Rattle.core_steps.specs.Machine.{Machine, Next, Begin, LoadOwn, LoadAgain, TakeNode, ReadList, ReadPlayer, ReadState, CommitMove, StoreWord, GiveNode, YieldNode, YieldCount, next_at, quitting, resolving, beginning, committing, giving, SomeIsLeft, MachineStands}
+use Rattle.core_steps.specs.Calls.{node_taken, IsWaiting}
 use Rattle.core_steps.specs.MachineLaws.{NextExists, SomeSeatIsFree}
 use Rattle.core_steps.proofs.Giving.{seat_at}
 use Rattle.core_steps.proofs.GiveBacks.{taking_point}

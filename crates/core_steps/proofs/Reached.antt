@@ -9,7 +9,8 @@ use Rattle.core_steps.specs.Cells.{put}
 use Rattle.core_steps.specs.Views.{Fixed, Point, Idle, stage_of, is_whole, View, new_view, spent}
 use Rattle.core_steps.specs.Steps.{Core, is_taking, make_seat}
 use Rattle.core_steps.specs.Stands.{IsStart, IsLawful, Stands, start_core}
-use Rattle.core_steps.specs.Machine.{Machine, Next, next_of, items_after, IsPending, SomeIsLeft, ViewFits, with_seats, start_machine, Call, Give, Go, GiveUp, gone_on, after_call, MayBeCalled, after_calls, MayAllBeCalled, StandsSomehow}
+use Rattle.core_steps.specs.Machine.{Machine, Next, next_of, items_after, IsPending, SomeIsLeft, ViewFits}
+use Rattle.core_steps.specs.Calls.{with_seats, start_machine, Call, Give, Go, GiveUp, gone_on, after_call, MayBeCalled, after_calls, MayAllBeCalled, StandsSomehow}
 use Rattle.core_steps.specs.MachineLaws.{MachineStartStands, GivenCommandStands, QuittingStands, EachMachineStands}
 use Rattle.core_steps.proofs.Puts.{each_put, put_other, eqb_sym}
 use Rattle.core_steps.proofs.Starts.{start_stands}

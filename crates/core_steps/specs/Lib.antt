@@ -6,5 +6,6 @@ pub mod Steps
 pub mod Stands
 pub mod Laws
 pub mod Machine
+pub mod Calls
 pub mod MachineLaws
 pub mod Rows

@@ -15,10 +15,13 @@ use Rattle.core_steps.specs.Views.{is_whole, nodes_of}
 use Rattle.core_steps.specs.Views.{loaded_near, Ended, View}
 use Rattle.core_steps.specs.Steps.{Core}
 use Rattle.core_steps.specs.Steps.{refuse_node, is_taking}
-use Rattle.core_steps.specs.Machine.{Next, Machine, MachineStands, StandsSomehow, SomeGoesOn, MayBeGiven, Call}
-use Rattle.core_steps.specs.Machine.{MayAllBeCalled, has_command, items_after, machine_after, next_of, start_machine}
-use Rattle.core_steps.specs.Machine.{with_given, with_quitting, after_calls, index_of, word_of_next, core_after}
-use Rattle.core_steps.specs.Machine.{node_taken, commands_of, pursued, kept_by}
+use Rattle.core_steps.specs.Machine.{Next, Machine, MachineStands}
+use Rattle.core_steps.specs.Calls.{StandsSomehow, SomeGoesOn, MayBeGiven, Call}
+use Rattle.core_steps.specs.Machine.{items_after, machine_after, next_of}
+use Rattle.core_steps.specs.Calls.{MayAllBeCalled, has_command, start_machine}
+use Rattle.core_steps.specs.Machine.{index_of, word_of_next, core_after}
+use Rattle.core_steps.specs.Calls.{with_given, with_quitting, after_calls}
+use Rattle.core_steps.specs.Calls.{node_taken, commands_of, pursued, kept_by}
 use Rattle.core_steps.specs.Stands.{IsLawful, IsStart, Stands, items_of}
 
 -- the machine at the start stands, with no history
@@ -171,4 +174,3 @@ LogHoldsTheCommandsKept =
     → commands_of ((after_calls F (start_machine F room rooms) calls).core.view i).log
     ++ pursued (after_calls F (start_machine F room rooms) calls) i
     ≡ kept_by F (start_machine F room rooms) i calls []
-

@@ -8,8 +8,9 @@ use Rattle.entity_recs.specs.Commands.{Command}
 use Rattle.entity_recs.specs.Worlds.{zero_vector, world_of}
 use Rattle.core_steps.specs.Views.{Fixed, Owning, new_view}
 use Rattle.core_steps.specs.declared.step.StepKind.TheVariants.{Take, Load}
-use Rattle.core_steps.specs.Machine.{Machine, Begin, TakeNode, next_of, step_of, start_machine, Call, Give, Go}
-use Rattle.core_steps.specs.Machine.{after_calls}
+use Rattle.core_steps.specs.Machine.{Machine, Begin, TakeNode, next_of, step_of}
+use Rattle.core_steps.specs.Calls.{start_machine, Call, Give, Go}
+use Rattle.core_steps.specs.Calls.{after_calls}
 
 -- a player at rest
 abbrev pub player_at_rest : ℕ → ℤ → ℤ → Rec
