@@ -78,7 +78,10 @@ fn a_player_that_leaves_is_shown_once_more(rt: HostRuntime) -> Result<(), Fail> 
         origin,
     };
     assert_eq!(rt; out.frame, 0);
-    assert_eq!(rt; out.received.joined(), [Joined { port: 7, slot }].as_slice());
+    assert_eq!(rt;
+        out.received.joined(),
+        [Joined { port: 7, slot }].as_slice()
+    );
     assert_eq!(rt; out.journal.as_slice(), [moved].as_slice());
     assert!(rt; server.before_leaves().get(0).is_some());
     server.run_frame(&[], &mut out);
