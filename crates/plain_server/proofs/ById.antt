@@ -1,12 +1,12 @@
 -- The records by id and the world that they make, when one of the records changes.
-use Rattle.std.proofs.Common.{◌≡◌, ◌≢◌, ◌⊎◌, ℕ, zero, suc, ◌<◌, ◌==◌, Bool, true, false, List, [], ◌∷◌, length, map, Option, Some, None, slice_index_or, slice_set, if◌then◌else◌, refl, sym, ap, ◌∙◌, subst, inl, inr, arith, get_or-set_same, get_or-set_other}
+use Rattle.std.proofs.Common.{◌≡◌, ◌≢◌, ◌⊎◌, ℕ, zero, suc, ◌<◌, ◌==◌, List, [], ◌∷◌, length, map, Option, Some, None, slice_set, if◌then◌else◌, refl, sym, ap, ◌∙◌, inl, inr, get_or-set_same, get_or-set_other}
 use Rattle.std.specs.Option.{option_map}
 use Rattle.std.proofs.lemmas.Bool.{cases_eq, eq-eqb, ne_eqb, cond-true, cond-false}
 use Rattle.entity_recs.specs.declared.rec.Rec.{Rec}
 use Rattle.entity_recs.specs.declared.effect.Effect.{Effect}
 use Rattle.entity_recs.specs.Worlds.{World}
 use Rattle.entity_recs.specs.Histories.{with_effect, with_new_state}
-use Rattle.world_tree.specs.Live.{record_at, live_in, ids_of}
+use Rattle.world_tree.specs.Live.{record_at, ids_of}
 use Rattle.plain_server.specs.RecordsById.{record_or_nobody, world_of, records_in}
 
 -- another record of the same id leaves the live ids

@@ -1,18 +1,16 @@
 -- The players keep room: moves end free of all solids.
-use Rattle.std.specs.Prelude.{◌≡◌, ◌≢◌, ◌⊎◌, ℕ, zero, suc, ◌+◌, ◌<◌, ◌==◌, Bool, true, false, ◌&&◌, ◌||◌, not, int_lt, List, [], ◌∷◌, ◌++◌, length, filter, All, Option, Some, None, if◌then◌else◌, replicate}
+use Rattle.std.specs.Prelude.{◌≡◌, ◌≢◌, ℕ, zero, suc, ◌+◌, ◌==◌, Bool, true, false, ◌||◌, not, int_lt, List, [], ◌∷◌, ◌++◌, filter, All, Option, Some, None, if◌then◌else◌, replicate}
 use Rattle.std.specs.Prelude.{map as map_list}
-use Rattle.std.specs.List.{AllByRecursion, list_any}
+use Rattle.std.specs.List.{AllByRecursion}
 use Rattle.std.proofs.Common.{refl, sym, ap, ◌∙◌, subst, inl, inr, arith}
 use Rattle.std.proofs.lemmas.Bool.{cases_Bool, cases_lt, eq-eqb, ne_eqb}
 use Rattle.std.proofs.lemmas.List.Folds.{list_any-append}
-use Rattle.std.proofs.lemmas.List.Elements.{All-head, All-tail, All-weaker}
+use Rattle.std.proofs.lemmas.List.Elements.{All-head, All-tail}
 use Rattle.std.proofs.lemmas.Option.{same_Some, none-some}
 use Rattle.std.proofs.lemmas.List.{append-nil, append_assoc, length-replicate, get_or-replicate, get_or_past}
 use Rattle.std.proofs.Math.Bool.{and_comm}
 use Rattle.arena_geo.specs.Bounds.{Bounds}
 use Rattle.arena_geo.specs.Boxes.{overlaps, is_blocked}
-use Rattle.entity_recs.specs.declared.kind.Kind.{Kind}
-use Rattle.entity_recs.specs.declared.kind.Kind.TheVariants.{Player}
 use Rattle.entity_recs.specs.declared.rec.Rec.{Rec}
 use Rattle.entity_recs.specs.declared.effect.Entry.{Entry}
 use Rattle.entity_recs.specs.Bodies.{body_of}
@@ -23,7 +21,7 @@ use Rattle.entity_recs.specs.Histories.{Item, world_after}
 use Rattle.move_journal.specs.Merges.{history_of}
 use Rattle.player_move.proofs.Ending.{move_ends_free}
 use Rattle.arena_map.specs.Maps.{MapView, IsMap, solids_of}
-use Rattle.arena_map.specs.Validity.{IsValidRecord, IsValidWorld}
+use Rattle.arena_map.specs.Validity.{IsValidWorld}
 use Rattle.world_tree.specs.Live.{record_at, live_in}
 use Rattle.client_ports.specs.declared.arrival.Arrival.{Arrival}
 use Rattle.client_ports.specs.States.{State, IsServerState}
@@ -37,7 +35,7 @@ use Rattle.plain_server.specs.Moving.{HasLivePlayer, HaveMoved, effect_among, re
 use Rattle.plain_server.specs.Entries.{IsReception}
 use Rattle.plain_server.specs.Frames.{moved_by, state_after, first_of, rest_of, state_played}
 use Rattle.plain_server.proofs.Others.{each_live, others-are}
-use Rattle.plain_server.proofs.Moves.{IsLiveRecord, live_record, slot_is_player, moved_is_valid, moved-none, moved-more, still-live, moved-records}
+use Rattle.plain_server.proofs.Moves.{IsLiveRecord, live_record, slot_is_player, moved-none, moved-more, still-live, moved-records}
 use Rattle.plain_server.proofs.Commands.{history_has}
 use Rattle.plain_server.proofs.Frames.{received_is, state_after_is, opening-is}
 

@@ -1,34 +1,32 @@
 -- Frames, one after another: what holds of the state after each.
-use Rattle.std.proofs.Common.{◌≡◌, ℕ, zero, suc, ◌+◌, ◌<◌, List, [], ◌∷◌, length, All, Option, Some, None, is_some, IsSome, replicate, inl, inr, refl, sym, ap, ◌∙◌, subst, arith}
+use Rattle.std.proofs.Common.{◌≡◌, ℕ, zero, suc, ◌+◌, ◌<◌, List, [], ◌∷◌, length, Option, None, IsSome, replicate, inl, inr, refl, sym, ap, ◌∙◌, subst, arith}
 use Rattle.std.specs.Prelude.{map as map_list}
-use Rattle.std.proofs.lemmas.List.{length-map, length-replicate, get_or-replicate, get_or_past}
+use Rattle.std.proofs.lemmas.List.{length-replicate, get_or-replicate, get_or_past}
 use Rattle.std.proofs.lemmas.Bool.{cases_lt}
 use Rattle.std.proofs.lemmas.List.Elements.{All-weaker}
 use Rattle.entity_recs.specs.declared.rec.Rec.{Rec}
 use Rattle.entity_recs.specs.declared.effect.Entry.{Entry}
 use Rattle.entity_recs.specs.Commands.{Command}
-use Rattle.entity_recs.specs.Histories.{Item, world_after}
-use Rattle.move_journal.specs.Merges.{history_of, journal_in_order}
+use Rattle.entity_recs.specs.Histories.{Item}
+use Rattle.move_journal.specs.Merges.{history_of}
 use Rattle.move_journal.proofs.JournalLaws.{moves_in_order_are_right, order_leaves_one_journal}
-use Rattle.arena_map.specs.Maps.{MapView, IsMap, entities_of}
-use Rattle.arena_map.specs.Validity.{IsValidWorld}
+use Rattle.arena_map.specs.Maps.{MapView, IsMap}
 use Rattle.world_tree.specs.Live.{record_at}
 use Rattle.client_ports.specs.declared.arrival.Arrival.{Arrival}
 use Rattle.client_ports.specs.declared.client.Client.{Client}
 use Rattle.client_ports.specs.Clients.{client_at, no_clients, AreClients}
 use Rattle.client_ports.proofs.Slots.{client_count, no_clients-are_ports}
 use Rattle.client_ports.proofs.Valid.{opening-fits}
-use Rattle.client_ports.specs.States.{State, state_of, IsState, HaveSameLive, IsServerState}
+use Rattle.client_ports.specs.States.{State, state_of, IsServerState}
 use Rattle.client_ports.specs.Receiving.{Receiving, received}
-use Rattle.client_ports.specs.Finishing.{finished}
 use Rattle.client_ports.proofs.Advances.{numbers_apart, movers_live}
 use Rattle.client_ports.proofs.Staying.{clients_received, clients_finished, server_received, server_finished}
-use Rattle.plain_server.specs.RecordsById.{world_of, records_in, opening}
+use Rattle.plain_server.specs.RecordsById.{world_of, opening}
 use Rattle.plain_server.specs.Outcomes.{outcome_in}
-use Rattle.plain_server.specs.Moving.{HasLivePlayer, HasSmallNumber, HaveMoved}
+use Rattle.plain_server.specs.Moving.{HasLivePlayer, HaveMoved}
 use Rattle.plain_server.specs.Entries.{IsReception}
 use Rattle.plain_server.specs.Frames.{moved_by, state_after, first_of, rest_of, state_played, AreRight, AreInOrder, journal_of, journals_of}
-use Rattle.plain_server.proofs.Moves.{Moved, moved, moved-records}
+use Rattle.plain_server.proofs.Moves.{moved, moved-records}
 use Rattle.plain_server.proofs.Commands.{history_has}
 
 -- a state whose records are those after moves of live players is a server's as before

@@ -1,5 +1,5 @@
 -- Moves, one after another, over records by id: the world after each, and that it is valid.
-use Rattle.std.proofs.Common.{◌≡◌, ◌≢◌, ◌⊎◌, ℕ, zero, suc, ◌+◌, ◌<◌, ◌≤◌, Bool, true, false, List, [], ◌∷◌, ◌++◌, length, Option, Some, None, is_some, IsSome, slice_set, refl, sym, ap, ◌∙◌, subst, inl, inr, arith, get_or-set_same, get_or-set_other}
+use Rattle.std.proofs.Common.{◌≡◌, ◌≢◌, ◌⊎◌, ℕ, zero, suc, ◌<◌, List, [], ◌∷◌, ◌++◌, length, Option, Some, None, is_some, IsSome, slice_set, refl, sym, ap, ◌∙◌, subst, inl, inr, arith, get_or-set_same, get_or-set_other}
 use Rattle.std.specs.Prelude.{All}
 use Rattle.std.proofs.lemmas.Bool.{cases_eq}
 use Rattle.std.proofs.lemmas.List.{append-nil, append_assoc, length-set}
@@ -19,7 +19,7 @@ use Rattle.client_ports.proofs.Valid.{valid-with}
 use Rattle.plain_server.specs.RecordsById.{record_or_nobody, world_of, records_in}
 use Rattle.plain_server.specs.Outcomes.{outcome_in, solid_bodies, asked}
 use Rattle.plain_server.specs.Moving.{HasLivePlayer, effect_among, records_after, HaveMoved}
-use Rattle.plain_server.proofs.ById.{ids-set, records_in-set, records_in-world_of, world_of-set}
+use Rattle.plain_server.proofs.ById.{records_in-set, records_in-world_of, world_of-set}
 use Rattle.plain_server.proofs.OneMove.{valid_after_move}
 
 -- the record of a live id

@@ -1,5 +1,5 @@
 -- A player's record after its move is as valid as before.
-use Rattle.std.proofs.Common.{◌≡◌, ℕ, Bool, true, false, ◌<◌, ◌≤◌, ℤ, ◌≤ℤ◌, unsigned_abs, List, refl, sym, ap, ◌∙◌, subst, arith}
+use Rattle.std.proofs.Common.{◌≡◌, ℕ, Bool, true, false, ◌≤◌, ℤ, ◌≤ℤ◌, unsigned_abs, List, refl, sym, subst, arith}
 use Rattle.std.proofs.lemmas.Int.{ints}
 use Rattle.arena_geo.specs.declared.vec3.Vec3.{Vec3}
 use Rattle.arena_geo.specs.Vectors.{IsNear}
@@ -10,14 +10,14 @@ use Rattle.entity_recs.specs.declared.rec.Rec.{Rec}
 use Rattle.entity_recs.specs.declared.kind.Kind.{Kind}
 use Rattle.entity_recs.specs.declared.kind.Kind.TheVariants.{Player}
 use Rattle.entity_recs.specs.declared.bodies.TheConstants.{PLAYER_MINS}
-use Rattle.entity_recs.specs.Records.{IsRecord, IsIdOf, IsShapeOf, IsStateOf}
+use Rattle.entity_recs.specs.Records.{IsRecord, IsShapeOf}
 use Rattle.entity_recs.specs.Bodies.{standing, player_body, body_of}
 use Rattle.box_trace.specs.Walls.{HaveWalls}
 use Rattle.player_move.specs.Intents.{Intent}
 use Rattle.player_move.specs.Moves.{move_of}
 use Rattle.player_move.proofs.Insides.{move_stays_inside}
 use Rattle.player_move.proofs.Slows.{move_stays_slow}
-use Rattle.arena_map.specs.Maps.{MapView, IsMap, solids_of}
+use Rattle.arena_map.specs.Maps.{MapView, IsMap}
 use Rattle.arena_map.specs.Validity.{IsValidRecord}
 use Rattle.plain_server.specs.Outcomes.{flags_of, after_move}
 

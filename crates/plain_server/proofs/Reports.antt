@@ -1,14 +1,14 @@
 -- The entries of a right journal have their places, and are in range.
-use Rattle.std.specs.Prelude.{◌≡◌, ℕ, ◌+◌, ◌<◌, ◌^◌, List, [], ◌∷◌, All, Option}
+use Rattle.std.specs.Prelude.{◌≡◌, ℕ, ◌+◌, List, [], ◌∷◌, All, Option}
 use Rattle.std.specs.Prelude.{map as map_list}
-use Rattle.std.proofs.Common.{refl, sym, ap, ◌∙◌, subst, arith}
+use Rattle.std.proofs.Common.{refl, sym, ap, ◌∙◌, subst}
 use Rattle.std.proofs.lemmas.List.Elements.{All-head, All-tail, All-weaker}
 use Rattle.entity_recs.specs.declared.rec.Rec.{Rec}
 use Rattle.entity_recs.specs.declared.effect.Entry.{Entry}
 use Rattle.entity_recs.specs.Commands.{Command}
 use Rattle.entity_recs.specs.Worlds.{World}
 use Rattle.entity_recs.specs.Histories.{Item, apply, entry_of, outcome}
-use Rattle.move_journal.specs.Merges.{is_entry_of, history_of, IsWholeHistory}
+use Rattle.move_journal.specs.Merges.{history_of}
 use Rattle.move_journal.proofs.Orders.{IsLegalFrom}
 use Rattle.move_journal.proofs.Uniques.{first_entry, legal_behind, legal_at_first}
 use Rattle.move_journal.proofs.JournalLaws.{merges_have_whole_histories}

@@ -1,9 +1,7 @@
 -- What an entry of a right journal keeps to, so that the line that reports it is read back.
 use Rattle.std.specs.Prelude.{◌≡◌, ℕ, ◌+◌, ◌<◌, ◌^◌, List, [], ◌∷◌, All}
 use Rattle.arena_geo.specs.Vectors.{IsNear}
-use Rattle.entity_recs.specs.declared.rec.Rec.{Rec}
 use Rattle.entity_recs.specs.declared.effect.Entry.{Entry}
-use Rattle.entity_recs.specs.Commands.{Command}
 use Rattle.move_journal.specs.Merges.{HasNumbersApart}
 use Rattle.arena_map.specs.Maps.{MapView}
 use Rattle.client_ports.specs.declared.arrival.Arrival.{Arrival}

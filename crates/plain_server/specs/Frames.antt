@@ -1,7 +1,7 @@
 -- Frames of the plain server: the receive pass, the moves of a journal, one after another, and the leaves.
 use Rattle.std.specs.Prelude.{ℕ, ◌+◌, List, [], ◌∷◌, ⊤}
 use Rattle.entity_recs.specs.declared.effect.Entry.{Entry}
-use Rattle.entity_recs.specs.Histories.{world_after, run}
+use Rattle.entity_recs.specs.Histories.{run}
 use Rattle.move_journal.specs.Merges.{history_of, IsRight, IsInOrder, journal_in_order}
 use Rattle.arena_map.specs.Maps.{MapView}
 use Rattle.client_ports.specs.declared.arrival.Arrival.{Arrival}

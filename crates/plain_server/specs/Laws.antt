@@ -1,13 +1,11 @@
 -- What holds of the plain server, after any frames.
-use Rattle.std.specs.Prelude.{◌≡◌, ◌≢◌, ℕ, ◌<◌, true, false, List, Option, Some, All}
-use Rattle.arena_geo.specs.Boxes.{overlaps, is_blocked}
+use Rattle.std.specs.Prelude.{◌≡◌, List, Option, All}
 use Rattle.entity_recs.specs.declared.rec.Rec.{Rec}
 use Rattle.entity_recs.specs.declared.effect.Entry.{Entry}
 use Rattle.entity_recs.specs.Commands.{Command}
 use Rattle.entity_recs.specs.Histories.{world_after}
 use Rattle.arena_map.specs.Maps.{MapView, IsMap}
 use Rattle.arena_map.specs.Validity.{IsValidWorld}
-use Rattle.world_tree.specs.Live.{record_at}
 use Rattle.client_ports.specs.declared.arrival.Arrival.{Arrival}
 use Rattle.client_ports.specs.Clients.{AreClients}
 use Rattle.client_ports.specs.States.{IsServerState}

@@ -1,5 +1,5 @@
 -- The records by id as a world of histories, and the records of such a world.
-use Rattle.std.specs.Prelude.{ℕ, List, map, fold, replicate, Option, Some, None, slice_set}
+use Rattle.std.specs.Prelude.{List, map, fold, replicate, Option, Some, None, slice_set}
 use Rattle.std.specs.Option.{option_map}
 use Rattle.entity_recs.specs.declared.rec.Rec.{Rec}
 use Rattle.entity_recs.specs.Worlds.{World, nobody}
