@@ -38,7 +38,7 @@ pub data Call : Type 0 where
 abbrev pub with_given : Machine → ℕ → Command → Machine
 with_given m i c = record m { given = put i (Some c) m.given }
 
--- the machine after a seat is told to give up
+-- the machine after a seat is asked to give up
 abbrev pub with_quitting : Machine → ℕ → Machine
 with_quitting m i = record m { quits = put i true m.quits }
 
@@ -61,7 +61,7 @@ pub record MayBeGiven (F : Fixed) (m : Machine) (i : ℕ) (c : Command) : Type 0
   pub busy_apart : (j : ℕ) → (j == i) ≡ false → is_busy (stage_of (m.core.view j).point) ≡ true
       → (c.slot == (m.core.view j).cmd.slot) ≡ false
 
--- the condition of a call; a seat may be told to give up at any take before its commit
+-- the condition of a call; a seat may be asked to give up at any take before its commit
 abbrev pub MayBeCalled : Fixed → Machine → Call → Type 0
 MayBeCalled F m (Give i c) = MayBeGiven F m i c
 MayBeCalled F m (Go i) = Unit {0}
@@ -158,7 +158,7 @@ without_last (c ∷ d ∷ commands) = c ∷ without_last (d ∷ commands)
 
 -- the commands that a seat was given and didn't give up, after a call: a command that is given comes last, and is
 -- dropped
--- where the seat is told to give up
+-- where the seat is asked to give up
 abbrev pub kept_after : Machine → ℕ → Call → List Command → List Command
 kept_after m i (Give j c) kept = if j == i then kept ++ c ∷ [] else kept
 kept_after m i (Go j) kept = kept

@@ -44,7 +44,7 @@ NextStepStands =
     → MachineStands F (machine_after F m i next)
     (history ++ items_after m.core i next) (run F.effect_of now (items_after m.core i next))
 
--- a seat that is told to give up, at any take before its commit, leaves what stands
+-- a seat that is asked to give up, at any take before its commit, leaves what stands
 abbrev pub QuittingStands : Type 0
 QuittingStands =
     (F : Fixed) (m : Machine) (history : List Item) (now : World) (i : ℕ) → is_taking (m.core.view i).point ≡ true

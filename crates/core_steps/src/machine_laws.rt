@@ -22,7 +22,7 @@ pub fn next_step_stands()
     ensures { NextStepStands }
 {}
 
-/// A seat that is told to give up, at any take before its commit, keeps what holds of the machine.
+/// A seat that is asked to give up, at any take before its commit, keeps what holds of the machine.
 pub fn quitting_stands()
     ensures { QuittingStands }
 {}
