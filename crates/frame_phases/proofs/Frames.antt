@@ -1,21 +1,18 @@
 -- A frame of the server is one of the plain server.
-use Rattle.std.proofs.Common.{◌≡◌, ℕ, ◌+◌, ◌≤◌, List, [], length, map, Option, refl, sym, ap, ◌∙◌, subst, arith}
+use Rattle.std.proofs.Common.{◌≡◌, ℕ, ◌+◌, ◌≤◌, List, length, map, Option, sym, ap, ◌∙◌, subst, arith}
 use Rattle.std.specs.Prelude.{All}
 use Rattle.std.proofs.lemmas.List.{length-map}
 use Rattle.entity_recs.specs.declared.rec.Rec.{Rec}
 use Rattle.entity_recs.specs.declared.cmd.Cmd.{Cmd}
 use Rattle.entity_recs.specs.declared.effect.Entry as reports
-use Rattle.entity_recs.specs.Commands.{Command, command_of}
+use Rattle.entity_recs.specs.Commands.{command_of}
 use Rattle.entity_recs.specs.Worlds.{World}
-use Rattle.entity_recs.specs.Histories.{world_after}
 use Rattle.move_journal.specs.Merges.{IsInOrder, journal_in_order}
 use Rattle.move_journal.proofs.JournalLaws.{moves_in_order_are_right, run-in_order}
 use Rattle.arena_map.specs.Maps.{MapView, IsMap}
 use Rattle.client_ports.specs.declared.arrival.Arrival.{Arrival}
-use Rattle.client_ports.specs.declared.client.Client.{Client}
 use Rattle.client_ports.specs.States.{State, state_of, IsServerState}
-use Rattle.client_ports.specs.Lists.{Lists}
-use Rattle.client_ports.specs.Receiving.{Receiving, receiving_of, received}
+use Rattle.client_ports.specs.Receiving.{Receiving, received}
 use Rattle.client_ports.specs.Finishing.{finished}
 use Rattle.client_ports.proofs.Staying.{server_finished}
 use Rattle.frame_phases.specs.Servers.{ServerView, server_after}

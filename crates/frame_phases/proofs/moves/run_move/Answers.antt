@@ -1,13 +1,9 @@
-use Rattle.std.proofs.Common.{refl, List, [], ◌∷◌, ◌++◌, Option, sym, subst, ◌∙◌, ap, All}
+use Rattle.std.proofs.Common.{refl, [], ◌∷◌, sym, subst, ◌∙◌, ap, All}
 use Rattle.arena_geo.specs.Bounds.{Bounds}
-use Rattle.entity_recs.specs.declared.rec.Rec.{Rec}
 use Rattle.entity_recs.specs.Records.{IsRecord}
 use Rattle.entity_recs.specs.Commands.{command_of}
-use Rattle.player_move.specs.Intents.{intent_of}
-use Rattle.player_move.specs.Moves.{move_of}
-use Rattle.world_tree.specs.Live.{record_at}
 use Rattle.world_tree.specs.Worlds.{WorldView}
-use Rattle.frame_phases.proofs.OneMove.{near_are_records, bodies_are, runs_one, RunsOne, origin-is, new_is_valid, new_is_live, relinked-is}
+use Rattle.frame_phases.proofs.OneMove.{near_are_records, runs_one, origin-is, new_is_valid, new_is_live, relinked-is}
 use Rattle.frame_phases.proofs.moves.run_move.Goals as goal
 
 pub take_solids-requires-clause-each : goal.take_solids-requires-clause-each

@@ -1,4 +1,4 @@
-use Rattle.std.proofs.Common.{map, ap, arith, length, ◌+◌, ◌∙◌}
+use Rattle.std.proofs.Common.{map, ap, arith, length, ◌∙◌}
 use Rattle.std.proofs.lemmas.List.{length_push}
 use Rattle.move_journal.specs.Entries.{entry_value}
 use Rattle.frame_phases.proofs.Running.{runs-next, live-next}

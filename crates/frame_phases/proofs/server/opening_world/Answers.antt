@@ -1,10 +1,6 @@
-use Rattle.std.proofs.Common.{Result, ap, ◌∙◌, sym, subst, List}
+use Rattle.std.proofs.Common.{◌∙◌}
 use Rattle.std.specs.List.{IsDistinct}
-use Rattle.std.specs.Result.{IfOk}
 use Rattle.std.proofs.lemmas.Result.{IfOk-weaker}
-use Rattle.arena_geo.specs.Bounds.{Bounds}
-use Rattle.entity_recs.specs.declared.rec.Rec.{Rec}
-use Rattle.world_tree.specs.Worlds.{WorldView, empty_world, with_records}
 use Rattle.frame_phases.proofs.Openings.{made_so, opened}
 use Rattle.frame_phases.proofs.server.opening_world.Goals as goal
 

@@ -1,6 +1,5 @@
-use Rattle.std.proofs.Common.{ap, ◌∙◌, sym}
+use Rattle.std.proofs.Common.{ap, ◌∙◌}
 use Rattle.world_tree.specs.Worlds.{WorldView}
-use Rattle.client_ports.specs.States.{State}
 use Rattle.frame_phases.proofs.Frames.{view_of}
 use Rattle.frame_phases.proofs.Openings.{opened-is, opened_is_server}
 use Rattle.frame_phases.proofs.server.Server.opened.Goals as goal

@@ -1,13 +1,12 @@
-use Rattle.std.proofs.Common.{List, ◌+◌, ◌∙◌, ap, sym, subst, arith, map, refl}
-use Rattle.entity_recs.specs.Commands.{command_of}
+use Rattle.std.proofs.Common.{◌+◌, ◌∙◌, ap, sym, subst, arith, map}
 use Rattle.move_journal.specs.Entries.{entry_value}
 use Rattle.move_journal.specs.Merges.{IsInOrder}
-use Rattle.client_ports.specs.States.{State, state_of}
+use Rattle.client_ports.specs.States.{state_of}
 use Rattle.client_ports.specs.Receiving.{Receiving, receiving_of, received}
 use Rattle.world_tree.specs.Worlds.{WorldView}
 use Rattle.plain_server.specs.Frames.{IsRightAfter}
 use Rattle.frame_phases.specs.Servers.{ServerView, server_after}
-use Rattle.frame_phases.proofs.Frames.{IsReceived, is_received, live_moves, few_moves, IsFrame, is_frame, server-is, view_of}
+use Rattle.frame_phases.proofs.Frames.{is_received, live_moves, few_moves, is_frame, server-is, view_of}
 use Rattle.frame_phases.proofs.server.Server.run_frame.Goals as goal
 
 pub run_moves-requires-clause-live : goal.run_moves-requires-clause-live
