@@ -11,12 +11,12 @@ use Rattle.out_text.specs.FrameLines.{frame_lines, lines_with}
 use Rattle.arena_engine.specs.Games.{GameView, RunsFrame, ClosesFrame, closing_lines}
 
 -- the lines that the code prints are those of the frame
-lines-are : (t u : ServerView) (arrivals : List Arrival) (journal told : List Entry) (frame : ℕ) (lists : Lists) (shown : List (Option Rec)) → frame ≡ t.frames
-    → lists ≡ (received t.map t.frames t.state arrivals).lists → told ≡ journal → shown ≡ u.shown → u ≡ server_after t arrivals journal
-    → frame_lines frame lists told shown ≡ lines_with t.map t.frames (received t.map t.frames t.state arrivals) journal
-lines-are t u arrivals journal told frame lists shown frame_is lists_are told_is shown_is next =
+lines-are : (t u : ServerView) (arrivals : List Arrival) (journal printed : List Entry) (frame : ℕ) (lists : Lists) (shown : List (Option Rec)) → frame ≡ t.frames
+    → lists ≡ (received t.map t.frames t.state arrivals).lists → printed ≡ journal → shown ≡ u.shown → u ≡ server_after t arrivals journal
+    → frame_lines frame lists printed shown ≡ lines_with t.map t.frames (received t.map t.frames t.state arrivals) journal
+lines-are t u arrivals journal printed frame lists shown frame_is lists_are printed_is shown_is next =
     let shown_so = shown_is ∙ ap (λ (v : ServerView). v.shown) next in
-    λ i. frame_lines (frame_is i) (lists_are i) (told_is i) (shown_so i)
+    λ i. frame_lines (frame_is i) (lists_are i) (printed_is i) (shown_so i)
 
 -- a game from its parts
 abbrev pub game_with : ServerView → Bool → List Arrival → List Entry → GameView
@@ -28,14 +28,14 @@ opened-is true arrivals opens = refl
 opened-is false arrivals opens = cc
 
 -- what the code prints where a frame is open
-pub printed-is : (g : GameView) (t u : ServerView) (is_open : Bool) (arrivals : List Arrival) (was journal told : List Entry) (frame : ℕ) (lists : Lists) (shown : List (Option Rec)) (before text : List ℕ)
+pub printed-is : (g : GameView) (t u : ServerView) (is_open : Bool) (arrivals : List Arrival) (was journal printed : List Entry) (frame : ℕ) (lists : Lists) (shown : List (Option Rec)) (before text : List ℕ)
     → game_with t is_open arrivals was ≡ g → is_open ≡ true → frame ≡ t.frames
-    → lists ≡ (received t.map t.frames t.state arrivals).lists → told ≡ journal → shown ≡ u.shown → u ≡ server_after t arrivals journal → before ≡ []
-    → text ≡ before ++ text_of (frame_lines frame lists told shown) → text ≡ text_of (closing_lines g.server g.opened journal)
-printed-is g t u is_open arrivals was journal told frame lists shown before text view opens frame_is lists_are told_is shown_is next none is =
+    → lists ≡ (received t.map t.frames t.state arrivals).lists → printed ≡ journal → shown ≡ u.shown → u ≡ server_after t arrivals journal → before ≡ []
+    → text ≡ before ++ text_of (frame_lines frame lists printed shown) → text ≡ text_of (closing_lines g.server g.opened journal)
+printed-is g t u is_open arrivals was journal printed frame lists shown before text view opens frame_is lists_are printed_is shown_is next none is =
     is
-    ∙ ap (λ (b : List ℕ). b ++ text_of (frame_lines frame lists told shown)) none
-    ∙ ap text_of (lines-are t u arrivals journal told frame lists shown frame_is lists_are told_is shown_is next)
+    ∙ ap (λ (b : List ℕ). b ++ text_of (frame_lines frame lists printed shown)) none
+    ∙ ap text_of (lines-are t u arrivals journal printed frame lists shown frame_is lists_are printed_is shown_is next)
     ∙ sym (ap (λ (o : Option (List Arrival)). text_of (closing_lines t o journal)) (opened-is is_open arrivals opens))
     ∙ ap (λ (h : GameView). text_of (closing_lines h.server h.opened journal)) view
 

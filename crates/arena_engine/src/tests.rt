@@ -159,7 +159,8 @@ fn packets_are_refused_by_name(rt: HostRuntime) -> Result<(), Fail> {
 
 #[test]
 fn players_leave_after_the_replies(rt: HostRuntime) -> Result<(), Fail> {
-    expect(&rt, LEAVING, 0, LEAVING_OUTPUT)
+    expect(&rt, LEAVING, 0, LEAVING_OUTPUT)?;
+    Ok(())
 }
 
 #[test]

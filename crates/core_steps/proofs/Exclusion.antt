@@ -22,7 +22,7 @@ use Rattle.areanode.specs.Trees.{leaf_node, region_has_leaf, leaves_of}
 use Rattle.areanode.proofs.Words.{word_has_its_bits}
 use Rattle.areanode.proofs.Nodes.{inside_and_touched_share_a_leaf}
 use Rattle.core_steps.specs.Encoding.{words_of, nth_word, record_from}
-use Rattle.core_steps.specs.Views.{Fixed, Point, Idle, Owning, Taking, Checking, Entering, Entered, Loading, Leaving, Sensing, Resolving, Claiming, Storing, Releasing, Returning, Yielding, Stage, AtRest, AtOwning, AtTaking, AtChecking, AtReading, AtClaiming, AtStoring, AtReleasing, AtReturning, AtYielding, stage_of, is_busy, is_open, is_settled, is_committed, is_whole, View, has, leaf_nodes, region_in, record_read, holds, leaves_held}
+use Rattle.core_steps.specs.Views.{Fixed, Point, Idle, Owning, Taking, Checking, Entering, Entered, Loading, Leaving, Sensing, Resolving, Claiming, Storing, Releasing, Returning, Yielding, Stage, AtRest, AtOwning, AtTaking, AtChecking, AtReading, AtClaiming, AtStoring, AtReleasing, AtReturning, AtYielding, stage_of, is_busy, is_open, is_settled, is_committed, is_whole, is_storing, View, has, leaf_nodes, region_in, record_read, holds, leaves_held}
 use Rattle.core_steps.specs.Steps.{Core}
 use Rattle.core_steps.specs.Stands.{IsGiven, IsStart, IsLawful, HasOwn, Stands, touches_own}
 use Rattle.core_steps.proofs.Lists.{filter_has, range_has, shifted_has}
@@ -69,7 +69,7 @@ player_from_words F w slot state words lawful is below live same =
     ∙ encoded_is_decoded r state keep kind
 
 -- the own record as loaded is, its state aside, as in the run
-own_record_is : (F : Fixed) (w : World) (cmd : Command) (stage : Stage) (own wanted : List ℕ) → IsLawful F → IsRunWorld F w → IsGiven F cmd → is_open stage ≡ true → is_whole stage ≡ true
+pub own_record_is : (F : Fixed) (w : World) (cmd : Command) (stage : Stage) (own wanted : List ℕ) → IsLawful F → IsRunWorld F w → IsGiven F cmd → is_open stage ≡ true → is_whole stage ≡ true
     → HasOwn F w cmd stage own wanted → record_read cmd.slot own ≡ with_state (w.record_of cmd.slot) (nth_word own 5)
 own_record_is F w cmd stage own wanted lawful is given open' whole has_own =
     let long = has_own.whole whole in
@@ -139,18 +139,19 @@ regions_apart F core history now i j mine theirs b is differ here there inside t
     true≢false (sym by_j ∙ (is.apart i j differ).nodes node by_i)
 
 -- what is true of a stage at which all leaves are held and nothing is committed
-record IsSettledStage (stage : Stage) : Type 0 where
-  busy : is_busy stage ≡ true
-  open' : is_open stage ≡ true
-  whole : is_whole stage ≡ true
+pub record IsSettledStage (stage : Stage) : Type 0 where
+  pub busy : is_busy stage ≡ true
+  pub open' : is_open stage ≡ true
+  pub whole : is_whole stage ≡ true
+  pub not_storing : is_storing stage ≡ false
 
-settled_stage : (stage : Stage) → is_settled stage ≡ true → IsSettledStage stage
+pub settled_stage : (stage : Stage) → is_settled stage ≡ true → IsSettledStage stage
 settled_stage AtRest e = absurd (false≢true e)
 settled_stage AtOwning e = absurd (false≢true e)
 settled_stage AtTaking e = absurd (false≢true e)
-settled_stage AtChecking e = record { busy = refl; open' = refl; whole = refl }
-settled_stage AtReading e = record { busy = refl; open' = refl; whole = refl }
-settled_stage AtClaiming e = record { busy = refl; open' = refl; whole = refl }
+settled_stage AtChecking e = record { busy = refl; open' = refl; whole = refl; not_storing = refl }
+settled_stage AtReading e = record { busy = refl; open' = refl; whole = refl; not_storing = refl }
+settled_stage AtClaiming e = record { busy = refl; open' = refl; whole = refl; not_storing = refl }
 settled_stage AtStoring e = absurd (false≢true e)
 settled_stage AtReleasing e = absurd (false≢true e)
 settled_stage AtReturning e = absurd (false≢true e)

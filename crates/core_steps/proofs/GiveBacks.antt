@@ -4,7 +4,7 @@ use Rattle.std.specs.Prelude.{◌==◌, ◌||◌, ◌&&◌}
 use Rattle.std.proofs.lemmas.Bool.{false≢true, cond-false}
 use Rattle.entity_recs.specs.Worlds.{World}
 use Rattle.entity_recs.specs.Histories.{Item}
-use Rattle.core_steps.specs.Views.{Fixed, Point, Idle, Owning, Taking, Checking, Entering, Entered, Loading, Leaving, Sensing, Resolving, Claiming, Storing, Releasing, Returning, Yielding, Stage, AtTaking, AtReading, AtClaiming, AtReleasing, AtReturning, AtYielding, stage_of, is_busy, is_storing, is_writing, has, inner_held, leaves_held, is_leaf, visited_node, stores_owed, without_command}
+use Rattle.core_steps.specs.Views.{Fixed, Point, Idle, Owning, Taking, Checking, Entering, Entered, Loading, Leaving, Sensing, Resolving, Claiming, Storing, Releasing, Returning, Yielding, Stage, AtTaking, AtReading, AtClaiming, AtReleasing, AtReturning, AtYielding, stage_of, is_busy, is_whole, is_storing, is_writing, has, inner_held, leaves_held, is_leaf, visited_node, stores_owed, without_command}
 use Rattle.core_steps.specs.Steps.{Core, with_node, visiting, returning, yielded, rest_of, first, first_of_two, next_give, view_after_give, is_taking}
 use Rattle.core_steps.specs.Stands.{IsHolding, Stands}
 use Rattle.core_steps.specs.Laws.{GivenNodeStands, YieldedNodeStands, YieldedNothingStands}
@@ -269,21 +269,22 @@ nothing_first (n ∷ inner) leaves v none = cc
 -- where a node is to be taken a command is in hand, and nothing is owed
 pub record IsTakingPoint (point : Point) : Type 0 where
   pub busy : is_busy (stage_of point) ≡ true
+  pub whole : is_whole (stage_of point) ≡ true
   pub owed : stores_owed point ≡ []
   pub not_storing : is_storing (stage_of point) ≡ false
 
 pub taking_point : (point : Point) → is_taking point ≡ true → IsTakingPoint point
 taking_point Idle taking = absurd (false≢true taking)
 taking_point Owning taking = absurd (false≢true taking)
-taking_point (Taking got rest) taking = record { busy = refl; owed = refl; not_storing = refl }
+taking_point (Taking got rest) taking = record { busy = refl; whole = refl; owed = refl; not_storing = refl }
 taking_point Checking taking = absurd (false≢true taking)
-taking_point (Entering n plan) taking = record { busy = refl; owed = refl; not_storing = refl }
+taking_point (Entering n plan) taking = record { busy = refl; whole = refl; owed = refl; not_storing = refl }
 taking_point (Entered n plan) taking = absurd (false≢true taking)
 taking_point (Loading n part players plan) taking = absurd (false≢true taking)
 taking_point (Leaving n plan) taking = absurd (false≢true taking)
 taking_point (Sensing ids) taking = absurd (false≢true taking)
-taking_point Resolving taking = record { busy = refl; owed = refl; not_storing = refl }
-taking_point (Claiming got rest) taking = record { busy = refl; owed = refl; not_storing = refl }
+taking_point Resolving taking = record { busy = refl; whole = refl; owed = refl; not_storing = refl }
+taking_point (Claiming got rest) taking = record { busy = refl; whole = refl; owed = refl; not_storing = refl }
 taking_point (Storing nodes stores) taking = absurd (false≢true taking)
 taking_point (Releasing nodes) taking = absurd (false≢true taking)
 taking_point (Returning leaves) taking = absurd (false≢true taking)

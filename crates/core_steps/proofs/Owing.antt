@@ -64,7 +64,7 @@ is_cell_same (Body p k) (State id) e = absurd (false≢true e)
 is_cell_same (State id) (Body p k) e = absurd (false≢true e)
 is_cell_same (State id) (State id') e = let same = eqb-true id id' e in cc
 
-owed_written : (slot : ℕ) (states : List NewState) (stores : List Store) (cell : Cell) (x : ℕ) → OnlyWritten slot states stores → owed_at stores cell ≡ Some x → is_written slot states cell ≡ true
+pub owed_written : (slot : ℕ) (states : List NewState) (stores : List Store) (cell : Cell) (x : ℕ) → OnlyWritten slot states stores → owed_at stores cell ≡ Some x → is_written slot states cell ≡ true
 owed_written slot states [] cell x only owed = cc
 owed_written slot states (Clear node ∷ stores) cell x only owed = owed_written slot states stores cell x only owed
 owed_written slot states (Put c y ∷ stores) cell x only owed =

@@ -1,14 +1,14 @@
 -- A word of another player's record is loaded.
-use Rattle.std.proofs.Common.{◌≡◌, ℕ, ◌+◌, ◌<◌, true, false, List, [], ◌∷◌, ◌++◌, length, refl, sym, ap, ◌∙◌, subst, inl, inr, Some, arith}
-use Rattle.std.specs.Prelude.{◌==◌, ◌||◌, ◌&&◌, nat_lt, is_some}
-use Rattle.std.proofs.lemmas.Bool.{cases_Bool, false≢true, true≢false, eqb-true, eqb-false, eq-eqb, or_cases, or_left, or_right, or_from, ltb-true, ltb-false, cond-true, cond-false}
+use Rattle.std.proofs.Common.{◌≡◌, ℕ, Bool, not, Option, ◌+◌, ◌<◌, true, false, List, [], ◌∷◌, ◌++◌, length, refl, sym, ap, ◌∙◌, subst, inl, inr, Some, arith}
+use Rattle.std.specs.Prelude.{◌==◌, ◌||◌, ◌&&◌, nat_lt, is_some, if◌then◌else◌}
+use Rattle.std.proofs.lemmas.Bool.{cases_Bool, false≢true, true≢false, eqb-true, eqb-false, eq-eqb, ne_eqb, or_cases, or_left, or_right, or_from, ltb-true, ltb-false, cond-true, cond-false}
 use Rattle.entity_recs.specs.declared.rec.Rec.{Rec}
 use Rattle.entity_recs.specs.Records.{with_state}
 use Rattle.entity_recs.specs.Worlds.{World}
 use Rattle.entity_recs.specs.Histories.{Item}
 use Rattle.core_steps.specs.Cells.{State, cell_of, word_in, put}
 use Rattle.core_steps.specs.Encoding.{words_of, nth_word}
-use Rattle.core_steps.specs.Views.{Fixed, Point, Loading, PlayerRead, Stage, AtReading, stage_of, is_busy, is_settled, is_storing, is_committed, is_without_effect, View, has, region_in, record_read, player_at, visited_node, leaves_held, holds, held_word, stores_owed}
+use Rattle.core_steps.specs.Views.{Fixed, Point, Loading, PlayerRead, Stage, AtReading, stage_of, is_busy, is_settled, is_storing, is_committed, is_without_effect, View, has, region_in, record_read, player_at, visited_node, leaves_held, holds, held_word, stores_owed, without_player}
 use Rattle.core_steps.specs.Steps.{Core, loading}
 use Rattle.core_steps.specs.Stands.{OwesRight, IsStart, IsLawful, IsHolding, HasOwn, IsCounted, IsUnread, IsReadRight, IsResolved, is_present, part_of, Stands, touches_own}
 use Rattle.core_steps.specs.Laws.{LoadedPlayerStands}
@@ -21,14 +21,36 @@ use Rattle.core_steps.proofs.Listing.{loading_listed, at_loading}
 use Rattle.core_steps.proofs.Held.{held_words}
 use Rattle.core_steps.proofs.Owned.{one_more, the_last, longer, cell_low}
 
-other_player : (others : List PlayerRead) (slot : ℕ) (words : List ℕ) (v : ℕ) → (v == slot) ≡ false → player_at (record { slot = slot; words = words } ∷ others) v ≡ player_at others v
-other_player others slot words v other = cond-false (slot == v) (Some words) (player_at others v) (eqb_sym v slot other)
+without_other : (others : List PlayerRead) (slot v : ℕ) → (v == slot) ≡ false → player_at (without_player slot others) v ≡ player_at others v
+without_other [] slot v other = refl
+without_other (read ∷ others) slot v other =
+    let rest = without_other others slot v other in
+    elim (cases_Bool (read.slot == slot)) [
+      | inl same ↦
+          let away : (read.slot == v) ≡ false = ne_eqb read.slot v (λ e. true≢false (sym (eq-eqb v slot (sym e ∙ eqb-true read.slot slot same)) ∙ other)) in
+          ap (λ (rs : List PlayerRead). player_at rs v) (cond-false (not (read.slot == slot)) (read ∷ without_player slot others) (without_player slot others) (ap not same)) ∙ rest
+          ∙ sym (cond-false (read.slot == v) (Some read.words) (player_at others v) away)
+      | inr differs ↦
+          ap (λ (rs : List PlayerRead). player_at rs v) (cond-true (not (read.slot == slot)) (read ∷ without_player slot others) (without_player slot others) (ap not differs))
+          ∙ kept (read.slot == v) (Some read.words) (player_at (without_player slot others) v) (player_at others v) rest
+    ]
+  where
+    kept : (b : Bool) (x y z : Option (List ℕ)) → y ≡ z → (if b then x else y) ≡ (if b then x else z)
+    kept true x y z e = refl
+    kept false x y z e = e
 
-this_player : (others : List PlayerRead) (slot : ℕ) (words : List ℕ) (v : ℕ) → (v == slot) ≡ true → player_at (record { slot = slot; words = words } ∷ others) v ≡ Some words
-this_player others slot words v same = cond-true (slot == v) (Some words) (player_at others v) (eq-eqb slot v (sym (eqb-true v slot same)))
+other_player : (others : List PlayerRead) (slot : ℕ) (words : List ℕ) (v : ℕ) → (v == slot) ≡ false
+    → player_at (record { slot = slot; words = words } ∷ without_player slot others) v ≡ player_at others v
+other_player others slot words v other =
+    cond-false (slot == v) (Some words) (player_at (without_player slot others) v) (eqb_sym v slot other) ∙ without_other others slot v other
+
+this_player : (others : List PlayerRead) (slot : ℕ) (words : List ℕ) (v : ℕ) → (v == slot) ≡ true
+    → player_at (record { slot = slot; words = words } ∷ without_player slot others) v ≡ Some words
+this_player others slot words v same =
+    cond-true (slot == v) (Some words) (player_at (without_player slot others) v) (eq-eqb slot v (sym (eqb-true v slot same)))
 
 -- the words of the present load are the player's words, also with one more
-part_words : (F : Fixed) (core : Core) (history : List Item) (now : World) (i node p : ℕ) (part players plan : List ℕ) → Stands F core history now
+pub part_words : (F : Fixed) (core : Core) (history : List Item) (now : World) (i node p : ℕ) (part players plan : List ℕ) → Stands F core history now
     → (core.view i).point ≡ Loading node part (p ∷ players) plan
     → (k : ℕ) → k < length (part ++ word_in core.words (cell_of p (length part)) ∷ []) → k < 5 → core.words.body p k ≡ nth_word (part ++ word_in core.words (cell_of p (length part)) ∷ []) k
 part_words F core history now i node p part players plan is e k below five =
@@ -111,11 +133,11 @@ loaded_player_stands F core history now i node p part players plan lawful start 
     let settled : is_settled (stage_of view.point) ≡ true = ap is_settled stage in
     let slot = view.cmd.slot in
     let short = here.at.load.partly in
-    let whole_view = record view { others = record { slot = p; words = words } ∷ view.others; point = loading F view node players plan } in
+    let whole_view = record view { others = record { slot = p; words = words } ∷ without_player p view.others; point = loading F view node players plan } in
     let part_view = record view { point = Loading node words (p ∷ players) plan } in
     elim (cases_Bool (length words == 6)) [
       | inl six ↦
-          let others = record { slot = p; words = words } ∷ view.others in
+          let others = record { slot = p; words = words } ∷ without_player p view.others in
           let point = loading F view node players plan in
           let listed = loading_listed F view node players plan in
           let same_stage : stage_of point ≡ stage_of view.point = listed.stage ∙ sym stage in

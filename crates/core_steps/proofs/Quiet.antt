@@ -44,7 +44,24 @@ storing_stage AtReleasing e = absurd (false≢true e)
 storing_stage AtReturning e = absurd (false≢true e)
 storing_stage AtYielding e = absurd (false≢true e)
 
--- a seat that stores holds the region of its last item, and what that item wrote lies inside it in the run
+-- what is true of a seat that has committed and given back no leaf
+record IsCommittedStage (stage : Stage) : Type 0 where
+  busy : is_busy stage ≡ true
+  whole : is_whole stage ≡ true
+
+committed_stage : (stage : Stage) → is_committed stage ≡ true → IsCommittedStage stage
+committed_stage AtRest e = absurd (false≢true e)
+committed_stage AtOwning e = absurd (false≢true e)
+committed_stage AtTaking e = absurd (false≢true e)
+committed_stage AtChecking e = absurd (false≢true e)
+committed_stage AtReading e = absurd (false≢true e)
+committed_stage AtClaiming e = absurd (false≢true e)
+committed_stage AtStoring e = record { busy = refl; whole = refl }
+committed_stage AtReleasing e = record { busy = refl; whole = refl }
+committed_stage AtReturning e = absurd (false≢true e)
+committed_stage AtYielding e = absurd (false≢true e)
+
+-- a seat that has committed holds the region of its last item, and what that item wrote lies inside it in the run
 pub record HasWritten (F : Fixed) (now : World) (view : View) : Type 0 where
   pub e : Effect
   pub is : view.effect ≡ Some e
@@ -52,33 +69,39 @@ pub record HasWritten (F : Fixed) (now : World) (view : View) : Type 0 where
   pub holds_it : HoldsRegion F view (region_in F view.cmd view.own)
   pub actor : is_inside (abs_of (now.record_of view.cmd.slot)) (region_in F view.cmd view.own) ≡ true
   pub listed : (id : ℕ) → is_some (state_at e.states id) ≡ true → is_inside (abs_of (now.record_of id)) (region_in F view.cmd view.own) ≡ true
+  pub live : (id : ℕ) → is_some (state_at e.states id) ≡ true → has F.start.ids id ≡ true
   pub before : is_inside (abs_of (record_read view.cmd.slot view.again)) (region_in F view.cmd view.own) ≡ true
   pub before_ordered : IsOrdered (abs_of (record_read view.cmd.slot view.again))
   pub me : abs_of (now.record_of view.cmd.slot) ≡ abs_of e.me
 
--- a listed id has its record inside the region
-listed_inside : (F : Fixed) (w : World) (slot : ℕ) (region : List Bounds) (states : List NewState) (id : ℕ) → IsRunWorld F w
+-- a listed id is live, isn't the actor's, and its record lies inside the region
+pub record IsListedInside (F : Fixed) (w : World) (slot : ℕ) (region : List Bounds) (id : ℕ) : Type 0 where
+  pub live : has F.start.ids id ≡ true
+  pub other : (id == slot) ≡ false
+  pub inside : is_inside (abs_of (w.record_of id)) region ≡ true
+
+pub listed_inside : (F : Fixed) (w : World) (slot : ℕ) (region : List Bounds) (states : List NewState) (id : ℕ) → IsRunWorld F w
     → AllByRecursion (λ (s : NewState). is_of_one_inside region (others_of w slot) s ≡ true) states → is_some (state_at states id) ≡ true
-    → is_inside (abs_of (w.record_of id)) region ≡ true
+    → IsListedInside F w slot region id
 listed_inside F w slot region [] id is all there = absurd (false≢true there)
 listed_inside F w slot region (s ∷ states) id is all there =
     elim (cases_Bool (s.id == id)) [
-      | inl e ↦
-          let same = eqb-true s.id id e in
-          subst (λ (n : ℕ). is_inside (abs_of (w.record_of n)) region ≡ true) same (one_inside (filter (λ other. not (other == slot)) w.ids) (λ v h. subst (λ (ids : List ℕ). has ids v ≡ true) is.ids (has_filter (λ other. not (other == slot)) w.ids v h).listed) all.0)
+      | inl e ↦ subst (IsListedInside F w slot region) (eqb-true s.id id e) (one_inside (filter (λ other. not (other == slot)) w.ids) (has_filter (λ other. not (other == slot)) w.ids) all.0)
       | inr e ↦ listed_inside F w slot region states id is all.1 (rw e at there)
     ]
   where
-    one_inside : (ids : List ℕ) → ((v : ℕ) → has ids v ≡ true → has F.start.ids v ≡ true)
-        → list_any (λ (r : Rec). (r.id == s.id) && is_inside (abs_of r) region) (map w.record_of ids) ≡ true → is_inside (abs_of (w.record_of s.id)) region ≡ true
-    one_inside [] live any = absurd (false≢true any)
-    one_inside (v ∷ ids) live any =
+    one_inside : (ids : List ℕ) → ((v : ℕ) → has ids v ≡ true → IsKept (λ other. not (other == slot)) w.ids v)
+        → list_any (λ (r : Rec). (r.id == s.id) && is_inside (abs_of r) region) (map w.record_of ids) ≡ true → IsListedInside F w slot region s.id
+    one_inside [] kept any = absurd (false≢true any)
+    one_inside (v ∷ ids) kept any =
         elim (or_cases ((((w.record_of v).id) == s.id) && is_inside (abs_of (w.record_of v)) region) _ any) [
           | inl here ↦
               let parts = and_parts ((w.record_of v).id == s.id) (is_inside (abs_of (w.record_of v)) region) here in
-              let id = sym (is.own v (live v (or_left _ _ (eq-eqb v v refl)))) ∙ eqb-true (w.record_of v).id s.id parts.0 in
-              subst (λ (n : ℕ). is_inside (abs_of (w.record_of n)) region ≡ true) id parts.1
-          | inr rest ↦ one_inside ids (λ u h. live u (or_right _ _ h)) rest
+              let k = kept v (or_left _ _ (eq-eqb v v refl)) in
+              let live : has F.start.ids v ≡ true = subst (λ (ids : List ℕ). has ids v ≡ true) is.ids k.listed in
+              let same : v ≡ s.id = sym (is.own v live) ∙ eqb-true (w.record_of v).id s.id parts.0 in
+              subst (IsListedInside F w slot region) same (record { live = live; other = not-true (v == slot) k.passes; inside = parts.1 })
+          | inr rest ↦ one_inside ids (λ u h. kept u (or_right _ _ h)) rest
         ]
 
 -- items that leave an effect's records alone are not of a slot that it lists
@@ -97,41 +120,16 @@ given_front : (F : Fixed) (before after : List Item) → AllByRecursion (λ (ite
 given_front F [] after all = tt
 given_front F (item ∷ before) after all = (all.0, given_front F before after all.1)
 
--- none of the others of a slot is that slot's, so a listed id differs
-listed_differs : (F : Fixed) (w : World) (slot : ℕ) (region : List Bounds) (states : List NewState) (id : ℕ) → IsRunWorld F w
-    → AllByRecursion (λ (s : NewState). is_of_one_inside region (others_of w slot) s ≡ true) states → is_some (state_at states id) ≡ true → (id == slot) ≡ false
-listed_differs F w slot region [] id is all there = absurd (false≢true there)
-listed_differs F w slot region (s ∷ states) id is all there =
-    elim (cases_Bool (s.id == id)) [
-      | inl e ↦
-          let same = eqb-true s.id id e in
-          subst (λ (n : ℕ). (n == slot) ≡ false) same (one_differs (filter (λ other. not (other == slot)) w.ids) (λ v h. has_filter (λ other. not (other == slot)) w.ids v h) all.0)
-      | inr e ↦ listed_differs F w slot region states id is all.1 (rw e at there)
-    ]
-  where
-    one_differs : (ids : List ℕ) → ((v : ℕ) → has ids v ≡ true → IsKept (λ other. not (other == slot)) w.ids v)
-        → list_any (λ (r : Rec). (r.id == s.id) && is_inside (abs_of r) region) (map w.record_of ids) ≡ true → (s.id == slot) ≡ false
-    one_differs [] kept any = absurd (false≢true any)
-    one_differs (v ∷ ids) kept any =
-        elim (or_cases ((((w.record_of v).id) == s.id) && is_inside (abs_of (w.record_of v)) region) _ any) [
-          | inl here ↦
-              let parts = and_parts ((w.record_of v).id == s.id) (is_inside (abs_of (w.record_of v)) region) here in
-              let k = kept v (or_left _ _ (eq-eqb v v refl)) in
-              let id = sym (is.own v (subst (λ (ids : List ℕ). has ids v ≡ true) is.ids k.listed)) ∙ eqb-true (w.record_of v).id s.id parts.0 in
-              subst (λ (n : ℕ). (n == slot) ≡ false) id (not-true (v == slot) k.passes)
-          | inr rest ↦ one_differs ids (λ u h. kept u (or_right _ _ h)) rest
-        ]
-
-pub has_written : (F : Fixed) (core : Core) (history : List Item) (now : World) (j : ℕ) → IsLawful F → IsStart F → Stands F core history now
-    → is_storing (stage_of (core.view j).point) ≡ true → HasWritten F now (core.view j)
-has_written F core history now j lawful start is storing =
+pub has_committed : (F : Fixed) (core : Core) (history : List Item) (now : World) (j : ℕ) → IsLawful F → IsStart F → Stands F core history now
+    → is_committed (stage_of (core.view j).point) ≡ true → HasWritten F now (core.view j)
+has_committed F core history now j lawful start is committed =
     let view = core.view j in
     let cmd = view.cmd in
     let slot = cmd.slot in
     let seat = is.seats j in
-    let stage = storing_stage (stage_of view.point) storing in
+    let stage = committed_stage (stage_of view.point) committed in
     let given = seat.hand stage.busy in
-    let item = seat.committed.item stage.committed in
+    let item = seat.committed.item committed in
     let all = recursion_from_All (λ (i : Item). IsGiven F i.command) history is.given in
     let w = run F.effect_of F.start item.before in
     let world : IsRunWorld F w = world_of_run F item.before F.start lawful start (start_world F start)
@@ -151,7 +149,7 @@ has_written F core history now j lawful start is storing =
       is = item.is;
       given = given;
       holds_it = record {
-        leaves = all_leaves view.point view.wanted (or_right _ _ stage.committed) ∙ seat.own.leaves stage.whole;
+        leaves = all_leaves view.point view.wanted (or_right _ _ committed) ∙ seat.own.leaves stage.whole;
         ordered = subst (All IsOrdered) (sym item.region) (region_ordered F w cmd lawful world given);
       };
       actor =
@@ -159,11 +157,12 @@ has_written F core history now j lawful start is storing =
           ap (λ (v : World). abs_of (v.record_of slot)) now_is ∙ box_kept F item.after w' slot (alone_own slot e.states item.after alone) ∙ ap abs_of (actor_after F w cmd) in
           ap (λ b. is_inside b region) box ∙ ap (is_inside (abs_of e.me)) item.region ∙ within.after;
       listed = λ id listed.
-          let other = listed_differs F w slot there e.states id world listed_all listed in
+          let thing = listed_inside F w slot there e.states id world listed_all listed in
           let box : abs_of (now.record_of id) ≡ abs_of (w.record_of id) =
           ap (λ (v : World). abs_of (v.record_of id)) now_is ∙ box_kept F item.after w' id (alone_listed slot id e.states item.after listed alone)
-          ∙ ap abs_of (other_after F w cmd id other) in
-          ap (λ b. is_inside b region) box ∙ ap (is_inside (abs_of (w.record_of id))) item.region ∙ listed_inside F w slot there e.states id world listed_all listed;
+          ∙ ap abs_of (other_after F w cmd id thing.other) in
+          ap (λ b. is_inside b region) box ∙ ap (is_inside (abs_of (w.record_of id))) item.region ∙ thing.inside;
+      live = λ id listed. (listed_inside F w slot there e.states id world listed_all listed).live;
       before = ap (λ r. is_inside (abs_of r) region) item.actor ∙ ap (is_inside (abs_of (w.record_of slot))) item.region ∙ within.before;
       me =
           ap (λ (v : World). abs_of (v.record_of slot)) now_is
@@ -172,13 +171,18 @@ has_written F core history now j lawful start is storing =
       before_ordered = subst (λ (r : Rec). IsOrdered (abs_of r)) (sym item.actor) (live_ordered F w slot lawful world given.live);
     }
 
+pub has_written : (F : Fixed) (core : Core) (history : List Item) (now : World) (j : ℕ) → IsLawful F → IsStart F → Stands F core history now
+    → is_storing (stage_of (core.view j).point) ≡ true → HasWritten F now (core.view j)
+has_written F core history now j lawful start is storing =
+    has_committed F core history now j lawful start is (storing_stage (stage_of (core.view j).point) storing).committed
+
 -- whose word a cell is
 abbrev pub id_of_cell : Cell → ℕ
 id_of_cell (Body p k) = p
 id_of_cell (State id) = id
 
 -- what is written is the actor's or a listed one's
-written_by : (slot : ℕ) (states : List NewState) (cell : Cell) → is_written slot states cell ≡ true → ((id_of_cell cell == slot) || is_some (state_at states (id_of_cell cell))) ≡ true
+pub written_by : (slot : ℕ) (states : List NewState) (cell : Cell) → is_written slot states cell ≡ true → ((id_of_cell cell == slot) || is_some (state_at states (id_of_cell cell))) ≡ true
 written_by slot states (Body p k) e = or_left _ _ e
 written_by slot states (State id) e = e
 

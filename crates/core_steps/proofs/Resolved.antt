@@ -176,6 +176,25 @@ again_is F core history now i lawful start is settled read =
       fourth = matches 4 (omega arith);
     }) ∙ ap (with_state (now.record_of slot)) last
 
+-- the records loaded that touch the region are those of the run that touch it
+pub near_is : (F : Fixed) (core : Core) (history : List Item) (now : World) (i : ℕ) → IsLawful F → IsStart F → Stands F core history now → (core.view i).point ≡ Resolving
+    → near_loaded F (region_in F (core.view i).cmd (core.view i).own) (core.view i).cmd.slot (core.view i).others (core.view i).states
+    ≡ touching (region_in F (core.view i).cmd (core.view i).own) (others_of now (core.view i).cmd.slot)
+near_is F core history now i lawful start is e =
+    let view = core.view i in
+    let slot = view.cmd.slot in
+    let region = region_in F view.cmd view.own in
+    let world = now_world F core history now lawful start is in
+    same_filtered (touches_own region) now.record_of (record_loaded F view.others view.states) (filter (λ id. not (id == slot)) F.start.ids) (λ id there.
+    let kept = has_filter (λ n. not (n == slot)) F.start.ids id there in
+    elim (cases_Bool (nat_lt id 64)) [
+      | inl low ↦ subst (IsLoadedFor (touches_own region) (now.record_of id)) (sym (cond-true (nat_lt id 64) (player_of id (player_at view.others id)) (thing_of (F.start.record_of id) (state_at view.states id)) low))
+          (player_loaded F core history now i id lawful start is e kept.listed (not-true (id == slot) kept.passes) low)
+      | inr high ↦ subst (IsLoadedFor (touches_own region) (now.record_of id)) (sym (cond-false (nat_lt id 64) (player_of id (player_at view.others id)) (thing_of (F.start.record_of id) (state_at view.states id)) high))
+          (thing_loaded F core history now i id lawful start is e kept.listed high)
+    ])
+    ∙ ap (λ (ids : List ℕ). touching region (map now.record_of (filter (λ id. not (id == slot)) ids))) (sym world.ids)
+
 -- what the action gives on what was loaded is the outcome in the run
 pub loaded_is_outcome : (F : Fixed) (core : Core) (history : List Item) (now : World) (i : ℕ) → IsLawful F → IsStart F → Stands F core history now → (core.view i).point ≡ Resolving
     → effect_loaded F (core.view i) ≡ outcome F.effect_of now (core.view i).cmd
@@ -188,18 +207,8 @@ loaded_is_outcome F core history now i lawful start is e =
     let read : is_read_again (stage_of view.point) ≡ true = ap (λ (p : Point). is_read_again (stage_of p)) e in
     let mine = settled_seat F core history now i lawful start is settled in
     let world = now_world F core history now lawful start is in
-    let others = filter (λ id. not (id == slot)) F.start.ids in
     let me = again_is F core history now i lawful start is settled read in
-    let near : near_loaded F region slot view.others view.states ≡ touching region (others_of now slot) =
-    same_filtered (touches_own region) now.record_of (record_loaded F view.others view.states) others (λ id there.
-    let kept = has_filter (λ n. not (n == slot)) F.start.ids id there in
-    elim (cases_Bool (nat_lt id 64)) [
-      | inl low ↦ subst (IsLoadedFor (touches_own region) (now.record_of id)) (sym (cond-true (nat_lt id 64) (player_of id (player_at view.others id)) (thing_of (F.start.record_of id) (state_at view.states id)) low))
-          (player_loaded F core history now i id lawful start is e kept.listed (not-true (id == slot) kept.passes) low)
-      | inr high ↦ subst (IsLoadedFor (touches_own region) (now.record_of id)) (sym (cond-false (nat_lt id 64) (player_of id (player_at view.others id)) (thing_of (F.start.record_of id) (state_at view.states id)) high))
-          (thing_loaded F core history now i id lawful start is e kept.listed high)
-    ])
-    ∙ ap (λ (ids : List ℕ). touching region (map now.record_of (filter (λ id. not (id == slot)) ids))) (sym world.ids) in
+    let near = near_is F core history now i lawful start is e in
     let local = lawful.locality.near (now.record_of slot) (others_of now slot) cmd (is_call F now cmd start world mine.given) in
     ap (λ (r : Rec). F.effect_of r (near_loaded F region slot view.others view.states) cmd) me
     ∙ ap (λ rs. F.effect_of (now.record_of slot) rs cmd) near

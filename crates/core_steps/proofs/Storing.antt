@@ -296,7 +296,7 @@ part_linked F core history now j q k (Yielding nodes leaves) is e below = absurd
 
 -- ---- the own bit
 
-storing_busy : (stage : Stage) → is_storing stage ≡ true → is_busy stage ≡ true
+pub storing_busy : (stage : Stage) → is_storing stage ≡ true → is_busy stage ≡ true
 storing_busy AtRest e = absurd (false≢true e)
 storing_busy AtOwning e = refl
 storing_busy AtTaking e = refl

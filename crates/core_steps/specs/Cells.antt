@@ -75,11 +75,16 @@ abbrev pub cell_index : ℕ → Cell → ℕ
 cell_index nodes (Body slot k) = body_index nodes slot + k
 cell_index nodes (State id) = state_index nodes id
 
+-- how many words the flat table has
+abbrev pub table_size : ℕ → ℕ
+table_size nodes = 577 + 2 * nodes
+
 -- the word at an index of the flat table
 abbrev pub word_at : ℕ → Words → ℕ → ℕ
 word_at nodes words index =
     if index == 0 then words.commits
     else (if nat_lt index (links_index nodes 0) then words.node (index - 1)
     else (if nat_lt index (body_index nodes 0) then words.links (index - links_index nodes 0)
-    else (if nat_lt index (state_index nodes 0) then words.body ((index - body_index nodes 0) / 5) ((index - body_index nodes 0) % 5)
+    else (if nat_lt index (state_index nodes 0) then
+    words.body ((index - body_index nodes 0) / 5) ((index - body_index nodes 0) % 5)
     else words.state (index - state_index nodes 0))))

@@ -44,10 +44,18 @@ abbrev pub record_from : ℕ → List ℕ → ℕ → Rec
 record_from id words state = record {
   id = id;
   kind = Player;
-  origin = record { x = signed (low_half (nth_word words 0)); y = signed (high_half (nth_word words 0)); z = signed (low_half (nth_word words 1)) };
+  origin = record {
+    x = signed (low_half (nth_word words 0));
+    y = signed (high_half (nth_word words 0));
+    z = signed (low_half (nth_word words 1));
+  };
   mins = PLAYER_MINS;
   maxs = PLAYER_MAXS;
-  vel = record { x = signed (high_half (nth_word words 1)); y = signed (low_half (nth_word words 2)); z = signed (high_half (nth_word words 2)) };
+  vel = record {
+    x = signed (high_half (nth_word words 1));
+    y = signed (low_half (nth_word words 2));
+    z = signed (high_half (nth_word words 2));
+  };
   flags = nth_word words 4 % 2 ^ 8;
   ammo = nth_word words 4 / 2 ^ 8 % 2 ^ 8;
   carry = nth_word words 4 / 2 ^ 16 % 2 ^ 8;

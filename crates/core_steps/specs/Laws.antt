@@ -1,17 +1,23 @@
 -- That each kind of step keeps what stands.
-use Rattle.std.specs.Prelude.{◌≡◌, ℕ, ◌<◌, ◌==◌, length, true, false, List, [], ◌∷◌, Some, None}
+use Rattle.std.specs.Prelude.{◌≡◌, ℕ, ◌<◌, ◌==◌, length, true, false, List, [], ◌∷◌, ◌++◌}
+use Rattle.std.specs.Prelude.{Some, None}
 use Rattle.entity_recs.specs.declared.kind.Kind.TheVariants.{Player}
 use Rattle.entity_recs.specs.declared.rec.Rec.{Rec}
 use Rattle.entity_recs.specs.Records.{with_state}
 use Rattle.entity_recs.specs.Actions.{IsKeepable}
-use Rattle.core_steps.specs.Cells.{Words, Body, State, count_index, node_index, links_index, cell_index, word_at}
+use Rattle.core_steps.specs.Cells.{Words, Body, State, count_index, node_index, links_index}
+use Rattle.core_steps.specs.Cells.{cell_index, word_at}
 use Rattle.core_steps.specs.Encoding.{words_of, record_from}
 use Rattle.entity_recs.specs.declared.effect.Effect.{Effect}
 use Rattle.entity_recs.specs.Commands.{Command}
 use Rattle.entity_recs.specs.Worlds.{World}
-use Rattle.entity_recs.specs.Histories.{Item}
-use Rattle.core_steps.specs.Views.{Store, Storing, Fixed, Resolving, record_read, write_nodes, effect_loaded, Idle, Owning, Checking, Sensing, Loading, Entered, stage_of, is_busy}
-use Rattle.core_steps.specs.Steps.{store_next, Core, first, claim_node, next_take, take_node, refuse_node, next_give, give_node, is_taking, first_yield, yield_node, yield_nothing, load_list, begin_move, load_own, load_again, load_player, load_state, make_seat, end_seat, load_count}
+use Rattle.entity_recs.specs.Histories.{Item, apply}
+use Rattle.core_steps.specs.Views.{Store, Storing, Fixed, Resolving, Claiming, record_read, write_nodes, effect_loaded}
+use Rattle.core_steps.specs.Views.{Idle, Owning, Checking, Sensing, Loading, Entered, stage_of, is_busy}
+use Rattle.core_steps.specs.Steps.{store_next, item_at, commit, SomeSeatGoesOn, Core, first, claim_node, next_take}
+use Rattle.core_steps.specs.Steps.{take_node, refuse_node, next_give, give_node, is_taking, first_yield, yield_node}
+use Rattle.core_steps.specs.Steps.{yield_nothing, load_list, begin_move, load_own, load_again, load_player, load_state}
+use Rattle.core_steps.specs.Steps.{make_seat, end_seat, load_count}
 use Rattle.core_steps.specs.Stands.{IsGiven, IsLawful, IsStart, Stands, start_core, items_of, IsNumbered}
 
 -- a seat is there and has no command in hand
@@ -25,45 +31,53 @@ StartStands = (F : Fixed) (room : ℕ) → Stands F (start_core F room) [] F.sta
 
 -- a seat that is made leaves what stands
 abbrev pub MadeSeatStands : Type 0
-MadeSeatStands = (F : Fixed) (core : Core) (history : List Item) (now : World) (room : ℕ) → IsResting core 0 → Stands F core history now → Stands F (make_seat core room) history now
+MadeSeatStands = (F : Fixed) (core : Core) (history : List Item) (now : World) (room : ℕ) → IsResting core 0
+    → Stands F core history now → Stands F (make_seat core room) history now
 
 -- a seat that is ended leaves what stands
 abbrev pub EndedSeatStands : Type 0
 EndedSeatStands =
-    (F : Fixed) (core : Core) (history : List Item) (now : World) (i : ℕ) → (i == 0) ≡ false → IsResting core i → IsResting core 0
+    (F : Fixed) (core : Core) (history : List Item) (now : World) (i : ℕ) → (i == 0) ≡ false → IsResting core i
+    → IsResting core 0
     → Stands F core history now → Stands F (end_seat core i) history now
 
 -- the items of all logs are the same, in the same order, after a seat is ended into seat 0
 abbrev pub EndedSeatKeepsItems : Type 0
 EndedSeatKeepsItems =
-    (F : Fixed) (core : Core) (i : ℕ) → (i == 0) ≡ false → IsResting core i → IsNumbered core.view → items_of (end_seat core i).view ≡ items_of core.view
+    (F : Fixed) (core : Core) (i : ℕ) → (i == 0) ≡ false → IsResting core i → IsNumbered core.view
+    → items_of (end_seat core i).view ≡ items_of core.view
 
 -- a count that is loaded leaves what stands
 abbrev pub LoadedCountStands : Type 0
-LoadedCountStands = (F : Fixed) (core : Core) (history : List Item) (now : World) (i : ℕ) → IsResting core i → Stands F core history now → Stands F (load_count core i) history now
+LoadedCountStands = (F : Fixed) (core : Core) (history : List Item) (now : World) (i : ℕ) → IsResting core i
+    → Stands F core history now → Stands F (load_count core i) history now
 
 -- a node that is given back leaves what stands
 abbrev pub GivenNodeStands : Type 0
 GivenNodeStands =
-    (F : Fixed) (core : Core) (history : List Item) (now : World) (i node : ℕ) → next_give (core.view i).point (core.view i).wanted ≡ Some node
+    (F : Fixed) (core : Core) (history : List Item) (now : World) (i node : ℕ)
+    → next_give (core.view i).point (core.view i).wanted ≡ Some node
     → Stands F core history now → Stands F (give_node F core i node) history now
 
 -- the first node that is given back by a seat that gives up, at any take before its commit, leaves what stands
 abbrev pub YieldedNodeStands : Type 0
 YieldedNodeStands =
-    (F : Fixed) (core : Core) (history : List Item) (now : World) (i node : ℕ) → is_taking (core.view i).point ≡ true → first_yield F (core.view i) ≡ Some node
+    (F : Fixed) (core : Core) (history : List Item) (now : World) (i node : ℕ) → is_taking (core.view i).point ≡ true
+    → first_yield F (core.view i) ≡ Some node
     → Stands F core history now → Stands F (yield_node F core i node) history now
 
 -- a seat that gives up and holds nothing loads the count, which leaves what stands
 abbrev pub YieldedNothingStands : Type 0
 YieldedNothingStands =
-    (F : Fixed) (core : Core) (history : List Item) (now : World) (i : ℕ) → is_taking (core.view i).point ≡ true → first_yield F (core.view i) ≡ None
+    (F : Fixed) (core : Core) (history : List Item) (now : World) (i : ℕ) → is_taking (core.view i).point ≡ true
+    → first_yield F (core.view i) ≡ None
     → Stands F core history now → Stands F (yield_nothing core i) history now
 
 -- a node that is taken, where no effect enters the view, leaves what stands
 abbrev pub TakenNodeStands : Type 0
 TakenNodeStands =
-    (F : Fixed) (core : Core) (history : List Item) (now : World) (i node : ℕ) → next_take (core.view i).point ≡ Some node → core.words.node node ≡ 0
+    (F : Fixed) (core : Core) (history : List Item) (now : World) (i node : ℕ)
+    → next_take (core.view i).point ≡ Some node → core.words.node node ≡ 0
     → Stands F core history now → Stands F (take_node F core i node) history now
 
 -- a take that is refused leaves what stands
@@ -74,44 +88,54 @@ RefusedNodeStands =
 
 -- the five words of a player's record that can be kept give it back, with the state that is given
 abbrev pub EncodedIsDecoded : Type 0
-EncodedIsDecoded = (r : Rec) (state : ℕ) → IsKeepable r → r.kind ≡ Player → record_from r.id (words_of r) state ≡ with_state r state
+EncodedIsDecoded = (r : Rec) (state : ℕ) → IsKeepable r → r.kind ≡ Player
+    → record_from r.id (words_of r) state ≡ with_state r state
 
 -- a list word that is loaded leaves what stands
 abbrev pub LoadedListStands : Type 0
 LoadedListStands =
-    (F : Fixed) (core : Core) (history : List Item) (now : World) (i node : ℕ) (plan : List ℕ) → IsLawful F → IsStart F → (core.view i).point ≡ Entered node plan
+    (F : Fixed) (core : Core) (history : List Item) (now : World) (i node : ℕ) (plan : List ℕ) → IsLawful F
+    → IsStart F → (core.view i).point ≡ Entered node plan
     → Stands F core history now → Stands F (load_list F core i node plan) history now
 
--- a command that enters a view with the first load of the own record leaves what stands: its player is live, the seat has room, and no other seat has a command of that slot in hand
+-- a command that enters a view with the first load of the own record leaves what stands: its player is live, the seat
+-- has room, and no other seat has a command of that slot in hand
 abbrev pub BegunMoveStands : Type 0
 BegunMoveStands =
-    (F : Fixed) (core : Core) (history : List Item) (now : World) (i : ℕ) (c : Command) → IsResting core i → IsGiven F c → length (core.view i).log < (core.view i).room
-    → ((j : ℕ) → (j == i) ≡ false → is_busy (stage_of (core.view j).point) ≡ true → (c.slot == (core.view j).cmd.slot) ≡ false)
+    (F : Fixed) (core : Core) (history : List Item) (now : World) (i : ℕ) (c : Command) → IsResting core i
+    → IsGiven F c → length (core.view i).log < (core.view i).room
+    → ((j : ℕ) → (j == i) ≡ false → is_busy (stage_of (core.view j).point) ≡ true
+    → (c.slot == (core.view j).cmd.slot) ≡ false)
     → Stands F core history now → Stands F (begin_move core i c) history now
 
 -- a further word of the own record that is loaded leaves what stands
 abbrev pub LoadedOwnStands : Type 0
 LoadedOwnStands =
-    (F : Fixed) (core : Core) (history : List Item) (now : World) (i : ℕ) → IsLawful F → IsStart F → (core.view i).point ≡ Owning
+    (F : Fixed) (core : Core) (history : List Item) (now : World) (i : ℕ) → IsLawful F → IsStart F
+    → (core.view i).point ≡ Owning
     → Stands F core history now → Stands F (load_own F core i) history now
 
 -- a word of the own record that is loaded again leaves what stands
 abbrev pub LoadedAgainStands : Type 0
 LoadedAgainStands =
-    (F : Fixed) (core : Core) (history : List Item) (now : World) (i : ℕ) → IsLawful F → IsStart F → (core.view i).point ≡ Checking
+    (F : Fixed) (core : Core) (history : List Item) (now : World) (i : ℕ) → IsLawful F → IsStart F
+    → (core.view i).point ≡ Checking
     → Stands F core history now → Stands F (load_again F core i) history now
 
 -- the state of a thing of the map that is loaded leaves what stands
 abbrev pub LoadedStateStands : Type 0
 LoadedStateStands =
-    (F : Fixed) (core : Core) (history : List Item) (now : World) (i id : ℕ) (ids : List ℕ) → IsLawful F → IsStart F → (core.view i).point ≡ Sensing (id ∷ ids)
+    (F : Fixed) (core : Core) (history : List Item) (now : World) (i id : ℕ) (ids : List ℕ) → IsLawful F → IsStart F
+    → (core.view i).point ≡ Sensing (id ∷ ids)
     → Stands F core history now → Stands F (load_state core i id ids) history now
 
 -- a word of another player's record that is loaded under a node leaves what stands
 abbrev pub LoadedPlayerStands : Type 0
 LoadedPlayerStands =
-    (F : Fixed) (core : Core) (history : List Item) (now : World) (i node p : ℕ) (part players plan : List ℕ) → IsLawful F → IsStart F
-    → (core.view i).point ≡ Loading node part (p ∷ players) plan → Stands F core history now → Stands F (load_player F core i node part p players plan) history now
+    (F : Fixed) (core : Core) (history : List Item) (now : World) (i node p : ℕ) (part players plan : List ℕ)
+    → IsLawful F → IsStart F
+    → (core.view i).point ≡ Loading node part (p ∷ players) plan → Stands F core history now
+    → Stands F (load_player F core i node part p players plan) history now
 
 -- each word lies at its index in the flat table
 pub record LaysOut (nodes : ℕ) (words : Words) : Type 0 where
@@ -125,15 +149,49 @@ pub record LaysOut (nodes : ℕ) (words : Words) : Type 0 where
 abbrev pub LayoutIsRight : Type 0
 LayoutIsRight = (nodes : ℕ) (words : Words) → LaysOut nodes words
 
--- the first write node that is taken, with which the effect that the action gives on what was loaded enters the view, leaves what stands
+-- the first write node that is taken, with which the effect that the action gives on what was loaded enters the view,
+-- leaves what stands
 abbrev pub ClaimedNodeStands : Type 0
 ClaimedNodeStands =
-    (F : Fixed) (core : Core) (history : List Item) (now : World) (i : ℕ) (e : Effect) (node : ℕ) → IsLawful F → IsStart F → (core.view i).point ≡ Resolving
-    → e ≡ effect_loaded F (core.view i) → first (write_nodes F (record_read (core.view i).cmd.slot (core.view i).again) e) ≡ Some node → core.words.node node ≡ 0
+    (F : Fixed) (core : Core) (history : List Item) (now : World) (i : ℕ) (e : Effect) (node : ℕ) → IsLawful F
+    → IsStart F → (core.view i).point ≡ Resolving
+    → e ≡ effect_loaded F (core.view i)
+    → first (write_nodes F (record_read (core.view i).cmd.slot (core.view i).again) e) ≡ Some node
+    → core.words.node node ≡ 0
     → Stands F core history now → Stands F (claim_node F core i e node) history now
 
 -- a store that is owed next, of the own bit or of a word, leaves what stands
 abbrev pub StoredNextStands : Type 0
 StoredNextStands =
-    (F : Fixed) (core : Core) (history : List Item) (now : World) (i : ℕ) (nodes : List ℕ) (store : Store) (stores : List Store) → IsLawful F → IsStart F
-    → (core.view i).point ≡ Storing nodes (store ∷ stores) → Stands F core history now → Stands F (store_next core i nodes store stores) history now
+    (F : Fixed) (core : Core) (history : List Item) (now : World) (i : ℕ) (nodes : List ℕ) (store : Store)
+    (stores : List Store) → IsLawful F → IsStart F
+    → (core.view i).point ≡ Storing nodes (store ∷ stores) → Stands F core history now
+    → Stands F (store_next core i nodes store stores) history now
+
+-- a commit of the effect in view, where the write nodes are held, appends the seat's command with its entry to the
+-- history, and leaves what stands
+abbrev pub CommittedHeldStands : Type 0
+CommittedHeldStands =
+    (F : Fixed) (core : Core) (history : List Item) (now : World) (i : ℕ) (nodes : List ℕ) (e : Effect) → IsLawful F
+    → IsStart F
+    → (core.view i).point ≡ Claiming nodes [] → (core.view i).effect ≡ Some e → Stands F core history now
+    → Stands F (commit F core i e nodes)
+    (history ++ item_at core.words.commits (core.view i) e ∷ []) (apply F.effect_of now (core.view i).cmd)
+
+-- a commit without write nodes, with which the effect that the action gives on what was loaded enters the view, does
+-- the same
+abbrev pub CommittedFreeStands : Type 0
+CommittedFreeStands =
+    (F : Fixed) (core : Core) (history : List Item) (now : World) (i : ℕ) (e : Effect) → IsLawful F → IsStart F
+    → (core.view i).point ≡ Resolving
+    → e ≡ effect_loaded F (core.view i)
+    → write_nodes F (record_read (core.view i).cmd.slot (core.view i).again) e ≡ [] → Stands F core history now
+    → Stands F (commit F core i e [])
+    (history ++ item_at core.words.commits (core.view i) e ∷ []) (apply F.effect_of now (core.view i).cmd)
+
+-- where a seat has a command in hand, some seat with a command in hand doesn't wait
+abbrev pub NotAllWait : Type 0
+NotAllWait =
+    (F : Fixed) (core : Core) (history : List Item) (now : World) (i : ℕ) → Stands F core history now
+    → is_busy (stage_of (core.view i).point) ≡ true
+    → SomeSeatGoesOn F core

@@ -5,3 +5,7 @@ pub mod Views
 pub mod Steps
 pub mod Stands
 pub mod Laws
+pub mod Machine
+pub mod Calls
+pub mod MachineLaws
+pub mod Rows

@@ -1,5 +1,6 @@
 -- What holds of the core between any two steps.
-use Rattle.std.specs.Prelude.{ℕ, zero, suc, ◌≡◌, ◌<◌, ◌≤◌, ◌==◌, nat_lt, Bool, true, false, ◌&&◌, ◌||◌, if◌then◌else◌, List, [], ◌∷◌, ◌++◌, length, map, All, Option, Some, None, is_some}
+use Rattle.std.specs.Prelude.{ℕ, zero, suc, ◌≡◌, ◌<◌, ◌≤◌, ◌==◌, nat_lt, Bool, true, false, ◌&&◌, ◌||◌, if◌then◌else◌}
+use Rattle.std.specs.Prelude.{List, [], ◌∷◌, ◌++◌, length, map, All, Option, Some, None, is_some}
 use Rattle.std.specs.List.{list_any, IsDistinct}
 use Rattle.std.specs.List.Sorted.{IsStrictlyIncreasing, IsPermutation}
 use Rattle.arena_geo.specs.Bounds.{Bounds}
@@ -15,7 +16,13 @@ use Rattle.entity_recs.specs.Actions.{IsCommand, HasValidity, HasLocality, HasFo
 use Rattle.areanode.specs.Words.{has_bit, word_of}
 use Rattle.core_steps.specs.Cells.{Words, Cell, Body, State, is_cell, word_in, cell_of}
 use Rattle.core_steps.specs.Encoding.{words_of, nth_word}
-use Rattle.core_steps.specs.Views.{Fixed, Store, Clear, Put, Link, Point, Idle, Owning, Taking, Checking, Entering, Entered, Loading, Leaving, Sensing, Resolving, Claiming, Storing, Releasing, Returning, Yielding, Stage, stage_of, is_busy, is_open, is_settled, is_committed, is_before_leaves, is_whole, is_owning, is_read_again, is_without_effect, is_storing, ListRead, PlayerRead, Ended, View, new_view, spent, has, list_at, player_at, state_at, record_read, is_leaf, leaf_nodes, plan_of, home, region_in, things_in, write_nodes, stores_of, stores_owed, leaves_held, inner_held, holds, held_word}
+use Rattle.core_steps.specs.Views.{Fixed, Store, Clear, Put, Link, Point, Idle, Owning, Taking, Checking, Entering}
+use Rattle.core_steps.specs.Views.{Entered, Loading, Leaving, Sensing, Resolving, Claiming, Storing, Releasing}
+use Rattle.core_steps.specs.Views.{Returning, Yielding, Stage, stage_of, is_busy, is_open, is_settled, is_committed}
+use Rattle.core_steps.specs.Views.{is_before_leaves, is_whole, is_owning, is_read_again, is_without_effect, is_storing}
+use Rattle.core_steps.specs.Views.{ListRead, PlayerRead, Ended, View, new_view, spent, has, list_at, player_at}
+use Rattle.core_steps.specs.Views.{state_at, record_read, is_leaf, leaf_nodes, plan_of, home, region_in, things_in}
+use Rattle.core_steps.specs.Views.{write_nodes, stores_of, stores_owed, leaves_held, inner_held, holds, held_word}
 use Rattle.core_steps.specs.Steps.{Core}
 
 -- ---- the world
@@ -79,7 +86,8 @@ pub record IsLogWithin (count room : ℕ) (log : List Item) : Type 0 where
   pub below : All (λ (item : Item). item.entry.place < count) log
   pub fits : length log ≤ room
 
--- a seat's log is below the count that it saw, that count is at most the count of commits, and there is room for a command that isn't committed yet
+-- a seat's log is below the count that it saw, that count is at most the count of commits, and there is room for a
+-- command that isn't committed yet
 pub record IsCounted (commits seen room : ℕ) (log : List Item) (stage : Stage) : Type 0 where
   pub within : IsLogWithin seen room log
   pub known : seen ≤ commits
@@ -107,7 +115,8 @@ items_below (suc n) logs = items_below n logs ++ logs n
 abbrev pub items_of : (ℕ → View) → List Item
 items_of view = items_below (view 0).made (log_of view)
 
--- the numbers of the seats and of the ended seats all differ, and are the numbers below the count of numbers that were given out
+-- the numbers of the seats and of the ended seats all differ, and are the numbers below the count of numbers that were
+-- given out
 pub record IsNumbered (view : ℕ → View) : Type 0 where
   pub first : (view 0).live ≡ true
   pub live : (n : ℕ) → (view n).live ≡ true → n < (view 0).made
@@ -126,7 +135,8 @@ pub record IsGiven (F : Fixed) (c : Command) : Type 0 where
 
 -- what was loaded of the own record is, its state aside, as in the run, and the leaves follow from it
 pub record HasOwn (F : Fixed) (now : World) (cmd : Command) (stage : Stage) (own wanted : List ℕ) : Type 0 where
-  pub matches : is_open stage ≡ true → (k : ℕ) → k < length own → k < 5 → nth_word own k ≡ value_in now (Body cmd.slot k)
+  pub matches : is_open stage ≡ true → (k : ℕ) → k < length own → k < 5
+      → nth_word own k ≡ value_in now (Body cmd.slot k)
   pub part : is_owning stage ≡ true → length own < 6
   pub whole : is_whole stage ≡ true → length own ≡ 6
   pub leaves : is_whole stage ≡ true → wanted ≡ leaf_nodes F (region_in F cmd own)
@@ -147,7 +157,8 @@ pub record IsHolding (F : Fixed) (wanted leaves inner : List ℕ) : Type 0 where
   pub inner_are_inner : (node : ℕ) → has inner node ≡ true → is_leaf F node ≡ false
 
 -- nothing is read before all own leaves are held, and no effect is in view before the first take of a write node
-pub record IsUnread (stage : Stage) (own again : List ℕ) (lists : List ListRead) (others : List PlayerRead) (states : List NewState) (effect : Option Effect) : Type 0 where
+pub record IsUnread (stage : Stage) (own again : List ℕ) (lists : List ListRead) (others : List PlayerRead)
+    (states : List NewState) (effect : Option Effect) : Type 0 where
   pub no_own : is_busy stage ≡ false → own ≡ []
   pub no_again : is_before_leaves stage ≡ true → again ≡ []
   pub no_lists : is_before_leaves stage ≡ true → lists ≡ []
@@ -163,17 +174,22 @@ pub record IsTaking (got rest wanted : List ℕ) : Type 0 where
   pub left : 0 < length rest
 
 -- the own record is loaded again in part, and nothing else is read
-pub record IsChecking (again : List ℕ) (lists : List ListRead) (others : List PlayerRead) (states : List NewState) : Type 0 where
+pub record IsChecking (again : List ℕ) (lists : List ListRead) (others : List PlayerRead) (states : List NewState) :
+    Type 0 where
   pub part : length again < 6
   pub no_lists : lists ≡ []
   pub no_others : others ≡ []
   pub no_states : states ≡ []
 
--- the nodes ahead are planned, the others that are planned were read, and each player of a word that was read is loaded or left
-pub record HasRead (F : Fixed) (region : List Bounds) (slot : ℕ) (lists : List ListRead) (others : List PlayerRead) (ahead left : List ℕ) : Type 0 where
+-- the nodes ahead are planned, the others that are planned were read, and each player of a word that was read is loaded
+-- or left
+pub record HasRead (F : Fixed) (region : List Bounds) (slot : ℕ) (lists : List ListRead) (others : List PlayerRead)
+    (ahead left : List ℕ) : Type 0 where
   pub planned : (node : ℕ) → has ahead node ≡ true → has (plan_of F region) node ≡ true
-  pub read : (node : ℕ) → has (plan_of F region) node ≡ true → has ahead node ≡ false → is_some (list_at lists node) ≡ true
-  pub loaded : (node word p : ℕ) → list_at lists node ≡ Some word → p < 64 → has_bit word p ≡ true → (p == slot) ≡ false → has left p ≡ false → is_some (player_at others p) ≡ true
+  pub read : (node : ℕ) → has (plan_of F region) node ≡ true → has ahead node ≡ false
+      → is_some (list_at lists node) ≡ true
+  pub loaded : (node word p : ℕ) → list_at lists node ≡ Some word → p < 64 → has_bit word p ≡ true
+      → (p == slot) ≡ false → has left p ≡ false → is_some (player_at others p) ≡ true
   pub whole : (p : ℕ) (words : List ℕ) → player_at others p ≡ Some words → length words ≡ 6
 
 -- the player may be loaded under the node: it isn't the own one, and its bit is in the word that was read there
@@ -185,7 +201,8 @@ pub record IsLoadable (node slot p : ℕ) (lists : List ListRead) : Type 0 where
   pub bit : has_bit word p ≡ true
 
 -- players are left to be loaded under the planned node, the first of them in part
-pub record IsLoading (F : Fixed) (region : List Bounds) (slot node : ℕ) (part players : List ℕ) (lists : List ListRead) : Type 0 where
+pub record IsLoading (F : Fixed) (region : List Bounds) (slot node : ℕ) (part players : List ℕ)
+    (lists : List ListRead) : Type 0 where
   pub partly : length part < 6
   pub left : 0 < length players
   pub planned : has (plan_of F region) node ≡ true
@@ -203,7 +220,8 @@ pub record IsClaiming (F : Fixed) (before : Rec) (effect : Option Effect) (got r
   pub nodes : got ++ rest ≡ write_nodes F before e
 
 -- the effect is in view, its write nodes are held, and of its stores these are owed
-pub record IsStoring (F : Fixed) (slot : ℕ) (before : Rec) (effect : Option Effect) (nodes : List ℕ) (stores : List Store) : Type 0 where
+pub record IsStoring (F : Fixed) (slot : ℕ) (before : Rec) (effect : Option Effect) (nodes : List ℕ)
+    (stores : List Store) : Type 0 where
   pub e : Effect
   pub is : effect ≡ Some e
   pub held : nodes ≡ write_nodes F before e
@@ -212,41 +230,53 @@ pub record IsStoring (F : Fixed) (slot : ℕ) (before : Rec) (effect : Option Ef
   pub left : 0 < length stores
 
 -- an inner node at which the list was read, or is to be read
-pub record IsAtInner (F : Fixed) (region : List Bounds) (slot node : ℕ) (lists : List ListRead) (others : List PlayerRead) (ahead : List ℕ) : Type 0 where
+pub record IsAtInner (F : Fixed) (region : List Bounds) (slot node : ℕ) (lists : List ListRead)
+    (others : List PlayerRead) (ahead : List ℕ) : Type 0 where
   pub read : HasRead F region slot lists others ahead []
   pub planned : has (plan_of F region) node ≡ true
   pub inner : is_leaf F node ≡ false
 
 -- under a node with players to be loaded
-pub record IsUnder (F : Fixed) (region : List Bounds) (slot node : ℕ) (part players plan : List ℕ) (lists : List ListRead) (others : List PlayerRead) : Type 0 where
+pub record IsUnder (F : Fixed) (region : List Bounds) (slot node : ℕ) (part players plan : List ℕ)
+    (lists : List ListRead) (others : List PlayerRead) : Type 0 where
   pub read : HasRead F region slot lists others plan players
   pub load : IsLoading F region slot node part players lists
 
 -- all lists are read, and the states of these things are left
-pub record IsSensing (F : Fixed) (region : List Bounds) (slot : ℕ) (lists : List ListRead) (others : List PlayerRead) (states : List NewState) (left : List ℕ) : Type 0 where
+pub record IsSensing (F : Fixed) (region : List Bounds) (slot : ℕ) (lists : List ListRead) (others : List PlayerRead)
+    (states : List NewState) (left : List ℕ) : Type 0 where
   pub read : HasRead F region slot lists others [] []
   pub sensed : HasSensed F region states left
 
 -- all is read, and write nodes are taken
-pub record IsClaimingAfter (F : Fixed) (region : List Bounds) (slot : ℕ) (before : Rec) (lists : List ListRead) (others : List PlayerRead) (states : List NewState) (effect : Option Effect) (got rest : List ℕ) : Type 0 where
+pub record IsClaimingAfter (F : Fixed) (region : List Bounds) (slot : ℕ) (before : Rec) (lists : List ListRead)
+    (others : List PlayerRead) (states : List NewState) (effect : Option Effect) (got rest : List ℕ) : Type 0 where
   pub sensing : IsSensing F region slot lists others states []
   pub claim : IsClaiming F before effect got rest
 
 -- what a point says of the rest of the view
-abbrev pub IsAt : Fixed → Command → List ℕ → List ℕ → List ℕ → List ListRead → List PlayerRead → List NewState → Option Effect → Point → Type 0
+abbrev pub IsAt : Fixed → Command → List ℕ → List ℕ → List ℕ → List ListRead → List PlayerRead → List NewState
+    → Option Effect → Point → Type 0
 IsAt F cmd own wanted again lists others states effect Idle = Unit {0}
 IsAt F cmd own wanted again lists others states effect Owning = Unit {0}
 IsAt F cmd own wanted again lists others states effect (Taking got rest) = IsTaking got rest wanted
 IsAt F cmd own wanted again lists others states effect Checking = IsChecking again lists others states
-IsAt F cmd own wanted again lists others states effect (Entering node plan) = IsAtInner F (region_in F cmd own) cmd.slot node lists others (node ∷ plan)
-IsAt F cmd own wanted again lists others states effect (Entered node plan) = HasRead F (region_in F cmd own) cmd.slot lists others (node ∷ plan) []
-IsAt F cmd own wanted again lists others states effect (Loading node part players plan) = IsUnder F (region_in F cmd own) cmd.slot node part players plan lists others
-IsAt F cmd own wanted again lists others states effect (Leaving node plan) = IsAtInner F (region_in F cmd own) cmd.slot node lists others plan
-IsAt F cmd own wanted again lists others states effect (Sensing ids) = IsSensing F (region_in F cmd own) cmd.slot lists others states ids
-IsAt F cmd own wanted again lists others states effect Resolving = IsSensing F (region_in F cmd own) cmd.slot lists others states []
+IsAt F cmd own wanted again lists others states effect (Entering node plan) = IsAtInner F (region_in F cmd own)
+    cmd.slot node lists others (node ∷ plan)
+IsAt F cmd own wanted again lists others states effect (Entered node plan) = HasRead F (region_in F cmd own) cmd.slot
+    lists others (node ∷ plan) []
+IsAt F cmd own wanted again lists others states effect (Loading node part players plan) = IsUnder F
+    (region_in F cmd own) cmd.slot node part players plan lists others
+IsAt F cmd own wanted again lists others states effect (Leaving node plan) = IsAtInner F (region_in F cmd own)
+    cmd.slot node lists others plan
+IsAt F cmd own wanted again lists others states effect (Sensing ids) = IsSensing F (region_in F cmd own) cmd.slot
+    lists others states ids
+IsAt F cmd own wanted again lists others states effect Resolving = IsSensing F (region_in F cmd own) cmd.slot lists
+    others states []
 IsAt F cmd own wanted again lists others states effect (Claiming got rest) =
     IsClaimingAfter F (region_in F cmd own) cmd.slot (record_read cmd.slot again) lists others states effect got rest
-IsAt F cmd own wanted again lists others states effect (Storing nodes stores) = IsStoring F cmd.slot (record_read cmd.slot again) effect nodes stores
+IsAt F cmd own wanted again lists others states effect (Storing nodes stores) = IsStoring F cmd.slot
+    (record_read cmd.slot again) effect nodes stores
 IsAt F cmd own wanted again lists others states effect (Releasing nodes) = Unit {0}
 IsAt F cmd own wanted again lists others states effect (Returning leaves) = Unit {0}
 IsAt F cmd own wanted again lists others states effect (Yielding nodes leaves) = Unit {0}
@@ -290,21 +320,30 @@ part_of (Releasing nodes) p = []
 part_of (Returning leaves) p = []
 part_of (Yielding nodes leaves) p = []
 
--- a list word that was read is still the word where the node is held since; the words of the player under load are the player's words
-pub record IsCurrent (links : ℕ → ℕ) (body : ℕ → ℕ → ℕ) (point : Point) (wanted : List ℕ) (lists : List ListRead) : Type 0 where
-  pub same_list : is_settled (stage_of point) ≡ true → (node word : ℕ) → list_at lists node ≡ Some word → (has wanted node || is_present point node) ≡ true → links node ≡ word
+-- a list word that was read is still the word where the node is held since; the words of the player under load are the
+-- player's words
+pub record IsCurrent (links : ℕ → ℕ) (body : ℕ → ℕ
+    → ℕ) (point : Point) (wanted : List ℕ) (lists : List ListRead) : Type 0 where
+  pub same_list : is_settled (stage_of point) ≡ true → (node word : ℕ) → list_at lists node ≡ Some word
+      → (has wanted node || is_present point node) ≡ true → links node ≡ word
   pub same_part : (p k : ℕ) → k < length (part_of point p) → k < 5 → body p k ≡ nth_word (part_of point p) k
 
 -- of a seat that holds all its leaves and hasn't committed: what it read and needs is as in the run
-pub record IsReadRight (F : Fixed) (now : World) (cmd : Command) (stage : Stage) (own again : List ℕ) (lists : List ListRead) (others : List PlayerRead) (states : List NewState) : Type 0 where
-  pub same_again : is_settled stage ≡ true → (k : ℕ) → k < length again → k < 6 → nth_word again k ≡ value_in now (cell_of cmd.slot k)
+pub record IsReadRight (F : Fixed) (now : World) (cmd : Command) (stage : Stage) (own again : List ℕ)
+    (lists : List ListRead) (others : List PlayerRead) (states : List NewState) : Type 0 where
+  pub same_again : is_settled stage ≡ true → (k : ℕ) → k < length again → k < 6
+      → nth_word again k ≡ value_in now (cell_of cmd.slot k)
   pub whole : is_read_again stage ≡ true → length again ≡ 6
-  pub same_player : is_settled stage ≡ true → (p : ℕ) (words : List ℕ) → is_player F p ≡ true → player_at others p ≡ Some words
-      → (touches_own (region_in F cmd own) (record_read p words) || touches_own (region_in F cmd own) (now.record_of p)) ≡ true → record_read p words ≡ now.record_of p
-  pub same_state : is_settled stage ≡ true → (id state : ℕ) → 64 ≤ id → has F.start.ids id ≡ true → state_at states id ≡ Some state
+  pub same_player : is_settled stage ≡ true → (p : ℕ) (words : List ℕ) → is_player F p ≡ true
+      → player_at others p ≡ Some words
+      → (touches_own (region_in F cmd own) (record_read p words)
+      || touches_own (region_in F cmd own) (now.record_of p)) ≡ true → record_read p words ≡ now.record_of p
+  pub same_state : is_settled stage ≡ true → (id state : ℕ) → 64 ≤ id → has F.start.ids id ≡ true
+      → state_at states id ≡ Some state
       → touches_own (region_in F cmd own) (now.record_of id) ≡ true → state ≡ (now.record_of id).state
   pub has_its_bit : is_settled stage ≡ true → (p word : ℕ) → is_player F p ≡ true → (p == cmd.slot) ≡ false
-      → touches_own (region_in F cmd own) (now.record_of p) ≡ true → list_at lists (home F (now.record_of p)) ≡ Some word → has_bit word p ≡ true
+      → touches_own (region_in F cmd own) (now.record_of p) ≡ true
+      → list_at lists (home F (now.record_of p)) ≡ Some word → has_bit word p ≡ true
 
 -- the effect in the view of a seat that hasn't committed yet is the outcome in the run
 pub record IsResolved (F : Fixed) (now : World) (cmd : Command) (stage : Stage) (effect : Option Effect) : Type 0 where
@@ -312,13 +351,16 @@ pub record IsResolved (F : Fixed) (now : World) (cmd : Command) (stage : Stage) 
 
 -- ---- what a seat committed
 
--- an item leaves the records of an effect of this player alone: it is not of its slot, and of no player that the effect lists
+-- an item leaves the records of an effect of this player alone: it is not of its slot, and of no player that the effect
+-- lists
 pub record LeavesAlone (slot : ℕ) (states : List NewState) (item : Item) : Type 0 where
   pub own : (item.command.slot == slot) ≡ false
   pub listed : is_some (state_at states item.command.slot) ≡ false
 
--- the item that the seat committed last: its effect is the outcome in the run before it, the own record as loaded again is the actor's before it, and no item after it writes what it wrote
-pub record IsLastItem (F : Fixed) (history : List Item) (cmd : Command) (own again : List ℕ) (effect : Option Effect) (log : List Item) : Type 0 where
+-- the item that the seat committed last: its effect is the outcome in the run before it, the own record as loaded again
+-- is the actor's before it, and no item after it writes what it wrote
+pub record IsLastItem (F : Fixed) (history : List Item) (cmd : Command) (own again : List ℕ) (effect : Option Effect)
+    (log : List Item) : Type 0 where
   pub before : List Item
   pub item : Item
   pub after : List Item
@@ -331,33 +373,41 @@ pub record IsLastItem (F : Fixed) (history : List Item) (cmd : Command) (own aga
   pub region : region_in F cmd own ≡ F.region_of ((run F.effect_of F.start before).record_of cmd.slot) cmd
   pub alone : All (LeavesAlone cmd.slot (outcome F.effect_of (run F.effect_of F.start before) cmd).states) after
 
--- between its commit and the first leaf that it gives back: the seat's last item is in the history, what it owes is the run's value, and its bit is set as long as it isn't cleared
-pub record IsCommitted (F : Fixed) (links : ℕ → ℕ) (history : List Item) (now : World) (cmd : Command) (point : Point) (own again : List ℕ) (effect : Option Effect) (log : List Item) : Type 0 where
+-- between its commit and the first leaf that it gives back: the seat's last item is in the history, what it owes is the
+-- run's value, and its bit is set as long as it isn't cleared
+pub record IsCommitted (F : Fixed) (links : ℕ
+    → ℕ) (history : List Item) (now : World) (cmd : Command) (point : Point) (own again : List ℕ)
+    (effect : Option Effect) (log : List Item) : Type 0 where
   pub item : is_committed (stage_of point) ≡ true → IsLastItem F history cmd own again effect log
   pub owed : OwesRight now (stores_owed point)
-  pub linked : is_storing (stage_of point) ≡ true → (node : ℕ) → has_bit (links node) cmd.slot ≡ is_linked_at (stores_owed point) node
+  pub linked : is_storing (stage_of point) ≡ true → (node : ℕ)
+      → has_bit (links node) cmd.slot ≡ is_linked_at (stores_owed point) node
 
 -- ---- all of it
 
 -- what holds of one seat
-pub record SeatStands (F : Fixed) (words : Words) (history : List Item) (now : World) (i : ℕ) (view : View) : Type 0 where
-  pub named : (node : ℕ) → holds F view.point view.wanted node ≡ true → words.node node ≡ held_word F i (stage_of view.point) view.wanted node
-  pub holding : IsHolding F view.wanted (leaves_held view.point view.wanted) (inner_held F view.point)
-  pub counted : IsCounted words.commits view.seen view.room view.log (stage_of view.point)
-  pub hand : is_busy (stage_of view.point) ≡ true → IsGiven F view.cmd
-  pub own : HasOwn F now view.cmd (stage_of view.point) view.own view.wanted
-  pub unread : IsUnread (stage_of view.point) view.own view.again view.lists view.others view.states view.effect
-  pub at : IsAt F view.cmd view.own view.wanted view.again view.lists view.others view.states view.effect view.point
-  pub current : IsCurrent words.links words.body view.point view.wanted view.lists
-  pub right : IsReadRight F now view.cmd (stage_of view.point) view.own view.again view.lists view.others view.states
-  pub resolved : IsResolved F now view.cmd (stage_of view.point) view.effect
-  pub committed : IsCommitted F words.links history now view.cmd view.point view.own view.again view.effect view.log
+pub record SeatStands (F : Fixed) (words : Words) (history : List Item) (now : World) (i : ℕ) (view : View) : Type 0
+  where
+    pub named : (node : ℕ) → holds F view.point view.wanted node ≡ true
+        → words.node node ≡ held_word F i (stage_of view.point) view.wanted node
+    pub holding : IsHolding F view.wanted (leaves_held view.point view.wanted) (inner_held F view.point)
+    pub counted : IsCounted words.commits view.seen view.room view.log (stage_of view.point)
+    pub hand : is_busy (stage_of view.point) ≡ true → IsGiven F view.cmd
+    pub own : HasOwn F now view.cmd (stage_of view.point) view.own view.wanted
+    pub unread : IsUnread (stage_of view.point) view.own view.again view.lists view.others view.states view.effect
+    pub at : IsAt F view.cmd view.own view.wanted view.again view.lists view.others view.states view.effect view.point
+    pub current : IsCurrent words.links words.body view.point view.wanted view.lists
+    pub right : IsReadRight F now view.cmd (stage_of view.point) view.own view.again view.lists view.others view.states
+    pub resolved : IsResolved F now view.cmd (stage_of view.point) view.effect
+    pub committed : IsCommitted F words.links history now view.cmd view.point view.own view.again view.effect view.log
 
 -- two seats hold no node in common, have commands of different slots, and owe no word in common
-pub record AreApart (F : Fixed) (point other : Point) (wanted other_wanted : List ℕ) (cmd other_cmd : Command) : Type 0 where
+pub record AreApart (F : Fixed) (point other : Point) (wanted other_wanted : List ℕ) (cmd other_cmd : Command) : Type
+    0 where
   pub nodes : (node : ℕ) → holds F point wanted node ≡ true → holds F other other_wanted node ≡ false
   pub slots : is_busy (stage_of point) ≡ true → is_busy (stage_of other) ≡ true → (cmd.slot == other_cmd.slot) ≡ false
-  pub cells : (cell : Cell) (x : ℕ) → owed_at (stores_owed point) cell ≡ Some x → owed_at (stores_owed other) cell ≡ None
+  pub cells : (cell : Cell) (x : ℕ) → owed_at (stores_owed point) cell ≡ Some x
+      → owed_at (stores_owed other) cell ≡ None
 
 -- two seats are apart
 abbrev pub SeatsApart : Fixed → View → View → Type 0
@@ -378,8 +428,10 @@ pub record Stands (F : Fixed) (core : Core) (history : List Item) (now : World) 
   pub ended : All (λ (e : Ended). IsLogWithin core.words.commits e.room e.log) (core.view 0).ended
   pub seats : (i : ℕ) → SeatStands F core.words history now i (core.view i)
   pub apart : (i j : ℕ) → (i == j) ≡ false → SeatsApart F (core.view i) (core.view j)
-  pub free : (node : ℕ) → ((i : ℕ) → holds F (core.view i).point (core.view i).wanted node ≡ false) → core.words.node node ≡ 0
-  pub unowed : (cell : Cell) → is_live_cell F cell ≡ true → ((i : ℕ) → owed_at (stores_owed (core.view i).point) cell ≡ None) → word_in core.words cell ≡ value_in now cell
+  pub free : (node : ℕ) → ((i : ℕ) → holds F (core.view i).point (core.view i).wanted node ≡ false)
+      → core.words.node node ≡ 0
+  pub unowed : (cell : Cell) → is_live_cell F cell ≡ true
+      → ((i : ℕ) → owed_at (stores_owed (core.view i).point) cell ≡ None) → word_in core.words cell ≡ value_in now cell
   pub linked : (p node : ℕ) → is_player F p ≡ true → ((i : ℕ) → is_storing_for (core.view i) p ≡ false)
       → has_bit (core.words.links node) p ≡ (node == home F (now.record_of p))
   pub unlinked : (p node : ℕ) → p < 64 → has F.start.ids p ≡ false → has_bit (core.words.links node) p ≡ false
@@ -396,4 +448,8 @@ start_words F = record {
 
 -- the core at the start: seat 0 with this room, and no other seat
 abbrev pub start_core : Fixed → ℕ → Core
-start_core F room = record { words = start_words F; view = λ i. if i == 0 then record (new_view room) { made = 1 } else spent }
+start_core F room = record {
+  words = start_words F;
+  view = λ i. if i == 0 then record (new_view room) { made = 1 }
+      else spent;
+}

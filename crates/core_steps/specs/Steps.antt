@@ -1,10 +1,16 @@
 -- The steps of a seat, kind by kind: which step comes next, and the core after it.
-use Rattle.std.specs.Prelude.{ℕ, suc, ◌+◌, ◌-◌, ◌^◌, ◌==◌, min, Bool, true, false, if◌then◌else◌, List, [], ◌∷◌, ◌++◌, length, Option, Some, None}
+use Rattle.std.specs.Prelude.{ℕ, suc, ◌+◌, ◌-◌, ◌^◌, ◌==◌, min, ◌≡◌, Bool, true, false, if◌then◌else◌, List, [], ◌∷◌}
+use Rattle.std.specs.Prelude.{◌++◌, length, Option, Some, None}
 use Rattle.entity_recs.specs.declared.effect.Effect.{Effect}
 use Rattle.entity_recs.specs.Commands.{Command}
 use Rattle.entity_recs.specs.Histories.{Item, entry_of}
 use Rattle.core_steps.specs.Cells.{Words, put, word_in, with_word, cell_of, with_bit, without_bit}
-use Rattle.core_steps.specs.Views.{Fixed, Store, Clear, Put, Link, Point, Idle, Owning, Taking, Checking, Entering, Entered, Loading, Leaving, Sensing, Resolving, Claiming, Storing, Releasing, Returning, Yielding, AtClaiming, stage_of, View, new_view, spent, without_command, leaf_nodes, plan_of, is_leaf, region_in, things_in, players_in, home, record_read, write_nodes, stores_of, inner_held, leaves_held, held_word}
+use Rattle.core_steps.specs.Views.{Fixed, Store, Clear, Put, Link, Point, Idle, Owning, Taking, Checking, Entering}
+use Rattle.core_steps.specs.Views.{Entered, Loading, Leaving, Sensing, Resolving, Claiming, Storing, Releasing}
+use Rattle.core_steps.specs.Views.{Returning, Yielding, AtClaiming, stage_of, is_busy, effect_loaded, holds, View}
+use Rattle.core_steps.specs.Views.{new_view, spent, without_command, leaf_nodes, plan_of, is_leaf, region_in}
+use Rattle.core_steps.specs.Views.{things_in, players_in, home, record_read, write_nodes, stores_of, inner_held}
+use Rattle.core_steps.specs.Views.{leaves_held, held_word, without_player}
 
 -- the words, and each seat's view by its number
 pub record Core : Type 0 where
@@ -17,7 +23,8 @@ with_view core i view = record core { view = put i view core.view }
 
 -- the core with another word of one node, and another view of one seat
 abbrev pub with_node : Core → ℕ → ℕ → ℕ → View → Core
-with_node core node word i view = record { words = record core.words { node = put node word core.words.node }; view = put i view core.view }
+with_node core node word i view = record
+    { words = record core.words { node = put node word core.words.node }; view = put i view core.view }
 
 -- ---- where a point goes on
 
@@ -111,15 +118,22 @@ view_after_take node view = record view { point = point_after_take node view.poi
 
 -- the core after the seat's next node, which was free, is taken
 abbrev pub take_node : Fixed → Core → ℕ → ℕ → Core
-take_node F core i node = with_node core node (held_word F i (stage_of (point_after_take node (core.view i).point)) (core.view i).wanted node) i (view_after_take node (core.view i))
+take_node F core i node = with_node core node
+    (held_word F i (stage_of (point_after_take node (core.view i).point)) (core.view i).wanted node) i
+    (view_after_take node (core.view i))
 
 -- the view after the first write node is taken, with which the effect enters it
 abbrev pub view_after_claim : Fixed → Effect → ℕ → View → View
-view_after_claim F e node view = record view { effect = Some e; point = Claiming (node ∷ []) (rest_of (write_nodes F (record_read view.cmd.slot view.again) e)) }
+view_after_claim F e node view = record view {
+  effect = Some e;
+  point = Claiming (node
+      ∷ []) (rest_of (write_nodes F (record_read view.cmd.slot view.again) e));
+}
 
 -- the core after the seat's first write node, which was free, is taken
 abbrev pub claim_node : Fixed → Core → ℕ → Effect → ℕ → Core
-claim_node F core i e node = with_node core node (held_word F i AtClaiming (core.view i).wanted node) i (view_after_claim F e node (core.view i))
+claim_node F core i e node = with_node core node (held_word F i AtClaiming (core.view i).wanted node) i
+    (view_after_claim F e node (core.view i))
 
 -- the view after a take of this node was refused, where this word was found
 abbrev pub view_after_refusal : ℕ → ℕ → View → View
@@ -216,7 +230,9 @@ first_yield F view = first_of_two (inner_held F view.point) (leaves_held view.po
 -- the core after the first node is given back with which the command is given up
 abbrev pub yield_node : Fixed → Core → ℕ → ℕ → Core
 yield_node F core i node =
-    with_node core node 0 i (yielded (core.view i) (inner_held F (core.view i).point) (leaves_held (core.view i).point (core.view i).wanted))
+    with_node core node 0 i
+    (yielded (core.view i) (inner_held F (core.view i).point)
+    (leaves_held (core.view i).point (core.view i).wanted))
 
 -- the core after the command is given up where nothing is held, which loads the count
 abbrev pub yield_nothing : Core → ℕ → Core
@@ -265,7 +281,11 @@ begin_move core i c = with_view core i (view_after_begin c (word_in core.words (
 
 -- the view whose own record is whole wants its leaves
 abbrev pub owned : Fixed → View → View
-owned F view = if length view.own == 6 then record view { wanted = leaf_nodes F (region_in F view.cmd view.own); point = Taking [] (leaf_nodes F (region_in F view.cmd view.own)) } else view
+owned F view = if length view.own == 6 then record view {
+  wanted = leaf_nodes F (region_in F view.cmd view.own);
+  point = Taking []
+      (leaf_nodes F (region_in F view.cmd view.own));
+} else view
 
 -- the view after one more word of the own record is loaded
 abbrev pub view_after_own : Fixed → ℕ → View → View
@@ -273,11 +293,13 @@ view_after_own F word view = owned F (record view { own = view.own ++ word ∷ [
 
 -- the core after one more word of the own record is loaded
 abbrev pub load_own : Fixed → Core → ℕ → Core
-load_own F core i = with_view core i (view_after_own F (word_in core.words (cell_of (core.view i).cmd.slot (length (core.view i).own))) (core.view i))
+load_own F core i = with_view core i
+    (view_after_own F (word_in core.words (cell_of (core.view i).cmd.slot (length (core.view i).own))) (core.view i))
 
 -- the view whose own record is loaded again whole begins to read
 abbrev pub checked : Fixed → View → View
-checked F view = if length view.again == 6 then record view { point = visiting F view (plan_of F (region_in F view.cmd view.own)) } else view
+checked F view = if length view.again == 6 then record view
+    { point = visiting F view (plan_of F (region_in F view.cmd view.own)) } else view
 
 -- the view after one more word of the own record is loaded again
 abbrev pub view_after_again : Fixed → ℕ → View → View
@@ -285,22 +307,33 @@ view_after_again F word view = checked F (record view { again = view.again ++ wo
 
 -- the core after one more word of the own record is loaded again
 abbrev pub load_again : Fixed → Core → ℕ → Core
-load_again F core i = with_view core i (view_after_again F (word_in core.words (cell_of (core.view i).cmd.slot (length (core.view i).again))) (core.view i))
+load_again F core i = with_view core i
+    (view_after_again F (word_in core.words (cell_of (core.view i).cmd.slot (length (core.view i).again)))
+    (core.view i))
 
--- the view with these words of the player that is loaded under the node, before the other players
+-- the view with these words of the player that is loaded under the node, before the other players; once they are whole,
+-- what was loaded of it earlier is dropped
 abbrev pub player_loaded : Fixed → ℕ → List ℕ → ℕ → List ℕ → List ℕ → View → View
 player_loaded F node part slot players plan view =
-    if length part == 6 then record view { others = record { slot = slot; words = part } ∷ view.others; point = loading F view node players plan }
+    if length part == 6 then record view {
+      others = record { slot = slot; words = part } ∷ without_player slot view.others;
+      point = loading F view node players plan;
+    }
     else record view { point = Loading node part (slot ∷ players) plan }
 
 -- the core after one more word of the player is loaded
 abbrev pub load_player : Fixed → Core → ℕ → ℕ → List ℕ → ℕ → List ℕ → List ℕ → Core
 load_player F core i node part slot players plan =
-    with_view core i (player_loaded F node (part ++ word_in core.words (cell_of slot (length part)) ∷ []) slot players plan (core.view i))
+    with_view core i (player_loaded F node (part ++ word_in core.words (cell_of slot (length part))
+    ∷ []) slot players plan (core.view i))
 
 -- the view after the state of a thing of the map is loaded
 abbrev pub view_after_state : ℕ → ℕ → List ℕ → View → View
-view_after_state id word ids view = record view { states = record { id = id; state = word } ∷ view.states; point = sensing ids }
+view_after_state id word ids view = record view {
+  states = record { id = id; state = word }
+      ∷ view.states;
+  point = sensing ids;
+}
 
 -- the core after the state of the first of these things is loaded
 abbrev pub load_state : Core → ℕ → ℕ → List ℕ → Core
@@ -332,9 +365,11 @@ commit F core i e nodes = record {
 
 -- the words after a store by the player of this slot
 abbrev pub words_after_store : ℕ → Store → Words → Words
-words_after_store slot (Clear node) words = record words { links = put node (without_bit (words.links node) slot) words.links }
+words_after_store slot (Clear node) words = record words
+    { links = put node (without_bit (words.links node) slot) words.links }
 words_after_store slot (Put cell x) words = with_word words cell x
-words_after_store slot (Link node) words = record words { links = put node (with_bit (words.links node) slot) words.links }
+words_after_store slot (Link node) words = record words
+    { links = put node (with_bit (words.links node) slot) words.links }
 
 -- the core after the first of the stores is made
 abbrev pub store_next : Core → ℕ → List ℕ → Store → List Store → Core
@@ -347,7 +382,10 @@ store_next core i nodes store stores = record {
 
 -- the core after a seat with this room is made from seat 0
 abbrev pub make_seat : Core → ℕ → Core
-make_seat core room = record core { view = put (core.view 0).made (new_view room) (put 0 (record (core.view 0) { made = suc (core.view 0).made }) core.view) }
+make_seat core room = record core {
+  view = put (core.view 0).made (new_view room)
+      (put 0 (record (core.view 0) { made = suc (core.view 0).made }) core.view);
+}
 
 -- the view of seat 0 after this seat is ended into it
 abbrev pub with_ended : ℕ → View → View → View
@@ -360,3 +398,41 @@ end_seat core i = record core { view = put i spent (put 0 (with_ended i (core.vi
 -- the core after the seat has loaded the count
 abbrev pub load_count : Core → ℕ → Core
 load_count core i = with_view core i (record (core.view i) { seen = core.words.commits })
+
+-- ---- waiting
+
+-- the node that is taken next, also where the effect enters the view with it
+abbrev pub next_node_at : Fixed → View → Point → Option ℕ
+next_node_at F view Idle = None
+next_node_at F view Owning = None
+next_node_at F view (Taking got rest) = first rest
+next_node_at F view Checking = None
+next_node_at F view (Entering node plan) = Some node
+next_node_at F view (Entered node plan) = None
+next_node_at F view (Loading node part players plan) = None
+next_node_at F view (Leaving node plan) = None
+next_node_at F view (Sensing ids) = None
+next_node_at F view Resolving = first (write_nodes F (record_read view.cmd.slot view.again) (effect_loaded F view))
+next_node_at F view (Claiming got rest) = first rest
+next_node_at F view (Storing nodes stores) = None
+next_node_at F view (Releasing nodes) = None
+next_node_at F view (Returning leaves) = None
+next_node_at F view (Yielding nodes leaves) = None
+
+-- the node that the seat takes next, where its next step is a take
+abbrev pub next_node : Fixed → View → Option ℕ
+next_node F view = next_node_at F view view.point
+
+-- the seat waits: its next step is a take of a node that another seat holds
+pub record Waits (F : Fixed) (core : Core) (i : ℕ) : Type 0 where
+  pub node : ℕ
+  pub next : next_node F (core.view i) ≡ Some node
+  pub holder : ℕ
+  pub other : (holder == i) ≡ false
+  pub held : holds F (core.view holder).point (core.view holder).wanted node ≡ true
+
+-- some seat with a command in hand doesn't wait
+pub record SomeSeatGoesOn (F : Fixed) (core : Core) : Type 0 where
+  pub seat : ℕ
+  pub busy : is_busy (stage_of (core.view seat).point) ≡ true
+  pub goes_on : Waits F core seat → ⊥

@@ -1,5 +1,6 @@
 -- What a seat has in view: the command in hand, what is left to do, what was read, what was logged.
-use Rattle.std.specs.Prelude.{ℕ, suc, ◌+◌, ◌-◌, ◌*◌, ◌^◌, ◌==◌, nat_lt, nat_le, Bool, true, false, ◌&&◌, ◌||◌, not, if◌then◌else◌, List, [], ◌∷◌, ◌++◌, map, filter, Option, Some, None, pos}
+use Rattle.std.specs.Prelude.{ℕ, suc, ◌+◌, ◌-◌, ◌*◌, ◌^◌, ◌==◌, nat_lt, nat_le, Bool, true, false, ◌&&◌, ◌||◌, not}
+use Rattle.std.specs.Prelude.{if◌then◌else◌, List, [], ◌∷◌, ◌++◌, map, filter, Option, Some, None, pos}
 use Rattle.std.specs.List.{list_any, range_with_len, filter_map}
 use Rattle.arena_geo.specs.Bounds.{Bounds}
 use Rattle.arena_geo.specs.Regions.{touches_region}
@@ -16,7 +17,8 @@ use Rattle.areanode.specs.Trees.{TreeView, leaf_node, node_of, leaves_of, visite
 use Rattle.core_steps.specs.Cells.{Cell, Body, State}
 use Rattle.core_steps.specs.Encoding.{words_of, nth_word, record_from}
 
--- what doesn't change: the region and the effect of a move, which records it takes, the tree, and the world at the start
+-- what doesn't change: the region and the effect of a move, which records it takes, the tree, and the world at the
+-- start
 pub record Fixed : Type 0 where
   pub takes : Rec → Bool
   pub region_of : Rec → Command → List Bounds
@@ -369,6 +371,10 @@ abbrev pub player_at : List PlayerRead → ℕ → Option (List ℕ)
 player_at [] slot = None
 player_at (read ∷ others) slot = if read.slot == slot then Some read.words else player_at others slot
 
+-- what was loaded of the players but this one
+abbrev pub without_player : ℕ → List PlayerRead → List PlayerRead
+without_player slot others = filter (λ read. not (read.slot == slot)) others
+
 -- the state loaded of a thing of the map
 abbrev pub state_at : List NewState → ℕ → Option ℕ
 state_at [] id = None
@@ -394,11 +400,13 @@ is_leaf F node = nat_le (inner_nodes F) node
 
 -- the nodes of a region's leaves, rising
 abbrev pub leaf_nodes : Fixed → List Bounds → List ℕ
-leaf_nodes F region = map (leaf_node F.tree.depth) (filter (has_bit (leaves_of F.tree region)) (range_with_len 0 (2 ^ F.tree.depth)))
+leaf_nodes F region = map (leaf_node F.tree.depth)
+    (filter (has_bit (leaves_of F.tree region)) (range_with_len 0 (2 ^ F.tree.depth)))
 
 -- the inner nodes that are visited for a region, rising
 abbrev pub inner_visited : Fixed → List Bounds → List ℕ
-inner_visited F region = filter (has_bit (visited_of F.tree.depth (leaves_of F.tree region))) (range_with_len 0 (inner_nodes F))
+inner_visited F region = filter (has_bit (visited_of F.tree.depth (leaves_of F.tree region)))
+    (range_with_len 0 (inner_nodes F))
 
 -- the nodes that are read for a region: its leaves, then the inner nodes, each rising
 abbrev pub plan_of : Fixed → List Bounds → List ℕ
@@ -434,7 +442,8 @@ abbrev pub thing_of : Rec → Option ℕ → Option Rec
 thing_of r None = None
 thing_of r (Some state) = Some (with_state r state)
 
--- the live record that was loaded, where it was: a player's as it was loaded last, a thing's as at the start with the state that was loaded
+-- the live record that was loaded, where it was: a player's as it was loaded last, a thing's as at the start with the
+-- state that was loaded
 abbrev pub record_loaded : Fixed → List PlayerRead → List NewState → ℕ → Option Rec
 record_loaded F others states id =
     if nat_lt id 64 then player_of id (player_at others id) else thing_of (F.start.record_of id) (state_at states id)
@@ -442,12 +451,16 @@ record_loaded F others states id =
 -- the records loaded that touch a region, but this player's, in rising id
 abbrev pub near_loaded : Fixed → List Bounds → ℕ → List PlayerRead → List NewState → List Rec
 near_loaded F region slot others states =
-    filter (λ r. touches_region (abs_of r) region) (filter_map (record_loaded F others states) (filter (λ id. not (id == slot)) F.start.ids))
+    filter (λ r. touches_region (abs_of r) region)
+    (filter_map (record_loaded F others states) (filter (λ id. not (id == slot)) F.start.ids))
+
+-- the records that a seat has loaded of what touches its region, but its player's
+abbrev pub loaded_near : Fixed → View → List Rec
+loaded_near F view = near_loaded F (region_in F view.cmd view.own) view.cmd.slot view.others view.states
 
 -- the effect that the action gives on what was loaded
 abbrev pub effect_loaded : Fixed → View → Effect
-effect_loaded F view =
-    F.effect_of (record_read view.cmd.slot view.again) (near_loaded F (region_in F view.cmd view.own) view.cmd.slot view.others view.states) view.cmd
+effect_loaded F view = F.effect_of (record_read view.cmd.slot view.again) (loaded_near F view) view.cmd
 
 -- the write nodes of an effect on this record
 abbrev pub write_nodes : Fixed → Rec → Effect → List ℕ
@@ -461,7 +474,9 @@ body_stores slot k (word ∷ words) = Put (Body slot k) word ∷ body_stores slo
 -- the stores of an effect of this player, which was linked at this node
 abbrev pub stores_of : Fixed → ℕ → ℕ → Effect → List Store
 stores_of F slot old e =
-    Clear old ∷ (body_stores slot 0 (words_of e.me) ++ (Put (State slot) e.me.state ∷ (map (λ (s : NewState). Put (State s.id) s.state) e.states ++ (Link (home F e.me) ∷ []))))
+    Clear old ∷ (body_stores slot 0 (words_of e.me)
+    ++ (Put (State slot) e.me.state
+    ∷ (map (λ (s : NewState). Put (State s.id) s.state) e.states ++ (Link (home F e.me) ∷ []))))
 
 -- ---- what is held
 
@@ -500,7 +515,8 @@ bits_of_leaves (leaf ∷ leaves) = 2 ^ leaf + bits_of_leaves leaves
 abbrev pub leaf_word : Fixed → List ℕ → ℕ
 leaf_word F wanted = bits_of_leaves (map (λ node. node - inner_nodes F) wanted)
 
--- the word of a node that is held by this seat: its number plus 1, and above it the leaves of its command for a leaf, or 1 for an inner node that is held to write
+-- the word of a node that is held by this seat: its number plus 1, and above it the leaves of its command for a leaf,
+-- or 1 for an inner node that is held to write
 abbrev pub held_word : Fixed → ℕ → Stage → List ℕ → ℕ → ℕ
 held_word F i stage wanted node =
     suc (i + 256 * (if is_leaf F node then leaf_word F wanted else (if is_writing stage then 1 else 0)))

@@ -1,4 +1,9 @@
-ghost use Rattle.core_steps.specs.Laws.{StartStands, MadeSeatStands, EndedSeatStands, EndedSeatKeepsItems, LoadedCountStands, GivenNodeStands, YieldedNodeStands, YieldedNothingStands, TakenNodeStands, RefusedNodeStands, LayoutIsRight, EncodedIsDecoded, BegunMoveStands, LoadedOwnStands, LoadedAgainStands, LoadedListStands, LoadedPlayerStands, LoadedStateStands, ClaimedNodeStands, StoredNextStands};
+ghost use Rattle.core_steps.specs.Laws.{StartStands, MadeSeatStands, EndedSeatStands, EndedSeatKeepsItems};
+ghost use Rattle.core_steps.specs.Laws.{LoadedCountStands, GivenNodeStands, YieldedNodeStands, YieldedNothingStands};
+ghost use Rattle.core_steps.specs.Laws.{TakenNodeStands, RefusedNodeStands, LayoutIsRight, EncodedIsDecoded};
+ghost use Rattle.core_steps.specs.Laws.{BegunMoveStands, LoadedOwnStands, LoadedAgainStands, LoadedListStands};
+ghost use Rattle.core_steps.specs.Laws.{LoadedPlayerStands, LoadedStateStands, ClaimedNodeStands, StoredNextStands};
+ghost use Rattle.core_steps.specs.Laws.{CommittedHeldStands, CommittedFreeStands, NotAllWait};
 
 /// The start stands: seat 0 without a command, no entry, and words that are those of the world.
 pub fn start_stands()
@@ -98,4 +103,21 @@ pub fn claimed_node_stands()
 /// The next store that is owed, of the own bit or of a word, keeps what stands.
 pub fn stored_next_stands()
     ensures { StoredNextStands }
+{}
+
+/// The commit where the write nodes are held: the seat's command joins the history with its entry, at the place that the
+/// old count gives, and what stands is kept.
+pub fn committed_held_stands()
+    ensures { CommittedHeldStands }
+{}
+
+/// The commit without write nodes, with which the effect enters the view, does the same, where the effect is what the
+/// action gives on what was loaded.
+pub fn committed_free_stands()
+    ensures { CommittedFreeStands }
+{}
+
+/// Where a seat has a command in hand, some seat with a command in hand doesn't wait for a node that another one holds.
+pub fn not_all_wait()
+    ensures { NotAllWait }
 {}

@@ -13,3 +13,4 @@ pub use Rattle.arena_map.specs.Validity
 pub use Rattle.move_journal.specs.Merges
 pub use Rattle.move_journal.specs.Entries as MoveEntries
 pub mod Servers
+pub mod Laws

@@ -3,12 +3,16 @@
 
 pub use frame_out::FrameOut;
 pub use journal::Journal;
+pub use laws::limits_are_known;
 pub use limits::{MOST_ARRIVALS, MOST_FRAMES};
 pub use server::Server;
 
 mod bodies;
 mod frame_out;
 mod journal;
+mod laws;
 mod limits;
 mod moves;
 mod server;
+#[cfg(test)]
+mod tests;

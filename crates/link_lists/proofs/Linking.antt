@@ -315,8 +315,8 @@ module _ (heads next prev places : List (Option ℕ)) (p : ListsView) (k id : �
             ∙ sym (first_of-removed_other p id linked.proper j (λ e. apart (same_Some j k (sym (where_of-first p j id linked.proper e) ∙ at))))
       ]
 
-  removed_firsts_behind : (b : ℕ) → link_at prev id ≡ Some b → (j : ℕ) → link_at heads j ≡ first_of (removed p id) j
-  removed_firsts_behind b back j =
+  removed_firsts_after : (b : ℕ) → link_at prev id ≡ Some b → (j : ℕ) → link_at heads j ≡ first_of (removed p id) j
+  removed_firsts_after b back j =
       linked.firsts j
       ∙ sym (first_of-removed_other p id linked.proper j (λ e. none-some b (sym (linked.fronts j id e) ∙ back)))
 
@@ -348,13 +348,13 @@ module _ (heads next prev places : List (Option ℕ)) (p : ListsView) (k id : �
       back
       (linked_by (set heads k (link_at next id)) (length-set heads k (link_at next id)) (removed_firsts back))
 
-  -- an id behind another taken out
-  pub IsLinkedAs-removed_behind : (b : ℕ) → link_at prev id ≡ Some b
+  -- an id after another taken out
+  pub IsLinkedAs-removed_after : (b : ℕ) → link_at prev id ≡ Some b
       → IsLinkedAs heads (set (set next id None) b (link_at next id))
       (with_link (set prev id None) (link_at next id) (Some b)) (set places id None) (removed p id)
-  IsLinkedAs-removed_behind b back =
+  IsLinkedAs-removed_after b back =
       subst
       (λ o. IsLinkedAs heads (with_link (set next id None) o (link_at next id))
       (with_link (set prev id None) (link_at next id) o) (set places id None) (removed p id))
       back
-      (linked_by heads refl (removed_firsts_behind b back))
+      (linked_by heads refl (removed_firsts_after b back))

@@ -1,4 +1,4 @@
--- Lemmas about the ids of one list, in which no id stands twice.
+-- Lemmas about the ids of one list, in which no id is twice.
 use Rattle.std.proofs.Common.{◌≡◌, ◌≢◌, ℕ, zero, suc, ◌⊎◌, true, false, nat_eq, List, [], ◌∷◌, Some, None, slice_get, sym, refl, ap, ◌∙◌, subst, inl, inr, arith}
 use Rattle.std.specs.List.{IsDistinct, AllByRecursion}
 use Rattle.std.proofs.lemmas.Bool.{cases_Bool, cases_eq, or_from, or_left, or_right, or_parts, or_cases, eqb-true, eqb-false, eq-eqb, ne_eqb, false≢true}
@@ -192,7 +192,7 @@ after-without (x ∷ xs) id a d e =
           ]
     ]
 
--- and nothing else changes behind the others
+-- and nothing else changes after the others
 pub after-without_other : (xs : List ℕ) (id a : ℕ)
     → IsDistinct nat_eq xs → a ≢ id → (after a xs ≡ Some id → ⊥) → after a (without id xs) ≡ after a xs
 after-without_other [] id a d ne nf = refl

@@ -63,7 +63,7 @@ next_of-in p id k e = rw e refl
 pub next_of-nowhere : (p : ListsView) (id : ℕ) → where_of p id ≡ None → next_of p id ≡ None
 next_of-nowhere p id e = rw e refl
 
--- an id is in the list in which it stands
+-- an id is in the list that has it
 pub where_of-at : (p : ListsView) (k place id : ℕ) → IsProper p → slice_get (list_of p k) place ≡ Some id → where_of p id ≡ Some k
 where_of-at p k place id proper e = where_of-has p id k proper (has-slice_get (list_of p k) place id e)
 

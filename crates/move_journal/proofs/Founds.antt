@@ -16,13 +16,13 @@ pub record IsFound (moves : List Command) (c : Command) : Type 0 where
 same_as_itself : (c : Command) → is_same_move c c ≡ true
 same_as_itself c = and_from (c.slot == c.slot) (c.seq == c.seq) (eq-eqb c.slot c.slot refl) (eq-eqb c.seq c.seq refl)
 
--- a move with another number doesn't hide what is found behind it
-found_behind : (m : Command) (moves commands : List Command) → AllByRecursion (λ c. is_same_move m c ≡ false) commands
+-- a move with another number doesn't hide what is found after it
+found_after : (m : Command) (moves commands : List Command) → AllByRecursion (λ c. is_same_move m c ≡ false) commands
     → AllByRecursion (IsFound moves) commands → AllByRecursion (IsFound (m ∷ moves)) commands
-found_behind m moves [] differs found = tt
-found_behind m moves (c ∷ commands) differs found = (
+found_after m moves [] differs found = tt
+found_after m moves (c ∷ commands) differs found = (
   record { first = cond-false (is_same_move m c) (Some m) (find (λ d. is_same_move d c) moves) differs.0 ∙ found.0.first },
-  found_behind m moves commands differs.1 found.1,
+  found_after m moves commands differs.1 found.1,
 )
 
 -- each of the moves is found among them
@@ -31,7 +31,7 @@ unfolding IsDistinct
 each_is_found [] apart = tt
 each_is_found (m ∷ moves) apart = (
   record { first = cond-true (is_same_move m m) (Some m) (find (λ d. is_same_move d m) moves) (same_as_itself m) },
-  found_behind m moves moves apart.0 (each_is_found moves apart.1),
+  found_after m moves moves apart.0 (each_is_found moves apart.1),
 )
 
 -- the commands that run in this order, each with its entry

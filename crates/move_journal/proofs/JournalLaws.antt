@@ -8,7 +8,7 @@ use Rattle.entity_recs.specs.Worlds.{World}
 use Rattle.move_journal.specs.Merges.{history_of, HasNumbersApart, journal_in_order}
 use Rattle.move_journal.specs.Laws.{MergesHaveWholeHistories, MovesInOrderAreRight, OrderLeavesOneJournal}
 use Rattle.move_journal.proofs.Founds.{IsFound, each_is_found, items_in_order, history_in_order}
-use Rattle.move_journal.proofs.Orders.{legal_in_order, told_in_order, order_in_order, legal_from_first}
+use Rattle.move_journal.proofs.Orders.{legal_in_order, player_items_in_order, order_in_order, legal_from_first}
 use Rattle.move_journal.proofs.Uniques.{one_journal, legal_at_first}
 use Rattle.move_journal.proofs.WholeHistories.{whole_history}
 
@@ -24,7 +24,7 @@ moves_in_order_are_right = λ act w moves apart.
     let legal = legal_from_first act w _ (legal_in_order act w 0 moves) in
     record {
       right = record {
-        merge = record { each = λ slot. told_in_order act slot w 0 moves };
+        merge = record { each = λ slot. player_items_in_order act slot w 0 moves };
         legal = subst (λ (items : List Item). IsLegal act w items) (sym history) legal;
       };
       order = order_in_order act w 0 moves;

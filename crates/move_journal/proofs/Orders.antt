@@ -10,30 +10,30 @@ use Rattle.move_journal.proofs.Founds.{items_in_order}
 
 -- a legal history, the first entry of which has this place
 pub record IsLegalFrom (act : Action) (place : ℕ) (w : World) (history : List Item) : Type 0 where
-  pub each : (before : List Item) (item : Item) (behind : List Item) → history ≡ before ++ item ∷ behind
+  pub each : (before : List Item) (item : Item) (following : List Item) → history ≡ before ++ item ∷ following
       → item.entry ≡ entry_of (place + length before) item.command (outcome act (run act w before) item.command)
 
 -- the entry at the front of a history of commands that run in order
-front_entry : (act : Action) (w : World) (place : ℕ) (c : Command) (items : List Item) (item : Item) (behind : List Item)
-    → record { command = c; entry = entry_of place c (outcome act w c) } ∷ items ≡ item ∷ behind
+front_entry : (act : Action) (w : World) (place : ℕ) (c : Command) (items : List Item) (item : Item) (following : List Item)
+    → record { command = c; entry = entry_of place c (outcome act w c) } ∷ items ≡ item ∷ following
     → item.entry ≡ entry_of (place + 0) item.command (outcome act w item.command)
-front_entry act w place c items item behind same =
+front_entry act w place c items item following same =
     let first : ◌≡◌ {A = Item} (record { command = c; entry = entry_of place c (outcome act w c) }) item = cc in
     subst (λ (i : Item). i.entry ≡ entry_of (place + 0) i.command (outcome act w i.command)) first
     (ap (λ (p : ℕ). entry_of p c (outcome act w c)) (let none : place ≡ place + 0 = omega arith in none))
 
--- each entry of commands that run in order is that of its command behind those before it
-entry_in_order : (act : Action) (w : World) (place : ℕ) (commands : List Command) (before : List Item) (item : Item) (behind : List Item)
-    → items_in_order act w place commands ≡ before ++ item ∷ behind
+-- each entry of commands that run in order is that of its command after those before it
+entry_in_order : (act : Action) (w : World) (place : ℕ) (commands : List Command) (before : List Item) (item : Item) (following : List Item)
+    → items_in_order act w place commands ≡ before ++ item ∷ following
     → item.entry ≡ entry_of (place + length before) item.command (outcome act (run act w before) item.command)
-entry_in_order act w place [] [] item behind same = cc
-entry_in_order act w place [] (b ∷ before) item behind same = cc
-entry_in_order act w place (c ∷ commands) [] item behind same =
-    front_entry act w place c (items_in_order act (apply act w c) (place + 1) commands) item behind same
-entry_in_order act w place (c ∷ commands) (b ∷ before) item behind same =
+entry_in_order act w place [] [] item following same = cc
+entry_in_order act w place [] (b ∷ before) item following same = cc
+entry_in_order act w place (c ∷ commands) [] item following same =
+    front_entry act w place c (items_in_order act (apply act w c) (place + 1) commands) item following same
+entry_in_order act w place (c ∷ commands) (b ∷ before) item following same =
     let first : ◌≡◌ {A = Item} (record { command = c; entry = entry_of place c (outcome act w c) }) b = cc in
-    let rest : items_in_order act (apply act w c) (place + 1) commands ≡ before ++ item ∷ behind = cc in
-    let later = entry_in_order act (apply act w c) (place + 1) commands before item behind rest in
+    let rest : items_in_order act (apply act w c) (place + 1) commands ≡ before ++ item ∷ following = cc in
+    let later = entry_in_order act (apply act w c) (place + 1) commands before item following rest in
     let places : place + 1 + length before ≡ place + suc (length before) = omega arith in
     let moved = subst (λ (p : ℕ). item.entry ≡ entry_of p item.command (outcome act (run act (apply act w c) before) item.command)) places later in
     subst (λ (i : Item). item.entry ≡ entry_of (place + suc (length before)) item.command (outcome act (run act (apply act w i.command) before) item.command)) first moved
@@ -43,11 +43,11 @@ pub legal_in_order : (act : Action) (w : World) (place : ℕ) (commands : List C
 legal_in_order act w place commands = record { each = entry_in_order act w place commands }
 
 -- of each player their entries tell its commands
-pub told_in_order : (act : Action) (slot : ℕ) (w : World) (place : ℕ) (commands : List Command)
+pub player_items_in_order : (act : Action) (slot : ℕ) (w : World) (place : ℕ) (commands : List Command)
     → reported_numbers slot (entries_in_order act w place commands) ≡ sent_numbers slot commands
-told_in_order act slot w place [] = refl
-told_in_order act slot w place (c ∷ commands) =
-    let tail = told_in_order act slot (apply act w c) (place + 1) commands in
+player_items_in_order act slot w place [] = refl
+player_items_in_order act slot w place (c ∷ commands) =
+    let tail = player_items_in_order act slot (apply act w c) (place + 1) commands in
     elim (cases_Bool (c.slot == slot)) [ inl e ↦ rw e (cc) | inr e ↦ rw e tail ]
 
 -- their entries tell them in their order
@@ -60,7 +60,7 @@ order_in_order act w place (c ∷ commands) =
 -- a legal history whose first entry has place 0
 pub legal_from_first : (act : Action) (w : World) (history : List Item) → IsLegalFrom act 0 w history → IsLegal act w history
 legal_from_first act w history legal = record {
-  each = λ before item behind parts.
+  each = λ before item following parts.
       let places : 0 + length before ≡ length before = omega arith in
-      subst (λ (p : ℕ). item.entry ≡ entry_of p item.command (outcome act (run act w before) item.command)) places (legal.each before item behind parts);
+      subst (λ (p : ℕ). item.entry ≡ entry_of p item.command (outcome act (run act w before) item.command)) places (legal.each before item following parts);
 }

@@ -26,15 +26,15 @@ rest_in_order : (e : Entry) (journal : List Entry) (c : Command) (commands : Lis
 rest_in_order e journal c commands order = cc
 
 -- the first command with the number of the entry is the command that is found
-pub told_command : (moves : List Command) (e : Entry) (c : Command) → IsFound moves c → HasNumberOf e c → find (is_entry_of e) moves ≡ Some c
-told_command moves e c found number =
+pub looked_up_command : (moves : List Command) (e : Entry) (c : Command) → IsFound moves c → HasNumberOf e c → find (is_entry_of e) moves ≡ Some c
+looked_up_command moves e c found number =
     let by_slot = subst (λ (s : ℕ). find (λ d. (d.slot == s) && (d.seq == c.seq)) moves ≡ Some c) (sym number.slot) found.first in
     subst (λ (s : ℕ). find (λ d. (d.slot == e.slot) && (d.seq == s)) moves ≡ Some c) (sym number.seq) by_slot
 
 -- the history of a journal begins with the command that its first entry is_entry_of
 pub front_of_history : (moves : List Command) (e : Entry) (journal : List Entry) (c : Command) → find (is_entry_of e) moves ≡ Some c
     → history_of moves (e ∷ journal) ≡ record { command = c; entry = e } ∷ history_of moves journal
-front_of_history moves e journal c found = ap (λ (told : Option Command). with_command told e (history_of moves journal)) found
+front_of_history moves e journal c found = ap (λ (looked_up : Option Command). with_command looked_up e (history_of moves journal)) found
 
 -- the first entry of a legal history is that of its command
 pub first_entry : (act : Action) (place : ℕ) (w : World) (c : Command) (e : Entry) (items : List Item)
@@ -43,14 +43,14 @@ first_entry act place w c e items legal =
     let here : place + 0 ≡ place = omega arith in
     subst (λ (p : ℕ). e ≡ entry_of p c (outcome act w c)) here (legal.each [] (record { command = c; entry = e }) items refl)
 
--- what is behind the first entry is legal from the next place in the world behind its command
-pub legal_behind : (act : Action) (place : ℕ) (w : World) (c : Command) (e : Entry) (items : List Item)
+-- what is after the first entry is legal from the next place in the world after its command
+pub legal_after : (act : Action) (place : ℕ) (w : World) (c : Command) (e : Entry) (items : List Item)
     → IsLegalFrom act place w (record { command = c; entry = e } ∷ items) → IsLegalFrom act (place + 1) (apply act w c) items
-legal_behind act place w c e items legal = record {
-  each = λ before item behind parts.
+legal_after act place w c e items legal = record {
+  each = λ before item following parts.
       let next : place + suc (length before) ≡ place + 1 + length before = omega arith in
       subst (λ (p : ℕ). item.entry ≡ entry_of p item.command (outcome act (run act (apply act w c) before) item.command)) next
-      (legal.each (record { command = c; entry = e } ∷ before) item behind (ap (λ (rest : List Item). record { command = c; entry = e } ∷ rest) parts));
+      (legal.each (record { command = c; entry = e } ∷ before) item following (ap (λ (rest : List Item). record { command = c; entry = e } ∷ rest) parts));
 }
 
 -- a journal in the order of these commands, whose history is legal, is the one that running them gives
@@ -61,17 +61,17 @@ one_journal act moves place w [] [] found order legal = refl
 one_journal act moves place w [] (c ∷ commands) found order legal = cc
 one_journal act moves place w (e ∷ journal) [] found order legal = cc
 one_journal act moves place w (e ∷ journal) (c ∷ commands) found order legal =
-    let told = told_command moves e c found.0 (first_number e journal c commands order) in
-    let whole = subst (IsLegalFrom act place w) (front_of_history moves e journal c told) legal in
+    let looked_up = looked_up_command moves e c found.0 (first_number e journal c commands order) in
+    let whole = subst (IsLegalFrom act place w) (front_of_history moves e journal c looked_up) legal in
     let first = first_entry act place w c e (history_of moves journal) whole in
     let rest = one_journal act moves (place + 1) (apply act w c) journal commands found.1 (rest_in_order e journal c commands order)
-    (legal_behind act place w c e (history_of moves journal) whole) in
+    (legal_after act place w c e (history_of moves journal) whole) in
     cc
 
 -- a legal history is legal from place 0
 pub legal_at_first : (act : Action) (w : World) (history : List Item) → IsLegal act w history → IsLegalFrom act 0 w history
 legal_at_first act w history legal = record {
-  each = λ before item behind parts.
+  each = λ before item following parts.
       let places : length before ≡ 0 + length before = omega arith in
-      subst (λ (p : ℕ). item.entry ≡ entry_of p item.command (outcome act (run act w before) item.command)) places (legal.each before item behind parts);
+      subst (λ (p : ℕ). item.entry ≡ entry_of p item.command (outcome act (run act w before) item.command)) places (legal.each before item following parts);
 }

@@ -10,7 +10,7 @@ use Rattle.entity_recs.specs.declared.effect.Entry.{Entry}
 use Rattle.entity_recs.specs.Histories.{Item}
 use Rattle.move_journal.specs.Merges.{IsMerge, IsWholeHistory, reported_numbers, sent_numbers, is_entry_of, history_of}
 use Rattle.move_journal.proofs.Founds.{IsFound}
-use Rattle.move_journal.proofs.Uniques.{HasNumberOf, told_command, front_of_history}
+use Rattle.move_journal.proofs.Uniques.{HasNumberOf, looked_up_command, front_of_history}
 
 -- one player's moves
 abbrev pub sent_by : ℕ → List Command → List Command
@@ -45,8 +45,8 @@ front_here slot m moves own =
     }
 
 -- a move in front of which another player's is put
-front_behind : (slot : ℕ) (m : Command) (moves : List Command) → (m.slot == slot) ≡ false → Front slot moves → Front slot (m ∷ moves)
-front_behind slot m moves other front =
+front_after : (slot : ℕ) (m : Command) (moves : List Command) → (m.slot == slot) ≡ false → Front slot moves → Front slot (m ∷ moves)
+front_after slot m moves other front =
     let c = front.command in
     let rest = front.rest in
     record {
@@ -68,7 +68,7 @@ front_of slot n numbers [] sent = cc
 front_of slot n numbers (m ∷ moves) sent =
     elim (cases_Bool (m.slot == slot)) [
       | inl own ↦ front_here slot m moves own
-      | inr other ↦ front_behind slot m moves other (front_of slot n numbers moves (rw other at sent))
+      | inr other ↦ front_after slot m moves other (front_of slot n numbers moves (rw other at sent))
     ]
 
 -- where no player sent a number there is no move
@@ -107,8 +107,8 @@ rest_merges e journal moves c rest merge front =
       each = λ slot. elim (cases_Bool (e.slot == slot)) [
         | inl same ↦ subst (λ (s : ℕ). reported_numbers s journal ≡ sent_numbers s rest) (eqb-true e.slot slot same) own
         | inr differs ↦
-            let told : reported_numbers slot journal ≡ sent_numbers slot moves = rw differs at (merge.each slot) in
-            told ∙ ap (map (λ m. m.seq)) (front.others slot differs)
+            let looked_up : reported_numbers slot journal ≡ sent_numbers slot moves = rw differs at (merge.each slot) in
+            looked_up ∙ ap (map (λ m. m.seq)) (front.others slot differs)
       ];
     }
 
@@ -149,7 +149,7 @@ whole_history all (e ∷ journal) moves found merge =
     let number = front_number e journal moves c rest merge front.is in
     let parts = IsPermutation-sym (c ∷ rest) moves front.is.parts in
     let found_parts = All-permutation (IsFound all) moves (c ∷ rest) parts found in
-    let told = told_command all e c (All-head (IsFound all) c rest found_parts) number in
+    let looked_up = looked_up_command all e c (All-head (IsFound all) c rest found_parts) number in
     let whole = whole_history all journal rest (All-tail (IsFound all) c rest found_parts) (rest_merges e journal moves c rest merge front.is) in
-    subst (λ (items : List Item). IsWholeHistory (e ∷ journal) moves items) (sym (front_of_history all e journal c told))
+    subst (λ (items : List Item). IsWholeHistory (e ∷ journal) moves items) (sym (front_of_history all e journal c looked_up))
     (whole_with_front e journal moves c rest (history_of all journal) number front.is whole)

@@ -44,12 +44,12 @@ apart_where_numbered n (r ∷ rs) numbered =
     (differs_from_numbered r.id (n + 1) rs (omega arith) numbered.1, apart_where_numbered (n + 1) rs numbered.1)
 
 -- a record that differs in its id from the others doesn't hide them
-found_behind : (r : Rec) (before rs : List Rec) → AllByRecursion (λ other. (r.id == other.id) ≡ false) rs
+found_after : (r : Rec) (before rs : List Rec) → AllByRecursion (λ other. (r.id == other.id) ≡ false) rs
     → map (record_with (r ∷ before)) (map (λ other. other.id) rs) ≡ map (record_with before) (map (λ other. other.id) rs)
-found_behind r before [] differs = refl
-found_behind r before (x ∷ rs) differs =
+found_after r before [] differs = refl
+found_after r before (x ∷ rs) differs =
     let head : record_with (r ∷ before) x.id ≡ record_with before x.id = cond-false (r.id == x.id) r (record_with before x.id) differs.0 in
-    let tail = found_behind r before rs differs.1 in
+    let tail = found_after r before rs differs.1 in
     cc
 
 -- each of the records is found at its id, where their ids are apart
@@ -58,7 +58,7 @@ unfolding IsDistinct
 found_at_ids [] apart = refl
 found_at_ids (r ∷ rs) apart =
     let head : record_with (r ∷ rs) r.id ≡ r = cond-true (r.id == r.id) r (record_with rs r.id) (eq-eqb r.id r.id refl) in
-    let skipped = found_behind r rs rs apart.0 in
+    let skipped = found_after r rs rs apart.0 in
     let tail = found_at_ids rs apart.1 in
     cc
 

@@ -10,7 +10,7 @@ use Rattle.entity_recs.specs.Worlds.{World}
 use Rattle.entity_recs.specs.Histories.{Item, apply, entry_of, outcome}
 use Rattle.move_journal.specs.Merges.{history_of}
 use Rattle.move_journal.proofs.Orders.{IsLegalFrom}
-use Rattle.move_journal.proofs.Uniques.{first_entry, legal_behind, legal_at_first}
+use Rattle.move_journal.proofs.Uniques.{first_entry, legal_after, legal_at_first}
 use Rattle.move_journal.proofs.JournalLaws.{merges_have_whole_histories}
 use Rattle.arena_map.specs.Maps.{MapView, IsMap}
 use Rattle.arena_map.specs.Validity.{IsValidWorld}
@@ -49,7 +49,7 @@ reported_items map w records place (item ∷ items) is_map valid is live small l
       subst (IsReported place) (sym entry) (reported_one map records place c is_map valid has low),
       reported_items map (apply (outcome_in map) w c) (records_after map records c) (place + 1) items is_map more.valid next
           (all_live commands rest) (All-tail HasSmallNumber c commands small)
-          (legal_behind (outcome_in map) place w c item.entry items legal),
+          (legal_after (outcome_in map) place w c item.entry items legal),
     )
   where
     all_live : (commands : List Command) → All (HasLivePlayer records) commands → All (HasLivePlayer (records_after map records item.command)) commands

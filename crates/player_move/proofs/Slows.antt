@@ -1,4 +1,4 @@
--- How fast a record is behind a move.
+-- How fast a record is after a move.
 use Rattle.std.proofs.Common.{◌≡◌, ℕ, ◌≤◌, Bool, true, false, ◌⊎◌, inl, inr, List, ℤ, pos, unsigned_abs, if◌then◌else◌, subst, sym, arith}
 use Rattle.arena_geo.specs.declared.vec3.Vec3.{Vec3}
 use Rattle.arena_geo.specs.Vectors.{IsNear}

@@ -5,7 +5,7 @@ use Rattle.link_lists.proofs.Absences.{none_after_last}
 use Rattle.link_lists.proofs.Pools.{IfSome-from, next_of-at, where_of-next_same}
 use Rattle.link_lists.proofs.lists.Lists.next.Goals as goal
 
--- the link is what comes next in the list, which stands at the next place
+-- the link is what comes next in the list, which is at the next place
 pub returns-clause-follows : goal.returns-clause-follows
 returns-clause-follows c =
     let proper : IsProper c.args.self.now = search rules in

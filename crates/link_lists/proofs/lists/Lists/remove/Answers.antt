@@ -6,7 +6,7 @@ use Rattle.link_lists.specs.Pool.{ListsView, removed, IsProper, SetsOnly}
 use Rattle.link_lists.specs.Links.{link_at, with_link, IsLinkedAs}
 use Rattle.link_lists.proofs.Pools.{where_of-removed}
 use Rattle.link_lists.proofs.Walks.{pool_of-linked, IsLinkedAs-itself}
-use Rattle.link_lists.proofs.Linking.{next_in_range, prev_in_range, IsLinkedAs-removed_first, IsLinkedAs-removed_behind}
+use Rattle.link_lists.proofs.Linking.{next_in_range, prev_in_range, IsLinkedAs-removed_first, IsLinkedAs-removed_after}
 use Rattle.link_lists.proofs.lists.Lists.remove.Goals as goal
 use Rattle.link_lists.proofs.lists.Lists.remove.Goals.{After-index_mut-in-Some, After-index_mut-in-None}
 
@@ -25,7 +25,7 @@ index_mut-requires-in-Some c =
     let before : link_at c.self.inside.prev.items c.args.id ≡ Some c.in-Some.before = grind (arith, common_steps) in
     omega (arith, prev_in_range _ _ _ _ _ _ c.args.id old at c.in-Some.before before)
 
--- the links are now those of the lists without the id, behind another id and as the first of its list
+-- the links are now those of the lists without the id, after another id and as the first of its list
 linked-in-Some : (c : After-index_mut-in-Some) → IsLinkedAs
     c.self.inside.heads.items
     (set (set c.self.inside.next.items c.from-index.result c.take-after.new.self) c.from.result c.take-after.result)
@@ -43,7 +43,7 @@ linked-in-Some c =
     let kept : length c.link_back.new.prev ≡ c.self.inside.prev.len = omega arith in
     let written = with_items_is (with_item c.self.inside.prev c.from-index.result c.take-before.new.self) c.link_back.new.prev kept in
     rw (written, c.from-index.ensures, c.from.ensures, c.take-after.ensures.after, c.take.ensures.after, after, links)
-    (IsLinkedAs-removed_behind _ _ _ _ c.args.self.now c.unwrap-list.result c.args.id old at c.in-Some.before before)
+    (IsLinkedAs-removed_after _ _ _ _ c.args.self.now c.unwrap-list.result c.args.id old at c.in-Some.before before)
 
 linked-in-None : (c : After-index_mut-in-None) → IsLinkedAs
     (set c.self.inside.heads.items c.from-in-None.result c.take-after.result)

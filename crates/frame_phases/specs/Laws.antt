@@ -1,0 +1,8 @@
+-- The numbers of this crate.
+use Rattle.std.specs.Prelude.{◌≡◌}
+use Rattle.frame_phases.specs.declared.limits.TheConstants.{MOST_ARRIVALS, MOST_FRAMES}
+
+-- how many packets a frame has at the most, and how many frames a server runs
+pub record LimitsAreKnown : Type 0 where
+  pub arrivals : MOST_ARRIVALS ≡ 512
+  pub frames : MOST_FRAMES ≡ 100000
