@@ -1,8 +1,8 @@
 -- The laws of the receive pass.
-use Rattle.std.proofs.Common.{◌≡◌, ◌⊎◌, ℕ, zero, suc, ◌+◌, ◌<◌, ◌==◌, Bool, true, false, ◌&&◌, ◌||◌, not, nat_le, if◌then◌else◌, List, [], ◌∷◌, Option, Some, None, option_map, Result, Ok, Err, ok_or, IfOk, sym, refl, ap, ◌∙◌, subst, inl, inr, arith}
+use Rattle.std.proofs.Common.{◌≡◌, ◌⊎◌, ℕ, zero, suc, ◌+◌, ◌<◌, ◌≤◌, ◌==◌, Bool, true, false, ◌&&◌, ◌||◌, not, nat_le, if◌then◌else◌, List, [], ◌∷◌, filter, length, Option, Some, None, is_some, option_map, Result, Ok, Err, ok_or, IfOk, sym, refl, ap, ◌∙◌, subst, inl, inr, arith}
 use Rattle.std.specs.Prelude.{map as map_list}
-use Rattle.std.specs.List.{find}
-use Rattle.std.proofs.lemmas.Bool.{ne_eqb}
+use Rattle.std.specs.List.{find, filter_map, list_any, cons_option}
+use Rattle.std.proofs.lemmas.Bool.{cases_eq, eq-eqb, ne_eqb}
 use Rattle.std.proofs.lemmas.Bool.Decides.{nat_tests}
 use Rattle.std.proofs.lemmas.Option.{none-some, same_Some}
 use Rattle.arena_geo.specs.declared.vec3.Vec3.{Vec3}
@@ -11,16 +11,19 @@ use Rattle.arena_geo.specs.Boxes.{overlaps, is_blocked}
 use Rattle.entity_recs.specs.declared.rec.Rec.{Rec}
 use Rattle.entity_recs.specs.Bodies.{body_of, player_body}
 use Rattle.entity_recs.specs.Kinds.{is_solid}
+use Rattle.packet_read.specs.declared.move_packet.MovePacket.{MovePacket}
 use Rattle.packet_read.specs.declared.packet.Packet.{Packet}
 use Rattle.packet_read.specs.declared.packet.Packet.TheVariants.{Join, Step, Leave}
 use Rattle.packet_read.specs.declared.packet_fault.PacketFault.{PacketFault}
+use Rattle.packet_read.specs.Reading.{reading}
 use Rattle.entity_slots.specs.declared.join_fault.JoinFault.{JoinFault}
 use Rattle.entity_slots.specs.Ports as slots
 use Rattle.entity_slots.specs.Places.{place_for, IsLeastFree}
 use Rattle.entity_slots.proofs.Found.{place_for-least}
 use Rattle.arena_map.specs.Maps.{MapView, solids_of}
-use Rattle.world_tree.specs.Live.{record_at}
+use Rattle.world_tree.specs.Live.{record_at, live_in}
 use Rattle.world_tree.specs.Queries.{is_free, solids_in}
+use Rattle.client_ports.specs.declared.arrival.Arrival.{Arrival}
 use Rattle.client_ports.specs.declared.client.Client.{Client}
 use Rattle.client_ports.specs.declared.client.LiveSlot.{LiveSlot}
 use Rattle.client_ports.specs.declared.refusal.Refusal.{Refusal}
@@ -28,8 +31,8 @@ use Rattle.client_ports.specs.declared.refusal.Refusal.TheVariants as refusal
 use Rattle.client_ports.specs.declared.spawns.Place.{Place}
 use Rattle.client_ports.specs.Clients.{client, client_at, port_of, ports_of, live_slot, live_at, live_with, AreClients}
 use Rattle.client_ports.specs.States.{State, IsState}
-use Rattle.client_ports.specs.Answers.{free_spawn, place_at, place_in, join_answer, leave_answer, moved, move_by, move_answer}
-use Rattle.client_ports.specs.Receiving.{Receiving, after_join, after_leave, after_move, after_packet, command_in}
+use Rattle.client_ports.specs.Answers.{free_spawn, place_at, place_in, join_answer, leave_answer, moved, move_by, move_answer, refusal_of}
+use Rattle.client_ports.specs.Receiving.{Receiving, after_join, after_leave, after_move, after_packet, after_arrival, command_in}
 use Rattle.client_ports.specs.Laws.{IsClear, IsAcceptedMove, IsRefused, IsJoined, IsLeave, IsMove}
 use Rattle.client_ports.proofs.Slots.{port_at-client, port_of-none}
 use Rattle.client_ports.proofs.Live.{free-record}

@@ -1,12 +1,12 @@
 -- The end of a frame, slot by slot.
-use Rattle.std.proofs.Common.{◌≡◌, ◌≢◌, ℕ, zero, suc, ◌<◌, ◌≤◌, Bool, true, false, if◌then◌else◌, List, length, Option, None, slice_set, sym, refl, ap, ◌∙◌, subst, inl, inr, arith, get_or-set_same, get_or-set_other}
+use Rattle.std.proofs.Common.{◌≡◌, ◌≢◌, ◌⊎◌, ℕ, zero, suc, ◌+◌, ◌<◌, ◌≤◌, Bool, true, false, nat_lt, if◌then◌else◌, List, length, Option, Some, None, slice_index_or, slice_set, sym, refl, ap, ◌∙◌, subst, inl, inr, arith, get_or-set_same, get_or-set_other}
 use Rattle.std.proofs.lemmas.Bool.{cases_eq, cases_lt}
 use Rattle.std.proofs.lemmas.List.{get_or_past, length-set}
 use Rattle.entity_recs.specs.declared.rec.Rec.{Rec}
 use Rattle.world_tree.specs.Live.{record_at}
 use Rattle.client_ports.specs.declared.client.Client.{Client}
 use Rattle.client_ports.specs.Clients.{client_at}
-use Rattle.client_ports.specs.States.{State}
+use Rattle.client_ports.specs.States.{State, state_of}
 use Rattle.client_ports.specs.Finishing.{is_leaver, finished_client, records_after, finished_at, finished_up_to, finished}
 
 -- the record of an id after the frame

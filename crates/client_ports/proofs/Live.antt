@@ -1,11 +1,11 @@
 -- That the live slots stay the live players.
-use Rattle.std.proofs.Common.{◌≡◌, ◌≢◌, ◌⊎◌, ℕ, ◌<◌, true, false, List, length, Option, Some, None, is_some, IsSome, slice_set, sym, refl, ap, ◌∙◌, inl, inr, arith, get_or-set_same, get_or-set_other}
+use Rattle.std.proofs.Common.{◌≡◌, ◌≢◌, ◌⊎◌, ℕ, ◌<◌, Bool, true, false, List, length, Option, Some, None, is_some, IsSome, slice_index_or, slice_set, sym, refl, ap, ◌∙◌, inl, inr, arith, get_or-set_same, get_or-set_other}
 use Rattle.std.proofs.lemmas.Bool.{cases_eq}
 use Rattle.entity_recs.specs.declared.rec.Rec.{Rec}
 use Rattle.world_tree.specs.Live.{record_at}
 use Rattle.client_ports.specs.declared.client.Client.{Client}
 use Rattle.client_ports.specs.declared.client.LiveSlot.{LiveSlot}
-use Rattle.client_ports.specs.Clients.{client_at, with_client, IsUpdate}
+use Rattle.client_ports.specs.Clients.{client_at, port_of, with_client, IsUpdate}
 use Rattle.client_ports.specs.States.{HaveSameLive}
 use Rattle.client_ports.proofs.Slots.{port_of-some}
 

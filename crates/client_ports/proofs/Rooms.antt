@@ -1,5 +1,5 @@
 -- The room of the lists: an arrival lengthens one of them by one at the most.
-use Rattle.std.proofs.Common.{◌≡◌, ℕ, ◌+◌, ◌<◌, ◌≤◌, [], ◌∷◌, length, Result, Ok, Err, sym, ap, ◌∙◌, subst, arith, length-append}
+use Rattle.std.proofs.Common.{◌≡◌, ℕ, ◌+◌, ◌<◌, ◌≤◌, [], ◌∷◌, length, Result, Ok, Err, refl, sym, ap, ◌∙◌, subst, arith, length-append}
 use Rattle.packet_read.specs.declared.packet.Packet.{Packet}
 use Rattle.packet_read.specs.declared.packet.Packet.TheVariants.{Join, Step, Leave}
 use Rattle.packet_read.specs.declared.packet_fault.PacketFault.{PacketFault}
@@ -15,7 +15,7 @@ use Rattle.client_ports.specs.declared.refusal.Refusal.{Refusal}
 use Rattle.client_ports.specs.declared.spawns.Place.{Place}
 use Rattle.client_ports.specs.Answers.{join_answer, leave_answer, move_answer}
 use Rattle.client_ports.specs.Lists.{Lists, ReceivedView, HasRoom, with_move, with_join, with_refusal}
-use Rattle.client_ports.specs.Receiving.{Receiving, after_join, after_leave, after_move, after_packet, after_arrival, command_in}
+use Rattle.client_ports.specs.Receiving.{Receiving, after_refusal, after_join, after_leave, after_move, after_packet, after_arrival, command_in}
 
 -- each list has at most so many elements
 pub record AreShort (most : ℕ) (l : Lists) : Type 0 where

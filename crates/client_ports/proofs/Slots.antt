@@ -1,5 +1,5 @@
 -- That the slots stay those of the clients.
-use Rattle.std.proofs.Common.{◌≡◌, ◌⊎◌, ℕ, zero, suc, ◌<◌, ◌≤◌, List, [], ◌∷◌, length, Option, Some, None, is_some, slice_index_or, slice_set, sym, refl, ap, ◌∙◌, subst, inl, inr, arith, get_or-set_same, get_or-set_other}
+use Rattle.std.proofs.Common.{◌≡◌, ◌≢◌, ◌⊎◌, ℕ, zero, suc, ◌<◌, ◌≤◌, Bool, true, false, List, [], ◌∷◌, length, map, replicate, Option, Some, None, is_some, IsSome, slice_index_or, slice_set, sym, refl, ap, ◌∙◌, subst, inl, inr, arith, get_or-set_same, get_or-set_other}
 use Rattle.std.proofs.lemmas.Bool.{cases_eq, cases_lt}
 use Rattle.std.proofs.lemmas.List.{get_or_past, get_or-replicate, length-map, length-replicate, length-set, map-set, set-get_or}
 use Rattle.std.proofs.lemmas.Option.{none-some, same_Some}
@@ -7,7 +7,7 @@ use Rattle.entity_slots.specs.Ports.{no_ports, port_at, AreSlots, with_port, wit
 use Rattle.entity_slots.proofs.Changes.{no_ports-are_slots, with_port-are_slots, without_slot-are_slots}
 use Rattle.client_ports.specs.declared.client.Client.{Client}
 use Rattle.client_ports.specs.declared.client.LiveSlot.{LiveSlot}
-use Rattle.client_ports.specs.Clients.{no_clients, client_at, port_of, ports_of, live_slot, new_client, with_client, ArePorts, IsUpdate, IsPlaceFor}
+use Rattle.client_ports.specs.Clients.{no_clients, client_at, port_of, ports_of, live_slot, new_client, with_client, AreClients, ArePorts, IsUpdate, IsPlaceFor}
 
 -- there are as many slots as clients
 pub client_count : (clients : List (Option Client)) → AreSlots (ports_of clients) → length clients ≡ 64

@@ -1,5 +1,5 @@
 -- That a valid world stays valid.
-use Rattle.std.proofs.Common.{◌≡◌, ◌≢◌, ℕ, ◌<◌, ◌≤◌, ◌==◌, List, length, is_some, Option, Some, None, slice_set, sym, refl, ap, ◌∙◌, subst, inl, inr, arith, get_or-set_other}
+use Rattle.std.proofs.Common.{◌≡◌, ◌≢◌, ◌⊎◌, ℕ, ◌<◌, ◌≤◌, ◌==◌, true, List, [], length, is_some, Option, Some, None, slice_index_or, slice_set, sym, refl, ap, ◌∙◌, subst, inl, inr, arith, get_or-set_other, unsigned_abs, pos}
 use Rattle.std.specs.List.{find}
 use Rattle.std.proofs.lemmas.Option.{none-some, same_Some}
 use Rattle.arena_geo.specs.declared.vec3.Vec3.{Vec3}

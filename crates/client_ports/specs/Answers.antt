@@ -1,5 +1,5 @@
 -- What a packet is answered: what it changes, or why it is refused, the first reason that holds.
-use Rattle.std.specs.Prelude.{ℕ, ◌+◌, true, nat_le, List, Option, Some, None, option_map, Result, Ok, Err, ok_or, if◌then◌else◌}
+use Rattle.std.specs.Prelude.{ℕ, ◌+◌, Bool, true, nat_le, List, Option, Some, None, option_map, Result, Ok, Err, ok_or, if◌then◌else◌}
 use Rattle.std.specs.List.{find}
 use Rattle.arena_geo.specs.declared.vec3.Vec3.{Vec3}
 use Rattle.arena_geo.specs.Bounds.{Bounds}

@@ -1,4 +1,4 @@
-use Rattle.std.proofs.Common.{refl, sym, ap, ◌∙◌, arith, add-one}
+use Rattle.std.proofs.Common.{◌≡◌, ◌+◌, ℕ, refl, sym, ap, ◌∙◌, subst, arith, add-one}
 use Rattle.client_ports.specs.States.{State, state_of}
 use Rattle.client_ports.specs.Finishing.{finished, finished_at, finished_up_to}
 use Rattle.client_ports.proofs.ports.Ports.finish.Goals as goal

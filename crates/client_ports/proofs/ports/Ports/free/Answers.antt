@@ -1,4 +1,5 @@
-use Rattle.std.proofs.Common.{List, Option, ℕ, None, slice_set, sym, subst}
+use Rattle.std.proofs.Common.{◌≡◌, List, Option, ℕ, None, slice_set, sym, subst}
+use Rattle.client_ports.specs.declared.client.Client.{Client}
 use Rattle.client_ports.specs.Clients.{ArePorts}
 use Rattle.client_ports.proofs.Slots.{free-are_ports}
 use Rattle.client_ports.proofs.ports.Ports.free.Goals as goal

@@ -1,4 +1,4 @@
-use Rattle.std.proofs.Common.{List, Option, ℕ, Some, slice_set, sym, subst}
+use Rattle.std.proofs.Common.{◌≡◌, List, Option, ℕ, Some, slice_set, sym, ap, ◌∙◌, subst}
 use Rattle.client_ports.specs.declared.client.Client.{Client}
 use Rattle.client_ports.specs.Clients.{new_client, with_client, live_slot, ArePorts, IsPlaceFor}
 use Rattle.client_ports.proofs.Slots.{join-are_ports}

@@ -1,4 +1,4 @@
-use Rattle.std.proofs.Common.{ℕ, List, Option, sym, subst}
+use Rattle.std.proofs.Common.{◌≡◌, ℕ, List, Option, sym, subst}
 use Rattle.client_ports.specs.Clients.{no_clients, ArePorts}
 use Rattle.client_ports.proofs.Slots.{no_clients-are_ports}
 use Rattle.client_ports.proofs.ports.Ports.new.Goals as goal

@@ -1,4 +1,4 @@
-use Rattle.std.proofs.Common.{refl, ap, ◌∙◌, arith}
+use Rattle.std.proofs.Common.{◌≡◌, ◌+◌, ◌<◌, ℕ, length, drop, refl, sym, ap, ◌∙◌, subst, arith}
 use Rattle.client_ports.specs.States.{state_of}
 use Rattle.client_ports.specs.Lists.{Lists}
 use Rattle.client_ports.specs.Receiving.{receiving_of, after_arrivals, received}

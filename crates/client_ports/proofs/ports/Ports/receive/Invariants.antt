@@ -1,5 +1,6 @@
-use Rattle.std.proofs.Common.{◌≡◌, drop}
+use Rattle.std.proofs.Common.{◌≡◌, ◌≤◌, ◌+◌, length, drop}
 use Rattle.client_ports.specs.States.{state_of, IsState}
+use Rattle.client_ports.specs.Lists.{Lists}
 use Rattle.client_ports.specs.Receiving.{receiving_of, after_arrivals}
 use Rattle.client_ports.proofs.Rooms.{HasRoomLeft}
 use Rattle.client_ports.proofs.ports.Ports.receive.Given as goal

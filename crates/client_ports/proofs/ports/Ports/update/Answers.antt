@@ -1,4 +1,4 @@
-use Rattle.std.proofs.Common.{List, Option, ℕ, Some, slice_set, sym, subst}
+use Rattle.std.proofs.Common.{◌≡◌, ◌<◌, List, Option, ℕ, Some, slice_set, sym, ap, subst, arith}
 use Rattle.client_ports.specs.declared.client.Client.{Client}
 use Rattle.client_ports.specs.Clients.{ArePorts, IsUpdate}
 use Rattle.client_ports.proofs.Slots.{update-are_ports}
