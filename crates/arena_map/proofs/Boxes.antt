@@ -1,10 +1,10 @@
 -- The boxes of lines.
-use Rattle.std.proofs.Common.{◌≡◌, ℤ, pos, ◌≤ℤ◌, FitsSigned, w32, true, Bool, false, ◌&&◌, refl, unsigned_abs, ◌≤◌, int_lt, arith}
+use Rattle.std.proofs.Common.{◌≡◌, ℤ, pos, ◌≤ℤ◌, FitsSigned, w32, true, Bool, false, ◌&&◌, refl, int_lt, arith}
 use Rattle.std.proofs.lemmas.Int.{ints}
 use Rattle.arena_geo.specs.declared.vec3.Vec3.{Vec3}
 use Rattle.arena_geo.specs.Vectors.{IsNear, Fits, plus}
-use Rattle.arena_geo.specs.Bounds.{Bounds, bounds, IsOrdered, IsBox}
-use Rattle.arena_map.specs.Places.{is_long, is_wide, is_thick, item_body, upwards, raised, shaft}
+use Rattle.arena_geo.specs.Bounds.{bounds, IsOrdered, IsBox}
+use Rattle.arena_map.specs.Places.{is_long, is_wide, is_thick, item_body, upwards, shaft}
 
 -- the two parts of a test that passes
 pub both_parts : (a b : Bool) → (a && b) ≡ true → (a ≡ true) × (b ≡ true)

@@ -1,5 +1,5 @@
 -- The fields of a line, one after another.
-use Rattle.std.proofs.Common.{◌≡◌, ℕ, suc, ◌<◌, true, false, List, ◌∷◌, length, drop, get_or, None, ap, ◌∙◌, refl, sym, drop-cons}
+use Rattle.std.proofs.Common.{◌≡◌, ℕ, suc, ◌<◌, false, List, length, drop, get_or, None, ap, ◌∙◌, sym, drop-cons}
 use Rattle.edge_io.specs.Fields.{field_at}
 use Rattle.arena_map.specs.declared.map_word.MapField.{MapField}
 use Rattle.arena_map.specs.declared.map_word.MapField.TheVariants.{Number}

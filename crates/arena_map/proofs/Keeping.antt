@@ -1,5 +1,5 @@
 -- That lines which break no rule give maps that keep the rules.
-use Rattle.std.proofs.Common.{◌≡◌, ℕ, ◌+◌, ◌<◌, ◌≤◌, Bool, true, false, not, ◌&&◌, ◌||◌, cond, if◌then◌else◌, nat_lt, List, [], ◌∷◌, ◌++◌, length, Option, Some, None, All, AllPairs, count_by, filter_map, get_or, refl, sym, ap, ◌∙◌, subst, arith, length-append, append-nil}
+use Rattle.std.proofs.Common.{◌≡◌, ℕ, ◌+◌, ◌<◌, ◌≤◌, Bool, true, false, not, ◌||◌, cond, if◌then◌else◌, nat_lt, List, [], ◌∷◌, ◌++◌, Option, Some, None, All, AllPairs, count_by, filter_map, get_or, refl, sym, ◌∙◌, subst, arith, length-append, append-nil}
 use Rattle.std.specs.List.{list_any}
 use Rattle.std.proofs.lemmas.Bool.Decides.{nat_tests}
 use Rattle.std.proofs.lemmas.List.Elements.{All-append, All-from_recursion, filter_map-append}
@@ -15,7 +15,7 @@ use Rattle.arena_map.specs.declared.map_fault.MapFault.TheVariants as fault
 use Rattle.arena_map.specs.declared.map_line.MapLine.{MapLine}
 use Rattle.arena_map.specs.declared.map_line.MapLine.TheVariants.{Arena, Block, Spawn, Item, Teleport, Goal, Lift}
 use Rattle.arena_map.specs.MapLines.{IsWithinLimits, is_thing_line, is_item_line, is_teleport_line, is_goal_line, is_lift_line}
-use Rattle.arena_map.specs.Places.{is_wide, is_thick, is_player_inside, shaft, shaft_of, keeps_box, keeps_stand, keeps_item, keeps_travel}
+use Rattle.arena_map.specs.Places.{is_wide, is_thick, shaft, shaft_of, has_thick_lift, keeps_box, keeps_stand, keeps_item, keeps_travel}
 use Rattle.arena_map.specs.Maps.{MapView, shafts_of, IsSpawn, IsBlock, IsThingInside, IsMap}
 use Rattle.arena_map.specs.Rules.{broken_by_arena, bare_map, keeps_count, meets_shaft, keeps_shafts, broken_rule, with_block, with_spawn, with_thing, with_line}
 use Rattle.arena_map.proofs.Boxes.{both_parts, near_box, wide_ordered, thick_box}
@@ -113,6 +113,13 @@ begun-is_map lo hi low high none = by (is_wide lo hi) refl none
     by : (wide : Bool) → is_wide lo hi ≡ wide → (if wide then None else Some fault.Arena) ≡ None → IsMap (bare_map lo hi)
     by true e h = bare_map-is_map lo hi low high e
     by false e h = cc
+
+-- ---- lifts
+
+-- a lift that keeps the rule on boxes has an inside
+pub thick-lift : (arena : Bounds) (line : MapLine) → keeps_box arena line ≡ true → has_thick_lift line ≡ true
+thick-lift arena (Lift lo hi rise speed) keeps = (both_parts (is_thick lo hi) (contains arena (bounds lo hi)) keeps).0
+thick-lift arena line keeps = refl
 
 -- ---- blocks and spawns
 

@@ -1,5 +1,5 @@
 -- How a map is kept: as its bounds, its solids, its spawns, the lines of its things, their records and the shafts.
-use Rattle.std.proofs.Common.{◌≡◌, ℕ, ◌+◌, ◌<◌, ◌≤◌, true, List, [], ◌∷◌, ◌++◌, length, drop, filter_map, option_to_list, Option, Some, None, All, sym, ap, ◌∙◌, refl, subst, append_assoc, add_assoc, length-append, arith}
+use Rattle.std.proofs.Common.{◌≡◌, ℕ, ◌+◌, ◌≤◌, true, List, [], ◌∷◌, ◌++◌, length, drop, filter_map, option_to_list, Option, Some, None, All, sym, ap, ◌∙◌, refl, subst, append_assoc, arith}
 use Rattle.std.specs.List.{AllByRecursion}
 use Rattle.std.proofs.lemmas.List.Elements.{All-head, All-tail, filter_map-append}
 use Rattle.arena_geo.specs.declared.vec3.Vec3.{Vec3}

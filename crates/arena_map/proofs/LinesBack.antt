@@ -1,5 +1,5 @@
 -- A line that was printed is read as that line.
-use Rattle.std.proofs.Common.{◌≡◌, ℕ, zero, suc, ◌≤◌, ◌<◌, Bool, true, false, List, [], ◌∷◌, ◌++◌, Option, Some, None, Result, Ok, Err, ok_or, cond, codes, refl, sym, ap, ◌∙◌, arith, ℤ, pos, negsuc, ◌≤ℤ◌, unsigned_abs, decimal, append_assoc, append-nil, rules}
+use Rattle.std.proofs.Common.{◌≡◌, ℕ, zero, suc, ◌≤◌, true, List, [], ◌++◌, Option, Some, Ok, Err, ok_or, cond, refl, sym, ap, ◌∙◌, arith, ℤ, pos, negsuc, ◌≤ℤ◌, unsigned_abs, decimal, append_assoc, append-nil, rules}
 use Rattle.std.specs.Fmt.{signed_decimal}
 use Rattle.std.proofs.lemmas.Int.{ints}
 use Rattle.arena_geo.specs.declared.vec3.Vec3.{Vec3}
@@ -7,7 +7,7 @@ use Rattle.arena_geo.specs.Vectors.{IsNear}
 use Rattle.entity_recs.specs.declared.kind.Kind.{Kind}
 use Rattle.entity_recs.specs.declared.kind.Kind.TheVariants as kinds
 use Rattle.edge_io.specs.Numbers.{natural_up_to, integer_up_to}
-use Rattle.edge_io.specs.Fields.{◌>>=◌, cut, field_at, field_text}
+use Rattle.edge_io.specs.Fields.{◌>>=◌, field_text}
 use Rattle.edge_io.proofs.Decimals.{natural-decimal, integer-decimal}
 use Rattle.edge_io.proofs.FieldTexts.{AreAbove, IsEnd, decimal_above, signed_above, cut-field, field_at-field}
 use Rattle.arena_map.specs.declared.map_line.MapLine.{MapLine}
@@ -15,8 +15,8 @@ use Rattle.arena_map.specs.declared.map_line.MapLine.TheVariants.{Arena, Block, 
 use Rattle.arena_map.specs.declared.map_word.MapWord.{MapWord}
 use Rattle.arena_map.specs.declared.map_word.MapWord.TheVariants as words
 use Rattle.arena_map.specs.MapLines.{IsWithinLimits, is_item}
-use Rattle.arena_map.specs.Words.{word_text, map_word, kind_text, item_kind, fields_of}
-use Rattle.arena_map.specs.Reading.{has_fields, coordinate_at, point_at, above_zero, count_at, kind_at, alone, corners_at, line_within, line_of_word, line_of_first, map_line_of}
+use Rattle.arena_map.specs.Words.{word_text, map_word, kind_text, item_kind}
+use Rattle.arena_map.specs.Reading.{coordinate_at, point_at, above_zero, count_at, kind_at, alone, corners_at, line_within, line_of_word, line_of_first, map_line_of}
 use Rattle.arena_map.specs.Spelling.{word_of, point_text, fields_text, map_line_text}
 use Rattle.arena_map.proofs.LinesSound.{within-form}
 

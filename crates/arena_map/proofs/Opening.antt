@@ -1,25 +1,21 @@
 -- The opening world of a map is valid, and its lifts stay inside the arena.
-use Rattle.std.proofs.Common.{◌≡◌, ℕ, zero, suc, ◌+◌, ◌-◌, ◌<◌, ◌≤◌, ◌==◌, Bool, true, false, ◌&&◌, cond, nat_le, List, [], ◌∷◌, length, Option, Some, None, option_and_then, slice_get, slice_index_or, unwrap_or, All, ℤ, pos, ◌+ℤ◌, ◌-ℤ◌, ◌≤ℤ◌, int_le, unsigned_abs, refl, sym, ap, ◌∙◌, subst, arith}
+use Rattle.std.proofs.Common.{◌≡◌, ℕ, suc, ◌+◌, ◌-◌, ◌<◌, ◌≤◌, ◌==◌, Bool, true, false, cond, nat_le, List, [], ◌∷◌, length, Option, Some, None, option_and_then, slice_get, refl, sym, ap, ◌∙◌, subst, arith}
 use Rattle.std.specs.List.{find, AllByRecursion}
 use Rattle.std.proofs.lemmas.Bool.Decides.{nat_tests}
 use Rattle.std.proofs.lemmas.Int.{ints}
 use Rattle.std.proofs.lemmas.Option.{none-some, same_Some}
-use Rattle.arena_geo.specs.declared.vec3.Vec3.{Vec3}
-use Rattle.arena_geo.specs.Vectors.{IsNear, plus, minus, zero_vector}
-use Rattle.arena_geo.specs.Bounds.{Bounds, bounds}
-use Rattle.arena_geo.specs.Boxes.{contains_on, contains}
-use Rattle.arena_geo.proofs.Containment.{all_three}
+use Rattle.arena_geo.specs.Bounds.{Bounds}
 use Rattle.entity_recs.specs.declared.kind.Kind.{Kind}
 use Rattle.entity_recs.specs.declared.kind.Kind.TheVariants as kinds
 use Rattle.entity_recs.specs.declared.rec.Rec.{Rec}
-use Rattle.entity_recs.specs.Records.{IsMapId, IsRecord, IsStateOf, IsShapeOf}
+use Rattle.entity_recs.specs.Records.{IsMapId, IsStateOf}
 use Rattle.arena_map.specs.declared.lift.Lift as lifts
 use Rattle.arena_map.specs.declared.map_line.MapLine.{MapLine}
 use Rattle.arena_map.specs.declared.map_line.MapLine.TheVariants.{Arena, Block, Spawn, Item, Teleport, Goal, Lift}
-use Rattle.arena_map.specs.MapLines.{is_item, is_thing_line}
+use Rattle.arena_map.specs.MapLines.{is_item}
 use Rattle.arena_map.specs.Things.{record_of, records_from, lift_data}
-use Rattle.arena_map.specs.Maps.{MapView, entities_of, thing_of, lift_of, IsThingInside, IsMap}
-use Rattle.arena_map.specs.Validity.{IsSameThing, IsSameLift, IsAsItsLine, IsThing, IsValidRecord, IsOpeningWorld, IsValidWorld}
+use Rattle.arena_map.specs.Maps.{MapView, entities_of, lift_of, IsThingInside, IsMap}
+use Rattle.arena_map.specs.Validity.{IsAsItsLine, IsThing, IsValidRecord}
 use Rattle.arena_map.specs.Laws.{OpeningWorldIsValid}
 use Rattle.arena_map.proofs.Kept.{each-of, few_things}
 use Rattle.arena_map.proofs.ThingRecords.{own-id, thing-is_record}

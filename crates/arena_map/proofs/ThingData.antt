@@ -1,5 +1,5 @@
 -- Each thing has the data of its kind.
-use Rattle.std.proofs.Common.{◌≡◌, ℕ, zero, suc, ◌+◌, ◌-◌, ◌<◌, ◌≤◌, ◌==◌, Bool, true, false, cond, nat_le, List, [], ◌∷◌, Option, Some, None, is_some, option_and_then, slice_get, refl, sym, ap, ◌∙◌, subst, arith}
+use Rattle.std.proofs.Common.{◌≡◌, ℕ, suc, ◌+◌, ◌-◌, ◌<◌, ◌≤◌, ◌==◌, Bool, true, false, cond, nat_le, nat_lt, List, [], ◌∷◌, Option, Some, None, is_some, option_and_then, slice_get, refl, sym, ap, ◌∙◌, subst, arith}
 use Rattle.std.specs.List.{find, AllByRecursion}
 use Rattle.std.proofs.lemmas.Bool.Decides.{nat_tests}
 use Rattle.std.proofs.lemmas.Option.{none-some, same_Some}
@@ -8,15 +8,18 @@ use Rattle.arena_geo.specs.Bounds.{Bounds}
 use Rattle.entity_recs.specs.declared.kind.Kind.{Kind}
 use Rattle.entity_recs.specs.declared.kind.Kind.TheVariants as kinds
 use Rattle.entity_recs.specs.declared.rec.Rec.{Rec}
+use Rattle.entity_recs.specs.Records.{IsIdOf}
+use Rattle.arena_map.specs.declared.lift.Lift as lifts
 use Rattle.arena_map.specs.declared.map_line.MapLine.{MapLine}
 use Rattle.arena_map.specs.declared.map_line.MapLine.TheVariants.{Arena, Block, Spawn, Item, Teleport, Goal, Lift}
 use Rattle.arena_map.specs.MapLines.{is_thing_line, is_item, is_teleporter, is_lift}
 use Rattle.arena_map.specs.Things.{record_of, records_from, dest_in, delay_in, lift_data}
-use Rattle.arena_map.specs.Maps.{MapView, entities_of, thing_of, IsThingInside, IsMap}
-use Rattle.arena_map.specs.Laws.{HasData, DataFollowKinds}
+use Rattle.arena_map.specs.Maps.{MapView, entities_of, thing_of, lift_of, IsThingInside, IsMap}
+use Rattle.arena_map.specs.Validity.{IsAsItsLine, IsThing}
+use Rattle.arena_map.specs.Laws.{HasDataOf, HasData, DataFollowKinds, LiveRecordsHaveData}
 use Rattle.arena_map.proofs.Kept.{each-of}
 use Rattle.arena_map.proofs.ThingRecords.{own-id}
-use Rattle.arena_map.proofs.Opening.{IsFound, found-in}
+use Rattle.arena_map.proofs.Opening.{IsFound, found-in, no-thing-below}
 
 -- the line at the place of an id gives the thing with that id
 found-back : (first : ℕ) (things : List MapLine) (id : ℕ) (line : MapLine) → AllByRecursion (λ l. is_thing_line l ≡ true) things → first ≤ id
@@ -63,15 +66,15 @@ line-of-found map id thing found =
     ap (λ b. cond b (slice_get map.things (id - 64)) None) least ∙ found.at
 
 -- the data of a line's thing are those of its kind
-abbrev HasDataOf : MapLine → Kind → Type 0
-HasDataOf line kind = (is_some (dest_in line) ≡ is_teleporter kind) × (is_some (delay_in line) ≡ is_item kind) × (is_some (lift_data line) ≡ is_lift kind)
+abbrev LineHasDataOf : MapLine → Kind → Type 0
+LineHasDataOf line kind = (is_some (dest_in line) ≡ is_teleporter kind) × (is_some (delay_in line) ≡ is_item kind) × (is_some (lift_data line) ≡ is_lift kind)
 
-item-data : (id delay : ℕ) (kind : Kind) (at : Vec3) → is_item kind ≡ true → HasDataOf (Item at kind delay) kind
+item-data : (id delay : ℕ) (kind : Kind) (at : Vec3) → is_item kind ≡ true → LineHasDataOf (Item at kind delay) kind
 item-data id delay kinds.Ammo at is = (refl, refl, refl)
 item-data id delay kinds.Gem at is = (refl, refl, refl)
 item-data id delay kind at is = cc
 
-data-of : (arena : Bounds) (id : ℕ) (line : MapLine) → IsThingInside arena line → HasDataOf line (record_of id line).kind
+data-of : (arena : Bounds) (id : ℕ) (line : MapLine) → IsThingInside arena line → LineHasDataOf line (record_of id line).kind
 data-of arena id (Item at kind delay) inside = item-data id delay kind at inside.limits.1
 data-of arena id (Teleport lo hi dest) inside = (refl, refl, refl)
 data-of arena id (Goal lo hi) inside = (refl, refl, refl)
@@ -96,3 +99,38 @@ data_follow_kinds map id is = by (find (λ t. t.id == id) (entities_of map)) ref
           ap (λ o. is_some (option_and_then delay_in o)) line ∙ parts.1 ∙ ap is_item kind,
           ap (λ o. is_some (option_and_then lift_data o)) line ∙ parts.2 ∙ ap is_lift kind,
         )
+
+-- ---- live records
+
+-- the data of a slot, which is no thing's
+slot-data : (map : MapView) (id : ℕ) (kind : Kind) → IsMap map → IsIdOf kind id → id < 64 → HasDataOf map id kind
+slot-data map id kinds.Player is own below =
+    let P : Option Rec → Type 0 = HasData map id in
+    let none : HasData map id None = subst P (no-thing-below map id is below) (data_follow_kinds map id is) in
+    (ap is_some none.0, ap is_some none.1, ap is_some none.2)
+slot-data map id kind is own below = absurd (omega (arith, own.least, below))
+
+-- the record of a thing has its kind
+kind-kept : (lift : Option lifts.Lift) (thing r : Rec) → IsAsItsLine lift thing r → thing.kind ≡ r.kind
+kind-kept None thing r same = sym same.kind
+kind-kept (Some lift) thing r same = sym same.kind
+
+thing-data : (map : MapView) (id : ℕ) (o : Option Rec) (r : Rec) → HasData map id o → IsThing map o (Some r) → HasDataOf map id r.kind
+thing-data map id None r has thing = absurd thing
+thing-data map id (Some t) r has thing =
+    let P : Kind → Type 0 = HasDataOf map id in
+    subst P (kind-kept (lift_of map t.id) t r thing) has
+
+pub live_records_have_data : LiveRecordsHaveData
+live_records_have_data map records id r is valid live = by (nat_lt id 64) refl
+  where
+    by : (b : Bool) → nat_lt id 64 ≡ b → HasDataOf map id r.kind
+    by true e =
+        let below : id < 64 = grind (arith, nat_tests) in
+        let each = valid.each id r live in
+        let Own : ℕ → Type 0 = IsIdOf r.kind in
+        slot-data map id r.kind is (subst Own each.own_id each.is_record.id) below
+    by false e =
+        let low : 64 ≤ id = grind (arith, nat_tests) in
+        let P : Option Rec → Type 0 = IsThing map (find (λ t. t.id == id) (entities_of map)) in
+        thing-data map id (find (λ t. t.id == id) (entities_of map)) r (data_follow_kinds map id is) (subst P live (valid.things id low))

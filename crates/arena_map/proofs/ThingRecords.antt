@@ -1,5 +1,5 @@
 -- The records of things are within their bounds.
-use Rattle.std.proofs.Common.{◌≡◌, ℕ, ◌+◌, ◌<◌, ◌≤◌, Bool, true, false, ◌&&◌, List, [], ◌∷◌, length, ℤ, pos, ◌+ℤ◌, ◌-ℤ◌, ◌≤ℤ◌, ◌<ℤ◌, int_lt, int_le, unsigned_abs, All, refl, sym, ap, ◌∙◌, subst, arith}
+use Rattle.std.proofs.Common.{◌≡◌, ℕ, ◌+◌, ◌<◌, ◌≤◌, true, false, ◌&&◌, List, [], ◌∷◌, length, ℤ, pos, ◌+ℤ◌, ◌-ℤ◌, ◌<ℤ◌, int_lt, All, refl, sym, ap, ◌∙◌, subst, arith}
 use Rattle.std.specs.List.{AllByRecursion, IsDistinct}
 use Rattle.std.specs.Prelude.{map as map_list, nat_eq}
 use Rattle.std.proofs.lemmas.Bool.Decides.{nat_tests}
@@ -17,7 +17,7 @@ use Rattle.arena_map.specs.declared.map_line.MapLine.{MapLine}
 use Rattle.arena_map.specs.declared.map_line.MapLine.TheVariants.{Arena, Block, Spawn, Item, Teleport, Goal, Lift}
 use Rattle.arena_map.specs.MapLines.{is_item, is_thing_line}
 use Rattle.arena_map.specs.Places.{is_thick}
-use Rattle.arena_map.specs.Things.{thing_at_rest, box_at_rest, record_of, records_from}
+use Rattle.arena_map.specs.Things.{record_of, records_from}
 use Rattle.arena_map.specs.Maps.{MapView, entities_of, IsThingInside, IsMap}
 use Rattle.arena_map.proofs.Boxes.{both_parts, three_parts}
 use Rattle.arena_map.proofs.Kept.{each-of, few_things}

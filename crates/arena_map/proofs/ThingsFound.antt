@@ -1,5 +1,5 @@
 -- The line of the thing with an id.
-use Rattle.std.proofs.Common.{◌≡◌, ◌⊎◌, ℕ, ◌-◌, ◌<◌, ◌≤◌, Bool, true, false, cond, nat_lt, nat_le, List, length, get_or, Option, Some, None, is_some, IfSome, option_copied, slice_get, unwrap_or, inl, inr, refl, sym, ap, ◌∙◌, arith, Bor}
+use Rattle.std.proofs.Common.{◌≡◌, ℕ, ◌-◌, ◌<◌, ◌≤◌, true, cond, nat_lt, nat_le, List, length, get_or, Option, Some, None, is_some, IfSome, option_copied, slice_get, unwrap_or, inl, inr, refl, sym, ap, ◌∙◌, arith, Bor}
 use Rattle.std.proofs.lemmas.Bool.Decides.{nat_tests}
 use Rattle.std.proofs.lemmas.Option.{slice_get_past, slice_get_cases, unwrap_or-slice_get, none-some}
 use Rattle.arena_map.specs.declared.map_line.MapLine.{MapLine}

@@ -1,10 +1,11 @@
 -- What holds of all maps and their lines.
-use Rattle.std.specs.Prelude.{◌≡◌, ◌↔◌, ℕ, ◌==◌, true, List, Option, Some, None, is_some, Ok}
+use Rattle.std.specs.Prelude.{◌≡◌, ◌↔◌, ℕ, ◌==◌, true, List, Option, Some, None, is_some, Ok, slice_index_or}
 use Rattle.std.specs.List.{find}
 use Rattle.arena_geo.specs.declared.vec3.Vec3.{Vec3}
 use Rattle.arena_geo.specs.Vectors.{IsNear}
 use Rattle.arena_geo.specs.Boxes.{contains}
 use Rattle.box_trace.specs.Walls.{HaveWalls}
+use Rattle.entity_recs.specs.declared.kind.Kind.{Kind}
 use Rattle.entity_recs.specs.declared.rec.Rec.{Rec}
 use Rattle.entity_recs.specs.Records.{IsShapeOf}
 use Rattle.entity_recs.specs.Bodies.{body_of}
@@ -30,15 +31,25 @@ SolidsHaveWalls = (map : MapView) → HaveWalls map.bounds (solids_of map)
 abbrev pub MapLinesReadBack : Type 0
 MapLinesReadBack = (text : List ℕ) (line : MapLine) → (map_line_of text ≡ Ok line) ↔ ((text ≡ map_line_text line) × IsWithinLimits line)
 
--- an id has a destination exactly where it is a teleporter's, a delay where it is an item's, and the data of a lift where it is a lift's
+-- an id has a destination exactly where this kind is a teleporter's, a delay where it is an item's, and the data of a lift where it is a lift's
+abbrev pub HasDataOf : MapView → ℕ → Kind → Type 0
+HasDataOf map id kind =
+    (is_some (dest_of map id) ≡ is_teleporter kind) × (is_some (delay_of map id) ≡ is_item kind) × (is_some (lift_of map id) ≡ is_lift kind)
+
+-- the data of an id are those of the thing that has it; where there is none, there are no data
 abbrev pub HasData : MapView → ℕ → Option Rec → Type 0
 HasData map id None = (dest_of map id ≡ None) × (delay_of map id ≡ None) × (lift_of map id ≡ None)
-HasData map id (Some thing) =
-    (is_some (dest_of map id) ≡ is_teleporter thing.kind) × (is_some (delay_of map id) ≡ is_item thing.kind) × (is_some (lift_of map id) ≡ is_lift thing.kind)
+HasData map id (Some thing) = HasDataOf map id thing.kind
 
 -- so it is with each id, and the thing that has it
 abbrev pub DataFollowKinds : Type 0
 DataFollowKinds = (map : MapView) (id : ℕ) → IsMap map → HasData map id (find (λ thing. thing.id == id) (entities_of map))
+
+-- so it is with each live record of a valid world
+abbrev pub LiveRecordsHaveData : Type 0
+LiveRecordsHaveData =
+    (map : MapView) (records : List (Option Rec)) (id : ℕ) (r : Rec) → IsMap map → IsValidWorld map records
+    → slice_index_or records id None ≡ Some r → HasDataOf map id r.kind
 
 -- the opening world of a map is valid
 abbrev pub OpeningWorldIsValid : Type 0

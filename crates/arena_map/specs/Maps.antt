@@ -1,5 +1,5 @@
 -- A map as contracts see it: its bounds, its blocks, its spawns, and the lines of its things, each in line order.
-use Rattle.std.specs.Prelude.{◌≡◌, ℕ, ◌-◌, ◌≤◌, Bool, true, false, List, [], ◌++◌, length, Option, None, option_and_then, All, AllPairs, count_by, filter_map, ℤ, pos, ◌+ℤ◌, ◌≤ℤ◌, nat_lt, nat_le, unsigned_abs, slice_get, drop, if◌then◌else◌}
+use Rattle.std.specs.Prelude.{◌≡◌, ℕ, ◌-◌, ◌≤◌, Bool, true, false, List, ◌++◌, length, Option, None, option_and_then, All, AllPairs, count_by, filter_map, pos, ◌+ℤ◌, ◌≤ℤ◌, nat_lt, nat_le, unsigned_abs, slice_get, drop, if◌then◌else◌}
 use Rattle.arena_geo.specs.declared.vec3.Vec3.{Vec3}
 use Rattle.arena_geo.specs.Vectors.{IsNear}
 use Rattle.arena_geo.specs.Bounds.{Bounds, IsBox}

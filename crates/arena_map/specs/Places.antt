@@ -55,6 +55,16 @@ shaft_of (Teleport lo hi dest) = None
 shaft_of (Goal lo hi) = None
 shaft_of (Lift lo hi rise speed) = Some (shaft lo hi rise)
 
+-- the lift on a line has an inside
+abbrev pub has_thick_lift : MapLine → Bool
+has_thick_lift (Arena lo hi) = true
+has_thick_lift (Block lo hi) = true
+has_thick_lift (Spawn at) = true
+has_thick_lift (Item at kind delay) = true
+has_thick_lift (Teleport lo hi dest) = true
+has_thick_lift (Goal lo hi) = true
+has_thick_lift (Lift lo hi rise speed) = is_thick lo hi
+
 -- rule 2: a block, teleporter, goal or lift has an inside, and is inside the arena
 abbrev pub keeps_box : Bounds → MapLine → Bool
 keeps_box arena (Arena lo hi) = true

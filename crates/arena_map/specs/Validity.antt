@@ -1,5 +1,5 @@
 -- Which worlds are valid for a map: records by id, each within its bounds, the things as their lines say, and the players inside the arena.
-use Rattle.std.specs.Prelude.{◌≡◌, ℕ, ◌≤◌, ◌==◌, true, List, Option, Some, None, ⊤, pos, ◌+ℤ◌, ◌≤ℤ◌, ℤ, slice_index_or}
+use Rattle.std.specs.Prelude.{◌≡◌, ℕ, ◌≤◌, ◌==◌, true, List, Option, Some, None, ⊤, ◌+ℤ◌, ◌≤ℤ◌, slice_index_or}
 use Rattle.std.specs.List.{find}
 use Rattle.arena_geo.specs.Boxes.{contains}
 use Rattle.entity_recs.specs.declared.kind.Kind.TheVariants.{Player}

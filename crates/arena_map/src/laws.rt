@@ -1,5 +1,5 @@
 ghost use Rattle.arena_map.specs.Laws.{LinesKeepTheRules, SolidsHaveWalls, MapLinesReadBack};
-ghost use Rattle.arena_map.specs.Laws.{DataFollowKinds, OpeningWorldIsValid, LiftsStayInside};
+ghost use Rattle.arena_map.specs.Laws.{DataFollowKinds, LiveRecordsHaveData, OpeningWorldIsValid, LiftsStayInside};
 
 /// A map that lines begin and lengthen without breaking a rule keeps all of them.
 pub fn lines_keep_the_rules()
@@ -19,6 +19,11 @@ pub fn map_lines_read_back()
 /// An id has a destination, a delay or the data of a lift exactly where it is that of a teleporter, an item or a lift.
 pub fn data_follow_kinds()
     ensures { DataFollowKinds }
+{}
+
+/// In a valid world each live teleporter has a destination, each live item a delay and each live lift its data.
+pub fn live_records_have_data()
+    ensures { LiveRecordsHaveData }
 {}
 
 /// The world in which only the things of a map are live, as at the start, is valid for the map.

@@ -250,7 +250,7 @@ impl ArenaMap {
         self.shafts.reserve(1)?;
         let id = FIRST_THING + self.things.len() as u16;
         self.entities.push_reserved(record_of(id, l));
-        push_shaft(&mut self.shafts, &self.bounds, l);
+        push_shaft(&mut self.shafts, l);
         self.things.push_reserved(*l);
         Ok(())
     }

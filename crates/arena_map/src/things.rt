@@ -83,11 +83,11 @@ pub fn lift_data(l: &MapLine) -> Option<Lift>
     }
 }
 
-/// Puts the shaft of the lift on this line last, if it has one. There is room, and the line has an inside.
-pub fn push_shaft(shafts: &mut Vec<Aabb>, arena: &Aabb, l: &MapLine)
+/// Puts the shaft of the lift on this line last, if it has one. There is room, and the lift has an inside.
+pub fn push_shaft(shafts: &mut Vec<Aabb>, l: &MapLine)
     requires room { vec_len shafts.old < vec_capacity shafts.old }
     requires limits { IsWithinLimits l.now }
-    requires inside { places.keeps_box arena.now l.now ≡ true }
+    requires thick { places.has_thick_lift l.now ≡ true }
     ensures { shafts.new.items ≡ shafts.old.items ++ option_to_list (places.shaft_of l.now) }
 {
     if let MapLine::Lift { lo, hi, rise, .. } = *l {

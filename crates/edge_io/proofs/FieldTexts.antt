@@ -1,5 +1,5 @@
 -- Fields that were written are read as what was written, and fields that were read were written so.
-use Rattle.std.proofs.Common.{◌≡◌, ℕ, suc, ◌+◌, ◌^◌, ◌≤◌, ◌<◌, ◌==◌, Bool, true, false, not, List, [], ◌∷◌, ◌++◌, length, take, drop, unwrap_or, Option, Some, None, cond, nat_lt, refl, sym, ap, ◌∙◌, arith, ℤ, pos, negsuc, decimal, unsigned_abs, length-append}
+use Rattle.std.proofs.Common.{◌≡◌, ℕ, suc, ◌+◌, ◌^◌, ◌≤◌, ◌<◌, ◌==◌, Bool, true, false, not, List, [], ◌∷◌, ◌++◌, length, take, drop, unwrap_or, Some, None, cond, nat_lt, refl, sym, ap, ◌∙◌, arith, ℤ, pos, negsuc, decimal, unsigned_abs, length-append}
 use Rattle.std.specs.Fmt.{signed_decimal}
 use Rattle.std.specs.List.{position_or_len, AllByRecursion}
 use Rattle.std.specs.Str.{all_ascii_digits}

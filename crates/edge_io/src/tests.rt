@@ -275,3 +275,34 @@ fn a_line_buffer_is_full_at_its_room(rt: HostRuntime) -> Result<(), Fail> {
     assert_eq!(rt; line.as_slice(), b"".as_slice());
     Ok(())
 }
+
+#[test]
+fn a_number_out_of_its_limit_has_the_form_of_one(rt: HostRuntime) {
+    // field, a number of at most 512 from 0, the form of a number
+    let rows: [(&[u8], Option<i32>, bool); 9] = [
+        (b"0", Some(0), true),
+        (b"512", Some(512), true),
+        (b"-512", Some(-512), true),
+        (b"513", None, true),
+        (b"-340282366920938463463374607431768211456", None, true),
+        (b"-0", None, false),
+        (b"01", None, false),
+        (b"+1", None, false),
+        (b"", None, false),
+    ];
+    for (field, number, form) in rows {
+        assert_eq!(rt; integer(field, 512), number);
+        assert_eq!(rt; is_integer(field), form);
+    }
+    assert_eq!(rt; natural(b"-1", 512), None);
+    assert!(rt; !is_natural(b"-1"));
+}
+
+#[test]
+fn one_space_separates_fields(rt: HostRuntime) {
+    let (word, rest) = cut(b"a bc ");
+    assert_eq!(rt; (word, rest), (b"a".as_slice(), b" bc ".as_slice()));
+    assert_eq!(rt; field_at(rest), Some((b"bc".as_slice(), b" ".as_slice())));
+    assert_eq!(rt; field_at(b" "), Some((b"".as_slice(), b"".as_slice())));
+    assert_eq!(rt; field_at(b""), None);
+}

@@ -1,4 +1,4 @@
-use Rattle.std.proofs.Common.{◌≡◌, Option, IfSome, sym, subst}
+use Rattle.std.proofs.Common.{Option, IfSome, sym, subst}
 use Rattle.arena_map.specs.declared.lift.Lift.{Lift}
 use Rattle.arena_map.specs.Maps.{IsLift}
 use Rattle.arena_map.proofs.Lifts.{lift-is_lift}

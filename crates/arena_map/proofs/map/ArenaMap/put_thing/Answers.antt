@@ -1,10 +1,10 @@
-use Rattle.std.proofs.Common.{◌≡◌, ◌≤◌, ◌+◌, ◌++◌, ◌∷◌, [], None, length, drop, option_to_list, sym, subst, ap, ◌∙◌, arith}
+use Rattle.std.proofs.Common.{◌≡◌, ◌+◌, ◌++◌, ◌∷◌, [], None, length, drop, option_to_list, sym, subst, arith}
 use Rattle.std.proofs.lemmas.Grind.{common_steps}
 use Rattle.arena_map.specs.Places.{shaft_of}
 use Rattle.arena_map.specs.Things.{record_of}
 use Rattle.arena_map.specs.Maps.{MapView, map_of}
 use Rattle.arena_map.specs.Rules.{broken_rule}
-use Rattle.arena_map.proofs.Keeping.{keeps_all, with_thing-is_map}
+use Rattle.arena_map.proofs.Keeping.{keeps_all, thick-lift, with_thing-is_map}
 use Rattle.arena_map.proofs.Kept.{few_things, kept-with_thing}
 use Rattle.arena_map.proofs.map.ArenaMap.put_thing.Goals as goal
 
@@ -21,6 +21,9 @@ overflow_add-id c =
     let few = few_things map c.self.invariant.is_map in
     let len : c.len.result ≡ length c.self.inside.things.items = grind (arith, common_steps) in
     omega (arith, few, len)
+
+pub push_shaft-requires-clause-thick : goal.push_shaft-requires-clause-thick
+push_shaft-requires-clause-thick c = thick-lift c.args.self.now.bounds c.args.l.now (keeps_all c.args.self.now c.args.l.now c.requires.kept).inside
 
 pub invariant_of-self-2 : goal.invariant_of-self-2
 invariant_of-self-2 c =
