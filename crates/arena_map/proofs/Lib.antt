@@ -10,3 +10,4 @@ pub mod ThingsFound
 pub mod LinesSound
 pub mod LinesBack
 pub mod Opening
+pub mod ThingData

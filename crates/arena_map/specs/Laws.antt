@@ -1,5 +1,5 @@
 -- What holds of all maps and their lines.
-use Rattle.std.specs.Prelude.{◌≡◌, ◌↔◌, ℕ, ◌==◌, true, List, Option, Some, None, Ok}
+use Rattle.std.specs.Prelude.{◌≡◌, ◌↔◌, ℕ, ◌==◌, true, List, Option, Some, None, is_some, Ok}
 use Rattle.std.specs.List.{find}
 use Rattle.arena_geo.specs.declared.vec3.Vec3.{Vec3}
 use Rattle.arena_geo.specs.Vectors.{IsNear}
@@ -10,10 +10,10 @@ use Rattle.entity_recs.specs.Records.{IsShapeOf}
 use Rattle.entity_recs.specs.Bodies.{body_of}
 use Rattle.arena_map.specs.declared.lift.Lift.{Lift}
 use Rattle.arena_map.specs.declared.map_line.MapLine.{MapLine}
-use Rattle.arena_map.specs.MapLines.{IsWithinLimits}
+use Rattle.arena_map.specs.MapLines.{IsWithinLimits, is_item, is_teleporter, is_lift}
 use Rattle.arena_map.specs.Reading.{map_line_of}
 use Rattle.arena_map.specs.Spelling.{map_line_text}
-use Rattle.arena_map.specs.Maps.{MapView, IsMap, solids_of, entities_of, lift_of}
+use Rattle.arena_map.specs.Maps.{MapView, IsMap, solids_of, entities_of, dest_of, delay_of, lift_of}
 use Rattle.arena_map.specs.Rules.{bare_map, broken_by_arena, broken_rule, with_line}
 use Rattle.arena_map.specs.Validity.{IsSameLift, IsOpeningWorld, IsValidWorld}
 
@@ -29,6 +29,16 @@ SolidsHaveWalls = (map : MapView) → HaveWalls map.bounds (solids_of map)
 -- a text is read as a line exactly where it is the text of that line, and its numbers are within their limits
 abbrev pub MapLinesReadBack : Type 0
 MapLinesReadBack = (text : List ℕ) (line : MapLine) → (map_line_of text ≡ Ok line) ↔ ((text ≡ map_line_text line) × IsWithinLimits line)
+
+-- an id has a destination exactly where it is a teleporter's, a delay where it is an item's, and the data of a lift where it is a lift's
+abbrev pub HasData : MapView → ℕ → Option Rec → Type 0
+HasData map id None = (dest_of map id ≡ None) × (delay_of map id ≡ None) × (lift_of map id ≡ None)
+HasData map id (Some thing) =
+    (is_some (dest_of map id) ≡ is_teleporter thing.kind) × (is_some (delay_of map id) ≡ is_item thing.kind) × (is_some (lift_of map id) ≡ is_lift thing.kind)
+
+-- so it is with each id, and the thing that has it
+abbrev pub DataFollowKinds : Type 0
+DataFollowKinds = (map : MapView) (id : ℕ) → IsMap map → HasData map id (find (λ thing. thing.id == id) (entities_of map))
 
 -- the opening world of a map is valid
 abbrev pub OpeningWorldIsValid : Type 0

@@ -15,6 +15,24 @@ is_item kinds.Teleporter = false
 is_item kinds.Goal = false
 is_item kinds.Lift = false
 
+-- the kind is a teleporter's
+abbrev pub is_teleporter : Kind → Bool
+is_teleporter kinds.Player = false
+is_teleporter kinds.Ammo = false
+is_teleporter kinds.Gem = false
+is_teleporter kinds.Teleporter = true
+is_teleporter kinds.Goal = false
+is_teleporter kinds.Lift = false
+
+-- the kind is a lift's
+abbrev pub is_lift : Kind → Bool
+is_lift kinds.Player = false
+is_lift kinds.Ammo = false
+is_lift kinds.Gem = false
+is_lift kinds.Teleporter = false
+is_lift kinds.Goal = false
+is_lift kinds.Lift = true
+
 -- the numbers of a line are within their limits, and an item's kind is one
 abbrev pub IsWithinLimits : MapLine → Type 0
 IsWithinLimits (Arena lo hi) = IsNear 1048576 lo × IsNear 1048576 hi

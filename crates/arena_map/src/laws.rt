@@ -1,4 +1,5 @@
-ghost use Rattle.arena_map.specs.Laws.{LinesKeepTheRules, SolidsHaveWalls, MapLinesReadBack, OpeningWorldIsValid, LiftsStayInside};
+ghost use Rattle.arena_map.specs.Laws.{LinesKeepTheRules, SolidsHaveWalls, MapLinesReadBack};
+ghost use Rattle.arena_map.specs.Laws.{DataFollowKinds, OpeningWorldIsValid, LiftsStayInside};
 
 /// A map that lines begin and lengthen without breaking a rule keeps all of them.
 pub fn lines_keep_the_rules()
@@ -13,6 +14,11 @@ pub fn solids_have_walls()
 /// A text is read as a line exactly where it is what is printed for that line.
 pub fn map_lines_read_back()
     ensures { MapLinesReadBack }
+{}
+
+/// An id has a destination, a delay or the data of a lift exactly where it is that of a teleporter, an item or a lift.
+pub fn data_follow_kinds()
+    ensures { DataFollowKinds }
 {}
 
 /// The world in which only the things of a map are live, as at the start, is valid for the map.

@@ -2,8 +2,8 @@
 #![tactic(auto)]
 
 pub use laws::{
-    lifts_stay_inside, lines_keep_the_rules, map_lines_read_back, opening_world_is_valid,
-    solids_have_walls,
+    data_follow_kinds, lifts_stay_inside, lines_keep_the_rules, map_lines_read_back,
+    opening_world_is_valid, solids_have_walls,
 };
 pub use lift::Lift;
 pub use map::ArenaMap;
@@ -23,4 +23,6 @@ mod map_word;
 mod reading;
 mod rules;
 mod spelling;
+#[cfg(test)]
+mod tests;
 mod things;

@@ -91,7 +91,7 @@ impl ArenaMap {
     /// Adds a line, any but an arena's. `Rule` exactly where the line breaks that rule and none before it. The map is
     /// unchanged where the line isn't added.
     pub fn add(&mut self, l: &MapLine) -> Result<(), MapRefusal>
-        requires in_force { is_added l.now ≡ true }
+        requires no_arena { is_added l.now ≡ true }
         requires limits { IsWithinLimits l.now }
         ensures map { OnOk result (self.new ≡ with_line self.old l.now) }
         ensures unchanged { OnErr result (self.new ≡ self.old) }
@@ -197,7 +197,7 @@ impl ArenaMap {
 
     /// Puts what a line gives to the rest. The line breaks no rule.
     fn put(&mut self, l: &MapLine) -> Result<(), AllocError>
-        requires in_force { is_added l.now ≡ true }
+        requires no_arena { is_added l.now ≡ true }
         requires limits { IsWithinLimits l.now }
         requires kept { broken_rule self.old l.now ≡ None }
         ensures map { OnOk result (self.new ≡ with_line self.old l.now) }
@@ -334,6 +334,3 @@ impl ArenaMap {
         lift_data(&self.thing_of(id)?)
     }
 }
-
-#[cfg(test)]
-mod tests;
