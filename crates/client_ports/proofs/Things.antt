@@ -1,15 +1,15 @@
 -- That bodies are clear at the start: the only solids are the lifts of the map, whose shafts are apart.
-use Rattle.std.proofs.Common.{◌≡◌, ◌≢◌, ◌⊎◌, ℕ, zero, suc, ◌+◌, ◌-◌, ◌<◌, ◌≤◌, ◌==◌, Bool, true, false, ◌&&◌, int_lt, List, [], ◌∷◌, length, All, Option, Some, None, slice_get, ℤ, pos, ◌+ℤ◌, ◌-ℤ◌, ◌≤ℤ◌, refl, sym, ap, ◌∙◌, subst, inl, inr, arith}
+use Rattle.std.proofs.Common.{◌≡◌, ℕ, zero, suc, ◌-◌, ◌<◌, ◌≤◌, Bool, true, false, ◌&&◌, int_lt, List, [], ◌∷◌, All, Option, Some, None, slice_get, ℤ, pos, ◌+ℤ◌, ◌-ℤ◌, ◌≤ℤ◌, refl, sym, ap, ◌∙◌, subst, inl, inr, arith}
 use Rattle.std.specs.Cmp.Derive.{both_true}
 use Rattle.std.specs.List.{AllPairs, filter_map, cons_option}
-use Rattle.std.proofs.lemmas.Bool.{cases_Bool, cases_eq, cases_lt}
+use Rattle.std.proofs.lemmas.Bool.{cases_Bool, cases_lt}
 use Rattle.std.proofs.lemmas.Int.{ints}
 use Rattle.std.proofs.lemmas.List.Elements.{All-head, All-tail}
 use Rattle.std.proofs.lemmas.Option.{none-some, same_Some}
 use Rattle.arena_geo.specs.declared.vec3.Vec3.{Vec3}
 use Rattle.arena_geo.specs.Vectors.{minus, zero_vector}
 use Rattle.arena_geo.specs.Bounds.{Bounds}
-use Rattle.arena_geo.specs.Boxes.{overlaps_on, overlaps, is_blocked}
+use Rattle.arena_geo.specs.Boxes.{overlaps_on, overlaps}
 use Rattle.arena_geo.proofs.Containment.{three_pass, all_three}
 use Rattle.entity_recs.specs.declared.kind.Kind.{Kind}
 use Rattle.entity_recs.specs.declared.kind.Kind.TheVariants as kinds
@@ -21,7 +21,7 @@ use Rattle.arena_map.specs.declared.map_line.MapLine.TheVariants.{Arena, Block, 
 use Rattle.arena_map.specs.MapLines.{is_item}
 use Rattle.arena_map.specs.Places.{shaft, shaft_of}
 use Rattle.arena_map.specs.Things.{record_of}
-use Rattle.arena_map.specs.Maps.{MapView, IsMap, IsThingInside, solids_of}
+use Rattle.arena_map.specs.Maps.{MapView, IsMap, IsThingInside}
 use Rattle.arena_map.specs.Validity.{IsOpeningWorld}
 use Rattle.arena_map.proofs.Opening.{found-in}
 use Rattle.world_tree.specs.Live.{record_at}

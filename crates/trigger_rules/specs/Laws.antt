@@ -1,5 +1,5 @@
 -- What holds of every walk over what a player touches.
-use Rattle.std.specs.Prelude.{◌≡◌, ◌↔◌, ℕ, ◌+◌, ◌≤◌, Bool, true, false, List, map, filter, length, Contains, All, Option, Some}
+use Rattle.std.specs.Prelude.{◌≡◌, ℕ, ◌+◌, ◌≤◌, true, false, List, map, length, Contains, All, Some}
 use Rattle.std.specs.List.Sorted.{IsStrictlyIncreasing}
 use Rattle.arena_geo.specs.declared.vec3.Vec3.{Vec3}
 use Rattle.arena_geo.specs.Vectors.{zero_vector}
@@ -8,7 +8,6 @@ use Rattle.entity_recs.specs.declared.bodies.TheConstants.{PLAYER_MINS, PLAYER_M
 use Rattle.entity_recs.specs.declared.effect.NewState.{NewState}
 use Rattle.entity_recs.specs.declared.kind.Kind.TheVariants.{Teleporter}
 use Rattle.entity_recs.specs.declared.rec.Rec.{Rec}
-use Rattle.entity_recs.specs.Kinds.{is_solid}
 use Rattle.entity_recs.specs.Records.{HasCorners}
 use Rattle.entity_recs.specs.Bodies.{body_of, abs_of, player_body}
 use Rattle.arena_map.specs.Maps.{MapView, dest_of, delay_of}
