@@ -192,22 +192,22 @@ followed-start start = record {
 }
 
 followed-step : (start before after : Option Client) (old new : List ℕ) → IsFollowed start before old → Step before after old new → IsFollowed start after new
-followed-step start before after old new so_far (inl quiet) =
-    let kept = quiet.0 in
+followed-step start before after old new so_far (inl same) =
+    let kept = same.0 in
     let P : List ℕ → Type 0 = λ l. IsFollowed start after l in
-    subst P (sym quiet.1) (record {
+    subst P (sym same.1) (record {
       advance = record { rise = so_far.advance.rise; last = kept.last ∙ so_far.advance.last; count = kept.count ∙ so_far.advance.count };
       most = subst (λ (m : ℕ). All (λ n. n ≤ m) (last_of start ∷ old)) (sym kept.last) so_far.most;
     })
-followed-step start before after old new so_far (inr loud) =
-    let seq = loud.0 in
-    let raised = loud.1 in
+followed-step start before after old new so_far (inr one) =
+    let seq = one.0 in
+    let raised = one.1 in
     let numbers = last_of start ∷ old in
     let P : List ℕ → Type 0 = λ l. IsFollowed start after l in
     let above : last_of before < seq = raised.above in
     let last : last_of after ≡ seq = raised.last in
     let weaker : (n : ℕ) → n ≤ last_of before → n ≤ last_of after = λ n h. omega (arith, h, above, last) in
-    subst P (sym loud.2) (record {
+    subst P (sym one.2) (record {
       advance = record {
         rise = rising-push numbers (last_of before) seq so_far.advance.rise so_far.most above;
         last = last ∙ sym (last-push (last_of start) old seq);
@@ -294,8 +294,8 @@ stays-live arena frame r place a k live = by (step arena frame r place a k)
   where
     by : Step (client_at r.state.clients k) (client_at (after_arrival arena frame r place a).state.clients k) (numbers_of k r.lists.moves) (numbers_of k (after_arrival arena frame r place a).lists.moves)
         → IsSome (client_at (after_arrival arena frame r place a).state.clients k)
-    by (inl quiet) = quiet.0.live live
-    by (inr loud) = loud.1.live
+    by (inl same) = same.0.live live
+    by (inr one) = one.1.live
 
 -- the slot of the move is live
 abbrev IsMoverOf : Receiving → Command → Type 0

@@ -9,3 +9,4 @@ pub mod Changes
 pub mod Advances
 pub mod Counts
 pub mod Staying
+pub mod Things

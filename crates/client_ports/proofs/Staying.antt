@@ -155,7 +155,7 @@ server_received map frame state arrivals rules is = server-through map frame _ 0
 
 -- ---- bodies stay clear
 
-overlaps-flips : (a b : Bounds) → overlaps a b ≡ overlaps b a
+pub overlaps-flips : (a b : Bounds) → overlaps a b ≡ overlaps b a
 overlaps-flips a b =
     let x = and_comm (int_lt a.lo.x b.hi.x) (int_lt b.lo.x a.hi.x) in
     let y = and_comm (int_lt a.lo.y b.hi.y) (int_lt b.lo.y a.hi.y) in

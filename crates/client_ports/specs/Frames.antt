@@ -102,6 +102,10 @@ pub record AreClear (map : MapView) (records : List (Option Rec)) : Type 0 where
   pub of_each_other : (i j : ℕ) (r s : Rec) → record_at records i ≡ Some r → record_at records j ≡ Some s → is_solid r.kind ≡ true → is_solid s.kind ≡ true → i ≢ j
       → overlaps (body_of r) (body_of s) ≡ false
 
+-- so it is in the state in which a server begins
+abbrev pub OpeningIsClear : Type 0
+OpeningIsClear = (map : MapView) (records : List (Option Rec)) → IsMap map → IsOpeningWorld map records → AreClear map records
+
 -- where players are clear before the packets of a frame they are after them, those that join too; and so at the end of a frame
 abbrev pub BodiesStayClear : Type 0
 BodiesStayClear = (map : MapView) (frame : ℕ) (state : State) (arrivals : List Arrival) → IsMap map → IsServerState map state → AreClear map state.records

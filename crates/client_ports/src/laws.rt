@@ -15,6 +15,7 @@ ghost use Rattle.client_ports.specs.Frames.{
   OpeningIsAServerState,
   ClientsStayApart,
   StatesStayValid,
+  OpeningIsClear,
   BodiesStayClear,
 };
 
@@ -90,6 +91,11 @@ pub fn clients_stay_apart()
 /// before.
 pub fn states_stay_valid()
     ensures { StatesStayValid }
+{}
+
+/// In the state in which a server begins no bodies of two live solids overlap: these are the lifts of the map.
+pub fn opening_is_clear()
+    ensures { OpeningIsClear }
 {}
 
 /// Where no player's body overlaps a wall or a block, and no bodies of two live solids overlap, none do after the packets of

@@ -1,5 +1,5 @@
 -- What one record changes in the walk: nothing, an item that is taken, a goal, or a leap.
-use Rattle.std.proofs.Common.{◌≡◌, ◌⊎◌, ℕ, ◌+◌, ◌<◌, ◌≤◌, ◌==◌, min, Bool, true, false, ◌&&◌, nat_lt, if◌then◌else◌, List, [], ◌∷◌, ◌++◌, length, fold, Option, Some, None, refl, sym, ap, ◌∙◌, subst, inl, inr, arith}
+use Rattle.std.proofs.Common.{◌≡◌, ◌⊎◌, ℕ, ◌+◌, ◌<◌, ◌==◌, Bool, true, false, ◌&&◌, nat_lt, if◌then◌else◌, List, [], ◌∷◌, ◌++◌, length, fold, Option, Some, None, refl, sym, ap, subst, inl, inr, arith}
 use Rattle.std.specs.List.{AllByRecursion}
 use Rattle.std.proofs.lemmas.Bool.{eqb-true}
 use Rattle.std.proofs.lemmas.Bool.Decides.{nat_tests}
@@ -25,14 +25,15 @@ pub record IsTake (map : MapView) (frame : ℕ) (w : Walk) (item : Rec) (next : 
   pub is : next ≡ walk_of (after_item w.me item) (w.states ++ new_state item.id (frame + delay) ∷ []) (w.got ++ item.id ∷ []) w.ended
 
 -- the player leaps
-pub record IsLeap (solids : List Bounds) (w next : Walk) : Type 0 where
+pub record IsLeap (map : MapView) (solids : List Bounds) (w : Walk) (r : Rec) (next : Walk) : Type 0 where
   pub dest : Vec3
+  pub from : dest_of map r.id ≡ Some dest
   pub free : is_blocked (player_body dest) solids ≡ false
   pub is : next ≡ walk_of (leapt w.me dest) w.states w.got true
 
 -- what a record changes
 abbrev pub Step : MapView → List Bounds → ℕ → Walk → Rec → Walk → Type 0
-Step map solids frame w r next = (next ≡ w) ⊎ (IsTake map frame w r next ⊎ ((next ≡ walk_of (scored w.me) w.states w.got w.ended) ⊎ IsLeap solids w next))
+Step map solids frame w r next = (next ≡ w) ⊎ (IsTake map frame w r next ⊎ ((next ≡ walk_of (scored w.me) w.states w.got w.ended) ⊎ IsLeap map solids w r next))
 
 item-step : (map : MapView) (solids : List Bounds) (frame : ℕ) (w : Walk) (r : Rec) (delay : Option ℕ) → is_item r.kind ≡ true → delay_of map r.id ≡ delay → Step map solids frame w r (after_touched_item delay frame w r)
 item-step map solids frame w r None kind is = inl refl
@@ -49,13 +50,13 @@ item-step map solids frame w r (Some delay) kind is = by (nat_lt (length w.got) 
     by true few = taking few (may_take w.me r) refl
     by false few = inl refl
 
-teleporter-step : (map : MapView) (solids : List Bounds) (frame : ℕ) (w : Walk) (r : Rec) (dest : Option Vec3) → Step map solids frame w r (after_teleporter dest solids w)
-teleporter-step map solids frame w r None = inl refl
-teleporter-step map solids frame w r (Some dest) = by (is_blocked (player_body dest) solids) refl
+teleporter-step : (map : MapView) (solids : List Bounds) (frame : ℕ) (w : Walk) (r : Rec) (dest : Option Vec3) → dest_of map r.id ≡ dest → Step map solids frame w r (after_teleporter dest solids w)
+teleporter-step map solids frame w r None is = inl refl
+teleporter-step map solids frame w r (Some dest) is = by (is_blocked (player_body dest) solids) refl
   where
     by : (blocked : Bool) → is_blocked (player_body dest) solids ≡ blocked → Step map solids frame w r (if blocked then w else walk_of (leapt w.me dest) w.states w.got true)
     by true e = inl refl
-    by false e = inr (inr (inr (record { dest = dest; free = e; is = refl })))
+    by false e = inr (inr (inr (record { dest = dest; from = is; free = e; is = refl })))
 
 pub step : (map : MapView) (solids : List Bounds) (frame : ℕ) (w : Walk) (r : Rec) → Step map solids frame w r (after_trigger map solids frame w r)
 step map solids frame w r = by w.ended
@@ -64,7 +65,7 @@ step map solids frame w r = by w.ended
     kinds Player e = inl refl
     kinds Ammo e = item-step map solids frame w r (delay_of map r.id) (ap is_item e) refl
     kinds Gem e = item-step map solids frame w r (delay_of map r.id) (ap is_item e) refl
-    kinds Teleporter e = teleporter-step map solids frame w r (dest_of map r.id)
+    kinds Teleporter e = teleporter-step map solids frame w r (dest_of map r.id) refl
     kinds Goal e = inr (inr (inl refl))
     kinds Lift e = inl refl
 
@@ -100,7 +101,7 @@ item-change me item = by (may_take me item) item.kind
     by true Goal = change me refl refl refl refl refl refl refl refl refl refl
     by true Lift = change me refl refl refl refl refl refl refl refl refl refl
 
-both : (a b : Bool) → (a && b) ≡ true → (a ≡ true) × (b ≡ true)
+pub both : (a b : Bool) → (a && b) ≡ true → (a ≡ true) × (b ≡ true)
 both true b h = (refl, h)
 both false b h = cc
 

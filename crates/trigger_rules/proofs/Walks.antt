@@ -1,18 +1,16 @@
 -- The walk over what a player touches, record by record.
-use Rattle.std.proofs.Common.{◌≡◌, ℕ, zero, suc, ◌+◌, ◌<◌, ◌≤◌, Bool, true, false, not, ◌&&◌, ◌||◌, cond, if◌then◌else◌, List, [], ◌∷◌, ◌++◌, length, filter, drop, drop-cons, get_or, fold, Option, Some, None, refl, sym, ap, ◌∙◌, subst, arith}
+use Rattle.std.proofs.Common.{◌≡◌, ℕ, suc, ◌<◌, Bool, true, false, ◌&&◌, ◌||◌, cond, List, [], ◌∷◌, length, filter, drop, drop-cons, get_or, fold, refl, sym, ap, ◌∙◌}
 use Rattle.std.specs.Prelude.{map as map_list}
 use Rattle.std.specs.List.{list_any}
 use Rattle.std.proofs.lemmas.List.Folds.{fold_stays, list_any-append}
-use Rattle.std.proofs.Math.ListN.{drop_of_length-le}
-use Rattle.arena_geo.specs.declared.vec3.Vec3.{Vec3}
 use Rattle.arena_geo.specs.Bounds.{Bounds}
 use Rattle.arena_geo.specs.Boxes.{overlaps, is_blocked}
 use Rattle.entity_recs.specs.declared.effect.NewState.{NewState}
 use Rattle.entity_recs.specs.declared.rec.Rec.{Rec}
 use Rattle.entity_recs.specs.Kinds.{is_solid}
-use Rattle.entity_recs.specs.Bodies.{body_of, player_body}
+use Rattle.entity_recs.specs.Bodies.{body_of}
 use Rattle.arena_map.specs.Maps.{MapView, solids_of}
-use Rattle.trigger_rules.specs.Touching.{is_touched, bodies_of_solids, solids_among, Walk, walk_of, leapt, after_teleporter, after_trigger}
+use Rattle.trigger_rules.specs.Touching.{bodies_of_solids, solids_among, Walk, walk_of, after_trigger}
 
 -- ---- a teleporter
 

@@ -1,17 +1,17 @@
 -- What holds of every walk over what a player touches.
-use Rattle.std.specs.Prelude.{◌≡◌, ◌↔◌, ℕ, ◌+◌, ◌≤◌, Bool, true, false, List, map, filter, length, Contains, All, Option, Some}
+use Rattle.std.specs.Prelude.{◌≡◌, ℕ, ◌+◌, ◌≤◌, ◌==◌, Bool, true, false, List, map, length, Contains, All, Some}
+use Rattle.std.specs.List.{IsDistinct}
 use Rattle.std.specs.List.Sorted.{IsStrictlyIncreasing}
 use Rattle.arena_geo.specs.declared.vec3.Vec3.{Vec3}
 use Rattle.arena_geo.specs.Vectors.{zero_vector}
-use Rattle.arena_geo.specs.Boxes.{is_blocked}
+use Rattle.arena_geo.specs.Boxes.{contains, is_blocked}
 use Rattle.entity_recs.specs.declared.bodies.TheConstants.{PLAYER_MINS, PLAYER_MAXS}
 use Rattle.entity_recs.specs.declared.effect.NewState.{NewState}
-use Rattle.entity_recs.specs.declared.kind.Kind.TheVariants.{Teleporter}
+use Rattle.entity_recs.specs.declared.kind.Kind.TheVariants.{Player, Teleporter}
 use Rattle.entity_recs.specs.declared.rec.Rec.{Rec}
-use Rattle.entity_recs.specs.Kinds.{is_solid}
-use Rattle.entity_recs.specs.Records.{HasCorners}
+use Rattle.entity_recs.specs.Records.{IsRecord, HasCorners}
 use Rattle.entity_recs.specs.Bodies.{body_of, abs_of, player_body}
-use Rattle.arena_map.specs.Maps.{MapView, dest_of, delay_of}
+use Rattle.arena_map.specs.Maps.{MapView, IsMap, dest_of, delay_of}
 use Rattle.item_rules.specs.Items.{is_item}
 use Rattle.trigger_rules.specs.Touching.{is_touched, touched_by, solids_among, touched}
 
@@ -100,3 +100,22 @@ HaveSameWays arena me near others = (r : Rec) (dest : Vec3) → Contains (touche
 abbrev pub OnlyTouchedMatters : Type 0
 OnlyTouchedMatters = (arena : MapView) (frame : ℕ) (me : Rec) (near others : List Rec) → touched_by me near ≡ touched_by me others → HaveSameWays arena me near others
     → touched arena frame me near ≡ touched arena frame me others
+
+-- a player on a map: its record is within its bounds, its score is that of its type, and its body is inside the arena
+pub record IsPlayerOn (arena : MapView) (me : Rec) : Type 0 where
+  pub kind : me.kind ≡ Player
+  pub is_record : IsRecord me
+  pub score : me.score ≤ 4294967295
+  pub inside : contains arena.bounds (body_of me) ≡ true
+
+-- a player on a map stays one
+abbrev pub PlayersStayOn : Type 0
+PlayersStayOn = (arena : MapView) (frame : ℕ) (me : Rec) (near : List Rec) → IsMap arena → IsPlayerOn arena me → IsPlayerOn arena (touched arena frame me near).me
+
+-- two new states are those of one record
+abbrev pub is_same_record : NewState → NewState → Bool
+is_same_record a b = a.id == b.id
+
+-- no record gets two new states, where the ids of the records rise
+abbrev pub StatesAreApart : Type 0
+StatesAreApart = (arena : MapView) (frame : ℕ) (me : Rec) (near : List Rec) → IsStrictlyIncreasing (map (λ r. r.id) near) → IsDistinct is_same_record (touched arena frame me near).states

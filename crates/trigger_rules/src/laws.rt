@@ -7,6 +7,8 @@ ghost use Rattle.trigger_rules.specs.Laws.{
   OnlyLeapsMove,
   PlayersStayThemselves,
   OnlyTouchedMatters,
+  PlayersStayOn,
+  StatesAreApart,
 };
 
 /// Nobody's ammunition passes 100, and nobody carries more than 8 gems.
@@ -49,4 +51,14 @@ pub fn players_stay_themselves()
 /// touches.
 pub fn only_touched_matters()
     ensures { OnlyTouchedMatters }
+{}
+
+/// A player's record stays within its bounds, and its body inside the arena.
+pub fn players_stay_on()
+    ensures { PlayersStayOn }
+{}
+
+/// No record gets two new states.
+pub fn states_are_apart()
+    ensures { StatesAreApart }
 {}

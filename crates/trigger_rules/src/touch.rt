@@ -1,6 +1,6 @@
 ghost use Rattle.std.specs.Prelude.{◌≡◌, ◌&&◌, ℕ, List, [], All, Some, length, false, not, true};
-ghost use Rattle.arena_geo.specs.Vectors.{IsNear};
 ghost use Rattle.std.specs.List.{list_any};
+ghost use Rattle.arena_geo.specs.Vectors.{IsNear};
 ghost use Rattle.arena_geo.specs.Boxes.{overlaps, is_blocked, contains};
 ghost use Rattle.entity_recs.specs.declared.effect.NewState.{NewState};
 ghost use Rattle.entity_recs.specs.declared.kind.Kind.TheVariants.{Player};
@@ -31,7 +31,7 @@ fn is_touched(abs: &Aabb, r: &Rec) -> bool
     !r.kind.is_solid() && abs_box(r).touches(abs)
 }
 
-/// Whether the body overlaps that of a solid.
+/// Whether the body overlaps that of a solid among these records.
 fn is_blocked_by_solids(body: &Aabb, near: &[Rec]) -> bool
     requires { All IsRecord near.now }
     ensures { result ≡ list_any (λ r. is_solid r.kind && overlaps body.now (body_of r)) near.now }
@@ -40,7 +40,7 @@ fn is_blocked_by_solids(body: &Aabb, near: &[Rec]) -> bool
         .any(|r| r.kind.is_solid() && body.overlaps(&body_box(r)))
 }
 
-/// A player touches an item: it takes it, unless it has taken 8 in this move.
+/// What an item that the player touches does: it is taken, unless 8 were taken in this move.
 fn touch_item(
     map: &ArenaMap,
     me: &mut Rec,
@@ -71,7 +71,7 @@ fn touch_item(
     }
 }
 
-/// A player touches a goal: what it carries is added to its score.
+/// What a goal that the player touches does: what the player carries is added to its score.
 fn touch_goal(me: &mut Rec)
     requires { IsRecord me.old }
     ensures player { me.new ≡ touching.scored me.old }
@@ -81,7 +81,7 @@ fn touch_goal(me: &mut Rec)
     me.carry = 0;
 }
 
-/// A player at a teleporter's destination.
+/// Puts a player at a teleporter's destination, at rest.
 fn leap(me: &mut Rec, dest: Vec3)
     requires player { me.old.kind ≡ Player }
     requires record { IsRecord me.old }
@@ -104,7 +104,7 @@ fn is_free(map: &ArenaMap, near: &[Rec], dest: Vec3) -> bool
     !body.is_blocked(map.solids()) && !is_blocked_by_solids(&body, near)
 }
 
-/// A player touches a teleporter: it is moved to the destination, where no solid is in its way. Whether it is.
+/// Moves a player that touches a teleporter to the destination, unless a solid is in the way. Returns whether it moved.
 fn touch_teleporter(map: &ArenaMap, me: &mut Rec, near: &[Rec], dest: Vec3) -> bool
     requires player { me.old.kind ≡ Player }
     requires record { IsRecord me.old }
@@ -123,7 +123,7 @@ fn touch_teleporter(map: &ArenaMap, me: &mut Rec, near: &[Rec], dest: Vec3) -> b
     true
 }
 
-/// A player touches a trigger. Whether that ends the walk.
+/// What a trigger that the player touches does. Returns whether that ends the walk.
 fn touch(
     map: &ArenaMap,
     me: &mut Rec,

@@ -6,7 +6,6 @@ use Rattle.entity_recs.specs.declared.rec.Rec.{Rec}
 use Rattle.entity_recs.specs.Kinds.{is_solid}
 use Rattle.entity_recs.specs.Bodies.{body_of, player_body}
 use Rattle.arena_map.specs.Maps.{MapView, solids_of}
-use Rattle.trigger_rules.specs.Touching.{solids_among}
 use Rattle.trigger_rules.proofs.Walks.{blocked-among}
 use Rattle.trigger_rules.proofs.touch.is_free.Goals as goal
 
