@@ -61,6 +61,9 @@ const CROWDED_OUTPUT: &str =
 
 const NO_FRAME: &str = "arena -131072 -131072 0 131072 131072 65536\nend\nframe\n";
 
+/// A recording whose `end` has no line feed.
+const CUT_END: &str = "arena -131072 -131072 0 131072 131072 65536\nspawn 0 0 6144\nframe\nend";
+
 const STEP: &str =
     "arena -131072 -131072 0 131072 131072 65536\nspawn 0 0 6144\nblock 5120 -12800 0 12800 12800 4608\nframe\nfrom 7 0101\nfrom 7 010201000000324001000000\nend\n";
 
@@ -122,6 +125,7 @@ fn frames_are_printed_in_order(rt: HostRuntime) -> Result<(), Fail> {
         (SECOND_FRAME, SECOND_OUTPUT),
         (CROWDED, CROWDED_OUTPUT),
         (NO_FRAME, "end 0\n"),
+        (CUT_END, "frame 0\nend 1\n"),
     ];
     for (recording, output) in rows {
         expect(&rt, recording, 0, output)?;
@@ -197,6 +201,16 @@ fn other_words_are_refused(rt: HostRuntime) -> Result<(), Fail> {
 #[test]
 fn a_failing_read_is_reported(rt: HostRuntime) -> Result<(), Fail> {
     let mut source = MemSource::new(ONE_JOIN.as_bytes(), 8, &[3]);
+    let mut sink = MemSink::new(rt.alloc(), 1_000, 100)?;
+    let report = serve(rt.alloc(), &["play", "1"], &mut source, &mut sink);
+    assert_eq!(rt; report.status, 3);
+    assert!(rt; sink.bytes().is_empty());
+    Ok(())
+}
+
+#[test]
+fn an_end_whose_line_feed_is_not_read_closes_no_frame(rt: HostRuntime) -> Result<(), Fail> {
+    let mut source = MemSource::new(CUT_END.as_bytes(), 100, &[1]);
     let mut sink = MemSink::new(rt.alloc(), 1_000, 100)?;
     let report = serve(rt.alloc(), &["play", "1"], &mut source, &mut sink);
     assert_eq!(rt; report.status, 3);
