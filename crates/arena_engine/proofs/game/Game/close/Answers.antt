@@ -1,4 +1,4 @@
-use Rattle.std.proofs.Common.{List, map, ap, refl, ◌∙◌}
+use Rattle.std.proofs.Common.{List, map, ap, ◌∙◌}
 use Rattle.client_ports.specs.declared.arrival.Arrival.{Arrival}
 use Rattle.move_journal.specs.Entries.{entry_value}
 use Rattle.arena_engine.proofs.Closing.{game_with, printed-is, closes-frame}
