@@ -53,6 +53,13 @@ impl NearList {
         }
     }
 
+    /// Empties the list. What was in it is left where it is, so this costs nothing.
+    pub fn clear(&mut self)
+        ensures { self.new ≡ [] }
+    {
+        self.len = 0;
+    }
+
     /// Puts a record last. `false` exactly where there are [`NEAR_RECORDS`] already; the list is then unchanged.
     pub fn push(&mut self, r: Rec) -> bool
         ensures room { IsTrue result ↔ (length self.old < NEAR_RECORDS) }
