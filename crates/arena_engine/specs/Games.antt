@@ -36,7 +36,8 @@ ClosesFrame old new (Some arrivals) journal = RunsFrame old new arrivals journal
 -- the lines of the frame that was open, with this journal
 abbrev pub closing_lines : ServerView → Option (List Arrival) → List Entry → List OutLine
 closing_lines server None journal = []
-closing_lines server (Some arrivals) journal = lines_with server.map server.frames (received server.map server.frames server.state arrivals) journal
+closing_lines server (Some arrivals) journal =
+    lines_with server.map server.frames (received server.map server.frames server.state arrivals) journal
 
 -- the game after an event
 pub record Goes (old new : GameView) (opened : Option (List Arrival)) : Type 0 where

@@ -20,8 +20,10 @@ use Rattle.arena_map.specs.Validity.{IsSameLift, IsOpeningWorld, IsValidWorld}
 
 -- an arena that breaks no rule begins a map that keeps them, and a line that breaks none leaves such a map
 pub record LinesKeepTheRules : Type 0 where
-  pub begun : (lo hi : Vec3) → IsNear 1048576 lo → IsNear 1048576 hi → broken_by_arena lo hi ≡ None → IsMap (bare_map lo hi)
-  pub added : (map : MapView) (line : MapLine) → IsMap map → IsWithinLimits line → broken_rule map line ≡ None → IsMap (with_line map line)
+  pub begun : (lo hi : Vec3) → IsNear 1048576 lo → IsNear 1048576 hi → broken_by_arena lo hi ≡ None
+      → IsMap (bare_map lo hi)
+  pub added : (map : MapView) (line : MapLine) → IsMap map → IsWithinLimits line → broken_rule map line ≡ None
+      → IsMap (with_line map line)
 
 -- the solids of a map block what its walls block
 abbrev pub SolidsHaveWalls : Type 0
@@ -29,12 +31,16 @@ SolidsHaveWalls = (map : MapView) → HaveWalls map.bounds (solids_of map)
 
 -- a text is read as a line exactly where it is the text of that line, and its numbers are within their limits
 abbrev pub MapLinesReadBack : Type 0
-MapLinesReadBack = (text : List ℕ) (line : MapLine) → (map_line_of text ≡ Ok line) ↔ ((text ≡ map_line_text line) × IsWithinLimits line)
+MapLinesReadBack =
+    (text : List ℕ) (line : MapLine) → (map_line_of text ≡ Ok line)
+    ↔ ((text ≡ map_line_text line) × IsWithinLimits line)
 
--- an id has a destination exactly where this kind is a teleporter's, a delay where it is an item's, and the data of a lift where it is a lift's
+-- an id has a destination exactly where this kind is a teleporter's, a delay where it is an item's, and the data of a
+-- lift where it is a lift's
 abbrev pub HasDataOf : MapView → ℕ → Kind → Type 0
 HasDataOf map id kind =
-    (is_some (dest_of map id) ≡ is_teleporter kind) × (is_some (delay_of map id) ≡ is_item kind) × (is_some (lift_of map id) ≡ is_lift kind)
+    (is_some (dest_of map id) ≡ is_teleporter kind) × (is_some (delay_of map id) ≡ is_item kind)
+    × (is_some (lift_of map id) ≡ is_lift kind)
 
 -- the data of an id are those of the thing that has it; where there is none, there are no data
 abbrev pub HasData : MapView → ℕ → Option Rec → Type 0
@@ -43,7 +49,8 @@ HasData map id (Some thing) = HasDataOf map id thing.kind
 
 -- so it is with each id, and the thing that has it
 abbrev pub DataFollowKinds : Type 0
-DataFollowKinds = (map : MapView) (id : ℕ) → IsMap map → HasData map id (find (λ thing. thing.id == id) (entities_of map))
+DataFollowKinds =
+    (map : MapView) (id : ℕ) → IsMap map → HasData map id (find (λ thing. thing.id == id) (entities_of map))
 
 -- so it is with each live record of a valid world
 abbrev pub LiveRecordsHaveData : Type 0
@@ -53,7 +60,8 @@ LiveRecordsHaveData =
 
 -- the opening world of a map is valid
 abbrev pub OpeningWorldIsValid : Type 0
-OpeningWorldIsValid = (map : MapView) (records : List (Option Rec)) → IsMap map → IsOpeningWorld map records → IsValidWorld map records
+OpeningWorldIsValid =
+    (map : MapView) (records : List (Option Rec)) → IsMap map → IsOpeningWorld map records → IsValidWorld map records
 
 -- a lift's record between its lowest place and its highest has its shape there, and its body is inside the arena
 pub record IsLiftInside (map : MapView) (r : Rec) : Type 0 where

@@ -42,7 +42,8 @@ IsWithinLimits (Item at kind delay) = IsNear 1048576 at × (is_item kind ≡ tru
 IsWithinLimits (Teleport lo hi dest) = IsNear 1048576 lo × IsNear 1048576 hi × IsNear 1048576 dest
 IsWithinLimits (Goal lo hi) = IsNear 1048576 lo × IsNear 1048576 hi
 IsWithinLimits (Lift lo hi rise speed) =
-    IsNear 1048576 lo × IsNear 1048576 hi × (pos 1 ≤ℤ rise) × (rise ≤ℤ pos 1048576) × (pos 1 ≤ℤ speed) × (speed ≤ℤ pos 2560)
+    IsNear 1048576 lo × IsNear 1048576 hi × (pos 1 ≤ℤ rise) × (rise ≤ℤ pos 1048576) × (pos 1 ≤ℤ speed)
+    × (speed ≤ℤ pos 2560)
 
 -- the line is that of the arena, with which a map begins
 abbrev pub is_arena : MapLine → Bool

@@ -113,7 +113,8 @@ pub record IsMap (map : MapView) : Type 0 where
 
 -- a map is kept as its bounds, its solids, its spawns, the lines of its things, the records that these give, and the
 -- shafts of its lifts: the blocks are the solids after the six walls
-pub record IsKept (bounds : Bounds) (solids : List Bounds) (spawns : List Vec3) (things : List MapLine) (entities : List Rec) (shafts : List Bounds) : Type 0 where
+pub record IsKept (bounds : Bounds) (solids : List Bounds) (spawns : List Vec3) (things : List MapLine)
+    (entities : List Rec) (shafts : List Bounds) : Type 0 where
   pub solids_are : solids ≡ solids_of (map_of bounds (drop 6 solids) spawns things)
   pub entities_are : entities ≡ records_from 64 things
   pub shafts_are : shafts ≡ filter_map shaft_of things

@@ -1,4 +1,5 @@
--- What a map line says: its word, then whether its fields have the form that the word wants, and then their values within the limits.
+-- What a map line says: its word, then whether its fields have the form that the word wants, and then their values
+-- within the limits.
 use Rattle.std.specs.Prelude.{ℕ, zero, suc, Bool, true, false, ◌&&◌, List, [], ◌∷◌, Option, Some, None, is_some, ok_or, Result, Err, ℤ, pos, codes, bytes_eq, ◌||◌, if◌then◌else◌}
 use Rattle.arena_geo.specs.declared.vec3.Vec3.{Vec3}
 use Rattle.arena_geo.specs.Vectors.{vector}
@@ -139,7 +140,8 @@ line_within words.Lift rest = lift_in rest
 
 -- ---- the line
 
--- the line of this word: the fault is 4 where its fields don't have their form, and else 6 where a number isn't within its limit
+-- the line of this word: the fault is 4 where its fields don't have their form, and else 6 where a number isn't within
+-- its limit
 abbrev pub line_of_word : MapWord → List ℕ → Result MapLine ℕ
 line_of_word word rest = if has_fields (fields_of word) rest then ok_or (line_within word rest) 6 else Err 4
 

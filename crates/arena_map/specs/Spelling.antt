@@ -31,7 +31,8 @@ fields_text (Spawn at) = point_text at
 fields_text (Item at kind delay) = point_text at ++ field_text (kind_text kind) ++ field_text (decimal delay)
 fields_text (Teleport lo hi dest) = point_text lo ++ point_text hi ++ point_text dest
 fields_text (Goal lo hi) = point_text lo ++ point_text hi
-fields_text (Lift lo hi rise speed) = point_text lo ++ point_text hi ++ field_text (signed_decimal rise) ++ field_text (signed_decimal speed)
+fields_text (Lift lo hi rise speed) =
+    point_text lo ++ point_text hi ++ field_text (signed_decimal rise) ++ field_text (signed_decimal speed)
 
 -- a line: its word and its fields
 abbrev pub map_line_text : MapLine → List ℕ

@@ -1,13 +1,15 @@
--- Which worlds are valid for a map: records by id, each within its bounds, the things as their lines say, and the players inside the arena.
-use Rattle.std.specs.Prelude.{◌≡◌, ℕ, ◌≤◌, ◌==◌, true, List, Option, Some, None, ⊤, ◌+ℤ◌, ◌≤ℤ◌, slice_index_or}
+-- Which worlds are valid for a map: records by id, each within its bounds, the things as their lines say, and the
+-- players inside the arena.
+use Rattle.std.specs.Prelude.{◌≡◌, ◌≢◌, ℕ, ◌≤◌, ◌==◌, true, false, List, Option, Some, None, ⊤, ◌+ℤ◌, ◌≤ℤ◌, slice_index_or}
 use Rattle.std.specs.List.{find}
-use Rattle.arena_geo.specs.Boxes.{contains}
+use Rattle.arena_geo.specs.Boxes.{contains, overlaps, is_blocked}
 use Rattle.entity_recs.specs.declared.kind.Kind.TheVariants.{Player}
 use Rattle.entity_recs.specs.declared.rec.Rec.{Rec}
 use Rattle.entity_recs.specs.Records.{IsRecord, IsStateOf}
+use Rattle.entity_recs.specs.Kinds.{is_solid}
 use Rattle.entity_recs.specs.Bodies.{body_of}
 use Rattle.arena_map.specs.declared.lift.Lift.{Lift}
-use Rattle.arena_map.specs.Maps.{MapView, entities_of, lift_of}
+use Rattle.arena_map.specs.Maps.{MapView, entities_of, lift_of, solids_of}
 
 -- the record has the kind and the shape of a thing, at its place
 pub record IsSameThing (thing r : Rec) : Type 0 where
@@ -48,8 +50,18 @@ pub record IsValidRecord (map : MapView) (id : ℕ) (r : Rec) : Type 0 where
 -- the records, each at the place of its id, are those of a valid world
 pub record IsValidWorld (map : MapView) (records : List (Option Rec)) : Type 0 where
   pub each : (id : ℕ) (r : Rec) → slice_index_or records id None ≡ Some r → IsValidRecord map id r
-  pub things : (id : ℕ) → 64 ≤ id → IsThing map (find (λ thing. thing.id == id) (entities_of map)) (slice_index_or records id None)
+  pub things : (id : ℕ) → 64 ≤ id
+      → IsThing map (find (λ thing. thing.id == id) (entities_of map)) (slice_index_or records id None)
 
 -- the world in which the things of the map are live, each at its id and as at the start, and nothing else is
 abbrev pub IsOpeningWorld : MapView → List (Option Rec) → Type 0
-IsOpeningWorld map records = (id : ℕ) → slice_index_or records id None ≡ find (λ thing. thing.id == id) (entities_of map)
+IsOpeningWorld map records =
+    (id : ℕ) → slice_index_or records id None ≡ find (λ thing. thing.id == id) (entities_of map)
+
+-- no player's body overlaps a wall or a block, and no bodies of two live solids overlap
+pub record AreClear (map : MapView) (records : List (Option Rec)) : Type 0 where
+  pub of_the_map : (id : ℕ) (r : Rec) → slice_index_or records id None ≡ Some r → r.kind ≡ Player
+      → is_blocked (body_of r) (solids_of map) ≡ false
+  pub of_each_other : (i j : ℕ) (r s : Rec) → slice_index_or records i None ≡ Some r
+      → slice_index_or records j None ≡ Some s → is_solid r.kind ≡ true → is_solid s.kind ≡ true → i ≢ j
+      → overlaps (body_of r) (body_of s) ≡ false

@@ -40,7 +40,9 @@ kind_text kinds.Lift = []
 
 -- the kind of an item that is written so
 abbrev pub item_kind : List ℕ → Option Kind
-item_kind text = if bytes_eq text (codes "ammo") then Some kinds.Ammo else if bytes_eq text (codes "gem") then Some kinds.Gem else None
+item_kind text =
+    if bytes_eq text (codes "ammo") then Some kinds.Ammo else if bytes_eq text (codes "gem")
+    then Some kinds.Gem else None
 
 -- so many numbers
 abbrev pub numbers : ℕ → List MapField

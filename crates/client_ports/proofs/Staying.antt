@@ -23,7 +23,7 @@ use Rattle.client_ports.specs.Answers.{join_answer}
 use Rattle.client_ports.specs.Finishing.{finished_client, records_after, finished_at, finished_up_to, finished}
 use Rattle.client_ports.specs.Receiving.{Receiving, after_arrival, after_arrivals, received}
 use Rattle.client_ports.specs.Laws.{IsClear, IsAcceptedMove, IsRefused, IsJoined, IsLeave, IsMove}
-use Rattle.client_ports.specs.Frames.{AreClear}
+use Rattle.arena_map.specs.Validity.{AreClear}
 use Rattle.client_ports.proofs.Changes.{live-inside, IsNewcomer, join-newcomer, IsAcceptedLeave, leave_accepted}
 use Rattle.client_ports.proofs.Facts.{got, join_clear, move_accepted, one_answer}
 use Rattle.client_ports.proofs.Live.{live-updated, live-written}

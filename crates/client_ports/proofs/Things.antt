@@ -25,7 +25,7 @@ use Rattle.arena_map.specs.Maps.{MapView, IsMap, IsThingInside}
 use Rattle.arena_map.specs.Validity.{IsOpeningWorld}
 use Rattle.arena_map.proofs.Opening.{found-in}
 use Rattle.world_tree.specs.Live.{record_at}
-use Rattle.client_ports.specs.Frames.{AreClear}
+use Rattle.arena_map.specs.Validity.{AreClear}
 use Rattle.client_ports.proofs.Staying.{overlaps-flips}
 
 -- ---- pairs of a filtered list

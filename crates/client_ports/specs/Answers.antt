@@ -27,14 +27,16 @@ refusal_of fault.Full = Full
 abbrev pub place_at : ℕ → Vec3 → Place
 place_at slot at = record { slot = slot; at = at }
 
--- the first spawn in line order at which a player's body overlaps no wall, no block and no body of a live solid but the slot's own
+-- the first spawn in line order at which a player's body overlaps no wall, no block and no body of a live solid but the
+-- slot's own
 abbrev pub free_spawn : List Bounds → List (Option Rec) → ℕ → List Vec3 → Option Vec3
 free_spawn solids records slot spawns = find (λ at. is_free records (player_body at) solids slot) spawns
 
 -- the place in the slot that a join gets
 abbrev pub place_in : MapView → List (Option Rec) → Result ℕ JoinFault → Result Place Refusal
 place_in map records (Err why) = Err (refusal_of why)
-place_in map records (Ok slot) = ok_or (option_map (place_at slot) (free_spawn (solids_of map) records slot map.spawns)) Crowded
+place_in map records (Ok slot) =
+    ok_or (option_map (place_at slot) (free_spawn (solids_of map) records slot map.spawns)) Crowded
 
 -- the answer to a join
 abbrev pub join_answer : MapView → State → ℕ → Result Place Refusal

@@ -1,16 +1,11 @@
 -- What holds of all packets of a frame together, and of the end of a frame.
-use Rattle.std.specs.Prelude.{◌≡◌, ◌≢◌, ℕ, ◌+◌, ◌≤◌, ◌==◌, Bool, true, false, ◌&&◌, List, [], ◌∷◌, length, map, filter, count_by, All, Option, Some, None, IsSome}
+use Rattle.std.specs.Prelude.{◌≡◌, ℕ, ◌+◌, ◌≤◌, ◌==◌, Bool, ◌&&◌, List, [], ◌∷◌, length, map, filter, count_by, All, Option, Some, None, IsSome}
 use Rattle.std.specs.List.{IsDistinct}
 use Rattle.std.specs.List.Sorted.{IsStrictlyIncreasing}
-use Rattle.arena_geo.specs.Boxes.{overlaps, is_blocked}
-use Rattle.entity_recs.specs.declared.kind.Kind.TheVariants.{Player}
 use Rattle.entity_recs.specs.declared.rec.Rec.{Rec}
-use Rattle.entity_recs.specs.Bodies.{body_of}
 use Rattle.entity_recs.specs.Commands.{Command}
-use Rattle.entity_recs.specs.Kinds.{is_solid}
-use Rattle.arena_map.specs.Maps.{MapView, IsMap, solids_of}
-use Rattle.arena_map.specs.Validity.{IsOpeningWorld}
-use Rattle.world_tree.specs.Live.{record_at}
+use Rattle.arena_map.specs.Maps.{MapView, IsMap}
+use Rattle.arena_map.specs.Validity.{IsOpeningWorld, AreClear}
 use Rattle.client_ports.specs.declared.arrival.Arrival.{Arrival}
 use Rattle.client_ports.specs.declared.client.Client.{Client}
 use Rattle.client_ports.specs.Clients.{no_clients, client_at, AreClients}
@@ -28,7 +23,8 @@ leaver_count clients = count_by is_leaver clients
 abbrev pub EachFrameIsAnswered : Type 0
 EachFrameIsAnswered = (map : MapView) (frame : ℕ) (state : State) (arrivals : List Arrival)
     → let next = received map frame state arrivals in
-    length next.lists.refused + length next.lists.joined + length next.lists.moves + leaver_count next.state.clients ≡ length arrivals + leaver_count state.clients
+    length next.lists.refused + length next.lists.joined + length next.lists.moves + leaver_count next.state.clients
+    ≡ length arrivals + leaver_count state.clients
 
 -- ---- the moves of a slot
 
@@ -51,7 +47,8 @@ abbrev pub last_in : ℕ → List ℕ → ℕ
 last_in last [] = last
 last_in last (n ∷ more) = last_in n more
 
--- a slot before and after a frame: the numbers of its moves rise strictly from the last one before the frame to the last one after it, and each is counted
+-- a slot before and after a frame: the numbers of its moves rise strictly from the last one before the frame to the
+-- last one after it, and each is counted
 pub record IsAdvance (before after : Option Client) (numbers : List ℕ) : Type 0 where
   pub rise : IsStrictlyIncreasing (last_of before ∷ numbers)
   pub last : last_of after ≡ last_in (last_of before) numbers
@@ -60,11 +57,14 @@ pub record IsAdvance (before after : Option Client) (numbers : List ℕ) : Type 
 -- the accepted numbers of each slot rise strictly in a frame, from the last one before it
 abbrev pub NumbersRiseInAFrame : Type 0
 NumbersRiseInAFrame = (map : MapView) (frame : ℕ) (state : State) (arrivals : List Arrival) (slot : ℕ)
-    → let next = received map frame state arrivals in IsAdvance (client_at state.clients slot) (client_at next.state.clients slot) (numbers_of slot next.lists.moves)
+    → let next = received map frame state arrivals in
+    IsAdvance (client_at state.clients slot) (client_at next.state.clients slot)
+    (numbers_of slot next.lists.moves)
 
 -- a player has at most 8 moves in a frame
 abbrev pub PlayersHaveFewMoves : Type 0
-PlayersHaveFewMoves = (map : MapView) (frame : ℕ) (state : State) (arrivals : List Arrival) (slot : ℕ) → AreClients state.clients
+PlayersHaveFewMoves =
+    (map : MapView) (frame : ℕ) (state : State) (arrivals : List Arrival) (slot : ℕ) → AreClients state.clients
     → length (numbers_of slot (received map frame state arrivals).lists.moves) ≤ 8
 
 -- two commands are one slot's, with one number
@@ -73,40 +73,45 @@ is_same_move a b = (a.slot == b.slot) && (a.seq == b.seq)
 
 -- no two accepted moves of a frame share slot and number
 abbrev pub NumbersAreApart : Type 0
-NumbersAreApart = (map : MapView) (frame : ℕ) (state : State) (arrivals : List Arrival) → IsDistinct is_same_move (received map frame state arrivals).lists.moves
+NumbersAreApart =
+    (map : MapView) (frame : ℕ) (state : State) (arrivals : List Arrival)
+    → IsDistinct is_same_move (received map frame state arrivals).lists.moves
 
 -- the slot of each accepted move is live after the packets
 abbrev pub MoversAreLive : Type 0
 MoversAreLive = (map : MapView) (frame : ℕ) (state : State) (arrivals : List Arrival)
-    → let next = received map frame state arrivals in All (λ c. IsSome (client_at next.state.clients c.slot)) next.lists.moves
+    → let next = received map frame state arrivals in
+    All (λ c. IsSome (client_at next.state.clients c.slot)) next.lists.moves
 
 -- ---- what is kept
 
 -- the state in which a server begins, with nobody joined and only the things of the map live, is a server's
 abbrev pub OpeningIsAServerState : Type 0
-OpeningIsAServerState = (map : MapView) (records : List (Option Rec)) → IsMap map → length records ≡ 256 → IsOpeningWorld map records → IsServerState map (state_of no_clients records)
+OpeningIsAServerState =
+    (map : MapView) (records : List (Option Rec)) → IsMap map → length records ≡ 256 → IsOpeningWorld map records
+    → IsServerState map (state_of no_clients records)
 
 -- ports stay apart, and moves few, through the packets and the end of a frame
 abbrev pub ClientsStayApart : Type 0
 ClientsStayApart = (map : MapView) (frame : ℕ) (state : State) (arrivals : List Arrival) → AreClients state.clients
     → AreClients (received map frame state arrivals).state.clients × AreClients (finished state).clients
 
--- a server's state stays one through the packets and the end of a frame: the live slots are the live players, and the world is valid
+-- a server's state stays one through the packets and the end of a frame: the live slots are the live players, and the
+-- world is valid
 abbrev pub StatesStayValid : Type 0
-StatesStayValid = (map : MapView) (frame : ℕ) (state : State) (arrivals : List Arrival) → IsMap map → IsServerState map state
+StatesStayValid =
+    (map : MapView) (frame : ℕ) (state : State) (arrivals : List Arrival) → IsMap map → IsServerState map state
     → IsServerState map (received map frame state arrivals).state × IsServerState map (finished state)
-
--- no player's body overlaps a wall or a block, and no bodies of two live solids overlap
-pub record AreClear (map : MapView) (records : List (Option Rec)) : Type 0 where
-  pub of_the_map : (id : ℕ) (r : Rec) → record_at records id ≡ Some r → r.kind ≡ Player → is_blocked (body_of r) (solids_of map) ≡ false
-  pub of_each_other : (i j : ℕ) (r s : Rec) → record_at records i ≡ Some r → record_at records j ≡ Some s → is_solid r.kind ≡ true → is_solid s.kind ≡ true → i ≢ j
-      → overlaps (body_of r) (body_of s) ≡ false
 
 -- so it is in the state in which a server begins
 abbrev pub OpeningIsClear : Type 0
-OpeningIsClear = (map : MapView) (records : List (Option Rec)) → IsMap map → IsOpeningWorld map records → AreClear map records
+OpeningIsClear =
+    (map : MapView) (records : List (Option Rec)) → IsMap map → IsOpeningWorld map records → AreClear map records
 
--- where players are clear before the packets of a frame they are after them, those that join too; and so at the end of a frame
+-- where players are clear before the packets of a frame they are after them, those that join too; and so at the end of
+-- a frame
 abbrev pub BodiesStayClear : Type 0
-BodiesStayClear = (map : MapView) (frame : ℕ) (state : State) (arrivals : List Arrival) → IsMap map → IsServerState map state → AreClear map state.records
+BodiesStayClear =
+    (map : MapView) (frame : ℕ) (state : State) (arrivals : List Arrival) → IsMap map → IsServerState map state
+    → AreClear map state.records
     → AreClear map (received map frame state arrivals).state.records × AreClear map (finished state).records

@@ -33,14 +33,17 @@ SlotIsLeastFree = (map : MapView) (state : State) (port : ℕ) (to : Place) → 
 -- the body of a player that joins overlaps no wall and no block, and no body of a live solid
 pub record IsClear (map : MapView) (state : State) (to : Place) : Type 0 where
   pub of_the_map : is_blocked (player_body to.at) (solids_of map) ≡ false
-  pub of_the_live : (id : ℕ) (r : Rec) → record_at state.records id ≡ Some r → is_solid r.kind ≡ true → overlaps (player_body to.at) (body_of r) ≡ false
+  pub of_the_live : (id : ℕ) (r : Rec) → record_at state.records id ≡ Some r → is_solid r.kind ≡ true
+      → overlaps (player_body to.at) (body_of r) ≡ false
 
 -- nobody is added into a solid
 abbrev pub NobodyIsAddedIntoASolid : Type 0
-NobodyIsAddedIntoASolid = (map : MapView) (state : State) (port : ℕ) (to : Place) → AreClients state.clients → IsState map state
+NobodyIsAddedIntoASolid =
+    (map : MapView) (state : State) (port : ℕ) (to : Place) → AreClients state.clients → IsState map state
     → join_answer map state port ≡ Ok to → IsClear map state to
 
--- a move is accepted: its number is above the last one, which it becomes, and fewer than 8 moves of the client were accepted in the frame
+-- a move is accepted: its number is above the last one, which it becomes, and fewer than 8 moves of the client were
+-- accepted in the frame
 pub record IsAcceptedMove (clients : List (Option Client)) (seq : ℕ) (live : LiveSlot) : Type 0 where
   pub was : Client
   pub in_slot : client_at clients live.slot ≡ Some was
@@ -93,4 +96,5 @@ EachPacketHasOneAnswer = (map : MapView) (frame : ℕ) (r : Receiving) (place : 
 abbrev pub FinishTakesLeaversOut : Type 0
 FinishTakesLeaversOut = (state : State) → length state.clients ≡ 64 → length state.records ≡ 256 → (id : ℕ)
     → (client_at (finished state).clients id ≡ finished_client (client_at state.clients id))
-    × (record_at (finished state).records id ≡ (if is_leaver (client_at state.clients id) then None else record_at state.records id))
+    × (record_at (finished state).records id ≡ (if is_leaver (client_at state.clients id)
+    then None else record_at state.records id))

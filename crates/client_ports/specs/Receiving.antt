@@ -32,7 +32,8 @@ after_refusal r place why = receiving_of r.state (with_refusal r.lists place why
 -- after a join
 abbrev pub after_join : Result Place Refusal → Receiving → ℕ → ℕ → Receiving
 after_join (Err why) r place port = after_refusal r place why
-after_join (Ok to) r place port = receiving_of (with_newcomer r.state port to.slot to.at) (with_join r.lists port to.slot)
+after_join (Ok to) r place port =
+    receiving_of (with_newcomer r.state port to.slot to.at) (with_join r.lists port to.slot)
 
 -- after a leave
 abbrev pub after_leave : Result LiveSlot Refusal → Receiving → ℕ → Receiving
@@ -41,12 +42,22 @@ after_leave (Ok live) r place = receiving_of (with_update r.state live) r.lists
 
 -- the command of a move in a frame
 abbrev pub command_in : ℕ → ℕ → MovePacket → Command
-command_in frame slot m = record { slot = slot; seq = m.seq; frame = frame; ms = m.ms; wish_x = m.wish_x; wish_y = m.wish_y; buttons = m.buttons }
+command_in frame slot m =
+    record {
+      slot = slot;
+      seq = m.seq;
+      frame = frame;
+      ms = m.ms;
+      wish_x = m.wish_x;
+      wish_y = m.wish_y;
+      buttons = m.buttons;
+    }
 
 -- after a move
 abbrev pub after_move : Result LiveSlot Refusal → ℕ → MovePacket → Receiving → ℕ → Receiving
 after_move (Err why) frame m r place = after_refusal r place why
-after_move (Ok live) frame m r place = receiving_of (with_update r.state live) (with_move r.lists (command_in frame live.slot m))
+after_move (Ok live) frame m r place =
+    receiving_of (with_update r.state live) (with_move r.lists (command_in frame live.slot m))
 
 -- after a packet
 abbrev pub after_packet : MapView → ℕ → Result Packet PacketFault → Receiving → ℕ → ℕ → Receiving
@@ -62,7 +73,8 @@ after_arrival map frame r place a = after_packet map frame (reading a.bytes) r p
 -- after arrivals, the first of which has this place
 abbrev pub after_arrivals : MapView → ℕ → Receiving → ℕ → List Arrival → Receiving
 after_arrivals map frame r place [] = r
-after_arrivals map frame r place (a ∷ more) = after_arrivals map frame (after_arrival map frame r place a) (place + 1) more
+after_arrivals map frame r place (a ∷ more) =
+    after_arrivals map frame (after_arrival map frame r place a) (place + 1) more
 
 -- what the arrivals of a frame come to
 unfoldable pub received : MapView → ℕ → State → List Arrival → Receiving

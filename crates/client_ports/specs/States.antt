@@ -45,7 +45,8 @@ newcomer slot at = record {
 -- the state with a player that has just joined
 abbrev pub with_newcomer : State → ℕ → ℕ → Vec3 → State
 with_newcomer state port slot at =
-    state_of (with_client state.clients (live_slot slot (new_client port))) (slice_set state.records slot (Some (newcomer slot at)))
+    state_of (with_client state.clients (live_slot slot (new_client port)))
+    (slice_set state.records slot (Some (newcomer slot at)))
 
 -- the state with another client in a live slot
 abbrev pub with_update : State → LiveSlot → State

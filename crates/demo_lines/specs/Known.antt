@@ -4,7 +4,8 @@ use Rattle.arena_map.specs.Maps.{MapView}
 use Rattle.demo_lines.specs.declared.stage.Stage.{Stage}
 use Rattle.demo_lines.specs.declared.stage.Stage.TheVariants.{Start, Map, Playing, Ended, Refused}
 
--- how far the lines have come, the map, how many frames were opened, how many packets the open one has, and how many lines
+-- how far the lines have come, the map, how many frames were opened, how many packets the open one has, and how many
+-- lines
 -- were read
 pub record Reading : Type 0 where
   pub stage : Stage

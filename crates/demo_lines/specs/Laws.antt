@@ -38,7 +38,8 @@ pub record AddsNothing (bytes more : List ℕ) : Type 0 where
   pub fault : fault (bytes ++ more) ≡ fault bytes
   pub map : map_of (bytes ++ more) ≡ map_of bytes
 
--- the rest of the input after the end is ignored: after its line feed, and, where it has none, after a line feed that follows
+-- the rest of the input after the end is ignored: after its line feed, and, where it has none, after a line feed that
+-- follows
 pub record NothingAfterTheEnd : Type 0 where
   pub whole : (bytes more : List ℕ) → (after start (whole_lines bytes)).stage ≡ Ended → AddsNothing bytes more
   pub cut : (bytes more : List ℕ) → fault bytes ≡ None → AddsNothing bytes (10 ∷ more)
@@ -100,8 +101,10 @@ pub record HasLines (count : ℕ) : Type 0 where
   pub is : IsRecording map frames
   pub lines : length (recording_lines map frames) ≡ count
 
--- up to its end or its refused line a recording has at most 1 line with the arena, 64 with spawns, 1,024 with blocks, 192
--- with things, 100,000 times 1 that opens a frame and 512 with its packets, and 1 that ends it or is refused; and some have
+-- up to its end or its refused line a recording has at most 1 line with the arena, 64 with spawns, 1,024 with blocks,
+-- 192
+-- with things, 100,000 times 1 that opens a frame and 512 with its packets, and 1 that ends it or is refused; and some
+-- have
 -- so many
 pub record LinesAreBounded : Type 0 where
   pub bound : (lines : List (List ℕ)) → is_over (after start lines).stage ≡ false → length lines < 51301282

@@ -94,7 +94,8 @@ pub record IsRefusedAt (old new : Reading) (line : List ℕ) (why : Refusal) : T
 -- what the input ended with is refused: an end as a line, and anything else since the input ended
 abbrev pub IsRefusedLast : Reading → Reading → List ℕ → Refusal → Type 0
 IsRefusedLast old new line why =
-    ((is_end line ≡ true) × IsRefusedAt old new line why) ⊎ ((is_end line ≡ false) × (why ≡ refusal (old.lines + 1) faults.NoEnd))
+    ((is_end line ≡ true) × IsRefusedAt old new line why)
+    ⊎ ((is_end line ≡ false) × (why ≡ refusal (old.lines + 1) faults.NoEnd))
 
 -- an event keeps a map that was whole, and else completes one
 pub record KeepsMap (old new : Reading) : Type 0 where

@@ -28,7 +28,8 @@ allowed stage word value = if is_allowed stage word then value else Err faults.P
 -- a line of the map
 abbrev pub map_line_said : Stage → MapWord → List ℕ → Result MapLine LineFault
 map_line_said stage word rest =
-    if has_fields (fields_of word) rest then allowed stage (words.OfMap word) (ok_or (line_within word rest) faults.Limit) else Err faults.Form
+    if has_fields (fields_of word) rest
+    then allowed stage (words.OfMap word) (ok_or (line_within word rest) faults.Limit) else Err faults.Form
 
 -- the answer of a map line: its form comes first, then its place, then its limits
 abbrev pub in_order : Bool → Result MapLine ℕ → Result MapLine LineFault
@@ -74,14 +75,16 @@ first_said stage (Some word) rest = word_said stage word rest
 -- a line of at most 512 bytes
 abbrev pub line_said : Stage → List ℕ → Result Line LineFault
 line_said stage raw =
-    if are_printable (text_of raw) then first_said stage (first_word (text_of raw)) (rest_of (text_of raw)) else Err faults.Byte
+    if are_printable (text_of raw) then first_said stage (first_word (text_of raw)) (rest_of (text_of raw))
+    else Err faults.Byte
 
 -- ---- at its place
 
 -- the fault of a line at its place: the rule of the map that it breaks, or that it is one too many
 abbrev pub place_fault : Reading → Line → Option LineFault
 place_fault r (OfMap line) = option_map faults.Rule (broken_by_line r.map line)
-place_fault r Frame = option_or (option_map faults.Rule (broken_by_frame r)) (if nat_le 100000 r.frames then Some faults.Count else None)
+place_fault r Frame =
+    option_or (option_map faults.Rule (broken_by_frame r)) (if nat_le 100000 r.frames then Some faults.Count else None)
 place_fault r (From a) = if nat_le 512 r.arrivals then Some faults.Count else None
 place_fault r End = None
 

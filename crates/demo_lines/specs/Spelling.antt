@@ -96,7 +96,8 @@ small_map = map_of
     (bounds
     (record { x = negsuc 16383; y = pos 0; z = pos 0 })
     (record { x = pos 16384; y = pos 32768; z = pos 32768 }))
-    (bounds (record { x = pos 1; y = pos 20; z = pos 300 }) (record { x = pos 4000; y = pos 30000; z = pos 32768 }) ∷ [])
+    (bounds (record { x = pos 1; y = pos 20; z = pos 300 }) (record { x = pos 4000; y = pos 30000; z = pos 32768 })
+    ∷ [])
     (record { x = pos 0; y = pos 4096; z = pos 6144 } ∷ record { x = pos 12288; y = pos 4096; z = pos 6144 } ∷ [])
     []
 

@@ -56,13 +56,15 @@ touching region near = filter (λ r. touches_region (abs_of r) region) near
 
 -- the effect over all records is the effect over those that touch the region
 pub record HasLocality (takes : Rec → Bool) (region : Rec → Command → List Bounds) (effect : Action) : Type 0 where
-  pub near : (me : Rec) (near : List Rec) (c : Command) → IsCall takes me near c → effect me near c ≡ effect me (touching (region me c) near) c
+  pub near : (me : Rec) (near : List Rec) (c : Command) → IsCall takes me near c
+      → effect me near c ≡ effect me (touching (region me c) near) c
 
 -- the new state is that of one of these records, and that record lies inside the region
 abbrev pub is_of_one_inside : List Bounds → List Rec → NewState → Bool
 is_of_one_inside region near s = list_any (λ r. (r.id == s.id) && is_inside (abs_of r) region) near
 
--- what an effect may change: its player's record inside the region, which keeps its id, its kind and its shape, and the states of others inside it, each once
+-- what an effect may change: its player's record inside the region, which keeps its id, its kind and its shape, and the
+-- states of others inside it, each once
 pub record StaysWithin (region : List Bounds) (me : Rec) (near : List Rec) (e : Effect) : Type 0 where
   pub before : is_inside (abs_of me) region ≡ true
   pub after : is_inside (abs_of e.me) region ≡ true
@@ -77,4 +79,5 @@ pub record StaysWithin (region : List Bounds) (me : Rec) (near : List Rec) (e : 
 pub record HasFootprint (takes : Rec → Bool) (region : Rec → Command → List Bounds) (effect : Action) : Type 0 where
   pub boxes : (me : Rec) (c : Command) → HasPlayer takes me c → IsRegion (region me c)
   pub any_state : (me : Rec) (state : ℕ) (c : Command) → region (with_state me state) c ≡ region me c
-  pub within : (me : Rec) (near : List Rec) (c : Command) → IsCall takes me near c → StaysWithin (region me c) me near (effect me near c)
+  pub within : (me : Rec) (near : List Rec) (c : Command) → IsCall takes me near c
+      → StaysWithin (region me c) me near (effect me near c)

@@ -2,7 +2,8 @@
 use Rattle.std.specs.Prelude.{ℕ, ℤ}
 use Rattle.entity_recs.specs.declared.cmd.Cmd.{Cmd}
 
--- whose command it is and its number, the frame in which it is done, how many milliseconds it takes, the speed that is wished, and the buttons
+-- whose command it is and its number, the frame in which it is done, how many milliseconds it takes, the speed that is
+-- wished, and the buttons
 pub record Command : Type 0 where
   pub slot : ℕ
   pub seq : ℕ
@@ -14,4 +15,13 @@ pub record Command : Type 0 where
 
 -- the numbers of a command
 abbrev pub command_of : Cmd → Command
-command_of c = record { slot = c.slot; seq = c.seq; frame = c.frame; ms = c.ms; wish_x = c.wish_x; wish_y = c.wish_y; buttons = c.buttons }
+command_of c =
+    record {
+      slot = c.slot;
+      seq = c.seq;
+      frame = c.frame;
+      ms = c.ms;
+      wish_x = c.wish_x;
+      wish_y = c.wish_y;
+      buttons = c.buttons;
+    }

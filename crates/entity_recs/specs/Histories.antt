@@ -23,7 +23,8 @@ with_new_state (s ∷ states) id r = if s.id == id then with_state r s.state els
 
 -- the world with the player's record and the listed states from an effect
 abbrev pub with_effect : World → ℕ → Effect → World
-with_effect w slot e = record { ids = w.ids; record_of = λ id. if id == slot then e.me else with_new_state e.states id (w.record_of id) }
+with_effect w slot e =
+    record { ids = w.ids; record_of = λ id. if id == slot then e.me else with_new_state e.states id (w.record_of id) }
 
 -- the world after a command
 abbrev pub apply : Action → World → Command → World
@@ -47,7 +48,8 @@ run act w history = world_after act w (map (λ item. item.command) history)
 abbrev pub entry_of : ℕ → Command → Effect → Entry
 entry_of place c e = record { place = place; slot = c.slot; seq = c.seq; reply = e.reply }
 
--- a legal history: each entry has its place, its command's slot and number, and the reply of the outcome in the run of the items before it
+-- a legal history: each entry has its place, its command's slot and number, and the reply of the outcome in the run of
+-- the items before it
 pub record IsLegal (act : Action) (w : World) (history : List Item) : Type 0 where
   pub each : (before : List Item) (item : Item) (later : List Item) → history ≡ before ++ item ∷ later
       → item.entry ≡ entry_of (length before) item.command (outcome act (run act w before) item.command)
@@ -55,4 +57,5 @@ pub record IsLegal (act : Action) (w : World) (history : List Item) : Type 0 whe
 -- the entries of commands that are run in this order, the first of which has this place
 abbrev pub entries_in_order : Action → World → ℕ → List Command → List Entry
 entries_in_order act w place [] = []
-entries_in_order act w place (c ∷ commands) = entry_of place c (outcome act w c) ∷ entries_in_order act (apply act w c) (place + 1) commands
+entries_in_order act w place (c ∷ commands) =
+    entry_of place c (outcome act w c) ∷ entries_in_order act (apply act w c) (place + 1) commands

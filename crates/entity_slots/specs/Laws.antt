@@ -5,8 +5,11 @@ use Rattle.entity_slots.specs.Places.{free_slot, IsLeastFree}
 
 -- a port is joined in one slot alone, the one that is found for it
 abbrev pub PortsAreApart : Type 0
-PortsAreApart = (ports : List (Option ℕ)) → AreSlots ports → (slot port : ℕ) → port_at ports slot ≡ Some port → slot_of ports port ≡ Some slot
+PortsAreApart =
+    (ports : List (Option ℕ)) → AreSlots ports → (slot port : ℕ) → port_at ports slot ≡ Some port
+    → slot_of ports port ≡ Some slot
 
 -- the free slot that is found is the least one
 abbrev pub LeastFreeSlotIsLeast : Type 0
-LeastFreeSlotIsLeast = (ports : List (Option ℕ)) → AreSlots ports → (slot : ℕ) → free_slot ports ≡ Some slot → IsLeastFree ports slot
+LeastFreeSlotIsLeast =
+    (ports : List (Option ℕ)) → AreSlots ports → (slot : ℕ) → free_slot ports ≡ Some slot → IsLeastFree ports slot

@@ -24,7 +24,12 @@ new_server map = record { map = map; state = opening map; frames = 0; shown = (o
 abbrev pub server_after : ServerView → List Arrival → List Entry → ServerView
 server_after t arrivals journal =
     let r = received t.map t.frames t.state arrivals in
-    record { map = t.map; state = state_after t.map r journal; frames = t.frames + 1; shown = (moved_by t.map r journal).records }
+    record {
+      map = t.map;
+      state = state_after t.map r journal;
+      frames = t.frames + 1;
+      shown = (moved_by t.map r journal).records;
+    }
 
 -- what holds of a server: its state is one of the map
 pub record IsServer (map : MapView) (state : State) : Type 0 where

@@ -29,7 +29,8 @@ abbrev pub with_effect_in : List Rec → ℕ → Effect → List Rec
 with_effect_in rs slot e = map (λ r. if r.id == slot then e.me else with_new_state e.states r.id r) rs
 
 -- an id below the first place is none of the ids
-differs_from_numbered : (m n : ℕ) (rs : List Rec) → m < n → AreNumbered n rs → AllByRecursion (λ r. (m == r.id) ≡ false) rs
+differs_from_numbered : (m n : ℕ) (rs : List Rec) → m < n → AreNumbered n rs
+    → AllByRecursion (λ r. (m == r.id) ≡ false) rs
 differs_from_numbered m n [] below numbered = tt
 differs_from_numbered m n (r ∷ rs) below numbered =
     let at : r.id ≡ n = numbered.0 in
@@ -45,10 +46,12 @@ apart_where_numbered n (r ∷ rs) numbered =
 
 -- a record that differs in its id from the others doesn't hide them
 found_after : (r : Rec) (before rs : List Rec) → AllByRecursion (λ other. (r.id == other.id) ≡ false) rs
-    → map (record_with (r ∷ before)) (map (λ other. other.id) rs) ≡ map (record_with before) (map (λ other. other.id) rs)
+    → map (record_with (r ∷ before)) (map (λ other. other.id) rs)
+    ≡ map (record_with before) (map (λ other. other.id) rs)
 found_after r before [] differs = refl
 found_after r before (x ∷ rs) differs =
-    let head : record_with (r ∷ before) x.id ≡ record_with before x.id = cond-false (r.id == x.id) r (record_with before x.id) differs.0 in
+    let head : record_with (r ∷ before) x.id ≡ record_with before x.id =
+    cond-false (r.id == x.id) r (record_with before x.id) differs.0 in
     let tail = found_after r before rs differs.1 in
     cc
 
@@ -57,7 +60,8 @@ pub found_at_ids : (rs : List Rec) → HaveIdsApart rs → map (record_with rs) 
 unfolding IsDistinct
 found_at_ids [] apart = refl
 found_at_ids (r ∷ rs) apart =
-    let head : record_with (r ∷ rs) r.id ≡ r = cond-true (r.id == r.id) r (record_with rs r.id) (eq-eqb r.id r.id refl) in
+    let head : record_with (r ∷ rs) r.id ≡ r =
+    cond-true (r.id == r.id) r (record_with rs r.id) (eq-eqb r.id r.id refl) in
     let skipped = found_after r rs rs apart.0 in
     let tail = found_at_ids rs apart.1 in
     cc
@@ -75,11 +79,13 @@ pub first_given : (f : ℕ → Rec) (r : Rec) (rs : List Rec) → map f (map (λ
 first_given f r rs given = cc
 
 -- the others are what it gives at theirs
-pub others_given : (f : ℕ → Rec) (r : Rec) (rs : List Rec) → map f (map (λ r. r.id) (r ∷ rs)) ≡ r ∷ rs → map f (map (λ r. r.id) rs) ≡ rs
+pub others_given : (f : ℕ → Rec) (r : Rec) (rs : List Rec) → map f (map (λ r. r.id) (r ∷ rs)) ≡ r ∷ rs
+    → map f (map (λ r. r.id) rs) ≡ rs
 others_given f r rs given = cc
 
 -- each record is what the function gives at its id
-record_given : (f : ℕ → Rec) (rs : List Rec) (k : ℕ) (r : Rec) → map f (map (λ r. r.id) rs) ≡ rs → slice_get rs k ≡ Some r → f r.id ≡ r
+record_given : (f : ℕ → Rec) (rs : List Rec) (k : ℕ) (r : Rec) → map f (map (λ r. r.id) rs) ≡ rs
+    → slice_get rs k ≡ Some r → f r.id ≡ r
 record_given f [] k r given at = cc
 record_given f (x ∷ rs) zero r given at =
     let same : x ≡ r = cc in
@@ -87,7 +93,8 @@ record_given f (x ∷ rs) zero r given at =
 record_given f (x ∷ rs) (suc k) r given at = record_given f rs k r (others_given f x rs given) at
 
 -- each record is the world's at its id
-pub record-is : (w : World) (rs : List Rec) (k : ℕ) (r : Rec) → IsWorldOf w rs → slice_get rs k ≡ Some r → w.record_of r.id ≡ r
+pub record-is : (w : World) (rs : List Rec) (k : ℕ) (r : Rec) → IsWorldOf w rs → slice_get rs k ≡ Some r
+    → w.record_of r.id ≡ r
 record-is w rs k r of at = record_given w.record_of rs k r (given_at_ids w rs of) at
 
 -- the records without one id, where the function gives each at its id
@@ -100,10 +107,12 @@ others_without f (r ∷ rs) slot given =
     elim (cases_Bool (r.id == slot)) [ inl e ↦ rw e tail | inr e ↦ rw e (cc) ]
 
 -- all live records but one are the records with other ids
-pub others-are : (w : World) (rs : List Rec) (slot : ℕ) → IsWorldOf w rs → others_of w slot ≡ filter (λ r. not (r.id == slot)) rs
+pub others-are : (w : World) (rs : List Rec) (slot : ℕ) → IsWorldOf w rs
+    → others_of w slot ≡ filter (λ r. not (r.id == slot)) rs
 others-are w rs slot of =
     let given = others_without w.record_of rs slot (given_at_ids w rs of) in
-    subst (λ (ids : List ℕ). map w.record_of (filter (λ other. not (other == slot)) ids) ≡ filter (λ r. not (r.id == slot)) rs) (sym of.ids) given
+    subst (λ (ids : List ℕ). map w.record_of (filter (λ other. not (other == slot)) ids)
+    ≡ filter (λ r. not (r.id == slot)) rs) (sym of.ids) given
 
 -- a new state leaves the id
 new_state_id : (states : List NewState) (id : ℕ) (r : Rec) → (with_new_state states id r).id ≡ r.id
@@ -112,7 +121,8 @@ new_state_id (s ∷ states) id r =
     elim (cases_Bool (s.id == id)) [ inl e ↦ rw e refl | inr e ↦ rw e (new_state_id states id r) ]
 
 -- an effect leaves the ids, where the player keeps its own
-effect_ids : (rs : List Rec) (slot : ℕ) (e : Effect) → e.me.id ≡ slot → map (λ r. r.id) (with_effect_in rs slot e) ≡ map (λ r. r.id) rs
+effect_ids : (rs : List Rec) (slot : ℕ) (e : Effect) → e.me.id ≡ slot
+    → map (λ r. r.id) (with_effect_in rs slot e) ≡ map (λ r. r.id) rs
 effect_ids [] slot e own = refl
 effect_ids (r ∷ rs) slot e own =
     let tail = effect_ids rs slot e own in
@@ -123,7 +133,8 @@ effect_ids (r ∷ rs) slot e own =
 
 -- what a world with an effect gives at the ids
 effect_records : (f : ℕ → Rec) (rs : List Rec) (slot : ℕ) (e : Effect) → map f (map (λ r. r.id) rs) ≡ rs
-    → map (λ id. if id == slot then e.me else with_new_state e.states id (f id)) (map (λ r. r.id) rs) ≡ with_effect_in rs slot e
+    → map (λ id. if id == slot then e.me else with_new_state e.states id (f id)) (map (λ r. r.id) rs)
+    ≡ with_effect_in rs slot e
 effect_records f [] slot e given = refl
 effect_records f (r ∷ rs) slot e given =
     let head = first_given f r rs given in
@@ -131,17 +142,21 @@ effect_records f (r ∷ rs) slot e given =
     rw (head, tail)
 
 -- the world after a command is that of the records with its effect, where the player keeps its id
-pub apply-is : (act : Action) (w : World) (c : Command) (rs : List Rec) → IsWorldOf w rs → (outcome act w c).me.id ≡ c.slot
+pub apply-is : (act : Action) (w : World) (c : Command) (rs : List Rec) → IsWorldOf w rs
+    → (outcome act w c).me.id ≡ c.slot
     → IsWorldOf (apply act w c) (with_effect_in rs c.slot (outcome act w c))
 apply-is act w c rs of own =
     let later = effect_records w.record_of rs c.slot (outcome act w c) (given_at_ids w rs of) in
     record {
       ids = of.ids ∙ sym (effect_ids rs c.slot (outcome act w c) own);
-      records = subst (λ (ids : List ℕ). map (apply act w c).record_of ids ≡ with_effect_in rs c.slot (outcome act w c)) (sym of.ids) later;
+      records =
+          subst (λ (ids : List ℕ). map (apply act w c).record_of ids
+          ≡ with_effect_in rs c.slot (outcome act w c)) (sym of.ids) later;
     }
 
 -- where no others change, an effect of a slot below the first place changes no record
-effect_elsewhere : (rs : List Rec) (slot n : ℕ) (e : Effect) → slot < n → AreNumbered n rs → e.states ≡ [] → with_effect_in rs slot e ≡ rs
+effect_elsewhere : (rs : List Rec) (slot n : ℕ) (e : Effect) → slot < n → AreNumbered n rs → e.states ≡ []
+    → with_effect_in rs slot e ≡ rs
 effect_elsewhere [] slot n e below numbered none = refl
 effect_elsewhere (r ∷ rs) slot n e below numbered none =
     let at : r.id ≡ n = numbered.0 in
@@ -150,7 +165,8 @@ effect_elsewhere (r ∷ rs) slot n e below numbered none =
     rw (differs, none, tail)
 
 -- where no others change, an effect is a new record so far after the first place
-set_from : (n k : ℕ) (rs : List Rec) (e : Effect) → AreNumbered n rs → e.states ≡ [] → with_effect_in rs (n + k) e ≡ slice_set rs k e.me
+set_from : (n k : ℕ) (rs : List Rec) (e : Effect) → AreNumbered n rs → e.states ≡ []
+    → with_effect_in rs (n + k) e ≡ slice_set rs k e.me
 set_from n k [] e numbered none = refl
 set_from n zero (r ∷ rs) e numbered none =
     let at : r.id ≡ n = numbered.0 in
@@ -161,14 +177,18 @@ set_from n (suc k) (r ∷ rs) e numbered none =
     let at : r.id ≡ n = numbered.0 in
     let differs : (r.id == n + suc k) ≡ false = ne_eqb r.id (n + suc k) (λ same. omega arith) in
     let place : n + 1 + k ≡ n + suc k = omega arith in
-    let tail = subst (λ (slot : ℕ). with_effect_in rs slot e ≡ slice_set rs k e.me) place (set_from (n + 1) k rs e numbered.1 none) in
+    let tail =
+    subst (λ (slot : ℕ). with_effect_in rs slot e
+    ≡ slice_set rs k e.me) place (set_from (n + 1) k rs e numbered.1 none) in
     rw (differs, none, tail)
 
 -- where no others change, an effect is a new record at the player's place
-pub numbered_set : (rs : List Rec) (slot : ℕ) (e : Effect) → AreNumbered 0 rs → e.states ≡ [] → with_effect_in rs slot e ≡ slice_set rs slot e.me
+pub numbered_set : (rs : List Rec) (slot : ℕ) (e : Effect) → AreNumbered 0 rs → e.states ≡ []
+    → with_effect_in rs slot e ≡ slice_set rs slot e.me
 numbered_set rs slot e numbered none =
     let from_first : 0 + slot ≡ slot = omega arith in
-    subst (λ (place : ℕ). with_effect_in rs place e ≡ slice_set rs slot e.me) from_first (set_from 0 slot rs e numbered none)
+    subst (λ (place : ℕ). with_effect_in rs place e
+    ≡ slice_set rs slot e.me) from_first (set_from 0 slot rs e numbered none)
 
 -- the record so far after the first place has that number
 record_from : (n k : ℕ) (rs : List Rec) (r : Rec) → AreNumbered n rs → slice_get rs k ≡ Some r → r.id ≡ n + k
@@ -189,13 +209,16 @@ numbered_record rs slot r numbered at =
     omega arith
 
 -- a record so far after the first place, with that number, leaves the records numbered
-after_set_from : (n k : ℕ) (rs : List Rec) (me : Rec) → AreNumbered n rs → me.id ≡ n + k → AreNumbered n (slice_set rs k me)
+after_set_from : (n k : ℕ) (rs : List Rec) (me : Rec) → AreNumbered n rs → me.id ≡ n + k
+    → AreNumbered n (slice_set rs k me)
 after_set_from n k [] me numbered own = tt
 after_set_from n zero (r ∷ rs) me numbered own = (omega arith, numbered.1)
-after_set_from n (suc k) (r ∷ rs) me numbered own = (numbered.0, after_set_from (n + 1) k rs me numbered.1 (omega arith))
+after_set_from n (suc k) (r ∷ rs) me numbered own =
+    (numbered.0, after_set_from (n + 1) k rs me numbered.1 (omega arith))
 
 -- a record at its own place leaves the records numbered
-pub numbered_after_set : (rs : List Rec) (slot : ℕ) (me : Rec) → AreNumbered 0 rs → me.id ≡ slot → AreNumbered 0 (slice_set rs slot me)
+pub numbered_after_set : (rs : List Rec) (slot : ℕ) (me : Rec) → AreNumbered 0 rs → me.id ≡ slot
+    → AreNumbered 0 (slice_set rs slot me)
 numbered_after_set rs slot me numbered own = after_set_from 0 slot rs me numbered (omega arith)
 
 -- one more record, with the next number from the first place on, leaves the records numbered

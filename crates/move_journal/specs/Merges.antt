@@ -15,7 +15,8 @@ reported_numbers slot journal = map (λ e. e.seq) (filter (λ e. e.slot == slot)
 abbrev pub sent_numbers : ℕ → List Command → List ℕ
 sent_numbers slot moves = map (λ c. c.seq) (filter (λ c. c.slot == slot) moves)
 
--- a merge of the players' moves: of each player the journal has the moves that were received, each once and in the order sent, and no others
+-- a merge of the players' moves: of each player the journal has the moves that were received, each once and in the
+-- order sent, and no others
 pub record IsMerge (journal : List Entry) (moves : List Command) : Type 0 where
   pub each : (slot : ℕ) → reported_numbers slot journal ≡ sent_numbers slot moves
 
@@ -33,11 +34,13 @@ abbrev pub history_of : List Command → List Entry → List Item
 history_of moves [] = []
 history_of moves (e ∷ journal) = with_command (find (is_entry_of e) moves) e (history_of moves journal)
 
--- the history of a whole journal of these moves: its entries are the journal's, each that of its command, and its commands are the moves, each once and each player's in the order sent
+-- the history of a whole journal of these moves: its entries are the journal's, each that of its command, and its
+-- commands are the moves, each once and each player's in the order sent
 pub record IsWholeHistory (journal : List Entry) (moves : List Command) (history : List Item) : Type 0 where
   pub entries : map (λ item. item.entry) history ≡ journal
   pub matched : All (λ item. is_entry_of item.entry item.command ≡ true) history
-  pub sent : (slot : ℕ) → filter (λ c. c.slot == slot) (map (λ item. item.command) history) ≡ filter (λ c. c.slot == slot) moves
+  pub sent : (slot : ℕ) → filter (λ c. c.slot == slot) (map (λ item. item.command) history)
+      ≡ filter (λ c. c.slot == slot) moves
   pub each_once : IsPermutation (map (λ item. item.command) history) moves
 
 -- a right journal of moves in a world: it is a merge of the players' moves, and legal

@@ -22,7 +22,8 @@ pub record IsKept (takes : Rec → Bool) (slot : ℕ) (me : Rec) : Type 0 where
 -- record of a live player; no state decides what passes
 pub record KeepsRecords (act : Action) (takes : Rec → Bool) (ids : List ℕ) (commands : List Command) : Type 0 where
   pub any_state : (r : Rec) (state : ℕ) → takes (with_state r state) ≡ takes r
-  pub players : (w : World) → w.ids ≡ ids → HasRecordsThatPass takes w → All (λ c. Contains ids c.slot → IsKept takes c.slot (outcome act w c).me) commands
+  pub players : (w : World) → w.ids ≡ ids → HasRecordsThatPass takes w
+      → All (λ c. Contains ids c.slot → IsKept takes c.slot (outcome act w c).me) commands
 
 -- a new world has such records, and the same ids are live as in the old one
 pub record KeepsRecordsThatPass (takes : Rec → Bool) (old new : World) : Type 0 where

@@ -23,7 +23,8 @@ closing (Some arrivals) = arrivals ∷ []
 -- a frame closes the one before it, and so does the end
 abbrev pub collect : Frames → Event → Frames
 collect frames Frame = record { closed = frames.closed ++ closing frames.opened; opened = Some [] }
-collect frames (From a) = record { closed = frames.closed; opened = option_map (λ arrivals. arrivals ++ a ∷ []) frames.opened }
+collect frames (From a) =
+    record { closed = frames.closed; opened = option_map (λ arrivals. arrivals ++ a ∷ []) frames.opened }
 collect frames End = record { closed = frames.closed ++ closing frames.opened; opened = None }
 
 -- the frames that these events make

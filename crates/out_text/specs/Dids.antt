@@ -16,7 +16,8 @@ did_of e = record { slot = e.slot; seq = e.seq; origin = e.reply.origin; got = e
 
 -- the entry at this place that is reported so
 abbrev pub entry_at : ℕ → Did → journal.Entry
-entry_at place d = record { place = place; slot = d.slot; seq = d.seq; reply = record { origin = d.origin; got = d.got } }
+entry_at place d =
+    record { place = place; slot = d.slot; seq = d.seq; reply = record { origin = d.origin; got = d.got } }
 
 -- the journal that is reported so, whose first entry has this place
 abbrev pub journal_from : ℕ → List Did → List journal.Entry

@@ -58,9 +58,11 @@ to_lines frame records = map (to_line frame (live_in records)) (players_in recor
 -- a frame's lines: its refusals, its joins, the moves of its journal, and the snapshot of each live player
 abbrev pub frame_lines : ℕ → Lists → List Entry → List (Option Rec) → List OutLine
 frame_lines frame lists journal records =
-    FrameLine frame ∷ (map no_line lists.refused ++ map joined_line lists.joined ++ map did_line journal ++ to_lines frame records)
+    FrameLine frame ∷ (map no_line lists.refused ++ map joined_line lists.joined ++ map did_line journal
+    ++ to_lines frame records)
 
--- the lines of a frame with this journal: the snapshots show the world after its moves, in which those that leave are still there
+-- the lines of a frame with this journal: the snapshots show the world after its moves, in which those that leave are
+-- still there
 abbrev pub lines_with : MapView → ℕ → Receiving → List Entry → List OutLine
 lines_with map frame r journal = frame_lines frame r.lists journal (moved_by map r journal).records
 

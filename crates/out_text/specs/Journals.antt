@@ -33,7 +33,9 @@ all_there (Some x ∷ xs) = do
 
 -- ids with a comma between any two, or a dash for none
 abbrev pub ids_in : List ℕ → Option (List ℕ)
-ids_in text = if bytes_eq text (codes "-") then Some [] else all_there (map (natural_up_to 65535) (slice_split (λ b. b == 44) text))
+ids_in text =
+    if bytes_eq text (codes "-")
+    then Some [] else all_there (map (natural_up_to 65535) (slice_split (λ b. b == 44) text))
 
 -- a value, where nothing follows it
 abbrev pub alone : {X : Type 0} → X → List ℕ → Option X

@@ -13,7 +13,8 @@ use Rattle.out_text.specs.Output.{AreRightIn, front_text, out_text, IsOutput}
 
 -- a line reports a move exactly where it is the `did` line of one that is in range
 abbrev pub DidLinesAreRead : Type 0
-DidLinesAreRead = (line : List ℕ) (d : Did) → (mark_of line ≡ Reports d) ↔ ((is_reportable d ≡ true) × (line ≡ spelled (DidLine d)))
+DidLinesAreRead =
+    (line : List ℕ) (d : Did) → (mark_of line ≡ Reports d) ↔ ((is_reportable d ≡ true) × (line ≡ spelled (DidLine d)))
 
 -- the line of a frame, with a number of 32 bits
 pub record IsFrameLine (line : List ℕ) : Type 0 where
@@ -37,7 +38,8 @@ FaultlessRecordingsHaveOutputs = (workers : ℕ) (bytes : List ℕ) → fault by
 -- each recording that can be written has an output, for every number of workers
 abbrev pub WrittenRecordingsHaveOutputs : Type 0
 WrittenRecordingsHaveOutputs =
-    (workers : ℕ) (map : MapView) (frames : List (List Arrival)) → IsRecording map frames → HasOutput workers (recording_text map frames)
+    (workers : ℕ) (map : MapView) (frames : List (List Arrival)) → IsRecording map frames
+    → HasOutput workers (recording_text map frames)
 
 -- with one worker a recording has at most one output
 abbrev pub OneWorkerHasOneOutput : Type 0
@@ -49,5 +51,6 @@ OneWorkerHasOneOutput =
 pub record OutputsSpellTheirJournals : Type 0 where
   pub whole : (bytes : List ℕ) (journals : List (List Entry)) → AreRightIn (map_of bytes) (frames_of bytes) journals
       → dids (out_text bytes journals) ≡ journals
-  pub front : (bytes : List ℕ) (k : ℕ) (journals : List (List Entry)) → AreRightIn (map_of bytes) (take k (frames_of bytes)) journals
+  pub front : (bytes : List ℕ) (k : ℕ) (journals : List (List Entry))
+      → AreRightIn (map_of bytes) (take k (frames_of bytes)) journals
       → dids (front_text bytes k journals) ≡ journals

@@ -32,7 +32,8 @@ front_text bytes k journals = text_of (lines_in (map_of bytes) (take k (frames_o
 
 -- the whole output of a recording, with these journals: its frames, and how many there were
 abbrev pub out_text : List ℕ → List (List Entry) → List ℕ
-out_text bytes journals = text_of (lines_in (map_of bytes) (frames_of bytes) journals ++ EndLine (length (frames_of bytes)) ∷ [])
+out_text bytes journals =
+    text_of (lines_in (map_of bytes) (frames_of bytes) journals ++ EndLine (length (frames_of bytes)) ∷ [])
 
 -- the text is the whole output of a recording without a fault, with the journals that are read off it; each frame's is
 -- right, and with one worker in the order of arrival
@@ -54,9 +55,11 @@ pub record IsFront (workers : ℕ) (bytes : List ℕ) (k : ℕ) (text : List ℕ
 abbrev pub IsAllFrames : ℕ → List ℕ → List ℕ → Type 0
 IsAllFrames workers bytes text = IsFront workers bytes (length (frames_of bytes)) text
 
--- a front of the text of k frames, but not all of it, in which all frames but the last are whole; the frames' journals are
+-- a front of the text of k frames, but not all of it, in which all frames but the last are whole; the frames' journals
+-- are
 -- right, and with one worker in the order of arrival, and the whole frames spell theirs
-pub record IsPart (workers : ℕ) (bytes : List ℕ) (k : ℕ) (whole_with : List (List Entry) → List ℕ) (text : List ℕ) : Type 0 where
+pub record IsPart (workers : ℕ) (bytes : List ℕ) (k : ℕ) (whole_with : List (List Entry)
+    → List ℕ) (text : List ℕ) : Type 0 where
   pub frames : k ≤ length (frames_of bytes)
   pub journals : List (List Entry)
   pub right : AreRightIn (map_of bytes) (take k (frames_of bytes)) journals

@@ -30,7 +30,7 @@ use Rattle.world_tree.specs.Live.{record_at, live_in}
 use Rattle.client_ports.specs.declared.arrival.Arrival.{Arrival}
 use Rattle.client_ports.specs.States.{State, IsServerState}
 use Rattle.client_ports.specs.Receiving.{Receiving, received}
-use Rattle.client_ports.specs.Frames.{AreClear}
+use Rattle.arena_map.specs.Validity.{AreClear}
 use Rattle.client_ports.proofs.Slots.{read-set}
 use Rattle.client_ports.proofs.Staying.{clear_received, clear_finished}
 use Rattle.plain_server.specs.RecordsById.{record_or_nobody, world_of, records_in, opening}

@@ -22,7 +22,8 @@ abbrev pub AreReported : ℕ → List Entry → Type 0
 AreReported place [] = Unit {0}
 AreReported place (e ∷ journal) = IsReported place e × AreReported (place + 1) journal
 
--- what is received in a frame: the state fits the map, and the moves are those of live players, with their numbers apart
+-- what is received in a frame: the state fits the map, and the moves are those of live players, with their numbers
+-- apart
 pub record IsReception (map : MapView) (r : Receiving) : Type 0 where
   pub state : IsServerState map r.state
   pub live : All (HasLivePlayer r.state.records) r.lists.moves

@@ -14,7 +14,8 @@ use Rattle.plain_server.specs.Outcomes.{outcome_in}
 -- the state after the moves of a journal, which the replies of the frame show: those that leave are still there
 abbrev pub moved_by : MapView → Receiving → List Entry → State
 moved_by map r journal =
-    state_of r.state.clients (records_in (run (outcome_in map) (world_of r.state.records) (history_of r.lists.moves journal)) r.state.records)
+    state_of r.state.clients
+    (records_in (run (outcome_in map) (world_of r.state.records) (history_of r.lists.moves journal)) r.state.records)
 
 -- the state for the next frame: those that leave are gone
 abbrev pub state_after : MapView → Receiving → List Entry → State
@@ -37,7 +38,8 @@ rest_of (j ∷ js) = js
 abbrev pub state_played : MapView → ℕ → State → List (List Arrival) → List (List Entry) → State
 state_played map frame state [] journals = state
 state_played map frame state (arrivals ∷ frames) journals =
-    state_played map (frame + 1) (state_after map (received map frame state arrivals) (first_of journals)) frames (rest_of journals)
+    state_played map (frame
+    + 1) (state_after map (received map frame state arrivals) (first_of journals)) frames (rest_of journals)
 
 -- there is one journal a frame, and each is right
 abbrev pub AreRight : MapView → ℕ → State → List (List Arrival) → List (List Entry) → Type 0

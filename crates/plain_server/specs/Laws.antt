@@ -5,11 +5,10 @@ use Rattle.entity_recs.specs.declared.effect.Entry.{Entry}
 use Rattle.entity_recs.specs.Commands.{Command}
 use Rattle.entity_recs.specs.Histories.{world_after}
 use Rattle.arena_map.specs.Maps.{MapView, IsMap}
-use Rattle.arena_map.specs.Validity.{IsValidWorld}
+use Rattle.arena_map.specs.Validity.{IsValidWorld, AreClear}
 use Rattle.client_ports.specs.declared.arrival.Arrival.{Arrival}
 use Rattle.client_ports.specs.Clients.{AreClients}
 use Rattle.client_ports.specs.States.{IsServerState}
-use Rattle.client_ports.specs.Frames.{AreClear}
 use Rattle.plain_server.specs.RecordsById.{world_of, records_in, opening}
 use Rattle.plain_server.specs.Outcomes.{outcome_in}
 use Rattle.plain_server.specs.Moving.{HasLivePlayer}
@@ -19,9 +18,11 @@ use Rattle.plain_server.specs.Frames.{AreRight, AreInOrder, journals_of, state_p
 abbrev pub MovesKeepWorldsValid : Type 0
 MovesKeepWorldsValid =
     (map : MapView) (records : List (Option Rec)) (commands : List Command) → IsMap map → IsValidWorld map records
-    → All (HasLivePlayer records) commands → IsValidWorld map (records_in (world_after (outcome_in map) (world_of records) commands) records)
+    → All (HasLivePlayer records) commands
+    → IsValidWorld map (records_in (world_after (outcome_in map) (world_of records) commands) records)
 
--- after any frames, with whatever journals, the state is one of the map: the world is valid, and the live slots are the live players
+-- after any frames, with whatever journals, the state is one of the map: the world is valid, and the live slots are the
+-- live players
 abbrev pub WorldsStayValid : Type 0
 WorldsStayValid =
     (map : MapView) (frames : List (List Arrival)) (journals : List (List Entry)) → IsMap map
@@ -30,9 +31,11 @@ WorldsStayValid =
 -- after any frames, with whatever journals, no two live slots share a port
 abbrev pub PortsStayApart : Type 0
 PortsStayApart =
-    (map : MapView) (frames : List (List Arrival)) (journals : List (List Entry)) → AreClients (state_played map 0 (opening map) frames journals).clients
+    (map : MapView) (frames : List (List Arrival)) (journals : List (List Entry))
+    → AreClients (state_played map 0 (opening map) frames journals).clients
 
--- after any frames, with whatever journals, no player's body overlaps a wall or a block, and no bodies of two live solids
+-- after any frames, with whatever journals, no player's body overlaps a wall or a block, and no bodies of two live
+-- solids
 -- overlap
 abbrev pub PlayersKeepRoom : Type 0
 PlayersKeepRoom =
@@ -41,11 +44,14 @@ PlayersKeepRoom =
 
 -- there are right journals of any frames that have the moves in the order of arrival
 pub record JournalsAreRightInOrder : Type 0 where
-  pub right : (map : MapView) (frames : List (List Arrival)) → AreRight map 0 (opening map) frames (journals_of map 0 (opening map) frames)
-  pub order : (map : MapView) (frames : List (List Arrival)) → AreInOrder map 0 (opening map) frames (journals_of map 0 (opening map) frames)
+  pub right : (map : MapView) (frames : List (List Arrival))
+      → AreRight map 0 (opening map) frames (journals_of map 0 (opening map) frames)
+  pub order : (map : MapView) (frames : List (List Arrival))
+      → AreInOrder map 0 (opening map) frames (journals_of map 0 (opening map) frames)
 
 -- right journals that have the moves in the order of arrival are these
 abbrev pub OrderLeavesOneJournalEach : Type 0
 OrderLeavesOneJournalEach =
-    (map : MapView) (frames : List (List Arrival)) (journals : List (List Entry)) → AreRight map 0 (opening map) frames journals
+    (map : MapView) (frames : List (List Arrival)) (journals : List (List Entry))
+    → AreRight map 0 (opening map) frames journals
     → AreInOrder map 0 (opening map) frames journals → journals ≡ journals_of map 0 (opening map) frames

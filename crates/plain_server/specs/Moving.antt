@@ -28,7 +28,8 @@ effect_among map records c = outcome (outcome_in map) (world_of records) c
 abbrev pub records_after : MapView → List (Option Rec) → Command → List (Option Rec)
 records_after map records c = slice_set records c.slot (Some (effect_among map records c).me)
 
--- the new records are the old ones after these commands, one after another: they make the world that the commands leave,
+-- the new records are the old ones after these commands, one after another: they make the world that the commands
+-- leave,
 -- the same ids are live, and they are those of a valid world
 pub record HaveMoved (map : MapView) (old new : List (Option Rec)) (commands : List Command) : Type 0 where
   pub world : world_of new ≡ world_after (outcome_in map) (world_of old) commands

@@ -27,7 +27,8 @@ after_move me moved seq = record me { origin = moved.origin; vel = moved.vel; fl
 
 -- the reply to a move, and the player after it
 abbrev pub effect_of : Rec → Command → Moved → Effect
-effect_of me c moved = record { me = after_move me moved c.seq; states = []; reply = record { origin = moved.origin; got = [] } }
+effect_of me c moved =
+    record { me = after_move me moved c.seq; states = []; reply = record { origin = moved.origin; got = [] } }
 
 -- the bodies of the solids among these records
 abbrev pub solid_bodies : List Rec → List Bounds

@@ -22,7 +22,9 @@ pub record HasFewThings (me : Rec) : Type 0 where
 
 -- nobody's ammunition passes 100, and nobody carries more than 8
 abbrev pub ThingsStayFew : Type 0
-ThingsStayFew = (arena : MapView) (frame : ℕ) (me : Rec) (near : List Rec) → HasFewThings me → HasFewThings (touched arena frame me near).me
+ThingsStayFew =
+    (arena : MapView) (frame : ℕ) (me : Rec) (near : List Rec) → HasFewThings me
+    → HasFewThings (touched arena frame me near).me
 
 -- a new state is that of an item that was there and is touched: the frame plus the item's delay
 pub record IsTaken (arena : MapView) (frame : ℕ) (me : Rec) (near : List Rec) (new : NewState) : Type 0 where
@@ -41,22 +43,29 @@ abbrev pub ids_of : List NewState → List ℕ
 ids_of states = map (λ s. s.id) states
 
 -- the ids in `got` are those of the new states, each of which is that of an item that was there; they are at most 8
-pub record AreTaken (arena : MapView) (frame : ℕ) (me : Rec) (near : List Rec) (states : List NewState) (got : List ℕ) : Type 0 where
+pub record AreTaken (arena : MapView) (frame : ℕ) (me : Rec) (near : List Rec)
+    (states : List NewState) (got : List ℕ) : Type 0 where
   pub got_are : got ≡ ids_of states
   pub each : All (IsTaken arena frame me near) states
   pub few : length got ≤ 8
 
 -- what a player got was there, and returns after its delay; nothing else changes state
 abbrev pub ItemsWereThere : Type 0
-ItemsWereThere = (arena : MapView) (frame : ℕ) (me : Rec) (near : List Rec) → let w = touched arena frame me near in AreTaken arena frame me near w.states w.got
+ItemsWereThere =
+    (arena : MapView) (frame : ℕ) (me : Rec) (near : List Rec)
+    → let w = touched arena frame me near in AreTaken arena frame me near w.states w.got
 
 -- the ids of what it got rise, where those of the records do
 abbrev pub GotIdsRise : Type 0
-GotIdsRise = (arena : MapView) (frame : ℕ) (me : Rec) (near : List Rec) → IsStrictlyIncreasing (map (λ r. r.id) near) → IsStrictlyIncreasing (touched arena frame me near).got
+GotIdsRise =
+    (arena : MapView) (frame : ℕ) (me : Rec) (near : List Rec) → IsStrictlyIncreasing (map (λ r. r.id) near)
+    → IsStrictlyIncreasing (touched arena frame me near).got
 
 -- no score falls
 abbrev pub ScoresNeverFall : Type 0
-ScoresNeverFall = (arena : MapView) (frame : ℕ) (me : Rec) (near : List Rec) → me.score ≤ 4294967295 → me.score ≤ (touched arena frame me near).me.score
+ScoresNeverFall =
+    (arena : MapView) (frame : ℕ) (me : Rec) (near : List Rec) → me.score ≤ 4294967295
+    → me.score ≤ (touched arena frame me near).me.score
 
 -- a player that a teleporter has moved: its body overlaps no solid, and it is at rest
 pub record HasLeapt (arena : MapView) (near : List Rec) (me : Rec) : Type 0 where
@@ -65,7 +74,8 @@ pub record HasLeapt (arena : MapView) (near : List Rec) (me : Rec) : Type 0 wher
 
 -- after a leap the body overlaps no solid
 abbrev pub LeapsAreFree : Type 0
-LeapsAreFree = (arena : MapView) (frame : ℕ) (me : Rec) (near : List Rec) → HasCorners PLAYER_MINS PLAYER_MAXS me.mins me.maxs
+LeapsAreFree =
+    (arena : MapView) (frame : ℕ) (me : Rec) (near : List Rec) → HasCorners PLAYER_MINS PLAYER_MAXS me.mins me.maxs
     → (touched arena frame me near).ended ≡ true → HasLeapt arena near (touched arena frame me near).me
 
 -- the player is where it was, as fast as it was
@@ -76,7 +86,9 @@ pub record IsInPlace (before after : Rec) : Type 0 where
 
 -- without a leap the player stays where it is
 abbrev pub OnlyLeapsMove : Type 0
-OnlyLeapsMove = (arena : MapView) (frame : ℕ) (me : Rec) (near : List Rec) → (touched arena frame me near).ended ≡ false → IsInPlace me (touched arena frame me near).me
+OnlyLeapsMove =
+    (arena : MapView) (frame : ℕ) (me : Rec) (near : List Rec) → (touched arena frame me near).ended ≡ false
+    → IsInPlace me (touched arena frame me near).me
 
 -- the player is the same one, in the same shape
 pub record IsSamePlayer (before after : Rec) : Type 0 where
@@ -89,16 +101,23 @@ pub record IsSamePlayer (before after : Rec) : Type 0 where
 
 -- nobody becomes another, or another shape
 abbrev pub PlayersStayThemselves : Type 0
-PlayersStayThemselves = (arena : MapView) (frame : ℕ) (me : Rec) (near : List Rec) → IsSamePlayer me (touched arena frame me near).me
+PlayersStayThemselves =
+    (arena : MapView) (frame : ℕ) (me : Rec) (near : List Rec) → IsSamePlayer me (touched arena frame me near).me
 
--- the destination of each teleporter that a player touches is free among these records exactly where it is among the others
+-- the destination of each teleporter that a player touches is free among these records exactly where it is among the
+-- others
 abbrev pub HaveSameWays : MapView → Rec → List Rec → List Rec → Type 0
-HaveSameWays arena me near others = (r : Rec) (dest : Vec3) → Contains (touched_by me near) r → r.kind ≡ Teleporter → dest_of arena r.id ≡ Some dest
-    → is_blocked (player_body dest) (solids_among arena near) ≡ is_blocked (player_body dest) (solids_among arena others)
+HaveSameWays arena me near others =
+    (r : Rec) (dest : Vec3) → Contains (touched_by me near) r → r.kind ≡ Teleporter → dest_of arena r.id ≡ Some dest
+    → is_blocked (player_body dest) (solids_among arena near)
+    ≡ is_blocked (player_body dest) (solids_among arena others)
 
--- records that the player doesn't touch change nothing, unless they are in the way at the destination of a teleporter that it touches
+-- records that the player doesn't touch change nothing, unless they are in the way at the destination of a teleporter
+-- that it touches
 abbrev pub OnlyTouchedMatters : Type 0
-OnlyTouchedMatters = (arena : MapView) (frame : ℕ) (me : Rec) (near others : List Rec) → touched_by me near ≡ touched_by me others → HaveSameWays arena me near others
+OnlyTouchedMatters =
+    (arena : MapView) (frame : ℕ) (me : Rec) (near others : List Rec) → touched_by me near ≡ touched_by me others
+    → HaveSameWays arena me near others
     → touched arena frame me near ≡ touched arena frame me others
 
 -- a player on a map: its record is within its bounds, its score is that of its type, and its body is inside the arena
@@ -110,7 +129,9 @@ pub record IsPlayerOn (arena : MapView) (me : Rec) : Type 0 where
 
 -- a player on a map stays one
 abbrev pub PlayersStayOn : Type 0
-PlayersStayOn = (arena : MapView) (frame : ℕ) (me : Rec) (near : List Rec) → IsMap arena → IsPlayerOn arena me → IsPlayerOn arena (touched arena frame me near).me
+PlayersStayOn =
+    (arena : MapView) (frame : ℕ) (me : Rec) (near : List Rec) → IsMap arena → IsPlayerOn arena me
+    → IsPlayerOn arena (touched arena frame me near).me
 
 -- two new states are those of one record
 abbrev pub is_same_record : NewState → NewState → Bool
@@ -118,4 +139,6 @@ is_same_record a b = a.id == b.id
 
 -- no record gets two new states, where the ids of the records rise
 abbrev pub StatesAreApart : Type 0
-StatesAreApart = (arena : MapView) (frame : ℕ) (me : Rec) (near : List Rec) → IsStrictlyIncreasing (map (λ r. r.id) near) → IsDistinct is_same_record (touched arena frame me near).states
+StatesAreApart =
+    (arena : MapView) (frame : ℕ) (me : Rec) (near : List Rec) → IsStrictlyIncreasing (map (λ r. r.id) near)
+    → IsDistinct is_same_record (touched arena frame me near).states

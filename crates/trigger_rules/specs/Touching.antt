@@ -34,7 +34,8 @@ solids_among map near = solids_of map ++ bodies_of_solids near
 
 -- ---- one trigger
 
--- the walk over what a player touches, so far: its record, the new states and the ids of the items that it took, and whether a teleporter has moved it, which ends the walk
+-- the walk over what a player touches, so far: its record, the new states and the ids of the items that it took, and
+-- whether a teleporter has moved it, which ends the walk
 pub record Walk : Type 0 where
   pub me : Rec
   pub states : List NewState
@@ -52,12 +53,14 @@ new_state id state = record { id = id; state = state }
 -- after an item is taken, if it is, which then has this new state
 abbrev pub after_taking : Option ℕ → Walk → Rec → Walk
 after_taking None w item = w
-after_taking (Some state) w item = walk_of (after_item w.me item) (w.states ++ new_state item.id state ∷ []) (w.got ++ item.id ∷ []) w.ended
+after_taking (Some state) w item =
+    walk_of (after_item w.me item) (w.states ++ new_state item.id state ∷ []) (w.got ++ item.id ∷ []) w.ended
 
 -- after an item with this delay is touched: it is taken where fewer than 8 were taken in this move
 abbrev pub after_touched_item : Option ℕ → ℕ → Walk → Rec → Walk
 after_touched_item None frame w item = w
-after_touched_item (Some delay) frame w item = if nat_lt (length w.got) 8 then after_taking (taken_state w.me item delay frame) w item else w
+after_touched_item (Some delay) frame w item =
+    if nat_lt (length w.got) 8 then after_taking (taken_state w.me item delay frame) w item else w
 
 -- the player at a goal: what it carries is added to its score, which ends at 4,294,967,295
 abbrev pub scored : Rec → Rec
@@ -67,10 +70,12 @@ scored me = record me { carry = 0; score = min 4294967295 (me.score + me.carry) 
 abbrev pub leapt : Rec → Vec3 → Rec
 leapt me dest = record me { origin = dest; vel = zero_vector; flags = bit_or me.flags 2 }
 
--- after a teleporter with this destination is touched: it is passed over where a body at its destination overlaps a solid
+-- after a teleporter with this destination is touched: it is passed over where a body at its destination overlaps a
+-- solid
 abbrev pub after_teleporter : Option Vec3 → List Bounds → Walk → Walk
 after_teleporter None solids w = w
-after_teleporter (Some dest) solids w = if is_blocked (player_body dest) solids then w else walk_of (leapt w.me dest) w.states w.got true
+after_teleporter (Some dest) solids w =
+    if is_blocked (player_body dest) solids then w else walk_of (leapt w.me dest) w.states w.got true
 
 -- after a record of this kind is touched
 abbrev pub after_kind : Kind → MapView → List Bounds → ℕ → Walk → Rec → Walk

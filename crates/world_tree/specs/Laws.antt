@@ -27,7 +27,8 @@ HaveRisingIds records = IsStrictlyIncreasing (map (λ r. r.id) records)
 
 -- the records that are near a region have rising ids
 abbrev pub NearIdsRise : Type 0
-NearIdsRise = (w : WorldView) (region : List Bounds) (except : ℕ) → IsLinked w → HaveRisingIds (near_in w.records region except)
+NearIdsRise =
+    (w : WorldView) (region : List Bounds) (except : ℕ) → IsLinked w → HaveRisingIds (near_in w.records region except)
 
 -- and so have the triggers that touch a box
 abbrev pub TouchingIdsRise : Type 0

@@ -42,7 +42,9 @@ is_free records body fixed except =
 abbrev pub nodes_for : TreeView → List Bounds → List ℕ
 nodes_for tree region = filter (has_bit (visited_of tree.depth (leaves_of tree region))) (range_with_len 0 31)
 
--- how many looks it takes to find the triggers that touch a box: one at each visited node, and one at each trigger linked there
+-- how many looks it takes to find the triggers that touch a box: one at each visited node, and one at each trigger
+-- linked there
 abbrev pub looks_for : WorldView → Bounds → ℕ
 looks_for w abs =
-    length (nodes_for w.tree (abs ∷ [])) + sum_by (λ node. length (list_of w.lists (31 + node))) (nodes_for w.tree (abs ∷ []))
+    length (nodes_for w.tree (abs ∷ [])) + sum_by (λ node. length (list_of w.lists (31 + node))) (nodes_for w.tree (abs
+    ∷ []))

@@ -27,7 +27,8 @@ record_of w id = record_at w.records id
 abbrev pub list_for : TreeView → Rec → ℕ
 list_for tree r = if is_solid r.kind then node_of tree (abs_of r) else 31 + node_of tree (abs_of r)
 
--- Quake's SV_LinkEdict: each live id is in one list, there once, and the list is that of its record; no other id is in any.
+-- Quake's SV_LinkEdict: each live id is in one list, there once, and the list is that of its record; no other id is in
+-- any.
 -- The records are those of ids below 256, each within its bounds, and the lists are two for each of the 31 nodes.
 pub record IsLinked (w : WorldView) : Type 0 where
   pub depth : w.tree.depth ≡ 4
