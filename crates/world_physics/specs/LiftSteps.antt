@@ -1,5 +1,5 @@
 -- The step of a lift: how far it goes, whom it carries, what stops it, and the records by id after it.
-use Rattle.std.specs.Prelude.{ℕ, ◌==◌, Bool, true, false, not, ◌&&◌, ◌||◌, List, Option, if◌then◌else◌, ℤ, pos, neg_ℤ, ◌+ℤ◌, ◌-ℤ◌, ◌≤ℤ◌, ◌≤◌, unsigned_abs}
+use Rattle.std.specs.Prelude.{◌≡◌, Some, ℕ, ◌==◌, Bool, true, false, not, ◌&&◌, ◌||◌, List, Option, if◌then◌else◌, ℤ, pos, neg_ℤ, ◌+ℤ◌, ◌-ℤ◌, ◌≤ℤ◌, ◌≤◌, unsigned_abs}
 use Rattle.std.specs.List.{list_any}
 use Rattle.std.specs.Ordering.{int_eq}
 use Rattle.std.specs.Int.{int_min, int_max}
@@ -15,7 +15,7 @@ use Rattle.entity_recs.specs.Bodies.{body_of}
 use Rattle.arena_map.specs.declared.lift.Lift.{Lift}
 use Rattle.arena_map.specs.Places.{upwards}
 use Rattle.arena_map.specs.Maps.{MapView, IsLift, solids_of}
-use Rattle.world_tree.specs.Live.{live_in}
+use Rattle.world_tree.specs.Live.{record_at, live_in}
 use Rattle.world_physics.specs.declared.lift_step.LiftStep.{LiftStep}
 use Rattle.world_physics.specs.Returns.{each_changed}
 
@@ -51,8 +51,14 @@ abbrev pub lift_after : Lift → Rec → Rec
 lift_after lift r = record (raised r (distance_up lift r)) { state = next_state lift r }
 
 -- the step of the lift with this record: the record before and after it, and how far up it is
-abbrev pub step_of : Lift → Rec → LiftStep
+unfoldable pub step_of : Lift → Rec → LiftStep
 step_of lift r = record { before = r; after = lift_after lift r; up = distance_up lift r }
+
+-- the height of a lift over its lowest place is from 0 to its rise
+pub record IsHeight (lift : Lift) (height : ℤ) : Type 0 where
+  pub numbers : IsLift lift
+  pub least : pos 0 ≤ℤ height
+  pub most : height ≤ℤ lift.rise
 
 -- the lift is on its way: between its lowest place and its highest
 pub record IsOnItsWay (lift : Lift) (r : Rec) : Type 0 where
@@ -89,12 +95,16 @@ is_carried step r = is_player r.kind && (stands_on step.before r || overlaps (bo
 abbrev pub stays : LiftStep → Rec → Bool
 stays step r = is_solid r.kind && not (r.id == step.before.id) && not (is_carried step r)
 
+-- the record is that of a solid that stays where it is, and its body overlaps this one
+abbrev pub is_in_the_way : LiftStep → Bounds → Rec → Bool
+is_in_the_way step body r = stays step r && overlaps body (body_of r)
+
 -- the body overlaps a wall, a block, the lift's new box, another lift, or a player that isn't carried
 abbrev pub is_obstructed : MapView → LiftStep → List (Option Rec) → Bounds → Bool
 is_obstructed map step records body =
     is_blocked body (solids_of map)
     || overlaps body (body_of step.after)
-    || list_any (λ r. stays step r && overlaps body (body_of r)) (live_in records)
+    || list_any (is_in_the_way step body) (live_in records)
 
 -- the record is that of a carried player whose body, moved with the lift, has no room
 abbrev pub is_pressed : MapView → LiftStep → List (Option Rec) → Rec → Bool
@@ -107,10 +117,18 @@ is_stopped map step records = list_any (is_pressed map step records) (live_in re
 
 -- ---- the records after it
 
--- a record after the step: the lift's, a carried player's with its z alone changed, or as it was
+-- a player that is carried, with its z alone changed; the other records as they were
+abbrev pub carried_along : LiftStep → Rec → Rec
+carried_along step r = if is_carried step r then raised r step.up else r
+
+-- a carried player in this slot stays within the bounds of records
+pub record HasRoom (step : LiftStep) (records : List (Option Rec)) (slot : ℕ) : Type 0 where
+  pub moved_is_record : (r : Rec) → record_at records slot ≡ Some r → is_carried step r ≡ true → IsRecord (raised r step.up)
+
+-- a record after the step: the lift's, a carried player's, or as it was
 abbrev pub moved_along : LiftStep → Rec → Rec
 moved_along step r =
-    if r.id == step.before.id then step.after else if is_carried step r then raised r step.up else r
+    if r.id == step.before.id then step.after else carried_along step r
 
 -- the records by id after the step, which is done whole or, where it would press a player, not at all
 unfoldable pub after_step : MapView → LiftStep → List (Option Rec) → List (Option Rec)
