@@ -21,3 +21,5 @@ pub mod Reports
 pub mod Ticking
 pub mod Frames
 pub mod Clear
+pub mod Away
+pub mod Takers
