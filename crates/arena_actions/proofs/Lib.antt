@@ -4,3 +4,4 @@ pub mod Keeping
 pub mod Rising
 pub mod Effects
 pub mod Players
+pub mod Moves

@@ -10,3 +10,4 @@ pub use Rattle.arena_map.specs.Maps
 pub use Rattle.trigger_rules.specs.Touching
 pub mod Outcomes
 pub mod Props
+pub mod Laws

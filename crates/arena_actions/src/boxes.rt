@@ -1,4 +1,4 @@
-use arena_geo::Aabb;
+use arena_geo::{Aabb, Vec3};
 use entity_recs::{Rec, body_box};
 use std::marker::Model;
 
@@ -27,10 +27,11 @@ impl<const N: usize> Boxes<N> {
     ghost use Rattle.entity_recs.specs.Records.{IsRecord};
     ghost use Rattle.trigger_rules.specs.Touching.{bodies_of_solids};
 
-    /// No boxes. The places that aren't used have a copy of `blank`.
-    pub fn new(blank: Aabb) -> Self
+    /// No boxes.
+    pub fn new() -> Self
         ensures { result ≡ [] }
     {
+        let blank = Aabb::new(Vec3::ZERO, Vec3::ZERO).unwrap();
         Boxes {
             boxes: [blank; N],
             len: 0,

@@ -57,7 +57,7 @@ fn move_within<const N: usize>(
     ensures moved { IfSome result (λ moved. moved ≡ move_of me.now (intent_of cmd.now) (solids_among map.now near.now)) }
     ensures room { 1030 + length near.now ≤ N → IsSome result }
 {
-    let mut solids = Boxes::<N>::new(*place);
+    let mut solids = Boxes::<N>::new();
     if solids.push_overlapping(place, map.solids()) && solids.push_bodies(place, near) {
         Some(move_player(me, cmd, solids.as_slice(), &[]))
     } else {
