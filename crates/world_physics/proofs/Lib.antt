@@ -6,3 +6,7 @@ pub mod Returning
 pub mod Finding
 pub mod Pressed
 pub mod Carried
+pub mod Raised
+pub mod LiftRecords
+pub mod Valid
+pub mod Stepping
