@@ -156,7 +156,7 @@ module _ (map : MapView) (records : List (Option Rec)) (c : Command) (is_map : I
   free_then : is_blocked (body_of after) (solids_among map others) ≡ false
   free_then =
       let here : IsValidRecord map c.slot me = subst (IsValidRecord map c.slot) (sym me-is) (valid.each c.slot found.r found.at) in
-      free_after_command map c.slot me others c is_map (slot_is_player map c.slot me here has.slot) here free_before
+      free_after_command map c.slot me others c (slot_is_player map c.slot me here has.slot) here free_before
 
   free_after : (is_blocked (body_of after) (solids_of map) ≡ false) × (is_blocked (body_of after) (bodies_of_solids others) ≡ false)
   unfolding solids_among

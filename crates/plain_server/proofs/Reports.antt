@@ -14,6 +14,7 @@ use Rattle.entity_recs.specs.Histories.{Item, entry_of}
 use Rattle.move_journal.specs.Merges.{history_of}
 use Rattle.arena_map.specs.Maps.{MapView, IsMap}
 use Rattle.arena_map.specs.Validity.{IsValidWorld}
+use Rattle.arena_actions.proofs.Moves.{replies_have_origin}
 use Rattle.world_tree.specs.Live.{record_at}
 use Rattle.world_tree.proofs.Links.{id-below}
 use Rattle.client_ports.specs.Receiving.{Receiving}
@@ -23,7 +24,7 @@ use Rattle.plain_server.specs.Entries.{IsReported, AreReported, IsReception}
 use Rattle.plain_server.specs.Frames.{IsRightAfter}
 use Rattle.plain_server.proofs.Players.{live_record}
 use Rattle.plain_server.proofs.NewStates.{IsOfItem}
-use Rattle.plain_server.proofs.Takes.{of_items, few_got, got_are, reply_origin}
+use Rattle.plain_server.proofs.Takes.{of_items, few_got, got_are}
 use Rattle.plain_server.proofs.Moves.{moved_is_valid}
 use Rattle.plain_server.proofs.Runs.{commands_of, entries_of, IsRun, first_live, entry_is, run_rest, journal_runs, run_entries}
 use Rattle.plain_server.proofs.Commands.{history_has}
@@ -46,7 +47,7 @@ reported_one map records place c is_map valid has small =
     let me = moved_is_valid map records c found.r is_map valid has.slot found.at in
     let own = λ (id : ℕ) (r : Rec) (at : record_at records id ≡ Some r). (valid.each id r at).own_id in
     let e = effect_among map records c in
-    let origin : e.reply.origin ≡ e.me.origin = reply_origin map (record_or_nobody (record_at records c.slot)) (others_of (world_of records) c.slot) c in
+    let origin : e.reply.origin ≡ e.me.origin = replies_have_origin map (record_or_nobody (record_at records c.slot)) (others_of (world_of records) c.slot) c in
     record {
       place_is = refl;
       slot = has.slot;
