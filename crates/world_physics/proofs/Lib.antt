@@ -10,3 +10,5 @@ pub mod Raised
 pub mod LiftRecords
 pub mod Valid
 pub mod Stepping
+pub mod Through
+pub mod Kept
