@@ -12,3 +12,5 @@ pub mod Valid
 pub mod Stepping
 pub mod Through
 pub mod Kept
+pub mod Shafts
+pub mod Clear
