@@ -10,3 +10,7 @@ pub mod Raised
 pub mod LiftRecords
 pub mod Valid
 pub mod Stepping
+pub mod Through
+pub mod Kept
+pub mod Shafts
+pub mod Clear

@@ -6,7 +6,7 @@ use Rattle.std.proofs.lemmas.Option.{none-some, same_Some}
 use Rattle.entity_recs.specs.declared.kind.Kind.{Kind}
 use Rattle.entity_recs.specs.declared.kind.Kind.TheVariants as kinds
 use Rattle.entity_recs.specs.declared.rec.Rec.{Rec}
-use Rattle.entity_recs.specs.Records.{IsRecord, IsStateOf}
+use Rattle.entity_recs.specs.Records.{IsRecord, IsStateOf, with_state}
 use Rattle.arena_map.specs.declared.lift.Lift.{Lift}
 use Rattle.arena_map.specs.MapLines.{is_lift}
 use Rattle.arena_map.specs.Maps.{MapView, IsMap, IsLift, entities_of, lift_of}
@@ -18,7 +18,7 @@ use Rattle.arena_map.proofs.ThingData.{data_follow_kinds}
 use Rattle.arena_map.proofs.Lifts.{lift-is_lift, lifts_stay_inside}
 use Rattle.world_tree.specs.Live.{record_at}
 use Rattle.world_physics.specs.declared.lift_step.LiftStep.{LiftStep}
-use Rattle.world_physics.specs.LiftSteps.{height_of, next_height, next_state, distance_up, lift_after, step_of, IsOnItsWay, IsStep}
+use Rattle.world_physics.specs.LiftSteps.{height_of, next_height, next_state, distance_up, lift_after, raised, step_of, IsOnItsWay, IsStep}
 use Rattle.world_physics.proofs.Ways.{IsNext, next_is}
 
 -- the record is that of a lift of the map
@@ -146,6 +146,7 @@ pub record IsStepAt (map : MapView) (records : List (Option Rec)) (id : ℕ) (st
   pub valid : IsValidRecord map id step.before
   pub valid_after : IsValidRecord map id step.after
   pub far : unsigned_abs step.up ≤ 2560
+  pub only : step.after ≡ with_state (raised step.before step.up) step.after.state
 
 pub step_at : (map : MapView) (records : List (Option Rec)) (id : ℕ) (lift : Lift) (r : Rec) → IsMap map → IsValidWorld map records → lift_of map id ≡ Some lift
     → record_at records id ≡ Some r → IsStepAt map records id (step_of lift r)
@@ -164,6 +165,7 @@ step_at map records id lift r is_map valid has at =
       valid = here;
       valid_after = lift_after_is_valid map id lift r is_map has before here;
       far = (next_is lift r (on_its_way map id lift r before)).far;
+      only = refl;
     }
 
 -- so it is with what the code makes
