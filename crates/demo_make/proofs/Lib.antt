@@ -1,0 +1,6 @@
+-- Lemmas on generated recordings.
+pub mod Steps
+pub mod Streams
+pub mod Lines
+pub mod Sending
+pub mod Texts

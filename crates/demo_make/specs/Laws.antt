@@ -1,0 +1,1 @@
+-- What holds of all generated recordings.
