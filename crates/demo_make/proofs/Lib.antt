@@ -4,3 +4,5 @@ pub mod Streams
 pub mod Lines
 pub mod Sending
 pub mod Texts
+pub mod MapKept
+pub mod FramesKept

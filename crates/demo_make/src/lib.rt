@@ -3,12 +3,14 @@
 
 pub use generated_event::GeneratedEvent;
 pub use generator::Generator;
+pub use laws::{frames_are_known, generated_recordings_read_back, map_is_known, packets_are_read};
 pub use make_stop::MakeStop;
 pub use map_lines::{MAP_LINES, map_line};
 pub use writing::make;
 
 mod generated_event;
 mod generator;
+mod laws;
 mod make_stop;
 mod map_lines;
 mod moves;
