@@ -84,9 +84,9 @@ fn a_generator_gives_the_events(rt: HostRuntime) {
     let mut ends = 0u32;
     for event in Generator::new(7, 2, 1) {
         match event.to_event() {
-            Event::Frame => frames += 1,
-            Event::From(Arrival { port: _, bytes: _ }) => packets += 1,
-            Event::End => ends += 1,
+            Event::Frame => frames = frames.saturating_add(1),
+            Event::From(Arrival { port: _, bytes: _ }) => packets = packets.saturating_add(1),
+            Event::End => ends = ends.saturating_add(1),
         }
     }
     assert_eq!(rt; (frames, packets, ends), (1, 4, 1));
