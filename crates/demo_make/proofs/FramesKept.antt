@@ -86,7 +86,7 @@ joins-few players frame = by_frame (eqb frame 0)
     by_frame true = omega (arith, length-map-range_with_len join_from 1 players)
     by_frame false = omega arith
 
-abbrev move_at : ℕ → ℕ → ℕ → ℕ → Arrival
+abbrev pub move_at : ℕ → ℕ → ℕ → ℕ → Arrival
 move_at seed players frame port = move_from (frame + 1) port (word_at seed (frame * players + (port - 1)))
 
 moves-are : (seed players frame : ℕ) → players ≤ 64 → All IsArrival (moves_in seed players frame)
@@ -128,7 +128,7 @@ generated_recordings_read_back seed players frames range =
 no-joins : (players frame : ℕ) → 0 < frame → joins_in players frame ≡ []
 no-joins players frame later = let e : eqb frame 0 ≡ false = grind (arith, nat_tests) in rw e refl
 
-later-is : (seed players frame : ℕ) → 0 < frame → arrivals_in seed players frame ≡ moves_in seed players frame
+pub later-is : (seed players frame : ℕ) → 0 < frame → arrivals_in seed players frame ≡ moves_in seed players frame
 later-is seed players frame later = ap (λ js. js ++ moves_in seed players frame) (no-joins players frame later)
 
 moves-length : (seed players frame : ℕ) → length (moves_in seed players frame) ≡ players

@@ -6,3 +6,6 @@ pub mod Sending
 pub mod Texts
 pub mod MapKept
 pub mod FramesKept
+pub mod Joining
+pub mod Accepted
+pub mod Clear

@@ -7,4 +7,5 @@ pub mod GeneratedMap
 pub mod GeneratedFrames
 pub mod Remaining
 pub mod Passing
+pub mod Accepting
 pub mod Laws

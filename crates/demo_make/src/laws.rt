@@ -1,4 +1,5 @@
 ghost use Rattle.demo_make.specs.Laws.{GeneratedRecordingsReadBack, MapIsKnown, FramesAreKnown, PacketsAreRead};
+ghost use Rattle.demo_make.specs.Accepting.{AllIsAccepted, SpawnsAreClear};
 
 /// Each generated recording, of 1 to 64 players and 1 to 100,000 frames, has no fault, and is read as the map and the
 /// events that it is made of.
@@ -20,4 +21,15 @@ pub fn frames_are_known()
 /// The packets of a generated recording are read as joins, and as moves with the numbers that the words give.
 pub fn packets_are_read()
     ensures { PacketsAreRead }
+{}
+
+/// Every join and every move of a generated recording is accepted: in frame 0 where nobody is joined and nothing is at the
+/// spawns, and in each later frame whatever the moves before it were.
+pub fn all_is_accepted()
+    ensures { AllIsAccepted }
+{}
+
+/// In a valid world without players no body of a live solid is at a spawn of a generated recording, wherever the lift is.
+pub fn spawns_are_clear()
+    ensures { SpawnsAreClear }
 {}
