@@ -9,3 +9,4 @@ pub mod FramesKept
 pub mod Joining
 pub mod Accepted
 pub mod Clear
+pub mod Building

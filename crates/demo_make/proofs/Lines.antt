@@ -114,7 +114,7 @@ item-near j h = (
 abbrev pub text_before : ℕ → List ℕ
 text_before i = unlines (map map_line_text (take i generated_lines))
 
-take-next : {X : Type 0} (xs : List X) (i : ℕ) (x : X) → slice_get xs i ≡ Some x → take (i + 1) xs ≡ take i xs ++ x ∷ []
+pub take-next : {X : Type 0} (xs : List X) (i : ℕ) (x : X) → slice_get xs i ≡ Some x → take (i + 1) xs ≡ take i xs ++ x ∷ []
 take-next [] i x h = absurd (none_is_some h)
   where
     none_is_some : {X : Type 0} {x : X} → None ≡ Some x → ⊥

@@ -1,5 +1,9 @@
 -- What holds of all generated recordings.
-use Rattle.std.specs.Prelude.{◌≡◌, ℕ, ◌+◌, ◌*◌, ◌^◌, ◌≤◌, ◌<◌, List, ◌++◌, length, map, count_by, Some, None, Ok}
+use Rattle.std.specs.Prelude.{◌≡◌, ℕ, ◌+◌, ◌*◌, ◌^◌, ◌≤◌, ◌<◌, List, [], ◌∷◌, ◌++◌, length, map, count_by, Some, None, Ok}
+use Rattle.std.specs.List.{range_with_len}
+use Rattle.std.specs.Int.{w64, from_le_bytes, to_le_bytes}
+use Rattle.rand_core.specs.Steps.{first_words}
+use Rattle.rand_xoshiro.specs.SplitMix64.{mix_u64}
 use Rattle.packet_read.specs.declared.packet.Packet.TheVariants.{Join, Step}
 use Rattle.packet_read.specs.Reading.{reading}
 use Rattle.arena_map.specs.Maps.{IsMap}
@@ -7,6 +11,7 @@ use Rattle.arena_map.specs.MapLines.{is_item_line, is_teleport_line, is_goal_lin
 use Rattle.demo_lines.specs.Bytes.{fault, events, map_of}
 use Rattle.demo_lines.specs.Spelling.{IsRecording, recording_lines}
 use Rattle.demo_make.specs.declared.map_lines.TheConstants.{MAP_LINES}
+use Rattle.demo_make.specs.Words.{word_at}
 use Rattle.demo_make.specs.GeneratedMap.{generated_map, generated_lines, things}
 use Rattle.demo_make.specs.GeneratedFrames.{IsInRange, join_from, move_from, move_of, ports, moves_in, arrivals_in, generated_frames, generated_events, generated_text}
 
@@ -47,3 +52,10 @@ pub record FramesAreKnown : Type 0 where
 pub record PacketsAreRead : Type 0 where
   pub joins : (port : ℕ) → reading (join_from port).bytes ≡ Ok Join
   pub moves : (seq port word : ℕ) → seq < 2 ^ 32 → reading (move_from seq port word).bytes ≡ Ok (Step (move_of seq word))
+
+-- the words of a seed are those of SplitMix64 from the state that the seed's 8 bytes give, lowest first; two published
+-- ones are these
+pub record WordsAreKnown : Type 0 where
+  pub words : (seed count : ℕ) → first_words mix_u64 count seed ≡ map (word_at seed) (range_with_len 0 count)
+  pub seeded : (seed : ℕ) → seed < 2 ^ 64 → from_le_bytes w64 (to_le_bytes w64 seed) ≡ seed
+  pub published : map (word_at 1477776061723855037) (range_with_len 0 2) ≡ 1985237415132408290 ∷ 2979275885539914483 ∷ []

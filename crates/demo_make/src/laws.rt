@@ -1,4 +1,4 @@
-ghost use Rattle.demo_make.specs.Laws.{GeneratedRecordingsReadBack, MapIsKnown, FramesAreKnown, PacketsAreRead};
+ghost use Rattle.demo_make.specs.Laws.{GeneratedRecordingsReadBack, MapIsKnown, FramesAreKnown, PacketsAreRead, WordsAreKnown};
 ghost use Rattle.demo_make.specs.Accepting.{AllIsAccepted, SpawnsAreClear};
 
 /// Each generated recording, of 1 to 64 players and 1 to 100,000 frames, has no fault, and is read as the map and the
@@ -32,4 +32,9 @@ pub fn all_is_accepted()
 /// In a valid world without players no body of a live solid is at a spawn of a generated recording, wherever the lift is.
 pub fn spawns_are_clear()
     ensures { SpawnsAreClear }
+{}
+
+/// The words that are drawn are those of SplitMix64 from the seed, two published ones among them.
+pub fn words_are_known()
+    ensures { WordsAreKnown }
 {}

@@ -91,3 +91,11 @@ fn a_generator_gives_the_events(rt: HostRuntime) {
     }
     assert_eq!(rt; (frames, packets, ends), (1, 4, 1));
 }
+
+#[test]
+fn the_map_has_64_spawns_and_20_things(rt: HostRuntime) -> Result<(), Fail> {
+    let map = generated_map(rt.alloc())?;
+    assert_eq!(rt; map.spawns().len(), 64);
+    assert_eq!(rt; map.entities().len(), 20);
+    Ok(())
+}
