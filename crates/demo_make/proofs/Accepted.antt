@@ -1,22 +1,20 @@
 -- Every packet of a generated recording is accepted.
-use Rattle.std.proofs.Common.{◌≡◌, ℕ, zero, suc, ◌+◌, ◌-◌, ◌*◌, ◌^◌, ◌≤◌, ◌<◌, Bool, true, false, cond, eqb, leb, List, [], ◌∷◌, ◌++◌, length, map, Option, Some, None, Ok, Err, Result, refl, sym, ap, ◌∙◌, subst, inl, inr, arith, get_or-set_same, length-set, length-append, lit<}
+use Rattle.std.proofs.Common.{◌≡◌, ℕ, zero, suc, ◌+◌, ◌-◌, ◌*◌, ◌^◌, ◌≤◌, ◌<◌, false, leb, List, [], ◌∷◌, ◌++◌, length, map, Option, Some, None, Ok, refl, sym, ap, ◌∙◌, subst, inl, inr, arith, get_or-set_same, length-set, length-append, lit<}
 use Rattle.std.specs.List.{range_with_len, slice_set}
 use Rattle.std.proofs.lemmas.Bool.{cases_lt}
 use Rattle.std.proofs.lemmas.Bool.Decides.{nat_tests}
 use Rattle.std.proofs.lemmas.List.{length-map}
-use Rattle.packet_read.specs.declared.packet.Packet.TheVariants.{Join, Step}
-use Rattle.packet_read.specs.Reading.{reading}
 use Rattle.entity_recs.specs.declared.rec.Rec.{Rec}
-use Rattle.entity_slots.specs.Ports.{AreSlots, port_at, slot_of}
+use Rattle.entity_slots.specs.Ports.{AreSlots, port_at}
 use Rattle.entity_slots.proofs.Found.{found-only}
 use Rattle.arena_map.specs.Maps.{MapView}
 use Rattle.client_ports.specs.declared.arrival.Arrival.{Arrival}
 use Rattle.client_ports.specs.declared.client.Client.{Client}
 use Rattle.client_ports.specs.declared.client.LiveSlot.{LiveSlot}
-use Rattle.client_ports.specs.Clients.{client, client_at, port_of, ports_of, live_slot, live_at, live_with, with_client}
+use Rattle.client_ports.specs.Clients.{client, client_at, port_of, ports_of, live_slot, with_client}
 use Rattle.client_ports.specs.States.{State, state_of, with_newcomer, with_update}
 use Rattle.client_ports.specs.Lists.{no_lists, with_join, with_move}
-use Rattle.client_ports.specs.Answers.{move_by, move_answer}
+use Rattle.client_ports.specs.Answers.{move_answer}
 use Rattle.client_ports.specs.Receiving.{Receiving, receiving_of, after_join, after_move, after_packet, after_arrival, after_arrivals, command_in, received}
 use Rattle.client_ports.specs.Finishing.{finished_client, finished_up_to, finished}
 use Rattle.client_ports.proofs.Slots.{port_at-client, read-set}
@@ -24,7 +22,7 @@ use Rattle.client_ports.proofs.Leavers.{leavers_out}
 use Rattle.demo_make.specs.Words.{word_at}
 use Rattle.demo_make.specs.GeneratedMap.{generated_map, spawn_at}
 use Rattle.demo_make.specs.GeneratedFrames.{move_of, join_from, move_from, ports, moves_in, arrivals_in}
-use Rattle.demo_make.specs.Accepting.{ArePlaying, AreClearOfSpawns, AllAreAccepted, IsPlayed, AllIsAccepted}
+use Rattle.demo_make.specs.Accepting.{ArePlaying, AreClearOfSpawns, IsPlayed, AllIsAccepted}
 use Rattle.demo_make.proofs.Joining.{AreJoined, join-next, joined-next}
 use Rattle.demo_make.proofs.FramesKept.{packets_are_read, later-is, move_at}
 

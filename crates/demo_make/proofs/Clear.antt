@@ -1,19 +1,17 @@
 -- No thing of the map is at a spawn, wherever its lift is.
-use Rattle.std.proofs.Common.{◌≡◌, ℕ, ◌+◌, ◌≤◌, ◌<◌, Bool, true, false, eqb, not, ◌&&◌, ◌||◌, List, [], ◌∷◌, Option, Some, None, refl, sym, ap, ◌∙◌, subst, inl, inr, arith, ℤ}
+use Rattle.std.proofs.Common.{◌≡◌, ℕ, Bool, true, false, not, ◌&&◌, ◌||◌, List, [], ◌∷◌, Option, Some, None, refl, sym, ap, ◌∙◌, subst, inl, inr}
 use Rattle.std.specs.Prelude.{◌==◌, if◌then◌else◌}
 use Rattle.std.specs.List.{range_with_len, list_all, find}
 use Rattle.std.proofs.lemmas.Bool.{cases_lt}
-use Rattle.arena_geo.specs.Vectors.{plus}
-use Rattle.arena_geo.specs.Boxes.{overlaps, overlaps_on}
+use Rattle.arena_geo.specs.Boxes.{overlaps_on}
 use Rattle.entity_recs.specs.declared.rec.Rec.{Rec}
 use Rattle.entity_recs.specs.Bodies.{body_of, player_body}
 use Rattle.entity_recs.specs.Kinds.{is_solid}
 use Rattle.arena_map.specs.declared.lift.Lift.{Lift}
 use Rattle.arena_map.specs.Maps.{entities_of, lift_of}
-use Rattle.arena_map.specs.Validity.{IsSameThing, IsSameLift, IsAsItsLine, IsThing, IsValidWorld}
-use Rattle.world_tree.specs.Live.{record_at}
+use Rattle.arena_map.specs.Validity.{IsAsItsLine, IsThing}
 use Rattle.demo_make.specs.GeneratedMap.{generated_map, spawn_at}
-use Rattle.demo_make.specs.Accepting.{IsClearOfSpawns, AreClearOfSpawns, SpawnsAreClear}
+use Rattle.demo_make.specs.Accepting.{IsClearOfSpawns, SpawnsAreClear}
 use Rattle.demo_make.proofs.MapKept.{pass-at}
 
 -- along x the thing is beside every player at a spawn

@@ -1,7 +1,7 @@
 -- The frames of generated recordings can be written, and their packets are read.
-use Rattle.std.proofs.Common.{◌≡◌, ℕ, zero, suc, ◌+◌, ◌-◌, ◌*◌, ◌/◌, ◌%◌, ◌^◌, ◌≤◌, ◌<◌, Bool, true, false, cond, eqb, List, [], ◌∷◌, ◌++◌, length, map, flat_map, All, Some, None, Ok, refl, sym, ap, ◌∙◌, subst, arith, pos, append-nil, length-append, FitsSigned}
-use Rattle.std.specs.List.{range_with_len, AllByRecursion}
-use Rattle.std.specs.Int.{w16, w32, to_le_bytes, cast_unsigned}
+use Rattle.std.proofs.Common.{◌≡◌, ℕ, zero, suc, ◌+◌, ◌-◌, ◌*◌, ◌/◌, ◌%◌, ◌^◌, ◌≤◌, ◌<◌, Bool, true, false, cond, eqb, List, [], ◌∷◌, ◌++◌, length, map, flat_map, All, refl, ap, arith, length-append, FitsSigned}
+use Rattle.std.specs.List.{range_with_len}
+use Rattle.std.specs.Int.{w16}
 use Rattle.std.proofs.lemmas.Int.{ints}
 use Rattle.std.proofs.lemmas.Bool.Decides.{nat_tests}
 use Rattle.std.proofs.lemmas.List.Elements.{All-cons, All-nil, All-map, All-append, All-from_recursion, recursion_from_All}
@@ -11,7 +11,6 @@ use Rattle.edge_io.specs.Lines.{AreBytes}
 use Rattle.packet_read.specs.declared.move_packet.MovePacket.{MovePacket}
 use Rattle.packet_read.specs.declared.packet.Packet.TheVariants.{Join, Step}
 use Rattle.packet_read.specs.Spelling.{spelling, IsAllowedMove, MoveFits}
-use Rattle.packet_read.specs.Reading.{reading}
 use Rattle.packet_read.proofs.Fields.{packet_again}
 use Rattle.client_ports.specs.declared.arrival.Arrival.{Arrival}
 use Rattle.demo_lines.specs.declared.line.Line.TheVariants as lines
@@ -21,7 +20,7 @@ use Rattle.demo_lines.proofs.RecordingsRead.{recordings_read_back}
 use Rattle.demo_make.specs.Words.{word_at}
 use Rattle.demo_make.specs.GeneratedMap.{generated_map}
 use Rattle.demo_make.specs.GeneratedFrames.{IsInRange, wish_of, move_of, join_from, move_from, ports, joins_in, moves_in, arrivals_in, generated_frames, generated_events, generated_text}
-use Rattle.demo_make.specs.Laws.{IsReadBack, GeneratedRecordingsReadBack, FramesAreKnown, PacketsAreRead}
+use Rattle.demo_make.specs.Laws.{GeneratedRecordingsReadBack, FramesAreKnown, PacketsAreRead}
 use Rattle.demo_make.proofs.MapKept.{range-all, generated_is_map}
 
 -- ---- a packet

@@ -1,7 +1,7 @@
 -- Each join of a generated recording gets the next slot and the spawn with its number.
-use Rattle.std.proofs.Common.{◌≡◌, ℕ, zero, suc, ◌+◌, ◌-◌, ◌≤◌, ◌<◌, Bool, true, false, cond, eqb, ltb, not, ◌&&◌, ◌||◌, List, [], ◌∷◌, ◌++◌, length, map, All, Option, Some, None, Ok, Err, Result, refl, sym, ap, ◌∙◌, subst, inl, inr, arith, get_or, get_or-set_same, length-set, length-append, rules}
-use Rattle.std.specs.Option.{ok_or, option_map, option_map_or, is_none}
-use Rattle.std.specs.List.{range_with_len, list_all, list_any, find, position, position_or_len, slice_index_or, slice_set}
+use Rattle.std.proofs.Common.{◌≡◌, ℕ, zero, suc, ◌+◌, ◌≤◌, ◌<◌, Bool, true, false, eqb, ltb, not, ◌&&◌, ◌||◌, length, map, Option, Some, None, Ok, refl, sym, ap, ◌∙◌, subst, inl, inr, arith, get_or-set_same, length-set}
+use Rattle.std.specs.Option.{is_none}
+use Rattle.std.specs.List.{range_with_len, list_all, find, position_or_len, slice_set}
 use Rattle.std.proofs.lemmas.Bool.{cases_lt}
 use Rattle.std.proofs.lemmas.Bool.Decides.{nat_tests}
 use Rattle.std.proofs.lemmas.List.{length-map}
@@ -21,9 +21,8 @@ use Rattle.world_tree.specs.Live.{record_at}
 use Rattle.world_tree.specs.Queries.{is_free, solids_in}
 use Rattle.world_tree.specs.Walks.{is_in_the_way}
 use Rattle.world_tree.proofs.Found.{in_the_way-is}
-use Rattle.client_ports.specs.declared.client.Client.{Client}
-use Rattle.client_ports.specs.Clients.{client, client_at, port_of, ports_of, with_client, live_slot, new_client}
-use Rattle.client_ports.specs.States.{State, state_of, newcomer, with_newcomer}
+use Rattle.client_ports.specs.Clients.{client, client_at, port_of, ports_of, new_client}
+use Rattle.client_ports.specs.States.{State, newcomer, with_newcomer}
 use Rattle.client_ports.specs.Answers.{place_at, free_spawn, join_answer}
 use Rattle.client_ports.proofs.Slots.{port_at-client, read-set}
 use Rattle.demo_make.specs.GeneratedMap.{generated_map, spawn_at}

@@ -1,19 +1,15 @@
 -- The map of generated recordings keeps the rules of maps.
-use Rattle.std.proofs.Common.{◌≡◌, ℕ, ◌+◌, ◌*◌, ◌/◌, ◌%◌, ◌≤◌, ◌<◌, Bool, true, false, cond, eqb, List, [], ◌∷◌, ◌++◌, length, map, All, refl, sym, ap, ◌∙◌, subst, arith, pos, lit≤}
+use Rattle.std.proofs.Common.{◌≡◌, ℕ, ◌+◌, ◌≤◌, ◌<◌, Bool, true, false, [], ◌∷◌, map, All, refl, sym, ◌∙◌, subst, arith, lit≤}
 use Rattle.std.specs.List.{range_with_len, list_all}
 use Rattle.std.proofs.lemmas.Int.{ints}
 use Rattle.std.proofs.lemmas.List.Elements.{All-cons, All-nil, All-map, All-append, All-get_or}
 use Rattle.std.proofs.lemmas.List.FromFn.{length-range_with_len, get_or-range_with_len}
 use Rattle.std.proofs.lemmas.List.Sums.{AllPass-from_list_all}
-use Rattle.arena_geo.specs.Vectors.{IsNear}
-use Rattle.arena_geo.specs.Bounds.{IsBox}
 use Rattle.arena_geo.specs.Boxes.{contains, is_blocked}
-use Rattle.entity_recs.specs.declared.kind.Kind.TheVariants.{Ammo, Gem}
 use Rattle.arena_map.specs.declared.map_line.MapLine.{MapLine}
-use Rattle.arena_map.specs.MapLines.{IsWithinLimits, is_thing_line}
 use Rattle.arena_map.specs.Places.{is_thick, is_player_inside, keeps_item}
 use Rattle.arena_map.specs.Maps.{IsSpawn, IsBlock, IsThingInside, IsMap}
-use Rattle.demo_make.specs.GeneratedMap.{arena, spawn_at, block_corner, block_at, item_line, low_teleport, high_teleport, goal_line, lift_line, things, generated_map, generated_lines}
+use Rattle.demo_make.specs.GeneratedMap.{arena, spawn_at, block_at, item_line, low_teleport, high_teleport, goal_line, lift_line, things, generated_map}
 use Rattle.demo_make.specs.Laws.{MapIsKnown}
 use Rattle.demo_make.proofs.Lines.{spawn-near, corner-near, item-near}
 

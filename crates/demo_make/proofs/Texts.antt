@@ -1,16 +1,14 @@
 -- The text of a recording is that of its map and then that of its events.
-use Rattle.std.proofs.Common.{◌≡◌, ℕ, List, [], ◌∷◌, ◌++◌, map, flat_map, refl, sym, ap, ◌∙◌, append_assoc}
+use Rattle.std.proofs.Common.{◌≡◌, ℕ, List, [], ◌∷◌, ◌++◌, map, flat_map, refl, sym, ap, ◌∙◌}
 use Rattle.std.proofs.lemmas.List.{map-append}
 use Rattle.std.proofs.lemmas.List.Concat.{flat_map-append}
 use Rattle.edge_io.specs.WholeLines.{unlines}
-use Rattle.arena_map.specs.Maps.{MapView}
 use Rattle.arena_map.specs.Spelling.{map_line_text}
 use Rattle.client_ports.specs.declared.arrival.Arrival.{Arrival}
-use Rattle.demo_lines.specs.declared.line.Line.{Line}
 use Rattle.demo_lines.specs.declared.line.Line.TheVariants as lines
 use Rattle.demo_lines.specs.declared.event.Event.{Event}
 use Rattle.demo_lines.specs.declared.event.Event.TheVariants as events
-use Rattle.demo_lines.specs.Spelling.{line_text, map_lines, frame_lines, frame_events, recording_lines, recording_text, recording_events}
+use Rattle.demo_lines.specs.Spelling.{line_text, map_lines, frame_lines, frame_events, recording_text, recording_events}
 use Rattle.demo_make.specs.GeneratedMap.{generated_map, generated_lines}
 use Rattle.demo_make.specs.GeneratedFrames.{generated_frames, generated_events, generated_text}
 use Rattle.demo_make.specs.Remaining.{line_of, event_text, events_text}

@@ -1,5 +1,5 @@
 -- What holds of all generated recordings.
-use Rattle.std.specs.Prelude.{◌≡◌, ℕ, ◌+◌, ◌*◌, ◌^◌, ◌≤◌, ◌<◌, List, [], ◌∷◌, ◌++◌, length, map, count_by, Some, None, Ok}
+use Rattle.std.specs.Prelude.{◌≡◌, ℕ, ◌+◌, ◌*◌, ◌^◌, ◌≤◌, ◌<◌, [], ◌∷◌, ◌++◌, length, map, count_by, Some, None, Ok}
 use Rattle.std.specs.List.{range_with_len}
 use Rattle.std.specs.Int.{w64, from_le_bytes, to_le_bytes}
 use Rattle.rand_core.specs.Steps.{first_words}
@@ -9,7 +9,7 @@ use Rattle.packet_read.specs.Reading.{reading}
 use Rattle.arena_map.specs.Maps.{IsMap}
 use Rattle.arena_map.specs.MapLines.{is_item_line, is_teleport_line, is_goal_line, is_lift_line}
 use Rattle.demo_lines.specs.Bytes.{fault, events, map_of}
-use Rattle.demo_lines.specs.Spelling.{IsRecording, recording_lines}
+use Rattle.demo_lines.specs.Spelling.{recording_lines}
 use Rattle.demo_make.specs.declared.map_lines.TheConstants.{MAP_LINES}
 use Rattle.demo_make.specs.Words.{word_at}
 use Rattle.demo_make.specs.GeneratedMap.{generated_map, generated_lines, things}

@@ -7,7 +7,6 @@ use Rattle.demo_lines.specs.declared.event.Event.TheVariants as events
 use Rattle.demo_lines.specs.declared.line.Line.{Line}
 use Rattle.demo_lines.specs.declared.line.Line.TheVariants as lines
 use Rattle.demo_lines.specs.Spelling.{frame_events, line_text}
-use Rattle.edge_io.specs.WholeLines.{unlines}
 use Rattle.demo_make.specs.declared.generated_event.GeneratedEvent.{GeneratedEvent}
 use Rattle.demo_make.specs.declared.generated_event.GeneratedEvent.TheVariants.{Frame, From, End}
 use Rattle.demo_make.specs.declared.generator.Generator.{Generator}

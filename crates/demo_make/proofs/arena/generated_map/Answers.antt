@@ -1,7 +1,7 @@
-use Rattle.std.proofs.Common.{◌≡◌, ◌∙◌, ◌≤◌, ◌<◌, ap, sym, subst, arith}
+use Rattle.std.proofs.Common.{◌≡◌, ◌∙◌, ap, sym, subst}
 use Rattle.std.specs.Result.{OnOk}
 use Rattle.arena_map.specs.Rules.{broken_at_first, broken_rule, with_line}
-use Rattle.demo_make.proofs.Building.{map_after, first-unbroken, added-next, no-rule, map-next}
+use Rattle.demo_make.proofs.Building.{first-unbroken, added-next, no-rule, map-next}
 use Rattle.demo_make.proofs.arena.generated_map.Goals as goal
 
 pub unbroken-requires : goal.unbroken-requires

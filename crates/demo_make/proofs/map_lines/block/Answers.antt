@@ -1,4 +1,3 @@
-use Rattle.std.proofs.Common.{sym}
 use Rattle.demo_make.proofs.Lines.{corner-near}
 use Rattle.demo_make.proofs.map_lines.block.Goals as goal
 

@@ -1,5 +1,4 @@
-use Rattle.std.proofs.Common.{◌≡◌, ◌∷◌, [], ◌++◌, length, ap, ◌∙◌, sym, arith, length-append}
-use Rattle.arena_map.specs.Spelling.{map_line_text}
+use Rattle.std.proofs.Common.{◌∷◌, [], ◌++◌, length, ap, ◌∙◌, sym, arith, length-append}
 use Rattle.demo_make.proofs.Lines.{text_before, text_before-next, line-fits}
 use Rattle.demo_make.proofs.text.push_map.Goals as goal
 

@@ -1,11 +1,10 @@
-use Rattle.std.proofs.Common.{map, ◌≡◌, ◌≤◌, ◌+◌, ◌++◌, ap, ◌∙◌, sym, subst, length}
+use Rattle.std.proofs.Common.{map, ◌≤◌, ◌+◌, ◌++◌, ap, ◌∙◌, sym, subst, length}
 use Rattle.std.specs.Io.KnownBytes.{Appends}
 use Rattle.edge_io.specs.Writes.{AppendsPart}
 use Rattle.edge_io.specs.WholeLines.{unlines}
 use Rattle.std.proofs.lemmas.Bool.{false≢true}
 use Rattle.arena_map.specs.Spelling.{map_line_text}
 use Rattle.demo_make.specs.GeneratedMap.{generated_lines}
-use Rattle.demo_make.specs.GeneratedFrames.{generated_text}
 use Rattle.demo_make.specs.Remaining.{remaining_events, events_text}
 use Rattle.demo_make.proofs.Texts.{generated_text-parts}
 use Rattle.demo_make.proofs.writing.make.Goals as goal

@@ -1,9 +1,8 @@
-use Rattle.std.proofs.Common.{◌≡◌, ◌++◌, ◌∷◌, [], ap, ◌∙◌, sym, subst, arith, length, length-append}
+use Rattle.std.proofs.Common.{◌++◌, ap, ◌∙◌, subst, arith, length, length-append}
 use Rattle.std.proofs.lemmas.Result.{err_from_is_err_and}
 use Rattle.std.specs.Io.KnownBytes.{Appends}
 use Rattle.edge_io.specs.Writes.{AppendsPart}
 use Rattle.edge_io.proofs.Writing.{IsWritten}
-use Rattle.demo_lines.specs.declared.event.Event.{Event}
 use Rattle.demo_make.specs.Remaining.{event_of, event_text, remaining_events, events_text}
 use Rattle.demo_make.proofs.Sending.{passed, gathered, passed-part, passed-all, on_ok, on_err}
 use Rattle.demo_make.proofs.writing.write_events.Goals as goal

@@ -1,5 +1,5 @@
 use Rattle.std.proofs.Common.{◌≡◌, ap, ◌∙◌}
-use Rattle.std.specs.Int.{w64, to_le_bytes, from_le_bytes}
+use Rattle.std.specs.Int.{w64, from_le_bytes}
 use Rattle.std.proofs.lemmas.Nat.{from_le_bytes-to_le_bytes_8}
 use Rattle.demo_make.proofs.Streams.{left-start}
 use Rattle.demo_make.proofs.generator.Generator.new.Goals as goal

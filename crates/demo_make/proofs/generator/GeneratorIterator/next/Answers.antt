@@ -1,4 +1,4 @@
-use Rattle.std.proofs.Common.{[], ◌≡◌, ◌∙◌, ap, arith, ◌<◌, length, false, true}
+use Rattle.std.proofs.Common.{[], ◌≡◌, ap, arith, length}
 use Rattle.demo_make.specs.Remaining.{remaining_events}
 use Rattle.demo_make.proofs.Steps.{left-end, left-done}
 use Rattle.demo_make.proofs.generator.GeneratorIterator.next.Goals as goal
