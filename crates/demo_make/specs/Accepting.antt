@@ -27,7 +27,8 @@ IsClearOfSpawns r = (i : ℕ) → i < 64 → overlaps (player_body (spawn_at i))
 
 -- no body of a live solid does
 abbrev pub AreClearOfSpawns : List (Option Rec) → Type 0
-AreClearOfSpawns records = (id : ℕ) (r : Rec) → record_at records id ≡ Some r → is_solid r.kind ≡ true → IsClearOfSpawns r
+AreClearOfSpawns records =
+    (id : ℕ) (r : Rec) → record_at records id ≡ Some r → is_solid r.kind ≡ true → IsClearOfSpawns r
 
 -- nothing was refused, and there are so many joins and moves
 pub record AllAreAccepted (joins moves : ℕ) (next : Receiving) : Type 0 where
@@ -44,8 +45,8 @@ pub record IsPlayed (players joins last : ℕ) (next : Receiving) : Type 0 where
 -- every join and every move is accepted, in frame 0 where nobody is joined and nothing is at the spawns, and in each
 -- later frame wherever the players and the things are
 pub record AllIsAccepted : Type 0 where
-  pub first : (seed players : ℕ) (state : State) → players ≤ 64 → ArePlaying 0 0 state.clients → length state.records ≡ 256
-      → AreClearOfSpawns state.records
+  pub first : (seed players : ℕ) (state : State) → players ≤ 64 → ArePlaying 0 0 state.clients
+      → length state.records ≡ 256 → AreClearOfSpawns state.records
       → IsPlayed players players 1 (received generated_map 0 state (arrivals_in seed players 0))
   pub later : (seed players frame : ℕ) (state : State) → players ≤ 64 → 0 < frame → frame + 1 < 2 ^ 32
       → ArePlaying players frame state.clients → length state.records ≡ 256

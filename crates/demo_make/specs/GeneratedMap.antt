@@ -32,7 +32,9 @@ block_corner j = vector (in_row 98304 151552 (j % 4)) (in_row 98304 151552 (j / 
 
 -- a block of 16: 32 units along x and y, 100 high
 abbrev pub block_at : ℕ → Bounds
-block_at j = bounds (block_corner j) (vector ((block_corner j).x +ℤ pos 8192) ((block_corner j).y +ℤ pos 8192) (pos 25600))
+block_at j = bounds
+    (block_corner j)
+    (vector ((block_corner j).x +ℤ pos 8192) ((block_corner j).y +ℤ pos 8192) (pos 25600))
 
 -- ammunition, where the number is even, and else a gem
 abbrev pub kind_of : ℕ → Kind
@@ -48,10 +50,16 @@ centre = vector (pos 0) (pos 0) (pos 6144)
 
 -- a teleporter near the lowest corner, and one near the opposite corner
 abbrev pub low_teleport : MapLine
-low_teleport = Teleport (vector (below 229376) (below 229376) (pos 0)) (vector (below 204800) (below 204800) (pos 25600)) centre
+low_teleport = Teleport
+    (vector (below 229376) (below 229376) (pos 0))
+    (vector (below 204800) (below 204800) (pos 25600))
+    centre
 
 abbrev pub high_teleport : MapLine
-high_teleport = Teleport (vector (pos 204800) (pos 204800) (pos 0)) (vector (pos 229376) (pos 229376) (pos 25600)) centre
+high_teleport = Teleport
+    (vector (pos 204800) (pos 204800) (pos 0))
+    (vector (pos 229376) (pos 229376) (pos 25600))
+    centre
 
 -- the goal, around the centre
 abbrev pub goal_line : MapLine
@@ -60,7 +68,11 @@ goal_line = Goal (vector (below 16384) (below 16384) (pos 0)) (vector (pos 16384
 -- the lift, near a third corner: it rises by 100 units, two in a frame
 abbrev pub lift_line : MapLine
 lift_line =
-    Lift (vector (pos 204800) (below 229376) (pos 0)) (vector (pos 229376) (below 204800) (pos 2560)) (pos 25600) (pos 512)
+    Lift
+    (vector (pos 204800) (below 229376) (pos 0))
+    (vector (pos 229376) (below 204800) (pos 2560))
+    (pos 25600)
+    (pos 512)
 
 -- the things: the items, the teleporters, the goal and the lift
 abbrev pub things : List MapLine

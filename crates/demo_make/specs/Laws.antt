@@ -51,11 +51,13 @@ pub record FramesAreKnown : Type 0 where
 -- the packets are read as joins and as moves with their numbers
 pub record PacketsAreRead : Type 0 where
   pub joins : (port : ℕ) → reading (join_from port).bytes ≡ Ok Join
-  pub moves : (seq port word : ℕ) → seq < 2 ^ 32 → reading (move_from seq port word).bytes ≡ Ok (Step (move_of seq word))
+  pub moves : (seq port word : ℕ) → seq < 2 ^ 32
+      → reading (move_from seq port word).bytes ≡ Ok (Step (move_of seq word))
 
 -- the words of a seed are those of SplitMix64 from the state that the seed's 8 bytes give, lowest first; two published
 -- ones are these
 pub record WordsAreKnown : Type 0 where
   pub words : (seed count : ℕ) → first_words mix_u64 count seed ≡ map (word_at seed) (range_with_len 0 count)
   pub seeded : (seed : ℕ) → seed < 2 ^ 64 → from_le_bytes w64 (to_le_bytes w64 seed) ≡ seed
-  pub published : map (word_at 1477776061723855037) (range_with_len 0 2) ≡ 1985237415132408290 ∷ 2979275885539914483 ∷ []
+  pub published : map (word_at 1477776061723855037) (range_with_len 0 2)
+      ≡ 1985237415132408290 ∷ 2979275885539914483 ∷ []

@@ -40,7 +40,8 @@ events_text es = flat_map event_text es
 -- the moves of so many players, from this port on, by the words from this state on
 unfoldable pub moves_from : ℕ → ℕ → ℕ → ℕ → List Arrival
 moves_from seq state port zero = []
-moves_from seq state port (suc more) = move_from seq port (word_of state) ∷ moves_from seq (next_state state) (port + 1) more
+moves_from seq state port (suc more) =
+    move_from seq port (word_of state) ∷ moves_from seq (next_state state) (port + 1) more
 
 -- the packets of so many frames, from this one on, by the words from this state on
 unfoldable pub frames_from : ℕ → ℕ → ℕ → ℕ → List (List Arrival)

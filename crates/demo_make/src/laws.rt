@@ -7,8 +7,8 @@ pub fn generated_recordings_read_back()
     ensures { GeneratedRecordingsReadBack }
 {}
 
-/// The map of generated recordings keeps the rules of maps. It has 101 lines: the arena, 64 spawns, 16 blocks, 16 items,
-/// 2 teleporters, a goal and a lift.
+/// The map of generated recordings keeps the rules of maps. It has 101 lines: the arena, 64 spawns, 16 blocks,
+/// 16 items, 2 teleporters, a goal and a lift.
 pub fn map_is_known()
     ensures { MapIsKnown }
 {}
@@ -23,13 +23,14 @@ pub fn packets_are_read()
     ensures { PacketsAreRead }
 {}
 
-/// Every join and every move of a generated recording is accepted: in frame 0 where nobody is joined and nothing is at the
-/// spawns, and in each later frame whatever the moves before it were.
+/// Every join and every move of a generated recording is accepted: in frame 0 where nobody is joined and nothing is at
+/// the spawns, and in each later frame whatever the moves before it were.
 pub fn all_is_accepted()
     ensures { AllIsAccepted }
 {}
 
-/// In a valid world without players no body of a live solid is at a spawn of a generated recording, wherever the lift is.
+/// In a valid world without players no body of a live solid is at a spawn of a generated recording, wherever the lift
+/// is.
 pub fn spawns_are_clear()
     ensures { SpawnsAreClear }
 {}
