@@ -1,4 +1,4 @@
-use Rattle.std.proofs.Common.{◌≡◌, ◌∙◌, ap, sym, subst}
+use Rattle.std.proofs.Common.{arith, ◌≡◌, ◌∙◌, ap, sym, subst}
 use Rattle.std.specs.Result.{OnOk}
 use Rattle.arena_map.specs.Rules.{broken_at_first, broken_rule, with_line}
 use Rattle.demo_make.proofs.Building.{first-unbroken, added-next, no-rule, map-next}
@@ -10,13 +10,13 @@ unbroken-requires c =
 
 pub add-requires-clause-no_arena : goal.add-requires-clause-no_arena
 add-requires-clause-no_arena c =
-    (added-next c.loop-index.index c.map_line-in-loop-index.result c.loop-index.auto.index c.loop-index-test.true
+    (added-next c.loop-index.index c.map_line-in-loop-index.result c.loop-index.auto.index (omega (arith, c.loop-index-test.true))
     c.map_line-in-loop-index.ensures.line).added
 
 pub unbroken-requires-in-loop-index : goal.unbroken-requires-in-loop-index
 unbroken-requires-in-loop-index c =
     let line = c.map_line-in-loop-index.result in
-    let next = added-next c.loop-index.index line c.loop-index.auto.index c.loop-index-test.true c.map_line-in-loop-index.ensures.line in
+    let next = added-next c.loop-index.index line c.loop-index.auto.index (omega (arith, c.loop-index-test.true)) c.map_line-in-loop-index.ensures.line in
     no-rule c.add.result (broken_rule c.loop-index.map line) c.add.ensures.rule
     (ap (λ m. broken_rule m line) c.loop-index.invariant ∙ next.unbroken)
 
