@@ -15,6 +15,7 @@ use Rattle.entity_recs.specs.declared.kind.Kind.{Kind}
 use Rattle.entity_recs.specs.declared.kind.Kind.TheVariants.{Player}
 use Rattle.entity_recs.specs.declared.rec.Rec.{Rec}
 use Rattle.entity_recs.specs.declared.effect.Entry.{Entry}
+use Rattle.entity_recs.specs.declared.effect.NewState.{NewState}
 use Rattle.entity_recs.specs.Records.{IsIdOf}
 use Rattle.entity_recs.specs.Bodies.{body_of}
 use Rattle.entity_recs.specs.Kinds.{is_solid}
@@ -22,24 +23,28 @@ use Rattle.entity_recs.specs.Commands.{Command}
 use Rattle.entity_recs.specs.Worlds.{others_of}
 use Rattle.entity_recs.specs.Histories.{Item, world_after}
 use Rattle.move_journal.specs.Merges.{history_of}
-use Rattle.player_move.proofs.Ending.{move_ends_free}
 use Rattle.arena_map.specs.Maps.{MapView, IsMap, solids_of}
-use Rattle.arena_map.specs.Validity.{IsValidWorld}
+use Rattle.arena_map.specs.Validity.{IsValidRecord, IsValidWorld}
 use Rattle.arena_map.proofs.Opening.{IsFound, found-in}
+use Rattle.trigger_rules.specs.Touching.{bodies_of_solids, solids_among}
+use Rattle.arena_actions.specs.Outcomes.{outcome_in}
 use Rattle.world_tree.specs.Live.{record_at, live_in}
 use Rattle.client_ports.specs.declared.arrival.Arrival.{Arrival}
 use Rattle.client_ports.specs.States.{State, IsServerState}
-use Rattle.client_ports.specs.Receiving.{Receiving, received}
+use Rattle.client_ports.specs.Receiving.{Receiving}
 use Rattle.arena_map.specs.Validity.{AreClear}
 use Rattle.client_ports.proofs.Slots.{read-set}
 use Rattle.client_ports.proofs.Staying.{clear_received, clear_finished}
 use Rattle.plain_server.specs.RecordsById.{record_or_nobody, world_of, records_in, opening}
-use Rattle.plain_server.specs.Outcomes.{asked, solid_bodies, outcome_in}
-use Rattle.plain_server.specs.Moving.{HasLivePlayer, HaveMoved, effect_among, records_after}
+use Rattle.plain_server.specs.Moving.{HasLivePlayer, HaveMoved, effect_among, with_new_states, records_after}
 use Rattle.plain_server.specs.Entries.{IsReception}
-use Rattle.plain_server.specs.Frames.{moved_by, state_after, first_of, rest_of, state_played}
-use Rattle.plain_server.proofs.Others.{each_live, others-are}
-use Rattle.plain_server.proofs.Moves.{IsLiveRecord, live_record, slot_is_player, moved-none, moved-more, still-live, moved-records}
+use Rattle.plain_server.specs.Frames.{state_after_tick, received_in, moved_by, state_after, first_of, rest_of, state_played}
+use Rattle.plain_server.proofs.NewStates.{was_at, same_kind, same_body, clear-restated}
+use Rattle.plain_server.proofs.OneMove.{free_after_command}
+use Rattle.plain_server.proofs.Players.{IsLiveRecord, live_record, slot_is_player}
+use Rattle.plain_server.proofs.Others.{each_live, all_but, others-are}
+use Rattle.plain_server.proofs.Moves.{moved-none, moved-more, still-live, moved-records}
+use Rattle.plain_server.proofs.Ticking.{clear_ticked, server_ticked}
 use Rattle.plain_server.proofs.Commands.{history_has}
 use Rattle.plain_server.proofs.Frames.{received_is, state_after_is, opening_world, opening_is}
 use Rattle.plain_server.proofs.Lifts.{solids_apart}
@@ -60,7 +65,7 @@ abbrev IsApartFrom : Bounds → Rec → Type 0
 IsApartFrom body r = is_solid r.kind ≡ true → overlaps body (body_of r) ≡ false
 
 -- where a body overlaps that of no solid among records, none of these bodies blocks it
-free_of_solids : (body : Bounds) (rs : List Rec) → AllByRecursion (IsApartFrom body) rs → is_blocked body (solid_bodies rs) ≡ false
+free_of_solids : (body : Bounds) (rs : List Rec) → AllByRecursion (IsApartFrom body) rs → is_blocked body (bodies_of_solids rs) ≡ false
 free_of_solids body [] apart = refl
 free_of_solids body (r ∷ rs) apart =
     let rest = free_of_solids body rs apart.1 in
@@ -70,28 +75,21 @@ free_of_solids body (r ∷ rs) apart =
     ]
 
 -- and where none of them blocks it, it overlaps that of no solid
-apart_where_free : (body : Bounds) (rs : List Rec) → is_blocked body (solid_bodies rs) ≡ false → AllByRecursion (IsApartFrom body) rs
+apart_where_free : (body : Bounds) (rs : List Rec) → is_blocked body (bodies_of_solids rs) ≡ false → AllByRecursion (IsApartFrom body) rs
 apart_where_free body [] free = tt
 apart_where_free body (r ∷ rs) free = (here, apart_where_free body rs rest)
   where
-    parts : is_solid r.kind ≡ true → (overlaps body (body_of r) ≡ false) × (is_blocked body (solid_bodies rs) ≡ false)
-    parts solid = neither (overlaps body (body_of r)) (is_blocked body (solid_bodies rs)) (rw solid at free)
+    parts : is_solid r.kind ≡ true → (overlaps body (body_of r) ≡ false) × (is_blocked body (bodies_of_solids rs) ≡ false)
+    parts solid = neither (overlaps body (body_of r)) (is_blocked body (bodies_of_solids rs)) (rw solid at free)
 
     here : IsApartFrom body r
     here solid = (parts solid).0
 
-    rest : is_blocked body (solid_bodies rs) ≡ false
+    rest : is_blocked body (bodies_of_solids rs) ≡ false
     rest = elim (cases_Bool (is_solid r.kind)) [
       | inl solid ↦ (parts solid).1
       | inr e ↦ rw e at free
     ]
-
--- what holds of the records with other ids
-all_but : (P : Rec → Type 0) (slot : ℕ) (rs : List Rec) → AllByRecursion (λ r. (r.id == slot) ≡ false → P r) rs → AllByRecursion P (filter (λ (r : Rec). not (r.id == slot)) rs)
-all_but P slot [] all = tt
-all_but P slot (r ∷ rs) all =
-    let rest = all_but P slot rs all.1 in
-    elim (cases_Bool (r.id == slot)) [ inl e ↦ rw e rest | inr e ↦ rw e (all.0 e, rest) ]
 
 -- what holds of the others after the first one
 rest_of_all : (P : Rec → Type 0) (slot : ℕ) (x : Rec) (rs : List Rec) → AllByRecursion P (if not (x.id == slot) then x ∷ rs else rs) → AllByRecursion P rs
@@ -144,20 +142,27 @@ module _ (map : MapView) (records : List (Option Rec)) (c : Command) (is_map : I
           true_false : true ≡ false → ⊥
           true_false h = cc
 
-  free_before : is_blocked (body_of me) (solids_of map ++ solid_bodies others) ≡ false
+  free_before : is_blocked (body_of me) (solids_among map others) ≡ false
+  unfolding solids_among
   free_before =
       let fixed = clear.of_the_map c.slot found.r found.at (slot_is_player map c.slot found.r (valid.each c.slot found.r found.at) has.slot) in
       let moving = free_of_solids (body_of found.r) others apart_before in
-      subst (λ (r : Rec). is_blocked (body_of r) (solids_of map ++ solid_bodies others) ≡ false) (sym me-is)
-      (list_any-append (overlaps (body_of found.r)) (solids_of map) (solid_bodies others) ∙ rw (fixed, moving) refl)
+      subst (λ (r : Rec). is_blocked (body_of r) (solids_of map ++ bodies_of_solids others) ≡ false) (sym me-is)
+      (list_any-append (overlaps (body_of found.r)) (solids_of map) (bodies_of_solids others) ∙ rw (fixed, moving) refl)
 
   abbrev after : Rec
   after = (effect_among map records c).me
 
-  free_after : (is_blocked (body_of after) (solids_of map) ≡ false) × (is_blocked (body_of after) (solid_bodies others) ≡ false)
+  free_then : is_blocked (body_of after) (solids_among map others) ≡ false
+  free_then =
+      let here : IsValidRecord map c.slot me = subst (IsValidRecord map c.slot) (sym me-is) (valid.each c.slot found.r found.at) in
+      free_after_command map c.slot me others c is_map (slot_is_player map c.slot me here has.slot) here free_before
+
+  free_after : (is_blocked (body_of after) (solids_of map) ≡ false) × (is_blocked (body_of after) (bodies_of_solids others) ≡ false)
+  unfolding solids_among
   free_after =
-      neither (is_blocked (body_of after) (solids_of map)) (is_blocked (body_of after) (solid_bodies others))
-      (sym (list_any-append (overlaps (body_of after)) (solids_of map) (solid_bodies others)) ∙ move_ends_free me (asked c) (solids_of map ++ solid_bodies others) free_before)
+      neither (is_blocked (body_of after) (solids_of map)) (is_blocked (body_of after) (bodies_of_solids others))
+      (sym (list_any-append (overlaps (body_of after)) (solids_of map) (bodies_of_solids others)) ∙ free_then)
 
   -- after the move it is apart from each other live solid
   apart_after : (k : ℕ) (r : Rec) → record_at records k ≡ Some r → k ≢ c.slot → is_solid r.kind ≡ true → overlaps (body_of after) (body_of r) ≡ false
@@ -165,29 +170,44 @@ module _ (map : MapView) (records : List (Option Rec)) (c : Command) (is_map : I
       but_at (IsApartFrom (body_of after)) c.slot records k r at (ne_eqb r.id c.slot (λ same. other (sym (valid.each k r at).own_id ∙ same)))
       (subst (AllByRecursion (IsApartFrom (body_of after))) others-listed (apart_where_free (body_of after) others free_after.1))
 
+  abbrev states : List NewState
+  states = (effect_among map records c).states
+
+  -- so it is from each of them with its new state
+  apart_from_each : (k : ℕ) (r : Rec) → record_at (with_new_states states records) k ≡ Some r → k ≢ c.slot → is_solid r.kind ≡ true → overlaps (body_of after) (body_of r) ≡ false
+  apart_from_each k r at other solid =
+      let before = was_at states records k r at in
+      let was = before.was in
+      let kind : was.kind ≡ r.kind = sym (same_kind states was.id was) ∙ ap (λ (x : Rec). x.kind) before.is in
+      let body : body_of was ≡ body_of r = sym (same_body states was.id was) ∙ ap body_of before.is in
+      ap (overlaps (body_of after)) (sym body) ∙ apart_after k was before.at other (ap is_solid kind ∙ solid)
+
   -- the records after it are clear
   pub clear_after : AreClear map (records_after map records c)
-  clear_after = record {
-    of_the_map = λ id r at kind. elim (read-set records c.slot id (Some after)) [
-      | inl there ↦ subst (λ (x : Rec). is_blocked (body_of x) (solids_of map) ≡ false) (same_Some after r (sym there.2 ∙ at)) free_after.0
-      | inr kept ↦ clear.of_the_map id r (sym kept ∙ at) kind
-    ];
-    of_each_other = λ i j r s at_i at_j solid_r solid_s differ. elim (read-set records c.slot i (Some after)) [
-      | inl here ↦ elim (read-set records c.slot j (Some after)) [
-        | inl there ↦ absurd (differ (here.0 ∙ sym there.0))
-        | inr kept ↦
-            subst (λ (x : Rec). overlaps (body_of x) (body_of s) ≡ false) (same_Some after r (sym here.2 ∙ at_i))
-            (apart_after j s (sym kept ∙ at_j) (λ same. differ (here.0 ∙ sym same)) solid_s)
-      ]
-      | inr kept ↦ elim (read-set records c.slot j (Some after)) [
-        | inl there ↦
-            overlaps_flips (body_of r) (body_of s)
-            ∙ subst (λ (x : Rec). overlaps (body_of x) (body_of r) ≡ false) (same_Some after s (sym there.2 ∙ at_j))
-            (apart_after i r (sym kept ∙ at_i) (λ same. differ (same ∙ sym there.0)) solid_r)
-        | inr also ↦ clear.of_each_other i j r s (sym kept ∙ at_i) (sym also ∙ at_j) solid_r solid_s differ
-      ]
-    ];
-  }
+  clear_after =
+      let rest = clear-restated map states records clear in
+      let set = read-set (with_new_states states records) c.slot in
+      record {
+        of_the_map = λ id r at kind. elim (set id (Some after)) [
+          | inl there ↦ subst (λ (x : Rec). is_blocked (body_of x) (solids_of map) ≡ false) (same_Some after r (sym there.2 ∙ at)) free_after.0
+          | inr kept ↦ rest.of_the_map id r (sym kept ∙ at) kind
+        ];
+        of_each_other = λ i j r s at_i at_j solid_r solid_s differ. elim (set i (Some after)) [
+          | inl here ↦ elim (set j (Some after)) [
+            | inl there ↦ absurd (differ (here.0 ∙ sym there.0))
+            | inr kept ↦
+                subst (λ (x : Rec). overlaps (body_of x) (body_of s) ≡ false) (same_Some after r (sym here.2 ∙ at_i))
+                (apart_from_each j s (sym kept ∙ at_j) (λ same. differ (here.0 ∙ sym same)) solid_s)
+          ]
+          | inr kept ↦ elim (set j (Some after)) [
+            | inl there ↦
+                overlaps_flips (body_of r) (body_of s)
+                ∙ subst (λ (x : Rec). overlaps (body_of x) (body_of r) ≡ false) (same_Some after s (sym there.2 ∙ at_j))
+                (apart_from_each i r (sym kept ∙ at_i) (λ same. differ (same ∙ sym there.0)) solid_r)
+            | inr also ↦ rest.of_each_other i j r s (sym kept ∙ at_i) (sym also ∙ at_j) solid_r solid_s differ
+          ]
+        ];
+      }
 
 -- ---- all moves and all frames
 
@@ -214,9 +234,9 @@ pub clear_through : (map : MapView) (frame : ℕ) (state : State) (frames : List
     → AreClear map (state_played map frame state frames journals).records
 clear_through map frame state [] journals is_map is clear = clear
 clear_through map frame state (arrivals ∷ frames) journals is_map is clear =
-    let r = received map frame state arrivals in
+    let r = received_in map frame state arrivals in
     let pass = received_is map frame state arrivals is_map is in
-    let moved = clear_moved map r (first_of journals) is_map pass (clear_received map frame state arrivals is_map is clear) in
+    let moved = clear_moved map r (first_of journals) is_map pass (clear_received map frame (state_after_tick map frame state) arrivals is_map (server_ticked map frame state is_map is) (clear_ticked map frame state is_map is clear)) in
     clear_through map (frame + 1) (state_after map r (first_of journals)) frames (rest_of journals) is_map (state_after_is map r (first_of journals) is_map pass)
     (clear_finished map (moved_by map r (first_of journals)) moved)
 

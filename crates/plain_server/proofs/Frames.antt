@@ -14,6 +14,7 @@ use Rattle.arena_map.specs.Maps.{MapView, IsMap, entities_of}
 use Rattle.arena_map.specs.Validity.{IsOpeningWorld}
 use Rattle.arena_map.proofs.Kept.{each-of}
 use Rattle.arena_map.proofs.ThingRecords.{entities-are, entities-apart}
+use Rattle.arena_actions.specs.Outcomes.{outcome_in}
 use Rattle.world_tree.proofs.Links.{id-below, record_at-empty}
 use Rattle.client_ports.specs.declared.arrival.Arrival.{Arrival}
 use Rattle.client_ports.specs.declared.client.Client.{Client}
@@ -21,17 +22,17 @@ use Rattle.client_ports.specs.Clients.{client_at, AreClients}
 use Rattle.client_ports.proofs.Slots.{client_count, no_clients-are_ports}
 use Rattle.client_ports.proofs.Valid.{opening-is_server}
 use Rattle.client_ports.specs.States.{State, state_of, IsServerState}
-use Rattle.client_ports.specs.Receiving.{Receiving, received}
+use Rattle.client_ports.specs.Receiving.{Receiving}
 use Rattle.client_ports.proofs.Advances.{numbers_apart, movers_live}
 use Rattle.client_ports.proofs.Staying.{clients_received, clients_finished, server_received, server_finished}
 use Rattle.plain_server.specs.RecordsById.{world_of, opening}
-use Rattle.plain_server.specs.Outcomes.{outcome_in}
 use Rattle.plain_server.specs.Moving.{HasLivePlayer, HaveMoved}
 use Rattle.plain_server.specs.Entries.{IsReception}
-use Rattle.plain_server.specs.Frames.{moved_by, state_after, first_of, rest_of, state_played, AreRight, AreInOrder, journal_of, journals_of}
+use Rattle.plain_server.specs.Frames.{state_after_tick, received_in, moved_by, state_after, first_of, rest_of, state_played, AreRight, AreInOrder, journal_of, journals_of}
 use Rattle.plain_server.proofs.Moves.{moved, moved-records}
 use Rattle.plain_server.proofs.Placing.{placed-count, placed-at}
 use Rattle.plain_server.proofs.Commands.{history_has}
+use Rattle.plain_server.proofs.Ticking.{server_ticked}
 
 -- a state whose records are those after moves of live players is a server's as before
 pub state_moved : (map : MapView) (state : State) (new : List (Option Rec)) (commands : List Command) → IsServerState map state → HaveMoved map state.records new commands
@@ -67,15 +68,15 @@ live_player map state c is live = record { slot = below; live = sym (is.fits.liv
 
 -- what is received in a frame from a server's state
 pub received_is : (map : MapView) (frame : ℕ) (state : State) (arrivals : List Arrival) → IsMap map → IsServerState map state
-    → IsReception map (received map frame state arrivals)
+    → IsReception map (received_in map frame state arrivals)
 received_is map frame state arrivals is_map is =
-    let next = received map frame state arrivals in
-    let there = server_received map frame state arrivals is_map is in
+    let next = received_in map frame state arrivals in
+    let there = server_received map frame (state_after_tick map frame state) arrivals is_map (server_ticked map frame state is_map is) in
     record {
       state = there;
       live = All-weaker (λ (c : Command). IsSome (client_at next.state.clients c.slot)) (HasLivePlayer next.state.records) (λ c some. live_player map next.state c there some) next.lists.moves
-          (movers_live map frame state arrivals);
-      apart = numbers_apart map frame state arrivals;
+          (movers_live map frame (state_after_tick map frame state) arrivals);
+      apart = numbers_apart map frame (state_after_tick map frame state) arrivals;
     }
 
 -- the state for the next frame is a server's
@@ -87,7 +88,7 @@ pub played_is : (map : MapView) (frame : ℕ) (state : State) (frames : List (Li
     → IsServerState map state → IsServerState map (state_played map frame state frames journals)
 played_is map frame state [] journals is_map is = is
 played_is map frame state (arrivals ∷ frames) journals is_map is =
-    let r = received map frame state arrivals in
+    let r = received_in map frame state arrivals in
     let pass = received_is map frame state arrivals is_map is in
     played_is map (frame + 1) (state_after map r (first_of journals)) frames (rest_of journals) is_map
     (state_after_is map r (first_of journals) is_map pass)
@@ -99,8 +100,8 @@ pub right_in_order : (map : MapView) (frame : ℕ) (state : State) (frames : Lis
     → AreRight map frame state frames (journals_of map frame state frames)
 right_in_order map frame state [] = tt
 right_in_order map frame state (arrivals ∷ frames) =
-    let r = received map frame state arrivals in (
-      (moves_in_order_are_right (outcome_in map) (world_of r.state.records) r.lists.moves (numbers_apart map frame state arrivals)).right,
+    let r = received_in map frame state arrivals in (
+      (moves_in_order_are_right (outcome_in map) (world_of r.state.records) r.lists.moves (numbers_apart map frame (state_after_tick map frame state) arrivals)).right,
       right_in_order map (frame + 1) (state_after map r (journal_of map r)) frames,
     )
 
@@ -109,8 +110,8 @@ pub order_in_order : (map : MapView) (frame : ℕ) (state : State) (frames : Lis
     → AreInOrder map frame state frames (journals_of map frame state frames)
 order_in_order map frame state [] = tt
 order_in_order map frame state (arrivals ∷ frames) =
-    let r = received map frame state arrivals in (
-      (moves_in_order_are_right (outcome_in map) (world_of r.state.records) r.lists.moves (numbers_apart map frame state arrivals)).order,
+    let r = received_in map frame state arrivals in (
+      (moves_in_order_are_right (outcome_in map) (world_of r.state.records) r.lists.moves (numbers_apart map frame (state_after_tick map frame state) arrivals)).order,
       order_in_order map (frame + 1) (state_after map r (journal_of map r)) frames,
     )
 
@@ -121,9 +122,9 @@ one_journal_each map frame state [] [] right order = refl
 one_journal_each map frame state [] (j ∷ js) right order = absurd right
 one_journal_each map frame state (arrivals ∷ frames) [] right order = absurd right
 one_journal_each map frame state (arrivals ∷ frames) (j ∷ js) right order =
-    let r = received map frame state arrivals in
+    let r = received_in map frame state arrivals in
     let first : j ≡ journal_of map r =
-    order_leaves_one_journal (outcome_in map) (world_of r.state.records) r.lists.moves j (numbers_apart map frame state arrivals) (record { right = right.0; order = order.0 }) in
+    order_leaves_one_journal (outcome_in map) (world_of r.state.records) r.lists.moves j (numbers_apart map frame (state_after_tick map frame state) arrivals) (record { right = right.0; order = order.0 }) in
     let rest = one_journal_each map (frame + 1) (state_after map r j) frames js right.1 order.1 in
     λ i. first i ∷ (rest ∙ ap (λ (k : List Entry). journals_of map (frame + 1) (state_after map r k) frames) first) i
 
@@ -151,9 +152,9 @@ pub ports_apart_through : (map : MapView) (frame : ℕ) (state : State) (frames 
     → AreClients (state_played map frame state frames journals).clients
 ports_apart_through map frame state [] journals are = are
 ports_apart_through map frame state (arrivals ∷ frames) journals are =
-    let r = received map frame state arrivals in
+    let r = received_in map frame state arrivals in
     ports_apart_through map (frame + 1) (state_after map r (first_of journals)) frames (rest_of journals)
-    (clients_finished (moved_by map r (first_of journals)) (clients_received map frame state arrivals are))
+    (clients_finished (moved_by map r (first_of journals)) (clients_received map frame (state_after_tick map frame state) arrivals are))
 
 -- nobody is joined at first
 pub opening_apart : (map : MapView) → AreClients (opening map).clients

@@ -1,14 +1,19 @@
 -- Lemmas on records by id, on moves, on journals and on frames.
+pub mod Players
+pub mod NewStates
 pub mod ById
+pub mod Scores
 pub mod OneMove
-pub mod Moves
 pub mod Placing
 pub mod Things
 pub mod Lifts
 pub mod Others
+pub mod Takes
+pub mod Moves
 pub mod Commands
 pub mod Small
 pub mod Short
 pub mod Reports
+pub mod Ticking
 pub mod Frames
 pub mod Clear

@@ -5,65 +5,32 @@ use Rattle.std.proofs.lemmas.Bool.{cases_eq}
 use Rattle.std.proofs.lemmas.List.{append-nil, append_assoc, length-set}
 use Rattle.std.proofs.lemmas.List.Elements.{All-head, All-tail}
 use Rattle.entity_recs.specs.declared.rec.Rec.{Rec}
-use Rattle.entity_recs.specs.declared.kind.Kind.{Kind}
-use Rattle.entity_recs.specs.declared.kind.Kind.TheVariants.{Player, Ammo, Gem, Teleporter, Goal, Lift}
-use Rattle.entity_recs.specs.Records.{IsIdOf}
+use Rattle.entity_recs.specs.declared.kind.Kind.TheVariants.{Player}
 use Rattle.entity_recs.specs.Commands.{Command}
 use Rattle.entity_recs.specs.Worlds.{World, others_of}
-use Rattle.entity_recs.specs.Histories.{apply, world_after}
-use Rattle.box_trace.specs.Walls.{have_walls_first, have_walls_more}
-use Rattle.arena_map.specs.Maps.{MapView, IsMap, solids_of}
+use Rattle.entity_recs.specs.Histories.{apply, world_after, with_new_state}
+use Rattle.arena_map.specs.Maps.{MapView, IsMap}
 use Rattle.arena_map.specs.Validity.{IsValidRecord, IsValidWorld}
+use Rattle.arena_actions.specs.Outcomes.{outcome_in}
 use Rattle.world_tree.specs.Live.{record_at}
 use Rattle.client_ports.proofs.Valid.{valid-with}
 use Rattle.plain_server.specs.RecordsById.{record_or_nobody, world_of, records_in}
-use Rattle.plain_server.specs.Outcomes.{outcome_in, solid_bodies, asked}
-use Rattle.plain_server.specs.Moving.{HasLivePlayer, effect_among, records_after, HaveMoved}
-use Rattle.plain_server.proofs.ById.{records_in-set, records_in-world_of, world_of-set}
-use Rattle.plain_server.proofs.OneMove.{valid_after_move}
-
--- the record of a live id
-pub record IsLiveRecord (records : List (Option Rec)) (id : ℕ) : Type 0 where
-  pub r : Rec
-  pub at : record_at records id ≡ Some r
-
-pub live_record : (records : List (Option Rec)) (id : ℕ) → IsSome (record_at records id) → IsLiveRecord records id
-live_record records id some = by (record_at records id) refl some
-  where
-    by : (o : Option Rec) → record_at records id ≡ o → IsSome o → IsLiveRecord records id
-    by None e h = cc
-    by (Some r) e h = record { r = r; at = e }
-
--- a live id is one of the places
-pub live_below : (records : List (Option Rec)) (id : ℕ) (r : Rec) → record_at records id ≡ Some r → id < length records
-live_below [] id r at = cc
-live_below (x ∷ records) zero r at = omega arith
-live_below (x ∷ records) (suc id) r at = let rest = live_below records id r at in omega (arith, rest)
-
--- an id below 64 is a player's
-kind_of_slot : (kind : Kind) (id : ℕ) → IsIdOf kind id → id < 64 → kind ≡ Player
-kind_of_slot Player id is below = refl
-kind_of_slot Ammo id is below = absurd (omega (arith, is.least, below))
-kind_of_slot Gem id is below = absurd (omega (arith, is.least, below))
-kind_of_slot Teleporter id is below = absurd (omega (arith, is.least, below))
-kind_of_slot Goal id is below = absurd (omega (arith, is.least, below))
-kind_of_slot Lift id is below = absurd (omega (arith, is.least, below))
-
--- the valid record of a slot is a player's
-pub slot_is_player : (map : MapView) (id : ℕ) (r : Rec) → IsValidRecord map id r → id < 64 → r.kind ≡ Player
-slot_is_player map id r valid below = kind_of_slot r.kind r.id valid.is_record.id (subst (λ (k : ℕ). k < 64) (sym valid.own_id) below)
+use Rattle.plain_server.specs.Moving.{HasLivePlayer, effect_among, with_new_states, records_after, HaveMoved}
+use Rattle.plain_server.proofs.NewStates.{same_id, still_at, live-restated, count-restated, records_in-restated, valid-restated}
+use Rattle.plain_server.proofs.ById.{records_in-set, records_in-world_of, world_of-with}
+use Rattle.plain_server.proofs.OneMove.{valid_after_command}
+use Rattle.plain_server.proofs.Players.{live_record, live_below, slot_is_player}
+use Rattle.plain_server.proofs.Takes.{of_items}
 
 -- after its move a live player's record is valid
 pub moved_is_valid : (map : MapView) (records : List (Option Rec)) (c : Command) (r : Rec) → IsMap map → IsValidWorld map records → c.slot < 64
     → record_at records c.slot ≡ Some r → IsValidRecord map c.slot (effect_among map records c).me
 moved_is_valid map records c r is_map valid below at =
     let here = valid.each c.slot r at in
-    let bodies = solid_bodies (others_of (world_of records) c.slot) in
-    let walls = have_walls_more map.bounds (solids_of map) bodies (have_walls_first map.bounds map.blocks) in
     let me : record_or_nobody (record_at records c.slot) ≡ r = ap record_or_nobody at in
     let valid_there : IsValidRecord map c.slot (record_or_nobody (record_at records c.slot)) = subst (IsValidRecord map c.slot) (sym me) here in
     let kind : (record_or_nobody (record_at records c.slot)).kind ≡ Player = ap (λ (s : Rec). s.kind) me ∙ slot_is_player map c.slot r here below in
-    valid_after_move map (solids_of map ++ bodies) c.slot (record_or_nobody (record_at records c.slot)) (asked c) c.seq is_map walls kind valid_there
+    valid_after_command map c.slot (record_or_nobody (record_at records c.slot)) (others_of (world_of records) c.slot) c is_map kind valid_there
 
 -- before the first command
 pub moved-none : (map : MapView) (records : List (Option Rec)) → IsValidWorld map records → HaveMoved map records records []
@@ -97,13 +64,18 @@ moved-more map old new commands c is_map has is =
     let e = effect_among map new c in
     let me = moved_is_valid map new c r is_map is.valid has.slot at in
     let own : e.me.id ≡ r.id = me.own_id ∙ sym (is.valid.each c.slot r at).own_id in
-    let step : world_of (records_after map new c) ≡ apply (outcome_in map) (world_of new) c = world_of-set new c.slot r e (live_below new c.slot r at) at own refl in
+    let ids = λ (id : ℕ) (x : Rec) (there : record_at new id ≡ Some x). (is.valid.each id x there).own_id in
+    let items = of_items map new c ids in
+    let states = with_new_states e.states new in
+    let was = still_at e.states new c.slot r at in
+    let same = own ∙ sym (same_id e.states r.id r) in
+    let step : world_of (records_after map new c) ≡ apply (outcome_in map) (world_of new) c = world_of-with new c.slot r e ids (live_below new c.slot r at) at own items in
     record {
       world = step ∙ ap (λ (w : World). apply (outcome_in map) w c) is.world ∙ sym (world_after-more map (world_of old) commands c);
-      given = λ w. records_in-set w new c.slot r e.me at own ∙ is.given w;
-      live = λ id. live-set new c.slot r e.me at id ∙ is.live id;
-      count = length-set new c.slot (Some e.me) ∙ is.count;
-      valid = valid-with map new c.slot e.me has.slot me is.valid;
+      given = λ w. records_in-set w states c.slot (with_new_state e.states r.id r) e.me was same ∙ records_in-restated w e.states new ∙ is.given w;
+      live = λ id. live-set states c.slot (with_new_state e.states r.id r) e.me was id ∙ live-restated e.states new id ∙ is.live id;
+      count = length-set states c.slot (Some e.me) ∙ count-restated e.states new ∙ is.count;
+      valid = valid-with map states c.slot e.me has.slot me (valid-restated map e.states new items is.valid);
     }
 
 -- what the commands leave are the new records

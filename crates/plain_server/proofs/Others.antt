@@ -2,7 +2,7 @@
 use Rattle.std.specs.Prelude.{◌≡◌, ℕ, zero, suc, ◌==◌, Bool, true, false, ◌&&◌, ◌||◌, not, int_le, List, [], ◌∷◌, filter, Option, Some, None, ◌≤ℤ◌}
 use Rattle.std.specs.Prelude.{map as map_list}
 use Rattle.std.specs.List.{AllByRecursion}
-use Rattle.std.proofs.Common.{refl, sym, ap, ◌∙◌, inl, inr, arith}
+use Rattle.std.proofs.Common.{refl, sym, ap, ◌∙◌, subst, inl, inr, arith}
 use Rattle.std.proofs.lemmas.Int.{ints}
 use Rattle.std.proofs.lemmas.Bool.{cases_Bool}
 use Rattle.arena_geo.specs.Bounds.{Bounds}
@@ -36,6 +36,13 @@ given_others f (r ∷ rs) slot given =
     let tail = given_others f rs slot given.1 in
     elim (cases_Bool (r.id == slot)) [ inl e ↦ rw e tail | inr e ↦ rw e (λ i. head i ∷ tail i) ]
 
+-- what holds of the records with other ids
+pub all_but : (P : Rec → Type 0) (slot : ℕ) (rs : List Rec) → AllByRecursion (λ r. (r.id == slot) ≡ false → P r) rs → AllByRecursion P (filter (λ (r : Rec). not (r.id == slot)) rs)
+all_but P slot [] all = tt
+all_but P slot (r ∷ rs) all =
+    let rest = all_but P slot rs all.1 in
+    elim (cases_Bool (r.id == slot)) [ inl e ↦ rw e rest | inr e ↦ rw e (all.0 e, rest) ]
+
 -- the other live records of a world are the live records with other ids
 pub others-are : (records : List (Option Rec)) (slot : ℕ) → ((id : ℕ) (r : Rec) → record_at records id ≡ Some r → r.id ≡ id)
     → others_of (world_of records) slot ≡ filter (λ (r : Rec). not (r.id == slot)) (live_in records)
@@ -43,6 +50,19 @@ others-are records slot own =
     given_others (world_of records).record_of (live_in records) slot
     (each_live (λ r. record_or_nobody (record_at records r.id) ≡ r) records
     (λ k r at. ap (λ (id : ℕ). record_or_nobody (record_at records id)) (own k r at) ∙ ap record_or_nobody at))
+
+-- a record is at the place of its id, which is another one
+pub record IsOther (records : List (Option Rec)) (slot : ℕ) (r : Rec) : Type 0 where
+  pub at : record_at records r.id ≡ Some r
+  pub apart : (r.id == slot) ≡ false
+
+-- so is each of the other live records of a world
+pub others_at : (records : List (Option Rec)) (slot : ℕ) → ((id : ℕ) (r : Rec) → record_at records id ≡ Some r → r.id ≡ id)
+    → AllByRecursion (IsOther records slot) (others_of (world_of records) slot)
+others_at records slot own =
+    subst (AllByRecursion (IsOther records slot)) (sym (others-are records slot own))
+    (all_but (IsOther records slot) slot (live_in records)
+    (each_live (λ r. (r.id == slot) ≡ false → IsOther records slot r) records (λ k r at apart. record { at = ap (record_at records) (own k r at) ∙ at; apart = apart })))
 
 -- where all records touch the region, those near it are those with other ids
 all_near : (region : List Bounds) (slot : ℕ) (rs : List Rec) → AllByRecursion (λ r. touches_region (abs_of r) region ≡ true) rs

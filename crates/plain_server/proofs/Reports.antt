@@ -1,12 +1,15 @@
 -- The entries of a right journal have their places, and are in range.
-use Rattle.std.specs.Prelude.{◌≡◌, ℕ, ◌+◌, List, [], ◌∷◌, All, Option}
+use Rattle.std.specs.Prelude.{◌≡◌, ℕ, ◌+◌, ◌<◌, ◌^◌, List, [], ◌∷◌, All, Option, Some}
 use Rattle.std.specs.Prelude.{map as map_list}
+use Rattle.std.specs.List.{AllByRecursion}
 use Rattle.std.proofs.Common.{refl, sym, ap, ◌∙◌, subst, arith}
 use Rattle.std.proofs.lemmas.List.Elements.{All-head, All-tail, All-weaker}
+use Rattle.arena_geo.specs.Vectors.{IsNear}
 use Rattle.entity_recs.specs.declared.rec.Rec.{Rec}
+use Rattle.entity_recs.specs.declared.effect.NewState.{NewState}
 use Rattle.entity_recs.specs.declared.effect.Entry.{Entry}
 use Rattle.entity_recs.specs.Commands.{Command}
-use Rattle.entity_recs.specs.Worlds.{World}
+use Rattle.entity_recs.specs.Worlds.{World, others_of}
 use Rattle.entity_recs.specs.Histories.{Item, apply, entry_of, outcome}
 use Rattle.move_journal.specs.Merges.{history_of}
 use Rattle.move_journal.proofs.Orders.{IsLegalFrom}
@@ -14,14 +17,29 @@ use Rattle.move_journal.proofs.Uniques.{first_entry, legal_after, legal_at_first
 use Rattle.move_journal.proofs.JournalLaws.{merges_have_whole_histories}
 use Rattle.arena_map.specs.Maps.{MapView, IsMap}
 use Rattle.arena_map.specs.Validity.{IsValidWorld}
+use Rattle.arena_actions.specs.Outcomes.{outcome_in}
+use Rattle.world_tree.specs.Live.{record_at}
+use Rattle.world_tree.proofs.Links.{id-below}
 use Rattle.client_ports.specs.Receiving.{Receiving}
-use Rattle.plain_server.specs.RecordsById.{world_of}
-use Rattle.plain_server.specs.Outcomes.{outcome_in}
+use Rattle.plain_server.specs.RecordsById.{record_or_nobody, world_of}
 use Rattle.plain_server.specs.Moving.{HasLivePlayer, HasSmallNumber, effect_among, records_after}
 use Rattle.plain_server.specs.Entries.{IsReported, AreReported, IsReception}
 use Rattle.plain_server.specs.Frames.{IsRightAfter}
-use Rattle.plain_server.proofs.Moves.{live_record, moved_is_valid, moved-none, moved-more, still-live}
+use Rattle.plain_server.proofs.Players.{live_record}
+use Rattle.plain_server.proofs.NewStates.{IsOfItem}
+use Rattle.plain_server.proofs.Takes.{of_items, few_got, got_are, reply_origin}
+use Rattle.plain_server.proofs.Moves.{moved_is_valid, moved-none, moved-more, still-live}
 use Rattle.plain_server.proofs.Commands.{history_has}
+
+-- the ids of items among records have 16 bits
+small_ids : (map : MapView) (records : List (Option Rec)) (states : List NewState) → IsValidWorld map records → All (IsOfItem records) states
+    → AllByRecursion (λ id. id < 2 ^ 16) (map_list (λ (s : NewState). s.id) states)
+small_ids map records [] valid items = tt
+small_ids map records (s ∷ states) valid items =
+    let item = All-head (IsOfItem records) s states items in
+    let here = valid.each s.id item.item item.at in
+    let below = id-below item.item here.is_record in
+    (omega (arith, below, here.own_id), small_ids map records states valid (All-tail (IsOfItem records) s states items))
 
 -- the entry of a live player's command is in range
 reported_one : (map : MapView) (records : List (Option Rec)) (place : ℕ) (c : Command) → IsMap map → IsValidWorld map records → HasLivePlayer records c → HasSmallNumber c
@@ -29,7 +47,19 @@ reported_one : (map : MapView) (records : List (Option Rec)) (place : ℕ) (c : 
 reported_one map records place c is_map valid has small =
     let found = live_record records c.slot has.live in
     let me = moved_is_valid map records c found.r is_map valid has.slot found.at in
-    record { place_is = refl; slot = has.slot; seq = small; origin = me.is_record.origin; got = record { few = omega arith; small = tt } }
+    let own = λ (id : ℕ) (r : Rec) (at : record_at records id ≡ Some r). (valid.each id r at).own_id in
+    let e = effect_among map records c in
+    let origin : e.reply.origin ≡ e.me.origin = reply_origin map (record_or_nobody (record_at records c.slot)) (others_of (world_of records) c.slot) c in
+    record {
+      place_is = refl;
+      slot = has.slot;
+      seq = small;
+      origin = subst (IsNear 1048576) (sym origin) me.is_record.origin;
+      got = record {
+        few = few_got map records c own;
+        small = subst (AllByRecursion (λ id. id < 2 ^ 16)) (sym (got_are map records c own)) (small_ids map records e.states valid (of_items map records c own));
+      };
+    }
 
 -- so are the entries of a legal history of such commands
 reported_items : (map : MapView) (w : World) (records : List (Option Rec)) (place : ℕ) (items : List Item) → IsMap map → IsValidWorld map records → w ≡ world_of records

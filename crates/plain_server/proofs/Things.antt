@@ -21,7 +21,7 @@ use Rattle.arena_map.proofs.ThingRecords.{corner, own-id}
 use Rattle.arena_map.proofs.Opening.{found-in}
 use Rattle.arena_map.proofs.Lifts.{lifts_stay_inside}
 use Rattle.world_tree.specs.Live.{record_at}
-use Rattle.plain_server.proofs.Moves.{slot_is_player}
+use Rattle.plain_server.proofs.Players.{slot_is_player}
 
 at_origin : (at : ℤ) → (at +ℤ pos 0) ≡ at
 at_origin at = omega (arith, ints)

@@ -1,18 +1,19 @@
 -- What holds of the plain server, after any frames.
-use Rattle.std.specs.Prelude.{◌≡◌, List, Option, All}
+use Rattle.std.specs.Prelude.{◌≡◌, ℕ, ◌+◌, ◌<◌, ◌≤◌, List, Option, Some, IsSome, All}
 use Rattle.entity_recs.specs.declared.rec.Rec.{Rec}
 use Rattle.entity_recs.specs.declared.effect.Entry.{Entry}
 use Rattle.entity_recs.specs.Commands.{Command}
 use Rattle.entity_recs.specs.Histories.{world_after}
-use Rattle.arena_map.specs.Maps.{MapView, IsMap}
+use Rattle.arena_map.specs.Maps.{MapView, IsMap, delay_of}
 use Rattle.arena_map.specs.Validity.{IsValidWorld, AreClear}
+use Rattle.arena_actions.specs.Outcomes.{outcome_in}
 use Rattle.client_ports.specs.declared.arrival.Arrival.{Arrival}
 use Rattle.client_ports.specs.Clients.{AreClients}
 use Rattle.client_ports.specs.States.{IsServerState}
 use Rattle.plain_server.specs.RecordsById.{world_of, records_in, opening}
-use Rattle.plain_server.specs.Outcomes.{outcome_in}
 use Rattle.plain_server.specs.Moving.{HasLivePlayer}
 use Rattle.plain_server.specs.Frames.{AreRight, AreInOrder, journals_of, state_played}
+use Rattle.plain_server.specs.Takers.{HasTakenIn, IsSameEntry}
 
 -- moves of live players, in whatever order they run, keep a valid world valid
 abbrev pub MovesKeepWorldsValid : Type 0
@@ -35,8 +36,7 @@ PortsStayApart =
     → AreClients (state_played map 0 (opening map) frames journals).clients
 
 -- after any frames, with whatever journals, no player's body overlaps a wall or a block, and no bodies of two live
--- solids
--- overlap
+-- solids overlap
 abbrev pub PlayersKeepRoom : Type 0
 PlayersKeepRoom =
     (map : MapView) (frames : List (List Arrival)) (journals : List (List Entry)) → IsMap map
@@ -55,3 +55,28 @@ OrderLeavesOneJournalEach =
     (map : MapView) (frames : List (List Arrival)) (journals : List (List Entry))
     → AreRight map 0 (opening map) frames journals
     → AreInOrder map 0 (opening map) frames journals → journals ≡ journals_of map 0 (opening map) frames
+
+-- in right journals each id that an entry got is that of an item of the map
+abbrev pub OnlyItemsAreTaken : Type 0
+OnlyItemsAreTaken =
+    (map : MapView) (frames : List (List Arrival)) (journals : List (List Entry)) → IsMap map
+    → AreRight map 0 (opening map) frames journals
+    → (frame place id : ℕ) → HasTakenIn journals frame place id → IsSome (delay_of map id)
+
+-- in a frame at most one entry takes an item
+abbrev pub ItemsHaveOneTaker : Type 0
+ItemsHaveOneTaker =
+    (map : MapView) (frames : List (List Arrival)) (journals : List (List Entry)) → IsMap map
+    → AreRight map 0 (opening map) frames journals
+    → (frame place other id : ℕ) → HasTakenIn journals frame place id → HasTakenIn journals frame other id
+    → other ≡ place
+
+-- an item that an entry took stays away for its delay: in the frames from that one on, as many as the delay says, no
+-- other entry takes it
+abbrev pub TakenItemsStayAway : Type 0
+TakenItemsStayAway =
+    (map : MapView) (frames : List (List Arrival)) (journals : List (List Entry)) → IsMap map
+    → AreRight map 0 (opening map) frames journals
+    → (frame place later other id delay : ℕ) → delay_of map id ≡ Some delay
+    → HasTakenIn journals frame place id → HasTakenIn journals later other id
+    → frame ≤ later → later < frame + delay → IsSameEntry frame place later other

@@ -1,4 +1,4 @@
-ghost use Rattle.plain_server.specs.Laws.{MovesKeepWorldsValid, WorldsStayValid, PortsStayApart, PlayersKeepRoom, JournalsAreRightInOrder, OrderLeavesOneJournalEach};
+ghost use Rattle.plain_server.specs.Laws.{MovesKeepWorldsValid, WorldsStayValid, PortsStayApart, PlayersKeepRoom, JournalsAreRightInOrder, OrderLeavesOneJournalEach, OnlyItemsAreTaken, ItemsHaveOneTaker, TakenItemsStayAway};
 
 /// Moves of live players, in whatever order they run, keep a valid world valid.
 pub fn moves_keep_worlds_valid()
@@ -29,4 +29,20 @@ pub fn journals_are_right_in_order()
 /// Right journals that have the moves in the order of arrival are those that running them in that order gives.
 pub fn order_leaves_one_journal_each()
     ensures { OrderLeavesOneJournalEach }
+{}
+
+/// In right journals of any frames, each id that an entry got is that of an item of the map.
+pub fn only_items_are_taken()
+    ensures { OnlyItemsAreTaken }
+{}
+
+/// In right journals of any frames, at most one entry of a frame takes an item.
+pub fn items_have_one_taker()
+    ensures { ItemsHaveOneTaker }
+{}
+
+/// In right journals of any frames, an item that an entry took stays away for its delay: in as many frames as the delay says,
+/// from that one on, no other entry takes it.
+pub fn taken_items_stay_away()
+    ensures { TakenItemsStayAway }
 {}

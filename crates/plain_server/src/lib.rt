@@ -2,8 +2,9 @@
 #![tactic(auto)]
 
 pub use laws::{
-    journals_are_right_in_order, moves_keep_worlds_valid, order_leaves_one_journal_each,
-    players_keep_room, ports_stay_apart, worlds_stay_valid,
+    items_have_one_taker, journals_are_right_in_order, moves_keep_worlds_valid,
+    only_items_are_taken, order_leaves_one_journal_each, players_keep_room, ports_stay_apart,
+    taken_items_stay_away, worlds_stay_valid,
 };
 
 mod laws;

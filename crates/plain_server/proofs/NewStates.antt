@@ -1,0 +1,278 @@
+-- Records by id with new states: each record is the one it was, but for its state, and the same ids are live.
+use Rattle.std.proofs.Common.{◌≡◌, ◌≢◌, ℕ, zero, suc, ◌==◌, Bool, true, false, List, [], ◌∷◌, ◌++◌, length, Option, Some, None, is_some, slice_set, if◌then◌else◌, inl, inr, refl, sym, ap, ◌∙◌, subst, arith}
+use Rattle.std.specs.Prelude.{All}
+use Rattle.std.specs.Prelude.{map as map_list}
+use Rattle.std.specs.List.{find}
+use Rattle.std.specs.Option.{option_map}
+use Rattle.std.proofs.lemmas.Bool.{cases_Bool, cases_eq, eq-eqb, ne_eqb, eqb-true, cond-true, cond-false}
+use Rattle.std.proofs.lemmas.List.{length-map}
+use Rattle.std.proofs.lemmas.List.Elements.{All-head, All-tail}
+use Rattle.std.proofs.lemmas.Option.{same_Some, none-some}
+use Rattle.arena_geo.specs.Boxes.{overlaps, is_blocked}
+use Rattle.entity_recs.specs.declared.effect.NewState.{NewState}
+use Rattle.entity_recs.specs.declared.kind.Kind.{Kind}
+use Rattle.entity_recs.specs.declared.kind.Kind.TheVariants.{Player, Ammo, Gem, Teleporter, Goal, Lift}
+use Rattle.entity_recs.specs.declared.rec.Rec.{Rec}
+use Rattle.entity_recs.specs.Bodies.{body_of}
+use Rattle.entity_recs.specs.Kinds.{is_solid}
+use Rattle.entity_recs.specs.Records.{IsRecord, IsStateOf, with_state}
+use Rattle.entity_recs.specs.Worlds.{World}
+use Rattle.entity_recs.specs.Histories.{with_new_state}
+use Rattle.item_rules.specs.Items.{is_item}
+use Rattle.arena_map.specs.declared.lift.Lift as lifts
+use Rattle.arena_map.specs.Maps.{MapView, entities_of, lift_of, solids_of}
+use Rattle.arena_map.specs.Validity.{IsSameThing, IsSameLift, IsAsItsLine, IsThing, IsValidRecord, IsValidWorld, AreClear}
+use Rattle.world_tree.specs.Live.{record_at, ids_of}
+use Rattle.plain_server.specs.RecordsById.{records_in}
+use Rattle.plain_server.specs.Moving.{with_new_states}
+
+-- ---- one record
+
+-- the record is another one in another state
+pub record IsRestated (before after : Rec) : Type 0 where
+  pub state : ℕ
+  pub is : after ≡ with_state before state
+
+-- a record with its new state, if it has one
+pub restated : (states : List NewState) (id : ℕ) (r : Rec) → IsRestated r (with_new_state states id r)
+restated [] id r = record { state = r.state; is = refl }
+restated (s ∷ states) id r = elim (cases_Bool (s.id == id)) [
+  | inl e ↦ record { state = s.state; is = rw e refl }
+  | inr e ↦ let rest = restated states id r in record { state = rest.state; is = rw e rest.is }
+]
+
+-- it keeps its id, its kind and its body
+pub same_id : (states : List NewState) (id : ℕ) (r : Rec) → (with_new_state states id r).id ≡ r.id
+same_id states id r = ap (λ (x : Rec). x.id) (restated states id r).is
+
+pub same_kind : (states : List NewState) (id : ℕ) (r : Rec) → (with_new_state states id r).kind ≡ r.kind
+same_kind states id r = ap (λ (x : Rec). x.kind) (restated states id r).is
+
+pub same_body : (states : List NewState) (id : ℕ) (r : Rec) → body_of (with_new_state states id r) ≡ body_of r
+same_body states id r = ap body_of (restated states id r).is
+
+-- ---- all of them
+
+-- the record of a place
+pub record_at-restated : (states : List NewState) (records : List (Option Rec)) (id : ℕ)
+    → record_at (with_new_states states records) id ≡ option_map (λ (r : Rec). with_new_state states r.id r) (record_at records id)
+record_at-restated states [] id = cc
+record_at-restated states (x ∷ records) zero = refl
+record_at-restated states (x ∷ records) (suc id) = record_at-restated states records id
+
+-- the record that a place had before its new state
+pub record WasAt (states : List NewState) (records : List (Option Rec)) (id : ℕ) (r : Rec) : Type 0 where
+  pub was : Rec
+  pub at : record_at records id ≡ Some was
+  pub is : with_new_state states was.id was ≡ r
+
+pub was_at : (states : List NewState) (records : List (Option Rec)) (id : ℕ) (r : Rec) → record_at (with_new_states states records) id ≡ Some r → WasAt states records id r
+was_at states records id r at = by (record_at records id) refl (sym (record_at-restated states records id) ∙ at)
+  where
+    by : (o : Option Rec) → record_at records id ≡ o → option_map (λ (x : Rec). with_new_state states x.id x) o ≡ Some r → WasAt states records id r
+    by None e h = absurd (none-some r h)
+    by (Some x) e h = record { was = x; at = e; is = same_Some (with_new_state states x.id x) r h }
+
+-- a live record with its new state
+pub still_at : (states : List NewState) (records : List (Option Rec)) (id : ℕ) (r : Rec) → record_at records id ≡ Some r
+    → record_at (with_new_states states records) id ≡ Some (with_new_state states r.id r)
+still_at states records id r at = record_at-restated states records id ∙ ap (option_map (λ (x : Rec). with_new_state states x.id x)) at
+
+is_some-map : (o : Option Rec) (f : Rec → Rec) → is_some (option_map f o) ≡ is_some o
+is_some-map None f = refl
+is_some-map (Some r) f = refl
+
+-- the same ids are live
+pub live-restated : (states : List NewState) (records : List (Option Rec)) (id : ℕ) → is_some (record_at (with_new_states states records) id) ≡ is_some (record_at records id)
+live-restated states records id = ap is_some (record_at-restated states records id) ∙ is_some-map (record_at records id) (λ (r : Rec). with_new_state states r.id r)
+
+-- there are as many places
+pub count-restated : (states : List NewState) (records : List (Option Rec)) → length (with_new_states states records) ≡ length records
+count-restated states records = length-map records (option_map (λ (r : Rec). with_new_state states r.id r))
+
+pub ids-restated : (states : List NewState) (records : List (Option Rec)) → ids_of (with_new_states states records) ≡ ids_of records
+ids-restated states [] = refl
+ids-restated states (None ∷ records) = ids-restated states records
+ids-restated states (Some r ∷ records) =
+    let head = same_id states r.id r in
+    let tail = ids-restated states records in
+    λ i. head i ∷ tail i
+
+-- what any world gives for the live records is as before
+pub records_in-restated : (w : World) (states : List NewState) (records : List (Option Rec)) → records_in w (with_new_states states records) ≡ records_in w records
+records_in-restated w states [] = refl
+records_in-restated w states (None ∷ records) = ap (λ (rs : List (Option Rec)). None ∷ rs) (records_in-restated w states records)
+records_in-restated w states (Some r ∷ records) =
+    let head = same_id states r.id r in
+    let tail = records_in-restated w states records in
+    λ i. Some (w.record_of (head i)) ∷ tail i
+
+-- ---- the world stays valid
+
+-- the new state is that of an item among the records
+pub record IsOfItem (records : List (Option Rec)) (s : NewState) : Type 0 where
+  pub item : Rec
+  pub at : record_at records s.id ≡ Some item
+  pub kind : is_item item.kind ≡ true
+
+item_state : (kind : Kind) (state : ℕ) → is_item kind ≡ true → IsStateOf kind state
+item_state Ammo state item = tt
+item_state Gem state item = tt
+item_state kind state item = cc
+
+-- a new state is one of its record's kind
+pub state_fits : (records : List (Option Rec)) (states : List NewState) (id : ℕ) (r : Rec) → record_at records id ≡ Some r → All (IsOfItem records) states → IsStateOf r.kind r.state
+    → IsStateOf r.kind (with_new_state states id r).state
+state_fits records [] id r at items is = is
+state_fits records (s ∷ states) id r at items is =
+    let rest = state_fits records states id r at (All-tail (IsOfItem records) s states items) is in
+    elim (cases_Bool (s.id == id)) [
+      | inl e ↦
+          let item = All-head (IsOfItem records) s states items in
+          let same : item.item ≡ r = same_Some item.item r (sym item.at ∙ ap (record_at records) (eqb-true s.id id e) ∙ at) in
+          rw e (item_state r.kind s.state (ap (λ (x : Rec). is_item x.kind) (sym same) ∙ item.kind))
+      | inr e ↦ rw e rest
+    ]
+
+-- a record in another state that fits its kind is as valid
+restated_is_valid : (map : MapView) (id : ℕ) (r : Rec) (state : ℕ) → IsStateOf r.kind state → IsValidRecord map id r → IsValidRecord map id (with_state r state)
+restated_is_valid map id r state fits valid = record {
+  is_record = record {
+    id = valid.is_record.id;
+    origin = valid.is_record.origin;
+    shape = valid.is_record.shape;
+    vel = valid.is_record.vel;
+    flags = valid.is_record.flags;
+    ammo = valid.is_record.ammo;
+    carry = valid.is_record.carry;
+  };
+  own_id = valid.own_id;
+  state = fits;
+  inside = valid.inside;
+}
+
+-- and as its line says, where it was
+line-restated : (lift : Option lifts.Lift) (thing r : Rec) (state : ℕ) → IsAsItsLine lift thing r → IsAsItsLine lift thing (with_state r state)
+line-restated None thing r state same = record { kind = same.kind; origin = same.origin; mins = same.mins; maxs = same.maxs }
+line-restated (Some lift) thing r state same =
+    record { kind = same.kind; x = same.x; y = same.y; low = same.low; high = same.high; mins = same.mins; maxs = same.maxs }
+
+thing-restated : (map : MapView) (states : List NewState) (thing place : Option Rec) → IsThing map thing place → IsThing map thing (option_map (λ (r : Rec). with_new_state states r.id r) place)
+thing-restated map states None None is = is
+thing-restated map states None (Some r) is = is
+thing-restated map states (Some thing) None is = is
+thing-restated map states (Some thing) (Some r) is =
+    let after = restated states r.id r in
+    subst (IsAsItsLine (lift_of map thing.id) thing) (sym after.is) (line-restated (lift_of map thing.id) thing r after.state is)
+
+-- with new states of items a valid world is valid
+pub valid-restated : (map : MapView) (states : List NewState) (records : List (Option Rec)) → All (IsOfItem records) states → IsValidWorld map records → IsValidWorld map (with_new_states states records)
+valid-restated map states records items valid = record {
+  each = λ id r at.
+      let before = was_at states records id r at in
+      let was = before.was in
+      let here = valid.each id was before.at in
+      let after = restated states was.id was in
+      let fits : IsStateOf was.kind (with_new_state states was.id was).state =
+      state_fits records states was.id was (ap (record_at records) here.own_id ∙ before.at) items here.state in
+      let state : (with_new_state states was.id was).state ≡ after.state = ap (λ (x : Rec). x.state) after.is in
+      subst (IsValidRecord map id) (sym after.is ∙ before.is) (restated_is_valid map id was after.state (subst (IsStateOf was.kind) state fits) here);
+  things = λ id from.
+      subst (IsThing map (find (λ thing. thing.id == id) (entities_of map))) (sym (record_at-restated states records id))
+      (thing-restated map states (find (λ thing. thing.id == id) (entities_of map)) (record_at records id) (valid.things id from));
+}
+
+-- and bodies are as clear as they were
+pub clear-restated : (map : MapView) (states : List NewState) (records : List (Option Rec)) → AreClear map records → AreClear map (with_new_states states records)
+clear-restated map states records clear = record {
+  of_the_map = λ id r at kind.
+      let before = was_at states records id r at in
+      let was = before.was in
+      let own : was.kind ≡ Player = sym (same_kind states was.id was) ∙ ap (λ (x : Rec). x.kind) before.is ∙ kind in
+      let body : body_of was ≡ body_of r = sym (same_body states was.id was) ∙ ap body_of before.is in
+      ap (λ b. is_blocked b (solids_of map)) (sym body) ∙ clear.of_the_map id was before.at own;
+  of_each_other = λ i j r s at_i at_j solid_r solid_s differ.
+      let one = was_at states records i r at_i in
+      let other = was_at states records j s at_j in
+      let kind_one : one.was.kind ≡ r.kind = sym (same_kind states one.was.id one.was) ∙ ap (λ (x : Rec). x.kind) one.is in
+      let kind_other : other.was.kind ≡ s.kind = sym (same_kind states other.was.id other.was) ∙ ap (λ (x : Rec). x.kind) other.is in
+      let body_one : body_of one.was ≡ body_of r = sym (same_body states one.was.id one.was) ∙ ap body_of one.is in
+      let body_other : body_of other.was ≡ body_of s = sym (same_body states other.was.id other.was) ∙ ap body_of other.is in
+      ap (λ b. overlaps b (body_of s)) (sym body_one)
+      ∙ ap (overlaps (body_of one.was)) (sym body_other)
+      ∙ clear.of_each_other i j one.was other.was one.at other.at (ap is_solid kind_one ∙ solid_r) (ap is_solid kind_other ∙ solid_s) differ;
+}
+
+-- ---- one state after another
+
+-- a change of one record, where the others change as before, is that record put in
+changed_one : (f g : Rec → Rec) (records : List (Option Rec)) (place : ℕ) (r : Rec) → record_at records place ≡ Some r
+    → ((i : ℕ) (x : Rec) → record_at records i ≡ Some x → i ≢ place → f x ≡ g x)
+    → map_list (option_map g) records ≡ slice_set (map_list (option_map f) records) place (Some (g r))
+changed_one f g [] place r at others = cc
+changed_one f g (None ∷ records) zero r at others = cc
+changed_one f g (Some x ∷ records) zero r at others =
+    let head = ap g (same_Some x r at) in
+    let tail = unchanged f g records (λ i y here. others (suc i) y here (λ same. suc_zero i same)) in
+    λ i. Some (head i) ∷ tail i
+  where
+    suc_zero : (i : ℕ) → suc i ≡ zero → ⊥
+    suc_zero i same = absurd (omega (arith, same))
+
+    unchanged : (f g : Rec → Rec) (records : List (Option Rec)) → ((i : ℕ) (x : Rec) → record_at records i ≡ Some x → f x ≡ g x)
+        → map_list (option_map g) records ≡ map_list (option_map f) records
+    unchanged f g [] same = refl
+    unchanged f g (None ∷ records) same = ap (λ (rs : List (Option Rec)). None ∷ rs) (unchanged f g records (λ i y here. same (suc i) y here))
+    unchanged f g (Some y ∷ records) same =
+        let first = sym (same zero y refl) in
+        let later = unchanged f g records (λ i z here. same (suc i) z here) in
+        λ i. Some (first i) ∷ later i
+changed_one f g (None ∷ records) (suc place) r at others =
+    ap (λ (rs : List (Option Rec)). None ∷ rs) (changed_one f g records place r at (λ i x here apart. others (suc i) x here (λ same. apart (omega (arith, same)))))
+changed_one f g (Some y ∷ records) (suc place) r at others =
+    let head = sym (others zero y refl (λ same. zero_suc place same)) in
+    let tail = changed_one f g records place r at (λ i x here apart. others (suc i) x here (λ same. apart (omega (arith, same)))) in
+    λ i. Some (head i) ∷ tail i
+  where
+    zero_suc : (i : ℕ) → zero ≡ suc i → ⊥
+    zero_suc i same = absurd (omega (arith, same))
+
+-- a record with the states of a list and one more
+new_state-other : (states : List NewState) (s : NewState) (id : ℕ) (r : Rec) → s.id ≢ id → with_new_state (states ++ s ∷ []) id r ≡ with_new_state states id r
+new_state-other [] s id r apart = rw (ne_eqb s.id id apart) refl
+new_state-other (t ∷ states) s id r apart =
+    let rest = new_state-other states s id r apart in
+    elim (cases_Bool (t.id == id)) [ inl e ↦ rw e refl | inr e ↦ rw e rest ]
+
+-- none of the new states is that of this id
+abbrev pub Lacks : List NewState → ℕ → Type 0
+Lacks states id = All (λ (s : NewState). s.id ≢ id) states
+
+pub new_state-lacks : (states : List NewState) (id : ℕ) (r : Rec) → Lacks states id → with_new_state states id r ≡ r
+new_state-lacks [] id r lacks = refl
+new_state-lacks (s ∷ states) id r lacks =
+    let head = ne_eqb s.id id (All-head (λ (t : NewState). t.id ≢ id) s states lacks) in
+    rw head (new_state-lacks states id r (All-tail (λ (t : NewState). t.id ≢ id) s states lacks))
+
+new_state-last : (states : List NewState) (s : NewState) (id : ℕ) (r : Rec) → Lacks states id → s.id ≡ id → with_new_state (states ++ s ∷ []) id r ≡ with_state r s.state
+new_state-last [] s id r lacks same = rw (eq-eqb s.id id same) refl
+new_state-last (t ∷ states) s id r lacks same =
+    let head = ne_eqb t.id id (All-head (λ (u : NewState). u.id ≢ id) t states lacks) in
+    rw head (new_state-last states s id r (All-tail (λ (u : NewState). u.id ≢ id) t states lacks) same)
+
+-- one new state more, of a live record that has none yet, is that record put in with it
+pub new_states-push : (states : List NewState) (s : NewState) (records : List (Option Rec)) (r : Rec) → ((id : ℕ) (x : Rec) → record_at records id ≡ Some x → x.id ≡ id)
+    → Lacks states s.id → record_at records s.id ≡ Some r
+    → with_new_states (states ++ s ∷ []) records ≡ slice_set (with_new_states states records) s.id (Some (with_state r s.state))
+new_states-push states s records r own lacks at =
+    changed_one (λ x. with_new_state states x.id x) (λ x. with_new_state (states ++ s ∷ []) x.id x) records s.id r at
+    (λ i x here apart. sym (new_state-other states s x.id x (λ same. apart (sym (own i x here) ∙ sym same))))
+    ∙ ap (λ (x : Rec). slice_set (with_new_states states records) s.id (Some x))
+    (ap (λ (id : ℕ). with_new_state (states ++ s ∷ []) id r) (own s.id r at) ∙ new_state-last states s s.id r lacks refl)
+
+-- and that record is, before it, as it was
+pub new_states-before : (states : List NewState) (s : NewState) (records : List (Option Rec)) (r : Rec) → ((id : ℕ) (x : Rec) → record_at records id ≡ Some x → x.id ≡ id)
+    → Lacks states s.id → record_at records s.id ≡ Some r → record_at (with_new_states states records) s.id ≡ Some r
+new_states-before states s records r own lacks at =
+    still_at states records s.id r at
+    ∙ ap Some (ap (λ (id : ℕ). with_new_state states id r) (own s.id r at) ∙ new_state-lacks states s.id r lacks)

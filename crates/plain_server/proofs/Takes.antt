@@ -1,0 +1,78 @@
+-- What a live player's command takes: items that are there.
+use Rattle.std.proofs.Common.{◌≡◌, ◌≢◌, ℕ, ◌+◌, ◌≤◌, ◌==◌, true, false, List, [], ◌∷◌, length, Option, Some, None, refl, sym, ap, ◌∙◌, subst}
+use Rattle.std.specs.Prelude.{All, Contains}
+use Rattle.std.specs.Prelude.{map as map_list}
+use Rattle.std.proofs.lemmas.List.Elements.{All-contains, All-from_recursion, All-weaker}
+use Rattle.entity_recs.specs.declared.effect.NewState.{NewState}
+use Rattle.entity_recs.specs.declared.rec.Rec.{Rec}
+use Rattle.entity_recs.specs.Commands.{Command}
+use Rattle.entity_recs.specs.Worlds.{others_of}
+use Rattle.item_rules.specs.Items.{is_item}
+use Rattle.arena_map.specs.Maps.{MapView, delay_of}
+use Rattle.trigger_rules.specs.Laws.{IsTaken, AreTaken}
+use Rattle.trigger_rules.proofs.Taken.{were_there}
+use Rattle.arena_actions.specs.Outcomes.{moved_among, outcome_in}
+use Rattle.world_tree.specs.Live.{record_at}
+use Rattle.plain_server.specs.RecordsById.{record_or_nobody, world_of}
+use Rattle.plain_server.specs.Moving.{effect_among}
+use Rattle.plain_server.proofs.NewStates.{IsOfItem}
+use Rattle.plain_server.proofs.Others.{IsOther, others_at}
+
+-- the new states of an outcome are those of items that were there, and the ids in its reply are theirs
+pub outcome_takes : (map : MapView) (me : Rec) (near : List Rec) (c : Command)
+    → AreTaken map c.frame (moved_among map me near c) near (outcome_in map me near c).states (outcome_in map me near c).reply.got
+unfolding outcome_in
+outcome_takes map me near c = were_there map c.frame (moved_among map me near c) near
+
+-- the new state is that of an item among the records: the item was there, and returns after its delay
+pub record IsTakenIn (map : MapView) (records : List (Option Rec)) (frame : ℕ) (s : NewState) : Type 0 where
+  pub item : Rec
+  pub at : record_at records s.id ≡ Some item
+  pub kind : is_item item.kind ≡ true
+  pub there : item.state ≡ 0
+  pub delay : ℕ
+  pub delay_is : delay_of map s.id ≡ Some delay
+  pub state : s.state ≡ frame + delay
+
+module _ (map : MapView) (records : List (Option Rec)) (c : Command) (own : (id : ℕ) (r : Rec) → record_at records id ≡ Some r → r.id ≡ id) where
+  abbrev others : List Rec
+  others = others_of (world_of records) c.slot
+
+  abbrev me : Rec
+  me = record_or_nobody (record_at records c.slot)
+
+  one : (s : NewState) → IsTaken map c.frame (moved_among map me others c) others s → IsTakenIn map records c.frame s
+  one s t =
+      let here = All-contains (IsOther records c.slot) others t.item (All-from_recursion (IsOther records c.slot) others (others_at records c.slot own)) t.listed in
+      record {
+        item = t.item;
+        at = ap (record_at records) (sym t.own) ∙ here.at;
+        kind = t.kind;
+        there = t.there;
+        delay = t.delay;
+        delay_is = ap (delay_of map) (sym t.own) ∙ t.delay_is;
+        state = t.state;
+      }
+
+  -- each new state of a command is such a one
+  pub taken_in : All (IsTakenIn map records c.frame) (effect_among map records c).states
+  taken_in =
+      All-weaker (IsTaken map c.frame (moved_among map me others c) others) (IsTakenIn map records c.frame) one (effect_among map records c).states (outcome_takes map me others c).each
+
+  -- and that of an item
+  pub of_items : All (IsOfItem records) (effect_among map records c).states
+  of_items =
+      All-weaker (IsTakenIn map records c.frame) (IsOfItem records) (λ s t. record { item = t.item; at = t.at; kind = t.kind }) (effect_among map records c).states taken_in
+
+  -- the ids in its reply are at most 8
+  pub few_got : length (effect_among map records c).reply.got ≤ 8
+  few_got = (outcome_takes map me others c).few
+
+  -- the ids in its reply are those of the new states
+  pub got_are : (effect_among map records c).reply.got ≡ map_list (λ (s : NewState). s.id) (effect_among map records c).states
+  got_are = (outcome_takes map me others c).got_are
+
+-- the reply of an outcome has the player's new origin
+pub reply_origin : (map : MapView) (me : Rec) (near : List Rec) (c : Command) → (outcome_in map me near c).reply.origin ≡ (outcome_in map me near c).me.origin
+unfolding outcome_in
+reply_origin map me near c = refl

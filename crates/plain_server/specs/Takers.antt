@@ -1,0 +1,20 @@
+-- Who took an item: the entries of journals that have its id.
+use Rattle.std.specs.Prelude.{◌≡◌, ℕ, List, Some, Contains, slice_get}
+use Rattle.entity_recs.specs.declared.effect.Entry.{Entry}
+
+-- the entry at this place in a journal took the item with this id
+pub record HasTaken (journal : List Entry) (place id : ℕ) : Type 0 where
+  pub entry : Entry
+  pub in_place : slice_get journal place ≡ Some entry
+  pub got : Contains entry.reply.got id
+
+-- the entry at this place in the journal of the frame with this number took the item with this id
+pub record HasTakenIn (journals : List (List Entry)) (frame place id : ℕ) : Type 0 where
+  pub journal : List Entry
+  pub of_frame : slice_get journals frame ≡ Some journal
+  pub taken : HasTaken journal place id
+
+-- two entries are one: they have one place in one frame
+pub record IsSameEntry (frame place later other : ℕ) : Type 0 where
+  pub frame_is : later ≡ frame
+  pub place_is : other ≡ place

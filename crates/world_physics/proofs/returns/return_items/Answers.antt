@@ -1,0 +1,20 @@
+use Rattle.std.proofs.Common.{◌+◌, refl, ◌∙◌, arith, ap, subst, sym}
+use Rattle.world_physics.specs.Returns.{returned, changed_at}
+use Rattle.world_physics.proofs.Changes.{IsChangedBelow, changed_none, changed_more, changed_all}
+use Rattle.world_physics.proofs.Returning.{none_past}
+use Rattle.world_physics.proofs.returns.return_items.Goals as goal
+
+pub loop-id-init : goal.loop-id-init
+loop-id-init c = (changed_none (returned c.args.frame) c.args.world.now.records, refl)
+
+pub loop-id-preserved : goal.loop-id-preserved
+loop-id-preserved c = (
+  subst (IsChangedBelow (returned c.args.frame) (c.loop-id.id + 1) c.args.world.now.records) (sym c.return_item.ensures.records)
+      (changed_more (returned c.args.frame) c.loop-id.id (c.loop-id.id + 1) c.args.world.now.records c.loop-id.world.records refl c.loop-id.invariant.0),
+  c.return_item.ensures.tree ∙ c.loop-id.invariant.1,
+)
+
+pub returns-clause-records : goal.returns-clause-records
+returns-clause-records c =
+    changed_all (returned c.args.frame) c.loop-id.id c.args.world.now.records c.loop-id.world.records c.loop-id.invariant.0
+    (λ k r past at. absurd (none_past c.args.world.now.records k r (omega (arith, past, c.tree-tree.ensures.linked.places)) at))

@@ -1,0 +1,39 @@
+ghost use Rattle.std.specs.Prelude.{◌≡◌, ◌<◌, ℕ, true, Some, slice_set};
+ghost use Rattle.std.specs.Option.{option_map};
+ghost use Rattle.entity_recs.specs.declared.rec.Rec.{Rec};
+ghost use Rattle.entity_recs.specs.Records.{IsRecord};
+ghost use Rattle.world_tree.specs.Live.{record_at};
+ghost use Rattle.world_physics.specs.Returns.{each_changed, changed_at};
+ghost use Rattle.world_physics.specs.LiftSteps.{IsStep, HasRoom, carried_along};
+
+use crate::lift_step::{LiftStep, raised};
+use crate::pressing::SLOTS;
+use world_tree::World;
+
+/// Moves the player in this slot with the lift, if the step carries it.
+fn carry_slot(world: &mut World, step: &LiftStep, slot: u16)
+    requires step { IsStep step.now }
+    requires room { HasRoom step.now world.old.records slot }
+    requires slot { slot < SLOTS }
+    ensures records { world.new.records ≡ changed_at (carried_along step.now) world.old.records slot }
+    ensures tree { world.new.tree ≡ world.old.tree }
+{
+    if let Some(r) = world.get(slot) {
+        if step.carries(&r) {
+            world.relink(raised(&r, step.up));
+        }
+    }
+}
+
+/// Moves the players that the step carries, each by its z alone. Those moved are within the bounds of records.
+pub fn carry(world: &mut World, step: &LiftStep)
+    requires step { IsStep step.now }
+    requires room { (slot : ℕ) → HasRoom step.now world.old.records slot }
+    ensures records { world.new.records ≡ each_changed (carried_along step.now) world.old.records }
+    ensures tree { world.new.tree ≡ world.old.tree }
+{
+    let _tree = world.tree();
+    for slot in 0..SLOTS {
+        carry_slot(world, step, slot);
+    }
+}
