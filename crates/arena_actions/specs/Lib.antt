@@ -9,3 +9,5 @@ pub use Rattle.entity_recs.specs.Histories
 pub use Rattle.arena_map.specs.Maps
 pub use Rattle.trigger_rules.specs.Touching
 pub mod Outcomes
+pub mod Props
+pub mod Laws

@@ -1,2 +1,15 @@
 //! The arena's action: what a command does to its player, and to what the player touches.
 #![tactic(auto)]
+
+pub use arena_action::ArenaAction;
+pub use laws::{
+    moves_keep_who_moves, moves_take_what_is_there, new_states_are_apart, players_stay_free,
+    players_stay_on_maps, replied_ids_rise, replies_have_the_origin,
+};
+
+mod arena_action;
+mod boxes;
+mod laws;
+mod looking;
+mod moving;
+mod reaching;

@@ -1,0 +1,5 @@
+use Rattle.arena_actions.proofs.Moves.{replied_rise}
+use Rattle.arena_actions.proofs.laws.replied_ids_rise.Goals as goal
+
+pub returns : goal.returns
+returns c = replied_rise

@@ -1,0 +1,64 @@
+-- What holds of every move in an arena.
+use Rattle.std.specs.Prelude.{◌≡◌, ℕ, false, List, map}
+use Rattle.std.specs.List.{IsDistinct}
+use Rattle.std.specs.List.Sorted.{IsStrictlyIncreasing}
+use Rattle.arena_geo.specs.Boxes.{is_blocked}
+use Rattle.entity_recs.specs.declared.rec.Rec.{Rec}
+use Rattle.entity_recs.specs.Bodies.{body_of}
+use Rattle.entity_recs.specs.Commands.{Command}
+use Rattle.arena_map.specs.Maps.{MapView, IsMap}
+use Rattle.trigger_rules.specs.Touching.{solids_among}
+use Rattle.trigger_rules.specs.Laws.{IsPlayerOn, AreTaken, is_same_record}
+use Rattle.arena_actions.specs.Outcomes.{moved_among, outcome_in}
+
+-- a player on a map is one after its move
+abbrev pub PlayersStayOnMaps : Type 0
+PlayersStayOnMaps =
+    (arena : MapView) (me : Rec) (near : List Rec) (c : Command) → IsMap arena → IsPlayerOn arena me
+    → IsPlayerOn arena (outcome_in arena me near c).me
+
+-- the player is the same one, in the same shape and state, after the command with this number
+pub record IsPlayerAfter (me : Rec) (number : ℕ) (after : Rec) : Type 0 where
+  pub id : after.id ≡ me.id
+  pub kind : after.kind ≡ me.kind
+  pub mins : after.mins ≡ me.mins
+  pub maxs : after.maxs ≡ me.maxs
+  pub state : after.state ≡ me.state
+  pub seq : after.seq ≡ number
+
+-- so it is after each move
+abbrev pub MovesKeepWhoMoves : Type 0
+MovesKeepWhoMoves =
+    (arena : MapView) (me : Rec) (near : List Rec) (c : Command) → IsPlayerAfter me c.seq (outcome_in arena me near c).me
+
+-- a player whose body overlaps no solid before its move overlaps none after it
+abbrev pub PlayersStayFree : Type 0
+PlayersStayFree =
+    (arena : MapView) (me : Rec) (near : List Rec) (c : Command) → IsPlayerOn arena me
+    → is_blocked (body_of me) (solids_among arena near) ≡ false
+    → is_blocked (body_of (outcome_in arena me near c).me) (solids_among arena near) ≡ false
+
+-- what a player got was there and is touched where it moved to, and returns after its delay; nothing else changes state, and
+-- the reply has the ids
+abbrev pub MovesTakeWhatIsThere : Type 0
+MovesTakeWhatIsThere =
+    (arena : MapView) (me : Rec) (near : List Rec) (c : Command)
+    → let e = outcome_in arena me near c in AreTaken arena c.frame (moved_among arena me near c) near e.states e.reply.got
+
+-- no record gets two new states, where the ids of the records rise
+abbrev pub NewStatesAreApart : Type 0
+NewStatesAreApart =
+    (arena : MapView) (me : Rec) (near : List Rec) (c : Command) → IsStrictlyIncreasing (map (λ r. r.id) near)
+    → IsDistinct is_same_record (outcome_in arena me near c).states
+
+-- the ids in a reply rise, where those of the records do
+abbrev pub RepliedIdsRise : Type 0
+RepliedIdsRise =
+    (arena : MapView) (me : Rec) (near : List Rec) (c : Command) → IsStrictlyIncreasing (map (λ r. r.id) near)
+    → IsStrictlyIncreasing (outcome_in arena me near c).reply.got
+
+-- the reply has the player's origin
+abbrev pub RepliesHaveTheOrigin : Type 0
+RepliesHaveTheOrigin =
+    (arena : MapView) (me : Rec) (near : List Rec) (c : Command)
+    → let e = outcome_in arena me near c in e.reply.origin ≡ e.me.origin

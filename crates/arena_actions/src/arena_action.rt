@@ -1,0 +1,60 @@
+ghost use Rattle.arena_map.specs.Maps.{IsMap};
+ghost use Rattle.arena_actions.specs.Props.{IsMap-prop};
+
+use crate::moving::moved_player;
+use arena_map::ArenaMap;
+use entity_recs::{Cmd, Effect, IdList, Rec, Reply, StateList};
+use trigger_rules::touch_all;
+
+/// The action of an arena: what a player's command does there. The player moves among the walls and blocks of the map and the
+/// bodies of the other live solids, and then touches what it has come to: items, goals and teleporters.
+#[derive(Drop)]
+pub struct ArenaAction {
+    /// The map of the arena.
+    pub map: ArenaMap,
+    pub ghost is_map: { IsMap map } by { IsMap-prop map },
+}
+
+impl ArenaAction {
+    ghost use Rattle.std.specs.Prelude.{◌≡◌, All, map};
+    ghost use Rattle.std.specs.List.Sorted.{IsStrictlyIncreasing};
+    ghost use Rattle.entity_recs.specs.Records.{IsRecord};
+    ghost use Rattle.entity_recs.specs.Commands.{command_of};
+    ghost use Rattle.trigger_rules.specs.Laws.{IsPlayerOn};
+    ghost use Rattle.arena_actions.specs.Outcomes.{outcome_in};
+
+    /// The action of this map's arena.
+    pub fn new(map: ArenaMap) -> ArenaAction
+        ensures { result.map ≡ map }
+    {
+        // To read the bounds is to know that the map keeps its rules.
+        let _bounds = map.bounds();
+        ArenaAction { map }
+    }
+
+    /// The map of the arena, which keeps its rules.
+    pub fn map(&self) -> &ArenaMap
+        ensures value { result.now ≡ self.now.map }
+        ensures rules { IsMap self.now.map }
+    {
+        &self.map
+    }
+
+    /// What a command does to its player among other live records, in rising id.
+    pub fn act(&self, me: &Rec, near: &[Rec], cmd: &Cmd) -> Effect
+        requires player { IsPlayerOn self.now.map me.now }
+        requires records { All IsRecord near.now }
+        requires rising { IsStrictlyIncreasing (map (λ r. r.id) near.now) }
+        ensures { result ≡ outcome_in self.now.map me.now near.now (command_of cmd.now) }
+    {
+        let mut me = moved_player(&self.map, me, near, cmd);
+        let mut states = StateList::new();
+        let mut got = IdList::new();
+        touch_all(&self.map, &mut me, near, cmd.frame, &mut states, &mut got);
+        let reply = Reply {
+            origin: me.origin,
+            got,
+        };
+        Effect { me, states, reply }
+    }
+}

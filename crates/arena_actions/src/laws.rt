@@ -1,0 +1,38 @@
+ghost use Rattle.arena_actions.specs.Laws.{PlayersStayOnMaps, MovesKeepWhoMoves, PlayersStayFree};
+ghost use Rattle.arena_actions.specs.Laws.{MovesTakeWhatIsThere, NewStatesAreApart, RepliedIdsRise, RepliesHaveTheOrigin};
+
+/// A player's record stays within its bounds, and its body inside the arena.
+pub fn players_stay_on_maps()
+    ensures { PlayersStayOnMaps }
+{}
+
+/// A player keeps its id, its kind, its shape and its state, and has the number of the command.
+pub fn moves_keep_who_moves()
+    ensures { MovesKeepWhoMoves }
+{}
+
+/// A player whose body overlaps no wall, no block and no body of another solid overlaps none after its move.
+pub fn players_stay_free()
+    ensures { PlayersStayFree }
+{}
+
+/// What a player got was there in state 0 and is touched where it moved to, and its new state is the frame plus its delay.
+/// Nothing else changes state. The reply has the ids of what it got, at most 8.
+pub fn moves_take_what_is_there()
+    ensures { MovesTakeWhatIsThere }
+{}
+
+/// No record gets two new states.
+pub fn new_states_are_apart()
+    ensures { NewStatesAreApart }
+{}
+
+/// The ids in a reply rise.
+pub fn replied_ids_rise()
+    ensures { RepliedIdsRise }
+{}
+
+/// The reply has the player's origin after the move.
+pub fn replies_have_the_origin()
+    ensures { RepliesHaveTheOrigin }
+{}
