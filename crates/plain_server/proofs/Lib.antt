@@ -17,3 +17,4 @@ pub mod Reports
 pub mod Ticking
 pub mod Frames
 pub mod Clear
+pub mod SlotPlayers
