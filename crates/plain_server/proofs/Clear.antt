@@ -43,7 +43,7 @@ use Rattle.plain_server.proofs.NewStates.{was_at, same_kind, same_body, clear-re
 use Rattle.plain_server.proofs.OneMove.{free_after_command}
 use Rattle.plain_server.proofs.Players.{IsLiveRecord, live_record, slot_is_player}
 use Rattle.plain_server.proofs.Others.{each_live, all_but, others-are}
-use Rattle.plain_server.proofs.Moves.{moved-none, moved-more, still-live, moved-records}
+use Rattle.plain_server.proofs.Moves.{moved-none, moved-more, still-live, after_all, after_all-are}
 use Rattle.plain_server.proofs.Ticking.{clear_ticked, server_ticked}
 use Rattle.plain_server.proofs.Commands.{history_has}
 use Rattle.plain_server.proofs.Frames.{received_is, state_after_is, opening_world, opening_is}
@@ -156,7 +156,7 @@ module _ (map : MapView) (records : List (Option Rec)) (c : Command) (is_map : I
   free_then : is_blocked (body_of after) (solids_among map others) ≡ false
   free_then =
       let here : IsValidRecord map c.slot me = subst (IsValidRecord map c.slot) (sym me-is) (valid.each c.slot found.r found.at) in
-      free_after_command map c.slot me others c is_map (slot_is_player map c.slot me here has.slot) here free_before
+      free_after_command map c.slot me others c (slot_is_player map c.slot me here has.slot) here free_before
 
   free_after : (is_blocked (body_of after) (solids_of map) ≡ false) × (is_blocked (body_of after) (bodies_of_solids others) ≡ false)
   unfolding solids_among
@@ -212,22 +212,23 @@ module _ (map : MapView) (records : List (Option Rec)) (c : Command) (is_map : I
 -- ---- all moves and all frames
 
 -- the records after commands of live players are clear
-clear_after_all : (map : MapView) (records new : List (Option Rec)) (before commands : List Command) → IsMap map → HaveMoved map records new before → All (HasLivePlayer records) commands
-    → AreClear map new → AreClear map (records_in (world_after (outcome_in map) (world_of records) (before ++ commands)) records)
-clear_after_all map records new before [] is_map moved live clear =
-    subst (AreClear map) (sym (ap (λ (cs : List Command). records_in (world_after (outcome_in map) (world_of records) cs) records) (append-nil before) ∙ moved-records map records new before moved)) clear
-clear_after_all map records new before (c ∷ commands) is_map moved live clear =
-    let has = still-live map records new before c moved (All-head (HasLivePlayer records) c commands live) in
-    let more = moved-more map records new before c is_map has moved in
-    let rest = clear_after_all map records (records_after map new c) (before ++ c ∷ []) commands is_map more (All-tail (HasLivePlayer records) c commands live)
-    (clear_after map new c is_map moved.valid has clear) in
-    subst (λ (cs : List Command). AreClear map (records_in (world_after (outcome_in map) (world_of records) cs) records)) (append_assoc before (c ∷ []) commands) rest
+clear_after_all : (map : MapView) (old new : List (Option Rec)) (before commands : List Command) → IsMap map → HaveMoved map old new before → All (HasLivePlayer old) commands
+    → AreClear map new → AreClear map (after_all map new commands)
+clear_after_all map old new before [] is_map moved live clear = clear
+clear_after_all map old new before (c ∷ commands) is_map moved live clear =
+    let has = still-live map old new before c moved (All-head (HasLivePlayer old) c commands live) in
+    let more = moved-more map old new before c is_map has moved in
+    clear_after_all map old (records_after map new c) (before ++ c ∷ []) commands is_map more (All-tail (HasLivePlayer old) c commands live)
+    (clear_after map new c is_map moved.valid has clear)
 
 -- so are those after the moves of a journal
 clear_moved : (map : MapView) (r : Receiving) (journal : List Entry) → IsMap map → IsReception map r → AreClear map r.state.records → AreClear map (moved_by map r journal).records
 clear_moved map r journal is_map is clear =
-    clear_after_all map r.state.records r.state.records [] (map_list (λ (item : Item). item.command) (history_of r.lists.moves journal)) is_map (moved-none map r.state.records is.state.fits.valid)
-    (history_has (HasLivePlayer r.state.records) r.lists.moves journal is.live) clear
+    let records = r.state.records in
+    let commands = map_list (λ (item : Item). item.command) (history_of r.lists.moves journal) in
+    let live = history_has (HasLivePlayer records) r.lists.moves journal is.live in
+    subst (AreClear map) (sym (after_all-are map records commands is_map is.state.fits.valid live))
+    (clear_after_all map records records [] commands is_map (moved-none map records is.state.fits.valid) live clear)
 
 -- and those after any frames
 pub clear_through : (map : MapView) (frame : ℕ) (state : State) (frames : List (List Arrival)) (journals : List (List Entry)) → IsMap map → IsServerState map state → AreClear map state.records

@@ -29,7 +29,7 @@ use Rattle.plain_server.specs.RecordsById.{world_of, opening}
 use Rattle.plain_server.specs.Moving.{HasLivePlayer, HaveMoved}
 use Rattle.plain_server.specs.Entries.{IsReception}
 use Rattle.plain_server.specs.Frames.{state_after_tick, received_in, moved_by, state_after, first_of, rest_of, state_played, AreRight, AreInOrder, journal_of, journals_of}
-use Rattle.plain_server.proofs.Moves.{moved, moved-records}
+use Rattle.plain_server.proofs.Moves.{after_all, moved, after_all-are}
 use Rattle.plain_server.proofs.Placing.{placed-count, placed-at}
 use Rattle.plain_server.proofs.Commands.{history_has}
 use Rattle.plain_server.proofs.Ticking.{server_ticked}
@@ -50,9 +50,10 @@ state_moved map state new commands is has = record {
 pub moved_by_is : (map : MapView) (r : Receiving) (journal : List Entry) → IsMap map → IsReception map r → IsServerState map (moved_by map r journal)
 moved_by_is map r journal is_map is =
     let commands = map_list (λ (item : Item). item.command) (history_of r.lists.moves journal) in
-    let m = moved map r.state.records commands is_map is.state.fits.valid (history_has (HasLivePlayer r.state.records) r.lists.moves journal is.live) in
+    let live = history_has (HasLivePlayer r.state.records) r.lists.moves journal is.live in
     let P : List (Option Rec) → Type 0 = λ records. IsServerState map (state_of r.state.clients records) in
-    subst P (sym (moved-records map r.state.records m.new commands m.is)) (state_moved map r.state m.new commands is.state m.is)
+    subst P (sym (after_all-are map r.state.records commands is_map is.state.fits.valid live))
+    (state_moved map r.state (after_all map r.state.records commands) commands is.state (moved map r.state.records commands is_map is.state.fits.valid live))
 
 -- a live client's slot has a live player
 live_player : (map : MapView) (state : State) (c : Command) → IsServerState map state → IsSome (client_at state.clients c.slot) → HasLivePlayer state.records c

@@ -11,10 +11,16 @@ pub mod Others
 pub mod Takes
 pub mod Moves
 pub mod Commands
+pub mod Runs
 pub mod Small
 pub mod Short
+pub mod OfFrame
+pub mod ThingsStay
+pub mod Waiting
 pub mod Reports
 pub mod Ticking
 pub mod Frames
 pub mod Clear
+pub mod Away
+pub mod Takers
 pub mod SlotPlayers

@@ -90,28 +90,32 @@ moved-records map old new commands is =
 pub still-live : (map : MapView) (old new : List (Option Rec)) (commands : List Command) (c : Command) → HaveMoved map old new commands → HasLivePlayer old c → HasLivePlayer new c
 still-live map old new commands c is has = record { slot = has.slot; live = is.live c.slot ∙ has.live }
 
--- the records after some commands
-pub record Moved (map : MapView) (old : List (Option Rec)) (commands : List Command) : Type 0 where
-  pub new : List (Option Rec)
-  pub is : HaveMoved map old new commands
+-- the records after commands, one after another
+abbrev pub after_all : MapView → List (Option Rec) → List Command → List (Option Rec)
+after_all map records [] = records
+after_all map records (c ∷ commands) = after_all map (records_after map records c) commands
 
 moved-on : (map : MapView) (old new : List (Option Rec)) (before commands : List Command) → IsMap map → HaveMoved map old new before
-    → All (HasLivePlayer old) commands → Moved map old (before ++ commands)
-moved-on map old new before [] is_map is live = record { new = new; is = subst (λ (cs : List Command). HaveMoved map old new cs) (sym (append-nil before)) is }
+    → All (HasLivePlayer old) commands → HaveMoved map old (after_all map new commands) (before ++ commands)
+moved-on map old new before [] is_map is live = subst (λ (cs : List Command). HaveMoved map old new cs) (sym (append-nil before)) is
 moved-on map old new before (c ∷ commands) is_map is live =
     let here = still-live map old new before c is (All-head (HasLivePlayer old) c commands live) in
     let more = moved-more map old new before c is_map here is in
     let rest = moved-on map old (records_after map new c) (before ++ c ∷ []) commands is_map more (All-tail (HasLivePlayer old) c commands live) in
-    record { new = rest.new; is = subst (λ (cs : List Command). HaveMoved map old rest.new cs) (append_assoc before (c ∷ []) commands) rest.is }
+    subst (λ (cs : List Command). HaveMoved map old (after_all map new (c ∷ commands)) cs) (append_assoc before (c ∷ []) commands) rest
 
 -- moves of live players leave such records
 pub moved : (map : MapView) (records : List (Option Rec)) (commands : List Command) → IsMap map → IsValidWorld map records → All (HasLivePlayer records) commands
-    → Moved map records commands
+    → HaveMoved map records (after_all map records commands) commands
 moved map records commands is_map valid live = moved-on map records records [] commands is_map (moved-none map records valid) live
+
+-- which are what the commands leave
+pub after_all-are : (map : MapView) (records : List (Option Rec)) (commands : List Command) → IsMap map → IsValidWorld map records → All (HasLivePlayer records) commands
+    → records_in (world_after (outcome_in map) (world_of records) commands) records ≡ after_all map records commands
+after_all-are map records commands is_map valid live = moved-records map records (after_all map records commands) commands (moved map records commands is_map valid live)
 
 -- and keep the world valid
 pub moves_keep_valid : (map : MapView) (records : List (Option Rec)) (commands : List Command) → IsMap map → IsValidWorld map records
     → All (HasLivePlayer records) commands → IsValidWorld map (records_in (world_after (outcome_in map) (world_of records) commands) records)
 moves_keep_valid map records commands is_map valid live =
-    let m = moved map records commands is_map valid live in
-    subst (IsValidWorld map) (sym (moved-records map records m.new commands m.is)) m.is.valid
+    subst (IsValidWorld map) (sym (after_all-are map records commands is_map valid live)) (moved map records commands is_map valid live).valid

@@ -9,20 +9,14 @@ use Rattle.entity_recs.specs.Commands.{Command}
 use Rattle.entity_recs.specs.Worlds.{others_of}
 use Rattle.item_rules.specs.Items.{is_item}
 use Rattle.arena_map.specs.Maps.{MapView, delay_of}
-use Rattle.trigger_rules.specs.Laws.{IsTaken, AreTaken}
-use Rattle.trigger_rules.proofs.Taken.{were_there}
-use Rattle.arena_actions.specs.Outcomes.{moved_among, outcome_in}
+use Rattle.trigger_rules.specs.Laws.{IsTaken}
+use Rattle.arena_actions.specs.Outcomes.{moved_among}
+use Rattle.arena_actions.proofs.Moves.{take_what_is_there}
 use Rattle.world_tree.specs.Live.{record_at}
 use Rattle.plain_server.specs.RecordsById.{record_or_nobody, world_of}
 use Rattle.plain_server.specs.Moving.{effect_among}
 use Rattle.plain_server.proofs.NewStates.{IsOfItem}
 use Rattle.plain_server.proofs.Others.{IsOther, others_at}
-
--- the new states of an outcome are those of items that were there, and the ids in its reply are theirs
-pub outcome_takes : (map : MapView) (me : Rec) (near : List Rec) (c : Command)
-    → AreTaken map c.frame (moved_among map me near c) near (outcome_in map me near c).states (outcome_in map me near c).reply.got
-unfolding outcome_in
-outcome_takes map me near c = were_there map c.frame (moved_among map me near c) near
 
 -- the new state is that of an item among the records: the item was there, and returns after its delay
 pub record IsTakenIn (map : MapView) (records : List (Option Rec)) (frame : ℕ) (s : NewState) : Type 0 where
@@ -57,7 +51,7 @@ module _ (map : MapView) (records : List (Option Rec)) (c : Command) (own : (id 
   -- each new state of a command is such a one
   pub taken_in : All (IsTakenIn map records c.frame) (effect_among map records c).states
   taken_in =
-      All-weaker (IsTaken map c.frame (moved_among map me others c) others) (IsTakenIn map records c.frame) one (effect_among map records c).states (outcome_takes map me others c).each
+      All-weaker (IsTaken map c.frame (moved_among map me others c) others) (IsTakenIn map records c.frame) one (effect_among map records c).states (take_what_is_there map me others c).each
 
   -- and that of an item
   pub of_items : All (IsOfItem records) (effect_among map records c).states
@@ -66,13 +60,8 @@ module _ (map : MapView) (records : List (Option Rec)) (c : Command) (own : (id 
 
   -- the ids in its reply are at most 8
   pub few_got : length (effect_among map records c).reply.got ≤ 8
-  few_got = (outcome_takes map me others c).few
+  few_got = (take_what_is_there map me others c).few
 
   -- the ids in its reply are those of the new states
   pub got_are : (effect_among map records c).reply.got ≡ map_list (λ (s : NewState). s.id) (effect_among map records c).states
-  got_are = (outcome_takes map me others c).got_are
-
--- the reply of an outcome has the player's new origin
-pub reply_origin : (map : MapView) (me : Rec) (near : List Rec) (c : Command) → (outcome_in map me near c).reply.origin ≡ (outcome_in map me near c).me.origin
-unfolding outcome_in
-reply_origin map me near c = refl
+  got_are = (take_what_is_there map me others c).got_are

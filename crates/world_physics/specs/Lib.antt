@@ -13,3 +13,4 @@ pub use Rattle.world_tree.specs.Live
 pub mod Returns
 pub mod LiftSteps
 pub mod Ticks
+pub mod Laws

@@ -1,9 +1,14 @@
 //! World physics: what happens in the arena by itself when a frame begins. Items return, and lifts move.
 #![tactic(auto)]
 
+pub use laws::{
+    ids_stay, items_return_at_their_frame, lifts_stay_on_their_way, only_places_and_states_change,
+    players_keep_room, worlds_stay_valid,
+};
 pub use ticking::tick;
 
 mod carrying;
+mod laws;
 mod lift_step;
 mod pressing;
 mod returns;

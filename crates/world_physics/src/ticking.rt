@@ -2,21 +2,22 @@ ghost use Rattle.std.specs.Prelude.{◌≡◌, Some};
 ghost use Rattle.arena_map.specs.Maps.{lift_of};
 ghost use Rattle.arena_map.specs.Validity.{IsValidWorld};
 ghost use Rattle.world_tree.specs.Live.{record_at};
-ghost use Rattle.world_tree.specs.Worlds.{IsLinked};
-ghost use Rattle.world_physics.specs.Ticks.{after_lift, after_tick};
+ghost use Rattle.world_physics.specs.Ticks.{after_lift, after_thing, after_tick};
 
 use crate::carrying::carry;
 use crate::lift_step::LiftStep;
 use crate::pressing::is_stopped;
 use crate::returns::return_items;
 use arena_map::{ArenaMap, Lift};
+use entity_recs::Rec;
 use world_tree::World;
 
 /// Makes the step of the lift with this id: whole, or, where it would press a player, not at all.
 fn move_lift(map: &ArenaMap, world: &mut World, id: u16, lift: &Lift)
     requires valid { IsValidWorld map.now world.old.records }
     requires lift { lift_of map.now id ≡ Some lift.now }
-    ensures records { world.new.records ≡ after_lift map.now world.old.records (Some lift.now) (record_at world.old.records id) }
+    ensures records { world.new.records
+        ≡ after_lift map.now world.old.records (Some lift.now) (record_at world.old.records id) }
     ensures tree { world.new.tree ≡ world.old.tree }
     ensures valid { IsValidWorld map.now world.new.records }
 {
@@ -26,6 +27,18 @@ fn move_lift(map: &ArenaMap, world: &mut World, id: u16, lift: &Lift)
     if !is_stopped(map, world, &step) {
         carry(world, &step);
         world.relink(step.after);
+    }
+}
+
+/// Makes the step of a thing of the map, if it is a lift.
+fn move_thing(map: &ArenaMap, world: &mut World, thing: &Rec)
+    requires { IsValidWorld map.now world.old.records }
+    ensures records { world.new.records ≡ after_thing map.now world.old.records thing.now }
+    ensures tree { world.new.tree ≡ world.old.tree }
+    ensures valid { IsValidWorld map.now world.new.records }
+{
+    if let Some(lift) = map.lift_of(thing.id) {
+        move_lift(map, world, thing.id, &lift);
     }
 }
 
@@ -44,12 +57,9 @@ pub fn tick(map: &ArenaMap, world: &mut World, frame: u32)
     ensures records { world.new.records ≡ after_tick map.now frame world.old.records }
     ensures tree { world.new.tree ≡ world.old.tree }
     ensures valid { IsValidWorld map.now world.new.records }
-    ensures linked { IsLinked world.new }
 {
     return_items(world, frame);
     for thing in map.entities() {
-        if let Some(lift) = map.lift_of(thing.id) {
-            move_lift(map, world, thing.id, &lift);
-        }
+        move_thing(map, world, thing);
     }
 }
