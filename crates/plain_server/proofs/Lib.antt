@@ -16,7 +16,6 @@ pub mod Small
 pub mod Short
 pub mod OfFrame
 pub mod ThingsStay
-pub mod Waiting
 pub mod Reports
 pub mod Ticking
 pub mod Frames

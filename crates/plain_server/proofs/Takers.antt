@@ -25,8 +25,7 @@ use Rattle.plain_server.proofs.Moves.{after_all, after_all-are}
 use Rattle.plain_server.proofs.Runs.{commands_of, entries_of, IsRun, journal_runs, run_entries}
 use Rattle.plain_server.proofs.OfFrame.{IsOfFrame, moves_are_of_frame}
 use Rattle.plain_server.proofs.ThingsStay.{things_received, things_finished}
-use Rattle.plain_server.proofs.Waiting.{waits}
-use Rattle.plain_server.proofs.Ticking.{server_ticked}
+use Rattle.plain_server.proofs.Ticking.{server_ticked, waits}
 use Rattle.plain_server.proofs.Frames.{moved_by_is, received_is, state_after_is}
 use Rattle.plain_server.proofs.Away.{IsAway, IsAwayThen, away_is_thing, away_through, nobody_got, got_through, one_got}
 
@@ -67,11 +66,11 @@ module _ (map : MapView) (frame : ℕ) (state : State) (arrivals : List Arrival)
       (after_all-are map r.state.records (commands_of items) is_map pass.state.fits.valid (history_has (HasLivePlayer r.state.records) r.lists.moves journal pass.live))
 
   -- an item that is away until a later frame is away when the moves begin
-  away_then : (id until : ℕ) → frame < until → IsSome (delay_of map id) → IsAway state.records id until → IsAway r.state.records id until
-  away_then id until before delay away =
+  away_then : (id until : ℕ) → frame < until → IsAway state.records id until → IsAway r.state.records id until
+  away_then id until before away =
       let valid = is.fits.valid in
       let from = away_is_thing map state.records id until valid away in
-      let there = waits map frame id away.item state.records (λ k x at. (valid.each k x at).own_id) away.at (item_line away.item.kind away.kind) delay (omega (arith, before, away.state)) in
+      let there = waits map frame id away.item state.records is_map valid away.at (item_line away.item.kind away.kind) (omega (arith, before, away.state)) in
       record {
         item = away.item;
         at = things_received map frame id (state_after_tick map frame state) arrivals from (server_ticked map frame state is_map is) ∙ there;
@@ -80,16 +79,16 @@ module _ (map : MapView) (frame : ℕ) (state : State) (arrivals : List Arrival)
       }
 
   -- it stays away
-  pub stays_away : (id until : ℕ) → frame < until → IsSome (delay_of map id) → IsAway state.records id until → IsAway (state_after map r journal).records id until
-  stays_away id until before delay away =
+  pub stays_away : (id until : ℕ) → frame < until → IsAway state.records id until → IsAway (state_after map r journal).records id until
+  stays_away id until before away =
       let from = away_is_thing map state.records id until is.fits.valid away in
       away_there (after_all map r.state.records (commands_of items)) (state_after map r journal).records id until (thing_after id from)
-      (away_through map 0 r.state.records items id until is_map runs (omega (arith, before)) (away_then id until before delay away))
+      (away_through map 0 r.state.records items id until is_map runs (omega (arith, before)) (away_then id until before away))
 
   -- and no entry has it
-  pub not_taken : (id until place : ℕ) → frame < until → IsSome (delay_of map id) → IsAway state.records id until → HasTaken journal place id → ⊥
-  not_taken id until place before delay away has =
-      nobody_got map 0 r.state.records items id until place has.entry is_map runs (omega (arith, before)) (away_then id until before delay away) (in_history place has.entry has.in_place) has.got
+  pub not_taken : (id until place : ℕ) → frame < until → IsAway state.records id until → HasTaken journal place id → ⊥
+  not_taken id until place before away has =
+      nobody_got map 0 r.state.records items id until place has.entry is_map runs (omega (arith, before)) (away_then id until before away) (in_history place has.entry has.in_place) has.got
 
   -- an item that an entry has is away after the frame
   pub away_later : (id place : ℕ) → HasTaken journal place id → IsAwayThen map (state_after map r journal).records frame id
@@ -148,16 +147,16 @@ one_in_each map frame state (arrivals ∷ frames) (j ∷ js) is_map is right (su
 
 -- an item that is away isn't taken before its frame
 away_in_all : (map : MapView) (frame : ℕ) (state : State) (frames : List (List Arrival)) (journals : List (List Entry)) (id until : ℕ) → IsMap map → IsServerState map state
-    → AreRight map frame state frames journals → IsSome (delay_of map id) → IsAway state.records id until → (n place : ℕ) → frame + n < until → HasTakenIn journals n place id → ⊥
-away_in_all map frame state [] [] id until is_map is right delay away n place before has = absurd (none-some has.journal has.of_frame)
-away_in_all map frame state [] (j ∷ js) id until is_map is right delay away n place before has = absurd right
-away_in_all map frame state (arrivals ∷ frames) [] id until is_map is right delay away n place before has = absurd right
-away_in_all map frame state (arrivals ∷ frames) (j ∷ js) id until is_map is right delay away zero place before has =
-    not_taken map frame state arrivals j is_map is right.0 id until place (omega (arith, before)) delay away (taken_first j js place id has)
-away_in_all map frame state (arrivals ∷ frames) (j ∷ js) id until is_map is right delay away (suc n) place before has =
+    → AreRight map frame state frames journals → IsAway state.records id until → (n place : ℕ) → frame + n < until → HasTakenIn journals n place id → ⊥
+away_in_all map frame state [] [] id until is_map is right away n place before has = absurd (none-some has.journal has.of_frame)
+away_in_all map frame state [] (j ∷ js) id until is_map is right away n place before has = absurd right
+away_in_all map frame state (arrivals ∷ frames) [] id until is_map is right away n place before has = absurd right
+away_in_all map frame state (arrivals ∷ frames) (j ∷ js) id until is_map is right away zero place before has =
+    not_taken map frame state arrivals j is_map is right.0 id until place (omega (arith, before)) away (taken_first j js place id has)
+away_in_all map frame state (arrivals ∷ frames) (j ∷ js) id until is_map is right away (suc n) place before has =
     let r = received_in map frame state arrivals in
-    away_in_all map (frame + 1) (state_after map r j) frames js id until is_map (state_after_is map r j is_map (received_is map frame state arrivals is_map is)) right.1 delay
-    (stays_away map frame state arrivals j is_map is right.0 id until (omega (arith, before)) delay away) n place (omega (arith, before)) (taken_later j js n place id has)
+    away_in_all map (frame + 1) (state_after map r j) frames js id until is_map (state_after_is map r j is_map (received_is map frame state arrivals is_map is)) right.1
+    (stays_away map frame state arrivals j is_map is right.0 id until (omega (arith, before)) away) n place (omega (arith, before)) (taken_later j js n place id has)
 
 pub stay_away : (map : MapView) (frame : ℕ) (state : State) (frames : List (List Arrival)) (journals : List (List Entry)) → IsMap map → IsServerState map state
     → AreRight map frame state frames journals → (n place later other id delay : ℕ) → delay_of map id ≡ Some delay → HasTakenIn journals n place id → HasTakenIn journals later other id
@@ -174,7 +173,7 @@ stay_away map frame state (arrivals ∷ frames) (j ∷ js) is_map is right zero 
     let then_away = away_later map frame state arrivals j is_map is right.0 id place (taken_first j js place id has) in
     let same : then_away.delay ≡ delay = same_Some then_away.delay delay (sym then_away.delay_is ∙ delay_is) in
     absurd (away_in_all map (frame + 1) (state_after map r j) frames js id (frame + then_away.delay) is_map
-    (state_after_is map r j is_map (received_is map frame state arrivals is_map is)) right.1 (ap is_some delay_is) then_away.away later other (omega (arith, before, same))
+    (state_after_is map r j is_map (received_is map frame state arrivals is_map is)) right.1 then_away.away later other (omega (arith, before, same))
     (taken_later j js later other id also))
 stay_away map frame state (arrivals ∷ frames) (j ∷ js) is_map is right (suc n) place zero other id delay delay_is has also from before = absurd (omega (arith, from))
 stay_away map frame state (arrivals ∷ frames) (j ∷ js) is_map is right (suc n) place (suc later) other id delay delay_is has also from before =

@@ -1,37 +1,37 @@
--- What the tick of a frame keeps: the state stays a server's, and bodies stay clear.
-use Rattle.std.proofs.Common.{◌≡◌, ℕ, List, length, Option, is_some, sym, ◌∙◌}
+-- What the tick of a frame keeps: the state stays a server's, bodies stay clear, and items that return later stay away.
+use Rattle.std.proofs.Common.{◌≡◌, ℕ, ◌<◌, true, List, Option, Some, is_some, sym, ap, ◌∙◌}
 use Rattle.entity_recs.specs.declared.rec.Rec.{Rec}
+use Rattle.arena_map.specs.MapLines.{is_item}
 use Rattle.arena_map.specs.Maps.{MapView, IsMap}
 use Rattle.arena_map.specs.Validity.{IsValidWorld, AreClear}
 use Rattle.world_tree.specs.Live.{record_at}
 use Rattle.world_physics.specs.Ticks.{after_tick}
+use Rattle.world_physics.proofs.Kept.{ids_stay, worlds_stay_valid, items_return_at_their_frame}
+use Rattle.world_physics.proofs.Clear.{players_keep_room}
 use Rattle.client_ports.specs.States.{State, IsServerState}
 use Rattle.plain_server.specs.Frames.{state_after_tick}
-
--- TO BE REPLACED by the laws of world_physics
-tick_valid : (map : MapView) (frame : ℕ) (records : List (Option Rec)) → IsMap map → IsValidWorld map records → IsValidWorld map (after_tick map frame records)
-tick_valid map frame records is_map valid = ?
-
-tick_live : (map : MapView) (frame : ℕ) (records : List (Option Rec)) (id : ℕ) → is_some (record_at (after_tick map frame records) id) ≡ is_some (record_at records id)
-tick_live map frame records id = ?
-
-tick_count : (map : MapView) (frame : ℕ) (records : List (Option Rec)) → length (after_tick map frame records) ≡ length records
-tick_count map frame records = ?
-
-tick_clear : (map : MapView) (frame : ℕ) (records : List (Option Rec)) → IsMap map → IsValidWorld map records → AreClear map records → AreClear map (after_tick map frame records)
-tick_clear map frame records is_map valid clear = ?
+use Rattle.plain_server.proofs.Players.{live_record}
 
 -- the state is a server's after the tick
 pub server_ticked : (map : MapView) (frame : ℕ) (state : State) → IsMap map → IsServerState map state → IsServerState map (state_after_tick map frame state)
-server_ticked map frame state is_map is = record {
-  clients = is.clients;
-  places = tick_count map frame state.records ∙ is.places;
-  fits = record {
-    live = record { same = λ slot below. is.fits.live.same slot below ∙ sym (tick_live map frame state.records slot) };
-    valid = tick_valid map frame state.records is_map is.fits.valid;
-  };
-}
+server_ticked map frame state is_map is =
+    let same = ids_stay map frame state.records in
+    record {
+      clients = is.clients;
+      places = same.count ∙ is.places;
+      fits = record {
+        live = record { same = λ slot below. is.fits.live.same slot below ∙ sym (same.live slot) };
+        valid = worlds_stay_valid map frame state.records is_map is.fits.valid;
+      };
+    }
 
--- and its bodies are clear
+-- its bodies are clear
 pub clear_ticked : (map : MapView) (frame : ℕ) (state : State) → IsMap map → IsServerState map state → AreClear map state.records → AreClear map (state_after_tick map frame state).records
-clear_ticked map frame state is_map is clear = tick_clear map frame state.records is_map is.fits.valid clear
+clear_ticked map frame state is_map is clear = players_keep_room map frame state.records is_map is.fits.valid clear
+
+-- and an item that returns in a later frame is as it was
+pub waits : (map : MapView) (frame id : ℕ) (item : Rec) (records : List (Option Rec)) → IsMap map → IsValidWorld map records → record_at records id ≡ Some item → is_item item.kind ≡ true
+    → frame < item.state → record_at (after_tick map frame records) id ≡ Some item
+waits map frame id item records is_map valid at kind before =
+    let there = live_record (after_tick map frame records) id ((ids_stay map frame records).live id ∙ ap is_some at) in
+    there.at ∙ ap Some ((items_return_at_their_frame map frame records id item there.r is_map valid at kind there.at).away before)
