@@ -7,7 +7,6 @@ use Rattle.std.proofs.lemmas.Bool.{cases_Bool, cases_order, eq-eqb, ne_eqb}
 use Rattle.std.proofs.lemmas.List.Folds.{list_any-append}
 use Rattle.std.proofs.lemmas.List.Elements.{All-head, All-tail}
 use Rattle.std.proofs.lemmas.Option.{same_Some}
-use Rattle.std.proofs.lemmas.List.{append-nil, append_assoc}
 use Rattle.std.proofs.Math.Bool.{and_comm}
 use Rattle.arena_geo.specs.Bounds.{Bounds}
 use Rattle.arena_geo.specs.Boxes.{overlaps, is_blocked}
@@ -21,13 +20,12 @@ use Rattle.entity_recs.specs.Bodies.{body_of}
 use Rattle.entity_recs.specs.Kinds.{is_solid}
 use Rattle.entity_recs.specs.Commands.{Command}
 use Rattle.entity_recs.specs.Worlds.{others_of}
-use Rattle.entity_recs.specs.Histories.{Item, world_after}
+use Rattle.entity_recs.specs.Histories.{Item}
 use Rattle.move_journal.specs.Merges.{history_of}
 use Rattle.arena_map.specs.Maps.{MapView, IsMap, solids_of}
 use Rattle.arena_map.specs.Validity.{IsValidRecord, IsValidWorld}
 use Rattle.arena_map.proofs.Opening.{IsFound, found-in}
 use Rattle.trigger_rules.specs.Touching.{bodies_of_solids, solids_among}
-use Rattle.arena_actions.specs.Outcomes.{outcome_in}
 use Rattle.world_tree.specs.Live.{record_at, live_in}
 use Rattle.client_ports.specs.declared.arrival.Arrival.{Arrival}
 use Rattle.client_ports.specs.States.{State, IsServerState}
@@ -35,7 +33,7 @@ use Rattle.client_ports.specs.Receiving.{Receiving}
 use Rattle.arena_map.specs.Validity.{AreClear}
 use Rattle.client_ports.proofs.Slots.{read-set}
 use Rattle.client_ports.proofs.Staying.{clear_received, clear_finished}
-use Rattle.plain_server.specs.RecordsById.{record_or_nobody, world_of, records_in, opening}
+use Rattle.plain_server.specs.RecordsById.{record_or_nobody, world_of, opening}
 use Rattle.plain_server.specs.Moving.{HasLivePlayer, HaveMoved, effect_among, with_new_states, records_after}
 use Rattle.plain_server.specs.Entries.{IsReception}
 use Rattle.plain_server.specs.Frames.{state_after_tick, received_in, moved_by, state_after, first_of, rest_of, state_played}

@@ -1,27 +1,27 @@
 -- Records by id with new states: each record is the one it was, but for its state, and the same ids are live.
-use Rattle.std.proofs.Common.{◌≡◌, ◌≢◌, ℕ, zero, suc, ◌==◌, Bool, true, false, List, [], ◌∷◌, ◌++◌, length, Option, Some, None, is_some, slice_set, if◌then◌else◌, inl, inr, refl, sym, ap, ◌∙◌, subst, arith}
+use Rattle.std.proofs.Common.{◌≡◌, ◌≢◌, ℕ, zero, suc, ◌==◌, true, List, [], ◌∷◌, ◌++◌, length, Option, Some, None, is_some, slice_set, inl, inr, refl, sym, ap, ◌∙◌, subst, arith}
 use Rattle.std.specs.Prelude.{All}
 use Rattle.std.specs.Prelude.{map as map_list}
 use Rattle.std.specs.List.{find}
 use Rattle.std.specs.Option.{option_map}
-use Rattle.std.proofs.lemmas.Bool.{cases_Bool, cases_eq, eq-eqb, ne_eqb, eqb-true, cond-true, cond-false}
+use Rattle.std.proofs.lemmas.Bool.{cases_Bool, eq-eqb, ne_eqb, eqb-true}
 use Rattle.std.proofs.lemmas.List.{length-map}
 use Rattle.std.proofs.lemmas.List.Elements.{All-head, All-tail}
 use Rattle.std.proofs.lemmas.Option.{same_Some, none-some}
 use Rattle.arena_geo.specs.Boxes.{overlaps, is_blocked}
 use Rattle.entity_recs.specs.declared.effect.NewState.{NewState}
 use Rattle.entity_recs.specs.declared.kind.Kind.{Kind}
-use Rattle.entity_recs.specs.declared.kind.Kind.TheVariants.{Player, Ammo, Gem, Teleporter, Goal, Lift}
+use Rattle.entity_recs.specs.declared.kind.Kind.TheVariants.{Player, Ammo, Gem}
 use Rattle.entity_recs.specs.declared.rec.Rec.{Rec}
 use Rattle.entity_recs.specs.Bodies.{body_of}
 use Rattle.entity_recs.specs.Kinds.{is_solid}
-use Rattle.entity_recs.specs.Records.{IsRecord, IsStateOf, with_state}
+use Rattle.entity_recs.specs.Records.{IsStateOf, with_state}
 use Rattle.entity_recs.specs.Worlds.{World}
 use Rattle.entity_recs.specs.Histories.{with_new_state}
 use Rattle.item_rules.specs.Items.{is_item}
 use Rattle.arena_map.specs.declared.lift.Lift as lifts
 use Rattle.arena_map.specs.Maps.{MapView, entities_of, lift_of, solids_of}
-use Rattle.arena_map.specs.Validity.{IsSameThing, IsSameLift, IsAsItsLine, IsThing, IsValidRecord, IsValidWorld, AreClear}
+use Rattle.arena_map.specs.Validity.{IsAsItsLine, IsThing, IsValidRecord, IsValidWorld, AreClear}
 use Rattle.world_tree.specs.Live.{record_at, ids_of}
 use Rattle.plain_server.specs.RecordsById.{records_in}
 use Rattle.plain_server.specs.Moving.{with_new_states}

@@ -1,13 +1,13 @@
 -- Histories that run from records by id: the entry of each item, and what the rest of it runs from.
 use Rattle.std.specs.Prelude.{◌≡◌, ℕ, ◌+◌, List, [], ◌∷◌, All, Option}
 use Rattle.std.specs.Prelude.{map as map_list}
-use Rattle.std.proofs.Common.{refl, sym, ap, ◌∙◌, subst}
+use Rattle.std.proofs.Common.{sym, subst}
 use Rattle.std.proofs.lemmas.List.Elements.{All-head, All-tail, All-weaker}
 use Rattle.entity_recs.specs.declared.rec.Rec.{Rec}
 use Rattle.entity_recs.specs.declared.effect.Entry.{Entry}
 use Rattle.entity_recs.specs.Commands.{Command}
 use Rattle.entity_recs.specs.Worlds.{World}
-use Rattle.entity_recs.specs.Histories.{Item, apply, entry_of, outcome}
+use Rattle.entity_recs.specs.Histories.{Item, entry_of}
 use Rattle.move_journal.specs.Merges.{history_of}
 use Rattle.move_journal.proofs.Orders.{IsLegalFrom}
 use Rattle.move_journal.proofs.Uniques.{first_entry, legal_after, legal_at_first}

@@ -1,12 +1,10 @@
 -- Who took an item in frames with right journals.
-use Rattle.std.proofs.Common.{◌≡◌, ℕ, zero, suc, ◌+◌, ◌<◌, ◌≤◌, true, List, [], ◌∷◌, All, Option, Some, is_some, IsSome, slice_get, refl, sym, ap, ◌∙◌, subst, arith}
-use Rattle.std.specs.Prelude.{map as map_list}
+use Rattle.std.proofs.Common.{◌≡◌, ℕ, zero, suc, ◌+◌, ◌<◌, ◌≤◌, true, List, [], ◌∷◌, Option, Some, is_some, IsSome, slice_get, refl, sym, ap, ◌∙◌, subst, arith}
 use Rattle.std.proofs.lemmas.Option.{none-some, same_Some}
 use Rattle.entity_recs.specs.declared.rec.Rec.{Rec}
 use Rattle.entity_recs.specs.declared.effect.Entry.{Entry}
 use Rattle.entity_recs.specs.declared.kind.Kind.{Kind}
-use Rattle.entity_recs.specs.declared.kind.Kind.TheVariants.{Player, Ammo, Gem, Teleporter, Goal, Lift}
-use Rattle.entity_recs.specs.Commands.{Command}
+use Rattle.entity_recs.specs.declared.kind.Kind.TheVariants.{Ammo, Gem}
 use Rattle.entity_recs.specs.Histories.{Item}
 use Rattle.move_journal.specs.Merges.{history_of}
 use Rattle.item_rules.specs.Items.{is_item}
@@ -19,7 +17,7 @@ use Rattle.client_ports.specs.Receiving.{Receiving}
 use Rattle.plain_server.specs.Moving.{HasLivePlayer}
 use Rattle.plain_server.specs.Entries.{IsReception}
 use Rattle.plain_server.specs.Frames.{state_after_tick, received_in, moved_by, state_after, IsRightAfter, AreRight}
-use Rattle.plain_server.specs.Takers.{HasTaken, HasTakenIn, IsSameEntry}
+use Rattle.plain_server.specs.Takers.{HasTaken, HasTakenIn, IsSameEntry, IsInState}
 use Rattle.plain_server.proofs.Commands.{history_has}
 use Rattle.plain_server.proofs.Moves.{after_all, after_all-are}
 use Rattle.plain_server.proofs.Runs.{commands_of, entries_of, IsRun, journal_runs, run_entries}
@@ -105,6 +103,13 @@ module _ (map : MapView) (frame : ℕ) (state : State) (arrivals : List Arrival)
         delay_is = then_away.delay_is;
         away = away_there records (state_after map r journal).records id (frame + then_away.delay) (thing_after id from) then_away.away;
       }
+
+  -- the frame in which it returns is its state
+  pub returns_later : (id place delay : ℕ) → HasTaken journal place id → delay_of map id ≡ Some delay → IsInState (state_after map r journal).records id (frame + delay)
+  returns_later id place delay has delay_is =
+      let then_away = away_later id place has in
+      let same : then_away.delay ≡ delay = same_Some then_away.delay delay (sym then_away.delay_is ∙ delay_is) in
+      record { now = then_away.away.item; at = then_away.away.at; state_is = then_away.away.state ∙ ap (λ (d : ℕ). frame + d) same }
 
   -- at most one entry has an item
   pub one_taker : (id place other : ℕ) → HasTaken journal place id → HasTaken journal other id → other ≡ place

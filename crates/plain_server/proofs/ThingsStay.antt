@@ -1,5 +1,5 @@
 -- The packets of a frame and its end leave the records of the things of the map as they were.
-use Rattle.std.proofs.Common.{◌≡◌, ◌≢◌, ◌⊎◌, ℕ, ◌+◌, ◌<◌, ◌≤◌, List, [], ◌∷◌, length, Option, Some, None, if◌then◌else◌, inl, inr, refl, sym, ap, ◌∙◌, arith, get_or-set_other}
+use Rattle.std.proofs.Common.{◌≡◌, ◌≢◌, ◌⊎◌, ℕ, ◌+◌, ◌≤◌, List, [], ◌∷◌, length, Option, Some, None, if◌then◌else◌, inl, inr, refl, ap, ◌∙◌, arith, get_or-set_other}
 use Rattle.std.proofs.lemmas.List.{get_or_past, length-set}
 use Rattle.entity_recs.specs.declared.rec.Rec.{Rec}
 use Rattle.packet_read.specs.Reading.{reading}
@@ -7,7 +7,7 @@ use Rattle.arena_map.specs.Maps.{MapView}
 use Rattle.world_tree.specs.Live.{record_at}
 use Rattle.client_ports.specs.declared.arrival.Arrival.{Arrival}
 use Rattle.client_ports.specs.declared.client.Client.{Client}
-use Rattle.client_ports.specs.Clients.{client_at, live_slot, new_client, AreClients}
+use Rattle.client_ports.specs.Clients.{client_at, new_client}
 use Rattle.client_ports.specs.States.{State, newcomer, IsServerState}
 use Rattle.client_ports.specs.Receiving.{Receiving, receiving_of, after_arrival, after_arrivals, received}
 use Rattle.client_ports.specs.Lists.{no_lists}

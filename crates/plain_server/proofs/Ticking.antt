@@ -14,20 +14,18 @@ use Rattle.plain_server.proofs.Players.{live_record}
 
 -- the state is a server's after the tick
 pub server_ticked : (map : MapView) (frame : ℕ) (state : State) → IsMap map → IsServerState map state → IsServerState map (state_after_tick map frame state)
-server_ticked map frame state is_map is =
-    let same = ids_stay map frame state.records in
-    record {
-      clients = is.clients;
-      places = same.count ∙ is.places;
-      fits = record {
-        live = record { same = λ slot below. is.fits.live.same slot below ∙ sym (same.live slot) };
-        valid = worlds_stay_valid map frame state.records is_map is.fits.valid;
-      };
-    }
+server_ticked map frame state is_map is = record {
+  clients = is.clients;
+  places = (ids_stay map _ state.records).count ∙ is.places;
+  fits = record {
+    live = record { same = λ slot below. is.fits.live.same slot below ∙ sym ((ids_stay map _ state.records).live slot) };
+    valid = worlds_stay_valid map _ state.records is_map is.fits.valid;
+  };
+}
 
 -- its bodies are clear
 pub clear_ticked : (map : MapView) (frame : ℕ) (state : State) → IsMap map → IsServerState map state → AreClear map state.records → AreClear map (state_after_tick map frame state).records
-clear_ticked map frame state is_map is clear = players_keep_room map frame state.records is_map is.fits.valid clear
+clear_ticked map frame state is_map is clear = players_keep_room map _ state.records is_map is.fits.valid clear
 
 -- and an item that returns in a later frame is as it was
 pub waits : (map : MapView) (frame id : ℕ) (item : Rec) (records : List (Option Rec)) → IsMap map → IsValidWorld map records → record_at records id ≡ Some item → is_item item.kind ≡ true

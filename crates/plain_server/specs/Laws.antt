@@ -9,11 +9,13 @@ use Rattle.arena_map.specs.Validity.{IsValidWorld, AreClear}
 use Rattle.arena_actions.specs.Outcomes.{outcome_in}
 use Rattle.client_ports.specs.declared.arrival.Arrival.{Arrival}
 use Rattle.client_ports.specs.Clients.{AreClients}
-use Rattle.client_ports.specs.States.{IsServerState}
+use Rattle.client_ports.specs.States.{State, IsServerState}
 use Rattle.plain_server.specs.RecordsById.{world_of, records_in, opening}
 use Rattle.plain_server.specs.Moving.{HasLivePlayer}
-use Rattle.plain_server.specs.Frames.{AreRight, AreInOrder, journals_of, state_played}
-use Rattle.plain_server.specs.Takers.{HasTakenIn, IsSameEntry}
+use Rattle.plain_server.specs.Entries.{AreReported, HasBytes}
+use Rattle.plain_server.specs.Frames.{received_in, state_after, state_played, IsRightAfter}
+use Rattle.plain_server.specs.Frames.{AreRight, AreInOrder, journals_of}
+use Rattle.plain_server.specs.Takers.{HasTaken, HasTakenIn, IsSameEntry, IsInState}
 
 -- moves of live players, in whatever order they run, keep a valid world valid
 abbrev pub MovesKeepWorldsValid : Type 0
@@ -55,6 +57,23 @@ OrderLeavesOneJournalEach =
     (map : MapView) (frames : List (List Arrival)) (journals : List (List Entry))
     → AreRight map 0 (opening map) frames journals
     → AreInOrder map 0 (opening map) frames journals → journals ≡ journals_of map 0 (opening map) frames
+
+-- the entries of a right journal have their places, and are in range
+abbrev pub RightJournalsAreInRange : Type 0
+RightJournalsAreInRange =
+    (map : MapView) (frame : ℕ) (state : State) (arrivals : List Arrival) (journal : List Entry) → IsMap map
+    → IsServerState map state → All HasBytes arrivals → IsRightAfter map (received_in map frame state arrivals) journal
+    → AreReported 0 journal
+
+-- in a frame with a right journal at most one entry takes an item, and from then on it returns after its delay
+pub record FramesHaveOneTaker : Type 0 where
+  pub once : (map : MapView) (frame : ℕ) (state : State) (arrivals : List Arrival) (journal : List Entry) → IsMap map
+      → IsServerState map state → IsRightAfter map (received_in map frame state arrivals) journal
+      → (place other id : ℕ) → HasTaken journal place id → HasTaken journal other id → other ≡ place
+  pub away : (map : MapView) (frame : ℕ) (state : State) (arrivals : List Arrival) (journal : List Entry) → IsMap map
+      → IsServerState map state → IsRightAfter map (received_in map frame state arrivals) journal
+      → (place id delay : ℕ) → HasTaken journal place id → delay_of map id ≡ Some delay
+      → IsInState (state_after map (received_in map frame state arrivals) journal).records id (frame + delay)
 
 -- in right journals each id that an entry got is that of an item of the map
 abbrev pub OnlyItemsAreTaken : Type 0

@@ -1,6 +1,8 @@
 -- Who took an item: the entries of journals that have its id.
-use Rattle.std.specs.Prelude.{◌≡◌, ℕ, List, Some, Contains, slice_get}
+use Rattle.std.specs.Prelude.{◌≡◌, ℕ, List, Option, Some, Contains, slice_get}
 use Rattle.entity_recs.specs.declared.effect.Entry.{Entry}
+use Rattle.entity_recs.specs.declared.rec.Rec.{Rec}
+use Rattle.world_tree.specs.Live.{record_at}
 
 -- the entry at this place in a journal took the item with this id
 pub record HasTaken (journal : List Entry) (place id : ℕ) : Type 0 where
@@ -18,3 +20,9 @@ pub record HasTakenIn (journals : List (List Entry)) (frame place id : ℕ) : Ty
 pub record IsSameEntry (frame place later other : ℕ) : Type 0 where
   pub frame_is : later ≡ frame
   pub place_is : other ≡ place
+
+-- the record with this id is live, in this state
+pub record IsInState (records : List (Option Rec)) (id state : ℕ) : Type 0 where
+  pub now : Rec
+  pub at : record_at records id ≡ Some now
+  pub state_is : now.state ≡ state

@@ -1,4 +1,4 @@
-ghost use Rattle.plain_server.specs.Laws.{MovesKeepWorldsValid, WorldsStayValid, PortsStayApart, PlayersKeepRoom, JournalsAreRightInOrder, OrderLeavesOneJournalEach, OnlyItemsAreTaken, ItemsHaveOneTaker, TakenItemsStayAway};
+ghost use Rattle.plain_server.specs.Laws.{MovesKeepWorldsValid, WorldsStayValid, PortsStayApart, PlayersKeepRoom, JournalsAreRightInOrder, OrderLeavesOneJournalEach, RightJournalsAreInRange, FramesHaveOneTaker, OnlyItemsAreTaken, ItemsHaveOneTaker, TakenItemsStayAway};
 
 /// Moves of live players, in whatever order they run, keep a valid world valid.
 pub fn moves_keep_worlds_valid()
@@ -31,6 +31,18 @@ pub fn order_leaves_one_journal_each()
     ensures { OrderLeavesOneJournalEach }
 {}
 
+/// In a right journal of a frame each entry has its place, a player's slot, a number of 32 bits, an origin at most 1,048,576
+/// sub-units from 0 on each axis, and at most 8 ids of 16 bits.
+pub fn right_journals_are_in_range()
+    ensures { RightJournalsAreInRange }
+{}
+
+/// In a right journal of a frame at most one entry takes an item, whose state after the frame is the frame's number plus
+/// the item's delay.
+pub fn frames_have_one_taker()
+    ensures { FramesHaveOneTaker }
+{}
+
 /// In right journals of any frames, each id that an entry got is that of an item of the map.
 pub fn only_items_are_taken()
     ensures { OnlyItemsAreTaken }
@@ -41,8 +53,8 @@ pub fn items_have_one_taker()
     ensures { ItemsHaveOneTaker }
 {}
 
-/// In right journals of any frames, an item that an entry took stays away for its delay: in as many frames as the delay says,
-/// from that one on, no other entry takes it.
+/// In right journals of any frames, an item that an entry took stays away for its delay: in as many frames as the delay
+/// says, from that one on, no other entry takes it.
 pub fn taken_items_stay_away()
     ensures { TakenItemsStayAway }
 {}

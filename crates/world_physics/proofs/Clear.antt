@@ -69,8 +69,7 @@ not_player : (kind : Kind) → kind ≡ kinds.Lift → kind ≡ kinds.Player →
 not_player kind a b = let both : kinds.Lift ≡ kinds.Player = sym a ∙ b in cc
 
 module _ (map : MapView) (records : List (Option Rec)) (id : ℕ) (step : LiftStep) (is_map : IsMap map) (valid : IsValidWorld map records) (is : IsStepAt map records id step)
-  (free : is_stopped map step records ≡ false) (clear : AreClear map records) where
-
+    (free : is_stopped map step records ≡ false) (clear : AreClear map records) where
   -- how a record moves in the step
   data Move (k : ℕ) (r new : Rec) : Type 0 where
     lifted : k ≡ id → new ≡ step.after → Move k r new

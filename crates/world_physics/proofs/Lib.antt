@@ -14,3 +14,4 @@ pub mod Through
 pub mod Kept
 pub mod Shafts
 pub mod Clear
+pub mod Given

@@ -52,11 +52,11 @@ valid-changed map change records valid keeps = record {
 -- ---- items that return
 
 -- a record whose state may change is as its line says in any state
-any_state : (lift : Option Lift) (thing r : Rec) (state : ℕ) → IsAsItsLine lift thing r → IsAsItsLine lift thing (with_state r state)
+pub any_state : (lift : Option Lift) (thing r : Rec) (state : ℕ) → IsAsItsLine lift thing r → IsAsItsLine lift thing (with_state r state)
 any_state None thing r state is = record { kind = is.kind; origin = is.origin; mins = is.mins; maxs = is.maxs }
 any_state (Some lift) thing r state is = record { kind = is.kind; x = is.x; y = is.y; low = is.low; high = is.high; mins = is.mins; maxs = is.maxs }
 
-item_state : (kind : Kind) (state : ℕ) → is_item kind ≡ true → IsStateOf kind state
+pub item_state : (kind : Kind) (state : ℕ) → is_item kind ≡ true → IsStateOf kind state
 item_state kinds.Ammo state is = tt
 item_state kinds.Gem state is = tt
 item_state kinds.Player state is = cc
@@ -72,7 +72,7 @@ three_first false b c h = cc
 pub due_is_item : (frame : ℕ) (r : Rec) → is_due frame r ≡ true → is_item r.kind ≡ true
 due_is_item frame r due = three_first (is_item r.kind) _ _ due
 
-valid_in_state : (map : MapView) (id : ℕ) (r : Rec) (state : ℕ) → IsValidRecord map id r → IsStateOf r.kind state → IsValidRecord map id (with_state r state)
+pub valid_in_state : (map : MapView) (id : ℕ) (r : Rec) (state : ℕ) → IsValidRecord map id r → IsStateOf r.kind state → IsValidRecord map id (with_state r state)
 valid_in_state map id r state valid is =
     let rec = valid.is_record in
     record {
@@ -135,8 +135,7 @@ kind_of_thing : (kind : Kind) (id : ℕ) → IsIdOf kind id → 64 ≤ id → ki
 kind_of_thing kind id own past is = let P : Kind → Type 0 = λ k. IsIdOf k id in let below = subst P is own in omega (arith, below, past)
 
 module _ (map : MapView) (records : List (Option Rec)) (id : ℕ) (step : LiftStep) (is_map : IsMap map) (valid : IsValidWorld map records) (is : IsStepAt map records id step)
-  (free : is_stopped map step records ≡ false) where
-
+    (free : is_stopped map step records ≡ false) where
   -- who is carried is as valid where it gets to
   pub carried_valid : (k : ℕ) (r : Rec) → record_at records k ≡ Some r → is_carried step r ≡ true → IsValidRecord map k (raised r step.up)
   carried_valid k r at carried =

@@ -12,4 +12,6 @@ mod laws;
 mod lift_step;
 mod pressing;
 mod returns;
+#[cfg(test)]
+mod tests;
 mod ticking;
