@@ -11,11 +11,11 @@ use Rattle.move_journal.specs.Merges.{IsInOrder, journal_in_order}
 use Rattle.move_journal.proofs.JournalLaws.{moves_in_order_are_right, run-in_order}
 use Rattle.arena_map.specs.Maps.{MapView, IsMap}
 use Rattle.client_ports.specs.declared.arrival.Arrival.{Arrival}
-use Rattle.client_ports.specs.States.{State, state_of, IsServerState}
+use Rattle.client_ports.specs.States.{State, state_of, HaveSameLive, IsServerState}
 use Rattle.client_ports.specs.Receiving.{Receiving}
 use Rattle.client_ports.specs.Finishing.{finished}
 use Rattle.client_ports.proofs.Staying.{server_finished}
-use Rattle.frame_phases.specs.Servers.{ServerView, server_view, server_after}
+use Rattle.frame_phases.specs.Servers.{ServerView, server_view, server_after, IsServer}
 use Rattle.plain_server.specs.RecordsById.{world_of, records_in}
 use Rattle.arena_actions.specs.Outcomes.{outcome_in}
 use Rattle.plain_server.specs.Moving.{HasLivePlayer, HaveMoved}
@@ -92,3 +92,25 @@ frame_of t arrivals r new next journal r_is frame = record {
   next_is = ap (λ (s : State). server_view t.map s (t.frames + 1)) (frame.next_is ∙ ap (λ (q : Receiving). state_after t.map q journal) r_is);
   fits = frame.fits;
 }
+
+-- what the receive pass leaves, from what the code's calls ensure: it began from a copy of the state
+pub frame_got : (t : ServerView) (arrivals : List Arrival) (shown : MapView) (started : State) (r : Receiving) → IsServer t.map t.state → shown ≡ t.map → started ≡ t.state
+    → r ≡ received_in shown t.frames started arrivals → IsReceived t.map r arrivals
+frame_got t arrivals shown started r is shown_is started_is r_is =
+    is_received t.map t.frames t.state arrivals r is.is_map is.fits (r_is ∙ (λ i. received_in (shown_is i) t.frames (started_is i) arrivals))
+
+-- and the whole frame
+pub whole_frame : (server t : ServerView) (arrivals : List Arrival) (shown : MapView) (started : State) (r : Receiving) (moves : List Cmd) (new : List (Option Rec)) (next : State) (journal : List reports.Entry)
+    → t ≡ server → IsServer t.map t.state → shown ≡ t.map → started ≡ t.state → r ≡ received_in shown t.frames started arrivals → map command_of moves ≡ r.lists.moves
+    → HaveMoved t.map r.state.records new (map command_of moves) → journal ≡ journal_in_order (outcome_in t.map) (world_of r.state.records) (map command_of moves)
+    → next ≡ finished (state_of r.state.clients new) → IsFrameOf server arrivals new next journal
+whole_frame server t arrivals shown started r moves new next journal view is shown_is started_is r_is moves_are moved journal_is next_is =
+    let got = frame_got t arrivals shown started r is shown_is started_is r_is in
+    let frame = is_frame t.map r arrivals moves new next journal got moves_are moved journal_is next_is in
+    subst (λ (u : ServerView). IsFrameOf u arrivals new next journal) view
+    (frame_of t arrivals r new next journal (r_is ∙ (λ i. received_in (shown_is i) t.frames (started_is i) arrivals)) frame)
+
+-- the live slots are the live players still
+pub live_after : (t : ServerView) (arrivals : List Arrival) (r : Receiving) (moves : List Cmd) (new : List (Option Rec)) → IsReceived t.map r arrivals → HaveMoved t.map r.state.records new (map command_of moves)
+    → HaveSameLive r.state.clients new
+live_after t arrivals r moves new got moved = (state_moved t.map r.state new (map command_of moves) got.pass.state moved).fits.live

@@ -4,3 +4,4 @@ pub mod OneMove
 pub mod Running
 pub mod Frames
 pub mod Openings
+pub mod Showing
