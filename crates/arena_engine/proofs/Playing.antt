@@ -9,9 +9,8 @@ use Rattle.move_journal.specs.Merges.{IsInOrder}
 use Rattle.arena_map.specs.Maps.{MapView, IsMap}
 use Rattle.client_ports.specs.declared.arrival.Arrival.{Arrival}
 use Rattle.client_ports.specs.States.{State}
-use Rattle.client_ports.specs.Receiving.{received}
 use Rattle.plain_server.specs.RecordsById.{opening}
-use Rattle.plain_server.specs.Frames.{state_played, IsRightAfter, journals_of}
+use Rattle.plain_server.specs.Frames.{received_in, state_played, IsRightAfter, journals_of}
 use Rattle.plain_server.proofs.Frames.{right_in_order, order_in_order}
 use Rattle.frame_phases.specs.Servers.{ServerView, server_after}
 use Rattle.demo_lines.specs.declared.stage.Stage.{Stage}
@@ -54,28 +53,28 @@ pub record IsServerAt (arena : MapView) (closed : List (List Arrival)) (js : Lis
 pub record OneMore (workers : ℕ) (arena : MapView) (closed : List (List Arrival)) (js : List (List Entry)) (arrivals : List Arrival) (new : ServerView) (j : List Entry) (lines : List OutLine) : Type 0 where
   pub run : AreRun workers arena (closed ++ arrivals ∷ []) (js ++ j ∷ [])
   pub at : IsServerAt arena (closed ++ arrivals ∷ []) (js ++ j ∷ []) new
-  pub lines_are : lines ≡ lines_with arena (0 + length closed) (received arena (0 + length closed) (state_played arena 0 (opening arena) closed js) arrivals) j
+  pub lines_are : lines ≡ lines_with arena (0 + length closed) (received_in arena (0 + length closed) (state_played arena 0 (opening arena) closed js) arrivals) j
   pub whole : lines_of arena closed js ++ lines ≡ lines_of arena (closed ++ arrivals ∷ []) (js ++ j ∷ [])
 
--- the server from its parts, whatever it shows
+-- the server from its parts
 same_server : (arena : MapView) (closed : List (List Arrival)) (js : List (List Entry)) (server : ServerView) → IsServerAt arena closed js server
-    → server ≡ record { map = arena; state = state_played arena 0 (opening arena) closed js; frames = 0 + length closed; shown = server.shown }
+    → server ≡ record { map = arena; state = state_played arena 0 (opening arena) closed js; frames = 0 + length closed }
 same_server arena closed js server at =
     let count : server.frames ≡ 0 + length closed = omega (arith, at.frames) in
-    λ i. record { map = at.map i; state = at.state i; frames = count i; shown = server.shown }
+    λ i. record { map = at.map i; state = at.state i; frames = count i }
 
 one_more : (workers : ℕ) (arena : MapView) (closed : List (List Arrival)) (js : List (List Entry)) (arrivals : List Arrival) (old new : ServerView) (j : List Entry) → AreRun workers arena closed js
     → IsServerAt arena closed js old → RunsFrame old new arrivals j
-    → OneMore workers arena closed js arrivals new j (lines_with old.map old.frames (received old.map old.frames old.state arrivals) j)
+    → OneMore workers arena closed js arrivals new j (lines_with old.map old.frames (received_in old.map old.frames old.state arrivals) j)
 one_more workers arena closed js arrivals old new j run at runs =
     let same = same_server arena closed js old at in
     let s = state_played arena 0 (opening arena) closed js in
     let count = length-right arena 0 (opening arena) closed js run.right in
-    let right = subst (λ (t : ServerView). IsRightAfter t.map (received t.map t.frames t.state arrivals) j) same runs.right in
-    let order = subst (λ (t : ServerView). IsInOrder j (received t.map t.frames t.state arrivals).lists.moves) same runs.order in
+    let right = subst (λ (t : ServerView). IsRightAfter t.map (received_in t.map t.frames t.state arrivals) j) same runs.right in
+    let order = subst (λ (t : ServerView). IsInOrder j (received_in t.map t.frames t.state arrivals).lists.moves) same runs.order in
     let next = runs.next ∙ ap (λ (t : ServerView). server_after t arrivals j) same in
-    let lines : lines_with old.map old.frames (received old.map old.frames old.state arrivals) j ≡ lines_with arena (0 + length closed) (received arena (0 + length closed) s arrivals) j =
-    ap (λ (t : ServerView). lines_with t.map t.frames (received t.map t.frames t.state arrivals) j) same in
+    let lines : lines_with old.map old.frames (received_in old.map old.frames old.state arrivals) j ≡ lines_with arena (0 + length closed) (received_in arena (0 + length closed) s arrivals) j =
+    ap (λ (t : ServerView). lines_with t.map t.frames (received_in t.map t.frames t.state arrivals) j) same in
     record {
       run = record { right = right-push arena 0 (opening arena) closed arrivals js j run.right right; order = λ one. in_order-push arena 0 (opening arena) closed arrivals js j (run.order one) order };
       at = record {

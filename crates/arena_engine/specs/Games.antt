@@ -4,8 +4,7 @@ use Rattle.entity_recs.specs.declared.effect.Entry.{Entry}
 use Rattle.move_journal.specs.Merges.{IsInOrder}
 use Rattle.arena_map.specs.Maps.{MapView}
 use Rattle.client_ports.specs.declared.arrival.Arrival.{Arrival}
-use Rattle.client_ports.specs.Receiving.{received}
-use Rattle.plain_server.specs.Frames.{IsRightAfter}
+use Rattle.plain_server.specs.Frames.{received_in, IsRightAfter}
 use Rattle.frame_phases.specs.Servers.{ServerView, new_server, server_after}
 use Rattle.demo_lines.specs.declared.event.Event.{Event}
 use Rattle.demo_lines.specs.declared.event.Event.TheVariants.{Frame, From, End}
@@ -24,8 +23,8 @@ new_game map = record { server = new_server map; opened = None; journal = [] }
 
 -- a frame with these packets was run: its journal is right, with the moves in the order of arrival
 pub record RunsFrame (old new : ServerView) (arrivals : List Arrival) (journal : List Entry) : Type 0 where
-  pub right : IsRightAfter old.map (received old.map old.frames old.state arrivals) journal
-  pub order : IsInOrder journal (received old.map old.frames old.state arrivals).lists.moves
+  pub right : IsRightAfter old.map (received_in old.map old.frames old.state arrivals) journal
+  pub order : IsInOrder journal (received_in old.map old.frames old.state arrivals).lists.moves
   pub next : new ≡ server_after old arrivals journal
 
 -- the frame that was open was run; where none was, the server is as it was
@@ -37,7 +36,7 @@ ClosesFrame old new (Some arrivals) journal = RunsFrame old new arrivals journal
 abbrev pub closing_lines : ServerView → Option (List Arrival) → List Entry → List OutLine
 closing_lines server None journal = []
 closing_lines server (Some arrivals) journal =
-    lines_with server.map server.frames (received server.map server.frames server.state arrivals) journal
+    lines_with server.map server.frames (received_in server.map server.frames server.state arrivals) journal
 
 -- the game after an event
 pub record Goes (old new : GameView) (opened : Option (List Arrival)) : Type 0 where

@@ -8,8 +8,8 @@ pub use Rattle.arena_map.specs.Maps
 pub use Rattle.client_ports.specs.States
 pub use Rattle.client_ports.specs.Receiving
 pub use Rattle.plain_server.specs.RecordsById
-pub use Rattle.plain_server.specs.Outcomes
 pub use Rattle.plain_server.specs.Frames
+pub use Rattle.plain_server.specs.Replies
 pub use Rattle.frame_phases.specs.Servers
 pub use Rattle.out_text.specs.OutLines
 pub use Rattle.out_text.specs.FrameLines

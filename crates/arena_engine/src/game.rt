@@ -3,9 +3,8 @@ use arena_map::ArenaMap;
 use client_ports::Arrival;
 use demo_lines::Event;
 use edge_io::{Sink, write_whole};
-use frame_phases::{FrameOut, Server};
+use frame_phases::{FrameOut, Server, run_frame};
 use out_text::{OutLine, push_frame_lines, push_line};
-use snapshot_write::ReplyBuf;
 use std::alloc::{AllocError, Global};
 use std::marker::Model;
 
@@ -14,8 +13,6 @@ use std::marker::Model;
 pub struct Game {
     server: Server,
     out: FrameOut,
-    /// For the bytes of a snapshot.
-    reply: ReplyBuf,
     is_open: bool,
     arrivals: Vec<Arrival>,
 }
@@ -43,7 +40,8 @@ impl Game {
     ghost use Rattle.arena_engine.specs.Games.{new_game, event_lines, closing_lines, ClosesFrame, GoesOn, IsReady};
     ghost use Rattle.arena_engine.specs.Stops.{OnWriteFault, OnMemory, IsGameStop};
 
-    /// A game in this arena, before the first event. It takes all memory but that for the text of frames and the packets.
+    /// A game in this arena, before the first event. It takes all memory but that for the packets, the moves and the text of
+    /// frames.
     pub fn new(alloc: Global, map: ArenaMap) -> Result<Game, AllocError>
         ensures game { IfOk result (λ game. game ≡ new_game map) }
         ensures rules { OnOk result (IsMap map) }
@@ -51,7 +49,6 @@ impl Game {
         Ok(Game {
             server: Server::new(alloc, map)?,
             out: FrameOut::new(alloc)?,
-            reply: ReplyBuf::new(alloc)?,
             is_open: false,
             arrivals: Vec::new(alloc),
         })
@@ -69,16 +66,21 @@ impl Game {
         if !self.is_open {
             return Ok(text);
         }
-        self.server
-            .run_frame(self.arrivals.as_slice(), &mut self.out);
+        run_frame(
+            alloc,
+            &mut self.server,
+            self.arrivals.as_slice(),
+            &mut self.out,
+        )?;
+        let out = &self.out;
         push_frame_lines(
             alloc,
             &mut text,
-            &mut self.reply,
-            self.out.frame,
-            &self.out.received,
-            self.out.journal.as_slice(),
-            self.server.before_leaves(),
+            out.frame,
+            &out.received,
+            out.journal.as_slice(),
+            out.slots.as_slice(),
+            out.replies.as_slice(),
         )?;
         self.is_open = false;
         Ok(text)

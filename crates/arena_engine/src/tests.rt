@@ -11,6 +11,7 @@ use std::test::Fail;
 
 mod full;
 mod pipe;
+mod things;
 
 const ARENA: &str = "arena -131072 -131072 0 131072 131072 65536\n";
 

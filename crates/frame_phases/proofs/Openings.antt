@@ -35,9 +35,14 @@ nobody-joined map = refl
 pub opened-is : (map : MapView) (records : List (Option Rec)) (clients : List (Option Client)) → records ≡ (opening map).records → clients ≡ no_clients → state_of clients records ≡ opening map
 opened-is map records clients records_are nobody = λ i. state_of ((nobody ∙ sym (nobody-joined map)) i) (records_are i)
 
-pub opened_is_server : (map : MapView) (records : List (Option Rec)) (clients : List (Option Client)) → IsMap map → records ≡ (opening map).records → clients ≡ no_clients
-    → IsServer map (state_of clients records)
-opened_is_server map records clients is_map records_are nobody = record {
-  is_map = is_map;
-  fits = subst (IsServerState map) (sym (opened-is map records clients records_are nobody)) (opening_is map is_map);
-}
+-- a server whose state is the opening one, and whose two worlds are the opening one
+pub first_server : (map one other : MapView) (clients : List (Option Client)) (w v : WorldView) → one ≡ map → other ≡ map → IsMap map → state_of clients w.records ≡ opening one
+    → w ≡ with_records (empty_world one.bounds) (entities_of one) → v ≡ with_records (empty_world other.bounds) (entities_of other)
+    → IsServer map (state_of clients w.records) × (v.tree ≡ w.tree)
+first_server map one other clients w v one_is other_is is_map state world next = (
+  record {
+    is_map = is_map;
+    fits = subst (IsServerState map) (sym (state ∙ ap opening one_is)) (opening_is map is_map);
+  },
+  ap (λ (u : WorldView). u.tree) (next ∙ ap (λ (m : MapView). with_records (empty_world m.bounds) (entities_of m)) (other_is ∙ sym one_is) ∙ sym world),
+)

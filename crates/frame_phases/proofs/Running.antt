@@ -14,7 +14,7 @@ use Rattle.move_journal.specs.Merges.{journal_in_order}
 use Rattle.arena_map.specs.Maps.{MapView, IsMap}
 use Rattle.arena_map.specs.Validity.{IsValidWorld}
 use Rattle.plain_server.specs.RecordsById.{world_of}
-use Rattle.plain_server.specs.Outcomes.{outcome_in}
+use Rattle.arena_actions.specs.Outcomes.{outcome_in}
 use Rattle.plain_server.specs.Moving.{HasLivePlayer, HaveMoved, effect_among, records_after}
 use Rattle.plain_server.proofs.Moves.{moved-none, moved-more, still-live}
 

@@ -1,16 +1,21 @@
-//! The frame as one call: the receive pass, the moves, and the leaves.
+//! The frame as one call: the tick, the receive pass, the moves, the replies, and the leaves.
 #![tactic(auto)]
 
 pub use frame_out::FrameOut;
 pub use laws::limits_are_known;
 pub use limits::{MOST_ARRIVALS, MOST_FRAMES};
-pub use server::Server;
+pub use replies::ReplyList;
+pub use server::{Server, run_frame};
+pub use slots::{MOST_SLOTS, SlotList};
 
-mod bodies;
 mod frame_out;
 mod laws;
 mod limits;
 mod moves;
+mod replies;
 mod server;
+mod shows;
+mod slots;
+mod state;
 #[cfg(test)]
 mod tests;

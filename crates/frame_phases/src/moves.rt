@@ -1,66 +1,53 @@
-ghost use Rattle.std.specs.Prelude.{◌≡◌, ◌≤◌, [], length, map as map_list, All};
+ghost use Rattle.std.specs.Prelude.{◌≡◌, ◌≤◌, ◌==◌, [], length, map as map_list, All, IsSome};
+ghost use Rattle.std.specs.List.{IsDistinct};
 ghost use Rattle.entity_recs.specs.Commands.{command_of};
 ghost use Rattle.move_journal.specs.Merges.{journal_in_order};
 ghost use Rattle.arena_map.specs.Validity.{IsValidWorld};
+ghost use Rattle.arena_actions.specs.Outcomes.{outcome_in};
+ghost use Rattle.world_tree.specs.Live.{record_at};
 ghost use Rattle.plain_server.specs.RecordsById.{world_of};
-ghost use Rattle.plain_server.specs.Outcomes as outcomes;
-ghost use Rattle.plain_server.specs.Outcomes.{outcome_in};
-ghost use Rattle.plain_server.specs.Moving.{HasLivePlayer, HaveMoved, effect_among, records_after};
+ghost use Rattle.plain_server.specs.Moving.{HasLivePlayer, HaveMoved, effect_among, records_after, with_new_states};
 
-use crate::bodies::Bodies;
+use arena_actions::ArenaAction;
 use arena_geo::Region;
-use arena_map::ArenaMap;
-use entity_recs::{Cmd, Entry, IdList, Rec, Reply};
+use entity_recs::{Cmd, Effect, Entry, NewState, Rec, Reply};
 use move_journal::Journal;
-use player_move::{Moved, move_player};
 use world_tree::{NearList, World};
 
-/// The flags after a move: bit 0 says that it began on the ground.
-fn flags(ground: bool) -> u8
-    ensures { result ≡ outcomes.flags_of ground }
+/// Gives records, which are live, their new states.
+fn set_states(world: &mut World, states: &[NewState])
+    requires live { All (λ s. IsSome (record_at world.old.records s.id)) states.now }
+    requires apart { IsDistinct (λ a b. a.id == b.id) states.now }
+    ensures records { world.new.records ≡ with_new_states states.now world.old.records }
+    ensures tree { world.new.tree ≡ world.old.tree }
 {
-    u8::from(ground)
-}
-
-/// The player after a move, and after the command with this number.
-fn after_move(me: &Rec, moved: &Moved, seq: u32) -> Rec
-    ensures { result ≡ outcomes.after_move me.now moved.now seq }
-{
-    Rec {
-        origin: moved.origin,
-        vel: moved.vel,
-        flags: flags(moved.ground),
-        seq,
-        ..*me
+    // To ask for the tree is to know that each record has its own id.
+    let _tree = world.tree();
+    for new in states {
+        let r = world.get(new.id).unwrap();
+        world.relink(Rec {
+            state: new.state,
+            ..r
+        });
     }
 }
 
-/// Runs one move of a live player, and gives its reply. `near` is for the other live records, and `bodies` for those of
-/// the solids among them.
-fn run_move(
-    map: &ArenaMap,
-    world: &mut World,
-    cmd: &Cmd,
-    near: &mut NearList,
-    bodies: &mut Bodies,
-) -> Reply
-    requires valid { IsValidWorld map.now world.old.records }
+/// Runs one move of a live player, and gives its reply. `near` is for the other live records.
+fn run_move(action: &ArenaAction, world: &mut World, cmd: &Cmd, near: &mut NearList) -> Reply
+    requires valid { IsValidWorld action.now.map world.old.records }
     requires live { HasLivePlayer world.old.records (command_of cmd.now) }
-    ensures reply { result ≡ (effect_among map.now world.old.records (command_of cmd.now)).reply }
-    ensures moved { world.new.records ≡ records_after map.now world.old.records (command_of cmd.now) }
+    ensures reply { result ≡ (effect_among action.now.map world.old.records (command_of cmd.now)).reply }
+    ensures moved { world.new.records ≡ records_after action.now.map world.old.records (command_of cmd.now) }
     ensures tree { world.new.tree ≡ world.old.tree }
 {
     let slot = u16::from(cmd.slot);
     let me = world.get(slot).unwrap();
     near.clear();
-    world.near(&Region::one(*map.bounds()), slot, near);
-    bodies.take_solids(near.as_slice());
-    let moved = move_player(&me, cmd, map.solids(), bodies.as_slice());
-    world.relink(after_move(&me, &moved, cmd.seq));
-    Reply {
-        origin: moved.origin,
-        got: IdList::new(),
-    }
+    world.near(&Region::one(*action.map().bounds()), slot, near);
+    let Effect { me, states, reply } = action.act(&me, near.as_slice(), cmd);
+    set_states(world, states.as_slice());
+    world.relink(me);
+    reply
 }
 
 /// The entry of a command that was run at this place.
@@ -75,30 +62,29 @@ fn entry(place: u64, cmd: &Cmd, reply: Reply) -> Entry
     }
 }
 
-/// Runs the moves of live players, one after another, and puts what was done into the journal. `bodies` is for those of the
-/// solids that are in a player's way. It takes no memory.
+/// Runs the moves of live players, one after another, and puts what was done into the journal. `near` is for the records
+/// that a move looks at. It takes no memory.
 pub fn run_moves(
-    map: &ArenaMap,
+    action: &ArenaAction,
     world: &mut World,
     moves: &[Cmd],
-    bodies: &mut Bodies,
+    near: &mut NearList,
     journal: &mut Journal,
 )
-    requires valid { IsValidWorld map.now world.old.records }
+    requires valid { IsValidWorld action.now.map world.old.records }
     requires live { All (HasLivePlayer world.old.records) (map_list command_of moves.now) }
     requires empty { journal.old.entries ≡ [] }
     requires room { length moves.now ≤ journal.old.room }
-    ensures moved { HaveMoved map.now world.old.records world.new.records (map_list command_of moves.now) }
+    ensures moved { HaveMoved action.now.map world.old.records world.new.records (map_list command_of moves.now) }
     ensures journal { journal.new.entries
-        ≡ journal_in_order (outcome_in map.now) (world_of world.old.records) (map_list command_of moves.now) }
+        ≡ journal_in_order (outcome_in action.now.map) (world_of world.old.records) (map_list command_of moves.now) }
     ensures room { journal.new.room ≡ journal.old.room }
     ensures tree { world.new.tree ≡ world.old.tree }
 {
-    let _bounds = map.bounds();
-    let mut near = NearList::new();
+    let _map = action.map();
     let mut place = 0;
     for cmd in moves {
-        let reply = run_move(map, world, cmd, &mut near, bodies);
+        let reply = run_move(action, world, cmd, near);
         journal.push(entry(place, cmd, reply));
         place += 1;
     }

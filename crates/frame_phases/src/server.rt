@@ -1,88 +1,66 @@
-ghost use Rattle.std.specs.Prelude.{◌≡◌, IfOk};
-ghost use Rattle.arena_map.specs.Maps.{IsMap, entities_of};
-ghost use Rattle.world_tree.specs.Worlds.{empty_world, with_records};
-ghost use Rattle.plain_server.specs.RecordsById.{opening};
+ghost use Rattle.std.specs.Prelude.{◌≡◌, ◌<◌, ◌≤◌, length, OnOk, OnErr};
+ghost use Rattle.move_journal.specs.Merges.{IsInOrder};
+ghost use Rattle.plain_server.specs.Frames.{received_in, moved_by, IsRightAfter};
+ghost use Rattle.plain_server.specs.Replies.{slots_of, replies_of};
+ghost use Rattle.frame_phases.specs.declared.limits.TheConstants.{MOST_ARRIVALS, MOST_FRAMES};
+ghost use Rattle.frame_phases.specs.Servers.{server_after};
+ghost use Rattle.frame_phases.specs.FrameOuts.{IsEmpty};
 
-use crate::bodies::Bodies;
 use crate::frame_out::FrameOut;
-use crate::limits::{MOST_ARRIVALS, MOST_FRAMES};
 use crate::moves::run_moves;
+use crate::shows::show_players;
+use crate::state::State;
+use arena_actions::ArenaAction;
 use arena_map::ArenaMap;
-use client_ports::{Arrival, Ports};
+use client_ports::Arrival;
 use std::alloc::{AllocError, Global};
 use std::marker::Model;
-use world_tree::World;
+use std::mem;
+use world_tree::NearList;
 
-/// The server between two frames: its map, the linked world, who is joined, and how many frames were run.
+/// The server between two frames: the action of its map's arena, its state, and how many frames were run.
 #[derive(Drop)]
 pub struct Server {
-    map: ArenaMap,
-    world: World,
-    ports: Ports,
+    action: ArenaAction,
+    state: State,
+    /// What a frame works on, before it becomes the state. Between two frames it has the state before the last one.
+    next: State,
     frames: u32,
-    /// The world after the last frame's moves, with those that left at its end.
-    shown: World,
-    /// For the bodies of the solids that are in a player's way.
-    bodies: Bodies,
 }
 
-// Clauses see the map, the clients by slot beside the records by id, the number of frames, and the records before the leaves.
+// Clauses see the map, the clients by slot beside the records by id, and the number of frames.
 impl Model for Server {
     ghost use Rattle.std.specs.Prelude.{◌≡◌};
     ghost use Rattle.client_ports.specs.States.{state_of};
-    ghost use Rattle.frame_phases.specs.Servers.{ServerView, IsServer};
+    ghost use Rattle.frame_phases.specs.Servers.{ServerView, server_view, IsServer};
 
     ghost Value = { ServerView };
 
-    ghost view = { λ s. record { map = s.map; state = state_of s.ports s.world.records; frames = s.frames; shown = s.shown.records } };
+    ghost view = { λ s. server_view s.action.map (state_of s.state.ports s.state.world.records) s.frames };
 
-    ghost invariant = { λ s. IsServer s.map (state_of s.ports s.world.records) × (s.shown.tree ≡ s.world.tree) };
-}
-
-/// The world before the first frame: the things of the map, each at its id.
-fn opening_world(alloc: Global, map: &ArenaMap) -> Result<World, AllocError>
-    ensures made { IfOk result (λ w. w ≡ with_records (empty_world map.now.bounds) (entities_of map.now)) }
-    ensures records { IfOk result (λ w. w.records ≡ (opening map.now).records) }
-    ensures rules { IsMap map.now }
-{
-    World::new(alloc, map.bounds(), map.entities())
+    ghost invariant = { λ s. IsServer s.action.map (state_of s.state.ports s.state.world.records)
+        × (s.next.world.tree ≡ s.state.world.tree) };
 }
 
 impl Server {
-    ghost use Rattle.std.specs.Prelude.{◌≡◌, ◌<◌, ◌≤◌, length, IfOk, OnOk};
-    ghost use Rattle.move_journal.specs.Merges.{IsInOrder};
-    ghost use Rattle.client_ports.specs.Receiving.{received};
+    ghost use Rattle.std.specs.Prelude.{◌≡◌, IfOk, OnOk};
     ghost use Rattle.arena_map.specs.Maps.{IsMap};
-    ghost use Rattle.plain_server.specs.RecordsById.{opening};
-    ghost use Rattle.plain_server.specs.Frames.{IsRightAfter};
-    ghost use Rattle.frame_phases.specs.Servers.{new_server, server_after, IsServer};
+    ghost use Rattle.frame_phases.specs.Servers.{new_server};
 
-    /// A server of this map before the first frame. It takes all memory that the server ever needs.
+    /// A server of this map before the first frame. The only error is that memory is refused; the map is then gone.
     pub fn new(alloc: Global, map: ArenaMap) -> Result<Server, AllocError>
         ensures server { IfOk result (λ server. server ≡ new_server map) }
         ensures rules { OnOk result (IsMap map) }
     {
-        let world = opening_world(alloc, &map)?;
-        let shown = opening_world(alloc, &map)?;
-        let bodies = Bodies::new(alloc)?;
-        Ok(Server::opened(map, world, shown, bodies))
-    }
-
-    /// The server of a map before the first frame, from its parts.
-    fn opened(map: ArenaMap, world: World, shown: World, bodies: Bodies) -> Server
-        requires is_map { IsMap map }
-        requires world { world.records ≡ (opening map).records }
-        requires shown { shown ≡ world }
-        ensures { result ≡ new_server map }
-    {
-        Server {
-            map,
-            world,
-            ports: Ports::new(),
+        let action = ArenaAction::new(map);
+        let state = State::opening(alloc, action.map())?;
+        let next = State::opening(alloc, action.map())?;
+        Ok(Server {
+            action,
+            state,
+            next,
             frames: 0,
-            shown,
-            bodies,
-        }
+        })
     }
 
     /// How many frames were run.
@@ -91,47 +69,64 @@ impl Server {
     {
         self.frames
     }
+}
 
-    /// The world after the last frame's moves and before its leaves, as the replies of that frame show it; before the first
-    /// frame it is the opening world.
-    pub fn before_leaves(&self) -> &World
-        ensures { result.now.records ≡ self.now.shown }
-    {
-        &self.shown
-    }
-
-    /// Runs a frame with these packets: the receive pass, the moves in the order of arrival, and the leaves. It takes no
-    /// memory.
-    pub fn run_frame(&mut self, arrivals: &[Arrival], out: &mut FrameOut)
-        requires few { length arrivals.now ≤ MOST_ARRIVALS }
-        requires frames { self.old.frames < MOST_FRAMES }
-        ensures frame { out.new.frame ≡ self.old.frames }
-        ensures received { out.new.received.lists ≡ (received self.old.map self.old.frames self.old.state arrivals.now).lists }
-        ensures right { IsRightAfter self.old.map (received self.old.map self.old.frames self.old.state arrivals.now)
-            out.new.journal.entries }
-        ensures order { IsInOrder out.new.journal.entries
-            (received self.old.map self.old.frames self.old.state arrivals.now).lists.moves }
-        ensures next { self.new ≡ server_after self.old arrivals.now out.new.journal.entries }
-    {
-        out.frame = self.frames;
-        out.received.clear();
-        self.ports.receive(
-            &self.map,
-            &mut self.world,
-            self.frames,
-            arrivals,
-            &mut out.received,
-        );
-        out.journal.clear();
-        run_moves(
-            &self.map,
-            &mut self.world,
-            out.received.moves(),
-            &mut self.bodies,
-            &mut out.journal,
-        );
-        self.shown.copy_from(&self.world);
-        self.ports.finish(&mut self.world);
-        self.frames += 1;
-    }
+/// Runs a frame with these packets: the tick, the receive pass, the moves in the order of arrival, the replies, and the
+/// leaves. `out` is written anew.
+///
+/// The only error is that memory is refused. What a frame takes is taken after the receive pass and before the first move; no
+/// move was run then, the server is as before, and the lists of `out` are empty.
+pub fn run_frame(
+    alloc: Global,
+    server: &mut Server,
+    arrivals: &[Arrival],
+    out: &mut FrameOut,
+) -> Result<(), AllocError>
+    requires few { length arrivals.now ≤ MOST_ARRIVALS }
+    requires frames { server.old.frames < MOST_FRAMES }
+    ensures frame { OnOk result (out.new.frame ≡ server.old.frames) }
+    ensures received { OnOk result (out.new.received.lists
+        ≡ (received_in server.old.map server.old.frames server.old.state arrivals.now).lists) }
+    ensures right { OnOk result (IsRightAfter server.old.map
+        (received_in server.old.map server.old.frames server.old.state arrivals.now) out.new.journal.entries) }
+    ensures order { OnOk result (IsInOrder out.new.journal.entries
+        (received_in server.old.map server.old.frames server.old.state arrivals.now).lists.moves) }
+    ensures slots { OnOk result (out.new.slots ≡ slots_of (moved_by server.old.map
+        (received_in server.old.map server.old.frames server.old.state arrivals.now) out.new.journal.entries).records) }
+    ensures replies { OnOk result (out.new.replies ≡ replies_of server.old.frames (moved_by server.old.map
+        (received_in server.old.map server.old.frames server.old.state arrivals.now) out.new.journal.entries).records) }
+    ensures next { OnOk result (server.new ≡ server_after server.old arrivals.now out.new.journal.entries) }
+    ensures unchanged { OnErr result (server.new ≡ server.old) }
+    ensures emptied { OnErr result (IsEmpty out.new) }
+{
+    out.clear();
+    server.next.copy_from(&server.state);
+    server.next.receive(
+        server.action.map(),
+        server.frames,
+        arrivals,
+        &mut out.received,
+    );
+    let Ok(mut near) = Box::new(alloc, NearList::new()) else {
+        out.clear();
+        return Err(AllocError);
+    };
+    run_moves(
+        &server.action,
+        &mut server.next.world,
+        out.received.moves(),
+        &mut near,
+        &mut out.journal,
+    );
+    show_players(
+        &server.next.world,
+        server.frames,
+        &mut out.slots,
+        &mut out.replies,
+    );
+    server.next.ports.finish(&mut server.next.world);
+    mem::swap(&mut server.state, &mut server.next);
+    out.frame = server.frames;
+    server.frames += 1;
+    Ok(())
 }

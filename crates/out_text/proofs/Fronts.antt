@@ -4,9 +4,8 @@ use lib.Seq.{take-append-add, take-append_seam, length-take-le}
 use Rattle.entity_recs.specs.declared.effect.Entry.{Entry}
 use Rattle.arena_map.specs.Maps.{MapView, IsMap}
 use Rattle.client_ports.specs.declared.arrival.Arrival.{Arrival}
-use Rattle.client_ports.specs.Receiving.{received}
 use Rattle.plain_server.specs.RecordsById.{opening}
-use Rattle.plain_server.specs.Frames.{state_played, AreRight, AreInOrder}
+use Rattle.plain_server.specs.Frames.{received_in, state_played, AreRight, AreInOrder}
 use Rattle.plain_server.proofs.Frames.{opening_is}
 use Rattle.demo_lines.specs.Bytes.{fault, map_of}
 use Rattle.out_text.specs.OutLines.{OutLine, EndLine, text_of}
@@ -218,7 +217,7 @@ module _ (workers : ℕ) (bytes : List ℕ) (arena : MapView) (played : IsPlayed
   -- a write failed in the text of one more frame
   pub frame_cut : (closed : List (List Arrival)) (arrivals : List Arrival) (js : List (List Entry)) (j : List Entry) (piece : List OutLine) (count : ℕ) → length js ≡ length closed
       → GoesOnWith (closed ++ arrivals ∷ []) (frames_of bytes) → AreRun workers arena (closed ++ arrivals ∷ []) (js ++ j ∷ [])
-      → piece ≡ lines_with arena (0 + length closed) (received arena (0 + length closed) (state_played arena 0 (opening arena) closed js) arrivals) j
+      → piece ≡ lines_with arena (0 + length closed) (received_in arena (0 + length closed) (state_played arena 0 (opening arena) closed js) arrivals) j
       → count < length (text_of piece) → IsCutFrame workers bytes (text_with arena closed js ++ take count (text_of piece))
   frame_cut closed arrivals js j piece count same on run is short =
       let longer = closed ++ arrivals ∷ [] in
@@ -254,11 +253,11 @@ module _ (workers : ℕ) (bytes : List ℕ) (arena : MapView) (played : IsPlayed
   -- a write failed in the text of the last frame, which was open, and the last line
   pub last_cut : (closed : List (List Arrival)) (arrivals : List Arrival) (js : List (List Entry)) (j : List Entry) (piece : List OutLine) (count : ℕ) → length js ≡ length closed
       → fault bytes ≡ None → frames_of bytes ≡ closed ++ arrivals ∷ [] → AreRun workers arena (closed ++ arrivals ∷ []) (js ++ j ∷ [])
-      → piece ≡ lines_with arena (0 + length closed) (received arena (0 + length closed) (state_played arena 0 (opening arena) closed js) arrivals) j ++ EndLine (length (closed ++ arrivals ∷ [])) ∷ []
+      → piece ≡ lines_with arena (0 + length closed) (received_in arena (0 + length closed) (state_played arena 0 (opening arena) closed js) arrivals) j ++ EndLine (length (closed ++ arrivals ∷ [])) ∷ []
       → count < length (text_of piece) → IsCutEnd workers bytes (text_with arena closed js ++ take count (text_of piece))
   last_cut closed arrivals js j piece count same accepted all run is short =
       let longer = closed ++ arrivals ∷ [] in
-      let here = lines_with arena (0 + length closed) (received arena (0 + length closed) (state_played arena 0 (opening arena) closed js) arrivals) j in
+      let here = lines_with arena (0 + length closed) (received_in arena (0 + length closed) (state_played arena 0 (opening arena) closed js) arrivals) j in
       let last = EndLine (length longer) ∷ [] in
       let whole_is = ap (λ ls. ls ++ last) (run_lines-push arena 0 (opening arena) closed arrivals js j same) ∙ append_assoc (lines_of arena closed js) here last
       ∙ ap (λ ls. lines_of arena closed js ++ ls) (sym is) in

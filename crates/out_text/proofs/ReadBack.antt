@@ -8,12 +8,13 @@ use Rattle.arena_map.specs.Maps.{MapView}
 use Rattle.world_tree.specs.Live.{live_in}
 use Rattle.client_ports.specs.declared.arrival.Arrival.{Arrival}
 use Rattle.client_ports.specs.States.{State}
-use Rattle.client_ports.specs.Receiving.{Receiving, received}
+use Rattle.client_ports.specs.Receiving.{Receiving}
 use Rattle.plain_server.specs.Entries.{IsReported, AreReported}
-use Rattle.plain_server.specs.Frames.{moved_by, state_after}
+use Rattle.plain_server.specs.Frames.{received_in, moved_by, state_after}
 use Rattle.out_text.specs.Dids.{Did, did_of, journal_from}
 use Rattle.out_text.specs.OutLines.{OutLine, EndLine, text_of}
-use Rattle.out_text.specs.FrameLines.{no_line, joined_line, to_line, players_in, lines_with, run_lines}
+use Rattle.plain_server.specs.Replies.{players_in}
+use Rattle.out_text.specs.FrameLines.{no_line, joined_line, to_line, lines_with, run_lines}
 use Rattle.out_text.specs.Journals.{is_coordinate, is_reportable, dids}
 use Rattle.out_text.proofs.Quiet.{IsSilent, split_of, split-silent, silent_both, silent_each, dids-text}
 use Rattle.out_text.proofs.Spellings.{CanBeRead, nat_le-holds, split-lines}
@@ -103,7 +104,7 @@ split-run arena frame s [] [] more small same are silent = ap split_of (sym (app
 split-run arena frame s [] (j ∷ js) more small same are silent = cc
 split-run arena frame s (x ∷ frames) [] more small same are silent = cc
 split-run arena frame s (x ∷ frames) (j ∷ js) more small same are silent =
-    let r = received arena frame s x in
+    let r = received_in arena frame s x in
     let rest = run_lines arena (frame + 1) (state_after arena r j) frames js in
     let same_rest : length js ≡ length frames = cc in
     ap split_of (append_assoc (lines_with arena frame r j) rest more)

@@ -5,8 +5,7 @@ use Rattle.entity_recs.specs.declared.effect.Entry.{Entry}
 use Rattle.arena_map.specs.Maps.{MapView}
 use Rattle.client_ports.specs.declared.arrival.Arrival.{Arrival}
 use Rattle.client_ports.specs.States.{State}
-use Rattle.client_ports.specs.Receiving.{received}
-use Rattle.plain_server.specs.Frames.{IsRightAfter, state_after, state_played, AreRight, AreInOrder}
+use Rattle.plain_server.specs.Frames.{received_in, IsRightAfter, state_after, state_played, AreRight, AreInOrder}
 use Rattle.move_journal.specs.Merges.{IsInOrder}
 use Rattle.out_text.specs.OutLines.{OutLine, printed, text_of}
 use Rattle.out_text.specs.FrameLines.{lines_with, run_lines}
@@ -17,7 +16,7 @@ length-right map frame s [] [] right = refl
 length-right map frame s [] (j ∷ js) right = absurd right
 length-right map frame s (arrivals ∷ frames) [] right = absurd right
 length-right map frame s (arrivals ∷ frames) (j ∷ js) right =
-    ap suc (length-right map (frame + 1) (state_after map (received map frame s arrivals) j) frames js right.1)
+    ap suc (length-right map (frame + 1) (state_after map (received_in map frame s arrivals) j) frames js right.1)
 
 next_number : (frame n : ℕ) → frame + 1 + n ≡ frame + suc n
 next_number frame n = omega arith
@@ -29,7 +28,7 @@ run_lines-append map frame s [] ys [] ks same = ap (λ n. run_lines map n s ys k
 run_lines-append map frame s [] ys (j ∷ js) ks same = cc
 run_lines-append map frame s (x ∷ xs) ys [] ks same = cc
 run_lines-append map frame s (x ∷ xs) ys (j ∷ js) ks same =
-    let r = received map frame s x in
+    let r = received_in map frame s x in
     let next = state_after map r j in
     let here = lines_with map frame r j in
     let last = state_played map (frame + 1) next xs js in
@@ -45,7 +44,7 @@ state_played-append map frame s [] ys [] ks same = ap (λ n. state_played map n 
 state_played-append map frame s [] ys (j ∷ js) ks same = cc
 state_played-append map frame s (x ∷ xs) ys [] ks same = cc
 state_played-append map frame s (x ∷ xs) ys (j ∷ js) ks same =
-    let next = state_after map (received map frame s x) j in
+    let next = state_after map (received_in map frame s x) j in
     let rest : length js ≡ length xs = cc in
     state_played-append map (frame + 1) next xs ys js ks rest
     ∙ ap (λ n. state_played map n (state_played map (frame + 1) next xs js) ys ks) (next_number frame (length xs))
@@ -57,7 +56,7 @@ right-append map frame s [] ys [] ks right more = subst (λ (n : ℕ). AreRight 
 right-append map frame s [] ys (j ∷ js) ks right more = absurd right
 right-append map frame s (x ∷ xs) ys [] ks right more = absurd right
 right-append map frame s (x ∷ xs) ys (j ∷ js) ks right more =
-    let next = state_after map (received map frame s x) j in
+    let next = state_after map (received_in map frame s x) j in
     let P : ℕ → Type 0 = λ n. AreRight map n (state_played map (frame + 1) next xs js) ys ks in
     (right.0, right-append map (frame + 1) next xs ys js ks right.1 (subst P (sym (next_number frame (length xs))) more))
 
@@ -68,7 +67,7 @@ in_order-append map frame s [] ys [] ks order more = subst (λ (n : ℕ). AreInO
 in_order-append map frame s [] ys (j ∷ js) ks order more = absurd order
 in_order-append map frame s (x ∷ xs) ys [] ks order more = absurd order
 in_order-append map frame s (x ∷ xs) ys (j ∷ js) ks order more =
-    let next = state_after map (received map frame s x) j in
+    let next = state_after map (received_in map frame s x) j in
     let P : ℕ → Type 0 = λ n. AreInOrder map n (state_played map (frame + 1) next xs js) ys ks in
     (order.0, in_order-append map (frame + 1) next xs ys js ks order.1 (subst P (sym (next_number frame (length xs))) more))
 
@@ -76,24 +75,24 @@ in_order-append map frame s (x ∷ xs) ys (j ∷ js) ks order more =
 
 pub run_lines-push : (map : MapView) (frame : ℕ) (s : State) (frames : List (List Arrival)) (arrivals : List Arrival) (js : List (List Entry)) (j : List Entry) → length js ≡ length frames
     → run_lines map frame s (frames ++ arrivals ∷ []) (js ++ j ∷ [])
-    ≡ run_lines map frame s frames js ++ lines_with map (frame + length frames) (received map (frame + length frames) (state_played map frame s frames js) arrivals) j
+    ≡ run_lines map frame s frames js ++ lines_with map (frame + length frames) (received_in map (frame + length frames) (state_played map frame s frames js) arrivals) j
 run_lines-push map frame s frames arrivals js j same =
     run_lines-append map frame s frames (arrivals ∷ []) js (j ∷ []) same
     ∙ ap (λ ls. run_lines map frame s frames js ++ ls)
-    (append-nil (lines_with map (frame + length frames) (received map (frame + length frames) (state_played map frame s frames js) arrivals) j))
+    (append-nil (lines_with map (frame + length frames) (received_in map (frame + length frames) (state_played map frame s frames js) arrivals) j))
 
 pub state_played-push : (map : MapView) (frame : ℕ) (s : State) (frames : List (List Arrival)) (arrivals : List Arrival) (js : List (List Entry)) (j : List Entry) → length js ≡ length frames
     → state_played map frame s (frames ++ arrivals ∷ []) (js ++ j ∷ [])
-    ≡ state_after map (received map (frame + length frames) (state_played map frame s frames js) arrivals) j
+    ≡ state_after map (received_in map (frame + length frames) (state_played map frame s frames js) arrivals) j
 state_played-push map frame s frames arrivals js j same = state_played-append map frame s frames (arrivals ∷ []) js (j ∷ []) same
 
 pub right-push : (map : MapView) (frame : ℕ) (s : State) (frames : List (List Arrival)) (arrivals : List Arrival) (js : List (List Entry)) (j : List Entry) → AreRight map frame s frames js
-    → IsRightAfter map (received map (frame + length frames) (state_played map frame s frames js) arrivals) j
+    → IsRightAfter map (received_in map (frame + length frames) (state_played map frame s frames js) arrivals) j
     → AreRight map frame s (frames ++ arrivals ∷ []) (js ++ j ∷ [])
 right-push map frame s frames arrivals js j right here = right-append map frame s frames (arrivals ∷ []) js (j ∷ []) right (here, tt)
 
 pub in_order-push : (map : MapView) (frame : ℕ) (s : State) (frames : List (List Arrival)) (arrivals : List Arrival) (js : List (List Entry)) (j : List Entry) → AreInOrder map frame s frames js
-    → IsInOrder j (received map (frame + length frames) (state_played map frame s frames js) arrivals).lists.moves
+    → IsInOrder j (received_in map (frame + length frames) (state_played map frame s frames js) arrivals).lists.moves
     → AreInOrder map frame s (frames ++ arrivals ∷ []) (js ++ j ∷ [])
 in_order-push map frame s frames arrivals js j order here = in_order-append map frame s frames (arrivals ∷ []) js (j ∷ []) order (here, tt)
 
@@ -107,7 +106,7 @@ right-take map frame s (suc k) [] [] right = tt
 right-take map frame s (suc k) [] (j ∷ js) right = absurd right
 right-take map frame s (suc k) (arrivals ∷ frames) [] right = absurd right
 right-take map frame s (suc k) (arrivals ∷ frames) (j ∷ js) right =
-    (right.0, right-take map (frame + 1) (state_after map (received map frame s arrivals) j) k frames js right.1)
+    (right.0, right-take map (frame + 1) (state_after map (received_in map frame s arrivals) j) k frames js right.1)
 
 pub in_order-take : (map : MapView) (frame : ℕ) (s : State) (k : ℕ) (frames : List (List Arrival)) (js : List (List Entry)) → AreInOrder map frame s frames js
     → AreInOrder map frame s (take k frames) (take k js)
@@ -116,7 +115,7 @@ in_order-take map frame s (suc k) [] [] order = tt
 in_order-take map frame s (suc k) [] (j ∷ js) order = absurd order
 in_order-take map frame s (suc k) (arrivals ∷ frames) [] order = absurd order
 in_order-take map frame s (suc k) (arrivals ∷ frames) (j ∷ js) order =
-    (order.0, in_order-take map (frame + 1) (state_after map (received map frame s arrivals) j) k frames js order.1)
+    (order.0, in_order-take map (frame + 1) (state_after map (received_in map frame s arrivals) j) k frames js order.1)
 
 -- of the first k frames only the first k journals count
 pub run_lines-take : (map : MapView) (frame : ℕ) (s : State) (k : ℕ) (frames : List (List Arrival)) (js : List (List Entry))
@@ -125,7 +124,7 @@ run_lines-take map frame s zero frames js = refl
 run_lines-take map frame s (suc k) [] js = refl
 run_lines-take map frame s (suc k) (arrivals ∷ frames) [] = refl
 run_lines-take map frame s (suc k) (arrivals ∷ frames) (j ∷ js) =
-    let r = received map frame s arrivals in
+    let r = received_in map frame s arrivals in
     ap (λ ls. lines_with map frame r j ++ ls) (run_lines-take map (frame + 1) (state_after map r j) k frames js)
 
 -- ---- texts

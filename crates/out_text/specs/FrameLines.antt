@@ -1,7 +1,5 @@
 -- The lines of the output: those of a frame, and those of frames.
-use Rattle.std.specs.Prelude.{ℕ, ◌+◌, Bool, true, false, List, [], ◌∷◌, ◌++◌, map, filter, Option, Some, None}
-use Rattle.entity_recs.specs.declared.kind.Kind.{Kind}
-use Rattle.entity_recs.specs.declared.kind.Kind.TheVariants.{Player, Ammo, Gem, Teleporter, Goal, Lift}
+use Rattle.std.specs.Prelude.{ℕ, ◌+◌, List, [], ◌∷◌, ◌++◌, map, Option}
 use Rattle.entity_recs.specs.declared.rec.Rec.{Rec}
 use Rattle.entity_recs.specs.declared.effect.Entry.{Entry}
 use Rattle.arena_map.specs.Maps.{MapView}
@@ -11,8 +9,9 @@ use Rattle.client_ports.specs.declared.received.Refused.{Refused}
 use Rattle.client_ports.specs.declared.received.Joined.{Joined}
 use Rattle.client_ports.specs.Lists.{Lists}
 use Rattle.client_ports.specs.States.{State}
-use Rattle.client_ports.specs.Receiving.{Receiving, received}
-use Rattle.plain_server.specs.Frames.{moved_by, state_after, first_of, rest_of}
+use Rattle.client_ports.specs.Receiving.{Receiving}
+use Rattle.plain_server.specs.Frames.{received_in, moved_by, state_after, first_of, rest_of}
+use Rattle.plain_server.specs.Replies.{players_in}
 use Rattle.snapshot_write.specs.Snapshots.{snapshot}
 use Rattle.out_text.specs.Dids.{did_of}
 use Rattle.out_text.specs.OutLines.{OutLine, FrameLine, NoLine, JoinedLine, DidLine, ToLine}
@@ -33,23 +32,11 @@ did_line e = DidLine (did_of e)
 abbrev pub to_line : ℕ → List Rec → Rec → OutLine
 to_line frame live me = ToLine me.id (snapshot frame me live)
 
--- the record is a player's
-abbrev pub is_player : Kind → Bool
-is_player Player = true
-is_player Ammo = false
-is_player Gem = false
-is_player Teleporter = false
-is_player Goal = false
-is_player Lift = false
-
--- the live players in rising slot
-abbrev pub players_in : List (Option Rec) → List Rec
-players_in records = filter (λ (r : Rec). is_player r.kind) (live_in records)
-
--- the line of the snapshot of a player, where there is one
-abbrev pub reply_lines : ℕ → List (Option Rec) → Option Rec → List OutLine
-reply_lines frame records None = []
-reply_lines frame records (Some me) = to_line frame (live_in records) me ∷ []
+-- the line of the reply to each of these slots
+abbrev pub reply_lines : List ℕ → List (List ℕ) → List OutLine
+reply_lines [] replies = []
+reply_lines (slot ∷ slots) [] = []
+reply_lines (slot ∷ slots) (bytes ∷ replies) = ToLine slot bytes ∷ reply_lines slots replies
 
 -- the lines of the snapshots of the live players
 abbrev pub to_lines : ℕ → List (Option Rec) → List OutLine
@@ -61,6 +48,12 @@ frame_lines frame lists journal records =
     FrameLine frame ∷ (map no_line lists.refused ++ map joined_line lists.joined ++ map did_line journal
     ++ to_lines frame records)
 
+-- the same, from what the frame gave out: the live slots after its moves, and the bytes of the reply to each
+abbrev pub given_lines : ℕ → Lists → List Entry → List ℕ → List (List ℕ) → List OutLine
+given_lines frame lists journal slots replies =
+    FrameLine frame ∷ (map no_line lists.refused ++ map joined_line lists.joined ++ map did_line journal
+    ++ reply_lines slots replies)
+
 -- the lines of a frame with this journal: the snapshots show the world after its moves, in which those that leave are
 -- still there
 abbrev pub lines_with : MapView → ℕ → Receiving → List Entry → List OutLine
@@ -70,6 +63,6 @@ lines_with map frame r journal = frame_lines frame r.lists journal (moved_by map
 abbrev pub run_lines : MapView → ℕ → State → List (List Arrival) → List (List Entry) → List OutLine
 run_lines map frame state [] journals = []
 run_lines map frame state (arrivals ∷ frames) journals =
-    let r = received map frame state arrivals in
+    let r = received_in map frame state arrivals in
     lines_with map frame r (first_of journals)
     ++ run_lines map (frame + 1) (state_after map r (first_of journals)) frames (rest_of journals)

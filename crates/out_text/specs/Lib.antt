@@ -14,6 +14,7 @@ pub use Rattle.client_ports.specs.Lists
 pub use Rattle.client_ports.specs.Receiving
 pub use Rattle.plain_server.specs.RecordsById
 pub use Rattle.plain_server.specs.Frames
+pub use Rattle.plain_server.specs.Replies
 pub use Rattle.demo_lines.specs.Bytes
 pub use Rattle.demo_lines.specs.Spelling
 pub use Rattle.snapshot_write.specs.Snapshots

@@ -1,107 +1,28 @@
-ghost use Rattle.std.specs.Prelude.{◌≡◌, ◌<◌};
-ghost use Rattle.arena_geo.specs.Vectors.{IsNear};
-ghost use Rattle.entity_recs.specs.Records.{IsRecord};
-
 use super::*;
-use arena_geo::{Aabb, Vec3};
+use arena_geo::Vec3;
 use client_ports::{Joined, Received, Refusal, Refused};
-use entity_recs::{Entry, IdList, Kind, PLAYER_MAXS, PLAYER_MINS, Rec, Reply};
+use entity_recs::{Entry, IdList, Reply};
 use packet_read::PacketFault;
 use snapshot_write::ReplyBuf;
-use std::alloc::AllocGlobal;
+use std::alloc::{AllocError, AllocGlobal, Global};
 use std::process::Abort;
 use std::test::Fail;
-use world_tree::World;
 
-/// The frame of the row of three moves, with a player more.
+/// A frame of three moves, the second of which took an item, and two replies.
 const FRAME: &str =
-    "frame 1\ndid 0 1 2048 0 6144 -\ndid 0 2 5734 0 6144 -\ndid 0 3 9830 0 6144 -\nto 0 01010000000066260000000000000018000000400100000000000000000001000000000000030000000000\nto 63 01010000003f6044f2ff000000000018000000000000000000000000000000000000000000000000000000\n";
+    "frame 1\ndid 0 1 2048 0 6144 -\ndid 0 2 5734 0 6144 64\ndid 0 3 9830 0 6144 -\nto 0 01ab\nto 63 ff\n";
 
-fn at(x: i32, y: i32, z: i32) -> Vec3
-    ensures { result ≡ record { x = x; y = y; z = z } }
-{
+fn at(x: i32, y: i32, z: i32) -> Vec3 {
     Vec3 { x, y, z }
 }
 
-/// A player in this slot, here and at rest.
-fn player(id: u16, origin: Vec3) -> Rec
-    requires slot { id < 64 }
-    requires near { IsNear 1048576 origin }
-    ensures { IsRecord result }
-{
-    Rec {
-        id,
-        kind: Kind::Player,
-        origin,
-        mins: PLAYER_MINS,
-        maxs: PLAYER_MAXS,
-        vel: Vec3::ZERO,
-        flags: 0,
-        ammo: 0,
-        carry: 0,
-        score: 0,
-        seq: 0,
-        state: 0,
+/// A reply of these bytes.
+fn reply(alloc: Global, bytes: &[u8]) -> Result<ReplyBuf, AllocError> {
+    let mut reply = ReplyBuf::new(alloc)?;
+    for b in bytes {
+        let _fits = reply.push(*b);
     }
-}
-
-/// The player in slot 0 after three moves along x.
-fn player_that_moved() -> Rec
-    ensures { IsRecord result }
-{
-    Rec {
-        id: 0,
-        kind: Kind::Player,
-        origin: at(9_830, 0, 6_144),
-        mins: PLAYER_MINS,
-        maxs: PLAYER_MAXS,
-        vel: at(81_920, 0, 0),
-        flags: 1,
-        ammo: 0,
-        carry: 0,
-        score: 0,
-        seq: 3,
-        state: 0,
-    }
-}
-
-/// A thing of the map that is out of all players' sight.
-fn far_goal() -> Rec
-    ensures { IsRecord result }
-{
-    Rec {
-        id: 64,
-        kind: Kind::Goal,
-        origin: at(0, 900_000, 0),
-        mins: Vec3::ZERO,
-        maxs: at(8_192, 8_192, 8_192),
-        vel: Vec3::ZERO,
-        flags: 0,
-        ammo: 0,
-        carry: 0,
-        score: 0,
-        seq: 0,
-        state: 0,
-    }
-}
-
-/// The world after the moves of the row of three moves, with a player far off in the last slot, and a goal.
-fn world_after_moves(rt: &(impl AllocGlobal + Abort)) -> Result<World, Fail> {
-    let bounds = Aabb::new(
-        at(-1_048_576, -1_048_576, 0),
-        at(1_048_576, 1_048_576, 65_536),
-    )
-    .ok_or("a box")?;
-    let mut world = World::new(rt.alloc(), &bounds, &[])?;
-    for r in [
-        player(63, at(-900_000, 0, 6_144)),
-        player_that_moved(),
-        far_goal(),
-    ] {
-        assert!(rt; world.get(r.id).is_none());
-        world.add(r);
-    }
-    Ok(world)
+    Ok(reply)
 }
 
 /// A list of these ids.
@@ -113,15 +34,15 @@ fn ids(from: &[u16]) -> IdList {
     ids
 }
 
-/// The entry of slot 0 at this place, whose move ends here and takes nothing.
-fn entry(place: u8, x: i32) -> Entry {
+/// The entry of slot 0 at this place, whose move ends here and takes these items.
+fn entry(place: u8, x: i32, got: &[u16]) -> Entry {
     Entry {
         place: u64::from(place),
         slot: 0,
         seq: u32::from(place) + 1,
         reply: Reply {
             origin: at(x, 0, 6_144),
-            got: IdList::new(),
+            got: ids(got),
         },
     }
 }
@@ -182,20 +103,26 @@ fn each_refusal_has_its_name(rt: HostRuntime) -> Result<(), Fail> {
 }
 
 #[test]
-fn a_frame_has_its_journal_and_a_snapshot_for_each_player(rt: HostRuntime) -> Result<(), Fail> {
-    let world = world_after_moves(&rt)?;
+fn a_frame_has_its_journal_and_a_reply_for_each_slot(rt: HostRuntime) -> Result<(), Fail> {
     let received = Received::new(rt.alloc(), 0)?;
-    let mut reply = ReplyBuf::new(rt.alloc())?;
-    let journal = [entry(0, 2_048), entry(1, 5_734), entry(2, 9_830)];
+    let journal = [
+        entry(0, 2_048, &[]),
+        entry(1, 5_734, &[64]),
+        entry(2, 9_830, &[]),
+    ];
+    let replies = [
+        reply(rt.alloc(), &[0x01, 0xab])?,
+        reply(rt.alloc(), &[0xff])?,
+    ];
     let mut text = String::new(rt.alloc());
     push_frame_lines(
         rt.alloc(),
         &mut text,
-        &mut reply,
         1,
         &received,
         &journal,
-        &world,
+        &[0, 63],
+        &replies,
     )?;
     assert_eq!(rt; text.as_str(), FRAME);
     Ok(())

@@ -1,7 +1,6 @@
-ghost use Rattle.std.specs.Prelude.{◌≡◌, ◌++◌, map, OnOk, string_bytes};
-ghost use Rattle.world_tree.specs.Worlds.{record_of};
+ghost use Rattle.std.specs.Prelude.{◌≡◌, ◌++◌, length, map, OnOk, string_bytes};
 ghost use Rattle.out_text.specs.OutLines.{ids_text, printed, text_of, FrameLine, NoLine, JoinedLine, DidLine, ToLine, EndLine};
-ghost use Rattle.out_text.specs.FrameLines.{reply_lines, to_lines, frame_lines};
+ghost use Rattle.out_text.specs.FrameLines.{reply_lines, given_lines};
 ghost use Rattle.out_text.specs.Printing.{line_of};
 
 use crate::names::refusal_name;
@@ -9,12 +8,8 @@ use crate::out_line::{OutLine, Printed};
 use arena_geo::Vec3;
 use client_ports::{Joined, Received, Refused};
 use entity_recs::Entry;
-use snapshot_write::{ReplyBuf, write_snapshot};
+use snapshot_write::ReplyBuf;
 use std::alloc::{AllocError, Global};
-use world_tree::World;
-
-/// The number of slots.
-const SLOTS: u8 = 64;
 
 /// Puts the line that opens a frame at the end.
 fn push_frame(text: &mut String, frame: u32) -> Result<(), AllocError>
@@ -116,61 +111,41 @@ fn push_each<T: Printed>(alloc: Global, text: &mut String, items: &[T]) -> Resul
     Ok(())
 }
 
-/// Puts the line of the snapshot of the player in a slot at the end, if the slot is live. `reply` is for its bytes.
-fn push_reply(
-    alloc: Global,
-    text: &mut String,
-    reply: &mut ReplyBuf,
-    frame: u32,
-    slot: u8,
-    world: &World,
-) -> Result<(), AllocError>
-    ensures ok { OnOk result (string_bytes text.new ≡ string_bytes text.old
-        ++ text_of (reply_lines frame world.now.records (record_of world.now slot))) }
-{
-    let Some(_player) = world.get(u16::from(slot)) else {
-        return Ok(());
-    };
-    reply.clear();
-    write_snapshot(world, frame, slot, reply);
-    push_line(alloc, text, &OutLine::To(slot, reply.as_slice()))
-}
-
-/// Puts the line of the snapshot of each live player at the end, in rising slot.
+/// Puts the line of the reply to each of these slots at the end.
 fn push_replies(
     alloc: Global,
     text: &mut String,
-    reply: &mut ReplyBuf,
-    frame: u32,
-    world: &World,
+    slots: &[u8],
+    replies: &[ReplyBuf],
 ) -> Result<(), AllocError>
-    ensures ok { OnOk result (string_bytes text.new ≡ string_bytes text.old ++ text_of (to_lines frame world.now.records)) }
+    requires { length slots.now ≡ length replies.now }
+    ensures ok { OnOk result (string_bytes text.new ≡ string_bytes text.old ++ text_of (reply_lines slots.now replies.now)) }
 {
-    // To ask for the tree is to know that the world is linked: each player has the id of its slot.
-    let _tree = world.tree();
-    for slot in 0..SLOTS {
-        push_reply(alloc, text, reply, frame, slot, world)?;
+    for (i, slot) in slots.iter().enumerate() {
+        let reply = &replies[i];
+        push_line(alloc, text, &OutLine::To(*slot, reply.as_slice()))?;
     }
     Ok(())
 }
 
-/// Puts the lines of a frame at the end: its refusals, its joins, its journal, and the snapshot of each live player in
-/// the world after its moves. `reply` is for the bytes of the snapshots. The only error is that memory is refused.
+/// Puts the lines of a frame at the end, from what it gave out: its refusals, its joins, its journal, and the reply to each
+/// live slot. There are as many replies as slots. The only error is that memory is refused.
 pub fn push_frame_lines(
     alloc: Global,
     text: &mut String,
-    reply: &mut ReplyBuf,
     frame: u32,
     received: &Received,
     journal: &[Entry],
-    world: &World,
+    slots: &[u8],
+    replies: &[ReplyBuf],
 ) -> Result<(), AllocError>
+    requires { length slots.now ≡ length replies.now }
     ensures ok { OnOk result (string_bytes text.new ≡ string_bytes text.old
-        ++ text_of (frame_lines frame received.now.lists journal.now world.now.records)) }
+        ++ text_of (given_lines frame received.now.lists journal.now slots.now replies.now)) }
 {
     push_line(alloc, text, &OutLine::Frame(frame))?;
     push_each(alloc, text, received.refused())?;
     push_each(alloc, text, received.joined())?;
     push_each(alloc, text, journal)?;
-    push_replies(alloc, text, reply, frame, world)
+    push_replies(alloc, text, slots, replies)
 }

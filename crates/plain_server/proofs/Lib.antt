@@ -22,3 +22,4 @@ pub mod Frames
 pub mod Clear
 pub mod Away
 pub mod Takers
+pub mod SlotPlayers

@@ -23,4 +23,5 @@ pub mod Moving
 pub mod Entries
 pub mod Frames
 pub mod Takers
+pub mod Replies
 pub mod Laws
