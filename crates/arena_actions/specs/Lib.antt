@@ -10,4 +10,7 @@ pub use Rattle.arena_map.specs.Maps
 pub use Rattle.trigger_rules.specs.Touching
 pub mod Outcomes
 pub mod Props
+pub mod Regions
+pub mod Takes
+pub mod Lawful
 pub mod Laws

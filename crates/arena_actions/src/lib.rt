@@ -9,7 +9,9 @@ pub use laws::{
 
 mod arena_action;
 mod boxes;
+mod lawful;
 mod laws;
 mod looking;
 mod moving;
 mod reaching;
+mod region;
