@@ -5,6 +5,7 @@ pub mod Players
 pub mod Moves
 pub mod Landings
 pub mod Taking
+pub mod Worlds
 pub mod Valid
 pub mod Reached
 pub mod Local

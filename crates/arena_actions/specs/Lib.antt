@@ -12,5 +12,6 @@ pub mod Outcomes
 pub mod Props
 pub mod Regions
 pub mod Takes
+pub mod Worlds
 pub mod Lawful
 pub mod Laws

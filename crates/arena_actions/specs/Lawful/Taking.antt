@@ -55,7 +55,7 @@ same_of_test v w h =
 itself : (n : ℤ) → int_eq n n ≡ true
 itself n = (Decides-int_eq n n).1 refl
 
-test_of_same : (v w : Vec3) → v ≡ w → is_same_vector v w ≡ true
+pub test_of_same : (v w : Vec3) → v ≡ w → is_same_vector v w ≡ true
 test_of_same v w e = subst (λ (u : Vec3). is_same_vector v u ≡ true) e (rw (itself v.x, itself v.y, itself v.z) refl)
 
 -- the kind with a number
@@ -75,14 +75,14 @@ same_kind : (j k : Kind) → (number_of j == number_of k) ≡ true → j ≡ k
 same_kind j k h = sym (numbered j) ∙ ap kind_with (eqb-true (number_of j) (number_of k) h) ∙ numbered k
 
 -- a record whose numbers are within their bounds and of their types
-record HasNumbers (r : Rec) : Type 0 where
-  origin : IsNear 1048576 r.origin
-  vel : IsNear 512000 r.vel
-  flags : r.flags ≤ 3
-  ammo : r.ammo ≤ 100
-  carry : r.carry ≤ 8
-  score : r.score < 4294967296
-  seq : r.seq < 4294967296
+pub record HasNumbers (r : Rec) : Type 0 where
+  pub origin : IsNear 1048576 r.origin
+  pub vel : IsNear 512000 r.vel
+  pub flags : r.flags ≤ 3
+  pub ammo : r.ammo ≤ 100
+  pub carry : r.carry ≤ 8
+  pub score : r.score < 4294967296
+  pub seq : r.seq < 4294967296
 
 numbers_of_test : (r : Rec) → has_numbers r ≡ true → HasNumbers r
 numbers_of_test r h =
@@ -115,7 +115,7 @@ numbers_of_test r h =
     below : (m n : ℕ) → nat_lt m n ≡ true → m < n
     below m n k = grind (arith, nat_tests)
 
-test_of_numbers : (r : Rec) → HasNumbers r → has_numbers r ≡ true
+pub test_of_numbers : (r : Rec) → HasNumbers r → has_numbers r ≡ true
 test_of_numbers r is =
     rw (test_of_near 1048576 r.origin is.origin, test_of_near 512000 r.vel is.vel, at_most r.flags 3 is.flags, at_most r.ammo 100 is.ammo, at_most r.carry 8 is.carry, below r.score 4294967296 is.score, below r.seq 4294967296 is.seq)
     refl
@@ -146,7 +146,7 @@ pub record IsThingsRecord (map : MapView) (r : Rec) : Type 0 where
   pub found : thing_with map r.id ≡ Some thing
   pub same : IsSameThing thing r
 
-thing_of_test : (map : MapView) (r : Rec) (o : Option Rec) → thing_with map r.id ≡ o → is_thing o r ≡ true → IsThingsRecord map r
+pub thing_of_test : (map : MapView) (r : Rec) (o : Option Rec) → thing_with map r.id ≡ o → is_thing o r ≡ true → IsThingsRecord map r
 thing_of_test map r None found h = cc
 thing_of_test map r (Some thing) found h =
     let p = both (has_shape_of thing r) (is_same_vector r.origin thing.origin) h in
@@ -154,14 +154,14 @@ thing_of_test map r (Some thing) found h =
     record { thing = thing; found = found; same = record { kind = shape.kind; origin = same_of_test r.origin thing.origin p.1; mins = shape.mins; maxs = shape.maxs } }
 
 -- the record is that of a lift of the map
-record IsLiftsRecord (map : MapView) (r : Rec) : Type 0 where
-  lift : lifts.Lift
-  thing : Rec
-  data_are : lift_of map r.id ≡ Some lift
-  found : thing_with map r.id ≡ Some thing
-  same : IsSameLift lift thing r
+pub record IsLiftsRecord (map : MapView) (r : Rec) : Type 0 where
+  pub lift : lifts.Lift
+  pub thing : Rec
+  pub data_are : lift_of map r.id ≡ Some lift
+  pub found : thing_with map r.id ≡ Some thing
+  pub same : IsSameLift lift thing r
 
-lift_of_test : (map : MapView) (r : Rec) (l : Option lifts.Lift) (o : Option Rec) → lift_of map r.id ≡ l → thing_with map r.id ≡ o → is_lift l o r ≡ true → IsLiftsRecord map r
+pub lift_of_test : (map : MapView) (r : Rec) (l : Option lifts.Lift) (o : Option Rec) → lift_of map r.id ≡ l → thing_with map r.id ≡ o → is_lift l o r ≡ true → IsLiftsRecord map r
 lift_of_test map r None o data_are found h = cc
 lift_of_test map r (Some lift) None data_are found h = cc
 lift_of_test map r (Some lift) (Some thing) data_are found h =
@@ -281,11 +281,11 @@ player_is_record map r numbers kind is =
 
 -- ---- records that are taken
 
-record IsTakenAs (map : MapView) (r : Rec) : Type 0 where
-  numbers : HasNumbers r
-  one : is_one_of r.kind map r ≡ true
+pub record IsTakenAs (map : MapView) (r : Rec) : Type 0 where
+  pub numbers : HasNumbers r
+  pub one : is_one_of r.kind map r ≡ true
 
-taken_as : (map : MapView) (r : Rec) → takes map r ≡ true → IsTakenAs map r
+pub taken_as : (map : MapView) (r : Rec) → takes map r ≡ true → IsTakenAs map r
 unfolding takes
 taken_as map r h = let p = both (has_numbers r) (is_one_of r.kind map r) h in record { numbers = numbers_of_test r p.0; one = p.1 }
 
