@@ -16,3 +16,5 @@ mod looking;
 mod moving;
 mod reaching;
 mod region;
+#[cfg(test)]
+mod tests;
