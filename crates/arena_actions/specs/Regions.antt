@@ -11,8 +11,8 @@ use Rattle.entity_recs.specs.Commands.{Command}
 use Rattle.player_move.specs.Laws.{reach_on}
 use Rattle.arena_map.specs.Maps.{MapView, entities_of, dest_of}
 
--- by how much the reach is larger than the absolute box: how far the move goes on each axis, with 256 to spare, and on z the
--- height of a stair more
+-- by how much the reach is larger than the absolute box: how far the move goes on each axis, with 256 to spare, and on z
+-- the height of a stair more
 abbrev pub reach_growth : Rec → ℕ → Vec3
 reach_growth me ms =
     vector (pos (reach_on me.vel.x ms + 256)) (pos (reach_on me.vel.y ms + 256)) (pos (reach_on me.vel.z ms + 4864))
@@ -42,8 +42,8 @@ abbrev pub landing_of : MapView → Rec → Bounds → Rec → Option Bounds
 landing_of map me reach thing =
     if touches (abs_of thing) reach then option_map (landing_at me) (dest_of map thing.id) else None
 
--- the region of a move: the reach with room around it, and the room at the destination of each teleporter that touches the
--- reach, in rising id
+-- the region of a move: the reach with room around it, and the room at the destination of each teleporter that touches
+-- the reach, in rising id
 unfoldable pub region_in : MapView → Rec → Command → List Bounds
 region_in map me c =
     first_box me c.ms ∷ filter_map (landing_of map me (reach_of me c.ms)) (entities_of map)

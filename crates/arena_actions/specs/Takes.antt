@@ -1,5 +1,6 @@
 -- Which records the action of an arena takes: those of the worlds that are valid for its map, whatever their state.
-use Rattle.std.specs.Prelude.{ℕ, ◌==◌, ◌&&◌, Bool, false, nat_lt, nat_le, int_le, ◌+ℤ◌, unsigned_abs, Option, Some, None}
+use Rattle.std.specs.Prelude.{ℕ, ◌==◌, ◌&&◌, Bool, false, nat_lt, nat_le, Option, Some, None}
+use Rattle.std.specs.Prelude.{int_le, ◌+ℤ◌, unsigned_abs}
 use Rattle.std.specs.List.{find}
 use Rattle.std.specs.Ordering.{int_eq}
 use Rattle.arena_geo.specs.declared.vec3.Vec3.{Vec3}

@@ -59,25 +59,31 @@ module _ (arena : MapView) (me : Rec) (ms : ℕ) (is_map : IsMap arena) (player 
       (within-grown_by 1097216 16384 1113600 (reach_of me ms) 16384 16384 16384 (omega arith) (omega arith) (omega arith) (omega arith) (reach_within me ms player.is_record short))
 
   -- a landing, if it is there, is a box
-  one_is_box : (thing : Rec) (o : Option Bounds) → landing_of arena me (reach_of me ms) thing ≡ o → AllByRecursion IsBox (cons_option o [])
+  one_is_box : (thing : Rec) (o : Option Bounds) → landing_of arena me (reach_of me ms) thing ≡ o
+      → AllByRecursion IsBox (cons_option o [])
   one_is_box thing None e = tt
   one_is_box thing (Some b) e = (by (touches (abs_of thing) (reach_of me ms)) (dest_of arena thing.id) refl e, tt)
     where
-      by : (t : Bool) (dest : Option Vec3) → dest_of arena thing.id ≡ dest → (if t then option_map (landing_at me) dest else None) ≡ Some b → IsBox b
-      by true (Some dest) from is = subst IsBox (same_Some (landing_at me dest) b is) (landing_is_box dest thing.id from)
+      by : (t : Bool) (dest : Option Vec3) → dest_of arena thing.id ≡ dest
+          → (if t then option_map (landing_at me) dest else None) ≡ Some b → IsBox b
+      by true (Some dest) from is =
+          subst IsBox (same_Some (landing_at me dest) b is) (landing_is_box dest thing.id from)
       by true None from is = absurd (none-some b is)
       by false dest from is = absurd (none-some b is)
 
   all_are_boxes : (things : List Rec) → AllByRecursion IsBox (filter_map (landing_of arena me (reach_of me ms)) things)
   all_are_boxes [] = tt
-  all_are_boxes (thing ∷ things) = by (landing_of arena me (reach_of me ms) thing) (one_is_box thing (landing_of arena me (reach_of me ms) thing) refl) (all_are_boxes things)
+  all_are_boxes (thing ∷ things) =
+      by (landing_of arena me (reach_of me ms) thing) (one_is_box thing (landing_of arena me (reach_of me ms) thing) refl) (all_are_boxes things)
     where
-      by : (o : Option Bounds) → AllByRecursion IsBox (cons_option o []) → AllByRecursion IsBox (filter_map (landing_of arena me (reach_of me ms)) things)
+      by : (o : Option Bounds) → AllByRecursion IsBox (cons_option o [])
+          → AllByRecursion IsBox (filter_map (landing_of arena me (reach_of me ms)) things)
           → AllByRecursion IsBox (cons_option o (filter_map (landing_of arena me (reach_of me ms)) things))
       by None here rest = rest
       by (Some b) here rest = (here.0, rest)
 
-is_region : (arena : MapView) (me : Rec) (c : Command) → IsMap arena → IsPlayerOn arena me → c.ms ≤ 50 → IsRegion (region_in arena me c)
+is_region : (arena : MapView) (me : Rec) (c : Command) → IsMap arena → IsPlayerOn arena me → c.ms ≤ 50
+    → IsRegion (region_in arena me c)
 unfolding region_in
 is_region arena me c is_map player short =
     let few = few_landings arena me (reach_of me c.ms) is_map in
@@ -102,16 +108,29 @@ Lands arena moved near w = w.ended ≡ true → HasLanded arena moved near w
 lands-step : (arena : MapView) (moved : Rec) (near : List Rec) (solids : List Bounds) (frame : ℕ) (w next : Walk) (r : Rec) → Contains (touched_by moved near) r → Step arena solids frame w r next
     → Lands arena moved near w → Lands arena moved near next
 unfolding Lands
-lands-step arena moved near solids frame w next r listed (inl same) is = subst (λ (v : Walk). Lands arena moved near v) (sym same) is
+lands-step arena moved near solids frame w next r listed (inl same) is =
+    subst (λ (v : Walk). Lands arena moved near v) (sym same) is
 lands-step arena moved near solids frame w next r listed (inr (inl t)) is =
     subst (λ (v : Walk). Lands arena moved near v) (sym t.is)
-    (λ ended. let l = is ended in record { r = l.r; dest = l.dest; way = l.way; at = (item-change w.me r).place.origin ∙ l.at })
+    (λ ended. let l = is ended in record {
+      r = l.r;
+      dest = l.dest;
+      way = l.way;
+      at = (item-change w.me r).place.origin ∙ l.at;
+    })
 lands-step arena moved near solids frame w next r listed (inr (inr (inl goal))) is =
-    subst (λ (v : Walk). Lands arena moved near v) (sym goal) (λ ended. let l = is ended in record { r = l.r; dest = l.dest; way = l.way; at = l.at })
+    subst (λ (v : Walk). Lands arena moved near v) (sym goal) (λ ended. let l = is ended
+    in record { r = l.r; dest = l.dest; way = l.way; at = l.at })
 lands-step arena moved near solids frame w next r listed (inr (inr (inr l))) is =
-    subst (λ (v : Walk). Lands arena moved near v) (sym l.is) (λ ended. record { r = r; dest = l.dest; way = record { touched = listed; kind = l.kind; from = l.from }; at = refl })
+    subst (λ (v : Walk). Lands arena moved near v) (sym l.is) (λ ended. record {
+      r = r;
+      dest = l.dest;
+      way = record { touched = listed; kind = l.kind; from = l.from };
+      at = refl;
+    })
 
-lands : (arena : MapView) (frame : ℕ) (moved : Rec) (near : List Rec) → (touched arena frame moved near).ended ≡ true → HasLanded arena moved near (touched arena frame moved near)
+lands : (arena : MapView) (frame : ℕ) (moved : Rec) (near : List Rec) → (touched arena frame moved near).ended ≡ true
+    → HasLanded arena moved near (touched arena frame moved near)
 unfolding touched Lands
 lands arena frame moved near ended =
     let solids = solids_among arena near in
@@ -132,7 +151,8 @@ item_is_short r is kind = by r.kind kind is.shape
     at : (origin : Vec3) → IsShort 16384 (grown (standing origin ITEM_MINS ITEM_MAXS) (growth_of Ammo))
     at origin = record { x = omega (arith, ints); y = omega (arith, ints); z = omega (arith, ints) }
 
-    by : (k : Kind) → is_item k ≡ true → IsShapeOf k r.origin r.mins r.maxs → IsShort 16384 (grown (body_of r) (growth_of k))
+    by : (k : Kind) → is_item k ≡ true → IsShapeOf k r.origin r.mins r.maxs
+        → IsShort 16384 (grown (body_of r) (growth_of k))
     by Player item shape = cc
     by Ammo item shape = rw (shape.low_is, shape.high_is) (at r.origin)
     by Gem item shape = rw (shape.low_is, shape.high_is) (at r.origin)
@@ -157,7 +177,8 @@ module _ (arena : MapView) (me : Rec) (near : List Rec) (c : Command) (is_map : 
 
   -- what lies in the reach lies in the region
   reached_is_inside : (b : Bounds) → contains (reach_of me c.ms) b ≡ true → is_inside b region ≡ true
-  reached_is_inside b h = inside_first arena me c b (contains-through (first_box me c.ms) (reach_of me c.ms) b (first_contains_reach me c.ms) h)
+  reached_is_inside b h =
+      inside_first arena me c b (contains-through (first_box me c.ms) (reach_of me c.ms) b (first_contains_reach me c.ms) h)
 
   before : is_inside (abs_of me) region ≡ true
   before = reached_is_inside (abs_of me) (contains-grown (abs_of me) (reach_growth me c.ms) positive)
@@ -166,20 +187,23 @@ module _ (arena : MapView) (me : Rec) (near : List Rec) (c : Command) (is_map : 
       positive = record { x = omega (arith, ints); y = omega (arith, ints); z = omega (arith, ints) }
 
   -- the absolute box of a player with another's shape and kind
-  same_abs_of : (a b : Rec) → a.origin ≡ b.origin → a.kind ≡ b.kind → a.mins ≡ b.mins → a.maxs ≡ b.maxs → abs_of a ≡ abs_of b
+  same_abs_of : (a b : Rec) → a.origin ≡ b.origin → a.kind ≡ b.kind → a.mins ≡ b.mins → a.maxs ≡ b.maxs
+      → abs_of a ≡ abs_of b
   same_abs_of a b origin kind mins maxs =
       ap (λ (k : Kind). grown (body_of a) (growth_of k)) kind
       ∙ ap (λ (o : Vec3). grown (standing o a.mins a.maxs) (growth_of b.kind)) origin
       ∙ ap (λ (m : Vec3). grown (standing b.origin m a.maxs) (growth_of b.kind)) mins
       ∙ ap (λ (m : Vec3). grown (standing b.origin b.mins m) (growth_of b.kind)) maxs
 
-  walk_is_inside : (ended : Bool) → (touched arena c.frame moved near).ended ≡ ended → is_inside (abs_of (touched arena c.frame moved near).me) region ≡ true
+  walk_is_inside : (ended : Bool) → (touched arena c.frame moved near).ended ≡ ended
+      → is_inside (abs_of (touched arena c.frame moved near).me) region ≡ true
   unfolding outcome_in
   walk_is_inside true e =
       let l = lands arena c.frame moved near e in
       let w = touched arena c.frame moved near in
       let who = keep_who_moves arena me near c in
-      let there : abs_of w.me ≡ abs_of (elsewhere me l.dest) = same_abs_of w.me (elsewhere me l.dest) l.at who.kind who.mins who.maxs in
+      let there : abs_of w.me ≡ abs_of (elsewhere me l.dest) =
+      same_abs_of w.me (elsewhere me l.dest) l.at who.kind who.mins who.maxs in
       ap (λ (b : Bounds). is_inside b region) there
       ∙ way_contains arena me near c l.r l.dest (abs_of (elsewhere me l.dest)) is_map short call.others l.way (landing_contains_abs me l.dest)
   walk_is_inside false e =
@@ -196,11 +220,16 @@ module _ (arena : MapView) (me : Rec) (near : List Rec) (c : Command) (is_map : 
   taken_is_inside : (s : NewState) → IsTaken arena c.frame moved near s → is_of_one_inside region near s ≡ true
   taken_is_inside s is =
       let item = is.item in
-      let is_record = taken_is_record arena item is_map (All-contains (λ r. takes arena r ≡ true) near item call.others is.listed) in
+      let is_record =
+      taken_is_record arena item is_map (All-contains (λ r. takes arena r
+      ≡ true) near item call.others is.listed) in
       let touch = (both (not (is_solid item.kind)) (touches (abs_of item) (abs_of moved)) is.is_near).1 in
-      let reached = touches-wider (reach_of me c.ms) (abs_of moved) (abs_of item) (reach_contains_moved arena me near c short) touch in
-      let inside = inside_first arena me c (abs_of item) (contains-touched (reach_of me c.ms) (abs_of item) 16384 (item_is_short item is_record is.kind) reached) in
-      contains-is-any (λ (r : Rec). (r.id == s.id) && is_inside (abs_of r) region) near item is.listed (rw (eq-eqb item.id s.id is.own, inside) refl)
+      let reached =
+      touches-wider (reach_of me c.ms) (abs_of moved) (abs_of item) (reach_contains_moved arena me near c short) touch in
+      let inside =
+      inside_first arena me c (abs_of item) (contains-touched (reach_of me c.ms) (abs_of item) 16384 (item_is_short item is_record is.kind) reached) in
+      contains-is-any (λ (r : Rec). (r.id == s.id)
+      && is_inside (abs_of r) region) near item is.listed (rw (eq-eqb item.id s.id is.own, inside) refl)
 
   pub within : StaysWithin region me near (outcome_in arena me near c)
   within =
@@ -212,12 +241,14 @@ module _ (arena : MapView) (me : Rec) (near : List Rec) (c : Command) (is_map : 
         kind = who.kind;
         mins = who.mins;
         maxs = who.maxs;
-        listed = All-weaker (IsTaken arena c.frame moved near) (λ s. is_of_one_inside region near s ≡ true) taken_is_inside (outcome_in arena me near c).states (take_what_is_there arena me near c).each;
+        listed = All-weaker (IsTaken arena c.frame moved near) (λ s. is_of_one_inside region near s
+            ≡ true) taken_is_inside (outcome_in arena me near c).states (take_what_is_there arena me near c).each;
         apart = new_states_apart arena me near c call.rising;
       }
 
 -- the region doesn't look at the player's state
-any_state : (arena : MapView) (me : Rec) (state : ℕ) (c : Command) → region_in arena (with_state me state) c ≡ region_in arena me c
+any_state : (arena : MapView) (me : Rec) (state : ℕ) (c : Command)
+    → region_in arena (with_state me state) c ≡ region_in arena me c
 unfolding region_in
 any_state arena me state c = refl
 

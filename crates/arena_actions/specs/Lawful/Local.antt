@@ -34,38 +34,54 @@ use Rattle.arena_actions.specs.Lawful.Valid.{has_player_on}
 -- ---- filters that agree
 
 -- what passes a test stays where another keeps all that passes it
-filter_kept : (test keep : Rec → Bool) (near : List Rec) → ((r : Rec) → test r ≡ true → keep r ≡ true) → filter test (filter keep near) ≡ filter test near
+filter_kept : (test keep : Rec → Bool) (near : List Rec) → ((r : Rec) → test r ≡ true → keep r ≡ true)
+    → filter test (filter keep near) ≡ filter test near
 filter_kept test keep [] kept = refl
 filter_kept test keep (r ∷ near) kept = by (test r) (keep r) refl refl (filter_kept test keep near kept)
   where
     by : (t k : Bool) → test r ≡ t → keep r ≡ k → filter test (filter keep near) ≡ filter test near
-        → filter test (cond k (r ∷ filter keep near) (filter keep near)) ≡ cond t (r ∷ filter test near) (filter test near)
-    by true true e f rest = ap (λ (b : Bool). cond b (r ∷ filter test (filter keep near)) (filter test (filter keep near))) e ∙ ap (λ (l : List Rec). r ∷ l) rest
+        → filter test (cond k (r ∷ filter keep near) (filter keep near))
+        ≡ cond t (r ∷ filter test near) (filter test near)
+    by true true e f rest =
+        ap (λ (b : Bool). cond b (r ∷ filter test (filter keep near)) (filter test (filter keep near))) e
+        ∙ ap (λ (l : List Rec). r ∷ l) rest
     by true false e f rest = absurd (true_false (sym (kept r e) ∙ f))
       where
         true_false : true ≡ false → ⊥
         true_false h = cc
-    by false true e f rest = ap (λ (b : Bool). cond b (r ∷ filter test (filter keep near)) (filter test (filter keep near))) e ∙ rest
+    by false true e f rest =
+        ap (λ (b : Bool). cond b (r ∷ filter test (filter keep near)) (filter test (filter keep near))) e ∙ rest
     by false false e f rest = rest
 
 -- so it is with the bodies of solids
-bodies_kept : (test : Bounds → Bool) (keep : Rec → Bool) (near : List Rec) → ((r : Rec) → test (body_of r) ≡ true → keep r ≡ true)
+bodies_kept : (test : Bounds → Bool) (keep : Rec → Bool) (near : List Rec)
+    → ((r : Rec) → test (body_of r) ≡ true → keep r ≡ true)
     → filter test (bodies_of_solids (filter keep near)) ≡ filter test (bodies_of_solids near)
 bodies_kept test keep [] kept = refl
-bodies_kept test keep (r ∷ near) kept = by (is_solid r.kind) (test (body_of r)) (keep r) refl refl refl (bodies_kept test keep near kept)
+bodies_kept test keep (r ∷ near) kept =
+    by (is_solid r.kind) (test (body_of r)) (keep r) refl refl refl (bodies_kept test keep near kept)
   where
     true_false : true ≡ false → ⊥
     true_false h = cc
 
-    by : (s t k : Bool) → is_solid r.kind ≡ s → test (body_of r) ≡ t → keep r ≡ k → filter test (bodies_of_solids (filter keep near)) ≡ filter test (bodies_of_solids near)
-        → filter test (bodies_of_solids (cond k (r ∷ filter keep near) (filter keep near))) ≡ filter test (map body_of (cond s (r ∷ filter (λ q. is_solid q.kind) near) (filter (λ q. is_solid q.kind) near)))
-    by false t true e f g rest = ap (λ (b : Bool). filter test (map body_of (cond b (r ∷ filter (λ q. is_solid q.kind) (filter keep near)) (filter (λ q. is_solid q.kind) (filter keep near))))) e ∙ rest
+    by : (s t k : Bool) → is_solid r.kind ≡ s → test (body_of r) ≡ t → keep r ≡ k
+        → filter test (bodies_of_solids (filter keep near)) ≡ filter test (bodies_of_solids near)
+        → filter test (bodies_of_solids (cond k (r ∷ filter keep near) (filter keep near)))
+        ≡ filter test (map body_of (cond s (r
+        ∷ filter (λ q. is_solid q.kind) near) (filter (λ q. is_solid q.kind) near)))
+    by false t true e f g rest =
+        ap (λ (b : Bool). filter test (map body_of (cond b (r
+        ∷ filter (λ q. is_solid q.kind) (filter keep near)) (filter (λ q. is_solid q.kind) (filter keep near))))) e
+        ∙ rest
     by false t false e f g rest = rest
     by true t true e f g rest =
-        ap (λ (b : Bool). filter test (map body_of (cond b (r ∷ filter (λ q. is_solid q.kind) (filter keep near)) (filter (λ q. is_solid q.kind) (filter keep near))))) e
+        ap (λ (b : Bool). filter test (map body_of (cond b (r
+        ∷ filter (λ q. is_solid q.kind) (filter keep near)) (filter (λ q. is_solid q.kind) (filter keep near))))) e
         ∙ ap (λ (l : List Bounds). cond (test (body_of r)) (body_of r ∷ l) l) rest
     by true true false e f g rest = absurd (true_false (sym (kept r f) ∙ g))
-    by true false false e f g rest = rest ∙ sym (ap (λ (b : Bool). cond b (body_of r ∷ filter test (bodies_of_solids near)) (filter test (bodies_of_solids near))) f)
+    by true false false e f g rest =
+        rest ∙ sym (ap (λ (b : Bool). cond b (body_of r
+        ∷ filter test (bodies_of_solids near)) (filter test (bodies_of_solids near))) f)
 
 -- a test passes where it keeps something
 has_some : {X : Type 0} → List X → Bool
@@ -77,23 +93,27 @@ unfolding has_some
 any_by_filter test [] = refl
 any_by_filter {X} test (x ∷ xs) = by (test x) (any_by_filter test xs)
   where
-    by : (b : Bool) → list_any test xs ≡ has_some (filter test xs) → (b || list_any test xs) ≡ has_some (cond b (x ∷ filter test xs) (filter test xs))
+    by : (b : Bool) → list_any test xs ≡ has_some (filter test xs)
+        → (b || list_any test xs) ≡ has_some (cond b (x ∷ filter test xs) (filter test xs))
     by true rest = refl
     by false rest = rest
 
 -- what blocks a body stays too
-blocked_kept : (map : MapView) (body : Bounds) (keep : Rec → Bool) (near : List Rec) → ((r : Rec) → overlaps body (body_of r) ≡ true → keep r ≡ true)
+blocked_kept : (map : MapView) (body : Bounds) (keep : Rec → Bool) (near : List Rec)
+    → ((r : Rec) → overlaps body (body_of r) ≡ true → keep r ≡ true)
     → is_blocked body (solids_among map near) ≡ is_blocked body (solids_among map (filter keep near))
 unfolding solids_among
 blocked_kept map body keep near kept =
     let test = overlaps body in
     list_any-append test (solids_of map) (bodies_of_solids near)
     ∙ ap (λ (b : Bool). is_blocked body (solids_of map) || b)
-    (any_by_filter test (bodies_of_solids near) ∙ ap has_some (sym (bodies_kept test keep near kept)) ∙ sym (any_by_filter test (bodies_of_solids (filter keep near))))
+    (any_by_filter test (bodies_of_solids near) ∙ ap has_some (sym (bodies_kept test keep near kept))
+    ∙ sym (any_by_filter test (bodies_of_solids (filter keep near))))
     ∙ sym (list_any-append test (solids_of map) (bodies_of_solids (filter keep near)))
 
 -- and a move among all that it looks at
-moved_kept : (map : MapView) (me : Rec) (c : Command) (keep : Rec → Bool) (near : List Rec) → c.ms ≤ 50 → ((r : Rec) → overlaps (looked_at me c.ms) (body_of r) ≡ true → keep r ≡ true)
+moved_kept : (map : MapView) (me : Rec) (c : Command) (keep : Rec → Bool) (near : List Rec) → c.ms ≤ 50
+    → ((r : Rec) → overlaps (looked_at me c.ms) (body_of r) ≡ true → keep r ≡ true)
     → moved_among map me near c ≡ moved_among map me (filter keep near) c
 unfolding moved_among solids_among
 moved_kept map me c keep near short kept =
@@ -129,11 +149,13 @@ module _ (arena : MapView) (me : Rec) (near : List Rec) (c : Command) (is_map : 
   unfolding keep
   touched_touches r h =
       let touch = (both (not (is_solid r.kind)) (touches (abs_of r) (abs_of moved)) h).1 in
-      let first = contains-through (first_box me c.ms) (reach_of me c.ms) (abs_of moved) (first_contains_reach me c.ms) (reach_contains_moved arena me near c short) in
+      let first =
+      contains-through (first_box me c.ms) (reach_of me c.ms) (abs_of moved) (first_contains_reach me c.ms) (reach_contains_moved arena me near c short) in
       touches_first arena me c (abs_of r) (touches-wider (first_box me c.ms) (abs_of moved) (abs_of r) first touch)
 
   -- and what is in the way at the destination of a teleporter that it touches
-  way_is_kept : (r : Rec) (dest : Vec3) → IsWay arena moved near r dest → (s : Rec) → overlaps (player_body dest) (body_of s) ≡ true → keep s ≡ true
+  way_is_kept : (r : Rec) (dest : Vec3) → IsWay arena moved near r dest → (s : Rec)
+      → overlaps (player_body dest) (body_of s) ≡ true → keep s ≡ true
   unfolding keep
   way_is_kept r dest way s h =
       let player = has_player_on arena me c is_map call.player in
@@ -142,7 +164,12 @@ module _ (arena : MapView) (me : Rec) (near : List Rec) (c : Command) (is_map : 
       (touches-around (landing_at me dest) (player_body dest) (body_of s) (abs_of s) (landing_contains_body me dest (record { low_is = shape.low_is; high_is = shape.high_is })) (abs_contains_body s) h)
 
   same_ways : HaveSameWays arena moved near (filter keep near)
-  same_ways r dest touched kind from = blocked_kept arena (player_body dest) keep near (way_is_kept r dest (record { touched = touched; kind = kind; from = from }))
+  same_ways r dest touched kind from =
+      blocked_kept arena (player_body dest) keep near (way_is_kept r dest (record {
+        touched = touched;
+        kind = kind;
+        from = from;
+      }))
 
   pub local : outcome_in arena me near c ≡ outcome_in arena me (touching (region_in arena me c) near) c
   unfolding outcome_in keep

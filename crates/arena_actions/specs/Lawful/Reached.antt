@@ -49,7 +49,8 @@ pub first_contains_reach : (me : Rec) (ms : ℕ) → contains (first_box me ms) 
 first_contains_reach me ms = contains-grown (reach_of me ms) room room_is_positive
 
 -- and where the move looks
-contains_on-looked : (lo hi g : ℤ) (m n k : ℕ) → pos 0 ≤ℤ g → k ≤ m + n → contains_on (((lo -ℤ g) -ℤ pos m) -ℤ pos n) (((hi +ℤ g) +ℤ pos m) +ℤ pos n) (lo -ℤ pos k) (hi +ℤ pos k) ≡ true
+contains_on-looked : (lo hi g : ℤ) (m n k : ℕ) → pos 0 ≤ℤ g → k ≤ m + n
+    → contains_on (((lo -ℤ g) -ℤ pos m) -ℤ pos n) (((hi +ℤ g) +ℤ pos m) +ℤ pos n) (lo -ℤ pos k) (hi +ℤ pos k) ≡ true
 contains_on-looked lo hi g m n k positive less = grind (arith, ints)
 
 pub first_contains_looked : (me : Rec) (ms : ℕ) → contains (first_box me ms) (looked_at me ms) ≡ true
@@ -60,11 +61,14 @@ first_contains_looked me ms =
     let x = reach_on me.vel.x ms in
     let y = reach_on me.vel.y ms in
     let z = reach_on me.vel.z ms in
-    all_three (contains_on-looked b.lo.x b.hi.x g.x (x + 256) 16384 x positive.x (omega arith)) (contains_on-looked b.lo.y b.hi.y g.y (y + 256) 16384 y positive.y (omega arith))
+    all_three (contains_on-looked b.lo.x b.hi.x g.x (x
+    + 256) 16384 x positive.x (omega arith)) (contains_on-looked b.lo.y b.hi.y g.y (y
+    + 256) 16384 y positive.y (omega arith))
     (contains_on-looked b.lo.z b.hi.z g.z (z + 4864) 16384 (z + 4609) positive.z (omega arith))
 
 -- a player that has moved, and touched nothing yet, is within its reach
-pub reach_contains_moved : (map : MapView) (me : Rec) (near : List Rec) (c : Command) → c.ms ≤ 50 → contains (reach_of me c.ms) (abs_of (moved_among map me near c)) ≡ true
+pub reach_contains_moved : (map : MapView) (me : Rec) (near : List Rec) (c : Command) → c.ms ≤ 50
+    → contains (reach_of me c.ms) (abs_of (moved_among map me near c)) ≡ true
 unfolding moved_among
 reach_contains_moved map me near c short =
     let solids = solids_among map near in
@@ -73,17 +77,22 @@ reach_contains_moved map me near c short =
     let x = reach_on me.vel.x c.ms in
     let y = reach_on me.vel.y c.ms in
     let z = reach_on me.vel.z c.ms in
-    contains-moved me.origin to me.mins me.maxs (growth_of me.kind) x y (z + 4608) (x + 256) (y + 256) (z + 4864) far.x far.y far.z (omega arith) (omega arith) (omega arith)
+    contains-moved me.origin to me.mins me.maxs (growth_of me.kind) x y (z + 4608) (x + 256) (y + 256) (z
+    + 4864) far.x far.y far.z (omega arith) (omega arith) (omega arith)
 
 -- what touches the first box touches the region
-pub touches_first : (map : MapView) (me : Rec) (c : Command) (b : Bounds) → touches b (first_box me c.ms) ≡ true → touches_region b (region_in map me c) ≡ true
+pub touches_first : (map : MapView) (me : Rec) (c : Command) (b : Bounds) → touches b (first_box me c.ms) ≡ true
+    → touches_region b (region_in map me c) ≡ true
 unfolding region_in
-touches_first map me c b h = ap (λ (t : Bool). t || list_any (touches b) (filter_map (landing_of map me (reach_of me c.ms)) (entities_of map))) h
+touches_first map me c b h =
+    ap (λ (t : Bool). t || list_any (touches b) (filter_map (landing_of map me (reach_of me c.ms)) (entities_of map))) h
 
 -- what it contains lies in the region
-pub inside_first : (map : MapView) (me : Rec) (c : Command) (b : Bounds) → contains (first_box me c.ms) b ≡ true → is_inside b (region_in map me c) ≡ true
+pub inside_first : (map : MapView) (me : Rec) (c : Command) (b : Bounds) → contains (first_box me c.ms) b ≡ true
+    → is_inside b (region_in map me c) ≡ true
 unfolding region_in
-inside_first map me c b h = ap (λ (t : Bool). t || list_any (λ one. contains one b) (filter_map (landing_of map me (reach_of me c.ms)) (entities_of map))) h
+inside_first map me c b h =
+    ap (λ (t : Bool). t || list_any (λ one. contains one b) (filter_map (landing_of map me (reach_of me c.ms)) (entities_of map))) h
 
 -- ---- landings
 
@@ -101,38 +110,52 @@ same_abs thing r same =
     ∙ ap (λ (m : Vec3). grown (standing thing.origin thing.mins m) (growth_of thing.kind)) same.maxs
 
 -- its thing has a landing there
-way_lands : (map : MapView) (me : Rec) (near : List Rec) (c : Command) (r : Rec) (dest : Vec3) → IsMap map → c.ms ≤ 50 → All (λ s. takes map s ≡ true) near
-    → IsWay map (moved_among map me near c) near r dest → (thing : Rec) → thing_with map r.id ≡ Some thing → IsSameThing thing r
+way_lands : (map : MapView) (me : Rec) (near : List Rec) (c : Command) (r : Rec) (dest : Vec3) → IsMap map → c.ms ≤ 50
+    → All (λ s. takes map s ≡ true) near
+    → IsWay map (moved_among map me near c) near r dest → (thing : Rec) → thing_with map r.id ≡ Some thing
+    → IsSameThing thing r
     → landing_of map me (reach_of me c.ms) thing ≡ Some (landing_at me dest)
 way_lands map me near c r dest is_map short taken way thing found same =
     let moved = moved_among map me near c in
     let test = is_touched (abs_of moved) in
     let passes = All-contains (λ s. test s ≡ true) (touched_by moved near) r (filter_passes test near) way.touched in
     let touch = (both (not (is_solid r.kind)) (touches (abs_of r) (abs_of moved)) passes).1 in
-    let reached = touches-wider (reach_of me c.ms) (abs_of moved) (abs_of r) (reach_contains_moved map me near c short) touch in
-    let there : touches (abs_of thing) (reach_of me c.ms) ≡ true = ap (λ (b : Bounds). touches b (reach_of me c.ms)) (sym (same_abs thing r same)) ∙ reached in
-    let from : dest_of map thing.id ≡ Some dest = ap (dest_of map) (thing_has_id map r.id thing is_map found) ∙ way.from in
-    ap (λ (t : Bool). if t then option_map (landing_at me) (dest_of map thing.id) else None) there ∙ ap (option_map (landing_at me)) from
+    let reached =
+    touches-wider (reach_of me c.ms) (abs_of moved) (abs_of r) (reach_contains_moved map me near c short) touch in
+    let there : touches (abs_of thing) (reach_of me c.ms) ≡ true =
+    ap (λ (b : Bounds). touches b (reach_of me c.ms)) (sym (same_abs thing r same)) ∙ reached in
+    let from : dest_of map thing.id ≡ Some dest =
+    ap (dest_of map) (thing_has_id map r.id thing is_map found) ∙ way.from in
+    ap (λ (t : Bool). if t then option_map (landing_at me) (dest_of map thing.id) else None) there
+    ∙ ap (option_map (landing_at me)) from
 
 -- a test that its landing passes some box of the region passes
-way_passes : (p : Bounds → Bool) (map : MapView) (me : Rec) (near : List Rec) (c : Command) (r : Rec) (dest : Vec3) → IsMap map → c.ms ≤ 50 → All (λ s. takes map s ≡ true) near
-    → IsWay map (moved_among map me near c) near r dest → p (landing_at me dest) ≡ true → list_any p (region_in map me c) ≡ true
+way_passes : (p : Bounds → Bool) (map : MapView) (me : Rec) (near : List Rec) (c : Command) (r : Rec) (dest : Vec3)
+    → IsMap map → c.ms ≤ 50 → All (λ s. takes map s ≡ true) near
+    → IsWay map (moved_among map me near c) near r dest → p (landing_at me dest) ≡ true
+    → list_any p (region_in map me c) ≡ true
 unfolding region_in
 way_passes p map me near c r dest is_map short taken way passes =
     let moved = moved_among map me near c in
     let test = is_touched (abs_of moved) in
-    let is_taken = All-contains (λ s. takes map s ≡ true) (touched_by moved near) r (All-filter test (λ s. takes map s ≡ true) near taken) way.touched in
+    let is_taken =
+    All-contains (λ s. takes map s ≡ true) (touched_by moved near) r (All-filter test (λ s. takes map s
+    ≡ true) near taken) way.touched in
     let is = taken_teleporter map r is_taken way.kind in
     let lands = way_lands map me near c r dest is_map short taken way is.thing is.found is.same in
     or_true (p (first_box me c.ms)) (list_any p (filter_map (landing_of map me (reach_of me c.ms)) (entities_of map)))
     (any_found (landing_of map me (reach_of me c.ms)) p (λ t. t.id == r.id) (entities_of map) is.thing (landing_at me dest) is.found lands passes)
 
-pub way_touches : (map : MapView) (me : Rec) (near : List Rec) (c : Command) (r : Rec) (dest : Vec3) (b : Bounds) → IsMap map → c.ms ≤ 50 → All (λ s. takes map s ≡ true) near
-    → IsWay map (moved_among map me near c) near r dest → touches b (landing_at me dest) ≡ true → touches_region b (region_in map me c) ≡ true
+pub way_touches : (map : MapView) (me : Rec) (near : List Rec) (c : Command) (r : Rec) (dest : Vec3) (b : Bounds)
+    → IsMap map → c.ms ≤ 50 → All (λ s. takes map s ≡ true) near
+    → IsWay map (moved_among map me near c) near r dest → touches b (landing_at me dest) ≡ true
+    → touches_region b (region_in map me c) ≡ true
 way_touches map me near c r dest b = way_passes (touches b) map me near c r dest
 
-pub way_contains : (map : MapView) (me : Rec) (near : List Rec) (c : Command) (r : Rec) (dest : Vec3) (b : Bounds) → IsMap map → c.ms ≤ 50 → All (λ s. takes map s ≡ true) near
-    → IsWay map (moved_among map me near c) near r dest → contains (landing_at me dest) b ≡ true → is_inside b (region_in map me c) ≡ true
+pub way_contains : (map : MapView) (me : Rec) (near : List Rec) (c : Command) (r : Rec) (dest : Vec3) (b : Bounds)
+    → IsMap map → c.ms ≤ 50 → All (λ s. takes map s ≡ true) near
+    → IsWay map (moved_among map me near c) near r dest → contains (landing_at me dest) b ≡ true
+    → is_inside b (region_in map me c) ≡ true
 way_contains map me near c r dest b = way_passes (λ one. contains one b) map me near c r dest
 
 -- a landing contains the player's absolute box there
@@ -140,8 +163,10 @@ pub landing_contains_abs : (me : Rec) (dest : Vec3) → contains (landing_at me 
 landing_contains_abs me dest = contains-grown (abs_of (elsewhere me dest)) room room_is_positive
 
 -- and the body of a player there
-pub landing_contains_body : (me : Rec) (dest : Vec3) → HasCorners PLAYER_MINS PLAYER_MAXS me.mins me.maxs → contains (landing_at me dest) (player_body dest) ≡ true
+pub landing_contains_body : (me : Rec) (dest : Vec3) → HasCorners PLAYER_MINS PLAYER_MAXS me.mins me.maxs
+    → contains (landing_at me dest) (player_body dest) ≡ true
 landing_contains_body me dest shape =
-    let all = contains-through (landing_at me dest) (abs_of (elsewhere me dest)) (body_of (elsewhere me dest)) (landing_contains_abs me dest) (abs_contains_body (elsewhere me dest)) in
+    let all =
+    contains-through (landing_at me dest) (abs_of (elsewhere me dest)) (body_of (elsewhere me dest)) (landing_contains_abs me dest) (abs_contains_body (elsewhere me dest)) in
     subst (λ (m : Vec3). contains (landing_at me dest) (standing dest PLAYER_MINS m) ≡ true) shape.high_is
     (subst (λ (m : Vec3). contains (landing_at me dest) (standing dest m me.maxs) ≡ true) shape.low_is all)

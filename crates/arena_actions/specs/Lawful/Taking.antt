@@ -60,7 +60,9 @@ test_of_same v w e = subst (λ (u : Vec3). is_same_vector v u ≡ true) e (rw (i
 
 -- the kind with a number
 kind_with : ℕ → Kind
-kind_with n = if n == 0 then Player else if n == 1 then Ammo else if n == 2 then Gem else if n == 3 then Teleporter else if n == 4 then Goal else Lift
+kind_with n =
+    if n == 0 then Player else if n == 1 then Ammo else if n == 2 then Gem else if n == 3 then Teleporter else if n == 4
+    then Goal else Lift
 
 numbered : (k : Kind) → kind_with (number_of k) ≡ k
 unfolding kind_with
@@ -136,9 +138,14 @@ record HasShapeOf (thing r : Rec) : Type 0 where
 
 shape_of_test : (thing r : Rec) → has_shape_of thing r ≡ true → HasShapeOf thing r
 shape_of_test thing r h =
-    let p = both ((number_of r.kind == number_of thing.kind) && is_same_vector r.mins thing.mins) (is_same_vector r.maxs thing.maxs) h in
+    let p = both ((number_of r.kind == number_of thing.kind)
+    && is_same_vector r.mins thing.mins) (is_same_vector r.maxs thing.maxs) h in
     let q = both (number_of r.kind == number_of thing.kind) (is_same_vector r.mins thing.mins) p.0 in
-    record { kind = same_kind r.kind thing.kind q.0; mins = same_of_test r.mins thing.mins q.1; maxs = same_of_test r.maxs thing.maxs p.1 }
+    record {
+      kind = same_kind r.kind thing.kind q.0;
+      mins = same_of_test r.mins thing.mins q.1;
+      maxs = same_of_test r.maxs thing.maxs p.1;
+    }
 
 -- the record is that of a thing of the map
 pub record IsThingsRecord (map : MapView) (r : Rec) : Type 0 where
@@ -146,12 +153,22 @@ pub record IsThingsRecord (map : MapView) (r : Rec) : Type 0 where
   pub found : thing_with map r.id ≡ Some thing
   pub same : IsSameThing thing r
 
-pub thing_of_test : (map : MapView) (r : Rec) (o : Option Rec) → thing_with map r.id ≡ o → is_thing o r ≡ true → IsThingsRecord map r
+pub thing_of_test : (map : MapView) (r : Rec) (o : Option Rec) → thing_with map r.id ≡ o → is_thing o r ≡ true
+    → IsThingsRecord map r
 thing_of_test map r None found h = cc
 thing_of_test map r (Some thing) found h =
     let p = both (has_shape_of thing r) (is_same_vector r.origin thing.origin) h in
     let shape = shape_of_test thing r p.0 in
-    record { thing = thing; found = found; same = record { kind = shape.kind; origin = same_of_test r.origin thing.origin p.1; mins = shape.mins; maxs = shape.maxs } }
+    record {
+      thing = thing;
+      found = found;
+      same = record {
+        kind = shape.kind;
+        origin = same_of_test r.origin thing.origin p.1;
+        mins = shape.mins;
+        maxs = shape.maxs;
+      };
+    }
 
 -- the record is that of a lift of the map
 pub record IsLiftsRecord (map : MapView) (r : Rec) : Type 0 where
@@ -161,7 +178,8 @@ pub record IsLiftsRecord (map : MapView) (r : Rec) : Type 0 where
   pub found : thing_with map r.id ≡ Some thing
   pub same : IsSameLift lift thing r
 
-pub lift_of_test : (map : MapView) (r : Rec) (l : Option lifts.Lift) (o : Option Rec) → lift_of map r.id ≡ l → thing_with map r.id ≡ o → is_lift l o r ≡ true → IsLiftsRecord map r
+pub lift_of_test : (map : MapView) (r : Rec) (l : Option lifts.Lift) (o : Option Rec) → lift_of map r.id ≡ l
+    → thing_with map r.id ≡ o → is_lift l o r ≡ true → IsLiftsRecord map r
 lift_of_test map r None o data_are found h = cc
 lift_of_test map r (Some lift) None data_are found h = cc
 lift_of_test map r (Some lift) (Some thing) data_are found h =
@@ -210,9 +228,11 @@ known map id thing is_map at =
 
 -- a record of a thing's id and kind
 id_of_kind : (thing r : Rec) → thing.id ≡ r.id → r.kind ≡ thing.kind → IsIdOf thing.kind thing.id → IsIdOf r.kind r.id
-id_of_kind thing r own kind is = subst (λ (k : Kind). IsIdOf k r.id) (sym kind) (subst (λ (id : ℕ). IsIdOf thing.kind id) own is)
+id_of_kind thing r own kind is =
+    subst (λ (k : Kind). IsIdOf k r.id) (sym kind) (subst (λ (id : ℕ). IsIdOf thing.kind id) own is)
 
-shape_at : (thing r : Rec) → IsSameThing thing r → IsShapeOf thing.kind thing.origin thing.mins thing.maxs → IsShapeOf r.kind r.origin r.mins r.maxs
+shape_at : (thing r : Rec) → IsSameThing thing r → IsShapeOf thing.kind thing.origin thing.mins thing.maxs
+    → IsShapeOf r.kind r.origin r.mins r.maxs
 shape_at thing r same shape =
     subst (λ (k : Kind). IsShapeOf k r.origin r.mins r.maxs) (sym same.kind)
     (subst (λ (o : Vec3). IsShapeOf thing.kind o r.mins r.maxs) (sym same.origin)
@@ -261,7 +281,12 @@ player_of_test map r h =
     let p = both (a && b && c) (contains map.bounds (body_of r)) h in
     let q = both (a && b) c p.0 in
     let s = both a b q.0 in
-    record { id = below s.0; mins = same_of_test r.mins PLAYER_MINS s.1; maxs = same_of_test r.maxs PLAYER_MAXS q.1; inside = p.1 }
+    record {
+      id = below s.0;
+      mins = same_of_test r.mins PLAYER_MINS s.1;
+      maxs = same_of_test r.maxs PLAYER_MAXS q.1;
+      inside = p.1;
+    }
   where
     below : nat_lt r.id 64 ≡ true → r.id < 64
     below e = grind (arith, nat_tests)
@@ -287,7 +312,8 @@ pub record IsTakenAs (map : MapView) (r : Rec) : Type 0 where
 
 pub taken_as : (map : MapView) (r : Rec) → takes map r ≡ true → IsTakenAs map r
 unfolding takes
-taken_as map r h = let p = both (has_numbers r) (is_one_of r.kind map r) h in record { numbers = numbers_of_test r p.0; one = p.1 }
+taken_as map r h =
+    let p = both (has_numbers r) (is_one_of r.kind map r) h in record { numbers = numbers_of_test r p.0; one = p.1 }
 
 -- a record that is taken is within its bounds
 pub taken_is_record : (map : MapView) (r : Rec) → IsMap map → takes map r ≡ true → IsRecord r
@@ -302,25 +328,36 @@ taken_is_record map r is_map h = by r.kind refl t.one
     by Gem kind one = thing_is_record map r is_map t.numbers (thing_of_test map r (thing_with map r.id) refl one)
     by Teleporter kind one = thing_is_record map r is_map t.numbers (thing_of_test map r (thing_with map r.id) refl one)
     by Goal kind one = thing_is_record map r is_map t.numbers (thing_of_test map r (thing_with map r.id) refl one)
-    by Lift kind one = lift_is_record map r is_map t.numbers (lift_of_test map r (lift_of map r.id) (thing_with map r.id) refl refl one)
+    by Lift kind one =
+        lift_is_record map r is_map t.numbers (lift_of_test map r (lift_of map r.id) (thing_with map r.id) refl refl one)
 
 -- and can be kept
 pub taken_is_keepable : (map : MapView) (r : Rec) → IsMap map → takes map r ≡ true → IsKeepable r
 taken_is_keepable map r is_map h =
     let numbers = (taken_as map r h).numbers in
-    record { bounds = taken_is_record map r is_map h; score = omega (arith, numbers.score); seq = omega (arith, numbers.seq) }
+    record {
+      bounds = taken_is_record map r is_map h;
+      score = omega (arith, numbers.score);
+      seq = omega (arith, numbers.seq);
+    }
 
 -- one of a player is that of a player on the map
 pub taken_is_player : (map : MapView) (r : Rec) → IsMap map → takes map r ≡ true → r.kind ≡ Player → IsPlayerOn map r
 taken_is_player map r is_map h kind =
     let t = taken_as map r h in
     let one : is_player map r ≡ true = subst (λ (k : Kind). is_one_of k map r ≡ true) kind t.one in
-    record { kind = kind; is_record = taken_is_record map r is_map h; score = omega (arith, t.numbers.score); inside = (player_of_test map r one).inside }
+    record {
+      kind = kind;
+      is_record = taken_is_record map r is_map h;
+      score = omega (arith, t.numbers.score);
+      inside = (player_of_test map r one).inside;
+    }
 
 -- one of a teleporter is that of a thing of the map
 pub taken_teleporter : (map : MapView) (r : Rec) → takes map r ≡ true → r.kind ≡ Teleporter → IsThingsRecord map r
 taken_teleporter map r h kind =
-    thing_of_test map r (thing_with map r.id) refl (subst (λ (k : Kind). is_one_of k map r ≡ true) kind (taken_as map r h).one)
+    thing_of_test map r (thing_with map r.id) refl (subst (λ (k : Kind). is_one_of k map r
+    ≡ true) kind (taken_as map r h).one)
 
 -- the thing has the id by which it was found
 pub thing_has_id : (map : MapView) (id : ℕ) (thing : Rec) → IsMap map → thing_with map id ≡ Some thing → thing.id ≡ id
@@ -341,14 +378,16 @@ player_is_taken map r is seq =
       seq = seq;
     } in
     let id : r.id < 64 = subst (λ (k : Kind). IsIdOf k r.id) is.kind is.is_record.id in
-    let one : is_player map r ≡ true = rw (below id, test_of_same r.mins PLAYER_MINS shape.low_is, test_of_same r.maxs PLAYER_MAXS shape.high_is, is.inside) refl in
+    let one : is_player map r ≡ true =
+    rw (below id, test_of_same r.mins PLAYER_MINS shape.low_is, test_of_same r.maxs PLAYER_MAXS shape.high_is, is.inside) refl in
     rw (test_of_numbers r numbers) (subst (λ (k : Kind). is_one_of k map r ≡ true) (sym is.kind) one)
   where
     below : r.id < 64 → nat_lt r.id 64 ≡ true
     below e = grind (arith, nat_tests)
 
 -- a record is taken in every state
-pub taken_in_any_state : (map : MapView) (r : Rec) (state : ℕ) → takes map r ≡ true → takes map (with_state r state) ≡ true
+pub taken_in_any_state : (map : MapView) (r : Rec) (state : ℕ) → takes map r ≡ true
+    → takes map (with_state r state) ≡ true
 unfolding takes
 taken_in_any_state map r state h = ap (λ (b : Bool). has_numbers r && b) (by r.kind) ∙ h
   where

@@ -23,7 +23,8 @@ kind_of_slot Goal id is below = absurd (omega (arith, is.least, below))
 kind_of_slot Lift id is below = absurd (omega (arith, is.least, below))
 
 -- the command's player is on the map
-pub has_player_on : (map : MapView) (me : Rec) (c : Command) → IsMap map → HasPlayer (takes map) me c → IsPlayerOn map me
+pub has_player_on : (map : MapView) (me : Rec) (c : Command) → IsMap map → HasPlayer (takes map) me c
+    → IsPlayerOn map me
 has_player_on map me c is_map has =
     let below : me.id < 64 = subst (λ (id : ℕ). id < 64) (sym has.own) has.command.slot in
     taken_is_player map me is_map has.taken (kind_of_slot me.kind me.id (taken_is_record map me is_map has.taken).id below)
