@@ -1,5 +1,5 @@
 -- Footprint: a move changes only what lies in its region.
-use Rattle.std.proofs.Common.{◌≡◌, ◌⊎◌, ℕ, ◌+◌, ◌<◌, ◌≤◌, ◌==◌, Bool, true, false, not, ◌&&◌, if◌then◌else◌, List, [], ◌∷◌, length, get_or, fold, Contains, All, Option, Some, None, ℤ, pos, ◌+ℤ◌, ◌-ℤ◌, ◌≤ℤ◌, refl, sym, ap, ◌∙◌, subst, inl, inr, arith}
+use Rattle.std.proofs.Common.{◌≡◌, ℕ, ◌≤◌, ◌==◌, Bool, true, false, not, ◌&&◌, if◌then◌else◌, List, [], ◌∷◌, Contains, Option, Some, None, refl, sym, ap, ◌∙◌, subst, inl, inr, arith}
 use Rattle.std.specs.Prelude.{filter_map}
 use Rattle.std.specs.List.{list_any, cons_option, AllByRecursion}
 use Rattle.std.specs.Option.{option_map}
@@ -22,19 +22,19 @@ use Rattle.entity_recs.specs.Kinds.{is_solid}
 use Rattle.entity_recs.specs.Records.{IsShapeOf, IsRecord, with_state}
 use Rattle.entity_recs.specs.Bodies.{standing, growth_of, body_of, abs_of}
 use Rattle.entity_recs.specs.Commands.{Command}
-use Rattle.entity_recs.specs.Actions.{HasPlayer, IsCall, HasFootprint, StaysWithin, is_of_one_inside}
-use Rattle.entity_recs.proofs.Standing.{growth_is_small, contains-grown}
+use Rattle.entity_recs.specs.Actions.{IsCall, HasFootprint, StaysWithin, is_of_one_inside}
+use Rattle.entity_recs.proofs.Standing.{contains-grown}
 use Rattle.arena_map.specs.Maps.{MapView, IsMap, entities_of, dest_of}
-use Rattle.item_rules.specs.Items.{is_item, after_item}
-use Rattle.trigger_rules.specs.Touching.{is_touched, touched_by, solids_among, Walk, first_walk, scored, leapt, after_trigger, touched}
+use Rattle.item_rules.specs.Items.{is_item}
+use Rattle.trigger_rules.specs.Touching.{touched_by, solids_among, Walk, first_walk, after_trigger, touched}
 use Rattle.trigger_rules.specs.Laws.{IsTaken, IsPlayerOn}
 use Rattle.trigger_rules.proofs.Bounds.{dest-stands}
 use Rattle.trigger_rules.proofs.Steps.{Step, step, item-change, both, walk-keeps-in}
 use Rattle.trigger_rules.proofs.Taken.{stay_themselves, only_leaps}
 use Rattle.arena_actions.specs.Outcomes.{moved_among, outcome_in}
-use Rattle.arena_actions.specs.Regions.{reach_growth, reach_of, first_box, room, elsewhere, landing_at, landing_of, region_in}
+use Rattle.arena_actions.specs.Regions.{reach_growth, reach_of, first_box, elsewhere, landing_at, landing_of, region_in}
 use Rattle.arena_actions.specs.Takes.{takes}
-use Rattle.arena_actions.specs.Lawful.Growing.{IsBoxWithin, box_within, within-grown_by, abs_within, reach_within}
+use Rattle.arena_actions.specs.Lawful.Growing.{box_within, within-grown_by, abs_within, reach_within}
 use Rattle.arena_actions.specs.Lawful.Inside.{contains-through, touches-wider, IsShort, contains-touched}
 use Rattle.arena_actions.specs.Lawful.Players.{elsewhere_is_record}
 use Rattle.arena_actions.specs.Lawful.Moves.{keep_who_moves, take_what_is_there, new_states_apart}

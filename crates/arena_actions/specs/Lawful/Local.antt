@@ -1,5 +1,5 @@
 -- Locality: a move sees only what touches its region.
-use Rattle.std.proofs.Common.{◌≡◌, ◌⊎◌, ℕ, ◌≤◌, Bool, true, false, not, ◌||◌, ◌&&◌, cond, List, [], ◌∷◌, ◌++◌, map, filter, Contains, All, Some, refl, sym, ap, ◌∙◌, arith}
+use Rattle.std.proofs.Common.{◌≡◌, ◌≤◌, Bool, true, false, not, ◌||◌, cond, List, [], ◌∷◌, ◌++◌, map, filter, refl, sym, ap, ◌∙◌}
 use Rattle.std.specs.List.{list_any}
 use Rattle.std.proofs.lemmas.List.Elements.{filter-append}
 use Rattle.std.proofs.lemmas.List.Folds.{list_any-append}
@@ -7,19 +7,17 @@ use Rattle.arena_geo.specs.declared.vec3.Vec3.{Vec3}
 use Rattle.arena_geo.specs.Bounds.{Bounds}
 use Rattle.arena_geo.specs.Boxes.{overlaps, touches, is_blocked}
 use Rattle.arena_geo.specs.Regions.{touches_region}
-use Rattle.entity_recs.specs.declared.kind.Kind.TheVariants.{Teleporter}
 use Rattle.entity_recs.specs.declared.rec.Rec.{Rec}
 use Rattle.entity_recs.specs.Kinds.{is_solid}
 use Rattle.entity_recs.specs.Bodies.{player_body, body_of, abs_of}
 use Rattle.entity_recs.specs.Commands.{Command}
 use Rattle.entity_recs.specs.Actions.{IsCall, HasLocality, touching}
 use Rattle.entity_recs.proofs.Standing.{abs_contains_body}
-use Rattle.player_move.specs.Moves.{move_of}
 use Rattle.player_move.specs.declared.moved.Moved.{Moved}
 use Rattle.player_move.specs.Laws.{looked_at}
 use Rattle.player_move.proofs.Looking.{move_looks_within}
-use Rattle.arena_map.specs.Maps.{MapView, IsMap, solids_of, dest_of}
-use Rattle.trigger_rules.specs.Touching.{is_touched, touched_by, bodies_of_solids, solids_among, Walk, touched}
+use Rattle.arena_map.specs.Maps.{MapView, IsMap, solids_of}
+use Rattle.trigger_rules.specs.Touching.{is_touched, bodies_of_solids, solids_among, touched}
 use Rattle.trigger_rules.specs.Laws.{HaveSameWays}
 use Rattle.trigger_rules.proofs.Steps.{both}
 use Rattle.trigger_rules.proofs.Taken.{only_touched}

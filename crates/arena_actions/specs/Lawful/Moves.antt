@@ -1,5 +1,5 @@
 -- What holds of every move.
-use Rattle.std.proofs.Common.{◌≡◌, ℕ, Bool, true, false, List, refl, sym, ap, ◌∙◌, subst}
+use Rattle.std.proofs.Common.{◌≡◌, ℕ, Bool, true, false, List, refl, ap, ◌∙◌}
 use Rattle.arena_geo.specs.declared.vec3.Vec3.{Vec3}
 use Rattle.arena_geo.specs.Bounds.{Bounds}
 use Rattle.arena_geo.specs.Boxes.{is_blocked}
@@ -8,14 +8,12 @@ use Rattle.entity_recs.specs.declared.rec.Rec.{Rec}
 use Rattle.entity_recs.specs.Records.{HasCorners}
 use Rattle.entity_recs.specs.Bodies.{standing, body_of}
 use Rattle.entity_recs.specs.Commands.{Command}
-use Rattle.player_move.specs.Moves.{move_of}
 use Rattle.player_move.proofs.Ending.{move_ends_free}
-use Rattle.arena_map.specs.Maps.{MapView, IsMap}
+use Rattle.arena_map.specs.Maps.{MapView}
 use Rattle.trigger_rules.specs.Touching.{solids_among, touched}
-use Rattle.trigger_rules.specs.Laws.{IsPlayerOn}
 use Rattle.trigger_rules.proofs.Taken.{stay_themselves, leaps_free, only_leaps, were_there, ids_rise}
 use Rattle.trigger_rules.proofs.Bounds.{stay_on, states_apart}
-use Rattle.arena_actions.specs.Outcomes.{asked, after_move, moved_among, effect_of, outcome_in}
+use Rattle.arena_actions.specs.Outcomes.{asked, moved_among, outcome_in}
 use Rattle.arena_actions.specs.Laws.{PlayersStayOnMaps, IsPlayerAfter, MovesKeepWhoMoves, PlayersStayFree, MovesTakeWhatIsThere, NewStatesAreApart, RepliedIdsRise, RepliesHaveTheOrigin}
 use Rattle.arena_actions.specs.Lawful.Players.{player_shape, moved_stays_on}
 

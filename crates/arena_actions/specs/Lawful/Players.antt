@@ -1,5 +1,5 @@
 -- A player on a map stays one.
-use Rattle.std.proofs.Common.{◌≡◌, ℕ, Bool, true, false, ◌≤◌, ℤ, ◌≤ℤ◌, unsigned_abs, List, ◌++◌, sym, subst, arith}
+use Rattle.std.proofs.Common.{◌≡◌, Bool, true, false, ◌≤◌, ℤ, ◌≤ℤ◌, unsigned_abs, List, sym, subst, arith}
 use Rattle.std.proofs.lemmas.Int.{ints}
 use Rattle.arena_geo.specs.declared.vec3.Vec3.{Vec3}
 use Rattle.arena_geo.specs.Vectors.{IsNear}
@@ -12,7 +12,7 @@ use Rattle.entity_recs.specs.declared.kind.Kind.TheVariants.{Player}
 use Rattle.entity_recs.specs.declared.bodies.TheConstants.{PLAYER_MINS}
 use Rattle.entity_recs.specs.declared.rec.Rec.{Rec}
 use Rattle.entity_recs.specs.Records.{IsRecord, IsShapeOf}
-use Rattle.entity_recs.specs.Bodies.{standing, player_body, body_of}
+use Rattle.entity_recs.specs.Bodies.{standing, player_body}
 use Rattle.entity_recs.specs.Commands.{Command}
 use Rattle.entity_recs.proofs.Standing.{records_have_boxes}
 use Rattle.player_move.specs.Moves.{move_of}
@@ -21,7 +21,7 @@ use Rattle.player_move.proofs.Slows.{move_stays_slow}
 use Rattle.arena_map.specs.Maps.{MapView, IsMap}
 use Rattle.trigger_rules.specs.Touching.{bodies_of_solids, solids_among}
 use Rattle.trigger_rules.specs.Laws.{IsPlayerOn}
-use Rattle.arena_actions.specs.Outcomes.{asked, flags_of, after_move, moved_among}
+use Rattle.arena_actions.specs.Outcomes.{asked, flags_of, moved_among}
 use Rattle.arena_actions.specs.Regions.{elsewhere}
 
 -- a player's shape

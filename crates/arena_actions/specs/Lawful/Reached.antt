@@ -1,21 +1,21 @@
 -- What lies in the region of a move, and what touches it.
-use Rattle.std.proofs.Common.{◌≡◌, ℕ, ◌+◌, ◌≤◌, ◌==◌, Bool, true, false, ◌||◌, ◌&&◌, not, if◌then◌else◌, List, ◌∷◌, filter, Contains, All, ℤ, pos, ◌+ℤ◌, ◌-ℤ◌, ◌≤ℤ◌, Option, Some, None, refl, sym, ap, ◌∙◌, subst, arith}
+use Rattle.std.proofs.Common.{◌≡◌, ℕ, ◌+◌, ◌≤◌, ◌==◌, Bool, true, false, ◌||◌, not, if◌then◌else◌, List, Contains, All, ℤ, pos, ◌+ℤ◌, ◌-ℤ◌, ◌≤ℤ◌, Some, None, refl, sym, ap, ◌∙◌, subst, arith}
 use Rattle.std.specs.Prelude.{filter_map}
-use Rattle.std.specs.List.{find, list_any}
+use Rattle.std.specs.List.{list_any}
 use Rattle.std.specs.Option.{option_map}
 use Rattle.std.proofs.lemmas.Int.{ints}
 use Rattle.std.proofs.lemmas.List.Elements.{All-contains, All-filter, filter_passes}
 use Rattle.arena_geo.specs.declared.vec3.Vec3.{Vec3}
 use Rattle.arena_geo.specs.Vectors.{IsNotNegative}
 use Rattle.arena_geo.specs.Bounds.{Bounds}
-use Rattle.arena_geo.specs.Boxes.{overlaps, touches, contains_on, contains, grown}
+use Rattle.arena_geo.specs.Boxes.{touches, contains_on, contains, grown}
 use Rattle.arena_geo.specs.Regions.{touches_region, is_inside}
 use Rattle.arena_geo.proofs.Containment.{all_three}
 use Rattle.entity_recs.specs.declared.bodies.TheConstants.{PLAYER_MINS, PLAYER_MAXS}
 use Rattle.entity_recs.specs.declared.kind.Kind.{Kind}
-use Rattle.entity_recs.specs.declared.kind.Kind.TheVariants.{Player, Teleporter}
+use Rattle.entity_recs.specs.declared.kind.Kind.TheVariants.{Teleporter}
 use Rattle.entity_recs.specs.declared.rec.Rec.{Rec}
-use Rattle.entity_recs.specs.Records.{IsRecord, HasCorners}
+use Rattle.entity_recs.specs.Records.{HasCorners}
 use Rattle.entity_recs.specs.Kinds.{is_solid}
 use Rattle.entity_recs.specs.Bodies.{standing, player_body, body_of, growth_of, abs_of}
 use Rattle.entity_recs.specs.Commands.{Command}
@@ -30,7 +30,6 @@ use Rattle.trigger_rules.proofs.Steps.{both}
 use Rattle.arena_actions.specs.Outcomes.{asked, moved_among}
 use Rattle.arena_actions.specs.Regions.{reach_of, first_box, room, elsewhere, landing_at, landing_of, region_in}
 use Rattle.arena_actions.specs.Takes.{thing_with, takes}
-use Rattle.arena_actions.specs.Lawful.Growing.{amount}
 use Rattle.arena_actions.specs.Lawful.Inside.{contains-through, touches-wider, contains-moved}
 use Rattle.arena_actions.specs.Lawful.Landings.{any_found}
 use Rattle.arena_actions.specs.Lawful.Taking.{taken_teleporter, thing_has_id}

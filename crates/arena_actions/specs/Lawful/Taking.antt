@@ -1,6 +1,5 @@
 -- What a record that is taken is, and that players on the map are taken.
-use Rattle.std.proofs.Common.{◌≡◌, ℕ, ◌+◌, ◌<◌, ◌≤◌, ◌==◌, nat_lt, nat_le, Bool, true, false, ◌&&◌, if◌then◌else◌, ℤ, ◌+ℤ◌, ◌≤ℤ◌, int_le, unsigned_abs, Option, Some, None, refl, sym, ap, ◌∙◌, subst, arith}
-use Rattle.std.specs.List.{find}
+use Rattle.std.proofs.Common.{◌≡◌, ℕ, ◌<◌, ◌≤◌, ◌==◌, nat_lt, nat_le, Bool, true, ◌&&◌, if◌then◌else◌, ℤ, ◌+ℤ◌, ◌≤ℤ◌, int_le, unsigned_abs, Option, Some, None, refl, sym, ap, ◌∙◌, subst, arith}
 use Rattle.std.specs.Ordering.{int_eq}
 use Rattle.std.proofs.lemmas.Bool.{eqb-true}
 use Rattle.std.proofs.lemmas.Bool.Decides.{nat_tests, Decides-int_eq}
@@ -18,7 +17,7 @@ use Rattle.entity_recs.specs.Records.{IsMapId, IsIdOf, IsShapeOf, IsRecord, with
 use Rattle.entity_recs.specs.Bodies.{body_of}
 use Rattle.entity_recs.specs.Actions.{IsKeepable}
 use Rattle.arena_map.specs.declared.lift.Lift as lifts
-use Rattle.arena_map.specs.Maps.{MapView, IsMap, entities_of, lift_of}
+use Rattle.arena_map.specs.Maps.{MapView, IsMap, lift_of}
 use Rattle.arena_map.specs.Validity.{IsSameThing, IsSameLift}
 use Rattle.arena_map.proofs.Kept.{few_things}
 use Rattle.arena_map.proofs.Lifts.{lifts_stay_inside}

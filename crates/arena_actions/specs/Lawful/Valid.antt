@@ -1,11 +1,11 @@
 -- Validity: a move leaves its player a record that is taken.
-use Rattle.std.proofs.Common.{◌≡◌, ℕ, ◌<◌, true, List, refl, sym, subst, arith}
+use Rattle.std.proofs.Common.{◌≡◌, ℕ, ◌<◌, refl, sym, subst, arith}
 use Rattle.entity_recs.specs.declared.kind.Kind.{Kind}
 use Rattle.entity_recs.specs.declared.kind.Kind.TheVariants.{Player, Ammo, Gem, Teleporter, Goal, Lift}
 use Rattle.entity_recs.specs.declared.rec.Rec.{Rec}
-use Rattle.entity_recs.specs.Records.{IsIdOf, IsRecord}
+use Rattle.entity_recs.specs.Records.{IsIdOf}
 use Rattle.entity_recs.specs.Commands.{Command}
-use Rattle.entity_recs.specs.Actions.{IsCommand, HasPlayer, IsCall, HasValidity}
+use Rattle.entity_recs.specs.Actions.{HasPlayer, HasValidity}
 use Rattle.arena_map.specs.Maps.{MapView, IsMap}
 use Rattle.trigger_rules.specs.Laws.{IsPlayerOn}
 use Rattle.arena_actions.specs.Outcomes.{outcome_in}

@@ -1,26 +1,21 @@
 -- The records that are taken are those of valid worlds.
-use Rattle.std.proofs.Common.{◌≡◌, ℕ, ◌<◌, ◌≤◌, ◌==◌, Bool, true, false, ◌&&◌, ℤ, ◌+ℤ◌, ◌≤ℤ◌, int_le, List, Option, Some, None, is_some, slice_index_or, refl, sym, ap, ◌∙◌, subst, arith}
-use Rattle.std.specs.List.{find}
-use Rattle.std.specs.Ordering.{int_eq}
+use Rattle.std.proofs.Common.{◌≡◌, ℕ, ◌<◌, ◌≤◌, true, false, ◌&&◌, ℤ, ◌+ℤ◌, ◌≤ℤ◌, int_le, Option, Some, None, is_some, refl, sym, ap, ◌∙◌, subst, arith}
 use Rattle.std.proofs.lemmas.Bool.{eq-eqb}
 use Rattle.std.proofs.lemmas.Bool.Decides.{Decides-int_eq}
 use Rattle.std.proofs.lemmas.Int.{ints}
-use Rattle.std.proofs.lemmas.Option.{none-some, same_Some}
-use Rattle.arena_geo.specs.declared.vec3.Vec3.{Vec3}
 use Rattle.entity_recs.specs.declared.kind.Kind.{Kind}
 use Rattle.entity_recs.specs.declared.kind.Kind.TheVariants.{Player, Ammo, Gem, Teleporter, Goal, Lift}
 use Rattle.entity_recs.specs.declared.rec.Rec.{Rec}
 use Rattle.entity_recs.specs.Kinds.{number_of}
-use Rattle.entity_recs.specs.Records.{IsMapId, IsIdOf, IsRecord}
+use Rattle.entity_recs.specs.Records.{IsIdOf, IsRecord}
 use Rattle.arena_map.specs.declared.lift.Lift as lifts
 use Rattle.arena_map.specs.MapLines as lines
-use Rattle.arena_map.specs.Maps.{MapView, IsMap, entities_of, lift_of}
-use Rattle.arena_map.specs.Validity.{IsSameThing, IsSameLift, IsAsItsLine, IsThing, IsValidRecord, IsValidWorld}
+use Rattle.arena_map.specs.Maps.{MapView, lift_of}
+use Rattle.arena_map.specs.Validity.{IsSameThing, IsSameLift, IsAsItsLine, IsThing, IsValidRecord}
 use Rattle.arena_map.specs.Laws.{HasData}
 use Rattle.arena_map.proofs.ThingData.{data_follow_kinds, live_records_have_data}
-use Rattle.trigger_rules.specs.Laws.{IsPlayerOn}
-use Rattle.arena_actions.specs.Takes.{has_numbers, has_shape_of, is_same_vector, is_thing, is_lift, thing_with, is_one_of, takes}
-use Rattle.arena_actions.specs.Worlds.{ValidRecordsAreTaken, IsOfWorld, TakenRecordsAreValid}
+use Rattle.arena_actions.specs.Takes.{has_numbers, has_shape_of, is_thing, is_lift, thing_with, is_one_of, takes}
+use Rattle.arena_actions.specs.Worlds.{ValidRecordsAreTaken, TakenRecordsAreValid}
 use Rattle.arena_actions.specs.Lawful.Taking.{HasNumbers, test_of_numbers, test_of_same, taken_as, thing_of_test, lift_of_test, IsThingsRecord, IsLiftsRecord, thing_has_id, taken_is_record, taken_is_player, player_is_taken}
 
 true_false : true ≡ false → ⊥

@@ -1,5 +1,4 @@
-use Rattle.std.proofs.Common.{◌≡◌, ℕ, ◌≤◌, arith}
-use Rattle.std.proofs.lemmas.Nat.{mul-le}
+use Rattle.std.proofs.Common.{arith}
 use Rattle.entity_recs.proofs.Standing.{is_there}
 use Rattle.arena_actions.specs.Regions.{reach_of}
 use Rattle.arena_actions.specs.Lawful.Growing.{reach_within, grows_there}
