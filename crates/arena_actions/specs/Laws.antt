@@ -29,7 +29,8 @@ pub record IsPlayerAfter (me : Rec) (number : ℕ) (after : Rec) : Type 0 where
 -- so it is after each move
 abbrev pub MovesKeepWhoMoves : Type 0
 MovesKeepWhoMoves =
-    (arena : MapView) (me : Rec) (near : List Rec) (c : Command) → IsPlayerAfter me c.seq (outcome_in arena me near c).me
+    (arena : MapView) (me : Rec) (near : List Rec) (c : Command)
+    → IsPlayerAfter me c.seq (outcome_in arena me near c).me
 
 -- a player whose body overlaps no solid before its move overlaps none after it
 abbrev pub PlayersStayFree : Type 0
@@ -38,12 +39,13 @@ PlayersStayFree =
     → is_blocked (body_of me) (solids_among arena near) ≡ false
     → is_blocked (body_of (outcome_in arena me near c).me) (solids_among arena near) ≡ false
 
--- what a player got was there and is touched where it moved to, and returns after its delay; nothing else changes state, and
--- the reply has the ids
+-- what a player got was there and is touched where it moved to, and returns after its delay; nothing else changes state,
+-- and the reply has the ids
 abbrev pub MovesTakeWhatIsThere : Type 0
 MovesTakeWhatIsThere =
     (arena : MapView) (me : Rec) (near : List Rec) (c : Command)
-    → let e = outcome_in arena me near c in AreTaken arena c.frame (moved_among arena me near c) near e.states e.reply.got
+    → let e = outcome_in arena me near c in
+    AreTaken arena c.frame (moved_among arena me near c) near e.states e.reply.got
 
 -- no record gets two new states, where the ids of the records rise
 abbrev pub NewStatesAreApart : Type 0

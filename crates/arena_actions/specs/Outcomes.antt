@@ -1,5 +1,5 @@
--- What a move does: the player's whole move over the solids of the map and the bodies of all other live solids, and what
--- the player touches where it ends.
+-- What a move does: the player's whole move over the solids of the map and the bodies of all other live solids, and
+-- what the player touches where it ends.
 use Rattle.std.specs.Prelude.{ℕ, Bool, true, false, List}
 use Rattle.entity_recs.specs.declared.rec.Rec.{Rec}
 use Rattle.entity_recs.specs.declared.effect.Effect.{Effect}

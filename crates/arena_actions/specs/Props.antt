@@ -1,5 +1,4 @@
 -- That the rules of a map have one proof at most, so that a type can keep them.
-use Rattle.std.specs.Prelude.{List}
 use Rattle.std.proofs.Props.{props}
 use Rattle.arena_map.specs.declared.map_line.MapLine.{MapLine}
 use Rattle.arena_map.specs.declared.map_line.MapLine.TheVariants.{Arena, Block, Spawn, Item, Teleport, Goal, Lift}

@@ -47,14 +47,25 @@ impl ArenaAction {
         requires rising { IsStrictlyIncreasing (map (λ r. r.id) near.now) }
         ensures { result ≡ outcome_in self.now.map me.now near.now (command_of cmd.now) }
     {
-        let mut me = moved_player(&self.map, me, near, cmd);
+        let mut after = moved_player(&self.map, me, near, cmd);
         let mut states = StateList::new();
         let mut got = IdList::new();
-        touch_all(&self.map, &mut me, near, cmd.frame, &mut states, &mut got);
+        touch_all(
+            &self.map,
+            &mut after,
+            near,
+            cmd.frame,
+            &mut states,
+            &mut got,
+        );
         let reply = Reply {
-            origin: me.origin,
+            origin: after.origin,
             got,
         };
-        Effect { me, states, reply }
+        Effect {
+            me: after,
+            states,
+            reply,
+        }
     }
 }

@@ -17,7 +17,7 @@ use Rattle.arena_map.specs.Maps.{MapView, IsMap}
 use Rattle.arena_map.specs.Validity.{IsValidRecord, IsValidWorld}
 use Rattle.trigger_rules.specs.Laws.{IsPlayerOn}
 use Rattle.arena_actions.specs.Outcomes.{outcome_in}
-use Rattle.arena_actions.proofs.Moves.{new_states_apart}
+use Rattle.arena_actions.specs.Lawful.Moves.{new_states_apart}
 use Rattle.world_tree.specs.Live.{record_at, live_in}
 use Rattle.world_tree.specs.Worlds.{WorldView, without_id, with_record}
 use Rattle.world_tree.specs.Queries.{is_near, near_in}

@@ -1,10 +1,7 @@
 use Rattle.std.proofs.Common.{◌≡◌, ℕ, ◌+◌, ◌≤◌, ◌++◌, List, [], filter, length, false, true, Bool, IsTrue, sym, ap, ◌∙◌, arith}
 use Rattle.arena_geo.specs.Bounds.{Bounds}
 use Rattle.arena_geo.specs.Boxes.{overlaps}
-use Rattle.arena_map.specs.Maps.{solids_of}
-use Rattle.trigger_rules.specs.Touching.{bodies_of_solids}
 use Rattle.player_move.specs.Intents.{intent_of}
-use Rattle.player_move.specs.Moves.{move_of}
 use Rattle.arena_actions.proofs.Keeping.{length-filter-le, move_of_kept}
 use Rattle.arena_actions.proofs.moving.move_within.Goals as goal
 use Rattle.arena_actions.proofs.moving.move_within.Goals.{else-push_overlapping-via-then-push_overlapping+else-push_bodies, else-push_overlapping-via-else-push_overlapping}

@@ -1,5 +1,4 @@
 use Rattle.std.proofs.Common.{ap, ◌∙◌}
-use Rattle.entity_recs.specs.Commands.{command_of}
 use Rattle.player_move.specs.declared.moved.Moved.{Moved}
 use Rattle.arena_actions.specs.Outcomes.{after_move, moved_among}
 use Rattle.arena_actions.proofs.Rising.{few_records}

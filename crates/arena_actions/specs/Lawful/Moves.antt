@@ -1,5 +1,5 @@
 -- What holds of every move.
-use Rattle.std.proofs.Common.{◌≡◌, ℕ, Bool, true, false, List, refl, sym, ap, ◌∙◌, subst}
+use Rattle.std.proofs.Common.{◌≡◌, ℕ, Bool, true, false, List, refl, ap, ◌∙◌}
 use Rattle.arena_geo.specs.declared.vec3.Vec3.{Vec3}
 use Rattle.arena_geo.specs.Bounds.{Bounds}
 use Rattle.arena_geo.specs.Boxes.{is_blocked}
@@ -8,23 +8,23 @@ use Rattle.entity_recs.specs.declared.rec.Rec.{Rec}
 use Rattle.entity_recs.specs.Records.{HasCorners}
 use Rattle.entity_recs.specs.Bodies.{standing, body_of}
 use Rattle.entity_recs.specs.Commands.{Command}
-use Rattle.player_move.specs.Moves.{move_of}
 use Rattle.player_move.proofs.Ending.{move_ends_free}
-use Rattle.arena_map.specs.Maps.{MapView, IsMap}
+use Rattle.arena_map.specs.Maps.{MapView}
 use Rattle.trigger_rules.specs.Touching.{solids_among, touched}
-use Rattle.trigger_rules.specs.Laws.{IsPlayerOn}
 use Rattle.trigger_rules.proofs.Taken.{stay_themselves, leaps_free, only_leaps, were_there, ids_rise}
 use Rattle.trigger_rules.proofs.Bounds.{stay_on, states_apart}
-use Rattle.arena_actions.specs.Outcomes.{asked, after_move, moved_among, effect_of, outcome_in}
+use Rattle.arena_actions.specs.Outcomes.{asked, moved_among, outcome_in}
 use Rattle.arena_actions.specs.Laws.{PlayersStayOnMaps, IsPlayerAfter, MovesKeepWhoMoves, PlayersStayFree, MovesTakeWhatIsThere, NewStatesAreApart, RepliedIdsRise, RepliesHaveTheOrigin}
-use Rattle.arena_actions.proofs.Players.{player_shape, moved_stays_on}
+use Rattle.arena_actions.specs.Lawful.Players.{player_shape, moved_stays_on}
 
 pub stay_on_maps : PlayersStayOnMaps
 unfolding outcome_in
-stay_on_maps map me near c is_map is = stay_on map c.frame (moved_among map me near c) near is_map (moved_stays_on map me near c is_map is)
+stay_on_maps map me near c is_map is =
+    stay_on map c.frame (moved_among map me near c) near is_map (moved_stays_on map me near c is_map is)
 
 -- the player that has moved, and touched nothing yet, is the same one
-moved_is_same : (map : MapView) (me : Rec) (near : List Rec) (c : Command) → IsPlayerAfter me c.seq (moved_among map me near c)
+moved_is_same : (map : MapView) (me : Rec) (near : List Rec) (c : Command)
+    → IsPlayerAfter me c.seq (moved_among map me near c)
 unfolding moved_among
 moved_is_same map me near c = record { id = refl; kind = refl; mins = refl; maxs = refl; state = refl; seq = refl }
 
@@ -43,7 +43,8 @@ keep_who_moves map me near c =
     }
 
 -- the player that has moved is free where it was free
-moved_is_free : (map : MapView) (me : Rec) (near : List Rec) (c : Command) → is_blocked (body_of me) (solids_among map near) ≡ false
+moved_is_free : (map : MapView) (me : Rec) (near : List Rec) (c : Command)
+    → is_blocked (body_of me) (solids_among map near) ≡ false
     → is_blocked (body_of (moved_among map me near c)) (solids_among map near) ≡ false
 unfolding moved_among
 moved_is_free map me near c free = move_ends_free me (asked c) (solids_among map near) free
@@ -51,11 +52,14 @@ moved_is_free map me near c free = move_ends_free me (asked c) (solids_among map
 -- a body in place in the same shape is the same body
 pub same_body : (a b : Rec) → b.origin ≡ a.origin → b.mins ≡ a.mins → b.maxs ≡ a.maxs → body_of b ≡ body_of a
 same_body a b origin mins maxs =
-    ap (λ (o : Vec3). standing o b.mins b.maxs) origin ∙ ap (λ (m : Vec3). standing a.origin m b.maxs) mins ∙ ap (λ (m : Vec3). standing a.origin a.mins m) maxs
+    ap (λ (o : Vec3). standing o b.mins b.maxs) origin ∙ ap (λ (m : Vec3). standing a.origin m b.maxs) mins
+    ∙ ap (λ (m : Vec3). standing a.origin a.mins m) maxs
 
 -- a player that touches things is free where it was free, and where a teleporter moves it
-touches_free : (map : MapView) (frame : ℕ) (me : Rec) (near : List Rec) → HasCorners PLAYER_MINS PLAYER_MAXS me.mins me.maxs → is_blocked (body_of me) (solids_among map near) ≡ false
-    → (ended : Bool) → (touched map frame me near).ended ≡ ended → is_blocked (body_of (touched map frame me near).me) (solids_among map near) ≡ false
+touches_free : (map : MapView) (frame : ℕ) (me : Rec) (near : List Rec)
+    → HasCorners PLAYER_MINS PLAYER_MAXS me.mins me.maxs → is_blocked (body_of me) (solids_among map near) ≡ false
+    → (ended : Bool) → (touched map frame me near).ended ≡ ended
+    → is_blocked (body_of (touched map frame me near).me) (solids_among map near) ≡ false
 touches_free map frame me near corners free true e = (leaps_free map frame me near corners e).free
 touches_free map frame me near corners free false e =
     let same = stay_themselves map frame me near in
@@ -67,7 +71,10 @@ stay_free map me near c is free =
     let moved = moved_among map me near c in
     let same = moved_is_same map me near c in
     let shape = player_shape me is.is_record is.kind in
-    touches_free map c.frame moved near (record { low_is = same.mins ∙ shape.low_is; high_is = same.maxs ∙ shape.high_is })
+    touches_free map c.frame moved near (record {
+      low_is = same.mins ∙ shape.low_is;
+      high_is = same.maxs ∙ shape.high_is;
+    })
     (moved_is_free map me near c free) (touched map c.frame moved near).ended refl
 
 pub take_what_is_there : MovesTakeWhatIsThere
