@@ -1,7 +1,7 @@
 use Rattle.std.proofs.Common.{rules, ◌∷◌, []}
 use Rattle.std.specs.Int.{to_le_bytes, w32}
 use Rattle.snapshot_write.proofs.Appending.{three_in_turn}
-use Rattle.snapshot_write.proofs.snapshot.push_counts.Goals as goal
+use Rattle.snapshot_write.proofs.writing.push_counts.Goals as goal
 
 pub returns-clause-bytes : goal.returns-clause-bytes
 returns-clause-bytes c =

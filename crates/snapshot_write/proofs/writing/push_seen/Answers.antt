@@ -1,7 +1,7 @@
 use Rattle.std.proofs.Common.{◌+◌, arith, length-drop}
 use Rattle.snapshot_write.specs.Snapshots.{entity_bytes}
 use Rattle.snapshot_write.proofs.Appending.{bytes_step}
-use Rattle.snapshot_write.proofs.snapshot.push_seen.Goals as goal
+use Rattle.snapshot_write.proofs.writing.push_seen.Goals as goal
 
 pub loop-r-preserved : goal.loop-r-preserved
 loop-r-preserved c = (

@@ -3,7 +3,7 @@ use Rattle.std.specs.Int.{to_le_bytes, w16}
 use Rattle.entity_recs.specs.Kinds.{number_of}
 use Rattle.snapshot_write.specs.Snapshots.{vector_bytes, status_at}
 use Rattle.snapshot_write.proofs.Appending.{three_in_turn}
-use Rattle.snapshot_write.proofs.snapshot.push_entity.Goals as goal
+use Rattle.snapshot_write.proofs.writing.push_entity.Goals as goal
 
 pub returns-clause-bytes : goal.returns-clause-bytes
 returns-clause-bytes c =

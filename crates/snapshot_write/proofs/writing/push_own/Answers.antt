@@ -1,7 +1,7 @@
 use Rattle.std.proofs.Common.{ap, ◌∙◌, ◌++◌, sym}
 use Rattle.snapshot_write.specs.Snapshots.{head_bytes, vector_bytes, count_bytes}
 use Rattle.snapshot_write.proofs.Appending.{four_in_turn}
-use Rattle.snapshot_write.proofs.snapshot.push_own.Goals as goal
+use Rattle.snapshot_write.proofs.writing.push_own.Goals as goal
 
 pub returns-clause-bytes : goal.returns-clause-bytes
 returns-clause-bytes c =

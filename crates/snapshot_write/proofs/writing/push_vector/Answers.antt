@@ -2,7 +2,7 @@ use Rattle.std.proofs.Common.{rules}
 use Rattle.std.proofs.lemmas.Int.{to_z-of_z}
 use Rattle.snapshot_write.specs.Snapshots.{signed_bytes}
 use Rattle.snapshot_write.proofs.Appending.{three_in_turn}
-use Rattle.snapshot_write.proofs.snapshot.push_vector.Goals as goal
+use Rattle.snapshot_write.proofs.writing.push_vector.Goals as goal
 
 pub returns-clause-bytes : goal.returns-clause-bytes
 returns-clause-bytes c =

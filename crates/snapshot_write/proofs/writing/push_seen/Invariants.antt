@@ -1,6 +1,6 @@
 use Rattle.std.proofs.Common.{◌≡◌, ◌+◌, ◌*◌, ◌≤◌, ◌++◌, drop, length, flat_map}
 use Rattle.snapshot_write.specs.Snapshots.{seen_bytes, entity_bytes}
-use Rattle.snapshot_write.proofs.snapshot.push_seen.Given as goal
+use Rattle.snapshot_write.proofs.writing.push_seen.Given as goal
 
 -- the bytes put so far and those of the things left are all
 abbrev pub invariant-loop-r : goal.invariant-loop-r
