@@ -1,11 +1,9 @@
 -- A snapshot is read as it was written.
-use Rattle.std.proofs.Common.{◌≡◌, ℕ, zero, suc, ◌+◌, ◌*◌, ◌^◌, ◌<◌, ◌≤◌, ◌==◌, Bool, true, false, ◌&&◌, ◌||◌, not, cond, List, [], ◌∷◌, ◌++◌, length, map, drop, flat_map, Option, Some, None, Ok, refl, ap, sym, ◌∙◌, arith, length-append}
-use Rattle.std.specs.Prelude.{nat_lt, nat_le}
-use Rattle.std.specs.Int.{w16, w32, to_le_bytes}
+use Rattle.std.proofs.Common.{◌≡◌, ℕ, ◌*◌, ◌≤◌, ◌==◌, Bool, true, false, ◌&&◌, ◌||◌, not, List, [], ◌∷◌, length, map, flat_map, None, Ok, refl, ap, sym, ◌∙◌, arith, length-append}
+use Rattle.std.specs.Prelude.{nat_lt}
 use Rattle.std.specs.List.{list_any}
 use Rattle.std.specs.Simd.{first_chunks}
 use Rattle.std.proofs.lemmas.Bool.{le-ltb}
-use Rattle.std.proofs.lemmas.Bool.Decides.{nat_tests}
 use Rattle.std.proofs.lemmas.List.{length-map}
 use Rattle.std.proofs.lemmas.Nat.{from_le_bytes-to_le_bytes_2, from_le_bytes-to_le_bytes_4}
 use Rattle.arena_geo.specs.declared.vec3.Vec3.{Vec3}
@@ -16,7 +14,6 @@ use Rattle.entity_recs.specs.declared.bodies.TheConstants.{PLAYER_MINS, PLAYER_M
 use Rattle.entity_recs.specs.Kinds.{number_of}
 use Rattle.snapshot_write.specs.declared.seen.Seen.{Seen}
 use Rattle.snapshot_write.specs.declared.snapshot.Snapshot.{Snapshot}
-use Rattle.snapshot_write.specs.declared.snap_fault.SnapFault.{SnapFault}
 use Rattle.snapshot_write.specs.declared.snap_fault.SnapFault.TheVariants.{Short, Version, Order, Count, Long}
 use Rattle.snapshot_write.specs.Fields.{count_in, length_with, blocks_in, id_in}
 use Rattle.snapshot_write.specs.Cause.{are_rising, have_id, is_kind, is_item_kind, has_wrong_own, has_wrong_field, has_wrong_blocks, breaks, cause_of}

@@ -1,29 +1,26 @@
 -- Bytes that break no rule spell the snapshot that is in them.
-use Rattle.std.proofs.Common.{◌≡◌, ℕ, zero, suc, ◌+◌, ◌*◌, ◌^◌, ◌<◌, ◌≤◌, ◌==◌, lit<, Bool, true, false, ◌&&◌, ◌||◌, not, cond, List, [], ◌∷◌, ◌++◌, length, map, take, drop, flat_map, get_or, Option, Some, None, refl, ap, sym, ◌∙◌, subst, arith, rules, length-append, length-drop, length-take-le}
-use Rattle.std.specs.Prelude.{nat_lt, nat_le, Result, Ok, Err, IfOk}
+use Rattle.std.proofs.Common.{◌≡◌, ℕ, zero, suc, ◌+◌, ◌*◌, ◌^◌, ◌<◌, ◌≤◌, ◌==◌, Bool, true, false, ◌&&◌, ◌||◌, not, cond, List, [], ◌∷◌, ◌++◌, length, map, take, drop, flat_map, get_or, Option, Some, None, refl, ap, sym, ◌∙◌, subst, arith, rules, length-drop, length-take-le}
+use Rattle.std.specs.Prelude.{nat_lt, Result, Ok, Err, IfOk}
 use Rattle.std.specs.Int.{w16, w32, to_le_bytes}
 use Rattle.std.specs.List.{list_any}
 use Rattle.std.specs.Simd.{first_chunks}
 use Rattle.std.proofs.lemmas.Bool.{ltb-false, eqb-true, not-false, or_parts}
 use Rattle.std.proofs.lemmas.Bool.Decides.{nat_tests}
 use Rattle.std.proofs.lemmas.List.{length-map, nil_from_length, take-append-drop, get_or-take, get_or-drop, get_or_default}
-use Rattle.arena_geo.specs.declared.vec3.Vec3.{Vec3}
 use Rattle.arena_geo.specs.Vectors.{Fits}
 use Rattle.entity_recs.specs.Kinds.{number_of}
-use Rattle.entity_recs.specs.Records.{HasCorners}
-use Rattle.snapshot_write.specs.declared.seen.Seen.{Seen}
 use Rattle.snapshot_write.specs.declared.snapshot.Snapshot.{Snapshot}
 use Rattle.snapshot_write.specs.declared.snap_fault.SnapFault.{SnapFault}
 use Rattle.snapshot_write.specs.declared.snap_fault.SnapFault.TheVariants.{Short, Version, Order, Count, Long}
-use Rattle.snapshot_write.specs.Snapshots.{vector_bytes, head_bytes, count_bytes, own_bytes}
-use Rattle.snapshot_write.specs.Fields.{byte, short_at, number_at, vector_at, count_in, length_with, blocks_in, id_in, kind_of}
+use Rattle.snapshot_write.specs.Snapshots.{vector_bytes, own_bytes}
+use Rattle.snapshot_write.specs.Fields.{byte, number_at, vector_at, count_in, length_with, blocks_in, id_in, kind_of}
 use Rattle.snapshot_write.specs.Cause.{are_rising, have_id, is_kind, is_item_kind, has_wrong_own, has_wrong_field, has_wrong_blocks, breaks, cause_of}
 use Rattle.snapshot_write.specs.Reading.{own_in, seen_in, snapshot_in, answer, reading}
-use Rattle.snapshot_write.specs.Spelling.{status_of, block_of, blocks_of, spelling, IsOwn, IsSeen, AreSeen, ids_of, is_rising, IsSnapshot, Spells}
+use Rattle.snapshot_write.specs.Spelling.{status_of, block_of, spelling, IsOwn, IsSeen, AreSeen, ids_of, is_rising, IsSnapshot, Spells}
 use Rattle.snapshot_write.specs.Laws.{AreBytes}
 use Rattle.snapshot_write.proofs.Fields.{AreBytesBelow, one_at, short_spelled, number_spelled, vector_spelled, kind_cell, status_cell}
 use Rattle.snapshot_write.proofs.Blocks.{list_any-map, rising_blocks}
-use Rattle.snapshot_write.proofs.Again.{length-blocks, snapshot_again}
+use Rattle.snapshot_write.proofs.Again.{snapshot_again}
 
 -- the bytes break no rule
 pub record Keeps (bytes : List ℕ) : Type 0 where

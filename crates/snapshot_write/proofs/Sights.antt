@@ -1,5 +1,5 @@
 -- What a snapshot of a world shows.
-use Rattle.std.proofs.Common.{◌≡◌, ℕ, zero, suc, ◌+◌, ◌^◌, ◌<◌, ◌≤◌, ◌==◌, Bool, true, false, ◌&&◌, ◌||◌, not, cond, ◌⊎◌, inl, inr, List, [], ◌∷◌, ◌++◌, length, map, filter, flat_map, Option, Some, None, refl, ap, sym, ◌∙◌, subst, arith, rules}
+use Rattle.std.proofs.Common.{◌≡◌, ℕ, zero, suc, ◌+◌, ◌^◌, ◌<◌, ◌≤◌, ◌==◌, Bool, true, false, ◌&&◌, ◌||◌, not, cond, ◌⊎◌, inl, inr, List, [], ◌∷◌, ◌++◌, length, map, filter, flat_map, Option, Some, None, refl, ap, sym, ◌∙◌, subst, arith}
 use Rattle.std.specs.Prelude.{nat_lt, slice_index_or, Contains, if◌then◌else◌, Ok, IfSome}
 use Rattle.std.specs.Int.{w16, w32, to_le_bytes}
 use Rattle.std.specs.List.{list_any}
@@ -20,10 +20,10 @@ use Rattle.entity_recs.specs.Bodies.{abs_of}
 use Rattle.world_tree.specs.Live.{record_at, live_in, IsEntry, AreEntries}
 use Rattle.snapshot_write.specs.declared.seen.Seen.{Seen}
 use Rattle.snapshot_write.specs.declared.snapshot.Snapshot.{Snapshot}
-use Rattle.snapshot_write.specs.Snapshots.{view_of, is_seen, seen_by, status_at, entity_bytes, seen_bytes, own_bytes, snapshot}
+use Rattle.snapshot_write.specs.Snapshots.{view_of, is_seen, seen_by, status_at, entity_bytes, own_bytes, snapshot}
 use Rattle.snapshot_write.specs.Cause.{is_item_kind}
 use Rattle.snapshot_write.specs.Reading.{reading}
-use Rattle.snapshot_write.specs.Spelling.{status_of, block_of, blocks_of, spelling, IsOwn, IsSeen, AreSeen, ids_of, is_rising, IsSnapshot}
+use Rattle.snapshot_write.specs.Spelling.{status_of, block_of, spelling, IsOwn, IsSeen, AreSeen, ids_of, is_rising, IsSnapshot}
 use Rattle.snapshot_write.specs.Shown.{is_here, shown_as, shown, IsInSight, IsShownTo}
 use Rattle.snapshot_write.specs.Laws.{HasCounts}
 use Rattle.snapshot_write.proofs.InView.{few_are_seen}

@@ -161,8 +161,8 @@ fn read_seen(blocks: &[[u8; BLOCK]]) -> Option<SeenList>
     Some(seen)
 }
 
-/// Reads the fields of a snapshot that is long enough, whose version and order are right: what is left is that each field
-/// is in range, and that nothing follows.
+/// Reads the fields of a snapshot that is long enough, whose version and order are right: what is left is that each
+/// field is in range, and that nothing follows.
 fn read_fields(bytes: &[u8], blocks: &[[u8; BLOCK]], end: usize) -> Result<Snapshot, SnapFault>
     requires head { 43 ≤ length bytes.now }
     requires blocks { blocks.now ≡ fields.blocks_in bytes.now }

@@ -120,9 +120,11 @@ fn push_seen(out: &mut ReplyBuf, seen: &[Rec])
 pub fn write_snapshot(world: &World, frame: u32, slot: u8, out: &mut ReplyBuf)
     requires live { IsSome (record_of world.now slot) }
     requires empty { out.old ≡ [] }
-    ensures bytes { IfSome (record_of world.now slot) (λ me. out.new ≡ spec.snapshot frame me (live_in world.now.records)) }
+    ensures bytes { IfSome (record_of world.now slot)
+        (λ me. out.new ≡ spec.snapshot frame me (live_in world.now.records)) }
     // What is written for a player is read as the frame, its own record and what it sees.
-    ensures read_again { slot < 64 → IfSome (record_of world.now slot) (λ me. reading out.new ≡ Ok (shown frame me (live_in world.now.records))) }
+    ensures read_again { slot < 64 → IfSome (record_of world.now slot)
+        (λ me. reading out.new ≡ Ok (shown frame me (live_in world.now.records))) }
 {
     let id = u16::from(slot);
     let me = world.get(id).unwrap();

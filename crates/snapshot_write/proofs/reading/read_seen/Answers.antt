@@ -1,4 +1,4 @@
-use Rattle.std.proofs.Common.{◌≡◌, [], ◌∷◌, ◌++◌, ◌<◌, length, refl, sym, ◌∙◌, ap, rules, arith}
+use Rattle.std.proofs.Common.{◌≡◌, [], ◌∷◌, ◌++◌, ◌<◌, length, sym, ◌∙◌, ap, rules, arith}
 use Rattle.snapshot_write.proofs.Blocks.{read_on, length_read}
 use Rattle.snapshot_write.proofs.reading.read_seen.Goals as goal
 
