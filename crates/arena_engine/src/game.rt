@@ -21,8 +21,7 @@ pub struct Game {
 }
 
 impl Model for Game {
-    ghost use Rattle.std.specs.Prelude.{map, Some, None, if◌then◌else◌};
-    ghost use Rattle.move_journal.specs.Entries.{entry_value};
+    ghost use Rattle.std.specs.Prelude.{Some, None, if◌then◌else◌};
     ghost use Rattle.arena_engine.specs.Games.{GameView};
 
     ghost Value = { GameView };
@@ -30,7 +29,7 @@ impl Model for Game {
     ghost view = { λ g. record {
       server = g.server;
       opened = if g.is_open then Some g.arrivals.items else None;
-      journal = map entry_value g.out.journal;
+      journal = g.out.journal.entries;
     } };
 }
 

@@ -8,6 +8,8 @@ use Rattle.entity_recs.specs.Records.{IsRecord}
 use Rattle.entity_recs.specs.Commands.{Command}
 use Rattle.entity_recs.specs.Worlds.{others_of}
 use Rattle.entity_recs.specs.declared.effect.Effect.{Effect}
+use Rattle.entity_recs.specs.declared.effect.Reply.{Reply}
+use Rattle.arena_geo.specs.declared.vec3.Vec3.{Vec3}
 use Rattle.player_move.specs.declared.moved.Moved.{Moved}
 use Rattle.player_move.specs.Moves.{move_of}
 use Rattle.arena_map.specs.Maps.{MapView, IsMap, solids_of}
@@ -40,6 +42,9 @@ bodies_are map records slot region near taken bodies is_map valid region_is near
     bodies_is
     ∙ ap solid_bodies (taken_is ∙ near_is ∙ ap (λ (boxes : List Bounds). near_in records boxes slot) region_is ∙ near-others map records slot is_map valid)
 
+abbrev reply_of : Vec3 → List ℕ → Reply
+reply_of origin got = record { origin = origin; got = got }
+
 module _ (map : MapView) (records : List (Option Rec)) (c : Command) (me new : Rec) (moved : Moved) (runs : RunsOne map records c me new moved) where
   -- the effect of the command is that of the move
   effect-is : effect_of me c moved ≡ effect_among map records c
@@ -47,9 +52,10 @@ module _ (map : MapView) (records : List (Option Rec)) (c : Command) (me new : R
       ap (effect_of me c) runs.moved_is
       ∙ ap (λ (r : Rec). effect_of r c (move_of r (asked c) (solids_of map ++ solid_bodies (others_of (world_of records) c.slot)))) (sym (ap record_or_nobody runs.at))
 
-  -- the player's origin after it is that of the effect's reply
-  pub origin-is : moved.origin ≡ (effect_among map records c).reply.origin
-  origin-is = ap (λ (e : Effect). e.reply.origin) effect-is
+  -- the player's reply, which took nothing, is that of the effect
+  pub reply-is : (got : List ℕ) → got ≡ [] → ◌≡◌ {A = Reply} (record { origin = moved.origin; got = got }) (effect_among map records c).reply
+  reply-is got none =
+      ap (λ (ids : List ℕ). reply_of moved.origin ids) none ∙ ap (λ (e : Effect). e.reply) effect-is
 
   -- and its record is that of the effect
   pub new-is : new ≡ (effect_among map records c).me

@@ -9,8 +9,7 @@ use Rattle.entity_recs.specs.declared.effect.Entry as reports
 use Rattle.entity_recs.specs.Commands.{Command, command_of}
 use Rattle.entity_recs.specs.Worlds.{World}
 use Rattle.entity_recs.specs.Histories.{Action, apply, outcome, world_after, entry_of, entries_in_order}
-use Rattle.move_journal.specs.declared.entry.Entry.{Entry}
-use Rattle.move_journal.specs.Entries.{entry_value}
+use Rattle.entity_recs.specs.declared.effect.Reply.{Reply}
 use Rattle.move_journal.specs.Merges.{journal_in_order}
 use Rattle.arena_map.specs.Maps.{MapView, IsMap}
 use Rattle.arena_map.specs.Validity.{IsValidWorld}
@@ -73,24 +72,22 @@ commands-next moves i m inside is =
     ∙ map-append command_of (take i moves) (m ∷ [])
 
 -- the entry that the code makes
-entry-is : (map : MapView) (records : List (Option Rec)) (c : Command) (place : ℕ) (e : Entry) → e.place ≡ place → e.slot ≡ c.slot → e.seq ≡ c.seq → e.origin ≡ (effect_among map records c).reply.origin
-    → entry_value e ≡ entry_of place c (effect_among map records c)
-entry-is map records c place e place_is slot_is seq_is origin_is =
-    λ i. record { place = place_is i; slot = slot_is i; seq = seq_is i; reply = record { origin = origin_is i; got = [] } }
+abbrev made_entry : ℕ → Command → Reply → reports.Entry
+made_entry place c reply = record { place = place; slot = c.slot; seq = c.seq; reply = reply }
 
 -- the loop's step
-pub runs-next : (map_view : MapView) (old new after : List (Option Rec)) (moves : List Cmd) (i : ℕ) (m : Cmd) (entries later : List Entry) (e : Entry) (place : ℕ) → IsMap map_view → i < length moves
-    → m ≡ get_or moves i m → HasLivePlayer new (command_of m) → place ≡ i → after ≡ records_after map_view new (command_of m) → e.place ≡ place → e.slot ≡ m.slot → e.seq ≡ m.seq
-    → e.origin ≡ (effect_among map_view new (command_of m)).reply.origin → RunsMoves map_view old new (map command_of (take i moves)) (map entry_value entries)
-    → later ≡ entries ++ e ∷ [] → RunsMoves map_view old after (map command_of (take (i + 1) moves)) (map entry_value later)
-runs-next map_view old new after moves i m entries later e place is_map inside is has at after_is place_is slot_is seq_is origin_is runs later_is =
+pub runs-next : (map_view : MapView) (old new after : List (Option Rec)) (moves : List Cmd) (i : ℕ) (m : Cmd) (entries later : List reports.Entry) (e : reports.Entry) (place : ℕ) (reply : Reply)
+    → IsMap map_view → i < length moves → m ≡ get_or moves i m → HasLivePlayer new (command_of m) → place ≡ i → after ≡ records_after map_view new (command_of m)
+    → e ≡ made_entry place (command_of m) reply → reply ≡ (effect_among map_view new (command_of m)).reply → RunsMoves map_view old new (map command_of (take i moves)) entries
+    → later ≡ entries ++ e ∷ [] → RunsMoves map_view old after (map command_of (take (i + 1) moves)) later
+runs-next map_view old new after moves i m entries later e place reply is_map inside is has at after_is e_is reply_is runs later_is =
     let commands = map command_of (take i moves) in
     let count : length commands ≡ i = length-map (take i moves) command_of ∙ length-take-le i moves (omega (arith, inside)) in
-    let entry = entry-is map_view new (command_of m) (length commands) e (place_is ∙ at ∙ sym count) slot_is seq_is origin_is in
-    let more = runs-more map_view old new after commands (map entry_value entries) (command_of m) (entry_value e) is_map has after_is entry runs in
+    let here : place ≡ length commands = at ∙ sym count in
+    let entry : e ≡ entry_of (length commands) (command_of m) (effect_among map_view new (command_of m)) = e_is ∙ (λ j. made_entry (here j) (command_of m) (reply_is j)) in
+    let more = runs-more map_view old new after commands entries (command_of m) e is_map has after_is entry runs in
     let P : List Command → List reports.Entry → Type 0 = λ cs es. RunsMoves map_view old after cs es in
-    subst (λ (cs : List Command). P cs (map entry_value later)) (sym (commands-next moves i m inside is))
-    (subst (P (commands ++ command_of m ∷ [])) (sym (ap (map entry_value) later_is ∙ map-append entry_value entries (e ∷ []))) more)
+    subst (λ (cs : List Command). P cs later) (sym (commands-next moves i m inside is)) (subst (P (commands ++ command_of m ∷ [])) (sym later_is) more)
 
 -- the player of a command is live before it
 pub live-next : (map_view : MapView) (old new : List (Option Rec)) (moves : List Cmd) (i : ℕ) (m : Cmd) (entries : List reports.Entry) → i < length moves → m ≡ get_or moves i m

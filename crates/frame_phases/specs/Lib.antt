@@ -11,6 +11,6 @@ pub use Rattle.client_ports.specs.Finishing
 pub use Rattle.arena_map.specs.Maps
 pub use Rattle.arena_map.specs.Validity
 pub use Rattle.move_journal.specs.Merges
-pub use Rattle.move_journal.specs.Entries as MoveEntries
+pub use Rattle.move_journal.specs.Logs
 pub mod Servers
 pub mod Laws

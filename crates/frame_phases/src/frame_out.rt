@@ -1,9 +1,9 @@
 ghost use Rattle.std.specs.Prelude.{◌≡◌};
 ghost use Rattle.frame_phases.specs.declared.limits.TheConstants.{MOST_ARRIVALS};
 
-use crate::journal::Journal;
 use crate::limits::MOST_ARRIVALS;
 use client_ports::Received;
+use move_journal::Journal;
 use std::alloc::{AllocError, Global};
 
 /// What a frame gives out.
@@ -15,7 +15,8 @@ pub struct FrameOut {
     pub received: Received,
     /// Its moves, in the order in which they ran.
     pub journal: Journal,
-    ghost roomy: { received.room ≡ MOST_ARRIVALS },
+    ghost lists_fit: { received.room ≡ MOST_ARRIVALS },
+    ghost journal_fits: { journal.room ≡ MOST_ARRIVALS },
 }
 
 impl FrameOut {
@@ -25,12 +26,12 @@ impl FrameOut {
     /// Empty lists, with room for all that a frame can give out.
     pub fn new(alloc: Global) -> Result<FrameOut, AllocError>
         ensures received { IfOk result (λ out. out.received.lists ≡ no_lists) }
-        ensures journal { IfOk result (λ out. out.journal ≡ []) }
+        ensures journal { IfOk result (λ out. out.journal.entries ≡ []) }
     {
         Ok(FrameOut {
             frame: 0,
             received: Received::new(alloc, MOST_ARRIVALS)?,
-            journal: Journal::new(alloc)?,
+            journal: Journal::new(alloc, MOST_ARRIVALS)?,
         })
     }
 }

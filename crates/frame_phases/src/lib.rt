@@ -2,14 +2,12 @@
 #![tactic(auto)]
 
 pub use frame_out::FrameOut;
-pub use journal::Journal;
 pub use laws::limits_are_known;
 pub use limits::{MOST_ARRIVALS, MOST_FRAMES};
 pub use server::Server;
 
 mod bodies;
 mod frame_out;
-mod journal;
 mod laws;
 mod limits;
 mod moves;

@@ -1,6 +1,5 @@
 ghost use Rattle.std.specs.Prelude.{◌≡◌, ◌≤◌, [], length, map as map_list, All};
 ghost use Rattle.entity_recs.specs.Commands.{command_of};
-ghost use Rattle.move_journal.specs.Entries.{entry_value};
 ghost use Rattle.move_journal.specs.Merges.{journal_in_order};
 ghost use Rattle.arena_map.specs.Validity.{IsValidWorld};
 ghost use Rattle.plain_server.specs.RecordsById.{world_of};
@@ -9,12 +8,10 @@ ghost use Rattle.plain_server.specs.Outcomes.{outcome_in};
 ghost use Rattle.plain_server.specs.Moving.{HasLivePlayer, HaveMoved, effect_among, records_after};
 
 use crate::bodies::Bodies;
-use crate::journal::Journal;
-use crate::limits::MOST_ARRIVALS;
-use arena_geo::{Region, Vec3};
+use arena_geo::Region;
 use arena_map::ArenaMap;
-use entity_recs::{Cmd, Rec};
-use move_journal::Entry;
+use entity_recs::{Cmd, Entry, IdList, Rec, Reply};
+use move_journal::Journal;
 use player_move::{Moved, move_player};
 use world_tree::{NearList, World};
 
@@ -38,22 +35,44 @@ fn after_move(me: &Rec, moved: &Moved, seq: u32) -> Rec
     }
 }
 
-/// Runs one move of a live player, and gives the player's new origin. `bodies` is for those of the other solids.
-fn run_move(map: &ArenaMap, world: &mut World, cmd: &Cmd, bodies: &mut Bodies) -> Vec3
+/// Runs one move of a live player, and gives its reply. `near` is for the other live records, and `bodies` for those of
+/// the solids among them.
+fn run_move(
+    map: &ArenaMap,
+    world: &mut World,
+    cmd: &Cmd,
+    near: &mut NearList,
+    bodies: &mut Bodies,
+) -> Reply
     requires valid { IsValidWorld map.now world.old.records }
     requires live { HasLivePlayer world.old.records (command_of cmd.now) }
-    ensures origin { result ≡ (effect_among map.now world.old.records (command_of cmd.now)).reply.origin }
+    ensures reply { result ≡ (effect_among map.now world.old.records (command_of cmd.now)).reply }
     ensures moved { world.new.records ≡ records_after map.now world.old.records (command_of cmd.now) }
     ensures tree { world.new.tree ≡ world.old.tree }
 {
     let slot = u16::from(cmd.slot);
     let me = world.get(slot).unwrap();
-    let mut near = NearList::new();
-    world.near(&Region::one(*map.bounds()), slot, &mut near);
+    near.clear();
+    world.near(&Region::one(*map.bounds()), slot, near);
     bodies.take_solids(near.as_slice());
     let moved = move_player(&me, cmd, map.solids(), bodies.as_slice());
     world.relink(after_move(&me, &moved, cmd.seq));
-    moved.origin
+    Reply {
+        origin: moved.origin,
+        got: IdList::new(),
+    }
+}
+
+/// The entry of a command that was run at this place.
+fn entry(place: u64, cmd: &Cmd, reply: Reply) -> Entry
+    ensures { result ≡ record { place = place; slot = cmd.now.slot; seq = cmd.now.seq; reply = reply } }
+{
+    Entry {
+        place,
+        slot: cmd.slot,
+        seq: cmd.seq,
+        reply,
+    }
 }
 
 /// Runs the moves of live players, one after another, and puts what was done into the journal. `bodies` is for those of the
@@ -67,18 +86,20 @@ pub fn run_moves(
 )
     requires valid { IsValidWorld map.now world.old.records }
     requires live { All (HasLivePlayer world.old.records) (map_list command_of moves.now) }
-    requires few { length moves.now ≤ MOST_ARRIVALS }
-    requires empty { journal.old ≡ [] }
+    requires empty { journal.old.entries ≡ [] }
+    requires room { length moves.now ≤ journal.old.room }
     ensures moved { HaveMoved map.now world.old.records world.new.records (map_list command_of moves.now) }
-    ensures journal { map_list entry_value journal.new
+    ensures journal { journal.new.entries
         ≡ journal_in_order (outcome_in map.now) (world_of world.old.records) (map_list command_of moves.now) }
+    ensures room { journal.new.room ≡ journal.old.room }
     ensures tree { world.new.tree ≡ world.old.tree }
 {
     let _bounds = map.bounds();
+    let mut near = NearList::new();
     let mut place = 0;
     for cmd in moves {
-        let origin = run_move(map, world, cmd, bodies);
-        journal.push(Entry::new(place, cmd, origin));
+        let reply = run_move(map, world, cmd, &mut near, bodies);
+        journal.push(entry(place, cmd, reply));
         place += 1;
     }
 }

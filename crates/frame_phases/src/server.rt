@@ -49,8 +49,7 @@ fn opening_world(alloc: Global, map: &ArenaMap) -> Result<World, AllocError>
 }
 
 impl Server {
-    ghost use Rattle.std.specs.Prelude.{◌≡◌, ◌<◌, ◌≤◌, length, map as map_list, IfOk, OnOk};
-    ghost use Rattle.move_journal.specs.Entries.{entry_value};
+    ghost use Rattle.std.specs.Prelude.{◌≡◌, ◌<◌, ◌≤◌, length, IfOk, OnOk};
     ghost use Rattle.move_journal.specs.Merges.{IsInOrder};
     ghost use Rattle.client_ports.specs.Receiving.{received};
     ghost use Rattle.arena_map.specs.Maps.{IsMap};
@@ -109,10 +108,10 @@ impl Server {
         ensures frame { out.new.frame ≡ self.old.frames }
         ensures received { out.new.received.lists ≡ (received self.old.map self.old.frames self.old.state arrivals.now).lists }
         ensures right { IsRightAfter self.old.map (received self.old.map self.old.frames self.old.state arrivals.now)
-            (map_list entry_value out.new.journal) }
-        ensures order { IsInOrder (map_list entry_value out.new.journal)
+            out.new.journal.entries }
+        ensures order { IsInOrder out.new.journal.entries
             (received self.old.map self.old.frames self.old.state arrivals.now).lists.moves }
-        ensures next { self.new ≡ server_after self.old arrivals.now (map_list entry_value out.new.journal) }
+        ensures next { self.new ≡ server_after self.old arrivals.now out.new.journal.entries }
     {
         out.frame = self.frames;
         out.received.clear();

@@ -6,7 +6,6 @@ use crate::{FrameOut, Server};
 use arena_geo::Vec3;
 use arena_map::{ArenaMap, MapLine, MapRefusal};
 use client_ports::{Arrival, ArrivalBytes, Joined};
-use move_journal::Entry;
 use std::alloc::Global;
 use std::test::Fail;
 
@@ -70,19 +69,16 @@ fn a_player_that_leaves_is_shown_once_more(rt: HostRuntime) -> Result<(), Fail> 
         arrival(7, &[1, 3]),
     ];
     server.run_frame(&arrivals, &mut out);
-    let (place, slot, seq, origin) = (0, 0, 1, spawn());
-    let moved = Entry {
-        place,
-        slot,
-        seq,
-        origin,
-    };
     assert_eq!(rt; out.frame, 0);
     assert_eq!(rt;
         out.received.joined(),
-        [Joined { port: 7, slot }].as_slice()
+        [Joined { port: 7, slot: 0 }].as_slice()
     );
-    assert_eq!(rt; out.journal.as_slice(), [moved].as_slice());
+    let moved = out.journal.as_slice().first().ok_or("a move")?;
+    assert_eq!(rt; (moved.place, moved.slot, moved.seq), (0, 0, 1));
+    assert_eq!(rt; moved.reply.origin, spawn());
+    assert!(rt; moved.reply.got.as_slice().is_empty());
+    assert_eq!(rt; out.journal.as_slice().len(), 1);
     assert!(rt; server.before_leaves().get(0).is_some());
     server.run_frame(&[], &mut out);
     assert_eq!(rt; out.frame, 1);

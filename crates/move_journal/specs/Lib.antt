@@ -3,7 +3,7 @@ pub use Rattle.entity_recs.specs.Records
 pub use Rattle.entity_recs.specs.Commands
 pub use Rattle.entity_recs.specs.Worlds
 pub use Rattle.entity_recs.specs.Histories
-pub mod Entries
+pub mod Logs
 pub mod Validity
 pub mod Lists
 pub mod Merges

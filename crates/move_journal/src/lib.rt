@@ -1,11 +1,17 @@
-//! Journals of moves: what an entry has, and when a journal of moves is right.
+//! Journals of moves: the lists that hold their entries, and when a journal is right.
 #![tactic(auto)]
 
-pub use entry::Entry;
+pub use journal::Journal;
 pub use laws::{
     merges_have_whole_histories, moves_in_order_are_right, moves_keep_records_in_bounds,
     numbered_records_are_in_bounds, order_leaves_one_journal,
 };
+pub use lists::{JournalList, LogList, MOST_LOGS};
+pub use log::Log;
 
-mod entry;
+mod journal;
 mod laws;
+mod lists;
+mod log;
+#[cfg(test)]
+mod tests;

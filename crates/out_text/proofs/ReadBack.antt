@@ -29,6 +29,18 @@ is_coordinate-near (pos n) near =
     rw (below, small) refl
 is_coordinate-near (negsuc n) near = let small : nat_le (suc n) 2147483648 ≡ true = grind (arith, nat_tests) in small
 
+-- ids of 16 bits pass the test
+all_small : (ids : List ℕ) → AllByRecursion (λ id. id < 2 ^ 16) ids → list_all (λ id. nat_le id 65535) ids ≡ true
+all_small [] are = refl
+all_small (id ∷ ids) are =
+    let small : id < 2 ^ 16 = are.0 in
+    and_from _ _ (nat_le-holds id 65535 (omega arith)) (all_small ids are.1)
+
+-- and are read back
+all_read : (ids : List ℕ) → AllByRecursion (λ id. id < 2 ^ 16) ids → AllByRecursion (λ id. id ≤ 65535) ids
+all_read [] are = tt
+all_read (id ∷ ids) are = let small : id < 2 ^ 16 = are.0 in (omega arith, all_read ids are.1)
+
 -- such an entry can be reported
 is_reportable-entry : (place : ℕ) (e : Entry) → IsReported place e → is_reportable (did_of e) ≡ true
 is_reportable-entry place e is =
@@ -39,20 +51,20 @@ is_reportable-entry place e is =
     let x = is_coordinate-near e.reply.origin.x is.origin.x in
     let y = is_coordinate-near e.reply.origin.y is.origin.y in
     let z = is_coordinate-near e.reply.origin.z is.origin.z in
-    let ids : nat_le (length e.reply.got) 8 && list_all (λ id. nat_le id 65535) e.reply.got ≡ true = rw is.got refl in
+    let few = nat_le-holds (length e.reply.got) 8 is.got.few in
+    let ids = and_from _ _ few (all_small e.reply.got is.got.small) in
     and_from _ _ (and_from _ _ slot seq) (and_from _ _ (and_from _ _ x (and_from _ _ y z)) ids)
 
 -- and is read back from its line
 reads_back : (place : ℕ) (e : Entry) → IsReported place e → CanBeRead (did_of e)
 reads_back place e is =
-    let P : List ℕ → Type 0 = λ ids. AllByRecursion (λ id. id ≤ 65535) ids in
     let low : e.slot < 64 = is.slot in
     let small : e.seq < 2 ^ 32 = is.seq in
     let x : unsigned_abs e.reply.origin.x ≤ 1048576 = is.origin.x in
     let y : unsigned_abs e.reply.origin.y ≤ 1048576 = is.origin.y in
     let z : unsigned_abs e.reply.origin.z ≤ 1048576 = is.origin.z in
     record {
-      is = record { slot = omega arith; seq = omega arith; x = omega arith; y = omega arith; z = omega arith; got = subst P (sym is.got) tt };
+      is = record { slot = omega arith; seq = omega arith; x = omega arith; y = omega arith; z = omega arith; got = all_read e.reply.got is.got.small };
       fits = is_reportable-entry place e is;
     }
 

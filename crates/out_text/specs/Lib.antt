@@ -5,7 +5,7 @@ pub use Rattle.edge_io.specs.WholeLines
 pub use Rattle.entity_recs.specs.Commands
 pub use Rattle.entity_recs.specs.Worlds
 pub use Rattle.entity_recs.specs.Histories
-pub use Rattle.move_journal.specs.Entries
+pub use Rattle.move_journal.specs.Logs
 pub use Rattle.move_journal.specs.Merges
 pub use Rattle.arena_map.specs.Maps
 pub use Rattle.world_tree.specs.Live

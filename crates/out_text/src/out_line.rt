@@ -2,13 +2,13 @@ ghost use Rattle.std.specs.Prelude.{◌≡◌};
 ghost use Rattle.out_text.specs.OutLines as lines;
 ghost use Rattle.out_text.specs.FrameLines.{no_line, joined_line, did_line};
 ghost use Rattle.out_text.specs.Printing.{line_of};
-ghost use Rattle.move_journal.specs.Entries.{entry_value};
 
+use arena_geo::Vec3;
 use client_ports::{Joined, Refused};
-use move_journal::Entry;
+use entity_recs::{Entry, IdList};
 
 /// One line of the output.
-#[derive(Clone, Copy)]
+#[derive(Drop)]
 pub enum OutLine<'a> {
     /// A frame begins, which has this number.
     Frame(u32),
@@ -17,7 +17,16 @@ pub enum OutLine<'a> {
     /// A player joined.
     Joined(Joined),
     /// A move was done.
-    Did(Entry),
+    Did {
+        /// Whose move it was: a slot from 0 to 63.
+        slot: u8,
+        /// The player's own number of the move.
+        seq: u32,
+        /// Where the player is after it, in sub-units.
+        origin: Vec3,
+        /// The ids that it got. They are printed in this order.
+        got: IdList,
+    },
     /// What the player in this slot sees, as the bytes of a snapshot.
     To(u8, &'a [u8]),
     /// The output ends, after so many frames.
@@ -54,12 +63,28 @@ impl Printed for Joined {
     }
 }
 
+/// The same ids in a list of their own.
+fn copied(ids: &IdList) -> IdList
+    ensures { result ≡ ids.now }
+{
+    let mut copy = IdList::new();
+    for id in ids.as_slice() {
+        let _fits = copy.push(*id);
+    }
+    copy
+}
+
 impl Printed for Entry {
-    ghost line = { λ e. did_line (entry_value e) };
+    ghost line = { did_line };
 
     fn line(&self) -> OutLine<'static>
-        ensures { line_of result ≡ did_line (entry_value self.now) }
+        ensures { line_of result ≡ did_line self.now }
     {
-        OutLine::Did(*self)
+        OutLine::Did {
+            slot: self.slot,
+            seq: self.seq,
+            origin: self.reply.origin,
+            got: copied(&self.reply.got),
+        }
     }
 }

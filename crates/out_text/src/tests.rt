@@ -5,8 +5,7 @@ ghost use Rattle.entity_recs.specs.Records.{IsRecord};
 use super::*;
 use arena_geo::{Aabb, Vec3};
 use client_ports::{Joined, Received, Refusal, Refused};
-use entity_recs::{Kind, PLAYER_MAXS, PLAYER_MINS, Rec};
-use move_journal::Entry;
+use entity_recs::{Entry, IdList, Kind, PLAYER_MAXS, PLAYER_MINS, Rec, Reply};
 use packet_read::PacketFault;
 use snapshot_write::ReplyBuf;
 use std::alloc::AllocGlobal;
@@ -105,15 +104,25 @@ fn world_after_moves(rt: &(impl AllocGlobal + Abort)) -> Result<World, Fail> {
     Ok(world)
 }
 
-/// An entry of slot 0 at this place, whose move ends here.
-fn entry(place: u32, x: i32) -> Entry
-    requires { place < 8 }
-{
+/// A list of these ids.
+fn ids(from: &[u16]) -> IdList {
+    let mut ids = IdList::new();
+    for id in from {
+        let _fits = ids.push(*id);
+    }
+    ids
+}
+
+/// The entry of slot 0 at this place, whose move ends here and takes nothing.
+fn entry(place: u8, x: i32) -> Entry {
     Entry {
-        place,
+        place: u64::from(place),
         slot: 0,
-        seq: place + 1,
-        origin: at(x, 0, 6_144),
+        seq: u32::from(place) + 1,
+        reply: Reply {
+            origin: at(x, 0, 6_144),
+            got: IdList::new(),
+        },
     }
 }
 
@@ -136,12 +145,15 @@ fn each_line_is_printed(rt: HostRuntime) -> Result<(), Fail> {
         place: 1,
         slot: 1,
         seq: 1,
-        origin: at(24_096, -11_952, 6_144),
+        reply: Reply {
+            origin: at(24_096, -11_952, 6_144),
+            got: ids(&[64, 200, 7]),
+        },
     };
     expect(&rt, &OutLine::Frame(0), "frame 0\n")?;
     expect(&rt, &refused.line(), "no 3 Leaving\n")?;
     expect(&rt, &joined.line(), "joined 7 0\n")?;
-    expect(&rt, &did.line(), "did 1 1 24096 -11952 6144 -\n")?;
+    expect(&rt, &did.line(), "did 1 1 24096 -11952 6144 64,200,7\n")?;
     expect(&rt, &OutLine::To(9, &[0x01, 0xab]), "to 9 01ab\n")?;
     expect(&rt, &OutLine::End(2), "end 2\n")
 }

@@ -1,15 +1,14 @@
 ghost use Rattle.std.specs.Prelude.{◌≡◌, ◌++◌, map, OnOk, string_bytes};
-ghost use Rattle.move_journal.specs.Entries.{entry_value};
 ghost use Rattle.world_tree.specs.Worlds.{record_of};
-ghost use Rattle.out_text.specs.OutLines.{printed, text_of, FrameLine, NoLine, JoinedLine, ToLine, EndLine};
-ghost use Rattle.out_text.specs.FrameLines.{did_line, reply_lines, to_lines, frame_lines};
+ghost use Rattle.out_text.specs.OutLines.{ids_text, printed, text_of, FrameLine, NoLine, JoinedLine, DidLine, ToLine, EndLine};
+ghost use Rattle.out_text.specs.FrameLines.{reply_lines, to_lines, frame_lines};
 ghost use Rattle.out_text.specs.Printing.{line_of};
 
 use crate::names::refusal_name;
 use crate::out_line::{OutLine, Printed};
 use arena_geo::Vec3;
 use client_ports::{Joined, Received, Refused};
-use move_journal::Entry;
+use entity_recs::Entry;
 use snapshot_write::{ReplyBuf, write_snapshot};
 use std::alloc::{AllocError, Global};
 use world_tree::World;
@@ -49,14 +48,35 @@ fn push_joined(text: &mut String, joined: Joined) -> Result<(), AllocError>
     writeln!(text, "joined {port} {slot}")
 }
 
-/// Puts the line of a move that was done at the end. Nothing is got by a move yet.
-fn push_did(text: &mut String, entry: Entry) -> Result<(), AllocError>
-    ensures ok { OnOk result (string_bytes text.new ≡ string_bytes text.old ++ printed (did_line (entry_value entry))) }
+/// Puts ids at the end, in their order and with a comma between any two, or a dash where there are none.
+fn push_ids(text: &mut String, ids: &[u16]) -> Result<(), AllocError>
+    ensures ok { OnOk result (string_bytes text.new ≡ string_bytes text.old ++ ids_text ids.now) }
 {
-    let slot = entry.slot;
-    let seq = entry.seq;
-    let Vec3 { x, y, z } = entry.origin;
-    writeln!(text, "did {slot} {seq} {x} {y} {z} -")
+    let Some((first, rest)) = ids.split_first() else {
+        return text.push_str("-");
+    };
+    write!(text, "{first}")?;
+    for id in rest {
+        write!(text, ",{id}")?;
+    }
+    Ok(())
+}
+
+/// Puts the line of a move that was done at the end.
+fn push_did(
+    text: &mut String,
+    slot: u8,
+    seq: u32,
+    origin: Vec3,
+    got: &[u16],
+) -> Result<(), AllocError>
+    ensures ok { OnOk result (string_bytes text.new ≡ string_bytes text.old
+        ++ printed (DidLine (record { slot = slot; seq = seq; origin = origin; got = got.now }))) }
+{
+    let Vec3 { x, y, z } = origin;
+    write!(text, "did {slot} {seq} {x} {y} {z} ")?;
+    push_ids(text, got)?;
+    text.push_str("\n")
 }
 
 /// Puts the line of a snapshot at the end.
@@ -75,7 +95,12 @@ pub fn push_line(alloc: Global, text: &mut String, line: &OutLine) -> Result<(),
         OutLine::Frame(frame) => push_frame(text, *frame),
         OutLine::No(refused) => push_no(text, *refused),
         OutLine::Joined(joined) => push_joined(text, *joined),
-        OutLine::Did(entry) => push_did(text, *entry),
+        OutLine::Did {
+            slot,
+            seq,
+            origin,
+            got,
+        } => push_did(text, *slot, *seq, *origin, got.as_slice()),
         OutLine::To(slot, bytes) => push_to(alloc, text, *slot, bytes),
         OutLine::End(frames) => push_end(text, *frames),
     }
@@ -141,7 +166,7 @@ pub fn push_frame_lines(
     world: &World,
 ) -> Result<(), AllocError>
     ensures ok { OnOk result (string_bytes text.new ≡ string_bytes text.old
-        ++ text_of (frame_lines frame received.now.lists (map entry_value journal.now) world.now.records)) }
+        ++ text_of (frame_lines frame received.now.lists journal.now world.now.records)) }
 {
     push_line(alloc, text, &OutLine::Frame(frame))?;
     push_each(alloc, text, received.refused())?;

@@ -1,7 +1,7 @@
 -- The entries of a right journal have their places, and are in range.
 use Rattle.std.specs.Prelude.{◌≡◌, ℕ, ◌+◌, List, [], ◌∷◌, All, Option}
 use Rattle.std.specs.Prelude.{map as map_list}
-use Rattle.std.proofs.Common.{refl, sym, ap, ◌∙◌, subst}
+use Rattle.std.proofs.Common.{refl, sym, ap, ◌∙◌, subst, arith}
 use Rattle.std.proofs.lemmas.List.Elements.{All-head, All-tail, All-weaker}
 use Rattle.entity_recs.specs.declared.rec.Rec.{Rec}
 use Rattle.entity_recs.specs.declared.effect.Entry.{Entry}
@@ -29,7 +29,7 @@ reported_one : (map : MapView) (records : List (Option Rec)) (place : ℕ) (c : 
 reported_one map records place c is_map valid has small =
     let found = live_record records c.slot has.live in
     let me = moved_is_valid map records c found.r is_map valid has.slot found.at in
-    record { place_is = refl; slot = has.slot; seq = small; origin = me.is_record.origin; got = refl }
+    record { place_is = refl; slot = has.slot; seq = small; origin = me.is_record.origin; got = record { few = omega arith; small = tt } }
 
 -- so are the entries of a legal history of such commands
 reported_items : (map : MapView) (w : World) (records : List (Option Rec)) (place : ℕ) (items : List Item) → IsMap map → IsValidWorld map records → w ≡ world_of records

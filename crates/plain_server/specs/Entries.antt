@@ -1,5 +1,6 @@
 -- What an entry of a right journal keeps to, so that the line that reports it is read back.
-use Rattle.std.specs.Prelude.{◌≡◌, ℕ, ◌+◌, ◌<◌, ◌^◌, List, [], ◌∷◌, All}
+use Rattle.std.specs.Prelude.{◌≡◌, ℕ, ◌+◌, ◌<◌, ◌≤◌, ◌^◌, List, [], ◌∷◌, length, All}
+use Rattle.std.specs.List.{AllByRecursion}
 use Rattle.arena_geo.specs.Vectors.{IsNear}
 use Rattle.entity_recs.specs.declared.effect.Entry.{Entry}
 use Rattle.move_journal.specs.Merges.{HasNumbersApart}
@@ -9,13 +10,18 @@ use Rattle.client_ports.specs.States.{IsServerState}
 use Rattle.client_ports.specs.Receiving.{Receiving}
 use Rattle.plain_server.specs.Moving.{HasLivePlayer}
 
--- the entry has its place, a player's slot and a number of 32 bits, its player is near, and it got nothing
+-- a list of at most 8 ids, each of 16 bits
+pub record AreFewIds (ids : List ℕ) : Type 0 where
+  pub few : length ids ≤ 8
+  pub small : AllByRecursion (λ id. id < 2 ^ 16) ids
+
+-- the entry has its place, a player's slot and a number of 32 bits, its player is near, and it got a few ids
 pub record IsReported (place : ℕ) (e : Entry) : Type 0 where
   pub place_is : e.place ≡ place
   pub slot : e.slot < 64
   pub seq : e.seq < 2 ^ 32
   pub origin : IsNear 1048576 e.reply.origin
-  pub got : e.reply.got ≡ []
+  pub got : AreFewIds e.reply.got
 
 -- the entries do, the first of which has this place
 abbrev pub AreReported : ℕ → List Entry → Type 0

@@ -3,7 +3,7 @@ use Rattle.arena_geo.specs.Bounds.{Bounds}
 use Rattle.entity_recs.specs.Records.{IsRecord}
 use Rattle.entity_recs.specs.Commands.{command_of}
 use Rattle.world_tree.specs.Worlds.{WorldView}
-use Rattle.frame_phases.proofs.OneMove.{near_are_records, runs_one, origin-is, new_is_valid, new_is_live, relinked-is}
+use Rattle.frame_phases.proofs.OneMove.{near_are_records, runs_one, reply-is, new_is_valid, new_is_live, relinked-is}
 use Rattle.frame_phases.proofs.moves.run_move.Goals as goal
 
 pub take_solids-requires-clause-each : goal.take_solids-requires-clause-each
@@ -32,13 +32,14 @@ relink-requires-clause-live c =
     c.move_player-moved.ensures.value c.after_move.ensures)
     c.bounds.ensures.rules c.requires.valid c.requires.live.slot
 
-pub returns-clause-origin : goal.returns-clause-origin
-returns-clause-origin c =
-    origin-is c.args.map.now c.args.world.now.records (command_of c.args.cmd.now) c.unwrap-me.result c.after_move.result c.move_player-moved.result
+pub returns-clause-reply : goal.returns-clause-reply
+returns-clause-reply c =
+    reply-is c.args.map.now c.args.world.now.records (command_of c.args.cmd.now) c.unwrap-me.result c.after_move.result c.move_player-moved.result
     (runs_one c.args.map.now c.args.world.now.records (command_of c.args.cmd.now) c.from-slot.result c.unwrap-me.result c.after_move.result c.move_player-moved.result c.one.result c.near.new.out
     c.as_slice.result.now c.take_solids.new.self c.as_slice-2.result.now c.solids.result.now c.bounds.ensures.rules c.requires.valid c.from-slot.ensures (sym c.get.ensures.record ∙ c.unwrap-me.ensures)
     (c.one.ensures ∙ ap (λ (b : Bounds). b ∷ []) c.bounds.ensures.value) c.near.ensures.records c.as_slice.ensures.value c.take_solids.ensures.bodies c.as_slice-2.ensures c.solids.ensures.value
     c.move_player-moved.ensures.value c.after_move.ensures)
+    c.new.result c.new.ensures
 
 pub returns-clause-moved : goal.returns-clause-moved
 returns-clause-moved c =

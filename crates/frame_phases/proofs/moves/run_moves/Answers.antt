@@ -1,22 +1,25 @@
-use Rattle.std.proofs.Common.{map, ap, arith, length, ◌∙◌}
+use Rattle.std.proofs.Common.{ap, arith, length, ◌∙◌}
 use Rattle.std.proofs.lemmas.List.{length_push}
-use Rattle.move_journal.specs.Entries.{entry_value}
+use Rattle.entity_recs.specs.declared.effect.Entry.{Entry}
+use Rattle.move_journal.specs.Logs.{JournalView}
 use Rattle.frame_phases.proofs.Running.{runs-next, live-next}
 use Rattle.frame_phases.proofs.moves.run_moves.Goals as goal
 
-pub run_move-origin-requires-clause-live : goal.run_move-origin-requires-clause-live
-run_move-origin-requires-clause-live c =
-    live-next c.args.map.now c.args.world.now.records c.loop-cmd.world.records c.args.moves.now c.loop-cmd.cmd-index c.cmd-item.result (map entry_value c.loop-cmd.journal) c.loop-cmd-test.true c.cmd-item.is
-    c.requires.live c.loop-cmd.invariant.0
+pub run_move-reply-requires-clause-live : goal.run_move-reply-requires-clause-live
+run_move-reply-requires-clause-live c =
+    live-next c.args.map.now c.args.world.now.records c.loop-cmd.world.records c.args.moves.now c.loop-cmd.cmd-index c.cmd-item.result c.loop-cmd.journal.entries c.loop-cmd-test.true c.cmd-item.is c.requires.live
+    c.loop-cmd.invariant.0
 
 pub loop-cmd-preserved : goal.loop-cmd-preserved
 loop-cmd-preserved c =
-    let has = live-next c.args.map.now c.args.world.now.records c.loop-cmd.world.records c.args.moves.now c.loop-cmd.cmd-index c.cmd-item.result (map entry_value c.loop-cmd.journal) c.loop-cmd-test.true
-    c.cmd-item.is c.requires.live c.loop-cmd.invariant.0 in (
-      runs-next c.args.map.now c.args.world.now.records c.loop-cmd.world.records c.run_move-origin.new.world.records c.args.moves.now c.loop-cmd.cmd-index c.cmd-item.result c.loop-cmd.journal c.push.new.self c.new.result
-          c.loop-cmd.place c.bounds-bounds.ensures.rules c.loop-cmd-test.true c.cmd-item.is has c.loop-cmd.invariant.1 c.run_move-origin.ensures.moved c.new.ensures.place c.new.ensures.slot c.new.ensures.seq
-          (c.new.ensures.origin ∙ c.run_move-origin.ensures.origin) c.loop-cmd.invariant.0 c.push.ensures,
+    let has = live-next c.args.map.now c.args.world.now.records c.loop-cmd.world.records c.args.moves.now c.loop-cmd.cmd-index c.cmd-item.result c.loop-cmd.journal.entries c.loop-cmd-test.true c.cmd-item.is
+    c.requires.live c.loop-cmd.invariant.0 in
+    let later = ap (λ (j : JournalView). j.entries) c.push.ensures in (
+      runs-next c.args.map.now c.args.world.now.records c.loop-cmd.world.records c.run_move-reply.new.world.records c.args.moves.now c.loop-cmd.cmd-index c.cmd-item.result c.loop-cmd.journal.entries
+          c.push.new.self.entries c.entry.result c.loop-cmd.place c.run_move-reply.result c.bounds-bounds.ensures.rules c.loop-cmd-test.true c.cmd-item.is has c.loop-cmd.invariant.1 c.run_move-reply.ensures.moved
+          c.entry.ensures c.run_move-reply.ensures.reply c.loop-cmd.invariant.0 later,
       omega (arith, c.loop-cmd.invariant.1),
-      omega (arith, ap length c.push.ensures, length_push c.loop-cmd.journal c.new.result, c.loop-cmd.invariant.2),
-      c.run_move-origin.ensures.tree ∙ c.loop-cmd.invariant.3,
+      omega (arith, ap length later, length_push c.loop-cmd.journal.entries c.entry.result, c.loop-cmd.invariant.2),
+      ap (λ (j : JournalView). j.room) c.push.ensures ∙ c.loop-cmd.invariant.3,
+      c.run_move-reply.ensures.tree ∙ c.loop-cmd.invariant.4,
     )
