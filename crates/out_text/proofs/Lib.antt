@@ -15,3 +15,4 @@ pub mod Arrivals
 pub mod KeptRules
 pub mod Fronts
 pub mod Outputs
+pub mod Ids

@@ -6,11 +6,17 @@ pub use laws::{
     outputs_spell_their_journals, written_recordings_have_outputs,
 };
 pub use out_line::{OutLine, Printed};
+pub use edge_io::LineBuf;
+pub use printing::print_line;
+pub use reading::read_line;
 pub use text::{push_frame_lines, push_line};
 
 mod laws;
 mod names;
+mod number;
 mod out_line;
+mod printing;
+mod reading;
 #[cfg(test)]
 mod tests;
 mod text;

@@ -154,7 +154,7 @@ fn each_line_is_printed(rt: HostRuntime) -> Result<(), Fail> {
     expect(&rt, &refused.line(), "no 3 Leaving\n")?;
     expect(&rt, &joined.line(), "joined 7 0\n")?;
     expect(&rt, &did.line(), "did 1 1 24096 -11952 6144 64,200,7\n")?;
-    expect(&rt, &OutLine::To(9, &[0x01, 0xab]), "to 9 01ab\n")?;
+    expect(&rt, &OutLine::To { slot: 9, bytes: &[0x01, 0xab] }, "to 9 01ab\n")?;
     expect(&rt, &OutLine::End(2), "end 2\n")
 }
 
@@ -176,7 +176,7 @@ fn each_refusal_has_its_name(rt: HostRuntime) -> Result<(), Fail> {
         (Refusal::Old, "no 0 Old\n"),
         (Refusal::Many, "no 0 Many\n"),
     ] {
-        expect(&rt, &OutLine::No(Refused { place: 0, why }), printed)?;
+        expect(&rt, &OutLine::No { place: 0, why }, printed)?;
     }
     Ok(())
 }
