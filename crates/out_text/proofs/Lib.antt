@@ -16,3 +16,5 @@ pub mod KeptRules
 pub mod Fronts
 pub mod Outputs
 pub mod Ids
+pub mod HexTexts
+pub mod LinesRead

@@ -1,6 +1,7 @@
 ghost use Rattle.std.specs.Prelude.{◌≡◌, ◌<◌, ◌==◌, [], ◌∷◌, find, position, length, bytes_eq, option_map, None, Some, IfSome, if◌then◌else◌};
 ghost use Rattle.std.specs.List.{list_all};
-ghost use Rattle.out_text.specs.OutLines.{OutLine, name_of};
+ghost use Rattle.out_text.specs.OutLines as lines;
+ghost use Rattle.out_text.specs.OutLines.{name_of};
 ghost use Rattle.out_text.specs.Ranges.{IsPrinted};
 ghost use Rattle.out_text.specs.Journals as journals;
 ghost use Rattle.out_text.specs.Reading as reading;
@@ -277,7 +278,7 @@ pub fn read_line<'a>(line: &[u8], bytes: &'a mut ReplyBuf) -> Option<OutLine<'a>
     // What is read is printed so, and is in range.
     ensures found { IfSome result (λ l. IsPrinted line.now (line_of l)) }
     // What is in range and printed so is read.
-    ensures only { (l : OutLine) → IsPrinted line.now l → option_map line_of result ≡ Some l }
+    ensures only { (l : lines.OutLine) → IsPrinted line.now l → option_map line_of result ≡ Some l }
     // The same as a function of the bytes.
     ensures answer { option_map line_of result ≡ reading.line_in line.now }
 {
