@@ -92,17 +92,17 @@ digit_is c lower = by (nat_le 48 c && nat_le c 57) refl lower
   where
     by : (b : Bool) → (nat_le 48 c && nat_le c 57) ≡ b → (b || (nat_le 97 c && nat_le c 102)) ≡ true → IsDigit c
     by true e h =
-      let parts = and_parts (nat_le 48 c) (nat_le c 57) e in
-      let low = leb-true 48 c parts.0 in
-      let high = leb-true c 57 parts.1 in
-      let same : 48 + (c - 48) ≡ c = omega (arith, low) in
-      subst (λ (n : ℕ). IsDigit n) same (digit (c - 48) (omega (arith, high)))
+        let parts = and_parts (nat_le 48 c) (nat_le c 57) e in
+        let low = leb-true 48 c parts.0 in
+        let high = leb-true c 57 parts.1 in
+        let same : 48 + (c - 48) ≡ c = omega (arith, low) in
+        subst (λ (n : ℕ). IsDigit n) same (digit (c - 48) (omega (arith, high)))
     by false e h =
-      let parts = and_parts (nat_le 97 c) (nat_le c 102) h in
-      let low = leb-true 97 c parts.0 in
-      let high = leb-true c 102 parts.1 in
-      let same : 97 + (c - 97) ≡ c = omega (arith, low) in
-      subst (λ (n : ℕ). IsDigit n) same (letter (c - 97) (omega (arith, high)))
+        let parts = and_parts (nat_le 97 c) (nat_le c 102) h in
+        let low = leb-true 97 c parts.0 in
+        let high = leb-true c 102 parts.1 in
+        let same : 97 + (c - 97) ≡ c = omega (arith, low) in
+        subst (λ (n : ℕ). IsDigit n) same (letter (c - 97) (omega (arith, high)))
 
 -- the text is that of bytes
 record IsTextOf (text bytes : List ℕ) : Type 0 where
@@ -149,7 +149,7 @@ text_of_pairs i (high ∷ low ∷ rest) bytes lower e =
     let pair = pair_ok h.value l.value i high low h.reads l.reads in
     rest_on (h.value * 16 + l.value) bytes (λ (xs : List ℕ). IsTextOf (high ∷ low ∷ rest) xs) (decode_pairs (i + 2) rest)
     (λ others is. two_on h.value l.value high low rest others h.below l.below h.writes l.writes
-      (text_of_pairs (i + 2) rest others second.1 is))
+    (text_of_pairs (i + 2) rest others second.1 is))
     (rw pair at e)
 
 some_same : (a b : List ℕ) → Some a ≡ Some b → a ≡ b
@@ -176,18 +176,19 @@ hex-sound text bytes e = by (is_hex_text text) refl e
     decoded : (r : Result (List ℕ) FromHexError) → without_error r ≡ Some bytes → r ≡ Ok bytes
     decoded (Ok xs) g = ap (λ o. Ok o) (some_same xs bytes g)
     decoded (Err x) g = absurd cc
+
     by : (b : Bool) → is_hex_text text ≡ b → cond b (without_error (decode_of text)) None ≡ Some bytes → IsHexOf text bytes
     by false f g = absurd cc
     by true f g =
-      let parts = and_parts (nat_le 2 (length text) && nat_le (length text) 8246) (list_all is_lower_digit text) f in
-      let ends = and_parts (nat_le 2 (length text)) (nat_le (length text) 8246) parts.0 in
-      let least = leb-true 2 (length text) ends.0 in
-      let most = leb-true (length text) 8246 ends.1 in
-      let ok = decoded (decode_of text) g in
-      let even = even_text text bytes ok in
-      let is = text_of_pairs 0 text bytes parts.1 (sym (decode_of-even text even) ∙ ok) in
-      let long = ap length is.spelled ∙ length-encode_with lower_digits bytes in
-      record { spelled = is.spelled; some = omega (arith, least, long); most = omega (arith, most, long); are = is.are }
+        let parts = and_parts (nat_le 2 (length text) && nat_le (length text) 8246) (list_all is_lower_digit text) f in
+        let ends = and_parts (nat_le 2 (length text)) (nat_le (length text) 8246) parts.0 in
+        let least = leb-true 2 (length text) ends.0 in
+        let most = leb-true (length text) 8246 ends.1 in
+        let ok = decoded (decode_of text) g in
+        let even = even_text text bytes ok in
+        let is = text_of_pairs 0 text bytes parts.1 (sym (decode_of-even text even) ∙ ok) in
+        let long = ap length is.spelled ∙ length-encode_with lower_digits bytes in
+        record { spelled = is.spelled; some = omega (arith, least, long); most = omega (arith, most, long); are = is.are }
 
 -- no digit is a space
 lower_above : (text : List ℕ) → list_all is_lower_digit text ≡ true → AreAbove 32 text

@@ -87,9 +87,9 @@ first_part xs i e = by_test (nat_lt (position_or_len (λ b. b == 44) xs) (length
         → cond inside (Some (position_or_len (λ b. b == 44) xs)) None ≡ Some i
         → (parts_of xs ≡ take i xs ∷ parts_of (drop (i + 1) xs)) × (i < length xs)
     by_test true f g =
-      let same : position_or_len (λ b. b == 44) xs ≡ i = cc in
-      let before : position_or_len (λ b. b == 44) xs < length xs = ltb-true _ _ f in
-      (rw same at (slice_split_first (λ b. b == 44) xs 0 before), rw same at before)
+        let same : position_or_len (λ b. b == 44) xs ≡ i = cc in
+        let before : position_or_len (λ b. b == 44) xs < length xs = ltb-true _ _ f in
+        (rw same at (slice_split_first (λ b. b == 44) xs 0 before), rw same at before)
     by_test false f g = absurd cc
 
 pub no_comma : (xs : List ℕ) → position (λ b. b == 44) xs ≡ None → parts_of xs ≡ xs ∷ []
@@ -99,7 +99,7 @@ no_comma xs e = by_test (nat_lt (position_or_len (λ b. b == 44) xs) (length xs)
         → cond inside (Some (position_or_len (λ b. b == 44) xs)) None ≡ None → parts_of xs ≡ xs ∷ []
     by_test true f g = absurd cc
     by_test false f g =
-      one_part xs (ltb-false _ _ f)
+        one_part xs (ltb-false _ _ f)
 
 -- what is left after the first bytes
 pub rest_is : (n : ℕ) (bytes : List ℕ) → take (length bytes - n) (drop n bytes) ≡ drop n bytes

@@ -23,7 +23,7 @@ use Rattle.hex.specs.Hex.{encode_lower}
 use Rattle.out_text.specs.Dids.{Did}
 use Rattle.out_text.specs.OutLines.{OutLine, FrameLine, NoLine, JoinedLine, DidLine, ToLine, EndLine, name_of, ids_text, spelled}
 use Rattle.out_text.specs.Journals.{number_at, integer_at, all_there, ids_in, alone, is_coordinate}
-use Rattle.out_text.specs.Ranges.{IsJoinInRange, IsDidInRange, IsSnapshotInRange, IsInRange, IsPrinted}
+use Rattle.out_text.specs.Ranges.{IsJoinInRange, IsDidInRange, IsSnapshotInRange, IsInRange, IsPrinted, HasRoom}
 use Rattle.out_text.specs.Reading.{passing, within, coordinate_at, origin_at, few_ids, refusals, refusal_of, is_lower_digit, bytes_in, frame_in, no_in, joined_in, did_line_in, to_in, end_in, line_in}
 use Rattle.out_text.proofs.Spellings.{AreIds, joined, ids-read}
 use Rattle.out_text.proofs.HexTexts.{hex-back, hex-sound, hex-above}
@@ -72,8 +72,11 @@ coordinate-back z rest fits ends =
 origin-back : (o : Vec3) (rest : List ℕ) → Fits o → IsEnd rest
     → origin_at (field_text (signed_decimal o.x) ++ (field_text (signed_decimal o.y) ++ (field_text (signed_decimal o.z) ++ rest))) ≡ Some (o, rest)
 origin-back o rest fits ends =
-    rw (coordinate-back o.x (field_text (signed_decimal o.y) ++ (field_text (signed_decimal o.z) ++ rest)) fits.x refl,
-      coordinate-back o.y (field_text (signed_decimal o.z) ++ rest) fits.y refl, coordinate-back o.z rest fits.z ends)
+    rw (
+      coordinate-back o.x (field_text (signed_decimal o.y) ++ (field_text (signed_decimal o.z) ++ rest)) fits.x refl,
+      coordinate-back o.y (field_text (signed_decimal o.z) ++ rest) fits.y refl,
+      coordinate-back o.z rest fits.z ends,
+    )
     refl
 
 -- a text passes a test of each byte
@@ -180,7 +183,7 @@ did_text d =
     did_parts (codes "did ") (decimal d.slot) (decimal d.seq) (signed_decimal d.origin.x) (signed_decimal d.origin.y)
     (signed_decimal d.origin.z) (ids_text d.got) (codes " ")
     ∙ ap (λ l. codes "did" ++ (field_text (decimal d.slot) ++ (field_text (decimal d.seq) ++ (field_text (signed_decimal d.origin.x)
-      ++ (field_text (signed_decimal d.origin.y) ++ (field_text (signed_decimal d.origin.z) ++ l)))))) (last-field (ids_text d.got))
+    ++ (field_text (signed_decimal d.origin.y) ++ (field_text (signed_decimal d.origin.z) ++ l)))))) (last-field (ids_text d.got))
 
 -- what follows a value that is there
 goes_on : {A B : Type 0} (o : Option A) (x : A) (f : A → Option B) → o ≡ Some x → o >>= f ≡ f x
@@ -198,19 +201,21 @@ line-back (EndLine frames) is =
 line-back (NoLine place why) is =
     let name = field_text (name_of why) ++ [] in
     word-back (codes "no") (field_text (decimal place) ++ name) (spelled (NoLine place why)) refl refl
-      (two_fields (codes "no ") (decimal place) (name_of why))
+    (two_fields (codes "no ") (decimal place) (name_of why))
     ∙ goes_on (number_at 4294967295 (field_text (decimal place) ++ name)) (place, name) _ (number-back 4294967295 place name (omega (arith, is)) (omega arith) refl)
     ∙ goes_on (field_at name) (name_of why, []) (λ field. refusal_of field.0 >>= (λ other. alone (NoLine place other) field.1))
-      (field_at-field (name_of why) [] (above (name_of why) (name_above why)) tt)
+    (field_at-field (name_of why) [] (above (name_of why) (name_above why)) tt)
     ∙ goes_on (refusal_of (name_of why)) why (λ other. alone (NoLine place other) []) (name-back why)
 line-back (JoinedLine port slot) is =
     let fits = is.port_fits in
     let small = is.slot_fits in
     let last = field_text (decimal slot) ++ [] in
     word-back (codes "joined") (field_text (decimal port) ++ last) (spelled (JoinedLine port slot)) refl refl
-      (two_fields (codes "joined ") (decimal port) (decimal slot))
-    ∙ rw (number-back 65535 port last (omega (arith, fits)) (omega arith) refl,
-        number-back 255 slot [] (omega (arith, small)) (omega arith) tt) refl
+    (two_fields (codes "joined ") (decimal port) (decimal slot))
+    ∙ rw (
+      number-back 65535 port last (omega (arith, fits)) (omega arith) refl,
+      number-back 255 slot [] (omega (arith, small)) (omega arith) tt,
+    ) refl
 line-back (DidLine d) is =
     let slot = is.slot in
     let seq = is.seq in
@@ -220,27 +225,27 @@ line-back (DidLine d) is =
     let x = field_text (signed_decimal d.origin.x) ++ y in
     let number = field_text (decimal d.seq) ++ x in
     word-back (codes "did") (field_text (decimal d.slot) ++ number) (spelled (DidLine d)) refl refl
-      (did_text d)
+    (did_text d)
     ∙ goes_on (number_at 255 (field_text (decimal d.slot) ++ number)) (d.slot, number) _ (number-back 255 d.slot number (omega (arith, slot)) (omega arith) refl)
     ∙ goes_on (number_at 4294967295 number) (d.seq, x) (λ s. origin_at s.1 >>= (λ o. field_at o.1 >>= (λ field. few_ids (ids_in field.0) >>= (λ got.
-        alone (DidLine (record { slot = d.slot; seq = s.0; origin = o.0; got = got })) field.1))))
-      (number-back 4294967295 d.seq x (omega (arith, seq)) (omega arith) refl)
+    alone (DidLine (record { slot = d.slot; seq = s.0; origin = o.0; got = got })) field.1))))
+    (number-back 4294967295 d.seq x (omega (arith, seq)) (omega arith) refl)
     ∙ goes_on (origin_at x) (d.origin, ids) (λ o. field_at o.1 >>= (λ field. few_ids (ids_in field.0) >>= (λ got.
-        alone (DidLine (record { slot = d.slot; seq = d.seq; origin = o.0; got = got })) field.1)))
-      (origin-back d.origin ids is.origin refl)
+    alone (DidLine (record { slot = d.slot; seq = d.seq; origin = o.0; got = got })) field.1)))
+    (origin-back d.origin ids is.origin refl)
     ∙ goes_on (field_at ids) (ids_text d.got, []) (λ field. few_ids (ids_in field.0) >>= (λ got.
-        alone (DidLine (record { slot = d.slot; seq = d.seq; origin = d.origin; got = got })) field.1))
-      (field_at-field (ids_text d.got) [] (ids_above d.got (are_ids d.got is.got)) tt)
+    alone (DidLine (record { slot = d.slot; seq = d.seq; origin = d.origin; got = got })) field.1))
+    (field_at-field (ids_text d.got) [] (ids_above d.got (are_ids d.got is.got)) tt)
     ∙ goes_on (few_ids (ids_in (ids_text d.got))) d.got (λ got. alone (DidLine (record { slot = d.slot; seq = d.seq; origin = d.origin; got = got })) [])
-      (few-back d.got is.got is.few)
+    (few-back d.got is.got is.few)
 line-back (ToLine slot bytes) is =
     let small = is.slot_fits in
     let text = field_text (encode_lower bytes) ++ [] in
     word-back (codes "to") (field_text (decimal slot) ++ text) (spelled (ToLine slot bytes)) refl refl
-      (two_fields (codes "to ") (decimal slot) (encode_lower bytes))
+    (two_fields (codes "to ") (decimal slot) (encode_lower bytes))
     ∙ goes_on (number_at 255 (field_text (decimal slot) ++ text)) (slot, text) _ (number-back 255 slot text (omega (arith, small)) (omega arith) refl)
     ∙ goes_on (field_at text) (encode_lower bytes, []) (λ field. bytes_in field.0 >>= (λ read. alone (ToLine slot read) field.1))
-      (field_at-field (encode_lower bytes) [] (hex-above bytes is.are_bytes) tt)
+    (field_at-field (encode_lower bytes) [] (hex-above bytes is.are_bytes) tt)
     ∙ goes_on (bytes_in (encode_lower bytes)) bytes (λ read. alone (ToLine slot read) []) (hex-back bytes is.some is.most is.are_bytes)
 
 -- ---- what is read was printed: the fields
@@ -322,8 +327,8 @@ origin-sound rest o h =
     (record {
       fits = record { x = read_x.fits; y = read_y.fits; z = read_z.fits };
       spelled =
-        read_x.spelled
-        ∙ ap (λ l. field_text (signed_decimal x.at.0) ++ l) (read_y.spelled ∙ ap (λ l. field_text (signed_decimal y.at.0) ++ l) read_z.spelled);
+          read_x.spelled
+          ∙ ap (λ l. field_text (signed_decimal x.at.0) ++ l) (read_y.spelled ∙ ap (λ l. field_text (signed_decimal y.at.0) ++ l) read_z.spelled);
     })
 
 -- ids were read
@@ -341,15 +346,15 @@ there-sound (part ∷ parts) ids h = by (natural_up_to 65535 part) refl h (λ mo
         → ((more : List ℕ) → all_there (map (natural_up_to 65535) parts) ≡ Some more → AreNumbers parts more) → AreNumbers (part ∷ parts) ids
     by None e g rest = absurd cc
     by (Some id) e g rest =
-      let more = binds (all_there (map (natural_up_to 65535) parts)) (λ (l : List ℕ). Some (id ∷ l)) ids g in
-      let here = natural-spelled 65535 id part (omega arith) e in
-      let small = here.1 in
-      let others = rest more.at more.is in
-      subst (λ (l : List ℕ). AreNumbers (part ∷ parts) l) (same (id ∷ more.at) ids more.gives)
-      (record {
-        spelled = ap (λ p. p ∷ parts) here.0 ∙ ap (λ ps. decimal id ∷ ps) others.spelled;
-        fit = (omega (arith, small), others.fit);
-      })
+        let more = binds (all_there (map (natural_up_to 65535) parts)) (λ (l : List ℕ). Some (id ∷ l)) ids g in
+        let here = natural-spelled 65535 id part (omega arith) e in
+        let small = here.1 in
+        let others = rest more.at more.is in
+        subst (λ (l : List ℕ). AreNumbers (part ∷ parts) l) (same (id ∷ more.at) ids more.gives)
+        (record {
+          spelled = ap (λ p. p ∷ parts) here.0 ∙ ap (λ ps. decimal id ∷ ps) others.spelled;
+          fit = (omega (arith, small), others.fit);
+        })
 
 record ReadsIds (text ids : List ℕ) : Type 0 where
   spelled : text ≡ ids_text ids
@@ -367,13 +372,14 @@ ids-sound text ids h = by (bytes_eq text (codes "-")) refl h
   where
     listed : (ids : List ℕ) → AreNumbers (slice_split (λ b. b == 44) text) ids → ReadsIds text ids
     listed [] are =
-      let empty = sym (join_with_byte-slice_split 44 text) ∙ ap (join_with_byte 44) are.spelled in
-      absurd (has_part text are.spelled empty)
+        let empty = sym (join_with_byte-slice_split 44 text) ∙ ap (join_with_byte 44) are.spelled in
+        absurd (has_part text are.spelled empty)
     listed (id ∷ ids) are = record { spelled = sym (join_with_byte-slice_split 44 text) ∙ ap (join_with_byte 44) are.spelled; fit = are.fit }
+
     by : (dash : Bool) → bytes_eq text (codes "-") ≡ dash → cond dash (Some []) (all_there (map (natural_up_to 65535) (slice_split (λ b. b == 44) text))) ≡ Some ids
         → ReadsIds text ids
     by true e g =
-      subst (λ (l : List ℕ). ReadsIds text l) (same [] ids g) (record { spelled = (bytes_eq-Decides text (codes "-")).0 e; fit = tt })
+        subst (λ (l : List ℕ). ReadsIds text l) (same [] ids g) (record { spelled = (bytes_eq-Decides text (codes "-")).0 e; fit = tt })
     by false e g = listed ids (there-sound (slice_split (λ b. b == 44) text) ids g)
 
 few-sound : (text ids : List ℕ) → few_ids (ids_in text) ≡ Some ids → ReadsIds text ids × (length ids ≤ 8)
@@ -430,9 +436,9 @@ no-sound rest l h =
     (record {
       in_range = omega (arith, most);
       spelled =
-        ap (λ r. codes "no" ++ r) (read.spelled ∙ ap (λ t. field_text (decimal n.at.0) ++ t)
+          ap (λ r. codes "no" ++ r) (read.spelled ∙ ap (λ t. field_text (decimal n.at.0) ++ t)
           (field_at-whole n.at.1 field.at field.is ∙ ap (λ t. field_text field.at.0 ++ t) last.0 ∙ ap (λ t. field_text t ++ []) name))
-        ∙ sym (two_fields (codes "no ") (decimal n.at.0) (name_of why.at));
+          ∙ sym (two_fields (codes "no ") (decimal n.at.0) (name_of why.at));
     })
 
 joined-sound : (rest : List ℕ) (l : OutLine) → joined_in rest ≡ Some l → IsPrinted (codes "joined" ++ rest) l
@@ -448,9 +454,9 @@ joined-sound rest l h =
     (record {
       in_range = record { port_fits = omega (arith, most); slot_fits = omega (arith, few) };
       spelled =
-        ap (λ r. codes "joined" ++ r) (read.spelled ∙ ap (λ t. field_text (decimal port.at.0) ++ t)
+          ap (λ r. codes "joined" ++ r) (read.spelled ∙ ap (λ t. field_text (decimal port.at.0) ++ t)
           (also.spelled ∙ ap (λ t. field_text (decimal slot.at.0) ++ t) last.0))
-        ∙ sym (two_fields (codes "joined ") (decimal port.at.0) (decimal slot.at.0));
+          ∙ sym (two_fields (codes "joined ") (decimal port.at.0) (decimal slot.at.0));
     })
 
 to-sound : (rest : List ℕ) (l : OutLine) → to_in rest ≡ Some l → IsPrinted (codes "to" ++ rest) l
@@ -466,9 +472,9 @@ to-sound rest l h =
     (record {
       in_range = record { slot_fits = omega (arith, few); some = hex.some; most = hex.most; are_bytes = hex.are };
       spelled =
-        ap (λ r. codes "to" ++ r) (read.spelled ∙ ap (λ t. field_text (decimal slot.at.0) ++ t)
+          ap (λ r. codes "to" ++ r) (read.spelled ∙ ap (λ t. field_text (decimal slot.at.0) ++ t)
           (field_at-whole slot.at.1 field.at field.is ∙ ap (λ t. field_text field.at.0 ++ t) last.0 ∙ ap (λ t. field_text t ++ []) hex.spelled))
-        ∙ sym (two_fields (codes "to ") (decimal slot.at.0) (encode_lower bytes.at));
+          ∙ sym (two_fields (codes "to ") (decimal slot.at.0) (encode_lower bytes.at));
     })
 
 did-sound : (rest : List ℕ) (l : OutLine) → did_line_in rest ≡ Some l → IsPrinted (codes "did" ++ rest) l
@@ -490,11 +496,11 @@ did-sound rest l h =
     (record {
       in_range = record { slot = omega (arith, few); seq = omega (arith, most); origin = read_o.fits; few = read_got.1; got = (read_got.0).fit };
       spelled =
-        ap (λ r. codes "did" ++ r) (read_slot.spelled ∙ ap (λ t. field_text (decimal d.slot) ++ t)
+          ap (λ r. codes "did" ++ r) (read_slot.spelled ∙ ap (λ t. field_text (decimal d.slot) ++ t)
           (read_seq.spelled ∙ ap (λ t. field_text (decimal d.seq) ++ t)
           (read_o.spelled ∙ ap (λ t. field_text (signed_decimal d.origin.x) ++ (field_text (signed_decimal d.origin.y) ++ (field_text (signed_decimal d.origin.z) ++ t)))
           (field_at-whole o.at.1 field.at field.is ∙ ap (λ t. field_text field.at.0 ++ t) last.0 ∙ ap (λ t. field_text t ++ []) (read_got.0).spelled))))
-        ∙ sym (did_text d);
+          ∙ sym (did_text d);
     })
 
 -- the first word is this one, or it isn't
@@ -504,8 +510,8 @@ by_first first word rest here others l h is isnt = by (bytes_eq first word) refl
   where
     by : (b : Bool) → bytes_eq first word ≡ b → cond b here others ≡ Some l → IsPrinted (first ++ rest) l
     by true e g =
-      let word_is = (bytes_eq-Decides first word).0 e in
-      subst (λ (w : List ℕ). IsPrinted (w ++ rest) l) (sym word_is) (is g)
+        let word_is = (bytes_eq-Decides first word).0 e in
+        subst (λ (w : List ℕ). IsPrinted (w ++ rest) l) (sym word_is) (is g)
     by false e g = isnt g
 
 word-sound : (f r : List ℕ) (l : OutLine) → by_word (f, r) ≡ Some l → IsPrinted (f ++ r) l
@@ -536,3 +542,12 @@ found_printed (Some x) view line e = line-sound line (view x) (sym e)
 
 pub printed_read : (line : List ℕ) (l : OutLine) → IsPrinted line l → line_in line ≡ Some l
 printed_read line l is = ap line_in is.spelled ∙ line-back l is.in_range
+
+-- a line in range can be printed
+pub has_room : (l : OutLine) → IsInRange l → HasRoom l
+has_room (FrameLine frame) is = tt
+has_room (NoLine place why) is = tt
+has_room (JoinedLine port slot) is = tt
+has_room (DidLine d) is = tt
+has_room (ToLine slot bytes) is = (is.some, is.most)
+has_room (EndLine frames) is = tt

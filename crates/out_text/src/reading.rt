@@ -270,9 +270,11 @@ fn line_in<'a>(line: &[u8], bytes: &'a mut ReplyBuf) -> Option<OutLine<'a>>
     }
 }
 
-/// The line of the output that is printed so, without its line feed; the bytes of a snapshot are put into `bytes`, which
-/// is empty. There is none exactly where no line in range is printed so: numbers in decimal digits without a leading
-/// zero, single spaces, at most 8 ids, and 1 to 4,123 bytes of a snapshot in lower-case digits. It takes no memory.
+/// The line of the output that is printed so, without its line feed. The bytes of a snapshot are put into `bytes`, which
+/// is empty.
+///
+/// There is none exactly where no line in range is printed so: numbers in decimal digits without a leading zero, single
+/// spaces, at most 8 ids, and 1 to 4,123 bytes of a snapshot in lower-case digits. It takes no memory.
 pub fn read_line<'a>(line: &[u8], bytes: &'a mut ReplyBuf) -> Option<OutLine<'a>>
     requires { bytes.old ≡ [] }
     // What is read is printed so, and is in range.

@@ -130,8 +130,14 @@ fn push_reply(
     };
     reply.clear();
     write_snapshot(world, frame, slot, reply);
-    let bytes = reply.as_slice();
-    push_line(alloc, text, &OutLine::To { slot, bytes })
+    push_line(
+        alloc,
+        text,
+        &OutLine::To {
+            slot,
+            bytes: reply.as_slice(),
+        },
+    )
 }
 
 /// Puts the line of the snapshot of each live player at the end, in rising slot.

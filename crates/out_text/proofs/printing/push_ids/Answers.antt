@@ -12,9 +12,9 @@ loop-id-init c =
     let count = ap (λ (l : List ℕ). length l) c.in-Some.ensures.cases.0 in
     record {
       all =
-        ap (λ l. l ++ more_ids rest) (c.push_number.ensures.text ∙ ap (λ n. old ++ decimal n) c.from.ensures)
-        ∙ append_assoc old (decimal first) (more_ids rest)
-        ∙ ap (λ l. old ++ l) (sym (ids-first first rest))
-        ∙ ap (λ l. old ++ ids_text l) (sym c.in-Some.ensures.cases.0);
+          ap (λ l. l ++ more_ids rest) (c.push_number.ensures.text ∙ ap (λ n. old ++ decimal n) c.from.ensures)
+          ∙ append_assoc old (decimal first) (more_ids rest)
+          ∙ ap (λ l. old ++ l) (sym (ids-first first rest))
+          ∙ ap (λ l. old ++ ids_text l) (sym c.in-Some.ensures.cases.0);
       room = omega (arith, count, c.push_number.ensures.short, c.requires.room, c.requires.few);
     }

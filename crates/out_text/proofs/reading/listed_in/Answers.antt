@@ -15,7 +15,7 @@ loop-part-preserved c =
     let pushed : c.push.new.self ≡ c.loop-part.ids ++ id ∷ [] = search rules in
     rw pushed
     (next_part c.args.text.now c.loop-part.ids c.loop-part.rest.now part c.in-Some.after.now id c.loop-part.invariant
-      c.in-Some.ensures.some some)
+    c.in-Some.ensures.some some)
 
 pub returns-in_err-id : goal.returns-in_err-id
 returns-in_err-id c =
@@ -30,7 +30,7 @@ returns-then-not-push c =
     let some : natural_up_to 65535 part ≡ Some c.in_ok-id.id = sym c.natural.ensures.value ∙ c.in_ok-id.was in
     let full : 8 ≤ length c.loop-part.ids = search rules in
     sym (full_part c.args.text.now c.loop-part.ids c.loop-part.rest.now part _ c.in_ok-id.id c.loop-part.invariant
-      c.in-Some.ensures.some some full)
+    c.in-Some.ensures.some some full)
 
 pub returns-in_err-last : goal.returns-in_err-last
 returns-in_err-last c =
