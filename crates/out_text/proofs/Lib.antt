@@ -15,3 +15,6 @@ pub mod Arrivals
 pub mod KeptRules
 pub mod Fronts
 pub mod Outputs
+pub mod Ids
+pub mod HexTexts
+pub mod LinesRead

@@ -59,11 +59,11 @@ Lacks-append c (x ∷ xs) ys p q = (p.0, Lacks-append c xs ys p.1 q)
 -- ---- ids
 
 -- an id is at most 65,535
-abbrev AreIds : List ℕ → Type 0
+abbrev pub AreIds : List ℕ → Type 0
 AreIds ids = AllByRecursion (λ id. id ≤ 65535) ids
 
 -- ids with a comma between any two
-abbrev joined : List ℕ → List ℕ
+abbrev pub joined : List ℕ → List ℕ
 joined ids = join_with_byte 44 (map decimal ids)
 
 Lacks-joined : (id : ℕ) (ids : List ℕ) → AreIds (id ∷ ids) → Lacks 32 (joined (id ∷ ids))
@@ -122,7 +122,7 @@ first-joined id [] h = first-decimal id (omega arith)
 first-joined id (next ∷ ids) h = first-append (decimal id) (44 ∷ joined (next ∷ ids)) (first-decimal id (omega arith))
 
 -- the ids that a text of ids spells
-ids-read : (ids : List ℕ) → AreIds ids → ids_in (ids_text ids) ≡ Some ids
+pub ids-read : (ids : List ℕ) → AreIds ids → ids_in (ids_text ids) ≡ Some ids
 ids-read [] are = refl
 ids-read (id ∷ ids) are =
     let text = joined (id ∷ ids) in

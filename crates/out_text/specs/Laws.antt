@@ -1,12 +1,14 @@
 -- What holds of every text, and of the outputs of recordings.
-use Rattle.std.specs.Prelude.{◌≡◌, ℕ, ◌≤◌, ◌↔◌, true, List, take, None}
+use Rattle.std.specs.Prelude.{◌≡◌, ℕ, ◌≤◌, ◌↔◌, true, List, take, None, Some}
 use Rattle.entity_recs.specs.declared.effect.Entry.{Entry}
 use Rattle.arena_map.specs.Maps.{MapView}
 use Rattle.client_ports.specs.declared.arrival.Arrival.{Arrival}
 use Rattle.demo_lines.specs.Bytes.{fault, map_of}
 use Rattle.demo_lines.specs.Spelling.{IsRecording, recording_text}
 use Rattle.out_text.specs.Dids.{Did}
-use Rattle.out_text.specs.OutLines.{FrameLine, DidLine, spelled}
+use Rattle.out_text.specs.OutLines.{OutLine, FrameLine, DidLine, spelled}
+use Rattle.out_text.specs.Ranges.{IsInRange, IsPrinted}
+use Rattle.out_text.specs.Reading.{line_in}
 use Rattle.out_text.specs.Journals.{Opens, Reports, is_reportable, mark_of, dids}
 use Rattle.out_text.specs.Collecting.{frames_of}
 use Rattle.out_text.specs.Output.{AreRightIn, front_text, out_text, IsOutput}
@@ -54,3 +56,11 @@ pub record OutputsSpellTheirJournals : Type 0 where
   pub front : (bytes : List ℕ) (k : ℕ) (journals : List (List Entry))
       → AreRightIn (map_of bytes) (take k (frames_of bytes)) journals
       → dids (front_text bytes k journals) ≡ journals
+
+-- a line in range is read as itself where it was printed
+abbrev pub LinesReadBack : Type 0
+LinesReadBack = (line : List ℕ) (l : OutLine) → (line_in line ≡ Some l) ↔ IsPrinted line l
+
+-- no two lines in range are printed alike
+abbrev pub LinesArePrintedApart : Type 0
+LinesArePrintedApart = (l k : OutLine) → IsInRange l → IsInRange k → spelled l ≡ spelled k → l ≡ k

@@ -23,6 +23,8 @@ pub mod OutLines
 pub mod FrameLines
 pub mod Printing
 pub mod Journals
+pub mod Reading
+pub mod Ranges
 pub mod Collecting
 pub mod Output
 pub mod Laws

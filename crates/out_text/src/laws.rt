@@ -1,4 +1,4 @@
-ghost use Rattle.out_text.specs.Laws.{DidLinesAreRead, FrameLinesAreRead, FaultlessRecordingsHaveOutputs, WrittenRecordingsHaveOutputs, OneWorkerHasOneOutput, OutputsSpellTheirJournals};
+ghost use Rattle.out_text.specs.Laws.{DidLinesAreRead, FrameLinesAreRead, FaultlessRecordingsHaveOutputs, WrittenRecordingsHaveOutputs, OneWorkerHasOneOutput, OutputsSpellTheirJournals, LinesReadBack, LinesArePrintedApart};
 
 /// The journals are read off exactly the lines that are printed: no other line opens a frame or reports a move.
 pub fn only_printed_lines_are_read()
@@ -25,4 +25,14 @@ pub fn one_worker_has_one_output()
 /// was made, where those are right.
 pub fn outputs_spell_their_journals()
     ensures { OutputsSpellTheirJournals }
+{}
+
+/// A text is read as a line exactly where the line is in range and is printed so.
+pub fn lines_read_back()
+    ensures { LinesReadBack }
+{}
+
+/// No two lines in range are printed alike.
+pub fn lines_are_printed_apart()
+    ensures { LinesArePrintedApart }
 {}

@@ -1,16 +1,23 @@
 //! The output: its lines, the text of a frame, and what a text says of the moves that were done.
 #![tactic(auto)]
 
+pub use edge_io::LineBuf;
 pub use laws::{
-    faultless_recordings_have_outputs, one_worker_has_one_output, only_printed_lines_are_read,
-    outputs_spell_their_journals, written_recordings_have_outputs,
+    faultless_recordings_have_outputs, lines_are_printed_apart, lines_read_back,
+    one_worker_has_one_output, only_printed_lines_are_read, outputs_spell_their_journals,
+    written_recordings_have_outputs,
 };
 pub use out_line::{OutLine, Printed};
+pub use printing::print_line;
+pub use reading::read_line;
 pub use text::{push_frame_lines, push_line};
 
 mod laws;
 mod names;
+mod number;
 mod out_line;
+mod printing;
+mod reading;
 #[cfg(test)]
 mod tests;
 mod text;

@@ -4,7 +4,7 @@ ghost use Rattle.out_text.specs.FrameLines.{no_line, joined_line, did_line};
 ghost use Rattle.out_text.specs.Printing.{line_of};
 
 use arena_geo::Vec3;
-use client_ports::{Joined, Refused};
+use client_ports::{Joined, Refusal, Refused};
 use entity_recs::{Entry, IdList};
 
 /// One line of the output.
@@ -13,9 +13,19 @@ pub enum OutLine<'a> {
     /// A frame begins, which has this number.
     Frame(u32),
     /// A packet was refused.
-    No(Refused),
+    No {
+        /// The place of the packet among those of its frame, from 0 on.
+        place: u32,
+        /// Why it was refused.
+        why: Refusal,
+    },
     /// A player joined.
-    Joined(Joined),
+    Joined {
+        /// The port that it joined from.
+        port: u16,
+        /// The slot that it got.
+        slot: u8,
+    },
     /// A move was done.
     Did {
         /// Whose move it was: a slot from 0 to 63.
@@ -27,8 +37,13 @@ pub enum OutLine<'a> {
         /// The ids that it got. They are printed in this order.
         got: IdList,
     },
-    /// What the player in this slot sees, as the bytes of a snapshot.
-    To(u8, &'a [u8]),
+    /// What a player sees.
+    To {
+        /// The player's slot.
+        slot: u8,
+        /// The bytes of its snapshot.
+        bytes: &'a [u8],
+    },
     /// The output ends, after so many frames.
     End(u32),
 }
@@ -49,7 +64,10 @@ impl Printed for Refused {
     fn line(&self) -> OutLine<'static>
         ensures { line_of result ≡ no_line self.now }
     {
-        OutLine::No(*self)
+        OutLine::No {
+            place: self.place,
+            why: self.why,
+        }
     }
 }
 
@@ -59,7 +77,10 @@ impl Printed for Joined {
     fn line(&self) -> OutLine<'static>
         ensures { line_of result ≡ joined_line self.now }
     {
-        OutLine::Joined(*self)
+        OutLine::Joined {
+            port: self.port,
+            slot: self.slot,
+        }
     }
 }
 

@@ -75,7 +75,14 @@ fn each_line_is_printed(rt: HostRuntime) -> Result<(), Fail> {
     expect(&rt, &refused.line(), "no 3 Leaving\n")?;
     expect(&rt, &joined.line(), "joined 7 0\n")?;
     expect(&rt, &did.line(), "did 1 1 24096 -11952 6144 64,200,7\n")?;
-    expect(&rt, &OutLine::To(9, &[0x01, 0xab]), "to 9 01ab\n")?;
+    expect(
+        &rt,
+        &OutLine::To {
+            slot: 9,
+            bytes: &[0x01, 0xab],
+        },
+        "to 9 01ab\n",
+    )?;
     expect(&rt, &OutLine::End(2), "end 2\n")
 }
 
@@ -97,7 +104,7 @@ fn each_refusal_has_its_name(rt: HostRuntime) -> Result<(), Fail> {
         (Refusal::Old, "no 0 Old\n"),
         (Refusal::Many, "no 0 Many\n"),
     ] {
-        expect(&rt, &OutLine::No(Refused { place: 0, why }), printed)?;
+        expect(&rt, &OutLine::No { place: 0, why }, printed)?;
     }
     Ok(())
 }
@@ -125,5 +132,68 @@ fn a_frame_has_its_journal_and_a_reply_for_each_slot(rt: HostRuntime) -> Result<
         &replies,
     )?;
     assert_eq!(rt; text.as_str(), FRAME);
+    Ok(())
+}
+
+/// Lines that are printed so.
+const LINES: [&str; 9] = [
+    "frame 0",
+    "no 3 Leaving",
+    "no 4294967295 Empty",
+    "joined 65535 63",
+    "did 1 1 24096 -11952 6144 64,200,7",
+    "did 0 4294967295 2147483647 -2147483648 0 65535,0,1,2,3,4,5,6",
+    "did 0 2 0 0 6144 -",
+    "to 9 01ab",
+    "end 2",
+];
+
+/// Lines that no line is printed as.
+const OTHERS: [&str; 20] = [
+    "",
+    "frame",
+    "frame ",
+    "frame  1",
+    "frame 01",
+    "frame 1 ",
+    "frame 4294967296",
+    "no 0 leaving",
+    "no 0",
+    "joined 65536 0",
+    "joined 7 256",
+    // Nine ids, a comma more, an id too large, and a coordinate too far.
+    "did 0 1 0 0 6144 1,2,3,4,5,6,7,8,9",
+    "did 0 1 0 0 6144 64,",
+    "did 0 1 0 0 6144 65536",
+    "did 0 1 2147483648 0 6144 -",
+    "did 0 1 -0 0 6144 -",
+    // Upper case, half a byte, and no byte.
+    "to 9 01AB",
+    "to 9 01a",
+    "to 9 ",
+    "END 2",
+];
+
+#[test]
+fn lines_are_read_and_printed_again(rt: HostRuntime) -> Result<(), Fail> {
+    let mut bytes = ReplyBuf::new(rt.alloc())?;
+    let mut printed = LineBuf::new(rt.alloc())?;
+    for line in LINES {
+        bytes.clear();
+        printed.clear();
+        let read = read_line(line.as_bytes(), &mut bytes).ok_or("a line")?;
+        print_line(&read, &mut printed);
+        assert_eq!(rt; printed.as_slice(), line.as_bytes());
+    }
+    Ok(())
+}
+
+#[test]
+fn other_lines_are_not_read(rt: HostRuntime) -> Result<(), Fail> {
+    let mut bytes = ReplyBuf::new(rt.alloc())?;
+    for line in OTHERS {
+        bytes.clear();
+        assert!(rt; read_line(line.as_bytes(), &mut bytes).is_none(), "{line}");
+    }
     Ok(())
 }

@@ -6,7 +6,7 @@ ghost use Rattle.out_text.specs.Printing.{line_of};
 use crate::names::refusal_name;
 use crate::out_line::{OutLine, Printed};
 use arena_geo::Vec3;
-use client_ports::{Joined, Received, Refused};
+use client_ports::{Received, Refusal};
 use entity_recs::Entry;
 use snapshot_write::ReplyBuf;
 use std::alloc::{AllocError, Global};
@@ -26,20 +26,17 @@ fn push_end(text: &mut String, frames: u32) -> Result<(), AllocError>
 }
 
 /// Puts the line of a refused packet at the end.
-fn push_no(text: &mut String, refused: Refused) -> Result<(), AllocError>
-    ensures ok { OnOk result (string_bytes text.new ≡ string_bytes text.old ++ printed (NoLine refused.place refused.why)) }
+fn push_no(text: &mut String, place: u32, why: Refusal) -> Result<(), AllocError>
+    ensures ok { OnOk result (string_bytes text.new ≡ string_bytes text.old ++ printed (NoLine place why)) }
 {
-    let place = refused.place;
-    let name = refusal_name(refused.why);
+    let name = refusal_name(why);
     writeln!(text, "no {place} {name}")
 }
 
 /// Puts the line of a player that joined at the end.
-fn push_joined(text: &mut String, joined: Joined) -> Result<(), AllocError>
-    ensures ok { OnOk result (string_bytes text.new ≡ string_bytes text.old ++ printed (JoinedLine joined.port joined.slot)) }
+fn push_joined(text: &mut String, port: u16, slot: u8) -> Result<(), AllocError>
+    ensures ok { OnOk result (string_bytes text.new ≡ string_bytes text.old ++ printed (JoinedLine port slot)) }
 {
-    let port = joined.port;
-    let slot = joined.slot;
     writeln!(text, "joined {port} {slot}")
 }
 
@@ -88,15 +85,15 @@ pub fn push_line(alloc: Global, text: &mut String, line: &OutLine) -> Result<(),
 {
     match line {
         OutLine::Frame(frame) => push_frame(text, *frame),
-        OutLine::No(refused) => push_no(text, *refused),
-        OutLine::Joined(joined) => push_joined(text, *joined),
+        OutLine::No { place, why } => push_no(text, *place, *why),
+        OutLine::Joined { port, slot } => push_joined(text, *port, *slot),
         OutLine::Did {
             slot,
             seq,
             origin,
             got,
         } => push_did(text, *slot, *seq, *origin, got.as_slice()),
-        OutLine::To(slot, bytes) => push_to(alloc, text, *slot, bytes),
+        OutLine::To { slot, bytes } => push_to(alloc, text, *slot, bytes),
         OutLine::End(frames) => push_end(text, *frames),
     }
 }
@@ -123,7 +120,14 @@ fn push_replies(
 {
     for (i, slot) in slots.iter().enumerate() {
         let reply = &replies[i];
-        push_line(alloc, text, &OutLine::To(*slot, reply.as_slice()))?;
+        push_line(
+            alloc,
+            text,
+            &OutLine::To {
+                slot: *slot,
+                bytes: reply.as_slice(),
+            },
+        )?;
     }
     Ok(())
 }

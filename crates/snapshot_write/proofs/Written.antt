@@ -5,7 +5,7 @@ use Rattle.entity_recs.specs.declared.rec.Rec.{Rec}
 use Rattle.world_tree.specs.Live.{record_at, live_in, IsEntry, AreEntries}
 use Rattle.world_tree.specs.Queries.{near_in}
 use Rattle.snapshot_write.specs.Snapshots.{view_of, snapshot, own_bytes, seen_by, seen_bytes}
-use Rattle.snapshot_write.proofs.Seen.{near_view, few_are_seen}
+use Rattle.snapshot_write.proofs.InView.{near_view, few_are_seen}
 
 -- what holds of a record holds of the one at its place
 if_at : (place : Option Rec) (me : Rec) (P : Rec → Type 0) → place ≡ Some me → P me → IfSome place P

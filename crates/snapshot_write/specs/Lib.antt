@@ -9,3 +9,9 @@ pub use Rattle.world_tree.specs.Live
 pub use Rattle.world_tree.specs.Worlds
 pub use Rattle.world_tree.specs.Queries
 pub mod Snapshots
+pub mod Fields
+pub mod Cause
+pub mod Reading
+pub mod Spelling
+pub mod Shown
+pub mod Laws

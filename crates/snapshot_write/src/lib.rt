@@ -1,10 +1,23 @@
-//! Snapshots: the bytes of what a player sees at the end of a frame.
+//! Snapshots: the bytes of what a player sees at the end of a frame, and what such bytes say.
 #![tactic(auto)]
 
+pub use laws::{
+    no_cause_where_spelled, one_spelling, read_where_spelled, snapshots_agree_on_places,
+    snapshots_show_who_is_in_sight, written_snapshots_are_read,
+};
+pub use reading::read_snapshot;
 pub use reply_buf::{REPLY_ROOM, ReplyBuf};
-pub use snapshot::write_snapshot;
+pub use seen::{MOST_SEEN, Seen, SeenList};
+pub use snap_fault::SnapFault;
+pub use snapshot::Snapshot;
+pub use writing::write_snapshot;
 
+mod laws;
+mod reading;
 mod reply_buf;
+mod seen;
+mod snap_fault;
 mod snapshot;
 #[cfg(test)]
 mod tests;
+mod writing;

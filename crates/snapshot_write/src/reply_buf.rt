@@ -49,7 +49,7 @@ impl ReplyBuf {
     }
 
     /// Puts `bytes` last, which fit. It takes no memory.
-    pub(crate) fn extend(&mut self, bytes: &[u8])
+    pub fn extend(&mut self, bytes: &[u8])
         requires { length self.old + length bytes.now ≤ REPLY_ROOM }
         ensures { self.new ≡ self.old ++ bytes.now }
     {

@@ -14,12 +14,16 @@ use world_tree::World;
 const ALONE: &[u8] =
     b"\x01\0\0\0\0\0\0\0\0\0\0\0\0\0\0\x18\0\0\0\0\0\0\0\0\0\0\0\0\0\0\0\0\0\0\0\0\0\0\0\0\0\0\0";
 
+/// The same bytes and one more.
+const ALONE_AND_A_BYTE: &[u8] =
+    b"\x01\0\0\0\0\0\0\0\0\0\0\0\0\0\0\x18\0\0\0\0\0\0\0\0\0\0\0\0\0\0\0\0\0\0\0\0\0\0\0\0\0\0\0\0";
+
 /// The same player in frame 1, after three moves along x.
 const MOVED: &[u8] =
     b"\x01\x01\0\0\0\0\x66\x26\0\0\0\0\0\0\0\x18\0\0\0\x40\x01\0\0\0\0\0\0\0\0\0\x01\0\0\0\0\0\0\x03\0\0\0\0\0";
 
 /// A player on a lift that has risen, beside an item that was taken and a gem at the edge of its view.
-const AMONG_THINGS: &[u8] =
+const AMONG_THINGS: &[u8; 91] =
     b"\x01\0\0\0\0\0\0\0\0\0\0\0\0\0\0\x2c\0\0\0\0\0\0\0\0\0\0\0\0\0\0\0\0\0\0\0\0\0\0\0\0\0\x03\0\
 \x40\0\x05\x01\0\xce\xff\xff\0\xce\xff\xff\0\x0a\0\0\
 \x41\0\x01\0\0\x20\0\0\0\0\0\0\0\x2c\0\0\
@@ -191,7 +195,7 @@ fn a_snapshot_has_the_player_and_what_it_sees(rt: HostRuntime) -> Result<(), Fai
     // One farther on x, and one farther on z.
     put(&mut world, gem(67, at(265_985, 0, 142_336)));
     put(&mut world, gem(68, at(265_984, 0, 142_337)));
-    expect(&rt, &world, 0, AMONG_THINGS)
+    expect(&rt, &world, 0, AMONG_THINGS.as_slice())
 }
 
 #[test]
@@ -212,4 +216,117 @@ fn the_longest_snapshot_fits(rt: HostRuntime) -> Result<(), Fail> {
     assert!(rt; reply.push(7));
     assert_eq!(rt; reply.as_slice(), [7].as_slice());
     Ok(())
+}
+
+/// Changes of bytes of [`AMONG_THINGS`], each at its place, and the first fault of what comes of them.
+const FAULTS: &[(&[(usize, u8)], SnapFault)] = &[
+    // An entity more than there is.
+    (&[(41, 4)], SnapFault::Short),
+    (&[(0, 2)], SnapFault::Version),
+    // Two ids that are one, two that fall, and the player's own.
+    (&[(59, 0x40)], SnapFault::Order),
+    (&[(59, 0x3f)], SnapFault::Order),
+    (&[(43, 0)], SnapFault::Order),
+    // Slot, flags, ammunition and gems.
+    (&[(5, 70)], SnapFault::Count),
+    (&[(30, 4)], SnapFault::Count),
+    (&[(31, 101)], SnapFault::Count),
+    (&[(32, 9)], SnapFault::Count),
+    // The last id, a kind, a status, and the status of a lift.
+    (&[(76, 1)], SnapFault::Count),
+    (&[(45, 6)], SnapFault::Count),
+    (&[(62, 2)], SnapFault::Count),
+    (&[(46, 0)], SnapFault::Count),
+    // An entity fewer than there are.
+    (&[(41, 2)], SnapFault::Long),
+    // The rules are asked in this order.
+    (&[(0, 2), (41, 4)], SnapFault::Short),
+    (&[(0, 2), (43, 0)], SnapFault::Version),
+    (&[(30, 4), (43, 0)], SnapFault::Order),
+    (&[(30, 4), (41, 2)], SnapFault::Count),
+];
+
+/// What the player of [`AMONG_THINGS`] sees.
+const THINGS: [Seen; 3] = [
+    Seen {
+        id: 64,
+        kind: Kind::Lift,
+        here: true,
+        origin: Vec3 {
+            x: -12_800,
+            y: -12_800,
+            z: 2_560,
+        },
+    },
+    Seen {
+        id: 65,
+        kind: Kind::Ammo,
+        here: false,
+        origin: Vec3 {
+            x: 8_192,
+            y: 0,
+            z: 11_264,
+        },
+    },
+    Seen {
+        id: 66,
+        kind: Kind::Gem,
+        here: true,
+        origin: Vec3 {
+            x: 265_984,
+            y: 0,
+            z: 142_336,
+        },
+    },
+];
+
+#[test]
+fn snapshots_are_read(rt: HostRuntime) {
+    for (bytes, own, seen) in [
+        (ALONE, player(0, at(0, 0, 6_144)), [].as_slice()),
+        (
+            AMONG_THINGS.as_slice(),
+            player(0, at(0, 0, 11_264)),
+            THINGS.as_slice(),
+        ),
+    ] {
+        let read = read_snapshot(bytes);
+        assert!(rt; read.is_ok());
+        if let Ok(snapshot) = read {
+            assert_eq!(rt; snapshot.frame, 0);
+            assert_eq!(rt; snapshot.own, own);
+            assert_eq!(rt; snapshot.seen.as_slice(), seen);
+        }
+    }
+}
+
+#[test]
+fn the_first_fault_is_given(rt: HostRuntime) {
+    assert_eq!(rt; read_snapshot(&ALONE[..42]).err(), Some(SnapFault::Short));
+    assert_eq!(rt;
+        read_snapshot(ALONE_AND_A_BYTE).err(),
+        Some(SnapFault::Long)
+    );
+    for (changes, fault) in FAULTS {
+        let mut bytes = *AMONG_THINGS;
+        for (i, byte) in *changes {
+            if let Some(place) = bytes.get_mut(*i) {
+                *place = *byte;
+            }
+        }
+        assert_eq!(rt;
+            read_snapshot(&bytes).err(),
+            Some(*fault),
+            "with {changes:?}"
+        );
+    }
+}
+
+#[test]
+fn a_list_of_entities_has_an_end(rt: HostRuntime) {
+    let mut seen = SeenList::new();
+    for entity in THINGS {
+        assert!(rt; seen.push(entity));
+    }
+    assert_eq!(rt; seen.as_slice(), THINGS.as_slice());
 }

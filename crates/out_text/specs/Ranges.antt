@@ -1,0 +1,49 @@
+-- Which lines are in range: their numbers fit their types, at most 8 ids were got, and a snapshot has 1 to 4,123 bytes.
+use Rattle.std.specs.Prelude.{◌≡◌, ℕ, ◌^◌, ◌<◌, ◌≤◌, List, length}
+use Rattle.std.specs.List.{AllByRecursion}
+use Rattle.arena_geo.specs.Vectors.{Fits}
+use Rattle.out_text.specs.Dids.{Did}
+use Rattle.out_text.specs.OutLines.{OutLine, FrameLine, NoLine, JoinedLine, DidLine, ToLine, EndLine, spelled}
+
+-- a port and a slot
+pub record IsJoinInRange (port slot : ℕ) : Type 0 where
+  pub port_fits : port < 2 ^ 16
+  pub slot_fits : slot < 2 ^ 8
+
+-- a report of a move
+pub record IsDidInRange (d : Did) : Type 0 where
+  pub slot : d.slot < 2 ^ 8
+  pub seq : d.seq < 2 ^ 32
+  pub origin : Fits d.origin
+  pub few : length d.got ≤ 8
+  pub got : AllByRecursion (λ id. id < 2 ^ 16) d.got
+
+-- a snapshot for a slot
+pub record IsSnapshotInRange (slot : ℕ) (bytes : List ℕ) : Type 0 where
+  pub slot_fits : slot < 2 ^ 8
+  pub some : 1 ≤ length bytes
+  pub most : length bytes ≤ 4123
+  pub are_bytes : AllByRecursion (λ b. b < 2 ^ 8) bytes
+
+-- the line is in range
+abbrev pub IsInRange : OutLine → Type 0
+IsInRange (FrameLine frame) = frame < 2 ^ 32
+IsInRange (NoLine place why) = place < 2 ^ 32
+IsInRange (JoinedLine port slot) = IsJoinInRange port slot
+IsInRange (DidLine d) = IsDidInRange d
+IsInRange (ToLine slot bytes) = IsSnapshotInRange slot bytes
+IsInRange (EndLine frames) = frames < 2 ^ 32
+
+-- the text is what is printed of the line, which is in range
+pub record IsPrinted (text : List ℕ) (l : OutLine) : Type 0 where
+  pub in_range : IsInRange l
+  pub spelled : text ≡ spelled l
+
+-- a snapshot has at least one byte and fits a reply
+abbrev pub HasRoom : OutLine → Type 0
+HasRoom (FrameLine frame) = Unit {0}
+HasRoom (NoLine place why) = Unit {0}
+HasRoom (JoinedLine port slot) = Unit {0}
+HasRoom (DidLine d) = Unit {0}
+HasRoom (ToLine slot bytes) = (1 ≤ length bytes) × (length bytes ≤ 4123)
+HasRoom (EndLine frames) = Unit {0}

@@ -1,0 +1,168 @@
+ghost use Rattle.std.specs.Prelude.{◌≡◌, ◌+◌, ◌*◌, ◌≤◌, [], ◌++◌, codes, decimal, length};
+ghost use Rattle.std.specs.Fmt.{signed_decimal};
+ghost use Rattle.hex.specs.Hex.{encode_lower};
+ghost use Rattle.out_text.specs.OutLines as lines;
+ghost use Rattle.out_text.specs.OutLines.{FrameLine, NoLine, JoinedLine, DidLine, ToLine, EndLine};
+ghost use Rattle.out_text.specs.Ranges.{HasRoom};
+ghost use Rattle.out_text.specs.Printing.{line_of};
+
+use crate::names::refusal_name;
+use crate::out_line::OutLine;
+use arena_geo::Vec3;
+use client_ports::Refusal;
+use edge_io::{LineBuf, ROOM};
+use itoa::Buffer;
+use snapshot_write::REPLY_ROOM;
+
+/// How many digits the longest snapshot takes.
+pub const MOST_DIGITS: usize = 2 * REPLY_ROOM;
+
+/// Puts a number last.
+fn push_number(out: &mut LineBuf, n: u32)
+    requires { length out.old + 10 ≤ ROOM }
+    ensures text { out.new ≡ out.old ++ decimal n }
+    ensures short { length out.new ≤ length out.old + 10 }
+{
+    let mut buffer = Buffer::new();
+    out.extend(buffer.format(n).as_bytes());
+}
+
+/// Puts a space and a number last.
+fn push_field(out: &mut LineBuf, n: u32)
+    requires { length out.old + 11 ≤ ROOM }
+    ensures text { out.new ≡ out.old ++ codes " " ++ decimal n }
+    ensures short { length out.new ≤ length out.old + 11 }
+{
+    out.extend(b" ");
+    push_number(out, n);
+}
+
+/// Puts a space and a coordinate last.
+fn push_coordinate(out: &mut LineBuf, z: i32)
+    requires { length out.old + 12 ≤ ROOM }
+    ensures text { out.new ≡ out.old ++ codes " " ++ signed_decimal z }
+    ensures short { length out.new ≤ length out.old + 12 }
+{
+    let mut buffer = Buffer::new();
+    out.extend(b" ");
+    out.extend(buffer.format(z).as_bytes());
+}
+
+/// Puts ids last, in their order and with a comma between any two, or a dash where there are none.
+fn push_ids(out: &mut LineBuf, ids: &[u16])
+    requires few { length ids.now ≤ 8 }
+    requires room { length out.old + 100 ≤ ROOM }
+    ensures { out.new ≡ out.old ++ lines.ids_text ids.now }
+{
+    let Some((first, rest)) = ids.split_first() else {
+        out.extend(b"-");
+        return;
+    };
+    push_number(out, u32::from(*first));
+    for id in rest {
+        out.extend(b",");
+        push_number(out, u32::from(*id));
+    }
+}
+
+/// Puts the digits of a snapshot last.
+fn push_digits(out: &mut LineBuf, bytes: &[u8])
+    requires some { length bytes.now ≤ 4123 }
+    requires room { length out.old + 8246 ≤ ROOM }
+    ensures { out.new ≡ out.old ++ encode_lower bytes.now }
+{
+    let mut room = [0u8; MOST_DIGITS];
+    let digits = &mut room[..2 * bytes.len()];
+    // There are two digits for each byte, so this cannot fail.
+    let _ = hex::encode_to_slice(bytes, digits);
+    out.extend(digits);
+}
+
+/// Prints the line that opens a frame.
+fn print_frame(frame: u32, out: &mut LineBuf)
+    requires { out.old ≡ [] }
+    ensures { out.new ≡ lines.spelled (FrameLine frame) }
+{
+    out.extend(b"frame ");
+    push_number(out, frame);
+}
+
+/// Prints the line of a refused packet.
+fn print_no(place: u32, why: Refusal, out: &mut LineBuf)
+    requires { out.old ≡ [] }
+    ensures { out.new ≡ lines.spelled (NoLine place why) }
+{
+    out.extend(b"no ");
+    push_number(out, place);
+    out.extend(b" ");
+    out.extend(refusal_name(why).as_bytes());
+}
+
+/// Prints the line of a player that joined.
+fn print_joined(port: u16, slot: u8, out: &mut LineBuf)
+    requires { out.old ≡ [] }
+    ensures { out.new ≡ lines.spelled (JoinedLine port slot) }
+{
+    out.extend(b"joined ");
+    push_number(out, u32::from(port));
+    push_field(out, u32::from(slot));
+}
+
+/// Prints the line of a move that was done.
+fn print_did(slot: u8, seq: u32, origin: Vec3, got: &[u16], out: &mut LineBuf)
+    requires empty { out.old ≡ [] }
+    requires few { length got.now ≤ 8 }
+    ensures { out.new ≡ lines.spelled (DidLine (record { slot = slot; seq = seq; origin = origin; got = got.now })) }
+{
+    out.extend(b"did ");
+    push_number(out, u32::from(slot));
+    push_field(out, seq);
+    push_coordinate(out, origin.x);
+    push_coordinate(out, origin.y);
+    push_coordinate(out, origin.z);
+    out.extend(b" ");
+    push_ids(out, got);
+}
+
+/// Prints the line of a snapshot.
+fn print_to(slot: u8, bytes: &[u8], out: &mut LineBuf)
+    requires empty { out.old ≡ [] }
+    requires short { length bytes.now ≤ 4123 }
+    ensures { out.new ≡ lines.spelled (ToLine slot bytes.now) }
+{
+    out.extend(b"to ");
+    push_number(out, u32::from(slot));
+    out.extend(b" ");
+    push_digits(out, bytes);
+}
+
+/// Prints the output's last line.
+fn print_end(frames: u32, out: &mut LineBuf)
+    requires { out.old ≡ [] }
+    ensures { out.new ≡ lines.spelled (EndLine frames) }
+{
+    out.extend(b"end ");
+    push_number(out, frames);
+}
+
+/// Prints a line, without its line feed, into `out`, which is empty. The snapshot of a `to` line has at least one byte,
+/// and fits a reply. It takes no memory.
+pub fn print_line(l: &OutLine, out: &mut LineBuf)
+    requires empty { out.old ≡ [] }
+    requires room { HasRoom (line_of l.now) }
+    ensures { out.new ≡ lines.spelled (line_of l.now) }
+{
+    match l {
+        OutLine::Frame(frame) => print_frame(*frame, out),
+        OutLine::No { place, why } => print_no(*place, *why, out),
+        OutLine::Joined { port, slot } => print_joined(*port, *slot, out),
+        OutLine::Did {
+            slot,
+            seq,
+            origin,
+            got,
+        } => print_did(*slot, *seq, *origin, got.as_slice(), out),
+        OutLine::To { slot, bytes } => print_to(*slot, bytes, out),
+        OutLine::End(frames) => print_end(*frames, out),
+    }
+}

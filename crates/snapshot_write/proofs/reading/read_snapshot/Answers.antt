@@ -1,0 +1,17 @@
+use Rattle.std.proofs.Common.{◌∙◌, sym, arith}
+use Rattle.snapshot_write.proofs.Rules.{bytes_are, found_spells, spelled_read, read_cause, cause_read}
+use Rattle.snapshot_write.proofs.reading.read_snapshot.Goals as goal
+
+pub returns-clause-found : goal.returns-clause-found
+returns-clause-found c =
+    let all = bytes_are c.args.bytes.now (λ i. omega (arith, c.type_inv.bytes i)) in
+    found_spells c.args.bytes.now c.read_or_fault.result all c.read_or_fault.ensures
+
+pub returns-clause-only : goal.returns-clause-only
+returns-clause-only c = λ s spells. c.read_or_fault.ensures ∙ spelled_read c.args.bytes.now s spells
+
+pub returns-clause-cause : goal.returns-clause-cause
+returns-clause-cause c = λ fault. (
+  λ e. read_cause c.args.bytes.now fault (sym c.read_or_fault.ensures ∙ e),
+  λ e. c.read_or_fault.ensures ∙ cause_read c.args.bytes.now fault e,
+)

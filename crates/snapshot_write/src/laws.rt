@@ -1,0 +1,31 @@
+ghost use Rattle.snapshot_write.specs.Laws as laws;
+
+/// Bytes break no rule of the format exactly where they spell some snapshot.
+pub fn no_cause_where_spelled()
+    ensures { laws.NoCauseWhereSpelled }
+{}
+
+/// A snapshot has one spelling, and no two snapshots have the same.
+pub fn one_spelling()
+    ensures { laws.OneSpelling }
+{}
+
+/// Bytes are read as a snapshot exactly where they spell it, and else as the first fault.
+pub fn read_where_spelled()
+    ensures { laws.ReadWhereSpelled }
+{}
+
+/// The snapshot of a player of a world is read as the frame, its own record and what it sees.
+pub fn written_snapshots_are_read()
+    ensures { laws.WrittenSnapshotsAreRead }
+{}
+
+/// The snapshot of a player shows exactly who is in its sight, and nothing else.
+pub fn snapshots_show_who_is_in_sight()
+    ensures { laws.ShowWhoIsInSight }
+{}
+
+/// Two players of a world see a third in one place, and each other where they see themselves.
+pub fn snapshots_agree_on_places()
+    ensures { laws.AgreeOnPlaces }
+{}

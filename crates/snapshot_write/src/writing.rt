@@ -1,0 +1,135 @@
+ghost use Rattle.std.specs.Prelude.{◌≡◌, ◌+◌, ◌*◌, ◌≤◌, ◌<◌, ◌++◌, [], length, IsSome, IfSome};
+ghost use Rattle.arena_geo.specs.Vectors.{IsNear};
+ghost use Rattle.world_tree.specs.Live.{live_in};
+ghost use Rattle.world_tree.specs.Worlds.{record_of};
+ghost use Rattle.snapshot_write.specs.Snapshots as spec;
+ghost use Rattle.snapshot_write.specs.Shown.{shown};
+ghost use Rattle.snapshot_write.specs.Reading.{reading};
+
+use crate::reply_buf::ReplyBuf;
+use arena_geo::{Aabb, Region, Vec3};
+use entity_recs::{Kind, Rec};
+use world_tree::{NearList, World};
+
+/// The version of the snapshots.
+const VERSION: u8 = 1;
+
+/// How far a player sees on each axis, in sub-units.
+const SIGHT: Vec3 = Vec3 {
+    x: 262_144,
+    y: 262_144,
+    z: 131_072,
+};
+
+/// The box that a player at this origin sees.
+fn view(origin: Vec3) -> Aabb
+    requires { IsNear 1048576 origin }
+    ensures { result ≡ spec.view_of origin }
+{
+    Aabb::new(origin - SIGHT, origin + SIGHT).unwrap()
+}
+
+/// 0 for an item that was taken, and else 1.
+fn status(kind: Kind, state: u64) -> u8
+    ensures { result ≡ spec.status_at kind state }
+{
+    match kind {
+        Kind::Ammo | Kind::Gem => u8::from(state == 0),
+        Kind::Player | Kind::Teleporter | Kind::Goal | Kind::Lift => 1,
+    }
+}
+
+fn push_signed(out: &mut ReplyBuf, z: i32)
+    requires { length out.old + 4 ≤ 4123 }
+    ensures { out.new ≡ out.old ++ spec.signed_bytes z }
+{
+    out.extend(&z.to_le_bytes());
+}
+
+fn push_vector(out: &mut ReplyBuf, v: Vec3)
+    requires { length out.old + 12 ≤ 4123 }
+    ensures bytes { out.new ≡ out.old ++ spec.vector_bytes v }
+    ensures len { length out.new ≡ length out.old + 12 }
+{
+    push_signed(out, v.x);
+    push_signed(out, v.y);
+    push_signed(out, v.z);
+}
+
+/// The bytes of a thing that is seen.
+fn push_entity(out: &mut ReplyBuf, r: &Rec)
+    requires { length out.old + 16 ≤ 4123 }
+    ensures bytes { out.new ≡ out.old ++ spec.entity_bytes r.now }
+    ensures len { length out.new ≡ length out.old + 16 }
+{
+    out.extend(&r.id.to_le_bytes());
+    out.extend(&[r.kind.number(), status(r.kind, r.state)]);
+    push_vector(out, r.origin);
+}
+
+/// The version, the frame and the slot.
+fn push_head(out: &mut ReplyBuf, frame: u32, slot: u8)
+    requires { length out.old + 6 ≤ 4123 }
+    ensures bytes { out.new ≡ out.old ++ spec.head_bytes frame slot }
+    ensures len { length out.new ≡ length out.old + 6 }
+{
+    out.extend(&[VERSION]);
+    out.extend(&frame.to_le_bytes());
+    out.extend(&[slot]);
+}
+
+/// What the player has, and the number of its last command.
+fn push_counts(out: &mut ReplyBuf, me: &Rec)
+    requires { length out.old + 11 ≤ 4123 }
+    ensures bytes { out.new ≡ out.old ++ spec.count_bytes me.now }
+    ensures len { length out.new ≡ length out.old + 11 }
+{
+    out.extend(&[me.flags, me.ammo, me.carry]);
+    out.extend(&me.score.to_le_bytes());
+    out.extend(&me.seq.to_le_bytes());
+}
+
+/// The bytes of the player itself, which is in this slot.
+fn push_own(out: &mut ReplyBuf, frame: u32, slot: u8, me: &Rec)
+    requires room { length out.old + 41 ≤ 4123 }
+    requires slot { me.now.id ≡ slot }
+    ensures bytes { out.new ≡ out.old ++ spec.own_bytes frame me.now }
+    ensures len { length out.new ≡ length out.old + 41 }
+{
+    push_head(out, frame, slot);
+    push_vector(out, me.origin);
+    push_vector(out, me.vel);
+    push_counts(out, me);
+}
+
+/// The number of the things that are seen, and the bytes of each.
+fn push_seen(out: &mut ReplyBuf, seen: &[Rec])
+    requires room { length out.old + 2 + 16 * length seen.now ≤ 4123 }
+    requires few { length seen.now < 65536 }
+    ensures { out.new ≡ out.old ++ spec.seen_bytes seen.now }
+{
+    let count = seen.len() as u16;
+    out.extend(&count.to_le_bytes());
+    for r in seen {
+        push_entity(out, r);
+    }
+}
+
+/// Writes the snapshot of the player in this slot, which is live, into the empty list `out`: the bytes of the player,
+/// and of each other live thing whose absolute box touches its view, in rising id.
+pub fn write_snapshot(world: &World, frame: u32, slot: u8, out: &mut ReplyBuf)
+    requires live { IsSome (record_of world.now slot) }
+    requires empty { out.old ≡ [] }
+    ensures bytes { IfSome (record_of world.now slot)
+        (λ me. out.new ≡ spec.snapshot frame me (live_in world.now.records)) }
+    // What is written for a player is read as the frame, its own record and what it sees.
+    ensures read_again { slot < 64 → IfSome (record_of world.now slot)
+        (λ me. reading out.new ≡ Ok (shown frame me (live_in world.now.records))) }
+{
+    let id = u16::from(slot);
+    let me = world.get(id).unwrap();
+    let mut seen = NearList::new();
+    world.near(&Region::one(view(me.origin)), id, &mut seen);
+    push_own(out, frame, slot, &me);
+    push_seen(out, seen.as_slice());
+}
