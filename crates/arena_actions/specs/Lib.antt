@@ -10,4 +10,8 @@ pub use Rattle.arena_map.specs.Maps
 pub use Rattle.trigger_rules.specs.Touching
 pub mod Outcomes
 pub mod Props
+pub mod Regions
+pub mod Takes
+pub mod Worlds
+pub mod Lawful
 pub mod Laws

@@ -1,3 +1,4 @@
+ghost use Rattle.arena_actions.specs.Worlds.{ValidRecordsAreTaken, TakenRecordsAreValid};
 ghost use Rattle.arena_actions.specs.Laws.{PlayersStayOnMaps, MovesKeepWhoMoves, PlayersStayFree};
 ghost use Rattle.arena_actions.specs.Laws.{MovesTakeWhatIsThere, NewStatesAreApart, RepliedIdsRise, RepliesHaveTheOrigin};
 
@@ -35,4 +36,14 @@ pub fn replied_ids_rise()
 /// The reply has the player's origin after the move.
 pub fn replies_have_the_origin()
     ensures { RepliesHaveTheOrigin }
+{}
+
+/// Each record of a world that is valid for a map is one that the map's action takes.
+pub fn valid_records_are_taken()
+    ensures { ValidRecordsAreTaken }
+{}
+
+/// Each record that the action of a map takes, in a state of its kind, is valid for the map, and as the line of its thing says.
+pub fn taken_records_are_valid()
+    ensures { TakenRecordsAreValid }
 {}

@@ -4,12 +4,17 @@
 pub use arena_action::ArenaAction;
 pub use laws::{
     moves_keep_who_moves, moves_take_what_is_there, new_states_are_apart, players_stay_free,
-    players_stay_on_maps, replied_ids_rise, replies_have_the_origin,
+    players_stay_on_maps, replied_ids_rise, replies_have_the_origin, taken_records_are_valid,
+    valid_records_are_taken,
 };
 
 mod arena_action;
 mod boxes;
+mod lawful;
 mod laws;
 mod looking;
 mod moving;
 mod reaching;
+mod region;
+#[cfg(test)]
+mod tests;

@@ -44,7 +44,7 @@ line-stands arena (lines.Teleport lo hi to) dest inside e = subst (IsSpawn arena
 line-stands arena (lines.Goal lo hi) dest inside e = absurd (none-some dest e)
 line-stands arena (lines.Lift lo hi rise speed) dest inside e = absurd (none-some dest e)
 
-dest-stands : (map : MapView) (id : ℕ) (dest : Vec3) → IsMap map → dest_of map id ≡ Some dest → IsSpawn map.bounds dest
+pub dest-stands : (map : MapView) (id : ℕ) (dest : Vec3) → IsMap map → dest_of map id ≡ Some dest → IsSpawn map.bounds dest
 dest-stands map id dest rules e = by (nat_le 64 id) e
   where
     found : (line : Option MapLine) → slice_get map.things (id - 64) ≡ line → option_and_then dest_in line ≡ Some dest → IsSpawn map.bounds dest

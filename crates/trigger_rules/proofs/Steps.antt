@@ -26,6 +26,7 @@ pub record IsTake (map : MapView) (frame : ℕ) (w : Walk) (item : Rec) (next : 
 
 -- the player leaps
 pub record IsLeap (map : MapView) (solids : List Bounds) (w : Walk) (r : Rec) (next : Walk) : Type 0 where
+  pub kind : r.kind ≡ Teleporter
   pub dest : Vec3
   pub from : dest_of map r.id ≡ Some dest
   pub free : is_blocked (player_body dest) solids ≡ false
@@ -50,13 +51,13 @@ item-step map solids frame w r (Some delay) kind is = by (nat_lt (length w.got) 
     by true few = taking few (may_take w.me r) refl
     by false few = inl refl
 
-teleporter-step : (map : MapView) (solids : List Bounds) (frame : ℕ) (w : Walk) (r : Rec) (dest : Option Vec3) → dest_of map r.id ≡ dest → Step map solids frame w r (after_teleporter dest solids w)
-teleporter-step map solids frame w r None is = inl refl
-teleporter-step map solids frame w r (Some dest) is = by (is_blocked (player_body dest) solids) refl
+teleporter-step : (map : MapView) (solids : List Bounds) (frame : ℕ) (w : Walk) (r : Rec) (dest : Option Vec3) → r.kind ≡ Teleporter → dest_of map r.id ≡ dest → Step map solids frame w r (after_teleporter dest solids w)
+teleporter-step map solids frame w r None kind is = inl refl
+teleporter-step map solids frame w r (Some dest) kind is = by (is_blocked (player_body dest) solids) refl
   where
     by : (blocked : Bool) → is_blocked (player_body dest) solids ≡ blocked → Step map solids frame w r (if blocked then w else walk_of (leapt w.me dest) w.states w.got true)
     by true e = inl refl
-    by false e = inr (inr (inr (record { dest = dest; from = is; free = e; is = refl })))
+    by false e = inr (inr (inr (record { kind = kind; dest = dest; from = is; free = e; is = refl })))
 
 pub step : (map : MapView) (solids : List Bounds) (frame : ℕ) (w : Walk) (r : Rec) → Step map solids frame w r (after_trigger map solids frame w r)
 step map solids frame w r = by w.ended
@@ -65,7 +66,7 @@ step map solids frame w r = by w.ended
     kinds Player e = inl refl
     kinds Ammo e = item-step map solids frame w r (delay_of map r.id) (ap is_item e) refl
     kinds Gem e = item-step map solids frame w r (delay_of map r.id) (ap is_item e) refl
-    kinds Teleporter e = teleporter-step map solids frame w r (dest_of map r.id) refl
+    kinds Teleporter e = teleporter-step map solids frame w r (dest_of map r.id) e refl
     kinds Goal e = inr (inr (inl refl))
     kinds Lift e = inl refl
 

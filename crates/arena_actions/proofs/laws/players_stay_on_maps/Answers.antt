@@ -1,4 +1,4 @@
-use Rattle.arena_actions.proofs.Moves.{stay_on_maps}
+use Rattle.arena_actions.specs.Lawful.Moves.{stay_on_maps}
 use Rattle.arena_actions.proofs.laws.players_stay_on_maps.Goals as goal
 
 pub returns : goal.returns

@@ -22,6 +22,7 @@ use Rattle.arena_map.specs.Maps.{MapView, IsMap}
 use Rattle.trigger_rules.specs.Touching.{bodies_of_solids, solids_among}
 use Rattle.trigger_rules.specs.Laws.{IsPlayerOn}
 use Rattle.arena_actions.specs.Outcomes.{asked, flags_of, after_move, moved_among}
+use Rattle.arena_actions.specs.Regions.{elsewhere}
 
 -- a player's shape
 pub player_shape : (r : Rec) → IsRecord r → r.kind ≡ Player → IsShapeOf Player r.origin r.mins r.maxs
@@ -82,4 +83,19 @@ moved_stays_on map me near c is_map is =
       };
       score = is.score;
       inside = inside;
+    }
+
+-- a player elsewhere is within its bounds
+pub elsewhere_is_record : (me : Rec) (origin : Vec3) → IsRecord me → me.kind ≡ Player → IsNear 1048576 origin → IsRecord (elsewhere me origin)
+elsewhere_is_record me origin is kind near =
+    let shape = player_shape me is kind in
+    let there : IsShapeOf Player origin me.mins me.maxs = record { low_is = shape.low_is; high_is = shape.high_is } in
+    record {
+      id = is.id;
+      origin = near;
+      shape = subst (λ (k : Kind). IsShapeOf k origin me.mins me.maxs) (sym kind) there;
+      vel = is.vel;
+      flags = is.flags;
+      ammo = is.ammo;
+      carry = is.carry;
     }

@@ -17,7 +17,7 @@ use Rattle.trigger_rules.proofs.Taken.{stay_themselves, leaps_free, only_leaps, 
 use Rattle.trigger_rules.proofs.Bounds.{stay_on, states_apart}
 use Rattle.arena_actions.specs.Outcomes.{asked, after_move, moved_among, effect_of, outcome_in}
 use Rattle.arena_actions.specs.Laws.{PlayersStayOnMaps, IsPlayerAfter, MovesKeepWhoMoves, PlayersStayFree, MovesTakeWhatIsThere, NewStatesAreApart, RepliedIdsRise, RepliesHaveTheOrigin}
-use Rattle.arena_actions.proofs.Players.{player_shape, moved_stays_on}
+use Rattle.arena_actions.specs.Lawful.Players.{player_shape, moved_stays_on}
 
 pub stay_on_maps : PlayersStayOnMaps
 unfolding outcome_in

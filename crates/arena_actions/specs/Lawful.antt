@@ -1,0 +1,32 @@
+-- That the action of an arena is lawful: lemmas, since a trait's laws cite no proofs.
+pub mod Growing
+pub mod Inside
+pub mod Players
+pub mod Moves
+pub mod Landings
+pub mod Taking
+pub mod Worlds
+pub mod Valid
+pub mod Reached
+pub mod Local
+pub mod Footprint
+use Rattle.arena_map.specs.Maps.{MapView, IsMap}
+use Rattle.entity_recs.specs.Actions.{HasValidity, HasLocality, HasFootprint}
+use Rattle.arena_actions.specs.Outcomes.{outcome_in}
+use Rattle.arena_actions.specs.Regions.{region_in}
+use Rattle.arena_actions.specs.Takes.{takes}
+use Rattle.arena_actions.specs.Lawful.Valid.{is_valid}
+use Rattle.arena_actions.specs.Lawful.Local.{is_local}
+use Rattle.arena_actions.specs.Lawful.Footprint.{has_footprint}
+
+-- a move leaves its player a record that is taken
+pub outcome_is_valid : (map : MapView) → IsMap map → HasValidity (takes map) (outcome_in map)
+outcome_is_valid map is = is_valid map is
+
+-- a move sees only what touches its region
+pub outcome_is_local : (map : MapView) → IsMap map → HasLocality (takes map) (region_in map) (outcome_in map)
+outcome_is_local map is = is_local map is
+
+-- a move changes only what lies in its region
+pub outcome_stays_within : (map : MapView) → IsMap map → HasFootprint (takes map) (region_in map) (outcome_in map)
+outcome_stays_within map is = has_footprint map is

@@ -1,0 +1,143 @@
+-- The boxes of a region at the destinations of teleporters: they are few, and each is there.
+use Rattle.std.proofs.Common.{◌≡◌, ◌⊎◌, ℕ, zero, suc, ◌+◌, ◌-◌, ◌<◌, ◌≤◌, ◌==◌, nat_le, Bool, true, false, ◌||◌, cond, if◌then◌else◌, List, [], ◌∷◌, ◌++◌, length, take, drop, get_or, Option, Some, None, IsSome, option_and_then, slice_get, refl, sym, ap, ◌∙◌, subst, inl, inr, arith}
+use Rattle.std.specs.Prelude.{filter_map, count_by}
+use Rattle.std.specs.List.{find, list_any, cons_option, AllByRecursion}
+use Rattle.std.specs.Option.{option_map}
+use Rattle.std.proofs.Math.Seq.{take-suc}
+use Rattle.std.proofs.lemmas.Bool.Decides.{nat_tests}
+use Rattle.std.proofs.lemmas.Option.{none-some, same_Some}
+use Rattle.std.proofs.lemmas.List.{length-append, take-append-drop, take_all}
+use Rattle.std.proofs.lemmas.List.Elements.{filter_map-append}
+use Rattle.arena_geo.specs.declared.vec3.Vec3.{Vec3}
+use Rattle.arena_geo.specs.Bounds.{Bounds}
+use Rattle.arena_geo.specs.Boxes.{touches}
+use Rattle.entity_recs.specs.declared.rec.Rec.{Rec}
+use Rattle.entity_recs.specs.Bodies.{abs_of}
+use Rattle.arena_map.specs.declared.map_line.MapLine.{MapLine}
+use Rattle.arena_map.specs.declared.map_line.MapLine.TheVariants.{Arena, Block, Spawn, Item, Teleport, Goal, Lift}
+use Rattle.arena_map.specs.MapLines.{is_thing_line, is_teleport_line}
+use Rattle.arena_map.specs.Things.{record_of, records_from, dest_in}
+use Rattle.arena_map.specs.Maps.{MapView, IsMap, IsThingInside, entities_of, thing_of, dest_of}
+use Rattle.arena_map.proofs.Counting.{count-cons}
+use Rattle.arena_map.proofs.Kept.{each-of}
+use Rattle.arena_map.proofs.ThingRecords.{own-id}
+use Rattle.arena_actions.specs.Regions.{landing_at, landing_of}
+
+-- ---- one thing more
+
+or_true : (a b : Bool) → b ≡ true → (a || b) ≡ true
+or_true true b e = refl
+or_true false b e = e
+
+module _ {X Y : Type 0} (h : X → Option Y) where
+  -- what h gives of the items up to a place, and of one more
+  pub filter_map-more : (xs : List X) (i : ℕ) (x : X) → i < length xs → filter_map h (take (i + 1) xs) ≡ filter_map h (take i xs) ++ cons_option (h (get_or xs i x)) []
+  filter_map-more xs i x below =
+      let next : i + 1 ≡ suc i = omega arith in
+      ap (λ (k : ℕ). filter_map h (take k xs)) next ∙ ap (filter_map h) (take-suc xs i x below) ∙ filter_map-append h (take i xs) (get_or xs i x ∷ [])
+
+  -- of the items up to a place it gives no more than of all
+  pub no_more : (xs : List X) (i : ℕ) → length (filter_map h (take i xs)) ≤ length (filter_map h xs)
+  no_more xs i =
+      let all : filter_map h (take i xs) ++ filter_map h (drop i xs) ≡ filter_map h xs = sym (filter_map-append h (take i xs) (drop i xs)) ∙ ap (filter_map h) (take-append-drop i xs) in
+      let long = sym (length-append (filter_map h (take i xs)) (filter_map h (drop i xs))) ∙ ap (λ (l : List Y). length l) all in
+      omega (arith, long)
+
+  -- a test of what it gives of an item that was found
+  pub any_found : (p : Y → Bool) (test : X → Bool) (xs : List X) (x : X) (y : Y) → find test xs ≡ Some x → h x ≡ Some y → p y ≡ true → list_any p (filter_map h xs) ≡ true
+  any_found p test [] x y found gives passes = absurd (none-some x found)
+  any_found p test (z ∷ xs) x y found gives passes = by (test z) found (any_found p test xs x y)
+    where
+      first : (o : Option Y) → o ≡ Some y → list_any p (cons_option o (filter_map h xs)) ≡ true
+      first None e = absurd (none-some y e)
+      first (Some w) e = ap (λ (v : Y). p v || list_any p (filter_map h xs)) (same_Some w y e) ∙ ap (λ (b : Bool). b || list_any p (filter_map h xs)) passes
+
+      later : (o : Option Y) → list_any p (filter_map h xs) ≡ true → list_any p (cons_option o (filter_map h xs)) ≡ true
+      later None e = e
+      later (Some w) e = or_true (p w) (list_any p (filter_map h xs)) e
+
+      by : (b : Bool) → cond b (Some z) (find test xs) ≡ Some x → (find test xs ≡ Some x → h x ≡ Some y → p y ≡ true → list_any p (filter_map h xs) ≡ true)
+          → list_any p (cons_option (h z) (filter_map h xs)) ≡ true
+      by true e more = first (h z) (ap h (same_Some z x e) ∙ gives)
+      by false e more = later (h z) (more e gives passes)
+
+-- ---- how many there are
+
+-- with one item more or less
+cons-length : {Y : Type 0} (o : Option Y) (ys : List Y) → length (cons_option o ys) ≡ length (cons_option o []) + length ys
+cons-length None ys = omega arith
+cons-length (Some y) ys = omega arith
+
+at-most-one : {Y : Type 0} (o : Option Y) → length (cons_option o []) ≤ 1
+at-most-one None = omega arith
+at-most-one (Some y) = omega arith
+
+module _ (map : MapView) (me : Rec) (reach : Bounds) where
+  -- where there is no destination there is no box
+  none-without : (touching : Bool) (dest : Option Vec3) → dest ≡ None → length (cons_option (if touching then option_map (landing_at me) dest else None) []) ≤ 0
+  none-without true None e = omega arith
+  none-without true (Some dest) e = absurd (none-some dest (sym e))
+  none-without false dest e = omega arith
+
+  -- a line that is no teleporter's gives no box, and one that is gives at most one
+  few_at : (line : MapLine) (thing : Rec) → dest_of map thing.id ≡ dest_in line → length (cons_option (landing_of map me reach thing) []) ≤ cond (is_teleport_line line) 1 0
+  few_at (Arena lo hi) thing is = none-without (touches (abs_of thing) reach) (dest_of map thing.id) is
+  few_at (Block lo hi) thing is = none-without (touches (abs_of thing) reach) (dest_of map thing.id) is
+  few_at (Spawn at) thing is = none-without (touches (abs_of thing) reach) (dest_of map thing.id) is
+  few_at (Item at kind delay) thing is = none-without (touches (abs_of thing) reach) (dest_of map thing.id) is
+  few_at (Teleport lo hi dest) thing is = at-most-one (landing_of map me reach thing)
+  few_at (Goal lo hi) thing is = none-without (touches (abs_of thing) reach) (dest_of map thing.id) is
+  few_at (Lift lo hi rise speed) thing is = none-without (touches (abs_of thing) reach) (dest_of map thing.id) is
+
+  -- the destination of a thing is that of its line
+  dest_at : (first id : ℕ) (line : MapLine) → 64 ≤ first → id ≡ first → Some line ≡ slice_get map.things (first - 64) → dest_of map id ≡ dest_in line
+  dest_at first id line low id_is place =
+      let least : nat_le 64 first ≡ true = grind (arith, nat_tests) in
+      ap (dest_of map) id_is
+      ∙ ap (λ (b : Bool). option_and_then dest_in (if b then slice_get map.things (first - 64) else None)) least
+      ∙ ap (option_and_then dest_in) (sym place)
+
+  few_from : (first : ℕ) (lines : List MapLine) → 64 ≤ first → AllByRecursion (λ line. is_thing_line line ≡ true) lines → ((k : ℕ) → slice_get lines k ≡ slice_get map.things ((first + k) - 64))
+      → length (filter_map (landing_of map me reach) (records_from first lines)) ≤ count_by is_teleport_line lines
+  few_from first [] low each place = omega arith
+  few_from first (line ∷ lines) low each place =
+      let thing = record_of first line in
+      let at : (first + 0) - 64 ≡ first - 64 = omega arith in
+      let here = few_at line thing (dest_at first thing.id line low (own-id first line each.0) (place 0 ∙ ap (slice_get map.things) at)) in
+      let rest = few_from (first + 1) lines (omega (arith, low)) each.1 (λ k. let later : (first + suc k) - 64 ≡ ((first + 1) + k) - 64 = omega arith in place (suc k) ∙ ap (slice_get map.things) later) in
+      omega (arith, here, rest, cons-length (landing_of map me reach thing) (filter_map (landing_of map me reach) (records_from (first + 1) lines)), count-cons is_teleport_line line lines)
+
+  -- a region has at most 16 of them
+  pub few_landings : IsMap map → length (filter_map (landing_of map me reach) (entities_of map)) ≤ 16
+  few_landings is =
+      let each = each-of (IsThingInside map.bounds) (λ line. is_thing_line line ≡ true) map.things (λ line inside. inside.thing) is.things in
+      let few = few_from 64 map.things (omega arith) each (λ k. let same : k ≡ (64 + k) - 64 = omega arith in ap (slice_get map.things) same) in
+      omega (arith, few, is.few_teleporters)
+
+  -- so there is room for one more while things are gone through
+  pub room_for_one : (things : List Rec) (i : ℕ) (thing : Rec) (landing : Option Bounds) (first : Bounds) (region : List Bounds) → IsMap map → things ≡ entities_of map → i < length things
+      → landing ≡ landing_of map me reach (get_or things i thing) → region ≡ first ∷ filter_map (landing_of map me reach) (take i things) → IsSome landing → length region < 17
+  room_for_one things i thing landing first region is things_are below landing_is region_is some =
+      let h = landing_of map me reach in
+      let few : length (filter_map h things) ≤ 16 = subst (λ (l : List Rec). length (filter_map h l) ≤ 16) (sym things_are) (few_landings is) in
+      let more = ap (λ (l : List Bounds). length l) (filter_map-more h things i thing below) in
+      let sum = length-append (filter_map h (take i things)) (cons_option (h (get_or things i thing)) []) in
+      let long : length region ≡ suc (length (filter_map h (take i things))) = ap (λ (l : List Bounds). length l) region_is in
+      omega (arith, few, no_more h things (i + 1), more, sum, by landing some landing_is, long)
+    where
+      by : (o : Option Bounds) → IsSome o → o ≡ landing_of map me reach (get_or things i thing) → length (cons_option (landing_of map me reach (get_or things i thing)) []) ≡ 1
+      by None s e = cc
+      by (Some b) s e = ap (λ (o : Option Bounds). length (cons_option o [])) (sym e)
+
+-- what is put last for a thing is what h gives of it
+pub landing_put : {X Y : Type 0} (h : X → Option Y) (xs : List X) (i : ℕ) (d : X) (first : Y) (before after : List Y) (landing : Option Y) → i < length xs → landing ≡ h (get_or xs i d)
+    → before ≡ first ∷ filter_map h (take i xs) → after ≡ before ++ cons_option landing [] → after ≡ first ∷ filter_map h (take (i + 1) xs)
+landing_put {X} {Y} h xs i d first before after landing below landing_is before_is after_is =
+    after_is
+    ∙ ap (λ (l : List Y). l ++ cons_option landing []) before_is
+    ∙ ap (λ (o : Option Y). first ∷ (filter_map h (take i xs) ++ cons_option o [])) landing_is
+    ∙ ap (λ (l : List Y). first ∷ l) (sym (filter_map-more h xs i d below))
+
+-- all of them, in the region of a move
+pub all_landings : {X Y : Type 0} (h : X → Option Y) (xs : List X) (i : ℕ) (first : Y) (before : List Y) → length xs ≤ i → before ≡ first ∷ filter_map h (take i xs) → before ≡ first ∷ filter_map h xs
+all_landings {X} {Y} h xs i first before last before_is = before_is ∙ ap (λ (l : List X). first ∷ filter_map h l) (take_all i xs last)

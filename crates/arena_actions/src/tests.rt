@@ -1,0 +1,295 @@
+ghost use Rattle.std.specs.Prelude.{◌≡◌, ◌<◌, ◌≤◌, [], true};
+ghost use Rattle.arena_geo.specs.Vectors.{IsNear};
+ghost use Rattle.entity_recs.specs.declared.kind.Kind.TheVariants.{Player};
+ghost use Rattle.entity_recs.specs.Records.{IsRecord};
+ghost use Rattle.entity_recs.specs.Commands.{command_of};
+ghost use Rattle.entity_recs.specs.Actions.{IsCall, IsCommand};
+ghost use Rattle.arena_map.specs.MapLines.{IsWithinLimits, is_arena, is_added};
+
+use crate::ArenaAction;
+use areanode::{Tree, visited};
+use arena_geo::{Aabb, Region, Vec3};
+use arena_map::{ArenaMap, MapLine, MapRefusal};
+use entity_recs::{
+    Action, Cmd, Effect, ITEM_MAXS, ITEM_MINS, Kind, PLAYER_MAXS, PLAYER_MINS, Rec, body_box,
+};
+use std::alloc::Global;
+use std::test::Fail;
+
+fn at(x: i32, y: i32, z: i32) -> Vec3
+    ensures { result ≡ record { x = x; y = y; z = z } }
+{
+    Vec3 { x, y, z }
+}
+
+/// The arena from (-131072, -131072, 0) to (131072, 131072, 65536).
+fn arena() -> MapLine
+    ensures arena { is_arena result ≡ true }
+    ensures limits { IsWithinLimits result }
+{
+    MapLine::Arena {
+        lo: at(-131_072, -131_072, 0),
+        hi: at(131_072, 131_072, 65_536),
+    }
+}
+
+/// The action of the arena with one thing or block in it.
+fn action_with(alloc: Global, line: &MapLine) -> Result<ArenaAction, MapRefusal>
+    requires added { is_added line.now ≡ true }
+    requires limits { IsWithinLimits line.now }
+{
+    let mut map = ArenaMap::new(alloc, &arena())?;
+    map.add(line)?;
+    Ok(ArenaAction::new(map))
+}
+
+/// A player in this slot, at rest.
+fn player(id: u16, origin: Vec3) -> Rec
+    requires id { id < 64 }
+    requires near { IsNear 1048576 origin }
+    ensures id { result.id ≡ id }
+    ensures kind { result.kind ≡ Player }
+    ensures record { IsRecord result }
+    ensures score { result.score ≡ 0 }
+    ensures seq { result.seq ≡ 0 }
+{
+    Rec {
+        id,
+        kind: Kind::Player,
+        origin,
+        mins: PLAYER_MINS,
+        maxs: PLAYER_MAXS,
+        vel: Vec3::ZERO,
+        flags: 2,
+        ammo: 0,
+        carry: 0,
+        score: 0,
+        seq: 0,
+        state: 0,
+    }
+}
+
+/// A move of 50 milliseconds with this wish, the first of its player.
+fn wish(slot: u8, wish_x: i16, wish_y: i16) -> Cmd
+    requires { slot < 64 }
+    ensures slot { result.slot ≡ slot }
+    ensures command { IsCommand (command_of result) }
+{
+    Cmd {
+        slot,
+        seq: 1,
+        frame: 0,
+        ms: 50,
+        wish_x,
+        wish_y,
+        buttons: 0,
+    }
+}
+
+/// What a command does among two records in rising id, if the player's body is inside the arena.
+fn effect_among(
+    action: &ArenaAction,
+    me: &Rec,
+    first: Rec,
+    second: Rec,
+    cmd: &Cmd,
+) -> Option<Effect>
+    requires kind { me.now.kind ≡ Player }
+    requires record { IsRecord me.now }
+    requires score { me.now.score ≤ 4294967295 }
+    requires first { IsRecord first }
+    requires second { IsRecord second }
+    requires rising { first.id < second.id }
+{
+    if !action.map().bounds().contains(&body_box(me)) {
+        return None;
+    }
+    Some(action.act(me, &[first, second], cmd))
+}
+
+/// Ammunition with its box over the way of two players, which returns after 100 frames.
+fn ammo_line() -> MapLine
+    ensures added { is_added result ≡ true }
+    ensures limits { IsWithinLimits result }
+{
+    MapLine::Item {
+        at: at(20_000, -4_096, 0),
+        kind: Kind::Ammo,
+        delay: 100,
+    }
+}
+
+/// Its record.
+fn ammo(state: u64) -> Rec
+    ensures id { result.id ≡ 64 }
+    ensures record { IsRecord result }
+{
+    Rec {
+        id: 64,
+        kind: Kind::Ammo,
+        origin: at(20_000, -4_096, 0),
+        mins: ITEM_MINS,
+        maxs: ITEM_MAXS,
+        vel: Vec3::ZERO,
+        flags: 0,
+        ammo: 0,
+        carry: 0,
+        score: 0,
+        seq: 0,
+        state,
+    }
+}
+
+#[test]
+fn one_of_two_players_gets_the_item(rt: HostRuntime) -> Result<(), Fail> {
+    let action = action_with(rt.alloc(), &ammo_line()).map_err(|_| "a map")?;
+    let one = player(0, at(24_096, 14_000, 6_144));
+    let two = player(1, at(24_096, -14_000, 6_144));
+    let first = effect_among(&action, &one, two, ammo(0), &wish(0, 0, -320)).ok_or("inside")?;
+    assert_eq!(rt; first.reply.origin, at(24_096, 11_952, 6_144));
+    assert_eq!(rt; first.reply.got.as_slice(), [64].as_slice());
+    assert!(rt;
+        first
+            .states
+            .as_slice()
+            .iter()
+            .all(|s| s.id == 64 && s.state == 100)
+    );
+    assert_eq!(rt; (first.me.ammo, first.me.flags, first.me.seq), (20, 1, 1));
+    let second = effect_among(&action, &two, one, ammo(100), &wish(1, 0, 320)).ok_or("inside")?;
+    assert_eq!(rt; second.reply.origin, at(24_096, -11_952, 6_144));
+    assert!(rt; second.reply.got.as_slice().is_empty() && second.states.as_slice().is_empty());
+    Ok(())
+}
+
+/// A teleporter over the middle, to (-65536, 65536, 6144).
+fn teleporter_line() -> MapLine
+    ensures added { is_added result ≡ true }
+    ensures limits { IsWithinLimits result }
+{
+    MapLine::Teleport {
+        lo: at(-25_600, -25_600, 0),
+        hi: at(25_600, 25_600, 25_600),
+        dest: at(-65_536, 65_536, 6_144),
+    }
+}
+
+/// Its record.
+fn teleporter() -> Rec
+    ensures id { result.id ≡ 64 }
+    ensures record { IsRecord result }
+{
+    Rec {
+        id: 64,
+        kind: Kind::Teleporter,
+        origin: at(-25_600, -25_600, 0),
+        mins: Vec3::ZERO,
+        maxs: at(51_200, 51_200, 25_600),
+        vel: Vec3::ZERO,
+        flags: 0,
+        ammo: 0,
+        carry: 0,
+        score: 0,
+        seq: 0,
+        state: 0,
+    }
+}
+
+#[test]
+fn one_of_two_players_is_moved_by_the_teleporter(rt: HostRuntime) -> Result<(), Fail> {
+    let action = action_with(rt.alloc(), &teleporter_line()).map_err(|_| "a map")?;
+    let one = player(0, at(0, 0, 6_144));
+    let two = player(1, at(12_800, 0, 6_144));
+    let first = effect_among(&action, &one, two, teleporter(), &wish(0, 0, 0)).ok_or("inside")?;
+    assert_eq!(rt; first.reply.origin, at(-65_536, 65_536, 6_144));
+    assert_eq!(rt; (first.me.origin, first.me.flags), (first.reply.origin, 3));
+    let there = player(0, at(-65_536, 65_536, 6_144));
+    let second = effect_among(&action, &two, there, teleporter(), &wish(1, 0, 0)).ok_or("inside")?;
+    assert_eq!(rt; second.reply.origin, at(12_800, 0, 6_144));
+    Ok(())
+}
+
+/// The region and the effect of a command with nobody near, by any action.
+fn alone_by<A: Action>(action: &A, me: &Rec, cmd: &Cmd) -> (Region, Effect)
+    requires { IsCall (A.takes action.now) me.now [] (command_of cmd.now) }
+{
+    (action.region(me, cmd), action.act(me, &[], cmd))
+}
+
+/// The region and the effect of a command with nobody near, if the player's body is inside the arena.
+fn alone(action: &ArenaAction, me: &Rec, cmd: &Cmd) -> Option<(Region, Effect)>
+    requires kind { me.now.kind ≡ Player }
+    requires record { IsRecord me.now }
+    requires score { me.now.score ≤ 4294967295 }
+    requires seq { me.now.seq < 4294967296 }
+    requires own { me.now.id ≡ cmd.now.slot }
+    requires command { IsCommand (command_of cmd.now) }
+{
+    if !action.map().bounds().contains(&body_box(me)) {
+        return None;
+    }
+    Some(alone_by(action, me, cmd))
+}
+
+#[test]
+fn a_player_at_rest_reaches_four_leaves(rt: HostRuntime) -> Result<(), Fail> {
+    let action = action_with(rt.alloc(), &ammo_line()).map_err(|_| "a map")?;
+    let (region, _effect) = alone(&action, &player(3, at(0, 0, 6_144)), &wish(3, 0, 0)).ok_or(
+        "inside",
+    )?;
+    let reached = Aabb::new(at(-25_088, -25_088, -25_600), at(25_088, 25_088, 39_936)).ok_or(
+        "a box",
+    )?;
+    assert_eq!(rt; region.boxes(), [reached].as_slice());
+    let tree = Tree::new(action.map().bounds());
+    assert_eq!(rt; tree.leaves_of(&region), 4_680);
+    assert_eq!(rt; visited(4_680), 153_365_887);
+    Ok(())
+}
+
+#[test]
+fn a_reached_teleporter_adds_its_destination(rt: HostRuntime) -> Result<(), Fail> {
+    let action = action_with(rt.alloc(), &teleporter_line()).map_err(|_| "a map")?;
+    let (region, effect) = alone(&action, &player(3, at(0, 0, 6_144)), &wish(3, 0, 0)).ok_or(
+        "inside",
+    )?;
+    let landing = Aabb::new(at(-86_272, 44_800, -16_640), at(-44_800, 86_272, 30_976)).ok_or(
+        "a box",
+    )?;
+    assert_eq!(rt; region.boxes().len(), 2);
+    assert_eq!(rt; region.boxes().last(), Some(&landing));
+    assert_eq!(rt; effect.reply.origin, at(0, 0, 6_144));
+    Ok(())
+}
+
+/// A thin block above the head of a player on the floor, one of many.
+fn overhead(place: u8) -> MapLine
+    requires { place < 80 }
+    ensures added { is_added result ≡ true }
+    ensures limits { IsWithinLimits result }
+{
+    let z = 20_000 + 20 * i32::from(place);
+    MapLine::Block {
+        lo: at(-4_000, -4_000, z),
+        hi: at(4_000, 4_000, z + 10),
+    }
+}
+
+/// The action of the arena with 80 blocks where a player in the middle looks.
+fn crowded(alloc: Global) -> Result<ArenaAction, MapRefusal> {
+    let mut map = ArenaMap::new(alloc, &arena())?;
+    for place in 0..80 {
+        map.add(&overhead(place))?;
+    }
+    Ok(ArenaAction::new(map))
+}
+
+#[test]
+fn a_crowded_place_changes_no_free_move(rt: HostRuntime) -> Result<(), Fail> {
+    let action = crowded(rt.alloc()).map_err(|_| "a map")?;
+    let (_region, effect) = alone(&action, &player(3, at(0, 0, 6_144)), &wish(3, 320, 0)).ok_or(
+        "inside",
+    )?;
+    assert_eq!(rt; effect.reply.origin, at(2_048, 0, 6_144));
+    Ok(())
+}
