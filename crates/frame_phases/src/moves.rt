@@ -9,8 +9,7 @@ ghost use Rattle.plain_server.specs.RecordsById.{world_of};
 ghost use Rattle.plain_server.specs.Moving.{HasLivePlayer, HaveMoved, effect_among, records_after, with_new_states};
 
 use arena_actions::ArenaAction;
-use arena_geo::Region;
-use entity_recs::{Cmd, Effect, Entry, NewState, Rec, Reply};
+use entity_recs::{Action, Cmd, Effect, Entry, NewState, Rec, Reply};
 use move_journal::Journal;
 use world_tree::{NearList, World};
 
@@ -32,7 +31,8 @@ fn set_states(world: &mut World, states: &[NewState])
     }
 }
 
-/// Runs one move of a live player, and gives its reply. `near` is for the other live records.
+/// Runs one move of a live player, and gives its reply. The move looks only at the other live records that touch its
+/// region, which `near` is for.
 fn run_move(action: &ArenaAction, world: &mut World, cmd: &Cmd, near: &mut NearList) -> Reply
     requires valid { IsValidWorld action.now.map world.old.records }
     requires live { HasLivePlayer world.old.records (command_of cmd.now) }
@@ -43,7 +43,7 @@ fn run_move(action: &ArenaAction, world: &mut World, cmd: &Cmd, near: &mut NearL
     let slot = u16::from(cmd.slot);
     let me = world.get(slot).unwrap();
     near.clear();
-    world.near(&Region::one(*action.map().bounds()), slot, near);
+    world.near(&action.region(&me, cmd), slot, near);
     let Effect { me, states, reply } = action.act(&me, near.as_slice(), cmd);
     set_states(world, states.as_slice());
     world.relink(me);

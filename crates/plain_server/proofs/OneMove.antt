@@ -14,7 +14,7 @@ use Rattle.arena_map.specs.Validity.{IsValidRecord}
 use Rattle.trigger_rules.specs.Touching.{solids_among, touched}
 use Rattle.trigger_rules.specs.Laws.{IsPlayerOn}
 use Rattle.arena_actions.specs.Outcomes.{moved_among, outcome_in}
-use Rattle.arena_actions.proofs.Moves.{stay_on_maps, keep_who_moves, stay_free}
+use Rattle.arena_actions.specs.Lawful.Moves.{stay_on_maps, keep_who_moves, stay_free}
 use Rattle.plain_server.proofs.Scores.{without_score, touched-without_score}
 
 -- a move doesn't look at the score

@@ -11,7 +11,7 @@ use Rattle.item_rules.specs.Items.{is_item}
 use Rattle.arena_map.specs.Maps.{MapView, delay_of}
 use Rattle.trigger_rules.specs.Laws.{IsTaken}
 use Rattle.arena_actions.specs.Outcomes.{moved_among}
-use Rattle.arena_actions.proofs.Moves.{take_what_is_there}
+use Rattle.arena_actions.specs.Lawful.Moves.{take_what_is_there}
 use Rattle.world_tree.specs.Live.{record_at}
 use Rattle.plain_server.specs.RecordsById.{record_or_nobody, world_of}
 use Rattle.plain_server.specs.Moving.{effect_among}
