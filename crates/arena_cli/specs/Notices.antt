@@ -5,8 +5,8 @@ use Rattle.arena_engine.specs.declared.report.Report.{Report}
 -- the line for a report: which line was refused and why, or what failed
 abbrev pub notice_of : Report → List ℕ
 notice_of report =
-    if report.status == 1 then codes "recording refused: line " ++ decimal report.line ++ codes ", fault "
-    ++ decimal report.fault
+    if report.status == 1 then codes "recording refused: line " ++ decimal report.line
+        ++ codes ", fault " ++ decimal report.fault
     else if report.status == 2 then codes "words refused"
     else if report.status == 3 then codes "read fault"
     else if report.status == 4 then codes "write fault"

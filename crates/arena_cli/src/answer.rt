@@ -2,6 +2,7 @@ ghost use Rattle.std.specs.Prelude.{◌≡◌, ◌≤◌, ◌⊎◌, ℕ, true, 
 ghost use Rattle.edge_io.specs.Counts.{HasRisen};
 ghost use Rattle.out_text.specs.Output.{IsOutput, IsRefused, IsCut, IsSomeFrames};
 ghost use Rattle.arena_engine.specs.Output.{Writes, ReadsSome, ReadsToEnd, ReadsToRefusal};
+ghost use Rattle.arena_engine.specs.Reports.{refusal_of};
 ghost use Rattle.arena_cli.specs.Asked.{AsksToPlay, AskForNothing};
 
 use crate::arguments::{NoArguments, words_of};
@@ -38,7 +39,7 @@ fn serve_arguments<S: Source, K: Sink>(
         ReadsToEnd source.old source.new (S.last source.new) (S.ended source.new ≡ S.ended source.old) (S.ended source.new ≡ true)
         (S.left source.old) (S.left source.new)) }
     ensures recording_refused { IfOk result (λ report. (n : ℕ) → AsksToPlay (map string_bytes arguments.now) n → report.status ≡ 1 → IfSome (S.left source.old) (λ bytes.
-        Writes (K.taken sink.old) (K.taken sink.new) (IsRefused n bytes))) }
+        Writes (K.taken sink.old) (K.taken sink.new) (IsRefused n bytes (refusal_of report)))) }
     ensures untouched { IfOk result (λ report. report.status ≡ 2 → (source.new ≡ source.old) × (sink.new ≡ sink.old)) }
     ensures read_fault { IfOk result (λ report. (n : ℕ) → AsksToPlay (map string_bytes arguments.now) n → report.status ≡ 3 →
         ReadsSome n (S.left source.old) (S.left source.new) (K.taken sink.old) (K.taken sink.new)) }
@@ -68,7 +69,7 @@ pub fn answer<S: Source, K: Sink>(
         ReadsToEnd source.old source.new (S.last source.new) (S.ended source.new ≡ S.ended source.old) (S.ended source.new ≡ true)
         (S.left source.old) (S.left source.new) }
     ensures recording_refused { (n : ℕ) → IsOkAnd arguments (λ all. AsksToPlay (map string_bytes all.items) n) → result.status ≡ 1 → IfSome (S.left source.old) (λ bytes.
-        Writes (K.taken sink.old) (K.taken sink.new) (IsRefused n bytes)) }
+        Writes (K.taken sink.old) (K.taken sink.new) (IsRefused n bytes (refusal_of result))) }
     ensures untouched { result.status ≡ 2 → (source.new ≡ source.old) × (sink.new ≡ sink.old) }
     ensures read_fault { (n : ℕ) → IsOkAnd arguments (λ all. AsksToPlay (map string_bytes all.items) n) → result.status ≡ 3 →
         ReadsSome n (S.left source.old) (S.left source.new) (K.taken sink.old) (K.taken sink.new) }

@@ -40,17 +40,13 @@ all_of_none : (workers : ℕ) (bytes : List ℕ) → events bytes ≡ [] → IsA
 all_of_none workers bytes none =
     let P : ℕ → Type 0 = λ k. IsFront workers bytes k [] in subst P (ap length (sym (frames_of-none bytes none))) (no_front workers bytes)
 
-some_is_some : {X : Type 0} (o : Option X) (x : X) → o ≡ Some x → IsSome o
-some_is_some None x is = cc
-some_is_some (Some y) x is = refl
-
 -- the recording was refused before it gave an event
-pub refused_at_first : (workers : ℕ) (a : Option (List ℕ)) (t : Option (List ℕ)) (why : Refusal) → IfSome a (EndsAt start why) → IfSome a (λ bytes. Writes t t (IsRefused workers bytes))
+pub refused_at_first : (workers : ℕ) (a : Option (List ℕ)) (t : Option (List ℕ)) (why : Refusal) → IfSome a (EndsAt start why) → IfSome a (λ bytes. Writes t t (IsRefused workers bytes why))
 refused_at_first workers None t why ends = tt
 refused_at_first workers (Some bytes) t why ends = record {
   text = [];
   written = Appends-nil t;
-  holds = record { faulty = some_is_some (fault bytes) why ends.fault; frames = all_of_none workers bytes ends.events };
+  holds = record { faulty = ends.fault; frames = all_of_none workers bytes ends.events };
 }
 
 -- the lines of a text in which each has its line feed
@@ -109,16 +105,16 @@ module _ (workers : ℕ) (arena : MapView) (r : Reading) (a b : Option (List ℕ
       })
 
   -- the recording was refused
-  pub refused_on : (why : Refusal) → Played → IfSome b (EndsAt r why) → IfSome a (λ bytes. Writes t0 t1 (IsRefused workers bytes))
+  pub refused_on : (why : Refusal) → Played → IfSome b (EndsAt r why) → IfSome a (λ bytes. Writes t0 t1 (IsRefused workers bytes why))
   refused_on why played ends =
-      continues r a b es (λ bytes. Writes t0 t1 (IsRefused workers bytes)) played.reads (λ bytes rest is so.
+      continues r a b es (λ bytes. Writes t0 t1 (IsRefused workers bytes why)) played.reads (λ bytes rest is so.
       let here : EndsAt r why rest = let P : Option (List ℕ) → Type 0 = λ o. IfSome o (EndsAt r why) in subst P is ends in
       let has = map_of-whole r es bytes rest arena so played.whole played.map in
       record {
         text = text_with arena (collected es).closed js;
         written = played.written;
         holds = record {
-          faulty = some_is_some (fault bytes) why (so.fault_is ∙ here.fault);
+          faulty = so.fault_is ∙ here.fault;
           frames = is_all_frames workers bytes arena (record { has = has; is_map = played.is_map }) (collected es).closed js (frames_of-all r es bytes rest so here.events) played.run;
         };
       })

@@ -67,7 +67,7 @@ read_fault_of (demo_stop.Refused line fault rule) P Q f p = tt
 read_fault_of demo_stop.ReadFault P Q f p = f p
 read_fault_of demo_stop.NoMemory P Q f p = tt
 
-refused_of : (d : DemoStop) (P : Refusal → Type 0) (Q : Type 0) → ((why : Refusal) → P why → Q) → reads_of.OnRefused d P → OnRefused (stop_of d) Q
+refused_of : (d : DemoStop) (P Q : Refusal → Type 0) → ((why : Refusal) → P why → Q why) → reads_of.OnRefused d P → OnRefused (stop_of d) Q
 refused_of (demo_stop.Refused line fault rule) P Q f p = f _ p
 refused_of demo_stop.ReadFault P Q f p = tt
 refused_of demo_stop.NoMemory P Q f p = tt
@@ -82,12 +82,12 @@ pub first_no_memory : (d : DemoStop) (l t : Option (List ℕ)) → OnMemory (sto
 first_no_memory d l t = no_memory_of d (IfSome l (λ bytes. Writes t t (IsSomeFrames 1 bytes))) (memory_at_first 1 l t)
 
 pub first_refused : (workers : ℕ) (demo : DemoReaderView) (d : DemoStop) (l t : Option (List ℕ)) → demo ≡ fresh_reader
-    → (IsOpen demo → reads_of.OnRefused d (λ why. IfSome (ahead demo.pending l) (EndsAt demo.reading why))) → OnRefused (stop_of d) (IfSome l (λ bytes. Writes t t (IsRefused workers bytes)))
+    → (IsOpen demo → reads_of.OnRefused d (λ why. IfSome (ahead demo.pending l) (EndsAt demo.reading why))) → OnRefused (stop_of d) (λ why. IfSome l (λ bytes. Writes t t (IsRefused workers bytes why)))
 first_refused workers demo d l t is h =
     let P : DemoReaderView → Type 0 = λ x. IsOpen x → reads_of.OnRefused d (λ why. IfSome (ahead x.pending l) (EndsAt x.reading why)) in
     let at_first = subst P is h fresh_is_open in
     let Q : Refusal → Option (List ℕ) → Type 0 = λ why o. IfSome o (EndsAt start why) in
-    refused_of d (λ why. IfSome (ahead [] l) (EndsAt start why)) (IfSome l (λ bytes. Writes t t (IsRefused workers bytes)))
+    refused_of d (λ why. IfSome (ahead [] l) (EndsAt start why)) (λ why. IfSome l (λ bytes. Writes t t (IsRefused workers bytes why)))
     (λ why ends. refused_at_first workers l t why (subst (Q why) (prepend_known-nil l) ends)) at_first
 
 pub first_fault : (workers : ℕ) (demo : DemoReaderView) (d : DemoStop) (l l' t : Option (List ℕ)) → demo ≡ fresh_reader
@@ -120,7 +120,7 @@ map_is_there demo r is keeps = keeps.completed (ap (λ (x : DemoReaderView). is_
 -- ---- in the loop
 
 on_write_fault : (s : Stop) (P Q : Type 0) → (P → Q) → OnWriteFault s P → OnWriteFault s Q
-on_write_fault Refused P Q f p = tt
+on_write_fault (Refused line fault rule) P Q f p = tt
 on_write_fault ReadFault P Q f p = tt
 on_write_fault WriteFault P Q f p = f p
 on_write_fault Memory P Q f p = tt
@@ -132,20 +132,20 @@ no_write_fault demo_stop.ReadFault P = tt
 no_write_fault demo_stop.NoMemory P = tt
 
 -- a game stops for no other reason
-pub no_refusal : (s : Stop) (P : Type 0) → IsGameStop s → OnRefused s P
-no_refusal Refused P stop = absurd stop
+pub no_refusal : (s : Stop) (P : Refusal → Type 0) → IsGameStop s → OnRefused s P
+no_refusal (Refused line fault rule) P stop = absurd stop
 no_refusal ReadFault P stop = tt
 no_refusal WriteFault P stop = tt
 no_refusal Memory P stop = tt
 
 pub no_read_fault : (s : Stop) (P : Type 0) → IsGameStop s → OnReadFault s P
-no_read_fault Refused P stop = tt
+no_read_fault (Refused line fault rule) P stop = tt
 no_read_fault ReadFault P stop = absurd stop
 no_read_fault WriteFault P stop = tt
 no_read_fault Memory P stop = tt
 
 pub on_memory : (s : Stop) (P Q : Type 0) → (P → Q) → OnMemory s P → OnMemory s Q
-on_memory Refused P Q f p = tt
+on_memory (Refused line fault rule) P Q f p = tt
 on_memory ReadFault P Q f p = tt
 on_memory WriteFault P Q f p = tt
 on_memory Memory P Q f p = f p
@@ -186,12 +186,12 @@ module _ (demo : DemoReaderView) (a b t0 t1 : Option (List ℕ)) (g : GameView) 
       → Unread last ended sure a b s0 s1 demo.pending e
       → (IsOpen demo → reads_of.OnRefused d (λ why. Refuses demo.reading b (ahead pending l) why.line
       (HasNotReadAhead s1 s2 (last s2) demo.pending pending × (ended s2 ≡ ended s1)) (ended s2 ≡ true)))
-      → OnRefused (stop_of d) (ReadsToRefusal s0 s2 (last s2) (ended s2 ≡ ended s0) (ended s2 ≡ true) a l)
+      → OnRefused (stop_of d) (λ _. ReadsToRefusal s0 s2 (last s2) (ended s2 ≡ ended s0) (ended s2 ≡ true) a l)
   next_refusal last ended sure s0 s1 s2 d pending l going unread h =
       let P = HasNotReadAhead s1 s2 (last s2) demo.pending pending × (ended s2 ≡ ended s1) in
       let R : Reading → Refusal → Type 0 = λ r why. Refuses r b (ahead pending l) why.line P (ended s2 ≡ true) in
       let so_far = unread_going e (HasNotReadAhead s0 s1 (last s1) [] demo.pending × (ended s1 ≡ ended s0)) (TakesCutEnd a b) (ended s1 ≡ true) going unread.needed in
-      refused_of d (R demo.reading) (ReadsToRefusal s0 s2 (last s2) (ended s2 ≡ ended s0) (ended s2 ≡ true) a l)
+      refused_of d (R demo.reading) (λ _. ReadsToRefusal s0 s2 (last s2) (ended s2 ≡ ended s0) (ended s2 ≡ true) a l)
       (λ why refuses. refusal_on last s0 s1 s2 runs.full a b l (runs.progress.events ++ e ∷ []) why.line demo.pending pending (ended s2 ≡ ended s1) (ended s2 ≡ ended s0) (ended s2 ≡ true)
       runs.progress.reads so_far.0 (λ same. same ∙ so_far.1)
       (Refuses-given runs.full map_is_whole b (ahead pending l) why.line P (ended s2 ≡ true) (subst (λ (r : Reading). R r why) runs.given refuses)))
@@ -203,14 +203,14 @@ module _ (demo : DemoReaderView) (a b t0 t1 : Option (List ℕ)) (g : GameView) 
 
   pub write_failed : (s : Stop) (g2 : GameView) (t2 : Option (List ℕ)) → OnWriteFault s (GoesOn g g2 e) → OnWriteFault s (AppendsPart t1 t2 (text_of (event_lines g g2 e)))
       → OnWriteFault s (IfSome a (λ bytes. Writes t0 t2 (IsCut 1 bytes)))
-  write_failed Refused g2 t2 goes failed = tt
+  write_failed (Refused line fault rule) g2 t2 goes failed = tt
   write_failed ReadFault g2 t2 goes failed = tt
   write_failed WriteFault g2 t2 goes failed = cut_on 1 runs.arena runs.full a b t0 t1 g e runs.progress g2 goes t2 failed
   write_failed Memory g2 t2 goes failed = tt
 
   -- where the sink has room for every right output, this text fits
   pub not_cut : (s : Stop) (g2 : GameView) → OnWriteFault s (GoesOn g g2 e) → (length (text_of (event_lines g g2 e)) ≤ k1 → OnWriteFault s ⊥) → IsSomeAnd a (λ bytes. HasRoom 1 bytes k0) → OnWriteFault s ⊥
-  not_cut Refused g2 goes sure roomy = tt
+  not_cut (Refused line fault rule) g2 goes sure roomy = tt
   not_cut ReadFault g2 goes sure roomy = tt
   not_cut WriteFault g2 goes sure roomy = sure (fits_on 1 runs.arena runs.full a b t0 t1 g e runs.progress g2 goes k0 k1 roomy runs.roomy)
   not_cut Memory g2 goes sure roomy = tt
@@ -222,10 +222,10 @@ module _ (demo : DemoReaderView) (a b t0 t1 : Option (List ℕ)) (g : GameView) 
     all_done last = done_on 1 runs.arena runs.full a b t0 t1 g e runs.progress g2 goes t2 (end_is_end e last) written
 
     pub next_refused : (d : DemoStop) → is_end e ≡ false → (IsOpen demo → reads_of.OnRefused d (λ why. IfSome b (EndsAt demo.reading why)))
-        → OnRefused (stop_of d) (IfSome a (λ bytes. Writes t0 t2 (IsRefused 1 bytes)))
+        → OnRefused (stop_of d) (λ why. IfSome a (λ bytes. Writes t0 t2 (IsRefused 1 bytes why)))
     next_refused d going h =
         let R : Reading → Refusal → Type 0 = λ r why. IfSome b (EndsAt r why) in
-        refused_of d (R demo.reading) (IfSome a (λ bytes. Writes t0 t2 (IsRefused 1 bytes)))
+        refused_of d (R demo.reading) (λ why. IfSome a (λ bytes. Writes t0 t2 (IsRefused 1 bytes why)))
         (λ why ends. refused_on 1 runs.arena runs.full a b t0 t2 (runs.progress.events ++ e ∷ []) _ why (played_on 1 runs.arena runs.full a b t0 t1 g e runs.progress g2 goes t2 going written)
         (ends_given why b (subst (λ (r : Reading). R r why) runs.given ends)))
         (h (reader_is_open going))
@@ -310,12 +310,12 @@ module _ {S : Type 0} (last : S → ℕ) (ended : S → Bool) (sure : S → Type
   pub first_refusal : (s0 s1 : S) (demo : DemoReaderView) (pending : List ℕ) (d : DemoStop) (a l : Option (List ℕ)) → demo ≡ fresh_reader
       → (IsOpen demo → reads_of.OnRefused d (λ why. Refuses demo.reading (ahead demo.pending a) (ahead pending l) why.line
       (HasNotReadAhead s0 s1 (last s1) demo.pending pending × (ended s1 ≡ ended s0)) (ended s1 ≡ true)))
-      → OnRefused (stop_of d) (ReadsToRefusal s0 s1 (last s1) (ended s1 ≡ ended s0) (ended s1 ≡ true) a l)
+      → OnRefused (stop_of d) (λ _. ReadsToRefusal s0 s1 (last s1) (ended s1 ≡ ended s0) (ended s1 ≡ true) a l)
   first_refusal s0 s1 demo pending d a l is h =
       let P : DemoReaderView → Type 0 = λ x. IsOpen x → reads_of.OnRefused d (λ why. Refuses x.reading (ahead x.pending a) (ahead pending l) why.line
       (HasNotReadAhead s0 s1 (last s1) x.pending pending × (ended s1 ≡ ended s0)) (ended s1 ≡ true)) in
       let Q : Option (List ℕ) → Refusal → Type 0 = λ o why. Refuses start o (ahead pending l) why.line (HasNotReadAhead s0 s1 (last s1) [] pending × (ended s1 ≡ ended s0)) (ended s1 ≡ true) in
-      refused_of d (Q (ahead [] a)) (ReadsToRefusal s0 s1 (last s1) (ended s1 ≡ ended s0) (ended s1 ≡ true) a l)
+      refused_of d (Q (ahead [] a)) (λ _. ReadsToRefusal s0 s1 (last s1) (ended s1 ≡ ended s0) (ended s1 ≡ true) a l)
       (λ why refuses. first_of_all why.line (let R : Option (List ℕ) → Type 0 = λ o. Q o why in subst R (prepend_known-nil a) refuses))
       (subst P is h fresh_is_open)
     where
@@ -356,20 +356,20 @@ same_end_at_fault demo_stop.ReadFault ended0 ended1 ended2 so_far h = h ∙ so_f
 same_end_at_fault demo_stop.NoMemory ended0 ended1 ended2 so_far h = tt
 
 pub but_write_fault : (s : Stop) (P : Type 0) → P → ButOnWriteFault s P
-but_write_fault Refused P h = h
+but_write_fault (Refused line fault rule) P h = h
 but_write_fault ReadFault P h = h
 but_write_fault WriteFault P h = tt
 but_write_fault Memory P h = h
 
 pub but_read_fault : (s : Stop) (P : Type 0) → P → ButOnReadFault s P
-but_read_fault Refused P h = h
+but_read_fault (Refused line fault rule) P h = h
 but_read_fault ReadFault P h = tt
 but_read_fault WriteFault P h = h
 but_read_fault Memory P h = h
 
 -- where a game stops for want of memory the sink is as it was
 pub but_write_fault_of_game : (s : Stop) (P Q : Type 0) → IsGameStop s → OnMemory s P → (P → Q) → ButOnWriteFault s Q
-but_write_fault_of_game Refused P Q stop h f = absurd stop
+but_write_fault_of_game (Refused line fault rule) P Q stop h f = absurd stop
 but_write_fault_of_game ReadFault P Q stop h f = absurd stop
 but_write_fault_of_game WriteFault P Q stop h f = tt
 but_write_fault_of_game Memory P Q stop h f = f h

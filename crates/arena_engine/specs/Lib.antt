@@ -20,4 +20,5 @@ pub mod Games
 pub mod StopOf
 pub mod Stops
 pub mod Output
+pub mod Reports
 pub mod Serving

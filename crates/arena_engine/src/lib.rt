@@ -6,6 +6,7 @@ ghost use Rattle.edge_io.specs.Counts.{HasRisen};
 ghost use Rattle.demo_lines.specs.Bytes.{fault};
 ghost use Rattle.out_text.specs.Output.{IsOutput, IsRefused, IsCut, IsSomeFrames};
 ghost use Rattle.arena_engine.specs.Output.{Writes, ReadsSome, ReadsToEnd, ReadsToRefusal, HasRoom};
+ghost use Rattle.arena_engine.specs.Reports.{refusal_of};
 ghost use Rattle.arena_engine.specs.Serving.{IsPlay, ArePlayOne, AskForNothing, NothingFailed, IsOrMemory};
 
 use edge_io::{Sink, Source};
@@ -44,8 +45,8 @@ fn workers_of(words: &[&str]) -> Option<u8>
 /// The report's status says how it ended:
 ///
 /// - 0: the recording was read to its line `end`, and its whole output was written.
-/// - 1: a line of the recording isn't of the form in its place, or the input ends before the line `end`. The frames that
-///   were closed before are written.
+/// - 1: a line of the recording has a fault; the report has the number of the first one, its first fault, and the rule of
+///   the map that it breaks. The frames that were closed before it are written.
 /// - 2: the words ask for nothing. Nothing is read or written.
 /// - 3: a read failed. The frames that the lines before it close are written.
 /// - 4: a write failed. A front of the output is written: all frames but the last are whole.
@@ -63,7 +64,7 @@ pub fn serve<S: Source, K: Sink>(
         ReadsToEnd source.old source.new (S.last source.new) (S.ended source.new ≡ S.ended source.old) (S.ended source.new ≡ true)
         (S.left source.old) (S.left source.new) }
     ensures refused { (n : ℕ) → IsPlay words.now n → result.status ≡ 1 → IfSome (S.left source.old) (λ bytes.
-        Writes (K.taken sink.old) (K.taken sink.new) (IsRefused n bytes)) }
+        Writes (K.taken sink.old) (K.taken sink.new) (IsRefused n bytes (refusal_of result))) }
     ensures refused_read { (n : ℕ) → IsPlay words.now n → result.status ≡ 1 →
         ReadsToRefusal source.old source.new (S.last source.new) (S.ended source.new ≡ S.ended source.old) (S.ended source.new ≡ true)
         (S.left source.old) (S.left source.new) }
@@ -76,7 +77,7 @@ pub fn serve<S: Source, K: Sink>(
     ensures memory { (n : ℕ) → IsPlay words.now n → result.status ≡ 5 → IfSome (S.left source.old) (λ bytes.
         Writes (K.taken sink.old) (K.taken sink.new) (IsSomeFrames n bytes)) }
     ensures known { result.status ≤ 5 }
-    ensures place { (result.line ≡ 0) × (result.fault ≡ 0) × (result.rule ≡ 0) }
+    ensures place { (result.status ≡ 1 → ⊥) → (result.line ≡ 0) × (result.fault ≡ 0) × (result.rule ≡ 0) }
 
     // Why.
     ensures read_cause { result.status ≡ 3 → HasRisen (S.faults source.old) (S.faults source.new) }
@@ -107,7 +108,7 @@ pub fn serve<S: Source, K: Sink>(
     };
     match play(alloc, source, sink) {
         Ok(()) => Report::of_status(0),
-        Err(Stop::Refused) => Report::of_status(1),
+        Err(Stop::Refused { line, fault, rule }) => Report::of_refusal(line, fault, rule),
         Err(Stop::ReadFault) => Report::of_status(3),
         Err(Stop::WriteFault) => Report::of_status(4),
         Err(Stop::Memory) => Report::of_status(5),

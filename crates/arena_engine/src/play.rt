@@ -29,9 +29,9 @@ pub fn play<S: Source, K: Sink>(alloc: Global, source: &mut S, sink: &mut K) -> 
         Writes (K.taken sink.old) (K.taken sink.new) (IsOutput 1 bytes))) }
     ensures read { OnOk result (ReadsToEnd source.old source.new (S.last source.new)
         (S.ended source.new ≡ S.ended source.old) (S.ended source.new ≡ true) (S.left source.old) (S.left source.new)) }
-    ensures refused { IfErr result (λ stop. OnRefused stop (IfSome (S.left source.old) (λ bytes.
-        Writes (K.taken sink.old) (K.taken sink.new) (IsRefused 1 bytes)))) }
-    ensures refused_read { IfErr result (λ stop. OnRefused stop (ReadsToRefusal source.old source.new (S.last source.new)
+    ensures refused { IfErr result (λ stop. OnRefused stop (λ why. IfSome (S.left source.old) (λ bytes.
+        Writes (K.taken sink.old) (K.taken sink.new) (IsRefused 1 bytes why)))) }
+    ensures refused_read { IfErr result (λ stop. OnRefused stop (λ _. ReadsToRefusal source.old source.new (S.last source.new)
         (S.ended source.new ≡ S.ended source.old) (S.ended source.new ≡ true) (S.left source.old) (S.left source.new))) }
     ensures read_fault { IfErr result (λ stop. OnReadFault stop
         (ReadsSome 1 (S.left source.old) (S.left source.new) (K.taken sink.old) (K.taken sink.new))) }

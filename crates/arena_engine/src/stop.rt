@@ -10,9 +10,16 @@ use thiserror::Error;
 /// Why a recording isn't played on.
 #[derive(Clone, Copy, Debug, PartialEq, Eq, Error)]
 pub enum Stop {
-    /// The recording isn't of the form.
+    /// A line of the recording was refused.
     #[error("recording refused")]
-    Refused,
+    Refused {
+        /// The line's number, from 1.
+        line: u64,
+        /// Its fault, 1 to 10.
+        fault: u8,
+        /// The rule of the map that it breaks, 1 to 8, or 0 where it breaks none.
+        rule: u8,
+    },
     /// The source failed.
     #[error("read fault")]
     ReadFault,
@@ -53,7 +60,7 @@ impl From<DemoStop> for Stop {
 
     fn from(stop: DemoStop) -> Stop {
         match stop {
-            DemoStop::Refused { .. } => Stop::Refused,
+            DemoStop::Refused { line, fault, rule } => Stop::Refused { line, fault, rule },
             DemoStop::ReadFault => Stop::ReadFault,
             DemoStop::NoMemory => Stop::Memory,
         }

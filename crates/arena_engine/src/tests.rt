@@ -11,6 +11,7 @@ use std::test::Fail;
 
 mod full;
 mod pipe;
+mod things;
 
 const ARENA: &str = "arena -131072 -131072 0 131072 131072 65536\n";
 
@@ -60,6 +61,10 @@ const CROWDED_OUTPUT: &str =
     "frame 0\nno 1 Crowded\njoined 7 0\nto 0 01000000000000000000000000000018000000000000000000000000000000000000000000000000000000\nend 1\n";
 
 const NO_FRAME: &str = "arena -131072 -131072 0 131072 131072 65536\nend\nframe\n";
+
+/// One join, with a carriage return before each line feed, and no line feed after `end`.
+const CARRIAGE_RETURNS: &str =
+    "arena -131072 -131072 0 131072 131072 65536\r\nspawn 0 0 6144\r\nframe\r\nfrom 7 0101\r\nend\r";
 
 /// A recording whose `end` has no line feed.
 const CUT_END: &str = "arena -131072 -131072 0 131072 131072 65536\nspawn 0 0 6144\nframe\nend";
@@ -126,6 +131,7 @@ fn frames_are_printed_in_order(rt: HostRuntime) -> Result<(), Fail> {
         (CROWDED, CROWDED_OUTPUT),
         (NO_FRAME, "end 0\n"),
         (CUT_END, "frame 0\nend 1\n"),
+        (CARRIAGE_RETURNS, ONE_JOIN_OUTPUT),
     ];
     for (recording, output) in rows {
         expect(&rt, recording, 0, output)?;
@@ -167,9 +173,46 @@ fn players_leave_after_the_replies(rt: HostRuntime) -> Result<(), Fail> {
     Ok(())
 }
 
+/// Plays a recording, and compares the line, the fault and the rule that it is refused for.
+fn expect_refused(
+    rt: &(impl AllocGlobal + Abort),
+    recording: &str,
+    why: (u64, u8, u8),
+) -> Result<(), AllocError> {
+    let mut source = MemSource::new(recording.as_bytes(), 100, &[]);
+    let mut sink = MemSink::new(rt.alloc(), 10_000, 100)?;
+    let report = serve(rt.alloc(), &["play", "1"], &mut source, &mut sink);
+    assert_eq!(rt; report.status, 1);
+    assert_eq!(rt; (report.line, report.fault, report.rule), why);
+    Ok(())
+}
+
+#[test]
+fn the_first_faulty_line_is_reported(rt: HostRuntime) -> Result<(), Fail> {
+    let rows = [
+        ("frob\n", (1, 3, 0)),
+        ("arena 1 2\n", (1, 4, 0)),
+        ("frame\n", (1, 5, 0)),
+        ("arena -2000000 0 0 1 1 1\n", (1, 6, 0)),
+        ("arena 0 0 0 0 1 1\n", (1, 7, 1)),
+        (
+            "arena -131072 -131072 0 131072 131072 65536\nframe\n",
+            (2, 7, 7),
+        ),
+        (
+            "arena -131072 -131072 0 131072 131072 65536\nspawn 0 0 6144\nframe\nfrom 7 010\n",
+            (4, 8, 0),
+        ),
+        ("", (1, 10, 0)),
+    ];
+    for (recording, why) in rows {
+        expect_refused(&rt, recording, why)?;
+    }
+    Ok(())
+}
+
 #[test]
 fn a_refused_recording_keeps_its_whole_frames(rt: HostRuntime) -> Result<(), Fail> {
-    expect(&rt, "", 1, "")?;
     expect(&rt, ARENA, 1, "")?;
     let late =
         "arena -131072 -131072 0 131072 131072 65536\nspawn 0 0 6144\nframe\nframe\nfrob\nend\n";

@@ -157,8 +157,7 @@ without_last (c ∷ []) = []
 without_last (c ∷ d ∷ commands) = c ∷ without_last (d ∷ commands)
 
 -- the commands that a seat was given and didn't give up, after a call: a command that is given comes last, and is
--- dropped
--- where the seat is asked to give up
+-- dropped where the seat is asked to give up
 abbrev pub kept_after : Machine → ℕ → Call → List Command → List Command
 kept_after m i (Give j c) kept = if j == i then kept ++ c ∷ [] else kept
 kept_after m i (Go j) kept = kept

@@ -94,8 +94,7 @@ fault_of_words r None rest = Some Word
 fault_of_words r (Some word) rest = fault_after_word r word rest
 
 -- the fault of a line at its place, in the order 1, 10, 2, 3, 4, 5, 6, 7, 8, 9; ended says whether the input ended in
--- the
--- line or before it
+-- the line or before it
 abbrev pub fault_of : Reading → Bool → List ℕ → Option LineFault
 fault_of r ended raw =
     if is_long raw then Some Long

@@ -5,8 +5,7 @@ use Rattle.demo_lines.specs.declared.stage.Stage.{Stage}
 use Rattle.demo_lines.specs.declared.stage.Stage.TheVariants.{Start, Map, Playing, Ended, Refused}
 
 -- how far the lines have come, the map, how many frames were opened, how many packets the open one has, and how many
--- lines
--- were read
+-- lines were read
 pub record Reading : Type 0 where
   pub stage : Stage
   pub map : Option MapView

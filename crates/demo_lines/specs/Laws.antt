@@ -102,10 +102,8 @@ pub record HasLines (count : ℕ) : Type 0 where
   pub lines : length (recording_lines map frames) ≡ count
 
 -- up to its end or its refused line a recording has at most 1 line with the arena, 64 with spawns, 1,024 with blocks,
--- 192
--- with things, 100,000 times 1 that opens a frame and 512 with its packets, and 1 that ends it or is refused; and some
--- have
--- so many
+-- 192 with things, 100,000 times 1 that opens a frame and 512 with its packets, and 1 that ends it or is refused; and
+-- some have so many
 pub record LinesAreBounded : Type 0 where
   pub bound : (lines : List (List ℕ)) → is_over (after start lines).stage ≡ false → length lines < 51301282
   pub longest : HasLines 51301282

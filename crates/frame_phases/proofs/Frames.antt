@@ -11,6 +11,7 @@ use Rattle.move_journal.specs.Merges.{IsInOrder, journal_in_order}
 use Rattle.move_journal.proofs.JournalLaws.{moves_in_order_are_right, run-in_order}
 use Rattle.arena_map.specs.Maps.{MapView, IsMap}
 use Rattle.client_ports.specs.declared.arrival.Arrival.{Arrival}
+use Rattle.client_ports.specs.declared.client.Client.{Client}
 use Rattle.client_ports.specs.States.{State, state_of, HaveSameLive, IsServerState}
 use Rattle.client_ports.specs.Receiving.{Receiving}
 use Rattle.client_ports.specs.Finishing.{finished}
@@ -22,6 +23,8 @@ use Rattle.plain_server.specs.Moving.{HasLivePlayer, HaveMoved}
 use Rattle.plain_server.specs.Entries.{IsReception}
 use Rattle.plain_server.specs.Frames.{state_after_tick, received_in, moved_by, state_after, IsRightAfter}
 use Rattle.plain_server.proofs.Moves.{moved-records}
+use Rattle.world_physics.specs.Ticks.{after_tick}
+use Rattle.plain_server.proofs.Ticking.{server_ticked}
 use Rattle.plain_server.proofs.Short.{moves_are_few}
 use Rattle.plain_server.proofs.Frames.{received_is, state_moved}
 
@@ -114,3 +117,9 @@ whole_frame server t arrivals shown started r moves new next journal view is sho
 pub live_after : (t : ServerView) (arrivals : List Arrival) (r : Receiving) (moves : List Cmd) (new : List (Option Rec)) → IsReceived t.map r arrivals → HaveMoved t.map r.state.records new (map command_of moves)
     → HaveSameLive r.state.clients new
 live_after t arrivals r moves new got moved = (state_moved t.map r.state new (map command_of moves) got.pass.state moved).fits.live
+
+-- so they are after the tick of a frame
+pub ticked_live : (map_view : MapView) (frame : ℕ) (clients : List (Option Client)) (before records : List (Option Rec)) → IsMap map_view → IsServerState map_view (state_of clients before)
+    → records ≡ after_tick map_view frame before → HaveSameLive clients records
+ticked_live map_view frame clients before records is_map is ticked =
+    subst (HaveSameLive clients) (sym ticked) (server_ticked map_view frame (state_of clients before) is_map is).fits.live

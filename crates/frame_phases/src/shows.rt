@@ -14,13 +14,7 @@ use world_tree::World;
 const SLOTS: u8 = 64;
 
 /// Puts this slot and the snapshot of its player last, if it is live.
-fn show_slot(
-    world: &World,
-    frame: u32,
-    slot: u8,
-    slots: &mut SlotList,
-    replies: &mut ReplyList,
-)
+fn show_slot(world: &World, frame: u32, slot: u8, slots: &mut SlotList, replies: &mut ReplyList)
     requires room { length slots.old < 64 }
     requires room_for_a_reply { length replies.old < 64 }
     ensures slots { slots.new ≡ slots.old ++ map_list (λ me. me.id) (option_to_list (record_of world.now slot)) }

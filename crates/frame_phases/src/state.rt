@@ -52,6 +52,7 @@ impl State {
     }
 
     /// The tick of a frame and its receive pass. It takes no memory.
+    #[tactic(auto, using(crate::proofs::Frames::ticked_live))]
     pub fn receive(&mut self, map: &ArenaMap, frame: u32, arrivals: &[Arrival], out: &mut Received)
         requires fits { IsServerState map.now (state_of self.old.ports self.old.world.records) }
         requires empty { out.old.lists ≡ no_lists }

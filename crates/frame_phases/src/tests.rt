@@ -1,13 +1,18 @@
-ghost use Rattle.std.specs.Prelude.{◌≡◌, true};
-ghost use Rattle.arena_geo.specs.Vectors.{IsNear};
+ghost use Rattle.std.specs.Prelude.{◌≡◌, ◌≤◌, length, true};
 ghost use Rattle.arena_map.specs.MapLines.{IsWithinLimits, is_arena, is_added};
 
-use crate::{FrameOut, Server};
+use crate::{FrameOut, MOST_FRAMES, Server, run_frame};
 use arena_geo::Vec3;
 use arena_map::{ArenaMap, MapLine, MapRefusal};
 use client_ports::{Arrival, ArrivalBytes, Joined};
-use std::alloc::Global;
+use entity_recs::Kind;
+use std::alloc::{AllocGlobal, Global};
+use std::process::Abort;
 use std::test::Fail;
+
+const JOIN: [u8; 2] = [1, 1];
+
+const LEAVE: [u8; 2] = [1, 3];
 
 /// A packet with these bytes.
 fn arrival(port: u16, bytes: &[u8]) -> Arrival {
@@ -21,69 +26,157 @@ fn arrival(port: u16, bytes: &[u8]) -> Arrival {
     a
 }
 
+/// A move of 50 milliseconds with this number and this wish on y.
+fn step(port: u16, seq: u8, wish_y: i16) -> Arrival {
+    let [low, high] = wish_y.to_le_bytes();
+    arrival(port, &[1, 2, seq, 0, 0, 0, 50, 0, 0, low, high, 0])
+}
+
+fn at(x: i32, y: i32, z: i32) -> Vec3
+    ensures { result ≡ record { x = x; y = y; z = z } }
+{
+    Vec3 { x, y, z }
+}
+
 /// The arena from (-131072, -131072, 0) to (131072, 131072, 65536).
 fn arena() -> MapLine
     ensures arena { is_arena result ≡ true }
     ensures limits { IsWithinLimits result }
 {
     MapLine::Arena {
-        lo: Vec3 {
-            x: -131_072,
-            y: -131_072,
-            z: 0,
-        },
-        hi: Vec3 {
-            x: 131_072,
-            y: 131_072,
-            z: 65_536,
-        },
+        lo: at(-131_072, -131_072, 0),
+        hi: at(131_072, 131_072, 65_536),
     }
 }
 
-/// Where the only spawn is.
-fn spawn() -> Vec3
-    ensures { IsNear 1048576 result }
+/// The spawn in the middle of the arena.
+fn spawn() -> MapLine
+    ensures added { is_added result ≡ true }
+    ensures limits { IsWithinLimits result }
 {
-    Vec3 {
-        x: 0,
-        y: 0,
-        z: 6_144,
+    MapLine::Spawn {
+        at: at(0, 0, 6_144),
     }
 }
 
-/// The map of the arena and its spawn.
-fn map(alloc: Global) -> Result<ArenaMap, MapRefusal> {
+/// A gem at the spawn, which returns after 2 frames.
+fn gem() -> MapLine
+    ensures added { is_added result ≡ true }
+    ensures limits { IsWithinLimits result }
+{
+    MapLine::Item {
+        at: at(-4_096, -4_096, 0),
+        kind: Kind::Gem,
+        delay: 2,
+    }
+}
+
+/// A teleporter over the spawn.
+fn teleporter() -> MapLine
+    ensures added { is_added result ≡ true }
+    ensures limits { IsWithinLimits result }
+{
+    MapLine::Teleport {
+        lo: at(-25_600, -25_600, 0),
+        hi: at(25_600, 25_600, 25_600),
+        dest: at(-65_536, 65_536, 6_144),
+    }
+}
+
+/// A server of the arena with these two things.
+fn server(alloc: Global, one: &MapLine, other: &MapLine) -> Result<Server, MapRefusal>
+    requires one_added { is_added one.now ≡ true }
+    requires one_limits { IsWithinLimits one.now }
+    requires other_added { is_added other.now ≡ true }
+    requires other_limits { IsWithinLimits other.now }
+{
     let mut map = ArenaMap::new(alloc, &arena())?;
-    map.add(&MapLine::Spawn { at: spawn() })?;
-    Ok(map)
+    map.add(one)?;
+    map.add(other)?;
+    Ok(Server::new(alloc, map)?)
+}
+
+/// Runs one frame more.
+fn play(
+    rt: &(impl AllocGlobal + Abort),
+    server: &mut Server,
+    arrivals: &[Arrival],
+    out: &mut FrameOut,
+) -> Result<(), Fail>
+    requires { length arrivals.now ≤ 512 }
+{
+    assert!(rt; server.frames() < MOST_FRAMES);
+    run_frame(rt.alloc(), server, arrivals, out)?;
+    Ok(())
+}
+
+/// Compares the frame's only entry.
+fn expect_move(
+    rt: &impl Abort,
+    out: &FrameOut,
+    seq: u32,
+    origin: Vec3,
+    got: &[u16],
+) -> Result<(), Fail> {
+    assert_eq!(rt; out.journal.as_slice().len(), 1);
+    let entry = out.journal.as_slice().first().ok_or("a move")?;
+    assert_eq!(rt; (entry.place, entry.slot, entry.seq), (0, 0, seq));
+    assert_eq!(rt; entry.reply.origin, origin);
+    assert_eq!(rt; entry.reply.got.as_slice(), got);
+    Ok(())
+}
+
+#[test]
+fn a_taken_item_returns_after_its_delay(rt: HostRuntime) -> Result<(), Fail> {
+    let mut server = server(rt.alloc(), &spawn(), &gem()).map_err(|_| "a server")?;
+    let mut out = FrameOut::new(rt.alloc())?;
+    play(
+        &rt,
+        &mut server,
+        &[arrival(7, &JOIN), step(7, 1, 0)],
+        &mut out,
+    )?;
+    expect_move(&rt, &out, 1, at(0, 0, 6_144), &[64])?;
+    play(&rt, &mut server, &[step(7, 2, 0)], &mut out)?;
+    expect_move(&rt, &out, 2, at(0, 0, 6_144), &[])?;
+    play(&rt, &mut server, &[step(7, 3, 0)], &mut out)?;
+    expect_move(&rt, &out, 3, at(0, 0, 6_144), &[64])?;
+    assert_eq!(rt; out.frame, 2);
+    Ok(())
+}
+
+#[test]
+fn a_teleporter_moves_a_player(rt: HostRuntime) -> Result<(), Fail> {
+    let mut server = server(rt.alloc(), &spawn(), &teleporter()).map_err(|_| "a server")?;
+    let mut out = FrameOut::new(rt.alloc())?;
+    play(
+        &rt,
+        &mut server,
+        &[arrival(7, &JOIN), step(7, 1, 0)],
+        &mut out,
+    )?;
+    expect_move(&rt, &out, 1, at(-65_536, 65_536, 6_144), &[])
 }
 
 #[test]
 fn a_player_that_leaves_is_shown_once_more(rt: HostRuntime) -> Result<(), Fail> {
-    let map = map(rt.alloc()).map_err(|_| "a map")?;
-    let mut server = Server::new(rt.alloc(), map)?;
+    let mut server = server(rt.alloc(), &spawn(), &gem()).map_err(|_| "a server")?;
     let mut out = FrameOut::new(rt.alloc())?;
-    let arrivals = [
-        arrival(7, &[1, 1]),
-        arrival(7, &[1, 2, 1, 0, 0, 0, 50, 0, 0, 0, 0, 0]),
-        arrival(7, &[1, 3]),
-    ];
-    server.run_frame(&arrivals, &mut out);
-    assert_eq!(rt; out.frame, 0);
+    play(
+        &rt,
+        &mut server,
+        &[arrival(7, &JOIN), arrival(7, &LEAVE)],
+        &mut out,
+    )?;
     assert_eq!(rt;
         out.received.joined(),
         [Joined { port: 7, slot: 0 }].as_slice()
     );
-    let moved = out.journal.as_slice().first().ok_or("a move")?;
-    assert_eq!(rt; (moved.place, moved.slot, moved.seq), (0, 0, 1));
-    assert_eq!(rt; moved.reply.origin, spawn());
-    assert!(rt; moved.reply.got.as_slice().is_empty());
-    assert_eq!(rt; out.journal.as_slice().len(), 1);
-    assert!(rt; server.before_leaves().get(0).is_some());
-    server.run_frame(&[], &mut out);
-    assert_eq!(rt; out.frame, 1);
-    assert!(rt; out.journal.as_slice().is_empty());
-    assert!(rt; server.before_leaves().get(0).is_none());
+    assert_eq!(rt; out.slots.as_slice(), [0].as_slice());
+    assert_eq!(rt; out.replies.as_slice().len(), 1);
+    play(&rt, &mut server, &[], &mut out)?;
+    assert!(rt; out.slots.as_slice().is_empty());
+    assert!(rt; out.replies.as_slice().is_empty());
     assert_eq!(rt; server.frames(), 2);
     Ok(())
 }

@@ -52,7 +52,7 @@ frame_lines frame lists journal records =
 abbrev pub given_lines : ℕ → Lists → List Entry → List ℕ → List (List ℕ) → List OutLine
 given_lines frame lists journal slots replies =
     FrameLine frame ∷ (map no_line lists.refused ++ map joined_line lists.joined ++ map did_line journal
-        ++ reply_lines slots replies)
+    ++ reply_lines slots replies)
 
 -- the lines of a frame with this journal: the snapshots show the world after its moves, in which those that leave are
 -- still there

@@ -1,11 +1,11 @@
 -- What the program writes for a recording.
-use Rattle.std.specs.Prelude.{◌≡◌, ℕ, ◌-◌, ◌<◌, ◌≤◌, ◌⊎◌, List, [], ◌∷◌, ◌++◌, length, take, Option, Some, None, IsSome}
+use Rattle.std.specs.Prelude.{◌≡◌, ℕ, ◌-◌, ◌<◌, ◌≤◌, ◌⊎◌, List, [], ◌∷◌, ◌++◌, length, take, Option, Some, None}
 use Rattle.entity_recs.specs.declared.effect.Entry.{Entry}
 use Rattle.arena_map.specs.Maps.{MapView}
 use Rattle.client_ports.specs.declared.arrival.Arrival.{Arrival}
 use Rattle.plain_server.specs.RecordsById.{opening}
 use Rattle.plain_server.specs.Frames.{AreRight, AreInOrder}
-use Rattle.demo_lines.specs.Bytes.{fault, map_of}
+use Rattle.demo_lines.specs.Bytes.{Refusal, fault, map_of}
 use Rattle.out_text.specs.OutLines.{OutLine, EndLine, text_of}
 use Rattle.out_text.specs.FrameLines.{run_lines}
 use Rattle.out_text.specs.Journals.{dids}
@@ -87,9 +87,9 @@ pub record IsCutEnd (workers : ℕ) (bytes text : List ℕ) : Type 0 where
 abbrev pub IsCut : ℕ → List ℕ → List ℕ → Type 0
 IsCut workers bytes text = IsCutFrame workers bytes text ⊎ IsCutEnd workers bytes text
 
--- the text is that of all closed frames of a recording with a fault
-pub record IsRefused (workers : ℕ) (bytes text : List ℕ) : Type 0 where
-  pub faulty : IsSome (fault bytes)
+-- the text is that of all closed frames of a recording whose first faulty line is this one, for this reason
+pub record IsRefused (workers : ℕ) (bytes : List ℕ) (why : Refusal) (text : List ℕ) : Type 0 where
+  pub faulty : fault bytes ≡ Some why
   pub frames : IsAllFrames workers bytes text
 
 -- the text is that of some of the first frames

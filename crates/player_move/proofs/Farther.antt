@@ -1,5 +1,5 @@
 -- That a move goes no less far over the ground than its plain slide.
-use Rattle.std.proofs.Common.{◌≡◌, ℕ, ◌<◌, ◌≤◌, Bool, true, false, ◌⊎◌, inl, inr, if◌then◌else◌, List, ℤ, ◌+ℤ◌, ◌-ℤ◌, refl, sym, ap, ◌∙◌, subst, arith}
+use Rattle.std.proofs.Common.{◌≡◌, ℕ, ◌<◌, Bool, true, false, inl, inr, if◌then◌else◌, List, ℤ, ◌+ℤ◌, ◌-ℤ◌, refl, ap, ◌∙◌, arith}
 use Rattle.std.specs.Prelude.{◌&&◌}
 use Rattle.std.proofs.lemmas.Bool.{ltb-true, and_parts}
 use Rattle.std.proofs.lemmas.Int.{ints}
@@ -16,7 +16,7 @@ use Rattle.player_move.specs.Intents.{Intent}
 use Rattle.player_move.specs.Velocities.{walks, velocity_after}
 use Rattle.player_move.specs.Walks.{ground_of, flat_square, goes_farther, are_taken, stairs_of, walk_of}
 use Rattle.player_move.specs.Moves.{body_after, moved_by, move_of}
-use Rattle.player_move.specs.Laws.{flat_square_of, plain_slide_of, IsSlide, GoesFarther, GoesNoLessFar, MoveGoesNoLessFar}
+use Rattle.player_move.specs.Laws.{flat_square_of, GoesNoLessFar, MoveGoesNoLessFar}
 use Rattle.player_move.proofs.Walking.{plain_of}
 use Rattle.player_move.proofs.WholeMoves.{standing-moved}
 

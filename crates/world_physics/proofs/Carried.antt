@@ -1,9 +1,8 @@
 -- Players that are carried.
-use Rattle.std.specs.Prelude.{◌≡◌, ℕ, ◌≤◌, true, cond, List, Option, Some}
-use Rattle.std.proofs.Common.{refl, sym, ap, ◌∙◌, arith, SFits, w32, to_z, of_z}
+use Rattle.std.specs.Prelude.{◌≡◌, ℕ, ◌≤◌, true, cond, List, Option}
+use Rattle.std.proofs.Common.{sym, ap, ◌∙◌, arith, w32, to_z, of_z}
 use Rattle.std.proofs.lemmas.Int.{to_z-of_z}
 use Rattle.entity_recs.specs.declared.rec.Rec.{Rec}
-use Rattle.world_tree.specs.Live.{record_at, IsEntry}
 use Rattle.world_tree.specs.Worlds.{WorldView, IsLinked}
 use Rattle.world_physics.specs.declared.lift_step.LiftStep.{LiftStep}
 use Rattle.world_physics.specs.Returns.{each_changed}

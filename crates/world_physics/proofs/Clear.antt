@@ -1,8 +1,7 @@
 -- Players keep room in a tick.
-use Rattle.std.proofs.Common.{◌≡◌, ◌≢◌, ◌⊎◌, ℕ, ◌==◌, Bool, true, false, cond, ◌&&◌, ◌||◌, List, Option, Some, None, is_some, IsSome, ℤ, ◌+ℤ◌, ◌≤ℤ◌, pos, int_lt, refl, sym, ap, ◌∙◌, subst, inl, inr, arith}
+use Rattle.std.proofs.Common.{◌≡◌, ◌≢◌, ◌⊎◌, ℕ, ◌==◌, Bool, true, false, cond, ◌&&◌, ◌||◌, List, Option, Some, None, is_some, ℤ, ◌+ℤ◌, pos, int_lt, refl, sym, ap, ◌∙◌, subst, inl, inr, arith}
 use Rattle.std.proofs.lemmas.Int.{ints}
 use Rattle.std.proofs.lemmas.Option.{same_Some}
-use Rattle.std.proofs.lemmas.Bool.Decides.{nat_tests}
 use Rattle.arena_geo.specs.Bounds.{Bounds}
 use Rattle.arena_geo.specs.Boxes.{overlaps_on, overlaps, moved, is_blocked}
 use Rattle.entity_recs.specs.declared.kind.Kind.{Kind}
@@ -16,19 +15,19 @@ use Rattle.arena_map.specs.Places.{upwards}
 use Rattle.arena_map.specs.Maps.{MapView, IsMap, entities_of, lift_of, solids_of}
 use Rattle.arena_map.specs.Validity.{IsValidWorld, AreClear}
 use Rattle.arena_map.proofs.ThingData.{live_records_have_data}
-use Rattle.world_tree.specs.Live.{record_at, live_in}
+use Rattle.world_tree.specs.Live.{record_at}
 use Rattle.world_physics.specs.declared.lift_step.LiftStep.{LiftStep}
 use Rattle.world_physics.specs.Returns.{each_changed, returned, after_returns}
-use Rattle.world_physics.specs.LiftSteps.{is_player, stands_on, is_carried, stays, is_in_the_way, is_obstructed, is_stopped, raised, moved_along, after_step}
+use Rattle.world_physics.specs.LiftSteps.{is_player, stands_on, is_carried, stays, is_in_the_way, is_stopped, raised, moved_along, after_step}
 use Rattle.world_physics.specs.Ticks.{after_tick}
 use Rattle.world_physics.specs.Laws.{PlayersKeepRoom}
 use Rattle.world_physics.proofs.Changes.{was_before}
 use Rattle.world_physics.proofs.Finding.{not_found}
 use Rattle.world_physics.proofs.Raised.{raised-body}
-use Rattle.world_physics.proofs.LiftRecords.{HasLift, has_lift, IsLiftAt, IsStepAt}
-use Rattle.world_physics.proofs.Valid.{neither, returns_keep_valid, either_returned, carried_is_player, has_way, clear_way, either_moved, at_lift}
+use Rattle.world_physics.proofs.LiftRecords.{has_lift, IsLiftAt, IsStepAt}
+use Rattle.world_physics.proofs.Valid.{neither, returns_keep_valid, either_returned, has_way, clear_way, either_moved, at_lift}
 use Rattle.world_physics.proofs.Shafts.{AreApart, overlaps-flips, lifts_apart}
-use Rattle.world_physics.proofs.Through.{IsKept, through}
+use Rattle.world_physics.proofs.Through.{through}
 
 -- ---- boxes that move together
 

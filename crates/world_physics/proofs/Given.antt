@@ -1,16 +1,16 @@
 -- Worlds that tests begin with: the opening world, players that are put in, and items that are taken.
-use Rattle.std.proofs.Common.{◌≡◌, ◌⊎◌, ℕ, ◌<◌, ◌≤◌, ◌==◌, true, List, length, Option, Some, None, Result, Ok, Err, IfOk, IsSome, is_some, slice_set, slice_index_or, refl, sym, ap, ◌∙◌, subst, inl, inr, arith, get_or-set_same, get_or-set_other}
+use Rattle.std.proofs.Common.{◌≡◌, ◌⊎◌, ℕ, ◌<◌, ◌≤◌, ◌==◌, true, List, length, Option, Some, None, Result, Ok, Err, IfOk, IsSome, is_some, slice_set, refl, sym, ap, ◌∙◌, subst, inl, inr, arith, get_or-set_same, get_or-set_other}
 use Rattle.std.specs.List.{find}
 use Rattle.std.proofs.lemmas.Bool.{cases_eq, cases_lt}
 use Rattle.std.proofs.lemmas.List.{get_or_past, length-set}
-use Rattle.std.proofs.lemmas.Option.{none-some, same_Some}
+use Rattle.std.proofs.lemmas.Option.{same_Some}
 use Rattle.arena_geo.specs.declared.vec3.Vec3.{Vec3}
 use Rattle.arena_geo.specs.Vectors.{IsNear}
 use Rattle.arena_geo.specs.Boxes.{contains}
 use Rattle.entity_recs.specs.declared.kind.Kind.TheVariants as kinds
 use Rattle.entity_recs.specs.declared.rec.Rec.{Rec}
 use Rattle.entity_recs.specs.declared.bodies.TheConstants.{PLAYER_MINS, PLAYER_MAXS}
-use Rattle.entity_recs.specs.Records.{IsRecord, IsStateOf, with_state}
+use Rattle.entity_recs.specs.Records.{IsRecord, with_state}
 use Rattle.entity_recs.specs.Bodies.{player_body}
 use Rattle.arena_map.specs.Things.{thing_at_rest}
 use Rattle.arena_map.specs.MapLines.{is_item}

@@ -1,5 +1,5 @@
 -- What a tick keeps of each record.
-use Rattle.std.proofs.Common.{◌≡◌, ℕ, ◌<◌, ◌≤◌, ◌==◌, Bool, true, false, cond, ◌||◌, not, ◌&&◌, nat_le, List, [], ◌∷◌, length, Option, Some, None, is_some, ℤ, ◌+ℤ◌, refl, sym, ap, ◌∙◌, subst, arith}
+use Rattle.std.proofs.Common.{◌≡◌, ℕ, ◌<◌, ◌≤◌, ◌==◌, Bool, true, false, cond, ◌||◌, not, ◌&&◌, nat_le, List, [], ◌∷◌, Option, Some, None, is_some, ℤ, refl, sym, ap, ◌∙◌, subst, arith}
 use Rattle.std.specs.Option.{option_map}
 use Rattle.std.proofs.lemmas.Bool.Decides.{nat_tests}
 use Rattle.std.proofs.lemmas.Option.{same_Some}
@@ -15,14 +15,14 @@ use Rattle.arena_map.specs.Validity.{IsValidWorld}
 use Rattle.world_tree.specs.Live.{record_at}
 use Rattle.world_physics.specs.declared.lift_step.LiftStep.{LiftStep}
 use Rattle.world_physics.specs.Returns.{each_changed, is_due, returned, after_returns}
-use Rattle.world_physics.specs.LiftSteps.{is_carried, raised, step_of, is_stopped, moved_along, after_step}
+use Rattle.world_physics.specs.LiftSteps.{raised, step_of, is_stopped, moved_along, after_step}
 use Rattle.world_physics.specs.Ticks.{after_lift, after_thing, after_things, after_tick}
 use Rattle.world_physics.specs.Laws.{ValidWorldsStayValid, HaveSameIds, IdsStay, LiftsStayOnTheirWay, at_z, has_state, ChangesOnly, OnlyPlacesAndStatesChange, IsItemAfter, ItemsReturnAtTheirFrame}
 use Rattle.world_physics.proofs.Changes.{at-changed, length-changed}
 use Rattle.world_physics.proofs.LiftRecords.{IsStepAt}
 use Rattle.world_physics.proofs.Valid.{returns_keep_valid, either_returned, either_moved, due_is_item, carried_is_player}
 use Rattle.world_physics.proofs.Stepping.{way_at}
-use Rattle.world_physics.proofs.Through.{valid_kept, through, IsKeptByEach, Becomes, each_through}
+use Rattle.world_physics.proofs.Through.{valid_kept, through, IsKeptByEach, each_through}
 
 -- ---- valid worlds
 

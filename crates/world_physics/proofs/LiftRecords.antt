@@ -1,12 +1,12 @@
 -- The record of a lift of the map in a valid world, before its step and after it.
-use Rattle.std.proofs.Common.{◌≡◌, ℕ, ◌≤◌, ◌==◌, Bool, true, false, cond, ℤ, pos, ◌+ℤ◌, ◌-ℤ◌, ◌≤ℤ◌, unsigned_abs, List, Option, Some, None, IsSome, is_some, IfSome, refl, sym, ap, ◌∙◌, subst, arith, int_eq}
+use Rattle.std.proofs.Common.{◌≡◌, ℕ, ◌≤◌, ◌==◌, Bool, true, false, cond, ℤ, pos, ◌+ℤ◌, ◌-ℤ◌, ◌≤ℤ◌, unsigned_abs, List, Option, Some, None, is_some, IfSome, refl, sym, ap, ◌∙◌, subst, arith, int_eq}
 use Rattle.std.specs.List.{find}
 use Rattle.std.proofs.lemmas.Int.{ints}
 use Rattle.std.proofs.lemmas.Option.{none-some, same_Some}
 use Rattle.entity_recs.specs.declared.kind.Kind.{Kind}
 use Rattle.entity_recs.specs.declared.kind.Kind.TheVariants as kinds
 use Rattle.entity_recs.specs.declared.rec.Rec.{Rec}
-use Rattle.entity_recs.specs.Records.{IsRecord, IsStateOf, with_state}
+use Rattle.entity_recs.specs.Records.{IsStateOf, with_state}
 use Rattle.arena_map.specs.declared.lift.Lift.{Lift}
 use Rattle.arena_map.specs.MapLines.{is_lift}
 use Rattle.arena_map.specs.Maps.{MapView, IsMap, IsLift, entities_of, lift_of}
@@ -18,8 +18,8 @@ use Rattle.arena_map.proofs.ThingData.{data_follow_kinds}
 use Rattle.arena_map.proofs.Lifts.{lift-is_lift, lifts_stay_inside}
 use Rattle.world_tree.specs.Live.{record_at}
 use Rattle.world_physics.specs.declared.lift_step.LiftStep.{LiftStep}
-use Rattle.world_physics.specs.LiftSteps.{height_of, next_height, next_state, distance_up, lift_after, raised, step_of, IsOnItsWay, IsStep}
-use Rattle.world_physics.proofs.Ways.{IsNext, next_is}
+use Rattle.world_physics.specs.LiftSteps.{next_height, next_state, lift_after, raised, step_of, IsOnItsWay, IsStep}
+use Rattle.world_physics.proofs.Ways.{next_is}
 
 -- the record is that of a lift of the map
 pub record IsLiftAt (map : MapView) (id : ℕ) (lift : Lift) (r : Rec) : Type 0 where

@@ -1,9 +1,8 @@
 -- Records and their bodies, higher by a little.
-use Rattle.std.proofs.Common.{◌≡◌, ◌≤◌, ℤ, pos, ◌+ℤ◌, Option, Some, None, SomeIff, IsSome, unsigned_abs, refl, arith}
+use Rattle.std.proofs.Common.{◌≡◌, ◌≤◌, ℤ, Option, Some, None, SomeIff, IsSome, unsigned_abs, refl, arith}
 use Rattle.std.proofs.lemmas.Int.{ints}
 use Rattle.arena_geo.specs.declared.vec3.Vec3.{Vec3}
-use Rattle.arena_geo.specs.Vectors.{IsNear}
-use Rattle.arena_geo.specs.Bounds.{Bounds, IsInRange, IsBox}
+use Rattle.arena_geo.specs.Bounds.{Bounds, IsInRange}
 use Rattle.arena_geo.specs.Boxes.{moved}
 use Rattle.entity_recs.specs.declared.rec.Rec.{Rec}
 use Rattle.entity_recs.specs.Records.{IsRecord}

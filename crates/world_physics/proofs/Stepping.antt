@@ -1,5 +1,5 @@
 -- The step of a lift, from what the code does one after another.
-use Rattle.std.proofs.Common.{◌≡◌, ◌≢◌, ◌⊎◌, ℕ, zero, suc, ◌<◌, ◌==◌, Bool, true, false, cond, List, [], ◌∷◌, length, Option, Some, None, IsSome, is_some, slice_set, slice_index_or, refl, sym, ap, ◌∙◌, subst, inl, inr, arith, get_or-set_same, get_or-set_other}
+use Rattle.std.proofs.Common.{◌≡◌, ◌≢◌, ℕ, zero, suc, ◌<◌, ◌==◌, true, false, cond, List, [], ◌∷◌, length, Option, Some, None, IsSome, is_some, slice_set, refl, sym, ap, ◌∙◌, subst, inl, inr, arith, get_or-set_same, get_or-set_other}
 use Rattle.std.specs.Option.{option_map}
 use Rattle.std.proofs.lemmas.Bool.{cases_eq}
 use Rattle.std.proofs.lemmas.Bool.Decides.{nat_tests}
@@ -8,12 +8,12 @@ use Rattle.std.proofs.lemmas.Option.{none-some, same_Some}
 use Rattle.entity_recs.specs.declared.rec.Rec.{Rec}
 use Rattle.arena_map.specs.declared.lift.Lift.{Lift}
 use Rattle.arena_map.specs.Maps.{MapView, IsMap, lift_of}
-use Rattle.arena_map.specs.Validity.{IsValidRecord, IsValidWorld}
+use Rattle.arena_map.specs.Validity.{IsValidWorld}
 use Rattle.world_tree.specs.Live.{record_at}
 use Rattle.world_tree.specs.Worlds.{WorldView, with_record, without_id}
 use Rattle.world_physics.specs.declared.lift_step.LiftStep.{LiftStep}
 use Rattle.world_physics.specs.Returns.{each_changed}
-use Rattle.world_physics.specs.LiftSteps.{IsOnItsWay, step_of, is_carried, raised, is_stopped, carried_along, moved_along, after_step}
+use Rattle.world_physics.specs.LiftSteps.{IsOnItsWay, step_of, is_stopped, carried_along, moved_along, after_step}
 use Rattle.world_physics.specs.Ticks.{after_lift}
 use Rattle.world_physics.proofs.Changes.{at-changed, length-changed, relinked}
 use Rattle.world_physics.proofs.LiftRecords.{IsStepAt, has_lift, on_its_way}

@@ -1,30 +1,29 @@
 -- A valid world stays valid where its records change one by one, and after the step of a lift.
-use Rattle.std.proofs.Common.{◌≡◌, ℕ, ◌≤◌, ◌==◌, Bool, true, false, cond, ◌&&◌, ◌||◌, List, length, Option, Some, None, IsSome, is_some, slice_set, refl, sym, ap, ◌∙◌, subst, inl, inr, arith}
+use Rattle.std.proofs.Common.{◌≡◌, ℕ, ◌≤◌, ◌==◌, Bool, true, false, cond, ◌&&◌, ◌||◌, List, Option, Some, None, refl, sym, ap, ◌∙◌, subst, arith}
 use Rattle.std.specs.List.{find}
 use Rattle.std.specs.Option.{option_map}
-use Rattle.std.proofs.lemmas.Bool.{cases_Bool, eq-eqb, ne_eqb}
 use Rattle.std.proofs.lemmas.Bool.Decides.{nat_tests}
-use Rattle.std.proofs.lemmas.Option.{none-some, same_Some}
+use Rattle.std.proofs.lemmas.Option.{same_Some}
 use Rattle.arena_geo.specs.Boxes.{overlaps, moved, is_blocked}
 use Rattle.entity_recs.specs.declared.kind.Kind.{Kind}
 use Rattle.entity_recs.specs.declared.kind.Kind.TheVariants as kinds
 use Rattle.entity_recs.specs.declared.rec.Rec.{Rec}
-use Rattle.entity_recs.specs.Records.{IsRecord, IsIdOf, IsStateOf, with_state}
+use Rattle.entity_recs.specs.Records.{IsIdOf, IsStateOf, with_state}
 use Rattle.entity_recs.specs.Bodies.{body_of}
 use Rattle.arena_map.specs.declared.lift.Lift.{Lift}
 use Rattle.arena_map.specs.MapLines.{is_item}
 use Rattle.arena_map.specs.Places.{upwards}
 use Rattle.arena_map.specs.Maps.{MapView, IsMap, entities_of, lift_of, solids_of}
-use Rattle.arena_map.specs.Validity.{IsSameLift, IsSameThing, IsAsItsLine, IsThing, IsValidRecord, IsValidWorld}
+use Rattle.arena_map.specs.Validity.{IsSameLift, IsAsItsLine, IsThing, IsValidRecord, IsValidWorld}
 use Rattle.arena_map.proofs.Boxes.{both_parts}
 use Rattle.world_tree.specs.Live.{record_at}
 use Rattle.world_physics.specs.declared.lift_step.LiftStep.{LiftStep}
 use Rattle.world_physics.specs.Returns.{each_changed, is_due, returned, after_returns}
-use Rattle.world_physics.specs.LiftSteps.{is_player, is_carried, stands_on, is_obstructed, is_pressed, is_stopped, raised, carried_along, moved_along, after_step, HasRoom}
-use Rattle.world_physics.proofs.Changes.{at-changed, WasBefore, was_before}
+use Rattle.world_physics.specs.LiftSteps.{is_player, is_carried, stands_on, is_obstructed, is_pressed, is_stopped, raised, moved_along, after_step, HasRoom}
+use Rattle.world_physics.proofs.Changes.{at-changed, was_before}
 use Rattle.world_physics.proofs.Finding.{not_found}
 use Rattle.world_physics.proofs.Raised.{raised_is_valid}
-use Rattle.world_physics.proofs.LiftRecords.{IsLiftAt, IsStepAt}
+use Rattle.world_physics.proofs.LiftRecords.{IsStepAt}
 
 -- ---- one by one
 

@@ -1,10 +1,9 @@
 -- How far a lift goes in a step.
-use Rattle.std.proofs.Common.{◌≡◌, ℕ, ◌≤◌, ◌==◌, ap, ◌∙◌, Bool, true, false, cond, ℤ, pos, ◌+ℤ◌, ◌-ℤ◌, ◌≤ℤ◌, unsigned_abs, SFits, w32, arith}
+use Rattle.std.proofs.Common.{◌≡◌, ℕ, ◌≤◌, ◌==◌, ap, ◌∙◌, Bool, true, false, cond, ℤ, pos, ◌+ℤ◌, ◌-ℤ◌, unsigned_abs, SFits, w32, arith}
 use Rattle.std.proofs.lemmas.Int.{ints, clamps}
 use Rattle.std.specs.Int.{int_min, int_max}
 use Rattle.entity_recs.specs.declared.rec.Rec.{Rec}
 use Rattle.arena_map.specs.declared.lift.Lift.{Lift}
-use Rattle.arena_map.specs.Maps.{IsLift}
 use Rattle.world_physics.specs.LiftSteps.{height_of, next_height, next_state, distance_up, raised, step_of, IsHeight, IsOnItsWay}
 use Rattle.world_physics.specs.declared.lift_step.LiftStep.{LiftStep}
 

@@ -1,5 +1,6 @@
 -- The step of a lift: how far it goes, whom it carries, what stops it, and the records by id after it.
-use Rattle.std.specs.Prelude.{◌≡◌, Some, ℕ, ◌==◌, Bool, true, false, not, ◌&&◌, ◌||◌, List, Option, if◌then◌else◌, ℤ, pos, neg_ℤ, ◌+ℤ◌, ◌-ℤ◌, ◌≤ℤ◌, ◌≤◌, unsigned_abs}
+use Rattle.std.specs.Prelude.{◌≡◌, ℕ, ◌≤◌, ◌==◌, Bool, true, false, not, ◌&&◌, ◌||◌, List, Option, Some, if◌then◌else◌}
+use Rattle.std.specs.Prelude.{ℤ, pos, neg_ℤ, ◌+ℤ◌, ◌-ℤ◌, ◌≤ℤ◌, unsigned_abs}
 use Rattle.std.specs.List.{list_any}
 use Rattle.std.specs.Ordering.{int_eq}
 use Rattle.std.specs.Int.{int_min, int_max}
@@ -123,7 +124,8 @@ carried_along step r = if is_carried step r then raised r step.up else r
 
 -- a carried player in this slot stays within the bounds of records
 pub record HasRoom (step : LiftStep) (records : List (Option Rec)) (slot : ℕ) : Type 0 where
-  pub moved_is_record : (r : Rec) → record_at records slot ≡ Some r → is_carried step r ≡ true → IsRecord (raised r step.up)
+  pub moved_is_record : (r : Rec) → record_at records slot ≡ Some r → is_carried step r ≡ true
+      → IsRecord (raised r step.up)
 
 -- a record after the step: the lift's, a carried player's, or as it was
 abbrev pub moved_along : LiftStep → Rec → Rec

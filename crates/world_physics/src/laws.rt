@@ -11,8 +11,8 @@ pub fn ids_stay()
     ensures { IdsStay }
 {}
 
-/// Where the players have room before a tick, they have room after it: no player's body overlaps a wall or a block, and no
-/// bodies of two solids overlap.
+/// Where the players have room before a tick, they have room after it: no player's body overlaps a wall or a block, and
+/// no bodies of two solids overlap.
 pub fn players_keep_room()
     ensures { PlayersKeepRoom }
 {}

@@ -49,7 +49,7 @@ pub fn return_items(world: &mut World, frame: u32)
     ensures records { world.new.records ≡ after_returns frame world.old.records }
     ensures tree { world.new.tree ≡ world.old.tree }
 {
-    let _tree = world.tree();
+    let _linked = world.tree();
     for id in 0..IDS as u16 {
         return_item(world, id, frame);
     }

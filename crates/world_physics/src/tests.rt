@@ -164,8 +164,8 @@ fn z_of(world: &World, id: u16) -> i32 {
     }
 }
 
-/// One row: the lines of the map, the players' origins, in how many frames the lifts move alone before the players join, the
-/// number of all frames, and the z of slots 0 and 1 and of the first two things after them.
+/// One row: the lines of the map, the players' origins, in how many frames the lifts move alone before the players
+/// join, the number of all frames, and the z of slots 0 and 1 and of the first two things after them.
 #[derive(Clone, Copy)]
 struct Row {
     lines: &'static [Line],

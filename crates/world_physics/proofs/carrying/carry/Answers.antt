@@ -20,4 +20,4 @@ loop-slot-preserved c = (
 
 pub returns-clause-records : goal.returns-clause-records
 returns-clause-records c =
-    all_carried c.args.step.now c.loop-slot.slot c.args.world.now c.loop-slot.world.records c.tree-tree.ensures.linked (omega arith) c.loop-slot.invariant.0
+    all_carried c.args.step.now c.loop-slot.slot c.args.world.now c.loop-slot.world.records c.tree-linked.ensures.linked (omega arith) c.loop-slot.invariant.0

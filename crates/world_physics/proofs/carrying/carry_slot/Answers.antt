@@ -1,6 +1,5 @@
-use Rattle.std.proofs.Common.{◌≡◌, ◌≤◌, ◌∙◌, ap, sym, subst, arith, SFits, w32, ℤ, ◌+ℤ◌, unsigned_abs}
+use Rattle.std.proofs.Common.{◌≡◌, ◌∙◌, ap, sym, subst, arith, SFits, w32, ℤ, ◌+ℤ◌}
 use Rattle.std.specs.Prelude.{Some}
-use Rattle.std.proofs.lemmas.Int.{ints, to_z-of_z}
 use Rattle.entity_recs.specs.declared.rec.Rec.{Rec}
 use Rattle.entity_recs.specs.Records.{IsRecord}
 use Rattle.world_tree.specs.Live.{record_at}

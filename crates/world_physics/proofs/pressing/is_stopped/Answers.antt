@@ -21,4 +21,4 @@ loop-slot-preserved c =
     c.loop-slot.invariant (sym c.presses.ensures ∙ c.if-presses.false)
 
 pub returns : goal.returns
-returns c = not_stopped c.args.map.now c.args.step.now c.args.world.now c.loop-slot.slot c.tree-tree.ensures.linked (omega arith) c.loop-slot.invariant
+returns c = not_stopped c.args.map.now c.args.step.now c.args.world.now c.loop-slot.slot c.tree-linked.ensures.linked (omega arith) c.loop-slot.invariant

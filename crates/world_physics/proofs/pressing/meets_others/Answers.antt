@@ -23,4 +23,4 @@ loop-id-preserved c =
 pub returns : goal.returns
 returns c =
     sym (none_at_last (is_in_the_way c.args.step.now c.args.body.now) c.loop-id.id c.args.world.now.records c.loop-id.invariant
-    (λ k r past at. absurd (none_past c.args.world.now.records k r (omega (arith, past, c.tree-tree.ensures.linked.places)) at)))
+    (λ k r past at. absurd (none_past c.args.world.now.records k r (omega (arith, past, c.tree-linked.ensures.linked.places)) at)))

@@ -1,5 +1,5 @@
-use Rattle.std.proofs.Common.{◌+◌, refl, ◌∙◌, arith, ap, subst, sym}
-use Rattle.world_physics.specs.Returns.{returned, changed_at}
+use Rattle.std.proofs.Common.{◌+◌, refl, ◌∙◌, arith, subst, sym}
+use Rattle.world_physics.specs.Returns.{returned}
 use Rattle.world_physics.proofs.Changes.{IsChangedBelow, changed_none, changed_more, changed_all}
 use Rattle.world_physics.proofs.Returning.{none_past}
 use Rattle.world_physics.proofs.returns.return_items.Goals as goal
@@ -17,4 +17,4 @@ loop-id-preserved c = (
 pub returns-clause-records : goal.returns-clause-records
 returns-clause-records c =
     changed_all (returned c.args.frame) c.loop-id.id c.args.world.now.records c.loop-id.world.records c.loop-id.invariant.0
-    (λ k r past at. absurd (none_past c.args.world.now.records k r (omega (arith, past, c.tree-tree.ensures.linked.places)) at))
+    (λ k r past at. absurd (none_past c.args.world.now.records k r (omega (arith, past, c.tree-linked.ensures.linked.places)) at))

@@ -1,7 +1,7 @@
 use Rattle.std.proofs.Common.{◌∙◌, sym, ap, subst}
 use Rattle.std.specs.Prelude.{is_some, IsSome}
 use Rattle.world_tree.specs.Live.{record_at}
-use Rattle.world_physics.proofs.LiftRecords.{has_lift, on_its_way, is_step_at, is_step, IsLiftAt}
+use Rattle.world_physics.proofs.LiftRecords.{has_lift, is_step_at, is_step}
 use Rattle.world_physics.proofs.Valid.{has_room}
 use Rattle.world_physics.proofs.Stepping.{still_live, step-stopped, relinked-done, after_lift-is, after_lift_is_valid, way_at}
 use Rattle.world_physics.proofs.ticking.move_lift.Goals as goal

@@ -1,4 +1,4 @@
-use Rattle.std.proofs.Common.{sym, ap, ◌∙◌, subst, SFits, w32, ◌+ℤ◌, ℤ}
+use Rattle.std.proofs.Common.{sym, ◌∙◌, subst, SFits, w32, ◌+ℤ◌, ℤ}
 use Rattle.std.proofs.lemmas.Int.{to_z-of_z}
 use Rattle.world_physics.proofs.Ways.{way_fits, step-is}
 use Rattle.world_physics.proofs.lift_step.LiftStep.of.Goals as goal

@@ -1,0 +1,58 @@
+use crate::serve;
+use edge_io::{MemSink, MemSource};
+use std::alloc::AllocGlobal;
+use std::process::Abort;
+use std::test::Fail;
+
+/// Two players that reach for one item from both sides.
+const ONE_ITEM: &str =
+    "arena -131072 -131072 0 131072 131072 65536\nspawn 24096 14000 6144\nspawn 24096 -14000 6144\nitem 20000 -4096 0 ammo 100\nframe\nfrom 7 0101\nfrom 8 0101\nfrom 7 010201000000320000c0fe00\nfrom 8 010201000000320000400100\nend\n";
+
+const ONE_ITEM_LINES: &str =
+    "frame 0\njoined 7 0\njoined 8 1\ndid 0 1 24096 11952 6144 64\ndid 1 1 24096 -11952 6144 -\nto 0 ";
+
+/// Two players in one teleporter, whose destination is free for the first alone.
+const ONE_TELEPORTER: &str =
+    "arena -131072 -131072 0 131072 131072 65536\nspawn 0 0 6144\nspawn 12800 0 6144\nteleport -25600 -25600 0 25600 25600 25600 -65536 65536 6144\nframe\nfrom 7 0101\nfrom 8 0101\nfrom 7 010201000000320000000000\nfrom 8 010201000000320000000000\nend\n";
+
+const ONE_TELEPORTER_LINES: &str =
+    "frame 0\njoined 7 0\njoined 8 1\ndid 0 1 -65536 65536 6144 -\ndid 1 1 12800 0 6144 -\nto 0 ";
+
+/// A gem that is taken, is away for a frame, and is taken again.
+const RETURNS: &str =
+    "arena -131072 -131072 0 131072 131072 65536\nspawn 0 0 6144\nitem -4096 -4096 0 gem 2\nframe\nfrom 7 0101\nfrom 7 010201000000320000000000\nframe\nfrom 7 010202000000320000000000\nframe\nfrom 7 010203000000320000000000\nend\n";
+
+const RETURNS_OUTPUT: &str =
+    "frame 0\njoined 7 0\ndid 0 1 0 0 6144 64\nto 0 010000000000000000000000000000180000000000000000000000000000010001000000000100000001004000020000f0ffff00f0ffff00000000\nframe 1\ndid 0 2 0 0 6144 -\nto 0 010100000000000000000000000000180000000000000000000000000000010001000000000200000001004000020000f0ffff00f0ffff00000000\nframe 2\ndid 0 3 0 0 6144 64\nto 0 010200000000000000000000000000180000000000000000000000000000010002000000000300000001004000020000f0ffff00f0ffff00000000\nend 3\n";
+
+/// A lift that rises once, before a player joins on it, and then would press the player against a block.
+const PRESSED: &str =
+    "arena -131072 -131072 0 131072 131072 65536\nspawn 0 0 11264\nlift -12800 -12800 0 0 12800 2560 25600 2560\nblock 0 -12800 20000 12800 12800 30000\nframe\nfrom 7 0101\nframe\nend\n";
+
+const PRESSED_OUTPUT: &str =
+    "frame 0\njoined 7 0\nto 0 0100000000000000000000000000002c0000000000000000000000000000000000000000000000000001004000050100ceffff00ceffff000a0000\nframe 1\nto 0 0101000000000000000000000000002c0000000000000000000000000000000000000000000000000001004000050100ceffff00ceffff000a0000\nend 2\n";
+
+/// Plays a recording, and compares how its output begins.
+fn expect_front(rt: &(impl AllocGlobal + Abort), recording: &str, front: &str) -> Result<(), Fail> {
+    let mut source = MemSource::new(recording.as_bytes(), 1_000, &[]);
+    let mut sink = MemSink::new(rt.alloc(), 10_000, 1_000)?;
+    let report = serve(rt.alloc(), &["play", "1"], &mut source, &mut sink);
+    assert_eq!(rt; report.status, 0);
+    assert!(rt; sink.bytes().starts_with(front.as_bytes()));
+    assert!(rt; sink.bytes().ends_with(b"\n"));
+    Ok(())
+}
+
+#[test]
+fn things_have_their_effects(rt: HostRuntime) -> Result<(), Fail> {
+    let rows = [
+        (ONE_ITEM, ONE_ITEM_LINES),
+        (ONE_TELEPORTER, ONE_TELEPORTER_LINES),
+        (RETURNS, RETURNS_OUTPUT),
+        (PRESSED, PRESSED_OUTPUT),
+    ];
+    for (recording, front) in rows {
+        expect_front(&rt, recording, front)?;
+    }
+    Ok(())
+}

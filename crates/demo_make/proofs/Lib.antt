@@ -1,0 +1,12 @@
+-- Lemmas on generated recordings.
+pub mod Steps
+pub mod Streams
+pub mod Lines
+pub mod Sending
+pub mod Texts
+pub mod MapKept
+pub mod FramesKept
+pub mod Joining
+pub mod Accepted
+pub mod Clear
+pub mod Building

@@ -1,0 +1,63 @@
+-- What holds of all generated recordings.
+use Rattle.std.specs.Prelude.{◌≡◌, ℕ, ◌+◌, ◌*◌, ◌^◌, ◌≤◌, ◌<◌, [], ◌∷◌, ◌++◌, length, map, count_by, Some, None, Ok}
+use Rattle.std.specs.List.{range_with_len}
+use Rattle.std.specs.Int.{w64, from_le_bytes, to_le_bytes}
+use Rattle.rand_core.specs.Steps.{first_words}
+use Rattle.rand_xoshiro.specs.SplitMix64.{mix_u64}
+use Rattle.packet_read.specs.declared.packet.Packet.TheVariants.{Join, Step}
+use Rattle.packet_read.specs.Reading.{reading}
+use Rattle.arena_map.specs.Maps.{IsMap}
+use Rattle.arena_map.specs.MapLines.{is_item_line, is_teleport_line, is_goal_line, is_lift_line}
+use Rattle.demo_lines.specs.Bytes.{fault, events, map_of}
+use Rattle.demo_lines.specs.Spelling.{recording_lines}
+use Rattle.demo_make.specs.declared.map_lines.TheConstants.{MAP_LINES}
+use Rattle.demo_make.specs.Words.{word_at}
+use Rattle.demo_make.specs.GeneratedMap.{generated_map, generated_lines, things}
+use Rattle.demo_make.specs.GeneratedFrames.{IsInRange, join_from, move_from, move_of, ports, moves_in, arrivals_in, generated_frames, generated_events, generated_text}
+
+-- the text of a recording has no fault, and gives the map and the events
+pub record IsReadBack (seed players frames : ℕ) : Type 0 where
+  pub fault : fault (generated_text seed players frames) ≡ None
+  pub map : map_of (generated_text seed players frames) ≡ Some generated_map
+  pub events : events (generated_text seed players frames) ≡ generated_events seed players frames
+
+-- each generated recording is in the grammar, and is read as what was written
+abbrev pub GeneratedRecordingsReadBack : Type 0
+GeneratedRecordingsReadBack = (seed players frames : ℕ) → IsInRange players frames → IsReadBack seed players frames
+
+-- the map keeps the rules of maps, and has so many of each
+pub record MapIsKnown : Type 0 where
+  pub is_map : IsMap generated_map
+  pub lines : length generated_lines ≡ 101
+  pub limit : MAP_LINES ≡ 101
+  pub spawns : length generated_map.spawns ≡ 64
+  pub blocks : length generated_map.blocks ≡ 16
+  pub items : count_by is_item_line things ≡ 16
+  pub teleporters : count_by is_teleport_line things ≡ 2
+  pub goals : count_by is_goal_line things ≡ 1
+  pub lifts : count_by is_lift_line things ≡ 1
+
+-- frame 0 has a join of each player and then a move of each, and each later frame a move of each; with the map and the
+-- end these are so many lines
+pub record FramesAreKnown : Type 0 where
+  pub first : (seed players : ℕ) → arrivals_in seed players 0 ≡ map join_from (ports players) ++ moves_in seed players 0
+  pub later : (seed players frame : ℕ) → 0 < frame → arrivals_in seed players frame ≡ moves_in seed players frame
+  pub joins : (players : ℕ) → length (map join_from (ports players)) ≡ players
+  pub moves : (seed players frame : ℕ) → length (moves_in seed players frame) ≡ players
+  pub lines : (seed players frames : ℕ) → 1 ≤ frames
+      → length (recording_lines generated_map (generated_frames seed players frames))
+      ≡ 102 + players + frames * (players + 1)
+
+-- the packets are read as joins and as moves with their numbers
+pub record PacketsAreRead : Type 0 where
+  pub joins : (port : ℕ) → reading (join_from port).bytes ≡ Ok Join
+  pub moves : (seq port word : ℕ) → seq < 2 ^ 32
+      → reading (move_from seq port word).bytes ≡ Ok (Step (move_of seq word))
+
+-- the words of a seed are those of SplitMix64 from the state that the seed's 8 bytes give, lowest first; two published
+-- ones are these
+pub record WordsAreKnown : Type 0 where
+  pub words : (seed count : ℕ) → first_words mix_u64 count seed ≡ map (word_at seed) (range_with_len 0 count)
+  pub seeded : (seed : ℕ) → seed < 2 ^ 64 → from_le_bytes w64 (to_le_bytes w64 seed) ≡ seed
+  pub published : map (word_at 1477776061723855037) (range_with_len 0 2)
+      ≡ 1985237415132408290 ∷ 2979275885539914483 ∷ []

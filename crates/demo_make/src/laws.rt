@@ -1,0 +1,41 @@
+ghost use Rattle.demo_make.specs.Laws.{GeneratedRecordingsReadBack, MapIsKnown, FramesAreKnown, PacketsAreRead, WordsAreKnown};
+ghost use Rattle.demo_make.specs.Accepting.{AllIsAccepted, SpawnsAreClear};
+
+/// Each generated recording, of 1 to 64 players and 1 to 100,000 frames, has no fault, and is read as the map and the
+/// events that it is made of.
+pub fn generated_recordings_read_back()
+    ensures { GeneratedRecordingsReadBack }
+{}
+
+/// The map of generated recordings keeps the rules of maps. It has 101 lines: the arena, 64 spawns, 16 blocks,
+/// 16 items, 2 teleporters, a goal and a lift.
+pub fn map_is_known()
+    ensures { MapIsKnown }
+{}
+
+/// Frame 0 has a join of each player and then a move of each, each later frame a move of each.
+pub fn frames_are_known()
+    ensures { FramesAreKnown }
+{}
+
+/// The packets of a generated recording are read as joins, and as moves with the numbers that the words give.
+pub fn packets_are_read()
+    ensures { PacketsAreRead }
+{}
+
+/// Every join and every move of a generated recording is accepted: in frame 0 where nobody is joined and nothing is at
+/// the spawns, and in each later frame whatever the moves before it were.
+pub fn all_is_accepted()
+    ensures { AllIsAccepted }
+{}
+
+/// In a valid world without players no body of a live solid is at a spawn of a generated recording, wherever the lift
+/// is.
+pub fn spawns_are_clear()
+    ensures { SpawnsAreClear }
+{}
+
+/// The words that are drawn are those of SplitMix64 from the seed, two published ones among them.
+pub fn words_are_known()
+    ensures { WordsAreKnown }
+{}

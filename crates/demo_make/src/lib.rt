@@ -1,0 +1,22 @@
+//! Recordings from a number: an arena, players that join in the first frame, and a move of each in each frame.
+#![tactic(auto)]
+
+pub use arena::generated_map;
+pub use generated_event::GeneratedEvent;
+pub use generator::Generator;
+pub use laws::{frames_are_known, generated_recordings_read_back, map_is_known, packets_are_read};
+pub use make_stop::MakeStop;
+pub use map_lines::{MAP_LINES, map_line};
+pub use writing::make;
+
+mod arena;
+mod generated_event;
+mod generator;
+mod laws;
+mod make_stop;
+mod map_lines;
+mod moves;
+#[cfg(test)]
+mod tests;
+mod text;
+mod writing;
