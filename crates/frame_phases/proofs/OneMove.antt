@@ -1,5 +1,5 @@
 -- One move, from what its code computes.
-use Rattle.std.proofs.Common.{◌≡◌, ◌≢◌, ℕ, ◌+◌, ◌<◌, ◌≤◌, ◌==◌, List, [], ◌∷◌, ◌++◌, length, take, drop, map as map_list, Option, Some, None, IsSome, is_some, slice_set, sym, ap, ◌∙◌, subst, refl}
+use Rattle.std.proofs.Common.{◌≡◌, ℕ, ◌<◌, ◌≤◌, ◌==◌, List, [], ◌∷◌, map as map_list, Option, Some, None, IsSome, is_some, slice_set, sym, ap, ◌∙◌, subst}
 use Rattle.std.specs.Prelude.{All}
 use Rattle.std.specs.List.{IsDistinct}
 use Rattle.std.specs.List.Sorted.{IsStrictlyIncreasing}
@@ -9,17 +9,20 @@ use Rattle.arena_geo.specs.Bounds.{Bounds}
 use Rattle.entity_recs.specs.declared.rec.Rec.{Rec}
 use Rattle.entity_recs.specs.declared.effect.Effect.{Effect}
 use Rattle.entity_recs.specs.declared.effect.NewState.{NewState}
-use Rattle.entity_recs.specs.declared.effect.Reply.{Reply}
 use Rattle.entity_recs.specs.Records.{IsRecord}
+use Rattle.entity_recs.specs.Actions.{HasPlayer}
 use Rattle.entity_recs.specs.Commands.{Command}
 use Rattle.entity_recs.specs.Worlds.{others_of}
 use Rattle.arena_map.specs.Maps.{MapView, IsMap}
 use Rattle.arena_map.specs.Validity.{IsValidRecord, IsValidWorld}
 use Rattle.trigger_rules.specs.Laws.{IsPlayerOn}
 use Rattle.arena_actions.specs.Outcomes.{outcome_in}
+use Rattle.arena_actions.specs.Regions.{region_in}
+use Rattle.arena_actions.specs.Takes.{takes}
 use Rattle.arena_actions.specs.Lawful.Moves.{new_states_apart}
 use Rattle.world_tree.specs.Live.{record_at, live_in}
-use Rattle.world_tree.specs.Worlds.{WorldView, without_id, with_record}
+use Rattle.world_tree.specs.Worlds.{WorldView, IsLinked, without_id, with_record}
+use Rattle.world_tree.proofs.Rising.{near_ids_rise}
 use Rattle.world_tree.specs.Queries.{is_near, near_in}
 use Rattle.plain_server.specs.RecordsById.{record_or_nobody, world_of}
 use Rattle.plain_server.specs.Moving.{effect_among, records_after, with_new_states}
@@ -28,6 +31,7 @@ use Rattle.plain_server.proofs.NewStates.{IsOfItem, live-restated}
 use Rattle.plain_server.proofs.Others.{each_live, near-others}
 use Rattle.plain_server.proofs.Players.{slot_is_player}
 use Rattle.plain_server.proofs.Takes.{of_items}
+use Rattle.plain_server.proofs.InRegion.{among_near}
 
 -- the records near a region are within their bounds
 pub near_are_records : (map : MapView) (records : List (Option Rec)) (region : List Bounds) (slot : ℕ) → IsValidWorld map records → All IsRecord (near_in records region slot)
@@ -42,18 +46,16 @@ player_on map records slot me valid below at score =
     let kind = slot_is_player map slot me here below in
     record { kind = kind; is_record = here.is_record; score = score; inside = here.inside kind }
 
--- what the code of a move computes: the player's record, the others, and the effect
-pub record RunsOne (map : MapView) (records : List (Option Rec)) (c : Command) (me : Rec) (near : List Rec) (e : Effect) : Type 0 where
+-- what the code of a move computes: the player's record, and its effect among all other live records
+pub record RunsOne (map : MapView) (records : List (Option Rec)) (c : Command) (me : Rec) (e : Effect) : Type 0 where
   pub at : record_at records c.slot ≡ Some me
-  pub near_is : near ≡ others_of (world_of records) c.slot
-  pub effect_is : e ≡ outcome_in map me near c
+  pub effect_is : e ≡ outcome_in map me (others_of (world_of records) c.slot) c
 
-module _ (map : MapView) (records : List (Option Rec)) (c : Command) (me : Rec) (near : List Rec) (e : Effect) (runs : RunsOne map records c me near e) where
+module _ (map : MapView) (records : List (Option Rec)) (c : Command) (me : Rec) (e : Effect) (runs : RunsOne map records c me e) where
   -- the effect is that of the command among the records
   effect-is : e ≡ effect_among map records c
   effect-is =
       runs.effect_is
-      ∙ ap (λ (others : List Rec). outcome_in map me others c) runs.near_is
       ∙ ap (λ (r : Rec). outcome_in map r (others_of (world_of records) c.slot) c) (sym (ap record_or_nobody runs.at))
 
   -- so is the reply
@@ -72,9 +74,9 @@ module _ (map : MapView) (records : List (Option Rec)) (c : Command) (me : Rec) 
       (of_items map records c (λ id r at. (valid.each id r at).own_id)))
 
   -- each of one record
-  pub states_are_apart : IsStrictlyIncreasing (map_list (λ r. r.id) near) → IsDistinct (λ (a b : NewState). a.id == b.id) e.states
+  pub states_are_apart : IsStrictlyIncreasing (map_list (λ r. r.id) (others_of (world_of records) c.slot)) → IsDistinct (λ (a b : NewState). a.id == b.id) e.states
   states_are_apart rising =
-      subst (λ (x : Effect). IsDistinct (λ (a b : NewState). a.id == b.id) x.states) (sym runs.effect_is) (new_states_apart map me near c rising)
+      subst (λ (x : Effect). IsDistinct (λ (a b : NewState). a.id == b.id) x.states) (sym runs.effect_is) (new_states_apart map me (others_of (world_of records) c.slot) c rising)
 
   -- the player is live still where the states are new
   pub new_is_live : (restated : List (Option Rec)) → restated ≡ with_new_states e.states records → IsMap map → IsValidWorld map records → c.slot < 64 → IsSome (record_at restated e.me.id)
@@ -93,12 +95,19 @@ module _ (map : MapView) (records : List (Option Rec)) (c : Command) (me : Rec) 
       ∙ ap (λ (id : ℕ). slice_set (with_new_states e.states records) id (Some e.me)) (new_is_valid is_map valid below).own_id
       ∙ ap (λ (x : Effect). slice_set (with_new_states x.states records) c.slot (Some x.me)) effect-is
 
--- the same, from what the code's calls ensure
+-- the same, from what the code's calls ensure: the player moves among the records near its region
 pub runs_one : (map : MapView) (records : List (Option Rec)) (c : Command) (slot : ℕ) (me : Rec) (region : List Bounds) (near taken : List Rec) (e : Effect) → IsMap map → IsValidWorld map records
-    → slot ≡ c.slot → record_at records slot ≡ Some me → region ≡ map.bounds ∷ [] → near ≡ near_in records region slot → taken ≡ near → e ≡ outcome_in map me taken c
-    → RunsOne map records c me taken e
-runs_one map records c slot me region near taken e is_map valid slot_is at region_is near_is taken_is effect_is = record {
+    → HasPlayer (takes map) me c → IsStrictlyIncreasing (map_list (λ r. r.id) (others_of (world_of records) c.slot))
+    → slot ≡ c.slot → record_at records slot ≡ Some me → region ≡ region_in map me c → near ≡ near_in records region slot → taken ≡ near → e ≡ outcome_in map me taken c
+    → RunsOne map records c me e
+runs_one map records c slot me region near taken e is_map valid player rising slot_is at region_is near_is taken_is effect_is = record {
   at = ap (record_at records) (sym slot_is) ∙ at;
-  near_is = taken_is ∙ near_is ∙ ap (λ (boxes : List Bounds). near_in records boxes slot) region_is ∙ ap (near_in records (map.bounds ∷ [])) slot_is ∙ near-others map records c.slot is_map valid;
-  effect_is = effect_is;
+  effect_is =
+      let near_here = taken_is ∙ near_is ∙ ap (λ (boxes : List Bounds). near_in records boxes slot) region_is ∙ ap (near_in records (region_in map me c)) slot_is in
+      effect_is ∙ ap (λ (others : List Rec). outcome_in map me others c) near_here ∙ among_near map records me c is_map valid player rising;
 }
+
+-- the other live records have rising ids
+pub others_rise : (map : MapView) (w : WorldView) (slot : ℕ) → IsMap map → IsValidWorld map w.records → IsLinked w → IsStrictlyIncreasing (map_list (λ r. r.id) (others_of (world_of w.records) slot))
+others_rise map w slot is_map valid linked =
+    subst (λ (rs : List Rec). IsStrictlyIncreasing (map_list (λ (r : Rec). r.id) rs)) (near-others map w.records slot is_map valid) (near_ids_rise w (map.bounds ∷ []) slot linked)

@@ -1,16 +1,20 @@
 ghost use Rattle.std.specs.Prelude.{◌≡◌, ◌≤◌, ◌==◌, [], length, map as map_list, All, IsSome};
 ghost use Rattle.std.specs.List.{IsDistinct};
+ghost use Rattle.entity_recs.specs.Actions.{HasPlayer};
 ghost use Rattle.entity_recs.specs.Commands.{command_of};
+ghost use Rattle.trigger_rules.specs.Laws.{IsPlayerOn};
 ghost use Rattle.move_journal.specs.Merges.{journal_in_order};
 ghost use Rattle.arena_map.specs.Validity.{IsValidWorld};
 ghost use Rattle.arena_actions.specs.Outcomes.{outcome_in};
+ghost use Rattle.arena_actions.specs.Regions.{region_in};
+ghost use Rattle.arena_actions.specs.Takes.{takes};
 ghost use Rattle.world_tree.specs.Live.{record_at};
 ghost use Rattle.plain_server.specs.RecordsById.{world_of};
 ghost use Rattle.plain_server.specs.Moving.{HasLivePlayer, HaveMoved, effect_among, records_after, with_new_states};
 
 use arena_actions::ArenaAction;
 use arena_geo::Region;
-use entity_recs::{Cmd, Effect, Entry, NewState, Rec, Reply};
+use entity_recs::{Action, Cmd, Effect, Entry, NewState, Rec, Reply};
 use move_journal::Journal;
 use world_tree::{NearList, World};
 
@@ -32,7 +36,19 @@ fn set_states(world: &mut World, states: &[NewState])
     }
 }
 
-/// Runs one move of a live player, and gives its reply. `near` is for the other live records.
+/// The region of a command of this player. Both are taken by value, so that their numbers are known to be those of their
+/// types.
+fn region_of(action: &ArenaAction, me: Rec, cmd: Cmd) -> Region
+    requires player { IsPlayerOn action.now.map me }
+    requires own { me.id ≡ cmd.slot }
+    ensures region { result ≡ region_in action.now.map me (command_of cmd) }
+    ensures asks { HasPlayer (takes action.now.map) me (command_of cmd) }
+{
+    action.region(&me, &cmd)
+}
+
+/// Runs one move of a live player, and gives its reply. The move looks only at the other live records that touch its
+/// region, which `near` is for.
 fn run_move(action: &ArenaAction, world: &mut World, cmd: &Cmd, near: &mut NearList) -> Reply
     requires valid { IsValidWorld action.now.map world.old.records }
     requires live { HasLivePlayer world.old.records (command_of cmd.now) }
@@ -43,7 +59,7 @@ fn run_move(action: &ArenaAction, world: &mut World, cmd: &Cmd, near: &mut NearL
     let slot = u16::from(cmd.slot);
     let me = world.get(slot).unwrap();
     near.clear();
-    world.near(&Region::one(*action.map().bounds()), slot, near);
+    world.near(&region_of(action, me, *cmd), slot, near);
     let Effect { me, states, reply } = action.act(&me, near.as_slice(), cmd);
     set_states(world, states.as_slice());
     world.relink(me);

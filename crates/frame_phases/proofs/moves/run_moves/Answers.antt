@@ -1,6 +1,5 @@
 use Rattle.std.proofs.Common.{ap, arith, length, ◌∙◌}
 use Rattle.std.proofs.lemmas.List.{length_push}
-use Rattle.entity_recs.specs.declared.effect.Entry.{Entry}
 use Rattle.move_journal.specs.Logs.{JournalView}
 use Rattle.frame_phases.proofs.Running.{runs-next, live-next}
 use Rattle.frame_phases.proofs.moves.run_moves.Goals as goal

@@ -1,6 +1,4 @@
-use Rattle.std.proofs.Common.{◌+◌, length, sym, subst, ap, ◌∙◌, arith}
-use Rattle.move_journal.specs.Logs.{JournalView}
-use Rattle.world_tree.specs.Worlds.{WorldView}
+use Rattle.std.proofs.Common.{◌+◌, sym, subst, ap, ◌∙◌, arith}
 use Rattle.client_ports.specs.States.{state_of, IsServerState}
 use Rattle.client_ports.specs.Receiving.{receiving_of}
 use Rattle.plain_server.specs.Replies.{slots_of, replies_of}
