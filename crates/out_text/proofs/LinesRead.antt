@@ -1,12 +1,12 @@
 -- Lines of the output are read as they were printed, and what is read was printed.
-use Rattle.std.proofs.Common.{◌≡◌, ℕ, zero, suc, ◌+◌, ◌^◌, ◌<◌, ◌≤◌, ◌==◌, Bool, true, false, cond, ◌&&◌, List, [], ◌∷◌, ◌++◌, length, map, Option, Some, None, codes, bytes_eq, ℤ, pos, negsuc, decimal, unsigned_abs, refl, ap, sym, ◌∙◌, subst, arith, append_assoc, append-nil, rules}
+use Rattle.std.proofs.Common.{◌≡◌, ℕ, suc, ◌^◌, ◌<◌, ◌≤◌, ◌==◌, Bool, true, false, cond, List, [], ◌∷◌, ◌++◌, length, map, Option, Some, None, codes, bytes_eq, ℤ, pos, negsuc, decimal, unsigned_abs, refl, ap, sym, ◌∙◌, subst, arith, append_assoc, append-nil}
 use Rattle.std.specs.Prelude.{nat_le, nat_lt, FitsSigned, find, option_map, if◌then◌else◌, IfSome}
 use Rattle.std.specs.Int.{w32}
 use Rattle.std.specs.Fmt.{signed_decimal}
 use Rattle.std.specs.List.{list_all, AllByRecursion, slice_split, join_with_byte}
 use Rattle.std.proofs.lemmas.Bool.Decides.{nat_tests}
 use Rattle.std.proofs.lemmas.Bool.{leb-true, ltb-true}
-use Rattle.std.proofs.lemmas.Int.{ints, fits_signed_from_abs}
+use Rattle.std.proofs.lemmas.Int.{ints}
 use Rattle.std.proofs.lemmas.Slice.Eq.{bytes_eq-Decides}
 use Rattle.std.proofs.lemmas.List.Splits.{join_with_byte-slice_split}
 use Rattle.arena_geo.specs.declared.vec3.Vec3.{Vec3}
@@ -22,9 +22,9 @@ use Rattle.packet_read.specs.declared.packet_fault.PacketFault.TheVariants.{Empt
 use Rattle.hex.specs.Hex.{encode_lower}
 use Rattle.out_text.specs.Dids.{Did}
 use Rattle.out_text.specs.OutLines.{OutLine, FrameLine, NoLine, JoinedLine, DidLine, ToLine, EndLine, name_of, ids_text, spelled}
-use Rattle.out_text.specs.Journals.{number_at, integer_at, all_there, ids_in, alone, is_coordinate}
-use Rattle.out_text.specs.Ranges.{IsJoinInRange, IsDidInRange, IsSnapshotInRange, IsInRange, IsPrinted, HasRoom}
-use Rattle.out_text.specs.Reading.{passing, within, coordinate_at, origin_at, few_ids, refusals, refusal_of, is_lower_digit, bytes_in, frame_in, no_in, joined_in, did_line_in, to_in, end_in, line_in}
+use Rattle.out_text.specs.Journals.{number_at, all_there, ids_in, alone, is_coordinate}
+use Rattle.out_text.specs.Ranges.{IsInRange, IsPrinted, HasRoom}
+use Rattle.out_text.specs.Reading.{passing, within, coordinate_at, origin_at, few_ids, refusals, refusal_of, bytes_in, frame_in, no_in, joined_in, did_line_in, to_in, end_in, line_in}
 use Rattle.out_text.proofs.Spellings.{AreIds, joined, ids-read}
 use Rattle.out_text.proofs.HexTexts.{hex-back, hex-sound, hex-above}
 

@@ -1,4 +1,4 @@
-use Rattle.std.proofs.Common.{◌≡◌, ◌∷◌, ◌+◌, ◌<◌, take, drop, length, ap, sym, ◌∙◌, arith, length-drop}
+use Rattle.std.proofs.Common.{◌∷◌, ◌+◌, ◌<◌, take, length, ap, sym, ◌∙◌, arith, length-drop}
 use Rattle.out_text.specs.Reading.{parts_of}
 use Rattle.out_text.proofs.Ids.{first_part, no_comma, rest_is}
 use Rattle.out_text.proofs.reading.at_comma.Goals as goal

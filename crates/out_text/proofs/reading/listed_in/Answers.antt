@@ -1,7 +1,7 @@
-use Rattle.std.proofs.Common.{◌≡◌, [], ◌∷◌, ◌++◌, ◌<◌, ◌≤◌, length, Some, None, ap, sym, ◌∙◌, rules, arith}
+use Rattle.std.proofs.Common.{◌≡◌, [], ◌∷◌, ◌++◌, ◌<◌, ◌≤◌, length, Some, None, ap, sym, ◌∙◌, rules}
 use Rattle.edge_io.specs.Numbers.{natural_up_to}
 use Rattle.out_text.specs.Reading.{few_ids, parts_of, listed_in}
-use Rattle.out_text.proofs.Ids.{after_nothing, bad_part, full_part, next_part, last_part, IsReadSoFar}
+use Rattle.out_text.proofs.Ids.{after_nothing, bad_part, full_part, next_part, last_part}
 use Rattle.out_text.proofs.reading.listed_in.Goals as goal
 
 pub loop-part-init : goal.loop-part-init
