@@ -6,7 +6,7 @@ use Rattle.arena_engine.specs.declared.report.Report.{Report}
 abbrev pub notice_of : Report → List ℕ
 notice_of report =
     if report.status == 1 then codes "recording refused: line " ++ decimal report.line
-        ++ codes ", fault " ++ decimal report.fault
+    ++ codes ", fault " ++ decimal report.fault
     else if report.status == 2 then codes "words refused"
     else if report.status == 3 then codes "read fault"
     else if report.status == 4 then codes "write fault"

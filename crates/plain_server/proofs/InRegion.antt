@@ -159,8 +159,8 @@ both p q [] = refl
 both p q (r ∷ rs) =
     let tail = both p q rs in
     elim (cases_Bool (q r)) [
-      inl e ↦ elim (cases_Bool (p r)) [ inl f ↦ rw (e, f) (ap (λ (l : List Rec). r ∷ l) tail) | inr f ↦ rw (e, f) tail ]
-    | inr e ↦ elim (cases_Bool (p r)) [ inl f ↦ rw (e, f) tail | inr f ↦ rw (e, f) tail ]
+      | inl e ↦ elim (cases_Bool (p r)) [ inl f ↦ rw (e, f) (ap (λ (l : List Rec). r ∷ l) tail) | inr f ↦ rw (e, f) tail ]
+      | inr e ↦ elim (cases_Bool (p r)) [ inl f ↦ rw (e, f) tail | inr f ↦ rw (e, f) tail ]
     ]
 
 module _ (map : MapView) (records : List (Option Rec)) (me : Rec) (c : Command) (is_map : IsMap map) (valid : IsValidWorld map records)
