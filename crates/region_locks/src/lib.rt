@@ -1,0 +1,6 @@
+//! The shared words of parallel moves under one rule: each call is a step of the pure core.
+#![tactic(auto)]
+
+mod key;
+mod plays;
+mod sight;
