@@ -21,7 +21,7 @@ use Rattle.core_steps.proofs.OneWord.{steps_change_one_word}
 use Rattle.region_locks.specs.Sights.{SightView}
 use Rattle.region_locks.specs.Going.{view_found, word_left, next_asked, MayGo}
 use Rattle.region_locks.specs.Rule.{at_rest, HasWords, HasSeats, ServesItsSlots, HasRooms, IsRuled}
-use Rattle.region_locks.proofs.Steps.{view_here, view_there, word_here}
+use Rattle.region_locks.proofs.Changing.{view_here, view_there, word_here}
 use Rattle.region_locks.proofs.Views.{command_next, keeps_found, asked_is}
 
 none_given : {R : Type 0} (c : Command) → None ≡ Some c → R
@@ -219,6 +219,10 @@ module _ (F : Fixed) (rooms : List ℕ) (s : State (Unit {0}) SightView) (r : Is
       serves = serves_after;
       fits = fits_after;
     }
+
+    -- the step is one on a word of the table
+    pub goes_in_table : index_of 31 sight.view next < 639
+    goes_in_table = subst (λ (v : View). index_of 31 v next < 639) seen in_table
 
     -- the rule holds after the step
     pub goes : (left : ℕ) → left ≡ word_left F sight.number sight.view next (slice_index s.words (index_of 31 sight.view next))

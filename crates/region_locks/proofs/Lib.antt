@@ -1,4 +1,6 @@
 -- Lemmas on the rule of the table.
-pub mod Steps
+pub mod Changing
 pub mod Views
 pub mod Goes
+pub mod Told
+pub mod Allowed

@@ -1,15 +1,40 @@
 -- What a step tells its caller.
-use Rattle.std.specs.Prelude.{◌≡◌, ℕ, true, []}
+use Rattle.std.specs.Prelude.{◌≡◌, ◌≢◌, ℕ, ◌<◌, Bool, true, List, [], Option}
+use Rattle.entity_recs.specs.Commands.{Command}
 use Rattle.entity_recs.specs.Worlds.{zero_vector, world_of}
-use Rattle.core_steps.specs.Views.{Fixed}
-use Rattle.core_steps.specs.Machine.{Next}
+use Rattle.entity_recs.specs.Actions.{HasPlayer, IsCall}
+use Rattle.core_steps.specs.Views.{Fixed, Resolving, Point, Stage, stage_of, is_busy, is_open, is_whole, View, record_read, leaf_nodes, region_in, leaves_held, inner_held, loaded_near}
+use Rattle.core_steps.specs.Stands.{IsGiven, IsHolding, IsUnread, IsAt, IsLogWithin}
+use Rattle.core_steps.specs.Machine.{Next, index_of, HasNext, ViewFits}
 use Rattle.region_locks.specs.Sights.{SightView}
-use Rattle.region_locks.specs.Going.{view_found}
+use Rattle.region_locks.specs.Going.{view_found, MayGo}
 
--- the seat keeps its number, and its view is the one after the step
-pub record Went (F : Fixed) (next : Next) (before : SightView) (found : ℕ) (after : SightView) : Type 0 where
-  pub number : after.number ≡ before.number
-  pub view : after.view ≡ view_found F before.view next found
+-- what the rule says of one view alone
+pub record IsSound (F : Fixed) (view : View) : Type 0 where
+  pub hand : is_busy (stage_of view.point) ≡ true → IsGiven F view.cmd
+  pub whole : is_whole (stage_of view.point) ≡ true → view.wanted ≡ leaf_nodes F (region_in F view.cmd view.own)
+  pub holding : IsHolding F view.wanted (leaves_held view.point view.wanted) (inner_held F view.point)
+  pub unread : IsUnread (stage_of view.point) view.own view.again view.lists view.others view.states view.effect
+  pub at : IsAt F view.cmd view.own view.wanted view.again view.lists view.others view.states view.effect view.point
+  pub next : HasNext view.point view.wanted
+  pub fits : ViewFits F view
+  pub region : is_open (stage_of view.point) ≡ true → is_whole (stage_of view.point) ≡ true
+      → HasPlayer F.takes (record_read view.cmd.slot view.own) view.cmd
+  pub effect : view.point ≡ Resolving
+      → IsCall F.takes (record_read view.cmd.slot view.again) (loaded_near F view) view.cmd
+
+-- a sound view, from which each step that may come lies in the table
+pub record IsToldOf (F : Fixed) (passes : ℕ) (sight : SightView) : Type 0 where
+  pub sound : IsSound F sight.view
+  pub in_table : (given : Option Command) (quits : Bool) (next : Next)
+      → MayGo F passes sight.number sight.view given quits next → index_of 31 sight.view next < 639
+
+-- the seat keeps its number, its view is the one after the step, and that is sound
+pub record Went (F : Fixed) (passes : ℕ) (next : Next) (before : SightView) (found : ℕ) (after : SightView) : Type 0
+  where
+    pub number : after.number ≡ before.number
+    pub view : after.view ≡ view_found F before.view next found
+    pub told : IsToldOf F passes after
 
 -- in place of what doesn't change, where no step is picked
 abbrev pub nothing_fixed : Fixed

@@ -4,3 +4,4 @@
 mod key;
 mod plays;
 mod sight;
+mod steps;

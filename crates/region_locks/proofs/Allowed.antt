@@ -1,0 +1,79 @@
+-- What each step on a word asks of the rule.
+use Rattle.std.proofs.Common.{◌≡◌, ℕ, zero, suc, ◌+◌, ◌<◌, Bool, true, false, if◌then◌else◌, List, [], ◌∷◌, length, refl, sym, ◌∙◌, subst, Option, arith, slice_index}
+use Rattle.std.specs.Prelude.{◌==◌}
+use mathlib.Core.Option as maybe
+use mathlib.Core.Option.{some-ne-none}
+use lib.ListN.{get_elem?}
+use prog.Atomic.{either}
+use Rattle.atomic_table.specs.Table.{State, Me, keeps, Allows}
+use Rattle.atomic_table.proofs.Lists.{set_here}
+use Rattle.entity_recs.specs.Commands.{Command}
+use Rattle.core_steps.specs.Views.{Fixed}
+use Rattle.core_steps.specs.Machine.{Next, index_of}
+use Rattle.region_locks.specs.Sights.{SightView}
+use Rattle.region_locks.specs.Going.{view_found, word_left, MayGo}
+use Rattle.region_locks.specs.Rule.{IsRuled}
+use Rattle.region_locks.specs.Plays.{Went}
+use Rattle.region_locks.proofs.Goes.{goes}
+use Rattle.region_locks.proofs.Told.{told}
+
+-- a place at which there is something is in the list
+pub there_below : {A : Type 0} (xs : List A) (i : ℕ) (x : A) → get_elem? xs i ≡ maybe.some x → i < length xs
+there_below [] i x e = absurd (some-ne-none x (sym e))
+there_below (y ∷ ys) zero x e = omega arith
+there_below (y ∷ ys) (suc i) x e = let below = there_below ys i x e in omega arith
+
+-- a step that leaves in its word what it should is allowed, and tells the view after it
+allowed_here : (F : Fixed) (rooms : List ℕ) (slots i : ℕ) (me : Me (Unit {0}) SightView) (given : Option Command) (quits : Bool) (next : Next) (f : ℕ → ℕ)
+    → MayGo F (length rooms) me.0.number me.0.view given quits next
+    → ((found : ℕ) → found < 18446744073709551616 → f found ≡ word_left F me.0.number me.0.view next found)
+    → Allows (IsRuled F rooms) slots i me (index_of 31 me.0.view next) f (λ found after. Went F (length rooms) next me.0 found after.0)
+allowed_here F rooms slots i me given quits next f may leaves s r _ at small =
+    let found = slice_index s.words (index_of 31 me.0.view next) in
+    let new : SightView = record { number = me.0.number; view = view_found F me.0.view next found } in
+    let ruled = goes F rooms s r i me.0 at given quits next may (f found) (leaves found small) in (
+      new,
+      keeps,
+      tt,
+      ruled,
+      record { number = refl; view = refl; told = told F rooms _ ruled i new (set_here s.views i new (there_below s.views i me.0 at)) },
+    )
+
+-- the same where what doesn't change, the number of passes and the word are picked
+pub allowed : (F G : Fixed) (rooms : List ℕ) (passes word slots i : ℕ) (me : Me (Unit {0}) SightView) (given : Option Command) (quits : Bool) (next : Next) (f : ℕ → ℕ)
+    → F ≡ G → passes ≡ length rooms → word ≡ index_of 31 me.0.view next → MayGo F passes me.0.number me.0.view given quits next
+    → ((found : ℕ) → found < 18446744073709551616 → f found ≡ word_left F me.0.number me.0.view next found)
+    → Allows (IsRuled G rooms) slots i me word f (λ found after. Went F passes next me.0 found after.0)
+allowed F G rooms passes word slots i me given quits next f fixed count at may leaves =
+    subst (λ (H : Fixed). Allows (IsRuled H rooms) slots i me word f (λ found after. Went F passes next me.0 found after.0)) fixed
+    (subst (λ (n : ℕ). Allows (IsRuled F rooms) slots i me word f (λ found after. Went F n next me.0 found after.0)) (sym count)
+    (subst (λ (n : ℕ). Allows (IsRuled F rooms) slots i me n f (λ found after. Went F (length rooms) next me.0 found after.0)) (sym at)
+    (allowed_here F rooms slots i me given quits next f (subst (λ (n : ℕ). MayGo F n me.0.number me.0.view given quits next) count may) leaves)))
+
+-- the same for a store, whose step is told the word that is stored
+pub allowed_store : (F G : Fixed) (rooms : List ℕ) (passes word slots i : ℕ) (me : Me (Unit {0}) SightView) (given : Option Command) (quits : Bool) (next : Next) (new : ℕ)
+    → F ≡ G → passes ≡ length rooms → word ≡ index_of 31 me.0.view next → MayGo F passes me.0.number me.0.view given quits next
+    → ((found : ℕ) → word_left F me.0.number me.0.view next found ≡ new)
+    → ((found : ℕ) → view_found F me.0.view next found ≡ view_found F me.0.view next new)
+    → Allows (IsRuled G rooms) slots i me word (λ _. new) (λ _ after. Went F passes next me.0 new after.0)
+allowed_store F G rooms passes word slots i me given quits next new fixed count at may leaves blind s r homes here small =
+    let step = allowed F G rooms passes word slots i me given quits next (λ _. new) fixed count at may (λ found _. sym (leaves found)) s r homes here small in
+    let went = step.4 in (
+      step.0,
+      step.1,
+      step.2,
+      step.3,
+      record { number = went.number; view = went.view ∙ blind (slice_index s.words word); told = went.told },
+    )
+
+either_is : (b : Bool) (x y : ℕ) → either b x y ≡ (if b then x else y)
+either_is true x y = refl
+either_is false x y = refl
+
+-- the same for a compare-exchange from 0
+pub allowed_from_0 : (F G : Fixed) (rooms : List ℕ) (passes word slots i : ℕ) (me : Me (Unit {0}) SightView) (given : Option Command) (quits : Bool) (next : Next) (new : ℕ)
+    → F ≡ G → passes ≡ length rooms → word ≡ index_of 31 me.0.view next → MayGo F passes me.0.number me.0.view given quits next
+    → ((found : ℕ) → word_left F me.0.number me.0.view next found ≡ (if found == 0 then new else found))
+    → Allows (IsRuled G rooms) slots i me word (λ n. either (n == 0) new n) (λ found after. Went F passes next me.0 found after.0)
+allowed_from_0 F G rooms passes word slots i me given quits next new fixed count at may leaves =
+    allowed F G rooms passes word slots i me given quits next (λ n. either (n == 0) new n) fixed count at may (λ found _. either_is (found == 0) new found ∙ sym (leaves found))
