@@ -4,3 +4,9 @@ pub mod Views
 pub mod Goes
 pub mod Told
 pub mod Allowed
+pub mod Bits
+pub mod Counting
+pub mod Idle
+pub mod Looking
+pub mod Making
+pub mod Ending

@@ -3,7 +3,7 @@ use Rattle.std.specs.Prelude.{ℕ, suc, ◌%◌, ◌≡◌, ◌==◌, Bool, true
 use Rattle.entity_recs.specs.declared.effect.Effect.{Effect}
 use Rattle.entity_recs.specs.Commands.{Command}
 use Rattle.core_steps.specs.Cells.{with_bit, without_bit}
-use Rattle.core_steps.specs.Views.{Fixed, Store, Clear, Put, Link, AtClaiming, stage_of, View, without_command, inner_held, leaves_held, held_word}
+use Rattle.core_steps.specs.Views.{Fixed, Store, Clear, Put, Link, Idle, AtClaiming, stage_of, View, without_command, inner_held, leaves_held, held_word}
 use Rattle.core_steps.specs.Steps.{view_after_take, view_after_claim, view_after_refusal, point_after_take, view_after_give, yielded, view_after_list, view_after_begin, view_after_own, view_after_again, player_loaded, view_after_state, view_after_commit, storing, first_yield, is_taking}
 use Rattle.core_steps.specs.Machine.{Next, Begin, LoadOwn, LoadAgain, TakeNode, ClaimNode, ReadList, ReadPlayer, ReadState, CommitMove, StoreWord, GiveNode, YieldNode, YieldCount, next_at, quitting, IsPending}
 
@@ -64,3 +64,12 @@ pub record MayGo (F : Fixed) (passes number : ℕ) (view : View) (given : Option
   pub pending : (c : Command) → given ≡ Some c → IsPending F view c
   pub serves : (c : Command) → given ≡ Some c → c.slot % passes ≡ number
   pub at_take : quits ≡ true → is_taking view.point ≡ true
+
+-- a seat that lives rests: no command is in view
+pub record IsAtRest (view : View) : Type 0 where
+  pub lives : view.live ≡ true
+  pub idle : view.point ≡ Idle
+
+-- the view after the count was loaded
+abbrev pub view_looked : ℕ → View → View
+view_looked found view = record view { seen = found }

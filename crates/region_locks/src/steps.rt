@@ -1,4 +1,5 @@
-ghost use Rattle.std.specs.Prelude.{◌≡◌, ℕ, ◌==◌, length, if◌then◌else◌};
+ghost use Rattle.core_steps.specs.Cells.{with_bit, without_bit};
+ghost use Rattle.std.specs.Prelude.{◌≡◌, ℕ, ◌+◌, ◌<◌, ◌==◌, length, if◌then◌else◌};
 ghost use Rattle.region_locks.specs.Starts.{fixed_by};
 ghost use Rattle.region_locks.specs.Going.{view_found, word_left, MayGo};
 ghost use Rattle.region_locks.specs.Plays.{IsToldOf, Went};
@@ -62,4 +63,66 @@ pub(crate) fn exchange_as<A: Action, N: Planned>(
     ensures went { Went N.fixed N.passes N.next seat.old.me.0 result seat.new.me.0 }
 {
     words.compare_exchange::<Goes<N>>(seat, word, 0, new)
+}
+
+/// The seat adds 1 to the count of commits, which is its next step, and gives the count that was found.
+pub(crate) fn count_as<A: Action, N: Planned>(
+    words: &Words<A>,
+    seat: &mut Place,
+    word: usize,
+) -> u64
+    requires table { (seat.old.table_id ≡ words.now.table_id) × (words.now.table_id.words ≡ 639) }
+    requires fixed { N.fixed ≡ fixed_by A.takes A.region_of A.effect_of words.now.key.action.value words.now.key.world.value }
+    requires passes { N.passes ≡ length words.now.key.rooms.items }
+    requires told { IsToldOf N.fixed N.passes seat.old.me.0 }
+    requires next { MayGo N.fixed N.passes seat.old.me.0.number seat.old.me.0.view N.given N.quits N.next }
+    requires word { word ≡ index_of 31 seat.old.me.0.view N.next }
+    requires count { word ≡ 0 }
+    requires left { (found : ℕ) → word_left N.fixed seat.old.me.0.number seat.old.me.0.view N.next found ≡ found + 1 }
+    ensures table { seat.new.table_id ≡ seat.old.table_id }
+    ensures went { Went N.fixed N.passes N.next seat.old.me.0 result seat.new.me.0 }
+{
+    words.fetch_add::<Goes<N>>(seat, word, 1)
+}
+
+/// The seat clears a bit of a list word, which is its next step.
+pub(crate) fn clear_as<A: Action, N: Planned>(
+    words: &Words<A>,
+    seat: &mut Place,
+    word: usize,
+    slot: u8,
+) -> u64
+    requires table { (seat.old.table_id ≡ words.now.table_id) × (words.now.table_id.words ≡ 639) }
+    requires fixed { N.fixed ≡ fixed_by A.takes A.region_of A.effect_of words.now.key.action.value words.now.key.world.value }
+    requires passes { N.passes ≡ length words.now.key.rooms.items }
+    requires told { IsToldOf N.fixed N.passes seat.old.me.0 }
+    requires next { MayGo N.fixed N.passes seat.old.me.0.number seat.old.me.0.view N.given N.quits N.next }
+    requires word { word ≡ index_of 31 seat.old.me.0.view N.next }
+    requires slot { slot < 64 }
+    requires left { (found : ℕ) → word_left N.fixed seat.old.me.0.number seat.old.me.0.view N.next found ≡ without_bit found slot }
+    ensures table { seat.new.table_id ≡ seat.old.table_id }
+    ensures went { Went N.fixed N.passes N.next seat.old.me.0 result seat.new.me.0 }
+{
+    words.fetch_and::<Goes<N>>(seat, word, !(1 << slot))
+}
+
+/// The seat sets a bit of a list word, which is its next step.
+pub(crate) fn set_as<A: Action, N: Planned>(
+    words: &Words<A>,
+    seat: &mut Place,
+    word: usize,
+    slot: u8,
+) -> u64
+    requires table { (seat.old.table_id ≡ words.now.table_id) × (words.now.table_id.words ≡ 639) }
+    requires fixed { N.fixed ≡ fixed_by A.takes A.region_of A.effect_of words.now.key.action.value words.now.key.world.value }
+    requires passes { N.passes ≡ length words.now.key.rooms.items }
+    requires told { IsToldOf N.fixed N.passes seat.old.me.0 }
+    requires next { MayGo N.fixed N.passes seat.old.me.0.number seat.old.me.0.view N.given N.quits N.next }
+    requires word { word ≡ index_of 31 seat.old.me.0.view N.next }
+    requires slot { slot < 64 }
+    requires left { (found : ℕ) → word_left N.fixed seat.old.me.0.number seat.old.me.0.view N.next found ≡ with_bit found slot }
+    ensures table { seat.new.table_id ≡ seat.old.table_id }
+    ensures went { Went N.fixed N.passes N.next seat.old.me.0 result seat.new.me.0 }
+{
+    words.fetch_or::<Goes<N>>(seat, word, 1 << slot)
 }
