@@ -13,7 +13,7 @@ use Rattle.core_steps.specs.Machine.{Next, index_of}
 use Rattle.region_locks.specs.Sights.{SightView}
 use Rattle.region_locks.specs.Going.{view_found, word_left, MayGo}
 use Rattle.region_locks.specs.Rule.{IsRuled}
-use Rattle.region_locks.specs.Plays.{Went}
+use Rattle.region_locks.specs.Plays.{Went, SeatWent}
 use Rattle.region_locks.proofs.Goes.{goes}
 use Rattle.region_locks.proofs.Told.{told}
 use Rattle.region_locks.proofs.Bits.{cleared, set_bit}
@@ -31,7 +31,7 @@ there_below (y ∷ ys) (suc i) x e = let below = there_below ys i x e in omega a
 allowed_here : (F : Fixed) (rooms : List ℕ) (slots i : ℕ) (me : Me (Unit {0}) SightView) (given : Option Command) (quits : Bool) (next : Next) (f : ℕ → ℕ)
     → MayGo F (length rooms) me.0.number me.0.view given quits next
     → ((found : ℕ) → found < 18446744073709551616 → f found ≡ word_left F me.0.number me.0.view next found)
-    → Allows (IsRuled F rooms) slots i me (index_of 31 me.0.view next) f (λ found after. Went F (length rooms) next me.0 found after.0)
+    → Allows (IsRuled F rooms) slots i me (index_of 31 me.0.view next) f (λ found after. SeatWent F (length rooms) next me found after)
 allowed_here F rooms slots i me given quits next f may leaves s r _ at small =
     let found = slice_index s.words (index_of 31 me.0.view next) in
     let new : SightView = record { number = me.0.number; view = view_found F me.0.view next found } in
@@ -40,18 +40,18 @@ allowed_here F rooms slots i me given quits next f may leaves s r _ at small =
       keeps,
       tt,
       ruled,
-      record { number = refl; view = refl; told = told F rooms _ ruled i new (set_here s.views i new (there_below s.views i me.0 at)) },
+      (record { number = refl; view = refl; told = told F rooms _ ruled i new (set_here s.views i new (there_below s.views i me.0 at)) }, refl),
     )
 
 -- the same where what doesn't change, the number of passes and the word are picked
 pub allowed : (F G : Fixed) (rooms : List ℕ) (passes word slots i : ℕ) (me : Me (Unit {0}) SightView) (given : Option Command) (quits : Bool) (next : Next) (f : ℕ → ℕ)
     → F ≡ G → passes ≡ length rooms → word ≡ index_of 31 me.0.view next → MayGo F passes me.0.number me.0.view given quits next
     → ((found : ℕ) → found < 18446744073709551616 → f found ≡ word_left F me.0.number me.0.view next found)
-    → Allows (IsRuled G rooms) slots i me word f (λ found after. Went F passes next me.0 found after.0)
+    → Allows (IsRuled G rooms) slots i me word f (λ found after. SeatWent F passes next me found after)
 allowed F G rooms passes word slots i me given quits next f fixed count at may leaves =
-    subst (λ (H : Fixed). Allows (IsRuled H rooms) slots i me word f (λ found after. Went F passes next me.0 found after.0)) fixed
-    (subst (λ (n : ℕ). Allows (IsRuled F rooms) slots i me word f (λ found after. Went F n next me.0 found after.0)) (sym count)
-    (subst (λ (n : ℕ). Allows (IsRuled F rooms) slots i me n f (λ found after. Went F (length rooms) next me.0 found after.0)) (sym at)
+    subst (λ (H : Fixed). Allows (IsRuled H rooms) slots i me word f (λ found after. SeatWent F passes next me found after)) fixed
+    (subst (λ (n : ℕ). Allows (IsRuled F rooms) slots i me word f (λ found after. SeatWent F n next me found after)) (sym count)
+    (subst (λ (n : ℕ). Allows (IsRuled F rooms) slots i me n f (λ found after. SeatWent F (length rooms) next me found after)) (sym at)
     (allowed_here F rooms slots i me given quits next f (subst (λ (n : ℕ). MayGo F n me.0.number me.0.view given quits next) count may) leaves)))
 
 -- the same for a store, whose step is told the word that is stored
@@ -59,7 +59,7 @@ pub allowed_store : (F G : Fixed) (rooms : List ℕ) (passes word slots i : ℕ)
     → F ≡ G → passes ≡ length rooms → word ≡ index_of 31 me.0.view next → MayGo F passes me.0.number me.0.view given quits next
     → ((found : ℕ) → word_left F me.0.number me.0.view next found ≡ new)
     → ((found : ℕ) → view_found F me.0.view next found ≡ view_found F me.0.view next new)
-    → Allows (IsRuled G rooms) slots i me word (λ _. new) (λ _ after. Went F passes next me.0 new after.0)
+    → Allows (IsRuled G rooms) slots i me word (λ _. new) (λ _ after. SeatWent F passes next me new after)
 allowed_store F G rooms passes word slots i me given quits next new fixed count at may leaves blind s r homes here small =
     let step = allowed F G rooms passes word slots i me given quits next (λ _. new) fixed count at may (λ found _. sym (leaves found)) s r homes here small in
     let went = step.4 in (
@@ -67,7 +67,7 @@ allowed_store F G rooms passes word slots i me given quits next new fixed count 
       step.1,
       step.2,
       step.3,
-      record { number = went.number; view = went.view ∙ blind (slice_index s.words word); told = went.told },
+      (record { number = went.0.number; view = went.0.view ∙ blind (slice_index s.words word); told = went.0.told }, went.1),
     )
 
 either_is : (b : Bool) (x y : ℕ) → either b x y ≡ (if b then x else y)
@@ -78,7 +78,7 @@ either_is false x y = refl
 pub allowed_from_0 : (F G : Fixed) (rooms : List ℕ) (passes word slots i : ℕ) (me : Me (Unit {0}) SightView) (given : Option Command) (quits : Bool) (next : Next) (new : ℕ)
     → F ≡ G → passes ≡ length rooms → word ≡ index_of 31 me.0.view next → MayGo F passes me.0.number me.0.view given quits next
     → ((found : ℕ) → word_left F me.0.number me.0.view next found ≡ (if found == 0 then new else found))
-    → Allows (IsRuled G rooms) slots i me word (λ n. either (n == 0) new n) (λ found after. Went F passes next me.0 found after.0)
+    → Allows (IsRuled G rooms) slots i me word (λ n. either (n == 0) new n) (λ found after. SeatWent F passes next me found after)
 allowed_from_0 F G rooms passes word slots i me given quits next new fixed count at may leaves =
     allowed F G rooms passes word slots i me given quits next (λ n. either (n == 0) new n) fixed count at may (λ found _. either_is (found == 0) new found ∙ sym (leaves found))
 
@@ -86,7 +86,7 @@ allowed_from_0 F G rooms passes word slots i me given quits next new fixed count
 allowed_add_here : (F : Fixed) (rooms : List ℕ) (slots i : ℕ) (me : Me (Unit {0}) SightView) (given : Option Command) (quits : Bool) (next : Next)
     → index_of 31 me.0.view next ≡ 0 → MayGo F (length rooms) me.0.number me.0.view given quits next
     → ((found : ℕ) → word_left F me.0.number me.0.view next found ≡ found + 1)
-    → Allows (IsRuled F rooms) slots i me (index_of 31 me.0.view next) (λ n. (n + 1) % 2 ^ 64) (λ found after. Went F (length rooms) next me.0 found after.0)
+    → Allows (IsRuled F rooms) slots i me (index_of 31 me.0.view next) (λ n. (n + 1) % 2 ^ 64) (λ found after. SeatWent F (length rooms) next me found after)
 allowed_add_here F rooms slots i me given quits next at_0 may leaves s r _ at small =
     let found = slice_index s.words (index_of 31 me.0.view next) in
     let new : SightView = record { number = me.0.number; view = view_found F me.0.view next found } in
@@ -96,7 +96,7 @@ allowed_add_here F rooms slots i me given quits next at_0 may leaves s r _ at sm
       keeps,
       tt,
       ruled,
-      record { number = refl; view = refl; told = told F rooms _ ruled i new (set_here s.views i new (there_below s.views i me.0 at)) },
+      (record { number = refl; view = refl; told = told F rooms _ ruled i new (set_here s.views i new (there_below s.views i me.0 at)) }, refl),
     )
   where
     grown : (n : ℕ) → n < 2 ^ 40 → (n + 1) % 2 ^ 64 ≡ n + 1
@@ -105,18 +105,18 @@ allowed_add_here F rooms slots i me given quits next at_0 may leaves s r _ at sm
 pub allowed_add : (F G : Fixed) (rooms : List ℕ) (passes word slots i : ℕ) (me : Me (Unit {0}) SightView) (given : Option Command) (quits : Bool) (next : Next)
     → F ≡ G → passes ≡ length rooms → word ≡ index_of 31 me.0.view next → word ≡ 0 → MayGo F passes me.0.number me.0.view given quits next
     → ((found : ℕ) → word_left F me.0.number me.0.view next found ≡ found + 1)
-    → Allows (IsRuled G rooms) slots i me word (λ n. (n + 1) % 2 ^ 64) (λ found after. Went F passes next me.0 found after.0)
+    → Allows (IsRuled G rooms) slots i me word (λ n. (n + 1) % 2 ^ 64) (λ found after. SeatWent F passes next me found after)
 allowed_add F G rooms passes word slots i me given quits next fixed count at at_0 may leaves =
-    subst (λ (H : Fixed). Allows (IsRuled H rooms) slots i me word (λ n. (n + 1) % 2 ^ 64) (λ found after. Went F passes next me.0 found after.0)) fixed
-    (subst (λ (n : ℕ). Allows (IsRuled F rooms) slots i me word (λ n. (n + 1) % 2 ^ 64) (λ found after. Went F n next me.0 found after.0)) (sym count)
-    (subst (λ (n : ℕ). Allows (IsRuled F rooms) slots i me n (λ n. (n + 1) % 2 ^ 64) (λ found after. Went F (length rooms) next me.0 found after.0)) (sym at)
+    subst (λ (H : Fixed). Allows (IsRuled H rooms) slots i me word (λ n. (n + 1) % 2 ^ 64) (λ found after. SeatWent F passes next me found after)) fixed
+    (subst (λ (n : ℕ). Allows (IsRuled F rooms) slots i me word (λ n. (n + 1) % 2 ^ 64) (λ found after. SeatWent F n next me found after)) (sym count)
+    (subst (λ (n : ℕ). Allows (IsRuled F rooms) slots i me n (λ n. (n + 1) % 2 ^ 64) (λ found after. SeatWent F (length rooms) next me found after)) (sym at)
     (allowed_add_here F rooms slots i me given quits next (sym at ∙ at_0) (subst (λ (n : ℕ). MayGo F n me.0.number me.0.view given quits next) count may) leaves)))
 
 -- the same for a bit that is cleared or set
 pub allowed_clear : (F G : Fixed) (rooms : List ℕ) (passes word slots i : ℕ) (me : Me (Unit {0}) SightView) (given : Option Command) (quits : Bool) (next : Next) (slot : ℕ)
     → F ≡ G → passes ≡ length rooms → word ≡ index_of 31 me.0.view next → MayGo F passes me.0.number me.0.view given quits next → slot < 64
     → ((found : ℕ) → word_left F me.0.number me.0.view next found ≡ without_bit found slot)
-    → Allows (IsRuled G rooms) slots i me word (λ n. bit_and n (bit_not w64 (1 * 2 ^ slot % 2 ^ 64))) (λ found after. Went F passes next me.0 found after.0)
+    → Allows (IsRuled G rooms) slots i me word (λ n. bit_and n (bit_not w64 (1 * 2 ^ slot % 2 ^ 64))) (λ found after. SeatWent F passes next me found after)
 allowed_clear F G rooms passes word slots i me given quits next slot fixed count at may below leaves =
     allowed F G rooms passes word slots i me given quits next (λ n. bit_and n (bit_not w64 (1 * 2 ^ slot % 2 ^ 64))) fixed count at may
     (λ found small. cleared found slot small below ∙ sym (leaves found))
@@ -124,7 +124,7 @@ allowed_clear F G rooms passes word slots i me given quits next slot fixed count
 pub allowed_set : (F G : Fixed) (rooms : List ℕ) (passes word slots i : ℕ) (me : Me (Unit {0}) SightView) (given : Option Command) (quits : Bool) (next : Next) (slot : ℕ)
     → F ≡ G → passes ≡ length rooms → word ≡ index_of 31 me.0.view next → MayGo F passes me.0.number me.0.view given quits next → slot < 64
     → ((found : ℕ) → word_left F me.0.number me.0.view next found ≡ with_bit found slot)
-    → Allows (IsRuled G rooms) slots i me word (λ n. bit_or n (1 * 2 ^ slot % 2 ^ 64)) (λ found after. Went F passes next me.0 found after.0)
+    → Allows (IsRuled G rooms) slots i me word (λ n. bit_or n (1 * 2 ^ slot % 2 ^ 64)) (λ found after. SeatWent F passes next me found after)
 allowed_set F G rooms passes word slots i me given quits next slot fixed count at may below leaves =
     allowed F G rooms passes word slots i me given quits next (λ n. bit_or n (1 * 2 ^ slot % 2 ^ 64)) fixed count at may
     (λ found small. set_bit found slot small below ∙ sym (leaves found))

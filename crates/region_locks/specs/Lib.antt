@@ -4,6 +4,9 @@ pub mod Starts
 pub mod Going
 pub mod Rule
 pub mod Plays
+pub mod Todos
+pub mod Passes
+pub mod Hands
 pub use Rattle.core_steps.specs.Cells
 pub use Rattle.core_steps.specs.Views
 pub use Rattle.core_steps.specs.Steps

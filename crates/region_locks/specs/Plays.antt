@@ -1,5 +1,6 @@
 -- What a step tells its caller.
 use Rattle.std.specs.Prelude.{◌≡◌, ◌≢◌, ℕ, ◌<◌, Bool, true, List, [], Option}
+use Rattle.atomic_table.specs.Table.{Me}
 use Rattle.entity_recs.specs.Commands.{Command}
 use Rattle.entity_recs.specs.Worlds.{zero_vector, world_of}
 use Rattle.entity_recs.specs.Actions.{HasPlayer, IsCall}
@@ -7,7 +8,7 @@ use Rattle.core_steps.specs.Views.{Fixed, Resolving, Point, Stage, stage_of, is_
 use Rattle.core_steps.specs.Stands.{IsGiven, IsHolding, IsUnread, IsAt, IsLogWithin}
 use Rattle.core_steps.specs.Machine.{Next, index_of, HasNext, ViewFits}
 use Rattle.region_locks.specs.Sights.{SightView}
-use Rattle.region_locks.specs.Going.{view_found, MayGo}
+use Rattle.region_locks.specs.Going.{view_found, view_looked, MayGo}
 
 -- what the rule says of one view alone
 pub record IsSound (F : Fixed) (view : View) : Type 0 where
@@ -35,6 +36,20 @@ pub record Went (F : Fixed) (passes : ℕ) (next : Next) (before : SightView) (f
     pub number : after.number ≡ before.number
     pub view : after.view ≡ view_found F before.view next found
     pub told : IsToldOf F passes after
+
+-- the seat went on, and carries what it carried
+abbrev pub SeatWent : Fixed → ℕ → Next → Me (Unit {0}) SightView → ℕ → Me (Unit {0}) SightView → Type 0
+SeatWent F passes next before found after = Went F passes next before.0 found after.0 × (after.1 ≡ before.1)
+
+-- the seat keeps its number, the count that was found is the one that it has seen, and its view is sound
+pub record Looked (F : Fixed) (passes : ℕ) (before : SightView) (found : ℕ) (after : SightView) : Type 0 where
+  pub number : after.number ≡ before.number
+  pub view : after.view ≡ view_looked found before.view
+  pub told : IsToldOf F passes after
+
+-- the seat looked at the count, and carries what it carried
+abbrev pub SeatLooked : Fixed → ℕ → Me (Unit {0}) SightView → ℕ → Me (Unit {0}) SightView → Type 0
+SeatLooked F passes before found after = Looked F passes before.0 found after.0 × (after.1 ≡ before.1)
 
 -- in place of what doesn't change, where no step is picked
 abbrev pub nothing_fixed : Fixed

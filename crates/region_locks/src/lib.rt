@@ -2,6 +2,8 @@
 #![tactic(auto)]
 
 mod key;
+mod pass;
 mod plays;
 mod sight;
 mod steps;
+mod todo;

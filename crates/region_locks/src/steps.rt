@@ -2,7 +2,7 @@ ghost use Rattle.core_steps.specs.Cells.{with_bit, without_bit};
 ghost use Rattle.std.specs.Prelude.{◌≡◌, ℕ, ◌+◌, ◌<◌, ◌==◌, length, if◌then◌else◌};
 ghost use Rattle.region_locks.specs.Starts.{fixed_by};
 ghost use Rattle.region_locks.specs.Going.{view_found, word_left, MayGo};
-ghost use Rattle.region_locks.specs.Plays.{IsToldOf, Went};
+ghost use Rattle.region_locks.specs.Plays.{IsToldOf, SeatWent};
 ghost use Rattle.core_steps.specs.Machine.{index_of};
 
 use crate::key::{Place, Words};
@@ -19,7 +19,7 @@ pub(crate) fn load_as<A: Action, N: Planned>(words: &Words<A>, seat: &mut Place,
     requires word { word ≡ index_of 31 seat.old.me.0.view N.next }
     requires left { (found : ℕ) → word_left N.fixed seat.old.me.0.number seat.old.me.0.view N.next found ≡ found }
     ensures table { seat.new.table_id ≡ seat.old.table_id }
-    ensures went { Went N.fixed N.passes N.next seat.old.me.0 result seat.new.me.0 }
+    ensures went { SeatWent N.fixed N.passes N.next seat.old.me result seat.new.me }
 {
     words.load::<Goes<N>>(seat, word)
 }
@@ -40,7 +40,7 @@ pub(crate) fn store_as<A: Action, N: Planned>(
     requires left { (found : ℕ) → word_left N.fixed seat.old.me.0.number seat.old.me.0.view N.next found ≡ new }
     requires blind { (found : ℕ) → view_found N.fixed seat.old.me.0.view N.next found ≡ view_found N.fixed seat.old.me.0.view N.next new }
     ensures table { seat.new.table_id ≡ seat.old.table_id }
-    ensures went { Went N.fixed N.passes N.next seat.old.me.0 new seat.new.me.0 }
+    ensures went { SeatWent N.fixed N.passes N.next seat.old.me new seat.new.me }
 {
     words.store::<Goes<N>>(seat, word, new);
 }
@@ -60,7 +60,7 @@ pub(crate) fn exchange_as<A: Action, N: Planned>(
     requires word { word ≡ index_of 31 seat.old.me.0.view N.next }
     requires left { (found : ℕ) → word_left N.fixed seat.old.me.0.number seat.old.me.0.view N.next found ≡ (if found == 0 then new else found) }
     ensures table { seat.new.table_id ≡ seat.old.table_id }
-    ensures went { Went N.fixed N.passes N.next seat.old.me.0 result seat.new.me.0 }
+    ensures went { SeatWent N.fixed N.passes N.next seat.old.me result seat.new.me }
 {
     words.compare_exchange::<Goes<N>>(seat, word, 0, new)
 }
@@ -80,7 +80,7 @@ pub(crate) fn count_as<A: Action, N: Planned>(
     requires count { word ≡ 0 }
     requires left { (found : ℕ) → word_left N.fixed seat.old.me.0.number seat.old.me.0.view N.next found ≡ found + 1 }
     ensures table { seat.new.table_id ≡ seat.old.table_id }
-    ensures went { Went N.fixed N.passes N.next seat.old.me.0 result seat.new.me.0 }
+    ensures went { SeatWent N.fixed N.passes N.next seat.old.me result seat.new.me }
 {
     words.fetch_add::<Goes<N>>(seat, word, 1)
 }
@@ -101,7 +101,7 @@ pub(crate) fn clear_as<A: Action, N: Planned>(
     requires slot { slot < 64 }
     requires left { (found : ℕ) → word_left N.fixed seat.old.me.0.number seat.old.me.0.view N.next found ≡ without_bit found slot }
     ensures table { seat.new.table_id ≡ seat.old.table_id }
-    ensures went { Went N.fixed N.passes N.next seat.old.me.0 result seat.new.me.0 }
+    ensures went { SeatWent N.fixed N.passes N.next seat.old.me result seat.new.me }
 {
     words.fetch_and::<Goes<N>>(seat, word, !(1 << slot))
 }
@@ -122,7 +122,7 @@ pub(crate) fn set_as<A: Action, N: Planned>(
     requires slot { slot < 64 }
     requires left { (found : ℕ) → word_left N.fixed seat.old.me.0.number seat.old.me.0.view N.next found ≡ with_bit found slot }
     ensures table { seat.new.table_id ≡ seat.old.table_id }
-    ensures went { Went N.fixed N.passes N.next seat.old.me.0 result seat.new.me.0 }
+    ensures went { SeatWent N.fixed N.passes N.next seat.old.me result seat.new.me }
 {
     words.fetch_or::<Goes<N>>(seat, word, 1 << slot)
 }
