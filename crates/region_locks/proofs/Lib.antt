@@ -10,3 +10,4 @@ pub mod Idle
 pub mod Looking
 pub mod Making
 pub mod Ending
+pub mod Ready

@@ -1,17 +1,20 @@
 -- A pass as contracts see it, and the table that it belongs to.
-use Rattle.std.specs.Prelude.{◌≡◌, ℕ, ◌%◌, Bool, true, false, if◌then◌else◌, List, length, Option, Some, None}
+use Rattle.std.specs.Prelude.{◌≡◌, ◌≢◌, ℕ, ◌-◌, ◌/◌, ◌%◌, ◌^◌, nat_le, Bool, true, false, if◌then◌else◌, List, length, Option, Some, None, is_some}
 use Rattle.arena_geo.specs.Bounds.{Bounds}
 use Rattle.atomic_table.specs.Seated.{TableId}
+use Rattle.atomic_table.specs.declared.shared.Seat.{Seat}
 use Rattle.entity_recs.specs.declared.rec.Rec.{Rec}
 use Rattle.entity_recs.specs.declared.effect.Effect.{Effect}
 use Rattle.entity_recs.specs.Commands.{Command}
 use Rattle.areanode.specs.Trees.{leaves_of}
 use Rattle.world_tree.specs.Worlds.{WorldView}
-use Rattle.core_steps.specs.Views.{Fixed, Resolving, stage_of, is_whole, is_read_again, View, home, region_in, things_in, record_read, write_nodes, effect_loaded}
+use Rattle.core_steps.specs.Views.{Fixed, Point, Idle, Owning, Taking, Checking, Entering, Entered, Loading, Leaving, Sensing, Resolving, Claiming, Storing, Releasing, Returning, Yielding, stage_of, is_whole, is_read_again, View, home, region_in, things_in, record_read, write_nodes, effect_loaded}
 use Rattle.core_steps.specs.Steps.{is_taking, first_yield}
-use Rattle.core_steps.specs.Machine.{Next, YieldCount, resolving, quitting, next_at, IsPending}
+use Rattle.core_steps.specs.Machine.{Next, YieldCount, index_of, resolving, quitting, next_at, IsPending}
 use Rattle.region_locks.specs.Sights.{SightView}
 use Rattle.region_locks.specs.Starts.{fixed_by}
+use Rattle.core_steps.specs.Calls.{node_taken}
+use Rattle.region_locks.specs.Going.{view_found, word_left}
 use Rattle.region_locks.specs.Plays.{IsToldOf}
 
 -- which table it is, the pass's number, the command that is given and not begun, whether the pass is to give up, the
@@ -39,3 +42,86 @@ pub record TableView (A : Type 0) : Type 0 where
 abbrev pub next_resolved : Fixed → View → Option Effect → Option Next
 next_resolved F view None = None
 next_resolved F view (Some e) = Some (resolving e (write_nodes F (record_read view.cmd.slot view.again) e))
+
+-- what comes next of a pass: as in the core, but for the effect, which `resolve` gives
+abbrev pub next_point : Fixed → PassView → Point → Option Next
+next_point F p Idle = next_at F p.view p.given Idle
+next_point F p Owning = next_at F p.view p.given Owning
+next_point F p (Taking got rest) = next_at F p.view p.given (Taking got rest)
+next_point F p Checking = next_at F p.view p.given Checking
+next_point F p (Entering node plan) = next_at F p.view p.given (Entering node plan)
+next_point F p (Entered node plan) = next_at F p.view p.given (Entered node plan)
+next_point F p (Loading node part players plan) = next_at F p.view p.given (Loading node part players plan)
+next_point F p (Leaving node plan) = next_at F p.view p.given (Leaving node plan)
+next_point F p (Sensing ids) = next_at F p.view p.given (Sensing ids)
+next_point F p Resolving = next_resolved F p.view p.effect
+next_point F p (Claiming got rest) = next_at F p.view p.given (Claiming got rest)
+next_point F p (Storing nodes stores) = next_at F p.view p.given (Storing nodes stores)
+next_point F p (Releasing nodes) = next_at F p.view p.given (Releasing nodes)
+next_point F p (Returning leaves) = next_at F p.view p.given (Returning leaves)
+next_point F p (Yielding nodes leaves) = next_at F p.view p.given (Yielding nodes leaves)
+
+-- what comes next of a pass
+abbrev pub next_of_pass : Fixed → PassView → Option Next
+next_of_pass F p = if p.quits then Some (quitting (first_yield F p.view)) else next_point F p p.view.point
+
+-- the step that comes next
+abbrev pub the_next : Option Next → Next
+the_next None = YieldCount
+the_next (Some next) = next
+
+-- the pass after what comes next, where this word was found
+abbrev pub pass_after : Fixed → Next → ℕ → PassView → PassView
+pass_after F next found p = record p { given = None; quits = false; view = view_found F p.view next found }
+
+-- the pass belongs to the table, and what it keeps beside its view is what the view says
+pub record IsPassOf (F : Fixed) (passes : ℕ) (table : TableId) (p : PassView) : Type 0 where
+  pub at_table : p.table ≡ table
+  pub lives : p.view.live ≡ true
+  pub told : IsToldOf F passes (record { number = p.number; view = p.view })
+  pub pending : (c : Command) → p.given ≡ Some c → IsPending F p.view c
+  pub serves : (c : Command) → p.given ≡ Some c → c.slot % passes ≡ p.number
+  pub may_quit : p.quits ≡ true → is_taking p.view.point ≡ true
+  pub has_leaves : is_whole (stage_of p.view.point) ≡ true → p.leaves ≡ leaves_of F.tree (region_in F p.view.cmd p.view.own)
+  pub has_things : is_whole (stage_of p.view.point) ≡ true → p.things ≡ things_in F (region_in F p.view.cmd p.view.own)
+  pub has_home : is_read_again (stage_of p.view.point) ≡ true → p.home ≡ home F (record_read p.view.cmd.slot p.view.again)
+  pub has_effect : p.view.point ≡ Resolving → (e : Effect) → p.effect ≡ Some e → e ≡ effect_loaded F p.view
+
+-- what doesn't change of a table, by its action
+abbrev pub fixed_in : {A : Type 0} → (A → Rec → Bool) → (A → Rec → Command → List Bounds)
+    → (A → Rec → List Rec → Command → Effect) → TableView A → Fixed
+fixed_in takes region effect t = fixed_by takes region effect t.action t.world
+
+-- the node that is taken next
+abbrev pub node_taken_next : Option Next → Option ℕ
+node_taken_next None = None
+node_taken_next (Some next) = node_taken next
+
+-- the words of who holds a node: its number and, for a leaf, its leaves
+pub record IsHolderIn (word node number leaves : ℕ) : Type 0 where
+  pub is_held : word ≢ 0
+  pub is_number : number ≡ (word - 1) % 256
+  pub are_leaves : leaves ≡ (if nat_le 15 node then word / 256 % 2 ^ 16 else 0)
+
+-- the seat is that of the pass, which belongs to the table and has a next step, and the word is that of the step
+pub record IsReady (F : Fixed) (passes : ℕ) (table : TableId) (p : PassView) (seat : Seat (Unit {0}) SightView)
+    (word : ℕ) : Type 0 where
+  pub own : IsPassOf F passes table p
+  pub same_table : seat.table_id ≡ p.table
+  pub same_number : seat.me.0.number ≡ p.number
+  pub same_view : seat.me.0.view ≡ p.view
+  pub comes : is_some (next_of_pass F p) ≡ true
+  pub index : word ≡ index_of 31 p.view (the_next (next_of_pass F p))
+
+-- the word after what comes next of a pass
+abbrev pub word_after : Fixed → PassView → ℕ → ℕ
+word_after F p found = word_left F p.number p.view (the_next (next_of_pass F p)) found
+
+-- the seat is at its table, and its view is the one after what comes next of the pass
+pub record HasGone (F : Fixed) (passes : ℕ) (p : PassView) (found : ℕ) (seat : Seat (Unit {0}) SightView)
+    (carried : List (ℕ × Unit {0})) : Type 0 where
+  pub same_table : seat.table_id ≡ p.table
+  pub same_number : seat.me.0.number ≡ p.number
+  pub went : seat.me.0.view ≡ view_found F p.view (the_next (next_of_pass F p)) found
+  pub told : IsToldOf F passes (record { number = p.number; view = view_found F p.view (the_next (next_of_pass F p)) found })
+  pub carries : seat.me.1 ≡ carried

@@ -7,10 +7,17 @@ ghost use Rattle.core_steps.specs.Machine.{index_of};
 
 use crate::key::{Place, Words};
 use crate::plays::{Goes, Planned};
+use crate::pass::Pass;
 use entity_recs::Action;
+use std::snapshot::Snapshot;
 
 /// The seat loads a word, which is its next step.
-pub(crate) fn load_as<A: Action, N: Planned>(words: &Words<A>, seat: &mut Place, word: usize) -> u64
+pub(crate) fn load_as<A: Action, N: Planned>(
+    words: &Words<A>,
+    about: &Snapshot<Pass<A>>,
+    seat: &mut Place,
+    word: usize,
+) -> u64
     requires table { (seat.old.table_id ≡ words.now.table_id) × (words.now.table_id.words ≡ 639) }
     requires fixed { N.fixed ≡ fixed_by A.takes A.region_of A.effect_of words.now.key.action.value words.now.key.world.value }
     requires passes { N.passes ≡ length words.now.key.rooms.items }
@@ -21,12 +28,14 @@ pub(crate) fn load_as<A: Action, N: Planned>(words: &Words<A>, seat: &mut Place,
     ensures table { seat.new.table_id ≡ seat.old.table_id }
     ensures went { SeatWent N.fixed N.passes N.next seat.old.me result seat.new.me }
 {
+    let _ = about;
     words.load::<Goes<N>>(seat, word)
 }
 
 /// The seat stores a word, which is its next step.
 pub(crate) fn store_as<A: Action, N: Planned>(
     words: &Words<A>,
+    about: &Snapshot<Pass<A>>,
     seat: &mut Place,
     word: usize,
     new: u64,
@@ -42,12 +51,14 @@ pub(crate) fn store_as<A: Action, N: Planned>(
     ensures table { seat.new.table_id ≡ seat.old.table_id }
     ensures went { SeatWent N.fixed N.passes N.next seat.old.me new seat.new.me }
 {
+    let _ = about;
     words.store::<Goes<N>>(seat, word, new);
 }
 
 /// The seat takes a node where its word is 0, which is its next step, and gives the word that was found.
 pub(crate) fn exchange_as<A: Action, N: Planned>(
     words: &Words<A>,
+    about: &Snapshot<Pass<A>>,
     seat: &mut Place,
     word: usize,
     new: u64,
@@ -62,12 +73,14 @@ pub(crate) fn exchange_as<A: Action, N: Planned>(
     ensures table { seat.new.table_id ≡ seat.old.table_id }
     ensures went { SeatWent N.fixed N.passes N.next seat.old.me result seat.new.me }
 {
+    let _ = about;
     words.compare_exchange::<Goes<N>>(seat, word, 0, new)
 }
 
 /// The seat adds 1 to the count of commits, which is its next step, and gives the count that was found.
 pub(crate) fn count_as<A: Action, N: Planned>(
     words: &Words<A>,
+    about: &Snapshot<Pass<A>>,
     seat: &mut Place,
     word: usize,
 ) -> u64
@@ -82,12 +95,14 @@ pub(crate) fn count_as<A: Action, N: Planned>(
     ensures table { seat.new.table_id ≡ seat.old.table_id }
     ensures went { SeatWent N.fixed N.passes N.next seat.old.me result seat.new.me }
 {
+    let _ = about;
     words.fetch_add::<Goes<N>>(seat, word, 1)
 }
 
 /// The seat clears a bit of a list word, which is its next step.
 pub(crate) fn clear_as<A: Action, N: Planned>(
     words: &Words<A>,
+    about: &Snapshot<Pass<A>>,
     seat: &mut Place,
     word: usize,
     slot: u8,
@@ -103,12 +118,14 @@ pub(crate) fn clear_as<A: Action, N: Planned>(
     ensures table { seat.new.table_id ≡ seat.old.table_id }
     ensures went { SeatWent N.fixed N.passes N.next seat.old.me result seat.new.me }
 {
+    let _ = about;
     words.fetch_and::<Goes<N>>(seat, word, !(1 << slot))
 }
 
 /// The seat sets a bit of a list word, which is its next step.
 pub(crate) fn set_as<A: Action, N: Planned>(
     words: &Words<A>,
+    about: &Snapshot<Pass<A>>,
     seat: &mut Place,
     word: usize,
     slot: u8,
@@ -124,5 +141,6 @@ pub(crate) fn set_as<A: Action, N: Planned>(
     ensures table { seat.new.table_id ≡ seat.old.table_id }
     ensures went { SeatWent N.fixed N.passes N.next seat.old.me result seat.new.me }
 {
+    let _ = about;
     words.fetch_or::<Goes<N>>(seat, word, 1 << slot)
 }
