@@ -11,3 +11,6 @@ pub mod Looking
 pub mod Making
 pub mod Ending
 pub mod Ready
+pub mod Reads
+pub mod Owns
+pub mod LeafWords

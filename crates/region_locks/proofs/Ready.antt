@@ -10,7 +10,12 @@ use Rattle.core_steps.specs.Machine.{Next, resolving, quitting, next_at}
 use Rattle.region_locks.specs.Sights.{SightView}
 use Rattle.region_locks.specs.Going.{view_found, next_asked, MayGo}
 use Rattle.region_locks.specs.Plays.{IsToldOf, SeatWent}
-use Rattle.region_locks.specs.Passes.{PassView, next_resolved, next_point, next_of_pass, the_next, IsPassOf, IsReady, HasGone}
+use Rattle.entity_recs.specs.declared.cmd.Cmd.{Cmd}
+use Rattle.entity_recs.specs.Commands.{Command, command_of}
+use Rattle.core_steps.specs.Views.{stage_of, is_busy}
+use Rattle.region_locks.specs.Hands.{IsHand}
+use Rattle.region_locks.proofs.Views.{command_next, keeps_found, asked_is}
+use Rattle.region_locks.specs.Passes.{PassView, is_resolving, next_resolved, next_point, next_of_pass, the_next, IsPassOf, IsReady, HasGone}
 
 pub some_is : (o : Option Next) → is_some o ≡ true → o ≡ Some (the_next o)
 some_is None e = absurd (false≢true e)
@@ -22,7 +27,7 @@ resolved_comes F view None is e = absurd (false≢true e)
 resolved_comes F view (Some effect) is e =
     ap (λ (x : Effect). Some (resolving x (write_nodes F (record_read view.cmd.slot view.again) x))) (sym (is effect refl))
 
-point_comes : (F : Fixed) (p : PassView) (point : Point) → (point ≡ Resolving → (e : Effect) → p.effect ≡ Some e → e ≡ effect_loaded F p.view) → is_some (next_point F p point) ≡ true
+point_comes : (F : Fixed) (p : PassView) (point : Point) → (is_resolving point ≡ true → (e : Effect) → p.effect ≡ Some e → e ≡ effect_loaded F p.view) → is_some (next_point F p point) ≡ true
     → next_at F p.view p.given point ≡ Some (the_next (next_point F p point))
 point_comes F p Idle is e = some_is _ e
 point_comes F p Owning is e = some_is _ e
@@ -40,7 +45,7 @@ point_comes F p (Releasing nodes) is e = some_is _ e
 point_comes F p (Returning leaves) is e = some_is _ e
 point_comes F p (Yielding nodes leaves) is e = some_is _ e
 
-comes_asked : (F : Fixed) (p : PassView) (quits : Bool) → (p.view.point ≡ Resolving → (e : Effect) → p.effect ≡ Some e → e ≡ effect_loaded F p.view)
+comes_asked : (F : Fixed) (p : PassView) (quits : Bool) → (is_resolving p.view.point ≡ true → (e : Effect) → p.effect ≡ Some e → e ≡ effect_loaded F p.view)
     → is_some (if quits then Some (quitting (first_yield F p.view)) else next_point F p p.view.point) ≡ true
     → next_asked F p.view p.given quits ≡ Some (the_next (if quits then Some (quitting (first_yield F p.view)) else next_point F p p.view.point))
 comes_asked F p true is e = refl
@@ -80,4 +85,27 @@ has_gone F passes table p old new word found is same went =
       went = view;
       told = subst (IsToldOf F passes) (sight_is new.me.0 p.number _ number view) went.0.told;
       carries = went.1;
+    }
+
+command_given : (given : Bool) (a b : Command) → (if given then Some a else None) ≡ Some b → a ≡ b
+command_given true a b e = cc
+command_given false a b e = cc
+
+-- the seat after the step is still the pass's
+pub hand_after : (F : Fixed) (passes : ℕ) (table : TableId) (p : PassView) (old new : Seat (Unit {0}) SightView) (number : ℕ) (cmd : Cmd) (given : Bool) (found : ℕ)
+    → p.number ≡ number → p.given ≡ (if given then Some (command_of cmd) else None) → p.view ≡ old.me.0.view → IsHand old number cmd
+    → IsPassOf F passes table p → is_some (next_of_pass F p) ≡ true → HasGone F passes p found new old.me.1 → IsHand new number cmd
+hand_after F passes table p old new number cmd given found is_number is_given is_view hand own comes gone =
+    let next : Next = the_next (next_of_pass F p) in
+    let may = may_go F passes table p own comes in
+    record {
+      has_number = gone.same_number ∙ is_number;
+      carries = gone.carries ∙ hand.carries;
+      has_cmd = λ busy.
+          let after = (keeps_found F p.view next found).cmd (subst (λ (v : View). is_busy (stage_of v.point) ≡ true) gone.went busy) in
+          let own_cmd : command_of cmd ≡ command_next p.view next =
+          asked_is p.view (λ c. command_of cmd ≡ c) F p.given p.quits next may.comes own.may_quit
+          (λ c e. command_given given (command_of cmd) c (sym is_given ∙ e))
+          (λ b. hand.has_cmd (subst (λ (v : View). is_busy (stage_of v.point) ≡ true) is_view b) ∙ ap (λ (v : View). v.cmd) (sym is_view)) in
+          own_cmd ∙ sym after ∙ ap (λ (v : View). v.cmd) (sym gone.went);
     }

@@ -19,6 +19,10 @@ module _ (F : Fixed) (rooms : List ℕ) (s : State (Unit {0}) SightView) (r : Is
   sound_here =
       let seat : SeatStands F r.core.words r.history r.now i (r.core.view i) = r.stands.core.seats i in
       record {
+        depth = r.depth;
+        own_whole = seat.own.whole;
+        again_whole = seat.right.whole;
+        room = seat.counted.has_room;
         hand = seat.hand;
         whole = seat.own.leaves;
         holding = seat.holding;

@@ -4,7 +4,6 @@ pub mod Starts
 pub mod Going
 pub mod Rule
 pub mod Plays
-pub mod Todos
 pub mod Passes
 pub mod Hands
 pub use Rattle.core_steps.specs.Cells

@@ -18,15 +18,13 @@ use Rattle.region_locks.specs.Going.{view_found, word_left}
 use Rattle.region_locks.specs.Plays.{IsToldOf}
 
 -- which table it is, the pass's number, the command that is given and not begun, whether the pass is to give up, the
--- leaves of its command as bits, the things of the map that touch its region, the node of its player, the effect that it
--- keeps, and its view in the core
+-- leaves of its command as bits, the node of its player, the effect that it keeps, and its view in the core
 pub record PassView : Type 0 where
   pub table : TableId
   pub number : ℕ
   pub given : Option Command
   pub quits : Bool
   pub leaves : ℕ
-  pub things : List ℕ
   pub home : ℕ
   pub effect : Option Effect
   pub view : View
@@ -74,18 +72,59 @@ the_next (Some next) = next
 abbrev pub pass_after : Fixed → Next → ℕ → PassView → PassView
 pass_after F next found p = record p { given = None; quits = false; view = view_found F p.view next found }
 
+-- the sight of the pass's seat
+abbrev pub sight_of : PassView → SightView
+sight_of p = record { number = p.number; view = p.view }
+
+-- all is read
+abbrev pub is_resolving : Point → Bool
+is_resolving Idle = false
+is_resolving Owning = false
+is_resolving (Taking got rest) = false
+is_resolving Checking = false
+is_resolving (Entering node plan) = false
+is_resolving (Entered node plan) = false
+is_resolving (Loading node part players plan) = false
+is_resolving (Leaving node plan) = false
+is_resolving (Sensing ids) = false
+is_resolving Resolving = true
+is_resolving (Claiming got rest) = false
+is_resolving (Storing nodes stores) = false
+is_resolving (Releasing nodes) = false
+is_resolving (Returning leaves) = false
+is_resolving (Yielding nodes leaves) = false
+
+-- a command is in view, and not all is read yet
+abbrev pub is_early : Point → Bool
+is_early Idle = false
+is_early Owning = true
+is_early (Taking got rest) = true
+is_early Checking = true
+is_early (Entering node plan) = true
+is_early (Entered node plan) = true
+is_early (Loading node part players plan) = true
+is_early (Leaving node plan) = true
+is_early (Sensing ids) = true
+is_early Resolving = false
+is_early (Claiming got rest) = false
+is_early (Storing nodes stores) = false
+is_early (Releasing nodes) = false
+is_early (Returning leaves) = false
+is_early (Yielding nodes leaves) = false
+
 -- the pass belongs to the table, and what it keeps beside its view is what the view says
 pub record IsPassOf (F : Fixed) (passes : ℕ) (table : TableId) (p : PassView) : Type 0 where
   pub at_table : p.table ≡ table
   pub lives : p.view.live ≡ true
-  pub told : IsToldOf F passes (record { number = p.number; view = p.view })
+  pub told : IsToldOf F passes (sight_of p)
   pub pending : (c : Command) → p.given ≡ Some c → IsPending F p.view c
   pub serves : (c : Command) → p.given ≡ Some c → c.slot % passes ≡ p.number
   pub may_quit : p.quits ≡ true → is_taking p.view.point ≡ true
-  pub has_leaves : is_whole (stage_of p.view.point) ≡ true → p.leaves ≡ leaves_of F.tree (region_in F p.view.cmd p.view.own)
-  pub has_things : is_whole (stage_of p.view.point) ≡ true → p.things ≡ things_in F (region_in F p.view.cmd p.view.own)
-  pub has_home : is_read_again (stage_of p.view.point) ≡ true → p.home ≡ home F (record_read p.view.cmd.slot p.view.again)
-  pub has_effect : p.view.point ≡ Resolving → (e : Effect) → p.effect ≡ Some e → e ≡ effect_loaded F p.view
+  pub has_leaves : length p.view.own ≡ 6 → p.leaves ≡ leaves_of F.tree (region_in F p.view.cmd p.view.own)
+  pub has_home : length p.view.again ≡ 6 → p.home ≡ home F (record_read p.view.cmd.slot p.view.again)
+  pub has_effect : is_resolving p.view.point ≡ true → (e : Effect) → p.effect ≡ Some e → e ≡ effect_loaded F p.view
+  pub early : is_early p.view.point ≡ true → p.effect ≡ None
+  pub claimed : is_some p.view.effect ≡ true → is_some p.effect ≡ true
 
 -- what doesn't change of a table, by its action
 abbrev pub fixed_in : {A : Type 0} → (A → Rec → Bool) → (A → Rec → Command → List Bounds)

@@ -1,10 +1,10 @@
 -- What a step tells its caller.
-use Rattle.std.specs.Prelude.{◌≡◌, ◌≢◌, ℕ, ◌<◌, Bool, true, List, [], Option}
+use Rattle.std.specs.Prelude.{◌≡◌, ◌≢◌, ℕ, ◌<◌, Bool, true, List, [], length, Option}
 use Rattle.atomic_table.specs.Table.{Me}
 use Rattle.entity_recs.specs.Commands.{Command}
 use Rattle.entity_recs.specs.Worlds.{zero_vector, world_of}
 use Rattle.entity_recs.specs.Actions.{HasPlayer, IsCall}
-use Rattle.core_steps.specs.Views.{Fixed, Resolving, Point, Stage, stage_of, is_busy, is_open, is_whole, View, record_read, leaf_nodes, region_in, leaves_held, inner_held, loaded_near}
+use Rattle.core_steps.specs.Views.{Fixed, Resolving, Point, Stage, stage_of, is_busy, is_open, is_whole, is_read_again, View, record_read, leaf_nodes, region_in, leaves_held, inner_held, loaded_near}
 use Rattle.core_steps.specs.Stands.{IsGiven, IsHolding, IsUnread, IsAt, IsLogWithin}
 use Rattle.core_steps.specs.Machine.{Next, index_of, HasNext, ViewFits}
 use Rattle.region_locks.specs.Sights.{SightView}
@@ -12,6 +12,10 @@ use Rattle.region_locks.specs.Going.{view_found, view_looked, MayGo}
 
 -- what the rule says of one view alone
 pub record IsSound (F : Fixed) (view : View) : Type 0 where
+  pub depth : F.tree.depth ≡ 4
+  pub own_whole : is_whole (stage_of view.point) ≡ true → length view.own ≡ 6
+  pub again_whole : is_read_again (stage_of view.point) ≡ true → length view.again ≡ 6
+  pub room : is_open (stage_of view.point) ≡ true → length view.log < view.room
   pub hand : is_busy (stage_of view.point) ≡ true → IsGiven F view.cmd
   pub whole : is_whole (stage_of view.point) ≡ true → view.wanted ≡ leaf_nodes F (region_in F view.cmd view.own)
   pub holding : IsHolding F view.wanted (leaves_held view.point view.wanted) (inner_held F view.point)

@@ -9,4 +9,4 @@ mod plays;
 mod sight;
 mod steps;
 mod table;
-mod todo;
+mod words;

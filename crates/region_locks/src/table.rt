@@ -10,7 +10,7 @@ use std::marker::Model;
 pub struct NodeTable<'a, A: Action> {
     action: &'a A,
     tree: Tree,
-    table: Table<(), Sight, Key<A>, Locks<A>, Global>,
+    pub(crate) table: Table<(), Sight, Key<A>, Locks<A>, Global>,
 }
 
 impl<'a, A: Action> Model for NodeTable<'a, A> {
