@@ -11,6 +11,7 @@ pub mod Looking
 pub mod Making
 pub mod Ending
 pub mod Ready
-pub mod Reads
+pub mod OwnRecords
 pub mod Owns
 pub mod LeafWords
+pub mod Takes

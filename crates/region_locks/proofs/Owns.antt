@@ -13,7 +13,7 @@ use Rattle.region_locks.specs.Going.{view_found}
 use Rattle.region_locks.specs.Plays.{IsToldOf}
 use Rattle.region_locks.specs.Passes.{PassView, sight_of, is_resolving, is_early, next_of_pass, the_next, pass_after, IsPassOf}
 use Rattle.region_locks.proofs.Views.{keeps_found}
-use Rattle.region_locks.proofs.Reads.{reads_own, Reads, reads_kept}
+use Rattle.region_locks.proofs.OwnRecords.{reads_own, Reads, reads_kept}
 
 -- what the pass keeps is still right of the new view
 pub record IsKept (F : Fixed) (p : PassView) (view : View) : Type 0 where
