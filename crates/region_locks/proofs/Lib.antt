@@ -15,3 +15,5 @@ pub mod OwnRecords
 pub mod Owns
 pub mod LeafWords
 pub mod Takes
+pub mod Gives
+pub mod Seating

@@ -21,7 +21,7 @@ pub record IsKept (F : Fixed) (p : PassView) (view : View) : Type 0 where
   pub has_home : length view.again ≡ 6 → p.home ≡ home F (record_read view.cmd.slot view.again)
   pub has_effect : is_resolving view.point ≡ true → (e : Effect) → p.effect ≡ Some e → e ≡ effect_loaded F view
   pub early : is_early view.point ≡ true → p.effect ≡ None
-  pub claimed : is_some view.effect ≡ true → is_some p.effect ≡ true
+  pub claimed : (e : Effect) → view.effect ≡ Some e → p.effect ≡ Some e
 
 no_command : {R : Type 0} (c : Command) → None ≡ Some c → R
 no_command c e = cc
@@ -70,13 +70,13 @@ kept_early F passes table p next found own reads none same =
       has_home = home_kept F passes table p _ own kept;
       has_effect = λ at e some. no_effect p.effect e none some;
       early = λ at. none;
-      claimed = λ some. own.claimed (ap is_some (sym same) ∙ some);
+      claimed = λ e some. own.claimed e (sym same ∙ some);
     }
 
 -- where the new point is neither early nor resolving
 pub kept_late : (F : Fixed) (passes : ℕ) (table : TableId) (p : PassView) (next : Next) (found : ℕ) → IsPassOf F passes table p → reads_own next ≡ false
     → is_resolving (view_found F p.view next found).point ≡ false → is_early (view_found F p.view next found).point ≡ false
-    → (is_some (view_found F p.view next found).effect ≡ true → is_some p.effect ≡ true) → IsKept F p (view_found F p.view next found)
+    → ((e : Effect) → (view_found F p.view next found).effect ≡ Some e → p.effect ≡ Some e) → IsKept F p (view_found F p.view next found)
 kept_late F passes table p next found own reads resolving early claimed =
     let kept = reads_kept F p.view next found reads in
     record {
@@ -95,5 +95,12 @@ kept_same F passes table p view own reads point effect loaded = record {
   has_home = home_kept F passes table p view own reads;
   has_effect = λ at e some. own.has_effect (ap is_resolving (sym point) ∙ at) e some ∙ sym loaded;
   early = λ at. own.early (ap is_early (sym point) ∙ at);
-  claimed = λ some. own.claimed (ap is_some (sym effect) ∙ some);
+  claimed = λ e some. own.claimed e (sym effect ∙ some);
 }
+
+-- the pass after a step is the table's
+pub own_new : (F : Fixed) (passes : ℕ) (table : TableId) (p new : PassView) (next : Next) (found : ℕ) → new ≡ pass_after F next found p → IsPassOf F passes table p
+    → IsKept F p (view_found F p.view next found) → IsToldOf F passes (sight_of new) → IsPassOf F passes table new
+own_new F passes table p new next found is own kept told =
+    subst (IsPassOf F passes table) (sym is)
+    (own_after F passes table p next found own kept (subst (λ (q : PassView). IsToldOf F passes (sight_of q)) is told))

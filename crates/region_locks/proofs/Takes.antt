@@ -81,7 +81,7 @@ module _ (F : Fixed) (passes : ℕ) (table : TableId) (p : PassView) (node : ℕ
           has_home = own.has_home;
           has_effect = λ at f some. absurd (false≢true at);
           early = λ at. absurd (false≢true at);
-          claimed = λ some. ap is_some is;
+          claimed = λ f some. is ∙ some;
         })
         | inr held ↦ subst (IsKept F p) (sym (cond-false (found == 0) (view_after_claim F e node p.view) (view_after_refusal node found p.view) held)) (record {
           has_leaves = own.has_leaves;
@@ -137,12 +137,12 @@ module _ (F : Fixed) (passes : ℕ) (table : TableId) (p : PassView) (node : ℕ
   taking_not_resolving got (leaf ∷ rest) = refl
 
   -- where write nodes are taken the effect is in view
-  claim_effect : (got rest : List ℕ) → p.view.point ≡ Claiming got rest → is_some p.view.effect ≡ true
+  claim_effect : (got rest : List ℕ) → p.view.point ≡ Claiming got rest → is_some p.effect ≡ true
   claim_effect got rest at =
       let view = p.view in
       let is : IsClaimingAfter F (region_in F view.cmd view.own) view.cmd.slot (record_read view.cmd.slot view.again) view.lists view.others view.states view.effect got rest =
       subst (IsAt F view.cmd view.own view.wanted view.again view.lists view.others view.states view.effect) at own.told.sound.at in
-      ap is_some is.claim.is
+      ap is_some (own.claimed is.claim.e is.claim.is)
 
   -- which point takes the node
   takes_at : (point : Point) → p.view.point ≡ point → node_taken_next (next_point F p point) ≡ Some node → Takes F p node (the_next (next_point F p point))
@@ -164,7 +164,7 @@ module _ (F : Fixed) (passes : ℕ) (table : TableId) (p : PassView) (node : ℕ
   takes_at Resolving at taken = resolved_at Resolving at refl p.effect refl taken
   takes_at (Claiming got []) at taken = commit_taken p.view.effect got node taken
   takes_at (Claiming got (n ∷ rest)) at taken =
-      taken_at (Claiming got (n ∷ rest)) at n (some_same n node taken) refl (own.claimed (claim_effect got (n ∷ rest) at)) (λ is. absurd (false≢true is)) (λ is. absurd (false≢true is))
+      taken_at (Claiming got (n ∷ rest)) at n (some_same n node taken) refl (claim_effect got (n ∷ rest) at) (λ is. absurd (false≢true is)) (λ is. absurd (false≢true is))
   takes_at (Storing nodes []) at taken = none_taken node taken
   takes_at (Storing nodes (store ∷ stores)) at taken = none_taken node taken
   takes_at (Releasing nodes) at taken = give_taken _ node taken
@@ -190,3 +190,22 @@ word_of_holder F passes table p node next own t =
     ap (λ (x : ℕ). suc (p.number + 256 * (if nat_le (inner_nodes F) node then x else (if is_writing t.stage then 1 else 0)))) wanted
     ∙ ap (λ (x : ℕ). suc (p.number + 256 * (if nat_le x node then p.leaves else (if is_writing t.stage then 1 else 0)))) inner
     ∙ ap (λ (b : Bool). suc (p.number + 256 * (if nat_le 15 node then p.leaves else (if b then 1 else 0)))) (sym t.writes)
+
+pub taken_there : (o : Option Next) (node : ℕ) → node_taken_next o ≡ Some node → is_some o ≡ true
+taken_there None node e = none_taken node e
+taken_there (Some next) node e = refl
+
+pub taken_index : (F : Fixed) (p : PassView) (node : ℕ) (next : Next) → Takes F p node next → index_of 31 p.view next ≡ 1 + node
+taken_index F p node next t = elim t.takes [
+  | inl is ↦ ap (index_of 31 p.view) is
+  | inr is ↦ ap (index_of 31 p.view) is.1
+]
+
+-- the same word, of what the pass holds
+pub same_holder : (p : PassView) (node number leaves : ℕ) (effect : Option Effect) → p.number ≡ number → p.leaves ≡ leaves → p.effect ≡ effect
+    → suc (p.number + 256 * (if nat_le 15 node then p.leaves else (if is_some p.effect then 1 else 0)))
+    ≡ suc (number + 256 * (if nat_le 15 node then leaves else (if is_some effect then 1 else 0)))
+same_holder p node number leaves effect is_number are_leaves is_effect =
+    ap (λ (x : ℕ). suc (x + 256 * (if nat_le 15 node then p.leaves else (if is_some p.effect then 1 else 0)))) is_number
+    ∙ ap (λ (x : ℕ). suc (number + 256 * (if nat_le 15 node then x else (if is_some p.effect then 1 else 0)))) are_leaves
+    ∙ ap (λ (o : Option Effect). suc (number + 256 * (if nat_le 15 node then leaves else (if is_some o then 1 else 0)))) is_effect

@@ -10,7 +10,7 @@ use Rattle.areanode.specs.Trees.{leaves_of}
 use Rattle.world_tree.specs.Worlds.{WorldView}
 use Rattle.core_steps.specs.Views.{Fixed, Point, Idle, Owning, Taking, Checking, Entering, Entered, Loading, Leaving, Sensing, Resolving, Claiming, Storing, Releasing, Returning, Yielding, stage_of, is_whole, is_read_again, View, home, region_in, things_in, record_read, write_nodes, effect_loaded}
 use Rattle.core_steps.specs.Steps.{is_taking, first_yield}
-use Rattle.core_steps.specs.Machine.{Next, YieldCount, index_of, resolving, quitting, next_at, IsPending}
+use Rattle.core_steps.specs.Machine.{Next, Begin, LoadOwn, LoadAgain, TakeNode, ClaimNode, ReadList, ReadPlayer, ReadState, CommitMove, StoreWord, GiveNode, YieldNode, YieldCount, index_of, resolving, quitting, next_at, IsPending}
 use Rattle.region_locks.specs.Sights.{SightView}
 use Rattle.region_locks.specs.Starts.{fixed_by}
 use Rattle.core_steps.specs.Calls.{node_taken}
@@ -124,7 +124,7 @@ pub record IsPassOf (F : Fixed) (passes : ℕ) (table : TableId) (p : PassView) 
   pub has_home : length p.view.again ≡ 6 → p.home ≡ home F (record_read p.view.cmd.slot p.view.again)
   pub has_effect : is_resolving p.view.point ≡ true → (e : Effect) → p.effect ≡ Some e → e ≡ effect_loaded F p.view
   pub early : is_early p.view.point ≡ true → p.effect ≡ None
-  pub claimed : is_some p.view.effect ≡ true → is_some p.effect ≡ true
+  pub claimed : (e : Effect) → p.view.effect ≡ Some e → p.effect ≡ Some e
 
 -- what doesn't change of a table, by its action
 abbrev pub fixed_in : {A : Type 0} → (A → Rec → Bool) → (A → Rec → Command → List Bounds)
@@ -164,3 +164,66 @@ pub record HasGone (F : Fixed) (passes : ℕ) (p : PassView) (found : ℕ) (seat
   pub went : seat.me.0.view ≡ view_found F p.view (the_next (next_of_pass F p)) found
   pub told : IsToldOf F passes (record { number = p.number; view = view_found F p.view (the_next (next_of_pass F p)) found })
   pub carries : seat.me.1 ≡ carried
+
+-- the node that a step gives back
+abbrev pub node_given : Next → Option ℕ
+node_given (Begin c) = None
+node_given LoadOwn = None
+node_given LoadAgain = None
+node_given (TakeNode node) = None
+node_given (ClaimNode e node) = None
+node_given (ReadList node plan) = None
+node_given (ReadPlayer node part slot players plan) = None
+node_given (ReadState id ids) = None
+node_given (CommitMove e nodes) = None
+node_given (StoreWord nodes store stores) = None
+node_given (GiveNode node) = Some node
+node_given (YieldNode node) = Some node
+node_given YieldCount = None
+
+-- the same of what comes next, if anything does
+abbrev pub node_given_next : Option Next → Option ℕ
+node_given_next None = None
+node_given_next (Some next) = node_given next
+
+-- the node whose list word a step loads
+abbrev pub list_read : Next → Option ℕ
+list_read (Begin c) = None
+list_read LoadOwn = None
+list_read LoadAgain = None
+list_read (TakeNode node) = None
+list_read (ClaimNode e node) = None
+list_read (ReadList node plan) = Some node
+list_read (ReadPlayer node part slot players plan) = None
+list_read (ReadState id ids) = None
+list_read (CommitMove e nodes) = None
+list_read (StoreWord nodes store stores) = None
+list_read (GiveNode node) = None
+list_read (YieldNode node) = None
+list_read YieldCount = None
+
+-- the same of what comes next, if anything does
+abbrev pub list_read_next : Option Next → Option ℕ
+list_read_next None = None
+list_read_next (Some next) = list_read next
+
+-- the id whose state a step loads
+abbrev pub state_read : Next → Option ℕ
+state_read (Begin c) = None
+state_read LoadOwn = None
+state_read LoadAgain = None
+state_read (TakeNode node) = None
+state_read (ClaimNode e node) = None
+state_read (ReadList node plan) = None
+state_read (ReadPlayer node part slot players plan) = None
+state_read (ReadState id ids) = Some id
+state_read (CommitMove e nodes) = None
+state_read (StoreWord nodes store stores) = None
+state_read (GiveNode node) = None
+state_read (YieldNode node) = None
+state_read YieldCount = None
+
+-- the same of what comes next, if anything does
+abbrev pub state_read_next : Option Next → Option ℕ
+state_read_next None = None
+state_read_next (Some next) = state_read next
