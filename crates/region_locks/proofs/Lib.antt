@@ -17,3 +17,7 @@ pub mod LeafWords
 pub mod Takes
 pub mod Gives
 pub mod Seating
+pub mod Closing
+pub mod Starting
+pub mod Worlds
+pub mod Openings

@@ -9,7 +9,7 @@ use Rattle.areanode.specs.Trees.{leaves_of}
 use Rattle.core_steps.specs.Views.{Fixed, Point, Idle, Owning, Taking, Checking, Entering, Entered, Loading, Leaving, Sensing, Resolving, Claiming, Storing, Releasing, Returning, Yielding, View, home, region_in, record_read, effect_loaded, inner_held, leaves_held}
 use Rattle.core_steps.specs.Steps.{taking, storing, rest_of, returning, released, yielding, yielded, point_after_take, view_after_give}
 use Rattle.core_steps.specs.Machine.{Next}
-use Rattle.region_locks.specs.Going.{view_found}
+use Rattle.region_locks.specs.Going.{view_found, view_looked}
 use Rattle.region_locks.specs.Plays.{IsToldOf}
 use Rattle.region_locks.specs.Passes.{PassView, sight_of, is_resolving, is_early, next_of_pass, the_next, pass_after, IsPassOf}
 use Rattle.region_locks.proofs.Views.{keeps_found}
@@ -104,3 +104,21 @@ pub own_new : (F : Fixed) (passes : ℕ) (table : TableId) (p new : PassView) (n
 own_new F passes table p new next found is own kept told =
     subst (IsPassOf F passes table) (sym is)
     (own_after F passes table p next found own kept (subst (λ (q : PassView). IsToldOf F passes (sight_of q)) is told))
+
+-- the pass that has looked at the count is still the table's
+pub looked_own : (F : Fixed) (passes : ℕ) (table : TableId) (p new : PassView) (found : ℕ) → new ≡ record p { view = view_looked found p.view } → IsPassOf F passes table p
+    → IsToldOf F passes (sight_of new) → IsPassOf F passes table new
+looked_own F passes table p new found is own told =
+    subst (IsPassOf F passes table) (sym is) (record {
+      at_table = own.at_table;
+      lives = own.lives;
+      told = subst (λ (q : PassView). IsToldOf F passes (sight_of q)) is told;
+      pending = λ c e. let pending = own.pending c e in record { lives = pending.lives; idle = pending.idle; command = pending.command; room = pending.room };
+      serves = own.serves;
+      may_quit = own.may_quit;
+      has_leaves = own.has_leaves;
+      has_home = own.has_home;
+      has_effect = own.has_effect;
+      early = own.early;
+      claimed = own.claimed;
+    })

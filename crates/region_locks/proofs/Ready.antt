@@ -62,7 +62,7 @@ may_go F passes table p own comes = record {
   at_take = own.may_quit;
 }
 
-sight_is : (sight : SightView) (number : ℕ) (view : View) → sight.number ≡ number → sight.view ≡ view → sight ≡ record { number = number; view = view }
+pub sight_is : (sight : SightView) (number : ℕ) (view : View) → sight.number ≡ number → sight.view ≡ view → sight ≡ record { number = number; view = view }
 sight_is sight number view e f i = record { number = e i; view = f i }
 
 pub told_ready : (F : Fixed) (passes : ℕ) (table : TableId) (p : PassView) (seat : Seat (Unit {0}) SightView) (word : ℕ) → IsReady F passes table p seat word → IsToldOf F passes seat.me.0

@@ -6,6 +6,8 @@ pub mod Rule
 pub mod Plays
 pub mod Passes
 pub mod Hands
+pub mod Closing
+pub mod Laws
 pub use Rattle.core_steps.specs.Cells
 pub use Rattle.core_steps.specs.Views
 pub use Rattle.core_steps.specs.Steps

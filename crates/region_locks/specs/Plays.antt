@@ -2,7 +2,6 @@
 use Rattle.std.specs.Prelude.{◌≡◌, ◌≢◌, ℕ, ◌<◌, Bool, true, List, [], length, Option}
 use Rattle.atomic_table.specs.Table.{Me}
 use Rattle.entity_recs.specs.Commands.{Command}
-use Rattle.entity_recs.specs.Worlds.{zero_vector, world_of}
 use Rattle.entity_recs.specs.Actions.{HasPlayer, IsCall}
 use Rattle.core_steps.specs.Views.{Fixed, Resolving, Point, Stage, stage_of, is_busy, is_open, is_whole, is_read_again, View, record_read, leaf_nodes, region_in, leaves_held, inner_held, loaded_near}
 use Rattle.core_steps.specs.Stands.{IsGiven, IsHolding, IsUnread, IsAt, IsLogWithin}
@@ -54,13 +53,3 @@ pub record Looked (F : Fixed) (passes : ℕ) (before : SightView) (found : ℕ) 
 -- the seat looked at the count, and carries what it carried
 abbrev pub SeatLooked : Fixed → ℕ → Me (Unit {0}) SightView → ℕ → Me (Unit {0}) SightView → Type 0
 SeatLooked F passes before found after = Looked F passes before.0 found after.0 × (after.1 ≡ before.1)
-
--- in place of what doesn't change, where no step is picked
-abbrev pub nothing_fixed : Fixed
-nothing_fixed = record {
-  takes = λ r. true;
-  region_of = λ me c. [];
-  effect_of = λ me near c. record { me = me; states = []; reply = record { origin = me.origin; got = [] } };
-  tree = record { depth = 4; bounds = record { lo = zero_vector; hi = zero_vector } };
-  start = world_of [];
-}

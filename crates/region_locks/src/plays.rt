@@ -23,7 +23,7 @@ pub trait Planned {
 impl Planned for Brand {
     ghost use Rattle.std.specs.Prelude.{None, false};
     ghost use Rattle.core_steps.specs.Machine.{YieldCount};
-    ghost use Rattle.region_locks.specs.Plays.{nothing_fixed};
+    ghost use Rattle.region_locks.specs.Starts.{nothing_fixed};
 
     ghost fixed = { nothing_fixed };
 
