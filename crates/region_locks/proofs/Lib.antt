@@ -21,3 +21,4 @@ pub mod Closing
 pub mod Starting
 pub mod Worlds
 pub mod Openings
+pub mod NewPasses

@@ -1,5 +1,6 @@
 -- A pass as contracts see it, and the table that it belongs to.
-use Rattle.std.specs.Prelude.{◌≡◌, ◌≢◌, ℕ, ◌-◌, ◌/◌, ◌%◌, ◌^◌, nat_le, Bool, true, false, if◌then◌else◌, List, length, Option, Some, None, is_some}
+use Rattle.std.specs.Prelude.{◌≡◌, ◌≢◌, ℕ, ◌-◌, ◌/◌, ◌%◌, ◌^◌, nat_le, Bool, true, false, if◌then◌else◌, List, [], ◌∷◌, map, length, slice_index, Option, Some, None, is_some}
+use Rattle.std.specs.List.{range_with_len}
 use Rattle.arena_geo.specs.Bounds.{Bounds}
 use Rattle.atomic_table.specs.Seated.{TableId}
 use Rattle.atomic_table.specs.declared.shared.Seat.{Seat}
@@ -8,7 +9,7 @@ use Rattle.entity_recs.specs.declared.effect.Effect.{Effect}
 use Rattle.entity_recs.specs.Commands.{Command}
 use Rattle.areanode.specs.Trees.{leaves_of}
 use Rattle.world_tree.specs.Worlds.{WorldView}
-use Rattle.core_steps.specs.Views.{Fixed, Point, Idle, Owning, Taking, Checking, Entering, Entered, Loading, Leaving, Sensing, Resolving, Claiming, Storing, Releasing, Returning, Yielding, stage_of, is_whole, is_read_again, View, home, region_in, things_in, record_read, write_nodes, effect_loaded}
+use Rattle.core_steps.specs.Views.{Fixed, Point, Idle, Owning, Taking, Checking, Entering, Entered, Loading, Leaving, Sensing, Resolving, Claiming, Storing, Releasing, Returning, Yielding, stage_of, is_whole, is_read_again, View, new_view, home, region_in, things_in, record_read, write_nodes, effect_loaded}
 use Rattle.core_steps.specs.Steps.{is_taking, first_yield}
 use Rattle.core_steps.specs.Machine.{Next, Begin, LoadOwn, LoadAgain, TakeNode, ClaimNode, ReadList, ReadPlayer, ReadState, CommitMove, StoreWord, GiveNode, YieldNode, YieldCount, index_of, resolving, quitting, next_at, IsPending}
 use Rattle.region_locks.specs.Sights.{SightView}
@@ -227,3 +228,35 @@ state_read YieldCount = None
 abbrev pub state_read_next : Option Next → Option ℕ
 state_read_next None = None
 state_read_next (Some next) = state_read next
+
+-- ---- new passes
+
+-- a pass with this view that has no command in hand
+abbrev pub new_pass : TableId → ℕ → View → PassView
+new_pass table number view = record {
+  table = table;
+  number = number;
+  given = None;
+  quits = false;
+  leaves = 0;
+  home = 0;
+  effect = None;
+  view = view;
+}
+
+-- the view of a new seat that has made so many seats
+abbrev pub view_with_made : ℕ → ℕ → View
+view_with_made room made = record (new_view room) { made = made }
+
+-- pass 0 of a table with these rooms
+abbrev pub first_pass : TableId → List ℕ → PassView
+first_pass table rooms = new_pass table 0 (view_with_made (slice_index rooms 0) (length rooms))
+
+-- another pass
+abbrev pub other_pass : TableId → List ℕ → ℕ → PassView
+other_pass table rooms number = new_pass table number (new_view (slice_index rooms number))
+
+-- the passes of a table with these rooms, in rising number
+abbrev pub new_passes : TableId → List ℕ → List PassView
+new_passes table rooms = first_pass table rooms
+    ∷ map (other_pass table rooms) (range_with_len 1 (length rooms - 1))
