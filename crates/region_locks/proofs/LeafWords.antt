@@ -35,7 +35,7 @@ bits_of_test (suc n) test =
     let rest = bits_of_test n test in
     let one = one_bit test n in
     let all = ap (λ (xs : List ℕ). bits_of_leaves (filter test xs)) (range_end n) ∙ ap bits_of_leaves (filter-append test (range_with_len 0 n) (n ∷ []))
-        ∙ bits-append (filter test (range_with_len 0 n)) (filter test (n ∷ [])) in
+    ∙ bits-append (filter test (range_with_len 0 n)) (filter test (n ∷ [])) in
     omega (arith, rest, one, all)
 
 -- a filter by tests that agree on the list

@@ -28,15 +28,15 @@ module _ (P : Rec → Type 0) (f : ℕ → Option Rec) where
   by_ids start (Some r ∷ records) gives own all =
       let here : at_id r.id ≡ r = ap record_or_nobody (ap f (own 0 r refl) ∙ gives 0) in
       let rest = by_ids (start + 1) records
-          (λ i. let later : start + 1 + i ≡ start + suc i = omega arith in ap f later ∙ gives (suc i))
-          (λ i x e. own (suc i) x e ∙ omega arith) all.1 in
+      (λ i. let later : start + 1 + i ≡ start + suc i = omega arith in ap f later ∙ gives (suc i))
+      (λ i x e. own (suc i) x e ∙ omega arith) all.1 in
       ((ap (λ (x : Rec). x.id) here, rest.0), (subst P (sym here) all.0, rest.1))
 
 pub world_starts : (F : Fixed) (w : WorldView) → F.start ≡ world_by_id w.records → IsLinked w → All (λ (r : Rec). F.takes r ≡ true) (live_in w.records) → IsStart F
 world_starts F w is linked taken =
     let P : Rec → Type 0 = λ r. F.takes r ≡ true in
     let both = by_ids P (record_of w) 0 w.records (λ i. let same : 0 + i ≡ i = omega arith in ap (record_of w) same) (λ i r e. (linked.entries i r e).own_id ∙ omega arith)
-        (recursion_from_All P (live_in w.records) taken) in
+    (recursion_from_All P (live_in w.records) taken) in
     record {
       rising = subst (λ (x : World). IsStrictlyIncreasing x.ids) (sym is) (live_ids_rise w linked);
       own = subst (λ (x : World). All (λ id. (x.record_of id).id ≡ id) x.ids) (sym is) (All-from_recursion (λ id. ((world_by_id w.records).record_of id).id ≡ id) (ids_of w.records) both.0);

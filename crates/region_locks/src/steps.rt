@@ -6,8 +6,8 @@ ghost use Rattle.region_locks.specs.Plays.{IsToldOf, SeatWent};
 ghost use Rattle.core_steps.specs.Machine.{index_of};
 
 use crate::key::{Place, Words};
-use crate::plays::{Goes, Planned};
 use crate::pass::Pass;
+use crate::plays::{Goes, Planned};
 use entity_recs::Action;
 use std::snapshot::Snapshot;
 

@@ -78,6 +78,13 @@ impl<'a, A: Action> NodeTable<'a, A> {
         let (table, mut first) = lay_table(alloc, action, world, room)?;
         let mut passes = make_others(alloc, &table.shared, &mut first, room)?;
         passes.insert(0, Pass::resting(first, 0))?;
-        Ok((NodeTable { action, tree, table }, passes))
+        Ok((
+            NodeTable {
+                action,
+                tree,
+                table,
+            },
+            passes,
+        ))
     }
 }

@@ -19,12 +19,12 @@ loop-i-preserved g c =
     ∙ ap (λ (t : TableId). new_pass t c.loop-i.i c.make-seat.result.me.0.view) (seat.table.1 ∙ inv.2)
     ∙ ap (λ (me : Me (Unit {0}) SightView). new_pass table c.loop-i.i me.0.view) seat.made in (
       c.in_ok-push.ensures.items
-      ∙ ap (λ (xs : List PassView). xs ++ c.resting.result ∷ []) inv.0
-      ∙ ap (λ (p : PassView). map (other_pass table c.args.room.now) (range_with_len 1 (c.loop-i.i - 1)) ++ p ∷ []) made
-      ∙ sym (others_more table c.args.room.now c.loop-i.i inv.3),
+          ∙ ap (λ (xs : List PassView). xs ++ c.resting.result ∷ []) inv.0
+          ∙ ap (λ (p : PassView). map (other_pass table c.args.room.now) (range_with_len 1 (c.loop-i.i - 1)) ++ p ∷ []) made
+          ∙ sym (others_more table c.args.room.now c.loop-i.i inv.3),
       seat.seat
-      ∙ ap (λ (me : Me (Unit {0}) SightView). (with_one_made me.0, me.1)) inv.1
-      ∙ ap (λ (n : ℕ). (record { number = 0; view = view_with_made (slice_index c.args.room.now 0) n }, [])) more,
+          ∙ ap (λ (me : Me (Unit {0}) SightView). (with_one_made me.0, me.1)) inv.1
+          ∙ ap (λ (n : ℕ). (record { number = 0; view = view_with_made (slice_index c.args.room.now 0) n }, [])) more,
       seat.table.0 ∙ inv.2,
       omega (arith, inv.3),
     )
