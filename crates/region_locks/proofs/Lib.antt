@@ -22,3 +22,4 @@ pub mod Starting
 pub mod Worlds
 pub mod Openings
 pub mod NewPasses
+pub mod Commits

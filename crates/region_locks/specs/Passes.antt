@@ -229,6 +229,27 @@ abbrev pub state_read_next : Option Next → Option ℕ
 state_read_next None = None
 state_read_next (Some next) = state_read next
 
+-- the step commits
+abbrev pub is_commit : Next → Bool
+is_commit (Begin c) = false
+is_commit LoadOwn = false
+is_commit LoadAgain = false
+is_commit (TakeNode node) = false
+is_commit (ClaimNode e node) = false
+is_commit (ReadList node plan) = false
+is_commit (ReadPlayer node part slot players plan) = false
+is_commit (ReadState id ids) = false
+is_commit (CommitMove e nodes) = true
+is_commit (StoreWord nodes store stores) = false
+is_commit (GiveNode node) = false
+is_commit (YieldNode node) = false
+is_commit YieldCount = false
+
+-- the same of what comes next, if anything does
+abbrev pub is_commit_next : Option Next → Bool
+is_commit_next None = false
+is_commit_next (Some next) = is_commit next
+
 -- ---- new passes
 
 -- a pass with this view that has no command in hand

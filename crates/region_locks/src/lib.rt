@@ -10,6 +10,7 @@ pub use pass::Pass;
 pub use table::{NodeTable, PassList};
 
 mod begin;
+mod commit;
 mod holder;
 mod key;
 mod laws;
