@@ -23,3 +23,4 @@ pub mod Worlds
 pub mod Openings
 pub mod NewPasses
 pub mod Commits
+pub mod Unlinks

@@ -9,7 +9,7 @@ use Rattle.entity_recs.specs.declared.effect.Effect.{Effect}
 use Rattle.entity_recs.specs.Commands.{Command}
 use Rattle.areanode.specs.Trees.{leaves_of}
 use Rattle.world_tree.specs.Worlds.{WorldView}
-use Rattle.core_steps.specs.Views.{Fixed, Point, Idle, Owning, Taking, Checking, Entering, Entered, Loading, Leaving, Sensing, Resolving, Claiming, Storing, Releasing, Returning, Yielding, stage_of, is_whole, is_read_again, View, new_view, home, region_in, things_in, record_read, write_nodes, effect_loaded}
+use Rattle.core_steps.specs.Views.{Fixed, Store, Clear, Put, Link, Point, Idle, Owning, Taking, Checking, Entering, Entered, Loading, Leaving, Sensing, Resolving, Claiming, Storing, Releasing, Returning, Yielding, stage_of, is_whole, is_read_again, View, new_view, home, region_in, things_in, record_read, write_nodes, effect_loaded}
 use Rattle.core_steps.specs.Steps.{is_taking, first_yield}
 use Rattle.core_steps.specs.Machine.{Next, Begin, LoadOwn, LoadAgain, TakeNode, ClaimNode, ReadList, ReadPlayer, ReadState, CommitMove, StoreWord, GiveNode, YieldNode, YieldCount, index_of, resolving, quitting, next_at, IsPending}
 use Rattle.region_locks.specs.Sights.{SightView}
@@ -249,6 +249,33 @@ is_commit YieldCount = false
 abbrev pub is_commit_next : Option Next → Bool
 is_commit_next None = false
 is_commit_next (Some next) = is_commit next
+
+-- the store clears the own bit
+abbrev pub is_clear : Store → Bool
+is_clear (Clear node) = true
+is_clear (Put cell x) = false
+is_clear (Link node) = false
+
+-- the step clears the own bit at the old node
+abbrev pub is_unlink : Next → Bool
+is_unlink (Begin c) = false
+is_unlink LoadOwn = false
+is_unlink LoadAgain = false
+is_unlink (TakeNode node) = false
+is_unlink (ClaimNode e node) = false
+is_unlink (ReadList node plan) = false
+is_unlink (ReadPlayer node part slot players plan) = false
+is_unlink (ReadState id ids) = false
+is_unlink (CommitMove e nodes) = false
+is_unlink (StoreWord nodes store stores) = is_clear store
+is_unlink (GiveNode node) = false
+is_unlink (YieldNode node) = false
+is_unlink YieldCount = false
+
+-- the same of what comes next, if anything does
+abbrev pub is_unlink_next : Option Next → Bool
+is_unlink_next None = false
+is_unlink_next (Some next) = is_unlink next
 
 -- ---- new passes
 

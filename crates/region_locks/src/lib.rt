@@ -24,4 +24,5 @@ mod start;
 mod steps;
 mod table;
 mod take;
+mod unlink;
 mod words;
