@@ -6,7 +6,7 @@ use Rattle.atomic_table.specs.Seated.{TableId}
 use Rattle.entity_recs.specs.declared.effect.Effect.{Effect}
 use Rattle.entity_recs.specs.Commands.{Command}
 use Rattle.areanode.specs.Trees.{leaves_of}
-use Rattle.core_steps.specs.Views.{Fixed, Point, Idle, Owning, Taking, Checking, Entering, Entered, Loading, Leaving, Sensing, Resolving, Claiming, Storing, Releasing, Returning, Yielding, View, home, region_in, record_read, effect_loaded, inner_held, leaves_held}
+use Rattle.core_steps.specs.Views.{Fixed, Point, Idle, Owning, Taking, Checking, Entering, Entered, Loading, Leaving, Sensing, Resolving, Claiming, Storing, Releasing, Returning, Yielding, View, stage_of, is_without_effect, home, region_in, record_read, effect_loaded, inner_held, leaves_held}
 use Rattle.core_steps.specs.Steps.{taking, storing, rest_of, returning, released, yielding, yielded, point_after_take, view_after_give}
 use Rattle.core_steps.specs.Machine.{Next}
 use Rattle.region_locks.specs.Going.{view_found, view_looked}
@@ -122,3 +122,23 @@ looked_own F passes table p new found is own told =
       early = own.early;
       claimed = own.claimed;
     })
+
+same_effect : (a b : Effect) → Some a ≡ Some b → a ≡ b
+same_effect a b e = cc
+
+-- the pass that was given its effect is still the table's
+pub resolved_own : (F : Fixed) (passes : ℕ) (table : TableId) (p : PassView) (e : Effect) → IsPassOf F passes table p → p.view.point ≡ Resolving → e ≡ effect_loaded F p.view
+    → IsPassOf F passes table (record p { effect = Some e })
+resolved_own F passes table p e own at is = record {
+  at_table = own.at_table;
+  lives = own.lives;
+  told = own.told;
+  pending = own.pending;
+  serves = own.serves;
+  may_quit = own.may_quit;
+  has_leaves = own.has_leaves;
+  has_home = own.has_home;
+  has_effect = λ resolving f some. sym (same_effect e f some) ∙ is;
+  early = λ early. absurd (true≢false (sym early ∙ ap is_early at));
+  claimed = λ f some. no_effect p.view.effect f (own.told.sound.unread.no_effect (ap (λ (q : Point). is_without_effect (stage_of q)) at)) some;
+}

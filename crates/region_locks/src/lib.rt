@@ -18,6 +18,7 @@ mod nexts;
 mod opening;
 mod pass;
 mod plays;
+mod resolve;
 mod seats;
 mod sight;
 mod start;

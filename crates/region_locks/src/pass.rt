@@ -71,4 +71,11 @@ impl<A> Pass<A> {
     {
         self.number
     }
+
+    /// The leaves of the command in hand, bit i for leaf i, once its own record was loaded.
+    pub fn leaves(&self) -> u16
+        ensures { result ≡ self.now.leaves }
+    {
+        self.leaves
+    }
 }
