@@ -5,7 +5,7 @@ use mathlib.Core.Option as maybe
 use mathlib.Core.Option.{some-ne-none}
 use lib.ListN.{get_elem?}
 use prog.Atomic.{either}
-use Rattle.atomic_table.specs.Table.{State, Me, keeps, Allows}
+use Rattle.atomic_table.specs.Table.{Me, keeps, Allows}
 use Rattle.atomic_table.proofs.Lists.{set_here}
 use Rattle.entity_recs.specs.Commands.{Command}
 use Rattle.core_steps.specs.Views.{Fixed}
@@ -13,7 +13,7 @@ use Rattle.core_steps.specs.Machine.{Next, index_of}
 use Rattle.region_locks.specs.Sights.{SightView}
 use Rattle.region_locks.specs.Going.{view_found, word_left, MayGo}
 use Rattle.region_locks.specs.Rule.{IsRuled}
-use Rattle.region_locks.specs.Plays.{Went, SeatWent}
+use Rattle.region_locks.specs.Plays.{SeatWent}
 use Rattle.region_locks.proofs.Goes.{goes}
 use Rattle.region_locks.proofs.Told.{told}
 use Rattle.region_locks.proofs.Bits.{cleared, set_bit}

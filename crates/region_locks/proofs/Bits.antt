@@ -1,7 +1,6 @@
 -- A bit of a list word that is set or cleared.
-use Rattle.std.proofs.Common.{◌≡◌, ℕ, zero, suc, ◌^◌, ◌<◌, ◌==◌, Bool, true, false, ◌&&◌, ◌||◌, not, if◌then◌else◌, ◌*◌, ◌%◌, refl, sym, ap, ◌∙◌, inl, inr, arith, bit_and, bit_or, w64}
+use Rattle.std.proofs.Common.{◌≡◌, ℕ, zero, suc, ◌^◌, ◌<◌, ◌==◌, Bool, true, false, ◌&&◌, ◌||◌, not, ◌*◌, ◌%◌, refl, sym, ◌∙◌, inl, inr, arith, bit_and, bit_or, w64}
 use Rattle.std.specs.Int.{bit_at, bit_not}
-use mir.Val.{bits}
 use Rattle.std.proofs.lemmas.Nat.{and_le_l, or_lt}
 use Rattle.std.proofs.lemmas.Nat.Bits.{bit_at-lt, bit_at_set_same, bit_at_set_other, bit_at_clear_same, bit_at_clear_other}
 use Rattle.std.proofs.lemmas.Bool.{cases_eq, eq-eqb, ne_eqb}

@@ -1,9 +1,9 @@
 -- What a step of the core changes: one seat's view, and one word.
-use Rattle.std.proofs.Common.{◌≡◌, ℕ, suc, ◌+◌, Bool, true, false, if◌then◌else◌, List, [], ◌∷◌, ◌++◌, refl, sym, ap, ◌∙◌, subst, inl, inr}
+use Rattle.std.proofs.Common.{◌≡◌, ℕ, false, refl, ap, ◌∙◌, inl, inr}
 use Rattle.std.specs.Prelude.{◌==◌}
-use Rattle.std.proofs.lemmas.Bool.{cases_Bool, cond-true, cond-false}
-use Rattle.core_steps.specs.Cells.{Words, Cell, Body, State, put, word_in, with_word, cell_of}
-use Rattle.core_steps.specs.Views.{Fixed, Store, Clear, Put, Link, View}
+use Rattle.std.proofs.lemmas.Bool.{cases_Bool}
+use Rattle.core_steps.specs.Cells.{Words, Cell, Body, State, put, word_in, with_word}
+use Rattle.core_steps.specs.Views.{Fixed, Store, Clear, Put, Link}
 use Rattle.core_steps.specs.Steps.{Core, words_after_store}
 use Rattle.core_steps.specs.Machine.{Next, Begin, LoadOwn, LoadAgain, TakeNode, ClaimNode, ReadList, ReadPlayer, ReadState, CommitMove, StoreWord, GiveNode, YieldNode, YieldCount, core_after, word_of_next, word_of_store}
 use Rattle.core_steps.proofs.Puts.{put_same, put_other}

@@ -1,16 +1,15 @@
 -- A table whose other seats are ended: its history is legal, and its words are those of the run.
-use Rattle.std.proofs.Common.{◌≡◌, ℕ, zero, suc, ◌+◌, ◌^◌, ◌<◌, ◌≤◌, Bool, true, false, if◌then◌else◌, List, [], ◌∷◌, ◌++◌, length, refl, sym, ap, ◌∙◌, subst, inl, inr, Option, Some, None, arith, slice_index, All}
-use Rattle.std.specs.Prelude.{◌==◌, nat_lt, ◌&&◌}
+use Rattle.std.proofs.Common.{◌≡◌, ℕ, zero, suc, ◌<◌, true, false, List, ◌++◌, refl, sym, ap, ◌∙◌, subst, inl, inr, arith}
+use Rattle.std.specs.Prelude.{◌==◌}
 use Rattle.std.specs.List.Sorted.{IsPermutation}
 use mathlib.Core.Option as maybe
 use lib.ListN.{get_elem?}
-use Rattle.std.proofs.lemmas.Bool.{cases_Bool, false≢true, true≢false, eqb-true, eqb-false, eq-eqb, ne_eqb, cond-true, cond-false}
+use Rattle.std.proofs.lemmas.Bool.{cases_Bool, true≢false, eqb-true, eqb-false, cond-true, cond-false}
 use Rattle.atomic_table.specs.Table.{State}
-use Rattle.entity_recs.specs.Worlds.{World}
-use Rattle.entity_recs.specs.Histories.{Item, run, IsLegal}
-use Rattle.core_steps.specs.Cells.{Cell, Body, State as StateCell, word_in, word_at, cell_index}
-use Rattle.core_steps.specs.Views.{Fixed, Point, Idle, stores_owed, View, spent, has}
-use Rattle.core_steps.specs.Stands.{is_player, is_live_cell, value_in, owed_at, ended_log, is_ended, log_of, items_below, items_of, IsNumbered}
+use Rattle.entity_recs.specs.Histories.{Item}
+use Rattle.core_steps.specs.Cells.{Cell, Body, State as StateCell, word_in, cell_index}
+use Rattle.core_steps.specs.Views.{Fixed, Point, Idle, stores_owed, View}
+use Rattle.core_steps.specs.Stands.{is_live_cell, value_in, owed_at, ended_log, is_ended, log_of, items_below, items_of, IsNumbered}
 use Rattle.core_steps.proofs.Layouts.{layout_is_right}
 use Rattle.region_locks.specs.Sights.{SightView}
 use Rattle.region_locks.specs.Going.{IsAtRest}

@@ -1,16 +1,16 @@
 -- The count of commits is small: each log fits its room, and there are at most sixteen.
-use Rattle.std.proofs.Common.{◌≡◌, ℕ, zero, suc, ◌+◌, ◌*◌, ◌^◌, ◌<◌, ◌≤◌, Bool, true, false, if◌then◌else◌, List, [], ◌∷◌, ◌++◌, length, refl, sym, ap, ◌∙◌, subst, inl, inr, arith, All, slice_index, length-append}
+use Rattle.std.proofs.Common.{ℕ, zero, suc, ◌*◌, ◌^◌, ◌<◌, ◌≤◌, List, [], ◌∷◌, length, inl, inr, arith, slice_index, length-append}
 use Rattle.std.specs.Prelude.{◌==◌}
 use Rattle.std.specs.List.{AllByRecursion}
-use Rattle.std.proofs.lemmas.Bool.{cases_Bool, cond-true, cond-false}
+use Rattle.std.proofs.lemmas.Bool.{cases_Bool}
 use Rattle.std.proofs.lemmas.List.Elements.{recursion_from_All}
 use Rattle.std.proofs.lemmas.List.Sorted.{length_permutation}
 use Rattle.atomic_table.specs.Table.{State}
 use Rattle.entity_recs.specs.Histories.{Item}
-use Rattle.core_steps.specs.Views.{Fixed, Ended, View}
-use Rattle.core_steps.specs.Stands.{IsLogWithin, Stands, ended_log, log_of, items_below, items_of}
+use Rattle.core_steps.specs.Views.{Fixed, Ended}
+use Rattle.core_steps.specs.Stands.{IsLogWithin, ended_log, log_of, items_below, items_of}
 use Rattle.region_locks.specs.Sights.{SightView}
-use Rattle.region_locks.specs.Rule.{HasRooms, IsRuled}
+use Rattle.region_locks.specs.Rule.{IsRuled}
 
 ended_small : (count : ℕ) (ended : List Ended) → AllByRecursion (λ (e : Ended). IsLogWithin count e.room e.log) ended → AllByRecursion (λ (e : Ended). e.room < 2 ^ 32) ended
     → (n : ℕ) → length (ended_log ended n) < 2 ^ 32

@@ -1,29 +1,19 @@
 -- A machine that has nothing asked of it, and the places of a list.
-use Rattle.std.proofs.Common.{◌≡◌, ◌≢◌, ◌⊎◌, ℕ, zero, suc, ◌+◌, ◌%◌, ◌^◌, ◌<◌, ◌≤◌, Bool, true, false, List, [], ◌∷◌, ◌++◌, length, refl, sym, ap, ◌∙◌, subst, inl, inr, Option, Some, None, arith, slice_index, slice_set, All, length-set, length-append}
-use Rattle.std.specs.Prelude.{◌==◌}
-use Rattle.std.specs.List.{AllByRecursion}
+use Rattle.std.proofs.Common.{◌≡◌, ◌⊎◌, ℕ, zero, suc, ◌<◌, List, [], ◌∷◌, ◌++◌, length, refl, sym, ap, inl, inr, Some, None, arith}
 use mathlib.Core.Option as maybe
 use mathlib.Core.Option.{some-injective, some-ne-none}
 use lib.ListN.{get_elem?}
-use Rattle.std.proofs.lemmas.Bool.{cases_Bool, false≢true, true≢false, eqb-true, eqb-false, eq-eqb, ne_eqb}
-use Rattle.std.proofs.lemmas.List.{set-get_or}
-use Rattle.std.proofs.lemmas.List.Elements.{recursion_from_All, All-from_recursion}
-use Rattle.atomic_table.specs.Table.{State, Me, keeps, stepped, Allows, Splits, Joins}
-use Rattle.atomic_table.proofs.Lists.{at_set, set_here}
+use Rattle.std.proofs.lemmas.Bool.{false≢true}
 use Rattle.entity_recs.specs.Worlds.{World}
 use Rattle.entity_recs.specs.Histories.{Item}
 use Rattle.core_steps.specs.Cells.{put}
-use Rattle.core_steps.specs.Views.{Fixed, Ended, Idle, stage_of, is_busy, View, new_view, spent}
-use Rattle.core_steps.specs.Steps.{Core, make_seat, end_seat, load_count, with_ended}
+use Rattle.core_steps.specs.Views.{Fixed, View, new_view}
+use Rattle.core_steps.specs.Steps.{Core}
 use Rattle.core_steps.specs.Stands.{Stands}
-use Rattle.core_steps.specs.Laws.{IsResting}
-use Rattle.core_steps.specs.Machine.{Machine, HasNext, ViewFits, MachineStands}
-use Rattle.core_steps.proofs.Puts.{each_put, put_same, put_other}
-use Rattle.core_steps.proofs.Seats.{made_seat_stands, ended_seat_stands, loaded_count_stands}
+use Rattle.core_steps.specs.Machine.{HasNext, ViewFits, MachineStands}
+use Rattle.core_steps.proofs.Puts.{each_put}
 use Rattle.core_steps.proofs.Machines.{fits_none}
-use Rattle.region_locks.specs.Sights.{SightView, no_sight, with_one_made, sight_made, with_one_ended}
-use Rattle.region_locks.specs.Going.{IsAtRest, view_looked}
-use Rattle.region_locks.specs.Rule.{at_rest, HasWords, HasSeats, ServesItsSlots, HasRooms, IsRuled}
+use Rattle.region_locks.specs.Rule.{at_rest}
 
 -- what holds of a resting machine beyond its core
 pub record EachViewFits (F : Fixed) (core : Core) : Type 0 where

@@ -1,6 +1,6 @@
 -- The word of the leaves of a region.
-use Rattle.std.proofs.Common.{◌≡◌, ℕ, zero, suc, ◌+◌, ◌-◌, ◌*◌, ◌^◌, ◌<◌, Bool, true, false, if◌then◌else◌, List, [], ◌∷◌, ◌++◌, map, length, refl, sym, ap, ◌∙◌, subst, inl, inr, arith}
-use Rattle.std.specs.Prelude.{filter, nat_le}
+use Rattle.std.proofs.Common.{◌≡◌, ℕ, zero, suc, ◌+◌, ◌-◌, ◌^◌, ◌<◌, Bool, if◌then◌else◌, List, [], ◌∷◌, ◌++◌, map, refl, sym, ap, ◌∙◌, inl, inr, arith}
+use Rattle.std.specs.Prelude.{filter}
 use Rattle.std.specs.List.{range_with_len}
 use Rattle.std.proofs.lemmas.Bool.{cases_Bool}
 use Rattle.std.proofs.lemmas.List.Elements.{filter-append}
@@ -8,7 +8,7 @@ use Rattle.arena_geo.specs.Bounds.{Bounds}
 use Rattle.areanode.specs.Words.{has_bit, word_of}
 use Rattle.areanode.specs.Trees.{leaf_node, leaves_of, region_has_leaf}
 use Rattle.areanode.proofs.Words.{word_has_its_bits}
-use Rattle.core_steps.specs.Views.{Fixed, leaf_nodes, leaf_word, bits_of_leaves, inner_nodes}
+use Rattle.core_steps.specs.Views.{Fixed, leaf_nodes, leaf_word, bits_of_leaves}
 
 range_last : (low n : ℕ) → range_with_len low (suc n) ≡ range_with_len low n ++ (low + n) ∷ []
 range_last low zero = ap (λ (k : ℕ). k ∷ []) (omega arith)

@@ -1,18 +1,17 @@
 -- New passes belong to their table.
-use Rattle.std.proofs.Common.{◌≡◌, ℕ, zero, suc, ◌+◌, ◌-◌, ◌*◌, ◌<◌, ◌≤◌, Bool, true, false, if◌then◌else◌, List, [], ◌∷◌, ◌++◌, map, length, refl, sym, ap, ◌∙◌, subst, Option, Some, None, arith, slice_index, All}
+use Rattle.std.proofs.Common.{◌≡◌, ℕ, zero, suc, ◌+◌, ◌-◌, ◌<◌, ◌≤◌, Bool, true, false, List, [], ◌∷◌, ◌++◌, map, length, refl, ap, ◌∙◌, subst, Option, Some, None, arith, slice_index, All}
 use Rattle.std.specs.List.{range_with_len, AllByRecursion}
 use Rattle.std.proofs.lemmas.Bool.{false≢true}
 use Rattle.std.proofs.lemmas.List.Elements.{All-from_recursion}
 use Rattle.std.proofs.lemmas.List.FromFn.{map-range_with_len_more}
 use Rattle.atomic_table.specs.Seated.{TableId}
 use Rattle.entity_recs.specs.Commands.{Command}
-use Rattle.core_steps.specs.Views.{Fixed, View, new_view}
+use Rattle.core_steps.specs.Views.{Fixed, View}
 use Rattle.core_steps.specs.Machine.{Next, Begin, beginning, index_of, IsPending}
 use Rattle.core_steps.proofs.Machines.{fits_none}
-use Rattle.region_locks.specs.Sights.{SightView}
-use Rattle.region_locks.specs.Going.{next_asked, MayGo}
+use Rattle.region_locks.specs.Going.{MayGo}
 use Rattle.region_locks.specs.Plays.{IsSound, IsToldOf}
-use Rattle.region_locks.specs.Passes.{PassView, is_resolving, IsPassOf, new_pass, view_with_made, first_pass, other_pass, new_passes}
+use Rattle.region_locks.specs.Passes.{is_resolving, IsPassOf, new_pass, view_with_made, other_pass, new_passes}
 
 module _ (F : Fixed) (depth : F.tree.depth ≡ 4) (room made : ℕ) where
   abbrev view : View

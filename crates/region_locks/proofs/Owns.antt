@@ -1,17 +1,15 @@
 -- What a pass keeps beside its view, after a step.
-use Rattle.std.proofs.Common.{◌≡◌, ℕ, Bool, true, false, if◌then◌else◌, List, [], ◌∷◌, length, refl, sym, ap, ◌∙◌, subst, inl, inr, Option, Some, None, is_some}
-use Rattle.std.specs.Prelude.{◌==◌}
-use Rattle.std.proofs.lemmas.Bool.{cases_Bool, false≢true, true≢false}
+use Rattle.std.proofs.Common.{◌≡◌, ℕ, true, false, List, length, sym, ap, ◌∙◌, subst, Option, Some, None}
+use Rattle.std.proofs.lemmas.Bool.{false≢true, true≢false}
 use Rattle.atomic_table.specs.Seated.{TableId}
 use Rattle.entity_recs.specs.declared.effect.Effect.{Effect}
 use Rattle.entity_recs.specs.Commands.{Command}
 use Rattle.areanode.specs.Trees.{leaves_of}
-use Rattle.core_steps.specs.Views.{Fixed, Point, Idle, Owning, Taking, Checking, Entering, Entered, Loading, Leaving, Sensing, Resolving, Claiming, Storing, Releasing, Returning, Yielding, View, stage_of, is_without_effect, home, region_in, record_read, effect_loaded, inner_held, leaves_held}
-use Rattle.core_steps.specs.Steps.{taking, storing, rest_of, returning, released, yielding, yielded, point_after_take, view_after_give}
+use Rattle.core_steps.specs.Views.{Fixed, Point, Resolving, View, stage_of, is_without_effect, home, region_in, record_read, effect_loaded}
 use Rattle.core_steps.specs.Machine.{Next}
 use Rattle.region_locks.specs.Going.{view_found, view_looked}
 use Rattle.region_locks.specs.Plays.{IsToldOf}
-use Rattle.region_locks.specs.Passes.{PassView, sight_of, is_resolving, is_early, next_of_pass, the_next, pass_after, IsPassOf}
+use Rattle.region_locks.specs.Passes.{PassView, sight_of, is_resolving, is_early, pass_after, IsPassOf}
 use Rattle.region_locks.proofs.Views.{keeps_found}
 use Rattle.region_locks.proofs.OwnRecords.{reads_own, Reads, reads_kept}
 

@@ -1,12 +1,12 @@
 -- The table at the start meets the rule.
-use Rattle.std.proofs.Common.{◌≡◌, ℕ, zero, suc, ◌%◌, ◌^◌, ◌<◌, ◌≤◌, Bool, true, false, if◌then◌else◌, List, [], ◌∷◌, length, refl, sym, ap, ◌∙◌, subst, inl, inr, arith, slice_index, All}
+use Rattle.std.proofs.Common.{◌≡◌, ℕ, zero, suc, ◌%◌, ◌^◌, ◌<◌, ◌≤◌, true, List, [], ◌∷◌, length, refl, sym, ap, subst, inl, inr, arith, slice_index}
 use Rattle.std.specs.Prelude.{◌==◌}
 use mathlib.Core.Option as maybe
 use mathlib.Core.Option.{some-injective, some-ne-none}
 use lib.ListN.{get_elem?}
 use Rattle.std.proofs.lemmas.Bool.{cases_Bool, false≢true, eqb-true, cond-true, cond-false}
 use Rattle.std.proofs.lemmas.List.Elements.{All-from_recursion}
-use Rattle.atomic_table.specs.Table.{State, opening}
+use Rattle.atomic_table.specs.Table.{opening}
 use Rattle.core_steps.specs.Views.{Fixed, Ended, View, new_view, spent, stage_of, is_busy}
 use Rattle.core_steps.specs.Steps.{Core}
 use Rattle.core_steps.specs.Stands.{IsLawful, IsStart, start_core}

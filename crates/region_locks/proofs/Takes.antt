@@ -1,20 +1,18 @@
 -- A pass takes its next node.
-use Rattle.std.proofs.Common.{◌≡◌, ◌⊎◌, ℕ, suc, ◌+◌, ◌-◌, ◌*◌, ◌^◌, Bool, true, false, if◌then◌else◌, List, [], ◌∷◌, ◌++◌, length, refl, sym, ap, ◌∙◌, subst, inl, inr, Option, Some, None, is_some}
+use Rattle.std.proofs.Common.{◌≡◌, ◌⊎◌, ℕ, suc, ◌+◌, ◌-◌, ◌*◌, ◌^◌, Bool, true, false, if◌then◌else◌, List, [], ◌∷◌, ◌++◌, refl, sym, ap, ◌∙◌, subst, inl, inr, Option, Some, None, is_some}
 use Rattle.std.specs.Prelude.{◌==◌, nat_le}
 use Rattle.std.proofs.lemmas.Bool.{cases_Bool, false≢true, true≢false, cond-true, cond-false}
 use Rattle.atomic_table.specs.Seated.{TableId}
 use Rattle.entity_recs.specs.declared.effect.Effect.{Effect}
 use Rattle.entity_recs.specs.Commands.{Command}
-use Rattle.core_steps.specs.Views.{Fixed, Point, Idle, Owning, Taking, Checking, Entering, Entered, Loading, Leaving, Sensing, Resolving, Claiming, Storing, Releasing, Returning, Yielding, Stage, AtClaiming, stage_of, is_whole, is_writing, View, is_leaf, inner_nodes, record_read, write_nodes, leaf_word, region_in, held_word, effect_loaded}
-use Rattle.core_steps.specs.Steps.{taking, rest_of, point_after_take, first_yield, view_after_take, view_after_refusal, view_after_claim}
-use Rattle.core_steps.specs.Machine.{Next, beginning, TakeNode, ClaimNode, CommitMove, YieldNode, YieldCount, GiveNode, resolving, quitting, committing, giving, next_at, index_of}
+use Rattle.core_steps.specs.Views.{Fixed, Point, Idle, Owning, Taking, Checking, Entering, Entered, Loading, Leaving, Sensing, Resolving, Claiming, Storing, Releasing, Returning, Yielding, Stage, AtClaiming, stage_of, is_whole, is_writing, inner_nodes, record_read, write_nodes, leaf_word, region_in, held_word}
+use Rattle.core_steps.specs.Steps.{taking, point_after_take, first_yield, view_after_take, view_after_refusal, view_after_claim}
+use Rattle.core_steps.specs.Machine.{Next, beginning, TakeNode, ClaimNode, resolving, quitting, committing, giving, index_of}
 use Rattle.core_steps.specs.Stands.{IsAt, IsClaimingAfter}
 use Rattle.core_steps.specs.Calls.{node_taken}
 use Rattle.region_locks.specs.Going.{view_found, word_left}
-use Rattle.region_locks.specs.Plays.{IsToldOf}
-use Rattle.region_locks.specs.Passes.{PassView, sight_of, is_resolving, is_early, next_resolved, next_point, next_of_pass, the_next, pass_after, node_taken_next, word_after, IsPassOf}
-use Rattle.region_locks.proofs.OwnRecords.{reads_own, Reads, reads_kept}
-use Rattle.region_locks.proofs.Owns.{IsKept, own_after, leaves_kept, home_kept, kept_same}
+use Rattle.region_locks.specs.Passes.{PassView, is_resolving, is_early, next_resolved, next_point, next_of_pass, the_next, node_taken_next, IsPassOf}
+use Rattle.region_locks.proofs.Owns.{IsKept}
 use Rattle.region_locks.proofs.LeafWords.{leaf_word_is}
 
 -- what is known of a pass whose next step takes a node: the step, and whether the node is taken to write

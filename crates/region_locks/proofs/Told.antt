@@ -1,15 +1,12 @@
 -- What the rule tells of a view.
-use Rattle.std.proofs.Common.{◌≡◌, ℕ, ◌<◌, Bool, true, false, List, length, refl, sym, subst, Option}
+use Rattle.std.proofs.Common.{◌≡◌, ℕ, List, length, subst}
 use mathlib.Core.Option as maybe
 use lib.ListN.{get_elem?}
 use Rattle.atomic_table.specs.Table.{State}
-use Rattle.entity_recs.specs.Commands.{Command}
-use Rattle.core_steps.specs.Views.{Fixed, View}
+use Rattle.core_steps.specs.Views.{Fixed}
 use Rattle.core_steps.specs.Stands.{SeatStands}
-use Rattle.core_steps.specs.Machine.{Next, index_of}
 use Rattle.core_steps.proofs.Asking.{region_may_be_asked, effect_may_be_asked}
 use Rattle.region_locks.specs.Sights.{SightView}
-use Rattle.region_locks.specs.Going.{MayGo}
 use Rattle.region_locks.specs.Rule.{IsRuled}
 use Rattle.region_locks.specs.Plays.{IsSound, IsToldOf}
 use Rattle.region_locks.proofs.Goes.{goes_in_table}

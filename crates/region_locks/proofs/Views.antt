@@ -1,11 +1,11 @@
 -- What a step keeps of the view: its seat lives, and its room, the seats that it made and ended, and its command stay.
-use Rattle.std.proofs.Common.{◌≡◌, ℕ, Bool, true, false, if◌then◌else◌, List, [], ◌∷◌, ◌++◌, length, refl, sym, ap, ◌∙◌, subst, inl, inr, Option, Some, None}
+use Rattle.std.proofs.Common.{◌≡◌, ℕ, Bool, true, false, if◌then◌else◌, List, [], ◌∷◌, ◌++◌, length, refl, subst, Option, Some, None}
 use Rattle.std.specs.Prelude.{◌==◌}
-use Rattle.std.proofs.lemmas.Bool.{cases_Bool, false≢true}
+use Rattle.std.proofs.lemmas.Bool.{false≢true}
 use Rattle.entity_recs.specs.declared.effect.Effect.{Effect}
 use Rattle.entity_recs.specs.Commands.{Command}
-use Rattle.core_steps.specs.Views.{Fixed, Ended, Point, Idle, Owning, Taking, Checking, Entering, Entered, Loading, Leaving, Sensing, Resolving, Claiming, Storing, Releasing, Returning, Yielding, stage_of, is_busy, View, record_read, write_nodes, effect_loaded, leaf_nodes, plan_of, region_in, inner_held, leaves_held}
-use Rattle.core_steps.specs.Steps.{rest_of, first, first_of_two, first_yield, next_give, is_taking, returning, released, yielding, yielded, view_after_give, player_loaded, visiting}
+use Rattle.core_steps.specs.Views.{Fixed, Point, Idle, Owning, Taking, Checking, Entering, Entered, Loading, Leaving, Sensing, Resolving, Claiming, Storing, Releasing, Returning, Yielding, stage_of, is_busy, View, record_read, write_nodes, effect_loaded, inner_held, leaves_held}
+use Rattle.core_steps.specs.Steps.{rest_of, first_yield, next_give, is_taking, returning, released, yielding, yielded, view_after_give}
 use Rattle.core_steps.specs.Machine.{Next, Begin, LoadOwn, LoadAgain, TakeNode, ClaimNode, ReadList, ReadPlayer, ReadState, CommitMove, StoreWord, GiveNode, YieldNode, YieldCount, giving, quitting, beginning, resolving, committing, next_at}
 use Rattle.region_locks.specs.Going.{view_found, next_asked}
 

@@ -1,6 +1,6 @@
 -- The words of a world at the start.
-use Rattle.std.proofs.Common.{◌≡◌, ℕ, zero, suc, ◌+◌, ◌^◌, ◌<◌, ◌≤◌, Bool, true, false, if◌then◌else◌, List, [], ◌∷◌, ◌++◌, map, length, refl, sym, ap, ◌∙◌, subst, inl, inr, Option, Some, None, is_some, arith}
-use Rattle.std.specs.Prelude.{◌==◌, ◌&&◌, ◌||◌, nat_lt, slice_index}
+use Rattle.std.proofs.Common.{◌≡◌, ℕ, suc, ◌+◌, ◌^◌, ◌<◌, Bool, true, false, if◌then◌else◌, List, [], ◌∷◌, ◌++◌, map, refl, sym, ap, ◌∙◌, subst, inl, inr, Option, Some, None, is_some, arith}
+use Rattle.std.specs.Prelude.{◌==◌, ◌&&◌, ◌||◌, nat_lt}
 use Rattle.std.specs.List.{range_with_len}
 use Rattle.std.proofs.lemmas.Bool.{cases_Bool, eqb-true, eq-eqb, ltb-false}
 use Rattle.link_lists.specs.Pool as pool
@@ -11,7 +11,7 @@ use Rattle.entity_recs.specs.Bodies.{abs_of}
 use Rattle.areanode.specs.Words.{word_of}
 use Rattle.areanode.specs.Trees.{node_of}
 use Rattle.world_tree.specs.Live.{record_at, ids_of}
-use Rattle.world_tree.specs.Worlds.{WorldView, record_of, IsLinked}
+use Rattle.world_tree.specs.Worlds.{WorldView, record_of}
 use Rattle.core_steps.specs.Views.{has, home}
 use Rattle.core_steps.specs.Stands.{is_player}
 use Rattle.region_locks.specs.Starts.{record_or_nobody, fixed_of_world, start_word_at, AreStartWords}

@@ -1,6 +1,5 @@
 -- What one step does: the view after it, and the word that it leaves.
-use Rattle.std.specs.Prelude.{ℕ, suc, ◌%◌, ◌≡◌, ◌==◌, Bool, true, false, if◌then◌else◌, List, [], ◌∷◌, ◌++◌, Option, Some, None}
-use Rattle.entity_recs.specs.declared.effect.Effect.{Effect}
+use Rattle.std.specs.Prelude.{ℕ, suc, ◌%◌, ◌≡◌, ◌==◌, Bool, true, if◌then◌else◌, [], ◌∷◌, ◌++◌, Option, Some}
 use Rattle.entity_recs.specs.Commands.{Command}
 use Rattle.core_steps.specs.Cells.{with_bit, without_bit}
 use Rattle.core_steps.specs.Views.{Fixed, Store, Clear, Put, Link, Idle, AtClaiming, stage_of, View, without_command, inner_held, leaves_held, held_word}

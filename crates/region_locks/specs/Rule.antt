@@ -1,12 +1,12 @@
 -- The rule of the table: what holds between any two steps of any threads.
-use Rattle.std.specs.Prelude.{◌≡◌, ℕ, ◌%◌, ◌^◌, ◌<◌, ◌≤◌, Bool, true, false, List, [], ◌∷◌, length, slice_index, Option, None, All}
+use Rattle.std.specs.Prelude.{◌≡◌, ℕ, ◌%◌, ◌^◌, ◌<◌, ◌≤◌, true, false, List, length, slice_index, None, All}
 use mathlib.Core.Option as maybe
 use lib.ListN.{get_elem?}
 use Rattle.atomic_table.specs.Table.{State}
 use Rattle.entity_recs.specs.Worlds.{World}
 use Rattle.entity_recs.specs.Histories.{Item}
 use Rattle.core_steps.specs.Cells.{word_at}
-use Rattle.core_steps.specs.Views.{Fixed, Ended, View, new_view, stage_of, is_busy}
+use Rattle.core_steps.specs.Views.{Fixed, Ended, new_view, stage_of, is_busy}
 use Rattle.core_steps.specs.Steps.{Core}
 use Rattle.core_steps.specs.Stands.{IsLawful, IsStart}
 use Rattle.core_steps.specs.Machine.{Machine, MachineStands}

@@ -1,4 +1,4 @@
-use Rattle.std.proofs.Common.{◌≡◌, refl, sym, subst, ℕ, ◌<◌, ◌^◌, slice_index}
+use Rattle.std.proofs.Common.{refl, subst, ℕ, ◌<◌, ◌^◌, slice_index}
 use Rattle.core_steps.specs.Views.{Fixed}
 use Rattle.core_steps.specs.Stands.{IsLawful}
 use Rattle.region_locks.specs.Starts.{fixed_by}

@@ -1,4 +1,4 @@
-use Rattle.std.proofs.Common.{◌≡◌, ◌≤◌, map}
+use Rattle.std.proofs.Common.{◌≡◌, map}
 use Rattle.std.specs.List.{range_with_len}
 use Rattle.region_locks.specs.Starts.{start_word_at}
 use Rattle.region_locks.proofs.start.words_at_start.Given as goal

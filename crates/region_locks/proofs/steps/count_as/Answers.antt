@@ -1,4 +1,4 @@
-use Rattle.std.proofs.Common.{sym, ◌∙◌, subst, ℕ, ◌<◌}
+use Rattle.std.proofs.Common.{sym, subst, ℕ, ◌<◌}
 use Rattle.region_locks.proofs.Allowed.{allowed_add}
 use Rattle.region_locks.proofs.steps.count_as.Goals as goal
 

@@ -1,5 +1,4 @@
-use Rattle.std.proofs.Common.{sym, ◌∙◌, subst, ℕ, ◌<◌}
-use Rattle.region_locks.specs.Going.{MayGo}
+use Rattle.std.proofs.Common.{sym, subst, ℕ, ◌<◌}
 use Rattle.region_locks.proofs.Allowed.{allowed}
 use Rattle.region_locks.proofs.steps.load_as.Goals as goal
 

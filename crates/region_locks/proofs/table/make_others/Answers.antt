@@ -1,8 +1,7 @@
-use Rattle.std.proofs.Common.{◌≡◌, ℕ, suc, ◌+◌, ◌-◌, ◌≤◌, List, [], ◌∷◌, ◌++◌, map, refl, sym, ap, ◌∙◌, slice_index, arith}
+use Rattle.std.proofs.Common.{◌≡◌, ℕ, suc, ◌+◌, ◌-◌, List, [], ◌∷◌, ◌++◌, map, sym, ap, ◌∙◌, slice_index, arith}
 use Rattle.std.specs.List.{range_with_len}
 use Rattle.atomic_table.specs.Table.{Me}
 use Rattle.atomic_table.specs.Seated.{TableId}
-use Rattle.core_steps.specs.Views.{View}
 use Rattle.region_locks.specs.Sights.{SightView, with_one_made}
 use Rattle.region_locks.specs.Passes.{PassView, new_pass, other_pass, view_with_made}
 use Rattle.region_locks.proofs.NewPasses.{others_more}

@@ -1,4 +1,4 @@
-use Rattle.std.proofs.Common.{◌≡◌, sym, ap, ◌∙◌, subst, length, ℕ, ◌+◌}
+use Rattle.std.proofs.Common.{sym, ap, ◌∙◌, length, ℕ, ◌+◌}
 use Rattle.entity_recs.specs.Commands.{Command}
 use Rattle.core_steps.specs.Cells.{without_bit}
 use Rattle.core_steps.specs.Views.{stage_of, is_busy}
