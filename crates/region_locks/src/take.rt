@@ -20,8 +20,8 @@ fn holding_word(number: u8, leaves: u16, effect: &Option<Effect>, node: u8) -> u
 }
 
 impl<'a, A: Action> NodeTable<'a, A> {
-    /// Takes the node, which is the pass's next step. `Err` exactly where its word was not 0: then another pass holds it, and
-    /// the pass keeps what it found as its last refused take.
+    /// Takes the node, which is the pass's next step. `Err` exactly where its word was not 0: the pass then keeps what it found
+    /// as its last refused take.
     pub fn take(&self, pass: &mut Pass<A>, node: u8) -> Result<(), Holder>
         requires own { IsPassOf (fixed_in A.takes A.region_of A.effect_of self.now) (length self.now.rooms) self.now.table pass.old }
         requires next { node_taken_next (next_of_pass (fixed_in A.takes A.region_of A.effect_of self.now) pass.old) ≡ Some node }
