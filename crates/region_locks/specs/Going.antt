@@ -2,9 +2,15 @@
 use Rattle.std.specs.Prelude.{ℕ, suc, ◌%◌, ◌≡◌, ◌==◌, Bool, true, if◌then◌else◌, [], ◌∷◌, ◌++◌, Option, Some}
 use Rattle.entity_recs.specs.Commands.{Command}
 use Rattle.core_steps.specs.Cells.{with_bit, without_bit}
-use Rattle.core_steps.specs.Views.{Fixed, Store, Clear, Put, Link, Idle, AtClaiming, stage_of, View, without_command, inner_held, leaves_held, held_word}
-use Rattle.core_steps.specs.Steps.{view_after_take, view_after_claim, view_after_refusal, point_after_take, view_after_give, yielded, view_after_list, view_after_begin, view_after_own, view_after_again, player_loaded, view_after_state, view_after_commit, storing, first_yield, is_taking}
-use Rattle.core_steps.specs.Machine.{Next, Begin, LoadOwn, LoadAgain, TakeNode, ClaimNode, ReadList, ReadPlayer, ReadState, CommitMove, StoreWord, GiveNode, YieldNode, YieldCount, next_at, quitting, IsPending}
+use Rattle.core_steps.specs.Views.{Fixed, Store, Clear, Put, Link, Idle, AtClaiming, stage_of, View, without_command}
+use Rattle.core_steps.specs.Views.{inner_held, leaves_held, held_word}
+use Rattle.core_steps.specs.Steps.{view_after_take, view_after_claim, view_after_refusal, point_after_take}
+use Rattle.core_steps.specs.Steps.{view_after_give, yielded, view_after_list, view_after_begin, view_after_own}
+use Rattle.core_steps.specs.Steps.{view_after_again, player_loaded, view_after_state, view_after_commit, storing}
+use Rattle.core_steps.specs.Steps.{first_yield, is_taking}
+use Rattle.core_steps.specs.Machine.{Next, Begin, LoadOwn, LoadAgain, TakeNode, ClaimNode, ReadList, ReadPlayer}
+use Rattle.core_steps.specs.Machine.{ReadState, CommitMove, StoreWord, GiveNode, YieldNode, YieldCount, next_at}
+use Rattle.core_steps.specs.Machine.{quitting, IsPending}
 
 -- the view of the seat after its step, where this word was found
 abbrev pub view_found : Fixed → View → Next → ℕ → View
@@ -54,7 +60,8 @@ abbrev pub next_asked : Fixed → View → Option Command → Bool → Option Ne
 next_asked F view given quits =
     if quits then Some (quitting (first_yield F view)) else next_at F view given view.point
 
--- a seat that lives may go on with this step: it comes next, a command that was given may be begun, and is of a slot that
+-- a seat that lives may go on with this step: it comes next, a command that was given may be begun, and is of a slot
+-- that
 -- the seat serves, and giving up begins at a take
 pub record MayGo (F : Fixed) (passes number : ℕ) (view : View) (given : Option Command) (quits : Bool) (next : Next) :
     Type 0 where

@@ -1,5 +1,6 @@
 -- A pass as contracts see it, and the table that it belongs to.
-use Rattle.std.specs.Prelude.{◌≡◌, ◌≢◌, ℕ, ◌-◌, ◌/◌, ◌%◌, ◌^◌, nat_le, Bool, true, false, if◌then◌else◌, List, ◌∷◌, map, length, slice_index, Option, Some, None, is_some}
+use Rattle.std.specs.Prelude.{◌≡◌, ◌≢◌, ℕ, ◌-◌, ◌/◌, ◌%◌, ◌^◌, nat_le, Bool, true, false, if◌then◌else◌, List, ◌∷◌}
+use Rattle.std.specs.Prelude.{map, length, slice_index, Option, Some, None, is_some}
 use Rattle.std.specs.List.{range_with_len}
 use Rattle.arena_geo.specs.Bounds.{Bounds}
 use Rattle.atomic_table.specs.Seated.{TableId}
@@ -9,9 +10,14 @@ use Rattle.entity_recs.specs.declared.effect.Effect.{Effect}
 use Rattle.entity_recs.specs.Commands.{Command}
 use Rattle.areanode.specs.Trees.{leaves_of}
 use Rattle.world_tree.specs.Worlds.{WorldView}
-use Rattle.core_steps.specs.Views.{Fixed, Store, Clear, Put, Link, Point, Idle, Owning, Taking, Checking, Entering, Entered, Loading, Leaving, Sensing, Resolving, Claiming, Storing, Releasing, Returning, Yielding, View, new_view, home, region_in, record_read, write_nodes, effect_loaded}
+use Rattle.core_steps.specs.Views.{Fixed, Store, Clear, Put, Link, Point, Idle, Owning, Taking, Checking, Entering}
+use Rattle.core_steps.specs.Views.{Entered, Loading, Leaving, Sensing, Resolving, Claiming, Storing, Releasing}
+use Rattle.core_steps.specs.Views.{Returning, Yielding, View, new_view, home, region_in, record_read, write_nodes}
+use Rattle.core_steps.specs.Views.{effect_loaded}
 use Rattle.core_steps.specs.Steps.{is_taking, first_yield}
-use Rattle.core_steps.specs.Machine.{Next, Begin, LoadOwn, LoadAgain, TakeNode, ClaimNode, ReadList, ReadPlayer, ReadState, CommitMove, StoreWord, GiveNode, YieldNode, YieldCount, index_of, resolving, quitting, next_at, IsPending}
+use Rattle.core_steps.specs.Machine.{Next, Begin, LoadOwn, LoadAgain, TakeNode, ClaimNode, ReadList, ReadPlayer}
+use Rattle.core_steps.specs.Machine.{ReadState, CommitMove, StoreWord, GiveNode, YieldNode, YieldCount, index_of}
+use Rattle.core_steps.specs.Machine.{resolving, quitting, next_at, IsPending}
 use Rattle.region_locks.specs.Sights.{SightView}
 use Rattle.region_locks.specs.Starts.{fixed_by}
 use Rattle.core_steps.specs.Calls.{node_taken}
@@ -163,7 +169,10 @@ pub record HasGone (F : Fixed) (passes : ℕ) (p : PassView) (found : ℕ) (seat
   pub same_table : seat.table_id ≡ p.table
   pub same_number : seat.me.0.number ≡ p.number
   pub went : seat.me.0.view ≡ view_found F p.view (the_next (next_of_pass F p)) found
-  pub told : IsToldOf F passes (record { number = p.number; view = view_found F p.view (the_next (next_of_pass F p)) found })
+  pub told : IsToldOf F passes (record {
+    number = p.number;
+    view = view_found F p.view (the_next (next_of_pass F p)) found;
+  })
   pub carries : seat.me.1 ≡ carried
 
 -- the node that a step gives back

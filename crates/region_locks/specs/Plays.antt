@@ -3,7 +3,8 @@ use Rattle.std.specs.Prelude.{◌≡◌, ℕ, ◌<◌, Bool, true, length, Optio
 use Rattle.atomic_table.specs.Table.{Me}
 use Rattle.entity_recs.specs.Commands.{Command}
 use Rattle.entity_recs.specs.Actions.{HasPlayer, IsCall}
-use Rattle.core_steps.specs.Views.{Fixed, Resolving, stage_of, is_busy, is_open, is_whole, is_read_again, View, record_read, leaf_nodes, region_in, leaves_held, inner_held, loaded_near}
+use Rattle.core_steps.specs.Views.{Fixed, Resolving, stage_of, is_busy, is_open, is_whole, is_read_again, View}
+use Rattle.core_steps.specs.Views.{record_read, leaf_nodes, region_in, leaves_held, inner_held, loaded_near}
 use Rattle.core_steps.specs.Stands.{IsGiven, IsHolding, IsUnread, IsAt}
 use Rattle.core_steps.specs.Machine.{Next, index_of, HasNext, ViewFits}
 use Rattle.region_locks.specs.Sights.{SightView}
