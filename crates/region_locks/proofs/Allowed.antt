@@ -1,0 +1,130 @@
+-- What each step on a word asks of the rule.
+use Rattle.std.proofs.Common.{◌≡◌, ℕ, zero, suc, ◌+◌, ◌*◌, ◌%◌, ◌^◌, bit_and, bit_or, w64, ◌<◌, Bool, true, false, if◌then◌else◌, List, [], ◌∷◌, length, refl, sym, ◌∙◌, subst, Option, arith, slice_index}
+use Rattle.std.specs.Prelude.{◌==◌}
+use mathlib.Core.Option as maybe
+use mathlib.Core.Option.{some-ne-none}
+use lib.ListN.{get_elem?}
+use prog.Atomic.{either}
+use Rattle.atomic_table.specs.Table.{Me, keeps, Allows}
+use Rattle.atomic_table.proofs.Lists.{set_here}
+use Rattle.entity_recs.specs.Commands.{Command}
+use Rattle.core_steps.specs.Views.{Fixed}
+use Rattle.core_steps.specs.Machine.{Next, index_of}
+use Rattle.region_locks.specs.Sights.{SightView}
+use Rattle.region_locks.specs.Going.{view_found, word_left, MayGo}
+use Rattle.region_locks.specs.Rule.{IsRuled}
+use Rattle.region_locks.specs.Plays.{SeatWent}
+use Rattle.region_locks.proofs.Goes.{goes}
+use Rattle.region_locks.proofs.Told.{told}
+use Rattle.region_locks.proofs.Bits.{cleared, set_bit}
+use Rattle.region_locks.proofs.Counting.{count_is_small}
+use Rattle.std.specs.Int.{bit_not}
+use Rattle.core_steps.specs.Cells.{with_bit, without_bit}
+
+-- a place at which there is something is in the list
+pub there_below : {A : Type 0} (xs : List A) (i : ℕ) (x : A) → get_elem? xs i ≡ maybe.some x → i < length xs
+there_below [] i x e = absurd (some-ne-none x (sym e))
+there_below (y ∷ ys) zero x e = omega arith
+there_below (y ∷ ys) (suc i) x e = let below = there_below ys i x e in omega arith
+
+-- a step that leaves in its word what it should is allowed, and tells the view after it
+allowed_here : (F : Fixed) (rooms : List ℕ) (slots i : ℕ) (me : Me (Unit {0}) SightView) (given : Option Command) (quits : Bool) (next : Next) (f : ℕ → ℕ)
+    → MayGo F (length rooms) me.0.number me.0.view given quits next
+    → ((found : ℕ) → found < 18446744073709551616 → f found ≡ word_left F me.0.number me.0.view next found)
+    → Allows (IsRuled F rooms) slots i me (index_of 31 me.0.view next) f (λ found after. SeatWent F (length rooms) next me found after)
+allowed_here F rooms slots i me given quits next f may leaves s r _ at small =
+    let found = slice_index s.words (index_of 31 me.0.view next) in
+    let new : SightView = record { number = me.0.number; view = view_found F me.0.view next found } in
+    let ruled = goes F rooms s r i me.0 at given quits next may (f found) (leaves found small) in (
+      new,
+      keeps,
+      tt,
+      ruled,
+      (record { number = refl; view = refl; told = told F rooms _ ruled i new (set_here s.views i new (there_below s.views i me.0 at)) }, refl),
+    )
+
+-- the same where what doesn't change, the number of passes and the word are picked
+pub allowed : (F G : Fixed) (rooms : List ℕ) (passes word slots i : ℕ) (me : Me (Unit {0}) SightView) (given : Option Command) (quits : Bool) (next : Next) (f : ℕ → ℕ)
+    → F ≡ G → passes ≡ length rooms → word ≡ index_of 31 me.0.view next → MayGo F passes me.0.number me.0.view given quits next
+    → ((found : ℕ) → found < 18446744073709551616 → f found ≡ word_left F me.0.number me.0.view next found)
+    → Allows (IsRuled G rooms) slots i me word f (λ found after. SeatWent F passes next me found after)
+allowed F G rooms passes word slots i me given quits next f fixed count at may leaves =
+    subst (λ (H : Fixed). Allows (IsRuled H rooms) slots i me word f (λ found after. SeatWent F passes next me found after)) fixed
+    (subst (λ (n : ℕ). Allows (IsRuled F rooms) slots i me word f (λ found after. SeatWent F n next me found after)) (sym count)
+    (subst (λ (n : ℕ). Allows (IsRuled F rooms) slots i me n f (λ found after. SeatWent F (length rooms) next me found after)) (sym at)
+    (allowed_here F rooms slots i me given quits next f (subst (λ (n : ℕ). MayGo F n me.0.number me.0.view given quits next) count may) leaves)))
+
+-- the same for a store, whose step is told the word that is stored
+pub allowed_store : (F G : Fixed) (rooms : List ℕ) (passes word slots i : ℕ) (me : Me (Unit {0}) SightView) (given : Option Command) (quits : Bool) (next : Next) (new : ℕ)
+    → F ≡ G → passes ≡ length rooms → word ≡ index_of 31 me.0.view next → MayGo F passes me.0.number me.0.view given quits next
+    → ((found : ℕ) → word_left F me.0.number me.0.view next found ≡ new)
+    → ((found : ℕ) → view_found F me.0.view next found ≡ view_found F me.0.view next new)
+    → Allows (IsRuled G rooms) slots i me word (λ _. new) (λ _ after. SeatWent F passes next me new after)
+allowed_store F G rooms passes word slots i me given quits next new fixed count at may leaves blind s r homes here small =
+    let step = allowed F G rooms passes word slots i me given quits next (λ _. new) fixed count at may (λ found _. sym (leaves found)) s r homes here small in
+    let went = step.4 in (
+      step.0,
+      step.1,
+      step.2,
+      step.3,
+      (record { number = went.0.number; view = went.0.view ∙ blind (slice_index s.words word); told = went.0.told }, went.1),
+    )
+
+either_is : (b : Bool) (x y : ℕ) → either b x y ≡ (if b then x else y)
+either_is true x y = refl
+either_is false x y = refl
+
+-- the same for a compare-exchange from 0
+pub allowed_from_0 : (F G : Fixed) (rooms : List ℕ) (passes word slots i : ℕ) (me : Me (Unit {0}) SightView) (given : Option Command) (quits : Bool) (next : Next) (new : ℕ)
+    → F ≡ G → passes ≡ length rooms → word ≡ index_of 31 me.0.view next → MayGo F passes me.0.number me.0.view given quits next
+    → ((found : ℕ) → word_left F me.0.number me.0.view next found ≡ (if found == 0 then new else found))
+    → Allows (IsRuled G rooms) slots i me word (λ n. either (n == 0) new n) (λ found after. SeatWent F passes next me found after)
+allowed_from_0 F G rooms passes word slots i me given quits next new fixed count at may leaves =
+    allowed F G rooms passes word slots i me given quits next (λ n. either (n == 0) new n) fixed count at may (λ found _. either_is (found == 0) new found ∙ sym (leaves found))
+
+-- the same for the count of commits, which grows by one
+allowed_add_here : (F : Fixed) (rooms : List ℕ) (slots i : ℕ) (me : Me (Unit {0}) SightView) (given : Option Command) (quits : Bool) (next : Next)
+    → index_of 31 me.0.view next ≡ 0 → MayGo F (length rooms) me.0.number me.0.view given quits next
+    → ((found : ℕ) → word_left F me.0.number me.0.view next found ≡ found + 1)
+    → Allows (IsRuled F rooms) slots i me (index_of 31 me.0.view next) (λ n. (n + 1) % 2 ^ 64) (λ found after. SeatWent F (length rooms) next me found after)
+allowed_add_here F rooms slots i me given quits next at_0 may leaves s r _ at small =
+    let found = slice_index s.words (index_of 31 me.0.view next) in
+    let new : SightView = record { number = me.0.number; view = view_found F me.0.view next found } in
+    let bound : found < 2 ^ 40 = subst (λ (n : ℕ). slice_index s.words n < 2 ^ 40) (sym at_0) (count_is_small F rooms s r) in
+    let ruled = goes F rooms s r i me.0 at given quits next may ((found + 1) % 2 ^ 64) (grown found bound ∙ sym (leaves found)) in (
+      new,
+      keeps,
+      tt,
+      ruled,
+      (record { number = refl; view = refl; told = told F rooms _ ruled i new (set_here s.views i new (there_below s.views i me.0 at)) }, refl),
+    )
+  where
+    grown : (n : ℕ) → n < 2 ^ 40 → (n + 1) % 2 ^ 64 ≡ n + 1
+    grown n bound = omega (arith, bound)
+
+pub allowed_add : (F G : Fixed) (rooms : List ℕ) (passes word slots i : ℕ) (me : Me (Unit {0}) SightView) (given : Option Command) (quits : Bool) (next : Next)
+    → F ≡ G → passes ≡ length rooms → word ≡ index_of 31 me.0.view next → word ≡ 0 → MayGo F passes me.0.number me.0.view given quits next
+    → ((found : ℕ) → word_left F me.0.number me.0.view next found ≡ found + 1)
+    → Allows (IsRuled G rooms) slots i me word (λ n. (n + 1) % 2 ^ 64) (λ found after. SeatWent F passes next me found after)
+allowed_add F G rooms passes word slots i me given quits next fixed count at at_0 may leaves =
+    subst (λ (H : Fixed). Allows (IsRuled H rooms) slots i me word (λ n. (n + 1) % 2 ^ 64) (λ found after. SeatWent F passes next me found after)) fixed
+    (subst (λ (n : ℕ). Allows (IsRuled F rooms) slots i me word (λ n. (n + 1) % 2 ^ 64) (λ found after. SeatWent F n next me found after)) (sym count)
+    (subst (λ (n : ℕ). Allows (IsRuled F rooms) slots i me n (λ n. (n + 1) % 2 ^ 64) (λ found after. SeatWent F (length rooms) next me found after)) (sym at)
+    (allowed_add_here F rooms slots i me given quits next (sym at ∙ at_0) (subst (λ (n : ℕ). MayGo F n me.0.number me.0.view given quits next) count may) leaves)))
+
+-- the same for a bit that is cleared or set
+pub allowed_clear : (F G : Fixed) (rooms : List ℕ) (passes word slots i : ℕ) (me : Me (Unit {0}) SightView) (given : Option Command) (quits : Bool) (next : Next) (slot : ℕ)
+    → F ≡ G → passes ≡ length rooms → word ≡ index_of 31 me.0.view next → MayGo F passes me.0.number me.0.view given quits next → slot < 64
+    → ((found : ℕ) → word_left F me.0.number me.0.view next found ≡ without_bit found slot)
+    → Allows (IsRuled G rooms) slots i me word (λ n. bit_and n (bit_not w64 (1 * 2 ^ slot % 2 ^ 64))) (λ found after. SeatWent F passes next me found after)
+allowed_clear F G rooms passes word slots i me given quits next slot fixed count at may below leaves =
+    allowed F G rooms passes word slots i me given quits next (λ n. bit_and n (bit_not w64 (1 * 2 ^ slot % 2 ^ 64))) fixed count at may
+    (λ found small. cleared found slot small below ∙ sym (leaves found))
+
+pub allowed_set : (F G : Fixed) (rooms : List ℕ) (passes word slots i : ℕ) (me : Me (Unit {0}) SightView) (given : Option Command) (quits : Bool) (next : Next) (slot : ℕ)
+    → F ≡ G → passes ≡ length rooms → word ≡ index_of 31 me.0.view next → MayGo F passes me.0.number me.0.view given quits next → slot < 64
+    → ((found : ℕ) → word_left F me.0.number me.0.view next found ≡ with_bit found slot)
+    → Allows (IsRuled G rooms) slots i me word (λ n. bit_or n (1 * 2 ^ slot % 2 ^ 64)) (λ found after. SeatWent F passes next me found after)
+allowed_set F G rooms passes word slots i me given quits next slot fixed count at may below leaves =
+    allowed F G rooms passes word slots i me given quits next (λ n. bit_or n (1 * 2 ^ slot % 2 ^ 64)) fixed count at may
+    (λ found small. set_bit found slot small below ∙ sym (leaves found))

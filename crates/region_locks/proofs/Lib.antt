@@ -1,0 +1,26 @@
+-- Lemmas on the rule of the table.
+pub mod Changing
+pub mod Views
+pub mod Goes
+pub mod Told
+pub mod Allowed
+pub mod Bits
+pub mod Counting
+pub mod Idle
+pub mod Looking
+pub mod Making
+pub mod Ending
+pub mod Ready
+pub mod OwnRecords
+pub mod Owns
+pub mod LeafWords
+pub mod Takes
+pub mod Gives
+pub mod Seating
+pub mod Closing
+pub mod Starting
+pub mod Worlds
+pub mod Openings
+pub mod NewPasses
+pub mod Commits
+pub mod Unlinks

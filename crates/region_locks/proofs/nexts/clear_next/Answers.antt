@@ -1,0 +1,11 @@
+use Rattle.region_locks.proofs.Ready.{told_ready, may_ready, has_gone}
+use Rattle.region_locks.proofs.nexts.clear_next.Goals as goal
+
+pub clear_as-requires-clause-told : goal.clear_as-requires-clause-told
+clear_as-requires-clause-told g c κs within = told_ready _ _ _ _ _ _ c.requires.ready
+
+pub clear_as-requires-clause-next : goal.clear_as-requires-clause-next
+clear_as-requires-clause-next g c κs within = may_ready _ _ _ _ _ _ c.requires.ready
+
+pub returns : goal.returns
+returns g c = record { gone = has_gone _ _ _ _ _ _ _ _ c.requires.ready c.clear_as.ensures.table c.clear_as.ensures.went }

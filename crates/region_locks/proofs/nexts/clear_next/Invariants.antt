@@ -1,0 +1,14 @@
+use Rattle.std.proofs.Common.{length}
+use Rattle.region_locks.specs.Starts.{fixed_by}
+use Rattle.region_locks.specs.Passes.{next_of_pass, the_next}
+use Rattle.region_locks.proofs.nexts.clear_next.Given as goal
+
+-- the step that comes next of the pass
+abbrev pub ghosts-clear_as : goal.ghosts-clear_as
+ghosts-clear_as g a = record {
+  fixed = fixed_by g.A.Action.takes g.A.Action.region_of g.A.Action.effect_of a.words.now.key.action.value a.words.now.key.world.value;
+  passes = length a.words.now.key.rooms.items;
+  given = a.about.now.value.given;
+  quits = a.about.now.value.quits;
+  next = the_next (next_of_pass (fixed_by g.A.Action.takes g.A.Action.region_of g.A.Action.effect_of a.words.now.key.action.value a.words.now.key.world.value) a.about.now.value);
+}

@@ -1,0 +1,11 @@
+use Rattle.region_locks.proofs.Ready.{told_ready, may_ready, has_gone}
+use Rattle.region_locks.proofs.nexts.count_next.Goals as goal
+
+pub count_as-requires-clause-told : goal.count_as-requires-clause-told
+count_as-requires-clause-told g c κs within = told_ready _ _ _ _ _ _ c.requires.ready
+
+pub count_as-requires-clause-next : goal.count_as-requires-clause-next
+count_as-requires-clause-next g c κs within = may_ready _ _ _ _ _ _ c.requires.ready
+
+pub returns : goal.returns
+returns g c = record { gone = has_gone _ _ _ _ _ _ _ _ c.requires.ready c.count_as.ensures.table c.count_as.ensures.went }

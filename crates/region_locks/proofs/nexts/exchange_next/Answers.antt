@@ -1,0 +1,11 @@
+use Rattle.region_locks.proofs.Ready.{told_ready, may_ready, has_gone}
+use Rattle.region_locks.proofs.nexts.exchange_next.Goals as goal
+
+pub exchange_as-requires-clause-told : goal.exchange_as-requires-clause-told
+exchange_as-requires-clause-told g c κs within = told_ready _ _ _ _ _ _ c.requires.ready
+
+pub exchange_as-requires-clause-next : goal.exchange_as-requires-clause-next
+exchange_as-requires-clause-next g c κs within = may_ready _ _ _ _ _ _ c.requires.ready
+
+pub returns : goal.returns
+returns g c = record { gone = has_gone _ _ _ _ _ _ _ _ c.requires.ready c.exchange_as.ensures.table c.exchange_as.ensures.went }

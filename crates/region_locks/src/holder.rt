@@ -1,0 +1,52 @@
+ghost use Rattle.std.specs.Prelude.{◌<◌, ◌≢◌, ◌^◌};
+ghost use Rattle.region_locks.specs.Passes.{IsHolderIn};
+
+/// Who holds a node.
+#[derive(Clone, Copy, Debug, PartialEq, Eq)]
+pub struct Holder {
+    /// The number of the pass.
+    pub number: u8,
+    /// The leaves of its command, bit i for leaf i; 0 for an inner node.
+    pub leaves: u16,
+}
+
+/// Who holds the node, by its word.
+pub(crate) fn holder_in(word: u64, node: u8) -> Holder
+    requires { word ≢ 0 }
+    ensures { IsHolderIn word node result.number result.leaves }
+{
+    Holder {
+        number: ((word - 1) % 256) as u8,
+        leaves: if node >= 15 {
+            (word / 256 % 65_536) as u16
+        } else {
+            0
+        },
+    }
+}
+
+#[cfg(test)]
+mod tests {
+    use super::*;
+    use std::test::Fail;
+
+    #[test]
+    fn word_names_its_holder(rt: HostRuntime) -> Result<(), Fail> {
+        let (near, inner) = (holder_in(257, 15), holder_in(260, 0));
+        assert_eq!(rt;
+            near,
+            Holder {
+                number: 0,
+                leaves: 1
+            }
+        );
+        assert_eq!(rt;
+            inner,
+            Holder {
+                number: 3,
+                leaves: 0
+            }
+        );
+        Ok(())
+    }
+}

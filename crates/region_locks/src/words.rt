@@ -1,0 +1,113 @@
+ghost use Rattle.std.specs.Prelude.{◌≡◌, ℕ, ◌+◌, ◌<◌, ◌==◌, true, length, is_some, if◌then◌else◌};
+ghost use Rattle.core_steps.specs.Cells.{with_bit, without_bit};
+ghost use Rattle.core_steps.specs.Machine.{index_of};
+ghost use Rattle.region_locks.specs.Going.{view_found};
+ghost use Rattle.region_locks.specs.Plays.{IsToldOf};
+ghost use Rattle.region_locks.specs.Passes.{fixed_in, sight_of, IsPassOf, next_of_pass, the_next, pass_after, word_after};
+
+use crate::nexts::{clear_next, count_next, exchange_next, load_next, set_next, store_next};
+use crate::pass::Pass;
+use crate::table::NodeTable;
+use entity_recs::Action;
+use std::snapshot::Snapshot;
+
+impl<'a, A: Action> NodeTable<'a, A> {
+    /// The pass loads a word, which is its next step.
+    pub(crate) fn load_word(&self, pass: &mut Pass<A>, word: usize) -> u64
+        requires own { IsPassOf (fixed_in A.takes A.region_of A.effect_of self.now) (length self.now.rooms) self.now.table pass.old }
+        requires comes { is_some (next_of_pass (fixed_in A.takes A.region_of A.effect_of self.now) pass.old) ≡ true }
+        requires index { word ≡ index_of 31 pass.old.view (the_next (next_of_pass (fixed_in A.takes A.region_of A.effect_of self.now) pass.old)) }
+        requires left { (found : ℕ) → word_after (fixed_in A.takes A.region_of A.effect_of self.now) pass.old found ≡ found }
+        ensures pass { pass.new ≡ pass_after (fixed_in A.takes A.region_of A.effect_of self.now) (the_next (next_of_pass (fixed_in A.takes A.region_of A.effect_of self.now) pass.old)) result pass.old }
+        ensures told { IsToldOf (fixed_in A.takes A.region_of A.effect_of self.now) (length self.now.rooms) (sight_of pass.new) }
+    {
+        let about = Snapshot::of(&*pass);
+        let found = load_next(&self.table.shared, &about, &mut pass.seat, word);
+        pass.is_given = false;
+        pass.quits = false;
+        found
+    }
+
+    /// The pass stores a word, which is its next step.
+    pub(crate) fn store_word(&self, pass: &mut Pass<A>, word: usize, new: u64)
+        requires own { IsPassOf (fixed_in A.takes A.region_of A.effect_of self.now) (length self.now.rooms) self.now.table pass.old }
+        requires comes { is_some (next_of_pass (fixed_in A.takes A.region_of A.effect_of self.now) pass.old) ≡ true }
+        requires index { word ≡ index_of 31 pass.old.view (the_next (next_of_pass (fixed_in A.takes A.region_of A.effect_of self.now) pass.old)) }
+        requires left { (found : ℕ) → word_after (fixed_in A.takes A.region_of A.effect_of self.now) pass.old found ≡ new }
+        requires blind { (found : ℕ) → view_found (fixed_in A.takes A.region_of A.effect_of self.now) pass.old.view (the_next (next_of_pass (fixed_in A.takes A.region_of A.effect_of self.now) pass.old)) found ≡ view_found (fixed_in A.takes A.region_of A.effect_of self.now) pass.old.view (the_next (next_of_pass (fixed_in A.takes A.region_of A.effect_of self.now) pass.old)) new }
+        ensures pass { pass.new ≡ pass_after (fixed_in A.takes A.region_of A.effect_of self.now) (the_next (next_of_pass (fixed_in A.takes A.region_of A.effect_of self.now) pass.old)) new pass.old }
+        ensures told { IsToldOf (fixed_in A.takes A.region_of A.effect_of self.now) (length self.now.rooms) (sight_of pass.new) }
+    {
+        let about = Snapshot::of(&*pass);
+        store_next(&self.table.shared, &about, &mut pass.seat, word, new);
+        pass.is_given = false;
+        pass.quits = false;
+    }
+
+    /// The pass takes a node where its word is 0, which is its next step, and gives the word that was found.
+    pub(crate) fn exchange_word(&self, pass: &mut Pass<A>, word: usize, new: u64) -> u64
+        requires own { IsPassOf (fixed_in A.takes A.region_of A.effect_of self.now) (length self.now.rooms) self.now.table pass.old }
+        requires comes { is_some (next_of_pass (fixed_in A.takes A.region_of A.effect_of self.now) pass.old) ≡ true }
+        requires index { word ≡ index_of 31 pass.old.view (the_next (next_of_pass (fixed_in A.takes A.region_of A.effect_of self.now) pass.old)) }
+        requires left { (found : ℕ) → word_after (fixed_in A.takes A.region_of A.effect_of self.now) pass.old found ≡ (if found == 0 then new else found) }
+        ensures pass { pass.new ≡ pass_after (fixed_in A.takes A.region_of A.effect_of self.now) (the_next (next_of_pass (fixed_in A.takes A.region_of A.effect_of self.now) pass.old)) result pass.old }
+        ensures told { IsToldOf (fixed_in A.takes A.region_of A.effect_of self.now) (length self.now.rooms) (sight_of pass.new) }
+    {
+        let about = Snapshot::of(&*pass);
+        let found = exchange_next(&self.table.shared, &about, &mut pass.seat, word, new);
+        pass.is_given = false;
+        pass.quits = false;
+        found
+    }
+
+    /// The pass adds 1 to the count of commits, which is its next step, and gives the count that was found.
+    pub(crate) fn add_to_count(&self, pass: &mut Pass<A>, word: usize) -> u64
+        requires own { IsPassOf (fixed_in A.takes A.region_of A.effect_of self.now) (length self.now.rooms) self.now.table pass.old }
+        requires comes { is_some (next_of_pass (fixed_in A.takes A.region_of A.effect_of self.now) pass.old) ≡ true }
+        requires index { word ≡ index_of 31 pass.old.view (the_next (next_of_pass (fixed_in A.takes A.region_of A.effect_of self.now) pass.old)) }
+        requires count { word ≡ 0 }
+        requires left { (found : ℕ) → word_after (fixed_in A.takes A.region_of A.effect_of self.now) pass.old found ≡ found + 1 }
+        ensures pass { pass.new ≡ pass_after (fixed_in A.takes A.region_of A.effect_of self.now) (the_next (next_of_pass (fixed_in A.takes A.region_of A.effect_of self.now) pass.old)) result pass.old }
+        ensures told { IsToldOf (fixed_in A.takes A.region_of A.effect_of self.now) (length self.now.rooms) (sight_of pass.new) }
+    {
+        let about = Snapshot::of(&*pass);
+        let found = count_next(&self.table.shared, &about, &mut pass.seat, word);
+        pass.is_given = false;
+        pass.quits = false;
+        found
+    }
+
+    /// The pass clears a bit of a list word, which is its next step.
+    pub(crate) fn clear_bit(&self, pass: &mut Pass<A>, word: usize, slot: u8) -> u64
+        requires own { IsPassOf (fixed_in A.takes A.region_of A.effect_of self.now) (length self.now.rooms) self.now.table pass.old }
+        requires comes { is_some (next_of_pass (fixed_in A.takes A.region_of A.effect_of self.now) pass.old) ≡ true }
+        requires index { word ≡ index_of 31 pass.old.view (the_next (next_of_pass (fixed_in A.takes A.region_of A.effect_of self.now) pass.old)) }
+        requires slot { slot < 64 }
+        requires left { (found : ℕ) → word_after (fixed_in A.takes A.region_of A.effect_of self.now) pass.old found ≡ without_bit found slot }
+        ensures pass { pass.new ≡ pass_after (fixed_in A.takes A.region_of A.effect_of self.now) (the_next (next_of_pass (fixed_in A.takes A.region_of A.effect_of self.now) pass.old)) result pass.old }
+        ensures told { IsToldOf (fixed_in A.takes A.region_of A.effect_of self.now) (length self.now.rooms) (sight_of pass.new) }
+    {
+        let about = Snapshot::of(&*pass);
+        let found = clear_next(&self.table.shared, &about, &mut pass.seat, word, slot);
+        pass.is_given = false;
+        pass.quits = false;
+        found
+    }
+
+    /// The pass sets a bit of a list word, which is its next step.
+    pub(crate) fn set_bit(&self, pass: &mut Pass<A>, word: usize, slot: u8) -> u64
+        requires own { IsPassOf (fixed_in A.takes A.region_of A.effect_of self.now) (length self.now.rooms) self.now.table pass.old }
+        requires comes { is_some (next_of_pass (fixed_in A.takes A.region_of A.effect_of self.now) pass.old) ≡ true }
+        requires index { word ≡ index_of 31 pass.old.view (the_next (next_of_pass (fixed_in A.takes A.region_of A.effect_of self.now) pass.old)) }
+        requires slot { slot < 64 }
+        requires left { (found : ℕ) → word_after (fixed_in A.takes A.region_of A.effect_of self.now) pass.old found ≡ with_bit found slot }
+        ensures pass { pass.new ≡ pass_after (fixed_in A.takes A.region_of A.effect_of self.now) (the_next (next_of_pass (fixed_in A.takes A.region_of A.effect_of self.now) pass.old)) result pass.old }
+        ensures told { IsToldOf (fixed_in A.takes A.region_of A.effect_of self.now) (length self.now.rooms) (sight_of pass.new) }
+    {
+        let about = Snapshot::of(&*pass);
+        let found = set_next(&self.table.shared, &about, &mut pass.seat, word, slot);
+        pass.is_given = false;
+        pass.quits = false;
+        found
+    }
+}
