@@ -1,0 +1,4 @@
+-- Lemmas on the core in code.
+pub mod Bits
+pub mod Tables
+pub mod Logs
