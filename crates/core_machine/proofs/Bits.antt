@@ -13,7 +13,6 @@ bit_by_test zero below = refl
 bit_by_test (suc zero) below = refl
 bit_by_test (suc (suc n)) below = omega arith
 
-
 pub word_with_bit : (w slot : ℕ) → w < 2 ^ 64 → slot < 64 → bit_or w (1 * 2 ^ slot % 2 ^ 64) ≡ with_bit w slot
 word_with_bit w slot below player =
     same_word 64 (bit_or w (1 * 2 ^ slot % 2 ^ 64)) (λ i. (i == slot) || has_bit w i)

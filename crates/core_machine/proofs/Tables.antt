@@ -26,6 +26,6 @@ row_at body s k x j beyond slot below size five =
 pub rows_set : (body : List (List ℕ)) (s k x : ℕ) (beyond : ℕ → ℕ → ℕ) → s < 64 → k < 5 → length body ≡ 64 → length (get_or body s []) ≡ 5
     → rows (set body s (set (get_or body s []) k x)) beyond ≡ put s (put k x (rows body beyond s)) (rows body beyond)
 rows_set body s k x beyond slot below size five = fun_ext (λ n. elim (cases_eq n s) [
-    | inl same ↦ rw (put_at s n (put k x (rows body beyond s)) (rows body beyond) same, same) (fun_ext (λ j. row_at body s k x j beyond slot below size five))
-    | inr other ↦ rw (put_away s n (put k x (rows body beyond s)) (rows body beyond) other) (fun_ext (λ j. rw get_or-set_other refl))
-  ])
+  | inl same ↦ rw (put_at s n (put k x (rows body beyond s)) (rows body beyond) same, same) (fun_ext (λ j. row_at body s k x j beyond slot below size five))
+  | inr other ↦ rw (put_away s n (put k x (rows body beyond s)) (rows body beyond) other) (fun_ext (λ j. rw get_or-set_other refl))
+])

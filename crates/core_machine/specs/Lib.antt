@@ -9,3 +9,5 @@ pub mod Tables
 pub mod Points
 pub mod Logs
 pub mod Seats
+pub mod Shown
+pub mod NearRecords

@@ -1,5 +1,5 @@
 -- What a seat has left to do, as the point of the definitions.
-use Rattle.std.specs.Prelude.{ℕ, List, [], map}
+use Rattle.std.specs.Prelude.{ℕ, ◌<◌, List, [], map}
 use Rattle.core_steps.specs.Views as views
 use Rattle.core_machine.specs.declared.point.Store.{Store}
 use Rattle.core_machine.specs.declared.point.Store.TheVariants.{Clear, Put, Link}
@@ -7,7 +7,7 @@ use Rattle.core_machine.specs.declared.point.Point.{Point}
 use Rattle.core_machine.specs.declared.point.Point.TheVariants.{Idle, Owning, Taking, Checking, Entering, Entered}
 use Rattle.core_machine.specs.declared.point.Point.TheVariants.{Loading, Leaving, Sensing, Resolving, Claiming, Storing}
 use Rattle.core_machine.specs.declared.point.Point.TheVariants.{Releasing, Returning, Yielding}
-use Rattle.core_machine.specs.Tables.{cell_in}
+use Rattle.core_machine.specs.Tables.{cell_in, IsCellOf}
 
 -- the store of the definitions
 abbrev pub store_of : Store → views.Store
@@ -32,3 +32,9 @@ point_of (Storing nodes stores) = views.Storing nodes.items (map store_of stores
 point_of (Releasing nodes) = views.Releasing nodes.items
 point_of (Returning leaves) = views.Returning leaves.items
 point_of (Yielding nodes leaves) = views.Yielding nodes.items leaves.items
+
+-- the store is one in the arrays
+abbrev pub IsStoreOf : Store → Type 0
+IsStoreOf (Clear node) = node < 31
+IsStoreOf (Put cell x) = IsCellOf cell
+IsStoreOf (Link node) = node < 31

@@ -50,13 +50,22 @@ pub enum Point {
     /// The rest of the own record is to be loaded.
     Owning,
     /// Some leaves are taken, the others are to be taken.
-    Taking { got: NodeList, rest: NodeList },
+    Taking {
+        got: NodeList,
+        rest: NodeList,
+    },
     /// The rest of the own record is to be loaded again.
     Checking,
     /// An inner node is to be taken and visited, then the other nodes of the plan.
-    Entering { node: u8, plan: NodeList },
+    Entering {
+        node: u8,
+        plan: NodeList,
+    },
     /// The list word of the node is to be loaded.
-    Entered { node: u8, plan: NodeList },
+    Entered {
+        node: u8,
+        plan: NodeList,
+    },
     /// Under the node the first of the players is loaded, of which some words are loaded.
     Loading {
         node: u8,
@@ -65,19 +74,66 @@ pub enum Point {
         plan: NodeList,
     },
     /// The inner node is to be given back.
-    Leaving { node: u8, plan: NodeList },
+    Leaving {
+        node: u8,
+        plan: NodeList,
+    },
     /// The states of these things of the map are to be loaded.
-    Sensing { ids: IdList },
+    Sensing {
+        ids: IdList,
+    },
     /// All is read: the effect enters the view with the next step.
     Resolving,
     /// Some write nodes are taken, the others are to be taken; then comes the commit.
-    Claiming { got: NodeList, rest: NodeList },
+    Claiming {
+        got: NodeList,
+        rest: NodeList,
+    },
     /// The write nodes are held, and these stores are owed.
-    Storing { nodes: NodeList, stores: StoreList },
+    Storing {
+        nodes: NodeList,
+        stores: StoreList,
+    },
     /// These write nodes are to be given back, then the leaves.
-    Releasing { nodes: NodeList },
+    Releasing {
+        nodes: NodeList,
+    },
     /// These leaves are to be given back.
-    Returning { leaves: NodeList },
+    Returning {
+        leaves: NodeList,
+    },
     /// The command is given up: these inner nodes and these leaves are to be given back.
-    Yielding { nodes: NodeList, leaves: NodeList },
+    Yielding {
+        nodes: NodeList,
+        leaves: NodeList,
+    },
+}
+
+impl Point {
+    ghost use Rattle.std.specs.Prelude.{◌≡◌};
+    ghost use Rattle.core_steps.specs.Steps as steps;
+    ghost use Rattle.core_machine.specs.Points.{point_of};
+
+    /// Whether a node is to be taken next, or the command is to be committed: the command may be given up.
+    pub fn is_taking(&self) -> bool
+        ensures { result ≡ steps.is_taking (point_of self.now) }
+    {
+        match self {
+            Point::Taking { .. }
+            | Point::Entering { .. }
+            | Point::Resolving
+            | Point::Claiming { .. } => true,
+            Point::Idle
+            | Point::Owning
+            | Point::Checking
+            | Point::Entered { .. }
+            | Point::Loading { .. }
+            | Point::Leaving { .. }
+            | Point::Sensing { .. }
+            | Point::Storing { .. }
+            | Point::Releasing { .. }
+            | Point::Returning { .. }
+            | Point::Yielding { .. } => false,
+        }
+    }
 }

@@ -2,8 +2,10 @@ ghost use Rattle.std.specs.Prelude.{◌≡◌, ◌<◌, length, slice_set};
 ghost use Rattle.core_steps.specs.Cells as cells;
 ghost use Rattle.core_steps.specs.Cells.{put, word_in, with_word, cell_of, with_bit, without_bit};
 ghost use Rattle.core_machine.specs.Tables.{words_in, cell_in, IsCellOf};
+ghost use Rattle.core_steps.specs.Steps.{words_after_store};
+ghost use Rattle.core_machine.specs.Points.{store_of, IsStoreOf};
 
-use crate::point::Cell;
+use crate::point::{Cell, Store};
 use areanode::NODES;
 use core_steps::PlayerWords;
 
@@ -84,5 +86,18 @@ impl Words {
     {
         let word = self.links[usize::from(node)];
         self.links[usize::from(node)] = word & !(1 << slot);
+    }
+
+    /// Makes a store that the player in this slot owes.
+    pub fn make_store(&mut self, store: Store, slot: u8)
+        requires store { IsStoreOf store }
+        requires slot { slot < 64 }
+        ensures { (beyond : cells.Words) → words_in self.new beyond ≡ words_after_store slot (store_of store) (words_in self.old beyond) }
+    {
+        match store {
+            Store::Clear(node) => self.unlink(node, slot),
+            Store::Put(cell, word) => self.set_cell(cell, word),
+            Store::Link(node) => self.link(node, slot),
+        }
     }
 }
