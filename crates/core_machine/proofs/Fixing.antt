@@ -1,11 +1,11 @@
 -- The tree of depth 4.
-use Rattle.std.proofs.Common.{◌≡◌, ℕ, ◌++◌, ◌^◌, ◌-◌, map, refl, ap, sym, ◌∙◌}
+use Rattle.std.proofs.Common.{◌≡◌, ℕ, ◌^◌, ◌-◌, map, refl, ap, ◌∙◌}
 use Rattle.std.specs.Prelude.{filter, List}
 use Rattle.std.specs.List.{range_with_len}
 use Rattle.arena_geo.specs.Bounds.{Bounds}
 use Rattle.areanode.specs.Words.{has_bit}
 use Rattle.areanode.specs.Trees.{leaf_node, leaves_of, visited_of}
-use Rattle.core_steps.specs.Views.{Fixed, leaf_nodes, inner_visited, plan_of, bits_of_leaves, leaf_word}
+use Rattle.core_steps.specs.Views.{Fixed, leaf_nodes, inner_visited, bits_of_leaves, leaf_word}
 
 leaves_at : (d word : ℕ) → d ≡ 4 → map (leaf_node 4) (filter (has_bit word) (range_with_len 0 16)) ≡ map (leaf_node d) (filter (has_bit word) (range_with_len 0 (2 ^ d)))
 leaves_at d word depth = rw depth refl

@@ -1,7 +1,7 @@
 -- What was loaded of the records at the start, in one pass over them.
 use Rattle.std.proofs.Common.{◌≡◌, ℕ, zero, suc, ◌+◌, ◌<◌, ◌≤◌, ◌==◌, Bool, true, false, ◌&&◌, List, [], ◌∷◌, ◌++◌, length, get_or, take, append-nil, map, refl, ap, sym, ◌∙◌, subst, inl, inr, arith}
-use Rattle.std.specs.Prelude.{filter, not, nat_lt, nat_le, All, Option, Some, None, if◌then◌else◌}
-use Rattle.std.specs.List.{AllPairs, filter_map, cons_option}
+use Rattle.std.specs.Prelude.{filter, not, nat_lt, nat_le, Option, Some, None, if◌then◌else◌}
+use Rattle.std.specs.List.{filter_map, cons_option}
 use Rattle.std.specs.List.Sorted.{IsStrictlyIncreasing}
 use Rattle.std.proofs.lemmas.Bool.{cases_Bool, eq-eqb, ne_eqb, cond-true, cond-false, leb-true, leb-false}
 use Rattle.std.proofs.Math.ListN.{get_or-map}
@@ -18,8 +18,8 @@ use Rattle.entity_recs.specs.Bodies.{abs_of}
 use Rattle.entity_recs.specs.Records.{IsIdOf}
 use Rattle.entity_recs.specs.Actions.{HasValidity}
 use Rattle.core_steps.specs.Stands.{IsStart}
-use Rattle.entity_recs.specs.Worlds.{World, record_with, nobody}
-use Rattle.core_steps.specs.Views.{Fixed, PlayerRead, player_of, player_at, thing_of, state_at, record_loaded, near_loaded, things_in}
+use Rattle.entity_recs.specs.Worlds.{record_with}
+use Rattle.core_steps.specs.Views.{Fixed, PlayerRead, player_of, player_at, thing_of, state_at, record_loaded}
 use Rattle.core_machine.specs.NearRecords.{is_touched_thing, loaded_of, touching_one, near_one}
 
 -- each record has what a function gives at its id

@@ -1,10 +1,9 @@
 -- Words that are put into the arrays.
 use mathlib.Core.Path.{fun_ext}
-use Rattle.std.proofs.Common.{◌≡◌, ℕ, ◌<◌, ◌==◌, Bool, true, false, ◌&&◌, List, [], length, set, get_or, get_or-set_same, get_or-set_other, inl, inr, refl, ap, sym, ◌∙◌, subst, arith}
-use Rattle.std.specs.Prelude.{nat_lt, if◌then◌else◌}
-use Rattle.std.proofs.lemmas.Bool.{cases_eq, eq-eqb, ne_eqb, cond-true, cond-false}
+use Rattle.std.proofs.Common.{◌≡◌, ℕ, ◌<◌, List, [], length, set, get_or, get_or-set_same, get_or-set_other, inl, inr, refl, arith}
+use Rattle.std.proofs.lemmas.Bool.{cases_eq, eq-eqb, ne_eqb}
 use Rattle.core_steps.specs.Cells.{put}
-use Rattle.core_machine.specs.Tables.{rows, within}
+use Rattle.core_machine.specs.Tables.{rows}
 
 -- one function at two places at once
 put_at : {A : Type 0} (i j : ℕ) (a : A) (f : ℕ → A) → j ≡ i → put i a f j ≡ a

@@ -1,5 +1,5 @@
 -- What a seat has left to do, as the point of the definitions.
-use Rattle.std.specs.Prelude.{ℕ, ◌<◌, List, [], map}
+use Rattle.std.specs.Prelude.{◌<◌, map}
 use Rattle.core_steps.specs.Views as views
 use Rattle.core_machine.specs.declared.point.Store.{Store}
 use Rattle.core_machine.specs.declared.point.Store.TheVariants.{Clear, Put, Link}

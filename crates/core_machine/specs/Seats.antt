@@ -1,5 +1,5 @@
 -- A seat of the code as a view of the definitions.
-use Rattle.std.specs.Prelude.{ℕ, ◌≡◌, Bool, true, false, List, [], map, Option, Some, None}
+use Rattle.std.specs.Prelude.{ℕ, ◌≡◌, true, false, [], map, Option, Some, None}
 use Rattle.std.specs.Option.{option_map}
 use Rattle.entity_recs.specs.declared.cmd.Cmd.{Cmd}
 use Rattle.entity_recs.specs.Commands.{Command, command_of}

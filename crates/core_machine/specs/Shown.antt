@@ -1,5 +1,5 @@
 -- What doesn't change in the core of the code, as the definitions have it.
-use Rattle.std.specs.Prelude.{ℕ, ◌≡◌, List, Bool}
+use Rattle.std.specs.Prelude.{◌≡◌, List, Bool}
 use Rattle.arena_geo.specs.Bounds.{Bounds}
 use Rattle.areanode.specs.Trees.{TreeView}
 use Rattle.entity_recs.specs.declared.rec.Rec.{Rec}

@@ -1,6 +1,4 @@
-use Rattle.std.proofs.Common.{◌≡◌, ◌≤◌, ◌+◌, ◌*◌, ◌==◌, ◌-◌, ◌++◌, [], ◌∷◌, ℕ, take, drop, length, map}
-use Rattle.std.specs.Prelude.{filter, not}
-use Rattle.std.specs.List.{filter_map}
+use Rattle.std.proofs.Common.{◌≡◌, take}
 use Rattle.core_machine.proofs.committing.same_reply.Given as goal
 
 abbrev pub invariant-loop-id : goal.invariant-loop-id

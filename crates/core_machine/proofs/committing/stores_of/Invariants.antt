@@ -1,6 +1,4 @@
-use Rattle.std.proofs.Common.{◌≡◌, ◌≤◌, ◌+◌, ◌*◌, ◌==◌, ◌-◌, ◌++◌, [], ◌∷◌, ℕ, take, drop, length, map}
-use Rattle.std.specs.Prelude.{filter, not}
-use Rattle.std.specs.List.{filter_map}
+use Rattle.std.proofs.Common.{◌≡◌, ◌+◌, ◌++◌, [], ◌∷◌, take, length, map}
 use Rattle.entity_recs.specs.declared.effect.NewState.{NewState}
 use Rattle.core_steps.specs.Cells.{State}
 use Rattle.core_steps.specs.Encoding.{words_of}

@@ -1,5 +1,4 @@
-use Rattle.std.proofs.Common.{◌+◌, ◌==◌, ◌||◌, ◌&&◌, ℕ, List, [], ◌∷◌, ◌++◌, length, map, ap, sym, ◌∙◌, arith}
-use Rattle.std.specs.Prelude.{not}
+use Rattle.std.proofs.Common.{◌==◌, ◌||◌, ℕ, List, [], ◌∷◌, ◌++◌, ap, sym, ◌∙◌, arith}
 use Rattle.core_machine.proofs.Ranges.{kept_more, kept_same}
 use Rattle.core_machine.proofs.lists.inner_among.Goals as goal
 use Rattle.core_machine.proofs.lists.inner_among.Goals.{then-is_either, else-is_either}

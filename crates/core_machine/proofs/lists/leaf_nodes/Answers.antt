@@ -1,8 +1,7 @@
-use Rattle.std.proofs.Common.{◌+◌, ◌==◌, ◌||◌, ◌&&◌, ℕ, List, [], ◌∷◌, ◌++◌, length, map, ap, sym, ◌∙◌, arith}
-use Rattle.std.specs.Prelude.{not}
+use Rattle.std.proofs.Common.{◌+◌, ℕ, List, [], ◌∷◌, ◌++◌, map, ap, sym, ◌∙◌, arith}
 use Rattle.areanode.specs.Words.{has_bit}
 use Rattle.areanode.specs.Trees.{leaf_node}
-use Rattle.core_machine.proofs.Ranges.{kept_more, kept_same, mapped_more}
+use Rattle.core_machine.proofs.Ranges.{kept_same, mapped_more}
 use Rattle.core_machine.proofs.lists.leaf_nodes.Goals as goal
 use Rattle.core_machine.proofs.lists.leaf_nodes.Goals.{then-is_set, else-is_set}
 

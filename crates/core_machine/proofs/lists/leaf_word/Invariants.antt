@@ -1,5 +1,4 @@
-use Rattle.std.proofs.Common.{◌≡◌, ◌≤◌, ◌*◌, ◌==◌, ◌-◌, ℕ, take, drop, length, map}
-use Rattle.std.specs.Prelude.{filter, not}
+use Rattle.std.proofs.Common.{◌≡◌, ◌≤◌, ◌*◌, ◌-◌, ℕ, take, map}
 use Rattle.core_steps.specs.Views.{bits_of_leaves}
 use Rattle.core_machine.proofs.lists.leaf_word.Given as goal
 

@@ -1,4 +1,4 @@
-use Rattle.std.proofs.Common.{◌≡◌, ◌≤◌, ◌*◌, ◌==◌, ◌-◌, ℕ, take, drop, length, map}
+use Rattle.std.proofs.Common.{◌≡◌, ◌≤◌, ◌==◌, take, length}
 use Rattle.std.specs.Prelude.{filter, not}
 use Rattle.core_machine.specs.declared.seat.PlayerRead.{PlayerRead}
 use Rattle.core_machine.proofs.loading.others_than.Given as goal

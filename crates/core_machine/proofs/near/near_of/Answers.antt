@@ -1,5 +1,4 @@
-use Rattle.std.proofs.Common.{◌≡◌, map, take, length, length-append, ◌++◌, [], ◌∷◌, ap, sym, ◌∙◌, arith, rules}
-use Rattle.std.specs.List.{filter_map}
+use Rattle.std.proofs.Common.{◌≡◌, map, length-append, ◌++◌, [], ◌∷◌, ap, sym, ◌∙◌, arith, rules}
 use Rattle.core_machine.specs.Seats.{player_read_of}
 use Rattle.core_machine.specs.NearRecords.{near_one}
 use Rattle.core_machine.proofs.NearLists.{near_more, near_same}

@@ -1,5 +1,4 @@
-use Rattle.std.proofs.Common.{◌≡◌, ◌≤◌, ◌+◌, ◌*◌, ◌==◌, ◌-◌, ◌++◌, [], ◌∷◌, ℕ, take, drop, length, map}
-use Rattle.std.specs.Prelude.{filter, not}
+use Rattle.std.proofs.Common.{◌≡◌, ◌≤◌, take, length, map}
 use Rattle.std.specs.List.{filter_map}
 use Rattle.core_machine.specs.Seats.{player_read_of}
 use Rattle.core_machine.specs.NearRecords.{near_one}

@@ -1,6 +1,5 @@
-use Rattle.std.proofs.Common.{◌≡◌, ◌≤◌, ◌+◌, ◌*◌, ◌==◌, ◌-◌, ◌++◌, [], ◌∷◌, ℕ, take, drop, length, map}
-use Rattle.std.specs.Prelude.{filter, not}
-use Rattle.std.specs.List.{filter_map}
+use Rattle.std.proofs.Common.{◌≡◌, ◌≤◌, take, length, map}
+use Rattle.std.specs.Prelude.{filter}
 use Rattle.entity_recs.specs.declared.rec.Rec.{Rec}
 use Rattle.core_machine.specs.NearRecords.{is_touched_thing}
 use Rattle.core_machine.proofs.near.things_of.Given as goal

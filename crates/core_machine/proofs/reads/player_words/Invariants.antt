@@ -1,5 +1,4 @@
-use Rattle.std.proofs.Common.{◌≡◌, ◌≤◌, ◌*◌, ◌==◌, ◌-◌, ℕ, take, drop, length, map}
-use Rattle.std.specs.Prelude.{filter, not}
+use Rattle.std.proofs.Common.{◌≡◌, drop, map}
 use Rattle.core_steps.specs.Views.{player_at}
 use Rattle.core_machine.specs.Seats.{player_read_of}
 use Rattle.core_machine.proofs.reads.player_words.Given as goal

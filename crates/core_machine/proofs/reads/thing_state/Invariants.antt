@@ -1,5 +1,4 @@
-use Rattle.std.proofs.Common.{◌≡◌, ◌≤◌, ◌*◌, ◌==◌, ◌-◌, ℕ, take, drop, length, map}
-use Rattle.std.specs.Prelude.{filter, not}
+use Rattle.std.proofs.Common.{◌≡◌, drop}
 use Rattle.core_steps.specs.Views.{state_at}
 use Rattle.core_machine.proofs.reads.thing_state.Given as goal
 

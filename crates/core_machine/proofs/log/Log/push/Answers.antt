@@ -1,4 +1,4 @@
-use Rattle.std.proofs.Common.{◌≡◌, length, ap, refl, arith}
+use Rattle.std.proofs.Common.{length, ap, refl, arith}
 use Rattle.core_machine.specs.Logs.{LogView}
 use Rattle.core_machine.proofs.Logs.{items_of-length, items_of-append}
 use Rattle.core_machine.proofs.log.Log.push.Goals as goal

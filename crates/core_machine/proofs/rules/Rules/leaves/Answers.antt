@@ -1,6 +1,5 @@
-use Rattle.std.proofs.Common.{◌≡◌, ap, sym, ◌∙◌}
-use Rattle.areanode.specs.Trees.{leaves_of}
-use Rattle.core_machine.specs.Shown.{RulesView, fixed_of}
+use Rattle.std.proofs.Common.{◌∙◌}
+use Rattle.core_machine.specs.Shown.{fixed_of}
 use Rattle.core_machine.proofs.Fixing.{leaf_nodes_are}
 use Rattle.core_machine.proofs.rules.Rules.leaves.Goals as goal
 

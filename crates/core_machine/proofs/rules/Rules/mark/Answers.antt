@@ -1,7 +1,7 @@
-use Rattle.std.proofs.Common.{◌≡◌, ap, sym, ◌∙◌}
+use Rattle.std.proofs.Common.{◌≡◌, sym, ◌∙◌}
 use Rattle.std.proofs.lemmas.Bool.{cond-true}
 use Rattle.core_steps.specs.Views.{is_leaf}
-use Rattle.core_machine.specs.Shown.{RulesView, fixed_of}
+use Rattle.core_machine.specs.Shown.{fixed_of}
 use Rattle.core_machine.proofs.Fixing.{leaf_word_is}
 use Rattle.core_machine.proofs.rules.Rules.mark.Goals as goal
 

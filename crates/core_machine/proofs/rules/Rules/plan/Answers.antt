@@ -1,5 +1,5 @@
-use Rattle.std.proofs.Common.{◌≡◌, ◌++◌, ℕ, List, ap, sym, ◌∙◌}
-use Rattle.core_steps.specs.Views.{leaf_nodes, inner_visited}
+use Rattle.std.proofs.Common.{◌++◌, ℕ, List, ap, ◌∙◌}
+use Rattle.core_steps.specs.Views.{leaf_nodes}
 use Rattle.core_machine.specs.Shown.{fixed_of}
 use Rattle.core_machine.proofs.Fixing.{leaf_nodes_are, inner_visited_are}
 use Rattle.core_machine.proofs.rules.Rules.plan.Goals as goal

@@ -1,11 +1,9 @@
-use Rattle.std.proofs.Common.{◌≡◌, ◌≤◌, List, length, map, ap, ◌∙◌, arith, rules}
+use Rattle.std.proofs.Common.{List, map, ap, ◌∙◌, arith}
 use Rattle.std.specs.Prelude.{filter}
-use Rattle.std.specs.List.{filter_map}
 use Rattle.std.proofs.lemmas.List.{length-map}
 use Rattle.entity_recs.specs.declared.rec.Rec.{Rec}
 use Rattle.entity_recs.specs.Actions.{HasValidity}
-use Rattle.core_machine.specs.Seats.{player_read_of}
-use Rattle.core_machine.specs.NearRecords.{is_touched_thing, near_one}
+use Rattle.core_machine.specs.NearRecords.{is_touched_thing}
 use Rattle.core_machine.specs.Shown.{fixed_of}
 use Rattle.core_machine.proofs.NearLists.{things_are, found_at_ids, few_ids}
 use Rattle.core_machine.proofs.rules.Rules.things.Goals as goal

@@ -1,4 +1,4 @@
-use Rattle.std.proofs.Common.{◌==◌, map, ap, refl, ◌∙◌}
+use Rattle.std.proofs.Common.{◌==◌, ap, refl, ◌∙◌}
 use Rattle.std.specs.Prelude.{filter, not}
 use Rattle.core_machine.specs.declared.seat.PlayerRead.{PlayerRead}
 use Rattle.core_machine.proofs.ReadLists.{without_mapped}

@@ -1,4 +1,4 @@
-use Rattle.std.proofs.Common.{◌≡◌, refl, arith}
+use Rattle.std.proofs.Common.{◌≡◌, refl}
 use Rattle.core_machine.specs.Seats.{hand_of}
 use Rattle.core_machine.proofs.seat.Seat.load_list.Goals as goal
 

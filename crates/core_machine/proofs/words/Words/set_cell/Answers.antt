@@ -1,4 +1,4 @@
-use Rattle.std.proofs.Common.{◌≡◌, ◌<◌, [], length, get_or, arith, ap, refl, rules}
+use Rattle.std.proofs.Common.{◌≡◌, [], length, get_or, arith, refl}
 use Rattle.core_machine.specs.Tables.{IsBodyCell}
 use Rattle.core_machine.proofs.Tables.{rows_set}
 use Rattle.core_machine.proofs.words.Words.set_cell.Goals as goal
