@@ -24,7 +24,7 @@ use Rattle.core_steps.specs.Encoding.{words_of}
 use Rattle.core_steps.specs.Views.{Fixed, Store, Clear, Put, Link, Point, Idle, Owning, Taking, Checking, Entering, Entered, Loading, Leaving, Sensing, Resolving, Claiming, Storing, Releasing, Returning, Yielding, stage_of, is_busy, is_whole, is_storing, is_owning, View, has, is_leaf, inner_nodes, nodes_of, leaf_nodes, inner_visited, plan_of, home, region_in, record_read, effect_loaded, write_nodes, body_stores, stores_of, state_at, inner_held, leaves_held}
 use Rattle.core_steps.specs.Steps.{first, first_of_two, first_yield, next_give}
 use Rattle.core_steps.specs.Stands.{IsStart, IsLawful}
-use Rattle.core_steps.specs.Machine.{Machine, Next, Begin, LoadOwn, LoadAgain, TakeNode, ClaimNode, ReadList, ReadPlayer, ReadState, CommitMove, StoreWord, GiveNode, YieldNode, YieldCount, next_at, quitting, resolving, beginning, committing, giving, index_of, index_of_store, word_of_store, word_of_next, core_after, SomeIsLeft, MachineStands}
+use Rattle.core_steps.specs.Machine.{Machine, Next, Begin, LoadOwn, LoadAgain, TakeNode, ClaimNode, ReadList, ReadPlayer, ReadState, CommitMove, StoreWord, GiveNode, YieldNode, YieldCount, next_at, next_of, quitting, resolving, beginning, committing, giving, index_of, index_of_store, word_of_store, word_of_next, core_after, SomeIsLeft, MachineStands}
 use Rattle.core_steps.specs.MachineLaws.{StepsHaveTheirWord}
 use Rattle.core_steps.proofs.Lists.{has_append, has_filter, has_range, has_front}
 use Rattle.core_steps.proofs.Layouts.{layout_is_right}
@@ -38,22 +38,22 @@ use Rattle.core_steps.proofs.Machines.{IsAmong}
 
 -- ---- words whose numbers are in range
 
-record IsBodyIn (slot k : ℕ) : Type 0 where
-  slot_below : slot < 64
-  word_below : k < 5
+pub record IsBodyIn (slot k : ℕ) : Type 0 where
+  pub slot_below : slot < 64
+  pub word_below : k < 5
 
 -- the cell is one of the table's
-abbrev CellIsIn : Cell → Type 0
+abbrev pub CellIsIn : Cell → Type 0
 CellIsIn (Body slot k) = IsBodyIn slot k
 CellIsIn (State id) = id < 256
 
-abbrev StoreIsIn : ℕ → Store → Type 0
+abbrev pub StoreIsIn : ℕ → Store → Type 0
 StoreIsIn nodes (Clear node) = node < nodes
 StoreIsIn nodes (Put cell x) = CellIsIn cell
 StoreIsIn nodes (Link node) = node < nodes
 
 -- the word of what comes next is one of the table's
-abbrev NextIsIn : ℕ → View → Next → Type 0
+abbrev pub NextIsIn : ℕ → View → Next → Type 0
 NextIsIn nodes view (Begin c) = CellIsIn (cell_of c.slot 0)
 NextIsIn nodes view LoadOwn = CellIsIn (cell_of view.cmd.slot (length view.own))
 NextIsIn nodes view LoadAgain = CellIsIn (cell_of view.cmd.slot (length view.again))
@@ -321,10 +321,11 @@ module _ (F : Fixed) (m : Machine) (history : List Item) (now : World) (i : ℕ)
   quitting_in None e = tt
   quitting_in (Some node) e = held_in view.point refl node (two_in (inner_held F view.point) (leaves_held view.point view.wanted) node e)
 
-pub steps_have_their_word : StepsHaveTheirWord
-steps_have_their_word F m history now i next lawful start comes is =
+pub next_is_in : (F : Fixed) (m : Machine) (history : List Item) (now : World) (i : ℕ) (next : Next) → IsLawful F → IsStart F
+    → next_of F m i ≡ Some next → MachineStands F m history now → NextIsIn (nodes_of F) (m.core.view i) next
+next_is_in F m history now i next lawful start comes is =
     let view = m.core.view i in
-    let inside : NextIsIn (nodes_of F) view next = elim (cases_Bool (m.quits i)) [
+    elim (cases_Bool (m.quits i)) [
       | inl quits ↦
           as_in F m history now i lawful start is (quitting (first_yield F view)) next
           (sym (cond-true (m.quits i) (Some (quitting (first_yield F view))) (next_at F view (m.given i) view.point) quits) ∙ comes)
@@ -332,7 +333,12 @@ steps_have_their_word F m history now i next lawful start comes is =
       | inr goes ↦
           point_in F m history now i lawful start is view.point next refl
           (sym (cond-false (m.quits i) (Some (quitting (first_yield F view))) (next_at F view (m.given i) view.point) goes) ∙ comes)
-    ] in
+    ]
+
+pub steps_have_their_word : StepsHaveTheirWord
+steps_have_their_word F m history now i next lawful start comes is =
+    let view = m.core.view i in
+    let inside = next_is_in F m history now i next lawful start comes is in
     let old = next_found (nodes_of F) m.core.words view next inside in
     let new = next_found (nodes_of F) (core_after F m.core i next).words view next inside in
     record { in_table = old.in_table; before = old.found; after = new.found }

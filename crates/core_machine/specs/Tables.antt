@@ -1,0 +1,40 @@
+-- The words in the arrays of the code, as the shared words of the definitions.
+use Rattle.std.specs.Prelude.{ℕ, ◌<◌, nat_lt, ◌&&◌, if◌then◌else◌, List, [], slice_index_or}
+use Rattle.core_steps.specs.Cells as cells
+use Rattle.core_machine.specs.declared.words.Words.{Words}
+use Rattle.core_machine.specs.declared.point.Cell.{Cell}
+use Rattle.core_machine.specs.declared.point.Cell.TheVariants.{Body, State}
+
+-- the first n numbers from a list, and the others from a function
+abbrev pub within : ℕ → List ℕ → (ℕ → ℕ) → ℕ → ℕ
+within n list beyond = λ i. if nat_lt i n then slice_index_or list i 0 else beyond i
+
+-- the words of players from a list of rows of five, and the others from a function
+abbrev pub rows : List (List ℕ) → (ℕ → ℕ → ℕ) → ℕ → ℕ → ℕ
+rows body beyond = λ slot k.
+    if nat_lt slot 64 && nat_lt k 5 then slice_index_or (slice_index_or body slot []) k 0 else beyond slot k
+
+-- the words of the arrays; beyond them, where no step reads or writes, those of other words
+abbrev pub words_in : Words → cells.Words → cells.Words
+words_in words beyond = record {
+  commits = words.commits;
+  node = within 31 words.node beyond.node;
+  links = within 31 words.links beyond.links;
+  body = rows words.body beyond.body;
+  state = within 256 words.state beyond.state;
+}
+
+-- the cell of the definitions
+abbrev pub cell_in : Cell → cells.Cell
+cell_in (Body slot k) = cells.Body slot k
+cell_in (State id) = cells.State id
+
+-- the cell is one of the arrays'
+pub record IsBodyCell (slot k : ℕ) : Type 0 where
+  pub slot_below : slot < 64
+  pub word_below : k < 5
+
+-- the cell is one of the arrays'
+abbrev pub IsCellOf : Cell → Type 0
+IsCellOf (Body slot k) = IsBodyCell slot k
+IsCellOf (State id) = id < 256

@@ -1,0 +1,206 @@
+ghost use Rattle.std.specs.Prelude.{◌≡◌, ◌+◌, ◌<◌, ◌≤◌, ◌-◌, ◌*◌, ◌++◌, All, ◌==◌, ◌||◌, ◌&&◌, [], ◌∷◌, MatchOption, length, filter, map, not, drop};
+ghost use Rattle.core_steps.specs.Steps.{rest_of};
+ghost use Rattle.std.specs.List.{range_with_len};
+ghost use Rattle.areanode.specs.Words.{has_bit};
+ghost use Rattle.areanode.specs.Trees.{leaf_node};
+ghost use Rattle.core_steps.specs.Views.{players_in, bits_of_leaves};
+
+use crate::point::{IdList, NodeList, SlotList, StoreList, WordList};
+use arrayvec::ArrayVec;
+
+/// Takes the first out of a list of small numbers.
+pub fn pop_first<const N: usize>(list: &mut ArrayVec<u8, N>) -> Option<u8>
+    ensures { MatchOption result ((list.old.items ≡ []) × (list.new.items ≡ [])) (λ n. list.old.items ≡ n ∷ list.new.items) }
+{
+    if list.is_empty() {
+        None
+    } else {
+        Some(list.remove(0))
+    }
+}
+
+/// A list of small numbers once more.
+pub fn copied<const N: usize>(list: &ArrayVec<u8, N>) -> ArrayVec<u8, N>
+    ensures { result.items ≡ list.now.items }
+{
+    let mut copy = ArrayVec::new();
+    let _ = copy.try_extend_from_slice(list.as_slice());
+    copy
+}
+
+/// Whether a bit of a word is set.
+fn is_set(word: u64, i: u8) -> bool
+    requires { i < 64 }
+    ensures { result ≡ has_bit word i }
+{
+    word >> i & 1 == 1
+}
+
+/// Whether a player's bit is set and it isn't the own player.
+fn is_other(word: u64, slot: u8, own: u8) -> bool
+    requires { slot < 64 }
+    ensures { result ≡ (has_bit word slot && not (slot == own)) }
+{
+    is_set(word, slot) && slot != own
+}
+
+/// Whether a node is one of two.
+fn is_either(node: u8, a: u8, b: u8) -> bool
+    ensures { result ≡ ((node == a) || (node == b)) }
+{
+    node == a || node == b
+}
+
+/// The numbers below `n` whose bit is set, rising.
+pub fn bits_below(word: u64, n: u8) -> NodeList
+    requires { n ≤ 31 }
+    ensures numbers { result.items ≡ filter (has_bit word) (range_with_len 0 n) }
+    ensures few { length result.items ≤ n }
+{
+    let mut numbers = ArrayVec::new();
+    for i in 0..n {
+        if is_set(word, i) {
+            numbers.push(i);
+        }
+    }
+    numbers
+}
+
+/// The nodes of these leaves, bit i for leaf i, rising.
+pub fn leaf_nodes(leaves: u64) -> NodeList
+    ensures nodes { result.items ≡ map (leaf_node 4) (filter (has_bit leaves) (range_with_len 0 16)) }
+    ensures few { length result.items ≤ 16 }
+{
+    let mut nodes = ArrayVec::new();
+    for leaf in 0..16u8 {
+        if is_set(leaves, leaf) {
+            nodes.push(15 + leaf);
+        }
+    }
+    nodes
+}
+
+/// The inner ones among two nodes, rising, without repeats.
+pub fn inner_among(a: u8, b: u8) -> NodeList
+    ensures { result.items ≡ filter (λ node. (node == a) || (node == b)) (range_with_len 0 15) }
+{
+    let mut nodes = ArrayVec::new();
+    for node in 0..15u8 {
+        if is_either(node, a, b) {
+            nodes.push(node);
+        }
+    }
+    nodes
+}
+
+/// The players of a list word but one, in rising slot.
+pub fn players_of(word: u64, own: u8) -> SlotList
+    ensures { result.items ≡ players_in word own }
+{
+    let mut players = ArrayVec::new();
+    for slot in 0..64u8 {
+        if is_other(word, slot, own) {
+            players.push(slot);
+        }
+    }
+    players
+}
+
+/// One list of nodes after another.
+pub fn joined(front: NodeList, back: &NodeList) -> NodeList
+    requires { length front.items + length back.now.items ≤ 31 }
+    ensures { result.items ≡ front.items ++ back.now.items }
+{
+    let mut nodes = front;
+    let _ = nodes.try_extend_from_slice(back.as_slice());
+    nodes
+}
+
+/// The leaves of these nodes, bit i for leaf i.
+pub fn leaf_word(nodes: &[u8]) -> u64
+    requires nodes { All (λ n. n < 31) nodes.now }
+    requires few { length nodes.now ≤ 31 }
+    ensures word { result ≡ bits_of_leaves (map (λ n. n - 15) nodes.now) }
+    ensures small { result ≤ 32768 * length nodes.now }
+{
+    let mut word = 0;
+    for node in nodes {
+        word += 1 << node.saturating_sub(15);
+    }
+    word
+}
+
+/// The list of one node.
+pub fn one(node: u8) -> NodeList
+    ensures { result.items ≡ node ∷ [] }
+{
+    let mut nodes = ArrayVec::new();
+    nodes.push(node);
+    nodes
+}
+
+/// Takes the first out, if there is one.
+pub fn drop_first(nodes: &mut NodeList)
+    ensures { nodes.new.items ≡ rest_of nodes.old.items }
+{
+    if !nodes.is_empty() {
+        nodes.remove(0);
+    }
+}
+
+/// All nodes but the first.
+pub fn without_first(nodes: &NodeList) -> NodeList
+    ensures { result.items ≡ rest_of nodes.now.items }
+{
+    let mut rest = copied(nodes);
+    drop_first(&mut rest);
+    rest
+}
+
+/// The nodes, with one more at the end.
+pub fn with_last(nodes: &NodeList, node: u8) -> NodeList
+    requires { length nodes.now.items < 31 }
+    ensures { result.items ≡ nodes.now.items ++ node ∷ [] }
+{
+    let mut more = copied(nodes);
+    more.push(node);
+    more
+}
+
+/// The words, with one more at the end.
+pub fn with_word(words: &WordList, word: u64) -> WordList
+    requires { length words.now.items < 6 }
+    ensures { result.items ≡ words.now.items ++ word ∷ [] }
+{
+    let mut more = same_words(words.as_slice());
+    more.push(word);
+    more
+}
+
+/// A list of words once more.
+pub fn same_words(words: &[u64]) -> WordList
+    requires { length words.now ≤ 6 }
+    ensures { result.items ≡ words.now }
+{
+    let mut copy = ArrayVec::new();
+    let _ = copy.try_extend_from_slice(words);
+    copy
+}
+
+/// All ids but the first.
+pub fn without_first_id(ids: &IdList) -> IdList
+    ensures { result.items ≡ drop 1 ids.now.items }
+{
+    let mut rest = ArrayVec::new();
+    let _ = rest.try_extend_from_slice(ids.as_slice().get(1..).unwrap_or(&[]));
+    rest
+}
+
+/// All stores but the first.
+pub fn without_first_store(stores: &StoreList) -> StoreList
+    ensures { result.items ≡ drop 1 stores.now.items }
+{
+    let mut rest = ArrayVec::new();
+    let _ = rest.try_extend_from_slice(stores.as_slice().get(1..).unwrap_or(&[]));
+    rest
+}

@@ -1,0 +1,157 @@
+ghost use Rattle.std.specs.Prelude.{◌≡◌, ◌≤◌, ◌↔◌, ◌==◌, not, filter, length, IsSome, IfSome};
+ghost use Rattle.core_machine.specs.declared.seat.PlayerRead.{PlayerRead};
+
+use crate::lists::{copied, players_of};
+use crate::plan::sensing;
+use crate::point::{IdList, NodeList, Point, SlotList, WordList};
+use crate::rules::Rules;
+use crate::seat::{ListRead, PlayerRead, Seat};
+use arrayvec::ArrayVec;
+use entity_recs::{Action, Cmd, NewState};
+
+/// These words, where they are six.
+fn whole(words: &[u64]) -> Option<[u64; 6]>
+    ensures whole { IsSome result ↔ (length words.now ≡ 6) }
+    ensures words { IfSome result (λ six. six ≡ words.now) }
+{
+    let &[a, b, c, d, e, f] = words else {
+        return None;
+    };
+    Some([a, b, c, d, e, f])
+}
+
+/// What was loaded of the players but this one.
+fn others_than(others: &[PlayerRead], slot: u8) -> ArrayVec<PlayerRead, 64>
+    requires { length others.now ≤ 64 }
+    ensures { result.items ≡ filter (λ (r : PlayerRead). not (r.slot == slot)) others.now }
+{
+    let mut kept = ArrayVec::new();
+    for read in others {
+        if read.slot != slot {
+            kept.push(*read);
+        }
+    }
+    kept
+}
+
+impl Seat {
+    ghost use Rattle.std.specs.Prelude.{◌≡◌, ◌<◌, ◌∷◌, [], ◌++◌, ◌==◌, ℕ, List, not, filter, length, slice_index};
+    ghost use Rattle.entity_recs.specs.Commands.{command_of};
+    ghost use Rattle.entity_recs.specs.Actions.{HasPlayer, IsCommand};
+    ghost use Rattle.core_steps.specs.Views as views;
+    ghost use Rattle.core_steps.specs.Views.{record_read, leaf_nodes, region_in};
+    ghost use Rattle.core_steps.specs.Steps as steps;
+    ghost use Rattle.core_machine.specs.declared.seat.PlayerRead.{PlayerRead};
+    ghost use Rattle.core_machine.specs.Seats.{view_of, hand_of};
+    ghost use Rattle.core_machine.specs.Shown.{fixed_of};
+
+    /// The command enters the view with the first word of the own record.
+    pub fn begin(&mut self, cmd: Cmd, word: u64)
+        ensures { view_of self.new ≡ steps.view_after_begin (command_of cmd) word (view_of self.old) }
+    {
+        self.cmd = Some(cmd);
+        self.own.clear();
+        self.own.push(word);
+        self.point = Point::Owning;
+    }
+
+    /// The leaves of the own record, which is loaded whole, are wanted.
+    fn want_leaves<A: Action>(&mut self, rules: &Rules<A>)
+        requires { HasPlayer (A.takes rules.now.action) (record_read (hand_of self.old.cmd).slot self.old.own.items) (hand_of self.old.cmd) }
+        ensures { let leaves = leaf_nodes (fixed_of A.takes A.region_of A.effect_of rules.now) (region_in (fixed_of A.takes A.region_of A.effect_of rules.now) (hand_of self.old.cmd) self.old.own.items) in
+            view_of self.new ≡ record (view_of self.old) { wanted = leaves; point = views.Taking [] leaves } }
+    {
+        let region = rules.region(&self.hand(), self.own.as_slice());
+        self.wanted = rules.leaves(&region);
+        self.point = Point::Taking {
+            got: ArrayVec::new(),
+            rest: copied(&self.wanted),
+        };
+    }
+
+    /// One more word of the own record was loaded.
+    pub fn load_own<A: Action>(&mut self, rules: &Rules<A>, word: u64)
+        requires part { length self.old.own.items < 6 }
+        requires player { length self.old.own.items ≡ 5 → HasPlayer (A.takes rules.now.action)
+            (record_read (hand_of self.old.cmd).slot (self.old.own.items ++ word ∷ [])) (hand_of self.old.cmd) }
+        ensures { view_of self.new ≡ steps.view_after_own (fixed_of A.takes A.region_of A.effect_of rules.now) word (view_of self.old) }
+    {
+        self.own.push(word);
+        if self.own.len() == 6 {
+            self.want_leaves(rules);
+        }
+    }
+
+    /// One more word of the own record was loaded again.
+    pub fn load_again<A: Action>(&mut self, rules: &Rules<A>, word: u64)
+        requires part { length self.old.again.items < 6 }
+        requires player { HasPlayer (A.takes rules.now.action) (record_read (hand_of self.old.cmd).slot self.old.own.items) (hand_of self.old.cmd) }
+        ensures { view_of self.new ≡ steps.view_after_again (fixed_of A.takes A.region_of A.effect_of rules.now) word (view_of self.old) }
+    {
+        self.again.push(word);
+        if self.again.len() == 6 {
+            let region = rules.region(&self.hand(), self.own.as_slice());
+            self.point = self.visiting(rules, rules.plan(&region));
+        }
+    }
+
+    /// The list word of the entered node was loaded.
+    pub fn load_list<A: Action>(&mut self, rules: &Rules<A>, node: u8, plan: NodeList, word: u64)
+        requires room { length self.old.lists.items < 31 }
+        requires player { HasPlayer (A.takes rules.now.action) (record_read (hand_of self.old.cmd).slot self.old.own.items) (hand_of self.old.cmd) }
+        ensures { view_of self.new
+            ≡ steps.view_after_list (fixed_of A.takes A.region_of A.effect_of rules.now) node plan.items word (view_of self.old) }
+    {
+        let players = players_of(word, self.hand().slot);
+        self.point = self.loading(rules, node, players, plan);
+        self.lists.insert(0, ListRead { node, word });
+    }
+
+    /// A further word of the first of these players was loaded under the node; `part` is what was loaded of it, that word
+    /// last. Once it is whole, what was loaded of the player earlier is dropped.
+    pub fn load_player<A: Action>(
+        &mut self,
+        rules: &Rules<A>,
+        node: u8,
+        part: WordList,
+        mut players: SlotList,
+        plan: NodeList,
+    )
+        requires room { length (filter (λ (r : PlayerRead). not (r.slot == slice_index players.items 0)) self.old.others.items) < 64 }
+        requires some { 0 < length players.items }
+        requires player { HasPlayer (A.takes rules.now.action) (record_read (hand_of self.old.cmd).slot self.old.own.items) (hand_of self.old.cmd) }
+        ensures { (slot : ℕ) (rest : List ℕ) → players.items ≡ slot ∷ rest → view_of self.new
+            ≡ steps.player_loaded (fixed_of A.takes A.region_of A.effect_of rules.now) node part.items slot rest plan.items (view_of self.old) }
+    {
+        if let Some(words) = whole(part.as_slice()) {
+            let slot = players.remove(0);
+            self.point = self.loading(rules, node, players, plan);
+            self.drop_player(slot);
+            self.others.insert(0, PlayerRead { slot, words });
+        } else {
+            self.point = Point::Loading {
+                node,
+                part,
+                players,
+                plan,
+            };
+        }
+    }
+
+    /// What was loaded of a player is dropped.
+    fn drop_player(&mut self, slot: u8)
+        ensures view { view_of self.new ≡ record (view_of self.old) { others = views.without_player slot (view_of self.old).others } }
+        ensures reads { self.new.others.items ≡ filter (λ (r : PlayerRead). not (r.slot == slot)) self.old.others.items }
+    {
+        self.others = others_than(self.others.as_slice(), slot);
+    }
+
+    /// The state of the first of these things was loaded.
+    pub fn load_state(&mut self, id: u16, ids: IdList, word: u64)
+        requires { length self.old.states.items < 256 }
+        ensures { view_of self.new ≡ steps.view_after_state id word ids.items (view_of self.old) }
+    {
+        self.states.insert(0, NewState { id, state: word });
+        self.point = sensing(ids);
+    }
+}

@@ -1,0 +1,57 @@
+use entity_recs::{Cmd, Entry};
+use std::alloc::{AllocError, Global};
+use std::marker::Model;
+
+/// The commands that a seat has committed, with their entries, and the room for as many as it may commit.
+#[derive(Drop)]
+pub struct Log {
+    room: u32,
+    commands: Vec<Cmd>,
+    entries: Vec<Entry>,
+}
+
+impl Model for Log {
+    ghost use Rattle.core_machine.specs.Logs.{LogView};
+
+    ghost Value = { LogView };
+
+    ghost use Rattle.std.specs.Prelude.{vec_capacity};
+    ghost use Rattle.core_machine.specs.Logs.{items_of, IsLog};
+
+    ghost view = { λ l. record { room = l.room; items = items_of l.commands.items l.entries.items } };
+
+    ghost invariant = { λ l. IsLog l.room (vec_capacity l.commands) (vec_capacity l.entries) l.commands.items l.entries.items };
+}
+
+impl Log {
+    ghost use Rattle.std.specs.Prelude.{◌≡◌, ◌<◌, [], ◌∷◌, ◌++◌, map, length, IfOk, vec_capacity};
+    ghost use Rattle.entity_recs.specs.Commands.{command_of};
+    ghost use Rattle.core_machine.specs.Logs.{entries_of};
+
+    /// No command, with room for this many.
+    pub fn new(alloc: Global, room: u32) -> Result<Log, AllocError>
+        ensures { IfOk result (λ l. l ≡ record { room = room; items = [] }) }
+    {
+        Ok(Log {
+            room,
+            commands: Vec::with_capacity(alloc, room as usize)?,
+            entries: Vec::with_capacity(alloc, room as usize)?,
+        })
+    }
+
+    /// The entries, in the order in which the commands were committed.
+    pub fn entries(&self) -> &[Entry]
+        ensures { result.now ≡ entries_of self.now.items }
+    {
+        self.entries.as_slice()
+    }
+
+    /// Puts a command last, with its entry. It takes no memory.
+    pub fn push(&mut self, cmd: Cmd, entry: Entry)
+        requires { length self.old.items < self.old.room }
+        ensures { self.new ≡ record self.old { items = self.old.items ++ record { command = command_of cmd; entry = entry } ∷ [] } }
+    {
+        self.commands.push_reserved(cmd);
+        self.entries.push_reserved(entry);
+    }
+}

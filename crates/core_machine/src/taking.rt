@@ -1,0 +1,21 @@
+use crate::lists::{copied, same_words};
+use crate::seat::{Refused, Seat};
+
+impl Seat {
+    ghost use Rattle.std.specs.Prelude.{◌≡◌};
+    ghost use Rattle.core_steps.specs.Steps.{view_after_refusal};
+    ghost use Rattle.core_machine.specs.Seats.{view_of};
+
+    /// A take of this node was refused, where this word was found.
+    pub fn refuse(&mut self, node: u8, word: u64)
+        ensures { view_of self.new ≡ view_after_refusal node word (view_of self.old) }
+    {
+        self.refusals = self.refusals.saturating_add(1);
+        self.refused = Some(Refused {
+            node,
+            word,
+            own: same_words(self.own.as_slice()),
+            wanted: copied(&self.wanted),
+        });
+    }
+}

@@ -1,0 +1,63 @@
+use crate::{Cell, Seat, Store, Words};
+use areanode::NODES;
+use arena_geo::Vec3;
+use core_steps::encode;
+use entity_recs::{Cmd, Kind, PLAYER_MAXS, PLAYER_MINS, Rec};
+use std::test::Fail;
+
+/// The second near player of the worked rows.
+const PLAYER: Rec = Rec {
+    id: 1,
+    kind: Kind::Player,
+    origin: Vec3 {
+        x: 85_504,
+        y: 98_304,
+        z: 6_144,
+    },
+    mins: PLAYER_MINS,
+    maxs: PLAYER_MAXS,
+    vel: Vec3::ZERO,
+    flags: 0,
+    ammo: 0,
+    carry: 0,
+    score: 0,
+    seq: 0,
+    state: 0,
+};
+
+/// A command of 50 ms without a wish.
+const PLAIN: Cmd = Cmd {
+    slot: 1,
+    seq: 1,
+    frame: 0,
+    ms: 50,
+    wish_x: 0,
+    wish_y: 0,
+    buttons: 0,
+};
+
+#[test]
+fn first_word_of_the_own_record_is_loaded(rt: HostRuntime) -> Result<(), Fail> {
+    let mut words = Words {
+        commits: 0,
+        node: [0; NODES],
+        links: [0; NODES],
+        body: [[0; 5]; 64],
+        state: [0; 256],
+    };
+    let body = encode(&PLAYER);
+    words.set_cell(Cell::Body(1, 0), body[0]);
+    words.make_store(Store::Link(15), 1);
+    assert_eq!(rt; words.links[15], 2);
+    words.make_store(Store::Clear(15), 1);
+    assert_eq!(rt; words.links[15], 0);
+    let mut seat = Seat::new(rt.alloc(), 1, 1)?;
+    seat.begin(PLAIN, words.of_player(1, 0));
+    assert_eq!(rt; seat.own.as_slice(), [422_212_465_151_488].as_slice());
+    assert_eq!(rt; seat.cmd, Some(PLAIN));
+    seat.refuse(15, 257);
+    assert_eq!(rt; seat.refusals, 1);
+    seat.forget();
+    assert_eq!(rt; seat.cmd, None);
+    Ok(())
+}

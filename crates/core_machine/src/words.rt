@@ -1,0 +1,103 @@
+ghost use Rattle.std.specs.Prelude.{◌≡◌, ◌<◌, length, slice_set};
+ghost use Rattle.core_steps.specs.Cells as cells;
+ghost use Rattle.core_steps.specs.Cells.{put, word_in, with_word, cell_of, with_bit, without_bit};
+ghost use Rattle.core_machine.specs.Tables.{words_in, cell_in, IsCellOf};
+ghost use Rattle.core_steps.specs.Steps.{words_after_store};
+ghost use Rattle.core_machine.specs.Points.{store_of, IsStoreOf};
+
+use crate::point::{Cell, Store};
+use areanode::NODES;
+use core_steps::PlayerWords;
+
+/// The shared words: the count of commits, each node's word, each node's list word, each player's five words, and each
+/// entity's state word.
+#[derive(Drop)]
+pub struct Words {
+    pub commits: u64,
+    pub node: [u64; NODES],
+    pub links: [u64; NODES],
+    pub body: [PlayerWords; 64],
+    pub state: [u64; 256],
+}
+
+/// A player's five words with another word at one place.
+fn with_word_at(mut row: PlayerWords, k: u8, word: u64) -> PlayerWords
+    requires { k < 5 }
+    ensures value { result ≡ slice_set row k word }
+    ensures five { length row ≡ 5 }
+{
+    row[usize::from(k)] = word;
+    row
+}
+
+impl Words {
+    /// The `k`-th of the six words of the player in this slot: its five words, and after them its state word.
+    pub fn of_player(&self, slot: u8, k: usize) -> u64
+        requires { slot < 64 }
+        ensures { (beyond : cells.Words) → result ≡ word_in (words_in self.now beyond) (cell_of slot k) }
+    {
+        if k < 5 {
+            self.body[usize::from(slot)][k]
+        } else {
+            self.state[usize::from(slot)]
+        }
+    }
+
+    /// Stores a node's word.
+    pub fn set_node(&mut self, node: u8, word: u64)
+        requires { node < 31 }
+        ensures { (beyond : cells.Words) → words_in self.new beyond
+            ≡ record (words_in self.old beyond) { node = put node word (words_in self.old beyond).node } }
+    {
+        self.node[usize::from(node)] = word;
+    }
+
+    /// Stores a word of a record.
+    pub fn set_cell(&mut self, cell: Cell, word: u64)
+        requires { IsCellOf cell }
+        ensures { (beyond : cells.Words) → words_in self.new beyond ≡ with_word (words_in self.old beyond) (cell_in cell) word }
+    {
+        match cell {
+            Cell::Body(slot, k) => {
+                let player = usize::from(slot);
+                self.body[player] = with_word_at(self.body[player], k, word);
+            }
+            Cell::State(id) => self.state[usize::from(id)] = word,
+        }
+    }
+
+    /// Sets the player's bit in the list word of a node.
+    pub fn link(&mut self, node: u8, slot: u8)
+        requires node { node < 31 }
+        requires slot { slot < 64 }
+        ensures { (beyond : cells.Words) → words_in self.new beyond ≡ record (words_in self.old beyond)
+            { links = put node (with_bit ((words_in self.old beyond).links node) slot) (words_in self.old beyond).links } }
+    {
+        let word = self.links[usize::from(node)];
+        self.links[usize::from(node)] = word | 1 << slot;
+    }
+
+    /// Clears the player's bit in the list word of a node.
+    pub fn unlink(&mut self, node: u8, slot: u8)
+        requires node { node < 31 }
+        requires slot { slot < 64 }
+        ensures { (beyond : cells.Words) → words_in self.new beyond ≡ record (words_in self.old beyond)
+            { links = put node (without_bit ((words_in self.old beyond).links node) slot) (words_in self.old beyond).links } }
+    {
+        let word = self.links[usize::from(node)];
+        self.links[usize::from(node)] = word & !(1 << slot);
+    }
+
+    /// Makes a store that the player in this slot owes.
+    pub fn make_store(&mut self, store: Store, slot: u8)
+        requires store { IsStoreOf store }
+        requires slot { slot < 64 }
+        ensures { (beyond : cells.Words) → words_in self.new beyond ≡ words_after_store slot (store_of store) (words_in self.old beyond) }
+    {
+        match store {
+            Store::Clear(node) => self.unlink(node, slot),
+            Store::Put(cell, word) => self.set_cell(cell, word),
+            Store::Link(node) => self.link(node, slot),
+        }
+    }
+}
