@@ -21,8 +21,7 @@ pub record Writes (old new : Option (List ℕ)) (P : List ℕ → Type 0) : Type
   pub holds : P text
 
 -- lines with their line feeds and the front of one more were taken from the source, which the recording still goes on
--- to,
--- and the frames are written that those lines close: the front closes none, also where it reads `end`
+-- to, and the frames are written that those lines close: the front closes none, also where it reads `end`
 pub record ReadsSome (workers : ℕ) (old new : Option (List ℕ)) (taken_before taken : Option (List ℕ)) : Type 0 where
   pub lines : List (List ℕ)
   pub front : List ℕ
@@ -34,11 +33,9 @@ pub record ReadsSome (workers : ℕ) (old new : Option (List ℕ)) (taken_before
   pub frames : Writes taken_before taken (IsAllFrames workers (unlines lines))
 
 -- the lines of a recording were taken from the source up to its line `end`, each with its line feed, but for an `end`
--- that
--- the input ends with. No more was read than the last read had to give and the input's end wasn't given in this call
--- (same_end), or such an `end` without a line feed was taken, and the input's end was given (at_end). old, new and last
--- are
--- the source before and after, and how many bytes its last read gave
+-- that the input ends with. No more was read than the last read had to give and the input's end wasn't given in this
+-- call (same_end), or such an `end` without a line feed was taken, and the input's end was given (at_end). old, new and
+-- last are the source before and after, and how many bytes its last read gave
 pub record ReadsToEnd {S : Type 0} (old new : S) (last : ℕ) (same_end at_end : Type 0)
     (left_before left : Option (List ℕ)) : Type 0 where
   pub lines : List (List ℕ)
@@ -53,10 +50,8 @@ pub record ReadsToEnd {S : Type 0} (old new : S) (last : ℕ) (same_end at_end :
       ⊎ (TakesCutEnd left_before (ahead buffered left) × at_end)
 
 -- lines were taken from the source that the recording goes on after, and then what is refused: a line or the front of
--- one,
--- where no more was read than the last read had to give and the input's end wasn't given in this call (same_end), or
--- what
--- the input ended with (at_end)
+-- one, where no more was read than the last read had to give and the input's end wasn't given in this call (same_end),
+-- or what the input ended with (at_end)
 pub record ReadsToRefusal {S : Type 0} (old new : S) (last : ℕ) (same_end at_end : Type 0)
     (left_before left : Option (List ℕ)) : Type 0 where
   pub lines : List (List ℕ)

@@ -56,8 +56,7 @@ abbrev pub IsAllFrames : ℕ → List ℕ → List ℕ → Type 0
 IsAllFrames workers bytes text = IsFront workers bytes (length (frames_of bytes)) text
 
 -- a front of the text of k frames, but not all of it, in which all frames but the last are whole; the frames' journals
--- are
--- right, and with one worker in the order of arrival, and the whole frames spell theirs
+-- are right, and with one worker in the order of arrival, and the whole frames spell theirs
 pub record IsPart (workers : ℕ) (bytes : List ℕ) (k : ℕ) (whole_with : List (List Entry)
     → List ℕ) (text : List ℕ) : Type 0 where
   pub frames : k ≤ length (frames_of bytes)

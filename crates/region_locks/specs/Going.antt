@@ -61,8 +61,7 @@ next_asked F view given quits =
     if quits then Some (quitting (first_yield F view)) else next_at F view given view.point
 
 -- a seat that lives may go on with this step: it comes next, a command that was given may be begun, and is of a slot
--- that
--- the seat serves, and giving up begins at a take
+-- that the seat serves, and giving up begins at a take
 pub record MayGo (F : Fixed) (passes number : ℕ) (view : View) (given : Option Command) (quits : Bool) (next : Next) :
     Type 0 where
   pub lives : view.live ≡ true
