@@ -1,8 +1,22 @@
+ghost use Rattle.std.specs.Prelude.{◌≡◌, IfSome, IsSome};
+ghost use Rattle.world_tree.specs.Live.{live_in};
+ghost use Rattle.world_tree.specs.Worlds.{record_of};
+ghost use Rattle.snapshot_write.specs.Snapshots.{snapshot};
+
 use crate::slots::MOST_SLOTS;
 use snapshot_write::{ReplyBuf, write_snapshot};
 use std::alloc::{AllocError, Global};
 use std::marker::Model;
 use world_tree::World;
+
+/// Puts the snapshot of the player in this slot into a buffer, in place of what is in it. It takes no memory.
+fn write_anew(world: &World, frame: u32, slot: u8, reply: &mut ReplyBuf)
+    requires live { IsSome (record_of world.now slot) }
+    ensures { IfSome (record_of world.now slot) (λ me. reply.new ≡ snapshot frame me (live_in world.now.records)) }
+{
+    reply.clear();
+    write_snapshot(world, frame, slot, reply);
+}
 
 /// A list of at most [`MOST_SLOTS`] replies, each the bytes of a snapshot. It has the room for all of them from the start.
 #[derive(Drop)]
@@ -52,9 +66,7 @@ impl ReplyList {
         requires room { length self.old < 64 }
         ensures { IfSome (record_of world.now slot) (λ me. self.new ≡ self.old ++ snapshot frame me (live_in world.now.records) ∷ []) }
     {
-        let reply = &mut self.replies[self.len];
-        reply.clear();
-        write_snapshot(world, frame, slot, reply);
+        write_anew(world, frame, slot, &mut self.replies[self.len]);
         self.len += 1;
     }
 
