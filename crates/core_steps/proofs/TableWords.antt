@@ -108,7 +108,7 @@ next_found nodes words view YieldCount is = count_found nodes words
 
 -- ---- the numbers of what comes next
 
-slot_cell : (slot k : ℕ) → slot < 64 → k < 6 → CellIsIn (cell_of slot k)
+pub slot_cell : (slot k : ℕ) → slot < 64 → k < 6 → CellIsIn (cell_of slot k)
 slot_cell slot k below six =
     elim (cases_Bool (nat_lt k 5)) [
       | inl low ↦ subst CellIsIn (sym (cond-true (nat_lt k 5) (Body slot k) (State slot) low)) (record { slot_below = below; word_below = ltb-true k 5 low })
@@ -116,16 +116,16 @@ slot_cell slot k below six =
     ]
 
 -- leaves come after inner nodes
-nodes_sum : (F : Fixed) → inner_nodes F + 2 ^ F.tree.depth ≤ nodes_of F
+pub nodes_sum : (F : Fixed) → inner_nodes F + 2 ^ F.tree.depth ≤ nodes_of F
 nodes_sum F = let twice : 2 ^ (F.tree.depth + 1) ≡ 2 ^ F.tree.depth * 2 = rw add-one (pow-suc 2 F.tree.depth) in omega arith
 
-inner_in : (F : Fixed) (node : ℕ) → is_leaf F node ≡ false → node < nodes_of F
+pub inner_in : (F : Fixed) (node : ℕ) → is_leaf F node ≡ false → node < nodes_of F
 inner_in F node inner = let below = leb-false (inner_nodes F) node inner in let sum = nodes_sum F in omega arith
 
-home_in : (F : Fixed) (r : Rec) → home F r < nodes_of F
+pub home_in : (F : Fixed) (r : Rec) → home F r < nodes_of F
 home_in F r = let range = node_is_in_range F.tree (abs_of r) in omega arith
 
-planned_in : (F : Fixed) (region : List Bounds) (node : ℕ) → has (plan_of F region) node ≡ true → node < nodes_of F
+pub planned_in : (F : Fixed) (region : List Bounds) (node : ℕ) → has (plan_of F region) node ≡ true → node < nodes_of F
 planned_in F region node planned =
     let sum = nodes_sum F in
     elim (or_cases (has (leaf_nodes F region) node) (has (inner_visited F region) node) (sym (has_append (leaf_nodes F region) (inner_visited F region) node) ∙ planned)) [
@@ -136,7 +136,7 @@ planned_in F region node planned =
           omega (arith, range.most)
     ]
 
-id_in : (kind : Kind) (id : ℕ) → IsIdOf kind id → id < 256
+pub id_in : (kind : Kind) (id : ℕ) → IsIdOf kind id → id < 256
 id_in Player id is = omega arith
 id_in Ammo id is = omega (arith, is.most)
 id_in Gem id is = omega (arith, is.most)
@@ -144,7 +144,7 @@ id_in Teleporter id is = omega (arith, is.most)
 id_in Goal id is = omega (arith, is.most)
 id_in Lift id is = omega (arith, is.most)
 
-live_in : (F : Fixed) (id : ℕ) → IsLawful F → IsStart F → has F.start.ids id ≡ true → id < 256
+pub live_in : (F : Fixed) (id : ℕ) → IsLawful F → IsStart F → has F.start.ids id ≡ true → id < 256
 live_in F id lawful start live =
     let world = start_world F start in
     let r = F.start.record_of id in
@@ -157,11 +157,11 @@ abbrev StoresAreIn : ℕ → List Store → Type 0
 StoresAreIn nodes [] = Unit {0}
 StoresAreIn nodes (store ∷ stores) = StoreIsIn nodes store × StoresAreIn nodes stores
 
-stores_append : (nodes : ℕ) (xs ys : List Store) → StoresAreIn nodes xs → StoresAreIn nodes ys → StoresAreIn nodes (xs ++ ys)
+pub stores_append : (nodes : ℕ) (xs ys : List Store) → StoresAreIn nodes xs → StoresAreIn nodes ys → StoresAreIn nodes (xs ++ ys)
 stores_append nodes [] ys a b = b
 stores_append nodes (x ∷ xs) ys a b = (a.0, stores_append nodes xs ys a.1 b)
 
-stores_end : (nodes : ℕ) (xs ys : List Store) → StoresAreIn nodes (xs ++ ys) → StoresAreIn nodes ys
+pub stores_end : (nodes : ℕ) (xs ys : List Store) → StoresAreIn nodes (xs ++ ys) → StoresAreIn nodes ys
 stores_end nodes [] ys a = a
 stores_end nodes (x ∷ xs) ys a = stores_end nodes xs ys a.1
 
@@ -174,7 +174,7 @@ states_in nodes [] all = tt
 states_in nodes (s ∷ states) all = (all.0, states_in nodes states all.1)
 
 -- the stores of an effect that a seat owes
-owed_in : (F : Fixed) (slot old : ℕ) (e : Effect) → slot < 64 → old < nodes_of F → ((id : ℕ) → is_some (state_at e.states id) ≡ true → id < 256) → StoresAreIn (nodes_of F) (stores_of F slot old e)
+pub owed_in : (F : Fixed) (slot old : ℕ) (e : Effect) → slot < 64 → old < nodes_of F → ((id : ℕ) → is_some (state_at e.states id) ≡ true → id < 256) → StoresAreIn (nodes_of F) (stores_of F slot old e)
 owed_in F slot old e below node listed = (
   node,
   stores_append (nodes_of F) (body_stores slot 0 (words_of e.me)) (Put (State slot) e.me.state ∷ (map (λ (s : NewState). Put (State s.id) s.state) e.states ++ (Link (home F e.me) ∷ [])))

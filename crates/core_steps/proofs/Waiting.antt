@@ -50,7 +50,7 @@ below_next (x ∷ xs) y ys v is there =
       | inr rest ↦ below_next xs y ys v is.1 rest
     ]
 
-leaf_nodes_rise : (F : Fixed) (region : List Bounds) → Rises (leaf_nodes F region)
+pub leaf_nodes_rise : (F : Fixed) (region : List Bounds) → Rises (leaf_nodes F region)
 leaf_nodes_rise F region =
     rises_shifted (2 ^ F.tree.depth - 1) (filter (has_bit (leaves_of F.tree region)) (range_with_len 0 (2 ^ F.tree.depth)))
     (rises_filter (has_bit (leaves_of F.tree region)) (range_with_len 0 (2 ^ F.tree.depth)) (rises_range 0 (2 ^ F.tree.depth)))
@@ -86,9 +86,9 @@ leaf_first F leaf node is below inner =
     rw (a, b) (omega arith)
 
 -- the place of each node that is held comes before that of the node that is taken next, and that one is in range
-record ComesNext (F : Fixed) (point : Point) (wanted : List ℕ) (node : ℕ) : Type 0 where
-  before : (v : ℕ) → holds F point wanted v ≡ true → place_of F v < place_of F node
-  most : place_of F node < 2 ^ F.tree.depth + inner_nodes F
+pub record ComesNext (F : Fixed) (point : Point) (wanted : List ℕ) (node : ℕ) : Type 0 where
+  pub before : (v : ℕ) → holds F point wanted v ≡ true → place_of F v < place_of F node
+  pub most : place_of F node < 2 ^ F.tree.depth + inner_nodes F
 
 inner_most : (F : Fixed) (node : ℕ) → is_leaf F node ≡ false → place_of F node < 2 ^ F.tree.depth + inner_nodes F
 inner_most F node inner =
@@ -106,7 +106,7 @@ pub first_there : (nodes : List ℕ) (node : ℕ) → first nodes ≡ Some node 
 first_there [] node e = cc
 first_there (n ∷ nodes) node e = let same : n ≡ node = cc in or_left _ _ (eq-eqb n node same)
 
-comes_next : (F : Fixed) (core : Core) (history : List Item) (now : World) (j node : ℕ) (point : Point) → Stands F core history now → (core.view j).point ≡ point
+pub comes_next : (F : Fixed) (core : Core) (history : List Item) (now : World) (j node : ℕ) (point : Point) → Stands F core history now → (core.view j).point ≡ point
     → next_node_at F (core.view j) point ≡ Some node → ComesNext F point (core.view j).wanted node
 comes_next F core history now j node Idle is e next = cc
 comes_next F core history now j node Owning is e next = cc
@@ -186,12 +186,12 @@ comes_next F core history now j node (Yielding nodes leaves) is e next = cc
 
 -- ---- the holder of a node
 
-record IsHeld (F : Fixed) (core : Core) (node : ℕ) : Type 0 where
-  holder : ℕ
-  held : holds F (core.view holder).point (core.view holder).wanted node ≡ true
+pub record IsHeld (F : Fixed) (core : Core) (node : ℕ) : Type 0 where
+  pub holder : ℕ
+  pub held : holds F (core.view holder).point (core.view holder).wanted node ≡ true
 
 -- a node is held by one of the first n seats, or by none of them
-holder_below : (F : Fixed) (core : Core) (node n : ℕ) → IsHeld F core node ⊎ ((j : ℕ) → j < n → holds F (core.view j).point (core.view j).wanted node ≡ false)
+pub holder_below : (F : Fixed) (core : Core) (node n : ℕ) → IsHeld F core node ⊎ ((j : ℕ) → j < n → holds F (core.view j).point (core.view j).wanted node ≡ false)
 holder_below F core node zero = inr (λ j below. absurd (omega arith))
 holder_below F core node (suc n) =
     elim (cases_Bool (holds F (core.view n).point (core.view n).wanted node)) [
@@ -227,7 +227,7 @@ holder_busy F (Returning leaves) wanted node held = refl
 holder_busy F (Yielding nodes leaves) wanted node held = refl
 
 -- what a seat holds, it holds as one of the numbers given out
-holder_is_below : (F : Fixed) (core : Core) (history : List Item) (now : World) (j node : ℕ) → Stands F core history now → holds F (core.view j).point (core.view j).wanted node ≡ true → j < (core.view 0).made
+pub holder_is_below : (F : Fixed) (core : Core) (history : List Item) (now : World) (j node : ℕ) → Stands F core history now → holds F (core.view j).point (core.view j).wanted node ≡ true → j < (core.view 0).made
 holder_is_below F core history now j node is held = is.numbers.live j (busy_lives core.view j is.numbers (holder_busy F (core.view j).point (core.view j).wanted node held))
 
 record IsSomeNode (o : Option ℕ) : Type 0 where
@@ -241,14 +241,14 @@ cases_Option None = inl refl
 cases_Option (Some node) = inr (record { node = node; is = refl })
 
 -- a seat that takes no node next doesn't wait
-takes_none : (F : Fixed) (core : Core) (j : ℕ) → next_node F (core.view j) ≡ None → Waits F core j → ⊥
+pub takes_none : (F : Fixed) (core : Core) (j : ℕ) → next_node F (core.view j) ≡ None → Waits F core j → ⊥
 takes_none F core j none waits = differ waits.node (sym none ∙ waits.next)
   where
     differ : (node : ℕ) → None ≡ Some node → ⊥
     differ node same = cc
 
 -- a seat whose next node is held by none of the numbers given out doesn't wait
-takes_free : (F : Fixed) (core : Core) (history : List Item) (now : World) (j node : ℕ) → Stands F core history now → next_node F (core.view j) ≡ Some node
+pub takes_free : (F : Fixed) (core : Core) (history : List Item) (now : World) (j node : ℕ) → Stands F core history now → next_node F (core.view j) ≡ Some node
     → ((k : ℕ) → k < (core.view 0).made → holds F (core.view k).point (core.view k).wanted node ≡ false) → Waits F core j → ⊥
 takes_free F core history now j node is next none waits =
     let same : waits.node ≡ node = same_node waits.node (sym waits.next ∙ next) in
