@@ -96,3 +96,14 @@ impl JournalList {
         Ok(())
     }
 }
+
+impl From<Vec<Journal>> for JournalList {
+    ghost use Rattle.std.specs.Prelude.{◌≡◌};
+
+    ghost from_gives = { λ journals list. list ≡ journals.items };
+
+    /// The journals of a vector, in its order. It takes no memory.
+    fn from(journals: Vec<Journal>) -> JournalList {
+        JournalList { journals }
+    }
+}
