@@ -20,9 +20,7 @@ items_of (c ∷ commands) (e ∷ entries) = record { command = command_of c; ent
 abbrev pub entries_of : List Item → List Entry
 entries_of = map (λ (item : Item). item.entry)
 
--- there are as many commands as entries, and room for as many as is said
-pub record IsLog (room room_of_commands room_of_entries : ℕ) (commands : List Cmd) (entries : List Entry) : Type 0
-  where
-    pub same : length commands ≡ length entries
-    pub commands_fit : room ≤ room_of_commands
-    pub entries_fit : room ≤ room_of_entries
+-- there are as many commands as entries, and room for as many commands as is said
+pub record IsLog (room room_of_commands : ℕ) (commands : List Cmd) (entries : List Entry) : Type 0 where
+  pub same : length commands ≡ length entries
+  pub commands_fit : room ≤ room_of_commands

@@ -1,5 +1,5 @@
 -- The words in the arrays of the code, as the shared words of the definitions.
-use Rattle.std.specs.Prelude.{ℕ, ◌<◌, nat_lt, ◌&&◌, if◌then◌else◌, List, [], slice_index_or}
+use Rattle.std.specs.Prelude.{ℕ, ◌-◌, ◌/◌, ◌%◌, ◌<◌, ◌==◌, nat_lt, ◌&&◌, if◌then◌else◌, List, [], slice_index_or}
 use Rattle.core_steps.specs.Cells as cells
 use Rattle.core_machine.specs.declared.words.Words.{Words}
 use Rattle.core_machine.specs.declared.point.Cell.{Cell}
@@ -38,3 +38,14 @@ pub record IsBodyCell (slot k : ℕ) : Type 0 where
 abbrev pub IsCellOf : Cell → Type 0
 IsCellOf (Body slot k) = IsBodyCell slot k
 IsCellOf (State id) = id < 256
+
+-- the words with another word at an index of the table of a tree with this many nodes
+abbrev pub with_word_at : ℕ → cells.Words → ℕ → ℕ → cells.Words
+with_word_at nodes words index x =
+    if index == 0 then record words { commits = x }
+    else (if nat_lt index (cells.links_index nodes 0) then record words { node = cells.put (index - 1) x words.node }
+    else (if nat_lt index (cells.body_index nodes 0) then record words
+    { links = cells.put (index - cells.links_index nodes 0) x words.links }
+    else (if nat_lt index (cells.state_index nodes 0) then cells.with_word words
+    (cells.Body ((index - cells.body_index nodes 0) / 5) ((index - cells.body_index nodes 0) % 5)) x
+    else cells.with_word words (cells.State (index - cells.state_index nodes 0)) x)))

@@ -6,6 +6,7 @@ ghost use Rattle.core_steps.specs.Views as views;
 ghost use Rattle.core_steps.specs.Views.{body_stores};
 ghost use Rattle.core_machine.specs.Points.{store_of};
 
+use crate::lists::{copied, without_first_store};
 use crate::plan::storing;
 use crate::point::{Cell, NodeList, Point, Store, StoreList};
 use crate::reading::read_record;
@@ -13,7 +14,7 @@ use crate::rules::Rules;
 use crate::seat::Seat;
 use arrayvec::ArrayVec;
 use core_steps::{PlayerWords, encode};
-use entity_recs::{Action, Effect, Entry, IdList, Rec, Reply};
+use entity_recs::{Action, Effect, Entry, IdList, Rec, Reply, StateList};
 
 /// A reply once more.
 fn same_reply(reply: &Reply) -> Reply
@@ -26,6 +27,21 @@ fn same_reply(reply: &Reply) -> Reply
     Reply {
         origin: reply.origin,
         got,
+    }
+}
+
+/// An effect once more.
+pub fn same_effect(effect: &Effect) -> Effect
+    ensures { result ≡ effect.now }
+{
+    let mut states = StateList::new();
+    for state in effect.states.as_slice() {
+        let _ = states.push(*state);
+    }
+    Effect {
+        me: effect.me,
+        states,
+        reply: same_reply(&effect.reply),
     }
 }
 
@@ -67,15 +83,16 @@ fn own_stores(slot: u8, old: u8, words: &PlayerWords, state: u64) -> StoreList
 }
 
 impl Seat {
-    ghost use Rattle.std.specs.Prelude.{◌≡◌, ◌+◌, ◌<◌, ◌^◌, map, length};
+    ghost use Rattle.std.specs.Prelude.{◌≡◌, ◌+◌, ◌<◌, ◌^◌, ◌∷◌, ℕ, List, Some, map, length};
     ghost use Rattle.entity_recs.specs.declared.effect.Effect.{Effect};
     ghost use Rattle.entity_recs.specs.Records.{IsRecord};
     ghost use Rattle.entity_recs.specs.Actions.{IsCommand};
+    ghost use Rattle.core_steps.specs.Views as views;
     ghost use Rattle.core_steps.specs.Views.{record_read};
     ghost use Rattle.core_steps.specs.Steps as steps;
     ghost use Rattle.core_machine.specs.Seats.{view_of, hand_of};
     ghost use Rattle.core_machine.specs.Shown.{fixed_of};
-    ghost use Rattle.core_machine.specs.Points.{store_of};
+    ghost use Rattle.core_machine.specs.Points.{point_of, store_of};
 
     /// The own record as it was loaded again.
     pub fn before(&self) -> Rec
@@ -121,5 +138,19 @@ impl Seat {
         ensures { view_of self.new ≡ record (view_of self.old) { point = steps.storing nodes.items (map store_of stores.items) } }
     {
         self.point = storing(nodes, stores);
+    }
+
+    /// The first of the stores that are left was made.
+    pub(crate) fn store_made(&mut self)
+        ensures { (nodes : List ℕ) (store : views.Store) (stores : List views.Store)
+            → point_of self.old.point ≡ views.Storing nodes (store ∷ stores)
+            → view_of self.new ≡ record (view_of self.old) { point = steps.storing nodes stores } }
+    {
+        let Point::Storing { nodes, stores } = &self.point else {
+            return;
+        };
+        let nodes = copied(nodes);
+        let stores = without_first_store(stores);
+        self.stored(nodes, stores);
     }
 }

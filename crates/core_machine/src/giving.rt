@@ -2,7 +2,7 @@ ghost use Rattle.std.specs.Prelude.{◌≡◌};
 ghost use Rattle.core_steps.specs.Views.{visited_node};
 ghost use Rattle.core_machine.specs.Shown.{fixed_of};
 
-use crate::lists::{copied, drop_first, one};
+use crate::lists::{copied, drop_first, one, without_first};
 use crate::point::{NodeList, Point};
 use crate::rules::Rules;
 use crate::seat::Seat;
@@ -21,10 +21,12 @@ fn visited_node<A: Action>(rules: &Rules<A>, node: u8) -> NodeList
 }
 
 impl Seat {
-    ghost use Rattle.std.specs.Prelude.{◌≡◌};
+    ghost use Rattle.std.specs.Prelude.{◌≡◌, ℕ, List};
+    ghost use Rattle.entity_recs.specs.Actions.{HasPlayer};
     ghost use Rattle.core_steps.specs.Steps as steps;
     ghost use Rattle.core_steps.specs.Views as views;
-    ghost use Rattle.core_machine.specs.Seats.{view_of};
+    ghost use Rattle.core_steps.specs.Views.{record_read};
+    ghost use Rattle.core_machine.specs.Seats.{view_of, hand_of};
     ghost use Rattle.core_machine.specs.Points.{point_of};
     ghost use Rattle.core_machine.specs.Shown.{fixed_of};
 
@@ -74,6 +76,37 @@ impl Seat {
             nodes.remove(0);
         }
         self.yielding(nodes, leaves);
+    }
+
+    /// The node that comes next was given back.
+    pub(crate) fn give_next<A: Action>(&mut self, rules: &Rules<A>)
+        requires { (node : ℕ) (plan : List ℕ) → point_of self.old.point ≡ views.Leaving node plan
+            → HasPlayer (A.takes rules.now.action)
+            (record_read (hand_of self.old.cmd).slot self.old.own.items) (hand_of self.old.cmd) }
+        ensures { view_of self.new
+            ≡ steps.view_after_give (fixed_of A.takes A.region_of A.effect_of rules.now) (view_of self.old)
+            (view_of self.old).point }
+    {
+        match &self.point {
+            Point::Leaving { plan, .. } => {
+                let plan = copied(plan);
+                self.point = self.visiting(rules, plan);
+            }
+            Point::Releasing { nodes } => {
+                let nodes = copied(nodes);
+                self.released(nodes);
+            }
+            Point::Returning { leaves } => {
+                let leaves = without_first(leaves);
+                self.returning(leaves);
+            }
+            Point::Yielding { nodes, leaves } => {
+                let nodes = copied(nodes);
+                let leaves = copied(leaves);
+                self.yielded(nodes, leaves);
+            }
+            _ => {}
+        }
     }
 
     /// The inner nodes that are held.

@@ -1,26 +1,43 @@
 //! What a seat of the pure core has in view, and the words that the seats share, as plain values in code.
 #![tactic(auto)]
 
+pub use laws::served_steps_leave_fewer;
 pub use log::Log;
+pub use machine::Core;
 pub use point::{Cell, IdList, NodeList, Point, SlotList, Store, StoreList, WordList};
+pub use reading::read_record;
 pub use rules::Rules;
 pub use seat::{ListRead, PlayerRead, Refused, Seat};
 pub use words::Words;
 
 mod boxes;
+mod claiming;
 mod committing;
 mod giving;
+mod go;
+mod laws;
+mod left;
 mod lists;
 mod loading;
 mod log;
+mod machine;
 mod near;
+mod next;
 mod plan;
 mod point;
 mod reading;
 mod reads;
+#[cfg(test)]
+mod rows;
 mod rules;
 mod seat;
+mod start;
+#[cfg(test)]
+mod staying;
+mod stepping;
+mod table;
 mod taking;
 #[cfg(test)]
 mod tests;
+mod word_steps;
 mod words;

@@ -1,7 +1,7 @@
 ghost use Rattle.std.specs.Prelude.{◌≡◌, ◌≤◌, ◌↔◌, ◌==◌, not, filter, length, IsSome, IfSome};
 ghost use Rattle.core_machine.specs.declared.seat.PlayerRead.{PlayerRead};
 
-use crate::lists::{copied, players_of};
+use crate::lists::{copied, players_of, with_word, without_first_id};
 use crate::plan::sensing;
 use crate::point::{IdList, NodeList, Point, SlotList, WordList};
 use crate::rules::Rules;
@@ -35,14 +35,15 @@ fn others_than(others: &[PlayerRead], slot: u8) -> ArrayVec<PlayerRead, 64>
 }
 
 impl Seat {
-    ghost use Rattle.std.specs.Prelude.{◌≡◌, ◌<◌, ◌∷◌, [], ◌++◌, ◌==◌, ℕ, List, not, filter, length, slice_index};
-    ghost use Rattle.entity_recs.specs.Commands.{command_of};
+    ghost use Rattle.std.specs.Prelude.{◌≡◌, ◌<◌, ◌∷◌, [], ◌++◌, ◌==◌, ℕ, List, Some, not, filter, length, slice_index};
+    ghost use Rattle.entity_recs.specs.Commands.{Command, command_of};
     ghost use Rattle.entity_recs.specs.Actions.{HasPlayer, IsCommand};
     ghost use Rattle.core_steps.specs.Views as views;
     ghost use Rattle.core_steps.specs.Views.{record_read, leaf_nodes, region_in};
     ghost use Rattle.core_steps.specs.Steps as steps;
     ghost use Rattle.core_machine.specs.declared.seat.PlayerRead.{PlayerRead};
-    ghost use Rattle.core_machine.specs.Seats.{view_of, hand_of};
+    ghost use Rattle.core_machine.specs.Seats.{view_of, given_of, hand_of};
+    ghost use Rattle.core_machine.specs.Points.{point_of};
     ghost use Rattle.core_machine.specs.Shown.{fixed_of};
 
     /// The command enters the view with the first word of the own record.
@@ -153,5 +154,82 @@ impl Seat {
     {
         self.states.insert(0, NewState { id, state: word });
         self.point = sensing(ids);
+    }
+
+    /// The command that was given, if any, enters the view with the first word of the own record.
+    pub(crate) fn begin_given(&mut self, word: u64)
+        ensures { (c : Command) → given_of self.old ≡ Some c
+            → view_of self.new ≡ steps.view_after_begin c word (view_of self.old) }
+    {
+        if let Some(cmd) = self.given {
+            self.begin(cmd, word);
+        }
+    }
+
+    /// The list word of the entered node was loaded.
+    pub(crate) fn read_list<A: Action>(&mut self, rules: &Rules<A>, word: u64)
+        requires room { length self.old.lists.items < 31 }
+        requires player { HasPlayer (A.takes rules.now.action)
+            (record_read (hand_of self.old.cmd).slot self.old.own.items) (hand_of self.old.cmd) }
+        ensures { (node : ℕ) (plan : List ℕ) → point_of self.old.point ≡ views.Entered node plan → view_of self.new
+            ≡ steps.view_after_list (fixed_of A.takes A.region_of A.effect_of rules.now) node plan word
+            (view_of self.old) }
+    {
+        let Point::Entered { node, plan } = &self.point else {
+            return;
+        };
+        let node = *node;
+        let plan = copied(plan);
+        self.load_list(rules, node, plan, word);
+    }
+
+    /// One more word of the player that is loaded under the present node was loaded.
+    pub(crate) fn read_player<A: Action>(&mut self, rules: &Rules<A>, word: u64)
+        requires part { (node : ℕ) (part players plan : List ℕ)
+            → point_of self.old.point ≡ views.Loading node part players plan
+            → length part < 6 }
+        requires some { (node : ℕ) (part players plan : List ℕ)
+            → point_of self.old.point ≡ views.Loading node part players plan
+            → 0 < length players }
+        requires room { (node slot : ℕ) (part players plan : List ℕ)
+            → point_of self.old.point ≡ views.Loading node part (slot ∷ players) plan
+            → length (filter (λ (r : PlayerRead). not (r.slot == slot)) self.old.others.items) < 64 }
+        requires player { HasPlayer (A.takes rules.now.action)
+            (record_read (hand_of self.old.cmd).slot self.old.own.items) (hand_of self.old.cmd) }
+        ensures { (node slot : ℕ) (part players plan : List ℕ)
+            → point_of self.old.point ≡ views.Loading node part (slot ∷ players) plan
+            → view_of self.new ≡ steps.player_loaded (fixed_of A.takes A.region_of A.effect_of rules.now) node
+            (part ++ word ∷ []) slot players plan
+            (view_of self.old) }
+    {
+        let Point::Loading {
+            node,
+            part,
+            players,
+            plan,
+        } = &self.point
+        else {
+            return;
+        };
+        let node = *node;
+        let part = with_word(part, word);
+        let players = copied(players);
+        let plan = copied(plan);
+        self.load_player(rules, node, part, players, plan);
+    }
+
+    /// The state of the first of the things that are left was loaded.
+    pub(crate) fn read_state(&mut self, word: u64)
+        requires { length self.old.states.items < 256 }
+        ensures { (id : ℕ) (ids : List ℕ) → point_of self.old.point ≡ views.Sensing (id ∷ ids) → view_of self.new
+            ≡ steps.view_after_state id word ids (view_of self.old) }
+    {
+        let Point::Sensing { ids } = &self.point else {
+            return;
+        };
+        if let &[id, ..] = ids.as_slice() {
+            let rest = without_first_id(ids);
+            self.load_state(id, rest, word);
+        }
     }
 }

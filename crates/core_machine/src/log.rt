@@ -1,13 +1,13 @@
 use entity_recs::{Cmd, Entry};
+use move_journal::Log as EntryLog;
 use std::alloc::{AllocError, Global};
 use std::marker::Model;
 
 /// The commands that a seat has committed, with their entries, and the room for as many as it may commit.
 #[derive(Drop)]
 pub struct Log {
-    room: u32,
     commands: Vec<Cmd>,
-    entries: Vec<Entry>,
+    entries: EntryLog,
 }
 
 impl Model for Log {
@@ -18,14 +18,15 @@ impl Model for Log {
     ghost use Rattle.std.specs.Prelude.{vec_capacity};
     ghost use Rattle.core_machine.specs.Logs.{items_of, IsLog};
 
-    ghost view = { λ l. record { room = l.room; items = items_of l.commands.items l.entries.items } };
+    ghost view = { λ l. record { room = l.entries.room; items = items_of l.commands.items l.entries.entries } };
 
-    ghost invariant = { λ l. IsLog l.room (vec_capacity l.commands) (vec_capacity l.entries) l.commands.items l.entries.items };
+    ghost invariant = { λ l. IsLog l.entries.room (vec_capacity l.commands) l.commands.items l.entries.entries };
 }
 
 impl Log {
     ghost use Rattle.std.specs.Prelude.{◌≡◌, ◌<◌, [], ◌∷◌, ◌++◌, map, length, IfOk, vec_capacity};
     ghost use Rattle.entity_recs.specs.Commands.{command_of};
+    ghost use Rattle.move_journal.specs.Logs.{log_view};
     ghost use Rattle.core_machine.specs.Logs.{entries_of};
 
     /// No command, with room for this many.
@@ -33,9 +34,8 @@ impl Log {
         ensures { IfOk result (λ l. l ≡ record { room = room; items = [] }) }
     {
         Ok(Log {
-            room,
             commands: Vec::with_capacity(alloc, room as usize)?,
-            entries: Vec::with_capacity(alloc, room as usize)?,
+            entries: EntryLog::new(alloc, room)?,
         })
     }
 
@@ -52,6 +52,14 @@ impl Log {
         ensures { self.new ≡ record self.old { items = self.old.items ++ record { command = command_of cmd; entry = entry } ∷ [] } }
     {
         self.commands.push_reserved(cmd);
-        self.entries.push_reserved(entry);
+        self.entries.push(entry);
+    }
+
+    /// The entries as a list of their own, in the order in which the commands were committed, with the same room. It takes
+    /// no memory.
+    pub fn into_entries(self) -> EntryLog
+        ensures { result ≡ log_view (entries_of self.items) self.room }
+    {
+        self.entries
     }
 }

@@ -5,6 +5,7 @@ use crate::near::{near_of, things_of};
 use crate::point::{IdList, NodeList};
 use crate::reading::read_record;
 use crate::seat::PlayerRead;
+use crate::start::find_record;
 use areanode::{FIRST_LEAF, Tree, visited};
 use arena_geo::{Aabb, Region, Vec3};
 use entity_recs::{Action, Cmd, Effect, NewState, Rec, abs_box};
@@ -46,8 +47,9 @@ impl<'a, A: Action> Rules<'a, A> {
     ghost use Rattle.entity_recs.specs.Records.{IsRecord};
     ghost use Rattle.entity_recs.specs.Commands.{command_of};
     ghost use Rattle.core_steps.specs.Views.{region_in, is_leaf, leaf_nodes, inner_visited, plan_of, inner_of_two, things_in, home, record_read, near_loaded, leaf_word};
-    ghost use Rattle.core_steps.specs.Stands.{IsStart};
+    ghost use Rattle.core_steps.specs.Stands.{IsLawful, IsStart};
     ghost use Rattle.core_machine.specs.Seats.{player_read_of};
+    ghost use Rattle.core_machine.specs.Starts.{record_at};
     ghost use Rattle.core_machine.specs.Shown.{fixed_of, IsRuled};
 
     /// The rules of an action, a tree and the records of a start.
@@ -73,6 +75,20 @@ impl<'a, A: Action> Rules<'a, A> {
         ensures { IsRuled (fixed_of A.takes A.region_of A.effect_of self.now) }
     {
         let _start = &self.start;
+    }
+
+    /// The action is lawful.
+    pub fn is_lawful(&self)
+        ensures { IsLawful (fixed_of A.takes A.region_of A.effect_of self.now) }
+    {
+        let _action = &self.action;
+    }
+
+    /// The record of this id at the start, if it is live.
+    pub fn record(&self, id: u16) -> Option<Rec>
+        ensures { result ≡ record_at self.now.start id }
+    {
+        find_record(self.start.as_slice(), id)
     }
 
     /// Whether the node is a leaf.

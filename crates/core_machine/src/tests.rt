@@ -61,3 +61,29 @@ fn first_word_of_the_own_record_is_loaded(rt: HostRuntime) -> Result<(), Fail> {
     assert_eq!(rt; seat.cmd, None);
     Ok(())
 }
+
+#[test]
+fn words_lie_in_the_order_of_the_table(rt: HostRuntime) -> Result<(), Fail> {
+    let mut words = Words {
+        commits: 0,
+        node: [0; NODES],
+        links: [0; NODES],
+        body: [[0; 5]; 64],
+        state: [0; 256],
+    };
+    words.set(0, 7);
+    words.set(4, 5);
+    words.set(47, 2);
+    words.set(77, 9);
+    words.set(583, 11);
+    assert_eq!(rt; words.commits, 7);
+    assert_eq!(rt; words.node[3], 5);
+    assert_eq!(rt; words.links[15], 2);
+    assert_eq!(rt; words.body[2][4], 9);
+    assert_eq!(rt; words.state[200], 11);
+    assert_eq!(rt; words.get(0), 7);
+    assert_eq!(rt; words.get(77), 9);
+    assert_eq!(rt; words.get(78), 0);
+    assert_eq!(rt; words.get(583), 11);
+    Ok(())
+}

@@ -5,4 +5,4 @@ use Rattle.core_machine.proofs.log.Log.entries.Goals as goal
 
 pub returns : goal.returns
 returns c =
-    c.as_slice.ensures.value ∙ sym (entries_of-items _ _ c.self.invariant.same) ∙ ap (λ (l : LogView). entries_of l.items) c.self.view_is
+    c.as_slice.ensures ∙ sym (entries_of-items _ _ c.self.invariant.same) ∙ ap (λ (l : LogView). entries_of l.items) c.self.view_is

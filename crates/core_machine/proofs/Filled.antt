@@ -1,0 +1,108 @@
+-- A machine at its start, to whose seats commands are given one after another.
+use Rattle.std.proofs.Common.{◌≡◌, ℕ, zero, suc, ◌+◌, ◌<◌, ◌≤◌, true, List, [], ◌∷◌, length, map, get_or, refl, sym, ap, ◌∙◌, subst, inl, inr, Some, None, arith}
+use Rattle.std.specs.Prelude.{◌==◌}
+use Rattle.std.proofs.lemmas.Int.{ints}
+use Rattle.std.proofs.lemmas.Bool.{cases_Bool, false≢true, cond-true, cond-false, eqb-true, eqb-false, ne_eqb}
+use Rattle.entity_recs.specs.Commands.{Command}
+use Rattle.entity_recs.specs.Actions.{IsCommand}
+use Rattle.core_steps.specs.Views.{Fixed, Idle, View, stage_of, is_busy, has}
+use Rattle.core_steps.specs.Machine.{Machine}
+use Rattle.core_steps.specs.Calls.{MayBeGiven, start_machine, with_given}
+use Rattle.core_steps.proofs.Reached.{idle_at_start}
+use Rattle.core_machine.specs.Plain.{plain_command}
+use Rattle.core_machine.proofs.Starting.{seats_with, views_of, more_seat, start_views}
+
+-- the first seats have a command of the player with their number, and the others none; the first n seats live and have room
+pub record IsFilled (m : Machine) (i n : ℕ) : Type 0 where
+  pub idle : (j : ℕ) → (m.core.view j).point ≡ Idle
+  pub own : (j : ℕ) (d : Command) → m.given j ≡ Some d → d.slot ≡ j
+  pub none : (j : ℕ) → i ≤ j → m.given j ≡ None
+  pub lives : (j : ℕ) → j < n → (m.core.view j).live ≡ true
+  pub room : (j : ℕ) → j < n → length (m.core.view j).log < (m.core.view j).room
+
+plain_is : (slot : ℕ) → slot < 64 → IsCommand (plain_command slot)
+plain_is slot below = record {
+  slot = below;
+  seq = omega arith;
+  frame = omega arith;
+  least_ms = omega arith;
+  most_ms = omega arith;
+  low_x = omega (arith, ints);
+  high_x = omega (arith, ints);
+  low_y = omega (arith, ints);
+  high_y = omega (arith, ints);
+  buttons = omega arith;
+}
+
+none_is : {R : Type 0} (d : Command) → None ≡ Some d → R
+none_is d e = cc
+
+some_is : (c d : Command) → Some c ≡ Some d → c ≡ d
+some_is c d e = cc
+
+-- the next seat may be given a command
+pub may_give : (F : Fixed) (m : Machine) (i n : ℕ) → i < n → n ≤ 16 → has F.start.ids i ≡ true → IsFilled m i n → MayBeGiven F m i (plain_command i)
+may_give F m i n below few live is = record {
+  pending = record {
+    lives = is.lives i below;
+    idle = is.idle i;
+    command = record { command = plain_is i (omega arith); live = live };
+    room = is.room i below;
+  };
+  none = is.none i (omega arith);
+  given_apart = λ j d other e. ne_eqb i d.slot (λ same. eqb-false j i other (sym (same ∙ is.own j d e)));
+  busy_apart = λ j other busy. absurd (false≢true (sym (ap (λ p. is_busy (stage_of p)) (is.idle j)) ∙ busy));
+}
+
+-- the seats after it was given
+pub given_more : (F : Fixed) (m : Machine) (i n : ℕ) → IsFilled m i n → IsFilled (with_given m i (plain_command i)) (i + 1) n
+given_more F m i n is = record {
+  idle = is.idle;
+  own = λ j d e. elim (cases_Bool (j == i)) [
+    | inl same ↦
+        let given : plain_command i ≡ d = some_is (plain_command i) d (sym (cond-true (j == i) (Some (plain_command i)) (m.given j) same) ∙ e) in
+        sym (ap (λ (c : Command). c.slot) given) ∙ sym (eqb-true j i same)
+    | inr other ↦ is.own j d (sym (cond-false (j == i) (Some (plain_command i)) (m.given j) other) ∙ e)
+  ];
+  none = λ j past. cond-false (j == i) (Some (plain_command i)) (m.given j) (ne_eqb j i (λ same. differs j i same past)) ∙ is.none j (omega arith);
+  lives = is.lives;
+  room = is.room;
+}
+  where
+    differs : (j i : ℕ) → j ≡ i → i + 1 ≤ j → ⊥
+    differs j i same past = omega (arith, same, past)
+
+more_live : (rooms : List ℕ) (j : ℕ) → j < length rooms → (views_of (map more_seat rooms) j).live ≡ true
+more_live [] j below = absurd (omega arith)
+more_live (room ∷ rooms) zero below = refl
+more_live (room ∷ rooms) (suc j) below = more_live rooms j (omega arith)
+
+more_room : (rooms : List ℕ) → ((k : ℕ) → k < length rooms → 0 < get_or rooms k 0) → (j : ℕ) → j < length rooms → length (views_of (map more_seat rooms) j).log < (views_of (map more_seat rooms) j).room
+more_room [] some j below = absurd (omega arith)
+more_room (room ∷ rooms) some zero below = some 0 below
+more_room (room ∷ rooms) some (suc j) below = more_room rooms (λ k less. some (suc k) (omega arith)) j (omega arith)
+
+lives_at : (first : ℕ) (rooms : List ℕ) (j : ℕ) → j < length (first ∷ rooms) → (views_of (seats_with first rooms) j).live ≡ true
+lives_at first rooms zero below = refl
+lives_at first rooms (suc j) below = more_live rooms j (omega arith)
+
+room_at : (first : ℕ) (rooms : List ℕ) → ((k : ℕ) → k < length (first ∷ rooms) → 0 < get_or (first ∷ rooms) k 0) → (j : ℕ) → j < length (first ∷ rooms)
+    → length (views_of (seats_with first rooms) j).log < (views_of (seats_with first rooms) j).room
+room_at first rooms some zero below = some 0 below
+room_at first rooms some (suc j) below = more_room rooms (λ k less. some (suc k) (omega arith)) j (omega arith)
+
+start_filled : (F : Fixed) (first : ℕ) (rooms : List ℕ) → ((k : ℕ) → k < length (first ∷ rooms) → 0 < get_or (first ∷ rooms) k 0) → IsFilled (start_machine F first rooms) 0 (length (first ∷ rooms))
+start_filled F first rooms some = record {
+  idle = idle_at_start F first rooms;
+  own = λ j d e. none_is d e;
+  none = λ j _. refl;
+  lives = λ j below. ap (λ (v : ℕ → View). (v j).live) (start_views F first rooms) ∙ lives_at first rooms j below;
+  room = λ j below. subst (λ (v : ℕ → View). length (v j).log < (v j).room) (sym (start_views F first rooms)) (room_at first rooms some j below);
+}
+
+-- at the start no seat has a command
+pub none_given_yet : (F : Fixed) (m : Machine) (room : List ℕ) → 0 < length room → ((first : ℕ) (others : List ℕ) → room ≡ first ∷ others → m ≡ start_machine F first others)
+    → ((k : ℕ) → k < length room → 0 < get_or room k 0) → IsFilled m 0 (length room)
+none_given_yet F m [] some is room = absurd (omega arith)
+none_given_yet F m (first ∷ others) some is room =
+    subst (λ (k : Machine). IsFilled k 0 (length (first ∷ others))) (sym (is first others refl)) (start_filled F first others room)

@@ -1,0 +1,11 @@
+use Rattle.std.proofs.Common.{◌≡◌, ◌&&◌, ◌==◌}
+use Rattle.areanode.specs.Words.{word_of}
+use Rattle.core_steps.specs.Views.{home}
+use Rattle.core_steps.specs.Stands.{is_player}
+use Rattle.core_machine.specs.Shown.{fixed_of}
+use Rattle.core_machine.proofs.start.links_at_start.Given as goal
+
+abbrev pub invariant-loop-slot : goal.invariant-loop-slot
+invariant-loop-slot g l =
+    let F = fixed_of g.A.Action.takes g.A.Action.region_of g.A.Action.effect_of l.rules in
+    l.word ≡ word_of l.slot (λ slot. is_player F slot && (l.node == home F (F.start.record_of slot)))

@@ -1,0 +1,35 @@
+-- What holds of one view alone in each core that stands.
+use Rattle.std.specs.Prelude.{◌≡◌, ◌<◌, true, length, List, ◌∷◌, Some}
+use Rattle.entity_recs.specs.declared.effect.Effect.{Effect}
+use Rattle.entity_recs.specs.Actions.{HasPlayer, IsCall}
+use Rattle.core_steps.specs.Cells.{table_size}
+use Rattle.core_steps.specs.Views.{Fixed, Store, Resolving, stage_of, is_busy, is_open, is_owning, is_whole}
+use Rattle.core_steps.specs.Views.{is_settled, is_read_again, stores_owed, nodes_of, View}
+use Rattle.core_steps.specs.Views.{record_read, leaf_nodes, region_in, leaves_held, inner_held, loaded_near}
+use Rattle.core_steps.specs.Stands.{IsGiven, IsHolding, IsUnread, IsAt}
+use Rattle.core_steps.specs.Machine.{HasNext, ViewFits, index_of_store}
+
+-- what a core that stands says of one view alone
+pub record IsSound (F : Fixed) (view : View) : Type 0 where
+  pub depth : F.tree.depth ≡ 4
+  pub own_part : is_owning (stage_of view.point) ≡ true → length view.own < 6
+  pub own_whole : is_whole (stage_of view.point) ≡ true → length view.own ≡ 6
+  pub again_whole : is_read_again (stage_of view.point) ≡ true → length view.again ≡ 6
+  pub room : is_open (stage_of view.point) ≡ true → length view.log < view.room
+  pub hand : is_busy (stage_of view.point) ≡ true → IsGiven F view.cmd
+  pub whole : is_whole (stage_of view.point) ≡ true → view.wanted ≡ leaf_nodes F (region_in F view.cmd view.own)
+  pub holding : IsHolding F view.wanted (leaves_held view.point view.wanted) (inner_held F view.point)
+  pub unread : IsUnread (stage_of view.point) view.own view.again view.lists view.others view.states view.effect
+  pub at : IsAt F view.cmd view.own view.wanted view.again view.lists view.others view.states view.effect view.point
+  pub next : HasNext view.point view.wanted
+  pub fits : ViewFits F view
+  pub owed : (store : Store) (stores : List Store) → stores_owed view.point ≡ store ∷ stores
+      → index_of_store (nodes_of F) store < table_size (nodes_of F)
+  pub region : is_open (stage_of view.point) ≡ true → is_whole (stage_of view.point) ≡ true
+      → HasPlayer F.takes (record_read view.cmd.slot view.own) view.cmd
+  pub effect : view.point ≡ Resolving
+      → IsCall F.takes (record_read view.cmd.slot view.again) (loaded_near F view) view.cmd
+  pub taken_again : is_settled (stage_of view.point) ≡ true → is_read_again (stage_of view.point) ≡ true
+      → HasPlayer F.takes (record_read view.cmd.slot view.again) view.cmd
+  pub taken_after : is_settled (stage_of view.point) ≡ true → (e : Effect) → view.effect ≡ Some e
+      → F.takes e.me ≡ true
