@@ -1,0 +1,3 @@
+-- Lemmas on random schedules.
+pub mod Calls
+pub mod Given

@@ -1,0 +1,6 @@
+-- An action over one item and a teleporter, and its laws.
+pub use Rattle.core_machine.specs.Staying
+pub use Rattle.core_machine.specs.Cores
+pub mod Errand
+pub mod Keeping
+pub mod Lawful

@@ -1,0 +1,107 @@
+ghost use Rattle.std.specs.Prelude.{◌≡◌, ◌<◌, ◌≤◌, ℕ, true, length, map, slice_index, IfOk};
+ghost use Rattle.entity_recs.specs.declared.rec.Rec.{Rec};
+ghost use Rattle.entity_recs.specs.Commands.{command_of};
+ghost use Rattle.entity_recs.specs.Actions.{IsCommand};
+ghost use Rattle.areanode.specs.Trees.{TreeView};
+ghost use Rattle.core_steps.specs.Views.{has};
+ghost use Rattle.core_steps.specs.Stands.{IsStart};
+ghost use Rattle.core_machine.specs.Shown.{fixed_of};
+ghost use Rattle.core_trials.specs.Errand.{errand_command};
+
+use areanode::Tree;
+use arena_geo::{Aabb, Vec3};
+use core_machine::Core;
+use entity_recs::{Action, Cmd, Rec};
+use std::alloc::Global;
+use std::test::Fail;
+
+/// A player's first command, of 50 ms, with these buttons.
+#[tactic(auto, using(crate::proofs::Given::command_is))]
+pub fn command(slot: u8, buttons: u8) -> Cmd
+    requires { slot < 64 }
+    ensures value { command_of result ≡ errand_command slot buttons }
+    ensures command { IsCommand (command_of result) }
+{
+    Cmd {
+        slot,
+        seq: 1,
+        frame: 0,
+        ms: 50,
+        wish_x: 0,
+        wish_y: 0,
+        buttons,
+    }
+}
+
+/// The tree over an arena from (-131072, -131072, 0) to (131072, 131072, 65536).
+fn arena_tree() -> Result<Tree, Fail> {
+    let lo = Vec3 {
+        x: -131_072,
+        y: -131_072,
+        z: 0,
+    };
+    let hi = Vec3 {
+        x: 131_072,
+        y: 131_072,
+        z: 65_536,
+    };
+    Ok(Tree::new(&Aabb::new(lo, hi).ok_or("a box")?))
+}
+
+/// A core over these records with a seat for each of the first players, to which a command of its player is given. Bit
+/// i of `away` says whether player i asks for the teleporter.
+pub fn begun<'a, A: Action>(
+    alloc: Global,
+    action: &'a A,
+    start: &[Rec],
+    room: &[u32],
+    away: u8,
+) -> Result<Core<'a, A>, Fail>
+    requires start { (tree : TreeView) → IsStart (fixed_of A.takes A.region_of A.effect_of (record
+        { action = action.now; tree = tree; start = start.now })) }
+    requires live { (slot : ℕ) → slot < length room.now → has (map (λ (r : Rec). r.id) start.now) slot ≡ true }
+    requires some { 0 < length room.now }
+    requires few { length room.now ≤ 16 }
+    requires room { (k : ℕ) → k < length room.now → 0 < slice_index room.now k }
+    ensures { IfOk result (λ c. length c.seats ≡ length room.now) }
+{
+    let tree = arena_tree()?;
+    let mut core = Core::new(alloc, action, &tree, start, room)?;
+    for slot in 0..room.len() as u8 {
+        core.give(slot, command(slot, buttons_of(slot, away)));
+    }
+    Ok(core)
+}
+
+/// The buttons of a player's command, where bit i of `away` says whether player i asks for the teleporter.
+pub fn buttons_of(slot: u8, away: u8) -> u8 {
+    away.wrapping_shr(u32::from(slot)) % 2
+}
+
+/// A further number of a sequence, as a linear congruential generator gives them.
+fn next_number(number: u64) -> u64 {
+    number
+        .wrapping_mul(6_364_136_223_846_793_005)
+        .wrapping_add(1_442_695_040_888_963_407)
+}
+
+/// Makes steps of four seats in a random order, which this number gives, until none has a command in hand.
+pub fn run_at_random<A: Action>(core: &mut Core<A>, mut number: u64) -> Result<u64, Fail>
+    requires { length core.old.seats ≡ 4 }
+    ensures { length core.new.seats ≡ length core.old.seats }
+{
+    let mut idle = 0u32;
+    for _ in 0..100_000 {
+        number = next_number(number);
+        let seat = ((number >> 33) % 4) as u8;
+        match core.next_step(seat) {
+            Some(s) => {
+                core.step(s);
+                idle = 0;
+            }
+            None if idle == 100 => return Ok(number),
+            None => idle += 1,
+        }
+    }
+    Err("a schedule without an end".into())
+}

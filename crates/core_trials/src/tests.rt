@@ -1,0 +1,136 @@
+ghost use Rattle.std.specs.Prelude.{◌≡◌, ◌<◌, length, IfSome};
+
+use crate::plain::{outcome_in, put_effect};
+use crate::schedule::{begun, buttons_of, command, run_at_random};
+use crate::{Errand, ITEM};
+use arena_geo::Vec3;
+use core_machine::Core;
+use entity_recs::{Action, Effect, Entry, Kind, PLAYER_MAXS, PLAYER_MINS, Rec};
+use std::alloc::Global;
+use std::test::Fail;
+
+/// A player at rest.
+const FIRST: Rec = Rec {
+    id: 0,
+    kind: Kind::Player,
+    origin: Vec3 {
+        x: 98_304,
+        y: 98_304,
+        z: 6_144,
+    },
+    mins: PLAYER_MINS,
+    maxs: PLAYER_MAXS,
+    vel: Vec3::ZERO,
+    flags: 0,
+    ammo: 0,
+    carry: 0,
+    score: 0,
+    seq: 0,
+    state: 0,
+};
+
+/// A player in the same leaf as the first.
+const NEAR: Rec = Rec {
+    id: 1,
+    origin: Vec3 {
+        x: 85_504,
+        y: 98_304,
+        z: 6_144,
+    },
+    ..FIRST
+};
+
+/// A player whose region shares with the first two only the boxes of the item and of the place of arrival.
+const FAR: Rec = Rec {
+    id: 2,
+    origin: Vec3 {
+        x: -98_304,
+        y: 98_304,
+        z: 6_144,
+    },
+    ..FIRST
+};
+
+/// A player at the middle of the tree, whose node is the root.
+const MIDDLE: Rec = Rec {
+    id: 3,
+    origin: Vec3 {
+        x: 0,
+        y: 0,
+        z: 6_144,
+    },
+    ..FIRST
+};
+
+/// The seat among four that has one entry, with this place.
+fn seat_at<A: Action>(core: &Core<A>, place: u64) -> Option<u8>
+    requires { length core.now.seats ≡ 4 }
+    ensures { IfSome result (λ seat. seat < 4) }
+{
+    for seat in 0..4u8 {
+        if let [entry] = core.log(seat) {
+            if entry.place == place {
+                return Some(seat);
+            }
+        }
+    }
+    None
+}
+
+/// Whether the entry is that of this effect.
+fn is_entry_of(entry: &Entry, effect: &Effect) -> bool {
+    u16::from(entry.slot) == effect.me.id
+        && entry.seq == effect.me.seq
+        && entry.reply.origin == effect.reply.origin
+        && entry.reply.got.as_slice() == effect.reply.got.as_slice()
+}
+
+/// Runs the command with this place in a plain world, and compares its reply. It gives how many items were got.
+fn check_place<A: Action>(
+    alloc: Global,
+    core: &Core<A>,
+    world: &mut [Rec],
+    place: u64,
+    away: u8,
+) -> Result<usize, Fail>
+    requires { length core.now.seats ≡ 4 }
+{
+    let seat = seat_at(core, place).ok_or("a place without an entry")?;
+    let cmd = command(seat, buttons_of(seat, away));
+    let effect = outcome_in(alloc, world, &cmd)?.ok_or("an outcome")?;
+    if !core
+        .log(seat)
+        .iter()
+        .all(|entry| is_entry_of(entry, &effect))
+    {
+        return Err("another reply".into());
+    }
+    put_effect(world, &effect);
+    Ok(effect.reply.got.as_slice().len())
+}
+
+/// Runs one random schedule to its end, and compares each reply with that of the commands in a row, in the order of
+/// their places. The item is got once.
+fn try_schedule(alloc: Global, number: u64) -> Result<u64, Fail> {
+    let mut world = [FIRST, NEAR, FAR, MIDDLE, ITEM];
+    let away = ((number >> 40) % 16) as u8;
+    let mut core = begun(alloc, &Errand, &world, &[1, 1, 1, 1], away)?;
+    let number = run_at_random(&mut core, number)?;
+    let mut got = 0usize;
+    for place in 0..4 {
+        got = got.saturating_add(check_place(alloc, &core, &mut world, place, away)?);
+    }
+    if got != 1 || world[4].state != 1 {
+        return Err("an item that isn't got once".into());
+    }
+    Ok(number)
+}
+
+#[test]
+fn random_schedules_reply_as_commands_in_a_row(rt: HostRuntime) -> Result<(), Fail> {
+    let mut number = 7;
+    for _ in 0..1_000 {
+        number = try_schedule(rt.alloc(), number)?;
+    }
+    Ok(())
+}
