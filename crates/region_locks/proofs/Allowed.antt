@@ -1,5 +1,5 @@
 -- What each step on a word asks of the rule.
-use Rattle.std.proofs.Common.{◌≡◌, ℕ, zero, suc, ◌+◌, ◌*◌, ◌%◌, ◌^◌, bit_and, bit_or, w64, ◌<◌, Bool, true, false, if◌then◌else◌, List, [], ◌∷◌, length, refl, sym, ◌∙◌, subst, Option, arith, slice_index}
+use Rattle.std.proofs.Common.{◌≡◌, ℕ, zero, suc, ◌+◌, ◌*◌, ◌%◌, ◌^◌, bit_and, bit_or, w64, ◌<◌, ◌≤◌, Bool, true, false, if◌then◌else◌, List, [], ◌∷◌, length, refl, sym, ◌∙◌, subst, Option, arith, slice_index}
 use Rattle.std.specs.Prelude.{◌==◌}
 use mathlib.Core.Option as maybe
 use mathlib.Core.Option.{some-ne-none}
@@ -11,13 +11,17 @@ use Rattle.entity_recs.specs.Commands.{Command}
 use Rattle.core_steps.specs.Views.{Fixed}
 use Rattle.core_steps.specs.Machine.{Next, index_of}
 use Rattle.region_locks.specs.Sights.{SightView}
-use Rattle.region_locks.specs.Going.{view_found, word_left, MayGo}
+use Rattle.region_locks.specs.Going.{MayGo}
+use Rattle.core_machine.specs.Going.{view_found, word_left}
 use Rattle.region_locks.specs.Rule.{IsRuled}
-use Rattle.region_locks.specs.Plays.{SeatWent}
+use Rattle.region_locks.specs.Plays.{SeatCounted, SeatTook, SeatWent}
 use Rattle.region_locks.proofs.Goes.{goes}
+use Rattle.region_locks.proofs.Holders.{found_held}
+use Rattle.region_locks.proofs.Reaching.{are_reached}
 use Rattle.region_locks.proofs.Told.{told}
+use Rattle.region_locks.proofs.Found.{found_small, found_taken, store_small, store_loads}
 use Rattle.region_locks.proofs.Bits.{cleared, set_bit}
-use Rattle.region_locks.proofs.Counting.{count_is_small}
+use Rattle.region_locks.proofs.Counting.{count_is_small, seen_is_below}
 use Rattle.std.specs.Int.{bit_not}
 use Rattle.core_steps.specs.Cells.{with_bit, without_bit}
 
@@ -40,7 +44,16 @@ allowed_here F rooms slots i me given quits next f may leaves s r _ at small =
       keeps,
       tt,
       ruled,
-      (record { number = refl; view = refl; told = told F rooms _ ruled i new (set_here s.views i new (there_below s.views i me.0 at)) }, refl),
+      (
+        record {
+          number = refl;
+          view = refl;
+          told = told F rooms _ ruled i new (set_here s.views i new (there_below s.views i me.0 at));
+          small = found_small F rooms s r i me.0 at given quits next may;
+          taken = found_taken F rooms s r i me.0 at given quits next may;
+        },
+        refl,
+      ),
     )
 
 -- the same where what doesn't change, the number of passes and the word are picked
@@ -67,36 +80,75 @@ allowed_store F G rooms passes word slots i me given quits next new fixed count 
       step.1,
       step.2,
       step.3,
-      (record { number = went.0.number; view = went.0.view ∙ blind (slice_index s.words word); told = went.0.told }, went.1),
+      (
+        record {
+          number = went.0.number;
+          view = went.0.view ∙ blind (slice_index s.words word);
+          told = went.0.told;
+          small = store_small F me.0.number me.0.view next new leaves;
+          taken = λ node slot part players plan is five. store_loads F me.0.number me.0.view next new node slot part players plan leaves is;
+        },
+        went.1,
+      ),
     )
 
 either_is : (b : Bool) (x y : ℕ) → either b x y ≡ (if b then x else y)
 either_is true x y = refl
 either_is false x y = refl
 
--- the same for a compare-exchange from 0
+-- the same for a compare-exchange from 0, whose step also knows who holds the node
+taken_here : (F : Fixed) (rooms : List ℕ) (slots i : ℕ) (me : Me (Unit {0}) SightView) (given : Option Command) (quits : Bool) (next : Next) (f : ℕ → ℕ)
+    → MayGo F (length rooms) me.0.number me.0.view given quits next
+    → ((found : ℕ) → found < 18446744073709551616 → f found ≡ word_left F me.0.number me.0.view next found)
+    → Allows (IsRuled F rooms) slots i me (index_of 31 me.0.view next) f (λ found after. SeatTook F (length rooms) next me found after)
+taken_here F rooms slots i me given quits next f may leaves s r homes at small =
+    let step = allowed_here F rooms slots i me given quits next f may leaves s r homes at small in (
+      step.0,
+      step.1,
+      step.2,
+      step.3,
+      record { went = step.4; held = found_held F rooms s r i me.0 at given quits next may; reached = are_reached F rooms s r i me.0 at given quits next may },
+    )
+
 pub allowed_from_0 : (F G : Fixed) (rooms : List ℕ) (passes word slots i : ℕ) (me : Me (Unit {0}) SightView) (given : Option Command) (quits : Bool) (next : Next) (new : ℕ)
     → F ≡ G → passes ≡ length rooms → word ≡ index_of 31 me.0.view next → MayGo F passes me.0.number me.0.view given quits next
     → ((found : ℕ) → word_left F me.0.number me.0.view next found ≡ (if found == 0 then new else found))
-    → Allows (IsRuled G rooms) slots i me word (λ n. either (n == 0) new n) (λ found after. SeatWent F passes next me found after)
+    → Allows (IsRuled G rooms) slots i me word (λ n. either (n == 0) new n) (λ found after. SeatTook F passes next me found after)
 allowed_from_0 F G rooms passes word slots i me given quits next new fixed count at may leaves =
-    allowed F G rooms passes word slots i me given quits next (λ n. either (n == 0) new n) fixed count at may (λ found _. either_is (found == 0) new found ∙ sym (leaves found))
+    subst (λ (H : Fixed). Allows (IsRuled H rooms) slots i me word (λ n. either (n == 0) new n) (λ found after. SeatTook F passes next me found after)) fixed
+    (subst (λ (n : ℕ). Allows (IsRuled F rooms) slots i me word (λ n. either (n == 0) new n) (λ found after. SeatTook F n next me found after)) (sym count)
+    (subst (λ (n : ℕ). Allows (IsRuled F rooms) slots i me n (λ n. either (n == 0) new n) (λ found after. SeatTook F (length rooms) next me found after)) (sym at)
+    (taken_here F rooms slots i me given quits next (λ n. either (n == 0) new n) (subst (λ (n : ℕ). MayGo F n me.0.number me.0.view given quits next) count may)
+    (λ found _. either_is (found == 0) new found ∙ sym (leaves found)))))
 
 -- the same for the count of commits, which grows by one
 allowed_add_here : (F : Fixed) (rooms : List ℕ) (slots i : ℕ) (me : Me (Unit {0}) SightView) (given : Option Command) (quits : Bool) (next : Next)
     → index_of 31 me.0.view next ≡ 0 → MayGo F (length rooms) me.0.number me.0.view given quits next
     → ((found : ℕ) → word_left F me.0.number me.0.view next found ≡ found + 1)
-    → Allows (IsRuled F rooms) slots i me (index_of 31 me.0.view next) (λ n. (n + 1) % 2 ^ 64) (λ found after. SeatWent F (length rooms) next me found after)
+    → Allows (IsRuled F rooms) slots i me (index_of 31 me.0.view next) (λ n. (n + 1) % 2 ^ 64) (λ found after. SeatCounted F (length rooms) next me found after)
 allowed_add_here F rooms slots i me given quits next at_0 may leaves s r _ at small =
     let found = slice_index s.words (index_of 31 me.0.view next) in
     let new : SightView = record { number = me.0.number; view = view_found F me.0.view next found } in
+    let seen_below : me.0.view.seen ≤ found = subst (λ (n : ℕ). me.0.view.seen ≤ slice_index s.words n) (sym at_0) (seen_is_below F rooms s r i me.0 at) in
     let bound : found < 2 ^ 40 = subst (λ (n : ℕ). slice_index s.words n < 2 ^ 40) (sym at_0) (count_is_small F rooms s r) in
     let ruled = goes F rooms s r i me.0 at given quits next may ((found + 1) % 2 ^ 64) (grown found bound ∙ sym (leaves found)) in (
       new,
       keeps,
       tt,
       ruled,
-      (record { number = refl; view = refl; told = told F rooms _ ruled i new (set_here s.views i new (there_below s.views i me.0 at)) }, refl),
+      record {
+        went = (
+          record {
+            number = refl;
+            view = refl;
+            told = told F rooms _ ruled i new (set_here s.views i new (there_below s.views i me.0 at));
+            small = found_small F rooms s r i me.0 at given quits next may;
+            taken = found_taken F rooms s r i me.0 at given quits next may;
+          },
+          refl,
+        );
+        seen = seen_below;
+      },
     )
   where
     grown : (n : ℕ) → n < 2 ^ 40 → (n + 1) % 2 ^ 64 ≡ n + 1
@@ -105,11 +157,11 @@ allowed_add_here F rooms slots i me given quits next at_0 may leaves s r _ at sm
 pub allowed_add : (F G : Fixed) (rooms : List ℕ) (passes word slots i : ℕ) (me : Me (Unit {0}) SightView) (given : Option Command) (quits : Bool) (next : Next)
     → F ≡ G → passes ≡ length rooms → word ≡ index_of 31 me.0.view next → word ≡ 0 → MayGo F passes me.0.number me.0.view given quits next
     → ((found : ℕ) → word_left F me.0.number me.0.view next found ≡ found + 1)
-    → Allows (IsRuled G rooms) slots i me word (λ n. (n + 1) % 2 ^ 64) (λ found after. SeatWent F passes next me found after)
+    → Allows (IsRuled G rooms) slots i me word (λ n. (n + 1) % 2 ^ 64) (λ found after. SeatCounted F passes next me found after)
 allowed_add F G rooms passes word slots i me given quits next fixed count at at_0 may leaves =
-    subst (λ (H : Fixed). Allows (IsRuled H rooms) slots i me word (λ n. (n + 1) % 2 ^ 64) (λ found after. SeatWent F passes next me found after)) fixed
-    (subst (λ (n : ℕ). Allows (IsRuled F rooms) slots i me word (λ n. (n + 1) % 2 ^ 64) (λ found after. SeatWent F n next me found after)) (sym count)
-    (subst (λ (n : ℕ). Allows (IsRuled F rooms) slots i me n (λ n. (n + 1) % 2 ^ 64) (λ found after. SeatWent F (length rooms) next me found after)) (sym at)
+    subst (λ (H : Fixed). Allows (IsRuled H rooms) slots i me word (λ n. (n + 1) % 2 ^ 64) (λ found after. SeatCounted F passes next me found after)) fixed
+    (subst (λ (n : ℕ). Allows (IsRuled F rooms) slots i me word (λ n. (n + 1) % 2 ^ 64) (λ found after. SeatCounted F n next me found after)) (sym count)
+    (subst (λ (n : ℕ). Allows (IsRuled F rooms) slots i me n (λ n. (n + 1) % 2 ^ 64) (λ found after. SeatCounted F (length rooms) next me found after)) (sym at)
     (allowed_add_here F rooms slots i me given quits next (sym at ∙ at_0) (subst (λ (n : ℕ). MayGo F n me.0.number me.0.view given quits next) count may) leaves)))
 
 -- the same for a bit that is cleared or set

@@ -11,16 +11,14 @@ use Rattle.entity_recs.specs.Histories.{entry_of}
 use Rattle.core_steps.specs.Views.{Fixed, Point, Idle, Owning, Taking, Checking, Entering, Entered, Loading, Leaving, Sensing, Resolving, Claiming, Storing, Releasing, Returning, Yielding, stage_of, is_busy, record_read, write_nodes}
 use Rattle.core_steps.specs.Steps.{first_yield, next_give}
 use Rattle.core_steps.specs.Machine.{Next, beginning, CommitMove, resolving, quitting, committing, giving, index_of}
-use Rattle.region_locks.specs.Going.{view_found, word_left}
-use Rattle.region_locks.specs.Passes.{PassView, next_resolved, next_point, next_of_pass, the_next, is_commit, is_commit_next, IsPassOf}
-use Rattle.region_locks.proofs.Owns.{IsKept, kept_late}
+use Rattle.core_machine.specs.Going.{view_found, word_left}
+use Rattle.region_locks.specs.Passes.{PassView, next_of_pass, is_commit, is_commit_next, IsPassOf}
+use Rattle.core_machine.specs.Nexts.{next_resolved, next_point, the_next}
 
 -- what is known of a pass whose next step commits
 pub record Commits (F : Fixed) (p : PassView) (next : Next) : Type 0 where
-  pub busy : is_busy (stage_of p.view.point) ≡ true
   pub index : index_of 31 p.view next ≡ 0
   pub left : (found : ℕ) → word_left F p.number p.view next found ≡ found + 1
-  pub kept : (found : ℕ) → IsKept F p (view_found F p.view next found)
 
 not_true : {R : Type 0} → false ≡ true → R
 not_true e = absurd (false≢true e)
@@ -40,66 +38,61 @@ quit_commits (Some node) e = not_true e
 one_more : (n : ℕ) → suc n ≡ n + 1
 one_more n = omega arith
 
-module _ (F : Fixed) (passes : ℕ) (table : TableId) (p : PassView) (own : IsPassOf F passes table p) where
-  commits_with : (e : Effect) (nodes : List ℕ) → p.effect ≡ Some e → is_busy (stage_of p.view.point) ≡ true → Commits F p (CommitMove e nodes)
-  commits_with e nodes is busy = record {
-    busy = busy;
-    index = refl;
-    left = one_more;
-    kept = λ found. kept_late F passes table p (CommitMove e nodes) found own refl refl refl (λ f some. is ∙ some);
-  }
+module _ (F : Fixed) (p : PassView) where
+  commits_with : (e : Effect) (nodes : List ℕ) → Commits F p (CommitMove e nodes)
+  commits_with e nodes = record { index = refl; left = one_more }
 
-  commits_claimed : (o : Option Effect) (nodes : List ℕ) → p.view.effect ≡ o → is_busy (stage_of p.view.point) ≡ true → is_commit_next (committing o nodes) ≡ true → Commits F p (the_next (committing o nodes))
-  commits_claimed None nodes is busy e = not_true e
-  commits_claimed (Some f) nodes is busy e = commits_with f nodes (own.claimed f is) busy
+  commits_claimed : (o : Option Effect) (nodes : List ℕ) → is_commit_next (committing o nodes) ≡ true → Commits F p (the_next (committing o nodes))
+  commits_claimed None nodes e = not_true e
+  commits_claimed (Some f) nodes e = commits_with f nodes
 
-  commits_free : (f : Effect) (nodes : List ℕ) → p.effect ≡ Some f → is_busy (stage_of p.view.point) ≡ true → is_commit (resolving f nodes) ≡ true → Commits F p (resolving f nodes)
-  commits_free f [] is busy e = commits_with f [] is busy
-  commits_free f (node ∷ nodes) is busy e = not_true e
+  commits_free : (f : Effect) (nodes : List ℕ) → is_commit (resolving f nodes) ≡ true → Commits F p (resolving f nodes)
+  commits_free f [] e = commits_with f []
+  commits_free f (node ∷ nodes) e = not_true e
 
-  commits_resolved : (o : Option Effect) → p.effect ≡ o → is_busy (stage_of p.view.point) ≡ true → is_commit_next (next_resolved F p.view o) ≡ true → Commits F p (the_next (next_resolved F p.view o))
-  commits_resolved None is busy e = not_true e
-  commits_resolved (Some f) is busy e = commits_free f (write_nodes F (record_read p.view.cmd.slot p.view.again) f) is busy e
+  commits_resolved : (o : Option Effect) → is_commit_next (next_resolved F p.view o) ≡ true → Commits F p (the_next (next_resolved F p.view o))
+  commits_resolved None e = not_true e
+  commits_resolved (Some f) e = commits_free f (write_nodes F (record_read p.view.cmd.slot p.view.again) f) e
 
-  commits_at : (point : Point) → p.view.point ≡ point → is_commit_next (next_point F p point) ≡ true → Commits F p (the_next (next_point F p point))
-  commits_at Idle at e = begin_commits p.given e
-  commits_at Owning at e = not_true e
-  commits_at (Taking got []) at e = not_true e
-  commits_at (Taking got (leaf ∷ rest)) at e = not_true e
-  commits_at Checking at e = not_true e
-  commits_at (Entering node plan) at e = not_true e
-  commits_at (Entered node plan) at e = not_true e
-  commits_at (Loading node part [] plan) at e = not_true e
-  commits_at (Loading node part (slot ∷ players) plan) at e = not_true e
-  commits_at (Leaving node plan) at e = not_true e
-  commits_at (Sensing []) at e = not_true e
-  commits_at (Sensing (id ∷ ids)) at e = not_true e
-  commits_at Resolving at e = commits_resolved p.effect refl (ap (λ (q : Point). is_busy (stage_of q)) at) e
-  commits_at (Claiming got []) at e = commits_claimed p.view.effect got refl (ap (λ (q : Point). is_busy (stage_of q)) at) e
-  commits_at (Claiming got (node ∷ rest)) at e = not_true e
-  commits_at (Storing nodes []) at e = not_true e
-  commits_at (Storing nodes (store ∷ stores)) at e = not_true e
-  commits_at (Releasing nodes) at e = give_commits (next_give (Releasing nodes) p.view.wanted) e
-  commits_at (Returning leaves) at e = give_commits (next_give (Returning leaves) p.view.wanted) e
-  commits_at (Yielding nodes leaves) at e = give_commits (next_give (Yielding nodes leaves) p.view.wanted) e
+  commits_at : (point : Point) → is_commit_next (next_point F p.view p.given p.effect point) ≡ true → Commits F p (the_next (next_point F p.view p.given p.effect point))
+  commits_at Idle e = begin_commits p.given e
+  commits_at Owning e = not_true e
+  commits_at (Taking got []) e = not_true e
+  commits_at (Taking got (leaf ∷ rest)) e = not_true e
+  commits_at Checking e = not_true e
+  commits_at (Entering node plan) e = not_true e
+  commits_at (Entered node plan) e = not_true e
+  commits_at (Loading node part [] plan) e = not_true e
+  commits_at (Loading node part (slot ∷ players) plan) e = not_true e
+  commits_at (Leaving node plan) e = not_true e
+  commits_at (Sensing []) e = not_true e
+  commits_at (Sensing (id ∷ ids)) e = not_true e
+  commits_at Resolving e = commits_resolved p.effect e
+  commits_at (Claiming got []) e = commits_claimed p.view.effect got e
+  commits_at (Claiming got (node ∷ rest)) e = not_true e
+  commits_at (Storing nodes []) e = not_true e
+  commits_at (Storing nodes (store ∷ stores)) e = not_true e
+  commits_at (Releasing nodes) e = give_commits (next_give (Releasing nodes) p.view.wanted) e
+  commits_at (Returning leaves) e = give_commits (next_give (Returning leaves) p.view.wanted) e
+  commits_at (Yielding nodes leaves) e = give_commits (next_give (Yielding nodes leaves) p.view.wanted) e
 
   pub commits_next : is_commit_next (next_of_pass F p) ≡ true → Commits F p (the_next (next_of_pass F p))
   commits_next commits = by_quits p.quits commits
     where
-      by_quits : (quits : Bool) → is_commit_next (if quits then Some (quitting (first_yield F p.view)) else next_point F p p.view.point) ≡ true
-          → Commits F p (the_next (if quits then Some (quitting (first_yield F p.view)) else next_point F p p.view.point))
+      by_quits : (quits : Bool) → is_commit_next (if quits then Some (quitting (first_yield F p.view)) else next_point F p.view p.given p.effect p.view.point) ≡ true
+          → Commits F p (the_next (if quits then Some (quitting (first_yield F p.view)) else next_point F p.view p.given p.effect p.view.point))
       by_quits true e = quit_commits (first_yield F p.view) e
-      by_quits false e = commits_at p.view.point refl e
+      by_quits false e = commits_at p.view.point e
 
 pub commit_there : (o : Option Next) → is_commit_next o ≡ true → is_some o ≡ true
 commit_there None e = not_true e
 commit_there (Some next) e = refl
 
-abbrev entry_with : ℕ → Cmd → Reply → Entry
-entry_with place cmd reply = record { place = place; slot = cmd.slot; seq = cmd.seq; reply = reply }
+abbrev entry_with : ℕ → ℕ → ℕ → Reply → Entry
+entry_with place slot seq reply = record { place = place; slot = slot; seq = seq; reply = reply }
 
 -- the entry of a commit, from what the pass holds
-pub entry_is : (place : ℕ) (cmd : Cmd) (c : Command) (reply : Reply) (o : Option Effect) → command_of cmd ≡ c → IfSome o (λ e. reply ≡ e.reply)
-    → IfSome o (λ e. entry_with place cmd reply ≡ entry_of place c e)
-entry_is place cmd c reply None same is = tt
-entry_is place cmd c reply (Some e) same is = λ i. record { place = place; slot = (same i).slot; seq = (same i).seq; reply = is i }
+pub entry_is : (place slot seq : ℕ) (c : Command) (reply : Reply) (o : Option Effect) → slot ≡ c.slot → seq ≡ c.seq → IfSome o (λ e. reply ≡ e.reply)
+    → IfSome o (λ e. entry_with place slot seq reply ≡ entry_of place c e)
+entry_is place slot seq c reply None same_slot same_seq is = tt
+entry_is place slot seq c reply (Some e) same_slot same_seq is = λ i. record { place = place; slot = same_slot i; seq = same_seq i; reply = is i }

@@ -1,13 +1,15 @@
 -- The count of commits is small: each log fits its room, and there are at most sixteen.
-use Rattle.std.proofs.Common.{ℕ, zero, suc, ◌*◌, ◌^◌, ◌<◌, ◌≤◌, List, [], ◌∷◌, length, inl, inr, arith, slice_index, length-append}
+use Rattle.std.proofs.Common.{◌≡◌, ap, ℕ, zero, suc, ◌*◌, ◌^◌, ◌<◌, ◌≤◌, List, [], ◌∷◌, length, inl, inr, arith, slice_index, length-append}
 use Rattle.std.specs.Prelude.{◌==◌}
 use Rattle.std.specs.List.{AllByRecursion}
 use Rattle.std.proofs.lemmas.Bool.{cases_Bool}
 use Rattle.std.proofs.lemmas.List.Elements.{recursion_from_All}
 use Rattle.std.proofs.lemmas.List.Sorted.{length_permutation}
+use mathlib.Core.Option as maybe
+use lib.ListN.{get_elem?}
 use Rattle.atomic_table.specs.Table.{State}
 use Rattle.entity_recs.specs.Histories.{Item}
-use Rattle.core_steps.specs.Views.{Fixed, Ended}
+use Rattle.core_steps.specs.Views.{Fixed, Ended, View}
 use Rattle.core_steps.specs.Stands.{IsLogWithin, ended_log, log_of, items_below, items_of}
 use Rattle.region_locks.specs.Sights.{SightView}
 use Rattle.region_locks.specs.Rule.{IsRuled}
@@ -47,3 +49,12 @@ count_is_small F rooms s r =
     let count = r.words.each 0 (omega arith) in
     let commits = stands.count in
     omega (arith, all, made, few, same, count, commits)
+
+-- the count that a seat has seen isn't above the count of commits
+pub seen_is_below : (F : Fixed) (rooms : List ℕ) (s : State (Unit {0}) SightView) (r : IsRuled F rooms s) (i : ℕ) (sight : SightView) → get_elem? s.views i ≡ maybe.some sight
+    → sight.view.seen ≤ slice_index s.words 0
+seen_is_below F rooms s r i sight at =
+    let known : (r.core.view i).seen ≤ r.core.words.commits = (r.stands.core.seats i).counted.known in
+    let seen : (r.core.view i).seen ≡ sight.view.seen = ap (λ (v : View). v.seen) (r.seats.view i sight at) in
+    let count : slice_index s.words 0 ≡ r.core.words.commits = r.words.each 0 (omega arith) in
+    omega (arith, known, seen, count)

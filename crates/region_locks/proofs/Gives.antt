@@ -6,54 +6,25 @@ use Rattle.entity_recs.specs.Commands.{Command}
 use Rattle.core_steps.specs.Views.{Fixed, Point, Idle, Owning, Taking, Checking, Entering, Entered, Loading, Leaving, Sensing, Resolving, Claiming, Storing, Releasing, Returning, Yielding, View, record_read, write_nodes, inner_held, leaves_held}
 use Rattle.core_steps.specs.Steps.{rest_of, first_yield, next_give, returning, released, yielding, yielded, view_after_give}
 use Rattle.core_steps.specs.Machine.{Next, beginning, ReadList, ReadState, GiveNode, YieldNode, resolving, quitting, committing, giving, index_of}
-use Rattle.region_locks.specs.Going.{view_found, word_left}
-use Rattle.region_locks.specs.Passes.{PassView, is_resolving, is_early, next_resolved, next_point, next_of_pass, the_next, node_given, node_given_next, list_read, list_read_next, state_read, state_read_next, IsPassOf}
-use Rattle.region_locks.proofs.Owns.{IsKept, kept_early, kept_late}
-
--- the new view is neither reading nor resolving, and its effect was in view
-record Late (old new : View) : Type 0 where
-  resolving' : is_resolving new.point ≡ false
-  early' : is_early new.point ≡ false
-  effect' : (e : Effect) → new.effect ≡ Some e → old.effect ≡ Some e
-
-none_effect : {R : Type 0} (e : Effect) → None ≡ Some e → R
-none_effect e is = cc
-
-late_returning : (view : View) (leaves : List ℕ) → Late view (returning view leaves)
-late_returning view [] = record { resolving' = refl; early' = refl; effect' = λ e is. none_effect e is }
-late_returning view (leaf ∷ leaves) = record { resolving' = refl; early' = refl; effect' = λ e is. is }
-
-late_released : (view : View) (nodes : List ℕ) → Late view (released view nodes)
-late_released view [] = late_returning view (rest_of view.wanted)
-late_released view (node ∷ nodes) = record { resolving' = refl; early' = refl; effect' = λ e is. is }
-
-late_yielding : (view : View) (nodes leaves : List ℕ) → Late view (yielding view nodes leaves)
-late_yielding view [] [] = record { resolving' = refl; early' = refl; effect' = λ e is. none_effect e is }
-late_yielding view [] (leaf ∷ leaves) = record { resolving' = refl; early' = refl; effect' = λ e is. is }
-late_yielding view (node ∷ nodes) leaves = record { resolving' = refl; early' = refl; effect' = λ e is. is }
-
-late_yielded : (view : View) (nodes leaves : List ℕ) → Late view (yielded view nodes leaves)
-late_yielded view [] leaves = late_yielding view [] (rest_of leaves)
-late_yielded view (node ∷ nodes) leaves = late_yielding view nodes leaves
+use Rattle.core_machine.specs.Going.{view_found, word_left}
+use Rattle.region_locks.specs.Passes.{PassView, next_of_pass, node_given, node_given_next, list_read, list_read_next, state_read, state_read_next, IsPassOf}
+use Rattle.core_machine.specs.Nexts.{next_resolved, next_point, the_next}
 
 -- what is known of a pass whose next step gives back a node
 pub record Gives (F : Fixed) (p : PassView) (node : ℕ) (next : Next) : Type 0 where
   pub index : index_of 31 p.view next ≡ 1 + node
   pub left : (found : ℕ) → word_left F p.number p.view next found ≡ 0
   pub blind : (found : ℕ) → view_found F p.view next found ≡ view_found F p.view next 0
-  pub kept : IsKept F p (view_found F p.view next 0)
 
 -- what is known of a pass whose next step loads the list word of a node
 pub record ReadsList (F : Fixed) (p : PassView) (node : ℕ) (next : Next) : Type 0 where
   pub index : index_of 31 p.view next ≡ 32 + node
   pub left : (found : ℕ) → word_left F p.number p.view next found ≡ found
-  pub kept : (found : ℕ) → IsKept F p (view_found F p.view next found)
 
 -- what is known of a pass whose next step loads the state of a thing
 pub record ReadsState (F : Fixed) (p : PassView) (id : ℕ) (next : Next) : Type 0 where
   pub index : index_of 31 p.view next ≡ 383 + id
   pub left : (found : ℕ) → word_left F p.number p.view next found ≡ found
-  pub kept : (found : ℕ) → IsKept F p (view_found F p.view next found)
 
 same_number : (a b : ℕ) → Some a ≡ Some b → a ≡ b
 same_number a b e = cc
@@ -128,19 +99,11 @@ state_quit n (Some node) e = cc
 module _ (F : Fixed) (passes : ℕ) (table : TableId) (p : PassView) (n : ℕ) (own : IsPassOf F passes table p) where
   -- ---- a node is given back
 
-  kept_given : (node : ℕ) (point : Point) → p.view.point ≡ point → Late p.view (view_after_give F p.view point) → IsKept F p (view_found F p.view (GiveNode node) 0)
-  kept_given node point at late =
-      let late_here = subst (λ (q : Point). Late p.view (view_after_give F p.view q)) (sym at) late in
-      kept_late F passes table p (GiveNode node) 0 own refl late_here.resolving' late_here.early' (λ e is. own.claimed e (late_here.effect' e is))
+  gives_one : (o : Option ℕ) → node_given_next (giving o) ≡ Some n → Gives F p n (the_next (giving o))
+  gives_one None e = none_is n e
+  gives_one (Some m) e = record { index = ap (λ (k : ℕ). 1 + k) (same_number m n e); left = λ found. refl; blind = λ found. refl }
 
-  gives_one : (node : ℕ) (o : Option ℕ) → ((m : ℕ) → IsKept F p (view_found F p.view (GiveNode m) 0)) → node_given_next (giving o) ≡ Some n → Gives F p n (the_next (giving o))
-  gives_one node None kept e = none_is n e
-  gives_one node (Some m) kept e = record { index = ap suc' (same_number m n e); left = λ found. refl; blind = λ found. refl; kept = kept m }
-    where
-      suc' : ℕ → ℕ
-      suc' k = 1 + k
-
-  gives_at : (point : Point) → p.view.point ≡ point → node_given_next (next_point F p point) ≡ Some n → Gives F p n (the_next (next_point F p point))
+  gives_at : (point : Point) → p.view.point ≡ point → node_given_next (next_point F p.view p.given p.effect point) ≡ Some n → Gives F p n (the_next (next_point F p.view p.given p.effect point))
   gives_at Idle at e = given_begin n p.given e
   gives_at Owning at e = none_is n e
   gives_at (Taking got []) at e = none_is n e
@@ -150,9 +113,7 @@ module _ (F : Fixed) (passes : ℕ) (table : TableId) (p : PassView) (n : ℕ) (
   gives_at (Entered node plan) at e = none_is n e
   gives_at (Loading node part [] plan) at e = none_is n e
   gives_at (Loading node part (slot ∷ players) plan) at e = none_is n e
-  gives_at (Leaving node plan) at e =
-      gives_one node (Some node)
-      (λ m. kept_early F passes table p (GiveNode m) 0 own refl (own.early (ap is_early at)) (ap (λ (q : Point). (view_after_give F p.view q).effect) at)) e
+  gives_at (Leaving node plan) at e = gives_one (Some node) e
   gives_at (Sensing []) at e = none_is n e
   gives_at (Sensing (id ∷ ids)) at e = none_is n e
   gives_at Resolving at e = given_resolved n F p.view p.effect e
@@ -160,35 +121,25 @@ module _ (F : Fixed) (passes : ℕ) (table : TableId) (p : PassView) (n : ℕ) (
   gives_at (Claiming got (node ∷ rest)) at e = none_is n e
   gives_at (Storing nodes []) at e = none_is n e
   gives_at (Storing nodes (store ∷ stores)) at e = none_is n e
-  gives_at (Releasing nodes) at e =
-      gives_one 0 (next_give (Releasing nodes) p.view.wanted) (λ m. kept_given m (Releasing nodes) at (late_released p.view nodes)) e
-  gives_at (Returning leaves) at e =
-      gives_one 0 (next_give (Returning leaves) p.view.wanted) (λ m. kept_given m (Returning leaves) at (late_returning p.view (rest_of leaves))) e
-  gives_at (Yielding nodes leaves) at e =
-      gives_one 0 (next_give (Yielding nodes leaves) p.view.wanted) (λ m. kept_given m (Yielding nodes leaves) at (late_yielded p.view nodes leaves)) e
+  gives_at (Releasing nodes) at e = gives_one (next_give (Releasing nodes) p.view.wanted) e
+  gives_at (Returning leaves) at e = gives_one (next_give (Returning leaves) p.view.wanted) e
+  gives_at (Yielding nodes leaves) at e = gives_one (next_give (Yielding nodes leaves) p.view.wanted) e
 
   yields : (o : Option ℕ) → node_given (quitting o) ≡ Some n → Gives F p n (quitting o)
   yields None e = none_is n e
-  yields (Some m) e =
-      let late = late_yielded p.view (inner_held F p.view.point) (leaves_held p.view.point p.view.wanted) in
-      record {
-        index = ap (λ (k : ℕ). 1 + k) (same_number m n e);
-        left = λ found. refl;
-        blind = λ found. refl;
-        kept = kept_late F passes table p (YieldNode m) 0 own refl late.resolving' late.early' (λ f is. own.claimed f (late.effect' f is));
-      }
+  yields (Some m) e = record { index = ap (λ (k : ℕ). 1 + k) (same_number m n e); left = λ found. refl; blind = λ found. refl }
 
   pub gives_next : node_given_next (next_of_pass F p) ≡ Some n → Gives F p n (the_next (next_of_pass F p))
   gives_next given = by_quits p.quits given
     where
-      by_quits : (quits : Bool) → node_given_next (if quits then Some (quitting (first_yield F p.view)) else next_point F p p.view.point) ≡ Some n
-          → Gives F p n (the_next (if quits then Some (quitting (first_yield F p.view)) else next_point F p p.view.point))
+      by_quits : (quits : Bool) → node_given_next (if quits then Some (quitting (first_yield F p.view)) else next_point F p.view p.given p.effect p.view.point) ≡ Some n
+          → Gives F p n (the_next (if quits then Some (quitting (first_yield F p.view)) else next_point F p.view p.given p.effect p.view.point))
       by_quits true e = yields (first_yield F p.view) e
       by_quits false e = gives_at p.view.point refl e
 
   -- ---- a list word is loaded
 
-  lists_at : (point : Point) → p.view.point ≡ point → list_read_next (next_point F p point) ≡ Some n → ReadsList F p n (the_next (next_point F p point))
+  lists_at : (point : Point) → p.view.point ≡ point → list_read_next (next_point F p.view p.given p.effect point) ≡ Some n → ReadsList F p n (the_next (next_point F p.view p.given p.effect point))
   lists_at Idle at e = list_begin n p.given e
   lists_at Owning at e = none_is n e
   lists_at (Taking got []) at e = none_is n e
@@ -198,7 +149,6 @@ module _ (F : Fixed) (passes : ℕ) (table : TableId) (p : PassView) (n : ℕ) (
   lists_at (Entered node plan) at e = record {
     index = ap (λ (k : ℕ). 32 + k) (same_number node n e);
     left = λ found. refl;
-    kept = λ found. kept_early F passes table p (ReadList node plan) found own refl (own.early (ap is_early at)) refl;
   }
   lists_at (Loading node part [] plan) at e = none_is n e
   lists_at (Loading node part (slot ∷ players) plan) at e = none_is n e
@@ -217,14 +167,14 @@ module _ (F : Fixed) (passes : ℕ) (table : TableId) (p : PassView) (n : ℕ) (
   pub lists_next : list_read_next (next_of_pass F p) ≡ Some n → ReadsList F p n (the_next (next_of_pass F p))
   lists_next read = by_quits p.quits read
     where
-      by_quits : (quits : Bool) → list_read_next (if quits then Some (quitting (first_yield F p.view)) else next_point F p p.view.point) ≡ Some n
-          → ReadsList F p n (the_next (if quits then Some (quitting (first_yield F p.view)) else next_point F p p.view.point))
+      by_quits : (quits : Bool) → list_read_next (if quits then Some (quitting (first_yield F p.view)) else next_point F p.view p.given p.effect p.view.point) ≡ Some n
+          → ReadsList F p n (the_next (if quits then Some (quitting (first_yield F p.view)) else next_point F p.view p.given p.effect p.view.point))
       by_quits true e = list_quit n (first_yield F p.view) e
       by_quits false e = lists_at p.view.point refl e
 
   -- ---- a state is loaded
 
-  states_at : (point : Point) → p.view.point ≡ point → state_read_next (next_point F p point) ≡ Some n → ReadsState F p n (the_next (next_point F p point))
+  states_at : (point : Point) → p.view.point ≡ point → state_read_next (next_point F p.view p.given p.effect point) ≡ Some n → ReadsState F p n (the_next (next_point F p.view p.given p.effect point))
   states_at Idle at e = state_begin n p.given e
   states_at Owning at e = none_is n e
   states_at (Taking got []) at e = none_is n e
@@ -239,7 +189,6 @@ module _ (F : Fixed) (passes : ℕ) (table : TableId) (p : PassView) (n : ℕ) (
   states_at (Sensing (id ∷ ids)) at e = record {
     index = ap (λ (k : ℕ). 383 + k) (same_number id n e);
     left = λ found. refl;
-    kept = λ found. kept_early F passes table p (ReadState id ids) found own refl (own.early (ap is_early at)) refl;
   }
   states_at Resolving at e = state_resolved n F p.view p.effect e
   states_at (Claiming got []) at e = state_commit n p.view.effect got e
@@ -253,8 +202,8 @@ module _ (F : Fixed) (passes : ℕ) (table : TableId) (p : PassView) (n : ℕ) (
   pub states_next : state_read_next (next_of_pass F p) ≡ Some n → ReadsState F p n (the_next (next_of_pass F p))
   states_next read = by_quits p.quits read
     where
-      by_quits : (quits : Bool) → state_read_next (if quits then Some (quitting (first_yield F p.view)) else next_point F p p.view.point) ≡ Some n
-          → ReadsState F p n (the_next (if quits then Some (quitting (first_yield F p.view)) else next_point F p p.view.point))
+      by_quits : (quits : Bool) → state_read_next (if quits then Some (quitting (first_yield F p.view)) else next_point F p.view p.given p.effect p.view.point) ≡ Some n
+          → ReadsState F p n (the_next (if quits then Some (quitting (first_yield F p.view)) else next_point F p.view p.given p.effect p.view.point))
       by_quits true e = state_quit n (first_yield F p.view) e
       by_quits false e = states_at p.view.point refl e
 

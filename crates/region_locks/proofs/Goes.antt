@@ -19,9 +19,10 @@ use Rattle.core_steps.proofs.NextSteps.{next_step_stands}
 use Rattle.core_steps.proofs.TableWords.{steps_have_their_word}
 use Rattle.core_steps.proofs.OneWord.{steps_change_one_word}
 use Rattle.region_locks.specs.Sights.{SightView}
-use Rattle.region_locks.specs.Going.{view_found, word_left, next_asked, MayGo}
+use Rattle.region_locks.specs.Going.{next_asked, MayGo}
+use Rattle.core_machine.specs.Going.{view_found, word_left}
 use Rattle.region_locks.specs.Rule.{at_rest, HasWords, HasSeats, ServesItsSlots, HasRooms, IsRuled}
-use Rattle.region_locks.proofs.Changing.{view_here, view_there, word_here}
+use Rattle.core_machine.proofs.Changing.{view_here, view_there, word_here}
 use Rattle.region_locks.proofs.Views.{command_next, keeps_found, asked_is}
 
 none_given : {R : Type 0} (c : Command) → None ≡ Some c → R

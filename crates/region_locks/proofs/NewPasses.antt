@@ -1,25 +1,37 @@
 -- New passes belong to their table.
-use Rattle.std.proofs.Common.{◌≡◌, ℕ, zero, suc, ◌+◌, ◌-◌, ◌<◌, ◌≤◌, Bool, true, false, List, [], ◌∷◌, ◌++◌, map, length, refl, ap, ◌∙◌, subst, Option, Some, None, arith, slice_index, All}
+use Rattle.std.proofs.Common.{◌≡◌, ℕ, zero, suc, ◌+◌, ◌-◌, ◌<◌, ◌≤◌, Bool, true, false, List, [], ◌∷◌, ◌++◌, map, length, refl, sym, ap, ◌∙◌, subst, Option, Some, None, arith, slice_index, All}
 use Rattle.std.specs.List.{range_with_len, AllByRecursion}
 use Rattle.std.proofs.lemmas.Bool.{false≢true}
 use Rattle.std.proofs.lemmas.List.Elements.{All-from_recursion}
 use Rattle.std.proofs.lemmas.List.FromFn.{map-range_with_len_more}
 use Rattle.atomic_table.specs.Seated.{TableId}
+use Rattle.arena_geo.specs.Bounds.{Bounds}
+use Rattle.entity_recs.specs.declared.rec.Rec.{Rec}
 use Rattle.entity_recs.specs.Commands.{Command}
-use Rattle.core_steps.specs.Views.{Fixed, View}
+use Rattle.entity_recs.specs.Histories.{Action}
+use Rattle.world_tree.specs.Worlds.{WorldView}
+use Rattle.core_machine.specs.Shown.{RulesView, fixed_of, IsRuled}
+use Rattle.region_locks.specs.Starts.{rules_of}
+use Rattle.core_steps.specs.Views.{Fixed, Store, View}
 use Rattle.core_steps.specs.Machine.{Next, Begin, beginning, index_of, IsPending}
 use Rattle.core_steps.proofs.Machines.{fits_none}
 use Rattle.region_locks.specs.Going.{MayGo}
-use Rattle.region_locks.specs.Plays.{IsSound, IsToldOf}
-use Rattle.region_locks.specs.Passes.{is_resolving, IsPassOf, new_pass, view_with_made, other_pass, new_passes}
+use Rattle.region_locks.specs.Plays.{IsToldOf}
+use Rattle.core_machine.specs.Sound.{IsSound}
+use Rattle.core_machine.specs.Ready.{is_resolving}
+use Rattle.region_locks.specs.Passes.{IsPassOf, new_pass, view_with_made, other_pass, new_passes}
 
 module _ (F : Fixed) (depth : F.tree.depth ≡ 4) (room made : ℕ) where
   abbrev view : View
   view = view_with_made room made
 
+  none_owed : {R : Type 0} (store : Store) (stores : List Store) → [] ≡ store ∷ stores → R
+  none_owed store stores e = cc
+
   sound : IsSound F view
   sound = record {
     depth = depth;
+    own_part = λ e. absurd (false≢true e);
     own_whole = λ e. absurd (false≢true e);
     again_whole = λ e. absurd (false≢true e);
     room = λ e. absurd (false≢true e);
@@ -39,6 +51,9 @@ module _ (F : Fixed) (depth : F.tree.depth ≡ 4) (room made : ℕ) where
     fits = fits_none F;
     region = λ e whole. absurd (false≢true e);
     effect = λ at. absurd (false≢true (ap is_resolving at));
+    owed = λ store stores e. none_owed store stores e;
+    taken_again = λ e read. absurd (false≢true e);
+    taken_after = λ e f some. absurd (false≢true e);
   }
 
   begun : (given : Option Command) (next : Next) → beginning given ≡ Some next → ((c : Command) → given ≡ Some c → IsPending F view c) → index_of 31 view next < 639
@@ -68,11 +83,8 @@ module _ (F : Fixed) (depth : F.tree.depth ≡ 4) (room made : ℕ) where
     pending = λ c e. absurd (no_given c e);
     serves = λ c e. absurd (no_given c e);
     may_quit = λ e. absurd (false≢true e);
-    has_leaves = λ e. absurd (omega arith);
-    has_home = λ e. absurd (omega arith);
     has_effect = λ e. absurd (false≢true e);
-    early = λ e. refl;
-    claimed = λ e is. is;
+    only_resolving = λ e. refl;
   }
     where
       no_given : (c : Command) → None ≡ Some c → ⊥
@@ -93,3 +105,8 @@ pub others_more : (table : TableId) (rooms : List ℕ) (i : ℕ) → 1 ≤ i
 others_more table rooms i least =
     let count : i + 1 - 1 ≡ i - 1 + 1 = omega (arith, least) in
     ap (λ (n : ℕ). map (other_pass table rooms) (range_with_len 1 n)) count ∙ map-range_with_len_more (other_pass table rooms) 1 (i - 1) i (omega (arith, least))
+
+-- the tree of a world for which there are rules has depth 4
+pub depth_is : {A : Type 0} (takes : A → Rec → Bool) (region : A → Rec → Command → List Bounds) (effect : A → Action) (action : A) (w : WorldView) (r : RulesView A)
+    → r ≡ rules_of action w → IsRuled (fixed_of takes region effect r) → w.tree.depth ≡ 4
+depth_is {A} takes region effect action w r is ruled = ap (λ (x : RulesView A). x.tree.depth) (sym is) ∙ ruled.depth

@@ -1,5 +1,6 @@
 -- The step that comes next of a pass, and what is known after it.
-use Rattle.std.proofs.Common.{◌≡◌, ℕ, Bool, true, false, if◌then◌else◌, refl, sym, ap, ◌∙◌, subst, Option, Some, None, is_some}
+use Rattle.std.proofs.Common.{◌≡◌, ◌≤◌, ℕ, Bool, true, false, if◌then◌else◌, List, refl, sym, ap, ◌∙◌, subst, Option, Some, None, is_some}
+use Rattle.std.specs.Option.{option_map}
 use Rattle.std.proofs.lemmas.Bool.{false≢true}
 use Rattle.atomic_table.specs.Seated.{TableId}
 use Rattle.atomic_table.specs.declared.shared.Seat.{Seat}
@@ -8,14 +9,18 @@ use Rattle.core_steps.specs.Views.{Fixed, Point, Idle, Owning, Taking, Checking,
 use Rattle.core_steps.specs.Steps.{first_yield}
 use Rattle.core_steps.specs.Machine.{Next, resolving, quitting, next_at}
 use Rattle.region_locks.specs.Sights.{SightView}
-use Rattle.region_locks.specs.Going.{view_found, next_asked, MayGo}
+use Rattle.region_locks.specs.Going.{next_asked, MayGo}
+use Rattle.core_machine.specs.Going.{view_found}
+use Rattle.region_locks.specs.Holders.{IsFoundHeld, AreReached}
 use Rattle.region_locks.specs.Plays.{IsToldOf, SeatWent}
-use Rattle.entity_recs.specs.declared.cmd.Cmd.{Cmd}
-use Rattle.entity_recs.specs.Commands.{Command, command_of}
-use Rattle.core_steps.specs.Views.{stage_of, is_busy}
-use Rattle.region_locks.specs.Hands.{IsHand}
-use Rattle.region_locks.proofs.Views.{command_next, keeps_found, asked_is}
-use Rattle.region_locks.specs.Passes.{PassView, is_resolving, next_resolved, next_point, next_of_pass, the_next, IsPassOf, IsReady, HasGone}
+use Rattle.entity_recs.specs.Commands.{command_of}
+use Rattle.core_machine.specs.declared.seat.Seat as mirrors
+use Rattle.core_machine.specs.Ready.{is_resolving}
+use Rattle.core_machine.specs.Seats.{view_of}
+use Rattle.region_locks.specs.Hands.{pass_view, IsHand, CanFollow}
+use Rattle.region_locks.specs.Passes.{PassView, effect_kept, next_of_pass, pass_after, IsPassOf, IsReady, HasGone}
+use Rattle.region_locks.proofs.Owns.{own_after}
+use Rattle.core_machine.specs.Nexts.{next_resolved, next_point, the_next}
 
 pub some_is : (o : Option Next) → is_some o ≡ true → o ≡ Some (the_next o)
 some_is None e = absurd (false≢true e)
@@ -27,8 +32,8 @@ resolved_comes F view None is e = absurd (false≢true e)
 resolved_comes F view (Some effect) is e =
     ap (λ (x : Effect). Some (resolving x (write_nodes F (record_read view.cmd.slot view.again) x))) (sym (is effect refl))
 
-point_comes : (F : Fixed) (p : PassView) (point : Point) → (is_resolving point ≡ true → (e : Effect) → p.effect ≡ Some e → e ≡ effect_loaded F p.view) → is_some (next_point F p point) ≡ true
-    → next_at F p.view p.given point ≡ Some (the_next (next_point F p point))
+point_comes : (F : Fixed) (p : PassView) (point : Point) → (is_resolving point ≡ true → (e : Effect) → p.effect ≡ Some e → e ≡ effect_loaded F p.view) → is_some (next_point F p.view p.given p.effect point) ≡ true
+    → next_at F p.view p.given point ≡ Some (the_next (next_point F p.view p.given p.effect point))
 point_comes F p Idle is e = some_is _ e
 point_comes F p Owning is e = some_is _ e
 point_comes F p (Taking got rest) is e = some_is _ e
@@ -46,8 +51,8 @@ point_comes F p (Returning leaves) is e = some_is _ e
 point_comes F p (Yielding nodes leaves) is e = some_is _ e
 
 comes_asked : (F : Fixed) (p : PassView) (quits : Bool) → (is_resolving p.view.point ≡ true → (e : Effect) → p.effect ≡ Some e → e ≡ effect_loaded F p.view)
-    → is_some (if quits then Some (quitting (first_yield F p.view)) else next_point F p p.view.point) ≡ true
-    → next_asked F p.view p.given quits ≡ Some (the_next (if quits then Some (quitting (first_yield F p.view)) else next_point F p p.view.point))
+    → is_some (if quits then Some (quitting (first_yield F p.view)) else next_point F p.view p.given p.effect p.view.point) ≡ true
+    → next_asked F p.view p.given quits ≡ Some (the_next (if quits then Some (quitting (first_yield F p.view)) else next_point F p.view p.given p.effect p.view.point))
 comes_asked F p true is e = refl
 comes_asked F p false is e = point_comes F p p.view.point is e
 
@@ -84,28 +89,77 @@ has_gone F passes table p old new word found is same went =
       same_number = number;
       went = view;
       told = subst (IsToldOf F passes) (sight_is new.me.0 p.number _ number view) went.0.told;
+      small = went.0.small;
+      taken = went.0.taken;
       carries = went.1;
     }
 
-command_given : (given : Bool) (a b : Command) → (if given then Some a else None) ≡ Some b → a ≡ b
-command_given true a b e = cc
-command_given false a b e = cc
+-- the view after what comes next of a pass
+abbrev view_next : Fixed → PassView → ℕ → View
+view_next F p found = view_found F p.view (the_next (next_of_pass F p)) found
 
--- the seat after the step is still the pass's
-pub hand_after : (F : Fixed) (passes : ℕ) (table : TableId) (p : PassView) (old new : Seat (Unit {0}) SightView) (number : ℕ) (cmd : Cmd) (given : Bool) (found : ℕ)
-    → p.number ≡ number → p.given ≡ (if given then Some (command_of cmd) else None) → p.view ≡ old.me.0.view → IsHand old number cmd
-    → IsPassOf F passes table p → is_some (next_of_pass F p) ≡ true → HasGone F passes p found new old.me.1 → IsHand new number cmd
-hand_after F passes table p old new number cmd given found is_number is_given is_view hand own comes gone =
-    let next : Next = the_next (next_of_pass F p) in
-    let may = may_go F passes table p own comes in
-    record {
-      has_number = gone.same_number ∙ is_number;
-      carries = gone.carries ∙ hand.carries;
-      has_cmd = λ busy.
-          let after = (keeps_found F p.view next found).cmd (subst (λ (v : View). is_busy (stage_of v.point) ≡ true) gone.went busy) in
-          let own_cmd : command_of cmd ≡ command_next p.view next =
-          asked_is p.view (λ c. command_of cmd ≡ c) F p.given p.quits next may.comes own.may_quit
-          (λ c e. command_given given (command_of cmd) c (sym is_given ∙ e))
-          (λ b. hand.has_cmd (subst (λ (v : View). is_busy (stage_of v.point) ≡ true) is_view b) ∙ ap (λ (v : View). v.cmd) (sym is_view)) in
-          own_cmd ∙ sym after ∙ ap (λ (v : View). v.cmd) (sym gone.went);
-    }
+-- the seat in plain values may make the step that its place has made
+pub can_follow : (F G : Fixed) (passes : ℕ) (table : TableId) (p q : PassView) (found : ℕ) (place : Seat (Unit {0}) SightView) (carried : List (ℕ × Unit {0}))
+    → G ≡ F → q ≡ p → IsPassOf F passes table p → is_some (next_of_pass F p) ≡ true → HasGone F passes p found place carried
+    → CanFollow G q.view q.given q.quits q.effect found
+can_follow F G passes table p q found place carried same is own comes gone =
+    subst (λ (H : Fixed). CanFollow H q.view q.given q.quits q.effect found) (sym same)
+    (subst (λ (r : PassView). CanFollow F r.view r.given r.quits r.effect found) (sym is) (record {
+      comes = comes;
+      ready = record {
+        sound = own.told.sound;
+        pending = own.pending;
+        taking = own.may_quit;
+        due = λ e at some. own.has_effect (ap is_resolving at) e some;
+      };
+      after = gone.told.sound;
+      small = gone.small;
+    }))
+
+-- what a pass is after its step
+pub record Stepped (F : Fixed) (passes : ℕ) (table : TableId) (p : PassView) (found : ℕ) (place : Seat (Unit {0}) SightView) (number : ℕ) (mirror : mirrors.Seat) (effect : Option Effect) : Type 0 where
+  pub hand : IsHand place number mirror
+  pub pass : pass_view place number mirror effect ≡ pass_after F (the_next (next_of_pass F p)) found p
+  pub own : IsPassOf F passes table (pass_view place number mirror effect)
+
+module _ (F G : Fixed) (passes : ℕ) (table : TableId) (p : PassView) (found : ℕ) (old new : Seat (Unit {0}) SightView) (number : ℕ) (mirror after : mirrors.Seat) (effect effect_after : Option Effect)
+    (same : G ≡ F) (is : pass_view old number mirror effect ≡ p) (hand : IsHand old number mirror) (own : IsPassOf F passes table p) (comes : is_some (next_of_pass F p) ≡ true)
+    (gone : HasGone F passes p found new old.me.1) where
+  pub stepped : view_of after ≡ view_next G (pass_view old number mirror effect) found → after.given ≡ None → after.quits ≡ false → effect_after ≡ effect_kept (view_of after) effect
+      → Stepped F passes table p found new number after effect_after
+  stepped follows given quits kept =
+      let q = pass_view old number mirror effect in
+      let followed : view_of after ≡ view_next F p found = follows ∙ ap (λ (H : Fixed). view_next H q found) same ∙ ap (λ (r : PassView). view_next F r found) is in
+      let effect_is : effect_after ≡ effect_kept (view_next F p found) p.effect =
+      kept ∙ ap (λ (r : PassView). effect_kept (view_of after) r.effect) is ∙ ap (λ (v : View). effect_kept v p.effect) followed in
+      let pass : pass_view new number after effect_after ≡ pass_after F (the_next (next_of_pass F p)) found p = λ i. record {
+        table = gone.same_table i;
+        number = ap (λ (r : PassView). r.number) is i;
+        given = option_map command_of (given i);
+        quits = quits i;
+        effect = effect_is i;
+        view = followed i;
+      } in
+      record {
+        hand = record {
+          has_number = gone.same_number ∙ sym (ap (λ (r : PassView). r.number) is);
+          carries = gone.carries ∙ hand.carries;
+          mirrors = followed ∙ sym gone.went;
+        };
+        pass = pass;
+        own = subst (IsPassOf F passes table) (sym pass) (own_after F passes table p found own comes gone.told);
+      }
+
+-- who holds the node that the pass was to take
+pub held_ready : (F : Fixed) (passes : ℕ) (table : TableId) (p : PassView) (seat : Seat (Unit {0}) SightView) (word found : ℕ) → IsReady F passes table p seat word
+    → IsFoundHeld F passes seat.me.0.number (the_next (next_of_pass F p)) found → IsFoundHeld F passes p.number (the_next (next_of_pass F p)) found
+held_ready F passes table p seat word found is held = subst (λ (n : ℕ). IsFoundHeld F passes n (the_next (next_of_pass F p)) found) is.same_number held
+
+-- what a step that takes a node, or counts, says of the seat's view holds of the pass's
+pub reached_ready : (F : Fixed) (passes : ℕ) (table : TableId) (p : PassView) (seat : Seat (Unit {0}) SightView) (word : ℕ) → IsReady F passes table p seat word
+    → (next : Next) → AreReached F seat.me.0.view next → AreReached F p.view next
+reached_ready F passes table p seat word is next reached = subst (λ (v : View). AreReached F v next) is.same_view reached
+
+pub seen_ready : (F : Fixed) (passes : ℕ) (table : TableId) (p : PassView) (seat : Seat (Unit {0}) SightView) (word found : ℕ) → IsReady F passes table p seat word
+    → seat.me.0.view.seen ≤ found → p.view.seen ≤ found
+seen_ready F passes table p seat word found is seen = subst (λ (v : View). v.seen ≤ found) is.same_view seen

@@ -7,7 +7,8 @@ use Rattle.entity_recs.specs.Commands.{Command}
 use Rattle.core_steps.specs.Views.{Fixed, Point, Idle, Owning, Taking, Checking, Entering, Entered, Loading, Leaving, Sensing, Resolving, Claiming, Storing, Releasing, Returning, Yielding, stage_of, is_busy, View, record_read, write_nodes, effect_loaded, inner_held, leaves_held}
 use Rattle.core_steps.specs.Steps.{rest_of, first_yield, next_give, is_taking, returning, released, yielding, yielded, view_after_give}
 use Rattle.core_steps.specs.Machine.{Next, Begin, LoadOwn, LoadAgain, TakeNode, ClaimNode, ReadList, ReadPlayer, ReadState, CommitMove, StoreWord, GiveNode, YieldNode, YieldCount, giving, quitting, beginning, resolving, committing, next_at}
-use Rattle.region_locks.specs.Going.{view_found, next_asked}
+use Rattle.region_locks.specs.Going.{next_asked}
+use Rattle.core_machine.specs.Going.{view_found}
 
 -- the command in view after what comes next
 abbrev pub command_next : View → Next → Command

@@ -1,27 +1,42 @@
--- How a pass is held: its seat at the table beside what it has in hand.
-use Rattle.std.specs.Prelude.{◌≡◌, ℕ, Bool, true, if◌then◌else◌, [], Option, Some, None}
-use Rattle.atomic_table.specs.declared.shared.Seat.{Seat}
+-- How a pass is held: its seat at the table beside the same seat in plain values.
+use Rattle.std.specs.Prelude.{◌≡◌, ℕ, ◌+◌, ◌^◌, ◌<◌, Bool, true, [], Option, is_some}
+use Rattle.atomic_table.specs.declared.shared.Seat as places
 use Rattle.entity_recs.specs.declared.effect.Effect.{Effect}
-use Rattle.entity_recs.specs.declared.cmd.Cmd.{Cmd}
-use Rattle.entity_recs.specs.Commands.{command_of}
-use Rattle.core_steps.specs.Views.{stage_of, is_busy}
+use Rattle.core_machine.specs.declared.seat.Seat.{Seat}
+use Rattle.entity_recs.specs.Commands.{Command}
+use Rattle.core_steps.specs.declared.step.StepKind.TheVariants.{Commit}
+use Rattle.core_steps.specs.Views.{Fixed, View}
+use Rattle.core_steps.specs.Machine.{kind_of}
+use Rattle.core_machine.specs.Going.{view_found}
+use Rattle.core_machine.specs.Nexts.{next_with, the_next}
+use Rattle.core_machine.specs.Ready.{IsReady}
+use Rattle.core_machine.specs.Sound.{IsSound}
+use Rattle.core_machine.specs.Seats.{view_of, given_of}
 use Rattle.region_locks.specs.Sights.{SightView}
 use Rattle.region_locks.specs.Passes.{PassView}
 
-abbrev pub pass_view : Seat (Unit {0}) SightView → ℕ → Cmd → Bool → Bool → ℕ → ℕ → Option Effect → PassView
-pass_view seat number cmd given quits leaves home effect = record {
-  table = seat.table_id;
+-- the pass of this place at the table with this number, the same seat in plain values, and the effect that is kept
+abbrev pub pass_view : places.Seat (Unit {0}) SightView → ℕ → Seat → Option Effect → PassView
+pass_view place number mirror effect = record {
+  table = place.table_id;
   number = number;
-  given = if given then Some (command_of cmd) else None;
-  quits = quits;
-  leaves = leaves;
-  home = home;
+  given = given_of mirror;
+  quits = mirror.quits;
   effect = effect;
-  view = seat.me.0.view;
+  view = view_of mirror;
 }
 
--- the seat has the pass's number and carries nothing, and its command is the pass's
-pub record IsHand (seat : Seat (Unit {0}) SightView) (number : ℕ) (cmd : Cmd) : Type 0 where
-  pub has_number : seat.me.0.number ≡ number
-  pub carries : seat.me.1 ≡ []
-  pub has_cmd : is_busy (stage_of seat.me.0.view.point) ≡ true → command_of cmd ≡ seat.me.0.view.cmd
+-- the place has the pass's number and carries nothing, and the seat in plain values has its view
+pub record IsHand (place : places.Seat (Unit {0}) SightView) (number : ℕ) (mirror : Seat) : Type 0 where
+  pub has_number : place.me.0.number ≡ number
+  pub carries : place.me.1 ≡ []
+  pub mirrors : view_of mirror ≡ place.me.0.view
+
+-- the step that comes next may be made where this word was found: the view is sound before and after it, and a count that
+-- it adds 1 to doesn't wrap
+pub record CanFollow (F : Fixed) (view : View) (given : Option Command) (quits : Bool) (effect : Option Effect)
+    (found : ℕ) : Type 0 where
+  pub comes : is_some (next_with F view given quits effect) ≡ true
+  pub ready : IsReady F view given quits effect
+  pub after : IsSound F (view_found F view (the_next (next_with F view given quits effect)) found)
+  pub small : kind_of (the_next (next_with F view given quits effect)) ≡ Commit → found + 1 < 2 ^ 64

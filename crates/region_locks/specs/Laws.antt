@@ -9,7 +9,8 @@ use Rattle.core_steps.specs.Views.{Fixed}
 use Rattle.core_steps.specs.Stands.{IsLawful, IsStart, start_core}
 use Rattle.core_steps.specs.Machine.{Next, index_of}
 use Rattle.region_locks.specs.Sights.{SightView, no_sight, with_one_made, sight_made, with_one_ended}
-use Rattle.region_locks.specs.Going.{view_found, view_looked, word_left, IsAtRest, MayGo}
+use Rattle.region_locks.specs.Going.{view_looked, IsAtRest, MayGo}
+use Rattle.core_machine.specs.Going.{view_found, word_left}
 use Rattle.region_locks.specs.Rule.{HasWords, IsRuled, first_sight}
 use Rattle.region_locks.specs.Closing.{AreOthersEnded, Closes}
 

@@ -6,6 +6,11 @@ pub mod Rule
 pub mod Plays
 pub mod Passes
 pub mod Hands
+pub mod Loads
+pub mod Turns
+pub mod Holders
+pub mod Pursuits
+pub mod Quitting
 pub mod Closing
 pub mod Laws
 pub use Rattle.core_steps.specs.Cells
@@ -13,3 +18,6 @@ pub use Rattle.core_steps.specs.Views
 pub use Rattle.core_steps.specs.Steps
 pub use Rattle.core_steps.specs.Stands
 pub use Rattle.core_steps.specs.Machine
+pub use Rattle.core_machine.specs.Going as Stepping
+pub use Rattle.core_machine.specs.Sound
+pub use Rattle.core_machine.specs.Nexts

@@ -1,5 +1,5 @@
 -- A pass as contracts see it, and the table that it belongs to.
-use Rattle.std.specs.Prelude.{◌≡◌, ◌≢◌, ℕ, ◌-◌, ◌/◌, ◌%◌, ◌^◌, nat_le, Bool, true, false, if◌then◌else◌, List, ◌∷◌}
+use Rattle.std.specs.Prelude.{◌≡◌, ◌≢◌, ℕ, ◌+◌, ◌-◌, ◌/◌, ◌%◌, ◌^◌, ◌<◌, nat_le, Bool, true, false, if◌then◌else◌, List, [], ◌∷◌, ◌++◌}
 use Rattle.std.specs.Prelude.{map, length, slice_index, Option, Some, None, is_some}
 use Rattle.std.specs.List.{range_with_len}
 use Rattle.arena_geo.specs.Bounds.{Bounds}
@@ -8,31 +8,29 @@ use Rattle.atomic_table.specs.declared.shared.Seat.{Seat}
 use Rattle.entity_recs.specs.declared.rec.Rec.{Rec}
 use Rattle.entity_recs.specs.declared.effect.Effect.{Effect}
 use Rattle.entity_recs.specs.Commands.{Command}
-use Rattle.areanode.specs.Trees.{leaves_of}
 use Rattle.world_tree.specs.Worlds.{WorldView}
-use Rattle.core_steps.specs.Views.{Fixed, Store, Clear, Put, Link, Point, Idle, Owning, Taking, Checking, Entering}
-use Rattle.core_steps.specs.Views.{Entered, Loading, Leaving, Sensing, Resolving, Claiming, Storing, Releasing}
-use Rattle.core_steps.specs.Views.{Returning, Yielding, View, new_view, home, region_in, record_read, write_nodes}
-use Rattle.core_steps.specs.Views.{effect_loaded}
-use Rattle.core_steps.specs.Steps.{is_taking, first_yield}
+use Rattle.core_steps.specs.Cells.{cell_index}
+use Rattle.core_steps.specs.Views.{Fixed, Store, Clear, Put, Link, View, new_view, record_read, effect_loaded}
+use Rattle.core_steps.specs.Steps.{is_taking}
 use Rattle.core_steps.specs.Machine.{Next, Begin, LoadOwn, LoadAgain, TakeNode, ClaimNode, ReadList, ReadPlayer}
 use Rattle.core_steps.specs.Machine.{ReadState, CommitMove, StoreWord, GiveNode, YieldNode, YieldCount, index_of}
-use Rattle.core_steps.specs.Machine.{resolving, quitting, next_at, IsPending}
+use Rattle.core_steps.specs.Machine.{kind_of, IsPending}
+use Rattle.core_steps.specs.declared.step.StepKind.TheVariants.{Commit}
 use Rattle.region_locks.specs.Sights.{SightView}
 use Rattle.region_locks.specs.Starts.{fixed_by}
 use Rattle.core_steps.specs.Calls.{node_taken}
-use Rattle.region_locks.specs.Going.{view_found, word_left}
+use Rattle.core_machine.specs.Going.{view_found, word_left}
+use Rattle.core_machine.specs.Nexts.{next_with, the_next}
+use Rattle.core_machine.specs.Ready.{is_resolving}
 use Rattle.region_locks.specs.Plays.{IsToldOf}
 
 -- which table it is, the pass's number, the command that is given and not begun, whether the pass is to give up, the
--- leaves of its command as bits, the node of its player, the effect that it keeps, and its view in the core
+-- effect that it keeps, and its view in the core
 pub record PassView : Type 0 where
   pub table : TableId
   pub number : ℕ
   pub given : Option Command
   pub quits : Bool
-  pub leaves : ℕ
-  pub home : ℕ
   pub effect : Option Effect
   pub view : View
 
@@ -43,81 +41,35 @@ pub record TableView (A : Type 0) : Type 0 where
   pub world : WorldView
   pub rooms : List ℕ
 
--- what comes next after all is read: with the effect that is kept the first write node is taken, or the commit
-abbrev pub next_resolved : Fixed → View → Option Effect → Option Next
-next_resolved F view None = None
-next_resolved F view (Some e) = Some (resolving e (write_nodes F (record_read view.cmd.slot view.again) e))
-
--- what comes next of a pass: as in the core, but for the effect, which `resolve` gives
-abbrev pub next_point : Fixed → PassView → Point → Option Next
-next_point F p Idle = next_at F p.view p.given Idle
-next_point F p Owning = next_at F p.view p.given Owning
-next_point F p (Taking got rest) = next_at F p.view p.given (Taking got rest)
-next_point F p Checking = next_at F p.view p.given Checking
-next_point F p (Entering node plan) = next_at F p.view p.given (Entering node plan)
-next_point F p (Entered node plan) = next_at F p.view p.given (Entered node plan)
-next_point F p (Loading node part players plan) = next_at F p.view p.given (Loading node part players plan)
-next_point F p (Leaving node plan) = next_at F p.view p.given (Leaving node plan)
-next_point F p (Sensing ids) = next_at F p.view p.given (Sensing ids)
-next_point F p Resolving = next_resolved F p.view p.effect
-next_point F p (Claiming got rest) = next_at F p.view p.given (Claiming got rest)
-next_point F p (Storing nodes stores) = next_at F p.view p.given (Storing nodes stores)
-next_point F p (Releasing nodes) = next_at F p.view p.given (Releasing nodes)
-next_point F p (Returning leaves) = next_at F p.view p.given (Returning leaves)
-next_point F p (Yielding nodes leaves) = next_at F p.view p.given (Yielding nodes leaves)
-
 -- what comes next of a pass
 abbrev pub next_of_pass : Fixed → PassView → Option Next
-next_of_pass F p = if p.quits then Some (quitting (first_yield F p.view)) else next_point F p p.view.point
+next_of_pass F p = next_with F p.view p.given p.quits p.effect
 
--- the step that comes next
-abbrev pub the_next : Option Next → Next
-the_next None = YieldCount
-the_next (Some next) = next
+-- the effect that is kept after a step to this view: it is kept where all is read and no write node is taken
+abbrev pub effect_kept : View → Option Effect → Option Effect
+effect_kept view effect = if is_resolving view.point then effect else None
 
 -- the pass after what comes next, where this word was found
 abbrev pub pass_after : Fixed → Next → ℕ → PassView → PassView
-pass_after F next found p = record p { given = None; quits = false; view = view_found F p.view next found }
+pass_after F next found p = record p {
+  given = None;
+  quits = false;
+  effect = effect_kept (view_found F p.view next found) p.effect;
+  view = view_found F p.view next found;
+}
+
+-- the first of two effects that is there
+abbrev pub first_effect : Option Effect → Option Effect → Option Effect
+first_effect None other = other
+first_effect (Some e) other = Some e
+
+-- the effect of the command in hand: the one that is kept, or the one in view
+abbrev pub effect_in_hand : PassView → Option Effect
+effect_in_hand p = first_effect p.effect p.view.effect
 
 -- the sight of the pass's seat
 abbrev pub sight_of : PassView → SightView
 sight_of p = record { number = p.number; view = p.view }
-
--- all is read
-abbrev pub is_resolving : Point → Bool
-is_resolving Idle = false
-is_resolving Owning = false
-is_resolving (Taking got rest) = false
-is_resolving Checking = false
-is_resolving (Entering node plan) = false
-is_resolving (Entered node plan) = false
-is_resolving (Loading node part players plan) = false
-is_resolving (Leaving node plan) = false
-is_resolving (Sensing ids) = false
-is_resolving Resolving = true
-is_resolving (Claiming got rest) = false
-is_resolving (Storing nodes stores) = false
-is_resolving (Releasing nodes) = false
-is_resolving (Returning leaves) = false
-is_resolving (Yielding nodes leaves) = false
-
--- a command is in view, and not all is read yet
-abbrev pub is_early : Point → Bool
-is_early Idle = false
-is_early Owning = true
-is_early (Taking got rest) = true
-is_early Checking = true
-is_early (Entering node plan) = true
-is_early (Entered node plan) = true
-is_early (Loading node part players plan) = true
-is_early (Leaving node plan) = true
-is_early (Sensing ids) = true
-is_early Resolving = false
-is_early (Claiming got rest) = false
-is_early (Storing nodes stores) = false
-is_early (Releasing nodes) = false
-is_early (Returning leaves) = false
-is_early (Yielding nodes leaves) = false
 
 -- the pass belongs to the table, and what it keeps beside its view is what the view says
 pub record IsPassOf (F : Fixed) (passes : ℕ) (table : TableId) (p : PassView) : Type 0 where
@@ -127,11 +79,8 @@ pub record IsPassOf (F : Fixed) (passes : ℕ) (table : TableId) (p : PassView) 
   pub pending : (c : Command) → p.given ≡ Some c → IsPending F p.view c
   pub serves : (c : Command) → p.given ≡ Some c → c.slot % passes ≡ p.number
   pub may_quit : p.quits ≡ true → is_taking p.view.point ≡ true
-  pub has_leaves : length p.view.own ≡ 6 → p.leaves ≡ leaves_of F.tree (region_in F p.view.cmd p.view.own)
-  pub has_home : length p.view.again ≡ 6 → p.home ≡ home F (record_read p.view.cmd.slot p.view.again)
   pub has_effect : is_resolving p.view.point ≡ true → (e : Effect) → p.effect ≡ Some e → e ≡ effect_loaded F p.view
-  pub early : is_early p.view.point ≡ true → p.effect ≡ None
-  pub claimed : (e : Effect) → p.view.effect ≡ Some e → p.effect ≡ Some e
+  pub only_resolving : is_resolving p.view.point ≡ false → p.effect ≡ None
 
 -- what doesn't change of a table, by its action
 abbrev pub fixed_in : {A : Type 0} → (A → Rec → Bool) → (A → Rec → Command → List Bounds)
@@ -169,6 +118,10 @@ pub record HasGone (F : Fixed) (passes : ℕ) (p : PassView) (found : ℕ) (seat
   pub same_table : seat.table_id ≡ p.table
   pub same_number : seat.me.0.number ≡ p.number
   pub went : seat.me.0.view ≡ view_found F p.view (the_next (next_of_pass F p)) found
+  pub small : kind_of (the_next (next_of_pass F p)) ≡ Commit → found + 1 < 2 ^ 64
+  pub taken : (node slot : ℕ) (part players plan : List ℕ)
+      → the_next (next_of_pass F p) ≡ ReadPlayer node part slot players plan → length part ≡ 5
+      → F.takes (record_read slot (part ++ found ∷ [])) ≡ true
   pub told : IsToldOf F passes (record {
     number = p.number;
     view = view_found F p.view (the_next (next_of_pass F p)) found;
@@ -259,32 +212,80 @@ abbrev pub is_commit_next : Option Next → Bool
 is_commit_next None = false
 is_commit_next (Some next) = is_commit next
 
--- the store clears the own bit
-abbrev pub is_clear : Store → Bool
-is_clear (Clear node) = true
-is_clear (Put cell x) = false
-is_clear (Link node) = false
+-- the node at which the own bit is cleared or set by the first of these stores, and 0 where it is none of the bit
+abbrev pub bit_owed : List Store → ℕ
+bit_owed [] = 0
+bit_owed (Clear node ∷ stores) = node
+bit_owed (Put cell x ∷ stores) = 0
+bit_owed (Link node ∷ stores) = node
 
--- the step clears the own bit at the old node
-abbrev pub is_unlink : Next → Bool
-is_unlink (Begin c) = false
-is_unlink LoadOwn = false
-is_unlink LoadAgain = false
-is_unlink (TakeNode node) = false
-is_unlink (ClaimNode e node) = false
-is_unlink (ReadList node plan) = false
-is_unlink (ReadPlayer node part slot players plan) = false
-is_unlink (ReadState id ids) = false
-is_unlink (CommitMove e nodes) = false
-is_unlink (StoreWord nodes store stores) = is_clear store
-is_unlink (GiveNode node) = false
-is_unlink (YieldNode node) = false
-is_unlink YieldCount = false
+-- the index of the word that the first of these stores puts, and 0 where it puts none
+abbrev pub index_owed : List Store → ℕ
+index_owed [] = 0
+index_owed (Clear node ∷ stores) = 0
+index_owed (Put cell x ∷ stores) = cell_index 31 cell
+index_owed (Link node ∷ stores) = 0
+
+-- the word that the first of these stores puts, and 0 where it puts none
+abbrev pub word_owed : List Store → ℕ
+word_owed [] = 0
+word_owed (Clear node ∷ stores) = 0
+word_owed (Put cell x ∷ stores) = x
+word_owed (Link node ∷ stores) = 0
+
+-- the store that a step makes
+abbrev pub store_made : Next → Option Store
+store_made (Begin c) = None
+store_made LoadOwn = None
+store_made LoadAgain = None
+store_made (TakeNode node) = None
+store_made (ClaimNode e node) = None
+store_made (ReadList node plan) = None
+store_made (ReadPlayer node part slot players plan) = None
+store_made (ReadState id ids) = None
+store_made (CommitMove e nodes) = None
+store_made (StoreWord nodes store stores) = Some store
+store_made (GiveNode node) = None
+store_made (YieldNode node) = None
+store_made YieldCount = None
 
 -- the same of what comes next, if anything does
+abbrev pub store_made_next : Option Next → Option Store
+store_made_next None = None
+store_made_next (Some next) = store_made next
+
+-- the store clears the own bit
+abbrev pub is_clear : Option Store → Bool
+is_clear None = false
+is_clear (Some (Clear node)) = true
+is_clear (Some (Put cell x)) = false
+is_clear (Some (Link node)) = false
+
+-- the store puts a word of a record
+abbrev pub is_put : Option Store → Bool
+is_put None = false
+is_put (Some (Clear node)) = false
+is_put (Some (Put cell x)) = true
+is_put (Some (Link node)) = false
+
+-- the store sets the own bit
+abbrev pub is_set : Option Store → Bool
+is_set None = false
+is_set (Some (Clear node)) = false
+is_set (Some (Put cell x)) = false
+is_set (Some (Link node)) = true
+
+-- what comes next clears the own bit at the old node
 abbrev pub is_unlink_next : Option Next → Bool
-is_unlink_next None = false
-is_unlink_next (Some next) = is_unlink next
+is_unlink_next next = is_clear (store_made_next next)
+
+-- what comes next stores a word of a record
+abbrev pub is_store_next : Option Next → Bool
+is_store_next next = is_put (store_made_next next)
+
+-- what comes next sets the own bit at the new node
+abbrev pub is_link_next : Option Next → Bool
+is_link_next next = is_set (store_made_next next)
 
 -- ---- new passes
 
@@ -295,8 +296,6 @@ new_pass table number view = record {
   number = number;
   given = None;
   quits = false;
-  leaves = 0;
-  home = 0;
   effect = None;
   view = view;
 }

@@ -1,32 +1,15 @@
--- What a step tells its caller.
-use Rattle.std.specs.Prelude.{◌≡◌, ℕ, ◌<◌, Bool, true, length, Option}
+-- What the caller of a step knows after it.
+use Rattle.std.specs.Prelude.{◌≡◌, ℕ, ◌+◌, ◌^◌, ◌<◌, ◌≤◌, Bool, true, List, [], ◌∷◌, ◌++◌, length, Option}
 use Rattle.atomic_table.specs.Table.{Me}
 use Rattle.entity_recs.specs.Commands.{Command}
-use Rattle.entity_recs.specs.Actions.{HasPlayer, IsCall}
-use Rattle.core_steps.specs.Views.{Fixed, Resolving, stage_of, is_busy, is_open, is_whole, is_read_again, View}
-use Rattle.core_steps.specs.Views.{record_read, leaf_nodes, region_in, leaves_held, inner_held, loaded_near}
-use Rattle.core_steps.specs.Stands.{IsGiven, IsHolding, IsUnread, IsAt}
-use Rattle.core_steps.specs.Machine.{Next, index_of, HasNext, ViewFits}
+use Rattle.core_steps.specs.Views.{Fixed, record_read}
+use Rattle.core_steps.specs.declared.step.StepKind.TheVariants.{Commit}
+use Rattle.core_steps.specs.Machine.{Next, ReadPlayer, index_of, kind_of}
+use Rattle.core_machine.specs.Going.{view_found}
+use Rattle.core_machine.specs.Sound.{IsSound}
 use Rattle.region_locks.specs.Sights.{SightView}
-use Rattle.region_locks.specs.Going.{view_found, view_looked, MayGo}
-
--- what the rule says of one view alone
-pub record IsSound (F : Fixed) (view : View) : Type 0 where
-  pub depth : F.tree.depth ≡ 4
-  pub own_whole : is_whole (stage_of view.point) ≡ true → length view.own ≡ 6
-  pub again_whole : is_read_again (stage_of view.point) ≡ true → length view.again ≡ 6
-  pub room : is_open (stage_of view.point) ≡ true → length view.log < view.room
-  pub hand : is_busy (stage_of view.point) ≡ true → IsGiven F view.cmd
-  pub whole : is_whole (stage_of view.point) ≡ true → view.wanted ≡ leaf_nodes F (region_in F view.cmd view.own)
-  pub holding : IsHolding F view.wanted (leaves_held view.point view.wanted) (inner_held F view.point)
-  pub unread : IsUnread (stage_of view.point) view.own view.again view.lists view.others view.states view.effect
-  pub at : IsAt F view.cmd view.own view.wanted view.again view.lists view.others view.states view.effect view.point
-  pub next : HasNext view.point view.wanted
-  pub fits : ViewFits F view
-  pub region : is_open (stage_of view.point) ≡ true → is_whole (stage_of view.point) ≡ true
-      → HasPlayer F.takes (record_read view.cmd.slot view.own) view.cmd
-  pub effect : view.point ≡ Resolving
-      → IsCall F.takes (record_read view.cmd.slot view.again) (loaded_near F view) view.cmd
+use Rattle.region_locks.specs.Going.{view_looked, MayGo}
+use Rattle.region_locks.specs.Holders.{IsFoundHeld, AreReached}
 
 -- a sound view, from which each step that may come lies in the table
 pub record IsToldOf (F : Fixed) (passes : ℕ) (sight : SightView) : Type 0 where
@@ -34,16 +17,34 @@ pub record IsToldOf (F : Fixed) (passes : ℕ) (sight : SightView) : Type 0 wher
   pub in_table : (given : Option Command) (quits : Bool) (next : Next)
       → MayGo F passes sight.number sight.view given quits next → index_of 31 sight.view next < 639
 
--- the seat keeps its number, its view is the one after the step, and that is sound
+-- the seat keeps its number, its view is the one after the step and sound, a count that it adds 1 to doesn't wrap, and
+-- a player's record whose last word it loads is one that the action takes
 pub record Went (F : Fixed) (passes : ℕ) (next : Next) (before : SightView) (found : ℕ) (after : SightView) : Type 0
   where
     pub number : after.number ≡ before.number
     pub view : after.view ≡ view_found F before.view next found
     pub told : IsToldOf F passes after
+    pub small : kind_of next ≡ Commit → found + 1 < 2 ^ 64
+    pub taken : (node slot : ℕ) (part players plan : List ℕ) → next ≡ ReadPlayer node part slot players plan
+        → length part ≡ 5 → F.takes (record_read slot (part ++ found ∷ [])) ≡ true
 
 -- the seat went on, and carries what it carried
 abbrev pub SeatWent : Fixed → ℕ → Next → Me (Unit {0}) SightView → ℕ → Me (Unit {0}) SightView → Type 0
 SeatWent F passes next before found after = Went F passes next before.0 found after.0 × (after.1 ≡ before.1)
+
+-- the seat went on, the node that the step takes is one of its leaves or visited by them, and where it isn't free, another
+-- seat holds it
+pub record SeatTook (F : Fixed) (passes : ℕ) (next : Next) (before : Me (Unit {0}) SightView) (found : ℕ)
+    (after : Me (Unit {0}) SightView) : Type 0 where
+  pub went : SeatWent F passes next before found after
+  pub held : IsFoundHeld F passes before.0.number next found
+  pub reached : AreReached F before.0.view next
+
+-- the seat went on, and the count that was found isn't below the one that it had seen
+pub record SeatCounted (F : Fixed) (passes : ℕ) (next : Next) (before : Me (Unit {0}) SightView) (found : ℕ)
+    (after : Me (Unit {0}) SightView) : Type 0 where
+  pub went : SeatWent F passes next before found after
+  pub seen : before.0.view.seen ≤ found
 
 -- the seat keeps its number, the count that was found is the one that it has seen, and its view is sound
 pub record Looked (F : Fixed) (passes : ℕ) (before : SightView) (found : ℕ) (after : SightView) : Type 0 where

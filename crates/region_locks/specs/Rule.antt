@@ -40,6 +40,11 @@ pub record HasRooms (rooms : List ℕ) (core : Core) : Type 0 where
   pub room : (k : ℕ) → (core.view k).room < 2 ^ 32
   pub ended : All (λ (e : Ended). e.room < 2 ^ 32) (core.view 0).ended
 
+-- there are 1 to 16 rooms
+pub record HasSomeRooms (rooms : List ℕ) : Type 0 where
+  pub some : 0 < length rooms
+  pub few : length rooms ≤ 16
+
 -- some core with the words and the seats of the table stands, with some history
 pub record IsRuled (F : Fixed) (rooms : List ℕ) (s : State (Unit {0}) SightView) : Type 0 where
   pub core : Core

@@ -5,31 +5,30 @@ use Rattle.entity_recs.specs.declared.rec.Rec.{Rec}
 use Rattle.entity_recs.specs.declared.effect.Effect.{Effect}
 use Rattle.entity_recs.specs.Commands.{Command}
 use Rattle.entity_recs.specs.Worlds.{World, nobody, zero_vector, world_of}
-use Rattle.world_tree.specs.Live.{record_at, ids_of}
+use Rattle.world_tree.specs.Live.{live_in}
 use Rattle.world_tree.specs.Worlds.{WorldView}
 use Rattle.core_steps.specs.Cells.{word_at}
 use Rattle.core_steps.specs.Views.{Fixed}
 use Rattle.core_steps.specs.Stands.{start_words}
+use Rattle.core_machine.specs.Shown.{RulesView, fixed_of}
 
 -- the record of a place, and nobody's where the place is empty
 abbrev pub record_or_nobody : Option Rec → Rec
 record_or_nobody None = nobody
 record_or_nobody (Some r) = r
 
--- the records by id as a world: the live ids in rising order, and the record of each
-abbrev pub world_by_id : List (Option Rec) → World
-world_by_id records = record { ids = ids_of records; record_of = λ id. record_or_nobody (record_at records id) }
+-- the world of the live records
+abbrev pub world_at_start : WorldView → World
+world_at_start world = world_of (live_in world.records)
+
+-- the rules of a table: its action, and the tree and the live records of the world at the start
+abbrev pub rules_of : {A : Type 0} → A → WorldView → RulesView A
+rules_of action world = record { action = action; tree = world.tree; start = live_in world.records }
 
 -- what doesn't change, of an action with what it takes, its regions and its effects, and of the world at the start
 abbrev pub fixed_by : {A : Type 0} → (A → Rec → Bool) → (A → Rec → Command → List Bounds)
     → (A → Rec → List Rec → Command → Effect) → A → WorldView → Fixed
-fixed_by takes region effect action world = record {
-  takes = takes action;
-  region_of = region action;
-  effect_of = effect action;
-  tree = world.tree;
-  start = world_by_id world.records;
-}
+fixed_by takes region effect action world = fixed_of takes region effect (rules_of action world)
 
 -- in place of what doesn't change, where no step is picked
 abbrev pub nothing_fixed : Fixed
@@ -43,7 +42,7 @@ nothing_fixed = record {
 
 -- the tree and the world at the start, of an action that doesn't matter
 abbrev pub fixed_of_world : WorldView → Fixed
-fixed_of_world world = record nothing_fixed { tree = world.tree; start = world_by_id world.records }
+fixed_of_world world = record nothing_fixed { tree = world.tree; start = world_at_start world }
 
 -- the words of the table at the start, in the flat table
 abbrev pub start_word_at : WorldView → ℕ → ℕ

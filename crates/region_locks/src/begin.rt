@@ -20,11 +20,9 @@ impl<'a, A: Action> NodeTable<'a, A> {
         requires live { has (fixed_in A.takes A.region_of A.effect_of self.now).start.ids cmd.slot ≡ true }
         requires serves { cmd.slot % length self.now.rooms ≡ pass.old.number }
         ensures own { IsPassOf (fixed_in A.takes A.region_of A.effect_of self.now) (length self.now.rooms) self.now.table pass.new }
-        ensures pass { pass.new ≡ record pass.old { given = Some (command_of cmd); effect = None } }
+        ensures pass { pass.new ≡ record pass.old { given = Some (command_of cmd) } }
     {
-        pass.cmd = cmd;
-        pass.is_given = true;
-        pass.effect = None;
+        pass.mirror.given = Some(cmd);
     }
 
     /// The pass, which rests, loads the count.
@@ -34,7 +32,9 @@ impl<'a, A: Action> NodeTable<'a, A> {
         ensures pass { pass.new ≡ record pass.old { view = view_looked result pass.old.view } }
         ensures told { IsToldOf (fixed_in A.takes A.region_of A.effect_of self.now) (length self.now.rooms) (sight_of pass.new) }
     {
-        look(&self.table.shared, &mut pass.seat)
+        let seen = look(&self.table.shared, &mut pass.place);
+        pass.mirror.seen = seen;
+        seen
     }
 
     /// Loads the count of commits, with no command in hand. The pass has then seen that number.

@@ -1,7 +1,9 @@
-ghost use Rattle.std.specs.Prelude.{◌≡◌, true, length, IfSome, Some};
+ghost use Rattle.std.specs.Prelude.{◌≡◌, ◌≤◌, true, length, IfSome, Some};
 ghost use Rattle.entity_recs.specs.Histories.{entry_of};
-ghost use Rattle.region_locks.specs.Passes.{fixed_in, IsPassOf, next_of_pass, the_next, pass_after, is_commit_next};
+ghost use Rattle.region_locks.specs.Passes.{fixed_in, IsPassOf, next_of_pass, pass_after, is_commit_next, first_effect, effect_in_hand};
+ghost use Rattle.core_machine.specs.Nexts.{the_next};
 
+use crate::owed::slot_and_seq;
 use crate::pass::Pass;
 use crate::table::NodeTable;
 use arena_geo::Vec3;
@@ -19,19 +21,36 @@ fn copy_ids(ids: &IdList) -> IdList
     copy
 }
 
-/// The reply of the effect that is kept, if any is.
+/// The reply once more.
+fn same_reply(reply: &Reply) -> Reply
+    ensures { result ≡ reply.now }
+{
+    Reply {
+        origin: reply.origin,
+        got: copy_ids(&reply.got),
+    }
+}
+
+/// The reply of the effect, and in place of one that isn't there an empty one.
 fn reply_of(effect: &Option<Effect>) -> Reply
     ensures { IfSome effect.now (λ e. result ≡ e.reply) }
 {
     match effect {
-        Some(e) => Reply {
-            origin: e.reply.origin,
-            got: copy_ids(&e.reply.got),
-        },
+        Some(e) => same_reply(&e.reply),
         None => Reply {
-            origin: Vec3 { x: 0, y: 0, z: 0 },
+            origin: Vec3::ZERO,
             got: IdList::new(),
         },
+    }
+}
+
+/// The reply of the first of two effects that is there.
+fn reply_in_hand(kept: &Option<Effect>, in_view: &Option<Effect>) -> Reply
+    ensures { IfSome (first_effect kept.now in_view.now) (λ e. result ≡ e.reply) }
+{
+    match kept {
+        Some(e) => same_reply(&e.reply),
+        None => reply_of(in_view),
     }
 }
 
@@ -42,10 +61,11 @@ impl<'a, A: Action> NodeTable<'a, A> {
         requires next { is_commit_next (next_of_pass (fixed_in A.takes A.region_of A.effect_of self.now) pass.old) ≡ true }
         ensures own { IsPassOf (fixed_in A.takes A.region_of A.effect_of self.now) (length self.now.rooms) self.now.table pass.new }
         ensures pass { pass.new ≡ pass_after (fixed_in A.takes A.region_of A.effect_of self.now) (the_next (next_of_pass (fixed_in A.takes A.region_of A.effect_of self.now) pass.old)) result.place pass.old }
-        ensures entry { IfSome pass.old.effect (λ e. result ≡ entry_of result.place pass.old.view.cmd e) }
+        ensures seen { pass.old.view.seen ≤ result.place }
+        ensures entry { IfSome (effect_in_hand pass.old) (λ e. result ≡ entry_of result.place pass.old.view.cmd e) }
     {
-        let (slot, seq) = (pass.cmd.slot, pass.cmd.seq);
-        let reply = reply_of(&pass.effect);
+        let (slot, seq) = slot_and_seq(&pass.mirror);
+        let reply = reply_in_hand(&pass.effect, &pass.mirror.effect);
         let place = self.add_to_count(pass, 0);
         Entry {
             place,

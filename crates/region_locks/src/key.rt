@@ -6,7 +6,7 @@ use std::marker::PhantomData;
 use std::snapshot::Snapshot;
 use world_tree::World;
 
-/// What the table is told once, when it is made: the action, the world at the start, and the room of each pass.
+/// What the table is given once, when it is made: the action, the world at the start, and the room of each pass.
 #[derive(Drop)]
 pub struct Key<A> {
     /// The action, which only clauses read.

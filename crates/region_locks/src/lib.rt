@@ -8,22 +8,43 @@ pub use laws::{
 };
 pub use pass::Pass;
 pub use table::{NodeTable, PassList};
+pub use turn::Turn;
+pub use went::{Refusal, Went};
 
 mod begin;
+mod close;
+#[cfg(test)]
+mod close_tests;
 mod commit;
+mod effect;
+mod follow;
+mod give_up;
+mod go_on;
 mod holder;
 mod key;
 mod laws;
+mod leaves;
+mod load_rec;
+mod moments;
 mod nexts;
 mod opening;
+mod owed;
 mod pass;
 mod plays;
+mod quit;
+mod records;
 mod resolve;
 mod seats;
 mod sight;
 mod start;
+#[cfg(test)]
+mod staying;
 mod steps;
+mod stores;
 mod table;
 mod take;
-mod unlink;
+#[cfg(test)]
+mod tests;
+mod turn;
+mod went;
 mod words;

@@ -1,8 +1,10 @@
 ghost use Rattle.core_steps.specs.Cells.{with_bit, without_bit};
-ghost use Rattle.std.specs.Prelude.{◌≡◌, ℕ, ◌+◌, ◌<◌, ◌==◌, length, if◌then◌else◌};
+ghost use Rattle.std.specs.Prelude.{◌≡◌, ℕ, ◌+◌, ◌<◌, ◌≤◌, ◌==◌, length, if◌then◌else◌};
 ghost use Rattle.region_locks.specs.Starts.{fixed_by};
-ghost use Rattle.region_locks.specs.Going.{view_found};
-ghost use Rattle.region_locks.specs.Passes.{IsReady, HasGone, word_after, the_next, next_of_pass};
+ghost use Rattle.core_machine.specs.Going.{view_found};
+ghost use Rattle.region_locks.specs.Holders.{IsFoundHeld, AreReached};
+ghost use Rattle.region_locks.specs.Passes.{IsReady, HasGone, word_after, next_of_pass};
+ghost use Rattle.core_machine.specs.Nexts.{the_next};
 
 use crate::key::{Place, Words};
 use crate::pass::Pass;
@@ -55,6 +57,8 @@ pub(crate) fn exchange_next<A: Action>(
     requires wide { words.now.table_id.words ≡ 639 }
     requires left { (found : ℕ) → word_after (fixed_by A.takes A.region_of A.effect_of words.now.key.action.value words.now.key.world.value) about.now.value found ≡ (if found == 0 then new else found) }
     ensures gone { HasGone (fixed_by A.takes A.region_of A.effect_of words.now.key.action.value words.now.key.world.value) (length words.now.key.rooms.items) about.now.value result seat.new seat.old.me.1 }
+    ensures held { IsFoundHeld (fixed_by A.takes A.region_of A.effect_of words.now.key.action.value words.now.key.world.value) (length words.now.key.rooms.items) about.now.value.number (the_next (next_of_pass (fixed_by A.takes A.region_of A.effect_of words.now.key.action.value words.now.key.world.value) about.now.value)) result }
+    ensures reached { AreReached (fixed_by A.takes A.region_of A.effect_of words.now.key.action.value words.now.key.world.value) about.now.value.view (the_next (next_of_pass (fixed_by A.takes A.region_of A.effect_of words.now.key.action.value words.now.key.world.value) about.now.value)) }
 {
     exchange_as::<A, Brand>(words, about, seat, word, new)
 }
@@ -71,6 +75,7 @@ pub(crate) fn count_next<A: Action>(
     requires count { word ≡ 0 }
     requires left { (found : ℕ) → word_after (fixed_by A.takes A.region_of A.effect_of words.now.key.action.value words.now.key.world.value) about.now.value found ≡ found + 1 }
     ensures gone { HasGone (fixed_by A.takes A.region_of A.effect_of words.now.key.action.value words.now.key.world.value) (length words.now.key.rooms.items) about.now.value result seat.new seat.old.me.1 }
+    ensures seen { about.now.value.view.seen ≤ result }
 {
     count_as::<A, Brand>(words, about, seat, word)
 }

@@ -1,5 +1,6 @@
 ghost use Rattle.std.specs.Prelude.{◌≡◌, ◌<◌, ◌≤◌, true, [], length, slice_index, All, IfOk};
 ghost use Rattle.world_tree.specs.Live.{live_in};
+ghost use Rattle.region_locks.specs.Starts.{rules_of};
 ghost use Rattle.region_locks.specs.Rule.{first_sight};
 
 use crate::key::{Key, Locks, Place};
@@ -7,7 +8,8 @@ use crate::sight::Sight;
 use crate::start::words_at_start;
 use arrayvec::ArrayVec;
 use atomic_table::Table;
-use entity_recs::Action;
+use core_machine::Rules;
+use entity_recs::{Action, Rec};
 use std::alloc::{AllocError, Global};
 use std::snapshot::Snapshot;
 use world_tree::World;
@@ -30,6 +32,34 @@ fn first_room(room: &[u32]) -> u32
     room[0]
 }
 
+/// The live records of the world, in rising id.
+fn live_records(alloc: Global, world: &World) -> Result<Vec<Rec>, AllocError>
+    ensures { IfOk result (λ v. v.items ≡ live_in world.now.records) }
+{
+    // To ask for the tree is to know that there are 256 places.
+    let _tree = world.tree();
+    let mut records = Vec::with_capacity(alloc, 256)?;
+    for id in 0..256u16 {
+        if let Some(r) = world.get(id) {
+            records.push(r)?;
+        }
+    }
+    Ok(records)
+}
+
+/// The rules of an action in the world at the start.
+pub(crate) fn rules_at_start<'a, A: Action>(
+    alloc: Global,
+    action: &'a A,
+    world: &World,
+) -> Result<Rules<'a, A>, AllocError>
+    requires taken { All (λ r. A.takes action.now r ≡ true) (live_in world.now.records) }
+    ensures { IfOk result (λ r. r ≡ rules_of action.now world.now) }
+{
+    let records = live_records(alloc, world)?;
+    Rules::new(alloc, action, world.tree(), records.as_slice())
+}
+
 /// A table with the words of the world, under its rule, and the seat of pass 0.
 pub(crate) fn lay_table<A: Action>(
     alloc: Global,
@@ -39,7 +69,7 @@ pub(crate) fn lay_table<A: Action>(
 ) -> Result<(Table<(), Sight, Key<A>, Locks<A>, Global>, Place), AllocError>
     requires rooms { (0 < length room.now) × (length room.now ≤ 16) }
     requires taken { All (λ r. A.takes action.now r ≡ true) (live_in world.now.records) }
-    ensures words { IfOk result (λ t. t.0.shared.table_id.words ≡ 639) }
+    ensures words { IfOk result (λ t. (t.0.shared.table_id.words ≡ 639) × (t.0.shared.table_id.slots ≡ 0)) }
     ensures key { IfOk result (λ t. (t.0.shared.key.action.value ≡ action.now) × (t.0.shared.key.world.value ≡ world.now) × (t.0.shared.key.rooms.items ≡ room.now)) }
     ensures seat { IfOk result (λ t. (t.1.table_id ≡ t.0.shared.table_id) × (t.1.me ≡ (first_sight (slice_index room.now 0), []))) }
 {

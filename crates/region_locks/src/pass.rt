@@ -1,25 +1,25 @@
-ghost use Rattle.std.specs.Prelude.{◌≡◌, []};
-ghost use Rattle.core_steps.specs.Views.{Idle};
-ghost use Rattle.region_locks.specs.Passes.{new_pass};
+ghost use Rattle.std.specs.Prelude.{◌≡◌, false, [], None};
+ghost use Rattle.core_machine.specs.Seats.{view_of};
+ghost use Rattle.region_locks.specs.Passes.{new_pass, sight_of};
+ghost use Rattle.region_locks.specs.Closing.{log_from};
 
 use crate::key::Place;
-use entity_recs::{Cmd, Effect};
+use core_machine::Seat;
+use entity_recs::Effect;
+use move_journal::Log;
 use std::marker::{Model, PhantomData};
 
 /// A worker's seat at the table.
 #[derive(Drop)]
 pub struct Pass<A> {
-    pub(crate) seat: Place,
+    pub(crate) place: Place,
     pub(crate) number: u8,
-    pub(crate) cmd: Cmd,
-    pub(crate) is_given: bool,
-    pub(crate) quits: bool,
-    pub(crate) leaves: u16,
-    pub(crate) home: u8,
+    pub(crate) mirror: Seat,
     pub(crate) effect: Option<Effect>,
     pub(crate) of: PhantomData<A>,
 }
 
+// What the place at the table has in view is known to clauses alone, so the pass keeps the same in plain values.
 impl<A> Model for Pass<A> {
     ghost use Rattle.region_locks.specs.Passes.{PassView};
 
@@ -27,42 +27,35 @@ impl<A> Model for Pass<A> {
 
     ghost use Rattle.region_locks.specs.Hands.{pass_view, IsHand};
 
-    ghost view = { λ p. pass_view p.seat p.number p.cmd p.is_given p.quits p.leaves p.home p.effect };
+    ghost view = { λ p. pass_view p.place p.number p.mirror p.effect };
 
-    ghost invariant = { λ p. IsHand p.seat p.number p.cmd };
-}
-
-/// In place of a command where none is in hand.
-fn no_cmd() -> Cmd {
-    Cmd {
-        slot: 0,
-        seq: 0,
-        frame: 0,
-        ms: 1,
-        wish_x: 0,
-        wish_y: 0,
-        buttons: 0,
-    }
+    ghost invariant = { λ p. IsHand p.place p.number p.mirror };
 }
 
 impl<A> Pass<A> {
-    /// The pass of a seat that rests.
-    pub(crate) fn resting(seat: Place, number: u8) -> Pass<A>
-        requires number { seat.me.0.number ≡ number }
-        requires rests { (seat.me.0.view.point ≡ Idle) × (seat.me.1 ≡ []) }
-        ensures { result ≡ new_pass seat.table_id number seat.me.0.view }
+    /// The pass of a place that rests, with the same seat in plain values.
+    pub(crate) fn resting(place: Place, number: u8, mirror: Seat) -> Pass<A>
+        requires number { place.me.0.number ≡ number }
+        requires carries { place.me.1 ≡ [] }
+        requires mirrors { view_of mirror ≡ place.me.0.view }
+        requires rests { (mirror.given ≡ None) × (mirror.quits ≡ false) }
+        ensures { result ≡ new_pass place.table_id number place.me.0.view }
     {
         Pass {
-            seat,
+            place,
             number,
-            cmd: no_cmd(),
-            is_given: false,
-            quits: false,
-            leaves: 0,
-            home: 0,
+            mirror,
             effect: None,
             of: PhantomData,
         }
+    }
+
+    /// The pass's seat, and the entries of its log with its room. It takes no memory.
+    pub(crate) fn into_parts(self) -> (Place, Log)
+        ensures seat { (result.0.table_id ≡ self.table) × (result.0.me ≡ (sight_of self, [])) }
+        ensures log { result.1 ≡ log_from self }
+    {
+        (self.place, self.mirror.log.into_entries())
     }
 
     /// The pass's number.
@@ -72,10 +65,10 @@ impl<A> Pass<A> {
         self.number
     }
 
-    /// The leaves of the command in hand, bit i for leaf i, once its own record was loaded.
-    pub fn leaves(&self) -> u16
-        ensures { result ≡ self.now.leaves }
+    /// The count of commits that the pass has seen.
+    pub fn seen(&self) -> u64
+        ensures { result ≡ self.now.view.seen }
     {
-        self.leaves
+        self.mirror.seen
     }
 }

@@ -3,7 +3,7 @@ ghost use Rattle.areanode.specs.Words.{word_of};
 ghost use Rattle.core_steps.specs.Encoding.{words_of, nth_word};
 ghost use Rattle.core_steps.specs.Stands.{is_player};
 ghost use Rattle.core_steps.specs.Views.{home};
-ghost use Rattle.region_locks.specs.Starts.{world_by_id, fixed_of_world, start_word_at, AreStartWords};
+ghost use Rattle.region_locks.specs.Starts.{world_at_start, fixed_of_world, start_word_at, AreStartWords};
 
 use core_steps::encode;
 use entity_recs::abs_box;
@@ -13,7 +13,7 @@ use world_tree::World;
 /// Whether the player of this slot is live and linked at the node.
 fn is_linked(world: &World, node: u8, slot: u8) -> bool
     requires slot { slot < 64 }
-    ensures { result ≡ is_player (fixed_of_world world.now) slot && (node == home (fixed_of_world world.now) ((world_by_id world.now.records).record_of slot)) }
+    ensures { result ≡ is_player (fixed_of_world world.now) slot && (node == home (fixed_of_world world.now) ((world_at_start world.now).record_of slot)) }
 {
     match world.get(u16::from(slot)) {
         Some(r) => node == world.tree().node_of(&abs_box(&r)),
@@ -22,7 +22,7 @@ fn is_linked(world: &World, node: u8, slot: u8) -> bool
 }
 
 /// The word with the bit of a number that is above all its bits, where that bit is to be set.
-fn with_top_bit(word: u64, slot: u8, is_set: bool) -> u64
+pub(crate) fn with_top_bit(word: u64, slot: u8, is_set: bool) -> u64
     requires slot { slot < 64 }
     requires below { word < 2 ^ slot }
     ensures { result ≡ (if is_set then 2 ^ slot else 0) + word }
@@ -32,7 +32,7 @@ fn with_top_bit(word: u64, slot: u8, is_set: bool) -> u64
 
 /// The list word of a node at the start: bit p is set where player p is live and linked there.
 fn links_at_start(world: &World, node: u8) -> u64
-    ensures { result ≡ word_of 64 (λ slot. is_player (fixed_of_world world.now) slot && (node == home (fixed_of_world world.now) ((world_by_id world.now.records).record_of slot))) }
+    ensures { result ≡ word_of 64 (λ slot. is_player (fixed_of_world world.now) slot && (node == home (fixed_of_world world.now) ((world_at_start world.now).record_of slot))) }
 {
     let mut word = 0;
     for slot in 0..64u8 {
@@ -44,7 +44,7 @@ fn links_at_start(world: &World, node: u8) -> u64
 /// One of a player's five words at the start, 0 where the player isn't live.
 fn body_at_start(world: &World, slot: u8, k: usize) -> u64
     requires word { k < 5 }
-    ensures { result ≡ nth_word (words_of ((world_by_id world.now.records).record_of slot)) k }
+    ensures { result ≡ nth_word (words_of ((world_at_start world.now).record_of slot)) k }
 {
     match world.get(u16::from(slot)) {
         Some(r) => encode(&r)[k],
@@ -54,7 +54,7 @@ fn body_at_start(world: &World, slot: u8, k: usize) -> u64
 
 /// The state word of an id at the start, 0 where the id isn't live.
 fn state_at_start(world: &World, id: u16) -> u64
-    ensures { result ≡ ((world_by_id world.now.records).record_of id).state }
+    ensures { result ≡ ((world_at_start world.now).record_of id).state }
 {
     match world.get(id) {
         Some(r) => r.state,

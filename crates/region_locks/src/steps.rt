@@ -1,13 +1,14 @@
 ghost use Rattle.core_steps.specs.Cells.{with_bit, without_bit};
 ghost use Rattle.std.specs.Prelude.{◌≡◌, ℕ, ◌+◌, ◌<◌, ◌==◌, length, if◌then◌else◌};
 ghost use Rattle.region_locks.specs.Starts.{fixed_by};
-ghost use Rattle.region_locks.specs.Going.{view_found, word_left, MayGo};
-ghost use Rattle.region_locks.specs.Plays.{IsToldOf, SeatWent};
+ghost use Rattle.region_locks.specs.Going.{MayGo};
+ghost use Rattle.core_machine.specs.Going.{view_found, word_left};
+ghost use Rattle.region_locks.specs.Plays.{IsToldOf, SeatCounted, SeatTook, SeatWent};
 ghost use Rattle.core_steps.specs.Machine.{index_of};
 
 use crate::key::{Place, Words};
 use crate::pass::Pass;
-use crate::plays::{Goes, Planned};
+use crate::plays::{Counts, Goes, Planned, Takes};
 use entity_recs::Action;
 use std::snapshot::Snapshot;
 
@@ -71,10 +72,10 @@ pub(crate) fn exchange_as<A: Action, N: Planned>(
     requires word { word ≡ index_of 31 seat.old.me.0.view N.next }
     requires left { (found : ℕ) → word_left N.fixed seat.old.me.0.number seat.old.me.0.view N.next found ≡ (if found == 0 then new else found) }
     ensures table { seat.new.table_id ≡ seat.old.table_id }
-    ensures went { SeatWent N.fixed N.passes N.next seat.old.me result seat.new.me }
+    ensures took { SeatTook N.fixed N.passes N.next seat.old.me result seat.new.me }
 {
     let _ = about;
-    words.compare_exchange::<Goes<N>>(seat, word, 0, new)
+    words.compare_exchange::<Takes<N>>(seat, word, 0, new)
 }
 
 /// The seat adds 1 to the count of commits, which is its next step, and gives the count that was found.
@@ -93,10 +94,10 @@ pub(crate) fn count_as<A: Action, N: Planned>(
     requires count { word ≡ 0 }
     requires left { (found : ℕ) → word_left N.fixed seat.old.me.0.number seat.old.me.0.view N.next found ≡ found + 1 }
     ensures table { seat.new.table_id ≡ seat.old.table_id }
-    ensures went { SeatWent N.fixed N.passes N.next seat.old.me result seat.new.me }
+    ensures counted { SeatCounted N.fixed N.passes N.next seat.old.me result seat.new.me }
 {
     let _ = about;
-    words.fetch_add::<Goes<N>>(seat, word, 1)
+    words.fetch_add::<Counts<N>>(seat, word, 1)
 }
 
 /// The seat clears a bit of a list word, which is its next step.

@@ -1,35 +1,35 @@
-ghost use Rattle.std.specs.Prelude.{◌≡◌, ℕ, suc, ◌+◌, ◌*◌, ◌<◌, nat_le, length, is_some, if◌then◌else◌, Some, OnOk, IfErr};
-ghost use Rattle.region_locks.specs.Passes.{fixed_in, IsPassOf, IsHolderIn, next_of_pass, the_next, pass_after, node_taken_next, node_given_next, list_read_next, state_read_next};
+ghost use Rattle.std.specs.Prelude.{◌≡◌, ℕ, true, length, is_some, Some, OnOk, IfErr};
+ghost use Rattle.core_steps.specs.Steps.{is_taking};
+ghost use Rattle.region_locks.specs.Holders.{IsOtherHolder, IsReached};
+ghost use Rattle.region_locks.specs.Passes.{fixed_in, IsPassOf, IsHolderIn, first_effect, next_of_pass, pass_after, node_taken_next, node_given_next, list_read_next, state_read_next};
+ghost use Rattle.core_machine.specs.Nexts.{the_next};
 
 use crate::holder::{Holder, holder_in};
 use crate::pass::Pass;
 use crate::table::NodeTable;
 use entity_recs::{Action, Effect};
 
-/// The word with which a pass holds a node: its number plus 1, and above it the leaves of its command for a leaf, or 1 for
-/// an inner node that is held to write.
-fn holding_word(number: u8, leaves: u16, effect: &Option<Effect>, node: u8) -> u64
-    ensures { result ≡ suc (number + 256 * (if nat_le 15 node then leaves else (if is_some effect.now then 1 else 0))) }
+/// Whether one of two effects is there: the one that is kept, or the one in view.
+fn is_in_hand(kept: &Option<Effect>, in_view: &Option<Effect>) -> bool
+    ensures { result ≡ is_some (first_effect kept.now in_view.now) }
 {
-    let above = if node >= 15 {
-        u64::from(leaves)
-    } else {
-        u64::from(effect.is_some())
-    };
-    u64::from(number) + 256 * above + 1
+    kept.is_some() || in_view.is_some()
 }
 
 impl<'a, A: Action> NodeTable<'a, A> {
-    /// Takes the node, which is the pass's next step. `Err` exactly where its word was not 0: the pass then keeps what it found
-    /// as its last refused take.
+    /// Takes the node, which is the pass's next step. `Err` exactly where its word was not 0, so that another pass held it: the
+    /// error names that pass and its leaves, and the pass keeps the word as its last refused take.
     pub fn take(&self, pass: &mut Pass<A>, node: u8) -> Result<(), Holder>
         requires own { IsPassOf (fixed_in A.takes A.region_of A.effect_of self.now) (length self.now.rooms) self.now.table pass.old }
         requires next { node_taken_next (next_of_pass (fixed_in A.takes A.region_of A.effect_of self.now) pass.old) ≡ Some node }
         ensures own { IsPassOf (fixed_in A.takes A.region_of A.effect_of self.now) (length self.now.rooms) self.now.table pass.new }
         ensures ok { OnOk result (pass.new ≡ pass_after (fixed_in A.takes A.region_of A.effect_of self.now) (the_next (next_of_pass (fixed_in A.takes A.region_of A.effect_of self.now) pass.old)) 0 pass.old) }
-        ensures err { IfErr result (λ h. (found : ℕ) × (pass.new ≡ pass_after (fixed_in A.takes A.region_of A.effect_of self.now) (the_next (next_of_pass (fixed_in A.takes A.region_of A.effect_of self.now) pass.old)) found pass.old) × IsHolderIn found node h.number h.leaves) }
+        ensures err { IfErr result (λ h. (found : ℕ) × (pass.new ≡ pass_after (fixed_in A.takes A.region_of A.effect_of self.now) (the_next (next_of_pass (fixed_in A.takes A.region_of A.effect_of self.now) pass.old)) found pass.old) × IsHolderIn found node h.number h.leaves × IsOtherHolder (fixed_in A.takes A.region_of A.effect_of self.now) (length self.now.rooms) pass.old.number node h.number h.leaves × IsReached (fixed_in A.takes A.region_of A.effect_of self.now) pass.old.view node) }
+        ensures may_quit { IfErr result (λ h. is_taking pass.new.view.point ≡ true) }
     {
-        let new = holding_word(pass.number, pass.leaves, &pass.effect, node);
+        let writing = is_in_hand(&pass.effect, &pass.mirror.effect);
+        let wanted = pass.mirror.wanted.as_slice();
+        let new = self.rules.held_word(pass.number, writing, wanted, node);
         let found = self.exchange_word(pass, 1 + usize::from(node), new);
         if found == 0 {
             Ok(())

@@ -1,10 +1,13 @@
-ghost use Rattle.std.specs.Prelude.{◌≡◌, ℕ, ◌+◌, ◌<◌, ◌==◌, true, length, is_some, if◌then◌else◌};
+ghost use Rattle.std.specs.Prelude.{◌≡◌, ℕ, List, [], ◌∷◌, ◌++◌, ◌+◌, ◌<◌, ◌≤◌, ◌==◌, true, length, is_some, if◌then◌else◌};
 ghost use Rattle.core_steps.specs.Cells.{with_bit, without_bit};
-ghost use Rattle.core_steps.specs.Machine.{index_of};
-ghost use Rattle.region_locks.specs.Going.{view_found};
-ghost use Rattle.region_locks.specs.Plays.{IsToldOf};
-ghost use Rattle.region_locks.specs.Passes.{fixed_in, sight_of, IsPassOf, next_of_pass, the_next, pass_after, word_after};
+ghost use Rattle.core_steps.specs.Machine.{ReadPlayer, index_of};
+ghost use Rattle.core_steps.specs.Views.{record_read};
+ghost use Rattle.core_machine.specs.Going.{view_found};
+ghost use Rattle.region_locks.specs.Holders.{IsFoundHeld, AreReached};
+ghost use Rattle.region_locks.specs.Passes.{fixed_in, IsPassOf, next_of_pass, pass_after, word_after};
+ghost use Rattle.core_machine.specs.Nexts.{the_next};
 
+use crate::follow::follow;
 use crate::nexts::{clear_next, count_next, exchange_next, load_next, set_next, store_next};
 use crate::pass::Pass;
 use crate::table::NodeTable;
@@ -19,12 +22,13 @@ impl<'a, A: Action> NodeTable<'a, A> {
         requires index { word ≡ index_of 31 pass.old.view (the_next (next_of_pass (fixed_in A.takes A.region_of A.effect_of self.now) pass.old)) }
         requires left { (found : ℕ) → word_after (fixed_in A.takes A.region_of A.effect_of self.now) pass.old found ≡ found }
         ensures pass { pass.new ≡ pass_after (fixed_in A.takes A.region_of A.effect_of self.now) (the_next (next_of_pass (fixed_in A.takes A.region_of A.effect_of self.now) pass.old)) result pass.old }
-        ensures told { IsToldOf (fixed_in A.takes A.region_of A.effect_of self.now) (length self.now.rooms) (sight_of pass.new) }
+        ensures own { IsPassOf (fixed_in A.takes A.region_of A.effect_of self.now) (length self.now.rooms) self.now.table pass.new }
+        ensures taken { (node slot : ℕ) (part players plan : List ℕ) → the_next (next_of_pass (fixed_in A.takes A.region_of A.effect_of self.now) pass.old) ≡ ReadPlayer node part slot players plan
+            → length part ≡ 5 → A.takes self.now.action (record_read slot (part ++ result ∷ [])) ≡ true }
     {
         let about = Snapshot::of(&*pass);
-        let found = load_next(&self.table.shared, &about, &mut pass.seat, word);
-        pass.is_given = false;
-        pass.quits = false;
+        let found = load_next(&self.table.shared, &about, &mut pass.place, word);
+        follow(&self.rules, &mut pass.mirror, &mut pass.effect, found);
         found
     }
 
@@ -36,12 +40,11 @@ impl<'a, A: Action> NodeTable<'a, A> {
         requires left { (found : ℕ) → word_after (fixed_in A.takes A.region_of A.effect_of self.now) pass.old found ≡ new }
         requires blind { (found : ℕ) → view_found (fixed_in A.takes A.region_of A.effect_of self.now) pass.old.view (the_next (next_of_pass (fixed_in A.takes A.region_of A.effect_of self.now) pass.old)) found ≡ view_found (fixed_in A.takes A.region_of A.effect_of self.now) pass.old.view (the_next (next_of_pass (fixed_in A.takes A.region_of A.effect_of self.now) pass.old)) new }
         ensures pass { pass.new ≡ pass_after (fixed_in A.takes A.region_of A.effect_of self.now) (the_next (next_of_pass (fixed_in A.takes A.region_of A.effect_of self.now) pass.old)) new pass.old }
-        ensures told { IsToldOf (fixed_in A.takes A.region_of A.effect_of self.now) (length self.now.rooms) (sight_of pass.new) }
+        ensures own { IsPassOf (fixed_in A.takes A.region_of A.effect_of self.now) (length self.now.rooms) self.now.table pass.new }
     {
         let about = Snapshot::of(&*pass);
-        store_next(&self.table.shared, &about, &mut pass.seat, word, new);
-        pass.is_given = false;
-        pass.quits = false;
+        store_next(&self.table.shared, &about, &mut pass.place, word, new);
+        follow(&self.rules, &mut pass.mirror, &mut pass.effect, new);
     }
 
     /// The pass takes a node where its word is 0, which is its next step, and gives the word that was found.
@@ -51,12 +54,13 @@ impl<'a, A: Action> NodeTable<'a, A> {
         requires index { word ≡ index_of 31 pass.old.view (the_next (next_of_pass (fixed_in A.takes A.region_of A.effect_of self.now) pass.old)) }
         requires left { (found : ℕ) → word_after (fixed_in A.takes A.region_of A.effect_of self.now) pass.old found ≡ (if found == 0 then new else found) }
         ensures pass { pass.new ≡ pass_after (fixed_in A.takes A.region_of A.effect_of self.now) (the_next (next_of_pass (fixed_in A.takes A.region_of A.effect_of self.now) pass.old)) result pass.old }
-        ensures told { IsToldOf (fixed_in A.takes A.region_of A.effect_of self.now) (length self.now.rooms) (sight_of pass.new) }
+        ensures own { IsPassOf (fixed_in A.takes A.region_of A.effect_of self.now) (length self.now.rooms) self.now.table pass.new }
+        ensures held { IsFoundHeld (fixed_in A.takes A.region_of A.effect_of self.now) (length self.now.rooms) pass.old.number (the_next (next_of_pass (fixed_in A.takes A.region_of A.effect_of self.now) pass.old)) result }
+        ensures reached { AreReached (fixed_in A.takes A.region_of A.effect_of self.now) pass.old.view (the_next (next_of_pass (fixed_in A.takes A.region_of A.effect_of self.now) pass.old)) }
     {
         let about = Snapshot::of(&*pass);
-        let found = exchange_next(&self.table.shared, &about, &mut pass.seat, word, new);
-        pass.is_given = false;
-        pass.quits = false;
+        let found = exchange_next(&self.table.shared, &about, &mut pass.place, word, new);
+        follow(&self.rules, &mut pass.mirror, &mut pass.effect, found);
         found
     }
 
@@ -68,12 +72,12 @@ impl<'a, A: Action> NodeTable<'a, A> {
         requires count { word ≡ 0 }
         requires left { (found : ℕ) → word_after (fixed_in A.takes A.region_of A.effect_of self.now) pass.old found ≡ found + 1 }
         ensures pass { pass.new ≡ pass_after (fixed_in A.takes A.region_of A.effect_of self.now) (the_next (next_of_pass (fixed_in A.takes A.region_of A.effect_of self.now) pass.old)) result pass.old }
-        ensures told { IsToldOf (fixed_in A.takes A.region_of A.effect_of self.now) (length self.now.rooms) (sight_of pass.new) }
+        ensures own { IsPassOf (fixed_in A.takes A.region_of A.effect_of self.now) (length self.now.rooms) self.now.table pass.new }
+        ensures seen { pass.old.view.seen ≤ result }
     {
         let about = Snapshot::of(&*pass);
-        let found = count_next(&self.table.shared, &about, &mut pass.seat, word);
-        pass.is_given = false;
-        pass.quits = false;
+        let found = count_next(&self.table.shared, &about, &mut pass.place, word);
+        follow(&self.rules, &mut pass.mirror, &mut pass.effect, found);
         found
     }
 
@@ -85,12 +89,11 @@ impl<'a, A: Action> NodeTable<'a, A> {
         requires slot { slot < 64 }
         requires left { (found : ℕ) → word_after (fixed_in A.takes A.region_of A.effect_of self.now) pass.old found ≡ without_bit found slot }
         ensures pass { pass.new ≡ pass_after (fixed_in A.takes A.region_of A.effect_of self.now) (the_next (next_of_pass (fixed_in A.takes A.region_of A.effect_of self.now) pass.old)) result pass.old }
-        ensures told { IsToldOf (fixed_in A.takes A.region_of A.effect_of self.now) (length self.now.rooms) (sight_of pass.new) }
+        ensures own { IsPassOf (fixed_in A.takes A.region_of A.effect_of self.now) (length self.now.rooms) self.now.table pass.new }
     {
         let about = Snapshot::of(&*pass);
-        let found = clear_next(&self.table.shared, &about, &mut pass.seat, word, slot);
-        pass.is_given = false;
-        pass.quits = false;
+        let found = clear_next(&self.table.shared, &about, &mut pass.place, word, slot);
+        follow(&self.rules, &mut pass.mirror, &mut pass.effect, found);
         found
     }
 
@@ -102,12 +105,11 @@ impl<'a, A: Action> NodeTable<'a, A> {
         requires slot { slot < 64 }
         requires left { (found : ℕ) → word_after (fixed_in A.takes A.region_of A.effect_of self.now) pass.old found ≡ with_bit found slot }
         ensures pass { pass.new ≡ pass_after (fixed_in A.takes A.region_of A.effect_of self.now) (the_next (next_of_pass (fixed_in A.takes A.region_of A.effect_of self.now) pass.old)) result pass.old }
-        ensures told { IsToldOf (fixed_in A.takes A.region_of A.effect_of self.now) (length self.now.rooms) (sight_of pass.new) }
+        ensures own { IsPassOf (fixed_in A.takes A.region_of A.effect_of self.now) (length self.now.rooms) self.now.table pass.new }
     {
         let about = Snapshot::of(&*pass);
-        let found = set_next(&self.table.shared, &about, &mut pass.seat, word, slot);
-        pass.is_given = false;
-        pass.quits = false;
+        let found = set_next(&self.table.shared, &about, &mut pass.place, word, slot);
+        follow(&self.rules, &mut pass.mirror, &mut pass.effect, found);
         found
     }
 }

@@ -1,4 +1,4 @@
-use Rattle.region_locks.proofs.Ready.{told_ready, may_ready, has_gone}
+use Rattle.region_locks.proofs.Ready.{told_ready, may_ready, has_gone, seen_ready}
 use Rattle.region_locks.proofs.nexts.count_next.Goals as goal
 
 pub count_as-requires-clause-told : goal.count_as-requires-clause-told
@@ -8,4 +8,7 @@ pub count_as-requires-clause-next : goal.count_as-requires-clause-next
 count_as-requires-clause-next g c κs within = may_ready _ _ _ _ _ _ c.requires.ready
 
 pub returns : goal.returns
-returns g c = record { gone = has_gone _ _ _ _ _ _ _ _ c.requires.ready c.count_as.ensures.table c.count_as.ensures.went }
+returns g c = record {
+  gone = has_gone _ _ _ _ _ _ _ _ c.requires.ready c.count_as.ensures.table c.count_as.ensures.counted.went;
+  seen = seen_ready _ _ _ _ _ _ _ c.requires.ready c.count_as.ensures.counted.seen;
+}

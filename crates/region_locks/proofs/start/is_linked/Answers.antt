@@ -15,7 +15,7 @@ returns-in-Some c =
     let w = c.args.world.now in
     let is = ap (record_of w) (sym c.from.ensures) ∙ sym c.get.ensures.record ∙ c.in-Some.is in
     let node = c.node_of.ensures.node ∙ ap (λ (t : TreeView). node_of t c.abs_box.result) c.tree.ensures.tree ∙ ap (λ (b : Bounds). node_of w.tree b) c.abs_box.ensures in
-    ap (λ (n : ℕ). c.args.node == n) node ∙ linked_some w c.args.slot c.args.node c.in-Some.r (same_has (ids_of w.records) c.args.slot ∙ live_ids_have_records w c.get.ensures.linked c.args.slot) c.requires.slot is
+    ap (λ (n : ℕ). c.args.node == n) node ∙ linked_some w c.args.slot c.args.node c.in-Some.r c.get.ensures.linked (same_has (ids_of w.records) c.args.slot ∙ live_ids_have_records w c.get.ensures.linked c.args.slot) c.requires.slot is
 
 pub returns-in-None : goal.returns-in-None
 returns-in-None c =

@@ -2,7 +2,7 @@ use Rattle.std.proofs.Common.{sym, ◌∙◌, ap, subst, ℕ, Bool, ◌<◌, ◌
 use Rattle.areanode.proofs.Words.{word_of-below}
 use Rattle.core_steps.specs.Views.{home}
 use Rattle.core_steps.specs.Stands.{is_player}
-use Rattle.region_locks.specs.Starts.{world_by_id, fixed_of_world}
+use Rattle.region_locks.specs.Starts.{world_at_start, fixed_of_world}
 use Rattle.region_locks.proofs.Worlds.{word_none, word_next}
 use Rattle.region_locks.proofs.start.links_at_start.Goals as goal
 
@@ -15,7 +15,7 @@ loop-slot-init c = word_none _
 pub loop-slot-preserved : goal.loop-slot-preserved
 loop-slot-preserved c =
     let w = c.args.world.now in
-    let test : ℕ → Bool = λ slot. is_player (fixed_of_world w) slot && (c.args.node == home (fixed_of_world w) ((world_by_id w.records).record_of slot)) in
+    let test : ℕ → Bool = λ slot. is_player (fixed_of_world w) slot && (c.args.node == home (fixed_of_world w) ((world_at_start w).record_of slot)) in
     c.with_top_bit-word.ensures
     ∙ ap (λ (b : Bool). (if b then 2 ^ c.loop-slot.slot else 0) + c.loop-slot.word) c.is_linked.ensures
     ∙ ap (λ (n : ℕ). (if test c.loop-slot.slot then 2 ^ c.loop-slot.slot else 0) + n) c.loop-slot.invariant

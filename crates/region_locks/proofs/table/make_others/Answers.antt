@@ -10,12 +10,12 @@ use Rattle.region_locks.proofs.table.make_others.Goals as goal
 pub loop-i-preserved : goal.loop-i-preserved
 loop-i-preserved g c =
     let inv = c.loop-i.invariant in
-    let seat = c.make-seat.ensures in
+    let seat = c.make-place.ensures in
     let table : TableId = c.args.words.now.table_id in
     let more : suc c.loop-i.i ≡ c.loop-i.i + 1 = omega arith in
     let made : c.resting.result ≡ other_pass table c.args.room.now c.loop-i.i =
     c.resting.ensures
-    ∙ ap (λ (t : TableId). new_pass t c.loop-i.i c.make-seat.result.me.0.view) (seat.table.1 ∙ inv.2)
+    ∙ ap (λ (t : TableId). new_pass t c.loop-i.i c.make-place.result.me.0.view) (seat.table.1 ∙ inv.2)
     ∙ ap (λ (me : Me (Unit {0}) SightView). new_pass table c.loop-i.i me.0.view) seat.made in (
       c.in_ok-push.ensures.items
           ∙ ap (λ (xs : List PassView). xs ++ c.resting.result ∷ []) inv.0

@@ -1,6 +1,6 @@
 use Rattle.std.proofs.Common.{sym, ap, ◌∙◌, ◌+◌, length, ℕ}
-use Rattle.region_locks.specs.Passes.{fixed_in, next_of_pass, the_next}
-use Rattle.region_locks.proofs.Owns.{own_new}
+use Rattle.region_locks.specs.Passes.{fixed_in, next_of_pass}
+use Rattle.core_machine.specs.Nexts.{the_next}
 use Rattle.region_locks.proofs.Gives.{gives_next, given_there}
 use Rattle.region_locks.proofs.table.NodeTable.give_back.Goals as goal
 
@@ -16,7 +16,3 @@ store_word-requires-clause-left g c κs within = (gives_next (fixed_in g.A.Actio
 
 pub store_word-requires-clause-blind : goal.store_word-requires-clause-blind
 store_word-requires-clause-blind g c κs within = (gives_next (fixed_in g.A.Action.takes g.A.Action.region_of g.A.Action.effect_of c.args.self.now) (length c.args.self.now.rooms) c.args.self.now.table c.args.pass.now c.args.node c.requires.own c.requires.next).blind
-
-pub returns-clause-own : goal.returns-clause-own
-returns-clause-own g c =
-    own_new _ _ _ _ _ (the_next (next_of_pass (fixed_in g.A.Action.takes g.A.Action.region_of g.A.Action.effect_of c.args.self.now) c.args.pass.now)) 0 c.store_word.ensures.pass c.requires.own (gives_next (fixed_in g.A.Action.takes g.A.Action.region_of g.A.Action.effect_of c.args.self.now) (length c.args.self.now.rooms) c.args.self.now.table c.args.pass.now c.args.node c.requires.own c.requires.next).kept c.store_word.ensures.told

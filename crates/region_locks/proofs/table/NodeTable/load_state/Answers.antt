@@ -1,6 +1,6 @@
 use Rattle.std.proofs.Common.{sym, ap, ◌∙◌, ◌+◌, length, ℕ}
-use Rattle.region_locks.specs.Passes.{fixed_in, next_of_pass, the_next}
-use Rattle.region_locks.proofs.Owns.{own_new}
+use Rattle.region_locks.specs.Passes.{fixed_in, next_of_pass}
+use Rattle.core_machine.specs.Nexts.{the_next}
 use Rattle.region_locks.proofs.Gives.{states_next, state_there}
 use Rattle.region_locks.proofs.table.NodeTable.load_state.Goals as goal
 
@@ -13,7 +13,3 @@ load_word-requires-clause-index g c κs within =
 
 pub load_word-requires-clause-left : goal.load_word-requires-clause-left
 load_word-requires-clause-left g c κs within = (states_next (fixed_in g.A.Action.takes g.A.Action.region_of g.A.Action.effect_of c.args.self.now) (length c.args.self.now.rooms) c.args.self.now.table c.args.pass.now c.args.id c.requires.own c.requires.next).left
-
-pub returns-clause-own : goal.returns-clause-own
-returns-clause-own g c =
-    own_new _ _ _ _ _ (the_next (next_of_pass (fixed_in g.A.Action.takes g.A.Action.region_of g.A.Action.effect_of c.args.self.now) c.args.pass.now)) c.load_word.result c.load_word.ensures.pass c.requires.own ((states_next (fixed_in g.A.Action.takes g.A.Action.region_of g.A.Action.effect_of c.args.self.now) (length c.args.self.now.rooms) c.args.self.now.table c.args.pass.now c.args.id c.requires.own c.requires.next).kept c.load_word.result) c.load_word.ensures.told

@@ -1,4 +1,5 @@
-use Rattle.std.proofs.Common.{length, refl, subst, ◌∙◌}
+use Rattle.std.proofs.Common.{length, sym, ap, subst, ◌∙◌}
+use Rattle.region_locks.specs.Going.{view_looked}
 use Rattle.region_locks.specs.Starts.{fixed_by}
 use Rattle.region_locks.specs.Plays.{IsToldOf}
 use Rattle.region_locks.proofs.Ready.{sight_is}
@@ -8,4 +9,5 @@ pub returns-clause-told : goal.returns-clause-told
 returns-clause-told g c =
     rw (← c.self.view_is)
     (subst (IsToldOf (fixed_by g.A.Action.takes g.A.Action.region_of g.A.Action.effect_of c.self.inside.table.shared.key.action.value c.self.inside.table.shared.key.world.value) (length c.self.inside.table.shared.key.rooms.items))
-    (sight_is c.look.new.seat.me.0 c.pass.inside.number _ (c.look.ensures.looked.0.number ∙ c.pass.invariant.has_number) refl) c.look.ensures.looked.0.told)
+    (sight_is c.look-seen.new.seat.me.0 c.pass.inside.number _ (c.look-seen.ensures.looked.0.number ∙ c.pass.invariant.has_number)
+    (c.look-seen.ensures.looked.0.view ∙ ap (view_looked c.look-seen.result) (sym c.pass.invariant.mirrors))) c.look-seen.ensures.looked.0.told)

@@ -1,12 +1,36 @@
-use Rattle.std.proofs.Common.{sym, ap, length}
-use Rattle.region_locks.specs.Passes.{PassView, HasGone, fixed_in}
-use Rattle.region_locks.proofs.Ready.{hand_after}
+use Rattle.std.proofs.Common.{ap, ◌∙◌, length}
+use Rattle.core_machine.specs.Shown.{fixed_of}
+use Rattle.region_locks.specs.Passes.{HasGone, fixed_in}
+use Rattle.region_locks.proofs.Ready.{can_follow, stepped}
 use Rattle.region_locks.proofs.table.NodeTable.store_word.Goals as goal
+
+pub follow-requires-clause-ready : goal.follow-requires-clause-ready
+follow-requires-clause-ready g c κs within =
+    let gone : HasGone (fixed_in g.A.Action.takes g.A.Action.region_of g.A.Action.effect_of c.args.self.now) (length c.args.self.now.rooms) c.args.pass.now c.args.new c.store_next.new.seat c.pass.inside.place.me.1 =
+    rw (← c.self.view_is, ← c.of-about.ensures) c.store_next.ensures.gone in
+    let same = ap (fixed_of g.A.Action.takes g.A.Action.region_of g.A.Action.effect_of) c.self.invariant.1 ∙ ap (fixed_in g.A.Action.takes g.A.Action.region_of g.A.Action.effect_of) c.self.view_is in
+    can_follow _ _ _ _ c.args.pass.now _ _ _ _ same c.pass.view_is c.requires.own c.requires.comes gone
 
 pub invariant_of-pass : goal.invariant_of-pass
 invariant_of-pass g c =
-    let is = sym c.pass.view_is in
-    let gone : HasGone (fixed_in g.A.Action.takes g.A.Action.region_of g.A.Action.effect_of c.args.self.now) (length c.args.self.now.rooms) c.args.pass.now c.args.new c.store_next.new.seat c.pass.inside.seat.me.1 =
+    let gone : HasGone (fixed_in g.A.Action.takes g.A.Action.region_of g.A.Action.effect_of c.args.self.now) (length c.args.self.now.rooms) c.args.pass.now c.args.new c.store_next.new.seat c.pass.inside.place.me.1 =
     rw (← c.self.view_is, ← c.of-about.ensures) c.store_next.ensures.gone in
-    hand_after _ _ _ c.args.pass.now c.pass.inside.seat _ _ _ c.pass.inside.is_given _ (ap (λ (p : PassView). p.number) is) (ap (λ (p : PassView). p.given) is) (ap (λ (p : PassView). p.view) is)
-    c.pass.invariant c.requires.own c.requires.comes gone
+    let same = ap (fixed_of g.A.Action.takes g.A.Action.region_of g.A.Action.effect_of) c.self.invariant.1 ∙ ap (fixed_in g.A.Action.takes g.A.Action.region_of g.A.Action.effect_of) c.self.view_is in
+    (stepped (fixed_in g.A.Action.takes g.A.Action.region_of g.A.Action.effect_of c.args.self.now) _ (length c.args.self.now.rooms) c.args.self.now.table c.args.pass.now c.args.new c.pass.inside.place c.store_next.new.seat c.pass.inside.number c.pass.inside.mirror c.follow.new.mirror c.pass.inside.effect c.follow.new.effect same c.pass.view_is c.pass.invariant c.requires.own c.requires.comes gone
+    c.follow.ensures.view c.follow.ensures.given c.follow.ensures.quits c.follow.ensures.effect).hand
+
+pub returns-clause-pass : goal.returns-clause-pass
+returns-clause-pass g c =
+    let gone : HasGone (fixed_in g.A.Action.takes g.A.Action.region_of g.A.Action.effect_of c.args.self.now) (length c.args.self.now.rooms) c.args.pass.now c.args.new c.store_next.new.seat c.pass.inside.place.me.1 =
+    rw (← c.self.view_is, ← c.of-about.ensures) c.store_next.ensures.gone in
+    let same = ap (fixed_of g.A.Action.takes g.A.Action.region_of g.A.Action.effect_of) c.self.invariant.1 ∙ ap (fixed_in g.A.Action.takes g.A.Action.region_of g.A.Action.effect_of) c.self.view_is in
+    (stepped (fixed_in g.A.Action.takes g.A.Action.region_of g.A.Action.effect_of c.args.self.now) _ (length c.args.self.now.rooms) c.args.self.now.table c.args.pass.now c.args.new c.pass.inside.place c.store_next.new.seat c.pass.inside.number c.pass.inside.mirror c.follow.new.mirror c.pass.inside.effect c.follow.new.effect same c.pass.view_is c.pass.invariant c.requires.own c.requires.comes gone
+    c.follow.ensures.view c.follow.ensures.given c.follow.ensures.quits c.follow.ensures.effect).pass
+
+pub returns-clause-own : goal.returns-clause-own
+returns-clause-own g c =
+    let gone : HasGone (fixed_in g.A.Action.takes g.A.Action.region_of g.A.Action.effect_of c.args.self.now) (length c.args.self.now.rooms) c.args.pass.now c.args.new c.store_next.new.seat c.pass.inside.place.me.1 =
+    rw (← c.self.view_is, ← c.of-about.ensures) c.store_next.ensures.gone in
+    let same = ap (fixed_of g.A.Action.takes g.A.Action.region_of g.A.Action.effect_of) c.self.invariant.1 ∙ ap (fixed_in g.A.Action.takes g.A.Action.region_of g.A.Action.effect_of) c.self.view_is in
+    (stepped (fixed_in g.A.Action.takes g.A.Action.region_of g.A.Action.effect_of c.args.self.now) _ (length c.args.self.now.rooms) c.args.self.now.table c.args.pass.now c.args.new c.pass.inside.place c.store_next.new.seat c.pass.inside.number c.pass.inside.mirror c.follow.new.mirror c.pass.inside.effect c.follow.new.effect same c.pass.view_is c.pass.invariant c.requires.own c.requires.comes gone
+    c.follow.ensures.view c.follow.ensures.given c.follow.ensures.quits c.follow.ensures.effect).own

@@ -1,7 +1,10 @@
-use Rattle.std.proofs.Common.{sym, ap, ◌∙◌, ◌+◌, ◌==◌, length, ℕ, if◌then◌else◌}
-use Rattle.region_locks.specs.Passes.{PassView, fixed_in, next_of_pass, the_next}
-use Rattle.region_locks.proofs.Owns.{own_new}
-use Rattle.region_locks.proofs.Takes.{takes_next, taken_there, taken_index, word_of_holder, same_holder}
+use Rattle.std.proofs.Common.{sym, ap, subst, ◌∙◌, ◌+◌, ◌<◌, ◌==◌, length, ℕ, if◌then◌else◌, All}
+use Rattle.core_machine.specs.Shown.{fixed_of}
+use Rattle.region_locks.specs.Hands.{pass_view}
+use Rattle.region_locks.specs.Passes.{PassView, fixed_in}
+use Rattle.region_locks.proofs.Holders.{other_holder}
+use Rattle.region_locks.proofs.Quitting.{may_quit_after}
+use Rattle.region_locks.proofs.Takes.{takes_next, taken_next, taken_there, taken_index, word_of_holder, held_is, wanted_below}
 use Rattle.region_locks.proofs.table.NodeTable.take.Goals as goal
 
 pub exchange_word-found-requires-clause-comes : goal.exchange_word-found-requires-clause-comes
@@ -13,20 +16,30 @@ exchange_word-found-requires-clause-index g c κs within =
 
 pub exchange_word-found-requires-clause-left : goal.exchange_word-found-requires-clause-left
 exchange_word-found-requires-clause-left g c κs within found =
-    let is = sym c.pass.view_is in
     let t = takes_next (fixed_in g.A.Action.takes g.A.Action.region_of g.A.Action.effect_of c.args.self.now) (length c.args.self.now.rooms) c.args.self.now.table c.args.pass.now c.args.node c.requires.own c.requires.next in
     t.left found
-    ∙ ap (λ (w : ℕ). if found == 0 then w else found)
-    (word_of_holder _ _ _ _ _ _ c.requires.own t
-    ∙ same_holder c.args.pass.now c.args.node _ _ _ (ap (λ (p : PassView). p.number) is) (ap (λ (p : PassView). p.leaves) is) (ap (λ (p : PassView). p.effect) is)
-    ∙ sym c.holding_word-new.ensures)
+    ∙ ap (λ (w : ℕ). if found == 0 then w else found) (word_of_holder (fixed_in g.A.Action.takes g.A.Action.region_of g.A.Action.effect_of c.args.self.now) c.args.pass.now c.args.node _ t
+    ∙ held_is _ _ c.args.pass.now (pass_view c.pass.inside.place c.pass.inside.number c.pass.inside.mirror c.pass.inside.effect) c.args.node c.held_word-new.result _ _
+    (ap (fixed_of g.A.Action.takes g.A.Action.region_of g.A.Action.effect_of) c.self.invariant.1 ∙ ap (fixed_in g.A.Action.takes g.A.Action.region_of g.A.Action.effect_of) c.self.view_is)
+    c.pass.view_is c.as_slice-wanted.ensures.value c.is_in_hand-writing.ensures c.held_word-new.ensures)
 
-pub returns-then-found-eq0-clause-own : goal.returns-then-found-eq0-clause-own
-returns-then-found-eq0-clause-own g c =
-    let t = takes_next (fixed_in g.A.Action.takes g.A.Action.region_of g.A.Action.effect_of c.args.self.now) (length c.args.self.now.rooms) c.args.self.now.table c.args.pass.now c.args.node c.requires.own c.requires.next in
-    own_new _ _ _ _ _ (the_next (next_of_pass (fixed_in g.A.Action.takes g.A.Action.region_of g.A.Action.effect_of c.args.self.now) c.args.pass.now)) c.exchange_word-found.result c.exchange_word-found.ensures.pass c.requires.own (t.kept c.exchange_word-found.result) c.exchange_word-found.ensures.told
+pub held_word-new-requires-clause-nodes : goal.held_word-new-requires-clause-nodes
+held_word-new-requires-clause-nodes g c κs within =
+    subst (All (λ n. n < 31)) (sym (c.as_slice-wanted.ensures.value ∙ ap (λ (q : PassView). q.view.wanted) c.pass.view_is))
+    (wanted_below _ _ _ c.args.pass.now c.args.node _ c.requires.own (takes_next (fixed_in g.A.Action.takes g.A.Action.region_of g.A.Action.effect_of c.args.self.now) (length c.args.self.now.rooms) c.args.self.now.table c.args.pass.now c.args.node c.requires.own c.requires.next))
 
-pub returns-else-found-eq0-clause-own : goal.returns-else-found-eq0-clause-own
-returns-else-found-eq0-clause-own g c =
-    let t = takes_next (fixed_in g.A.Action.takes g.A.Action.region_of g.A.Action.effect_of c.args.self.now) (length c.args.self.now.rooms) c.args.self.now.table c.args.pass.now c.args.node c.requires.own c.requires.next in
-    own_new _ _ _ _ _ (the_next (next_of_pass (fixed_in g.A.Action.takes g.A.Action.region_of g.A.Action.effect_of c.args.self.now) c.args.pass.now)) c.exchange_word-found.result c.exchange_word-found.ensures.pass c.requires.own (t.kept c.exchange_word-found.result) c.exchange_word-found.ensures.told
+pub returns-else-found-eq0-clause-err : goal.returns-else-found-eq0-clause-err
+returns-else-found-eq0-clause-err g c =
+    let found = c.exchange_word-found.result in
+    let holder = c.holder_in.ensures in (
+      found,
+      c.exchange_word-found.ensures.pass,
+      holder,
+      other_holder (fixed_in g.A.Action.takes g.A.Action.region_of g.A.Action.effect_of c.args.self.now) (length c.args.self.now.rooms) c.args.pass.now.number c.args.node found c.holder_in.result.number c.holder_in.result.leaves
+          c.requires.own.told.sound.depth (c.exchange_word-found.ensures.held c.args.node (taken_next _ _ c.requires.next) holder.is_held) holder,
+      c.exchange_word-found.ensures.reached c.args.node (taken_next _ _ c.requires.next),
+    )
+
+pub returns-else-found-eq0-clause-may_quit : goal.returns-else-found-eq0-clause-may_quit
+returns-else-found-eq0-clause-may_quit g c =
+    may_quit_after (fixed_in g.A.Action.takes g.A.Action.region_of g.A.Action.effect_of c.args.self.now) c.args.pass.now _ c.args.node c.exchange_word-found.result c.requires.next c.exchange_word-found.ensures.pass c.holder_in.ensures.is_held

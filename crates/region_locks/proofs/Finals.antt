@@ -1,0 +1,32 @@
+-- The words and the last seat of a table that is closed.
+use Rattle.std.proofs.Common.{◌≡◌, ℕ, ◌<◌, List, length, slice_index, sym, ap, ◌∙◌, subst}
+use mathlib.Core.Option.{some}
+use lib.ListN.{get_elem?}
+use Rattle.atomic_table.specs.Table.{Final, Seen}
+use Rattle.core_steps.specs.Views.{Fixed}
+use Rattle.core_steps.specs.Stands.{IsStart}
+use Rattle.region_locks.specs.Sights.{SightView}
+use Rattle.region_locks.specs.Going.{IsAtRest}
+use Rattle.region_locks.specs.Rule.{IsRuled}
+use Rattle.region_locks.specs.Closing.{AreEndedBelow, Closes}
+use Rattle.region_locks.proofs.Closing.{closes_with, others_ended, made_is}
+use Rattle.region_locks.proofs.TableCopies.{word_found}
+
+module _ (F : Fixed) (rooms : List ℕ) (id : ℕ) (sight : SightView) (words : List ℕ) (homes : List (Unit {0})) (final : Final (Seen (IsRuled F rooms) id sight) words homes)
+    (rests : IsAtRest sight.view) (first : sight.number ≡ 0) (ended : AreEndedBelow (length rooms) sight.view) where
+  ruled : IsRuled F rooms final.0
+  ruled = final.1.0
+
+  at_first : get_elem? final.0.views 0 ≡ some sight
+  at_first = subst (λ (n : ℕ). get_elem? final.0.views n ≡ some sight) (sym (ruled.seats.number id sight final.1.1 rests.lives) ∙ first) final.1.1
+
+  pub made_at_end : sight.view.made ≡ length rooms
+  made_at_end = made_is F rooms final.0 ruled sight at_first ended
+
+  pub start_at_end : IsStart F
+  start_at_end = ruled.start
+
+  pub closes_at_end : (copy : List ℕ) → ((k : ℕ) → k < 639 → get_elem? words k ≡ some (slice_index copy k)) → Closes F copy sight.view
+  closes_at_end copy each =
+      closes_with F rooms final.0 ruled sight at_first rests (others_ended F rooms final.0 ruled sight at_first ended) copy
+      (λ k below. sym (ap (λ (ws : List ℕ). slice_index ws k) final.2 ∙ word_found words k (slice_index copy k) (each k below)))

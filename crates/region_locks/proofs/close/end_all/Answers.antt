@@ -1,0 +1,19 @@
+use Rattle.std.proofs.Common.{◌∙◌}
+use Rattle.region_locks.proofs.EndedPasses.{first_taken, next_ended}
+use Rattle.region_locks.proofs.close.end_all.Goals as goal
+
+pub loop-pass-init : goal.loop-pass-init
+loop-pass-init g c =
+    let here = c.into_parts-first.ensures in (
+      tt,
+      tt,
+      first_taken _ c.args.words.now.table_id c.args.passes.items _ c.remove.result _ _ _ _ _ _ _ c.requires.own c.requires.rest c.requires.numbers c.requires.count.0 c.remove.ensures.value (c.into_iter-pass-iterator.ensures.into_iter_gives.0 ∙ c.remove.ensures.items) here.seat.0 here.seat.1 here.log c.requires.logs c.push.ensures.room c.push.ensures.pushed,
+    )
+
+pub loop-pass-preserved : goal.loop-pass-preserved
+loop-pass-preserved g c =
+    let here = c.into_parts-seat.ensures in (
+      tt,
+      tt,
+      next_ended c.args.words.now.table_id c.args.passes.items _ _ c.in-Some.pass _ _ _ _ _ _ _ _ _ c.loop-pass.invariant.2 c.requires.count.1 c.in-Some.ensures.steps.0 here.seat.1 here.log c.end.ensures.table c.end.ensures.seat c.push-in-loop-pass.ensures.room c.push-in-loop-pass.ensures.pushed,
+    )

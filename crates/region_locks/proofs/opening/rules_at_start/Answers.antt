@@ -1,0 +1,16 @@
+use Rattle.std.proofs.Common.{refl, subst, sym, List}
+use Rattle.entity_recs.specs.declared.rec.Rec.{Rec}
+use Rattle.core_machine.specs.Shown.{fixed_of}
+use Rattle.region_locks.specs.Starts.{fixed_by}
+use Rattle.region_locks.proofs.Openings.{world_starts}
+use Rattle.region_locks.proofs.opening.rules_at_start.Goals as goal
+
+pub new-requires : goal.new-requires
+new-requires g c = (
+  c.type_bounds.send-A,
+  (
+    c.type_bounds.sync-A,
+    rw (c.as_slice.ensures.value, c.in_ok-records.ensures, c.tree.ensures.tree)
+        (world_starts (fixed_by g.A.Action.takes g.A.Action.region_of g.A.Action.effect_of c.args.action.now c.args.world.now) c.args.world.now refl c.tree.ensures.linked c.requires.taken),
+  ),
+)

@@ -1,0 +1,8 @@
+use Rattle.std.proofs.Common.{◌≡◌, length}
+use Rattle.region_locks.specs.Passes.{fixed_in}
+use Rattle.region_locks.specs.Loads.{IsLoading}
+use Rattle.region_locks.proofs.table.NodeTable.load_rec.Given as goal
+
+abbrev pub invariant-loop-k : goal.invariant-loop-k
+invariant-loop-k g l =
+    IsLoading (fixed_in g.A.Action.takes g.A.Action.region_of g.A.Action.effect_of l.self) (length l.self.rooms) l.self.table l.initial.pass l.pass l.slot l.words.items × (length l.words.items ≡ l.k)

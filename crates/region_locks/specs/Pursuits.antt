@@ -1,0 +1,178 @@
+-- How a pass goes on with its command, call after call, and what a move leaves of it.
+use Rattle.std.specs.Prelude.{◌≡◌, ℕ, ◌+◌, ◌-◌, ◌*◌, ◌^◌, ◌<◌, ◌≤◌, nat_le, min, Bool, true, false, ◌&&◌, not}
+use Rattle.std.specs.Prelude.{if◌then◌else◌, List, [], ◌∷◌, ◌++◌, Option, Some, None, is_some}
+use Rattle.atomic_table.specs.Seated.{TableId}
+use Rattle.entity_recs.specs.declared.effect.Entry.{Entry}
+use Rattle.entity_recs.specs.Commands.{Command}
+use Rattle.entity_recs.specs.Histories.{Item}
+use Rattle.core_steps.specs.Views.{Fixed, Point, Idle, Owning, Taking, Checking, Entering, Entered, Loading, Leaving}
+use Rattle.core_steps.specs.Views.{Sensing, Resolving, Claiming, Storing, Releasing, Returning, Yielding, Refused}
+use Rattle.core_steps.specs.Views.{has, leaf_nodes, inner_visited, region_in, inner_held, leaves_held, stores_owed}
+use Rattle.core_steps.specs.Views.{stage_of, is_busy}
+use Rattle.core_steps.specs.Steps.{is_taking}
+use Rattle.core_steps.specs.Calls.{pursued_of}
+use Rattle.core_machine.specs.StepsLeft.{left_at, steps_left}
+use Rattle.region_locks.specs.Passes.{PassView, IsPassOf, IsHolderIn, effect_in_hand}
+use Rattle.region_locks.specs.Holders.{IsOtherHolder}
+use Rattle.region_locks.specs.declared.went.Went.{Went}
+use Rattle.region_locks.specs.declared.went.Went.TheVariants.{On, Resolved, Committed}
+use Rattle.region_locks.specs.Turns.{IsBetweenRecords}
+
+-- the command that the pass has in hand, where it isn't committed and isn't to be given up
+abbrev pub command_pursued : PassView → List Command
+command_pursued p = pursued_of p.given p.quits p.view
+
+-- the item of a command and its entry
+abbrev pub item_of : Command → Entry → Item
+item_of c e = record { command = c; entry = e }
+
+-- the pass may go on: it belongs to the table, isn't to give up, and has no record loaded in part
+pub record IsGoingOn (F : Fixed) (passes : ℕ) (table : TableId) (p : PassView) : Type 0 where
+  pub own : IsPassOf F passes table p
+  pub pursues : p.quits ≡ false
+  pub between : IsBetweenRecords F p
+
+-- the same pass, with the same room, log and last seen count
+pub record IsSamePass (old new : PassView) : Type 0 where
+  pub number : new.number ≡ old.number
+  pub room : new.view.room ≡ old.view.room
+  pub seen : new.view.seen ≡ old.view.seen
+  pub log : new.view.log ≡ old.view.log
+
+-- the same pass with the same command, and no take was refused
+pub record IsSameMove (old new : PassView) : Type 0 where
+  pub same : IsSamePass old new
+  pub command : command_pursued new ≡ command_pursued old
+  pub refusals : new.view.refusals ≡ old.view.refusals
+
+-- the command in hand is committed with this entry: it is the log's last item, its place isn't below the count that was
+-- seen, and the pass has seen the place plus 1
+pub record HasCommitted (old new : PassView) (e : Entry) : Type 0 where
+  pub number : new.number ≡ old.number
+  pub room : new.view.room ≡ old.view.room
+  pub cmd : Command
+  pub command : command_pursued old ≡ cmd ∷ []
+  pub done : command_pursued new ≡ []
+  pub log : new.view.log ≡ old.view.log ++ item_of cmd e ∷ []
+  pub place : old.view.seen ≤ e.place
+  pub seen : new.view.seen ≡ e.place + 1
+
+-- the kept refused take, by a pass with this number: another pass with that number held the node, by the word that was
+-- found; the leaves wanted are those of the command by the own record as loaded, and the node is one of them or an inner
+-- node that they visit
+pub record IsRefusedBy (F : Fixed) (passes own : ℕ) (c : Command) (r : Refused) (number leaves : ℕ) : Type 0 where
+  pub held : IsHolderIn r.word r.node number leaves
+  pub other : IsOtherHolder F passes own r.node number leaves
+  pub wanted : r.wanted ≡ leaf_nodes F (region_in F c r.own)
+  pub is_wanted : nat_le 15 r.node ≡ true → has r.wanted r.node ≡ true
+  pub is_visited : nat_le 15 r.node ≡ false → has (inner_visited F (region_in F c r.own)) r.node ≡ true
+
+-- the take of this node was refused: the same pass with the same command keeps it as its last refused take, and one more
+-- is counted
+pub record WasRefused (F : Fixed) (passes : ℕ) (table : TableId) (old new : PassView) (node number leaves : ℕ) : Type 0
+  where
+    pub going : IsGoingOn F passes table new
+    pub same : IsSamePass old new
+    pub cmd : Command
+    pub command : command_pursued old ≡ cmd ∷ []
+    pub still : command_pursued new ≡ cmd ∷ []
+    pub at_take : is_taking new.view.point ≡ true
+    pub r : Refused
+    pub kept : new.view.refused ≡ Some r
+    pub is_node : r.node ≡ node
+    pub cause : IsRefusedBy F passes new.number cmd r number leaves
+    pub counted : new.view.refusals ≡ min (old.view.refusals + 1) (2 ^ 64 - 1)
+
+-- the command in hand was given up: the same number, room, log and refused takes, and no command in hand
+pub record HasGivenUp (old new : PassView) : Type 0 where
+  pub number : new.number ≡ old.number
+  pub room : new.view.room ≡ old.view.room
+  pub log : new.view.log ≡ old.view.log
+  pub refused : new.view.refused ≡ old.view.refused
+  pub refusals : new.view.refusals ≡ old.view.refusals
+  pub none : new.given ≡ None
+  pub idle : new.view.point ≡ Idle
+
+-- ---- how many calls are left
+
+-- one call more is left where the effect of the command isn't known yet
+abbrev pub effect_left : PassView → ℕ
+effect_left p = if is_busy (stage_of p.view.point) && not (is_some (effect_in_hand p)) then 1 else 0
+
+-- the calls that are left at most, where no take is refused; a command that isn't begun has no word of its record loaded
+abbrev pub calls_left : Fixed → PassView → ℕ
+calls_left F p =
+    if is_some p.given then left_at F None 0 0 0 Owning + 1 else steps_left F (effect_in_hand p) p.view + effect_left p
+
+-- ---- what is held, at the moments of a move
+
+-- all leaves are held, and the own record isn't loaded again whole
+abbrev pub is_checking : Point → Bool
+is_checking Idle = false
+is_checking Owning = false
+is_checking (Taking got rest) = false
+is_checking Checking = true
+is_checking (Entering node plan) = false
+is_checking (Entered node plan) = false
+is_checking (Loading node part players plan) = false
+is_checking (Leaving node plan) = false
+is_checking (Sensing ids) = false
+is_checking Resolving = false
+is_checking (Claiming got rest) = false
+is_checking (Storing nodes stores) = false
+is_checking (Releasing nodes) = false
+is_checking (Returning leaves) = false
+is_checking (Yielding nodes leaves) = false
+
+-- no node is left
+abbrev pub is_none : List ℕ → Bool
+is_none [] = true
+is_none (node ∷ nodes) = false
+
+-- all is written and the inner nodes are given back, and no leaf is
+abbrev pub is_written : Point → Bool
+is_written Idle = false
+is_written Owning = false
+is_written (Taking got rest) = false
+is_written Checking = false
+is_written (Entering node plan) = false
+is_written (Entered node plan) = false
+is_written (Loading node part players plan) = false
+is_written (Leaving node plan) = false
+is_written (Sensing ids) = false
+is_written Resolving = false
+is_written (Claiming got rest) = false
+is_written (Storing nodes stores) = false
+is_written (Releasing nodes) = is_none nodes
+is_written (Returning leaves) = false
+is_written (Yielding nodes leaves) = false
+
+-- the pass holds all leaves that its command wants, no inner node, and owes no store
+pub record HoldsLeavesAlone (F : Fixed) (p : PassView) : Type 0 where
+  pub busy : is_busy (stage_of p.view.point) ≡ true
+  pub leaves : leaves_held p.view.point p.view.wanted ≡ p.view.wanted
+  pub inner : inner_held F p.view.point ≡ []
+  pub stores : stores_owed p.view.point ≡ []
+
+-- ---- one call
+
+-- the entry that was committed, if it was the commit
+abbrev pub entry_committed : Went → Option Entry
+entry_committed On = None
+entry_committed Resolved = None
+entry_committed (Committed e) = Some e
+
+-- it was the effect of the command that became known
+abbrev pub is_resolved : Went → Bool
+is_resolved On = false
+is_resolved Resolved = true
+is_resolved (Committed e) = false
+
+-- the pass made the call that comes next, and has fewer calls left; the effect is kept where it became known
+pub record HasGoneOn (F : Fixed) (passes : ℕ) (table : TableId) (old new : PassView) (went : Went) : Type 0 where
+  pub going : IsGoingOn F passes table new
+  pub fewer : calls_left F new < calls_left F old
+  pub same : entry_committed went ≡ None → IsSameMove old new
+  pub committed : (e : Entry) → entry_committed went ≡ Some e → HasCommitted old new e
+  pub reading : is_resolved went ≡ true → new.view.point ≡ Resolving
+  pub known : is_resolved went ≡ true → is_some new.effect ≡ true

@@ -1,0 +1,21 @@
+ghost use Rattle.std.specs.Prelude.{◌≡◌, length};
+ghost use Rattle.core_steps.specs.Views.{Resolving, effect_loaded};
+ghost use Rattle.region_locks.specs.Passes.{fixed_in, IsPassOf};
+
+use crate::pass::Pass;
+use crate::table::NodeTable;
+use entity_recs::{Action, Effect};
+
+impl<'a, A: Action> NodeTable<'a, A> {
+    /// The effect of the command in hand, once all is read: what the action gives on what the pass has loaded.
+    pub fn effect(&self, pass: &Pass<A>) -> Effect
+        requires own { IsPassOf (fixed_in A.takes A.region_of A.effect_of self.now) (length self.now.rooms) self.now.table pass.now }
+        requires read { pass.now.view.point ≡ Resolving }
+        ensures { result ≡ effect_loaded (fixed_in A.takes A.region_of A.effect_of self.now) pass.now.view }
+    {
+        let Some(effect) = pass.mirror.resolved(&self.rules) else {
+            unreachable!()
+        };
+        effect
+    }
+}

@@ -1,0 +1,43 @@
+ghost use Rattle.std.specs.Prelude.{◌≡◌, true, length};
+ghost use Rattle.core_steps.specs.Steps.{first_of_two, first_yield, is_taking};
+ghost use Rattle.region_locks.specs.Passes.{fixed_in, IsPassOf};
+ghost use Rattle.region_locks.specs.Pursuits.{HasGivenUp};
+
+use crate::pass::Pass;
+use crate::table::NodeTable;
+use entity_recs::Action;
+
+/// The first of these inner nodes, or of these leaves where there is no inner node.
+fn first_node(inner: &[u8], leaves: &[u8]) -> Option<u8>
+    ensures { result ≡ first_of_two inner.now leaves.now }
+{
+    match (inner, leaves) {
+        ([node, ..], _) | ([], [node, ..]) => Some(*node),
+        ([], []) => None,
+    }
+}
+
+impl<'a, A: Action> NodeTable<'a, A> {
+    /// The first node that the pass holds: inner nodes come before leaves, each in rising number.
+    fn first_held(&self, pass: &Pass<A>) -> Option<u8>
+        ensures { result ≡ first_yield (fixed_in A.takes A.region_of A.effect_of self.now) pass.now.view }
+    {
+        let inner = pass.mirror.inner_held(&self.rules);
+        let leaves = pass.mirror.leaves_held();
+        first_node(inner.as_slice(), leaves.as_slice())
+    }
+
+    /// Gives up the command in hand, after a take that was refused: all that the pass holds is given back, and the command is
+    /// no longer in hand. It may be given again.
+    pub fn give_up(&self, pass: &mut Pass<A>)
+        requires own { IsPassOf (fixed_in A.takes A.region_of A.effect_of self.now) (length self.now.rooms) self.now.table pass.old }
+        requires at_take { is_taking pass.old.view.point ≡ true }
+        ensures own { IsPassOf (fixed_in A.takes A.region_of A.effect_of self.now) (length self.now.rooms) self.now.table pass.new }
+        ensures given_up { HasGivenUp pass.old pass.new }
+    {
+        self.quit(pass);
+        while let Some(node) = self.first_held(pass) {
+            self.give_back(pass, node);
+        }
+    }
+}

@@ -1,0 +1,33 @@
+ghost use Rattle.std.specs.Prelude.{◌≡◌, ◌+◌};
+ghost use Rattle.areanode.specs.Words.{word_of};
+ghost use Rattle.core_steps.specs.Views.{has};
+
+use crate::pass::Pass;
+use crate::start::with_top_bit;
+
+/// Whether the node is one of these.
+fn is_among(nodes: &[u8], node: u8) -> bool
+    ensures { result ≡ has nodes.now node }
+{
+    nodes.iter().any(|other| *other == node)
+}
+
+/// The leaves among these nodes, bit i for leaf i.
+fn leaf_bits(nodes: &[u8]) -> u16
+    ensures { result ≡ word_of 16 (λ leaf. has nodes.now (15 + leaf)) }
+{
+    let mut word = 0;
+    for leaf in 0..16u8 {
+        word = with_top_bit(word, leaf, is_among(nodes, 15 + leaf));
+    }
+    word as u16
+}
+
+impl<A> Pass<A> {
+    /// The leaves of the command in hand, bit i for leaf i: none before its own record was loaded.
+    pub fn leaves(&self) -> u16
+        ensures { result ≡ word_of 16 (λ leaf. has self.now.view.wanted (15 + leaf)) }
+    {
+        leaf_bits(self.mirror.wanted.as_slice())
+    }
+}

@@ -1,0 +1,39 @@
+ghost use Rattle.std.specs.Prelude.{◌≡◌, ◌<◌, length, Some};
+ghost use Rattle.core_steps.specs.Cells.{cell_of, cell_index};
+ghost use Rattle.region_locks.specs.Passes.{fixed_in, IsPassOf, next_of_pass};
+ghost use Rattle.region_locks.specs.Loads.{record_loaded_next, HasLoaded};
+
+use crate::pass::Pass;
+use crate::table::NodeTable;
+use arrayvec::ArrayVec;
+use core_machine::{WordList, read_record};
+use entity_recs::{Action, Rec};
+
+/// The index of the `k`-th of the six words of a player's record: its five words, and after them its state word.
+fn index_of_word(slot: u8, k: usize) -> usize
+    requires { k < 6 }
+    ensures { result ≡ cell_index 31 (cell_of slot k) }
+{
+    if k < 5 {
+        63 + 5 * usize::from(slot) + k
+    } else {
+        383 + usize::from(slot)
+    }
+}
+
+impl<'a, A: Action> NodeTable<'a, A> {
+    /// Loads the record of the player in this slot, which are the pass's next six steps: the own record for a command that was
+    /// given, the own record again once all leaves are held, or another player's under the node that is visited.
+    pub fn load_rec(&self, pass: &mut Pass<A>, slot: u8) -> Rec
+        requires own { IsPassOf (fixed_in A.takes A.region_of A.effect_of self.now) (length self.now.rooms) self.now.table pass.old }
+        requires next { record_loaded_next pass.old.view (next_of_pass (fixed_in A.takes A.region_of A.effect_of self.now) pass.old) ≡ Some slot }
+        ensures own { IsPassOf (fixed_in A.takes A.region_of A.effect_of self.now) (length self.now.rooms) self.now.table pass.new }
+        ensures loaded { HasLoaded (fixed_in A.takes A.region_of A.effect_of self.now) pass.old pass.new slot result }
+    {
+        let mut words: WordList = ArrayVec::new();
+        for k in 0..6usize {
+            words.push(self.load_word(pass, index_of_word(slot, k)));
+        }
+        read_record(slot, words.as_slice())
+    }
+}

@@ -1,0 +1,69 @@
+ghost use Rattle.std.specs.Prelude.{◌≡◌, map};
+ghost use Rattle.core_steps.specs.Views.{stores_owed};
+ghost use Rattle.core_steps.specs.Cells.{cell_index};
+ghost use Rattle.core_machine.specs.Tables.{cell_in};
+ghost use Rattle.core_machine.specs.Points.{point_of, store_of};
+ghost use Rattle.core_machine.specs.Seats.{hand_of};
+ghost use Rattle.region_locks.specs.Passes as passes;
+
+use core_machine::{Cell, Point, Seat, Store};
+
+/// The node at which the own bit is cleared or set by the first of these stores, and 0 where it is none of the bit.
+fn bit_of_first(stores: &[Store]) -> u8
+    ensures { result ≡ passes.bit_owed (map store_of stores.now) }
+{
+    match stores {
+        [Store::Clear(node), ..] | [Store::Link(node), ..] => *node,
+        [Store::Put(..), ..] | [] => 0,
+    }
+}
+
+/// The node at which the own bit is cleared or set next, and 0 where that isn't the next step.
+pub(crate) fn bit_owed(point: &Point) -> u8
+    ensures { result ≡ passes.bit_owed (stores_owed (point_of point.now)) }
+{
+    match point {
+        Point::Storing { stores, .. } => bit_of_first(stores.as_slice()),
+        _ => 0,
+    }
+}
+
+/// The index of a word of a record in the table.
+fn index_of_cell(cell: Cell) -> usize
+    ensures { result ≡ cell_index 31 (cell_in cell) }
+{
+    match cell {
+        Cell::Body(slot, k) => 63 + 5 * usize::from(slot) + usize::from(k),
+        Cell::State(id) => 383 + usize::from(id),
+    }
+}
+
+/// The index and the word of the first of these stores, and 0 where it puts no word.
+fn put_of_first(stores: &[Store]) -> (usize, u64)
+    ensures { result ≡ (passes.index_owed (map store_of stores.now), passes.word_owed (map store_of stores.now)) }
+{
+    match stores {
+        [Store::Put(cell, word), ..] => (index_of_cell(*cell), *word),
+        [Store::Clear(_), ..] | [Store::Link(_), ..] | [] => (0, 0),
+    }
+}
+
+/// The index and the word of the store that is made next, and 0 where it puts no word of a record.
+pub(crate) fn put_owed(point: &Point) -> (usize, u64)
+    ensures { result ≡ (passes.index_owed (stores_owed (point_of point.now)), passes.word_owed (stores_owed (point_of point.now))) }
+{
+    match point {
+        Point::Storing { stores, .. } => put_of_first(stores.as_slice()),
+        _ => (0, 0),
+    }
+}
+
+/// The slot and the player's own number of the command in hand.
+pub(crate) fn slot_and_seq(mirror: &Seat) -> (u8, u32)
+    ensures { result ≡ ((hand_of mirror.now.cmd).slot, (hand_of mirror.now.cmd).seq) }
+{
+    match &mirror.cmd {
+        Some(c) => (c.slot, c.seq),
+        None => (0, 0),
+    }
+}
