@@ -1,0 +1,2 @@
+-- Lemmas on moves on threads.
+pub mod Running

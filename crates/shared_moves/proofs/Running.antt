@@ -1,0 +1,194 @@
+-- A pass that runs a command, call after call, and how it ends.
+use Rattle.std.proofs.Common.{◌≡◌, ℕ, ◌+◌, ◌-◌, ◌^◌, ◌<◌, ◌≤◌, Bool, true, false, if◌then◌else◌, List, [], ◌∷◌, ◌++◌, refl, sym, ap, ◌∙◌, subst, Option, Some, None, is_some, arith}
+use Rattle.std.specs.Prelude.{◌||◌, nat_le, min}
+use Rattle.std.proofs.lemmas.Bool.{false≢true, true≢false, le-leb, cond-false, or_parts}
+use Rattle.atomic_table.specs.Seated.{TableId}
+use Rattle.entity_recs.specs.declared.effect.Entry.{Entry}
+use Rattle.entity_recs.specs.Commands.{Command}
+use Rattle.areanode.specs.Words.{has_bit}
+use Rattle.core_steps.specs.Views.{Fixed, Refused, Point, Idle, Owning, Taking, Checking, Entering, Entered, Loading, Leaving, Sensing, Resolving, Claiming, Storing, Releasing, Returning, Yielding, stage_of, is_busy, inner_held, leaves_held, stores_owed}
+use Rattle.core_steps.specs.Calls.{is_pursued, pursued_of}
+use Rattle.region_locks.specs.declared.went.Went.{Went}
+use Rattle.region_locks.specs.declared.went.Went.TheVariants.{On, Resolved, Committed}
+use Rattle.region_locks.specs.Passes.{PassView, IsPassOf}
+use Rattle.region_locks.specs.declared.turn.Turn.{Turn}
+use Rattle.region_locks.specs.Turns.{has_command_in_hand}
+use Rattle.region_locks.specs.Pursuits.{command_pursued, item_of, IsGoingOn, entry_committed, is_resolved, HasGoneOn, HasCommitted, IsSameMove, WasRefused, HasGivenUp, IsRefusedBy, HoldsLeavesAlone}
+use Rattle.shared_moves.specs.declared.again.Again.{Again}
+use Rattle.shared_moves.specs.declared.gate.Point.TheVariants as points
+use Rattle.shared_moves.specs.Moves.{HasRun, HasRisen, IsLeafHeld, IsCause, WasNotRun, IsOpen, IsDone, IsRunning}
+use Rattle.shared_moves.specs.Moments.{IsAtPoint}
+
+-- a list with a command isn't empty
+has_one : {R : Type 0} (xs : List Command) (c : Command) → xs ≡ c ∷ [] → xs ≡ [] → R
+has_one [] c one none = cc
+has_one (x ∷ xs) c one none = cc
+
+same_one : (xs : List Command) (c d : Command) → xs ≡ c ∷ [] → xs ≡ d ∷ [] → c ≡ d
+same_one xs c d x y = cc
+
+-- where the effect became known, the pass holds its leaves alone
+pub at_computed : (F : Fixed) (passes : ℕ) (table : TableId) (old new : PassView) (went : Went) → went ≡ Resolved → HasGoneOn F passes table old new went → IsAtPoint F new points.Computed
+at_computed F passes table old new went is gone =
+    let at : new.view.point ≡ Resolving = gone.reading (ap is_resolved is) in record {
+      come = gone.known (ap is_resolved is);
+      alone = record {
+        busy = ap (λ (q : Point). is_busy (stage_of q)) at;
+        leaves = ap (λ (q : Point). leaves_held q new.view.wanted) at;
+        inner = ap (inner_held F) at;
+        stores = ap stores_owed at;
+      };
+    }
+
+module _ (F : Fixed) (passes : ℕ) (table : TableId) (start : PassView) (c : Command) (old new : PassView) (o : Option Entry) (r : IsRunning F passes table start c old o) where
+  -- a call that is no commit
+  pub runs_on : (went : Went) → entry_committed went ≡ None → HasGoneOn F passes table old new went → IsRunning F passes table start c new o
+  runs_on went is gone =
+      let move = gone.same is in record {
+        going = gone.going;
+        number = move.same.number ∙ r.number;
+        room = move.same.room ∙ r.room;
+        uncommitted = λ none. let was = r.uncommitted none in record { command = move.command ∙ was.command; log = move.same.log ∙ was.log; seen = move.same.seen ∙ was.seen; refusals = subst (λ (n : ℕ). min start.view.refusals (2 ^ 64 - 1) ≤ n) (sym move.refusals) was.refusals };
+        done = λ e some. let was = r.done e some in record { done = move.command ∙ was.done; log = move.same.log ∙ was.log; place = was.place; seen = move.same.seen ∙ was.seen };
+      }
+
+  -- a pass with a command that isn't committed
+  still_open : (cmd : Command) → command_pursued old ≡ cmd ∷ [] → IsOpen start c old
+  still_open cmd one = by_entry o refl
+    where
+      by_entry : (x : Option Entry) → o ≡ x → IsOpen start c old
+      by_entry None e = r.uncommitted e
+      by_entry (Some entry) e = has_one (command_pursued old) cmd one (r.done entry e).done
+
+  -- the commit
+  pub runs_done : (went : Went) (e : Entry) → entry_committed went ≡ Some e → HasGoneOn F passes table old new went → IsRunning F passes table start c new (Some e)
+  runs_done went e is gone =
+      let commit = gone.committed e is in
+      let was = still_open commit.cmd commit.command in
+      let same : commit.cmd ≡ c = same_one (command_pursued old) commit.cmd c commit.command was.command in record {
+        going = gone.going;
+        number = commit.number ∙ r.number;
+        room = commit.room ∙ r.room;
+        uncommitted = λ none. cc;
+        done = λ f some.
+            subst (IsDone start c new) (entry_is e f some) (record {
+              done = commit.done;
+              log = commit.log ∙ ap (λ xs. xs ++ item_of commit.cmd e ∷ []) was.log ∙ ap (λ (d : Command). start.view.log ++ item_of d e ∷ []) same;
+              place = subst (λ (n : ℕ). n ≤ e.place) was.seen commit.place;
+              seen = commit.seen;
+            });
+      }
+    where
+      entry_is : (a b : Entry) → Some a ≡ Some b → a ≡ b
+      entry_is a b x = cc
+
+  -- a take that was refused
+  pub runs_refused : (node number leaves : ℕ) → WasRefused F passes table old new node number leaves → IsRunning F passes table start c new o
+  runs_refused node number leaves refused =
+      let was = still_open refused.cmd refused.command in
+      let same : refused.cmd ≡ c = same_one (command_pursued old) refused.cmd c refused.command was.command in
+      record {
+        going = refused.going;
+        number = refused.same.number ∙ r.number;
+        room = refused.same.room ∙ r.room;
+        uncommitted = λ _. record { command = refused.still ∙ ap (λ (d : Command). d ∷ []) same; log = refused.same.log ∙ was.log; seen = refused.same.seen ∙ was.seen; refusals = not_fewer start.view.refusals old.view.refusals new.view.refusals was.refusals refused.counted };
+        done = λ e some. has_one (command_pursued old) refused.cmd refused.command (r.done e some).done;
+      }
+    where
+      not_fewer : (x y z : ℕ) → min x (2 ^ 64 - 1) ≤ y → z ≡ min (y + 1) (2 ^ 64 - 1) → min x (2 ^ 64 - 1) ≤ z
+      not_fewer x y z below is = omega (arith, below, is)
+
+-- ---- at the end
+
+idle_of : (point : Point) → is_busy (stage_of point) ≡ false → point ≡ Idle
+idle_of Idle e = refl
+idle_of Owning e = absurd (true≢false e)
+idle_of (Taking got rest) e = absurd (true≢false e)
+idle_of Checking e = absurd (true≢false e)
+idle_of (Entering node plan) e = absurd (true≢false e)
+idle_of (Entered node plan) e = absurd (true≢false e)
+idle_of (Loading node part players plan) e = absurd (true≢false e)
+idle_of (Leaving node plan) e = absurd (true≢false e)
+idle_of (Sensing ids) e = absurd (true≢false e)
+idle_of Resolving e = absurd (true≢false e)
+idle_of (Claiming got rest) e = absurd (true≢false e)
+idle_of (Storing nodes stores) e = absurd (true≢false e)
+idle_of (Releasing nodes) e = absurd (true≢false e)
+idle_of (Returning leaves) e = absurd (true≢false e)
+idle_of (Yielding nodes leaves) e = absurd (true≢false e)
+
+none_of : (o : Option Command) → is_some o ≡ false → o ≡ None
+none_of None e = refl
+none_of (Some c) e = absurd (true≢false e)
+
+module _ (F : Fixed) (passes : ℕ) (table : TableId) (start : PassView) (c : Command) (now : PassView) (o : Option Entry) (r : IsRunning F passes table start c now o) (rests : has_command_in_hand now ≡ false) where
+  given_none : now.given ≡ None
+  given_none = none_of now.given (or_parts (is_some now.given) (is_busy (stage_of now.view.point)) rests).0
+
+  is_idle : now.view.point ≡ Idle
+  is_idle = idle_of now.view.point (or_parts (is_some now.given) (is_busy (stage_of now.view.point)) rests).1
+
+  no_command : command_pursued now ≡ []
+  no_command = ap (λ (x : Option Command). pursued_of x now.quits now.view) given_none ∙ ap (λ (b : Bool). pursued_of None b now.view) r.going.pursues ∙ ap (λ (q : Point). if is_pursued (stage_of q) then now.view.cmd ∷ [] else []) is_idle
+
+  -- a pass that rests has committed the command
+  pub is_done : is_some o ≡ true
+  is_done = by_entry o refl
+    where
+      by_entry : (x : Option Entry) → o ≡ x → is_some x ≡ true
+      by_entry None e = has_one (command_pursued now) c (r.uncommitted e).command no_command
+      by_entry (Some entry) e = refl
+
+  pub has_run : (e : Entry) → o ≡ Some e → HasRun F passes table start now c e
+  has_run e some =
+      let was = r.done e some in record {
+        own = r.going.own;
+        rests = record { given = given_none; idle = is_idle };
+        number = r.number;
+        room = r.room;
+        log = was.log;
+        place = was.place;
+        seen = was.seen;
+      }
+
+-- the leaf was held
+pub is_leaf_held : (F : Fixed) (passes own : ℕ) (c : Command) (r : Refused) (node number leaves : ℕ) → 15 ≤ node → r.node ≡ node → IsRefusedBy F passes own c r number leaves → IsLeafHeld F passes own c r (node - 15) number leaves
+is_leaf_held F passes own c r node number leaves least same by =
+    let leaf : nat_le 15 r.node ≡ true = subst (λ (n : ℕ). nat_le 15 n ≡ true) (sym same) (le-leb 15 node least) in record {
+      node = omega (arith, least, same);
+      leaves_wanted = by.wanted;
+      wanted = by.is_wanted leaf;
+      named = by.held;
+      other = by.other;
+      has_leaf = subst (λ (n : ℕ). has_bit leaves (n - 15) ≡ true) same (by.other.has_leaf leaf);
+    }
+
+-- a command that was refused and given up
+pub was_not_run : (F : Fixed) (passes : ℕ) (table : TableId) (start : PassView) (c : Command) (old mid new : PassView) (o : Option Entry) (node number leaves : ℕ) (a : Again)
+    → IsRunning F passes table start c old o → WasRefused F passes table old mid node number leaves → IsPassOf F passes table new → HasGivenUp mid new
+    → ((G : Fixed) (n own : ℕ) (d : Command) (r : Refused) → r.node ≡ node → IsRefusedBy G n own d r number leaves → IsCause G n own d r a) → WasNotRun F passes table start new c a
+was_not_run F passes table start c old mid new o node number leaves a r refused own gave cause =
+    let was = still_open F passes table start c old mid o r refused.cmd refused.command in
+    let same : refused.cmd ≡ c = same_one (command_pursued old) refused.cmd c refused.command was.command in
+    let mine : mid.number ≡ new.number = sym gave.number in
+    record {
+      own = own;
+      rests = record { given = gave.none; idle = gave.idle };
+      number = gave.number ∙ refused.same.number ∙ r.number;
+      room = gave.room ∙ refused.same.room ∙ r.room;
+      log = gave.log ∙ refused.same.log ∙ was.log;
+      rose = risen start.view.refusals old.view.refusals new.view.refusals was.refusals (gave.refusals ∙ refused.counted);
+      r = refused.r;
+      kept = gave.refused ∙ refused.kept;
+      cause = subst (λ (n : ℕ). IsCause F passes n c refused.r a) mine (subst (λ (d : Command). IsCause F passes mid.number d refused.r a) same (cause F passes mid.number refused.cmd refused.r refused.is_node refused.cause));
+    }
+  where
+    risen : (x y z : ℕ) → min x (2 ^ 64 - 1) ≤ y → z ≡ min (y + 1) (2 ^ 64 - 1) → min (x + 1) (2 ^ 64 - 1) ≤ z
+    risen x y z below is = omega (arith, below, is)
+
+-- ---- as the code has it
+
+-- no call comes next, so the pass has no command in hand
+pub at_rest : (o : Option Turn) (b : Bool) → ((t : Turn) → o ≡ Some t → ⊥) → is_some o ≡ b → b ≡ false
+at_rest None b never same = sym same
+at_rest (Some t) b never same = absurd (never t refl)

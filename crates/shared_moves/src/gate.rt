@@ -1,0 +1,111 @@
+ghost use Rattle.std.specs.Prelude.{◌≡◌, Some, None, option_copied};
+
+use entity_recs::Entry;
+
+/// Where a move calls its gate.
+#[derive(Clone, Copy, Debug, PartialEq, Eq)]
+pub enum Point {
+    /// All leaves of the move are held, and no inner node is.
+    Leaves,
+    /// The effect is known; the leaves are held, and no inner node is.
+    Computed,
+    /// All writes are done and the inner nodes are given back; the leaves are still held.
+    Committed,
+}
+
+/// A moment of a move, which is lent to the gate. Only the calls that run moves make one: it has no public constructor and
+/// can't be cloned.
+#[derive(Debug, Drop)]
+pub struct Moment {
+    worker: u8,
+    point: Point,
+    slot: u8,
+    seq: u32,
+    entry: Option<Entry>,
+}
+
+impl Moment {
+    /// A moment before the commit.
+    pub(crate) fn before(worker: u8, point: Point, slot: u8, seq: u32) -> Moment
+        ensures { result ≡ record { worker = worker; point = point; slot = slot; seq = seq; entry = None } }
+    {
+        Moment {
+            worker,
+            point,
+            slot,
+            seq,
+            entry: None,
+        }
+    }
+
+    /// The moment after the commit, of the entry that was committed.
+    pub(crate) fn committed(worker: u8, entry: Entry) -> Moment
+        ensures { result ≡ record { worker = worker; point = Point.Committed; slot = entry.slot; seq = entry.seq; entry = Some entry } }
+    {
+        Moment {
+            worker,
+            point: Point::Committed,
+            slot: entry.slot,
+            seq: entry.seq,
+            entry: Some(entry),
+        }
+    }
+
+    /// Gives the entry back, if there is one.
+    pub(crate) fn into_entry(self) -> Option<Entry>
+        ensures { result ≡ self.entry }
+    {
+        self.entry
+    }
+
+    /// The number of the pass that runs the move.
+    pub fn worker(&self) -> u8
+        ensures { result ≡ self.now.worker }
+    {
+        self.worker
+    }
+
+    /// Where the move is.
+    pub fn point(&self) -> Point
+        ensures { result ≡ self.now.point }
+    {
+        self.point
+    }
+
+    /// The slot of the player whose move it is, 0 to 63.
+    pub fn slot(&self) -> u8
+        ensures { result ≡ self.now.slot }
+    {
+        self.slot
+    }
+
+    /// The player's own number of the move.
+    pub fn seq(&self) -> u32
+        ensures { result ≡ self.now.seq }
+    {
+        self.seq
+    }
+
+    /// The move's entry, exactly where it is committed.
+    pub fn entry(&self) -> Option<&Entry>
+        ensures { option_copied result ≡ self.now.entry }
+    {
+        self.entry.as_ref()
+    }
+}
+
+/// Who is called while moves run, by the thread that runs them: a test that holds a worker, for example.
+pub trait Gate: Sync {
+    /// The move is at this moment. It goes on once this returns.
+    fn at(&self, moment: &Moment);
+}
+
+/// A gate that does nothing.
+#[derive(Clone, Copy, Debug, Default)]
+pub struct NoGate;
+
+impl Gate for NoGate {
+    fn at(&self, moment: &Moment) {
+        let _ = moment;
+    }
+}

@@ -1,0 +1,91 @@
+ghost use Rattle.std.specs.Prelude.{◌≡◌, ℕ, ◌%◌, true, false, length, None, IfOk, IfErr};
+ghost use Rattle.entity_recs.specs.Commands.{Command, command_of};
+ghost use Rattle.core_steps.specs.Views.{Fixed, Refused, has};
+ghost use Rattle.region_locks.specs.Passes.{fixed_in, IsPassOf};
+ghost use Rattle.region_locks.specs.Quitting.{MayBegin};
+ghost use Rattle.region_locks.specs.Pursuits.{IsRefusedBy};
+ghost use Rattle.shared_moves.specs.Moves.{HasRun, WasNotRun, IsRunning, IsCause};
+
+use crate::again::Again;
+use crate::gate::Gate;
+use crate::shared::Shared;
+use entity_recs::{Action, Cmd, Entry};
+use region_locks::{Pass, Refusal};
+use std::sync::Wait;
+use std::thread;
+
+/// Why a move wasn't run, by the take that was refused.
+fn again_after(refusal: Refusal) -> Again
+    ensures { (F : Fixed) (passes own : ℕ) (c : Command) (r : Refused) → r.node ≡ refusal.node
+        → IsRefusedBy F passes own c r refusal.holder.number refusal.holder.leaves → IsCause F passes own c r result }
+{
+    if refusal.node >= 15 {
+        Again::Held {
+            leaf: refusal.node - 15,
+            holder: refusal.holder.number,
+            leaves: refusal.holder.leaves,
+        }
+    } else {
+        Again::Busy {
+            node: refusal.node,
+            holder: refusal.holder.number,
+        }
+    }
+}
+
+impl<'a, A: Action> Shared<'a, A> {
+    /// Gives the pass the command.
+    fn begin(&self, pass: &mut Pass<A>, cmd: Cmd)
+        requires own { IsPassOf (fixed_in A.takes A.region_of A.effect_of self.now) (length self.now.rooms) self.now.table pass.old }
+        requires free { MayBegin pass.old }
+        requires live { has (fixed_in A.takes A.region_of A.effect_of self.now).start.ids cmd.slot ≡ true }
+        requires serves { cmd.slot % length self.now.rooms ≡ pass.old.number }
+        ensures running { let F = fixed_in A.takes A.region_of A.effect_of self.now in
+            IsRunning F (length self.now.rooms) self.now.table pass.old (command_of cmd) pass.new None }
+    {
+        self.table.begin(pass, cmd);
+    }
+
+    /// Runs the command and gives its entry. Each take that is refused is tried again until it is served, so the call may
+    /// wait.
+    pub fn run<R: Wait, G: Gate>(&self, rt: &R, pass: &mut Pass<A>, cmd: Cmd, gate: &G) -> Entry
+        requires own { IsPassOf (fixed_in A.takes A.region_of A.effect_of self.now) (length self.now.rooms) self.now.table pass.old }
+        requires free { MayBegin pass.old }
+        requires live { has (fixed_in A.takes A.region_of A.effect_of self.now).start.ids cmd.slot ≡ true }
+        requires serves { cmd.slot % length self.now.rooms ≡ pass.old.number }
+        ensures { HasRun (fixed_in A.takes A.region_of A.effect_of self.now) (length self.now.rooms) self.now.table pass.old pass.new (command_of cmd) result }
+    {
+        self.begin(pass, cmd);
+        let mut entry = None;
+        for _ in rt.forever() {
+            let Some(turn) = self.table.turn(pass) else {
+                return entry.unwrap();
+            };
+            if self.step(pass, cmd, turn, &mut entry, gate).is_err() {
+                thread::yield_now();
+            }
+        }
+        unreachable!()
+    }
+
+    /// Runs the command and gives its entry, without waiting. `Err` where a node that it takes was held by another pass; then
+    /// nothing is committed, the pass holds no node, and the command may be tried again.
+    pub fn try_run<G: Gate>(&self, pass: &mut Pass<A>, cmd: Cmd, gate: &G) -> Result<Entry, Again>
+        requires own { IsPassOf (fixed_in A.takes A.region_of A.effect_of self.now) (length self.now.rooms) self.now.table pass.old }
+        requires free { MayBegin pass.old }
+        requires live { has (fixed_in A.takes A.region_of A.effect_of self.now).start.ids cmd.slot ≡ true }
+        requires serves { cmd.slot % length self.now.rooms ≡ pass.old.number }
+        ensures ok { IfOk result (λ e. HasRun (fixed_in A.takes A.region_of A.effect_of self.now) (length self.now.rooms) self.now.table pass.old pass.new (command_of cmd) e) }
+        ensures err { IfErr result (λ a. WasNotRun (fixed_in A.takes A.region_of A.effect_of self.now) (length self.now.rooms) self.now.table pass.old pass.new (command_of cmd) a) }
+    {
+        self.begin(pass, cmd);
+        let mut entry = None;
+        while let Some(turn) = self.table.turn(pass) {
+            if let Err(refusal) = self.step(pass, cmd, turn, &mut entry, gate) {
+                self.table.give_up(pass);
+                return Err(again_after(refusal));
+            }
+        }
+        Ok(entry.unwrap())
+    }
+}

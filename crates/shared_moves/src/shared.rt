@@ -1,0 +1,65 @@
+ghost use Rattle.std.specs.Prelude.{◌≡◌, ◌<◌, ◌≤◌, true, [], map, length, All, IfOk};
+ghost use Rattle.std.specs.List.{range_with_len};
+ghost use Rattle.world_tree.specs.Live.{live_in};
+ghost use Rattle.world_tree.specs.Worlds.{IsLinked};
+ghost use Rattle.region_locks.specs.Passes.{fixed_in, IsPassOf, new_passes};
+ghost use Rattle.region_locks.specs.Closing.{HasNoCommand, log_from, IsClosed};
+
+use entity_recs::Action;
+use move_journal::LogList;
+use region_locks::{NodeTable, PassList};
+use std::alloc::{AllocError, Global};
+use std::marker::Model;
+use world_tree::World;
+
+/// A world that moves on threads share: its words under their rule. Each thread runs its moves with a pass of its own.
+#[derive(Drop)]
+pub struct Shared<'a, A: Action> {
+    pub(crate) table: NodeTable<'a, A>,
+}
+
+impl<'a, A: Action> Model for Shared<'a, A> {
+    ghost use Rattle.region_locks.specs.Passes.{TableView};
+
+    ghost Value = { TableView A };
+
+    ghost view = { λ s. s.table };
+}
+
+impl<'a, A: Action> Shared<'a, A> {
+    /// Shares the world, which is only read, among passes numbered from 0: pass i has room for `room[i]` entries, and runs
+    /// the commands of the slots that leave i when they are divided by the number of passes.
+    pub fn start(
+        alloc: Global,
+        action: &'a A,
+        world: &World,
+        room: &[u32],
+    ) -> Result<(Shared<'a, A>, PassList<A>), AllocError>
+        requires rooms { (0 < length room.now) × (length room.now ≤ 16) }
+        requires taken { All (λ r. A.takes action.now r ≡ true) (live_in world.now.records) }
+        ensures shared { IfOk result (λ r. (r.0.action ≡ action.now) × (r.0.world ≡ world.now) × (r.0.rooms ≡ room.now)) }
+        ensures passes { IfOk result (λ r. r.1.items ≡ new_passes r.0.table room.now) }
+        ensures own { IfOk result (λ r. All (IsPassOf (fixed_in A.takes A.region_of A.effect_of r.0) (length r.0.rooms) r.0.table) r.1.items) }
+    {
+        let (table, passes) = NodeTable::new(alloc, action, world, room)?;
+        Ok((Shared { table }, passes))
+    }
+
+    /// Ends all passes and gives what they did: the world after the moves of all, linked anew, and the entries of each pass
+    /// by its number. It takes no memory.
+    pub fn close(self, passes: PassList<A>, world: &mut World, logs: &mut LogList)
+        requires own { let F = fixed_in A.takes A.region_of A.effect_of self in
+            All (IsPassOf F (length self.rooms) self.table) passes.items }
+        requires all { map (λ p. p.number) passes.items ≡ range_with_len 0 (length self.rooms) }
+        requires none { All HasNoCommand passes.items }
+        requires world { world.old ≡ self.world }
+        requires logs { logs.old ≡ [] }
+        ensures closed { let F = fixed_in A.takes A.region_of A.effect_of self.entry in
+            IsClosed F (map (λ p. p.view.log) passes.items) world.new }
+        ensures logs { logs.new ≡ map log_from passes.items }
+        ensures tree { world.new.tree ≡ world.old.tree }
+        ensures linked { IsLinked world.new }
+    {
+        self.table.close(passes, world, logs);
+    }
+}

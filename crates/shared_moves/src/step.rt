@@ -1,0 +1,82 @@
+ghost use Rattle.std.specs.Prelude.{◌≡◌, ◌<◌, length, Some, OnOk, IfErr};
+ghost use Rattle.entity_recs.specs.Commands.{Command};
+ghost use Rattle.region_locks.specs.Passes.{PassView, fixed_in};
+ghost use Rattle.region_locks.specs.Turns.{turn_of};
+ghost use Rattle.region_locks.specs.Pursuits.{IsGoingOn, WasRefused, calls_left};
+ghost use Rattle.shared_moves.specs.Moves.{IsRunning};
+ghost use Rattle.shared_moves.specs.Moments.{IsAtPoint};
+
+use crate::gate::{Gate, Moment, Point};
+use crate::shared::Shared;
+use entity_recs::{Action, Cmd, Entry};
+use region_locks::{Pass, Refusal, Turn, Went};
+
+impl<'a, A: Action> Shared<'a, A> {
+    /// Calls the gate before the commit.
+    fn show<G: Gate>(&self, pass: &Pass<A>, cmd: Cmd, point: Point, gate: &G)
+        requires at { IsAtPoint (fixed_in A.takes A.region_of A.effect_of self.now) pass.now point }
+    {
+        gate.at(&Moment::before(pass.number(), point, cmd.slot, cmd.seq));
+    }
+
+    /// Calls the gate after the commit, and gives the entry back.
+    fn show_entry<G: Gate>(&self, pass: &Pass<A>, entry: Option<Entry>, gate: &G) -> Option<Entry>
+        requires at { IsAtPoint (fixed_in A.takes A.region_of A.effect_of self.now) pass.now Point.Committed }
+        ensures { result ≡ entry }
+    {
+        let Some(entry) = entry else {
+            return None;
+        };
+        let moment = Moment::committed(pass.number(), entry);
+        gate.at(&moment);
+        moment.into_entry()
+    }
+
+    /// Calls the gate where the pass holds all leaves and nothing is read yet, or where all is written, and gives the entry
+    /// back.
+    fn show_held<G: Gate>(
+        &self,
+        pass: &Pass<A>,
+        cmd: Cmd,
+        entry: Option<Entry>,
+        gate: &G,
+    ) -> Option<Entry>
+        ensures { result ≡ entry }
+    {
+        if pass.has_written() {
+            return self.show_entry(pass, entry, gate);
+        }
+        if pass.has_its_leaves() {
+            self.show(pass, cmd, Point::Leaves, gate);
+        }
+        entry
+    }
+
+    /// Makes the next call of a pass that runs the command, and calls the gate at its points. `Err` exactly where a take is
+    /// refused.
+    pub(crate) fn step<G: Gate>(
+        &self,
+        pass: &mut Pass<A>,
+        cmd: Cmd,
+        turn: Turn,
+        entry: &mut Option<Entry>,
+        gate: &G,
+    ) -> Result<(), Refusal>
+        requires going { IsGoingOn (fixed_in A.takes A.region_of A.effect_of self.now) (length self.now.rooms) self.now.table pass.old }
+        requires turn { turn_of (fixed_in A.takes A.region_of A.effect_of self.now) pass.old ≡ Some turn }
+        ensures running { let F = fixed_in A.takes A.region_of A.effect_of self.now in let n = length self.now.rooms in
+            (start : PassView) (c : Command) → IsRunning F n self.now.table start c pass.old entry.old → IsRunning F n self.now.table start c pass.new entry.new }
+        ensures fewer { let F = fixed_in A.takes A.region_of A.effect_of self.now in
+            OnOk result (calls_left F pass.new < calls_left F pass.old) }
+        ensures refused { IfErr result (λ r. WasRefused (fixed_in A.takes A.region_of A.effect_of self.now) (length self.now.rooms) self.now.table pass.old pass.new r.node r.holder.number r.holder.leaves) }
+        ensures kept { IfErr result (λ r. entry.new ≡ entry.old) }
+    {
+        *entry = self.show_held(pass, cmd, entry.take(), gate);
+        match self.table.go_on(pass, turn)? {
+            Went::On => {}
+            Went::Resolved => self.show(pass, cmd, Point::Computed, gate),
+            Went::Committed(e) => *entry = Some(e),
+        }
+        Ok(())
+    }
+}
