@@ -14,5 +14,6 @@ pub use Rattle.arena_map.specs.Validity
 pub use Rattle.move_journal.specs.Merges
 pub use Rattle.move_journal.specs.Logs
 pub mod Servers
+pub mod Scores
 pub mod FrameOuts
 pub mod Laws

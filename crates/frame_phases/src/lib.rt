@@ -13,6 +13,7 @@ mod laws;
 mod limits;
 mod moves;
 mod replies;
+mod scores;
 mod server;
 mod shows;
 mod slots;

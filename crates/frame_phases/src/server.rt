@@ -8,6 +8,7 @@ ghost use Rattle.frame_phases.specs.FrameOuts.{IsEmpty};
 
 use crate::frame_out::FrameOut;
 use crate::moves::run_moves;
+use crate::scores::score_of;
 use crate::shows::show_players;
 use crate::state::State;
 use arena_actions::ArenaAction;
@@ -46,6 +47,7 @@ impl Server {
     ghost use Rattle.std.specs.Prelude.{◌≡◌, IfOk, OnOk};
     ghost use Rattle.arena_map.specs.Maps.{IsMap};
     ghost use Rattle.frame_phases.specs.Servers.{new_server};
+    ghost use Rattle.frame_phases.specs.Scores.{score_in};
 
     /// A server of this map before the first frame. The only error is that memory is refused; the map is then gone.
     pub fn new(alloc: Global, map: ArenaMap) -> Result<Server, AllocError>
@@ -68,6 +70,13 @@ impl Server {
         ensures { result ≡ self.now.frames }
     {
         self.frames
+    }
+
+    /// The sum of the scores of the live players.
+    pub fn score(&self) -> u64
+        ensures { result ≡ score_in self.now.state.records }
+    {
+        score_of(&self.state.world)
     }
 }
 
