@@ -1,0 +1,58 @@
+-- A frame that a game closes.
+use Rattle.std.proofs.Common.{◌≡◌, ℕ, Bool, true, false, List, [], ◌∷◌, ◌++◌, length, Option, Some, None, IfSome, ◌≤◌, if◌then◌else◌, refl, sym, ap, ◌∙◌, subst}
+use Rattle.entity_recs.specs.declared.effect.Entry.{Entry}
+use Rattle.client_ports.specs.declared.arrival.Arrival.{Arrival}
+use Rattle.client_ports.specs.Lists.{Lists}
+use Rattle.move_journal.specs.Logs.{JournalView}
+use Rattle.move_journal.specs.Merges.{IsInOrder}
+use Rattle.plain_server.specs.Frames.{received_in, IsRightAfter}
+use Rattle.frame_phases.specs.Servers.{ServerView, server_after}
+use Rattle.frame_phases.specs.Scores.{score_in}
+use Rattle.match_play.specs.declared.totals.Totals.{Totals}
+use Rattle.match_play.specs.Totals.{totals_with}
+use Rattle.match_play.specs.Games.{GameView, RunsFrame, Closes, ClosesFrame}
+
+-- the game with these parts
+abbrev pub game_with : ServerView → Bool → List Arrival → Totals → GameView
+game_with server is_open arrivals totals =
+    record { server = server; opened = if is_open then Some arrivals else None; totals = totals }
+
+-- what the calls of a frame ensure
+pub record IsRun (old new : ServerView) (arrivals : List Arrival) (lists : Lists) (journal : List Entry) : Type 0 where
+  pub lists_are : lists ≡ (received_in old.map old.frames old.state arrivals).lists
+  pub right : IsRightAfter old.map (received_in old.map old.frames old.state arrivals) journal
+  pub order : IsInOrder journal (received_in old.map old.frames old.state arrivals).lists.moves
+  pub next : new ≡ server_after old arrivals journal
+
+opened-is : (is_open : Bool) (arrivals : List Arrival) → is_open ≡ true → (if is_open then Some arrivals else None) ≡ Some arrivals
+opened-is true arrivals opens = refl
+opened-is false arrivals opens = cc
+
+-- the frame that was open was run
+pub closes-frame : (old g : GameView) (server new : ServerView) (is_open : Bool) (arrivals : List Arrival) (totals : Totals) (lists : Lists) (journal : JournalView) (score : ℕ)
+    (before after : List JournalView) → game_with server is_open arrivals totals ≡ old → is_open ≡ true → IsRun server new arrivals lists journal.entries → score ≡ score_in new.state.records
+    → after ≡ before ++ journal ∷ [] → g.server ≡ new → g.totals ≡ totals_with totals lists journal.entries score
+    → ClosesFrame old g before after
+closes-frame old g server new is_open arrivals totals lists journal score before after view opens run scored kept is_new counted =
+    let P : Option (List Arrival) → Type 0 = λ o. Closes o (game_with server is_open arrivals totals) g before after in
+    let Q : GameView → Type 0 = λ h. ClosesFrame h g before after in
+    let runs : RunsFrame (game_with server is_open arrivals totals) g arrivals before after =
+    record {
+      journal = journal;
+      kept = kept;
+      right = run.right;
+      order = run.order;
+      server = is_new ∙ run.next;
+      totals =
+          counted
+          ∙ ap (λ (l : Lists). totals_with totals l journal.entries score) run.lists_are
+          ∙ ap (totals_with totals (received_in server.map server.frames server.state arrivals).lists journal.entries) (scored ∙ ap (λ (t : ServerView). score_in t.state.records) (sym is_new));
+    } in
+    subst Q view (subst P (sym (opened-is is_open arrivals opens)) runs)
+
+-- it has few packets
+pub few-opened : (old : GameView) (server : ServerView) (is_open : Bool) (arrivals : List Arrival) (totals : Totals) → game_with server is_open arrivals totals ≡ old → is_open ≡ true
+    → IfSome old.opened (λ arrivals. length arrivals ≤ 512) → length arrivals ≤ 512
+few-opened old server is_open arrivals totals view opens few =
+    let P : Option (List Arrival) → Type 0 = λ o. IfSome o (λ arrivals. length arrivals ≤ 512) in
+    subst P (opened-is is_open arrivals opens) (subst P (sym (ap (λ (g : GameView). g.opened) view)) few)

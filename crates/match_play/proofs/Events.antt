@@ -1,0 +1,100 @@
+-- The frames that events close.
+use Rattle.std.proofs.Common.{◌≡◌, ℕ, List, [], ◌∷◌, ◌++◌, length, map as map_list, Option, Some, None, option_map, refl, sym, ap, ◌∙◌, subst, append_assoc, append-nil, ◌≤◌, ◌-◌, arith}
+use Rattle.std.specs.Prelude.{flat_map}
+use Rattle.std.specs.List.{range_with_len}
+use Rattle.std.proofs.lemmas.List.{length-map}
+use Rattle.std.proofs.lemmas.List.FromFn.{length-map-range_with_len}
+use Rattle.client_ports.specs.declared.arrival.Arrival.{Arrival}
+use Rattle.demo_lines.specs.declared.event.Event.{Event}
+use Rattle.demo_lines.specs.declared.event.Event.TheVariants.{Frame, From, End}
+use Rattle.demo_lines.specs.Spelling.{frame_events, recording_events}
+use Rattle.arena_map.specs.Maps.{MapView}
+use Rattle.move_journal.specs.Logs.{JournalView}
+use Rattle.frame_phases.specs.Servers.{ServerView}
+use Rattle.demo_make.specs.GeneratedMap.{generated_map}
+use Rattle.demo_make.specs.GeneratedFrames.{arrivals_in, generated_frames, generated_events}
+use Rattle.match_play.specs.declared.totals.Totals.{Totals}
+use Rattle.out_text.specs.Collecting.{closing}
+use Rattle.match_play.specs.Games.{GameView, GoesOn, IsReady, new_game}
+use Rattle.match_play.specs.Matches.{entries_of}
+use Rattle.match_play.proofs.Playing.{IsUnderWay, under_way-start, under_way-closed, may_close}
+
+-- one packet more of the frame that is open
+abbrev with_packet : Arrival → Option (List Arrival) → Option (List Arrival)
+with_packet a o = option_map (λ arrivals. arrivals ++ a ∷ []) o
+
+-- the frames that these events close, where these packets are those of the frame that is open
+abbrev pub closed_by : Option (List Arrival) → List Event → List (List Arrival)
+closed_by o [] = []
+closed_by o (Frame ∷ events) = closing o ++ closed_by (Some []) events
+closed_by o (From a ∷ events) = closed_by (option_map (λ arrivals. arrivals ++ a ∷ []) o) events
+closed_by o (End ∷ events) = closing o ++ closed_by None events
+
+packets-kept : (opened arrivals : List Arrival) (events : List Event) → closed_by (Some opened) (map_list From arrivals ++ events) ≡ closed_by (Some (opened ++ arrivals)) events
+packets-kept opened [] events = ap (λ (xs : List Arrival). closed_by (Some xs) events) (sym (append-nil opened))
+packets-kept opened (a ∷ arrivals) events =
+    packets-kept (opened ++ a ∷ []) arrivals events
+    ∙ ap (λ (xs : List Arrival). closed_by (Some xs) events) (append_assoc opened (a ∷ []) arrivals)
+
+frames-closed : (opened : List Arrival) (frames : List (List Arrival)) → closed_by (Some opened) (recording_events frames) ≡ opened ∷ frames
+frames-closed opened [] = refl
+frames-closed opened (arrivals ∷ frames) =
+    ap (λ (events : List Event). closed_by (Some opened) events) (append_assoc (frame_events arrivals) (flat_map frame_events frames) (End ∷ []))
+    ∙ ap (λ (fs : List (List Arrival)). opened ∷ fs) (packets-kept [] arrivals (recording_events frames) ∙ frames-closed arrivals frames)
+
+-- a recording closes its frames
+pub recording-closes : (frames : List (List Arrival)) → closed_by None (recording_events frames) ≡ frames
+recording-closes [] = refl
+recording-closes (arrivals ∷ frames) =
+    ap (closed_by None) (append_assoc (frame_events arrivals) (flat_map frame_events frames) (End ∷ []))
+    ∙ packets-kept [] arrivals (recording_events frames)
+    ∙ frames-closed arrivals frames
+
+generated-closes : (seed players frames : ℕ) → closed_by None (generated_events seed players frames) ≡ generated_frames seed players frames
+unfolding generated_events
+generated-closes seed players frames = recording-closes (generated_frames seed players frames)
+
+module _ (seed players frames : ℕ) where
+  -- a match begins
+  pub under_way-first : (m : MapView) (g : GameView) (kept : List JournalView) (events : List Event) → m ≡ generated_map → g ≡ new_game m → kept ≡ [] → events ≡ generated_events seed players frames
+      → IsUnderWay seed players frames g.server g.totals (entries_of kept) (closed_by g.opened events)
+  under_way-first m g kept events map_is game_is none events_are =
+      let fresh : g ≡ new_game generated_map = game_is ∙ ap new_game map_is in
+      subst (λ (h : GameView). IsUnderWay seed players frames h.server h.totals (entries_of kept) (closed_by h.opened events)) (sym fresh)
+      (subst (λ (js : List JournalView). IsUnderWay seed players frames (new_game generated_map).server (new_game generated_map).totals (entries_of js) (closed_by None events)) (sym none)
+      (subst (λ (fs : List (List Arrival)). IsUnderWay seed players frames (new_game generated_map).server (new_game generated_map).totals [] fs) (sym (ap (closed_by None) events_are ∙ generated-closes seed players frames))
+      (under_way-start seed players frames)))
+
+  -- a match goes on by an event
+  pub under_way-next : (old new : GameView) (e : Event) (before after : List JournalView) (more : List Event)
+      → IsUnderWay seed players frames old.server old.totals (entries_of before) (closed_by old.opened (e ∷ more)) → GoesOn old new e before after
+      → IsUnderWay seed players frames new.server new.totals (entries_of after) (closed_by new.opened more)
+  under_way-next old new Frame before after more under goes =
+      subst (λ (o : Option (List Arrival)). IsUnderWay seed players frames new.server new.totals (entries_of after) (closed_by o more)) (sym goes.1)
+      (under_way-closed seed players frames old new old.opened before after (closed_by (Some []) more) under goes.0)
+  under_way-next old new (From a) before after more under goes =
+      subst (λ (o : Option (List Arrival)). IsUnderWay seed players frames new.server new.totals (entries_of after) (closed_by o more)) (sym goes.0.opened_is)
+      (subst (λ (js : List JournalView). IsUnderWay seed players frames new.server new.totals (entries_of js) (closed_by (with_packet a old.opened) more)) (sym goes.1)
+      (subst (λ (t : Totals). IsUnderWay seed players frames new.server t (entries_of before) (closed_by (with_packet a old.opened) more)) (sym goes.0.totals)
+      (subst (λ (t : ServerView). IsUnderWay seed players frames t old.totals (entries_of before) (closed_by (with_packet a old.opened) more)) (sym goes.0.server) under)))
+  under_way-next old new End before after more under goes =
+      subst (λ (o : Option (List Arrival)). IsUnderWay seed players frames new.server new.totals (entries_of after) (closed_by o more)) (sym goes.1)
+      (under_way-closed seed players frames old new old.opened before after (closed_by None more) under goes.0)
+
+  -- the event may come
+  pub is_ready : (room : ℕ) (g : GameView) (e : Event) (kept : List JournalView) (more : List Event) → players ≤ 64 → frames ≤ 100000 → frames ≤ room
+      → IsUnderWay seed players frames g.server g.totals (entries_of kept) (closed_by g.opened (e ∷ more)) → IsReady g e (length kept) room
+  is_ready room g Frame kept more few_players few_frames fits under =
+      may_close seed players frames room g g.opened kept (closed_by (Some []) more) refl few_players few_frames fits under
+  is_ready room g (From a) kept more few_players few_frames fits under = tt
+  is_ready room g End kept more few_players few_frames fits under =
+      may_close seed players frames room g g.opened kept (closed_by None more) refl few_players few_frames fits under
+
+  -- where no event is left, all frames were run
+  pub all_run : (g : GameView) (kept : List JournalView) (events : List Event) → events ≡ []
+      → IsUnderWay seed players frames g.server g.totals (entries_of kept) (closed_by g.opened events) → length kept ≡ frames
+  all_run g kept events none under =
+      let left : [] ≡ map_list (arrivals_in seed players) (range_with_len (length (entries_of kept)) (frames - length (entries_of kept))) =
+      sym (ap (closed_by g.opened) none) ∙ under.left_are in
+      let count = ap length left ∙ length-map-range_with_len (arrivals_in seed players) (length (entries_of kept)) (frames - length (entries_of kept)) in
+      omega (arith, count, under.within, length-map kept (λ (j : JournalView). j.entries))

@@ -1,0 +1,6 @@
+-- Lemmas on how few packets a frame has, on frames that are closed, on how a match goes on, and on its counts.
+pub mod Few
+pub mod Closing
+pub mod Playing
+pub mod Events
+pub mod Counts

@@ -1,0 +1,16 @@
+//! Matches: the recording that a number gives is played without being written.
+#![tactic(auto)]
+
+pub use laws::{counts_are_known, limits_are_known, order_leaves_one_match};
+pub use limits::MOST_MATCH_FRAMES;
+pub use played::{MatchPlayed, play_match};
+pub use totals::Totals;
+
+mod game;
+mod items;
+mod laws;
+mod limits;
+mod played;
+#[cfg(test)]
+mod tests;
+mod totals;

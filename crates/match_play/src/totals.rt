@@ -1,0 +1,57 @@
+use crate::items::items_in;
+use frame_phases::FrameOut;
+
+/// What the frames of a match come to.
+#[derive(Clone, Copy, Debug, PartialEq, Eq)]
+pub struct Totals {
+    /// How many frames were run.
+    pub frames: u32,
+    /// How many players joined.
+    pub joins: u32,
+    /// How many moves were run.
+    pub moves: u32,
+    /// How many packets were refused.
+    pub refused: u32,
+    /// How many items were taken.
+    pub items: u32,
+    /// The sum of the live players' scores after the last frame.
+    pub score: u64,
+}
+
+impl Totals {
+    ghost use Rattle.std.specs.Prelude.{◌≡◌, ◌<◌};
+    ghost use Rattle.match_play.specs.Totals.{no_totals, totals_with, HasFew, AreBounded};
+
+    /// The totals before the first frame.
+    pub(crate) fn new() -> Totals
+        ensures none { result ≡ no_totals }
+        ensures bounded { AreBounded result }
+    {
+        Totals {
+            frames: 0,
+            joins: 0,
+            moves: 0,
+            refused: 0,
+            items: 0,
+            score: 0,
+        }
+    }
+
+    /// The totals with one frame more, after which the live players' scores have this sum.
+    pub(crate) fn with_frame(&self, frame: &FrameOut, score: u64) -> Totals
+        requires room { self.now.frames < 100000 }
+        requires bounded { AreBounded self.now }
+        requires few { HasFew frame.now.received.lists frame.now.journal.entries }
+        ensures totals { result ≡ totals_with self.now frame.now.received.lists frame.now.journal.entries score }
+        ensures bounded { AreBounded result }
+    {
+        Totals {
+            frames: self.frames + 1,
+            joins: self.joins + frame.received.joined().len() as u32,
+            moves: self.moves + frame.journal.as_slice().len() as u32,
+            refused: self.refused + frame.received.refused().len() as u32,
+            items: self.items + items_in(frame.journal.as_slice()),
+            score,
+        }
+    }
+}
