@@ -12,7 +12,7 @@ use Rattle.out_text.specs.OutLines.{OutLine, EndLine, text_of}
 use Rattle.out_text.specs.FrameLines.{lines_with, run_lines}
 use Rattle.out_text.specs.Journals.{dids}
 use Rattle.out_text.specs.Collecting.{frames_of}
-use Rattle.out_text.specs.Output.{lines_in, AreRightIn, AreInOrderIn, front_text, out_text, IsFront, IsAllFrames, IsOutput, IsPart, IsCutFrame, IsCutEnd}
+use Rattle.out_text.specs.Output.{lines_in, AreRightIn, AreInOrderIn, front_text, out_text, last_of, HasLast, IsFront, IsAllFrames, IsOutput, IsPart, IsCutFrame, IsCutEnd}
 use Rattle.out_text.proofs.Runs.{length-right, run_lines-push, right-take, in_order-take, text_of-append, fewer_are_shorter}
 use Rattle.out_text.proofs.ReadBack.{AreAllReported, dids-run, dids-whole}
 use Rattle.out_text.proofs.Reporting.{right_are_reported}
@@ -53,6 +53,12 @@ right_in m arena frames js is right = let P : Option MapView → Type 0 = λ n. 
 
 in_order_in : (m : Option MapView) (arena : MapView) (frames : List (List Arrival)) (js : List (List Entry)) → m ≡ Some arena → AreInOrder arena 0 (opening arena) frames js → AreInOrderIn m frames js
 in_order_in m arena frames js is order = let P : Option MapView → Type 0 = λ n. AreInOrderIn n frames js in subst P (sym is) order
+
+-- the last of journals with one more
+pub last_of-push : (js : List (List Entry)) (j : List Entry) → last_of (js ++ j ∷ []) ≡ Some j
+last_of-push [] j = refl
+last_of-push (k ∷ []) j = refl
+last_of-push (k ∷ m ∷ js) j = last_of-push (m ∷ js) j
 
 -- the text of no frame
 pub no_front : (workers : ℕ) (bytes : List ℕ) → IsFront workers bytes 0 []
@@ -175,13 +181,23 @@ module _ (workers : ℕ) (bytes : List ℕ) (arena : MapView) (played : IsPlayed
             (subst (λ (fs : List (List Arrival)). Q fs js) (sym all) (in_order_in (map_of bytes) arena closed js played.has (run.order one)));
       }
 
+  -- the last of the journals that are read off the text of the first frames
+  pub front_has_last : (Is : List ℕ → Type 0) (closed : List (List Arrival)) (js : List (List Entry)) (last : Option (List Entry)) → GoesOnWith closed (frames_of bytes) → AreRun workers arena closed js
+      → last ≡ last_of js → Is (text_with arena closed js) → HasLast Is last (text_with arena closed js)
+  front_has_last Is closed js last on run is holds = record { holds = holds; last_is = is ∙ ap last_of (sym (dids-front closed js on run)) }
+
+  -- and of those that are read off the whole output
+  pub out_has_last : (Is : List ℕ → Type 0) (closed : List (List Arrival)) (js : List (List Entry)) (last : Option (List Entry)) → frames_of bytes ≡ closed → AreRun workers arena closed js
+      → last ≡ last_of js → Is (whole_text arena closed js) → HasLast Is last (whole_text arena closed js)
+  out_has_last Is closed js last all run is holds = record { holds = holds; last_is = is ∙ ap last_of (sym (dids-out closed js all run)) }
+
   -- ---- a write that fails in a text
 
   -- what is written, and a part of the rest, are a part of the text of so many frames
   part_of_whole : (longer : List (List Arrival)) (js : List (List Entry)) (whole_with : List (List Entry) → List ℕ) (written piece : List ℕ) (count : ℕ)
       → GoesOnWith longer (frames_of bytes) → AreRun workers arena longer js → whole_with js ≡ written ++ piece → count < length piece
       → length (text_with arena (take (length longer - 1) longer) (take (length longer - 1) js)) ≤ length written
-      → IsPart workers bytes (length longer) whole_with (written ++ take count piece)
+      → IsPart workers bytes (length longer) whole_with (last_of js) (written ++ take count piece)
   part_of_whole longer js whole_with written piece count on run is short before =
       let k = length longer - 1 in
       let fewer = take k longer in
@@ -193,6 +209,7 @@ module _ (workers : ℕ) (bytes : List ℕ) (arena : MapView) (played : IsPlayed
       record {
         frames = length-goes_on longer (frames_of bytes) on;
         journals = js;
+        last_is = refl;
         right = front_is_right longer js on run;
         order = front_is_in_order longer js on run;
         front = front;
@@ -218,7 +235,7 @@ module _ (workers : ℕ) (bytes : List ℕ) (arena : MapView) (played : IsPlayed
   pub frame_cut : (closed : List (List Arrival)) (arrivals : List Arrival) (js : List (List Entry)) (j : List Entry) (piece : List OutLine) (count : ℕ) → length js ≡ length closed
       → GoesOnWith (closed ++ arrivals ∷ []) (frames_of bytes) → AreRun workers arena (closed ++ arrivals ∷ []) (js ++ j ∷ [])
       → piece ≡ lines_with arena (0 + length closed) (received_in arena (0 + length closed) (state_played arena 0 (opening arena) closed js) arrivals) j
-      → count < length (text_of piece) → IsCutFrame workers bytes (text_with arena closed js ++ take count (text_of piece))
+      → count < length (text_of piece) → IsCutFrame workers bytes (last_of (js ++ j ∷ [])) (text_with arena closed js ++ take count (text_of piece))
   frame_cut closed arrivals js j piece count same on run is short =
       let longer = closed ++ arrivals ∷ [] in
       let more = js ++ j ∷ [] in
@@ -235,16 +252,16 @@ module _ (workers : ℕ) (bytes : List ℕ) (arena : MapView) (played : IsPlayed
   cut_at_end : (closed longer : List (List Arrival)) (js more : List (List Entry)) (piece : List OutLine) (count : ℕ) → fault bytes ≡ None → frames_of bytes ≡ longer → AreRun workers arena longer more
       → length (text_with arena (take (length longer - 1) longer) (take (length longer - 1) more)) ≤ length (text_with arena closed js)
       → lines_of arena longer more ++ EndLine (length longer) ∷ [] ≡ lines_of arena closed js ++ piece
-      → count < length (text_of piece) → IsCutEnd workers bytes (text_with arena closed js ++ take count (text_of piece))
+      → count < length (text_of piece) → IsCutEnd workers bytes (last_of more) (text_with arena closed js ++ take count (text_of piece))
   cut_at_end closed longer js more piece count accepted all run before is short =
       let whole_is = out_text-is longer more all ∙ ap text_of is ∙ text_of-append (lines_of arena closed js) piece in
-      let P : ℕ → Type 0 = λ n. IsPart workers bytes n (out_text bytes) (text_with arena closed js ++ take count (text_of piece)) in
+      let P : ℕ → Type 0 = λ n. IsPart workers bytes n (out_text bytes) (last_of more) (text_with arena closed js ++ take count (text_of piece)) in
       let cut = part_of_whole longer more (out_text bytes) (text_with arena closed js) (text_of piece) count (goes_on_all longer (frames_of bytes) all) run whole_is short before in
       record { accepted = accepted; cut = subst P (ap length (sym all)) cut }
 
   -- a write failed in the last line, where no frame was open
   pub end_cut : (closed : List (List Arrival)) (js : List (List Entry)) (count : ℕ) → fault bytes ≡ None → frames_of bytes ≡ closed → AreRun workers arena closed js
-      → count < length (text_of (EndLine (length closed) ∷ [])) → IsCutEnd workers bytes (text_with arena closed js ++ take count (text_of (EndLine (length closed) ∷ [])))
+      → count < length (text_of (EndLine (length closed) ∷ [])) → IsCutEnd workers bytes (last_of js) (text_with arena closed js ++ take count (text_of (EndLine (length closed) ∷ [])))
   end_cut closed js count accepted all run short =
       let same = length-right arena 0 (opening arena) closed js run.right in
       cut_at_end closed closed js js (EndLine (length closed) ∷ []) count accepted all run
@@ -254,7 +271,7 @@ module _ (workers : ℕ) (bytes : List ℕ) (arena : MapView) (played : IsPlayed
   pub last_cut : (closed : List (List Arrival)) (arrivals : List Arrival) (js : List (List Entry)) (j : List Entry) (piece : List OutLine) (count : ℕ) → length js ≡ length closed
       → fault bytes ≡ None → frames_of bytes ≡ closed ++ arrivals ∷ [] → AreRun workers arena (closed ++ arrivals ∷ []) (js ++ j ∷ [])
       → piece ≡ lines_with arena (0 + length closed) (received_in arena (0 + length closed) (state_played arena 0 (opening arena) closed js) arrivals) j ++ EndLine (length (closed ++ arrivals ∷ [])) ∷ []
-      → count < length (text_of piece) → IsCutEnd workers bytes (text_with arena closed js ++ take count (text_of piece))
+      → count < length (text_of piece) → IsCutEnd workers bytes (last_of (js ++ j ∷ [])) (text_with arena closed js ++ take count (text_of piece))
   last_cut closed arrivals js j piece count same accepted all run is short =
       let longer = closed ++ arrivals ∷ [] in
       let here = lines_with arena (0 + length closed) (received_in arena (0 + length closed) (state_played arena 0 (opening arena) closed js) arrivals) j in

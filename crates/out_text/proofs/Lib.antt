@@ -1,5 +1,6 @@
 -- Lemmas on the lines of the output, on runs of frames, and on the frames of recordings.
 pub mod Writing
+pub mod Buffering
 pub mod Players
 pub mod Quiet
 pub mod Spellings

@@ -60,7 +60,7 @@ one_output bytes text other is is' =
 none_reported : (count : ℕ) → dids (text_of (EndLine count ∷ [])) ≡ []
 none_reported count = dids-text (EndLine count ∷ []) [] (split-silent (EndLine count ∷ []) [] (tt, tt))
 
-nothing_reported : dids (text_of []) ≡ []
+pub nothing_reported : dids (text_of []) ≡ []
 nothing_reported = dids-text [] [] refl
 
 -- right journals, with no worker whose order counts

@@ -22,6 +22,7 @@ pub mod Dids
 pub mod OutLines
 pub mod FrameLines
 pub mod Printing
+pub mod Printers
 pub mod Journals
 pub mod Reading
 pub mod Ranges

@@ -35,6 +35,17 @@ abbrev pub out_text : List ℕ → List (List Entry) → List ℕ
 out_text bytes journals =
     text_of (lines_in (map_of bytes) (frames_of bytes) journals ++ EndLine (length (frames_of bytes)) ∷ [])
 
+-- the last of journals, where there is one
+abbrev pub last_of : List (List Entry) → Option (List Entry)
+last_of [] = None
+last_of (j ∷ []) = Some j
+last_of (j ∷ k ∷ js) = last_of (k ∷ js)
+
+-- the text is such a one, and this is the last of the journals that are read off it, None where it has none
+pub record HasLast (Is : List ℕ → Type 0) (last : Option (List Entry)) (text : List ℕ) : Type 0 where
+  pub holds : Is text
+  pub last_is : last ≡ last_of (dids text)
+
 -- the text is the whole output of a recording without a fault, with the journals that are read off it; each frame's is
 -- right, and with one worker in the order of arrival
 pub record IsOutput (workers : ℕ) (bytes text : List ℕ) : Type 0 where
@@ -56,11 +67,12 @@ abbrev pub IsAllFrames : ℕ → List ℕ → List ℕ → Type 0
 IsAllFrames workers bytes text = IsFront workers bytes (length (frames_of bytes)) text
 
 -- a front of the text of k frames, but not all of it, in which all frames but the last are whole; the frames' journals
--- are right, and with one worker in the order of arrival, and the whole frames spell theirs
+-- are right, and with one worker in the order of arrival; the whole frames spell theirs, and the last frame's is `last`
 pub record IsPart (workers : ℕ) (bytes : List ℕ) (k : ℕ) (whole_with : List (List Entry)
-    → List ℕ) (text : List ℕ) : Type 0 where
+    → List ℕ) (last : Option (List Entry)) (text : List ℕ) : Type 0 where
   pub frames : k ≤ length (frames_of bytes)
   pub journals : List (List Entry)
+  pub last_is : last ≡ last_of journals
   pub right : AreRightIn (map_of bytes) (take k (frames_of bytes)) journals
   pub order : workers ≡ 1 → AreInOrderIn (map_of bytes) (take k (frames_of bytes)) journals
   pub front : List ℕ
@@ -71,20 +83,20 @@ pub record IsPart (workers : ℕ) (bytes : List ℕ) (k : ℕ) (whole_with : Lis
   pub short : count < length (whole_with journals)
   pub part : text ≡ take count (whole_with journals)
 
--- a write failed at the text of a frame
-pub record IsCutFrame (workers : ℕ) (bytes text : List ℕ) : Type 0 where
+-- a write failed at the text of a frame, whose journal is `last`
+pub record IsCutFrame (workers : ℕ) (bytes : List ℕ) (last : Option (List Entry)) (text : List ℕ) : Type 0 where
   pub k : ℕ
   pub some : 1 ≤ k
-  pub cut : IsPart workers bytes k (front_text bytes k) text
+  pub cut : IsPart workers bytes k (front_text bytes k) last text
 
--- a write failed at the text of the last frame and the last line
-pub record IsCutEnd (workers : ℕ) (bytes text : List ℕ) : Type 0 where
+-- a write failed at the text of the last frame, whose journal is `last`, and the last line
+pub record IsCutEnd (workers : ℕ) (bytes : List ℕ) (last : Option (List Entry)) (text : List ℕ) : Type 0 where
   pub accepted : fault bytes ≡ None
-  pub cut : IsPart workers bytes (length (frames_of bytes)) (out_text bytes) text
+  pub cut : IsPart workers bytes (length (frames_of bytes)) (out_text bytes) last text
 
--- a write failed in a text
-abbrev pub IsCut : ℕ → List ℕ → List ℕ → Type 0
-IsCut workers bytes text = IsCutFrame workers bytes text ⊎ IsCutEnd workers bytes text
+-- a write failed in a text, and `last` is the journal of the last frame that was run
+abbrev pub IsCut : ℕ → List ℕ → Option (List Entry) → List ℕ → Type 0
+IsCut workers bytes last text = IsCutFrame workers bytes last text ⊎ IsCutEnd workers bytes last text
 
 -- the text is that of all closed frames of a recording whose first faulty line is this one, for this reason
 pub record IsRefused (workers : ℕ) (bytes : List ℕ) (why : Refusal) (text : List ℕ) : Type 0 where

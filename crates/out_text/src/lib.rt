@@ -8,16 +8,18 @@ pub use laws::{
     written_recordings_have_outputs,
 };
 pub use out_line::{OutLine, Printed};
+pub use pending::MOST_PENDING;
+pub use printer::Printer;
 pub use printing::print_line;
 pub use reading::read_line;
-pub use text::{push_frame_lines, push_line};
 
 mod laws;
 mod names;
 mod number;
 mod out_line;
+mod pending;
+mod printer;
 mod printing;
 mod reading;
 #[cfg(test)]
 mod tests;
-mod text;

@@ -2,6 +2,7 @@ ghost use Rattle.std.specs.Prelude.{◌≡◌};
 ghost use Rattle.out_text.specs.OutLines as lines;
 ghost use Rattle.out_text.specs.FrameLines.{no_line, joined_line, did_line};
 ghost use Rattle.out_text.specs.Printing.{line_of};
+ghost use Rattle.out_text.specs.Ranges.{HasRoom};
 
 use arena_geo::Vec3;
 use client_ports::{Joined, Refusal, Refused};
@@ -55,14 +56,16 @@ pub trait Printed {
 
     /// The line, which borrows nothing.
     fn line(&self) -> OutLine<'static>
-        ensures { line_of result ≡ line self.now };
+        ensures is { line_of result ≡ line self.now }
+        ensures room { HasRoom (line_of result) };
 }
 
 impl Printed for Refused {
     ghost line = { no_line };
 
     fn line(&self) -> OutLine<'static>
-        ensures { line_of result ≡ no_line self.now }
+        ensures is { line_of result ≡ no_line self.now }
+        ensures room { HasRoom (line_of result) }
     {
         OutLine::No {
             place: self.place,
@@ -75,7 +78,8 @@ impl Printed for Joined {
     ghost line = { joined_line };
 
     fn line(&self) -> OutLine<'static>
-        ensures { line_of result ≡ joined_line self.now }
+        ensures is { line_of result ≡ joined_line self.now }
+        ensures room { HasRoom (line_of result) }
     {
         OutLine::Joined {
             port: self.port,
@@ -99,7 +103,8 @@ impl Printed for Entry {
     ghost line = { did_line };
 
     fn line(&self) -> OutLine<'static>
-        ensures { line_of result ≡ did_line self.now }
+        ensures is { line_of result ≡ did_line self.now }
+        ensures room { HasRoom (line_of result) }
     {
         OutLine::Did {
             slot: self.slot,

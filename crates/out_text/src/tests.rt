@@ -1,6 +1,11 @@
+ghost use Rattle.std.specs.Prelude.{◌≡◌, ◌≤◌, length, IfOk};
+ghost use Rattle.out_text.specs.Printing.{line_of};
+ghost use Rattle.out_text.specs.Ranges.{HasRoom};
+
 use super::*;
 use arena_geo::Vec3;
 use client_ports::{Joined, Received, Refusal, Refused};
+use edge_io::MemSink;
 use entity_recs::{Entry, IdList, Reply};
 use packet_read::PacketFault;
 use snapshot_write::ReplyBuf;
@@ -17,11 +22,12 @@ fn at(x: i32, y: i32, z: i32) -> Vec3 {
 }
 
 /// A reply of these bytes.
-fn reply(alloc: Global, bytes: &[u8]) -> Result<ReplyBuf, AllocError> {
+fn reply(alloc: Global, bytes: &[u8]) -> Result<ReplyBuf, AllocError>
+    requires { length bytes.now ≤ 4123 }
+    ensures { IfOk result (λ reply. reply ≡ bytes.now) }
+{
     let mut reply = ReplyBuf::new(alloc)?;
-    for b in bytes {
-        let _fits = reply.push(*b);
-    }
+    reply.extend(bytes);
     Ok(reply)
 }
 
@@ -48,10 +54,15 @@ fn entry(place: u8, x: i32, got: &[u16]) -> Entry {
 }
 
 /// Compares what is printed of a line.
-fn expect(rt: &(impl AllocGlobal + Abort), line: &OutLine, printed: &str) -> Result<(), Fail> {
-    let mut text = String::new(rt.alloc());
-    push_line(rt.alloc(), &mut text, line)?;
-    assert_eq!(rt; text.as_str(), printed);
+fn expect(rt: &(impl AllocGlobal + Abort), line: &OutLine, printed: &str) -> Result<(), Fail>
+    requires { HasRoom (line_of line.now) }
+{
+    let mut sink = MemSink::new(rt.alloc(), 100, 100)?;
+    let mut printer = Printer::new(rt.alloc())?;
+    printer.print(line, &mut sink)?;
+    assert!(rt; sink.bytes().is_empty());
+    printer.flush(&mut sink)?;
+    assert_eq!(rt; sink.bytes(), printed.as_bytes());
     Ok(())
 }
 
@@ -121,17 +132,11 @@ fn a_frame_has_its_journal_and_a_reply_for_each_slot(rt: HostRuntime) -> Result<
         reply(rt.alloc(), &[0x01, 0xab])?,
         reply(rt.alloc(), &[0xff])?,
     ];
-    let mut text = String::new(rt.alloc());
-    push_frame_lines(
-        rt.alloc(),
-        &mut text,
-        1,
-        &received,
-        &journal,
-        &[0, 63],
-        &replies,
-    )?;
-    assert_eq!(rt; text.as_str(), FRAME);
+    let mut sink = MemSink::new(rt.alloc(), 200, 100)?;
+    let mut printer = Printer::new(rt.alloc())?;
+    printer.print_frame(1, &received, &journal, &[0, 63], &replies, &mut sink)?;
+    printer.flush(&mut sink)?;
+    assert_eq!(rt; sink.bytes(), FRAME.as_bytes());
     Ok(())
 }
 
