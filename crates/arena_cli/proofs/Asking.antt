@@ -1,17 +1,19 @@
 -- The words that `serve` is given are those that the arguments have.
-use Rattle.std.proofs.Common.{◌≡◌, ℕ, List, drop, map, sym, ◌∙◌, Bor}
+use Rattle.std.proofs.Common.{◌≡◌, ℕ, List, drop, map, sym, subst, Bor}
+use Rattle.arena_engine.specs.declared.command.Command.{Command}
+use Rattle.arena_engine.specs.Commands.{Spells}
 use Rattle.arena_engine.specs.Serving as serving
-use Rattle.arena_cli.specs.Asked.{AsksToPlay, AskForNothing}
+use Rattle.arena_cli.specs.Asked.{AsksFor, AskForNothing}
 
 module _ (words : List (Bor (List ℕ))) (arguments : List (List ℕ)) (same : map (λ word. word.now) words ≡ drop 1 arguments) where
-  pub is_play : (n : ℕ) → AsksToPlay arguments n → serving.IsPlay words n
-  is_play n asks = record { words_are = same ∙ asks.asked; one_worker = asks.one_worker }
+  pub is_asked : (c : Command) → AsksFor arguments c → serving.AskFor words c
+  is_asked c asks = subst (λ (texts : List (List ℕ)). Spells texts c) (sym same) asks
 
-  asks_to_play : (n : ℕ) → serving.IsPlay words n → AsksToPlay arguments n
-  asks_to_play n is = record { asked = sym same ∙ is.words_are; one_worker = is.one_worker }
+  asks_for : (c : Command) → serving.AskFor words c → AsksFor arguments c
+  asks_for c is = subst (λ (texts : List (List ℕ)). Spells texts c) same is
 
   pub none_asked : AskForNothing arguments → serving.AskForNothing words
-  none_asked none n is = none n (asks_to_play n is)
+  none_asked none c is = none c (asks_for c is)
 
   pub none_are : serving.AskForNothing words → AskForNothing arguments
-  none_are none n asks = none n (is_play n asks)
+  none_are none c asks = none c (is_asked c asks)

@@ -1,27 +1,18 @@
 ghost use Rattle.std.specs.Prelude.{◌≡◌, ◌≤◌, ◌⊎◌, ℕ, true, IfSome, IfOk, IsOkAnd, map, string_bytes};
+ghost use Rattle.std.specs.Io.KnownBytes.{Appends};
 ghost use Rattle.edge_io.specs.Counts.{HasRisen};
-ghost use Rattle.out_text.specs.Output.{IsOutput, IsRefused, IsCut, IsSomeFrames};
+ghost use Rattle.edge_io.specs.Writes.{AppendsPart};
+ghost use Rattle.demo_make.specs.GeneratedFrames.{generated_text};
+ghost use Rattle.out_text.specs.Output.{HasLast, IsOutput, IsRefused, IsCut, IsSomeFrames};
+ghost use Rattle.arena_engine.specs.Making.{line_of_match};
 ghost use Rattle.arena_engine.specs.Output.{Writes, ReadsSome, ReadsToEnd, ReadsToRefusal};
-ghost use Rattle.arena_engine.specs.Reports.{refusal_of};
-ghost use Rattle.arena_cli.specs.Asked.{AsksToPlay, AskForNothing};
+ghost use Rattle.arena_engine.specs.Reports.{refusal_of, last_in};
+ghost use Rattle.arena_cli.specs.Asked.{AsksToPlay, AsksToMake, AsksToMatch, AskForNothing};
 
 use crate::arguments::{NoArguments, words_of};
 use arena_engine::{Report, serve};
 use edge_io::{Sink, Source};
 use std::alloc::{AllocError, Global};
-
-/// The report of a call of `serve` that wasn't made.
-fn unserved(status: u8) -> Report
-    ensures status { result.status ≡ status }
-    ensures place { (result.line ≡ 0) × (result.fault ≡ 0) × (result.rule ≡ 0) }
-{
-    Report {
-        status,
-        line: 0,
-        fault: 0,
-        rule: 0,
-    }
-}
 
 /// Serves what the arguments ask for.
 fn serve_arguments<S: Source, K: Sink>(
@@ -34,19 +25,31 @@ fn serve_arguments<S: Source, K: Sink>(
     ensures refused { IfOk result (λ report. report.status ≡ 2 → AskForNothing (map string_bytes arguments.now)) }
     ensures known { IfOk result (λ report. report.status ≤ 5) }
     ensures done { IfOk result (λ report. (n : ℕ) → AsksToPlay (map string_bytes arguments.now) n → report.status ≡ 0 → IfSome (S.left source.old) (λ bytes.
-        Writes (K.taken sink.old) (K.taken sink.new) (IsOutput n bytes))) }
+        Writes (K.taken sink.old) (K.taken sink.new) (HasLast (IsOutput n bytes) (last_in report)))) }
     ensures read { IfOk result (λ report. (n : ℕ) → AsksToPlay (map string_bytes arguments.now) n → report.status ≡ 0 →
         ReadsToEnd source.old source.new (S.last source.new) (S.ended source.new ≡ S.ended source.old) (S.ended source.new ≡ true)
         (S.left source.old) (S.left source.new)) }
     ensures recording_refused { IfOk result (λ report. (n : ℕ) → AsksToPlay (map string_bytes arguments.now) n → report.status ≡ 1 → IfSome (S.left source.old) (λ bytes.
-        Writes (K.taken sink.old) (K.taken sink.new) (IsRefused n bytes (refusal_of report)))) }
+        Writes (K.taken sink.old) (K.taken sink.new) (HasLast (IsRefused n bytes (refusal_of report)) (last_in report)))) }
     ensures untouched { IfOk result (λ report. report.status ≡ 2 → (source.new ≡ source.old) × (sink.new ≡ sink.old)) }
     ensures read_fault { IfOk result (λ report. (n : ℕ) → AsksToPlay (map string_bytes arguments.now) n → report.status ≡ 3 →
-        ReadsSome n (S.left source.old) (S.left source.new) (K.taken sink.old) (K.taken sink.new)) }
+        ReadsSome n (S.left source.old) (S.left source.new) (K.taken sink.old) (K.taken sink.new) (last_in report)) }
     ensures read_cause { IfOk result (λ report. report.status ≡ 3 → HasRisen (S.faults source.old) (S.faults source.new)) }
     ensures write_fault { IfOk result (λ report. (n : ℕ) → AsksToPlay (map string_bytes arguments.now) n → report.status ≡ 4 → IfSome (S.left source.old) (λ bytes.
-        Writes (K.taken sink.old) (K.taken sink.new) (IsCut n bytes))) }
+        Writes (K.taken sink.old) (K.taken sink.new) (IsCut n bytes (last_in report)))) }
     ensures write_cause { IfOk result (λ report. report.status ≡ 4 → HasRisen (K.faults sink.old) (K.faults sink.new)) }
+    ensures made { IfOk result (λ report. (seed players frames : ℕ)
+        → AsksToMake (map string_bytes arguments.now) seed players frames → report.status ≡ 0
+        → Appends (K.taken sink.old) (K.taken sink.new) (generated_text seed players frames)) }
+    ensures made_cut { IfOk result (λ report. (seed players frames : ℕ)
+        → AsksToMake (map string_bytes arguments.now) seed players frames → report.status ≡ 4
+        → AppendsPart (K.taken sink.old) (K.taken sink.new) (generated_text seed players frames)) }
+    ensures summed { IfOk result (λ report. (seed players frames workers : ℕ)
+        → AsksToMatch (map string_bytes arguments.now) seed players frames workers → report.status ≡ 0
+        → Appends (K.taken sink.old) (K.taken sink.new) (line_of_match seed players report.all)) }
+    ensures summed_cut { IfOk result (λ report. (seed players frames workers : ℕ)
+        → AsksToMatch (map string_bytes arguments.now) seed players frames workers → report.status ≡ 4
+        → AppendsPart (K.taken sink.old) (K.taken sink.new) (line_of_match seed players report.all)) }
 {
     let words = words_of(alloc, arguments)?;
     Ok(serve(alloc, &words, source, sink))
@@ -64,26 +67,38 @@ pub fn answer<S: Source, K: Sink>(
     ensures refused { result.status ≡ 2 → IfOk arguments (λ all. AskForNothing (map string_bytes all.items)) }
     ensures known { result.status ≤ 5 }
     ensures done { (n : ℕ) → IsOkAnd arguments (λ all. AsksToPlay (map string_bytes all.items) n) → result.status ≡ 0 → IfSome (S.left source.old) (λ bytes.
-        Writes (K.taken sink.old) (K.taken sink.new) (IsOutput n bytes)) }
+        Writes (K.taken sink.old) (K.taken sink.new) (HasLast (IsOutput n bytes) (last_in result))) }
     ensures read { (n : ℕ) → IsOkAnd arguments (λ all. AsksToPlay (map string_bytes all.items) n) → result.status ≡ 0 →
         ReadsToEnd source.old source.new (S.last source.new) (S.ended source.new ≡ S.ended source.old) (S.ended source.new ≡ true)
         (S.left source.old) (S.left source.new) }
     ensures recording_refused { (n : ℕ) → IsOkAnd arguments (λ all. AsksToPlay (map string_bytes all.items) n) → result.status ≡ 1 → IfSome (S.left source.old) (λ bytes.
-        Writes (K.taken sink.old) (K.taken sink.new) (IsRefused n bytes (refusal_of result))) }
+        Writes (K.taken sink.old) (K.taken sink.new) (HasLast (IsRefused n bytes (refusal_of result)) (last_in result))) }
     ensures untouched { result.status ≡ 2 → (source.new ≡ source.old) × (sink.new ≡ sink.old) }
     ensures read_fault { (n : ℕ) → IsOkAnd arguments (λ all. AsksToPlay (map string_bytes all.items) n) → result.status ≡ 3 →
-        ReadsSome n (S.left source.old) (S.left source.new) (K.taken sink.old) (K.taken sink.new) }
+        ReadsSome n (S.left source.old) (S.left source.new) (K.taken sink.old) (K.taken sink.new) (last_in result) }
     ensures read_cause { result.status ≡ 3 → HasRisen (S.faults source.old) (S.faults source.new) }
     ensures write_fault { (n : ℕ) → IsOkAnd arguments (λ all. AsksToPlay (map string_bytes all.items) n) → result.status ≡ 4 → IfSome (S.left source.old) (λ bytes.
-        Writes (K.taken sink.old) (K.taken sink.new) (IsCut n bytes)) }
+        Writes (K.taken sink.old) (K.taken sink.new) (IsCut n bytes (last_in result))) }
     ensures write_cause { result.status ≡ 4 → HasRisen (K.faults sink.old) (K.faults sink.new) }
+    ensures made { (seed players frames : ℕ)
+        → IsOkAnd arguments (λ all. AsksToMake (map string_bytes all.items) seed players frames) → result.status ≡ 0
+        → Appends (K.taken sink.old) (K.taken sink.new) (generated_text seed players frames) }
+    ensures made_cut { (seed players frames : ℕ)
+        → IsOkAnd arguments (λ all. AsksToMake (map string_bytes all.items) seed players frames) → result.status ≡ 4
+        → AppendsPart (K.taken sink.old) (K.taken sink.new) (generated_text seed players frames) }
+    ensures summed { (seed players frames workers : ℕ)
+        → IsOkAnd arguments (λ all. AsksToMatch (map string_bytes all.items) seed players frames workers) → result.status ≡ 0
+        → Appends (K.taken sink.old) (K.taken sink.new) (line_of_match seed players result.all) }
+    ensures summed_cut { (seed players frames workers : ℕ)
+        → IsOkAnd arguments (λ all. AsksToMatch (map string_bytes all.items) seed players frames workers) → result.status ≡ 4
+        → AppendsPart (K.taken sink.old) (K.taken sink.new) (line_of_match seed players result.all) }
 {
     match arguments {
         Ok(all) => match serve_arguments(alloc, all.as_slice(), source, sink) {
             Ok(report) => report,
-            Err(_) => unserved(5),
+            Err(_) => Report::unserved(alloc, 5),
         },
-        Err(NoArguments::NotUnicode) => unserved(2),
-        Err(NoArguments::Memory) => unserved(5),
+        Err(NoArguments::NotUnicode) => Report::unserved(alloc, 2),
+        Err(NoArguments::Memory) => Report::unserved(alloc, 5),
     }
 }

@@ -34,8 +34,8 @@ fn answer_streams(
 }
 
 /// The exit status of a report: its own status.
-fn exit_of(report: Report) -> ExitCode
-    ensures { exit_status result ≡ report.status }
+fn exit_of(report: &Report) -> ExitCode
+    ensures { exit_status result ≡ report.now.status }
 {
     ExitCode::from(report.status)
 }
@@ -44,7 +44,7 @@ fn main(rt: HostRuntime) -> ExitCode {
     let report = answer_streams(&rt, StdSource::new(rt.stdin()), StdSink::new(rt.stdout()));
     if report.status != 0 {
         // Where nobody reads standard error, the exit status is all there is.
-        let _ = eprintln!(rt; "{}", Notice(report));
+        let _ = eprintln!(rt; "{}", Notice(&report));
     }
-    exit_of(report)
+    exit_of(&report)
 }

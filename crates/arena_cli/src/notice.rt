@@ -4,13 +4,13 @@ use std::fmt::{Display, Formatter};
 
 /// What the program prints on standard error for a report whose status isn't 0: why its call ended so.
 #[derive(Clone, Copy)]
-pub struct Notice(pub Report);
+pub struct Notice<'a>(pub &'a Report);
 
-impl Display for Notice {
+impl Display for Notice<'_> {
     ghost use Rattle.std.specs.Prelude.{Some};
     ghost use Rattle.arena_cli.specs.Notices.{notice_of};
 
-    ghost output = { λ notice. Some (notice_of notice.0) };
+    ghost output = { λ notice. Some (notice_of notice.0.now) };
 
     fn fmt<W: fmt::Write>(&self, f: &mut Formatter<W>) -> fmt::Result {
         let Report {
@@ -19,7 +19,7 @@ impl Display for Notice {
             fault,
             ..
         } = self.0;
-        match status {
+        match *status {
             1 => write!(f, "recording refused: line {line}, fault {fault}"),
             2 => write!(f, "words refused"),
             3 => write!(f, "read fault"),

@@ -1,5 +1,7 @@
--- A frame that is closed: what the code prints are its lines.
-use Rattle.std.proofs.Common.{◌≡◌, ℕ, Bool, true, false, List, [], ◌++◌, length, Option, Some, None, if◌then◌else◌, refl, sym, ap, ◌∙◌, subst}
+-- A frame that was run: what it gave out can be printed, and gives its lines.
+use Rattle.std.specs.List.{All}
+use Rattle.std.proofs.Common.{◌≡◌, ℕ, ◌≤◌, Bool, true, false, List, length, get_or, Option, Some, None, if◌then◌else◌, refl, sym, ap, ◌∙◌, subst, arith}
+use Rattle.std.proofs.lemmas.List.Elements.{All-map}
 use Rattle.std.proofs.lemmas.List.{length-map}
 use Rattle.entity_recs.specs.declared.rec.Rec.{Rec}
 use Rattle.entity_recs.specs.declared.effect.Entry.{Entry}
@@ -10,10 +12,11 @@ use Rattle.plain_server.specs.Frames.{received_in, moved_by}
 use Rattle.plain_server.specs.Replies.{players_in, slots_of, replies_of}
 use Rattle.snapshot_write.specs.Snapshots.{snapshot}
 use Rattle.frame_phases.specs.Servers.{ServerView}
-use Rattle.out_text.specs.OutLines.{text_of}
+use Rattle.out_text.specs.OutLines.{OutLine}
 use Rattle.out_text.specs.FrameLines.{given_lines, lines_with}
 use Rattle.out_text.proofs.Players.{given-is}
-use Rattle.arena_engine.specs.Games.{GameView, RunsFrame, ClosesFrame, closing_lines}
+use Rattle.arena_engine.specs.LastFrames.{ArePrintable}
+use Rattle.arena_engine.specs.Games.{GameView, closing_lines}
 
 -- the records that the replies to a frame with this journal show
 abbrev pub shown_by : ServerView → List Arrival → List Entry → List (Option Rec)
@@ -27,7 +30,7 @@ pub record IsGiven (t : ServerView) (arrivals : List Arrival) (journal : List En
   pub replies_are : replies ≡ replies_of t.frames (shown_by t arrivals journal)
 
 -- it has as many replies as slots
-pub one_reply_each : (t : ServerView) (arrivals : List Arrival) (journal : List Entry) (frame : ℕ) (lists : Lists) (slots : List ℕ) (replies : List (List ℕ)) → IsGiven t arrivals journal frame lists slots replies
+one_reply_each : (t : ServerView) (arrivals : List Arrival) (journal : List Entry) (frame : ℕ) (lists : Lists) (slots : List ℕ) (replies : List (List ℕ)) → IsGiven t arrivals journal frame lists slots replies
     → length slots ≡ length replies
 one_reply_each t arrivals journal frame lists slots replies given =
     let records = shown_by t arrivals journal in
@@ -37,37 +40,46 @@ one_reply_each t arrivals journal frame lists slots replies given =
     ∙ sym (ap length given.replies_are)
 
 -- the lines that the code prints are those of the frame
-lines-are : (t : ServerView) (arrivals : List Arrival) (journal printed : List Entry) (frame : ℕ) (lists : Lists) (slots : List ℕ) (replies : List (List ℕ)) → IsGiven t arrivals journal frame lists slots replies
+pub lines-are : (t : ServerView) (arrivals : List Arrival) (journal printed : List Entry) (frame : ℕ) (lists : Lists) (slots : List ℕ) (replies : List (List ℕ)) → IsGiven t arrivals journal frame lists slots replies
     → printed ≡ journal → given_lines frame lists printed slots replies ≡ lines_with t.map t.frames (received_in t.map t.frames t.state arrivals) journal
 lines-are t arrivals journal printed frame lists slots replies given printed_is =
     (λ i. given_lines (given.frame_is i) (given.lists_are i) (printed_is i) (given.slots_are i) (given.replies_are i))
     ∙ given-is t.frames (received_in t.map t.frames t.state arrivals).lists journal (shown_by t arrivals journal)
 
+-- a snapshot has at least one byte
+snapshot_is_some : (frame : ℕ) (live : List Rec) (me : Rec) → 1 ≤ length (snapshot frame me live)
+snapshot_is_some frame live me = omega arith
+
+each_is_some : (frame : ℕ) (live players : List Rec) → All (λ (me : Rec). 1 ≤ length (snapshot frame me live)) players
+each_is_some frame live players k d inside = snapshot_is_some frame live (get_or players k d)
+
+-- it can be printed
+pub are_printable : (t : ServerView) (arrivals : List Arrival) (journal : List Entry) (frame : ℕ) (lists : Lists) (slots : List ℕ) (replies : List (List ℕ)) → IsGiven t arrivals journal frame lists slots replies
+    → ArePrintable slots replies
+are_printable t arrivals journal frame lists slots replies given =
+    let records = shown_by t arrivals journal in
+    let some = All-map (λ (bytes : List ℕ). 1 ≤ length bytes) (λ (me : Rec). snapshot t.frames me (live_in records)) (players_in records) (each_is_some t.frames (live_in records) (players_in records)) in
+    record {
+      one_each = one_reply_each t arrivals journal frame lists slots replies given;
+      some = subst (All (λ (bytes : List ℕ). 1 ≤ length bytes)) (sym given.replies_are) some;
+    }
+
+-- ---- the game that closes it
+
 -- a game from its parts
-abbrev pub game_with : ServerView → Bool → List Arrival → List Entry → GameView
-game_with server is_open arrivals journal = record { server = server; opened = if is_open then Some arrivals else None; journal = journal }
+abbrev pub game_with : ServerView → Bool → List Arrival → Option (List Entry) → List OutLine → GameView
+game_with server is_open arrivals last lines = record { server = server; opened = if is_open then Some arrivals else None; last = last; lines = lines }
 
 -- the frame is open
 opened-is : (is_open : Bool) (arrivals : List Arrival) → is_open ≡ true → (if is_open then Some arrivals else None) ≡ Some arrivals
 opened-is true arrivals opens = refl
 opened-is false arrivals opens = cc
 
--- what the code prints where a frame is open
-pub printed-is : (g : GameView) (t : ServerView) (is_open : Bool) (arrivals : List Arrival) (was journal printed : List Entry) (frame : ℕ) (lists : Lists) (slots : List ℕ) (replies : List (List ℕ)) (before text : List ℕ)
-    → game_with t is_open arrivals was ≡ g → is_open ≡ true → IsGiven t arrivals journal frame lists slots replies → printed ≡ journal → before ≡ []
-    → text ≡ before ++ text_of (given_lines frame lists printed slots replies) → text ≡ text_of (closing_lines g.server g.opened journal)
-printed-is g t is_open arrivals was journal printed frame lists slots replies before text view opens given printed_is none is =
+-- the lines of the frame that was open
+pub lines_of-closed : (g : GameView) (t : ServerView) (is_open : Bool) (arrivals : List Arrival) (last : Option (List Entry)) (old lines : List OutLine) (journal : List Entry)
+    → game_with t is_open arrivals last old ≡ g → is_open ≡ true → lines ≡ lines_with t.map t.frames (received_in t.map t.frames t.state arrivals) journal
+    → lines ≡ closing_lines g.server g.opened journal
+lines_of-closed g t is_open arrivals last old lines journal view opens is =
     is
-    ∙ ap (λ (b : List ℕ). b ++ text_of (given_lines frame lists printed slots replies)) none
-    ∙ ap text_of (lines-are t arrivals journal printed frame lists slots replies given printed_is)
-    ∙ sym (ap (λ (o : Option (List Arrival)). text_of (closing_lines t o journal)) (opened-is is_open arrivals opens))
-    ∙ ap (λ (h : GameView). text_of (closing_lines h.server h.opened journal)) view
-
--- and what was run
-pub closes-frame : (g : GameView) (t u : ServerView) (is_open : Bool) (arrivals : List Arrival) (was journal : List Entry)
-    → game_with t is_open arrivals was ≡ g → is_open ≡ true → RunsFrame t u arrivals journal
-    → ClosesFrame g.server u g.opened journal
-closes-frame g t u is_open arrivals was journal view opens runs =
-    let P : Option (List Arrival) → Type 0 = λ o. ClosesFrame t u o journal in
-    let Q : GameView → Type 0 = λ h. ClosesFrame h.server u h.opened journal in
-    subst Q view (subst P (sym (opened-is is_open arrivals opens)) runs)
+    ∙ sym (ap (λ (o : Option (List Arrival)). closing_lines t o journal) (opened-is is_open arrivals opens))
+    ∙ ap (λ (h : GameView). closing_lines h.server h.opened journal) view

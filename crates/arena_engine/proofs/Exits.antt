@@ -1,5 +1,5 @@
 -- How the playing of a recording ends, and what was written then.
-use Rattle.std.proofs.Common.{◌≡◌, ℕ, Bool, true, false, List, [], ◌∷◌, ◌++◌, length, ◌⊎◌, inl, inr, Option, Some, None, IfSome, IsSome, refl, sym, ap, ◌∙◌, subst, append_assoc, append-nil}
+use Rattle.std.proofs.Common.{◌≡◌, ℕ, Bool, true, false, List, [], ◌∷◌, ◌++◌, length, ◌⊎◌, inl, inr, Option, Some, None, IfSome, refl, sym, ap, ◌∙◌, subst, append_assoc, append-nil}
 use Rattle.std.specs.List.{AllByRecursion}
 use Rattle.std.specs.Io.KnownBytes.{Appends, Consumes}
 use Rattle.std.proofs.lemmas.Grind.{flat_map-append}
@@ -12,7 +12,7 @@ use Rattle.demo_lines.specs.Recording.{next, events_of_line, after, events_of}
 use Rattle.edge_io.specs.Lines.{HasNoLineFeed, HasNotReadAhead, ahead}
 use Rattle.edge_io.proofs.ReadingAhead.{HasNotReadAhead-trans}
 use Rattle.edge_io.specs.WholeLines.{unlines}
-use Rattle.demo_lines.specs.Bytes.{Refusal, lines_of, events, fault}
+use Rattle.demo_lines.specs.Bytes.{Refusal, lines_of, events}
 use Rattle.demo_lines.specs.Reads.{Reads, ReadsFront, Refuses, IsRefusedLine, IsLongFront, IsLastPart, EndsAt}
 use Rattle.demo_lines.proofs.Machines.{run_of-append, outputs_of-append}
 use Rattle.demo_lines.proofs.Parts.{lines_of-unlines}
@@ -20,18 +20,28 @@ use Rattle.demo_lines.proofs.Ends.{after-over}
 use Rattle.demo_lines.proofs.Joins.{whole_text}
 use Rattle.edge_io.proofs.Feeds.{each_of_both}
 use Rattle.out_text.specs.Collecting.{collected, frames_of}
-use Rattle.out_text.specs.Output.{IsFront, IsAllFrames, IsRefused, IsSomeFrames}
+use Rattle.out_text.specs.Journals.{dids}
+use Rattle.out_text.specs.Output.{last_of, HasLast, IsFront, IsAllFrames, IsRefused, IsSomeFrames}
 use Rattle.arena_engine.specs.Output.{Writes, ReadsSome, ReadsToRefusal}
 use Rattle.demo_lines.proofs.MapGiven.{after-whole, after-kept}
-use Rattle.out_text.proofs.Fronts.{AreRun, text_with, no_front, is_front, is_all_frames}
+use Rattle.out_text.proofs.Fronts.{AreRun, text_with, no_front, is_front, is_all_frames, front_has_last}
+use Rattle.out_text.proofs.Outputs.{nothing_reported}
 use Rattle.arena_engine.proofs.Continuing.{IsCutAt, continues, continues_lines, cut_after_lines, map_of-whole, frames_of-all, goes_on_frames}
 
 -- ---- before the first event
 
+-- no journal is read off no text
+none_in_no_text : None ≡ last_of (dids [])
+none_in_no_text = sym (ap last_of nothing_reported)
+
 -- memory was refused before the first event was played
-pub memory_at_first : (workers : ℕ) (a : Option (List ℕ)) (t : Option (List ℕ)) → IfSome a (λ bytes. Writes t t (IsSomeFrames workers bytes))
-memory_at_first workers None t = tt
-memory_at_first workers (Some bytes) t = record { text = []; written = Appends-nil t; holds = record { k = 0; front = no_front workers bytes } }
+pub memory_at_first : (workers : ℕ) (a : Option (List ℕ)) (t : Option (List ℕ)) (last : Option (List Entry)) → last ≡ None → IfSome a (λ bytes. Writes t t (HasLast (IsSomeFrames workers bytes) last))
+memory_at_first workers None t last none = tt
+memory_at_first workers (Some bytes) t last none = record {
+  text = [];
+  written = Appends-nil t;
+  holds = record { holds = record { k = 0; front = no_front workers bytes }; last_is = none ∙ none_in_no_text };
+}
 
 frames_of-none : (bytes : List ℕ) → events bytes ≡ [] → frames_of bytes ≡ []
 frames_of-none bytes none = ap (λ es. (collected es).closed) none
@@ -41,12 +51,13 @@ all_of_none workers bytes none =
     let P : ℕ → Type 0 = λ k. IsFront workers bytes k [] in subst P (ap length (sym (frames_of-none bytes none))) (no_front workers bytes)
 
 -- the recording was refused before it gave an event
-pub refused_at_first : (workers : ℕ) (a : Option (List ℕ)) (t : Option (List ℕ)) (why : Refusal) → IfSome a (EndsAt start why) → IfSome a (λ bytes. Writes t t (IsRefused workers bytes why))
-refused_at_first workers None t why ends = tt
-refused_at_first workers (Some bytes) t why ends = record {
+pub refused_at_first : (workers : ℕ) (a : Option (List ℕ)) (t : Option (List ℕ)) (why : Refusal) (last : Option (List Entry)) → last ≡ None → IfSome a (EndsAt start why)
+    → IfSome a (λ bytes. Writes t t (HasLast (IsRefused workers bytes why) last))
+refused_at_first workers None t why last none ends = tt
+refused_at_first workers (Some bytes) t why last none ends = record {
   text = [];
   written = Appends-nil t;
-  holds = record { faulty = ends.fault; frames = all_of_none workers bytes ends.events };
+  holds = record { holds = record { faulty = ends.fault; frames = all_of_none workers bytes ends.events }; last_is = none ∙ none_in_no_text };
 }
 
 -- the lines of a text in which each has its line feed
@@ -54,8 +65,8 @@ lines_of-whole : (lines : List (List ℕ)) → AllByRecursion HasNoLineFeed line
 lines_of-whole lines each = ap lines_of (sym (append-nil (unlines lines))) ∙ lines_of-unlines lines [] each ∙ append-nil lines
 
 -- the source failed before the first event
-pub fault_at_first : (workers : ℕ) (a l : Option (List ℕ)) (t : Option (List ℕ)) → ReadsFront start a l [] → ReadsSome workers a l t t
-fault_at_first workers a l t reads = record {
+pub fault_at_first : (workers : ℕ) (a l : Option (List ℕ)) (t : Option (List ℕ)) (last : Option (List Entry)) → last ≡ None → ReadsFront start a l [] → ReadsSome workers a l t t last
+fault_at_first workers a l t last none reads = record {
   lines = reads.lines;
   front = reads.front;
   each = reads.each;
@@ -66,7 +77,10 @@ fault_at_first workers a l t reads = record {
   frames = record {
     text = [];
     written = Appends-nil t;
-    holds = all_of_none workers (unlines reads.lines) (ap (events_of start) (lines_of-whole reads.lines reads.each) ∙ reads.events);
+    holds = record {
+      holds = all_of_none workers (unlines reads.lines) (ap (events_of start) (lines_of-whole reads.lines reads.each) ∙ reads.events);
+      last_is = none ∙ none_in_no_text;
+    };
   };
 }
 
@@ -80,47 +94,48 @@ going_before r lines going = by (is_over r.stage) refl
 
 -- ---- while frames are played
 
-module _ (workers : ℕ) (arena : MapView) (r : Reading) (a b : Option (List ℕ)) (t0 t1 : Option (List ℕ)) (es : List Event) (js : List (List Entry)) where
-  -- all events so far were played, with these journals
+module _ (workers : ℕ) (arena : MapView) (r : Reading) (a b : Option (List ℕ)) (t0 t1 : Option (List ℕ)) (es : List Event) (js : List (List Entry)) (last : Option (List Entry)) where
+  -- all events so far were played, with these journals, the last of which is `last`
   pub record Played : Type 0 where
     pub reads : Reads start r a b es
     pub whole : is_map_whole r.stage ≡ true
     pub map : r.map ≡ Some arena
     pub is_map : IsMap arena
     pub run : AreRun workers arena (collected es).closed js
+    pub last_is : last ≡ last_of js
     pub written : Appends t0 t1 (text_with arena (collected es).closed js)
 
   -- memory was refused
-  pub memory_on : Played → IfSome a (λ bytes. Writes t0 t1 (IsSomeFrames workers bytes))
+  pub memory_on : Played → IfSome a (λ bytes. Writes t0 t1 (HasLast (IsSomeFrames workers bytes) last))
   memory_on played =
-      continues r a b es (λ bytes. Writes t0 t1 (IsSomeFrames workers bytes)) played.reads (λ bytes rest is so.
+      continues r a b es (λ bytes. Writes t0 t1 (HasLast (IsSomeFrames workers bytes) last)) played.reads (λ bytes rest is so.
       let has = map_of-whole r es bytes rest arena so played.whole played.map in
       record {
         text = text_with arena (collected es).closed js;
         written = played.written;
-        holds = record {
+        holds = front_has_last workers bytes arena (record { has = has; is_map = played.is_map }) (IsSomeFrames workers bytes) (collected es).closed js last (goes_on_frames r es bytes rest so) played.run played.last_is (record {
           k = length (collected es).closed;
           front = is_front workers bytes arena (record { has = has; is_map = played.is_map }) (collected es).closed js (goes_on_frames r es bytes rest so) played.run;
-        };
+        });
       })
 
   -- the recording was refused
-  pub refused_on : (why : Refusal) → Played → IfSome b (EndsAt r why) → IfSome a (λ bytes. Writes t0 t1 (IsRefused workers bytes why))
+  pub refused_on : (why : Refusal) → Played → IfSome b (EndsAt r why) → IfSome a (λ bytes. Writes t0 t1 (HasLast (IsRefused workers bytes why) last))
   refused_on why played ends =
-      continues r a b es (λ bytes. Writes t0 t1 (IsRefused workers bytes why)) played.reads (λ bytes rest is so.
+      continues r a b es (λ bytes. Writes t0 t1 (HasLast (IsRefused workers bytes why) last)) played.reads (λ bytes rest is so.
       let here : EndsAt r why rest = let P : Option (List ℕ) → Type 0 = λ o. IfSome o (EndsAt r why) in subst P is ends in
       let has = map_of-whole r es bytes rest arena so played.whole played.map in
       record {
         text = text_with arena (collected es).closed js;
         written = played.written;
-        holds = record {
+        holds = front_has_last workers bytes arena (record { has = has; is_map = played.is_map }) (IsRefused workers bytes why) (collected es).closed js last (goes_on_frames r es bytes rest so) played.run played.last_is (record {
           faulty = so.fault_is ∙ here.fault;
           frames = is_all_frames workers bytes arena (record { has = has; is_map = played.is_map }) (collected es).closed js (frames_of-all r es bytes rest so here.events) played.run;
-        };
+        });
       })
 
   -- the source failed
-  pub fault_on : (l : Option (List ℕ)) → Played → ReadsFront r b l [] → ReadsSome workers a l t0 t1
+  pub fault_on : (l : Option (List ℕ)) → Played → ReadsFront r b l [] → ReadsSome workers a l t0 t1 last
   fault_on l played reads =
       let lines = played.reads.lines ++ reads.lines in
       let u = after r reads.lines in
@@ -151,7 +166,8 @@ module _ (workers : ℕ) (arena : MapView) (r : Reading) (a b : Option (List ℕ
         frames = record {
           text = text_with arena (collected es).closed js;
           written = played.written;
-          holds = is_all_frames workers bytes arena (record { has = has; is_map = played.is_map }) (collected es).closed js (frames_of-all u es bytes [] so refl) played.run;
+          holds = front_has_last workers bytes arena (record { has = has; is_map = played.is_map }) (IsAllFrames workers bytes) (collected es).closed js last (goes_on_frames u es bytes [] so) played.run played.last_is
+              (is_all_frames workers bytes arena (record { has = has; is_map = played.is_map }) (collected es).closed js (frames_of-all u es bytes [] so refl) played.run);
         };
       }
 

@@ -1,6 +1,8 @@
 -- Lemmas on the words, and on how a recording is played.
+pub mod SameBytes
 pub mod Words
 pub mod Closing
+pub mod Printed
 pub mod Continuing
 pub mod Exits
 pub mod Playing

@@ -28,12 +28,13 @@ use Rattle.demo_lines.proofs.Walks.{whole_after}
 use Rattle.out_text.specs.OutLines.{OutLine, EndLine, text_of}
 use Rattle.out_text.specs.FrameLines.{lines_with, run_lines}
 use Rattle.out_text.specs.Collecting.{Frames, closing, collect, collected, no_frames, frames_of}
-use Rattle.out_text.specs.Output.{AreRightIn, AreInOrderIn, IsOutput, IsCut, IsSomeFrames}
+use Rattle.out_text.specs.Output.{last_of, HasLast, AreRightIn, AreInOrderIn, IsOutput, IsCut, IsSomeFrames}
 use Rattle.out_text.proofs.Growing.{GoesOnWith, collected-append}
 use Rattle.out_text.proofs.Agreement.{Agrees, AgreesAt, NoneYet, OneOpen, AllClosed, agrees_lines}
 use Rattle.out_text.proofs.Runs.{length-right, run_lines-append, run_lines-push, state_played-push, right-append, right-push, in_order-append, in_order-push, text_of-append}
-use Rattle.out_text.proofs.Fronts.{AreRun, IsPlayed, lines_of, text_with, whole_text, none_are_run, out_text-is, is_front, is_output, frame_cut, end_cut, last_cut}
-use Rattle.arena_engine.specs.Games.{GameView, new_game, RunsFrame, ClosesFrame, GoesOn, closing_lines, event_lines, IsReady, is_end}
+use Rattle.out_text.proofs.Fronts.{AreRun, IsPlayed, lines_of, text_with, whole_text, none_are_run, last_of-push, front_has_last, out_has_last, out_text-is, is_front, is_output, frame_cut, end_cut, last_cut}
+use Rattle.arena_engine.specs.Games.{GameView, new_game, RunsFrame, ClosesFrame, last_after, GoesOn, closing_lines, event_lines, IsReady, is_end}
+use Rattle.arena_engine.specs.LastFrames.{entries_in}
 use Rattle.arena_engine.specs.Output.{HasRoom, Writes, ReadsToEnd}
 use Rattle.arena_engine.proofs.Continuing.{Continues, continues, map_of-whole, frames_of-all, goes_on_frames, goes_on_events}
 use Rattle.arena_engine.proofs.Exits.{Played}
@@ -87,24 +88,26 @@ one_more workers arena closed js arrivals old new j run at runs =
     }
 
 -- what a frame that is closed, if one was open, comes to
-pub record Closed (workers : ℕ) (arena : MapView) (closed : List (List Arrival)) (js : List (List Entry)) (opened : Option (List Arrival)) (new : ServerView) (lines : List OutLine) : Type 0 where
+pub record Closed (workers : ℕ) (arena : MapView) (closed : List (List Arrival)) (js : List (List Entry)) (opened : Option (List Arrival)) (new : ServerView) (j : List Entry) (lines : List OutLine) : Type 0 where
   pub more : List (List Entry)
   pub run : AreRun workers arena (closed ++ closing opened) (js ++ more)
   pub at : IsServerAt arena (closed ++ closing opened) (js ++ more) new
+  pub last_is : (before : Option (List Entry)) → before ≡ last_of js → last_after opened before j ≡ last_of (js ++ more)
   pub whole : lines_of arena closed js ++ lines ≡ lines_of arena (closed ++ closing opened) (js ++ more)
 
 closed_by : (workers : ℕ) (arena : MapView) (closed : List (List Arrival)) (js : List (List Entry)) (opened : Option (List Arrival)) (old new : ServerView) (j : List Entry) → AreRun workers arena closed js
-    → IsServerAt arena closed js old → ClosesFrame old new opened j → Closed workers arena closed js opened new (closing_lines old opened j)
+    → IsServerAt arena closed js old → ClosesFrame old new opened j → Closed workers arena closed js opened new j (closing_lines old opened j)
 closed_by workers arena closed js None old new j run at is = record {
   more = [];
   run = subst (λ (fs : List (List Arrival)). AreRun workers arena fs (js ++ [])) (sym (append-nil closed)) (subst (AreRun workers arena closed) (sym (append-nil js)) run);
   at = subst (λ (fs : List (List Arrival)). IsServerAt arena fs (js ++ []) new) (sym (append-nil closed))
       (subst (λ (ks : List (List Entry)). IsServerAt arena closed ks new) (sym (append-nil js)) (subst (IsServerAt arena closed js) (sym is) at));
+  last_is = λ before same. same ∙ ap last_of (sym (append-nil js));
   whole = append-nil (lines_of arena closed js) ∙ sym (λ i. lines_of arena (append-nil closed i) (append-nil js i));
 }
 closed_by workers arena closed js (Some arrivals) old new j run at runs =
     let more = one_more workers arena closed js arrivals old new j run at runs in
-    record { more = j ∷ []; run = more.run; at = more.at; whole = more.whole }
+    record { more = j ∷ []; run = more.run; at = more.at; last_is = λ before same. sym (last_of-push js j); whole = more.whole }
 
 -- ---- an event
 
@@ -120,17 +123,21 @@ pub record Advanced (workers : ℕ) (arena : MapView) (f : Frames) (js : List (L
   pub run : AreRun workers arena (collect f e).closed (js ++ more)
   pub at : IsServerAt arena (collect f e).closed (js ++ more) new.server
   pub opened : new.opened ≡ (collect f e).opened
+  pub last_is : new.last ≡ last_of (js ++ more)
   pub whole : lines_of arena f.closed js ++ lines ≡ lines_of arena (collect f e).closed (js ++ more) ++ last_lines e (collect f e).closed
 
 module _ (workers : ℕ) (arena : MapView) (f : Frames) (js : List (List Entry)) (old new : GameView) (run : AreRun workers arena f.closed js) (at : IsServerAt arena f.closed js old.server)
-    (same : old.opened ≡ f.opened) where
-  closes : ClosesFrame old.server new.server old.opened new.journal → Closed workers arena f.closed js f.opened new.server (closing_lines old.server f.opened new.journal)
+    (same : old.opened ≡ f.opened) (last_is : old.last ≡ last_of js) where
+  closes : ClosesFrame old.server new.server old.opened (entries_in new.last) → Closed workers arena f.closed js f.opened new.server (entries_in new.last) (closing_lines old.server f.opened (entries_in new.last))
   closes is =
-      closed_by workers arena f.closed js f.opened old.server new.server new.journal run at
-      (subst (λ (o : Option (List Arrival)). ClosesFrame old.server new.server o new.journal) same is)
+      closed_by workers arena f.closed js f.opened old.server new.server (entries_in new.last) run at
+      (subst (λ (o : Option (List Arrival)). ClosesFrame old.server new.server o (entries_in new.last)) same is)
 
-  lines-same : closing_lines old.server old.opened new.journal ≡ closing_lines old.server f.opened new.journal
-  lines-same = ap (λ o. closing_lines old.server o new.journal) same
+  lines-same : closing_lines old.server old.opened (entries_in new.last) ≡ closing_lines old.server f.opened (entries_in new.last)
+  lines-same = ap (λ o. closing_lines old.server o (entries_in new.last)) same
+
+  last-same : last_after old.opened old.last (entries_in new.last) ≡ last_after f.opened old.last (entries_in new.last)
+  last-same = ap (λ o. last_after o old.last (entries_in new.last)) same
 
   pub advanced : (e : Event) → GoesOn old new e → Advanced workers arena f js e new (event_lines old new e)
   advanced Frame goes =
@@ -140,6 +147,7 @@ module _ (workers : ℕ) (arena : MapView) (f : Frames) (js : List (List Entry))
         run = c.run;
         at = c.at;
         opened = goes.opened_is;
+        last_is = goes.last_is ∙ last-same ∙ c.last_is old.last last_is;
         whole = ap (λ ls. lines_of arena f.closed js ++ ls) lines-same ∙ c.whole ∙ sym (append-nil (lines_of arena (f.closed ++ closing f.opened) (js ++ c.more)));
       }
   advanced (From a) goes = record {
@@ -147,6 +155,7 @@ module _ (workers : ℕ) (arena : MapView) (f : Frames) (js : List (List Entry))
     run = subst (AreRun workers arena f.closed) (sym (append-nil js)) run;
     at = subst (λ (ks : List (List Entry)). IsServerAt arena f.closed ks new.server) (sym (append-nil js)) (subst (IsServerAt arena f.closed js) (sym goes.server) at);
     opened = goes.opened_is ∙ ap (option_map (λ arrivals. arrivals ++ a ∷ [])) same;
+    last_is = goes.last_is ∙ last_is ∙ ap last_of (sym (append-nil js));
     whole = ap (λ ks. lines_of arena f.closed ks ++ []) (sym (append-nil js));
   }
   advanced End goes =
@@ -157,8 +166,9 @@ module _ (workers : ℕ) (arena : MapView) (f : Frames) (js : List (List Entry))
         run = c.run;
         at = c.at;
         opened = goes.opened_is;
+        last_is = goes.last_is ∙ last-same ∙ c.last_is old.last last_is;
         whole = ap (λ ls. here ++ (ls ++ EndLine new.server.frames ∷ [])) lines-same
-            ∙ sym (append_assoc here (closing_lines old.server f.opened new.journal) (EndLine new.server.frames ∷ []))
+            ∙ sym (append_assoc here (closing_lines old.server f.opened (entries_in new.last)) (EndLine new.server.frames ∷ []))
             ∙ ap (λ ls. ls ++ EndLine new.server.frames ∷ []) c.whole
             ∙ ap (λ n. lines_of arena (f.closed ++ closing f.opened) (js ++ c.more) ++ EndLine n ∷ []) c.at.frames;
       }
@@ -172,27 +182,34 @@ module _ (workers : ℕ) (arena : MapView) (f : Frames) (js : List (List Entry))
 -- ---- a write that fails in the text of an event
 
 module _ (workers : ℕ) (bytes : List ℕ) (arena : MapView) (played : IsPlayed bytes arena) where
-  cut_frame : (closed : List (List Arrival)) (js : List (List Entry)) (opened : Option (List Arrival)) (old new : ServerView) (j : List Entry) (count : ℕ) → AreRun workers arena closed js
-      → IsServerAt arena closed js old → ClosesFrame old new opened j → GoesOnWith (closed ++ closing opened) (frames_of bytes)
-      → count < length (text_of (closing_lines old opened j)) → IsCut workers bytes (text_with arena closed js ++ take count (text_of (closing_lines old opened j)))
-  cut_frame closed js None old new j count run at is on short = absurd (omega arith)
-  cut_frame closed js (Some arrivals) old new j count run at runs on short =
-      let more = one_more workers arena closed js arrivals old new j run at runs in
-      inl (frame_cut workers bytes arena played closed arrivals js j (closing_lines old (Some arrivals) j) count (length-right arena 0 (opening arena) closed js run.right) on more.run more.lines_are short)
+  module _ (before last : Option (List Entry)) (closed : List (List Arrival)) (js : List (List Entry)) (so_far : before ≡ last_of js) where
+    cut_frame : (opened : Option (List Arrival)) (old new : ServerView) (j : List Entry) (count : ℕ) → last ≡ last_after opened before j → AreRun workers arena closed js
+        → IsServerAt arena closed js old → ClosesFrame old new opened j → GoesOnWith (closed ++ closing opened) (frames_of bytes)
+        → count < length (text_of (closing_lines old opened j)) → IsCut workers bytes last (text_with arena closed js ++ take count (text_of (closing_lines old opened j)))
+    cut_frame None old new j count is run at same on short = absurd (omega arith)
+    cut_frame (Some arrivals) old new j count is run at runs on short =
+        let more = one_more workers arena closed js arrivals old new j run at runs in
+        let P : Option (List Entry) → Type 0 = λ l. IsCut workers bytes l (text_with arena closed js ++ take count (text_of (closing_lines old (Some arrivals) j))) in
+        subst P (last_of-push js j ∙ sym is)
+        (inl (frame_cut workers bytes arena played closed arrivals js j (closing_lines old (Some arrivals) j) count (length-right arena 0 (opening arena) closed js run.right) on more.run more.lines_are short))
 
-  cut_end : (closed : List (List Arrival)) (js : List (List Entry)) (opened : Option (List Arrival)) (old new : ServerView) (j : List Entry) (count : ℕ) → AreRun workers arena closed js
-      → IsServerAt arena closed js old → ClosesFrame old new opened j → fault bytes ≡ None → frames_of bytes ≡ closed ++ closing opened
-      → count < length (text_of (closing_lines old opened j ++ EndLine new.frames ∷ []))
-      → IsCut workers bytes (text_with arena closed js ++ take count (text_of (closing_lines old opened j ++ EndLine new.frames ∷ [])))
-  cut_end closed js None old new j count run at is accepted all short =
-      let frames : new.frames ≡ length closed = ap (λ (t : ServerView). t.frames) is ∙ at.frames in
-      let P : ℕ → Type 0 = λ n. count < length (text_of (EndLine n ∷ [])) in
-      let Q : ℕ → Type 0 = λ n. IsCut workers bytes (text_with arena closed js ++ take count (text_of (EndLine n ∷ []))) in
-      subst Q (sym frames) (inr (end_cut workers bytes arena played closed js count accepted (all ∙ append-nil closed) run (subst P frames short)))
-  cut_end closed js (Some arrivals) old new j count run at runs accepted all short =
-      let more = one_more workers arena closed js arrivals old new j run at runs in
-      inr (last_cut workers bytes arena played closed arrivals js j (closing_lines old (Some arrivals) j ++ EndLine new.frames ∷ []) count (length-right arena 0 (opening arena) closed js run.right) accepted all
-      more.run (λ i. more.lines_are i ++ EndLine (more.at.frames i) ∷ []) short)
+    cut_end : (opened : Option (List Arrival)) (old new : ServerView) (j : List Entry) (count : ℕ) → last ≡ last_after opened before j → AreRun workers arena closed js
+        → IsServerAt arena closed js old → ClosesFrame old new opened j → fault bytes ≡ None → frames_of bytes ≡ closed ++ closing opened
+        → count < length (text_of (closing_lines old opened j ++ EndLine new.frames ∷ []))
+        → IsCut workers bytes last (text_with arena closed js ++ take count (text_of (closing_lines old opened j ++ EndLine new.frames ∷ [])))
+    cut_end None old new j count is run at same accepted all short =
+        let frames : new.frames ≡ length closed = ap (λ (t : ServerView). t.frames) same ∙ at.frames in
+        let P : ℕ → Type 0 = λ n. count < length (text_of (EndLine n ∷ [])) in
+        let Q : ℕ → Type 0 = λ n. IsCut workers bytes last (text_with arena closed js ++ take count (text_of (EndLine n ∷ []))) in
+        let R : Option (List Entry) → Type 0 = λ l. IsCut workers bytes l (text_with arena closed js ++ take count (text_of (EndLine (length closed) ∷ []))) in
+        subst Q (sym frames)
+        (subst R (sym so_far ∙ sym is) (inr (end_cut workers bytes arena played closed js count accepted (all ∙ append-nil closed) run (subst P frames short))))
+    cut_end (Some arrivals) old new j count is run at runs accepted all short =
+        let more = one_more workers arena closed js arrivals old new j run at runs in
+        let P : Option (List Entry) → Type 0 = λ l. IsCut workers bytes l (text_with arena closed js ++ take count (text_of (closing_lines old (Some arrivals) j ++ EndLine new.frames ∷ []))) in
+        subst P (last_of-push js j ∙ sym is)
+        (inr (last_cut workers bytes arena played closed arrivals js j (closing_lines old (Some arrivals) j ++ EndLine new.frames ∷ []) count (length-right arena 0 (opening arena) closed js run.right) accepted all
+        more.run (λ i. more.lines_are i ++ EndLine (more.at.frames i) ∷ []) short))
 
   -- ---- what fits
 
@@ -316,6 +333,7 @@ pub record Progress (workers : ℕ) (arena : MapView) (reading : Reading) (befor
   pub run : AreRun workers arena (collected events).closed journals
   pub at : IsServerAt arena (collected events).closed journals game.server
   pub opened : game.opened ≡ (collected events).opened
+  pub last_is : game.last ≡ last_of journals
   pub written : Appends taken_before taken (text_with arena (collected events).closed journals)
 
 -- the first event comes
@@ -334,6 +352,7 @@ begins workers arena r a b t g e reads stage frames arrivals has is_map is = rec
   run = none_are_run workers arena;
   at = record { map = ap (λ (h : GameView). h.server.map) is; state = ap (λ (h : GameView). h.server.state) is; frames = ap (λ (h : GameView). h.server.frames) is };
   opened = ap (λ (h : GameView). h.opened) is;
+  last_is = ap (λ (h : GameView). h.last) is;
   written = Appends-nil t;
 }
 
@@ -366,22 +385,24 @@ module _ (workers : ℕ) (arena : MapView) (r : Reading) (a b : Option (List ℕ
   is_played bytes rest so = record { has = map_of-whole r (p.events ++ e ∷ []) bytes rest arena so whole p.map; is_map = p.is_map }
 
   -- memory was refused at this event
-  pub memory_on : IfSome a (λ bytes. Writes t0 t1 (IsSomeFrames workers bytes))
+  pub memory_on : IfSome a (λ bytes. Writes t0 t1 (HasLast (IsSomeFrames workers bytes) g.last))
   memory_on =
-      continues r a b (p.events ++ e ∷ []) (λ bytes. Writes t0 t1 (IsSomeFrames workers bytes)) p.reads (λ bytes rest is so. record {
+      continues r a b (p.events ++ e ∷ []) (λ bytes. Writes t0 t1 (HasLast (IsSomeFrames workers bytes) g.last)) p.reads (λ bytes rest is so.
+      let on = goes_on_events r p.events (e ∷ []) bytes rest so in
+      record {
         text = text_with arena f.closed p.journals;
         written = p.written;
-        holds = record {
+        holds = front_has_last workers bytes arena (is_played bytes rest so) (IsSomeFrames workers bytes) f.closed p.journals g.last on p.run p.last_is (record {
           k = length f.closed;
-          front = is_front workers bytes arena (is_played bytes rest so) f.closed p.journals (goes_on_events r p.events (e ∷ []) bytes rest so) p.run;
-        };
+          front = is_front workers bytes arena (is_played bytes rest so) f.closed p.journals on p.run;
+        });
       })
 
   -- ---- with the game after the event
 
   module _ (new : GameView) (goes : GoesOn g new e) where
     abbrev pub next : Advanced workers arena f p.journals e new (event_lines g new e)
-    next = advanced workers arena f p.journals g new p.run p.at p.opened e goes
+    next = advanced workers arena f p.journals g new p.run p.at p.opened p.last_is e goes
 
     -- the frames that are closed then are the first of all
     closed_go_on : (bytes rest : List ℕ) → Continues r (p.events ++ e ∷ []) bytes rest → GoesOnWith (collect f e).closed (frames_of bytes)
@@ -390,36 +411,38 @@ module _ (workers : ℕ) (arena : MapView) (r : Reading) (a b : Option (List ℕ
         subst P (collected-push p.events e) (goes_on_frames r (p.events ++ e ∷ []) bytes rest so)
 
     cut_at : (bytes rest : List ℕ) (count : ℕ) → Continues r (p.events ++ e ∷ []) bytes rest → count < length (text_of (event_lines g new e))
-        → IsCut workers bytes (text_with arena f.closed p.journals ++ take count (text_of (event_lines g new e)))
+        → IsCut workers bytes new.last (text_with arena f.closed p.journals ++ take count (text_of (event_lines g new e)))
     cut_at bytes rest count so = by e refl goes
       where
         played : IsPlayed bytes arena
         played = is_played bytes rest so
 
-        by : (x : Event) → e ≡ x → GoesOn g new x → count < length (text_of (event_lines g new x)) → IsCut workers bytes (text_with arena f.closed p.journals ++ take count (text_of (event_lines g new x)))
+        by : (x : Event) → e ≡ x → GoesOn g new x → count < length (text_of (event_lines g new x)) → IsCut workers bytes new.last (text_with arena f.closed p.journals ++ take count (text_of (event_lines g new x)))
         by Frame is goes_on short =
             let on = subst (λ (x : Event). GoesOnWith (collect f x).closed (frames_of bytes)) is (closed_go_on bytes rest so) in
-            let run = subst (λ (o : Option (List Arrival)). ClosesFrame g.server new.server o new.journal) p.opened goes_on.closed in
-            let P : Option (List Arrival) → Type 0 = λ o. count < length (text_of (closing_lines g.server o new.journal)) in
-            let Q : Option (List Arrival) → Type 0 = λ o. IsCut workers bytes (text_with arena f.closed p.journals ++ take count (text_of (closing_lines g.server o new.journal))) in
-            subst Q (sym p.opened) (cut_frame workers bytes arena played f.closed p.journals f.opened g.server new.server new.journal count p.run p.at run on (subst P p.opened short))
+            let run = subst (λ (o : Option (List Arrival)). ClosesFrame g.server new.server o (entries_in new.last)) p.opened goes_on.closed in
+            let last = goes_on.last_is ∙ ap (λ (o : Option (List Arrival)). last_after o g.last (entries_in new.last)) p.opened in
+            let P : Option (List Arrival) → Type 0 = λ o. count < length (text_of (closing_lines g.server o (entries_in new.last))) in
+            let Q : Option (List Arrival) → Type 0 = λ o. IsCut workers bytes new.last (text_with arena f.closed p.journals ++ take count (text_of (closing_lines g.server o (entries_in new.last)))) in
+            subst Q (sym p.opened) (cut_frame workers bytes arena played g.last new.last f.closed p.journals p.last_is f.opened g.server new.server (entries_in new.last) count last p.run p.at run on (subst P p.opened short))
         by (From x) is goes_on short = absurd (omega arith)
         by End is goes_on short =
             let ended : r.stage ≡ Ended = p.stage ∙ ap stage_after is in
             let so_end = subst (λ (x : Event). Continues r (p.events ++ x ∷ []) bytes rest) is so in
-            let run = subst (λ (o : Option (List Arrival)). ClosesFrame g.server new.server o new.journal) p.opened goes_on.closed in
-            let P : Option (List Arrival) → Type 0 = λ o. count < length (text_of (closing_lines g.server o new.journal ++ EndLine new.server.frames ∷ [])) in
-            let Q : Option (List Arrival) → Type 0 = λ o. IsCut workers bytes (text_with arena f.closed p.journals ++ take count (text_of (closing_lines g.server o new.journal ++ EndLine new.server.frames ∷ []))) in
+            let run = subst (λ (o : Option (List Arrival)). ClosesFrame g.server new.server o (entries_in new.last)) p.opened goes_on.closed in
+            let last = goes_on.last_is ∙ ap (λ (o : Option (List Arrival)). last_after o g.last (entries_in new.last)) p.opened in
+            let P : Option (List Arrival) → Type 0 = λ o. count < length (text_of (closing_lines g.server o (entries_in new.last) ++ EndLine new.server.frames ∷ [])) in
+            let Q : Option (List Arrival) → Type 0 = λ o. IsCut workers bytes new.last (text_with arena f.closed p.journals ++ take count (text_of (closing_lines g.server o (entries_in new.last) ++ EndLine new.server.frames ∷ []))) in
             subst Q (sym p.opened)
-            (cut_end workers bytes arena played f.closed p.journals f.opened g.server new.server new.journal count p.run p.at run (fault-at_end r (p.events ++ End ∷ []) bytes rest so_end ended)
+            (cut_end workers bytes arena played g.last new.last f.closed p.journals p.last_is f.opened g.server new.server (entries_in new.last) count last p.run p.at run (fault-at_end r (p.events ++ End ∷ []) bytes rest so_end ended)
             (frames-at_end r p.events bytes rest so_end ended) (subst P p.opened short))
 
     -- a write failed at this event
-    pub cut_on : (t2 : Option (List ℕ)) → AppendsPart t1 t2 (text_of (event_lines g new e)) → IfSome a (λ bytes. Writes t0 t2 (IsCut workers bytes))
+    pub cut_on : (t2 : Option (List ℕ)) → AppendsPart t1 t2 (text_of (event_lines g new e)) → IfSome a (λ bytes. Writes t0 t2 (IsCut workers bytes new.last))
     cut_on t2 part =
         let front = text_with arena f.closed p.journals in
         let piece = text_of (event_lines g new e) in
-        continues r a b (p.events ++ e ∷ []) (λ bytes. Writes t0 t2 (IsCut workers bytes)) p.reads (λ bytes rest is so. record {
+        continues r a b (p.events ++ e ∷ []) (λ bytes. Writes t0 t2 (IsCut workers bytes new.last)) p.reads (λ bytes rest is so. record {
           text = front ++ take part.count piece;
           written = Appends-trans t0 t1 t2 front (take part.count piece) p.written part.appended;
           holds = cut_at bytes rest part.count so part.part;
@@ -432,14 +455,14 @@ module _ (workers : ℕ) (arena : MapView) (r : Reading) (a b : Option (List ℕ
     written_then : (t2 : Option (List ℕ)) → Appends t1 t2 (text_of (event_lines g new e))
         → Appends t0 t2 (text_of (lines_of arena (collect f e).closed (p.journals ++ next.more) ++ last_lines e (collect f e).closed))
     written_then t2 written =
-        subst (Appends t0 t2) (text-advanced workers arena f p.journals g new p.run p.at p.opened e goes)
+        subst (Appends t0 t2) (text-advanced workers arena f p.journals g new p.run p.at p.opened p.last_is e goes)
         (Appends-trans t0 t1 t2 text_so_far (text_of (event_lines g new e)) p.written written)
 
     -- it was the end, and all was written
-    pub done_on : (t2 : Option (List ℕ)) → e ≡ End → Appends t1 t2 (text_of (event_lines g new e)) → IfSome a (λ bytes. Writes t0 t2 (IsOutput workers bytes))
+    pub done_on : (t2 : Option (List ℕ)) → e ≡ End → Appends t1 t2 (text_of (event_lines g new e)) → IfSome a (λ bytes. Writes t0 t2 (HasLast (IsOutput workers bytes) new.last))
     done_on t2 is written =
         let ended : r.stage ≡ Ended = p.stage ∙ ap stage_after is in
-        continues r a b (p.events ++ e ∷ []) (λ bytes. Writes t0 t2 (IsOutput workers bytes)) p.reads (λ bytes rest same so.
+        continues r a b (p.events ++ e ∷ []) (λ bytes. Writes t0 t2 (HasLast (IsOutput workers bytes) new.last)) p.reads (λ bytes rest same so.
         let so_end = subst (λ (x : Event). Continues r (p.events ++ x ∷ []) bytes rest) is so in
         let all : frames_of bytes ≡ (collect f e).closed = frames-at_end r p.events bytes rest so_end ended ∙ sym (ap (λ (x : Event). (collect f x).closed) is) in
         let whole_is : text_of (lines_of arena (collect f e).closed (p.journals ++ next.more) ++ last_lines e (collect f e).closed) ≡ whole_text arena (collect f e).closed (p.journals ++ next.more) =
@@ -447,7 +470,8 @@ module _ (workers : ℕ) (arena : MapView) (r : Reading) (a b : Option (List ℕ
         record {
           text = whole_text arena (collect f e).closed (p.journals ++ next.more);
           written = subst (Appends t0 t2) whole_is (written_then t2 written);
-          holds = is_output workers bytes arena (is_played bytes rest so) (collect f e).closed (p.journals ++ next.more) (fault-at_end r (p.events ++ End ∷ []) bytes rest so_end ended) all next.run;
+          holds = out_has_last workers bytes arena (is_played bytes rest so) (IsOutput workers bytes) (collect f e).closed (p.journals ++ next.more) new.last all next.run next.last_is
+              (is_output workers bytes arena (is_played bytes rest so) (collect f e).closed (p.journals ++ next.more) (fault-at_end r (p.events ++ End ∷ []) bytes rest so_end ended) all next.run);
         })
 
     -- what was written then, where it wasn't the end
@@ -465,13 +489,14 @@ module _ (workers : ℕ) (arena : MapView) (r : Reading) (a b : Option (List ℕ
 
     -- it wasn't the end, and was played
     pub played_on : (t2 : Option (List ℕ)) → is_end e ≡ false → Appends t1 t2 (text_of (event_lines g new e))
-        → Played workers arena r a b t0 t2 (p.events ++ e ∷ []) (p.journals ++ next.more)
+        → Played workers arena r a b t0 t2 (p.events ++ e ∷ []) (p.journals ++ next.more) new.last
     played_on t2 going written = record {
       reads = p.reads;
       whole = whole;
       map = p.map;
       is_map = p.is_map;
       run = let P : Frames → Type 0 = λ h. AreRun workers arena h.closed (p.journals ++ next.more) in subst P (sym (collected-push p.events e)) next.run;
+      last_is = next.last_is;
       written = subst (Appends t0 t2) (going_text going) (written_then t2 written);
     }
 
@@ -481,7 +506,7 @@ module _ (workers : ℕ) (arena : MapView) (r : Reading) (a b : Option (List ℕ
         let X = length (text_of (event_lines g new e)) ≤ room1 in
         let js = p.journals ++ next.more in
         let longer = (collect f e).closed in
-        let joined = ap length (text-advanced workers arena f p.journals g new p.run p.at p.opened e goes) in
+        let joined = ap length (text-advanced workers arena f p.journals g new p.run p.at p.opened p.last_is e goes) in
         let both = length-append text_so_far (text_of (event_lines g new e)) in
         let each = continues r a b (p.events ++ e ∷ []) (λ bytes. HasRoom workers bytes room0 → X) p.reads (λ bytes rest is so roomy_one.
         let fits : length (text_of (lines_of arena longer js ++ last_lines e longer)) ≤ room0 = last_fits bytes rest room0 so roomy_one in
@@ -531,9 +556,10 @@ module _ (workers : ℕ) (arena : MapView) (r : Reading) (a b : Option (List ℕ
             run = played.run;
             at = let P : Frames → Type 0 = λ h. IsServerAt arena h.closed (p.journals ++ next.more) new.server in subst P (sym pushed) next.at;
             opened = next.opened ∙ ap (λ (h : Frames). h.opened) (sym pushed);
+            last_is = next.last_is;
             written = played.written;
           };
-          text = sym (text-advanced workers arena f p.journals g new p.run p.at p.opened e goes ∙ going_text going);
+          text = sym (text-advanced workers arena f p.journals g new p.run p.at p.opened p.last_is e goes ∙ going_text going);
         }
       where
         stage_here : (stage_after e ≡ Playing) ⊎ (stage_after e ≡ Ended) → (r.stage ≡ Playing) ⊎ (r.stage ≡ Ended)

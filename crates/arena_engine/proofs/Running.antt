@@ -6,6 +6,7 @@ use Rattle.edge_io.specs.Counts.{HasRisen}
 use Rattle.edge_io.specs.Lines.{ahead, HasNotReadAhead}
 use Rattle.edge_io.proofs.ReadingAhead.{HasNotReadAhead-trans}
 use Rattle.edge_io.specs.Writes.{AppendsPart}
+use Rattle.entity_recs.specs.declared.effect.Entry.{Entry}
 use Rattle.arena_map.specs.Maps.{MapView, IsMap}
 use Rattle.demo_lines.specs.declared.event.Event.{Event}
 use Rattle.demo_lines.specs.declared.event.Event.TheVariants.{Frame, From, End}
@@ -20,7 +21,7 @@ use Rattle.demo_lines.proofs.Walks.{whole_after}
 use Rattle.demo_lines.proofs.Given.{Reads-given, Reads-no_map, ReadsFront-given, EndsAt-given, Refuses-given}
 use Rattle.out_text.specs.OutLines.{text_of}
 use Rattle.out_text.specs.Collecting.{collected}
-use Rattle.out_text.specs.Output.{IsOutput, IsRefused, IsCut, IsSomeFrames}
+use Rattle.out_text.specs.Output.{HasLast, IsOutput, IsRefused, IsCut, IsSomeFrames}
 use Rattle.out_text.proofs.Fronts.{text_with}
 use Rattle.arena_engine.specs.declared.stop.Stop.{Stop}
 use Rattle.arena_engine.specs.declared.stop.Stop.TheVariants.{Refused, ReadFault, WriteFault, Memory}
@@ -78,24 +79,25 @@ no_memory_of (demo_stop.Refused line fault rule) P p = tt
 no_memory_of demo_stop.ReadFault P p = tt
 no_memory_of demo_stop.NoMemory P p = p
 
-pub first_no_memory : (d : DemoStop) (l t : Option (List ℕ)) → OnMemory (stop_of d) (IfSome l (λ bytes. Writes t t (IsSomeFrames 1 bytes)))
-first_no_memory d l t = no_memory_of d (IfSome l (λ bytes. Writes t t (IsSomeFrames 1 bytes))) (memory_at_first 1 l t)
+pub first_no_memory : (d : DemoStop) (l t : Option (List ℕ)) (last : Option (List Entry)) → last ≡ None → OnMemory (stop_of d) (IfSome l (λ bytes. Writes t t (HasLast (IsSomeFrames 1 bytes) last)))
+first_no_memory d l t last none = no_memory_of d (IfSome l (λ bytes. Writes t t (HasLast (IsSomeFrames 1 bytes) last))) (memory_at_first 1 l t last none)
 
-pub first_refused : (workers : ℕ) (demo : DemoReaderView) (d : DemoStop) (l t : Option (List ℕ)) → demo ≡ fresh_reader
-    → (IsOpen demo → reads_of.OnRefused d (λ why. IfSome (ahead demo.pending l) (EndsAt demo.reading why))) → OnRefused (stop_of d) (λ why. IfSome l (λ bytes. Writes t t (IsRefused workers bytes why)))
-first_refused workers demo d l t is h =
+pub first_refused : (workers : ℕ) (demo : DemoReaderView) (d : DemoStop) (l t : Option (List ℕ)) (last : Option (List Entry)) → last ≡ None → demo ≡ fresh_reader
+    → (IsOpen demo → reads_of.OnRefused d (λ why. IfSome (ahead demo.pending l) (EndsAt demo.reading why)))
+    → OnRefused (stop_of d) (λ why. IfSome l (λ bytes. Writes t t (HasLast (IsRefused workers bytes why) last)))
+first_refused workers demo d l t last none is h =
     let P : DemoReaderView → Type 0 = λ x. IsOpen x → reads_of.OnRefused d (λ why. IfSome (ahead x.pending l) (EndsAt x.reading why)) in
     let at_first = subst P is h fresh_is_open in
     let Q : Refusal → Option (List ℕ) → Type 0 = λ why o. IfSome o (EndsAt start why) in
-    refused_of d (λ why. IfSome (ahead [] l) (EndsAt start why)) (λ why. IfSome l (λ bytes. Writes t t (IsRefused workers bytes why)))
-    (λ why ends. refused_at_first workers l t why (subst (Q why) (prepend_known-nil l) ends)) at_first
+    refused_of d (λ why. IfSome (ahead [] l) (EndsAt start why)) (λ why. IfSome l (λ bytes. Writes t t (HasLast (IsRefused workers bytes why) last)))
+    (λ why ends. refused_at_first workers l t why last none (subst (Q why) (prepend_known-nil l) ends)) at_first
 
-pub first_fault : (workers : ℕ) (demo : DemoReaderView) (d : DemoStop) (l l' t : Option (List ℕ)) → demo ≡ fresh_reader
-    → (IsOpen demo → reads_of.OnReadFault d (ReadsFront demo.reading (ahead demo.pending l) l' [])) → OnReadFault (stop_of d) (ReadsSome workers l l' t t)
-first_fault workers demo d l l' t is h =
+pub first_fault : (workers : ℕ) (demo : DemoReaderView) (d : DemoStop) (l l' t : Option (List ℕ)) (last : Option (List Entry)) → last ≡ None → demo ≡ fresh_reader
+    → (IsOpen demo → reads_of.OnReadFault d (ReadsFront demo.reading (ahead demo.pending l) l' [])) → OnReadFault (stop_of d) (ReadsSome workers l l' t t last)
+first_fault workers demo d l l' t last none is h =
     let P : DemoReaderView → Type 0 = λ x. IsOpen x → reads_of.OnReadFault d (ReadsFront x.reading (ahead x.pending l) l' []) in
     let Q : Option (List ℕ) → Type 0 = λ o. ReadsFront start o l' [] in
-    read_fault_of d (ReadsFront start (ahead [] l) l' []) (ReadsSome workers l l' t t) (λ reads. fault_at_first workers l l' t (subst Q (prepend_known-nil l) reads)) (subst P is h fresh_is_open)
+    read_fault_of d (ReadsFront start (ahead [] l) l' []) (ReadsSome workers l l' t t last) (λ reads. fault_at_first workers l l' t last none (subst Q (prepend_known-nil l) reads)) (subst P is h fresh_is_open)
 
 pub first_cause : (demo : DemoReaderView) (d : DemoStop) (P : Type 0) → demo ≡ fresh_reader → (IsOpen demo → reads_of.OnReadFault d P) → OnReadFault (stop_of d) P
 first_cause demo d P is h =
@@ -165,10 +167,15 @@ module _ (demo : DemoReaderView) (a b t0 t1 : Option (List ℕ)) (g : GameView) 
   pub reader_is_open : is_end e ≡ false → IsOpen demo
   reader_is_open going = record { no_stop = runs.no_stop; not_over = ap (λ (r : Reading). is_over r.stage) runs.given ∙ ap is_over runs.progress.stage ∙ not_over e going }
 
-  pub memory_failed : (s : Stop) (t2 : Option (List ℕ)) → OnMemory s (t2 ≡ t1) → OnMemory s (IfSome a (λ bytes. Writes t0 t2 (IsSomeFrames 1 bytes)))
-  memory_failed s t2 same =
-      let P : Option (List ℕ) → Type 0 = λ t. IfSome a (λ bytes. Writes t0 t (IsSomeFrames 1 bytes)) in
-      on_memory s (t2 ≡ t1) (P t2) (λ is. subst P (sym is) (memory_on 1 runs.arena runs.full a b t0 t1 g e runs.progress)) same
+  pub memory_failed : (s : Stop) (g2 : GameView) (t2 : Option (List ℕ)) (last : Option (List Entry)) → last ≡ g2.last → OnMemory s (g2.last ≡ g.last) → OnMemory s (t2 ≡ t1)
+      → OnMemory s (IfSome a (λ bytes. Writes t0 t2 (HasLast (IsSomeFrames 1 bytes) last)))
+  memory_failed (Refused line fault rule) g2 t2 last is kept same = tt
+  memory_failed ReadFault g2 t2 last is kept same = tt
+  memory_failed WriteFault g2 t2 last is kept same = tt
+  memory_failed Memory g2 t2 last is kept same =
+      let P : Option (List ℕ) → Type 0 = λ t. IfSome a (λ bytes. Writes t0 t (HasLast (IsSomeFrames 1 bytes) last)) in
+      let Q : Option (List Entry) → Type 0 = λ l. IfSome a (λ bytes. Writes t0 t1 (HasLast (IsSomeFrames 1 bytes) l)) in
+      subst P (sym same) (subst Q (sym (is ∙ kept)) (memory_on 1 runs.arena runs.full a b t0 t1 g e runs.progress))
 
   pub write_cause : (s : Stop) (n2 : ℕ) → OnWriteFault s (HasRisen n1 n2) → OnWriteFault s (HasRisen n0 n2)
   write_cause s n2 risen = on_write_fault s (HasRisen n1 n2) (HasRisen n0 n2) (λ h. subst (λ n. HasRisen n n2) runs.write_same h) risen
@@ -201,12 +208,14 @@ module _ (demo : DemoReaderView) (a b t0 t1 : Option (List ℕ)) (g : GameView) 
   next_cause d m2 going h =
       read_fault_of d (HasRisen m1 m2) (HasRisen m0 m2) (λ risen. subst (λ m. HasRisen m m2) runs.read_same risen) (h (reader_is_open going))
 
-  pub write_failed : (s : Stop) (g2 : GameView) (t2 : Option (List ℕ)) → OnWriteFault s (GoesOn g g2 e) → OnWriteFault s (AppendsPart t1 t2 (text_of (event_lines g g2 e)))
-      → OnWriteFault s (IfSome a (λ bytes. Writes t0 t2 (IsCut 1 bytes)))
-  write_failed (Refused line fault rule) g2 t2 goes failed = tt
-  write_failed ReadFault g2 t2 goes failed = tt
-  write_failed WriteFault g2 t2 goes failed = cut_on 1 runs.arena runs.full a b t0 t1 g e runs.progress g2 goes t2 failed
-  write_failed Memory g2 t2 goes failed = tt
+  pub write_failed : (s : Stop) (g2 : GameView) (t2 : Option (List ℕ)) (last : Option (List Entry)) → last ≡ g2.last → OnWriteFault s (GoesOn g g2 e)
+      → OnWriteFault s (AppendsPart t1 t2 (text_of (event_lines g g2 e))) → OnWriteFault s (IfSome a (λ bytes. Writes t0 t2 (IsCut 1 bytes last)))
+  write_failed (Refused line fault rule) g2 t2 last is goes failed = tt
+  write_failed ReadFault g2 t2 last is goes failed = tt
+  write_failed WriteFault g2 t2 last is goes failed =
+      let P : Option (List Entry) → Type 0 = λ l. IfSome a (λ bytes. Writes t0 t2 (IsCut 1 bytes l)) in
+      subst P (sym is) (cut_on 1 runs.arena runs.full a b t0 t1 g e runs.progress g2 goes t2 failed)
+  write_failed Memory g2 t2 last is goes failed = tt
 
   -- where the sink has room for every right output, this text fits
   pub not_cut : (s : Stop) (g2 : GameView) → OnWriteFault s (GoesOn g g2 e) → (length (text_of (event_lines g g2 e)) ≤ k1 → OnWriteFault s ⊥) → IsSomeAnd a (λ bytes. HasRoom 1 bytes k0) → OnWriteFault s ⊥
@@ -218,35 +227,43 @@ module _ (demo : DemoReaderView) (a b t0 t1 : Option (List ℕ)) (g : GameView) 
   -- ---- the event was played
 
   module _ (g2 : GameView) (t2 : Option (List ℕ)) (goes : GoesOn g g2 e) (written : Appends t1 t2 (text_of (event_lines g g2 e))) where
-    pub all_done : is_end e ≡ true → IfSome a (λ bytes. Writes t0 t2 (IsOutput 1 bytes))
-    all_done last = done_on 1 runs.arena runs.full a b t0 t1 g e runs.progress g2 goes t2 (end_is_end e last) written
+    module _ (last : Option (List Entry)) (ends : last ≡ g2.last) where
+      with_last : (P : Option (List Entry) → Type 0) → P g2.last → P last
+      with_last P p = subst P (sym ends) p
 
-    pub next_refused : (d : DemoStop) → is_end e ≡ false → (IsOpen demo → reads_of.OnRefused d (λ why. IfSome b (EndsAt demo.reading why)))
-        → OnRefused (stop_of d) (λ why. IfSome a (λ bytes. Writes t0 t2 (IsRefused 1 bytes why)))
-    next_refused d going h =
-        let R : Reading → Refusal → Type 0 = λ r why. IfSome b (EndsAt r why) in
-        refused_of d (R demo.reading) (λ why. IfSome a (λ bytes. Writes t0 t2 (IsRefused 1 bytes why)))
-        (λ why ends. refused_on 1 runs.arena runs.full a b t0 t2 (runs.progress.events ++ e ∷ []) _ why (played_on 1 runs.arena runs.full a b t0 t1 g e runs.progress g2 goes t2 going written)
-        (ends_given why b (subst (λ (r : Reading). R r why) runs.given ends)))
-        (h (reader_is_open going))
-      where
-        ends_given : (why : Refusal) (o : Option (List ℕ)) → IfSome o (EndsAt (without_map runs.full) why) → IfSome o (EndsAt runs.full why)
-        ends_given why None ends = tt
-        ends_given why (Some bytes) ends = EndsAt-given runs.full map_is_whole why bytes ends
+      pub all_done : is_end e ≡ true → IfSome a (λ bytes. Writes t0 t2 (HasLast (IsOutput 1 bytes) last))
+      all_done is_last =
+          with_last (λ l. IfSome a (λ bytes. Writes t0 t2 (HasLast (IsOutput 1 bytes) l))) (done_on 1 runs.arena runs.full a b t0 t1 g e runs.progress g2 goes t2 (end_is_end e is_last) written)
 
-    pub next_fault : (d : DemoStop) (l : Option (List ℕ)) → is_end e ≡ false → (IsOpen demo → reads_of.OnReadFault d (ReadsFront demo.reading b l []))
-        → OnReadFault (stop_of d) (ReadsSome 1 a l t0 t2)
-    next_fault d l going h =
-        let R : Reading → Type 0 = λ r. ReadsFront r b l [] in
-        read_fault_of d (R demo.reading) (ReadsSome 1 a l t0 t2)
-        (λ reads. fault_on 1 runs.arena runs.full a b t0 t2 (runs.progress.events ++ e ∷ []) _ l (played_on 1 runs.arena runs.full a b t0 t1 g e runs.progress g2 goes t2 going written)
-        (ReadsFront-given runs.full map_is_whole b l [] (subst R runs.given reads)))
-        (h (reader_is_open going))
+      pub next_refused : (d : DemoStop) → is_end e ≡ false → (IsOpen demo → reads_of.OnRefused d (λ why. IfSome b (EndsAt demo.reading why)))
+          → OnRefused (stop_of d) (λ why. IfSome a (λ bytes. Writes t0 t2 (HasLast (IsRefused 1 bytes why) last)))
+      next_refused d going h =
+          let R : Reading → Refusal → Type 0 = λ r why. IfSome b (EndsAt r why) in
+          with_last (λ l. OnRefused (stop_of d) (λ why. IfSome a (λ bytes. Writes t0 t2 (HasLast (IsRefused 1 bytes why) l))))
+          (refused_of d (R demo.reading) (λ why. IfSome a (λ bytes. Writes t0 t2 (HasLast (IsRefused 1 bytes why) g2.last)))
+          (λ why at_end. refused_on 1 runs.arena runs.full a b t0 t2 (runs.progress.events ++ e ∷ []) _ _ why (played_on 1 runs.arena runs.full a b t0 t1 g e runs.progress g2 goes t2 going written)
+          (ends_given why b (subst (λ (r : Reading). R r why) runs.given at_end)))
+          (h (reader_is_open going)))
+        where
+          ends_given : (why : Refusal) (o : Option (List ℕ)) → IfSome o (EndsAt (without_map runs.full) why) → IfSome o (EndsAt runs.full why)
+          ends_given why None at_end = tt
+          ends_given why (Some bytes) at_end = EndsAt-given runs.full map_is_whole why bytes at_end
 
-    pub next_no_memory : (d : DemoStop) → is_end e ≡ false → OnMemory (stop_of d) (IfSome a (λ bytes. Writes t0 t2 (IsSomeFrames 1 bytes)))
-    next_no_memory d going =
-        no_memory_of d (IfSome a (λ bytes. Writes t0 t2 (IsSomeFrames 1 bytes)))
-        (exits.memory_on 1 runs.arena runs.full a b t0 t2 (runs.progress.events ++ e ∷ []) _ (played_on 1 runs.arena runs.full a b t0 t1 g e runs.progress g2 goes t2 going written))
+      pub next_fault : (d : DemoStop) (l : Option (List ℕ)) → is_end e ≡ false → (IsOpen demo → reads_of.OnReadFault d (ReadsFront demo.reading b l []))
+          → OnReadFault (stop_of d) (ReadsSome 1 a l t0 t2 last)
+      next_fault d l going h =
+          let R : Reading → Type 0 = λ r. ReadsFront r b l [] in
+          with_last (λ j. OnReadFault (stop_of d) (ReadsSome 1 a l t0 t2 j))
+          (read_fault_of d (R demo.reading) (ReadsSome 1 a l t0 t2 g2.last)
+          (λ reads. fault_on 1 runs.arena runs.full a b t0 t2 (runs.progress.events ++ e ∷ []) _ _ l (played_on 1 runs.arena runs.full a b t0 t1 g e runs.progress g2 goes t2 going written)
+          (ReadsFront-given runs.full map_is_whole b l [] (subst R runs.given reads)))
+          (h (reader_is_open going)))
+
+      pub next_no_memory : (d : DemoStop) → is_end e ≡ false → OnMemory (stop_of d) (IfSome a (λ bytes. Writes t0 t2 (HasLast (IsSomeFrames 1 bytes) last)))
+      next_no_memory d going =
+          with_last (λ l. OnMemory (stop_of d) (IfSome a (λ bytes. Writes t0 t2 (HasLast (IsSomeFrames 1 bytes) l))))
+          (no_memory_of d (IfSome a (λ bytes. Writes t0 t2 (HasLast (IsSomeFrames 1 bytes) g2.last)))
+          (exits.memory_on 1 runs.arena runs.full a b t0 t2 (runs.progress.events ++ e ∷ []) _ _ (played_on 1 runs.arena runs.full a b t0 t1 g e runs.progress g2 goes t2 going written)))
 
     pub runs_on : (demo' : DemoReaderView) (b' : Option (List ℕ)) (e' : Event) (m2 n2 k2 : ℕ) → is_end e ≡ false
         → (IsOpen demo → Reads demo.reading demo'.reading b b' (e' ∷ [])) → demo'.reading.stage ≡ stage_after e' → IsReading demo'.reading → demo'.stop ≡ None → m2 ≡ m1 → n2 ≡ n1

@@ -10,16 +10,19 @@ use Rattle.demo_lines.specs.declared.event.Event.{Event}
 use Rattle.demo_lines.specs.declared.event.Event.TheVariants.{Frame, From, End}
 use Rattle.out_text.specs.OutLines.{OutLine, EndLine}
 use Rattle.out_text.specs.FrameLines.{lines_with}
+use Rattle.arena_engine.specs.LastFrames.{entries_in}
 
--- the server, the packets of the frame that is open, and the journal of the last frame that was run
+-- the server, the packets of the frame that is open, and of the last frame that was run the journal, None before the
+-- first one, and the lines
 pub record GameView : Type 0 where
   pub server : ServerView
   pub opened : Option (List Arrival)
-  pub journal : List Entry
+  pub last : Option (List Entry)
+  pub lines : List OutLine
 
 -- before the first event
 abbrev pub new_game : MapView → GameView
-new_game map = record { server = new_server map; opened = None; journal = [] }
+new_game map = record { server = new_server map; opened = None; last = None; lines = [] }
 
 -- a frame with these packets was run: its journal is right, with the moves in the order of arrival
 pub record RunsFrame (old new : ServerView) (arrivals : List Arrival) (journal : List Entry) : Type 0 where
@@ -38,14 +41,21 @@ closing_lines server None journal = []
 closing_lines server (Some arrivals) journal =
     lines_with server.map server.frames (received_in server.map server.frames server.state arrivals) journal
 
+-- the journal of the last frame once the frame that was open is closed with this one; where none was, it is as it was
+abbrev pub last_after : Option (List Arrival) → Option (List Entry) → List Entry → Option (List Entry)
+last_after None before journal = before
+last_after (Some arrivals) before journal = Some journal
+
 -- the game after an event
 pub record Goes (old new : GameView) (opened : Option (List Arrival)) : Type 0 where
-  pub closed : ClosesFrame old.server new.server old.opened new.journal
+  pub closed : ClosesFrame old.server new.server old.opened (entries_in new.last)
+  pub last_is : new.last ≡ last_after old.opened old.last (entries_in new.last)
   pub opened_is : new.opened ≡ opened
 
 -- one packet more
 pub record Takes (old new : GameView) (a : Arrival) : Type 0 where
   pub server : new.server ≡ old.server
+  pub last_is : new.last ≡ old.last
   pub opened_is : new.opened ≡ option_map (λ arrivals. arrivals ++ a ∷ []) old.opened
 
 -- how an event leaves the game
@@ -56,9 +66,9 @@ GoesOn old new End = Goes old new None
 
 -- the lines that an event closes: those of the frame that was open, and at the end the last line
 abbrev pub event_lines : GameView → GameView → Event → List OutLine
-event_lines old new Frame = closing_lines old.server old.opened new.journal
+event_lines old new Frame = closing_lines old.server old.opened (entries_in new.last)
 event_lines old new (From a) = []
-event_lines old new End = closing_lines old.server old.opened new.journal ++ EndLine new.server.frames ∷ []
+event_lines old new End = closing_lines old.server old.opened (entries_in new.last) ++ EndLine new.server.frames ∷ []
 
 -- an event may come: the open frame has few packets, and there are few frames
 pub record IsReady (g : GameView) : Type 0 where

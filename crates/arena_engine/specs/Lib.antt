@@ -7,6 +7,7 @@ pub use Rattle.demo_lines.specs.Spelling
 pub use Rattle.arena_map.specs.Maps
 pub use Rattle.client_ports.specs.States
 pub use Rattle.client_ports.specs.Receiving
+pub use Rattle.move_journal.specs.Logs
 pub use Rattle.plain_server.specs.RecordsById
 pub use Rattle.plain_server.specs.Frames
 pub use Rattle.plain_server.specs.Replies
@@ -16,7 +17,17 @@ pub use Rattle.out_text.specs.FrameLines
 pub use Rattle.out_text.specs.Journals
 pub use Rattle.out_text.specs.Collecting
 pub use Rattle.out_text.specs.Output as Outputs
+pub use Rattle.demo_make.specs.GeneratedMap
+pub use Rattle.demo_make.specs.GeneratedFrames
+pub use Rattle.match_play.specs.Matches
+pub mod Numbers
+pub mod Commands
+pub mod Summaries
+pub mod Making
+pub mod Performing
+pub mod LastFrames
 pub mod Games
+pub mod Dues
 pub mod StopOf
 pub mod Stops
 pub mod Output

@@ -12,7 +12,7 @@ use Rattle.demo_lines.specs.Recording.{after}
 use Rattle.demo_lines.specs.Reads.{IsTextOf, TakesCutEnd, IsRefusedLine, IsLongFront, IsLastPart}
 use Rattle.demo_lines.specs.Bytes.{map_of}
 use Rattle.out_text.specs.Collecting.{frames_of}
-use Rattle.out_text.specs.Output.{AreRightIn, AreInOrderIn, out_text, IsAllFrames}
+use Rattle.out_text.specs.Output.{AreRightIn, AreInOrderIn, out_text, HasLast, IsAllFrames}
 
 -- something was written, and P of it
 pub record Writes (old new : Option (List ℕ)) (P : List ℕ → Type 0) : Type 0 where
@@ -21,8 +21,10 @@ pub record Writes (old new : Option (List ℕ)) (P : List ℕ → Type 0) : Type
   pub holds : P text
 
 -- lines with their line feeds and the front of one more were taken from the source, which the recording still goes on
--- to, and the frames are written that those lines close: the front closes none, also where it reads `end`
-pub record ReadsSome (workers : ℕ) (old new : Option (List ℕ)) (taken_before taken : Option (List ℕ)) : Type 0 where
+-- to, and the frames are written that those lines close, the last of which has the journal `last`: the front closes none,
+-- also where it reads `end`
+pub record ReadsSome (workers : ℕ) (old new : Option (List ℕ)) (taken_before taken : Option (List ℕ))
+    (last : Option (List Entry)) : Type 0 where
   pub lines : List (List ℕ)
   pub front : List ℕ
   pub each : AllByRecursion HasNoLineFeed lines
@@ -30,7 +32,7 @@ pub record ReadsSome (workers : ℕ) (old new : Option (List ℕ)) (taken_before
   pub fits : length front ≤ LONGEST
   pub going : is_over (after start lines).stage ≡ false
   pub consumed : Consumes old new (unlines lines ++ front)
-  pub frames : Writes taken_before taken (IsAllFrames workers (unlines lines))
+  pub frames : Writes taken_before taken (HasLast (IsAllFrames workers (unlines lines)) last)
 
 -- the lines of a recording were taken from the source up to its line `end`, each with its line feed, but for an `end`
 -- that the input ends with. No more was read than the last read had to give and the input's end wasn't given in this

@@ -1,20 +1,30 @@
 -- What is asked of the program, and what its answer is.
-use Rattle.std.specs.Prelude.{◌≡◌, ℕ, ◌⊎◌, List, [], ◌∷◌, map, codes, decimal}
+use Rattle.std.specs.Prelude.{◌≡◌, ℕ, ◌⊎◌, List}
 use Rattle.std.specs.Borrow.{Bor}
 use Rattle.edge_io.specs.Counts.{HasRisen}
+use Rattle.arena_engine.specs.declared.command.Command.{Command}
+use Rattle.arena_engine.specs.declared.command.Command.TheVariants.{Play, Make, Match}
+use Rattle.arena_engine.specs.Commands.{Spells, contents}
 
--- the words are `play` and the number of workers in decimal; until moves run on more, that is 1
-pub record IsPlay (words : List (Bor (List ℕ))) (workers : ℕ) : Type 0 where
-  pub words_are : map (λ word. word.now) words ≡ codes "play" ∷ decimal workers ∷ []
-  pub one_worker : workers ≡ 1
+-- the words are those of this command
+abbrev pub AskFor : List (Bor (List ℕ)) → Command → Type 0
+AskFor words command = Spells (contents words) command
 
--- the words are `play` and `1`
-abbrev pub ArePlayOne : List (Bor (List ℕ)) → Type 0
-ArePlayOne words = map (λ word. word.now) words ≡ codes "play" ∷ codes "1" ∷ []
+-- they are `play` and the number of workers
+abbrev pub IsPlay : List (Bor (List ℕ)) → ℕ → Type 0
+IsPlay words workers = AskFor words (Play workers)
 
--- the words are those of no command
+-- they are `make`, the seed, and the numbers of players and of frames
+abbrev pub IsMake : List (Bor (List ℕ)) → ℕ → ℕ → ℕ → Type 0
+IsMake words seed players frames = AskFor words (Make seed players frames)
+
+-- they are `match`, the seed, and the numbers of players, of frames and of workers
+abbrev pub IsMatching : List (Bor (List ℕ)) → ℕ → ℕ → ℕ → ℕ → Type 0
+IsMatching words seed players frames workers = AskFor words (Match seed players frames workers)
+
+-- they are those of no command
 abbrev pub AskForNothing : List (Bor (List ℕ)) → Type 0
-AskForNothing words = (workers : ℕ) → IsPlay words workers → ⊥
+AskForNothing words = (command : Command) → AskFor words command → ⊥
 
 -- neither the source's count of faults nor the sink's has risen
 pub record NothingFailed (reads_before reads writes_before writes : ℕ) : Type 0 where

@@ -1,83 +1,114 @@
 //! The arena server's top call: it plays a recording and writes what each player sees.
 #![tactic(auto)]
 
-ghost use Rattle.std.specs.Prelude.{◌≡◌, ◌≤◌, ◌↔◌, ℕ, true, IfSome, IsSomeAnd, IsSome, IsTrue, None};
+ghost use Rattle.std.specs.Prelude.{◌≡◌, ◌≤◌, ◌↔◌, ℕ, true, IfSome, IsSomeAnd, IsSome, None, [], length};
+ghost use Rattle.std.specs.Io.KnownBytes.{Appends};
 ghost use Rattle.edge_io.specs.Counts.{HasRisen};
+ghost use Rattle.edge_io.specs.Writes.{AppendsPart};
 ghost use Rattle.demo_lines.specs.Bytes.{fault};
-ghost use Rattle.out_text.specs.Output.{IsOutput, IsRefused, IsCut, IsSomeFrames};
+ghost use Rattle.demo_make.specs.GeneratedFrames.{generated_text};
+ghost use Rattle.out_text.specs.Output.{HasLast, IsOutput, IsRefused, IsCut, IsSomeFrames};
+ghost use Rattle.arena_engine.specs.Making.{IsOfWriting, ArePlayed, line_of_match, IsBare};
 ghost use Rattle.arena_engine.specs.Output.{Writes, ReadsSome, ReadsToEnd, ReadsToRefusal, HasRoom};
-ghost use Rattle.arena_engine.specs.Reports.{refusal_of};
-ghost use Rattle.arena_engine.specs.Serving.{IsPlay, ArePlayOne, AskForNothing, NothingFailed, IsOrMemory};
+ghost use Rattle.arena_engine.specs.Reports.{refusal_of, last_in};
+ghost use Rattle.arena_engine.specs.Serving.{IsPlay, IsMake, IsMatching, AskForNothing, NothingFailed, IsOrMemory};
 
+use command::command_of;
 use edge_io::{Sink, Source};
-use play::play;
+use perform::perform;
 pub use report::Report;
 use std::alloc::Global;
-use stop::Stop;
 
+mod command;
+mod due;
 mod game;
+mod last_frame;
+mod made;
+mod matched;
+mod numbers;
+mod perform;
 mod play;
+mod played;
+mod recording;
 mod report;
 mod stop;
+mod summary;
 #[cfg(test)]
 mod tests;
 
-/// Whether the words are `play 1`, the only command so far.
-fn are_play_one(words: &[&str]) -> bool
-    ensures { IsTrue result ↔ ArePlayOne words.now }
-{
-    matches!(*words, ["play", "1"])
-}
-
-/// The number of workers, where the words are those of a command.
-#[tactic(auto, using(crate::proofs::Words::is_play, crate::proofs::Words::ask_for_nothing))]
-fn workers_of(words: &[&str]) -> Option<u8>
-    ensures some { IfSome result (IsPlay words.now) }
-    ensures none { result ≡ None → AskForNothing words.now }
-{
-    if are_play_one(words) { Some(1) } else { None }
-}
-
-/// Does what the words ask for. For `play 1` it reads a recording from the source, plays it on one worker, and writes the
-/// output to the sink: for each frame its text before the next line is read, and at last the line `end`. The rest of the
-/// input is ignored.
+/// Does what the words ask for.
+///
+/// `play 1` reads a recording from the source, plays it on one worker, and writes the output to the sink: for each frame its
+/// text before the next line is read, and at last the line `end`. The rest of the input is ignored.
+/// `make SEED PLAYERS FRAMES` writes the recording of a seed. `match SEED PLAYERS FRAMES 1` plays that recording without
+/// writing it, and writes one line of what its frames came to. Neither of the two reads.
 ///
 /// The report's status says how it ended:
 ///
-/// - 0: the recording was read to its line `end`, and its whole output was written.
+/// - 0: the recording was read to its line `end`, and its whole output was written; or the recording that was made, or the
+///   line of the match, was written whole.
 /// - 1: a line of the recording has a fault; the report has the number of the first one, its first fault, and the rule of
 ///   the map that it breaks. The frames that were closed before it are written.
 /// - 2: the words ask for nothing. Nothing is read or written.
 /// - 3: a read failed. The frames that the lines before it close are written.
-/// - 4: a write failed. A front of the output is written: all frames but the last are whole.
-/// - 5: there was not enough memory. Whole frames are written.
+/// - 4: a write failed. A front of what was to be written is: of an output, all frames but the last are whole.
+/// - 5: there was not enough memory. Of an output, whole frames are written; of what is made or summed, nothing.
+///
+/// The report has the journal of the last frame that was run from a recording, which is the last frame that was written, or
+/// the one whose text a failed write has cut. For `match` it has the journals of all frames that were run.
 pub fn serve<S: Source, K: Sink>(
     alloc: Global,
     words: &[&str],
     source: &mut S,
     sink: &mut K,
 ) -> Report
-    // What was read and written, by the status.
+    // What `play` has read and written, by the status.
     ensures done { (n : ℕ) → IsPlay words.now n → result.status ≡ 0 → IfSome (S.left source.old) (λ bytes.
-        Writes (K.taken sink.old) (K.taken sink.new) (IsOutput n bytes)) }
+        Writes (K.taken sink.old) (K.taken sink.new) (HasLast (IsOutput n bytes) (last_in result))) }
     ensures read { (n : ℕ) → IsPlay words.now n → result.status ≡ 0 →
         ReadsToEnd source.old source.new (S.last source.new) (S.ended source.new ≡ S.ended source.old) (S.ended source.new ≡ true)
         (S.left source.old) (S.left source.new) }
     ensures refused { (n : ℕ) → IsPlay words.now n → result.status ≡ 1 → IfSome (S.left source.old) (λ bytes.
-        Writes (K.taken sink.old) (K.taken sink.new) (IsRefused n bytes (refusal_of result))) }
+        Writes (K.taken sink.old) (K.taken sink.new) (HasLast (IsRefused n bytes (refusal_of result)) (last_in result))) }
     ensures refused_read { (n : ℕ) → IsPlay words.now n → result.status ≡ 1 →
         ReadsToRefusal source.old source.new (S.last source.new) (S.ended source.new ≡ S.ended source.old) (S.ended source.new ≡ true)
         (S.left source.old) (S.left source.new) }
     ensures words { (result.status ≡ 2) ↔ AskForNothing words.now }
     ensures untouched { result.status ≡ 2 → (source.new ≡ source.old) × (sink.new ≡ sink.old) }
+    ensures no_frame { result.status ≡ 2 → result.last ≡ None }
     ensures read_fault { (n : ℕ) → IsPlay words.now n → result.status ≡ 3 →
-        ReadsSome n (S.left source.old) (S.left source.new) (K.taken sink.old) (K.taken sink.new) }
+        ReadsSome n (S.left source.old) (S.left source.new) (K.taken sink.old) (K.taken sink.new) (last_in result) }
     ensures write_fault { (n : ℕ) → IsPlay words.now n → result.status ≡ 4 → IfSome (S.left source.old) (λ bytes.
-        Writes (K.taken sink.old) (K.taken sink.new) (IsCut n bytes)) }
+        Writes (K.taken sink.old) (K.taken sink.new) (IsCut n bytes (last_in result))) }
     ensures memory { (n : ℕ) → IsPlay words.now n → result.status ≡ 5 → IfSome (S.left source.old) (λ bytes.
-        Writes (K.taken sink.old) (K.taken sink.new) (IsSomeFrames n bytes)) }
+        Writes (K.taken sink.old) (K.taken sink.new) (HasLast (IsSomeFrames n bytes) (last_in result))) }
     ensures known { result.status ≤ 5 }
     ensures place { (result.status ≡ 1 → ⊥) → (result.line ≡ 0) × (result.fault ≡ 0) × (result.rule ≡ 0) }
+    ensures all { ((seed players frames workers : ℕ) → IsMatching words.now seed players frames workers → ⊥)
+        → result.all ≡ [] }
+
+    // What `make` and `match` have written. Neither reads.
+    ensures made { (seed players frames : ℕ) → IsMake words.now seed players frames → result.status ≡ 0
+        → Appends (K.taken sink.old) (K.taken sink.new) (generated_text seed players frames) }
+    ensures made_cut { (seed players frames : ℕ) → IsMake words.now seed players frames → result.status ≡ 4
+        → AppendsPart (K.taken sink.old) (K.taken sink.new) (generated_text seed players frames) }
+    ensures made_nothing { (seed players frames : ℕ) → IsMake words.now seed players frames → result.status ≡ 5 → sink.new ≡ sink.old }
+    ensures make_status { (seed players frames : ℕ) → IsMake words.now seed players frames → IsOfWriting result.status × IsBare result }
+    ensures make_reads_nothing { (seed players frames : ℕ) → IsMake words.now seed players frames → source.new ≡ source.old }
+    ensures summed { (seed players frames workers : ℕ) → IsMatching words.now seed players frames workers
+        → result.status ≡ 0
+        → Appends (K.taken sink.old) (K.taken sink.new) (line_of_match seed players result.all) }
+    ensures summed_cut { (seed players frames workers : ℕ) → IsMatching words.now seed players frames workers
+        → result.status ≡ 4
+        → AppendsPart (K.taken sink.old) (K.taken sink.new) (line_of_match seed players result.all) }
+    ensures summed_nothing { (seed players frames workers : ℕ) → IsMatching words.now seed players frames workers
+        → result.status ≡ 5 → sink.new ≡ sink.old }
+    ensures match_frames { (seed players frames workers : ℕ) → IsMatching words.now seed players frames workers
+        → ArePlayed seed players frames result.status result.all }
+    ensures match_status { (seed players frames workers : ℕ) → IsMatching words.now seed players frames workers
+        → IsOfWriting result.status × IsBare result }
+    ensures match_reads_nothing { (seed players frames workers : ℕ) → IsMatching words.now seed players frames workers
+        → source.new ≡ source.old }
 
     // Why.
     ensures read_cause { result.status ≡ 3 → HasRisen (S.faults source.old) (S.faults source.new) }
@@ -88,7 +119,8 @@ pub fn serve<S: Source, K: Sink>(
     ensures reads_uncounted { (result.status ≡ 3 → ⊥) → S.faults source.new ≡ S.faults source.old }
     ensures writes_uncounted { (result.status ≡ 4 → ⊥) → K.faults sink.new ≡ K.faults sink.old }
 
-    // Where nothing fails and memory suffices, a recording is played to its end, and what is none is refused.
+    // Where nothing fails and memory suffices, a recording is played to its end, and what is none is refused; a recording is
+    // made, and a match is played.
     ensures sure_reads { S.never_fails source.old → result.status ≡ 3 → ⊥ }
     ensures sure_writes { (n : ℕ) → IsPlay words.now n
         → IsSomeAnd (S.left source.old) (λ bytes. HasRoom n bytes (K.room sink.old)) → result.status ≡ 4 → ⊥ }
@@ -102,15 +134,14 @@ pub fn serve<S: Source, K: Sink>(
         → IsSomeAnd (S.left source.old) (λ bytes. (fault bytes ≡ None) × HasRoom n bytes (K.room sink.old)) → IsOrMemory result.status 0 }
     ensures surely_refused { (n : ℕ) → IsPlay words.now n → S.never_fails source.old
         → IsSomeAnd (S.left source.old) (λ bytes. IsSome (fault bytes) × HasRoom n bytes (K.room sink.old)) → IsOrMemory result.status 1 }
+    ensures sure_make { (seed players frames : ℕ) → IsMake words.now seed players frames → length (generated_text seed players frames) ≤ K.room sink.old → result.status ≡ 4 → ⊥ }
+    ensures sure_match { (seed players frames workers : ℕ) → IsMatching words.now seed players frames workers
+        → 300 ≤ K.room sink.old → result.status ≡ 4 → ⊥ }
+    ensures complete_make { (seed players frames : ℕ) → IsMake words.now seed players frames → (HasRisen (K.faults sink.old) (K.faults sink.new) → ⊥)
+        → IsOrMemory result.status 0 }
+    ensures complete_match { (seed players frames workers : ℕ) → IsMatching words.now seed players frames workers
+        → (HasRisen (K.faults sink.old) (K.faults sink.new) → ⊥)
+        → IsOrMemory result.status 0 }
 {
-    let Some(_workers) = workers_of(words) else {
-        return Report::of_status(2);
-    };
-    match play(alloc, source, sink) {
-        Ok(()) => Report::of_status(0),
-        Err(Stop::Refused { line, fault, rule }) => Report::of_refusal(line, fault, rule),
-        Err(Stop::ReadFault) => Report::of_status(3),
-        Err(Stop::WriteFault) => Report::of_status(4),
-        Err(Stop::Memory) => Report::of_status(5),
-    }
+    perform(alloc, command_of(words), source, sink)
 }

@@ -2,12 +2,13 @@ ghost use Rattle.std.specs.Prelude.{◌≡◌, ◌≤◌, true, [], ◌∷◌, O
 ghost use Rattle.std.specs.Bool.{OnTrue};
 ghost use Rattle.edge_io.specs.Counts.{HasRisen};
 ghost use Rattle.arena_engine.specs.Games as games;
-ghost use Rattle.out_text.specs.Output.{IsOutput, IsRefused, IsCut, IsSomeFrames};
+ghost use Rattle.out_text.specs.Output.{HasLast, IsOutput, IsRefused, IsCut, IsSomeFrames};
+ghost use Rattle.arena_engine.specs.LastFrames.{entries_of};
 ghost use Rattle.arena_engine.specs.Output.{Writes, ReadsSome, ReadsToEnd, ReadsToRefusal, HasRoom};
 ghost use Rattle.arena_engine.specs.Stops.{OnRefused, OnReadFault, OnWriteFault, OnMemory, ButOnReadFault, ButOnWriteFault};
 
 use crate::game::Game;
-use crate::stop::Stop;
+use crate::played::Played;
 use demo_lines::{DemoReader, Event};
 use edge_io::{Sink, Source};
 use std::alloc::Global;
@@ -23,45 +24,59 @@ fn is_end(event: &Event) -> bool
 }
 
 /// Plays a recording from the source on one worker, and writes its output to the sink, each frame before the next line
-/// is read.
-pub fn play<S: Source, K: Sink>(alloc: Global, source: &mut S, sink: &mut K) -> Result<(), Stop>
-    ensures done { OnOk result (IfSome (S.left source.old) (λ bytes.
-        Writes (K.taken sink.old) (K.taken sink.new) (IsOutput 1 bytes))) }
-    ensures read { OnOk result (ReadsToEnd source.old source.new (S.last source.new)
+/// is read. Beside how that ended it gives the journal of the last frame that was run.
+pub fn play<S: Source, K: Sink>(alloc: Global, source: &mut S, sink: &mut K) -> Played
+    ensures done { OnOk result.ended (IfSome (S.left source.old) (λ bytes.
+        Writes (K.taken sink.old) (K.taken sink.new) (HasLast (IsOutput 1 bytes) (entries_of result.last)))) }
+    ensures read { OnOk result.ended (ReadsToEnd source.old source.new (S.last source.new)
         (S.ended source.new ≡ S.ended source.old) (S.ended source.new ≡ true) (S.left source.old) (S.left source.new)) }
-    ensures refused { IfErr result (λ stop. OnRefused stop (λ why. IfSome (S.left source.old) (λ bytes.
-        Writes (K.taken sink.old) (K.taken sink.new) (IsRefused 1 bytes why)))) }
-    ensures refused_read { IfErr result (λ stop. OnRefused stop (λ _. ReadsToRefusal source.old source.new (S.last source.new)
+    ensures refused { IfErr result.ended (λ stop. OnRefused stop (λ why. IfSome (S.left source.old) (λ bytes.
+        Writes (K.taken sink.old) (K.taken sink.new) (HasLast (IsRefused 1 bytes why) (entries_of result.last))))) }
+    ensures refused_read { IfErr result.ended (λ stop. OnRefused stop (λ _. ReadsToRefusal source.old source.new (S.last source.new)
         (S.ended source.new ≡ S.ended source.old) (S.ended source.new ≡ true) (S.left source.old) (S.left source.new))) }
-    ensures read_fault { IfErr result (λ stop. OnReadFault stop
-        (ReadsSome 1 (S.left source.old) (S.left source.new) (K.taken sink.old) (K.taken sink.new))) }
-    ensures write_fault { IfErr result (λ stop. OnWriteFault stop (IfSome (S.left source.old) (λ bytes.
-        Writes (K.taken sink.old) (K.taken sink.new) (IsCut 1 bytes)))) }
-    ensures memory { IfErr result (λ stop. OnMemory stop (IfSome (S.left source.old) (λ bytes.
-        Writes (K.taken sink.old) (K.taken sink.new) (IsSomeFrames 1 bytes)))) }
+    ensures read_fault { IfErr result.ended (λ stop. OnReadFault stop
+        (ReadsSome 1 (S.left source.old) (S.left source.new) (K.taken sink.old) (K.taken sink.new) (entries_of result.last))) }
+    ensures write_fault { IfErr result.ended (λ stop. OnWriteFault stop (IfSome (S.left source.old) (λ bytes.
+        Writes (K.taken sink.old) (K.taken sink.new) (IsCut 1 bytes (entries_of result.last))))) }
+    ensures memory { IfErr result.ended (λ stop. OnMemory stop (IfSome (S.left source.old) (λ bytes.
+        Writes (K.taken sink.old) (K.taken sink.new) (HasLast (IsSomeFrames 1 bytes) (entries_of result.last))))) }
 
-    ensures read_cause { IfErr result (λ stop. OnReadFault stop (HasRisen (S.faults source.old) (S.faults source.new))) }
-    ensures write_cause { IfErr result (λ stop. OnWriteFault stop (HasRisen (K.faults sink.old) (K.faults sink.new))) }
-    ensures no_end { IfErr result (λ stop. OnReadFault stop (S.ended source.new ≡ S.ended source.old)) }
-    ensures reads_done { OnOk result (S.faults source.new ≡ S.faults source.old) }
-    ensures reads_stopped { IfErr result (λ stop. ButOnReadFault stop (S.faults source.new ≡ S.faults source.old)) }
-    ensures writes_done { OnOk result (K.faults sink.new ≡ K.faults sink.old) }
-    ensures writes_stopped { IfErr result (λ stop. ButOnWriteFault stop (K.faults sink.new ≡ K.faults sink.old)) }
-    ensures sure_reads { S.never_fails source.old → IfErr result (λ stop. OnReadFault stop ⊥) }
-    ensures sure_writes { IsSomeAnd (S.left source.old) (λ bytes. HasRoom 1 bytes (K.room sink.old)) → IfErr result (λ stop. OnWriteFault stop ⊥) }
+    ensures read_cause { IfErr result.ended (λ stop. OnReadFault stop (HasRisen (S.faults source.old) (S.faults source.new))) }
+    ensures write_cause { IfErr result.ended (λ stop. OnWriteFault stop (HasRisen (K.faults sink.old) (K.faults sink.new))) }
+    ensures no_end { IfErr result.ended (λ stop. OnReadFault stop (S.ended source.new ≡ S.ended source.old)) }
+    ensures reads_done { OnOk result.ended (S.faults source.new ≡ S.faults source.old) }
+    ensures reads_stopped { IfErr result.ended (λ stop. ButOnReadFault stop (S.faults source.new ≡ S.faults source.old)) }
+    ensures writes_done { OnOk result.ended (K.faults sink.new ≡ K.faults sink.old) }
+    ensures writes_stopped { IfErr result.ended (λ stop. ButOnWriteFault stop (K.faults sink.new ≡ K.faults sink.old)) }
+    ensures sure_reads { S.never_fails source.old → IfErr result.ended (λ stop. OnReadFault stop ⊥) }
+    ensures sure_writes { IsSomeAnd (S.left source.old) (λ bytes. HasRoom 1 bytes (K.room sink.old)) → IfErr result.ended (λ stop. OnWriteFault stop ⊥) }
     ensures read_later { S.faults source.old ≤ S.faults source.new }
     ensures write_later { K.faults sink.old ≤ K.faults sink.new }
 {
-    let mut demo = DemoReader::new(alloc)?;
-    let mut event = demo.next(alloc, source)?;
+    let mut demo = match DemoReader::new(alloc) {
+        Ok(demo) => demo,
+        Err(error) => return Played::before_frames(error.into()),
+    };
+    let mut event = match demo.next(alloc, source) {
+        Ok(event) => event,
+        Err(stop) => return Played::before_frames(stop.into()),
+    };
     let map = demo.take_map().unwrap();
-    let mut game = Game::new(alloc, map)?;
+    let mut game = match Game::new(alloc, map) {
+        Ok(game) => game,
+        Err(error) => return Played::before_frames(error.into()),
+    };
     'events: loop {
         let is_last = is_end(&event);
-        game.take(alloc, event, sink)?;
-        if is_last {
-            return Ok(());
+        if let Err(stop) = game.take(alloc, event, sink) {
+            return Played::with_game(game, Err(stop));
         }
-        event = demo.next(alloc, source)?;
+        if is_last {
+            return Played::with_game(game, Ok(()));
+        }
+        event = match demo.next(alloc, source) {
+            Ok(event) => event,
+            Err(stop) => return Played::with_game(game, Err(stop.into())),
+        };
     }
 }

@@ -1,7 +1,10 @@
-ghost use Rattle.std.specs.Prelude.{◌≡◌};
+ghost use Rattle.std.specs.Prelude.{◌≡◌, [], None};
+
+use move_journal::{Journal, JournalList};
+use std::alloc::Global;
 
 /// How a call of `serve` ended.
-#[derive(Clone, Copy, Debug, PartialEq, Eq)]
+#[derive(Drop)]
 pub struct Report {
     /// The status, which the program ends with: 0 done, 1 recording refused, 2 words refused, 3 read fault, 4 write
     /// fault, 5 want of memory.
@@ -12,34 +15,62 @@ pub struct Report {
     pub fault: u8,
     /// The rule of the map that the refused line breaks, 1 to 8; 0 where it breaks none, and for every other status.
     pub rule: u8,
+    /// The journal of the last frame that was run, where a recording was played and a frame was run.
+    pub last: Option<Journal>,
+    /// No journal: it is for commands that keep the journals of all frames.
+    pub all: JournalList,
 }
 
 impl Report {
     ghost use Rattle.arena_engine.specs.Reports.{refusal_of};
 
-    /// A report of a status alone.
-    pub(crate) fn of_status(status: u8) -> Report
+    /// A report of a status alone: no recording was played.
+    pub fn unserved(alloc: Global, status: u8) -> Report
         ensures status { result.status ≡ status }
         ensures place { (result.line ≡ 0) × (result.fault ≡ 0) × (result.rule ≡ 0) }
+        ensures last { result.last ≡ None }
+        ensures all { result.all ≡ [] }
+    {
+        Report::of_status(status, None, JournalList::new(alloc))
+    }
+
+    /// A report of a status other than that of a refused recording, with these journals.
+    pub(crate) fn of_status(status: u8, last: Option<Journal>, all: JournalList) -> Report
+        ensures status { result.status ≡ status }
+        ensures place { (result.line ≡ 0) × (result.fault ≡ 0) × (result.rule ≡ 0) }
+        ensures last { result.last ≡ last }
+        ensures all { result.all ≡ all }
     {
         Report {
             status,
             line: 0,
             fault: 0,
             rule: 0,
+            last,
+            all,
         }
     }
 
-    /// A report that this line was refused for this fault.
-    pub(crate) fn of_refusal(line: u64, fault: u8, rule: u8) -> Report
+    /// A report that this line was refused for this fault, with the journal of the last frame before it.
+    pub(crate) fn of_refusal(
+        line: u64,
+        fault: u8,
+        rule: u8,
+        last: Option<Journal>,
+        all: JournalList,
+    ) -> Report
         ensures status { result.status ≡ 1 }
         ensures place { refusal_of result ≡ record { line = line; fault = fault; rule = rule } }
+        ensures last { result.last ≡ last }
+        ensures all { result.all ≡ all }
     {
         Report {
             status: 1,
             line,
             fault,
             rule,
+            last,
+            all,
         }
     }
 }

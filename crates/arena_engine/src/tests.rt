@@ -9,7 +9,9 @@ use std::alloc::AllocError;
 use std::process::Abort;
 use std::test::Fail;
 
+mod cut;
 mod full;
+mod made;
 mod pipe;
 mod things;
 

@@ -1,0 +1,38 @@
+-- The commands that words ask for.
+use Rattle.std.specs.Prelude.{◌≡◌, ℕ, ◌<◌, ◌^◌, List, [], ◌∷◌, map, codes, decimal}
+use Rattle.std.specs.Borrow.{Bor}
+use Rattle.demo_make.specs.GeneratedFrames.{IsInRange}
+use Rattle.match_play.specs.Matches.{IsMatch}
+use Rattle.arena_engine.specs.declared.command.Command.{Command}
+use Rattle.arena_engine.specs.declared.command.Command.TheVariants.{Play, Make, Match}
+
+-- the texts of words
+abbrev pub contents : List (Bor (List ℕ)) → List (List ℕ)
+contents words = map (λ word. word.now) words
+
+-- the words of a command: its name, and its numbers in decimal digits
+abbrev pub words_of : Command → List (List ℕ)
+words_of (Play workers) = codes "play" ∷ decimal workers ∷ []
+words_of (Make seed players frames) =
+    codes "make" ∷ decimal seed ∷ decimal players ∷ decimal frames ∷ []
+words_of (Match seed players frames workers) =
+    codes "match" ∷ decimal seed ∷ decimal players ∷ decimal frames ∷ decimal workers ∷ []
+
+-- how many workers there may be: one, until moves run on more
+abbrev pub AreWorkers : ℕ → Type 0
+AreWorkers workers = workers ≡ 1
+
+-- a seed of 64 bits
+abbrev pub IsSeed : ℕ → Type 0
+IsSeed seed = seed < 2 ^ 64
+
+-- the numbers of a command are in their ranges
+abbrev pub HasRanges : Command → Type 0
+HasRanges (Play workers) = AreWorkers workers
+HasRanges (Make seed players frames) = IsSeed seed × IsInRange players frames
+HasRanges (Match seed players frames workers) = IsSeed seed × IsMatch players frames × AreWorkers workers
+
+-- these words ask for this command
+pub record Spells (words : List (List ℕ)) (c : Command) : Type 0 where
+  pub words_are : words ≡ words_of c
+  pub ranges : HasRanges c

@@ -1,0 +1,96 @@
+ghost use Rattle.std.specs.Prelude.{◌≡◌, Some, IfSome, [], ◌∷◌, codes};
+ghost use Rattle.arena_engine.specs.Commands.{Spells, contents};
+ghost use Rattle.arena_engine.specs.declared.command.Command.{Command};
+
+use crate::numbers::{number, number_up_to};
+use frame_phases::MOST_FRAMES;
+use match_play::MOST_MATCH_FRAMES;
+
+/// The most workers. Moves don't run on more yet.
+const MOST_WORKERS: u32 = 1;
+
+/// The most players of a recording that is made.
+const MOST_PLAYERS: u32 = 64;
+
+/// What the program is asked for.
+#[derive(Clone, Copy, Debug, PartialEq, Eq)]
+pub enum Command {
+    /// Plays a recording from the source.
+    Play {
+        /// How many workers run its moves.
+        workers: u8,
+    },
+    /// Writes the recording of a seed.
+    Make {
+        /// The seed.
+        seed: u64,
+        /// How many players it has, 1 to 64.
+        players: u8,
+        /// How many frames it has, 1 to 100,000.
+        frames: u32,
+    },
+    /// Plays the recording of a seed without writing it.
+    Match {
+        /// The seed.
+        seed: u64,
+        /// How many players it has, 1 to 64.
+        players: u8,
+        /// How many frames it has, 1 to 2,000.
+        frames: u32,
+        /// How many workers run its moves.
+        workers: u8,
+    },
+}
+
+/// The command `play` with this word.
+fn play(workers: &str) -> Option<Command>
+    ensures some { IfSome result (Spells (codes "play" ∷ workers.now ∷ [])) }
+    ensures only { (c : Command) → Spells (codes "play" ∷ workers.now ∷ []) c → result ≡ Some c }
+{
+    Some(Command::Play {
+        workers: number_up_to(workers, MOST_WORKERS)? as u8,
+    })
+}
+
+/// The command `make` with these words.
+fn make(seed: &str, players: &str, frames: &str) -> Option<Command>
+    ensures some { IfSome result (Spells (codes "make" ∷ seed.now ∷ players.now ∷ frames.now ∷ [])) }
+    ensures only { (c : Command) → Spells (codes "make" ∷ seed.now ∷ players.now ∷ frames.now ∷ []) c
+        → result ≡ Some c }
+{
+    Some(Command::Make {
+        seed: number(seed)?,
+        players: number_up_to(players, MOST_PLAYERS)? as u8,
+        frames: number_up_to(frames, MOST_FRAMES)?,
+    })
+}
+
+/// The command `match` with these words.
+fn match_of(seed: &str, players: &str, frames: &str, workers: &str) -> Option<Command>
+    ensures some { IfSome result
+        (Spells (codes "match" ∷ seed.now ∷ players.now ∷ frames.now ∷ workers.now ∷ [])) }
+    ensures only { (c : Command)
+        → Spells (codes "match" ∷ seed.now ∷ players.now ∷ frames.now ∷ workers.now ∷ []) c → result ≡ Some c }
+{
+    Some(Command::Match {
+        seed: number(seed)?,
+        players: number_up_to(players, MOST_PLAYERS)? as u8,
+        frames: number_up_to(frames, MOST_MATCH_FRAMES)?,
+        workers: number_up_to(workers, MOST_WORKERS)? as u8,
+    })
+}
+
+/// The command that the words ask for, and `None` exactly where they are those of no command: `play N`,
+/// `make SEED PLAYERS FRAMES` or `match SEED PLAYERS FRAMES N`, where each number is in its range, in decimal digits
+/// without a sign and without a leading zero, 0 itself excepted.
+pub fn command_of(words: &[&str]) -> Option<Command>
+    ensures some { IfSome result (Spells (contents words.now)) }
+    ensures only { (c : Command) → Spells (contents words.now) c → result ≡ Some c }
+{
+    match *words {
+        ["play", workers] => play(workers),
+        ["make", seed, players, frames] => make(seed, players, frames),
+        ["match", seed, players, frames, workers] => match_of(seed, players, frames, workers),
+        _ => None,
+    }
+}

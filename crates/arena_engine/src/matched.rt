@@ -1,0 +1,49 @@
+ghost use Rattle.std.specs.Prelude.{◌≡◌, ◌≤◌, None};
+ghost use Rattle.std.specs.Io.KnownBytes.{Appends};
+ghost use Rattle.edge_io.specs.Counts.{HasRisen};
+ghost use Rattle.edge_io.specs.Writes.{AppendsPart};
+ghost use Rattle.match_play.specs.Matches.{IsMatch};
+ghost use Rattle.arena_engine.specs.Making.{IsOfWriting, ArePlayed, line_of_match, IsBare};
+
+use crate::report::Report;
+use crate::summary::push_summary;
+use edge_io::{LineBuf, Sink, write_whole};
+use match_play::{MatchPlayed, play_match};
+use std::alloc::Global;
+
+/// Plays the recording of this seed on one worker without writing it, and writes the line of its totals. The report has
+/// the journals of the frames that were run.
+pub fn play_and_sum<K: Sink>(
+    alloc: Global,
+    seed: u64,
+    players: u8,
+    frames: u32,
+    sink: &mut K,
+) -> Report
+    requires { IsMatch players frames }
+    ensures status { IsOfWriting result.status }
+    ensures done { result.status ≡ 0 → Appends (K.taken sink.old) (K.taken sink.new) (line_of_match seed players result.all) }
+    ensures write_fault { result.status ≡ 4
+        → AppendsPart (K.taken sink.old) (K.taken sink.new) (line_of_match seed players result.all) }
+    ensures memory { result.status ≡ 5 → sink.new ≡ sink.old }
+    ensures frames { ArePlayed seed players frames result.status result.all }
+    ensures bare { IsBare result }
+
+    ensures later { K.faults sink.old ≤ K.faults sink.new }
+    ensures cause { result.status ≡ 4 → HasRisen (K.faults sink.old) (K.faults sink.new) }
+    ensures uncounted { (result.status ≡ 4 → ⊥) → K.faults sink.new ≡ K.faults sink.old }
+    ensures sure { 300 ≤ K.room sink.old → result.status ≡ 4 → ⊥ }
+{
+    let Ok(mut line) = LineBuf::new(alloc) else {
+        return Report::unserved(alloc, 5);
+    };
+    let MatchPlayed { ended, all } = play_match(alloc, seed, players, frames);
+    let Ok(totals) = ended else {
+        return Report::of_status(5, None, all);
+    };
+    push_summary(&totals, &mut line);
+    match write_whole(sink, line.as_slice()) {
+        Ok(()) => Report::of_status(0, None, all),
+        Err(_) => Report::of_status(4, None, all),
+    }
+}
