@@ -1,6 +1,8 @@
 -- Lemmas on journals in order, and on valid worlds.
 pub mod Founds
 pub mod Orders
+pub mod SortedRanges
+pub mod LogEntries
 pub mod Uniques
 pub mod ValidWorlds
 pub mod WholeHistories

@@ -42,7 +42,7 @@ entry_in_order act w place (c ∷ commands) (b ∷ before) item following same =
 pub legal_in_order : (act : Action) (w : World) (place : ℕ) (commands : List Command) → IsLegalFrom act place w (items_in_order act w place commands)
 legal_in_order act w place commands = record { each = entry_in_order act w place commands }
 
--- of each player their entries tell its commands
+-- of each player their entries have the numbers of its commands
 pub player_items_in_order : (act : Action) (slot : ℕ) (w : World) (place : ℕ) (commands : List Command)
     → reported_numbers slot (entries_in_order act w place commands) ≡ sent_numbers slot commands
 player_items_in_order act slot w place [] = refl
@@ -50,7 +50,7 @@ player_items_in_order act slot w place (c ∷ commands) =
     let tail = player_items_in_order act slot (apply act w c) (place + 1) commands in
     elim (cases_Bool (c.slot == slot)) [ inl e ↦ rw e (cc) | inr e ↦ rw e tail ]
 
--- their entries tell them in their order
+-- their entries have them in their order
 pub order_in_order : (act : Action) (w : World) (place : ℕ) (commands : List Command) → IsInOrder (entries_in_order act w place commands) commands
 order_in_order act w place [] = refl
 order_in_order act w place (c ∷ commands) =

@@ -7,4 +7,5 @@ pub mod Logs
 pub mod Validity
 pub mod Lists
 pub mod Merges
+pub mod ByPlace
 pub mod Laws

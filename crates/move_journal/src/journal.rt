@@ -23,6 +23,7 @@ impl Model for Journal {
 
 impl Journal {
     ghost use Rattle.std.specs.Prelude.{◌≡◌, [], IfOk};
+    ghost use Rattle.std.specs.List.Sorted.{IsPermutation, IsNonDecreasingBy};
     ghost use Rattle.move_journal.specs.Logs.{journal_view, JournalHasRoom, journal_with};
 
     /// No entry, with room for `most`. The only error is that memory is refused.
@@ -54,6 +55,15 @@ impl Journal {
         ensures { self.new ≡ journal_view [] self.old.room }
     {
         self.entries.clear();
+    }
+
+    /// Puts the entries in the order of their places.
+    pub(crate) fn sort_by_place(&mut self)
+        ensures entries { IsPermutation self.old.entries self.new.entries }
+        ensures sorted { IsNonDecreasingBy (λ e. e.place) self.new.entries }
+        ensures room { self.new.room ≡ self.old.room }
+    {
+        self.entries.sort_unstable_by_key(|e| e.place);
     }
 
     /// Puts an entry last. It takes no memory.

@@ -1,6 +1,7 @@
 //! Journals of moves: the lists that hold their entries, and when a journal is right.
 #![tactic(auto)]
 
+pub use copies::same_reply;
 pub use journal::Journal;
 pub use laws::{
     merges_have_whole_histories, moves_in_order_are_right, moves_keep_records_in_bounds,
@@ -8,10 +9,13 @@ pub use laws::{
 };
 pub use lists::{JournalList, LogList, MOST_LOGS};
 pub use log::Log;
+pub use merging::merge;
 
+mod copies;
 mod journal;
 mod laws;
 mod lists;
 mod log;
+mod merging;
 #[cfg(test)]
 mod tests;

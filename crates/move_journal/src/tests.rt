@@ -1,3 +1,5 @@
+ghost use Rattle.std.specs.Prelude.{◌≡◌};
+
 use super::*;
 use arena_geo::Vec3;
 use entity_recs::{Entry, IdList, Reply};
@@ -5,7 +7,9 @@ use std::process::Abort;
 use std::test::Fail;
 
 /// The entry of slot 7's move with this number, at this place, which took the item 64.
-fn entry(place: u64, seq: u32) -> Entry {
+fn entry(place: u64, seq: u32) -> Entry
+    ensures place { result.place ≡ place }
+{
     let mut got = IdList::new();
     let _fits = got.push(64);
     Entry {
@@ -71,5 +75,26 @@ fn journals_are_listed_in_order(rt: HostRuntime) -> Result<(), Fail> {
         .map(|j| j.room())
         .collect(rt.alloc())?;
     assert_eq!(rt; rooms.as_slice(), [1, 2].as_slice());
+    Ok(())
+}
+
+#[test]
+fn merged_entries_are_by_place(rt: HostRuntime) -> Result<(), Fail> {
+    let mut first = Log::new(rt.alloc(), 1)?;
+    first.push(entry(1, 40));
+    let mut second = Log::new(rt.alloc(), 2)?;
+    second.push(entry(0, 41));
+    second.push(entry(2, 42));
+    let mut journal = Journal::new(rt.alloc(), 3)?;
+    merge(&[first, second], &mut journal);
+    expect(&rt, journal.as_slice(), &[41, 40, 42]);
+    Ok(())
+}
+
+#[test]
+fn no_log_merges_to_no_entry(rt: HostRuntime) -> Result<(), Fail> {
+    let mut journal = Journal::new(rt.alloc(), 1)?;
+    merge(&[], &mut journal);
+    expect(&rt, journal.as_slice(), &[]);
     Ok(())
 }
