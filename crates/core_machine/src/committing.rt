@@ -14,21 +14,8 @@ use crate::rules::Rules;
 use crate::seat::Seat;
 use arrayvec::ArrayVec;
 use core_steps::{PlayerWords, encode};
-use entity_recs::{Action, Effect, Entry, IdList, Rec, Reply, StateList};
-
-/// A reply once more.
-fn same_reply(reply: &Reply) -> Reply
-    ensures { result ≡ reply.now }
-{
-    let mut got = IdList::new();
-    for id in reply.got.as_slice() {
-        let _ = got.push(*id);
-    }
-    Reply {
-        origin: reply.origin,
-        got,
-    }
-}
+use entity_recs::{Action, Effect, Entry, Rec, StateList};
+use move_journal::same_reply;
 
 /// An effect once more.
 pub fn same_effect(effect: &Effect) -> Effect

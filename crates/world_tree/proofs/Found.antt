@@ -62,19 +62,19 @@ pub picked-is : (test : Rec → Bool) (marks : List Bool) (records : List (Optio
     → ((i : ℕ) (r : Rec) → record_at records i ≡ Some r → slice_index_or marks i false ≡ test r)
     → picked marks records ≡ filter test (live_in records)
 unfolding picked
-picked-is test [] [] same tells = refl
-picked-is test [] (place ∷ records) same tells = absurd (omega arith)
-picked-is test (mark ∷ marks) [] same tells = refl
-picked-is test (mark ∷ marks) (None ∷ records) same tells =
-    let rest = picked-is test marks records (omega arith) (λ i r e. tells (suc i) r e) in
+picked-is test [] [] same agrees = refl
+picked-is test [] (place ∷ records) same agrees = absurd (omega arith)
+picked-is test (mark ∷ marks) [] same agrees = refl
+picked-is test (mark ∷ marks) (None ∷ records) same agrees =
+    let rest = picked-is test marks records (omega arith) (λ i r e. agrees (suc i) r e) in
     ap (λ (o : Option Rec). cons_option o (picked marks records)) (no_record mark) ∙ rest
   where
     no_record : (b : Bool) → marked_record None b ≡ None
     no_record true = refl
     no_record false = refl
-picked-is test (mark ∷ marks) (Some r ∷ records) same tells =
-    let rest = picked-is test marks records (omega arith) (λ i r e. tells (suc i) r e) in
-    ap (λ (b : Bool). cons_option (marked_record (Some r) b) (picked marks records)) (tells 0 r refl)
+picked-is test (mark ∷ marks) (Some r ∷ records) same agrees =
+    let rest = picked-is test marks records (omega arith) (λ i r e. agrees (suc i) r e) in
+    ap (λ (b : Bool). cons_option (marked_record (Some r) b) (picked marks records)) (agrees 0 r refl)
     ∙ ap (λ (rs : List Rec). cons_option (marked_record (Some r) (test r)) rs) rest ∙ by_test (test r)
   where
     by_test : (b : Bool) → cons_option (marked_record (Some r) b) (filter test (live_in records)) ≡ (if b then r ∷ filter test (live_in records) else filter test (live_in records))
