@@ -18,7 +18,7 @@ use Rattle.region_locks.specs.Plays.{SeatCounted, SeatTook, SeatWent}
 use Rattle.region_locks.proofs.Goes.{goes}
 use Rattle.region_locks.proofs.Holders.{found_held}
 use Rattle.region_locks.proofs.Reaching.{are_reached}
-use Rattle.region_locks.proofs.Told.{told}
+use Rattle.region_locks.proofs.SoundSights.{sound_sight}
 use Rattle.region_locks.proofs.Found.{found_small, found_taken, store_small, store_loads}
 use Rattle.region_locks.proofs.Bits.{cleared, set_bit}
 use Rattle.region_locks.proofs.Counting.{count_is_small, seen_is_below}
@@ -31,7 +31,7 @@ there_below [] i x e = absurd (some-ne-none x (sym e))
 there_below (y ∷ ys) zero x e = omega arith
 there_below (y ∷ ys) (suc i) x e = let below = there_below ys i x e in omega arith
 
--- a step that leaves in its word what it should is allowed, and tells the view after it
+-- a step that leaves in its word what it should is allowed, and gives the view after it
 allowed_here : (F : Fixed) (rooms : List ℕ) (slots i : ℕ) (me : Me (Unit {0}) SightView) (given : Option Command) (quits : Bool) (next : Next) (f : ℕ → ℕ)
     → MayGo F (length rooms) me.0.number me.0.view given quits next
     → ((found : ℕ) → found < 18446744073709551616 → f found ≡ word_left F me.0.number me.0.view next found)
@@ -48,7 +48,7 @@ allowed_here F rooms slots i me given quits next f may leaves s r _ at small =
         record {
           number = refl;
           view = refl;
-          told = told F rooms _ ruled i new (set_here s.views i new (there_below s.views i me.0 at));
+          sound_sight = sound_sight F rooms _ ruled i new (set_here s.views i new (there_below s.views i me.0 at));
           small = found_small F rooms s r i me.0 at given quits next may;
           taken = found_taken F rooms s r i me.0 at given quits next may;
         },
@@ -67,7 +67,7 @@ allowed F G rooms passes word slots i me given quits next f fixed count at may l
     (subst (λ (n : ℕ). Allows (IsRuled F rooms) slots i me n f (λ found after. SeatWent F (length rooms) next me found after)) (sym at)
     (allowed_here F rooms slots i me given quits next f (subst (λ (n : ℕ). MayGo F n me.0.number me.0.view given quits next) count may) leaves)))
 
--- the same for a store, whose step is told the word that is stored
+-- the same for a store, whose step gets the word that is stored
 pub allowed_store : (F G : Fixed) (rooms : List ℕ) (passes word slots i : ℕ) (me : Me (Unit {0}) SightView) (given : Option Command) (quits : Bool) (next : Next) (new : ℕ)
     → F ≡ G → passes ≡ length rooms → word ≡ index_of 31 me.0.view next → MayGo F passes me.0.number me.0.view given quits next
     → ((found : ℕ) → word_left F me.0.number me.0.view next found ≡ new)
@@ -84,7 +84,7 @@ allowed_store F G rooms passes word slots i me given quits next new fixed count 
         record {
           number = went.0.number;
           view = went.0.view ∙ blind (slice_index s.words word);
-          told = went.0.told;
+          sound_sight = went.0.sound_sight;
           small = store_small F me.0.number me.0.view next new leaves;
           taken = λ node slot part players plan is five. store_loads F me.0.number me.0.view next new node slot part players plan leaves is;
         },
@@ -141,7 +141,7 @@ allowed_add_here F rooms slots i me given quits next at_0 may leaves s r _ at sm
           record {
             number = refl;
             view = refl;
-            told = told F rooms _ ruled i new (set_here s.views i new (there_below s.views i me.0 at));
+            sound_sight = sound_sight F rooms _ ruled i new (set_here s.views i new (there_below s.views i me.0 at));
             small = found_small F rooms s r i me.0 at given quits next may;
             taken = found_taken F rooms s r i me.0 at given quits next may;
           },

@@ -239,7 +239,7 @@ idle_left F effect view idle = by_point view.point idle
 
 module _ (F : Fixed) (passes : ℕ) (table : TableId) (p : PassView) (going : IsGoingOn F passes table p) where
   abbrev sound : IsSound F p.view
-  sound = going.own.told.sound
+  sound = going.own.sound_sight.sound
 
   -- a pass with its command in view has none that isn't begun
   pub none_given : is_busy (stage_of p.view.point) ≡ true → p.given ≡ None

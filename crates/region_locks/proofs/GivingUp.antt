@@ -200,7 +200,7 @@ module _ (F : Fixed) (passes : ℕ) (table : TableId) (start now : PassView) whe
       refused = is.kept.refused;
       refusals = is.kept.refusals;
       none = more.none;
-      idle = idle_at now.view.point more.yields is.own.told.sound.next.left nothing;
+      idle = idle_at now.view.point more.yields is.own.sound_sight.sound.next.left nothing;
     }
   ]
 

@@ -1,7 +1,7 @@
 -- Lemmas on the rule of the table.
 pub mod Views
 pub mod Goes
-pub mod Told
+pub mod SoundSights
 pub mod LeafWords
 pub mod Holders
 pub mod Reaching

@@ -184,7 +184,7 @@ loading_more F passes table old now new slot words word is below after own takes
       own = own_after;
       pass = ap (λ (q : PassView). pass_after F (the_next (next_of_pass F q)) word q) is.pass ∙ sym (loads_more F old words word);
       next = λ few. on.next (pass_after F next word now).effect few;
-      taken = λ six. on.taken six own_after.told.sound;
+      taken = λ six. on.taken six own_after.sound_sight.sound;
     })
 
 pub has_loaded : (F : Fixed) (passes : ℕ) (table : TableId) (old now : PassView) (slot : ℕ) (words : List ℕ) (r : Rec) → IsLoading F passes table old now slot words → length words ≡ 6

@@ -16,7 +16,7 @@ use Rattle.core_steps.specs.Views.{Fixed, Store, View}
 use Rattle.core_steps.specs.Machine.{Next, Begin, beginning, index_of, IsPending}
 use Rattle.core_steps.proofs.Machines.{fits_none}
 use Rattle.region_locks.specs.Going.{MayGo}
-use Rattle.region_locks.specs.Plays.{IsToldOf}
+use Rattle.region_locks.specs.Plays.{IsSoundSight}
 use Rattle.core_machine.specs.Sound.{IsSound}
 use Rattle.core_machine.specs.Ready.{is_resolving}
 use Rattle.region_locks.specs.Passes.{IsPassOf, new_pass, view_with_made, other_pass, new_passes}
@@ -68,8 +68,8 @@ module _ (F : Fixed) (depth : F.tree.depth ≡ 4) (room made : ℕ) where
       same_next : Some (Begin c) ≡ Some next → Begin c ≡ next
       same_next e = cc
 
-  pub told_new : (passes number : ℕ) → IsToldOf F passes (record { number = number; view = view })
-  told_new passes number = record { sound = sound; in_table = λ given quits next may. in_table given quits next may }
+  pub sound_sight_new : (passes number : ℕ) → IsSoundSight F passes (record { number = number; view = view })
+  sound_sight_new passes number = record { sound = sound; in_table = λ given quits next may. in_table given quits next may }
     where
       in_table : (given : Option Command) (quits : Bool) (next : Next) → MayGo F passes number view given quits next → index_of 31 view next < 639
       in_table given true next may = absurd (false≢true (may.at_take refl))
@@ -79,7 +79,7 @@ module _ (F : Fixed) (depth : F.tree.depth ≡ 4) (room made : ℕ) where
   new_own passes table number = record {
     at_table = refl;
     lives = refl;
-    told = told_new passes number;
+    sound_sight = sound_sight_new passes number;
     pending = λ c e. absurd (no_given c e);
     serves = λ c e. absurd (no_given c e);
     may_quit = λ e. absurd (false≢true e);

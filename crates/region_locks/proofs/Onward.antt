@@ -91,7 +91,7 @@ module _ (F : Fixed) (passes : ℕ) (table : TableId) (p new : PassView) (own : 
   loads_begin : (cmd : Command) → IsGoingOn F passes table (beginner cmd) → new ≡ after_loads F (beginner cmd) all_words → HasGoneOn F passes table (beginner cmd) new On
   loads_begin cmd going is =
       let v : View = record p.view { cmd = cmd; own = five_words; point = Owning } in
-      let sound = going.own.told.sound in
+      let sound = going.own.sound_sight.sound in
       load_ends F passes table (beginner cmd) new own v LoadOwn f
       (record { depth = sound.depth; own = λ _. omega arith; again = λ x. cc; part = λ node part players plan x. cc; wanted = λ nodes x. cc; kept = λ g x. not_there (sound.unread.no_effect refl) x })
       refl refl (ap (λ (q : PassView). q.view) is) (omega arith) (record {
@@ -118,7 +118,7 @@ module _ (F : Fixed) (passes : ℕ) (table : TableId) (p new : PassView) (own : 
   loads_own : IsGoingOn F passes table owner → new ≡ after_loads F owner all_words → HasGoneOn F passes table owner new On
   loads_own going is =
       let v : View = record p.view { own = five_words; point = Owning } in
-      let sound = going.own.told.sound in
+      let sound = going.own.sound_sight.sound in
       let none : p.effect ≡ None = going.own.only_resolving refl in
       let in_view : p.view.effect ≡ None = sound.unread.no_effect refl in
       let hand : first_effect p.effect p.view.effect ≡ None = ap (λ (o : Option Effect). first_effect o p.view.effect) none ∙ in_view in
@@ -149,7 +149,7 @@ module _ (F : Fixed) (passes : ℕ) (table : TableId) (p new : PassView) (own : 
   loads_again : IsGoingOn F passes table checker → new ≡ after_loads F checker all_words → HasGoneOn F passes table checker new On
   loads_again going is =
       let v : View = record p.view { again = five_words; point = Checking } in
-      let sound = going.own.told.sound in
+      let sound = going.own.sound_sight.sound in
       let none : p.effect ≡ None = going.own.only_resolving refl in
       let in_view : p.view.effect ≡ None = sound.unread.no_effect refl in
       let hand : first_effect p.effect p.view.effect ≡ None = ap (λ (o : Option Effect). first_effect o p.view.effect) none ∙ in_view in
@@ -185,7 +185,7 @@ module _ (F : Fixed) (passes : ℕ) (table : TableId) (p new : PassView) (own : 
   loads_other node slot players plan going is =
       let q0 = reader node slot players plan in
       let v : View = record p.view { point = Loading node five_words (slot ∷ players) plan } in
-      let sound = going.own.told.sound in
+      let sound = going.own.sound_sight.sound in
       let none : p.effect ≡ None = going.own.only_resolving refl in
       let in_view : p.view.effect ≡ None = sound.unread.no_effect refl in
       let hand : first_effect p.effect p.view.effect ≡ None = ap (λ (o : Option Effect). first_effect o p.view.effect) none ∙ in_view in

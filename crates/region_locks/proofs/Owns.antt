@@ -12,7 +12,7 @@ use Rattle.core_machine.specs.Going.{view_found}
 use Rattle.core_machine.specs.Nexts.{next_resolved, next_point, the_next}
 use Rattle.core_machine.specs.Ready.{is_resolving}
 use Rattle.region_locks.specs.Going.{view_looked}
-use Rattle.region_locks.specs.Plays.{IsToldOf}
+use Rattle.region_locks.specs.Plays.{IsSoundSight}
 use Rattle.region_locks.specs.Passes.{PassView, sight_of, effect_kept, next_of_pass, pass_after, IsPassOf}
 use Rattle.region_locks.proofs.Views.{keeps_found}
 
@@ -94,14 +94,14 @@ right_after F passes table p found own comes = elim (cases_Bool (is_resolving p.
 
 -- the pass after what comes next is the table's
 pub own_after : (F : Fixed) (passes : ℕ) (table : TableId) (p : PassView) (found : ℕ) → IsPassOf F passes table p → is_some (next_of_pass F p) ≡ true
-    → IsToldOf F passes (sight_of (pass_after F (the_next (next_of_pass F p)) found p)) → IsPassOf F passes table (pass_after F (the_next (next_of_pass F p)) found p)
-own_after F passes table p found own comes told =
+    → IsSoundSight F passes (sight_of (pass_after F (the_next (next_of_pass F p)) found p)) → IsPassOf F passes table (pass_after F (the_next (next_of_pass F p)) found p)
+own_after F passes table p found own comes sound_sight =
     let next : Next = the_next (next_of_pass F p) in
     let view : View = view_found F p.view next found in
     record {
       at_table = own.at_table;
       lives = (keeps_found F p.view next found).live ∙ own.lives;
-      told = told;
+      sound_sight = sound_sight;
       pending = λ c e. no_command c e;
       serves = λ c e. no_command c e;
       may_quit = λ e. absurd (false≢true e);
@@ -111,12 +111,12 @@ own_after F passes table p found own comes told =
 
 -- the pass that has looked at the count is still the table's
 pub looked_own : (F : Fixed) (passes : ℕ) (table : TableId) (p new : PassView) (found : ℕ) → new ≡ record p { view = view_looked found p.view } → IsPassOf F passes table p
-    → IsToldOf F passes (sight_of new) → IsPassOf F passes table new
-looked_own F passes table p new found is own told =
+    → IsSoundSight F passes (sight_of new) → IsPassOf F passes table new
+looked_own F passes table p new found is own sound_sight =
     subst (IsPassOf F passes table) (sym is) (record {
       at_table = own.at_table;
       lives = own.lives;
-      told = subst (λ (q : PassView). IsToldOf F passes (sight_of q)) is told;
+      sound_sight = subst (λ (q : PassView). IsSoundSight F passes (sight_of q)) is sound_sight;
       pending = λ c e. let pending = own.pending c e in record { lives = pending.lives; idle = pending.idle; command = pending.command; room = pending.room };
       serves = own.serves;
       may_quit = own.may_quit;
@@ -133,7 +133,7 @@ pub resolved_own : (F : Fixed) (passes : ℕ) (table : TableId) (p : PassView) (
 resolved_own F passes table p e own at is = record {
   at_table = own.at_table;
   lives = own.lives;
-  told = own.told;
+  sound_sight = own.sound_sight;
   pending = own.pending;
   serves = own.serves;
   may_quit = own.may_quit;

@@ -113,14 +113,14 @@ has_next F passes table p own = by_given p.given refl
     by_given : (given : Option Command) → p.given ≡ given
         → is_some (if p.quits then Some (quitting (first_yield F p.view)) else next_point F p.view p.given p.effect p.view.point)
         ≡ (is_some p.given || (is_busy (stage_of p.view.point) && not (is_resolving p.view.point && not p.quits && not (is_some p.effect))))
-    by_given None e = without_given F p.view p.effect own.told.sound p.given p.quits e own.may_quit ∙ sym (none_given p.given _ e)
+    by_given None e = without_given F p.view p.effect own.sound_sight.sound p.given p.quits e own.may_quit ∙ sym (none_given p.given _ e)
       where
         none_given : (o : Option Command) (b : Bool) → o ≡ None → (is_some o || b) ≡ b
         none_given o b e = rw e refl
     by_given (Some c) e =
         subst (λ (o : Option Command). is_some (if p.quits then Some (quitting (first_yield F p.view)) else next_point F p.view o p.effect p.view.point)
         ≡ (is_some o || (is_busy (stage_of p.view.point) && not (is_resolving p.view.point && not p.quits && not (is_some p.effect))))) (sym e)
-        (with_given F p.view p.effect own.told.sound c p.quits p.view.point refl (own.pending c e).idle own.may_quit)
+        (with_given F p.view p.effect own.sound_sight.sound c p.quits p.view.point refl (own.pending c e).idle own.may_quit)
 
 -- and then that step is one by its kind and its word
 pub some_step : (F : Fixed) (passes : ℕ) (table : TableId) (p : PassView) → IsPassOf F passes table p → is_some (next_step F p) ≡ has_next_step p
@@ -210,7 +210,7 @@ quits_own F passes table p q same own at =
     subst (λ (r : PassView). IsPassOf F passes table (record r { quits = true })) (sym same) (record {
       at_table = own.at_table;
       lives = own.lives;
-      told = own.told;
+      sound_sight = own.sound_sight;
       pending = own.pending;
       serves = own.serves;
       may_quit = λ quits. at;
@@ -271,7 +271,7 @@ may_begin F passes table old new own at quit none =
     subst MayBegin (sym (quit.none_held none)) (record {
       none = refl;
       idle = refl;
-      room = own.told.sound.room (taking_open old.view.point at);
+      room = own.sound_sight.sound.room (taking_open old.view.point at);
     })
 
 -- a pass that has quit and has no next step may begin another command
@@ -280,7 +280,7 @@ pub free_of_steps : (F : Fixed) (passes : ℕ) (table : TableId) (old new : Pass
 free_of_steps F passes table old new step own at quit is none = elim (cases_Bool (is_some (first_yield F old.view))) [
   | inl some ↦
       let there : has_next_step new ≡ true =
-      ap has_next_step (quit.holding some) ∙ ap (λ (b : Bool). is_some old.given || b) (sym (quits_there F old.view old.effect own.told.sound old.view.point at)) ∙ always (is_some old.given) in
+      ap has_next_step (quit.holding some) ∙ ap (λ (b : Bool). is_some old.given || b) (sym (quits_there F old.view old.effect own.sound_sight.sound old.view.point at)) ∙ always (is_some old.given) in
       absurd (false≢true (ap (λ (o : Option Step). is_some o) (sym none) ∙ is ∙ there))
   | inr nothing ↦ may_begin F passes table old new own at quit nothing
 ]
@@ -301,7 +301,7 @@ pub pass_is_ready : (F G : Fixed) (passes : ℕ) (table : TableId) (p q : PassVi
 pass_is_ready F G passes table p q fixed same own =
     subst (λ (H : Fixed). IsReady H p.view p.given p.quits p.effect) (sym fixed)
     (subst (λ (r : PassView). IsReady G r.view r.given r.quits r.effect) (sym same) (record {
-      sound = own.told.sound;
+      sound = own.sound_sight.sound;
       pending = own.pending;
       taking = own.may_quit;
       due = λ e at some. own.has_effect (ap is_resolving at) e some;

@@ -12,7 +12,7 @@ use Rattle.region_locks.specs.Sights.{SightView}
 use Rattle.region_locks.specs.Going.{next_asked, MayGo}
 use Rattle.core_machine.specs.Going.{view_found}
 use Rattle.region_locks.specs.Holders.{IsFoundHeld, AreReached}
-use Rattle.region_locks.specs.Plays.{IsToldOf, SeatWent}
+use Rattle.region_locks.specs.Plays.{IsSoundSight, SeatWent}
 use Rattle.entity_recs.specs.Commands.{command_of}
 use Rattle.core_machine.specs.declared.seat.Seat as mirrors
 use Rattle.core_machine.specs.Ready.{is_resolving}
@@ -70,8 +70,8 @@ may_go F passes table p own comes = record {
 pub sight_is : (sight : SightView) (number : ℕ) (view : View) → sight.number ≡ number → sight.view ≡ view → sight ≡ record { number = number; view = view }
 sight_is sight number view e f i = record { number = e i; view = f i }
 
-pub told_ready : (F : Fixed) (passes : ℕ) (table : TableId) (p : PassView) (seat : Seat (Unit {0}) SightView) (word : ℕ) → IsReady F passes table p seat word → IsToldOf F passes seat.me.0
-told_ready F passes table p seat word is = subst (IsToldOf F passes) (sym (sight_is seat.me.0 p.number p.view is.same_number is.same_view)) is.own.told
+pub sound_sight_ready : (F : Fixed) (passes : ℕ) (table : TableId) (p : PassView) (seat : Seat (Unit {0}) SightView) (word : ℕ) → IsReady F passes table p seat word → IsSoundSight F passes seat.me.0
+sound_sight_ready F passes table p seat word is = subst (IsSoundSight F passes) (sym (sight_is seat.me.0 p.number p.view is.same_number is.same_view)) is.own.sound_sight
 
 pub may_ready : (F : Fixed) (passes : ℕ) (table : TableId) (p : PassView) (seat : Seat (Unit {0}) SightView) (word : ℕ) → IsReady F passes table p seat word
     → MayGo F passes seat.me.0.number seat.me.0.view p.given p.quits (the_next (next_of_pass F p))
@@ -88,7 +88,7 @@ has_gone F passes table p old new word found is same went =
       same_table = same ∙ is.same_table;
       same_number = number;
       went = view;
-      told = subst (IsToldOf F passes) (sight_is new.me.0 p.number _ number view) went.0.told;
+      sound_sight = subst (IsSoundSight F passes) (sight_is new.me.0 p.number _ number view) went.0.sound_sight;
       small = went.0.small;
       taken = went.0.taken;
       carries = went.1;
@@ -107,12 +107,12 @@ can_follow F G passes table p q found place carried same is own comes gone =
     (subst (λ (r : PassView). CanFollow F r.view r.given r.quits r.effect found) (sym is) (record {
       comes = comes;
       ready = record {
-        sound = own.told.sound;
+        sound = own.sound_sight.sound;
         pending = own.pending;
         taking = own.may_quit;
         due = λ e at some. own.has_effect (ap is_resolving at) e some;
       };
-      after = gone.told.sound;
+      after = gone.sound_sight.sound;
       small = gone.small;
     }))
 
@@ -147,7 +147,7 @@ module _ (F G : Fixed) (passes : ℕ) (table : TableId) (p : PassView) (found : 
           mirrors = followed ∙ sym gone.went;
         };
         pass = pass;
-        own = subst (IsPassOf F passes table) (sym pass) (own_after F passes table p found own comes gone.told);
+        own = subst (IsPassOf F passes table) (sym pass) (own_after F passes table p found own comes gone.sound_sight);
       }
 
 -- who holds the node that the pass was to take

@@ -88,7 +88,7 @@ module _ (F : Fixed) (passes : ℕ) (table : TableId) (p : PassView) (node : ℕ
 
   not_writing : (point : Point) → p.view.point ≡ point → is_resolving point ≡ false → is_without_effect (stage_of point) ≡ true → is_some (effect_in_hand p) ≡ false
   not_writing point at not without =
-      none_in_hand p.effect p.view.effect (own.only_resolving (ap is_resolving at ∙ not)) (own.told.sound.unread.no_effect (ap (λ (q : Point). is_without_effect (stage_of q)) at ∙ without))
+      none_in_hand p.effect p.view.effect (own.only_resolving (ap is_resolving at ∙ not)) (own.sound_sight.sound.unread.no_effect (ap (λ (q : Point). is_without_effect (stage_of q)) at ∙ without))
 
   taking_whole : (got rest : List ℕ) → is_writing (stage_of (taking got rest)) ≡ false
   taking_whole got [] = refl
@@ -99,7 +99,7 @@ module _ (F : Fixed) (passes : ℕ) (table : TableId) (p : PassView) (node : ℕ
   claim_effect got rest at =
       let view = p.view in
       let is : IsClaimingAfter F (region_in F view.cmd view.own) view.cmd.slot (record_read view.cmd.slot view.again) view.lists view.others view.states view.effect got rest =
-      subst (IsAt F view.cmd view.own view.wanted view.again view.lists view.others view.states view.effect) at own.told.sound.at in
+      subst (IsAt F view.cmd view.own view.wanted view.again view.lists view.others view.states view.effect) at own.sound_sight.sound.at in
       seen_in_hand p.effect view.effect is.claim.e (own.only_resolving (ap is_resolving at)) is.claim.is
 
   -- which point takes the node
@@ -139,7 +139,7 @@ module _ (F : Fixed) (passes : ℕ) (table : TableId) (p : PassView) (node : ℕ
 -- the leaves that are wanted are nodes of the table
 pub wanted_below : (F : Fixed) (passes : ℕ) (table : TableId) (p : PassView) (node : ℕ) (next : Next) → IsPassOf F passes table p → Takes F p node next → All (λ n. n < 31) p.view.wanted
 wanted_below F passes table p node next own t =
-    let sound = own.told.sound in
+    let sound = own.sound_sight.sound in
     let wanted = sound.whole t.whole in
     let all : inner_nodes F + 2 ^ F.tree.depth ≡ 31 = ap (λ (d : ℕ). 2 ^ d - 1 + 2 ^ d) sound.depth in
     subst (All (λ n. n < 31)) (sym wanted)

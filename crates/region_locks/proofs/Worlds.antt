@@ -18,7 +18,8 @@ use Rattle.world_tree.specs.Worlds.{WorldView, record_of, IsLinked}
 use Rattle.core_steps.specs.Encoding.{words_of, nth_word}
 use Rattle.core_steps.specs.Views.{has, home}
 use Rattle.core_steps.specs.Stands.{is_player}
-use Rattle.region_locks.specs.Starts.{record_or_nobody, world_at_start, fixed_of_world, start_word_at, AreStartWords}
+use Rattle.std.proofs.lemmas.Option.{same_Some, none-some}
+use Rattle.region_locks.specs.Starts.{record_or_nobody, world_at_start, fixed_of_world, home_of, start_word_at, AreStartWords}
 
 -- no record of these places has an id below theirs
 none_with : (start id : ℕ) (records : List (Option Rec)) → ((i : ℕ) (r : Rec) → record_at records i ≡ Some r → r.id ≡ start + i) → id < start
@@ -76,20 +77,28 @@ pub word_none : (test : ℕ → Bool) → 0 ≡ word_of 0 test
 unfolding word_of
 word_none test = refl
 
-pub linked_some : (w : WorldView) (slot node : ℕ) (r : Rec) → IsLinked w → has (ids_of w.records) slot ≡ is_some (record_of w slot) → slot < 64 → record_of w slot ≡ Some r
-    → (node == node_of w.tree (abs_of r)) ≡ (is_player (fixed_of_world w) slot && (node == home (fixed_of_world w) ((world_at_start w).record_of slot)))
-linked_some w slot node r linked live below is =
+pub home_some : (w : WorldView) (slot : ℕ) (r : Rec) → IsLinked w → has (ids_of w.records) slot ≡ is_some (record_of w slot) → slot < 64 → record_of w slot ≡ Some r
+    → Some (node_of w.tree (abs_of r)) ≡ home_of w slot
+home_some w slot r linked live below is =
     let lives : has (ids_of w.records) slot ≡ true = live ∙ ap is_some is in
     let at : (world_at_start w).record_of slot ≡ r = start_record w linked slot ∙ ap record_or_nobody is in
-    ap (λ (x : Rec). node == node_of w.tree (abs_of x)) (sym at)
-    ∙ ap (λ (b : Bool). b && (node == home (fixed_of_world w) ((world_at_start w).record_of slot))) (sym (ap (λ (b : Bool). b && has (ids_of w.records) slot) (below_64 slot below) ∙ lives))
+    ap (λ (x : Rec). Some (node_of w.tree (abs_of x))) (sym at)
+    ∙ ap (λ (b : Bool). if b then Some (home (fixed_of_world w) ((world_at_start w).record_of slot)) else None) (sym (ap (λ (b : Bool). b && has (ids_of w.records) slot) (below_64 slot below) ∙ lives))
 
-pub linked_none : (w : WorldView) (slot node : ℕ) → has (ids_of w.records) slot ≡ is_some (record_of w slot) → record_of w slot ≡ None
-    → false ≡ (is_player (fixed_of_world w) slot && (node == home (fixed_of_world w) ((world_at_start w).record_of slot)))
-linked_none w slot node live is =
+pub home_none : (w : WorldView) (slot : ℕ) → has (ids_of w.records) slot ≡ is_some (record_of w slot) → record_of w slot ≡ None → None ≡ home_of w slot
+home_none w slot live is =
     let gone : has (ids_of w.records) slot ≡ false = live ∙ ap is_some is in
-    ap (λ (b : Bool). b && (node == home (fixed_of_world w) ((world_at_start w).record_of slot)))
+    ap (λ (b : Bool). if b then Some (home (fixed_of_world w) ((world_at_start w).record_of slot)) else None)
     (sym (ap (λ (b : Bool). nat_lt slot 64 && b) gone ∙ and_false (nat_lt slot 64)))
+
+-- a home that was found is the player's, and where none was found the player isn't live
+pub is_found : (b : Bool) (x h node : ℕ) → Some h ≡ (if b then Some x else None) → (node == h) ≡ (b && (node == x))
+is_found true x h node e = ap (λ (n : ℕ). node == n) (same_Some h x e)
+is_found false x h node e = absurd (none-some h (sym e))
+
+pub is_missing : (b : Bool) (x node : ℕ) → None ≡ (if b then Some x else None) → false ≡ (b && (node == x))
+is_missing true x node e = absurd (none-some x e)
+is_missing false x node e = refl
 
 pub word_next : (n : ℕ) (test : ℕ → Bool) → word_of (n + 1) test ≡ (if test n then 2 ^ n else 0) + word_of n test
 unfolding word_of

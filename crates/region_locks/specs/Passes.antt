@@ -22,7 +22,7 @@ use Rattle.core_steps.specs.Calls.{node_taken}
 use Rattle.core_machine.specs.Going.{view_found, word_left}
 use Rattle.core_machine.specs.Nexts.{next_with, the_next}
 use Rattle.core_machine.specs.Ready.{is_resolving}
-use Rattle.region_locks.specs.Plays.{IsToldOf}
+use Rattle.region_locks.specs.Plays.{IsSoundSight}
 
 -- which table it is, the pass's number, the command that is given and not begun, whether the pass is to give up, the
 -- effect that it keeps, and its view in the core
@@ -75,7 +75,7 @@ sight_of p = record { number = p.number; view = p.view }
 pub record IsPassOf (F : Fixed) (passes : ℕ) (table : TableId) (p : PassView) : Type 0 where
   pub at_table : p.table ≡ table
   pub lives : p.view.live ≡ true
-  pub told : IsToldOf F passes (sight_of p)
+  pub sound_sight : IsSoundSight F passes (sight_of p)
   pub pending : (c : Command) → p.given ≡ Some c → IsPending F p.view c
   pub serves : (c : Command) → p.given ≡ Some c → c.slot % passes ≡ p.number
   pub may_quit : p.quits ≡ true → is_taking p.view.point ≡ true
@@ -122,7 +122,7 @@ pub record HasGone (F : Fixed) (passes : ℕ) (p : PassView) (found : ℕ) (seat
   pub taken : (node slot : ℕ) (part players plan : List ℕ)
       → the_next (next_of_pass F p) ≡ ReadPlayer node part slot players plan → length part ≡ 5
       → F.takes (record_read slot (part ++ found ∷ [])) ≡ true
-  pub told : IsToldOf F passes (record {
+  pub sound_sight : IsSoundSight F passes (record {
     number = p.number;
     view = view_found F p.view (the_next (next_of_pass F p)) found;
   })

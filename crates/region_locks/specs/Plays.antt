@@ -12,7 +12,7 @@ use Rattle.region_locks.specs.Going.{view_looked, MayGo}
 use Rattle.region_locks.specs.Holders.{IsFoundHeld, AreReached}
 
 -- a sound view, from which each step that may come lies in the table
-pub record IsToldOf (F : Fixed) (passes : ℕ) (sight : SightView) : Type 0 where
+pub record IsSoundSight (F : Fixed) (passes : ℕ) (sight : SightView) : Type 0 where
   pub sound : IsSound F sight.view
   pub in_table : (given : Option Command) (quits : Bool) (next : Next)
       → MayGo F passes sight.number sight.view given quits next → index_of 31 sight.view next < 639
@@ -23,7 +23,7 @@ pub record Went (F : Fixed) (passes : ℕ) (next : Next) (before : SightView) (f
   where
     pub number : after.number ≡ before.number
     pub view : after.view ≡ view_found F before.view next found
-    pub told : IsToldOf F passes after
+    pub sound_sight : IsSoundSight F passes after
     pub small : kind_of next ≡ Commit → found + 1 < 2 ^ 64
     pub taken : (node slot : ℕ) (part players plan : List ℕ) → next ≡ ReadPlayer node part slot players plan
         → length part ≡ 5 → F.takes (record_read slot (part ++ found ∷ [])) ≡ true
@@ -50,7 +50,7 @@ pub record SeatCounted (F : Fixed) (passes : ℕ) (next : Next) (before : Me (Un
 pub record Looked (F : Fixed) (passes : ℕ) (before : SightView) (found : ℕ) (after : SightView) : Type 0 where
   pub number : after.number ≡ before.number
   pub view : after.view ≡ view_looked found before.view
-  pub told : IsToldOf F passes after
+  pub sound_sight : IsSoundSight F passes after
 
 -- the seat looked at the count, and carries what it carried
 abbrev pub SeatLooked : Fixed → ℕ → Me (Unit {0}) SightView → ℕ → Me (Unit {0}) SightView → Type 0

@@ -1,5 +1,5 @@
 -- The world that a table begins with, as histories see it.
-use Rattle.std.specs.Prelude.{◌≡◌, ℕ, ◌<◌, Bool, true, List, [], length, slice_index, Option, Some, None}
+use Rattle.std.specs.Prelude.{◌≡◌, ℕ, ◌<◌, Bool, true, List, [], if◌then◌else◌, length, slice_index, slice_index_or, Option, Some, None}
 use Rattle.arena_geo.specs.Bounds.{Bounds}
 use Rattle.entity_recs.specs.declared.rec.Rec.{Rec}
 use Rattle.entity_recs.specs.declared.effect.Effect.{Effect}
@@ -8,8 +8,8 @@ use Rattle.entity_recs.specs.Worlds.{World, nobody, zero_vector, world_of}
 use Rattle.world_tree.specs.Live.{live_in}
 use Rattle.world_tree.specs.Worlds.{WorldView}
 use Rattle.core_steps.specs.Cells.{word_at}
-use Rattle.core_steps.specs.Views.{Fixed}
-use Rattle.core_steps.specs.Stands.{start_words}
+use Rattle.core_steps.specs.Views.{Fixed, home}
+use Rattle.core_steps.specs.Stands.{is_player, start_words}
 use Rattle.core_machine.specs.Shown.{RulesView, fixed_of}
 
 -- the record of a place, and nobody's where the place is empty
@@ -43,6 +43,17 @@ nothing_fixed = record {
 -- the tree and the world at the start, of an action that doesn't matter
 abbrev pub fixed_of_world : WorldView → Fixed
 fixed_of_world world = record nothing_fixed { tree = world.tree; start = world_at_start world }
+
+-- the node at which the player of this slot is linked, where it is live
+abbrev pub home_of : WorldView → ℕ → Option ℕ
+home_of world slot =
+    if is_player (fixed_of_world world) slot then Some (home (fixed_of_world world) ((world_at_start world).record_of slot))
+    else None
+
+-- the nodes of all slots
+pub record AreHomes (world : WorldView) (homes : List (Option ℕ)) : Type 0 where
+  pub count : length homes ≡ 64
+  pub each : (slot : ℕ) (d : Option ℕ) → slot < 64 → slice_index_or homes slot d ≡ home_of world slot
 
 -- the words of the table at the start, in the flat table
 abbrev pub start_word_at : WorldView → ℕ → ℕ

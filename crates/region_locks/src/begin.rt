@@ -3,7 +3,7 @@ ghost use Rattle.entity_recs.specs.Commands.{command_of};
 ghost use Rattle.core_steps.specs.Views.{Idle, has};
 ghost use Rattle.region_locks.specs.Going.{view_looked};
 ghost use Rattle.region_locks.specs.Passes.{fixed_in, sight_of, IsPassOf};
-ghost use Rattle.region_locks.specs.Plays.{IsToldOf};
+ghost use Rattle.region_locks.specs.Plays.{IsSoundSight};
 
 use crate::pass::Pass;
 use crate::seats::look;
@@ -30,7 +30,7 @@ impl<'a, A: Action> NodeTable<'a, A> {
         requires own { IsPassOf (fixed_in A.takes A.region_of A.effect_of self.now) (length self.now.rooms) self.now.table pass.old }
         requires rests { pass.old.view.point ≡ Idle }
         ensures pass { pass.new ≡ record pass.old { view = view_looked result pass.old.view } }
-        ensures told { IsToldOf (fixed_in A.takes A.region_of A.effect_of self.now) (length self.now.rooms) (sight_of pass.new) }
+        ensures sound_sight { IsSoundSight (fixed_in A.takes A.region_of A.effect_of self.now) (length self.now.rooms) (sight_of pass.new) }
     {
         let seen = look(&self.table.shared, &mut pass.place);
         pass.mirror.seen = seen;

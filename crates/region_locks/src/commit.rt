@@ -8,28 +8,7 @@ use crate::pass::Pass;
 use crate::table::NodeTable;
 use arena_geo::Vec3;
 use entity_recs::{Action, Effect, Entry, IdList, Reply};
-
-/// The same ids in a list of their own.
-fn copy_ids(ids: &IdList) -> IdList
-    ensures { result ≡ ids.now }
-{
-    let from = ids.as_slice();
-    let mut copy = IdList::new();
-    for i in 0..from.len() {
-        let _ = copy.push(from[i]);
-    }
-    copy
-}
-
-/// The reply once more.
-fn same_reply(reply: &Reply) -> Reply
-    ensures { result ≡ reply.now }
-{
-    Reply {
-        origin: reply.origin,
-        got: copy_ids(&reply.got),
-    }
-}
+use move_journal::same_reply;
 
 /// The reply of the effect, and in place of one that isn't there an empty one.
 fn reply_of(effect: &Option<Effect>) -> Reply

@@ -1,22 +1,46 @@
-ghost use Rattle.std.specs.Prelude.{◌≡◌, ◌&&◌, ◌==◌, ◌<◌, ◌+◌, ◌^◌, if◌then◌else◌, IfOk};
+ghost use Rattle.std.specs.Prelude.{◌≡◌, ℕ, Bool, ◌&&◌, ◌==◌, ◌<◌, ◌+◌, ◌^◌, if◌then◌else◌, Some, None, IfOk};
 ghost use Rattle.areanode.specs.Words.{word_of};
 ghost use Rattle.core_steps.specs.Encoding.{words_of, nth_word};
 ghost use Rattle.core_steps.specs.Stands.{is_player};
 ghost use Rattle.core_steps.specs.Views.{home};
-ghost use Rattle.region_locks.specs.Starts.{world_at_start, fixed_of_world, start_word_at, AreStartWords};
+ghost use Rattle.region_locks.specs.Starts.{world_at_start, fixed_of_world, home_of, AreHomes, start_word_at, AreStartWords};
 
 use core_steps::encode;
 use entity_recs::abs_box;
 use std::alloc::{AllocError, Global};
 use world_tree::World;
 
-/// Whether the player of this slot is live and linked at the node.
-fn is_linked(world: &World, node: u8, slot: u8) -> bool
+/// The number of players' slots.
+const SLOTS: usize = 64;
+
+/// The node at which the player of this slot is linked, if it is live.
+fn home_at_start(world: &World, slot: u8) -> Option<u8>
     requires slot { slot < 64 }
-    ensures { result ≡ is_player (fixed_of_world world.now) slot && (node == home (fixed_of_world world.now) ((world_at_start world.now).record_of slot)) }
+    ensures { result ≡ home_of world.now slot }
 {
     match world.get(u16::from(slot)) {
-        Some(r) => node == world.tree().node_of(&abs_box(&r)),
+        Some(r) => Some(world.tree().node_of(&abs_box(&r))),
+        None => None,
+    }
+}
+
+/// The nodes of all slots.
+fn homes_at_start(world: &World) -> [Option<u8>; SLOTS]
+    ensures { AreHomes world.now result }
+{
+    let mut homes = [None; SLOTS];
+    for slot in 0..SLOTS {
+        homes[slot] = home_at_start(world, slot as u8);
+    }
+    homes
+}
+
+/// Whether this is the player's node.
+fn is_home(home: Option<u8>, node: u8) -> bool
+    ensures { (b : Bool) (x : ℕ) → home ≡ (if b then Some x else None) → result ≡ b && (node == x) }
+{
+    match home {
+        Some(home) => node == home,
         None => false,
     }
 }
@@ -31,12 +55,14 @@ pub(crate) fn with_top_bit(word: u64, slot: u8, is_set: bool) -> u64
 }
 
 /// The list word of a node at the start: bit p is set where player p is live and linked there.
-fn links_at_start(world: &World, node: u8) -> u64
+fn links_at_start(world: &World, homes: &[Option<u8>; SLOTS], node: u8) -> u64
+    requires homes { AreHomes world.now homes.now }
     ensures { result ≡ word_of 64 (λ slot. is_player (fixed_of_world world.now) slot && (node == home (fixed_of_world world.now) ((world_at_start world.now).record_of slot))) }
 {
+    let _ = world;
     let mut word = 0;
-    for slot in 0..64u8 {
-        word = with_top_bit(word, slot, is_linked(world, node, slot));
+    for slot in 0..SLOTS {
+        word = with_top_bit(word, slot as u8, is_home(homes[slot], node));
     }
     word
 }
@@ -63,14 +89,15 @@ fn state_at_start(world: &World, id: u16) -> u64
 }
 
 /// The word at an index of the table at the start.
-fn word_at_start(world: &World, index: usize) -> u64
+fn word_at_start(world: &World, homes: &[Option<u8>; SLOTS], index: usize) -> u64
+    requires homes { AreHomes world.now homes.now }
     requires index { index < 639 }
     ensures { result ≡ start_word_at world.now index }
 {
     if index < 32 {
         0
     } else if index < 63 {
-        links_at_start(world, (index - 32) as u8)
+        links_at_start(world, homes, (index - 32) as u8)
     } else if index < 383 {
         body_at_start(world, ((index - 63) / 5) as u8, (index - 63) % 5)
     } else {
@@ -82,9 +109,10 @@ fn word_at_start(world: &World, index: usize) -> u64
 pub(crate) fn words_at_start(alloc: Global, world: &World) -> Result<Vec<u64>, AllocError>
     ensures { IfOk result (λ v. AreStartWords world.now v.items) }
 {
+    let homes = homes_at_start(world);
     let mut words = Vec::with_capacity(alloc, 639)?;
     for index in 0..639usize {
-        words.push(word_at_start(world, index))?;
+        words.push(word_at_start(world, &homes, index))?;
     }
     Ok(words)
 }

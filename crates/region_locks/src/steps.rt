@@ -3,7 +3,7 @@ ghost use Rattle.std.specs.Prelude.{◌≡◌, ℕ, ◌+◌, ◌<◌, ◌==◌, 
 ghost use Rattle.region_locks.specs.Starts.{fixed_by};
 ghost use Rattle.region_locks.specs.Going.{MayGo};
 ghost use Rattle.core_machine.specs.Going.{view_found, word_left};
-ghost use Rattle.region_locks.specs.Plays.{IsToldOf, SeatCounted, SeatTook, SeatWent};
+ghost use Rattle.region_locks.specs.Plays.{IsSoundSight, SeatCounted, SeatTook, SeatWent};
 ghost use Rattle.core_steps.specs.Machine.{index_of};
 
 use crate::key::{Place, Words};
@@ -22,7 +22,7 @@ pub(crate) fn load_as<A: Action, N: Planned>(
     requires table { (seat.old.table_id ≡ words.now.table_id) × (words.now.table_id.words ≡ 639) }
     requires fixed { N.fixed ≡ fixed_by A.takes A.region_of A.effect_of words.now.key.action.value words.now.key.world.value }
     requires passes { N.passes ≡ length words.now.key.rooms.items }
-    requires told { IsToldOf N.fixed N.passes seat.old.me.0 }
+    requires sound_sight { IsSoundSight N.fixed N.passes seat.old.me.0 }
     requires next { MayGo N.fixed N.passes seat.old.me.0.number seat.old.me.0.view N.given N.quits N.next }
     requires word { word ≡ index_of 31 seat.old.me.0.view N.next }
     requires left { (found : ℕ) → word_left N.fixed seat.old.me.0.number seat.old.me.0.view N.next found ≡ found }
@@ -44,7 +44,7 @@ pub(crate) fn store_as<A: Action, N: Planned>(
     requires table { (seat.old.table_id ≡ words.now.table_id) × (words.now.table_id.words ≡ 639) }
     requires fixed { N.fixed ≡ fixed_by A.takes A.region_of A.effect_of words.now.key.action.value words.now.key.world.value }
     requires passes { N.passes ≡ length words.now.key.rooms.items }
-    requires told { IsToldOf N.fixed N.passes seat.old.me.0 }
+    requires sound_sight { IsSoundSight N.fixed N.passes seat.old.me.0 }
     requires next { MayGo N.fixed N.passes seat.old.me.0.number seat.old.me.0.view N.given N.quits N.next }
     requires word { word ≡ index_of 31 seat.old.me.0.view N.next }
     requires left { (found : ℕ) → word_left N.fixed seat.old.me.0.number seat.old.me.0.view N.next found ≡ new }
@@ -67,7 +67,7 @@ pub(crate) fn exchange_as<A: Action, N: Planned>(
     requires table { (seat.old.table_id ≡ words.now.table_id) × (words.now.table_id.words ≡ 639) }
     requires fixed { N.fixed ≡ fixed_by A.takes A.region_of A.effect_of words.now.key.action.value words.now.key.world.value }
     requires passes { N.passes ≡ length words.now.key.rooms.items }
-    requires told { IsToldOf N.fixed N.passes seat.old.me.0 }
+    requires sound_sight { IsSoundSight N.fixed N.passes seat.old.me.0 }
     requires next { MayGo N.fixed N.passes seat.old.me.0.number seat.old.me.0.view N.given N.quits N.next }
     requires word { word ≡ index_of 31 seat.old.me.0.view N.next }
     requires left { (found : ℕ) → word_left N.fixed seat.old.me.0.number seat.old.me.0.view N.next found ≡ (if found == 0 then new else found) }
@@ -88,7 +88,7 @@ pub(crate) fn count_as<A: Action, N: Planned>(
     requires table { (seat.old.table_id ≡ words.now.table_id) × (words.now.table_id.words ≡ 639) }
     requires fixed { N.fixed ≡ fixed_by A.takes A.region_of A.effect_of words.now.key.action.value words.now.key.world.value }
     requires passes { N.passes ≡ length words.now.key.rooms.items }
-    requires told { IsToldOf N.fixed N.passes seat.old.me.0 }
+    requires sound_sight { IsSoundSight N.fixed N.passes seat.old.me.0 }
     requires next { MayGo N.fixed N.passes seat.old.me.0.number seat.old.me.0.view N.given N.quits N.next }
     requires word { word ≡ index_of 31 seat.old.me.0.view N.next }
     requires count { word ≡ 0 }
@@ -111,7 +111,7 @@ pub(crate) fn clear_as<A: Action, N: Planned>(
     requires table { (seat.old.table_id ≡ words.now.table_id) × (words.now.table_id.words ≡ 639) }
     requires fixed { N.fixed ≡ fixed_by A.takes A.region_of A.effect_of words.now.key.action.value words.now.key.world.value }
     requires passes { N.passes ≡ length words.now.key.rooms.items }
-    requires told { IsToldOf N.fixed N.passes seat.old.me.0 }
+    requires sound_sight { IsSoundSight N.fixed N.passes seat.old.me.0 }
     requires next { MayGo N.fixed N.passes seat.old.me.0.number seat.old.me.0.view N.given N.quits N.next }
     requires word { word ≡ index_of 31 seat.old.me.0.view N.next }
     requires slot { slot < 64 }
@@ -134,7 +134,7 @@ pub(crate) fn set_as<A: Action, N: Planned>(
     requires table { (seat.old.table_id ≡ words.now.table_id) × (words.now.table_id.words ≡ 639) }
     requires fixed { N.fixed ≡ fixed_by A.takes A.region_of A.effect_of words.now.key.action.value words.now.key.world.value }
     requires passes { N.passes ≡ length words.now.key.rooms.items }
-    requires told { IsToldOf N.fixed N.passes seat.old.me.0 }
+    requires sound_sight { IsSoundSight N.fixed N.passes seat.old.me.0 }
     requires next { MayGo N.fixed N.passes seat.old.me.0.number seat.old.me.0.view N.given N.quits N.next }
     requires word { word ≡ index_of 31 seat.old.me.0.view N.next }
     requires slot { slot < 64 }

@@ -1,8 +1,8 @@
-use Rattle.region_locks.proofs.Ready.{told_ready, may_ready, has_gone, seen_ready}
+use Rattle.region_locks.proofs.Ready.{sound_sight_ready, may_ready, has_gone, seen_ready}
 use Rattle.region_locks.proofs.nexts.count_next.Goals as goal
 
-pub count_as-requires-clause-told : goal.count_as-requires-clause-told
-count_as-requires-clause-told g c κs within = told_ready _ _ _ _ _ _ c.requires.ready
+pub count_as-requires-clause-sound_sight : goal.count_as-requires-clause-sound_sight
+count_as-requires-clause-sound_sight g c κs within = sound_sight_ready _ _ _ _ _ _ c.requires.ready
 
 pub count_as-requires-clause-next : goal.count_as-requires-clause-next
 count_as-requires-clause-next g c κs within = may_ready _ _ _ _ _ _ c.requires.ready

@@ -1,8 +1,8 @@
-use Rattle.region_locks.proofs.Ready.{told_ready, may_ready, has_gone}
+use Rattle.region_locks.proofs.Ready.{sound_sight_ready, may_ready, has_gone}
 use Rattle.region_locks.proofs.nexts.set_next.Goals as goal
 
-pub set_as-requires-clause-told : goal.set_as-requires-clause-told
-set_as-requires-clause-told g c κs within = told_ready _ _ _ _ _ _ c.requires.ready
+pub set_as-requires-clause-sound_sight : goal.set_as-requires-clause-sound_sight
+set_as-requires-clause-sound_sight g c κs within = sound_sight_ready _ _ _ _ _ _ c.requires.ready
 
 pub set_as-requires-clause-next : goal.set_as-requires-clause-next
 set_as-requires-clause-next g c κs within = may_ready _ _ _ _ _ _ c.requires.ready

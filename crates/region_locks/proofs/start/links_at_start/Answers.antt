@@ -1,4 +1,4 @@
-use Rattle.std.proofs.Common.{sym, ◌∙◌, ap, subst, ℕ, Bool, ◌<◌, ◌^◌, ◌+◌, ◌&&◌, ◌==◌, if◌then◌else◌}
+use Rattle.std.proofs.Common.{arith, sym, ◌∙◌, ap, subst, ℕ, Bool, ◌<◌, ◌^◌, ◌+◌, ◌&&◌, ◌==◌, if◌then◌else◌}
 use Rattle.areanode.proofs.Words.{word_of-below}
 use Rattle.core_steps.specs.Views.{home}
 use Rattle.core_steps.specs.Stands.{is_player}
@@ -17,6 +17,7 @@ loop-slot-preserved c =
     let w = c.args.world.now in
     let test : ℕ → Bool = λ slot. is_player (fixed_of_world w) slot && (c.args.node == home (fixed_of_world w) ((world_at_start w).record_of slot)) in
     c.with_top_bit-word.ensures
-    ∙ ap (λ (b : Bool). (if b then 2 ^ c.loop-slot.slot else 0) + c.loop-slot.word) c.is_linked.ensures
+    ∙ ap (λ (b : Bool). (if b then 2 ^ c.loop-slot.slot else 0) + c.loop-slot.word)
+    (c.is_home.ensures (is_player (fixed_of_world w) c.loop-slot.slot) (home (fixed_of_world w) ((world_at_start w).record_of c.loop-slot.slot)) (c.requires.homes.each c.loop-slot.slot _ c.loop-slot-test.true))
     ∙ ap (λ (n : ℕ). (if test c.loop-slot.slot then 2 ^ c.loop-slot.slot else 0) + n) c.loop-slot.invariant
     ∙ sym (word_next c.loop-slot.slot test)

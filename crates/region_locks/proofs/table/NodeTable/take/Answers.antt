@@ -36,7 +36,7 @@ returns-else-found-eq0-clause-err g c =
       c.exchange_word-found.ensures.pass,
       holder,
       other_holder (fixed_in g.A.Action.takes g.A.Action.region_of g.A.Action.effect_of c.args.self.now) (length c.args.self.now.rooms) c.args.pass.now.number c.args.node found c.holder_in.result.number c.holder_in.result.leaves
-          c.requires.own.told.sound.depth (c.exchange_word-found.ensures.held c.args.node (taken_next _ _ c.requires.next) holder.is_held) holder,
+          c.requires.own.sound_sight.sound.depth (c.exchange_word-found.ensures.held c.args.node (taken_next _ _ c.requires.next) holder.is_held) holder,
       c.exchange_word-found.ensures.reached c.args.node (taken_next _ _ c.requires.next),
     )
 
