@@ -14,6 +14,7 @@ pub mod Agreement
 pub mod Fewness
 pub mod Arrivals
 pub mod KeptRules
+pub mod OneTaker
 pub mod Fronts
 pub mod Outputs
 pub mod Ids

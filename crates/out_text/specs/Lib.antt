@@ -15,6 +15,7 @@ pub use Rattle.client_ports.specs.Receiving
 pub use Rattle.plain_server.specs.RecordsById
 pub use Rattle.plain_server.specs.Frames
 pub use Rattle.plain_server.specs.Replies
+pub use Rattle.plain_server.specs.Takers
 pub use Rattle.demo_lines.specs.Bytes
 pub use Rattle.demo_lines.specs.Spelling
 pub use Rattle.snapshot_write.specs.Snapshots
@@ -28,4 +29,5 @@ pub mod Reading
 pub mod Ranges
 pub mod Collecting
 pub mod Output
+pub mod OneTaker
 pub mod Laws

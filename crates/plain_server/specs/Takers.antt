@@ -1,7 +1,8 @@
 -- Who took an item: the entries of journals that have its id.
-use Rattle.std.specs.Prelude.{◌≡◌, ℕ, List, Option, Some, Contains, slice_get}
+use Rattle.std.specs.Prelude.{◌≡◌, ℕ, ◌+◌, List, Option, Some, Contains, slice_get}
 use Rattle.entity_recs.specs.declared.effect.Entry.{Entry}
 use Rattle.entity_recs.specs.declared.rec.Rec.{Rec}
+use Rattle.arena_map.specs.Maps.{MapView, delay_of}
 use Rattle.world_tree.specs.Live.{record_at}
 
 -- the entry at this place in a journal took the item with this id
@@ -26,3 +27,12 @@ pub record IsInState (records : List (Option Rec)) (id state : ℕ) : Type 0 whe
   pub now : Rec
   pub at : record_at records id ≡ Some now
   pub state_is : now.state ≡ state
+
+-- no two entries of a journal took one item
+abbrev pub HasOneTaker : List Entry → Type 0
+HasOneTaker journal = (place other id : ℕ) → HasTaken journal place id → HasTaken journal other id → other ≡ place
+
+-- each item that an entry of this frame's journal took is away, until its delay is over
+abbrev pub HasItemsAway : MapView → ℕ → List Entry → List (Option Rec) → Type 0
+HasItemsAway map frame journal records =
+    (place id delay : ℕ) → HasTaken journal place id → delay_of map id ≡ Some delay → IsInState records id (frame + delay)
