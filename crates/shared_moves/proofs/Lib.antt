@@ -1,2 +1,3 @@
 -- Lemmas on moves on threads.
 pub mod Running
+pub mod Trials

@@ -13,9 +13,10 @@ use Rattle.region_locks.specs.declared.went.Went.TheVariants.{On, Resolved, Comm
 use Rattle.region_locks.specs.Passes.{PassView, IsPassOf}
 use Rattle.region_locks.specs.declared.turn.Turn.{Turn}
 use Rattle.region_locks.specs.Turns.{has_command_in_hand}
+use Rattle.region_locks.specs.Closing.{HasNoCommand}
 use Rattle.region_locks.specs.Pursuits.{command_pursued, item_of, IsGoingOn, entry_committed, is_resolved, HasGoneOn, HasCommitted, IsSameMove, WasRefused, HasGivenUp, IsRefusedBy, HoldsLeavesAlone}
 use Rattle.shared_moves.specs.declared.again.Again.{Again}
-use Rattle.shared_moves.specs.declared.gate.Point.TheVariants as points
+use Rattle.shared_moves.specs.declared.point.Point.TheVariants as points
 use Rattle.shared_moves.specs.Moves.{HasRun, HasRisen, IsLeafHeld, IsCause, WasNotRun, IsOpen, IsDone, IsRunning}
 use Rattle.shared_moves.specs.Moments.{IsAtPoint}
 
@@ -121,12 +122,28 @@ none_of : (o : Option Command) → is_some o ≡ false → o ≡ None
 none_of None e = refl
 none_of (Some c) e = absurd (true≢false e)
 
+-- a pass without a command in hand rests
+pub without_command : (p : PassView) → has_command_in_hand p ≡ false → HasNoCommand p
+without_command p rests =
+    let parts = or_parts (is_some p.given) (is_busy (stage_of p.view.point)) rests in record {
+      given = none_of p.given parts.0;
+      idle = idle_of p.view.point parts.1;
+    }
+
+-- a call leaves the pass its number
+pub keeps_number : (F : Fixed) (passes : ℕ) (table : TableId) (old new : PassView) (went : Went) → HasGoneOn F passes table old new went → new.number ≡ old.number
+keeps_number F passes table old new went gone = by_entry (entry_committed went) refl
+  where
+    by_entry : (o : Option Entry) → entry_committed went ≡ o → new.number ≡ old.number
+    by_entry None is = (gone.same is).same.number
+    by_entry (Some e) is = (gone.committed e is).number
+
 module _ (F : Fixed) (passes : ℕ) (table : TableId) (start : PassView) (c : Command) (now : PassView) (o : Option Entry) (r : IsRunning F passes table start c now o) (rests : has_command_in_hand now ≡ false) where
   given_none : now.given ≡ None
-  given_none = none_of now.given (or_parts (is_some now.given) (is_busy (stage_of now.view.point)) rests).0
+  given_none = (without_command now rests).given
 
   is_idle : now.view.point ≡ Idle
-  is_idle = idle_of now.view.point (or_parts (is_some now.given) (is_busy (stage_of now.view.point)) rests).1
+  is_idle = (without_command now rests).idle
 
   no_command : command_pursued now ≡ []
   no_command = ap (λ (x : Option Command). pursued_of x now.quits now.view) given_none ∙ ap (λ (b : Bool). pursued_of None b now.view) r.going.pursues ∙ ap (λ (q : Point). if is_pursued (stage_of q) then now.view.cmd ∷ [] else []) is_idle
@@ -143,7 +160,7 @@ module _ (F : Fixed) (passes : ℕ) (table : TableId) (start : PassView) (c : Co
   has_run e some =
       let was = r.done e some in record {
         own = r.going.own;
-        rests = record { given = given_none; idle = is_idle };
+        rests = without_command now rests;
         number = r.number;
         room = r.room;
         log = was.log;

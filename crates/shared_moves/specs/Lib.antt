@@ -6,4 +6,6 @@ pub use Rattle.region_locks.specs.Closing
 pub use Rattle.region_locks.specs.Pursuits
 pub use Rattle.core_steps.specs.Views
 pub mod Moves
+pub mod Points
 pub mod Moments
+pub mod Trials

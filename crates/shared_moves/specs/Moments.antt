@@ -3,8 +3,8 @@ use Rattle.std.specs.Prelude.{◌≡◌, Bool, true, false, is_some}
 use Rattle.core_steps.specs.Views.{Fixed, stage_of, is_committed}
 use Rattle.region_locks.specs.Passes.{PassView}
 use Rattle.region_locks.specs.Pursuits.{is_checking, HoldsLeavesAlone}
-use Rattle.shared_moves.specs.declared.gate.Point.{Point}
-use Rattle.shared_moves.specs.declared.gate.Point.TheVariants.{Leaves, Computed, Committed}
+use Rattle.shared_moves.specs.declared.point.Point.{Point}
+use Rattle.shared_moves.specs.declared.point.Point.TheVariants.{Leaves, Computed, Committed}
 
 -- the move is as far as the point says
 abbrev pub has_come : PassView → Point → Bool

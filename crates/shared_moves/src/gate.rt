@@ -1,17 +1,9 @@
-ghost use Rattle.std.specs.Prelude.{◌≡◌, Some, None, option_copied};
+ghost use Rattle.std.specs.Prelude.{◌≡◌, false, Some, None, is_some, option_copied};
+ghost use Rattle.shared_moves.specs.Points.{has_entry};
 
+use crate::point::Point;
 use entity_recs::Entry;
-
-/// Where a move calls its gate.
-#[derive(Clone, Copy, Debug, PartialEq, Eq)]
-pub enum Point {
-    /// All leaves of the move are held, and no inner node is.
-    Leaves,
-    /// The effect is known; the leaves are held, and no inner node is.
-    Computed,
-    /// All writes are done and the inner nodes are given back; the leaves are still held.
-    Committed,
-}
+use std::marker::Model;
 
 /// A moment of a move, which is lent to the gate. Only the calls that run moves make one: it has no public constructor and
 /// can't be cloned.
@@ -24,9 +16,21 @@ pub struct Moment {
     entry: Option<Entry>,
 }
 
+impl Model for Moment {
+    ghost use Rattle.std.specs.Prelude.{◌≡◌, is_some};
+    ghost use Rattle.shared_moves.specs.Points.{MomentView, has_entry};
+
+    ghost Value = { MomentView };
+
+    ghost view = { λ m. record { worker = m.worker; point = m.point; slot = m.slot; seq = m.seq; entry = m.entry } };
+
+    ghost invariant = { λ m. is_some m.entry ≡ has_entry m.point };
+}
+
 impl Moment {
     /// A moment before the commit.
     pub(crate) fn before(worker: u8, point: Point, slot: u8, seq: u32) -> Moment
+        requires before { has_entry point ≡ false }
         ensures { result ≡ record { worker = worker; point = point; slot = slot; seq = seq; entry = None } }
     {
         Moment {
@@ -88,7 +92,8 @@ impl Moment {
 
     /// The move's entry, exactly where it is committed.
     pub fn entry(&self) -> Option<&Entry>
-        ensures { option_copied result ≡ self.now.entry }
+        ensures entry { option_copied result ≡ self.now.entry }
+        ensures some { is_some result ≡ has_entry self.now.point }
     {
         self.entry.as_ref()
     }

@@ -2,11 +2,23 @@
 #![tactic(auto)]
 
 pub use again::Again;
-pub use gate::{Gate, Moment, NoGate, Point};
+pub use gate::{Gate, Moment, NoGate};
+pub use point::Point;
 pub use shared::Shared;
 
 mod again;
+#[cfg(test)]
+mod beside;
 mod gate;
+mod point;
+#[cfg(test)]
+mod root_tests;
 mod run;
 mod shared;
+#[cfg(test)]
+mod staying;
 mod step;
+#[cfg(test)]
+mod tests;
+#[cfg(test)]
+mod trial;

@@ -35,7 +35,7 @@ fn again_after(refusal: Refusal) -> Again
 
 impl<'a, A: Action> Shared<'a, A> {
     /// Gives the pass the command.
-    fn begin(&self, pass: &mut Pass<A>, cmd: Cmd)
+    pub(crate) fn begin(&self, pass: &mut Pass<A>, cmd: Cmd)
         requires own { IsPassOf (fixed_in A.takes A.region_of A.effect_of self.now) (length self.now.rooms) self.now.table pass.old }
         requires free { MayBegin pass.old }
         requires live { has (fixed_in A.takes A.region_of A.effect_of self.now).start.ids cmd.slot ≡ true }

@@ -1,12 +1,14 @@
-ghost use Rattle.std.specs.Prelude.{◌≡◌, ◌<◌, length, Some, OnOk, IfErr};
+ghost use Rattle.std.specs.Prelude.{◌≡◌, ◌<◌, false, length, Some, OnOk, IfErr};
 ghost use Rattle.entity_recs.specs.Commands.{Command};
 ghost use Rattle.region_locks.specs.Passes.{PassView, fixed_in};
 ghost use Rattle.region_locks.specs.Turns.{turn_of};
 ghost use Rattle.region_locks.specs.Pursuits.{IsGoingOn, WasRefused, calls_left};
 ghost use Rattle.shared_moves.specs.Moves.{IsRunning};
+ghost use Rattle.shared_moves.specs.Points.{has_entry};
 ghost use Rattle.shared_moves.specs.Moments.{IsAtPoint};
 
-use crate::gate::{Gate, Moment, Point};
+use crate::gate::{Gate, Moment};
+use crate::point::Point;
 use crate::shared::Shared;
 use entity_recs::{Action, Cmd, Entry};
 use region_locks::{Pass, Refusal, Turn, Went};
@@ -15,6 +17,7 @@ impl<'a, A: Action> Shared<'a, A> {
     /// Calls the gate before the commit.
     fn show<G: Gate>(&self, pass: &Pass<A>, cmd: Cmd, point: Point, gate: &G)
         requires at { IsAtPoint (fixed_in A.takes A.region_of A.effect_of self.now) pass.now point }
+        requires before { has_entry point ≡ false }
     {
         gate.at(&Moment::before(pass.number(), point, cmd.slot, cmd.seq));
     }

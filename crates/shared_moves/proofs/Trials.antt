@@ -1,0 +1,74 @@
+-- The passes of a test: at its start, after a move, and at its end.
+use Rattle.std.proofs.Common.{◌≡◌, ℕ, ◌+◌, ◌<◌, false, List, [], ◌∷◌, map, length, refl, sym, ap, ◌∙◌, subst, All, arith}
+use Rattle.std.specs.List.{range_with_len}
+use Rattle.std.proofs.lemmas.List.Elements.{recursion_from_All, All-cons, All-nil}
+use Rattle.atomic_table.specs.Seated.{TableId}
+use Rattle.entity_recs.specs.declared.effect.Entry.{Entry}
+use Rattle.entity_recs.specs.Commands.{Command}
+use Rattle.entity_recs.specs.Histories.{Item}
+use Rattle.core_steps.specs.Views.{Fixed}
+use Rattle.region_locks.specs.Passes.{PassView, IsPassOf, first_pass, other_pass}
+use Rattle.region_locks.specs.Closing.{HasNoCommand}
+use Rattle.region_locks.specs.Quitting.{MayBegin}
+use Rattle.region_locks.specs.Turns.{has_command_in_hand}
+use Rattle.region_locks.specs.Pursuits.{IsGoingOn}
+use Rattle.shared_moves.specs.declared.again.Again.{Again}
+use Rattle.shared_moves.specs.Moves.{HasRun, WasNotRun}
+use Rattle.shared_moves.specs.Trials.{IsFree, IsMoving, IsResting}
+use Rattle.shared_moves.proofs.Running.{without_command}
+
+-- the rooms of the two passes
+abbrev pub rooms : List ℕ
+rooms = 2 ∷ 2 ∷ []
+
+first_may_begin : (table : TableId) → MayBegin (first_pass table rooms)
+first_may_begin table = record { none = refl; idle = refl; room = omega arith }
+
+second_may_begin : (table : TableId) → MayBegin (other_pass table rooms 1)
+second_may_begin table = record { none = refl; idle = refl; room = omega arith }
+
+-- each of two new passes is free
+pub are_free : (F : Fixed) (passes : ℕ) (table : TableId) (items : List PassView) (x y : PassView) → items ≡ first_pass table rooms ∷ other_pass table rooms 1 ∷ []
+    → x ≡ first_pass table rooms → y ≡ other_pass table rooms 1 → All (IsPassOf F passes table) items → IsFree F passes table 0 x × IsFree F passes table 1 y
+are_free F passes table items x y are first second own =
+    let two = recursion_from_All (IsPassOf F passes table) (first_pass table rooms ∷ other_pass table rooms 1 ∷ []) (subst (All (IsPassOf F passes table)) are own) in (
+      record { own = subst (IsPassOf F passes table) (sym first) two.0; number_is = ap (λ (p : PassView). p.number) first; free = subst MayBegin (sym first) (first_may_begin table) },
+      record { own = subst (IsPassOf F passes table) (sym second) two.1.0; number_is = ap (λ (p : PassView). p.number) second; free = subst MayBegin (sym second) (second_may_begin table) },
+    )
+
+module _ (F : Fixed) (passes : ℕ) (table : TableId) (number : ℕ) (old new : PassView) where
+  -- a pass that goes on and keeps its number
+  pub moves_on : IsMoving F passes table number old → IsGoingOn F passes table new → new.number ≡ old.number → IsMoving F passes table number new
+  moves_on was going same = record { going = going; number_is = same ∙ was.number_is }
+
+  -- a command that wasn't run may be tried again
+  pub free_again : (c : Command) (a : Again) → IsFree F passes table number old → WasNotRun F passes table old new c a → IsFree F passes table number new
+  free_again c a was not_run = record {
+    own = not_run.own;
+    number_is = not_run.number ∙ was.number_is;
+    free = record { none = not_run.rests.given; idle = not_run.rests.idle; room = omega (arith, was.free.room, ap (λ (xs : List Item). length xs) not_run.log, not_run.room) };
+  }
+
+  -- after a command that was run the pass rests
+  pub rests_after : (c : Command) (e : Entry) → IsFree F passes table number old → HasRun F passes table old new c e → IsResting F passes table number new
+  rests_after c e was run = record { own = run.own; number_is = run.number ∙ was.number_is; rests = run.rests }
+
+-- a pass that has no command in hand rests
+pub rests_now : (F : Fixed) (passes : ℕ) (table : TableId) (number : ℕ) (p : PassView) → IsMoving F passes table number p → has_command_in_hand p ≡ false → IsResting F passes table number p
+rests_now F passes table number p was none = record { own = was.going.own; number_is = was.number_is; rests = without_command p none }
+
+-- ---- two passes at the end
+
+module _ (F : Fixed) (passes : ℕ) (table : TableId) (x y : PassView) (items : List PassView) (are : items ≡ x ∷ y ∷ []) (first : IsResting F passes table 0 x) (second : IsResting F passes table 1 y) where
+  pub two_own : All (IsPassOf F passes table) items
+  two_own = subst (All (IsPassOf F passes table)) (sym are) (All-cons (IsPassOf F passes table) x (y ∷ []) first.own (All-cons (IsPassOf F passes table) y [] second.own (All-nil (IsPassOf F passes table))))
+
+  pub two_rest : All HasNoCommand items
+  two_rest = subst (All HasNoCommand) (sym are) (All-cons HasNoCommand x (y ∷ []) first.rests (All-cons HasNoCommand y [] second.rests (All-nil HasNoCommand)))
+
+  pub two_numbers : passes ≡ 2 → map (λ (p : PassView). p.number) items ≡ range_with_len 0 passes
+  two_numbers two =
+      ap (λ (ps : List PassView). map (λ (p : PassView). p.number) ps) are
+      ∙ ap (λ (n : ℕ). n ∷ y.number ∷ []) first.number_is
+      ∙ ap (λ (n : ℕ). 0 ∷ n ∷ []) second.number_is
+      ∙ ap (λ (n : ℕ). range_with_len 0 n) (sym two)

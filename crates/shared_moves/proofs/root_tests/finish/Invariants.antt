@@ -1,0 +1,7 @@
+use Rattle.std.proofs.Common.{length}
+use Rattle.region_locks.specs.Passes.{fixed_in}
+use Rattle.shared_moves.specs.Trials.{IsMoving}
+use Rattle.shared_moves.proofs.root_tests.finish.Given as goal
+
+abbrev pub invariant-loop : goal.invariant-loop
+invariant-loop g l = IsMoving (fixed_in g.A.Action.takes g.A.Action.region_of g.A.Action.effect_of l.shared) (length l.shared.rooms) l.shared.table 0 l.pass

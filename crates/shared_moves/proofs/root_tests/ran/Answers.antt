@@ -1,0 +1,7 @@
+use Rattle.std.proofs.Common.{length}
+use Rattle.region_locks.specs.Passes.{fixed_in}
+use Rattle.shared_moves.proofs.Trials.{rests_after}
+use Rattle.shared_moves.proofs.root_tests.ran.Goals as goal
+
+pub returns-in-Ok : goal.returns-in-Ok
+returns-in-Ok g c = rests_after (fixed_in g.A.Action.takes g.A.Action.region_of g.A.Action.effect_of c.args.shared.now) (length c.args.shared.now.rooms) c.args.shared.now.table 1 c.args.pass.now c.try_run.new.pass _ c.in-Ok.entry c.requires.free c.in-Ok.ensures.ok

@@ -1,0 +1,63 @@
+ghost use Rattle.std.specs.Prelude.{◌≡◌, true, length};
+ghost use Rattle.core_steps.specs.Views.{has};
+ghost use Rattle.region_locks.specs.Passes.{fixed_in};
+ghost use Rattle.shared_moves.specs.Trials.{IsFree};
+
+use crate::again::Again;
+use crate::beside::Beside;
+use crate::gate::Gate;
+use crate::shared::Shared;
+use crate::staying::Staying;
+use crate::trial::{far_world, near_world, plain, shared_by_two};
+use entity_recs::Action;
+use region_locks::Pass;
+use std::sync::Wait;
+use std::test::Fail;
+
+/// Runs the command of slot 0 with pass 0, and gives the place, the slot and the number of its entry.
+fn run_first<A: Action, R: Wait, G: Gate>(
+    rt: &R,
+    shared: &Shared<A>,
+    pass: &mut Pass<A>,
+    gate: &G,
+) -> (u64, u8, u32)
+    requires two { length shared.now.rooms ≡ 2 }
+    requires live { has (fixed_in A.takes A.region_of A.effect_of shared.now).start.ids 0 ≡ true }
+    requires free { IsFree (fixed_in A.takes A.region_of A.effect_of shared.now) (length shared.now.rooms) shared.now.table 0 pass.old }
+{
+    let entry = shared.run(rt, pass, plain(0), gate);
+    (entry.place, entry.slot, entry.seq)
+}
+
+#[test]
+fn a_far_move_passes_a_held_one(rt: HostRuntime) -> Result<(), Fail> {
+    let world = far_world(rt.alloc())?;
+    let (shared, mut first, second) = shared_by_two(rt.alloc(), &Staying, &world)?;
+    let gate = Beside::new(&shared, second);
+    let held = run_first(&rt, &shared, &mut first, &gate);
+    let second = gate.into_second();
+    assert_eq!(rt; second.refused(), None);
+    assert_eq!(rt; second.ran(), Some((0, 1, 1)));
+    assert_eq!(rt; held, (1, 0, 1));
+    Ok(())
+}
+
+#[test]
+fn a_near_move_is_refused_until_the_held_one_has_ended(rt: HostRuntime) -> Result<(), Fail> {
+    let world = near_world(rt.alloc())?;
+    let (shared, mut first, second) = shared_by_two(rt.alloc(), &Staying, &world)?;
+    let gate = Beside::new(&shared, second);
+    let held = run_first(&rt, &shared, &mut first, &gate);
+    let mut second = gate.into_second();
+    let refused = Again::Held {
+        leaf: 0,
+        holder: 0,
+        leaves: 1,
+    };
+    assert_eq!(rt; second.refused(), Some(refused));
+    assert_eq!(rt; second.ran(), None);
+    assert_eq!(rt; held, (0, 0, 1));
+    second.attempt();
+    assert_eq!(rt; second.ran(), Some((1, 1, 1)));
+    Ok(())
+}
