@@ -1,0 +1,114 @@
+-- The moves of an arena on workers, against the plain server's worlds.
+use Rattle.std.proofs.Common.{◌≡◌, ℕ, ◌<◌, ◌==◌, true, List, [], ◌∷◌, ◌++◌, length, map, Option, refl, sym, ap, ◌∙◌, subst, arith}
+use Rattle.std.specs.Prelude.{All}
+use Rattle.std.proofs.lemmas.Bool.{eqb-true}
+use Rattle.std.proofs.lemmas.List.Elements.{All-from_recursion, All-weaker}
+use Rattle.entity_recs.specs.declared.rec.Rec.{Rec}
+use Rattle.entity_recs.specs.declared.effect.Entry.{Entry}
+use Rattle.entity_recs.specs.declared.cmd.Cmd.{Cmd}
+use Rattle.entity_recs.specs.Commands.{Command, command_of}
+use Rattle.entity_recs.specs.Worlds.{World}
+use Rattle.entity_recs.specs.Histories.{Action, Item, IsLegal, run}
+use Rattle.move_journal.specs.Logs.{LogView}
+use Rattle.move_journal.specs.ByPlace.{IsByPlace}
+use Rattle.move_journal.specs.Merges.{IsRight, HasNumbersApart, history_of}
+use Rattle.arena_map.specs.Maps.{MapView, IsMap}
+use Rattle.arena_map.specs.Validity.{IsValidWorld}
+use Rattle.arena_actions.specs.declared.arena_action.ArenaAction.{ArenaAction}
+use Rattle.arena_actions.specs.Outcomes.{outcome_in}
+use Rattle.arena_actions.specs.Regions.{region_in}
+use Rattle.arena_actions.specs.Takes.{takes}
+use Rattle.arena_actions.specs.Lawful.Worlds.{valid_is_taken}
+use Rattle.world_tree.specs.Live.{live_in, ids_of}
+use Rattle.world_tree.specs.Worlds.{WorldView, IsLinked}
+use Rattle.core_steps.specs.Views.{Fixed, has}
+use Rattle.region_locks.specs.Starts.{fixed_by}
+use Rattle.plain_server.specs.RecordsById.{world_of, records_in}
+use Rattle.plain_server.specs.Moving.{HasLivePlayer}
+use Rattle.plain_server.proofs.ById.{records_in-world_of}
+use Rattle.plain_server.proofs.Others.{each_live}
+use Rattle.plain_server.proofs.Players.{live_record}
+use Rattle.move_phase.specs.Numbers.{HaveSmallNumbers}
+use Rattle.move_phase.specs.Running.{HaveRun}
+use Rattle.move_phase.proofs.StartWorlds.{start_world_is, live_is_listed, records_are}
+use Rattle.move_phase.proofs.Journals.{history_is_run, journal_right}
+
+-- what doesn't change, of an arena's action and a world
+abbrev pub fixed_of_arena : ArenaAction → WorldView → Fixed
+fixed_of_arena action world =
+    fixed_by (λ (a : ArenaAction). takes a.map) (λ (a : ArenaAction). region_in a.map) (λ (a : ArenaAction). outcome_in a.map) action world
+
+-- ---- what is asked
+
+-- the live records of a valid world are taken
+pub all_taken : (arena : MapView) (records : List (Option Rec)) → IsMap arena → IsValidWorld arena records → HaveSmallNumbers records
+    → All (λ (r : Rec). takes arena r ≡ true) (live_in records)
+all_taken arena records is_map valid small =
+    All-from_recursion (λ (r : Rec). takes arena r ≡ true) (live_in records)
+    (each_live (λ (r : Rec). takes arena r ≡ true) records
+    (λ id r at. valid_is_taken arena records id r is_map valid at (small id r at).score (small id r at).seq))
+
+-- live players are listed
+pub all_listed : (arena : MapView) (records : List (Option Rec)) (commands : List Command) → IsValidWorld arena records → All (HasLivePlayer records) commands
+    → All (λ (c : Command). has (ids_of records) c.slot ≡ true) commands
+all_listed arena records commands valid live =
+    All-weaker (HasLivePlayer records) (λ (c : Command). has (ids_of records) c.slot ≡ true) (λ c player. listed c player) commands live
+  where
+    listed : (c : Command) → HasLivePlayer records c → has (ids_of records) c.slot ≡ true
+    listed c player =
+        let found = live_record records c.slot player.live in
+        subst (λ (id : ℕ). has (ids_of records) id ≡ true) (valid.each c.slot found.r found.at).own_id
+        (live_is_listed records c.slot found.r found.at)
+
+-- ---- where there are no moves
+
+none_legal : (act : Action) (w : World) → IsLegal act w []
+none_legal act w = record { each = λ before item later parts. none before item later parts }
+  where
+    none : {R : Type 0} (before : List Item) (item : Item) (later : List Item) → [] ≡ before ++ item ∷ later → R
+    none [] item later parts = cc
+    none (b ∷ before) item later parts = cc
+
+pub none_right : (act : Action) (w : World) (commands : List Command) (journal : List Entry) → commands ≡ [] → journal ≡ []
+    → IsRight act w commands journal
+none_right act w commands journal no_commands no_entries =
+    subst (λ (cs : List Command). IsRight act w cs journal) (sym no_commands)
+    (subst (IsRight act w []) (sym no_entries) (record { merge = record { each = λ slot. refl }; legal = none_legal act w }))
+
+pub none_moved : (arena : MapView) (records : List (Option Rec)) (commands : List Command) (journal : List Entry) → IsValidWorld arena records
+    → journal ≡ [] → records ≡ records_in (run (outcome_in arena) (world_of records) (history_of commands journal)) records
+none_moved arena records commands journal valid no_entries =
+    sym (records_in-world_of records (λ id r at. (valid.each id r at).own_id))
+    ∙ ap (λ (es : List Entry). records_in (run (outcome_in arena) (world_of records) (history_of commands es)) records) (sym no_entries)
+
+no_items : {X : Type 0} (xs : List X) → true ≡ (length xs == 0) → xs ≡ []
+no_items [] none = refl
+no_items (x ∷ xs) none = let count = eqb-true (length (x ∷ xs)) 0 (sym none) in absurd (omega (arith, count))
+
+-- a frame without moves has the empty list of them
+pub none_asked : (moves : List Cmd) → true ≡ (length moves == 0) → map command_of moves ≡ []
+none_asked moves none = ap (map command_of) (no_items moves none)
+
+-- ---- where there are some
+
+-- the same logs, as they are lent
+pub ran_as_lent : (F : Fixed) (workers : ℕ) (commands : List Command) (logs lent : List LogView) (world : WorldView) → lent ≡ logs
+    → HaveRun F workers commands logs world → HaveRun F workers commands lent world
+ran_as_lent F workers commands logs lent world same ran = subst (λ (views : List LogView). HaveRun F workers commands views world) (sym same) ran
+
+module _ (action : ArenaAction) (old new : WorldView) (workers : ℕ) (commands : List Command) (logs : List LogView)
+    (ran : HaveRun (fixed_of_arena action old) workers commands logs new) (some : 0 < workers) (apart : HasNumbersApart commands)
+    (linked_old : IsLinked old) (linked_new : IsLinked new) (journal : List Entry) (by_place : IsByPlace journal logs) where
+  pub arena_right : IsRight (outcome_in action.map) (world_of old.records) commands journal
+  arena_right =
+      subst (λ (w : World). IsRight (outcome_in action.map) w commands journal) (start_world_is old.records linked_old.entries)
+      (journal_right (fixed_of_arena action old) workers commands logs new ran some apart journal by_place)
+
+  pub arena_moved : new.records ≡ records_in (run (outcome_in action.map) (world_of old.records) (history_of commands journal)) old.records
+  arena_moved =
+      let start = start_world_is old.records linked_old.entries in
+      let history = history_is_run (fixed_of_arena action old) workers commands logs new ran some apart journal by_place in
+      records_are (outcome_in action.map) (fixed_of_arena action old).start ran.closed.history old.records new.records linked_old.entries
+      linked_new.entries (linked_new.places ∙ sym linked_old.places) start ran.closed.run_is
+      ∙ ap (λ (w : World). records_in (run (outcome_in action.map) w ran.closed.history) old.records) start
+      ∙ ap (λ (items : List Item). records_in (run (outcome_in action.map) (world_of old.records) items) old.records) (sym history)

@@ -1,0 +1,100 @@
+-- What all passes have done once they have served their shares.
+use Rattle.std.proofs.Common.{◌≡◌, ℕ, ◌+◌, ◌<◌, List, [], ◌∷◌, ◌++◌, length, map, slice_index_or, refl, sym, ap, ◌∙◌, subst, arith}
+use Rattle.std.specs.Prelude.{All, Bool}
+use Rattle.std.specs.List.{range_with_len}
+use Rattle.std.proofs.lemmas.List.{length-map, get_or-map, ext_get_or}
+use Rattle.std.proofs.lemmas.List.FromFn.{length-range_with_len, get_or-range_with_len}
+use Rattle.arena_geo.specs.Bounds.{Bounds}
+use Rattle.atomic_table.specs.Seated.{TableId}
+use Rattle.entity_recs.specs.declared.rec.Rec.{Rec}
+use Rattle.entity_recs.specs.declared.effect.Effect.{Effect}
+use Rattle.entity_recs.specs.Commands.{Command}
+use Rattle.entity_recs.specs.Histories.{Item}
+use Rattle.move_journal.specs.Logs.{LogView}
+use Rattle.world_tree.specs.Worlds.{WorldView}
+use Rattle.core_steps.specs.Views.{Fixed}
+use Rattle.region_locks.specs.Starts.{fixed_by}
+use Rattle.region_locks.specs.Passes.{PassView, TableView, IsPassOf, fixed_in, new_passes, first_pass}
+use Rattle.region_locks.specs.Closing.{HasNoCommand, IsClosed, log_from}
+use Rattle.move_phase.specs.Serving.{served_by, commands_of, entries_from}
+use Rattle.move_phase.specs.Running.{HasServed, HaveRun}
+use Rattle.move_phase.proofs.NewPasses.{IsNew, new_at, new_count}
+
+-- what doesn't change of a table is what its action and its world give
+pub fixed_is : {A : Type 0} (takes : A → Rec → Bool) (region : A → Rec → Command → List Bounds) (effect : A → Rec → List Rec → Command → Effect)
+    (t : TableView A) (action : A) (world : WorldView) → t.action ≡ action → t.world ≡ world
+    → fixed_in takes region effect t ≡ fixed_by takes region effect action world
+fixed_is takes region effect t action world of_action of_world = λ i. fixed_by takes region effect (of_action i) (of_world i)
+
+-- the entries of the logs are those of the passes' items
+entries_same : (passes : List PassView) → map (λ (view : LogView). view.entries) (map log_from passes) ≡ map entries_from (map (λ (p : PassView). p.view.log) passes)
+entries_same [] = refl
+entries_same (p ∷ passes) = ap (λ (es : List (List _)). entries_from p.view.log ∷ es) (entries_same passes)
+
+-- passes of a new table, and what each has served since
+pub record AreServed (F : Fixed) (table : TableId) (commands : List Command) (rooms : List ℕ) (old new : List PassView) : Type 0 where
+  pub begun : old ≡ new_passes table rooms
+  pub some : 0 < length rooms
+  pub count : length new ≡ length old
+  pub each : (i : ℕ) (d : PassView) → i < length old
+      → HasServed F (length rooms) table (slice_index_or old i d) (slice_index_or new i d) (served_by (length rooms) (slice_index_or old i d).number commands)
+
+from_zero : (i : ℕ) → 0 + i ≡ i
+from_zero i = omega arith
+
+module _ (F : Fixed) (table : TableId) (commands : List Command) (rooms : List ℕ) (old new : List PassView) (are : AreServed F table commands rooms old new) where
+  pub as_many : length new ≡ length rooms
+  as_many = are.count ∙ ap length are.begun ∙ new_count table rooms are.some
+
+  inside_old : (i : ℕ) → i < length rooms → i < length old
+  inside_old i within = omega (arith, within, as_many, are.count)
+
+  was_new : (i : ℕ) (d : PassView) → i < length rooms → IsNew rooms i (slice_index_or old i d)
+  was_new i d within = subst (λ (ps : List PassView). IsNew rooms i (slice_index_or ps i d)) (sym are.begun) (new_at table rooms i d within)
+
+  inside : (i : ℕ) → i < length new → i < length rooms
+  inside i within = omega (arith, within, as_many)
+
+  -- they still belong to the table
+  pub still_own : All (IsPassOf F (length rooms) table) new
+  still_own = λ i d within. (are.each i d (inside_old i (inside i within))).own
+
+  -- they have no command in hand
+  pub all_rest : All HasNoCommand new
+  all_rest = λ i d within. (are.each i d (inside_old i (inside i within))).rests
+
+  -- each has its number
+  number_at : (i : ℕ) (d : PassView) → i < length rooms → (slice_index_or new i d).number ≡ i
+  number_at i d within = (are.each i d (inside_old i within)).number ∙ (was_new i d within).number
+
+  pub numbers_rise : map (λ (p : PassView). p.number) new ≡ range_with_len 0 (length rooms)
+  numbers_rise =
+      ext_get_or 0 (map (λ (p : PassView). p.number) new) (range_with_len 0 (length rooms))
+      (length-map new (λ (p : PassView). p.number) ∙ as_many ∙ sym (length-range_with_len 0 (length rooms)))
+      (λ i within.
+      let first = first_pass table rooms in
+      let within_new : i < length new = omega (arith, within, length-map new (λ (p : PassView). p.number)) in
+      get_or-map (λ (p : PassView). p.number) new i first 0 within_new
+      ∙ number_at i first (inside i within_new)
+      ∙ sym (get_or-range_with_len 0 (length rooms) i 0 (inside i within_new) ∙ from_zero i))
+
+  -- each log has the commands of its pass
+  log_at : (i : ℕ) (d : PassView) → i < length rooms → commands_of (slice_index_or new i d).view.log ≡ served_by (length rooms) i commands
+  log_at i d within =
+      let was = was_new i d within in
+      (are.each i d (inside_old i within)).log
+      ∙ ap (λ (items : List Item). commands_of items ++ served_by (length rooms) (slice_index_or old i d).number commands) was.empty
+      ∙ ap (λ (k : ℕ). served_by (length rooms) k commands) was.number
+
+  -- so the commands were run, once the table is closed
+  pub have_run : (world : WorldView) → IsClosed F (map (λ (p : PassView). p.view.log) new) world → HaveRun F (length rooms) commands (map log_from new) world
+  have_run world closed = record {
+    logs = map (λ (p : PassView). p.view.log) new;
+    views_are = entries_same new;
+    count = length-map new (λ (p : PassView). p.view.log) ∙ as_many;
+    served = λ i d within.
+        let first = first_pass table rooms in
+        let within_new : i < length new = omega (arith, within, as_many) in
+        ap commands_of (get_or-map (λ (p : PassView). p.view.log) new i first d within_new) ∙ log_at i first within;
+    closed = closed;
+  }
