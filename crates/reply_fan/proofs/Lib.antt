@@ -1,0 +1,2 @@
+-- Lemmas on lists that are equal at each place.
+pub mod Places
