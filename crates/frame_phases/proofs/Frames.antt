@@ -5,10 +5,10 @@ use Rattle.std.proofs.lemmas.List.{length-map}
 use Rattle.entity_recs.specs.declared.rec.Rec.{Rec}
 use Rattle.entity_recs.specs.declared.cmd.Cmd.{Cmd}
 use Rattle.entity_recs.specs.declared.effect.Entry as reports
-use Rattle.entity_recs.specs.Commands.{command_of}
+use Rattle.entity_recs.specs.Commands.{Command, command_of}
+use Rattle.entity_recs.specs.Histories.{run}
 use Rattle.entity_recs.specs.Worlds.{World}
-use Rattle.move_journal.specs.Merges.{IsInOrder, journal_in_order}
-use Rattle.move_journal.proofs.JournalLaws.{moves_in_order_are_right, run-in_order}
+use Rattle.move_journal.specs.Merges.{IsInOrder, IsRight, HasNumbersApart, history_of}
 use Rattle.arena_map.specs.Maps.{MapView, IsMap}
 use Rattle.client_ports.specs.declared.arrival.Arrival.{Arrival}
 use Rattle.client_ports.specs.declared.client.Client.{Client}
@@ -22,11 +22,12 @@ use Rattle.arena_actions.specs.Outcomes.{outcome_in}
 use Rattle.plain_server.specs.Moving.{HasLivePlayer, HaveMoved}
 use Rattle.plain_server.specs.Entries.{IsReception}
 use Rattle.plain_server.specs.Frames.{state_after_tick, received_in, moved_by, state_after, IsRightAfter}
-use Rattle.plain_server.proofs.Moves.{moved-records}
 use Rattle.world_physics.specs.Ticks.{after_tick}
 use Rattle.plain_server.proofs.Ticking.{server_ticked}
 use Rattle.plain_server.proofs.Short.{moves_are_few}
-use Rattle.plain_server.proofs.Frames.{received_is, state_moved}
+use Rattle.plain_server.proofs.Frames.{received_is, moved_by_is, state_after_is}
+use Rattle.plain_server.specs.Takers.{HasOneTaker, HasItemsAway, IsInState}
+use Rattle.plain_server.proofs.Takers.{one_taker, returns_later}
 
 -- what the receive pass leaves for the moves: a reception, and few moves
 pub record IsReceived (map : MapView) (r : Receiving) (arrivals : List Arrival) : Type 0 where
@@ -48,53 +49,66 @@ live_moves map_view r arrivals moves is got = subst (All (HasLivePlayer r.state.
 pub few_moves : (map_view : MapView) (r : Receiving) (arrivals : List Arrival) (moves : List Cmd) → map command_of moves ≡ r.lists.moves → IsReceived map_view r arrivals → length moves ≤ length arrivals
 few_moves map_view r arrivals moves is got = omega (arith, got.few, ap length is, length-map moves command_of)
 
--- what a frame comes to: its journal is right and in order, and the records and the state are those after it
-pub record IsFrame (map : MapView) (r : Receiving) (new : List (Option Rec)) (next : State) (journal : List reports.Entry) : Type 0 where
+-- the moves that the code runs have their numbers apart
+pub apart_moves : (map_view : MapView) (r : Receiving) (arrivals : List Arrival) (moves : List Cmd) → map command_of moves ≡ r.lists.moves → IsReceived map_view r arrivals → HasNumbersApart (map command_of moves)
+apart_moves map_view r arrivals moves is got = subst HasNumbersApart (sym is) got.pass.apart
+
+-- what the code's moves come to: a right journal, in the order of arrival with one worker, and the records after it
+pub record AreRun (map_view : MapView) (r : Receiving) (workers : ℕ) (moves : List Command) (new : List (Option Rec)) (journal : List reports.Entry) : Type 0 where
+  pub right : IsRight (outcome_in map_view) (world_of r.state.records) moves journal
+  pub order : workers ≡ 1 → IsInOrder journal moves
+  pub moved : new ≡ records_in (run (outcome_in map_view) (world_of r.state.records) (history_of moves journal)) r.state.records
+
+-- what a frame comes to: its journal is right, and in order with one worker, and the records and the state are those
+-- after it
+pub record IsFrame (map : MapView) (r : Receiving) (workers : ℕ) (new : List (Option Rec)) (next : State) (journal : List reports.Entry) : Type 0 where
   pub right : IsRightAfter map r journal
-  pub order : IsInOrder journal r.lists.moves
+  pub order : workers ≡ 1 → IsInOrder journal r.lists.moves
   pub shown : state_of r.state.clients new ≡ moved_by map r journal
   pub next_is : next ≡ state_after map r journal
   pub fits : IsServerState map next
 
-pub is_frame : (map_view : MapView) (r : Receiving) (arrivals : List Arrival) (moves : List Cmd) (new : List (Option Rec)) (next : State) (journal : List reports.Entry) → IsReceived map_view r arrivals
-    → map command_of moves ≡ r.lists.moves → HaveMoved map_view r.state.records new (map command_of moves)
-    → journal ≡ journal_in_order (outcome_in map_view) (world_of r.state.records) (map command_of moves) → next ≡ finished (state_of r.state.clients new)
-    → IsFrame map_view r new next journal
-is_frame map_view r arrivals moves new next journal got moves_are moved journal_is next_is =
-    let act = outcome_in map_view in
-    let w = world_of r.state.records in
-    let in_order : journal ≡ journal_in_order act w r.lists.moves = journal_is ∙ ap (journal_in_order act w) moves_are in
-    let right = moves_in_order_are_right act w r.lists.moves got.pass.apart in
-    let have : HaveMoved map_view r.state.records new r.lists.moves = subst (HaveMoved map_view r.state.records new) moves_are moved in
-    let shown : state_of r.state.clients new ≡ moved_by map_view r (journal_in_order act w r.lists.moves) =
-    ap (state_of r.state.clients)
-    (sym (moved-records map_view r.state.records new r.lists.moves have) ∙ sym (ap (λ (v : World). records_in v r.state.records) (run-in_order act w r.lists.moves got.pass.apart))) in
-    let shown_so = shown ∙ sym (ap (moved_by map_view r) in_order) in
+pub is_frame : (map_view : MapView) (r : Receiving) (workers : ℕ) (arrivals : List Arrival) (moves : List Cmd) (new : List (Option Rec)) (next : State) (journal : List reports.Entry) → IsMap map_view
+    → IsReceived map_view r arrivals → map command_of moves ≡ r.lists.moves → AreRun map_view r workers (map command_of moves) new journal → next ≡ finished (state_of r.state.clients new)
+    → IsFrame map_view r workers new next journal
+is_frame map_view r workers arrivals moves new next journal is_map got moves_are ran next_is =
+    let have : AreRun map_view r workers r.lists.moves new journal = subst (λ (ms : List Command). AreRun map_view r workers ms new journal) moves_are ran in
+    let shown : state_of r.state.clients new ≡ moved_by map_view r journal = ap (state_of r.state.clients) have.moved in
+    let after : next ≡ state_after map_view r journal = next_is ∙ ap finished shown in
     record {
-      right = subst (IsRightAfter map_view r) (sym in_order) right.right;
-      order = subst (λ (j : List reports.Entry). IsInOrder j r.lists.moves) (sym in_order) right.order;
-      shown = shown_so;
-      next_is = next_is ∙ ap finished shown_so;
-      fits = subst (IsServerState map_view) (sym next_is) (server_finished map_view (state_of r.state.clients new) (state_moved map_view r.state new r.lists.moves got.pass.state have));
+      right = have.right;
+      order = have.order;
+      shown = shown;
+      next_is = after;
+      fits = subst (IsServerState map_view) (sym after) (state_after_is map_view r journal is_map got.pass);
     }
 
 -- what a frame comes to, in the words of the server before it
-pub record IsFrameOf (t : ServerView) (arrivals : List Arrival) (new : List (Option Rec)) (next : State) (journal : List reports.Entry) : Type 0 where
+pub record IsFrameOf (t : ServerView) (workers : ℕ) (arrivals : List Arrival) (new : List (Option Rec)) (next : State) (journal : List reports.Entry) : Type 0 where
   pub right : IsRightAfter t.map (received_in t.map t.frames t.state arrivals) journal
-  pub order : IsInOrder journal (received_in t.map t.frames t.state arrivals).lists.moves
+  pub order : workers ≡ 1 → IsInOrder journal (received_in t.map t.frames t.state arrivals).lists.moves
   pub shown : new ≡ (moved_by t.map (received_in t.map t.frames t.state arrivals) journal).records
   pub next_is : server_view t.map next (t.frames + 1) ≡ server_after t arrivals journal
   pub fits : IsServerState t.map next
+  pub once : HasOneTaker journal
+  pub away : HasItemsAway t.map t.frames journal next.records
 
-pub frame_of : (t : ServerView) (arrivals : List Arrival) (r : Receiving) (new : List (Option Rec)) (next : State) (journal : List reports.Entry) → r ≡ received_in t.map t.frames t.state arrivals
-    → IsFrame t.map r new next journal → IsFrameOf t arrivals new next journal
-frame_of t arrivals r new next journal r_is frame = record {
-  right = subst (λ (q : Receiving). IsRightAfter t.map q journal) r_is frame.right;
-  order = subst (λ (q : Receiving). IsInOrder journal q.lists.moves) r_is frame.order;
-  shown = ap (λ (s : State). s.records) frame.shown ∙ ap (λ (q : Receiving). (moved_by t.map q journal).records) r_is;
-  next_is = ap (λ (s : State). server_view t.map s (t.frames + 1)) (frame.next_is ∙ ap (λ (q : Receiving). state_after t.map q journal) r_is);
-  fits = frame.fits;
-}
+pub frame_of : (t : ServerView) (workers : ℕ) (arrivals : List Arrival) (r : Receiving) (new : List (Option Rec)) (next : State) (journal : List reports.Entry) → IsServer t.map t.state
+    → r ≡ received_in t.map t.frames t.state arrivals → IsFrame t.map r workers new next journal → IsFrameOf t workers arrivals new next journal
+frame_of t workers arrivals r new next journal is r_is frame =
+    let q = received_in t.map t.frames t.state arrivals in
+    let right : IsRightAfter t.map q journal = subst (λ (p : Receiving). IsRightAfter t.map p journal) r_is frame.right in
+    let next_is : next ≡ state_after t.map q journal = frame.next_is ∙ ap (λ (p : Receiving). state_after t.map p journal) r_is in
+    record {
+      right = right;
+      order = subst (λ (p : Receiving). workers ≡ 1 → IsInOrder journal p.lists.moves) r_is frame.order;
+      shown = ap (λ (s : State). s.records) frame.shown ∙ ap (λ (p : Receiving). (moved_by t.map p journal).records) r_is;
+      next_is = ap (λ (s : State). server_view t.map s (t.frames + 1)) next_is;
+      fits = frame.fits;
+      once = λ place other id. one_taker t.map t.frames t.state arrivals journal is.is_map is.fits right id place other;
+      away = λ place id delay has delay_is.
+          subst (λ (s : State). IsInState s.records id (t.frames + delay)) (sym next_is) (returns_later t.map t.frames t.state arrivals journal is.is_map is.fits right id place delay has delay_is);
+    }
 
 -- what the receive pass leaves, from what the code's calls ensure: it began from a copy of the state
 pub frame_got : (t : ServerView) (arrivals : List Arrival) (shown : MapView) (started : State) (r : Receiving) → IsServer t.map t.state → shown ≡ t.map → started ≡ t.state
@@ -103,20 +117,21 @@ frame_got t arrivals shown started r is shown_is started_is r_is =
     is_received t.map t.frames t.state arrivals r is.is_map is.fits (r_is ∙ (λ i. received_in (shown_is i) t.frames (started_is i) arrivals))
 
 -- and the whole frame
-pub whole_frame : (server t : ServerView) (arrivals : List Arrival) (shown : MapView) (started : State) (r : Receiving) (moves : List Cmd) (new : List (Option Rec)) (next : State) (journal : List reports.Entry)
+pub whole_frame : (server t : ServerView) (workers : ℕ) (arrivals : List Arrival) (shown : MapView) (started : State) (r : Receiving) (moves : List Cmd) (new : List (Option Rec)) (next : State) (journal : List reports.Entry)
     → t ≡ server → IsServer t.map t.state → shown ≡ t.map → started ≡ t.state → r ≡ received_in shown t.frames started arrivals → map command_of moves ≡ r.lists.moves
-    → HaveMoved t.map r.state.records new (map command_of moves) → journal ≡ journal_in_order (outcome_in t.map) (world_of r.state.records) (map command_of moves)
-    → next ≡ finished (state_of r.state.clients new) → IsFrameOf server arrivals new next journal
-whole_frame server t arrivals shown started r moves new next journal view is shown_is started_is r_is moves_are moved journal_is next_is =
+    → AreRun t.map r workers (map command_of moves) new journal → next ≡ finished (state_of r.state.clients new) → IsFrameOf server workers arrivals new next journal
+whole_frame server t workers arrivals shown started r moves new next journal view is shown_is started_is r_is moves_are ran next_is =
     let got = frame_got t arrivals shown started r is shown_is started_is r_is in
-    let frame = is_frame t.map r arrivals moves new next journal got moves_are moved journal_is next_is in
-    subst (λ (u : ServerView). IsFrameOf u arrivals new next journal) view
-    (frame_of t arrivals r new next journal (r_is ∙ (λ i. received_in (shown_is i) t.frames (started_is i) arrivals)) frame)
+    let frame = is_frame t.map r workers arrivals moves new next journal is.is_map got moves_are ran next_is in
+    subst (λ (u : ServerView). IsFrameOf u workers arrivals new next journal) view
+    (frame_of t workers arrivals r new next journal is (r_is ∙ (λ i. received_in (shown_is i) t.frames (started_is i) arrivals)) frame)
 
 -- the live slots are the live players still
-pub live_after : (t : ServerView) (arrivals : List Arrival) (r : Receiving) (moves : List Cmd) (new : List (Option Rec)) → IsReceived t.map r arrivals → HaveMoved t.map r.state.records new (map command_of moves)
-    → HaveSameLive r.state.clients new
-live_after t arrivals r moves new got moved = (state_moved t.map r.state new (map command_of moves) got.pass.state moved).fits.live
+pub live_after : (t : ServerView) (workers : ℕ) (arrivals : List Arrival) (r : Receiving) (moves : List Cmd) (new : List (Option Rec)) (journal : List reports.Entry) → IsMap t.map → IsReceived t.map r arrivals
+    → map command_of moves ≡ r.lists.moves → AreRun t.map r workers (map command_of moves) new journal → HaveSameLive r.state.clients new
+live_after t workers arrivals r moves new journal is_map got moves_are ran =
+    let have : AreRun t.map r workers r.lists.moves new journal = subst (λ (ms : List Command). AreRun t.map r workers ms new journal) moves_are ran in
+    subst (HaveSameLive r.state.clients) (sym have.moved) (moved_by_is t.map r journal is_map got.pass).fits.live
 
 -- so they are after the tick of a frame
 pub ticked_live : (map_view : MapView) (frame : ℕ) (clients : List (Option Client)) (before records : List (Option Rec)) → IsMap map_view → IsServerState map_view (state_of clients before)

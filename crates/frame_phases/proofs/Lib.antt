@@ -1,8 +1,6 @@
--- Lemmas on new states, on one move, on the moves of a frame, on what a frame comes to, on what is shown and on scores.
-pub mod States
-pub mod OneMove
-pub mod Running
+-- Lemmas on what a frame comes to, on what is shown, on replies and on scores.
 pub mod Frames
 pub mod Openings
 pub mod Showing
+pub mod Replying
 pub mod Scoring

@@ -5,6 +5,7 @@ pub use Rattle.plain_server.specs.Moving
 pub use Rattle.plain_server.specs.Entries
 pub use Rattle.plain_server.specs.Frames
 pub use Rattle.plain_server.specs.Replies
+pub use Rattle.plain_server.specs.Takers
 pub use Rattle.client_ports.specs.States
 pub use Rattle.client_ports.specs.Lists
 pub use Rattle.client_ports.specs.Receiving
@@ -13,7 +14,9 @@ pub use Rattle.arena_map.specs.Maps
 pub use Rattle.arena_map.specs.Validity
 pub use Rattle.move_journal.specs.Merges
 pub use Rattle.move_journal.specs.Logs
+pub use Rattle.move_phase.specs.Serving
 pub mod Servers
 pub mod Scores
 pub mod FrameOuts
+pub mod ReplyLoans
 pub mod Laws

@@ -11,7 +11,6 @@ pub use slots::{MOST_SLOTS, SlotList};
 mod frame_out;
 mod laws;
 mod limits;
-mod moves;
 mod replies;
 mod scores;
 mod server;

@@ -1,55 +1,44 @@
-ghost use Rattle.std.specs.Prelude.{◌≡◌, IfSome, IsSome};
-ghost use Rattle.world_tree.specs.Live.{live_in};
-ghost use Rattle.world_tree.specs.Worlds.{record_of};
-ghost use Rattle.snapshot_write.specs.Snapshots.{snapshot};
-
 use crate::slots::MOST_SLOTS;
-use snapshot_write::{ReplyBuf, write_snapshot};
+use snapshot_write::ReplyBuf;
 use std::alloc::{AllocError, Global};
 use std::marker::Model;
-use world_tree::World;
-
-/// Puts the snapshot of the player in this slot into a buffer, in place of what is in it. It takes no memory.
-fn write_anew(world: &World, frame: u32, slot: u8, reply: &mut ReplyBuf)
-    requires live { IsSome (record_of world.now slot) }
-    ensures { IfSome (record_of world.now slot) (λ me. reply.new ≡ snapshot frame me (live_in world.now.records)) }
-{
-    reply.clear();
-    write_snapshot(world, frame, slot, reply);
-}
 
 /// A list of at most [`MOST_SLOTS`] replies, each the bytes of a snapshot. It has the room for all of them from the start.
 #[derive(Drop)]
 pub struct ReplyList {
     replies: Vec<ReplyBuf>,
-    len: usize,
+    /// The buffers that no reply is in.
+    spare: Vec<ReplyBuf>,
 }
 
 impl Model for ReplyList {
-    ghost use Rattle.std.specs.Prelude.{◌≡◌, ℕ, ◌≤◌, List, length, take};
+    ghost use Rattle.std.specs.Prelude.{◌≡◌, ℕ, ◌+◌, ◌≤◌, List, vec_len, vec_capacity};
 
     ghost Value = { List (List ℕ) };
 
-    ghost view = { λ l. take l.len l.replies.items };
+    ghost view = { λ l. l.replies.items };
 
-    ghost invariant = { λ l. (l.len ≤ 64) × (length l.replies.items ≡ 64) };
+    ghost invariant = { λ l. (vec_len l.replies + vec_len l.spare ≡ 64)
+        × (64 ≤ vec_capacity l.replies) × (64 ≤ vec_capacity l.spare) };
 }
 
 impl ReplyList {
-    ghost use Rattle.std.specs.Prelude.{◌≡◌, ◌<◌, ◌≤◌, [], ◌∷◌, ◌++◌, length, IfOk, IfSome, IsSome};
-    ghost use Rattle.world_tree.specs.Live.{live_in};
-    ghost use Rattle.world_tree.specs.Worlds.{record_of};
-    ghost use Rattle.snapshot_write.specs.Snapshots.{snapshot};
+    ghost use Rattle.std.specs.Prelude.{◌≡◌, ◌<◌, ◌≤◌, [], ◌∷◌, ◌++◌, length, replicate, IfOk};
+    ghost use Rattle.std.specs.Borrow.{sem};
+    ghost use Rattle.frame_phases.specs.ReplyLoans.{LendsItems};
 
     /// No reply, with room for [`MOST_SLOTS`]. The only error is that memory is refused.
     pub fn new(alloc: Global) -> Result<ReplyList, AllocError>
         ensures { IfOk result (λ replies. replies ≡ []) }
     {
-        let mut replies = Vec::with_capacity(alloc, MOST_SLOTS)?;
+        let mut spare = Vec::with_capacity(alloc, MOST_SLOTS)?;
         for _ in 0..MOST_SLOTS {
-            replies.push(ReplyBuf::new(alloc)?)?;
+            spare.push_reserved(ReplyBuf::new(alloc)?);
         }
-        Ok(ReplyList { replies, len: 0 })
+        Ok(ReplyList {
+            replies: Vec::with_capacity(alloc, MOST_SLOTS)?,
+            spare,
+        })
     }
 
     /// The replies in their order.
@@ -57,23 +46,44 @@ impl ReplyList {
         ensures value { result.now ≡ self.now }
         ensures bound { length self.now ≤ 64 }
     {
-        &self.replies.as_slice()[..self.len]
+        self.replies.as_slice()
     }
 
-    /// Puts the snapshot of the player in this slot last. It takes no memory.
-    pub(crate) fn push_snapshot(&mut self, world: &World, frame: u32, slot: u8)
-        requires live { IsSome (record_of world.now slot) }
-        requires room { length self.old < 64 }
-        ensures { IfSome (record_of world.now slot) (λ me. self.new ≡ self.old ++ snapshot frame me (live_in world.now.records) ∷ []) }
+    /// Lends the replies for writing.
+    pub fn as_mut_slice(&mut self) -> &mut [ReplyBuf]
+        ensures* written { sem 𝓛 (LendsItems self.entry result) }
+        ensures value { result.now ≡ self.old }
     {
-        write_anew(world, frame, slot, &mut self.replies[self.len]);
-        self.len += 1;
+        self.replies.as_mut_slice()
+    }
+
+    /// Puts an empty reply last. It takes no memory.
+    fn push_empty(&mut self)
+        requires { length self.old < 64 }
+        ensures { self.new ≡ self.old ++ [] ∷ [] }
+    {
+        let mut reply = self.spare.pop().unwrap();
+        reply.clear();
+        self.replies.push_reserved(reply);
+    }
+
+    /// Puts this many empty replies into the empty list. It takes no memory.
+    pub(crate) fn fill_empty(&mut self, count: usize)
+        requires most { count ≤ 64 }
+        requires none { self.old ≡ [] }
+        ensures { self.new ≡ replicate count [] }
+    {
+        for _ in 0..count {
+            self.push_empty();
+        }
     }
 
     /// Empties the list, and keeps its room.
     pub(crate) fn clear(&mut self)
         ensures { self.new ≡ [] }
     {
-        self.len = 0;
+        while let Some(reply) = self.replies.pop() {
+            self.spare.push_reserved(reply);
+        }
     }
 }

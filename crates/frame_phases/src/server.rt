@@ -3,21 +3,25 @@ ghost use Rattle.move_journal.specs.Merges.{IsInOrder};
 ghost use Rattle.plain_server.specs.Frames.{received_in, moved_by, IsRightAfter};
 ghost use Rattle.plain_server.specs.Replies.{slots_of, replies_of};
 ghost use Rattle.frame_phases.specs.declared.limits.TheConstants.{MOST_ARRIVALS, MOST_FRAMES};
+ghost use Rattle.plain_server.specs.Takers.{HasOneTaker, HasItemsAway};
+ghost use Rattle.move_phase.specs.Serving.{AreWorkers};
 ghost use Rattle.frame_phases.specs.Servers.{server_after};
 ghost use Rattle.frame_phases.specs.FrameOuts.{IsEmpty};
 
 use crate::frame_out::FrameOut;
-use crate::moves::run_moves;
 use crate::scores::score_of;
 use crate::shows::show_players;
 use crate::state::State;
 use arena_actions::ArenaAction;
 use arena_map::ArenaMap;
 use client_ports::Arrival;
+use move_phase::run_moves;
+use shared_moves::Gate;
 use std::alloc::{AllocError, Global};
 use std::marker::Model;
 use std::mem;
-use world_tree::NearList;
+use std::sync::Wait;
+use std::thread::Threads;
 
 /// The server between two frames: the action of its map's arena, its state, and how many frames were run.
 #[derive(Drop)]
@@ -80,31 +84,37 @@ impl Server {
     }
 }
 
-/// Runs a frame with these packets: the tick, the receive pass, the moves in the order of arrival, the replies, and the
-/// leaves. `out` is written anew.
+/// Runs a frame with these packets: the tick, the receive pass, the moves on so many workers, the replies, and the leaves.
+/// Slot p is served by worker p mod `workers`, which runs its moves in the order of arrival. `out` is written anew.
 ///
 /// The only error is that memory is refused. What a frame takes is taken after the receive pass and before the first move; no
 /// move was run then, the server is as before, and the lists of `out` are empty.
-pub fn run_frame(
+pub fn run_frame<R: Threads + Wait + Sync, G: Gate>(
+    rt: &R,
     alloc: Global,
     server: &mut Server,
     arrivals: &[Arrival],
+    workers: u8,
+    gate: &G,
     out: &mut FrameOut,
 ) -> Result<(), AllocError>
     requires few { length arrivals.now ≤ MOST_ARRIVALS }
     requires frames { server.old.frames < MOST_FRAMES }
+    requires workers { AreWorkers workers }
     ensures frame { OnOk result (out.new.frame ≡ server.old.frames) }
     ensures received { OnOk result (out.new.received.lists
         ≡ (received_in server.old.map server.old.frames server.old.state arrivals.now).lists) }
     ensures right { OnOk result (IsRightAfter server.old.map
         (received_in server.old.map server.old.frames server.old.state arrivals.now) out.new.journal.entries) }
-    ensures order { OnOk result (IsInOrder out.new.journal.entries
+    ensures order { OnOk result (workers ≡ 1 → IsInOrder out.new.journal.entries
         (received_in server.old.map server.old.frames server.old.state arrivals.now).lists.moves) }
     ensures slots { OnOk result (out.new.slots ≡ slots_of (moved_by server.old.map
         (received_in server.old.map server.old.frames server.old.state arrivals.now) out.new.journal.entries).records) }
     ensures replies { OnOk result (out.new.replies ≡ replies_of server.old.frames (moved_by server.old.map
         (received_in server.old.map server.old.frames server.old.state arrivals.now) out.new.journal.entries).records) }
     ensures next { OnOk result (server.new ≡ server_after server.old arrivals.now out.new.journal.entries) }
+    ensures one_taker { OnOk result (HasOneTaker out.new.journal.entries) }
+    ensures away { OnOk result (HasItemsAway server.old.map server.old.frames out.new.journal.entries server.new.state.records) }
     ensures unchanged { OnErr result (server.new ≡ server.old) }
     ensures emptied { OnErr result (IsEmpty out.new) }
 {
@@ -116,18 +126,21 @@ pub fn run_frame(
         arrivals,
         &mut out.received,
     );
-    let Ok(mut near) = Box::new(alloc, NearList::new()) else {
-        out.clear();
-        return Err(AllocError);
-    };
-    run_moves(
+    if let Err(error) = run_moves(
+        rt,
+        alloc,
         &server.action,
         &mut server.next.world,
         out.received.moves(),
-        &mut near,
+        workers,
+        gate,
         &mut out.journal,
-    );
+    ) {
+        out.clear();
+        return Err(error);
+    }
     show_players(
+        rt,
         &server.next.world,
         server.frames,
         &mut out.slots,

@@ -6,13 +6,21 @@ use arena_geo::Vec3;
 use arena_map::{ArenaMap, MapLine, MapRefusal};
 use client_ports::{Arrival, ArrivalBytes, Joined};
 use entity_recs::Kind;
+use shared_moves::NoGate;
 use std::alloc::{AllocGlobal, Global};
 use std::process::Abort;
+use std::sync::Wait;
 use std::test::Fail;
+use std::thread::Threads;
 
 const JOIN: [u8; 2] = [1, 1];
 
 const LEAVE: [u8; 2] = [1, 3];
+
+mod crossing;
+mod no_memory;
+mod one_leaf;
+mod oracle;
 
 /// A packet with these bytes.
 fn arrival(port: u16, bytes: &[u8]) -> Arrival {
@@ -98,7 +106,7 @@ fn server(alloc: Global, one: &MapLine, other: &MapLine) -> Result<Server, MapRe
 
 /// Runs one frame more.
 fn play(
-    rt: &(impl AllocGlobal + Abort),
+    rt: &(impl AllocGlobal + Abort + Threads + Wait + Sync),
     server: &mut Server,
     arrivals: &[Arrival],
     out: &mut FrameOut,
@@ -106,7 +114,7 @@ fn play(
     requires { length arrivals.now ≤ 512 }
 {
     assert!(rt; server.frames() < MOST_FRAMES);
-    run_frame(rt.alloc(), server, arrivals, out)?;
+    run_frame(rt, rt.alloc(), server, arrivals, 1, &NoGate, out)?;
     Ok(())
 }
 
@@ -128,7 +136,7 @@ fn expect_move(
 
 /// Runs one frame more, and compares its only entry, of a player at the spawn.
 fn expect_frame(
-    rt: &(impl AllocGlobal + Abort),
+    rt: &(impl AllocGlobal + Abort + Threads + Wait + Sync),
     server: &mut Server,
     arrivals: &[Arrival],
     out: &mut FrameOut,
@@ -142,7 +150,10 @@ fn expect_frame(
 }
 
 /// Three frames of a player on an item that returns after two.
-fn take_twice(rt: &(impl AllocGlobal + Abort), server: &mut Server) -> Result<(), Fail> {
+fn take_twice(
+    rt: &(impl AllocGlobal + Abort + Threads + Wait + Sync),
+    server: &mut Server,
+) -> Result<(), Fail> {
     let mut out = FrameOut::new(rt.alloc())?;
     let first = [arrival(7, &JOIN), step(7, 1, 0)];
     expect_frame(rt, server, &first, &mut out, 1, &[64])?;
@@ -171,7 +182,7 @@ fn a_teleporter_moves_a_player(rt: HostRuntime) -> Result<(), Fail> {
 
 /// A frame in which a player joins and leaves, and is shown.
 fn join_and_leave(
-    rt: &(impl AllocGlobal + Abort),
+    rt: &(impl AllocGlobal + Abort + Threads + Wait + Sync),
     server: &mut Server,
     out: &mut FrameOut,
 ) -> Result<(), Fail> {
@@ -188,7 +199,7 @@ fn join_and_leave(
 
 /// A frame in which nobody is there.
 fn expect_nobody(
-    rt: &(impl AllocGlobal + Abort),
+    rt: &(impl AllocGlobal + Abort + Threads + Wait + Sync),
     server: &mut Server,
     out: &mut FrameOut,
 ) -> Result<(), Fail> {

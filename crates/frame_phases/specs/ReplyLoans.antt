@@ -1,0 +1,13 @@
+-- What a list of replies is after its items were lent for writing.
+use Rattle.std.specs.Prelude.{ℕ, List, ◌++◌, length, take, drop}
+use Rattle.std.specs.Borrow.{Lends, MutBor, Fml, Array}
+use Rattle.snapshot_write.specs.contracts.reply_buf.ReplyBuf.{the_row as reply_row}
+use Rattle.frame_phases.specs.contracts.replies.ReplyList.{the_row}
+
+-- a list whose items were written: the new items in place of the old ones, as many as there were
+abbrev pub rewritten : List (List ℕ) → List (List ℕ) → List (List ℕ)
+rewritten old new = take (length old) (new ++ drop (length new) old)
+
+-- after the loan the list has the last items of the lent slice
+abbrev pub LendsItems : MutBor (List (List ℕ)) → MutBor (List (List ℕ)) → Fml
+LendsItems list slice = Lends the_row (Array reply_row 0) list slice (rewritten list.now)

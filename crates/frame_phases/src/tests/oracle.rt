@@ -1,0 +1,165 @@
+ghost use Rattle.move_phase.specs.Serving.{AreWorkers};
+
+use super::{JOIN, arrival};
+use crate::{FrameOut, MOST_ARRIVALS, MOST_FRAMES, Server, run_frame};
+use client_ports::Arrival;
+use entity_recs::Entry;
+use shared_moves::NoGate;
+use std::alloc::{AllocError, AllocGlobal, Global};
+use std::process::Abort;
+use std::sync::Wait;
+use std::test::Fail;
+use std::thread::Threads;
+
+/// The port of the player that gets slot 0. That of the next slot is the next number.
+const FIRST_PORT: u16 = 7;
+
+/// A move of 50 milliseconds.
+#[derive(Clone, Copy)]
+pub struct Move {
+    pub slot: u8,
+    pub seq: u8,
+    pub wish_x: i16,
+    pub wish_y: i16,
+}
+
+impl Move {
+    /// The packet that its player sends.
+    fn to_arrival(self) -> Arrival {
+        let [x_low, x_high] = self.wish_x.to_le_bytes();
+        let [y_low, y_high] = self.wish_y.to_le_bytes();
+        let bytes = [1, 2, self.seq, 0, 0, 0, 50, x_low, x_high, y_low, y_high, 0];
+        arrival(FIRST_PORT + u16::from(self.slot), &bytes)
+    }
+
+    /// Whether the entry is this move's.
+    fn is_of(self, entry: &Entry) -> bool {
+        self.slot == entry.slot && u32::from(self.seq) == entry.seq
+    }
+}
+
+/// The joins of so many players, and then these moves.
+pub fn arrivals_of(alloc: Global, joins: u8, moves: &[Move]) -> Result<Vec<Arrival>, AllocError> {
+    let mut arrivals = Vec::new(alloc);
+    for slot in 0..joins {
+        arrivals.push(arrival(FIRST_PORT + u16::from(slot), &JOIN))?;
+    }
+    for step in moves {
+        arrivals.push(step.to_arrival())?;
+    }
+    Ok(arrivals)
+}
+
+/// The moves in the order of the frame's journal.
+fn in_order_of(alloc: Global, out: &FrameOut, moves: &[Move]) -> Result<Vec<Move>, Fail> {
+    let mut ordered = Vec::new(alloc);
+    for entry in out.journal.as_slice() {
+        let step = moves.iter().find(|step| step.is_of(entry));
+        ordered.push(*step.ok_or("the entry's move")?)?;
+    }
+    Ok(ordered)
+}
+
+/// Runs one frame more on so many workers.
+pub fn play_on(
+    rt: &(impl AllocGlobal + Abort + Threads + Wait + Sync),
+    server: &mut Server,
+    arrivals: &[Arrival],
+    workers: u8,
+    out: &mut FrameOut,
+) -> Result<(), AllocError>
+    requires { AreWorkers workers }
+{
+    assert!(rt; server.frames() < MOST_FRAMES);
+    assert!(rt; arrivals.len() <= MOST_ARRIVALS as usize);
+    run_frame(rt, rt.alloc(), server, arrivals, workers, &NoGate, out)
+}
+
+/// Compares two entries.
+fn expect_same_entry(rt: &impl Abort, entry: &Entry, other: &Entry) {
+    assert_eq!(rt; entry.place, other.place);
+    assert_eq!(rt; (entry.slot, entry.seq), (other.slot, other.seq));
+    assert_eq!(rt; entry.reply.origin, other.reply.origin);
+    assert_eq!(rt; entry.reply.got.as_slice(), other.reply.got.as_slice());
+}
+
+/// Compares the journals of two frames.
+fn expect_same_entries(rt: &impl Abort, out: &FrameOut, other: &FrameOut) {
+    let (entries, others) = (out.journal.as_slice(), other.journal.as_slice());
+    assert_eq!(rt; entries.len(), others.len());
+    for (entry, other) in entries.iter().zip(others) {
+        expect_same_entry(rt, entry, other);
+    }
+}
+
+/// Compares the joined players and the snapshots of two frames.
+fn expect_same_replies(rt: &impl Abort, out: &FrameOut, other: &FrameOut) {
+    assert_eq!(rt; out.frame, other.frame);
+    assert_eq!(rt; out.received.joined(), other.received.joined());
+    assert_eq!(rt; out.slots.as_slice(), other.slots.as_slice());
+    let (replies, others) = (out.replies.as_slice(), other.replies.as_slice());
+    assert_eq!(rt; replies.len(), others.len());
+    for (reply, other) in replies.iter().zip(others) {
+        assert_eq!(rt; reply.as_slice(), other.as_slice());
+    }
+}
+
+/// A server, and one of the same map that plays again what the first has played.
+#[derive(Drop)]
+pub struct Twins {
+    server: Server,
+    again: Server,
+    out: FrameOut,
+    other: FrameOut,
+}
+
+impl Twins {
+    ghost use Rattle.move_phase.specs.Serving.{AreWorkers};
+
+    pub fn new(alloc: Global, server: Server, again: Server) -> Result<Twins, AllocError> {
+        Ok(Twins {
+            server,
+            again,
+            out: FrameOut::new(alloc)?,
+            other: FrameOut::new(alloc)?,
+        })
+    }
+
+    /// Runs a frame of so many joins and these moves on so many workers: each move has an entry. On the other server one
+    /// worker runs the frame whose moves arrive in the order of the journal: what both give out is the same.
+    pub fn play(
+        &mut self,
+        rt: &(impl AllocGlobal + Abort + Threads + Wait + Sync),
+        joins: u8,
+        moves: &[Move],
+        workers: u8,
+    ) -> Result<(), Fail>
+        requires { AreWorkers workers }
+    {
+        let arrivals = arrivals_of(rt.alloc(), joins, moves)?;
+        play_on(
+            rt,
+            &mut self.server,
+            arrivals.as_slice(),
+            workers,
+            &mut self.out,
+        )?;
+        self.play_again(rt, joins, moves)
+    }
+
+    /// Runs the frame on the other server, with these moves in the order of the journal, and compares the two.
+    fn play_again(
+        &mut self,
+        rt: &(impl AllocGlobal + Abort + Threads + Wait + Sync),
+        joins: u8,
+        moves: &[Move],
+    ) -> Result<(), Fail> {
+        let ordered = in_order_of(rt.alloc(), &self.out, moves)?;
+        assert_eq!(rt; ordered.len(), moves.len());
+        let arrivals = arrivals_of(rt.alloc(), joins, ordered.as_slice())?;
+        play_on(rt, &mut self.again, arrivals.as_slice(), 1, &mut self.other)?;
+        expect_same_entries(rt, &self.out, &self.other);
+        expect_same_replies(rt, &self.out, &self.other);
+        Ok(())
+    }
+}
