@@ -1,8 +1,11 @@
-ghost use Rattle.std.specs.Prelude.{◌≡◌, ◌≤◌, ◌⊎◌, ℕ, true, IfSome, IfOk, IsOkAnd, map, string_bytes};
+ghost use Rattle.std.specs.Prelude.{◌≡◌, ◌≤◌, ◌⊎◌, ℕ, true, IfSome, IfOk, OnErr, IsOkAnd, map, string_bytes};
 ghost use Rattle.std.specs.Io.KnownBytes.{Appends};
 ghost use Rattle.edge_io.specs.Counts.{HasRisen};
 ghost use Rattle.edge_io.specs.Writes.{AppendsPart};
+ghost use Rattle.demo_lines.specs.Bytes.{map_of};
 ghost use Rattle.demo_make.specs.GeneratedFrames.{generated_text};
+ghost use Rattle.out_text.specs.Journals.{dids};
+ghost use Rattle.out_text.specs.OneTaker.{HasOneTakerEach};
 ghost use Rattle.out_text.specs.Output.{HasLast, IsOutput, IsRefused, IsCut, IsSomeFrames};
 ghost use Rattle.arena_engine.specs.Making.{line_of_match};
 ghost use Rattle.arena_engine.specs.Output.{Writes, ReadsSome, ReadsToEnd, ReadsToRefusal};
@@ -12,14 +15,19 @@ ghost use Rattle.arena_cli.specs.Asked.{AsksToPlay, AsksToMake, AsksToMatch, Ask
 use crate::arguments::{NoArguments, words_of};
 use arena_engine::{Report, serve};
 use edge_io::{Sink, Source};
+use shared_moves::Gate;
 use std::alloc::{AllocError, Global};
+use std::sync::Wait;
+use std::thread::Threads;
 
 /// Serves what the arguments ask for.
-fn serve_arguments<S: Source, K: Sink>(
+fn serve_arguments<R: Threads + Wait + Sync, S: Source, K: Sink, G: Gate>(
+    rt: &R,
     alloc: Global,
     arguments: &[String],
     source: &mut S,
     sink: &mut K,
+    gate: &G,
 ) -> Result<Report, AllocError>
     ensures asked { IfOk result (λ report. AskForNothing (map string_bytes arguments.now) → report.status ≡ 2) }
     ensures refused { IfOk result (λ report. report.status ≡ 2 → AskForNothing (map string_bytes arguments.now)) }
@@ -38,6 +46,10 @@ fn serve_arguments<S: Source, K: Sink>(
     ensures write_fault { IfOk result (λ report. (n : ℕ) → AsksToPlay (map string_bytes arguments.now) n → report.status ≡ 4 → IfSome (S.left source.old) (λ bytes.
         Writes (K.taken sink.old) (K.taken sink.new) (IsCut n bytes (last_in report)))) }
     ensures write_cause { IfOk result (λ report. report.status ≡ 4 → HasRisen (K.faults sink.old) (K.faults sink.new)) }
+    ensures taken_once { IfOk result (λ report. (n : ℕ) → AsksToPlay (map string_bytes arguments.now) n
+        → (report.status ≡ 4 → ⊥) → IfSome (S.left source.old) (λ bytes.
+        Writes (K.taken sink.old) (K.taken sink.new) (λ text. HasOneTakerEach (map_of bytes) (dids text)))) }
+    ensures memory { OnErr result (sink.new ≡ sink.old) }
     ensures made { IfOk result (λ report. (seed players frames : ℕ)
         → AsksToMake (map string_bytes arguments.now) seed players frames → report.status ≡ 0
         → Appends (K.taken sink.old) (K.taken sink.new) (generated_text seed players frames)) }
@@ -52,16 +64,18 @@ fn serve_arguments<S: Source, K: Sink>(
         → AppendsPart (K.taken sink.old) (K.taken sink.new) (line_of_match seed players report.all)) }
 {
     let words = words_of(alloc, arguments)?;
-    Ok(serve(alloc, &words, source, sink))
+    Ok(serve(rt, alloc, &words, source, sink, gate))
 }
 
 /// Serves what the program's arguments ask for, and reports how that ended. Where the arguments can't be had, nothing is
 /// read or written: they ask for nothing where one isn't UTF-8.
-pub fn answer<S: Source, K: Sink>(
+pub fn answer<R: Threads + Wait + Sync, S: Source, K: Sink, G: Gate>(
+    rt: &R,
     alloc: Global,
     arguments: Result<Vec<String>, NoArguments>,
     source: &mut S,
     sink: &mut K,
+    gate: &G,
 ) -> Report
     ensures asked { IfOk arguments (λ all. AskForNothing (map string_bytes all.items)) → (result.status ≡ 2) ⊎ (result.status ≡ 5) }
     ensures refused { result.status ≡ 2 → IfOk arguments (λ all. AskForNothing (map string_bytes all.items)) }
@@ -80,6 +94,9 @@ pub fn answer<S: Source, K: Sink>(
     ensures write_fault { (n : ℕ) → IsOkAnd arguments (λ all. AsksToPlay (map string_bytes all.items) n) → result.status ≡ 4 → IfSome (S.left source.old) (λ bytes.
         Writes (K.taken sink.old) (K.taken sink.new) (IsCut n bytes (last_in result))) }
     ensures write_cause { result.status ≡ 4 → HasRisen (K.faults sink.old) (K.faults sink.new) }
+    ensures taken_once { (n : ℕ) → IsOkAnd arguments (λ all. AsksToPlay (map string_bytes all.items) n)
+        → (result.status ≡ 4 → ⊥) → IfSome (S.left source.old) (λ bytes.
+        Writes (K.taken sink.old) (K.taken sink.new) (λ text. HasOneTakerEach (map_of bytes) (dids text))) }
     ensures made { (seed players frames : ℕ)
         → IsOkAnd arguments (λ all. AsksToMake (map string_bytes all.items) seed players frames) → result.status ≡ 0
         → Appends (K.taken sink.old) (K.taken sink.new) (generated_text seed players frames) }
@@ -94,7 +111,7 @@ pub fn answer<S: Source, K: Sink>(
         → AppendsPart (K.taken sink.old) (K.taken sink.new) (line_of_match seed players result.all) }
 {
     match arguments {
-        Ok(all) => match serve_arguments(alloc, all.as_slice(), source, sink) {
+        Ok(all) => match serve_arguments(rt, alloc, all.as_slice(), source, sink, gate) {
             Ok(report) => report,
             Err(_) => Report::unserved(alloc, 5),
         },

@@ -11,9 +11,14 @@ use arena_engine::Report;
 use arguments::arguments_of;
 use edge_io::{StdSink, StdSource};
 use notice::Notice;
-use std::env;
+use shared_moves::NoGate;
+use std::alloc::Global;
+use std::env::Args;
 use std::io::{Stdin, Stdout};
 use std::process::ExitCode;
+use std::sync::Wait;
+use std::thread::Threads;
+use std::{env, io};
 
 mod answer;
 mod arguments;
@@ -22,15 +27,17 @@ mod notice;
 /// Serves what the program's arguments ask for, over standard input and standard output.
 ///
 /// They have no buffer of their own: `serve` reads in blocks, and writes a frame at a time.
-fn answer_streams(
-    rt: &HostRuntime,
+fn answer_streams<R: Threads + Wait + Sync>(
+    rt: &R,
+    alloc: Global,
+    arguments: io::Result<Args>,
     mut input: StdSource<Stdin>,
     mut output: StdSink<Stdout>,
 ) -> Report
     ensures { result.status ≤ 5 }
 {
-    let arguments = arguments_of(rt.alloc(), env::args(rt));
-    answer(rt.alloc(), arguments, &mut input, &mut output)
+    let arguments = arguments_of(alloc, arguments);
+    answer(rt, alloc, arguments, &mut input, &mut output, &NoGate)
 }
 
 /// The exit status of a report: its own status.
@@ -41,7 +48,13 @@ fn exit_of(report: &Report) -> ExitCode
 }
 
 fn main(rt: HostRuntime) -> ExitCode {
-    let report = answer_streams(&rt, StdSource::new(rt.stdin()), StdSink::new(rt.stdout()));
+    let report = answer_streams(
+        &rt,
+        rt.alloc(),
+        env::args(&rt),
+        StdSource::new(rt.stdin()),
+        StdSink::new(rt.stdout()),
+    );
     if report.status != 0 {
         // Where nobody reads standard error, the exit status is all there is.
         let _ = eprintln!(rt; "{}", Notice(&report));

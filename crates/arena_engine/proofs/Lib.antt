@@ -4,6 +4,7 @@ pub mod Words
 pub mod Closing
 pub mod Printed
 pub mod Continuing
+pub mod Taken
 pub mod Exits
 pub mod Playing
 mod Running

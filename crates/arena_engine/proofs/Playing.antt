@@ -65,19 +65,19 @@ same_server arena closed js server at =
     λ i. record { map = at.map i; state = at.state i; frames = count i }
 
 one_more : (workers : ℕ) (arena : MapView) (closed : List (List Arrival)) (js : List (List Entry)) (arrivals : List Arrival) (old new : ServerView) (j : List Entry) → AreRun workers arena closed js
-    → IsServerAt arena closed js old → RunsFrame old new arrivals j
+    → IsServerAt arena closed js old → RunsFrame workers old new arrivals j
     → OneMore workers arena closed js arrivals new j (lines_with old.map old.frames (received_in old.map old.frames old.state arrivals) j)
 one_more workers arena closed js arrivals old new j run at runs =
     let same = same_server arena closed js old at in
     let s = state_played arena 0 (opening arena) closed js in
     let count = length-right arena 0 (opening arena) closed js run.right in
     let right = subst (λ (t : ServerView). IsRightAfter t.map (received_in t.map t.frames t.state arrivals) j) same runs.right in
-    let order = subst (λ (t : ServerView). IsInOrder j (received_in t.map t.frames t.state arrivals).lists.moves) same runs.order in
+    let order = λ (one : workers ≡ 1). subst (λ (t : ServerView). IsInOrder j (received_in t.map t.frames t.state arrivals).lists.moves) same (runs.order one) in
     let next = runs.next ∙ ap (λ (t : ServerView). server_after t arrivals j) same in
     let lines : lines_with old.map old.frames (received_in old.map old.frames old.state arrivals) j ≡ lines_with arena (0 + length closed) (received_in arena (0 + length closed) s arrivals) j =
     ap (λ (t : ServerView). lines_with t.map t.frames (received_in t.map t.frames t.state arrivals) j) same in
     record {
-      run = record { right = right-push arena 0 (opening arena) closed arrivals js j run.right right; order = λ one. in_order-push arena 0 (opening arena) closed arrivals js j (run.order one) order };
+      run = record { right = right-push arena 0 (opening arena) closed arrivals js j run.right right; order = λ one. in_order-push arena 0 (opening arena) closed arrivals js j (run.order one) (order one) };
       at = record {
         map = ap (λ (t : ServerView). t.map) next;
         state = ap (λ (t : ServerView). t.state) next ∙ sym (state_played-push arena 0 (opening arena) closed arrivals js j count);
@@ -96,7 +96,7 @@ pub record Closed (workers : ℕ) (arena : MapView) (closed : List (List Arrival
   pub whole : lines_of arena closed js ++ lines ≡ lines_of arena (closed ++ closing opened) (js ++ more)
 
 closed_by : (workers : ℕ) (arena : MapView) (closed : List (List Arrival)) (js : List (List Entry)) (opened : Option (List Arrival)) (old new : ServerView) (j : List Entry) → AreRun workers arena closed js
-    → IsServerAt arena closed js old → ClosesFrame old new opened j → Closed workers arena closed js opened new j (closing_lines old opened j)
+    → IsServerAt arena closed js old → ClosesFrame workers old new opened j → Closed workers arena closed js opened new j (closing_lines old opened j)
 closed_by workers arena closed js None old new j run at is = record {
   more = [];
   run = subst (λ (fs : List (List Arrival)). AreRun workers arena fs (js ++ [])) (sym (append-nil closed)) (subst (AreRun workers arena closed) (sym (append-nil js)) run);
@@ -128,10 +128,10 @@ pub record Advanced (workers : ℕ) (arena : MapView) (f : Frames) (js : List (L
 
 module _ (workers : ℕ) (arena : MapView) (f : Frames) (js : List (List Entry)) (old new : GameView) (run : AreRun workers arena f.closed js) (at : IsServerAt arena f.closed js old.server)
     (same : old.opened ≡ f.opened) (last_is : old.last ≡ last_of js) where
-  closes : ClosesFrame old.server new.server old.opened (entries_in new.last) → Closed workers arena f.closed js f.opened new.server (entries_in new.last) (closing_lines old.server f.opened (entries_in new.last))
+  closes : ClosesFrame workers old.server new.server old.opened (entries_in new.last) → Closed workers arena f.closed js f.opened new.server (entries_in new.last) (closing_lines old.server f.opened (entries_in new.last))
   closes is =
       closed_by workers arena f.closed js f.opened old.server new.server (entries_in new.last) run at
-      (subst (λ (o : Option (List Arrival)). ClosesFrame old.server new.server o (entries_in new.last)) same is)
+      (subst (λ (o : Option (List Arrival)). ClosesFrame workers old.server new.server o (entries_in new.last)) same is)
 
   lines-same : closing_lines old.server old.opened (entries_in new.last) ≡ closing_lines old.server f.opened (entries_in new.last)
   lines-same = ap (λ o. closing_lines old.server o (entries_in new.last)) same
@@ -139,7 +139,7 @@ module _ (workers : ℕ) (arena : MapView) (f : Frames) (js : List (List Entry))
   last-same : last_after old.opened old.last (entries_in new.last) ≡ last_after f.opened old.last (entries_in new.last)
   last-same = ap (λ o. last_after o old.last (entries_in new.last)) same
 
-  pub advanced : (e : Event) → GoesOn old new e → Advanced workers arena f js e new (event_lines old new e)
+  pub advanced : (e : Event) → GoesOn workers old new e → Advanced workers arena f js e new (event_lines old new e)
   advanced Frame goes =
       let c = closes goes.closed in
       record {
@@ -174,7 +174,7 @@ module _ (workers : ℕ) (arena : MapView) (f : Frames) (js : List (List Entry))
       }
 
   -- the text of an event, after that of the frames before it
-  text-advanced : (e : Event) (goes : GoesOn old new e)
+  text-advanced : (e : Event) (goes : GoesOn workers old new e)
       → text_with arena f.closed js ++ text_of (event_lines old new e)
       ≡ text_of (lines_of arena (collect f e).closed (js ++ (advanced e goes).more) ++ last_lines e (collect f e).closed)
   text-advanced e goes = sym (text_of-append (lines_of arena f.closed js) (event_lines old new e)) ∙ ap text_of (advanced e goes).whole
@@ -184,7 +184,7 @@ module _ (workers : ℕ) (arena : MapView) (f : Frames) (js : List (List Entry))
 module _ (workers : ℕ) (bytes : List ℕ) (arena : MapView) (played : IsPlayed bytes arena) where
   module _ (before last : Option (List Entry)) (closed : List (List Arrival)) (js : List (List Entry)) (so_far : before ≡ last_of js) where
     cut_frame : (opened : Option (List Arrival)) (old new : ServerView) (j : List Entry) (count : ℕ) → last ≡ last_after opened before j → AreRun workers arena closed js
-        → IsServerAt arena closed js old → ClosesFrame old new opened j → GoesOnWith (closed ++ closing opened) (frames_of bytes)
+        → IsServerAt arena closed js old → ClosesFrame workers old new opened j → GoesOnWith (closed ++ closing opened) (frames_of bytes)
         → count < length (text_of (closing_lines old opened j)) → IsCut workers bytes last (text_with arena closed js ++ take count (text_of (closing_lines old opened j)))
     cut_frame None old new j count is run at same on short = absurd (omega arith)
     cut_frame (Some arrivals) old new j count is run at runs on short =
@@ -194,7 +194,7 @@ module _ (workers : ℕ) (bytes : List ℕ) (arena : MapView) (played : IsPlayed
         (inl (frame_cut workers bytes arena played closed arrivals js j (closing_lines old (Some arrivals) j) count (length-right arena 0 (opening arena) closed js run.right) on more.run more.lines_are short))
 
     cut_end : (opened : Option (List Arrival)) (old new : ServerView) (j : List Entry) (count : ℕ) → last ≡ last_after opened before j → AreRun workers arena closed js
-        → IsServerAt arena closed js old → ClosesFrame old new opened j → fault bytes ≡ None → frames_of bytes ≡ closed ++ closing opened
+        → IsServerAt arena closed js old → ClosesFrame workers old new opened j → fault bytes ≡ None → frames_of bytes ≡ closed ++ closing opened
         → count < length (text_of (closing_lines old opened j ++ EndLine new.frames ∷ []))
         → IsCut workers bytes last (text_with arena closed js ++ take count (text_of (closing_lines old opened j ++ EndLine new.frames ∷ [])))
     cut_end None old new j count is run at same accepted all short =
@@ -400,7 +400,7 @@ module _ (workers : ℕ) (arena : MapView) (r : Reading) (a b : Option (List ℕ
 
   -- ---- with the game after the event
 
-  module _ (new : GameView) (goes : GoesOn g new e) where
+  module _ (new : GameView) (goes : GoesOn workers g new e) where
     abbrev pub next : Advanced workers arena f p.journals e new (event_lines g new e)
     next = advanced workers arena f p.journals g new p.run p.at p.opened p.last_is e goes
 
@@ -417,10 +417,10 @@ module _ (workers : ℕ) (arena : MapView) (r : Reading) (a b : Option (List ℕ
         played : IsPlayed bytes arena
         played = is_played bytes rest so
 
-        by : (x : Event) → e ≡ x → GoesOn g new x → count < length (text_of (event_lines g new x)) → IsCut workers bytes new.last (text_with arena f.closed p.journals ++ take count (text_of (event_lines g new x)))
+        by : (x : Event) → e ≡ x → GoesOn workers g new x → count < length (text_of (event_lines g new x)) → IsCut workers bytes new.last (text_with arena f.closed p.journals ++ take count (text_of (event_lines g new x)))
         by Frame is goes_on short =
             let on = subst (λ (x : Event). GoesOnWith (collect f x).closed (frames_of bytes)) is (closed_go_on bytes rest so) in
-            let run = subst (λ (o : Option (List Arrival)). ClosesFrame g.server new.server o (entries_in new.last)) p.opened goes_on.closed in
+            let run = subst (λ (o : Option (List Arrival)). ClosesFrame workers g.server new.server o (entries_in new.last)) p.opened goes_on.closed in
             let last = goes_on.last_is ∙ ap (λ (o : Option (List Arrival)). last_after o g.last (entries_in new.last)) p.opened in
             let P : Option (List Arrival) → Type 0 = λ o. count < length (text_of (closing_lines g.server o (entries_in new.last))) in
             let Q : Option (List Arrival) → Type 0 = λ o. IsCut workers bytes new.last (text_with arena f.closed p.journals ++ take count (text_of (closing_lines g.server o (entries_in new.last)))) in
@@ -429,7 +429,7 @@ module _ (workers : ℕ) (arena : MapView) (r : Reading) (a b : Option (List ℕ
         by End is goes_on short =
             let ended : r.stage ≡ Ended = p.stage ∙ ap stage_after is in
             let so_end = subst (λ (x : Event). Continues r (p.events ++ x ∷ []) bytes rest) is so in
-            let run = subst (λ (o : Option (List Arrival)). ClosesFrame g.server new.server o (entries_in new.last)) p.opened goes_on.closed in
+            let run = subst (λ (o : Option (List Arrival)). ClosesFrame workers g.server new.server o (entries_in new.last)) p.opened goes_on.closed in
             let last = goes_on.last_is ∙ ap (λ (o : Option (List Arrival)). last_after o g.last (entries_in new.last)) p.opened in
             let P : Option (List Arrival) → Type 0 = λ o. count < length (text_of (closing_lines g.server o (entries_in new.last) ++ EndLine new.server.frames ∷ [])) in
             let Q : Option (List Arrival) → Type 0 = λ o. IsCut workers bytes new.last (text_with arena f.closed p.journals ++ take count (text_of (closing_lines g.server o (entries_in new.last) ++ EndLine new.server.frames ∷ []))) in

@@ -36,12 +36,12 @@ use Rattle.arena_engine.proofs.Playing.{Progress, not_over, is_ready, memory_on,
 
 -- how far the recording was played, by a reader whose map was given out; neither count of faults has changed, and what room the sink was sure to have is that
 -- which it has and the text so far
-pub record Runs (demo : DemoReaderView) (before ahead : Option (List ℕ)) (taken_before taken : Option (List ℕ)) (game : GameView) (event : Event)
+pub record Runs (workers : ℕ) (demo : DemoReaderView) (before ahead : Option (List ℕ)) (taken_before taken : Option (List ℕ)) (game : GameView) (event : Event)
     (reads_before reads writes_before writes room_before room : ℕ) : Type 0 where
   pub arena : MapView
   pub full : Reading
   pub given : demo.reading ≡ without_map full
-  pub progress : Progress 1 arena full before ahead taken_before taken game event
+  pub progress : Progress workers arena full before ahead taken_before taken game event
   pub no_stop : demo.stop ≡ None
   pub read_same : reads ≡ reads_before
   pub write_same : writes ≡ writes_before
@@ -79,8 +79,17 @@ no_memory_of (demo_stop.Refused line fault rule) P p = tt
 no_memory_of demo_stop.ReadFault P p = tt
 no_memory_of demo_stop.NoMemory P p = p
 
-pub first_no_memory : (d : DemoStop) (l t : Option (List ℕ)) (last : Option (List Entry)) → last ≡ None → OnMemory (stop_of d) (IfSome l (λ bytes. Writes t t (HasLast (IsSomeFrames 1 bytes) last)))
-first_no_memory d l t last none = no_memory_of d (IfSome l (λ bytes. Writes t t (HasLast (IsSomeFrames 1 bytes) last))) (memory_at_first 1 l t last none)
+-- it is a read fault, where P holds
+any_read_fault : (d : DemoStop) (P : Type 0) → P → OnReadFault (stop_of d) P
+any_read_fault (demo_stop.Refused line fault rule) P p = tt
+any_read_fault demo_stop.ReadFault P p = p
+any_read_fault demo_stop.NoMemory P p = tt
+
+pub first_front : (workers : ℕ) (d : DemoStop) (l t : Option (List ℕ)) (last : Option (List Entry)) → last ≡ None → OnReadFault (stop_of d) (IfSome l (λ bytes. Writes t t (HasLast (IsSomeFrames workers bytes) last)))
+first_front workers d l t last none = any_read_fault d (IfSome l (λ bytes. Writes t t (HasLast (IsSomeFrames workers bytes) last))) (memory_at_first workers l t last none)
+
+pub first_no_memory : (workers : ℕ) (d : DemoStop) (l t : Option (List ℕ)) (last : Option (List Entry)) → last ≡ None → OnMemory (stop_of d) (IfSome l (λ bytes. Writes t t (HasLast (IsSomeFrames workers bytes) last)))
+first_no_memory workers d l t last none = no_memory_of d (IfSome l (λ bytes. Writes t t (HasLast (IsSomeFrames workers bytes) last))) (memory_at_first workers l t last none)
 
 pub first_refused : (workers : ℕ) (demo : DemoReaderView) (d : DemoStop) (l t : Option (List ℕ)) (last : Option (List Entry)) → last ≡ None → demo ≡ fresh_reader
     → (IsOpen demo → reads_of.OnRefused d (λ why. IfSome (ahead demo.pending l) (EndsAt demo.reading why)))
@@ -103,13 +112,13 @@ pub first_cause : (demo : DemoReaderView) (d : DemoStop) (P : Type 0) → demo �
 first_cause demo d P is h =
     let Q : DemoReaderView → Type 0 = λ x. IsOpen x → reads_of.OnReadFault d P in read_fault_of d P P (λ p. p) (subst Q is h fresh_is_open)
 
-pub first_event : (demo : DemoReaderView) (r : Reading) (l b t : Option (List ℕ)) (e : Event) (arena : MapView) (g : GameView) → demo ≡ fresh_reader
+pub first_event : (workers : ℕ) (demo : DemoReaderView) (r : Reading) (l b t : Option (List ℕ)) (e : Event) (arena : MapView) (g : GameView) → demo ≡ fresh_reader
     → (IsOpen demo → Reads demo.reading r (ahead demo.pending l) b (e ∷ [])) → r.stage ≡ stage_after e → IsReading r → r.map ≡ Some arena → IsMap arena → g ≡ new_game arena
-    → Progress 1 arena r l b t t g e
-first_event demo r l b t e arena g is h stage holds has is_map sets =
+    → Progress workers arena r l b t t g e
+first_event workers demo r l b t e arena g is h stage holds has is_map sets =
     let P : DemoReaderView → Type 0 = λ x. IsOpen x → Reads x.reading r (ahead x.pending l) b (e ∷ []) in
     let Q : Option (List ℕ) → Type 0 = λ o. Reads start r o b (e ∷ []) in
-    begins 1 arena r l b t g e (subst Q (prepend_known-nil l) (subst P is h fresh_is_open)) stage holds.frames holds.arrivals has is_map sets
+    begins workers arena r l b t g e (subst Q (prepend_known-nil l) (subst P is h fresh_is_open)) stage holds.frames holds.arrivals has is_map sets
 
 -- the map is whole then
 pub map_is_given : (r : Reading) (e : Event) → r.stage ≡ stage_after e → is_map_whole r.stage ≡ true
@@ -157,9 +166,9 @@ end_is_end Frame h = cc
 end_is_end (From a) h = cc
 end_is_end End h = refl
 
-module _ (demo : DemoReaderView) (a b t0 t1 : Option (List ℕ)) (g : GameView) (e : Event) (m0 m1 n0 n1 k0 k1 : ℕ) (runs : Runs demo a b t0 t1 g e m0 m1 n0 n1 k0 k1) where
+module _ (workers : ℕ) (demo : DemoReaderView) (a b t0 t1 : Option (List ℕ)) (g : GameView) (e : Event) (m0 m1 n0 n1 k0 k1 : ℕ) (runs : Runs workers demo a b t0 t1 g e m0 m1 n0 n1 k0 k1) where
   pub game_is_ready : IsReady g
-  game_is_ready = is_ready 1 runs.arena runs.full a b t0 t1 g e runs.progress
+  game_is_ready = is_ready workers runs.arena runs.full a b t0 t1 g e runs.progress
 
   map_is_whole : is_map_whole runs.full.stage ≡ true
   map_is_whole = map_is_given runs.full e runs.progress.stage
@@ -168,14 +177,14 @@ module _ (demo : DemoReaderView) (a b t0 t1 : Option (List ℕ)) (g : GameView) 
   reader_is_open going = record { no_stop = runs.no_stop; not_over = ap (λ (r : Reading). is_over r.stage) runs.given ∙ ap is_over runs.progress.stage ∙ not_over e going }
 
   pub memory_failed : (s : Stop) (g2 : GameView) (t2 : Option (List ℕ)) (last : Option (List Entry)) → last ≡ g2.last → OnMemory s (g2.last ≡ g.last) → OnMemory s (t2 ≡ t1)
-      → OnMemory s (IfSome a (λ bytes. Writes t0 t2 (HasLast (IsSomeFrames 1 bytes) last)))
+      → OnMemory s (IfSome a (λ bytes. Writes t0 t2 (HasLast (IsSomeFrames workers bytes) last)))
   memory_failed (Refused line fault rule) g2 t2 last is kept same = tt
   memory_failed ReadFault g2 t2 last is kept same = tt
   memory_failed WriteFault g2 t2 last is kept same = tt
   memory_failed Memory g2 t2 last is kept same =
-      let P : Option (List ℕ) → Type 0 = λ t. IfSome a (λ bytes. Writes t0 t (HasLast (IsSomeFrames 1 bytes) last)) in
-      let Q : Option (List Entry) → Type 0 = λ l. IfSome a (λ bytes. Writes t0 t1 (HasLast (IsSomeFrames 1 bytes) l)) in
-      subst P (sym same) (subst Q (sym (is ∙ kept)) (memory_on 1 runs.arena runs.full a b t0 t1 g e runs.progress))
+      let P : Option (List ℕ) → Type 0 = λ t. IfSome a (λ bytes. Writes t0 t (HasLast (IsSomeFrames workers bytes) last)) in
+      let Q : Option (List Entry) → Type 0 = λ l. IfSome a (λ bytes. Writes t0 t1 (HasLast (IsSomeFrames workers bytes) l)) in
+      subst P (sym same) (subst Q (sym (is ∙ kept)) (memory_on workers runs.arena runs.full a b t0 t1 g e runs.progress))
 
   pub write_cause : (s : Stop) (n2 : ℕ) → OnWriteFault s (HasRisen n1 n2) → OnWriteFault s (HasRisen n0 n2)
   write_cause s n2 risen = on_write_fault s (HasRisen n1 n2) (HasRisen n0 n2) (λ h. subst (λ n. HasRisen n n2) runs.write_same h) risen
@@ -183,7 +192,7 @@ module _ (demo : DemoReaderView) (a b t0 t1 : Option (List ℕ)) (g : GameView) 
   pub all_read : {S : Type 0} (last : S → ℕ) (ended : S → Bool) (sure : S → Type 0) (s0 s1 : S) (pending : List ℕ) (l : Option (List ℕ)) → is_end e ≡ true → b ≡ ahead pending l
       → Unread last ended sure a b s0 s1 pending e → ReadsToEnd s0 s1 (last s1) (ended s1 ≡ ended s0) (ended s1 ≡ true) a l
   all_read last ended sure s0 s1 pending l is_last is unread =
-      whole_on 1 runs.arena runs.full a b t0 t1 g e runs.progress s0 s1 (last s1) (ended s1 ≡ ended s0) (ended s1 ≡ true) pending l (end_is_end e is_last) is (by_end unread.needed)
+      whole_on workers runs.arena runs.full a b t0 t1 g e runs.progress s0 s1 (last s1) (ended s1 ≡ ended s0) (ended s1 ≡ true) pending l (end_is_end e is_last) is (by_end unread.needed)
     where
       by_end : {P Q R : Type 0} → P ⊎ ((e ≡ End) × Q × R) → P ⊎ (Q × R)
       by_end (inl h) = inl h
@@ -208,40 +217,40 @@ module _ (demo : DemoReaderView) (a b t0 t1 : Option (List ℕ)) (g : GameView) 
   next_cause d m2 going h =
       read_fault_of d (HasRisen m1 m2) (HasRisen m0 m2) (λ risen. subst (λ m. HasRisen m m2) runs.read_same risen) (h (reader_is_open going))
 
-  pub write_failed : (s : Stop) (g2 : GameView) (t2 : Option (List ℕ)) (last : Option (List Entry)) → last ≡ g2.last → OnWriteFault s (GoesOn g g2 e)
-      → OnWriteFault s (AppendsPart t1 t2 (text_of (event_lines g g2 e))) → OnWriteFault s (IfSome a (λ bytes. Writes t0 t2 (IsCut 1 bytes last)))
+  pub write_failed : (s : Stop) (g2 : GameView) (t2 : Option (List ℕ)) (last : Option (List Entry)) → last ≡ g2.last → OnWriteFault s (GoesOn workers g g2 e)
+      → OnWriteFault s (AppendsPart t1 t2 (text_of (event_lines g g2 e))) → OnWriteFault s (IfSome a (λ bytes. Writes t0 t2 (IsCut workers bytes last)))
   write_failed (Refused line fault rule) g2 t2 last is goes failed = tt
   write_failed ReadFault g2 t2 last is goes failed = tt
   write_failed WriteFault g2 t2 last is goes failed =
-      let P : Option (List Entry) → Type 0 = λ l. IfSome a (λ bytes. Writes t0 t2 (IsCut 1 bytes l)) in
-      subst P (sym is) (cut_on 1 runs.arena runs.full a b t0 t1 g e runs.progress g2 goes t2 failed)
+      let P : Option (List Entry) → Type 0 = λ l. IfSome a (λ bytes. Writes t0 t2 (IsCut workers bytes l)) in
+      subst P (sym is) (cut_on workers runs.arena runs.full a b t0 t1 g e runs.progress g2 goes t2 failed)
   write_failed Memory g2 t2 last is goes failed = tt
 
   -- where the sink has room for every right output, this text fits
-  pub not_cut : (s : Stop) (g2 : GameView) → OnWriteFault s (GoesOn g g2 e) → (length (text_of (event_lines g g2 e)) ≤ k1 → OnWriteFault s ⊥) → IsSomeAnd a (λ bytes. HasRoom 1 bytes k0) → OnWriteFault s ⊥
+  pub not_cut : (s : Stop) (g2 : GameView) → OnWriteFault s (GoesOn workers g g2 e) → (length (text_of (event_lines g g2 e)) ≤ k1 → OnWriteFault s ⊥) → IsSomeAnd a (λ bytes. HasRoom workers bytes k0) → OnWriteFault s ⊥
   not_cut (Refused line fault rule) g2 goes sure roomy = tt
   not_cut ReadFault g2 goes sure roomy = tt
-  not_cut WriteFault g2 goes sure roomy = sure (fits_on 1 runs.arena runs.full a b t0 t1 g e runs.progress g2 goes k0 k1 roomy runs.roomy)
+  not_cut WriteFault g2 goes sure roomy = sure (fits_on workers runs.arena runs.full a b t0 t1 g e runs.progress g2 goes k0 k1 roomy runs.roomy)
   not_cut Memory g2 goes sure roomy = tt
 
   -- ---- the event was played
 
-  module _ (g2 : GameView) (t2 : Option (List ℕ)) (goes : GoesOn g g2 e) (written : Appends t1 t2 (text_of (event_lines g g2 e))) where
+  module _ (g2 : GameView) (t2 : Option (List ℕ)) (goes : GoesOn workers g g2 e) (written : Appends t1 t2 (text_of (event_lines g g2 e))) where
     module _ (last : Option (List Entry)) (ends : last ≡ g2.last) where
       with_last : (P : Option (List Entry) → Type 0) → P g2.last → P last
       with_last P p = subst P (sym ends) p
 
-      pub all_done : is_end e ≡ true → IfSome a (λ bytes. Writes t0 t2 (HasLast (IsOutput 1 bytes) last))
+      pub all_done : is_end e ≡ true → IfSome a (λ bytes. Writes t0 t2 (HasLast (IsOutput workers bytes) last))
       all_done is_last =
-          with_last (λ l. IfSome a (λ bytes. Writes t0 t2 (HasLast (IsOutput 1 bytes) l))) (done_on 1 runs.arena runs.full a b t0 t1 g e runs.progress g2 goes t2 (end_is_end e is_last) written)
+          with_last (λ l. IfSome a (λ bytes. Writes t0 t2 (HasLast (IsOutput workers bytes) l))) (done_on workers runs.arena runs.full a b t0 t1 g e runs.progress g2 goes t2 (end_is_end e is_last) written)
 
       pub next_refused : (d : DemoStop) → is_end e ≡ false → (IsOpen demo → reads_of.OnRefused d (λ why. IfSome b (EndsAt demo.reading why)))
-          → OnRefused (stop_of d) (λ why. IfSome a (λ bytes. Writes t0 t2 (HasLast (IsRefused 1 bytes why) last)))
+          → OnRefused (stop_of d) (λ why. IfSome a (λ bytes. Writes t0 t2 (HasLast (IsRefused workers bytes why) last)))
       next_refused d going h =
           let R : Reading → Refusal → Type 0 = λ r why. IfSome b (EndsAt r why) in
-          with_last (λ l. OnRefused (stop_of d) (λ why. IfSome a (λ bytes. Writes t0 t2 (HasLast (IsRefused 1 bytes why) l))))
-          (refused_of d (R demo.reading) (λ why. IfSome a (λ bytes. Writes t0 t2 (HasLast (IsRefused 1 bytes why) g2.last)))
-          (λ why at_end. refused_on 1 runs.arena runs.full a b t0 t2 (runs.progress.events ++ e ∷ []) _ _ why (played_on 1 runs.arena runs.full a b t0 t1 g e runs.progress g2 goes t2 going written)
+          with_last (λ l. OnRefused (stop_of d) (λ why. IfSome a (λ bytes. Writes t0 t2 (HasLast (IsRefused workers bytes why) l))))
+          (refused_of d (R demo.reading) (λ why. IfSome a (λ bytes. Writes t0 t2 (HasLast (IsRefused workers bytes why) g2.last)))
+          (λ why at_end. refused_on workers runs.arena runs.full a b t0 t2 (runs.progress.events ++ e ∷ []) _ _ why (played_on workers runs.arena runs.full a b t0 t1 g e runs.progress g2 goes t2 going written)
           (ends_given why b (subst (λ (r : Reading). R r why) runs.given at_end)))
           (h (reader_is_open going)))
         where
@@ -250,30 +259,36 @@ module _ (demo : DemoReaderView) (a b t0 t1 : Option (List ℕ)) (g : GameView) 
           ends_given why (Some bytes) at_end = EndsAt-given runs.full map_is_whole why bytes at_end
 
       pub next_fault : (d : DemoStop) (l : Option (List ℕ)) → is_end e ≡ false → (IsOpen demo → reads_of.OnReadFault d (ReadsFront demo.reading b l []))
-          → OnReadFault (stop_of d) (ReadsSome 1 a l t0 t2 last)
+          → OnReadFault (stop_of d) (ReadsSome workers a l t0 t2 last)
       next_fault d l going h =
           let R : Reading → Type 0 = λ r. ReadsFront r b l [] in
-          with_last (λ j. OnReadFault (stop_of d) (ReadsSome 1 a l t0 t2 j))
-          (read_fault_of d (R demo.reading) (ReadsSome 1 a l t0 t2 g2.last)
-          (λ reads. fault_on 1 runs.arena runs.full a b t0 t2 (runs.progress.events ++ e ∷ []) _ _ l (played_on 1 runs.arena runs.full a b t0 t1 g e runs.progress g2 goes t2 going written)
+          with_last (λ j. OnReadFault (stop_of d) (ReadsSome workers a l t0 t2 j))
+          (read_fault_of d (R demo.reading) (ReadsSome workers a l t0 t2 g2.last)
+          (λ reads. fault_on workers runs.arena runs.full a b t0 t2 (runs.progress.events ++ e ∷ []) _ _ l (played_on workers runs.arena runs.full a b t0 t1 g e runs.progress g2 goes t2 going written)
           (ReadsFront-given runs.full map_is_whole b l [] (subst R runs.given reads)))
           (h (reader_is_open going)))
 
-      pub next_no_memory : (d : DemoStop) → is_end e ≡ false → OnMemory (stop_of d) (IfSome a (λ bytes. Writes t0 t2 (HasLast (IsSomeFrames 1 bytes) last)))
-      next_no_memory d going =
-          with_last (λ l. OnMemory (stop_of d) (IfSome a (λ bytes. Writes t0 t2 (HasLast (IsSomeFrames 1 bytes) l))))
-          (no_memory_of d (IfSome a (λ bytes. Writes t0 t2 (HasLast (IsSomeFrames 1 bytes) g2.last)))
-          (exits.memory_on 1 runs.arena runs.full a b t0 t2 (runs.progress.events ++ e ∷ []) _ _ (played_on 1 runs.arena runs.full a b t0 t1 g e runs.progress g2 goes t2 going written)))
+      -- the text is that of the frames before
+      front_on : is_end e ≡ false → IfSome a (λ bytes. Writes t0 t2 (HasLast (IsSomeFrames workers bytes) last))
+      front_on going =
+          with_last (λ l. IfSome a (λ bytes. Writes t0 t2 (HasLast (IsSomeFrames workers bytes) l)))
+          (exits.memory_on workers runs.arena runs.full a b t0 t2 (runs.progress.events ++ e ∷ []) _ _ (played_on workers runs.arena runs.full a b t0 t1 g e runs.progress g2 goes t2 going written))
+
+      pub next_front : (d : DemoStop) → is_end e ≡ false → OnReadFault (stop_of d) (IfSome a (λ bytes. Writes t0 t2 (HasLast (IsSomeFrames workers bytes) last)))
+      next_front d going = any_read_fault d (IfSome a (λ bytes. Writes t0 t2 (HasLast (IsSomeFrames workers bytes) last))) (front_on going)
+
+      pub next_no_memory : (d : DemoStop) → is_end e ≡ false → OnMemory (stop_of d) (IfSome a (λ bytes. Writes t0 t2 (HasLast (IsSomeFrames workers bytes) last)))
+      next_no_memory d going = no_memory_of d (IfSome a (λ bytes. Writes t0 t2 (HasLast (IsSomeFrames workers bytes) last))) (front_on going)
 
     pub runs_on : (demo' : DemoReaderView) (b' : Option (List ℕ)) (e' : Event) (m2 n2 k2 : ℕ) → is_end e ≡ false
         → (IsOpen demo → Reads demo.reading demo'.reading b b' (e' ∷ [])) → demo'.reading.stage ≡ stage_after e' → IsReading demo'.reading → demo'.stop ≡ None → m2 ≡ m1 → n2 ≡ n1
-        → k1 ≤ k2 + length (text_of (event_lines g g2 e)) → Runs demo' a b' t0 t2 g2 e' m0 m2 n0 n2 k0 k2
+        → k1 ≤ k2 + length (text_of (event_lines g g2 e)) → Runs workers demo' a b' t0 t2 g2 e' m0 m2 n0 n2 k0 k2
     runs_on demo' b' e' m2 n2 k2 going reads stage holds no_stop read_on write_on room_on =
-        let so_far = text_so_far 1 runs.arena runs.full a b t0 t1 g e runs.progress g2 goes in
+        let so_far = text_so_far workers runs.arena runs.full a b t0 t1 g e runs.progress g2 goes in
         let left = runs.roomy in
         let here : Reads (without_map runs.full) demo'.reading b b' (e' ∷ []) =
         let R : Reading → Type 0 = λ r. Reads r demo'.reading b b' (e' ∷ []) in subst R runs.given (reads (reader_is_open going)) in
-        let next = goes_on 1 runs.arena runs.full a b t0 t1 g e runs.progress g2 goes (having_map runs.full.map demo'.reading) b' t2 e' going written
+        let next = goes_on workers runs.arena runs.full a b t0 t1 g e runs.progress g2 goes (having_map runs.full.map demo'.reading) b' t2 e' going written
         (Reads-given runs.full map_is_whole demo'.reading b b' (e' ∷ []) here) stage holds.frames holds.arrivals in
         let text = ap length next.text ∙ length-append so_far (text_of (event_lines g g2 e)) in
         record {
@@ -316,11 +331,11 @@ module _ {S : Type 0} (last : S → ℕ) (ended : S → Bool) (sure : S → Type
       record { needed = subst Q (prepend_known-nil l) (subst P is needed fresh_is_open); keeps = keeps }
 
   -- the first event was read, and then the map was given out
-  pub runs_first : (demo' taken : DemoReaderView) (arena : MapView) (a l t : Option (List ℕ)) (g : GameView) (e : Event) (m0 m1 n k : ℕ) (s0 s1 : S) → taken ≡ map_taken demo'
-      → Progress 1 arena demo'.reading a (ahead demo'.pending l) t t g e → demo'.stop ≡ None → m1 ≡ m0 → Unread last ended sure a (ahead demo'.pending l) s0 s1 demo'.pending e
-      → Runs taken a (ahead taken.pending l) t t g e m0 m1 n n k k × Unread last ended sure a (ahead taken.pending l) s0 s1 taken.pending e
-  runs_first demo' taken arena a l t g e m0 m1 n k s0 s1 is progress no_stop same unread =
-      let P : DemoReaderView → Type 0 = λ d. Runs d a (ahead d.pending l) t t g e m0 m1 n n k k × Unread last ended sure a (ahead d.pending l) s0 s1 d.pending e in
+  pub runs_first : (workers : ℕ) (demo' taken : DemoReaderView) (arena : MapView) (a l t : Option (List ℕ)) (g : GameView) (e : Event) (m0 m1 n k : ℕ) (s0 s1 : S) → taken ≡ map_taken demo'
+      → Progress workers arena demo'.reading a (ahead demo'.pending l) t t g e → demo'.stop ≡ None → m1 ≡ m0 → Unread last ended sure a (ahead demo'.pending l) s0 s1 demo'.pending e
+      → Runs workers taken a (ahead taken.pending l) t t g e m0 m1 n n k k × Unread last ended sure a (ahead taken.pending l) s0 s1 taken.pending e
+  runs_first workers demo' taken arena a l t g e m0 m1 n k s0 s1 is progress no_stop same unread =
+      let P : DemoReaderView → Type 0 = λ d. Runs workers d a (ahead d.pending l) t t g e m0 m1 n n k k × Unread last ended sure a (ahead d.pending l) s0 s1 d.pending e in
       subst P (sym is) (record { arena = arena; full = demo'.reading; given = refl; progress = progress; no_stop = no_stop; read_same = same; write_same = refl; roomy = omega arith }, unread)
 
   -- the recording was refused before it gave an event

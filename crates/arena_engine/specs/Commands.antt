@@ -1,6 +1,7 @@
 -- The commands that words ask for.
 use Rattle.std.specs.Prelude.{◌≡◌, ℕ, ◌<◌, ◌^◌, List, [], ◌∷◌, map, codes, decimal}
 use Rattle.std.specs.Borrow.{Bor}
+use Rattle.move_phase.specs.Serving.{AreWorkers}
 use Rattle.demo_make.specs.GeneratedFrames.{IsInRange}
 use Rattle.match_play.specs.Matches.{IsMatch}
 use Rattle.arena_engine.specs.declared.command.Command.{Command}
@@ -17,10 +18,6 @@ words_of (Make seed players frames) =
     codes "make" ∷ decimal seed ∷ decimal players ∷ decimal frames ∷ []
 words_of (Match seed players frames workers) =
     codes "match" ∷ decimal seed ∷ decimal players ∷ decimal frames ∷ decimal workers ∷ []
-
--- how many workers there may be: one, until moves run on more
-abbrev pub AreWorkers : ℕ → Type 0
-AreWorkers workers = workers ≡ 1
 
 -- a seed of 64 bits
 abbrev pub IsSeed : ℕ → Type 0

@@ -1,5 +1,5 @@
 -- The server over the events of a recording: what an event closes, and how the game goes on.
-use Rattle.std.specs.Prelude.{◌≡◌, ◌<◌, ◌≤◌, Bool, true, false, List, [], ◌∷◌, ◌++◌, length, Option, Some, None, option_map, IfSome}
+use Rattle.std.specs.Prelude.{◌≡◌, ℕ, ◌<◌, ◌≤◌, Bool, true, false, List, [], ◌∷◌, ◌++◌, length, Option, Some, None, option_map, IfSome}
 use Rattle.entity_recs.specs.declared.effect.Entry.{Entry}
 use Rattle.move_journal.specs.Merges.{IsInOrder}
 use Rattle.arena_map.specs.Maps.{MapView}
@@ -24,16 +24,16 @@ pub record GameView : Type 0 where
 abbrev pub new_game : MapView → GameView
 new_game map = record { server = new_server map; opened = None; last = None; lines = [] }
 
--- a frame with these packets was run: its journal is right, with the moves in the order of arrival
-pub record RunsFrame (old new : ServerView) (arrivals : List Arrival) (journal : List Entry) : Type 0 where
+-- a frame with these packets was run: its journal is right, and with one worker has the moves in the order of arrival
+pub record RunsFrame (workers : ℕ) (old new : ServerView) (arrivals : List Arrival) (journal : List Entry) : Type 0 where
   pub right : IsRightAfter old.map (received_in old.map old.frames old.state arrivals) journal
-  pub order : IsInOrder journal (received_in old.map old.frames old.state arrivals).lists.moves
+  pub order : workers ≡ 1 → IsInOrder journal (received_in old.map old.frames old.state arrivals).lists.moves
   pub next : new ≡ server_after old arrivals journal
 
 -- the frame that was open was run; where none was, the server is as it was
-abbrev pub ClosesFrame : ServerView → ServerView → Option (List Arrival) → List Entry → Type 0
-ClosesFrame old new None journal = new ≡ old
-ClosesFrame old new (Some arrivals) journal = RunsFrame old new arrivals journal
+abbrev pub ClosesFrame : ℕ → ServerView → ServerView → Option (List Arrival) → List Entry → Type 0
+ClosesFrame workers old new None journal = new ≡ old
+ClosesFrame workers old new (Some arrivals) journal = RunsFrame workers old new arrivals journal
 
 -- the lines of the frame that was open, with this journal
 abbrev pub closing_lines : ServerView → Option (List Arrival) → List Entry → List OutLine
@@ -47,8 +47,8 @@ last_after None before journal = before
 last_after (Some arrivals) before journal = Some journal
 
 -- the game after an event
-pub record Goes (old new : GameView) (opened : Option (List Arrival)) : Type 0 where
-  pub closed : ClosesFrame old.server new.server old.opened (entries_in new.last)
+pub record Goes (workers : ℕ) (old new : GameView) (opened : Option (List Arrival)) : Type 0 where
+  pub closed : ClosesFrame workers old.server new.server old.opened (entries_in new.last)
   pub last_is : new.last ≡ last_after old.opened old.last (entries_in new.last)
   pub opened_is : new.opened ≡ opened
 
@@ -59,10 +59,10 @@ pub record Takes (old new : GameView) (a : Arrival) : Type 0 where
   pub opened_is : new.opened ≡ option_map (λ arrivals. arrivals ++ a ∷ []) old.opened
 
 -- how an event leaves the game
-abbrev pub GoesOn : GameView → GameView → Event → Type 0
-GoesOn old new Frame = Goes old new (Some [])
-GoesOn old new (From a) = Takes old new a
-GoesOn old new End = Goes old new None
+abbrev pub GoesOn : ℕ → GameView → GameView → Event → Type 0
+GoesOn workers old new Frame = Goes workers old new (Some [])
+GoesOn workers old new (From a) = Takes old new a
+GoesOn workers old new End = Goes workers old new None
 
 -- the lines that an event closes: those of the frame that was open, and at the end the last line
 abbrev pub event_lines : GameView → GameView → Event → List OutLine

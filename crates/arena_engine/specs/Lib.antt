@@ -12,11 +12,13 @@ pub use Rattle.plain_server.specs.RecordsById
 pub use Rattle.plain_server.specs.Frames
 pub use Rattle.plain_server.specs.Replies
 pub use Rattle.frame_phases.specs.Servers
+pub use Rattle.move_phase.specs.Serving as ServingMoves
 pub use Rattle.out_text.specs.OutLines
 pub use Rattle.out_text.specs.FrameLines
 pub use Rattle.out_text.specs.Journals
 pub use Rattle.out_text.specs.Collecting
 pub use Rattle.out_text.specs.Output as Outputs
+pub use Rattle.out_text.specs.OneTaker
 pub use Rattle.demo_make.specs.GeneratedMap
 pub use Rattle.demo_make.specs.GeneratedFrames
 pub use Rattle.match_play.specs.Matches

@@ -16,11 +16,11 @@ pub record IsBare (r : Report) : Type 0 where
   pub rule : r.rule ≡ 0
   pub last : r.last ≡ None
 
--- whatever the status, each frame that was run has its journal, which is right and has the moves in the order of
--- arrival; all frames were run, unless memory was refused
-pub record ArePlayed (seed players frames status : ℕ) (all : List JournalView) : Type 0 where
+-- whatever the status, each frame that was run has its journal, which is right and with one worker has the moves in the
+-- order of arrival; all frames were run, unless memory was refused
+pub record ArePlayed (seed players frames workers status : ℕ) (all : List JournalView) : Type 0 where
   pub right : AreRightSoFar seed players (entries_of all)
-  pub order : AreInOrderSoFar seed players (entries_of all)
+  pub order : workers ≡ 1 → AreInOrderSoFar seed players (entries_of all)
   pub few : length all ≤ frames
   pub whole : (status ≡ 5 → ⊥) → length all ≡ frames
 

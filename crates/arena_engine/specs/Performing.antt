@@ -1,6 +1,5 @@
 -- What is said of one command, where it is that one.
-use Rattle.std.specs.Prelude.{◌≡◌, ℕ, ⊤, List, [], Option, Some, None}
-use Rattle.move_journal.specs.Logs.{JournalView}
+use Rattle.std.specs.Prelude.{ℕ, ⊤, Option, Some, None}
 use Rattle.arena_engine.specs.declared.command.Command.{Command}
 use Rattle.arena_engine.specs.declared.command.Command.TheVariants.{Play, Make, Match}
 
@@ -18,12 +17,12 @@ WhenMake (Some (Play workers)) P = ⊤
 WhenMake (Some (Make seed players frames)) P = P seed players frames
 WhenMake (Some (Match seed players frames workers)) P = ⊤
 
--- P of the seed, the players and the frames, where the command is `match`
-abbrev pub WhenMatch : Option Command → (ℕ → ℕ → ℕ → Type 0) → Type 0
+-- P of the seed, and of how many players, frames and workers, where the command is `match`
+abbrev pub WhenMatch : Option Command → (ℕ → ℕ → ℕ → ℕ → Type 0) → Type 0
 WhenMatch None P = ⊤
 WhenMatch (Some (Play workers)) P = ⊤
 WhenMatch (Some (Make seed players frames)) P = ⊤
-WhenMatch (Some (Match seed players frames workers)) P = P seed players frames
+WhenMatch (Some (Match seed players frames workers)) P = P seed players frames workers
 
 -- only `match` keeps journals
 abbrev pub ButForMatch : Option Command → Type 0 → Type 0

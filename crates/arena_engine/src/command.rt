@@ -6,8 +6,8 @@ use crate::numbers::{number, number_up_to};
 use frame_phases::MOST_FRAMES;
 use match_play::MOST_MATCH_FRAMES;
 
-/// The most workers. Moves don't run on more yet.
-const MOST_WORKERS: u32 = 1;
+/// The most workers.
+const MOST_WORKERS: u32 = 16;
 
 /// The most players of a recording that is made.
 const MOST_PLAYERS: u32 = 64;
@@ -17,7 +17,7 @@ const MOST_PLAYERS: u32 = 64;
 pub enum Command {
     /// Plays a recording from the source.
     Play {
-        /// How many workers run its moves.
+        /// How many workers run its moves, 1 to 16.
         workers: u8,
     },
     /// Writes the recording of a seed.
@@ -37,7 +37,7 @@ pub enum Command {
         players: u8,
         /// How many frames it has, 1 to 2,000.
         frames: u32,
-        /// How many workers run its moves.
+        /// How many workers run its moves, 1 to 16.
         workers: u8,
     },
 }

@@ -8,8 +8,11 @@ use edge_io::{Failed, Sink};
 use frame_phases::Server;
 use move_journal::Journal;
 use out_text::Printer;
+use shared_moves::Gate;
 use std::alloc::{AllocError, Global};
 use std::marker::Model;
+use std::sync::Wait;
+use std::thread::Threads;
 
 /// The server, what its last frame gave out, the packets of the frame that is open, and what prints.
 #[derive(Drop)]
@@ -43,9 +46,10 @@ impl Game {
     ghost use Rattle.edge_io.specs.Counts.{HasRisen};
     ghost use Rattle.edge_io.specs.Writes.{AppendsPart};
     ghost use Rattle.arena_map.specs.Maps.{IsMap};
+    ghost use Rattle.move_phase.specs.Serving.{AreWorkers};
     ghost use Rattle.out_text.specs.OutLines.{text_of};
     ghost use Rattle.arena_engine.specs.LastFrames.{entries_of, entries_in, lines_if};
-    ghost use Rattle.arena_engine.specs.Games.{new_game, event_lines, closing_lines, ClosesFrame, last_after, GoesOn, IsReady};
+    ghost use Rattle.arena_engine.specs.Games.{new_game, event_lines, closing_lines, ClosesFrame, last_after, Takes, GoesOn, IsReady};
     ghost use Rattle.arena_engine.specs.Dues.{due_lines};
     ghost use Rattle.arena_engine.specs.Stops.{OnWriteFault, OnMemory, IsGameStop};
 
@@ -63,13 +67,20 @@ impl Game {
         })
     }
 
-    /// Runs the frame that is open. The answer says whether one was, so that its lines are to be printed.
-    fn close(&mut self, alloc: Global) -> Result<bool, AllocError>
-        requires { IsReady self.old }
+    /// Runs the frame that is open on these workers. The answer says whether one was, so that its lines are to be printed.
+    fn close<R: Threads + Wait + Sync, G: Gate>(
+        &mut self,
+        rt: &R,
+        alloc: Global,
+        workers: u8,
+        gate: &G,
+    ) -> Result<bool, AllocError>
+        requires ready { IsReady self.old }
+        requires workers { AreWorkers workers }
         ensures lines { IfOk result (λ ran. lines_if ran self.new.lines
             ≡ closing_lines self.old.server self.old.opened (entries_in self.new.last)) }
         ensures closed { OnOk result
-            (ClosesFrame self.old.server self.new.server self.old.opened (entries_in self.new.last)) }
+            (ClosesFrame workers self.old.server self.new.server self.old.opened (entries_in self.new.last)) }
         ensures last { OnOk result
             (self.new.last ≡ last_after self.old.opened self.old.last (entries_in self.new.last)) }
         ensures opened { OnOk result (self.new.opened ≡ None) }
@@ -78,20 +89,33 @@ impl Game {
         if !self.is_open {
             return Ok(false);
         }
-        self.last
-            .run(alloc, &mut self.server, self.arrivals.as_slice())?;
+        self.last.run(
+            rt,
+            alloc,
+            &mut self.server,
+            self.arrivals.as_slice(),
+            workers,
+            gate,
+        )?;
         self.is_open = false;
         Ok(true)
     }
 
     /// Runs the frame that is open, and opens another.
-    fn open(&mut self, alloc: Global) -> Result<Due, AllocError>
-        requires { IsReady self.old }
+    fn open<R: Threads + Wait + Sync, G: Gate>(
+        &mut self,
+        rt: &R,
+        alloc: Global,
+        workers: u8,
+        gate: &G,
+    ) -> Result<Due, AllocError>
+        requires ready { IsReady self.old }
+        requires workers { AreWorkers workers }
         ensures lines { IfOk result (λ due. due_lines due self.new ≡ event_lines self.old self.new Event.Frame) }
-        ensures next { OnOk result (GoesOn self.old self.new Event.Frame) }
+        ensures next { OnOk result (GoesOn workers self.old self.new Event.Frame) }
         ensures kept { OnErr result (self.new.last ≡ self.old.last) }
     {
-        let frame = self.close(alloc)?;
+        let frame = self.close(rt, alloc, workers, gate)?;
         self.arrivals.clear();
         self.is_open = true;
         Ok(Due { frame, end: false })
@@ -100,7 +124,7 @@ impl Game {
     /// Keeps a packet of the frame that is open. It closes nothing.
     fn push(&mut self, arrival: Arrival) -> Result<Due, AllocError>
         ensures lines { IfOk result (λ due. due_lines due self.new ≡ []) }
-        ensures next { OnOk result (GoesOn self.old self.new (Event.From arrival)) }
+        ensures next { OnOk result (Takes self.old self.new arrival) }
         ensures kept { OnErr result (self.new.last ≡ self.old.last) }
     {
         if self.is_open {
@@ -113,27 +137,42 @@ impl Game {
     }
 
     /// Runs the frame that is open, at the end of the recording.
-    fn finish(&mut self, alloc: Global) -> Result<Due, AllocError>
-        requires { IsReady self.old }
+    fn finish<R: Threads + Wait + Sync, G: Gate>(
+        &mut self,
+        rt: &R,
+        alloc: Global,
+        workers: u8,
+        gate: &G,
+    ) -> Result<Due, AllocError>
+        requires ready { IsReady self.old }
+        requires workers { AreWorkers workers }
         ensures lines { IfOk result (λ due. due_lines due self.new ≡ event_lines self.old self.new Event.End) }
-        ensures next { OnOk result (GoesOn self.old self.new Event.End) }
+        ensures next { OnOk result (GoesOn workers self.old self.new Event.End) }
         ensures kept { OnErr result (self.new.last ≡ self.old.last) }
     {
-        let frame = self.close(alloc)?;
+        let frame = self.close(rt, alloc, workers, gate)?;
         Ok(Due { frame, end: true })
     }
 
     /// Goes on by an event. The answer says what is to be printed then.
-    fn advance(&mut self, alloc: Global, event: Event) -> Result<Due, AllocError>
-        requires { IsReady self.old }
+    fn advance<R: Threads + Wait + Sync, G: Gate>(
+        &mut self,
+        rt: &R,
+        alloc: Global,
+        event: Event,
+        workers: u8,
+        gate: &G,
+    ) -> Result<Due, AllocError>
+        requires ready { IsReady self.old }
+        requires workers { AreWorkers workers }
         ensures lines { IfOk result (λ due. due_lines due self.new ≡ event_lines self.old self.new event) }
-        ensures next { OnOk result (GoesOn self.old self.new event) }
+        ensures next { OnOk result (GoesOn workers self.old self.new event) }
         ensures kept { OnErr result (self.new.last ≡ self.old.last) }
     {
         match event {
-            Event::Frame => self.open(alloc),
+            Event::Frame => self.open(rt, alloc, workers, gate),
             Event::From(arrival) => self.push(arrival),
-            Event::End => self.finish(alloc),
+            Event::End => self.finish(rt, alloc, workers, gate),
         }
     }
 
@@ -155,14 +194,23 @@ impl Game {
     }
 
     /// Takes an event, and writes the lines that it closes. Memory is refused before anything is written only.
-    pub fn take<K: Sink>(&mut self, alloc: Global, event: Event, sink: &mut K) -> Result<(), Stop>
-        requires { IsReady self.old }
+    pub fn take<R: Threads + Wait + Sync, K: Sink, G: Gate>(
+        &mut self,
+        rt: &R,
+        alloc: Global,
+        event: Event,
+        workers: u8,
+        gate: &G,
+        sink: &mut K,
+    ) -> Result<(), Stop>
+        requires ready { IsReady self.old }
+        requires workers { AreWorkers workers }
 
-        ensures next { OnOk result (GoesOn self.old self.new event) }
+        ensures next { OnOk result (GoesOn workers self.old self.new event) }
         ensures written { OnOk result
             (Appends (K.taken sink.old) (K.taken sink.new) (text_of (event_lines self.old self.new event))) }
 
-        ensures cut { IfErr result (λ stop. OnWriteFault stop (GoesOn self.old self.new event)) }
+        ensures cut { IfErr result (λ stop. OnWriteFault stop (GoesOn workers self.old self.new event)) }
         ensures write_fault { IfErr result (λ stop. OnWriteFault stop
             (AppendsPart (K.taken sink.old) (K.taken sink.new) (text_of (event_lines self.old self.new event)))) }
         ensures memory { IfErr result (λ stop. OnMemory stop (sink.new ≡ sink.old)) }
@@ -176,7 +224,7 @@ impl Game {
         ensures room { OnOk result (K.room sink.old
             ≤ K.room sink.new + length (text_of (event_lines self.old self.new event))) }
     {
-        let due = self.advance(alloc, event)?;
+        let due = self.advance(rt, alloc, event, workers, gate)?;
         self.print(due, sink)?;
         Ok(())
     }

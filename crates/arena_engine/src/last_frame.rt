@@ -3,9 +3,12 @@ use edge_io::{Failed, Sink};
 use frame_phases::{FrameOut, MOST_ARRIVALS, Server, run_frame};
 use move_journal::Journal;
 use out_text::Printer;
+use shared_moves::Gate;
 use std::alloc::{AllocError, Global};
 use std::marker::Model;
 use std::mem;
+use std::sync::Wait;
+use std::thread::Threads;
 
 /// What the last frame gave out. Its journal is kept where the next frame is refused memory.
 #[derive(Drop)]
@@ -35,6 +38,7 @@ impl Model for LastFrame {
 impl LastFrame {
     ghost use Rattle.std.specs.Prelude.{◌≡◌, ◌+◌, ◌<◌, ◌≤◌, [], ◌++◌, length, Some, IfOk, OnOk, OnErr, IsOk};
     ghost use Rattle.plain_server.specs.Frames.{received_in};
+    ghost use Rattle.move_phase.specs.Serving.{AreWorkers};
     ghost use Rattle.out_text.specs.OutLines.{text_of};
     ghost use Rattle.out_text.specs.FrameLines.{lines_with};
     ghost use Rattle.out_text.specs.Printers.{Prints, FailsIn};
@@ -52,24 +56,28 @@ impl LastFrame {
         })
     }
 
-    /// Runs a frame with these packets, which is the last one then. Where memory is refused, the server and the journal of
-    /// the last frame are as they were.
-    pub fn run(
+    /// Runs a frame with these packets on these workers, which is the last one then. Where memory is refused, the server and
+    /// the journal of the last frame are as they were.
+    pub fn run<R: Threads + Wait + Sync, G: Gate>(
         &mut self,
+        rt: &R,
         alloc: Global,
         server: &mut Server,
         arrivals: &[Arrival],
+        workers: u8,
+        gate: &G,
     ) -> Result<(), AllocError>
         requires few { length arrivals.now ≤ 512 }
         requires frames { server.old.frames < 100000 }
-        ensures runs { OnOk result (RunsFrame server.old server.new arrivals.now (entries_in self.new.journal)) }
+        requires workers { AreWorkers workers }
+        ensures runs { OnOk result (RunsFrame workers server.old server.new arrivals.now (entries_in self.new.journal)) }
         ensures last { OnOk result (self.new.journal ≡ Some (entries_in self.new.journal)) }
         ensures lines { OnOk result (self.new.lines ≡ lines_with server.old.map server.old.frames
             (received_in server.old.map server.old.frames server.old.state arrivals.now) (entries_in self.new.journal)) }
         ensures kept { OnErr result (self.new.journal ≡ self.old.journal) }
         ensures unchanged { OnErr result (server.new ≡ server.old) }
     {
-        run_frame(alloc, server, arrivals, &mut self.out)?;
+        run_frame(rt, alloc, server, arrivals, workers, gate, &mut self.out)?;
         mem::swap(&mut self.journal, &mut self.out.journal);
         self.has_run = true;
         Ok(())

@@ -5,9 +5,11 @@ ghost use Rattle.std.specs.Prelude.{◌≡◌, ◌≤◌, ◌↔◌, ℕ, true, 
 ghost use Rattle.std.specs.Io.KnownBytes.{Appends};
 ghost use Rattle.edge_io.specs.Counts.{HasRisen};
 ghost use Rattle.edge_io.specs.Writes.{AppendsPart};
-ghost use Rattle.demo_lines.specs.Bytes.{fault};
+ghost use Rattle.demo_lines.specs.Bytes.{fault, map_of};
 ghost use Rattle.demo_make.specs.GeneratedFrames.{generated_text};
+ghost use Rattle.out_text.specs.Journals.{dids};
 ghost use Rattle.out_text.specs.Output.{HasLast, IsOutput, IsRefused, IsCut, IsSomeFrames};
+ghost use Rattle.out_text.specs.OneTaker.{HasOneTakerEach};
 ghost use Rattle.arena_engine.specs.Making.{IsOfWriting, ArePlayed, line_of_match, IsBare};
 ghost use Rattle.arena_engine.specs.Output.{Writes, ReadsSome, ReadsToEnd, ReadsToRefusal, HasRoom};
 ghost use Rattle.arena_engine.specs.Reports.{refusal_of, last_in};
@@ -17,7 +19,10 @@ use command::command_of;
 use edge_io::{Sink, Source};
 use perform::perform;
 pub use report::Report;
+use shared_moves::Gate;
 use std::alloc::Global;
+use std::sync::Wait;
+use std::thread::Threads;
 
 mod command;
 mod due;
@@ -38,10 +43,14 @@ mod tests;
 
 /// Does what the words ask for.
 ///
-/// `play 1` reads a recording from the source, plays it on one worker, and writes the output to the sink: for each frame its
-/// text before the next line is read, and at last the line `end`. The rest of the input is ignored.
-/// `make SEED PLAYERS FRAMES` writes the recording of a seed. `match SEED PLAYERS FRAMES 1` plays that recording without
-/// writing it, and writes one line of what its frames came to. Neither of the two reads.
+/// `play N` reads a recording from the source, plays it on N workers, 1 to 16, and writes the output to the sink: for each
+/// frame its text before the next line is read, and at last the line `end`. The rest of the input is ignored.
+/// `make SEED PLAYERS FRAMES` writes the recording of a seed. `match SEED PLAYERS FRAMES N` plays that recording on N workers
+/// without writing it, and writes one line of what its frames came to. Neither of the two reads.
+///
+/// The moves of a frame run at the same time, where there is more than one worker, and each frame's journal has them one
+/// after another: its entries are those of the moves run in this order. One worker runs them in the order of arrival. `gate`
+/// is called at three points of each move by the worker that runs it.
 ///
 /// The report's status says how it ended:
 ///
@@ -56,11 +65,13 @@ mod tests;
 ///
 /// The report has the journal of the last frame that was run from a recording, which is the last frame that was written, or
 /// the one whose text a failed write has cut. For `match` it has the journals of all frames that were run.
-pub fn serve<S: Source, K: Sink>(
+pub fn serve<R: Threads + Wait + Sync, S: Source, K: Sink, G: Gate>(
+    rt: &R,
     alloc: Global,
     words: &[&str],
     source: &mut S,
     sink: &mut K,
+    gate: &G,
 ) -> Report
     // What `play` has read and written, by the status.
     ensures done { (n : ℕ) → IsPlay words.now n → result.status ≡ 0 → IfSome (S.left source.old) (λ bytes.
@@ -82,6 +93,9 @@ pub fn serve<S: Source, K: Sink>(
         Writes (K.taken sink.old) (K.taken sink.new) (IsCut n bytes (last_in result))) }
     ensures memory { (n : ℕ) → IsPlay words.now n → result.status ≡ 5 → IfSome (S.left source.old) (λ bytes.
         Writes (K.taken sink.old) (K.taken sink.new) (HasLast (IsSomeFrames n bytes) (last_in result))) }
+    // But where a write failed, no item was taken by two entries of one frame, nor again before it was due.
+    ensures taken_once { (n : ℕ) → IsPlay words.now n → (result.status ≡ 4 → ⊥) → IfSome (S.left source.old) (λ bytes.
+        Writes (K.taken sink.old) (K.taken sink.new) (λ text. HasOneTakerEach (map_of bytes) (dids text))) }
     ensures known { result.status ≤ 5 }
     ensures place { (result.status ≡ 1 → ⊥) → (result.line ≡ 0) × (result.fault ≡ 0) × (result.rule ≡ 0) }
     ensures all { ((seed players frames workers : ℕ) → IsMatching words.now seed players frames workers → ⊥)
@@ -104,7 +118,7 @@ pub fn serve<S: Source, K: Sink>(
     ensures summed_nothing { (seed players frames workers : ℕ) → IsMatching words.now seed players frames workers
         → result.status ≡ 5 → sink.new ≡ sink.old }
     ensures match_frames { (seed players frames workers : ℕ) → IsMatching words.now seed players frames workers
-        → ArePlayed seed players frames result.status result.all }
+        → ArePlayed seed players frames workers result.status result.all }
     ensures match_status { (seed players frames workers : ℕ) → IsMatching words.now seed players frames workers
         → IsOfWriting result.status × IsBare result }
     ensures match_reads_nothing { (seed players frames workers : ℕ) → IsMatching words.now seed players frames workers
@@ -143,5 +157,5 @@ pub fn serve<S: Source, K: Sink>(
         → (HasRisen (K.faults sink.old) (K.faults sink.new) → ⊥)
         → IsOrMemory result.status 0 }
 {
-    perform(alloc, command_of(words), source, sink)
+    perform(rt, alloc, command_of(words), source, sink, gate)
 }

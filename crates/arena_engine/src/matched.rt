@@ -2,6 +2,7 @@ ghost use Rattle.std.specs.Prelude.{◌≡◌, ◌≤◌, None};
 ghost use Rattle.std.specs.Io.KnownBytes.{Appends};
 ghost use Rattle.edge_io.specs.Counts.{HasRisen};
 ghost use Rattle.edge_io.specs.Writes.{AppendsPart};
+ghost use Rattle.move_phase.specs.Serving.{AreWorkers};
 ghost use Rattle.match_play.specs.Matches.{IsMatch};
 ghost use Rattle.arena_engine.specs.Making.{IsOfWriting, ArePlayed, line_of_match, IsBare};
 
@@ -9,24 +10,31 @@ use crate::report::Report;
 use crate::summary::push_summary;
 use edge_io::{LineBuf, Sink, write_whole};
 use match_play::{MatchPlayed, play_match};
+use shared_moves::Gate;
 use std::alloc::Global;
+use std::sync::Wait;
+use std::thread::Threads;
 
-/// Plays the recording of this seed on one worker without writing it, and writes the line of its totals. The report has
+/// Plays the recording of this seed on these workers without writing it, and writes the line of its totals. The report has
 /// the journals of the frames that were run.
-pub fn play_and_sum<K: Sink>(
+pub fn play_and_sum<R: Threads + Wait + Sync, K: Sink, G: Gate>(
+    rt: &R,
     alloc: Global,
     seed: u64,
     players: u8,
     frames: u32,
+    workers: u8,
+    gate: &G,
     sink: &mut K,
 ) -> Report
-    requires { IsMatch players frames }
+    requires range { IsMatch players frames }
+    requires workers { AreWorkers workers }
     ensures status { IsOfWriting result.status }
     ensures done { result.status ≡ 0 → Appends (K.taken sink.old) (K.taken sink.new) (line_of_match seed players result.all) }
     ensures write_fault { result.status ≡ 4
         → AppendsPart (K.taken sink.old) (K.taken sink.new) (line_of_match seed players result.all) }
     ensures memory { result.status ≡ 5 → sink.new ≡ sink.old }
-    ensures frames { ArePlayed seed players frames result.status result.all }
+    ensures frames { ArePlayed seed players frames workers result.status result.all }
     ensures bare { IsBare result }
 
     ensures later { K.faults sink.old ≤ K.faults sink.new }
@@ -37,7 +45,7 @@ pub fn play_and_sum<K: Sink>(
     let Ok(mut line) = LineBuf::new(alloc) else {
         return Report::unserved(alloc, 5);
     };
-    let MatchPlayed { ended, all } = play_match(alloc, seed, players, frames);
+    let MatchPlayed { ended, all } = play_match(rt, alloc, seed, players, frames, workers, gate);
     let Ok(totals) = ended else {
         return Report::of_status(5, None, all);
     };

@@ -1,6 +1,7 @@
 ghost use Rattle.std.specs.Prelude.{◌≡◌, ◌≤◌, true, [], ◌∷◌, OnOk, IfErr, IfSome, IsSomeAnd};
 ghost use Rattle.std.specs.Bool.{OnTrue};
 ghost use Rattle.edge_io.specs.Counts.{HasRisen};
+ghost use Rattle.move_phase.specs.Serving.{AreWorkers};
 ghost use Rattle.arena_engine.specs.Games as games;
 ghost use Rattle.out_text.specs.Output.{HasLast, IsOutput, IsRefused, IsCut, IsSomeFrames};
 ghost use Rattle.arena_engine.specs.LastFrames.{entries_of};
@@ -11,7 +12,10 @@ use crate::game::Game;
 use crate::played::Played;
 use demo_lines::{DemoReader, Event};
 use edge_io::{Sink, Source};
+use shared_moves::Gate;
 use std::alloc::Global;
+use std::sync::Wait;
+use std::thread::Threads;
 
 /// Whether the event is the recording's end.
 fn is_end(event: &Event) -> bool
@@ -23,23 +27,33 @@ fn is_end(event: &Event) -> bool
     }
 }
 
-/// Plays a recording from the source on one worker, and writes its output to the sink, each frame before the next line
+/// Plays a recording from the source on these workers, and writes its output to the sink, each frame before the next line
 /// is read. Beside how that ended it gives the journal of the last frame that was run.
-pub fn play<S: Source, K: Sink>(alloc: Global, source: &mut S, sink: &mut K) -> Played
+pub fn play<R: Threads + Wait + Sync, S: Source, K: Sink, G: Gate>(
+    rt: &R,
+    alloc: Global,
+    workers: u8,
+    source: &mut S,
+    sink: &mut K,
+    gate: &G,
+) -> Played
+    requires { AreWorkers workers }
     ensures done { OnOk result.ended (IfSome (S.left source.old) (λ bytes.
-        Writes (K.taken sink.old) (K.taken sink.new) (HasLast (IsOutput 1 bytes) (entries_of result.last)))) }
+        Writes (K.taken sink.old) (K.taken sink.new) (HasLast (IsOutput workers bytes) (entries_of result.last)))) }
     ensures read { OnOk result.ended (ReadsToEnd source.old source.new (S.last source.new)
         (S.ended source.new ≡ S.ended source.old) (S.ended source.new ≡ true) (S.left source.old) (S.left source.new)) }
     ensures refused { IfErr result.ended (λ stop. OnRefused stop (λ why. IfSome (S.left source.old) (λ bytes.
-        Writes (K.taken sink.old) (K.taken sink.new) (HasLast (IsRefused 1 bytes why) (entries_of result.last))))) }
+        Writes (K.taken sink.old) (K.taken sink.new) (HasLast (IsRefused workers bytes why) (entries_of result.last))))) }
     ensures refused_read { IfErr result.ended (λ stop. OnRefused stop (λ _. ReadsToRefusal source.old source.new (S.last source.new)
         (S.ended source.new ≡ S.ended source.old) (S.ended source.new ≡ true) (S.left source.old) (S.left source.new))) }
     ensures read_fault { IfErr result.ended (λ stop. OnReadFault stop
-        (ReadsSome 1 (S.left source.old) (S.left source.new) (K.taken sink.old) (K.taken sink.new) (entries_of result.last))) }
+        (ReadsSome workers (S.left source.old) (S.left source.new) (K.taken sink.old) (K.taken sink.new) (entries_of result.last))) }
+    ensures front { IfErr result.ended (λ stop. OnReadFault stop (IfSome (S.left source.old) (λ bytes.
+        Writes (K.taken sink.old) (K.taken sink.new) (HasLast (IsSomeFrames workers bytes) (entries_of result.last))))) }
     ensures write_fault { IfErr result.ended (λ stop. OnWriteFault stop (IfSome (S.left source.old) (λ bytes.
-        Writes (K.taken sink.old) (K.taken sink.new) (IsCut 1 bytes (entries_of result.last))))) }
+        Writes (K.taken sink.old) (K.taken sink.new) (IsCut workers bytes (entries_of result.last))))) }
     ensures memory { IfErr result.ended (λ stop. OnMemory stop (IfSome (S.left source.old) (λ bytes.
-        Writes (K.taken sink.old) (K.taken sink.new) (HasLast (IsSomeFrames 1 bytes) (entries_of result.last))))) }
+        Writes (K.taken sink.old) (K.taken sink.new) (HasLast (IsSomeFrames workers bytes) (entries_of result.last))))) }
 
     ensures read_cause { IfErr result.ended (λ stop. OnReadFault stop (HasRisen (S.faults source.old) (S.faults source.new))) }
     ensures write_cause { IfErr result.ended (λ stop. OnWriteFault stop (HasRisen (K.faults sink.old) (K.faults sink.new))) }
@@ -49,7 +63,7 @@ pub fn play<S: Source, K: Sink>(alloc: Global, source: &mut S, sink: &mut K) -> 
     ensures writes_done { OnOk result.ended (K.faults sink.new ≡ K.faults sink.old) }
     ensures writes_stopped { IfErr result.ended (λ stop. ButOnWriteFault stop (K.faults sink.new ≡ K.faults sink.old)) }
     ensures sure_reads { S.never_fails source.old → IfErr result.ended (λ stop. OnReadFault stop ⊥) }
-    ensures sure_writes { IsSomeAnd (S.left source.old) (λ bytes. HasRoom 1 bytes (K.room sink.old)) → IfErr result.ended (λ stop. OnWriteFault stop ⊥) }
+    ensures sure_writes { IsSomeAnd (S.left source.old) (λ bytes. HasRoom workers bytes (K.room sink.old)) → IfErr result.ended (λ stop. OnWriteFault stop ⊥) }
     ensures read_later { S.faults source.old ≤ S.faults source.new }
     ensures write_later { K.faults sink.old ≤ K.faults sink.new }
 {
@@ -68,7 +82,7 @@ pub fn play<S: Source, K: Sink>(alloc: Global, source: &mut S, sink: &mut K) -> 
     };
     'events: loop {
         let is_last = is_end(&event);
-        if let Err(stop) = game.take(alloc, event, sink) {
+        if let Err(stop) = game.take(rt, alloc, event, workers, gate, sink) {
             return Played::with_game(game, Err(stop));
         }
         if is_last {

@@ -1,8 +1,10 @@
 ghost use Rattle.std.specs.Prelude.{◌≡◌, ◌≤◌, ℕ, true, IfSome, IsSomeAnd, IsSome, None, []};
 ghost use Rattle.edge_io.specs.Counts.{HasRisen};
-ghost use Rattle.demo_lines.specs.Bytes.{fault};
+ghost use Rattle.move_phase.specs.Serving.{AreWorkers};
+ghost use Rattle.demo_lines.specs.Bytes.{fault, map_of};
+ghost use Rattle.out_text.specs.Journals.{dids};
 ghost use Rattle.out_text.specs.Output.{HasLast, IsOutput, IsRefused, IsCut, IsSomeFrames};
-ghost use Rattle.arena_engine.specs.Commands.{AreWorkers};
+ghost use Rattle.out_text.specs.OneTaker.{HasOneTakerEach};
 ghost use Rattle.arena_engine.specs.Output.{Writes, ReadsSome, ReadsToEnd, ReadsToRefusal, HasRoom};
 ghost use Rattle.arena_engine.specs.Reports.{refusal_of, last_in};
 ghost use Rattle.arena_engine.specs.Serving.{NothingFailed, IsOrMemory};
@@ -13,14 +15,19 @@ use crate::report::Report;
 use crate::stop::Stop;
 use edge_io::{Sink, Source};
 use move_journal::JournalList;
+use shared_moves::Gate;
 use std::alloc::Global;
+use std::sync::Wait;
+use std::thread::Threads;
 
 /// Plays a recording from the source on these workers, and writes its output to the sink. The report has how that ended.
-pub fn play_recording<S: Source, K: Sink>(
+pub fn play_recording<R: Threads + Wait + Sync, S: Source, K: Sink, G: Gate>(
+    rt: &R,
     alloc: Global,
     workers: u8,
     source: &mut S,
     sink: &mut K,
+    gate: &G,
 ) -> Report
     requires { AreWorkers workers }
     ensures done { result.status ≡ 0 → IfSome (S.left source.old) (λ bytes.
@@ -39,6 +46,8 @@ pub fn play_recording<S: Source, K: Sink>(
         Writes (K.taken sink.old) (K.taken sink.new) (IsCut workers bytes (last_in result))) }
     ensures memory { result.status ≡ 5 → IfSome (S.left source.old) (λ bytes.
         Writes (K.taken sink.old) (K.taken sink.new) (HasLast (IsSomeFrames workers bytes) (last_in result))) }
+    ensures taken_once { (result.status ≡ 4 → ⊥) → IfSome (S.left source.old) (λ bytes.
+        Writes (K.taken sink.old) (K.taken sink.new) (λ text. HasOneTakerEach (map_of bytes) (dids text))) }
     ensures known { result.status ≤ 5 }
     ensures served { result.status ≡ 2 → ⊥ }
     ensures place { (result.status ≡ 1 → ⊥) → (result.line ≡ 0) × (result.fault ≡ 0) × (result.rule ≡ 0) }
@@ -65,9 +74,8 @@ pub fn play_recording<S: Source, K: Sink>(
     ensures surely_refused { S.never_fails source.old
         → IsSomeAnd (S.left source.old) (λ bytes. IsSome (fault bytes) × HasRoom workers bytes (K.room sink.old)) → IsOrMemory result.status 1 }
 {
-    let _one = workers;
     let all = JournalList::new(alloc);
-    let Played { ended, last } = play(alloc, source, sink);
+    let Played { ended, last } = play(rt, alloc, workers, source, sink, gate);
     match ended {
         Ok(()) => Report::of_status(0, last, all),
         Err(Stop::Refused { line, fault, rule }) => {

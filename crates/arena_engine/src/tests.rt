@@ -5,15 +5,23 @@ ghost use Rattle.arena_engine.specs.Serving.{IsOrMemory};
 
 use super::*;
 use edge_io::{MemSink, MemSource};
+use shared_moves::NoGate;
 use std::alloc::AllocError;
 use std::process::Abort;
 use std::test::Fail;
 
 mod cut;
+mod cut_input;
+mod failing_reads;
+mod far;
 mod full;
 mod made;
 mod pipe;
+mod refused;
+mod rooms;
+mod statuses;
 mod things;
+mod workers;
 
 const ARENA: &str = "arena -131072 -131072 0 131072 131072 65536\n";
 
@@ -25,26 +33,62 @@ const ONE_JOIN_OUTPUT: &str =
 
 /// Plays a recording from memory into memory. Where it has no fault and its output fits, the status is 0, or 5 where
 /// memory is short: what `serve` promises is enough to know that.
-fn played(alloc: Global, recording: &[u8], room: usize) -> Result<Report, AllocError>
+fn played(
+    rt: &(impl AllocGlobal + Threads + Wait + Sync),
+    recording: &[u8],
+    room: usize,
+) -> Result<Report, AllocError>
     requires whole { fault recording.now ≡ None }
     requires room { HasRoom 1 recording.now room }
     ensures { IfOk result (λ report. IsOrMemory report.status 0) }
 {
     let mut source = MemSource::new(recording, 8, &[]);
-    let mut sink = MemSink::new(alloc, room, 8)?;
-    Ok(serve(alloc, &["play", "1"], &mut source, &mut sink))
+    let mut sink = MemSink::new(rt.alloc(), room, 8)?;
+    Ok(serve(
+        rt,
+        rt.alloc(),
+        &["play", "1"],
+        &mut source,
+        &mut sink,
+        &NoGate,
+    ))
+}
+
+/// The arena, a front, a piece so many times, and a back.
+fn write_pieces(
+    alloc: Global,
+    front: &str,
+    piece: &str,
+    times: u16,
+    back: &str,
+) -> Result<String, AllocError> {
+    let mut text = String::new(alloc);
+    text.push_str(ARENA)?;
+    text.push_str(front)?;
+    for _ in 0..times {
+        text.push_str(piece)?;
+    }
+    text.push_str(back)?;
+    Ok(text)
 }
 
 /// Plays a recording without a fault, and compares the status and the output.
 fn expect(
-    rt: &(impl AllocGlobal + Abort),
+    rt: &(impl AllocGlobal + Abort + Threads + Wait + Sync),
     recording: &str,
     status: u8,
     output: &str,
 ) -> Result<(), AllocError> {
     let mut source = MemSource::new(recording.as_bytes(), 100, &[]);
     let mut sink = MemSink::new(rt.alloc(), 10_000, 100)?;
-    let report = serve(rt.alloc(), &["play", "1"], &mut source, &mut sink);
+    let report = serve(
+        rt,
+        rt.alloc(),
+        &["play", "1"],
+        &mut source,
+        &mut sink,
+        &NoGate,
+    );
     assert_eq!(rt; report.status, status);
     assert_eq!(rt; sink.bytes(), output.as_bytes());
     Ok(())
@@ -175,100 +219,11 @@ fn players_leave_after_the_replies(rt: HostRuntime) -> Result<(), Fail> {
     Ok(())
 }
 
-/// Plays a recording, and compares the line, the fault and the rule that it is refused for.
-fn expect_refused(
-    rt: &(impl AllocGlobal + Abort),
-    recording: &str,
-    why: (u64, u8, u8),
-) -> Result<(), AllocError> {
-    let mut source = MemSource::new(recording.as_bytes(), 100, &[]);
-    let mut sink = MemSink::new(rt.alloc(), 10_000, 100)?;
-    let report = serve(rt.alloc(), &["play", "1"], &mut source, &mut sink);
-    assert_eq!(rt; report.status, 1);
-    assert_eq!(rt; (report.line, report.fault, report.rule), why);
-    Ok(())
-}
-
-#[test]
-fn the_first_faulty_line_is_reported(rt: HostRuntime) -> Result<(), Fail> {
-    let rows = [
-        ("frob\n", (1, 3, 0)),
-        ("arena 1 2\n", (1, 4, 0)),
-        ("frame\n", (1, 5, 0)),
-        ("arena -2000000 0 0 1 1 1\n", (1, 6, 0)),
-        ("arena 0 0 0 0 1 1\n", (1, 7, 1)),
-        (
-            "arena -131072 -131072 0 131072 131072 65536\nframe\n",
-            (2, 7, 7),
-        ),
-        (
-            "arena -131072 -131072 0 131072 131072 65536\nspawn 0 0 6144\nframe\nfrom 7 010\n",
-            (4, 8, 0),
-        ),
-        ("", (1, 10, 0)),
-    ];
-    for (recording, why) in rows {
-        expect_refused(&rt, recording, why)?;
-    }
-    Ok(())
-}
-
 #[test]
 fn a_refused_recording_keeps_its_whole_frames(rt: HostRuntime) -> Result<(), Fail> {
     expect(&rt, ARENA, 1, "")?;
     let late =
         "arena -131072 -131072 0 131072 131072 65536\nspawn 0 0 6144\nframe\nframe\nfrob\nend\n";
     expect(&rt, late, 1, "frame 0\n")?;
-    Ok(())
-}
-
-#[test]
-fn other_words_are_refused(rt: HostRuntime) -> Result<(), Fail> {
-    let rows: [&[&str]; 7] = [
-        &[],
-        &["play"],
-        &["play", "0"],
-        &["play", "17"],
-        &["play", "01"],
-        &["make", "7", "65", "10"],
-        &["match", "7", "32", "2001", "1"],
-    ];
-    for words in rows {
-        let mut source = MemSource::new(ONE_JOIN.as_bytes(), 100, &[]);
-        let mut sink = MemSink::new(rt.alloc(), 1_000, 100)?;
-        let report = serve(rt.alloc(), words, &mut source, &mut sink);
-        assert_eq!(rt; report.status, 2);
-        assert!(rt; sink.bytes().is_empty());
-    }
-    Ok(())
-}
-
-#[test]
-fn a_failing_read_is_reported(rt: HostRuntime) -> Result<(), Fail> {
-    let mut source = MemSource::new(ONE_JOIN.as_bytes(), 8, &[3]);
-    let mut sink = MemSink::new(rt.alloc(), 1_000, 100)?;
-    let report = serve(rt.alloc(), &["play", "1"], &mut source, &mut sink);
-    assert_eq!(rt; report.status, 3);
-    assert!(rt; sink.bytes().is_empty());
-    Ok(())
-}
-
-#[test]
-fn an_end_whose_line_feed_is_not_read_closes_no_frame(rt: HostRuntime) -> Result<(), Fail> {
-    let mut source = MemSource::new(CUT_END.as_bytes(), 100, &[1]);
-    let mut sink = MemSink::new(rt.alloc(), 1_000, 100)?;
-    let report = serve(rt.alloc(), &["play", "1"], &mut source, &mut sink);
-    assert_eq!(rt; report.status, 3);
-    assert!(rt; sink.bytes().is_empty());
-    Ok(())
-}
-
-#[test]
-fn a_full_sink_keeps_what_it_took(rt: HostRuntime) -> Result<(), Fail> {
-    let mut source = MemSource::new(ONE_JOIN.as_bytes(), 8, &[]);
-    let mut sink = MemSink::new(rt.alloc(), 12, 5)?;
-    let report = serve(rt.alloc(), &["play", "1"], &mut source, &mut sink);
-    assert_eq!(rt; report.status, 4);
-    assert_eq!(rt; sink.bytes(), b"frame 0\njoin".as_slice());
     Ok(())
 }

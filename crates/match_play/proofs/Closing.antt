@@ -18,10 +18,10 @@ game_with server is_open arrivals totals =
     record { server = server; opened = if is_open then Some arrivals else None; totals = totals }
 
 -- what the calls of a frame ensure
-pub record IsRun (old new : ServerView) (arrivals : List Arrival) (lists : Lists) (journal : List Entry) : Type 0 where
+pub record IsRun (workers : ℕ) (old new : ServerView) (arrivals : List Arrival) (lists : Lists) (journal : List Entry) : Type 0 where
   pub lists_are : lists ≡ (received_in old.map old.frames old.state arrivals).lists
   pub right : IsRightAfter old.map (received_in old.map old.frames old.state arrivals) journal
-  pub order : IsInOrder journal (received_in old.map old.frames old.state arrivals).lists.moves
+  pub order : workers ≡ 1 → IsInOrder journal (received_in old.map old.frames old.state arrivals).lists.moves
   pub next : new ≡ server_after old arrivals journal
 
 opened-is : (is_open : Bool) (arrivals : List Arrival) → is_open ≡ true → (if is_open then Some arrivals else None) ≡ Some arrivals
@@ -29,14 +29,14 @@ opened-is true arrivals opens = refl
 opened-is false arrivals opens = cc
 
 -- the frame that was open was run
-pub closes-frame : (old g : GameView) (server new : ServerView) (is_open : Bool) (arrivals : List Arrival) (totals : Totals) (lists : Lists) (journal : JournalView) (score : ℕ)
-    (before after : List JournalView) → game_with server is_open arrivals totals ≡ old → is_open ≡ true → IsRun server new arrivals lists journal.entries → score ≡ score_in new.state.records
+pub closes-frame : (workers : ℕ) (old g : GameView) (server new : ServerView) (is_open : Bool) (arrivals : List Arrival) (totals : Totals) (lists : Lists) (journal : JournalView) (score : ℕ)
+    (before after : List JournalView) → game_with server is_open arrivals totals ≡ old → is_open ≡ true → IsRun workers server new arrivals lists journal.entries → score ≡ score_in new.state.records
     → after ≡ before ++ journal ∷ [] → g.server ≡ new → g.totals ≡ totals_with totals lists journal.entries score
-    → ClosesFrame old g before after
-closes-frame old g server new is_open arrivals totals lists journal score before after view opens run scored kept is_new counted =
-    let P : Option (List Arrival) → Type 0 = λ o. Closes o (game_with server is_open arrivals totals) g before after in
-    let Q : GameView → Type 0 = λ h. ClosesFrame h g before after in
-    let runs : RunsFrame (game_with server is_open arrivals totals) g arrivals before after =
+    → ClosesFrame workers old g before after
+closes-frame workers old g server new is_open arrivals totals lists journal score before after view opens run scored kept is_new counted =
+    let P : Option (List Arrival) → Type 0 = λ o. Closes workers o (game_with server is_open arrivals totals) g before after in
+    let Q : GameView → Type 0 = λ h. ClosesFrame workers h g before after in
+    let runs : RunsFrame workers (game_with server is_open arrivals totals) g arrivals before after =
     record {
       journal = journal;
       kept = kept;

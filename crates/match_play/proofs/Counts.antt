@@ -2,16 +2,11 @@
 use Rattle.std.proofs.Common.{◌≡◌, ℕ, zero, suc, ◌+◌, ◌*◌, ◌^◌, ◌<◌, ◌≤◌, false, List, [], ◌∷◌, length, map as map_list, replicate, Option, Some, None, is_some, refl, sym, ap, ◌∙◌, subst, arith, lit<}
 use Rattle.std.specs.Prelude.{sum_by}
 use Rattle.std.specs.List.{range_with_len}
-use Rattle.std.proofs.lemmas.List.{length-map, length-replicate}
+use Rattle.std.proofs.lemmas.List.{length-replicate}
 use Rattle.std.proofs.lemmas.List.FromFn.{length-map-range_with_len}
 use Rattle.std.proofs.lemmas.List.Sums.{sum_by-cons}
-use Rattle.std.proofs.lemmas.List.Sorted.{length_permutation}
 use Rattle.entity_recs.specs.declared.effect.Entry.{Entry}
 use Rattle.entity_recs.specs.declared.rec.Rec.{Rec}
-use Rattle.entity_recs.specs.Histories.{Item}
-use Rattle.entity_recs.specs.Commands.{Command}
-use Rattle.move_journal.specs.Merges.{history_of}
-use Rattle.move_journal.proofs.JournalLaws.{merges_have_whole_histories}
 use Rattle.client_ports.specs.declared.arrival.Arrival.{Arrival}
 use Rattle.client_ports.specs.declared.client.Client.{Client}
 use Rattle.client_ports.specs.Clients.{client_at, no_clients}
@@ -31,21 +26,14 @@ use Rattle.demo_make.proofs.Clear.{spawns_are_clear}
 use Rattle.demo_make.proofs.MapKept.{generated_is_map}
 use Rattle.match_play.specs.Totals.{receptions, joins_in, refused_in}
 use Rattle.match_play.specs.Laws.{CountsAreKnown}
+use Rattle.match_play.proofs.Few.{entries_of_merge}
 
 -- a right journal has an entry for each move
 entries-right : (frame : ℕ) (state : State) (arrivals : List Arrival) (j : List Entry) → IsServerState generated_map state
     → IsRightAfter generated_map (received_in generated_map frame state arrivals) j → length j ≡ length (received_in generated_map frame state arrivals).lists.moves
 entries-right frame state arrivals j is right =
-    let moves = (received_in generated_map frame state arrivals).lists.moves in
     let pass = received_is generated_map frame state arrivals generated_is_map is in
-    let history = history_of moves j in
-    let whole = merges_have_whole_histories moves j pass.apart right.merge in
-    let entry : Item → Entry = λ item. item.entry in
-    let command : Item → Command = λ item. item.command in
-    sym (ap length whole.entries)
-    ∙ length-map history entry
-    ∙ sym (length-map history command)
-    ∙ sym (length_permutation (map_list command history) moves whole.each_once)
+    entries_of_merge j (received_in generated_map frame state arrivals).lists.moves pass.apart right.merge
 
 -- the players play, in a server's state
 record IsPlaying (players last : ℕ) (state : State) : Type 0 where

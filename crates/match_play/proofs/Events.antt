@@ -54,45 +54,45 @@ generated-closes : (seed players frames : ℕ) → closed_by None (generated_eve
 unfolding generated_events
 generated-closes seed players frames = recording-closes (generated_frames seed players frames)
 
-module _ (seed players frames : ℕ) where
+module _ (seed players workers frames : ℕ) where
   -- a match begins
   pub under_way-first : (m : MapView) (g : GameView) (kept : List JournalView) (events : List Event) → m ≡ generated_map → g ≡ new_game m → kept ≡ [] → events ≡ generated_events seed players frames
-      → IsUnderWay seed players frames g.server g.totals (entries_of kept) (closed_by g.opened events)
+      → IsUnderWay seed players workers frames g.server g.totals (entries_of kept) (closed_by g.opened events)
   under_way-first m g kept events map_is game_is none events_are =
       let fresh : g ≡ new_game generated_map = game_is ∙ ap new_game map_is in
-      subst (λ (h : GameView). IsUnderWay seed players frames h.server h.totals (entries_of kept) (closed_by h.opened events)) (sym fresh)
-      (subst (λ (js : List JournalView). IsUnderWay seed players frames (new_game generated_map).server (new_game generated_map).totals (entries_of js) (closed_by None events)) (sym none)
-      (subst (λ (fs : List (List Arrival)). IsUnderWay seed players frames (new_game generated_map).server (new_game generated_map).totals [] fs) (sym (ap (closed_by None) events_are ∙ generated-closes seed players frames))
-      (under_way-start seed players frames)))
+      subst (λ (h : GameView). IsUnderWay seed players workers frames h.server h.totals (entries_of kept) (closed_by h.opened events)) (sym fresh)
+      (subst (λ (js : List JournalView). IsUnderWay seed players workers frames (new_game generated_map).server (new_game generated_map).totals (entries_of js) (closed_by None events)) (sym none)
+      (subst (λ (fs : List (List Arrival)). IsUnderWay seed players workers frames (new_game generated_map).server (new_game generated_map).totals [] fs) (sym (ap (closed_by None) events_are ∙ generated-closes seed players frames))
+      (under_way-start seed players workers frames)))
 
   -- a match goes on by an event
   pub under_way-next : (old new : GameView) (e : Event) (before after : List JournalView) (more : List Event)
-      → IsUnderWay seed players frames old.server old.totals (entries_of before) (closed_by old.opened (e ∷ more)) → GoesOn old new e before after
-      → IsUnderWay seed players frames new.server new.totals (entries_of after) (closed_by new.opened more)
+      → IsUnderWay seed players workers frames old.server old.totals (entries_of before) (closed_by old.opened (e ∷ more)) → GoesOn workers old new e before after
+      → IsUnderWay seed players workers frames new.server new.totals (entries_of after) (closed_by new.opened more)
   under_way-next old new Frame before after more under goes =
-      subst (λ (o : Option (List Arrival)). IsUnderWay seed players frames new.server new.totals (entries_of after) (closed_by o more)) (sym goes.1)
-      (under_way-closed seed players frames old new old.opened before after (closed_by (Some []) more) under goes.0)
+      subst (λ (o : Option (List Arrival)). IsUnderWay seed players workers frames new.server new.totals (entries_of after) (closed_by o more)) (sym goes.1)
+      (under_way-closed seed players workers frames old new old.opened before after (closed_by (Some []) more) under goes.0)
   under_way-next old new (From a) before after more under goes =
-      subst (λ (o : Option (List Arrival)). IsUnderWay seed players frames new.server new.totals (entries_of after) (closed_by o more)) (sym goes.0.opened_is)
-      (subst (λ (js : List JournalView). IsUnderWay seed players frames new.server new.totals (entries_of js) (closed_by (with_packet a old.opened) more)) (sym goes.1)
-      (subst (λ (t : Totals). IsUnderWay seed players frames new.server t (entries_of before) (closed_by (with_packet a old.opened) more)) (sym goes.0.totals)
-      (subst (λ (t : ServerView). IsUnderWay seed players frames t old.totals (entries_of before) (closed_by (with_packet a old.opened) more)) (sym goes.0.server) under)))
+      subst (λ (o : Option (List Arrival)). IsUnderWay seed players workers frames new.server new.totals (entries_of after) (closed_by o more)) (sym goes.0.opened_is)
+      (subst (λ (js : List JournalView). IsUnderWay seed players workers frames new.server new.totals (entries_of js) (closed_by (with_packet a old.opened) more)) (sym goes.1)
+      (subst (λ (t : Totals). IsUnderWay seed players workers frames new.server t (entries_of before) (closed_by (with_packet a old.opened) more)) (sym goes.0.totals)
+      (subst (λ (t : ServerView). IsUnderWay seed players workers frames t old.totals (entries_of before) (closed_by (with_packet a old.opened) more)) (sym goes.0.server) under)))
   under_way-next old new End before after more under goes =
-      subst (λ (o : Option (List Arrival)). IsUnderWay seed players frames new.server new.totals (entries_of after) (closed_by o more)) (sym goes.1)
-      (under_way-closed seed players frames old new old.opened before after (closed_by None more) under goes.0)
+      subst (λ (o : Option (List Arrival)). IsUnderWay seed players workers frames new.server new.totals (entries_of after) (closed_by o more)) (sym goes.1)
+      (under_way-closed seed players workers frames old new old.opened before after (closed_by None more) under goes.0)
 
   -- the event may come
   pub is_ready : (room : ℕ) (g : GameView) (e : Event) (kept : List JournalView) (more : List Event) → players ≤ 64 → frames ≤ 100000 → frames ≤ room
-      → IsUnderWay seed players frames g.server g.totals (entries_of kept) (closed_by g.opened (e ∷ more)) → IsReady g e (length kept) room
+      → IsUnderWay seed players workers frames g.server g.totals (entries_of kept) (closed_by g.opened (e ∷ more)) → IsReady g e (length kept) room
   is_ready room g Frame kept more few_players few_frames fits under =
-      may_close seed players frames room g g.opened kept (closed_by (Some []) more) refl few_players few_frames fits under
+      may_close seed players workers frames room g g.opened kept (closed_by (Some []) more) refl few_players few_frames fits under
   is_ready room g (From a) kept more few_players few_frames fits under = tt
   is_ready room g End kept more few_players few_frames fits under =
-      may_close seed players frames room g g.opened kept (closed_by None more) refl few_players few_frames fits under
+      may_close seed players workers frames room g g.opened kept (closed_by None more) refl few_players few_frames fits under
 
   -- where no event is left, all frames were run
   pub all_run : (g : GameView) (kept : List JournalView) (events : List Event) → events ≡ []
-      → IsUnderWay seed players frames g.server g.totals (entries_of kept) (closed_by g.opened events) → length kept ≡ frames
+      → IsUnderWay seed players workers frames g.server g.totals (entries_of kept) (closed_by g.opened events) → length kept ≡ frames
   all_run g kept events none under =
       let left : [] ≡ map_list (arrivals_in seed players) (range_with_len (length (entries_of kept)) (frames - length (entries_of kept))) =
       sym (ap (closed_by g.opened) none) ∙ under.left_are in

@@ -1,14 +1,17 @@
 -- A frame has no more joins, moves and refusals than packets.
-use Rattle.std.proofs.Common.{◌≡◌, ℕ, ◌+◌, ◌≤◌, List, [], ◌∷◌, ◌++◌, length, Result, Ok, Err, sym, ap, ◌∙◌, subst, arith}
+use Rattle.std.proofs.Common.{◌≡◌, ℕ, ◌+◌, ◌≤◌, List, [], ◌∷◌, ◌++◌, length, map as map_list, Result, Ok, Err, sym, ap, ◌∙◌, subst, arith}
 use Rattle.std.proofs.lemmas.List.{length_push, length-map}
+use Rattle.std.proofs.lemmas.List.Sorted.{length_permutation}
 use Rattle.entity_recs.specs.declared.effect.Entry.{Entry}
 use Rattle.entity_recs.specs.Commands.{Command}
+use Rattle.entity_recs.specs.Histories.{Item}
 use Rattle.packet_read.specs.declared.move_packet.MovePacket.{MovePacket}
 use Rattle.packet_read.specs.declared.packet.Packet.{Packet}
 use Rattle.packet_read.specs.declared.packet.Packet.TheVariants.{Join, Step, Leave}
 use Rattle.packet_read.specs.declared.packet_fault.PacketFault.{PacketFault}
 use Rattle.packet_read.specs.Reading.{reading}
-use Rattle.move_journal.specs.Merges.{Number, IsInOrder}
+use Rattle.move_journal.specs.Merges.{HasNumbersApart, IsMerge, history_of}
+use Rattle.move_journal.proofs.JournalLaws.{merges_have_whole_histories}
 use Rattle.arena_map.specs.Maps.{MapView}
 use Rattle.client_ports.specs.declared.arrival.Arrival.{Arrival}
 use Rattle.client_ports.specs.declared.client.LiveSlot.{LiveSlot}
@@ -21,7 +24,8 @@ use Rattle.client_ports.specs.Answers.{join_answer, leave_answer, move_answer}
 use Rattle.client_ports.specs.States.{State}
 use Rattle.client_ports.specs.Lists.{Lists, no_lists}
 use Rattle.client_ports.specs.Receiving.{Receiving, receiving_of, command_in, after_join, after_leave, after_move, after_packet, after_arrival, after_arrivals, received}
-use Rattle.plain_server.specs.Frames.{state_after_tick, received_in}
+use Rattle.client_ports.proofs.Advances.{numbers_apart}
+use Rattle.plain_server.specs.Frames.{state_after_tick, received_in, IsRightAfter}
 use Rattle.match_play.specs.Totals.{HasFew}
 
 -- how many packets the lists have
@@ -64,19 +68,24 @@ few_received : (map_view : MapView) (frame : ℕ) (state : State) (arrivals : Li
 unfolding received
 few_received map_view frame state arrivals = omega (arith, few_arrivals map_view frame (receiving_of state no_lists) 0 arrivals)
 
--- a journal in the order of arrival has an entry for each move
-pub entries_in_order : (journal : List Entry) (moves : List Command) → IsInOrder journal moves → length journal ≡ length moves
-entries_in_order journal moves order =
-    let e_number : Entry → Number = λ e. record { slot = e.slot; seq = e.seq } in
-    let c_number : Command → Number = λ c. record { slot = c.slot; seq = c.seq } in
-    sym (length-map journal e_number) ∙ ap length order ∙ length-map moves c_number
+-- a merge of moves has an entry for each of them
+pub entries_of_merge : (journal : List Entry) (moves : List Command) → HasNumbersApart moves → IsMerge journal moves → length journal ≡ length moves
+entries_of_merge journal moves apart merge =
+    let history = history_of moves journal in
+    let whole = merges_have_whole_histories moves journal apart merge in
+    let entry : Item → Entry = λ item. item.entry in
+    let command : Item → Command = λ item. item.command in
+    sym (ap length whole.entries)
+    ∙ length-map history entry
+    ∙ sym (length-map history command)
+    ∙ sym (length_permutation (map_list command history) moves whole.each_once)
 
 -- a frame of at most 512 packets has few of each
 pub few_in_frame : (map_view : MapView) (frame : ℕ) (state : State) (arrivals : List Arrival) (lists : Lists) (journal : List Entry) → length arrivals ≤ 512
-    → lists ≡ (received_in map_view frame state arrivals).lists → IsInOrder journal (received_in map_view frame state arrivals).lists.moves → HasFew lists journal
-few_in_frame map_view frame state arrivals lists journal few is order =
+    → lists ≡ (received_in map_view frame state arrivals).lists → IsRightAfter map_view (received_in map_view frame state arrivals) journal → HasFew lists journal
+few_in_frame map_view frame state arrivals lists journal few is right =
     let r = received_in map_view frame state arrivals in
     let all = few_received map_view frame (state_after_tick map_view frame state) arrivals in
-    let same = entries_in_order journal r.lists.moves order in
+    let same = entries_of_merge journal r.lists.moves (numbers_apart map_view frame (state_after_tick map_view frame state) arrivals) right.merge in
     subst (λ (l : Lists). HasFew l journal) (sym is)
     (record { joined = omega (arith, all, few); refused = omega (arith, all, few); moves = omega (arith, all, few, same) })

@@ -113,10 +113,10 @@ module _ (seed players : ℕ) where
   -- ---- the match
 
   -- so many frames are to be run: of those that were, these are the journals, and the frames that are left are these
-  pub record IsUnderWay (frames : ℕ) (server : ServerView) (totals : Totals) (js : List (List Entry)) (left : List (List Arrival)) : Type 0 where
+  pub record IsUnderWay (workers frames : ℕ) (server : ServerView) (totals : Totals) (js : List (List Entry)) (left : List (List Arrival)) : Type 0 where
     pub server_is : server ≡ server_view generated_map (state_now js) (length js)
     pub right : AreRightSoFar seed players js
-    pub order : AreInOrderSoFar seed players js
+    pub order : workers ≡ 1 → AreInOrderSoFar seed players js
     pub totals_are : totals ≡ match_totals seed players js
     pub within : length js ≤ frames
     pub left_are : left ≡ map_list (arrivals_in seed players) (range_with_len (length js) (frames - length js))
@@ -126,11 +126,11 @@ module _ (seed players : ℕ) where
   unfolding opening
   totals-none = refl
 
-  pub under_way-start : (frames : ℕ) → IsUnderWay frames (new_server generated_map) no_totals [] (generated_frames seed players frames)
-  under_way-start frames = record {
+  pub under_way-start : (workers frames : ℕ) → IsUnderWay workers frames (new_server generated_map) no_totals [] (generated_frames seed players frames)
+  under_way-start workers frames = record {
     server_is = refl;
     right = tt;
-    order = tt;
+    order = λ one. tt;
     totals_are = totals-none;
     within = omega arith;
     left_are = let e : frames ≡ frames - 0 = omega arith in ap (λ (n : ℕ). map_list (arrivals_in seed players) (range_with_len 0 n)) e;
@@ -155,26 +155,26 @@ module _ (seed players : ℕ) where
         rest = rest ∙ (λ i. map_list (arrivals_in seed players) (range_with_len (sym at i + 1) (sym more i)));
       }
 
-  next-left : (frames : ℕ) (server : ServerView) (totals : Totals) (js : List (List Entry)) (a : List Arrival) (left : List (List Arrival)) → IsUnderWay frames server totals js (a ∷ left)
+  next-left : (workers frames : ℕ) (server : ServerView) (totals : Totals) (js : List (List Entry)) (a : List Arrival) (left : List (List Arrival)) → IsUnderWay workers frames server totals js (a ∷ left)
       → IsNext frames js a left
-  next-left frames server totals js a left under = next-of frames (length js) (frames - length js) js a left refl refl under.left_are
+  next-left workers frames server totals js a left under = next-of frames (length js) (frames - length js) js a left refl refl under.left_are
 
   entries-more : (before : List JournalView) (journal : JournalView) → entries_of (before ++ journal ∷ []) ≡ entries_of before ++ journal.entries ∷ []
   entries-more before journal = map-append (λ (j : JournalView). j.entries) before (journal ∷ [])
 
   -- a frame was run
-  under_way-frame : (frames : ℕ) (old new : GameView) (a : List Arrival) (before after : List JournalView) (left : List (List Arrival))
-      → IsUnderWay frames old.server old.totals (entries_of before) (a ∷ left) → RunsFrame old new a before after
-      → IsUnderWay frames new.server new.totals (entries_of after) left
-  under_way-frame frames old new a before after left under runs =
+  under_way-frame : (workers frames : ℕ) (old new : GameView) (a : List Arrival) (before after : List JournalView) (left : List (List Arrival))
+      → IsUnderWay workers frames old.server old.totals (entries_of before) (a ∷ left) → RunsFrame workers old new a before after
+      → IsUnderWay workers frames new.server new.totals (entries_of after) left
+  under_way-frame workers frames old new a before after left under runs =
       let js = entries_of before in
       let j = runs.journal.entries in
-      let next = next-left frames old.server old.totals js a left under in
+      let next = next-left workers frames old.server old.totals js a left under in
       let r = received_next js in
       let here : received_in old.server.map old.server.frames old.server.state a ≡ r =
       (λ i. received_in (under.server_is i).map (under.server_is i).frames (under.server_is i).state (next.first i)) in
       let right = subst (λ (q : Receiving). IsRightAfter generated_map q j) here (subst (λ (m : MapView). IsRightAfter m (received_in old.server.map old.server.frames old.server.state a) j) (ap (λ (t : ServerView). t.map) under.server_is) runs.right) in
-      let order = subst (λ (q : Receiving). IsInOrder j q.lists.moves) here runs.order in
+      let order = λ (one : workers ≡ 1). subst (λ (q : Receiving). IsInOrder j q.lists.moves) here (runs.order one) in
       let count = length_push js j in
       let state : server_after old.server a j ≡ server_view generated_map (state_now (js ++ j ∷ [])) (length (js ++ j ∷ [])) =
       (λ i. server_after (under.server_is i) (next.first i) j) ∙ (λ i. server_view generated_map (sym (state-more js j) i) (sym count i)) in
@@ -184,26 +184,26 @@ module _ (seed players : ℕ) where
       ∙ (λ i. totals_with (under.totals_are i) (here i).lists j (score_in (new_is i).state.records))
       ∙ ap (λ (s : State). totals_with (match_totals seed players js) r.lists j (score_in s.records)) (state-more js j)
       ∙ sym (totals-more js j) in
-      let P : List (List Entry) → Type 0 = λ ks. IsUnderWay frames new.server new.totals ks left in
+      let P : List (List Entry) → Type 0 = λ ks. IsUnderWay workers frames new.server new.totals ks left in
       subst P (sym (ap entries_of runs.kept ∙ entries-more before runs.journal))
       (record {
         server_is = new_is;
         right = right-more js j under.right right;
-        order = order-more js j under.order order;
+        order = λ one. order-more js j (under.order one) (order one);
         totals_are = totals;
         within = omega (arith, count, next.some);
         left_are = next.rest ∙ ap (λ (n : ℕ). map_list (arrivals_in seed players) (range_with_len n (frames - n))) (sym count);
       })
 
   -- the frame that was open was run, where one was
-  pub under_way-closed : (frames : ℕ) (old new : GameView) (o : Option (List Arrival)) (before after : List JournalView) (left : List (List Arrival))
-      → IsUnderWay frames old.server old.totals (entries_of before) (closing o ++ left) → Closes o old new before after
-      → IsUnderWay frames new.server new.totals (entries_of after) left
-  under_way-closed frames old new None before after left under runs =
-      subst (λ (js : List JournalView). IsUnderWay frames new.server new.totals (entries_of js) left) (sym runs.kept)
-      (subst (λ (t : Totals). IsUnderWay frames new.server t (entries_of before) left) (sym runs.totals)
-      (subst (λ (t : ServerView). IsUnderWay frames t old.totals (entries_of before) left) (sym runs.server) under))
-  under_way-closed frames old new (Some a) before after left under runs = under_way-frame frames old new a before after left under runs
+  pub under_way-closed : (workers frames : ℕ) (old new : GameView) (o : Option (List Arrival)) (before after : List JournalView) (left : List (List Arrival))
+      → IsUnderWay workers frames old.server old.totals (entries_of before) (closing o ++ left) → Closes workers o old new before after
+      → IsUnderWay workers frames new.server new.totals (entries_of after) left
+  under_way-closed workers frames old new None before after left under runs =
+      subst (λ (js : List JournalView). IsUnderWay workers frames new.server new.totals (entries_of js) left) (sym runs.kept)
+      (subst (λ (t : Totals). IsUnderWay workers frames new.server t (entries_of before) left) (sym runs.totals)
+      (subst (λ (t : ServerView). IsUnderWay workers frames t old.totals (entries_of before) left) (sym runs.server) under))
+  under_way-closed workers frames old new (Some a) before after left under runs = under_way-frame workers frames old new a before after left under runs
 
   arrivals-few : (frame : ℕ) → players ≤ 64 → length (arrivals_in seed players frame) ≤ 512
   arrivals-few frame few =
@@ -217,15 +217,15 @@ module _ (seed players : ℕ) where
       joins_few false = omega arith
 
   -- a frame that is open may be closed, where there is room for the journals of all frames
-  pub may_close : (frames room : ℕ) (g : GameView) (o : Option (List Arrival)) (kept : List JournalView) (left : List (List Arrival)) → g.opened ≡ o → players ≤ 64 → frames ≤ 100000 → frames ≤ room
-      → IsUnderWay frames g.server g.totals (entries_of kept) (closing o ++ left) → MayClose g (length kept) room
-  may_close frames room g None kept left is few_players few_frames fits under = record {
+  pub may_close : (workers frames room : ℕ) (g : GameView) (o : Option (List Arrival)) (kept : List JournalView) (left : List (List Arrival)) → g.opened ≡ o → players ≤ 64 → frames ≤ 100000 → frames ≤ room
+      → IsUnderWay workers frames g.server g.totals (entries_of kept) (closing o ++ left) → MayClose g (length kept) room
+  may_close workers frames room g None kept left is few_players few_frames fits under = record {
     few = subst (λ (o : Option (List Arrival)). IfSome o (λ arrivals. length arrivals ≤ 512)) (sym is) tt;
     frames = subst (λ (o : Option (List Arrival)). IfSome o (λ _. g.server.frames < 100000)) (sym is) tt;
     room_is = subst (λ (o : Option (List Arrival)). IfSome o (λ _. length kept < room)) (sym is) tt;
   }
-  may_close frames room g (Some a) kept left is few_players few_frames fits under =
-      let next = next-left frames g.server g.totals (entries_of kept) a left under in
+  may_close workers frames room g (Some a) kept left is few_players few_frames fits under =
+      let next = next-left workers frames g.server g.totals (entries_of kept) a left under in
       let count = length-map kept (λ (j : JournalView). j.entries) in
       let number = ap (λ (t : ServerView). t.frames) under.server_is in
       let short : length a ≤ 512 = subst (λ (xs : List Arrival). length xs ≤ 512) (sym next.first) (arrivals-few (length (entries_of kept)) few_players) in

@@ -28,13 +28,14 @@ pub record RunsNothing (old new : GameView) (before after : List JournalView) : 
   pub totals : new.totals ≡ old.totals
   pub kept : after ≡ before
 
--- a frame with these packets was run: its journal is right, has the moves in the order of arrival, and was put last
-pub record RunsFrame (old new : GameView) (arrivals : List Arrival) (before after : List JournalView) : Type 0 where
+-- a frame with these packets was run: its journal is right, with one worker has the moves in the order of arrival, and was
+-- put last
+pub record RunsFrame (workers : ℕ) (old new : GameView) (arrivals : List Arrival) (before after : List JournalView) : Type 0 where
   pub journal : JournalView
   pub kept : after ≡ before ++ journal ∷ []
   pub right : IsRightAfter old.server.map
       (received_in old.server.map old.server.frames old.server.state arrivals) journal.entries
-  pub order : IsInOrder journal.entries
+  pub order : workers ≡ 1 → IsInOrder journal.entries
       (received_in old.server.map old.server.frames old.server.state arrivals).lists.moves
   pub server : new.server ≡ server_after old.server arrivals journal.entries
   pub totals : new.totals ≡ totals_with old.totals
@@ -42,12 +43,12 @@ pub record RunsFrame (old new : GameView) (arrivals : List Arrival) (before afte
       (score_in new.server.state.records)
 
 -- the frame that was open was run, where one was
-abbrev pub Closes : Option (List Arrival) → GameView → GameView → List JournalView → List JournalView → Type 0
-Closes None old new before after = RunsNothing old new before after
-Closes (Some arrivals) old new before after = RunsFrame old new arrivals before after
+abbrev pub Closes : ℕ → Option (List Arrival) → GameView → GameView → List JournalView → List JournalView → Type 0
+Closes workers None old new before after = RunsNothing old new before after
+Closes workers (Some arrivals) old new before after = RunsFrame workers old new arrivals before after
 
-abbrev pub ClosesFrame : GameView → GameView → List JournalView → List JournalView → Type 0
-ClosesFrame old new before after = Closes old.opened old new before after
+abbrev pub ClosesFrame : ℕ → GameView → GameView → List JournalView → List JournalView → Type 0
+ClosesFrame workers old new before after = Closes workers old.opened old new before after
 
 -- one packet more
 pub record KeepsPacket (old new : GameView) (a : Arrival) : Type 0 where
@@ -56,10 +57,10 @@ pub record KeepsPacket (old new : GameView) (a : Arrival) : Type 0 where
   pub opened_is : new.opened ≡ option_map (λ arrivals. arrivals ++ a ∷ []) old.opened
 
 -- the game after an event
-abbrev pub GoesOn : GameView → GameView → Event → List JournalView → List JournalView → Type 0
-GoesOn old new Frame before after = ClosesFrame old new before after × (new.opened ≡ Some [])
-GoesOn old new (From a) before after = KeepsPacket old new a × (after ≡ before)
-GoesOn old new End before after = ClosesFrame old new before after × (new.opened ≡ None)
+abbrev pub GoesOn : ℕ → GameView → GameView → Event → List JournalView → List JournalView → Type 0
+GoesOn workers old new Frame before after = ClosesFrame workers old new before after × (new.opened ≡ Some [])
+GoesOn workers old new (From a) before after = KeepsPacket old new a × (after ≡ before)
+GoesOn workers old new End before after = ClosesFrame workers old new before after × (new.opened ≡ None)
 
 -- a frame that is open may be closed: it has few packets, there are few frames, and there is room for its journal
 -- after so many

@@ -4,9 +4,12 @@ use client_ports::Arrival;
 use demo_lines::Event;
 use frame_phases::{FrameOut, MOST_ARRIVALS, Server, run_frame};
 use move_journal::Journal;
+use shared_moves::Gate;
 use std::alloc::{AllocError, Global};
 use std::marker::Model;
 use std::mem;
+use std::sync::Wait;
+use std::thread::Threads;
 
 /// The server, what its last frame gave out, the packets of the frame that is open, and what the frames come to so far.
 #[derive(Drop)]
@@ -37,6 +40,7 @@ impl Model for Game {
 impl Game {
     ghost use Rattle.std.specs.Prelude.{◌≡◌, None, IfOk, OnOk, OnErr, vec_capacity, vec_len};
     ghost use Rattle.arena_map.specs.Maps.{IsMap};
+    ghost use Rattle.move_phase.specs.Serving.{AreWorkers};
     ghost use Rattle.match_play.specs.Games.{new_game, ClosesFrame, KeepsPacket, GoesOn, MayClose, IsReady};
 
     /// A game in this arena, before the first event. It takes all memory but that for the packets, the moves and the
@@ -61,11 +65,19 @@ impl Game {
         self.totals
     }
 
-    /// Runs the frame that is open, and puts its journal last, for which memory was taken before. Where no frame is open
-    /// nothing happens.
-    fn close(&mut self, alloc: Global, journals: &mut Vec<Journal>) -> Result<(), AllocError>
-        requires { MayClose self.old (vec_len journals.old) (vec_capacity journals.old) }
-        ensures closed { OnOk result (ClosesFrame self.old self.new journals.old.items journals.new.items) }
+    /// Runs the frame that is open on these workers, and puts its journal last, for which memory was taken before. Where no
+    /// frame is open nothing happens.
+    fn close<R: Threads + Wait + Sync, G: Gate>(
+        &mut self,
+        rt: &R,
+        alloc: Global,
+        workers: u8,
+        gate: &G,
+        journals: &mut Vec<Journal>,
+    ) -> Result<(), AllocError>
+        requires ready { MayClose self.old (vec_len journals.old) (vec_capacity journals.old) }
+        requires workers { AreWorkers workers }
+        ensures closed { OnOk result (ClosesFrame workers self.old self.new journals.old.items journals.new.items) }
         ensures opened { OnOk result (self.new.opened ≡ None) }
         ensures capacity { vec_capacity journals.new ≡ vec_capacity journals.old }
         ensures unchanged { OnErr result (journals.new.items ≡ journals.old.items) }
@@ -75,9 +87,12 @@ impl Game {
         }
         let empty = Journal::new(alloc, MOST_ARRIVALS)?;
         run_frame(
+            rt,
             alloc,
             &mut self.server,
             self.arrivals.as_slice(),
+            workers,
+            gate,
             &mut self.out,
         )?;
         self.totals = self.totals.with_frame(&self.out, self.server.score());
@@ -87,13 +102,21 @@ impl Game {
     }
 
     /// Opens a frame, after the one before it is closed.
-    fn open(&mut self, alloc: Global, journals: &mut Vec<Journal>) -> Result<(), AllocError>
-        requires { MayClose self.old (vec_len journals.old) (vec_capacity journals.old) }
-        ensures next { OnOk result (GoesOn self.old self.new Event.Frame journals.old.items journals.new.items) }
+    fn open<R: Threads + Wait + Sync, G: Gate>(
+        &mut self,
+        rt: &R,
+        alloc: Global,
+        workers: u8,
+        gate: &G,
+        journals: &mut Vec<Journal>,
+    ) -> Result<(), AllocError>
+        requires ready { MayClose self.old (vec_len journals.old) (vec_capacity journals.old) }
+        requires workers { AreWorkers workers }
+        ensures next { OnOk result (GoesOn workers self.old self.new Event.Frame journals.old.items journals.new.items) }
         ensures capacity { vec_capacity journals.new ≡ vec_capacity journals.old }
         ensures unchanged { OnErr result (journals.new.items ≡ journals.old.items) }
     {
-        self.close(alloc, journals)?;
+        self.close(rt, alloc, workers, gate, journals)?;
         self.arrivals.clear();
         self.is_open = true;
         Ok(())
@@ -110,21 +133,25 @@ impl Game {
     }
 
     /// Goes on by an event, and puts the journal of the frame that it closes last.
-    pub fn take(
+    pub fn take<R: Threads + Wait + Sync, G: Gate>(
         &mut self,
+        rt: &R,
         alloc: Global,
         event: Event,
+        workers: u8,
+        gate: &G,
         journals: &mut Vec<Journal>,
     ) -> Result<(), AllocError>
-        requires { IsReady self.old event (vec_len journals.old) (vec_capacity journals.old) }
-        ensures next { OnOk result (GoesOn self.old self.new event journals.old.items journals.new.items) }
+        requires ready { IsReady self.old event (vec_len journals.old) (vec_capacity journals.old) }
+        requires workers { AreWorkers workers }
+        ensures next { OnOk result (GoesOn workers self.old self.new event journals.old.items journals.new.items) }
         ensures capacity { vec_capacity journals.new ≡ vec_capacity journals.old }
         ensures unchanged { OnErr result (journals.new.items ≡ journals.old.items) }
     {
         match event {
-            Event::Frame => self.open(alloc, journals),
+            Event::Frame => self.open(rt, alloc, workers, gate, journals),
             Event::From(arrival) => self.push(arrival),
-            Event::End => self.close(alloc, journals),
+            Event::End => self.close(rt, alloc, workers, gate, journals),
         }
     }
 }

@@ -31,6 +31,27 @@ returns-clause-match_status g c = λ seed players frames workers is. rw (c.comma
 pub returns-clause-complete_match : goal.returns-clause-complete_match
 returns-clause-complete_match g c = λ seed players frames workers is. rw (c.command_of.ensures.only (Match seed players frames workers) is) at c.perform.ensures.complete_match
 
+pub returns-clause-taken_once : goal.returns-clause-taken_once
+returns-clause-taken_once g c = λ n is. rw (c.command_of.ensures.only (Play n) is) at c.perform.ensures.taken_once
+
+pub returns-clause-done : goal.returns-clause-done
+returns-clause-done g c = λ n is. rw (c.command_of.ensures.only (Play n) is) at c.perform.ensures.done
+
+pub returns-clause-refused : goal.returns-clause-refused
+returns-clause-refused g c = λ n is. rw (c.command_of.ensures.only (Play n) is) at c.perform.ensures.refused
+
+pub returns-clause-read_fault : goal.returns-clause-read_fault
+returns-clause-read_fault g c = λ n is. rw (c.command_of.ensures.only (Play n) is) at c.perform.ensures.read_fault
+
+pub returns-clause-write_fault : goal.returns-clause-write_fault
+returns-clause-write_fault g c = λ n is. rw (c.command_of.ensures.only (Play n) is) at c.perform.ensures.write_fault
+
+pub returns-clause-memory : goal.returns-clause-memory
+returns-clause-memory g c = λ n is. rw (c.command_of.ensures.only (Play n) is) at c.perform.ensures.memory
+
+pub returns-clause-sure_writes : goal.returns-clause-sure_writes
+returns-clause-sure_writes g c = λ n is. rw (c.command_of.ensures.only (Play n) is) at c.perform.ensures.sure_writes
+
 pub returns-clause-complete : goal.returns-clause-complete
 returns-clause-complete g c = λ n is. rw (c.command_of.ensures.only (Play n) is) at c.perform.ensures.complete
 

@@ -2,6 +2,7 @@ ghost use Rattle.std.specs.Prelude.{None};
 
 use crate::serve;
 use edge_io::{Failed, Sink, Source};
+use shared_moves::NoGate;
 use std::cell::Cell;
 use std::test::Fail;
 
@@ -100,7 +101,14 @@ fn each_frame_is_written_before_more_is_read(rt: HostRuntime) -> Result<(), Fail
             has_ended: false,
         };
         let mut meter = Meter { written: &written };
-        let report = serve(rt.alloc(), &["play", "1"], &mut pipe, &mut meter);
+        let report = serve(
+            &rt,
+            rt.alloc(),
+            &["play", "1"],
+            &mut pipe,
+            &mut meter,
+            &NoGate,
+        );
         assert_eq!(rt; report.status, status);
         assert!(rt; !pipe.is_early);
         assert!(rt; !pipe.is_overread);

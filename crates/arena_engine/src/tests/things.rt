@@ -1,11 +1,14 @@
 use crate::serve;
 use edge_io::{MemSink, MemSource};
+use shared_moves::NoGate;
 use std::alloc::AllocGlobal;
 use std::process::Abort;
+use std::sync::Wait;
 use std::test::Fail;
+use std::thread::Threads;
 
 /// Two players that reach for one item from both sides.
-const ONE_ITEM: &str =
+pub const ONE_ITEM: &str =
     "arena -131072 -131072 0 131072 131072 65536\nspawn 24096 14000 6144\nspawn 24096 -14000 6144\nitem 20000 -4096 0 ammo 100\nframe\nfrom 7 0101\nfrom 8 0101\nfrom 7 010201000000320000c0fe00\nfrom 8 010201000000320000400100\nend\n";
 
 const ONE_ITEM_LINES: &str =
@@ -33,10 +36,21 @@ const PRESSED_OUTPUT: &str =
     "frame 0\njoined 7 0\nto 0 0100000000000000000000000000002c0000000000000000000000000000000000000000000000000001004000050100ceffff00ceffff000a0000\nframe 1\nto 0 0101000000000000000000000000002c0000000000000000000000000000000000000000000000000001004000050100ceffff00ceffff000a0000\nend 2\n";
 
 /// Plays a recording, and compares how its output begins.
-fn expect_front(rt: &(impl AllocGlobal + Abort), recording: &str, front: &str) -> Result<(), Fail> {
+fn expect_front(
+    rt: &(impl AllocGlobal + Abort + Threads + Wait + Sync),
+    recording: &str,
+    front: &str,
+) -> Result<(), Fail> {
     let mut source = MemSource::new(recording.as_bytes(), 1_000, &[]);
     let mut sink = MemSink::new(rt.alloc(), 10_000, 1_000)?;
-    let report = serve(rt.alloc(), &["play", "1"], &mut source, &mut sink);
+    let report = serve(
+        rt,
+        rt.alloc(),
+        &["play", "1"],
+        &mut source,
+        &mut sink,
+        &NoGate,
+    );
     assert_eq!(rt; report.status, 0);
     assert!(rt; sink.bytes().starts_with(front.as_bytes()));
     assert!(rt; sink.bytes().ends_with(b"\n"));

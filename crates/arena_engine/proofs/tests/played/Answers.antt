@@ -17,7 +17,7 @@ carried bytes left room more same_bytes same_room whole fits =
     subst P (sym same_bytes) (whole, subst Q (sym same_room) fits)
 
 pub returns : goal.returns
-returns c =
+returns g c =
     let P : List ℕ → Type 0 = All (λ call. call < c.new-source.result.calls) in
     c.serve.ensures.surely_complete 1 (is_play _ refl) (subst P (sym c.new-source.ensures.fails) (no_call c.new-source.result.calls))
     (carried c.args.recording.now c.new-source.result.left c.args.room (c.in_ok-sink.sink.room - length c.in_ok-sink.sink.taken) c.new-source.ensures.left
