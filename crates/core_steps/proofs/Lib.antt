@@ -43,7 +43,9 @@ pub mod Nexts
 pub mod Kept
 pub mod Rowing
 pub mod OneWord
+pub mod OneView
 pub mod Asking
 pub mod Places
+pub mod Rooms
 pub mod TableWords
 pub mod Fitting

@@ -61,7 +61,8 @@ pub record MayBeGiven (F : Fixed) (m : Machine) (i : ℕ) (c : Command) : Type 0
   pub busy_apart : (j : ℕ) → (j == i) ≡ false → is_busy (stage_of (m.core.view j).point) ≡ true
       → (c.slot == (m.core.view j).cmd.slot) ≡ false
 
--- the condition of a call; a seat may be asked to give up at any take before its commit
+-- the condition of a call; a seat may be asked to give up at any take before its commit, and where the commit comes
+-- next
 abbrev pub MayBeCalled : Fixed → Machine → Call → Type 0
 MayBeCalled F m (Give i c) = MayBeGiven F m i c
 MayBeCalled F m (Go i) = Unit {0}

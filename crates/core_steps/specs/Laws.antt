@@ -59,7 +59,8 @@ GivenNodeStands =
     → next_give (core.view i).point (core.view i).wanted ≡ Some node
     → Stands F core history now → Stands F (give_node F core i node) history now
 
--- the first node that is given back by a seat that gives up, at any take before its commit, leaves what stands
+-- the first node that is given back by a seat that gives up, at any take before its commit or where the commit comes
+-- next, leaves what stands
 abbrev pub YieldedNodeStands : Type 0
 YieldedNodeStands =
     (F : Fixed) (core : Core) (history : List Item) (now : World) (i node : ℕ) → is_taking (core.view i).point ≡ true

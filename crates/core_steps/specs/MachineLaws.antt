@@ -1,7 +1,7 @@
 -- What the machine keeps.
 use Rattle.std.specs.Prelude.{◌≡◌, ℕ, ◌<◌, ◌==◌, length, true, false, if◌then◌else◌, is_some, List, [], ◌∷◌, ◌++◌}
 use Rattle.std.specs.Prelude.{Some, map, All, ◌≤◌, ◌^◌}
-use Rattle.std.specs.List.{range_with_len}
+use Rattle.std.specs.List.{range_with_len, sum_by}
 use Rattle.std.specs.List.Sorted.{IsStrictlyIncreasing, IsPermutation}
 use Rattle.entity_recs.specs.Actions.{HasPlayer, IsCall}
 use Rattle.core_steps.specs.Cells.{word_in, cell_of}
@@ -14,7 +14,7 @@ use Rattle.core_steps.specs.Views.{Loading, stage_of, is_open}
 use Rattle.core_steps.specs.Views.{is_whole, nodes_of}
 use Rattle.core_steps.specs.Views.{loaded_near, Ended, View}
 use Rattle.core_steps.specs.Steps.{Core}
-use Rattle.core_steps.specs.Steps.{refuse_node, is_taking}
+use Rattle.core_steps.specs.Steps.{refuse_node, is_taking, make_seat, end_seat, load_count}
 use Rattle.core_steps.specs.Machine.{Next, Machine, MachineStands}
 use Rattle.core_steps.specs.Calls.{StandsSomehow, SomeGoesOn, MayBeGiven, Call}
 use Rattle.core_steps.specs.Machine.{items_after, machine_after, next_of}
@@ -44,7 +44,7 @@ NextStepStands =
     → MachineStands F (machine_after F m i next)
     (history ++ items_after m.core i next) (run F.effect_of now (items_after m.core i next))
 
--- a seat that is asked to give up, at any take before its commit, leaves what stands
+-- a seat that is asked to give up, at any take before its commit or where the commit comes next, leaves what stands
 abbrev pub QuittingStands : Type 0
 QuittingStands =
     (F : Fixed) (m : Machine) (history : List Item) (now : World) (i : ℕ) → is_taking (m.core.view i).point ≡ true
@@ -82,6 +82,23 @@ StepsChangeOneWord =
     (F : Fixed) (core : Core) (i index : ℕ) (next : Next)
     → (index == index_of (nodes_of F) (core.view i) next) ≡ false
     → word_at (nodes_of F) (core_after F core i next).words index ≡ word_at (nodes_of F) core.words index
+
+-- a step of a seat, which may be a refused take, and its load of the count change no view but that seat's; a command
+-- that is given to it, and that it is asked to give up, change no view and no word; a seat that is made changes its own
+-- view and that of seat 0 alone, and so does one that is ended
+pub record KeepsOtherViews (F : Fixed) (m : Machine) (i : ℕ) : Type 0 where
+  pub step : (next : Next) (j : ℕ) → (j == i) ≡ false
+      → (machine_after F m i next).core.view j ≡ m.core.view j
+  pub count : (j : ℕ) → (j == i) ≡ false → (load_count m.core i).view j ≡ m.core.view j
+  pub given : (c : Command) → (with_given m i c).core ≡ m.core
+  pub quitting : (with_quitting m i).core ≡ m.core
+  pub made : (room j : ℕ) → (j == (m.core.view 0).made) ≡ false → (j == 0) ≡ false
+      → (make_seat m.core room).view j ≡ m.core.view j
+  pub ended : (j : ℕ) → (j == i) ≡ false → (j == 0) ≡ false → (end_seat m.core i).view j ≡ m.core.view j
+
+-- a step changes the view of its own seat alone
+abbrev pub StepsChangeOneView : Type 0
+StepsChangeOneView = (F : Fixed) (m : Machine) (i : ℕ) → KeepsOtherViews F m i
 
 -- a take of a held node changes nothing but the record of the refused take in the view of its seat
 abbrev pub RefusedTakesChangeTheirRecord : Type 0
@@ -135,6 +152,25 @@ abbrev pub EachPlaceIsLoggedOnce : Type 0
 EachPlaceIsLoggedOnce =
     (F : Fixed) (core : Core) (history : List Item) (now : World) → Stands F core history now
     → HasItsPlaces core history
+
+-- the room of an ended seat with this number
+abbrev pub ended_room : List Ended → ℕ → ℕ
+ended_room [] n = 0
+ended_room (e ∷ ended) n = if e.number == n then e.room else ended_room ended n
+
+-- the room under a number: a seat's, or that of an ended seat
+abbrev pub room_of : (ℕ → View) → ℕ → ℕ
+room_of view n = if (view n).live then (view n).room else ended_room (view 0).ended n
+
+-- the rooms under the numbers that were given out
+abbrev pub rooms_of : (ℕ → View) → List ℕ
+rooms_of view = map (room_of view) (range_with_len 0 (view 0).made)
+
+-- the count of commits is at most the sum of the rooms of all seats, those that were ended too
+abbrev pub CountIsWithinTheRooms : Type 0
+CountIsWithinTheRooms =
+    (F : Fixed) (core : Core) (history : List Item) (now : World) → Stands F core history now
+    → core.words.commits ≤ sum_by (λ (room : ℕ). room) (rooms_of core.view)
 
 -- the word of what comes next lies in the table at the step's index, before the step and after it
 pub record HasItsWord (F : Fixed) (core : Core) (i : ℕ) (next : Next) : Type 0 where

@@ -205,7 +205,8 @@ give_node F core i node = with_node core node 0 i (view_after_give F (core.view 
 
 -- ---- giving up
 
--- a node is to be taken next, so that the command may be given up where the take was refused
+-- the command may be given up here: a node is to be taken next, or no write node is left to be taken and the commit
+-- comes next
 abbrev pub is_taking : Point → Bool
 is_taking Idle = false
 is_taking Owning = false

@@ -267,7 +267,7 @@ is_read_again AtReleasing = true
 is_read_again AtReturning = false
 is_read_again AtYielding = false
 
--- inner nodes are held to write
+-- the inner nodes that are held, if any, are held to write
 abbrev pub is_writing : Stage → Bool
 is_writing AtRest = false
 is_writing AtOwning = false

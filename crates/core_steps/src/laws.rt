@@ -35,7 +35,8 @@ pub fn given_node_stands()
     ensures { GivenNodeStands }
 {}
 
-/// Giving up: the first node that is given back, at any take before the commit, keeps what stands.
+/// Giving up: the first node that is given back, at any take before the commit or where the commit comes next, keeps what
+/// stands.
 pub fn yielded_node_stands()
     ensures { YieldedNodeStands }
 {}
@@ -70,12 +71,12 @@ pub fn begun_move_stands()
     ensures { BegunMoveStands }
 {}
 
-/// A further word of the own record, keeps what stands.
+/// A further word of the own record that is loaded keeps what stands.
 pub fn loaded_own_stands()
     ensures { LoadedOwnStands }
 {}
 
-/// A word of the own record that is loaded again, keeps what stands.
+/// A word of the own record that is loaded again keeps what stands.
 pub fn loaded_again_stands()
     ensures { LoadedAgainStands }
 {}
@@ -85,12 +86,12 @@ pub fn loaded_list_stands()
     ensures { LoadedListStands }
 {}
 
-/// A word of another player's record, keeps what stands.
+/// A word of another player's record that is loaded keeps what stands.
 pub fn loaded_player_stands()
     ensures { LoadedPlayerStands }
 {}
 
-/// The state of a thing of the map, keeps what stands.
+/// The state of a thing of the map that is loaded keeps what stands.
 pub fn loaded_state_stands()
     ensures { LoadedStateStands }
 {}

@@ -3,7 +3,7 @@ ghost use Rattle.core_steps.specs.MachineLaws.{EachMachineStands, NextExists, Lo
 ghost use Rattle.core_steps.specs.MachineLaws.{StepsChangeOneWord, RefusedTakesChangeTheirRecord, RegionMayBeAsked};
 ghost use Rattle.core_steps.specs.MachineLaws.{LoadedRecordIsTaken, EffectMayBeAsked, EachPlaceIsLoggedOnce};
 ghost use Rattle.core_steps.specs.MachineLaws.{StepsHaveTheirWord, EachViewReadsLittle};
-ghost use Rattle.core_steps.specs.MachineLaws.{LogHoldsTheCommandsKept};
+ghost use Rattle.core_steps.specs.MachineLaws.{LogHoldsTheCommandsKept, StepsChangeOneView, CountIsWithinTheRooms};
 ghost use Rattle.core_steps.specs.Rows.{FirstView, NearRow};
 
 /// What the machine keeps holds at the start: a seat for each room, no command given, and no history.
@@ -22,7 +22,8 @@ pub fn next_step_stands()
     ensures { NextStepStands }
 {}
 
-/// A seat that is asked to give up, at any take before its commit, keeps what holds of the machine.
+/// A seat that is asked to give up, at any take before its commit or where the commit comes next, keeps what holds of the
+/// machine.
 pub fn quitting_stands()
     ensures { QuittingStands }
 {}
@@ -53,6 +54,13 @@ pub fn steps_change_one_word()
     ensures { StepsChangeOneWord }
 {}
 
+/// A step of a seat, also a take that is refused or a load of the count, changes no view but that seat's; giving a seat a
+/// command, and asking it to give up, change no view and no word; making or ending a seat changes its own view and that of
+/// seat 0 alone.
+pub fn steps_change_one_view()
+    ensures { StepsChangeOneView }
+{}
+
 /// A take of a held node changes nothing but the record of the refused take in the view of its seat.
 pub fn refused_takes_change_their_record()
     ensures { RefusedTakesChangeTheirRecord }
@@ -76,6 +84,11 @@ pub fn effect_may_be_asked()
 /// Each place below the count of commits is in one log, once, and the places of each log rise.
 pub fn each_place_is_logged_once()
     ensures { EachPlaceIsLoggedOnce }
+{}
+
+/// The count of commits is at most the sum of the rooms of all seats, those that were ended too.
+pub fn count_is_within_the_rooms()
+    ensures { CountIsWithinTheRooms }
 {}
 
 /// Each step is one on a word of the table: the step's index lies in the table, and there the word is found that the step
