@@ -3,9 +3,12 @@ use Rattle.std.proofs.Common.{◌≡◌, ℕ, zero, suc, ◌+◌, ◌<◌, ◌�
 use Rattle.std.specs.Prelude.{filter, not, nat_lt, nat_le, Option, Some, None, if◌then◌else◌}
 use Rattle.std.specs.List.{filter_map, cons_option}
 use Rattle.std.specs.List.Sorted.{IsStrictlyIncreasing}
-use Rattle.std.proofs.lemmas.Bool.{cases_Bool, eq-eqb, ne_eqb, cond-true, cond-false, leb-true, leb-false}
+use Rattle.std.proofs.lemmas.Bool.{cases_Bool, false≢true, eq-eqb, ne_eqb, cond-true, cond-false, leb-true, leb-false}
 use Rattle.std.proofs.Math.ListN.{get_or-map}
-use Rattle.std.proofs.lemmas.List.{length-map, take_more}
+use Rattle.std.proofs.lemmas.List.{length-map, map-append, take_more, get_or-set_other}
+use Rattle.std.proofs.Math.ListN.{set}
+use Rattle.core_machine.specs.Seats.{player_read_of}
+use Rattle.core_machine.specs.declared.seat.PlayerRead.{PlayerRead as PlayerParts}
 use Rattle.std.proofs.lemmas.List.Elements.{All-get_or, filter_map-append}
 use Rattle.std.proofs.lemmas.List.Kept.{AllPairs-from_increasing}
 use Rattle.arena_geo.specs.Bounds.{Bounds}
@@ -148,3 +151,34 @@ pub near_same : (h : Rec → Option Rec) (xs : List Rec) (k : ℕ) (d : Rec) →
 near_same h xs k d below is =
     ap (filter_map h) (take_more xs k d below) ∙ filter_map-append h (take k xs) (get_or xs k d ∷ [])
     ∙ ap (λ (o : Option Rec). filter_map h (take k xs) ++ cons_option o []) is ∙ append-nil (filter_map h (take k xs))
+
+-- a player of whom nothing was loaded, neither in a list nor in one more place
+none_in_more : (xs : List PlayerRead) (x : PlayerRead) (slot : ℕ) → player_at xs slot ≡ None → (x.slot ≡ slot → ⊥)
+    → player_at (xs ++ x ∷ []) slot ≡ None
+none_in_more [] x slot none other = cond-false (x.slot == slot) (Some x.words) None (ne_eqb x.slot slot other)
+none_in_more (y ∷ xs) x slot none other = by_test (y.slot == slot) none (λ rest. none_in_more xs x slot rest other)
+  where
+    by_test : (b : Bool) → (if b then Some y.words else player_at xs slot) ≡ None
+        → (player_at xs slot ≡ None → player_at (xs ++ x ∷ []) slot ≡ None)
+        → (if b then Some y.words else player_at (xs ++ x ∷ []) slot) ≡ None
+    by_test true none more = cc
+    by_test false none more = more none
+
+-- a place that is set is set, or there is no such place
+set_there : (slots : List Bool) (k : ℕ) → get_or (set slots k true) k true ≡ true
+set_there [] k = refl
+set_there (b ∷ slots) zero = refl
+set_there (b ∷ slots) (suc k) = set_there slots k
+
+-- the slots of one more player that was loaded
+pub slots_more : (slots : List Bool) (xs : List PlayerParts) (i : ℕ) (d : PlayerParts) → i < length xs
+    → ((slot : ℕ) → get_or slots slot true ≡ false → player_at (map player_read_of (take i xs)) slot ≡ None)
+    → (slot : ℕ) → get_or (set slots (get_or xs i d).slot true) slot true ≡ false
+    → player_at (map player_read_of (take (i + 1) xs)) slot ≡ None
+slots_more slots xs i d below each slot unset =
+    let x = get_or xs i d in
+    let other : x.slot ≡ slot → ⊥ = λ same. absurd (false≢true (sym unset ∙ (ap (λ n. get_or (set slots x.slot true) n true) (sym same) ∙ set_there slots x.slot))) in
+    let before = each slot (sym (get_or-set_other slots x.slot slot true true (λ same. other (sym same))) ∙ unset) in
+    ap (λ rs. player_at (map player_read_of rs) slot) (take_more xs i d below)
+    ∙ ap (λ rs. player_at rs slot) (map-append player_read_of (take i xs) (x ∷ []))
+    ∙ none_in_more (map player_read_of (take i xs)) (player_read_of x) slot before other

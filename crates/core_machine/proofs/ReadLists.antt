@@ -1,6 +1,6 @@
 -- What was read, in a list.
 use Rattle.std.proofs.Common.{◌≡◌, ℕ, ◌+◌, ◌*◌, ◌<◌, ◌≤◌, ◌==◌, Bool, true, false, List, [], ◌∷◌, ◌++◌, length, take, drop, get_or, map, refl, ap, add-one, drop-cons, arith}
-use Rattle.std.specs.Prelude.{filter, not, Some, if◌then◌else◌}
+use Rattle.std.specs.Prelude.{filter, not, is_some, Some, if◌then◌else◌}
 use Rattle.std.specs.Prelude.{All, ◌^◌, ◌%◌, ◌-◌}
 use Rattle.std.proofs.lemmas.Nat.{pow_below}
 use Rattle.std.proofs.Math.Nat.{pow-le-pow_right}
@@ -61,3 +61,15 @@ pub leaf_small : (nodes : List ℕ) (k word s : ℕ) → k < length nodes → Al
 leaf_small nodes k word s below all is small =
     let low = leaf_low nodes k s below all is in
     omega (arith, low_leaf s low, small_leaf s low)
+
+-- without what was loaded of a player of whom nothing was, the list is the same
+pub none_dropped : (slot : ℕ) (xs : List PlayerRead) → is_some (player_at (map player_read_of xs) slot) ≡ false
+    → filter (λ (r : PlayerRead). not (r.slot == slot)) xs ≡ xs
+none_dropped slot [] none = refl
+none_dropped slot (x ∷ xs) none = by_test (x.slot == slot) none (none_dropped slot xs)
+  where
+    by_test : (b : Bool) → is_some (if b then Some x.words else player_at (map player_read_of xs) slot) ≡ false
+        → (is_some (player_at (map player_read_of xs) slot) ≡ false → filter (λ (r : PlayerRead). not (r.slot == slot)) xs ≡ xs)
+        → (if not b then x ∷ filter (λ (r : PlayerRead). not (r.slot == slot)) xs else filter (λ (r : PlayerRead). not (r.slot == slot)) xs) ≡ x ∷ xs
+    by_test true none same = cc
+    by_test false none same = ap (λ rs. x ∷ rs) (same none)

@@ -3,6 +3,7 @@ use Rattle.std.specs.Prelude.{◌<◌, map}
 use Rattle.core_steps.specs.Views as views
 use Rattle.core_machine.specs.declared.point.Store.{Store}
 use Rattle.core_machine.specs.declared.point.Store.TheVariants.{Clear, Put, Link}
+use Rattle.core_machine.specs.declared.point.Queues.{Queues}
 use Rattle.core_machine.specs.declared.point.Point.{Point}
 use Rattle.core_machine.specs.declared.point.Point.TheVariants.{Idle, Owning, Taking, Checking, Entering, Entered}
 use Rattle.core_machine.specs.declared.point.Point.TheVariants.{Loading, Leaving, Sensing, Resolving, Claiming, Storing}
@@ -15,23 +16,23 @@ store_of (Clear node) = views.Clear node
 store_of (Put cell x) = views.Put (cell_in cell) x
 store_of (Link node) = views.Link node
 
--- the point of the definitions
-abbrev pub point_of : Point → views.Point
-point_of Idle = views.Idle
-point_of Owning = views.Owning
-point_of (Taking got rest) = views.Taking got.items rest.items
-point_of Checking = views.Checking
-point_of (Entering node plan) = views.Entering node plan.items
-point_of (Entered node plan) = views.Entered node plan.items
-point_of (Loading node part players plan) = views.Loading node part.items players.items plan.items
-point_of (Leaving node plan) = views.Leaving node plan.items
-point_of (Sensing ids) = views.Sensing ids.items
-point_of Resolving = views.Resolving
-point_of (Claiming got rest) = views.Claiming got.items rest.items
-point_of (Storing nodes stores) = views.Storing nodes.items (map store_of stores.items)
-point_of (Releasing nodes) = views.Releasing nodes.items
-point_of (Returning leaves) = views.Returning leaves.items
-point_of (Yielding nodes leaves) = views.Yielding nodes.items leaves.items
+-- the point of the definitions, with the lists that it speaks of
+abbrev pub point_of : Queues → Point → views.Point
+point_of qs Idle = views.Idle
+point_of qs Owning = views.Owning
+point_of qs Taking = views.Taking qs.got.items qs.rest.items
+point_of qs Checking = views.Checking
+point_of qs (Entering node) = views.Entering node qs.plan.items
+point_of qs (Entered node) = views.Entered node qs.plan.items
+point_of qs (Loading node) = views.Loading node qs.part.items qs.players.items qs.plan.items
+point_of qs (Leaving node) = views.Leaving node qs.plan.items
+point_of qs Sensing = views.Sensing qs.ids.items
+point_of qs Resolving = views.Resolving
+point_of qs Claiming = views.Claiming qs.got.items qs.rest.items
+point_of qs Storing = views.Storing qs.got.items (map store_of qs.stores.items)
+point_of qs Releasing = views.Releasing qs.got.items
+point_of qs Returning = views.Returning qs.rest.items
+point_of qs Yielding = views.Yielding qs.got.items qs.rest.items
 
 -- the store is one in the arrays
 abbrev pub IsStoreOf : Store → Type 0

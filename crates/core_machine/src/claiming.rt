@@ -2,12 +2,11 @@ ghost use Rattle.std.specs.Prelude.{◌≡◌};
 ghost use Rattle.core_steps.specs.Steps.{first};
 
 use crate::committing::same_effect;
-use crate::lists::{copied, one, pop_first, with_last, without_first};
-use crate::plan::taking;
+use crate::lists::one;
 use crate::point::{NodeList, Point};
+use crate::queue::Queue;
 use crate::rules::Rules;
 use crate::seat::Seat;
-use arrayvec::ArrayVec;
 use entity_recs::{Action, Effect};
 
 /// The first of these nodes, if any.
@@ -21,7 +20,7 @@ fn first_of(nodes: &NodeList) -> Option<u8>
 }
 
 impl Seat {
-    ghost use Rattle.std.specs.Prelude.{◌≡◌, ◌<◌, ◌+◌, ◌^◌, ◌==◌, ◌∷◌, [], ℕ, List, Some, length, if◌then◌else◌};
+    ghost use Rattle.std.specs.Prelude.{◌≡◌, ◌<◌, ◌+◌, ◌^◌, ◌==◌, ◌∷◌, ◌++◌, [], ℕ, List, Some, length, if◌then◌else◌};
     ghost use Rattle.entity_recs.specs.declared.effect.Effect.{Effect};
     ghost use Rattle.entity_recs.specs.Actions.{IsCommand};
     ghost use Rattle.entity_recs.specs.Records.{IsRecord};
@@ -30,63 +29,65 @@ impl Seat {
     ghost use Rattle.core_steps.specs.Steps as steps;
     ghost use Rattle.core_steps.specs.Machine.{resolving};
     ghost use Rattle.core_machine.specs.Going.{view_found};
-    ghost use Rattle.core_machine.specs.Points.{point_of};
     ghost use Rattle.core_machine.specs.Seats.{view_of, hand_of};
     ghost use Rattle.core_machine.specs.Shown.{fixed_of};
 
     /// The node that is taken next, where no effect enters the view.
     pub(crate) fn next_take(&self) -> Option<u8>
-        ensures { result ≡ steps.next_take (point_of self.now.point) }
+        ensures { result ≡ steps.next_take (view_of self.now).point }
     {
-        match &self.point {
-            Point::Taking { rest, .. } | Point::Claiming { rest, .. } => first_of(rest),
-            Point::Entering { node, .. } => Some(*node),
+        match self.point {
+            Point::Taking | Point::Claiming => first_of(&self.queues.rest),
+            Point::Entering { node } => Some(node),
             Point::Idle
             | Point::Owning
             | Point::Checking
             | Point::Entered { .. }
             | Point::Loading { .. }
             | Point::Leaving { .. }
-            | Point::Sensing { .. }
+            | Point::Sensing
             | Point::Resolving
-            | Point::Storing { .. }
-            | Point::Releasing { .. }
-            | Point::Returning { .. }
-            | Point::Yielding { .. } => None,
+            | Point::Storing
+            | Point::Releasing
+            | Point::Returning
+            | Point::Yielding => None,
         }
+    }
+
+    /// The node is got, and the first of the rest no longer to be taken.
+    fn got_first(&mut self, node: u8)
+        requires { length self.old.queues.got.items < 31 }
+        ensures got { self.new.queues.got.items ≡ self.old.queues.got.items ++ node ∷ [] }
+        ensures rest { self.new.queues.rest.items ≡ steps.rest_of self.old.queues.rest.items }
+        ensures view { (point : views.Point) → record (view_of self.new) { point = point } ≡ record (view_of self.old) { point = point } }
+        ensures point { self.new.point ≡ self.old.point }
+    {
+        self.queues.got.push(node);
+        let _ = self.queues.rest.pop_first();
     }
 
     /// The node that comes next, which was free, is taken.
     fn taken(&mut self, node: u8)
-        requires leaves { (got rest : List ℕ) → point_of self.old.point ≡ views.Taking got rest → length got < 31 }
-        requires nodes { (got rest : List ℕ) → point_of self.old.point ≡ views.Claiming got rest → length got < 31 }
+        requires leaves { (got rest : List ℕ) → (view_of self.old).point ≡ views.Taking got rest → length got < 31 }
+        requires nodes { (got rest : List ℕ) → (view_of self.old).point ≡ views.Claiming got rest → length got < 31 }
         ensures { view_of self.new ≡ steps.view_after_take node (view_of self.old) }
     {
-        match &self.point {
-            Point::Taking { got, rest } => {
-                let got = with_last(got, node);
-                let rest = without_first(rest);
-                self.point = taking(got, rest);
+        match self.point {
+            Point::Taking => {
+                self.got_first(node);
+                self.taking();
             }
-            Point::Entering { node, plan } => {
-                let node = *node;
-                let plan = copied(plan);
-                self.point = Point::Entered { node, plan };
-            }
-            Point::Claiming { got, rest } => {
-                let got = with_last(got, node);
-                let rest = without_first(rest);
-                self.point = Point::Claiming { got, rest };
-            }
+            Point::Entering { node } => self.point = Point::Entered { node },
+            Point::Claiming => self.got_first(node),
             _ => {}
         }
     }
 
     /// The node that comes next is taken where its word was 0, and its take is refused where it wasn't.
     pub(crate) fn take_next(&mut self, found: u64)
-        requires leaves { (got rest : List ℕ) → point_of self.old.point ≡ views.Taking got rest → length got < 31 }
-        requires nodes { (got rest : List ℕ) → point_of self.old.point ≡ views.Claiming got rest → length got < 31 }
-        ensures { (node : ℕ) → steps.next_take (point_of self.old.point) ≡ Some node → view_of self.new ≡ (if found == 0
+        requires leaves { (got rest : List ℕ) → (view_of self.old).point ≡ views.Taking got rest → length got < 31 }
+        requires nodes { (got rest : List ℕ) → (view_of self.old).point ≡ views.Claiming got rest → length got < 31 }
+        ensures { (node : ℕ) → steps.next_take (view_of self.old).point ≡ Some node → view_of self.new ≡ (if found == 0
             then steps.view_after_take node (view_of self.old)
             else steps.view_after_refusal node found (view_of self.old)) }
     {
@@ -108,16 +109,14 @@ impl Seat {
         requires room { length self.old.log.items < self.old.log.room }
         requires place { place + 1 < 2 ^ 64 }
         ensures { (e : Effect) (got rest : List ℕ) → self.old.effect ≡ Some e
-            → point_of self.old.point ≡ views.Claiming got rest
+            → (view_of self.old).point ≡ views.Claiming got rest
             → view_of self.new
             ≡ steps.view_after_commit (fixed_of A.takes A.region_of A.effect_of rules.now) place e got
             (view_of self.old) }
     {
-        let Point::Claiming { got, .. } = &self.point else {
-            return;
-        };
-        let nodes = copied(got);
-        self.commit(rules, place, nodes);
+        if matches!(self.point, Point::Claiming) {
+            self.commit(rules, place);
+        }
     }
 
     /// The write nodes of an effect on the own record as it was loaded again.
@@ -154,17 +153,17 @@ impl Seat {
             return;
         };
         let mut nodes = self.write_nodes(rules, effect);
-        match pop_first(&mut nodes) {
+        match nodes.pop_first() {
             None => {
                 self.effect = Some(same_effect(effect));
-                self.commit(rules, found, ArrayVec::new());
+                self.queues.got = Queue::new();
+                self.commit(rules, found);
             }
             Some(node) if found == 0 => {
                 self.effect = Some(same_effect(effect));
-                self.point = Point::Claiming {
-                    got: one(node),
-                    rest: nodes,
-                };
+                self.queues.got = one(node);
+                self.queues.rest = nodes;
+                self.point = Point::Claiming;
             }
             Some(node) => self.refuse(node, found),
         }

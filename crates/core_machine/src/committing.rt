@@ -6,13 +6,11 @@ ghost use Rattle.core_steps.specs.Views as views;
 ghost use Rattle.core_steps.specs.Views.{body_stores};
 ghost use Rattle.core_machine.specs.Points.{store_of};
 
-use crate::lists::{copied, without_first_store};
-use crate::plan::storing;
-use crate::point::{Cell, NodeList, Point, Store, StoreList};
+use crate::point::{Cell, Point, Store, StoreList};
+use crate::queue::Queue;
 use crate::reading::read_record;
 use crate::rules::Rules;
 use crate::seat::Seat;
-use arrayvec::ArrayVec;
 use core_steps::{PlayerWords, encode};
 use entity_recs::{Action, Effect, Entry, Rec, StateList};
 use move_journal::same_reply;
@@ -56,16 +54,14 @@ fn own_stores(slot: u8, old: u8, words: &PlayerWords, state: u64) -> StoreList
     ensures few { length result.items ≡ 7 }
 {
     let [first, second, third, fourth, fifth] = *words;
-    let mut stores = ArrayVec::new();
-    let _ = stores.try_extend_from_slice(&[
-        Store::Clear(old),
-        Store::Put(Cell::Body(slot, 0), first),
-        Store::Put(Cell::Body(slot, 1), second),
-        Store::Put(Cell::Body(slot, 2), third),
-        Store::Put(Cell::Body(slot, 3), fourth),
-        Store::Put(Cell::Body(slot, 4), fifth),
-        Store::Put(Cell::State(u16::from(slot)), state),
-    ]);
+    let mut stores = Queue::new();
+    stores.push(Store::Clear(old));
+    stores.push(Store::Put(Cell::Body(slot, 0), first));
+    stores.push(Store::Put(Cell::Body(slot, 1), second));
+    stores.push(Store::Put(Cell::Body(slot, 2), third));
+    stores.push(Store::Put(Cell::Body(slot, 3), fourth));
+    stores.push(Store::Put(Cell::Body(slot, 4), fifth));
+    stores.push(Store::Put(Cell::State(u16::from(slot)), state));
     stores
 }
 
@@ -79,7 +75,6 @@ impl Seat {
     ghost use Rattle.core_steps.specs.Steps as steps;
     ghost use Rattle.core_machine.specs.Seats.{view_of, hand_of};
     ghost use Rattle.core_machine.specs.Shown.{fixed_of};
-    ghost use Rattle.core_machine.specs.Points.{point_of, store_of};
 
     /// The own record as it was loaded again.
     pub fn before(&self) -> Rec
@@ -89,15 +84,16 @@ impl Seat {
         read_record(self.hand().slot, self.again.as_slice())
     }
 
-    /// The command is committed at this place with the effect in view, where these write nodes are held.
-    pub fn commit<A: Action>(&mut self, rules: &Rules<A>, place: u64, nodes: NodeList)
+    /// The command is committed at this place with the effect in view, where all its write nodes are held.
+    pub(crate) fn commit<A: Action>(&mut self, rules: &Rules<A>, place: u64)
         requires command { IsCommand (hand_of self.old.cmd) }
         requires before { IsRecord (record_read (hand_of self.old.cmd).slot self.old.again.items) }
         requires after { (e : Effect) → self.old.effect ≡ Some e → IsRecord e.me }
         requires room { length self.old.log.items < self.old.log.room }
         requires place { place + 1 < 2 ^ 64 }
         ensures { (e : Effect) → self.old.effect ≡ Some e → view_of self.new
-            ≡ steps.view_after_commit (fixed_of A.takes A.region_of A.effect_of rules.now) place e nodes.items (view_of self.old) }
+            ≡ steps.view_after_commit (fixed_of A.takes A.region_of A.effect_of rules.now) place e self.old.queues.got.items
+            (view_of self.old) }
     {
         let cmd = self.hand();
         let before = self.before();
@@ -108,7 +104,7 @@ impl Seat {
                 seq: cmd.seq,
                 reply: same_reply(&effect.reply),
             };
-            let stores = stores_of(
+            self.queues.stores = stores_of(
                 cmd.slot,
                 rules.home(&before),
                 rules.home(&effect.me),
@@ -116,28 +112,19 @@ impl Seat {
             );
             self.log.push(cmd, entry);
             self.seen = place + 1;
-            self.point = Point::Storing { nodes, stores };
+            self.point = Point::Storing;
         }
-    }
-
-    /// The first of the stores was made.
-    pub fn stored(&mut self, nodes: NodeList, stores: StoreList)
-        ensures { view_of self.new ≡ record (view_of self.old) { point = steps.storing nodes.items (map store_of stores.items) } }
-    {
-        self.point = storing(nodes, stores);
     }
 
     /// The first of the stores that are left was made.
     pub(crate) fn store_made(&mut self)
         ensures { (nodes : List ℕ) (store : views.Store) (stores : List views.Store)
-            → point_of self.old.point ≡ views.Storing nodes (store ∷ stores)
+            → (view_of self.old).point ≡ views.Storing nodes (store ∷ stores)
             → view_of self.new ≡ record (view_of self.old) { point = steps.storing nodes stores } }
     {
-        let Point::Storing { nodes, stores } = &self.point else {
-            return;
-        };
-        let nodes = copied(nodes);
-        let stores = without_first_store(stores);
-        self.stored(nodes, stores);
+        if matches!(self.point, Point::Storing) {
+            let _ = self.queues.stores.pop_first();
+            self.storing();
+        }
     }
 }

@@ -2,11 +2,11 @@ ghost use Rattle.std.specs.Prelude.{◌≡◌};
 ghost use Rattle.core_steps.specs.Views.{visited_node};
 ghost use Rattle.core_machine.specs.Shown.{fixed_of};
 
-use crate::lists::{copied, drop_first, one, without_first};
+use crate::lists::one;
 use crate::point::{NodeList, Point};
+use crate::queue::Queue;
 use crate::rules::Rules;
 use crate::seat::Seat;
-use arrayvec::ArrayVec;
 use entity_recs::Action;
 
 /// The inner node of the present visit, where it is one.
@@ -14,7 +14,7 @@ fn visited_node<A: Action>(rules: &Rules<A>, node: u8) -> NodeList
     ensures { result.items ≡ visited_node (fixed_of A.takes A.region_of A.effect_of rules.now) node }
 {
     if rules.is_leaf(node) {
-        ArrayVec::new()
+        Queue::new()
     } else {
         one(node)
     }
@@ -27,84 +27,81 @@ impl Seat {
     ghost use Rattle.core_steps.specs.Views as views;
     ghost use Rattle.core_steps.specs.Views.{record_read};
     ghost use Rattle.core_machine.specs.Seats.{view_of, hand_of};
-    ghost use Rattle.core_machine.specs.Points.{point_of};
     ghost use Rattle.core_machine.specs.Shown.{fixed_of};
 
-    /// These leaves are to be given back, or the command is done.
-    pub fn returning(&mut self, leaves: NodeList)
-        ensures { view_of self.new ≡ steps.returning (view_of self.old) leaves.items }
+    /// The leaves that are left are to be given back, or the command is done.
+    fn returning(&mut self)
+        ensures { view_of self.new ≡ steps.returning (view_of self.old) self.old.queues.rest.items }
     {
-        if leaves.is_empty() {
+        if self.queues.rest.is_empty() {
             self.forget();
         } else {
-            self.point = Point::Returning { leaves };
+            self.point = Point::Returning;
         }
     }
 
-    /// These inner nodes and then these leaves are to be given back, or the command is given up.
-    pub fn yielding(&mut self, nodes: NodeList, leaves: NodeList)
-        ensures { view_of self.new ≡ steps.yielding (view_of self.old) nodes.items leaves.items }
+    /// The inner nodes and then the leaves that are left are to be given back, or the command is given up.
+    fn yielding(&mut self)
+        ensures { view_of self.new
+            ≡ steps.yielding (view_of self.old) self.old.queues.got.items self.old.queues.rest.items }
     {
-        if nodes.is_empty() && leaves.is_empty() {
+        if self.queues.got.is_empty() && self.queues.rest.is_empty() {
             self.forget();
         } else {
-            self.point = Point::Yielding { nodes, leaves };
+            self.point = Point::Yielding;
         }
     }
 
-    /// The first of these write nodes, or of the leaves where none is left, was given back.
-    pub fn released(&mut self, mut nodes: NodeList)
-        ensures { view_of self.new ≡ steps.released (view_of self.old) nodes.items }
+    /// The first of the write nodes, or of the leaves where none is left, was given back.
+    fn released(&mut self)
+        ensures { view_of self.new ≡ steps.released (view_of self.old) self.old.queues.got.items }
     {
-        if nodes.is_empty() {
-            let mut leaves = copied(&self.wanted);
-            drop_first(&mut leaves);
-            self.returning(leaves);
+        if self.queues.got.pop_first().is_some() {
+            self.point = Point::Releasing;
         } else {
-            nodes.remove(0);
-            self.point = Point::Releasing { nodes };
+            self.queues.rest = self.wanted.copied();
+            let _ = self.queues.rest.pop_first();
+            self.returning();
         }
     }
 
-    /// The first of these inner nodes, or of these leaves where none is left, was given back by a seat that gives up.
-    pub fn yielded(&mut self, mut nodes: NodeList, mut leaves: NodeList)
+    /// The first of the inner nodes, or of the leaves where none is left, was given back by a seat that gives up.
+    fn yielded(&mut self)
+        ensures { view_of self.new
+            ≡ steps.yielded (view_of self.old) self.old.queues.got.items self.old.queues.rest.items }
+    {
+        if self.queues.got.pop_first().is_none() {
+            let _ = self.queues.rest.pop_first();
+        }
+        self.yielding();
+    }
+
+    /// The seat begins to give up: the first of these inner nodes, or of these leaves where there is none, was given back.
+    pub(crate) fn yield_from(&mut self, nodes: NodeList, leaves: NodeList)
         ensures { view_of self.new ≡ steps.yielded (view_of self.old) nodes.items leaves.items }
     {
-        if nodes.is_empty() {
-            drop_first(&mut leaves);
-        } else {
-            nodes.remove(0);
-        }
-        self.yielding(nodes, leaves);
+        self.queues.got = nodes;
+        self.queues.rest = leaves;
+        self.yielded();
     }
 
     /// The node that comes next was given back.
     pub(crate) fn give_next<A: Action>(&mut self, rules: &Rules<A>)
-        requires { (node : ℕ) (plan : List ℕ) → point_of self.old.point ≡ views.Leaving node plan
+        requires { (node : ℕ) (plan : List ℕ) → (view_of self.old).point ≡ views.Leaving node plan
             → HasPlayer (A.takes rules.now.action)
             (record_read (hand_of self.old.cmd).slot self.old.own.items) (hand_of self.old.cmd) }
         ensures { view_of self.new
             ≡ steps.view_after_give (fixed_of A.takes A.region_of A.effect_of rules.now) (view_of self.old)
             (view_of self.old).point }
     {
-        match &self.point {
-            Point::Leaving { plan, .. } => {
-                let plan = copied(plan);
-                self.point = self.visiting(rules, plan);
+        match self.point {
+            Point::Leaving { .. } => self.visit_next(rules),
+            Point::Releasing => self.released(),
+            Point::Returning => {
+                let _ = self.queues.rest.pop_first();
+                self.returning();
             }
-            Point::Releasing { nodes } => {
-                let nodes = copied(nodes);
-                self.released(nodes);
-            }
-            Point::Returning { leaves } => {
-                let leaves = without_first(leaves);
-                self.returning(leaves);
-            }
-            Point::Yielding { nodes, leaves } => {
-                let nodes = copied(nodes);
-                let leaves = copied(leaves);
-                self.yielded(nodes, leaves);
-            }
+            Point::Yielding => self.yielded(),
             _ => {}
         }
     }
@@ -112,46 +109,44 @@ impl Seat {
     /// The inner nodes that are held.
     pub fn inner_held<A: Action>(&self, rules: &Rules<A>) -> NodeList
         ensures { result.items
-            ≡ views.inner_held (fixed_of A.takes A.region_of A.effect_of rules.now) (point_of self.now.point) }
+            ≡ views.inner_held (fixed_of A.takes A.region_of A.effect_of rules.now) (view_of self.now).point }
     {
-        match &self.point {
-            Point::Entered { node, .. }
-            | Point::Loading { node, .. }
-            | Point::Leaving { node, .. } => visited_node(rules, *node),
-            Point::Claiming { got: nodes, .. }
-            | Point::Storing { nodes, .. }
-            | Point::Releasing { nodes }
-            | Point::Yielding { nodes, .. } => copied(nodes),
+        match self.point {
+            Point::Entered { node } | Point::Loading { node } | Point::Leaving { node } => {
+                visited_node(rules, node)
+            }
+            Point::Claiming | Point::Storing | Point::Releasing | Point::Yielding => {
+                self.queues.got.copied()
+            }
             Point::Idle
             | Point::Owning
-            | Point::Taking { .. }
+            | Point::Taking
             | Point::Checking
             | Point::Entering { .. }
-            | Point::Sensing { .. }
+            | Point::Sensing
             | Point::Resolving
-            | Point::Returning { .. } => ArrayVec::new(),
+            | Point::Returning => Queue::new(),
         }
     }
 
     /// The leaves that are held, of those wanted.
     pub fn leaves_held(&self) -> NodeList
-        ensures { result.items ≡ views.leaves_held (point_of self.now.point) self.now.wanted.items }
+        ensures { result.items ≡ views.leaves_held (view_of self.now).point self.now.wanted.items }
     {
-        match &self.point {
-            Point::Idle | Point::Owning => ArrayVec::new(),
-            Point::Taking { got: leaves, .. }
-            | Point::Returning { leaves }
-            | Point::Yielding { leaves, .. } => copied(leaves),
+        match self.point {
+            Point::Idle | Point::Owning => Queue::new(),
+            Point::Taking => self.queues.got.copied(),
+            Point::Returning | Point::Yielding => self.queues.rest.copied(),
             Point::Checking
             | Point::Entering { .. }
             | Point::Entered { .. }
             | Point::Loading { .. }
             | Point::Leaving { .. }
-            | Point::Sensing { .. }
+            | Point::Sensing
             | Point::Resolving
-            | Point::Claiming { .. }
-            | Point::Storing { .. }
-            | Point::Releasing { .. } => copied(&self.wanted),
+            | Point::Claiming
+            | Point::Storing
+            | Point::Releasing => self.wanted.copied(),
         }
     }
 }

@@ -55,7 +55,7 @@ impl Seat {
             self.forget();
             self.seen = found;
         } else {
-            self.yielded(nodes, leaves);
+            self.yield_from(nodes, leaves);
         }
     }
 
@@ -77,26 +77,26 @@ impl Seat {
             view_of self.new ≡ view_found F (view_of self.old)
             (the_next (next_point F (view_of self.old) (given_of self.old) effect.now (view_of self.old).point)) found }
     {
-        match &self.point {
+        match self.point {
             Point::Idle => self.begin_given(found),
             Point::Owning => self.load_own(rules, found),
-            Point::Taking { .. } => self.take_next(found),
+            Point::Taking => self.take_next(found),
             Point::Checking => self.load_again(rules, found),
             Point::Entering { .. } => self.take_next(found),
             Point::Entered { .. } => self.read_list(rules, found),
             Point::Loading { .. } => self.read_player(rules, found),
-            Point::Sensing { .. } => {
+            Point::Sensing => {
                 rules.is_ruled();
                 self.read_state(found);
             }
             Point::Resolving => self.resolve(rules, effect, found),
-            Point::Claiming { rest, .. } if rest.is_empty() => self.commit_held(rules, found),
-            Point::Claiming { .. } => self.take_next(found),
-            Point::Storing { .. } => self.store_made(),
+            Point::Claiming if self.queues.rest.is_empty() => self.commit_held(rules, found),
+            Point::Claiming => self.take_next(found),
+            Point::Storing => self.store_made(),
             Point::Leaving { .. } => self.give_next(rules),
-            Point::Releasing { .. } => self.give_next(rules),
-            Point::Returning { .. } => self.give_next(rules),
-            Point::Yielding { .. } => self.give_next(rules),
+            Point::Releasing => self.give_next(rules),
+            Point::Returning => self.give_next(rules),
+            Point::Yielding => self.give_next(rules),
         }
     }
 }

@@ -49,7 +49,6 @@ impl Seat {
     ghost use Rattle.core_steps.specs.Machine.{kind_of, quitting, resolving};
     ghost use Rattle.core_machine.specs.Going.{word_left};
     ghost use Rattle.core_machine.specs.Nexts.{next_with, next_point, the_next};
-    ghost use Rattle.core_machine.specs.Points.{point_of};
     ghost use Rattle.core_machine.specs.Ready.{IsReady};
     ghost use Rattle.core_machine.specs.Seats.{view_of, given_of, hand_of};
     ghost use Rattle.core_machine.specs.Shown.{fixed_of};
@@ -179,33 +178,28 @@ impl Seat {
             result ≡ word_left F number (view_of self.now)
             (the_next (next_point F (view_of self.now) (given_of self.now) effect.now (view_of self.now).point)) found }
     {
-        match &self.point {
-            Point::Idle
-            | Point::Owning
-            | Point::Checking
-            | Point::Entered { .. }
-            | Point::Loading { .. }
-            | Point::Sensing { .. } => found,
-            Point::Taking { rest, .. } => match rest.as_slice() {
+        match self.point {
+            Point::Idle => found,
+            Point::Owning => found,
+            Point::Checking => found,
+            Point::Entered { .. } => found,
+            Point::Loading { .. } => found,
+            Point::Sensing => found,
+            Point::Taking => match self.queues.rest.as_slice() {
                 [] => found,
                 &[leaf, ..] => self.word_taken(rules, number, false, leaf, found),
             },
-            Point::Entering { node, .. } => self.word_taken(rules, number, false, *node, found),
+            Point::Entering { node } => self.word_taken(rules, number, false, node, found),
             Point::Resolving => self.word_resolved(rules, number, effect, found),
-            Point::Claiming { rest, .. } => self.word_claimed(
-                rules,
-                number,
-                rest.as_slice(),
-                found,
-            ),
-            Point::Storing { stores, .. } => match stores.as_slice() {
+            Point::Claiming => self.word_claimed(rules, number, self.queues.rest.as_slice(), found),
+            Point::Storing => match self.queues.stores.as_slice() {
                 [] => found,
                 &[store, ..] => word_stored(self.hand().slot, store, found),
             },
-            Point::Leaving { .. }
-            | Point::Releasing { .. }
-            | Point::Returning { .. }
-            | Point::Yielding { .. } => 0,
+            Point::Leaving { .. } => 0,
+            Point::Releasing => 0,
+            Point::Returning => 0,
+            Point::Yielding => 0,
         }
     }
 }

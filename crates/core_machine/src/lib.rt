@@ -4,7 +4,8 @@
 pub use laws::served_steps_leave_fewer;
 pub use log::Log;
 pub use machine::Core;
-pub use point::{Cell, IdList, NodeList, Point, SlotList, Store, StoreList, WordList};
+pub use point::{Cell, IdList, NodeList, Point, Queues, SlotList, Store, StoreList, WordList};
+pub use queue::Queue;
 pub use reading::read_record;
 pub use rules::Rules;
 pub use seat::{ListRead, PlayerRead, Refused, Seat};
@@ -25,6 +26,7 @@ mod near;
 mod next;
 mod plan;
 mod point;
+mod queue;
 mod reading;
 mod reads;
 #[cfg(test)]

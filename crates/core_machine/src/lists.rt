@@ -5,28 +5,9 @@ ghost use Rattle.areanode.specs.Words.{has_bit};
 ghost use Rattle.areanode.specs.Trees.{leaf_node};
 ghost use Rattle.core_steps.specs.Views.{players_in, bits_of_leaves};
 
-use crate::point::{IdList, NodeList, SlotList, StoreList, WordList};
+use crate::point::{NodeList, SlotList, WordList};
+use crate::queue::Queue;
 use arrayvec::ArrayVec;
-
-/// Takes the first out of a list of small numbers.
-pub fn pop_first<const N: usize>(list: &mut ArrayVec<u8, N>) -> Option<u8>
-    ensures { MatchOption result ((list.old.items ≡ []) × (list.new.items ≡ [])) (λ n. list.old.items ≡ n ∷ list.new.items) }
-{
-    if list.is_empty() {
-        None
-    } else {
-        Some(list.remove(0))
-    }
-}
-
-/// A list of small numbers once more.
-pub fn copied<const N: usize>(list: &ArrayVec<u8, N>) -> ArrayVec<u8, N>
-    ensures { result.items ≡ list.now.items }
-{
-    let mut copy = ArrayVec::new();
-    let _ = copy.try_extend_from_slice(list.as_slice());
-    copy
-}
 
 /// Whether a bit of a word is set.
 fn is_set(word: u64, i: u8) -> bool
@@ -57,7 +38,7 @@ pub fn bits_below(word: u64, n: u8) -> NodeList
     ensures numbers { result.items ≡ filter (has_bit word) (range_with_len 0 n) }
     ensures few { length result.items ≤ n }
 {
-    let mut numbers = ArrayVec::new();
+    let mut numbers = Queue::new();
     for i in 0..n {
         if is_set(word, i) {
             numbers.push(i);
@@ -71,7 +52,7 @@ pub fn leaf_nodes(leaves: u64) -> NodeList
     ensures nodes { result.items ≡ map (leaf_node 4) (filter (has_bit leaves) (range_with_len 0 16)) }
     ensures few { length result.items ≤ 16 }
 {
-    let mut nodes = ArrayVec::new();
+    let mut nodes = Queue::new();
     for leaf in 0..16u8 {
         if is_set(leaves, leaf) {
             nodes.push(15 + leaf);
@@ -84,7 +65,7 @@ pub fn leaf_nodes(leaves: u64) -> NodeList
 pub fn inner_among(a: u8, b: u8) -> NodeList
     ensures { result.items ≡ filter (λ node. (node == a) || (node == b)) (range_with_len 0 15) }
 {
-    let mut nodes = ArrayVec::new();
+    let mut nodes = Queue::new();
     for node in 0..15u8 {
         if is_either(node, a, b) {
             nodes.push(node);
@@ -97,7 +78,10 @@ pub fn inner_among(a: u8, b: u8) -> NodeList
 pub fn players_of(word: u64, own: u8) -> SlotList
     ensures { result.items ≡ players_in word own }
 {
-    let mut players = ArrayVec::new();
+    let mut players = Queue::new();
+    if word == 0 {
+        return players;
+    }
     for slot in 0..64u8 {
         if is_other(word, slot, own) {
             players.push(slot);
@@ -112,7 +96,9 @@ pub fn joined(front: NodeList, back: &NodeList) -> NodeList
     ensures { result.items ≡ front.items ++ back.now.items }
 {
     let mut nodes = front;
-    let _ = nodes.try_extend_from_slice(back.as_slice());
+    for node in back.as_slice() {
+        nodes.push(*node);
+    }
     nodes
 }
 
@@ -134,47 +120,9 @@ pub fn leaf_word(nodes: &[u8]) -> u64
 pub fn one(node: u8) -> NodeList
     ensures { result.items ≡ node ∷ [] }
 {
-    let mut nodes = ArrayVec::new();
+    let mut nodes = Queue::new();
     nodes.push(node);
     nodes
-}
-
-/// Takes the first out, if there is one.
-pub fn drop_first(nodes: &mut NodeList)
-    ensures { nodes.new.items ≡ rest_of nodes.old.items }
-{
-    if !nodes.is_empty() {
-        nodes.remove(0);
-    }
-}
-
-/// All nodes but the first.
-pub fn without_first(nodes: &NodeList) -> NodeList
-    ensures { result.items ≡ rest_of nodes.now.items }
-{
-    let mut rest = copied(nodes);
-    drop_first(&mut rest);
-    rest
-}
-
-/// The nodes, with one more at the end.
-pub fn with_last(nodes: &NodeList, node: u8) -> NodeList
-    requires { length nodes.now.items < 31 }
-    ensures { result.items ≡ nodes.now.items ++ node ∷ [] }
-{
-    let mut more = copied(nodes);
-    more.push(node);
-    more
-}
-
-/// The words, with one more at the end.
-pub fn with_word(words: &WordList, word: u64) -> WordList
-    requires { length words.now.items < 6 }
-    ensures { result.items ≡ words.now.items ++ word ∷ [] }
-{
-    let mut more = same_words(words.as_slice());
-    more.push(word);
-    more
 }
 
 /// A list of words once more.
@@ -185,22 +133,4 @@ pub fn same_words(words: &[u64]) -> WordList
     let mut copy = ArrayVec::new();
     let _ = copy.try_extend_from_slice(words);
     copy
-}
-
-/// All ids but the first.
-pub fn without_first_id(ids: &IdList) -> IdList
-    ensures { result.items ≡ drop 1 ids.now.items }
-{
-    let mut rest = ArrayVec::new();
-    let _ = rest.try_extend_from_slice(ids.as_slice().get(1..).unwrap_or(&[]));
-    rest
-}
-
-/// All stores but the first.
-pub fn without_first_store(stores: &StoreList) -> StoreList
-    ensures { result.items ≡ drop 1 stores.now.items }
-{
-    let mut rest = ArrayVec::new();
-    let _ = rest.try_extend_from_slice(stores.as_slice().get(1..).unwrap_or(&[]));
-    rest
 }

@@ -1,9 +1,10 @@
 ghost use Rattle.std.specs.Prelude.{◌≡◌, ◌≤◌, ◌↔◌, ◌==◌, not, filter, length, IsSome, IfSome};
 ghost use Rattle.core_machine.specs.declared.seat.PlayerRead.{PlayerRead};
 
-use crate::lists::{copied, players_of, with_word, without_first_id};
-use crate::plan::sensing;
-use crate::point::{IdList, NodeList, Point, SlotList, WordList};
+use crate::lists::players_of;
+use crate::point::Point;
+use crate::queue::Queue;
+use crate::reads::player_words;
 use crate::rules::Rules;
 use crate::seat::{ListRead, PlayerRead, Seat};
 use arrayvec::ArrayVec;
@@ -34,6 +35,15 @@ fn others_than(others: &[PlayerRead], slot: u8) -> ArrayVec<PlayerRead, 64>
     kept
 }
 
+/// What was loaded of this player is dropped.
+fn drop_read(others: &mut ArrayVec<PlayerRead, 64>, slot: u8)
+    ensures { others.new.items ≡ filter (λ (r : PlayerRead). not (r.slot == slot)) others.old.items }
+{
+    if player_words(others.as_slice(), u16::from(slot)).is_some() {
+        *others = others_than(others.as_slice(), slot);
+    }
+}
+
 impl Seat {
     ghost use Rattle.std.specs.Prelude.{◌≡◌, ◌<◌, ◌∷◌, [], ◌++◌, ◌==◌, ℕ, List, Some, not, filter, length, slice_index};
     ghost use Rattle.entity_recs.specs.Commands.{Command, command_of};
@@ -43,7 +53,6 @@ impl Seat {
     ghost use Rattle.core_steps.specs.Steps as steps;
     ghost use Rattle.core_machine.specs.declared.seat.PlayerRead.{PlayerRead};
     ghost use Rattle.core_machine.specs.Seats.{view_of, given_of, hand_of};
-    ghost use Rattle.core_machine.specs.Points.{point_of};
     ghost use Rattle.core_machine.specs.Shown.{fixed_of};
 
     /// The command enters the view with the first word of the own record.
@@ -64,10 +73,9 @@ impl Seat {
     {
         let region = rules.region(&self.hand(), self.own.as_slice());
         self.wanted = rules.leaves(&region);
-        self.point = Point::Taking {
-            got: ArrayVec::new(),
-            rest: copied(&self.wanted),
-        };
+        self.queues.got = Queue::new();
+        self.queues.rest = self.wanted.copied();
+        self.point = Point::Taking;
     }
 
     /// One more word of the own record was loaded.
@@ -92,68 +100,46 @@ impl Seat {
         self.again.push(word);
         if self.again.len() == 6 {
             let region = rules.region(&self.hand(), self.own.as_slice());
-            self.point = self.visiting(rules, rules.plan(&region));
+            self.queues.plan = rules.plan(&region);
+            self.visit_next(rules);
         }
     }
 
     /// The list word of the entered node was loaded.
-    pub fn load_list<A: Action>(&mut self, rules: &Rules<A>, node: u8, plan: NodeList, word: u64)
+    fn load_list<A: Action>(&mut self, rules: &Rules<A>, node: u8, word: u64)
         requires room { length self.old.lists.items < 31 }
-        requires player { HasPlayer (A.takes rules.now.action) (record_read (hand_of self.old.cmd).slot self.old.own.items) (hand_of self.old.cmd) }
-        ensures { view_of self.new
-            ≡ steps.view_after_list (fixed_of A.takes A.region_of A.effect_of rules.now) node plan.items word (view_of self.old) }
+        requires player { HasPlayer (A.takes rules.now.action)
+            (record_read (hand_of self.old.cmd).slot self.old.own.items) (hand_of self.old.cmd) }
+        ensures { view_of self.new ≡ steps.view_after_list (fixed_of A.takes A.region_of A.effect_of rules.now) node
+            self.old.queues.plan.items word (view_of self.old) }
     {
-        let players = players_of(word, self.hand().slot);
-        self.point = self.loading(rules, node, players, plan);
+        self.queues.players = players_of(word, self.hand().slot);
         self.lists.insert(0, ListRead { node, word });
+        self.load_under(rules, node);
     }
 
-    /// A further word of the first of these players was loaded under the node; `part` is what was loaded of it, that word
-    /// last. Once it is whole, what was loaded of the player earlier is dropped.
-    pub fn load_player<A: Action>(
-        &mut self,
-        rules: &Rules<A>,
-        node: u8,
-        part: WordList,
-        mut players: SlotList,
-        plan: NodeList,
-    )
-        requires room { length (filter (λ (r : PlayerRead). not (r.slot == slice_index players.items 0)) self.old.others.items) < 64 }
-        requires some { 0 < length players.items }
-        requires player { HasPlayer (A.takes rules.now.action) (record_read (hand_of self.old.cmd).slot self.old.own.items) (hand_of self.old.cmd) }
-        ensures { (slot : ℕ) (rest : List ℕ) → players.items ≡ slot ∷ rest → view_of self.new
-            ≡ steps.player_loaded (fixed_of A.takes A.region_of A.effect_of rules.now) node part.items slot rest plan.items (view_of self.old) }
+    /// The first of the players under the node was loaded whole: what was loaded of it earlier is dropped.
+    fn load_player<A: Action>(&mut self, rules: &Rules<A>, node: u8, slot: u8, words: [u64; 6])
+        requires room { length (filter (λ (r : PlayerRead). not (r.slot == slot)) self.old.others.items) < 64 }
+        requires whole { length words ≡ 6 }
+        requires player { HasPlayer (A.takes rules.now.action)
+            (record_read (hand_of self.old.cmd).slot self.old.own.items) (hand_of self.old.cmd) }
+        ensures { view_of self.new ≡ steps.player_loaded (fixed_of A.takes A.region_of A.effect_of rules.now) node
+            words slot self.old.queues.players.items self.old.queues.plan.items (view_of self.old) }
     {
-        if let Some(words) = whole(part.as_slice()) {
-            let slot = players.remove(0);
-            self.point = self.loading(rules, node, players, plan);
-            self.drop_player(slot);
-            self.others.insert(0, PlayerRead { slot, words });
-        } else {
-            self.point = Point::Loading {
-                node,
-                part,
-                players,
-                plan,
-            };
-        }
+        drop_read(&mut self.others, slot);
+        self.others.insert(0, PlayerRead { slot, words });
+        self.load_under(rules, node);
     }
 
-    /// What was loaded of a player is dropped.
-    fn drop_player(&mut self, slot: u8)
-        ensures view { view_of self.new ≡ record (view_of self.old) { others = views.without_player slot (view_of self.old).others } }
-        ensures reads { self.new.others.items ≡ filter (λ (r : PlayerRead). not (r.slot == slot)) self.old.others.items }
-    {
-        self.others = others_than(self.others.as_slice(), slot);
-    }
-
-    /// The state of the first of these things was loaded.
-    pub fn load_state(&mut self, id: u16, ids: IdList, word: u64)
+    /// The state of a thing was loaded, which was the first of those that were left.
+    fn load_state(&mut self, id: u16, word: u64)
         requires { length self.old.states.items < 256 }
-        ensures { view_of self.new ≡ steps.view_after_state id word ids.items (view_of self.old) }
+        ensures { view_of self.new
+            ≡ steps.view_after_state id word self.old.queues.ids.items (view_of self.old) }
     {
         self.states.insert(0, NewState { id, state: word });
-        self.point = sensing(ids);
+        self.sensing();
     }
 
     /// The command that was given, if any, enters the view with the first word of the own record.
@@ -171,65 +157,54 @@ impl Seat {
         requires room { length self.old.lists.items < 31 }
         requires player { HasPlayer (A.takes rules.now.action)
             (record_read (hand_of self.old.cmd).slot self.old.own.items) (hand_of self.old.cmd) }
-        ensures { (node : ℕ) (plan : List ℕ) → point_of self.old.point ≡ views.Entered node plan → view_of self.new
+        ensures { (node : ℕ) (plan : List ℕ) → (view_of self.old).point ≡ views.Entered node plan → view_of self.new
             ≡ steps.view_after_list (fixed_of A.takes A.region_of A.effect_of rules.now) node plan word
             (view_of self.old) }
     {
-        let Point::Entered { node, plan } = &self.point else {
-            return;
-        };
-        let node = *node;
-        let plan = copied(plan);
-        self.load_list(rules, node, plan, word);
+        if let Point::Entered { node } = self.point {
+            self.load_list(rules, node, word);
+        }
     }
 
     /// One more word of the player that is loaded under the present node was loaded.
     pub(crate) fn read_player<A: Action>(&mut self, rules: &Rules<A>, word: u64)
         requires part { (node : ℕ) (part players plan : List ℕ)
-            → point_of self.old.point ≡ views.Loading node part players plan
+            → (view_of self.old).point ≡ views.Loading node part players plan
             → length part < 6 }
         requires some { (node : ℕ) (part players plan : List ℕ)
-            → point_of self.old.point ≡ views.Loading node part players plan
+            → (view_of self.old).point ≡ views.Loading node part players plan
             → 0 < length players }
         requires room { (node slot : ℕ) (part players plan : List ℕ)
-            → point_of self.old.point ≡ views.Loading node part (slot ∷ players) plan
+            → (view_of self.old).point ≡ views.Loading node part (slot ∷ players) plan
             → length (filter (λ (r : PlayerRead). not (r.slot == slot)) self.old.others.items) < 64 }
         requires player { HasPlayer (A.takes rules.now.action)
             (record_read (hand_of self.old.cmd).slot self.old.own.items) (hand_of self.old.cmd) }
         ensures { (node slot : ℕ) (part players plan : List ℕ)
-            → point_of self.old.point ≡ views.Loading node part (slot ∷ players) plan
+            → (view_of self.old).point ≡ views.Loading node part (slot ∷ players) plan
             → view_of self.new ≡ steps.player_loaded (fixed_of A.takes A.region_of A.effect_of rules.now) node
             (part ++ word ∷ []) slot players plan
             (view_of self.old) }
     {
-        let Point::Loading {
-            node,
-            part,
-            players,
-            plan,
-        } = &self.point
-        else {
+        let Point::Loading { node } = self.point else {
             return;
         };
-        let node = *node;
-        let part = with_word(part, word);
-        let players = copied(players);
-        let plan = copied(plan);
-        self.load_player(rules, node, part, players, plan);
+        self.queues.part.push(word);
+        let Some(words) = whole(self.queues.part.as_slice()) else {
+            return;
+        };
+        if let Some(slot) = self.queues.players.pop_first() {
+            self.load_player(rules, node, slot, words);
+        }
     }
 
     /// The state of the first of the things that are left was loaded.
     pub(crate) fn read_state(&mut self, word: u64)
         requires { length self.old.states.items < 256 }
-        ensures { (id : ℕ) (ids : List ℕ) → point_of self.old.point ≡ views.Sensing (id ∷ ids) → view_of self.new
+        ensures { (id : ℕ) (ids : List ℕ) → (view_of self.old).point ≡ views.Sensing (id ∷ ids) → view_of self.new
             ≡ steps.view_after_state id word ids (view_of self.old) }
     {
-        let Point::Sensing { ids } = &self.point else {
-            return;
-        };
-        if let &[id, ..] = ids.as_slice() {
-            let rest = without_first_id(ids);
-            self.load_state(id, rest, word);
+        if let (Point::Sensing, Some(id)) = (self.point, self.queues.ids.pop_first()) {
+            self.load_state(id, word);
         }
     }
 }

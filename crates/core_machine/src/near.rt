@@ -1,4 +1,5 @@
-ghost use Rattle.std.specs.Prelude.{◌≡◌, ◌≤◌, map, filter, length};
+ghost use Rattle.std.specs.Prelude.{◌≡◌, ◌≤◌, ℕ, [], map, filter, length, slice_index_or, true, false, None};
+ghost use Rattle.core_steps.specs.Views.{player_at};
 ghost use Rattle.std.specs.List.{filter_map};
 ghost use Rattle.entity_recs.specs.declared.rec.Rec.{Rec};
 ghost use Rattle.entity_recs.specs.Worlds.{record_with};
@@ -8,11 +9,11 @@ ghost use Rattle.core_machine.specs.NearRecords as near;
 
 use crate::boxes::touches_region;
 use crate::point::IdList;
+use crate::queue::Queue;
 use crate::reading::read_record;
 use crate::reads::{player_words, thing_state};
 use crate::seat::PlayerRead;
 use arena_geo::Region;
-use arrayvec::ArrayVec;
 use entity_recs::{NewState, Rec};
 use world_tree::NearList;
 
@@ -35,7 +36,7 @@ pub fn things_of(start: &[Rec], region: &Region) -> IdList
     requires { length start.now ≤ 256 }
     ensures { result.items ≡ map (λ (r : Rec). r.id) (filter (near.is_touched_thing region.now) start.now) }
 {
-    let mut ids = ArrayVec::new();
+    let mut ids = Queue::new();
     for r in start {
         if is_touched_thing(r, region) {
             ids.push(r.id);
@@ -88,22 +89,54 @@ fn near_one(
     }
 }
 
-/// What was loaded of these records but this player's and touches a region, in the order of the records.
-pub fn near_of(
+/// Which slots have a player of whom something was loaded. To look a slot up here costs less than to search the list.
+fn slots_read(others: &[PlayerRead]) -> [bool; 256]
+    ensures { (slot : ℕ) → slice_index_or result slot true ≡ false → player_at (map player_read_of others.now) slot ≡ None }
+{
+    let mut slots = [false; 256];
+    for read in others {
+        slots[usize::from(read.slot)] = true;
+    }
+    slots
+}
+
+/// As [`near_one`], where these are the slots of the players that were loaded.
+fn near_read(
+    r: &Rec,
+    region: &Region,
+    slot: u8,
+    others: &[PlayerRead],
+    states: &[NewState],
+    slots: &[bool; 256],
+) -> Option<Rec>
+    requires { (slot : ℕ) → slice_index_or slots.now slot true ≡ false → player_at (map player_read_of others.now) slot ≡ None }
+    ensures { result ≡ near.near_one region.now slot (map player_read_of others.now) states.now r.now }
+{
+    if r.id < 64 && !slots[usize::from(r.id)] {
+        None
+    } else {
+        near_one(r, region, slot, others, states)
+    }
+}
+
+/// Puts what was loaded of these records but this player's and touches a region into an empty list, in the order of the
+/// records.
+pub fn put_near(
     start: &[Rec],
     region: &Region,
     slot: u8,
     others: &[PlayerRead],
     states: &[NewState],
-) -> NearList
-    requires { length start.now ≤ 256 }
-    ensures { result ≡ filter_map (near.near_one region.now slot (map player_read_of others.now) states.now) start.now }
+    list: &mut NearList,
+)
+    requires few { length start.now ≤ 256 }
+    requires empty { list.old ≡ [] }
+    ensures { list.new ≡ filter_map (near.near_one region.now slot (map player_read_of others.now) states.now) start.now }
 {
-    let mut list = NearList::new();
+    let slots = slots_read(others);
     for r in start {
-        if let Some(one) = near_one(r, region, slot, others, states) {
+        if let Some(one) = near_read(r, region, slot, others, states, &slots) {
             let _ = list.push(one);
         }
     }
-    list
 }

@@ -17,6 +17,7 @@ use crate::word_steps::{
 };
 use core_steps::{COUNT_WORD, Step, StepKind};
 use entity_recs::{Action, Effect};
+use world_tree::NearList;
 
 /// The step of a seat that loads the count, or raises it by one.
 fn count_step(number: u8, kind: StepKind) -> Step
@@ -52,7 +53,6 @@ impl Seat {
     ghost use Rattle.core_steps.specs.Views.{Fixed, record_read, loaded_near, effect_loaded};
     ghost use Rattle.core_steps.specs.Steps.{first_yield};
     ghost use Rattle.core_steps.specs.Machine.{step_of, quitting, beginning, next_at};
-    ghost use Rattle.core_machine.specs.Points.{point_of};
     ghost use Rattle.core_machine.specs.Seats.{view_of, given_of, hand_of};
     ghost use Rattle.core_machine.specs.Shown.{fixed_of};
     ghost use Rattle.core_machine.specs.Nexts.{next_with, next_point, next_resolved};
@@ -65,8 +65,16 @@ impl Seat {
         requires { IsSound (fixed_of A.takes A.region_of A.effect_of rules.now) (view_of self.now) }
         ensures { result ≡ effect_due (fixed_of A.takes A.region_of A.effect_of rules.now) (view_of self.now) }
     {
+        self.resolved_in(rules, &mut NearList::new())
+    }
+
+    /// As [`Seat::resolved`], with a list that is emptied and then holds the records that the action is given.
+    pub fn resolved_in<A: Action>(&self, rules: &Rules<A>, near: &mut NearList) -> Option<Effect>
+        requires { IsSound (fixed_of A.takes A.region_of A.effect_of rules.now) (view_of self.now) }
+        ensures { result ≡ effect_due (fixed_of A.takes A.region_of A.effect_of rules.now) (view_of self.now) }
+    {
         match self.point {
-            Point::Resolving => Some(self.effect_on_loaded(rules)),
+            Point::Resolving => Some(self.effect_on_loaded(rules, near)),
             _ => None,
         }
     }
@@ -115,42 +123,42 @@ impl Seat {
             (given_of self.now) self.now.quits effect.now }
         ensures { let F = fixed_of A.takes A.region_of A.effect_of rules.now in
             result ≡ option_map (step_of F number (view_of self.now)) (next_point F (view_of self.now)
-            (given_of self.now) effect.now (point_of self.now.point)) }
+            (given_of self.now) effect.now (view_of self.now).point) }
     {
         rules.is_ruled();
         rules.is_lawful();
-        match &self.point {
+        match self.point {
             Point::Idle => self.begin_step(number),
             Point::Owning => Some(load_step(number, self.hand().slot, self.own.len())),
-            Point::Taking { rest, .. } => take_step(number, rest.as_slice()),
+            Point::Taking => take_step(number, self.queues.rest.as_slice()),
             Point::Checking => Some(load_step(number, self.hand().slot, self.again.len())),
-            Point::Entering { node, .. } => Some(node_step(number, *node, StepKind::Take)),
-            Point::Entered { node, .. } => Some(list_step(number, *node, StepKind::LoadList)),
-            Point::Loading { part, players, .. } => player_step(
+            Point::Entering { node } => Some(node_step(number, node, StepKind::Take)),
+            Point::Entered { node } => Some(list_step(number, node, StepKind::LoadList)),
+            Point::Loading { .. } => player_step(
                 number,
-                players.as_slice(),
-                part.len(),
+                self.queues.players.as_slice(),
+                self.queues.part.len(),
             ),
-            Point::Leaving { node, .. } => Some(node_step(number, *node, StepKind::GiveBack)),
-            Point::Sensing { ids } => state_step(number, ids.as_slice()),
+            Point::Leaving { node } => Some(node_step(number, node, StepKind::GiveBack)),
+            Point::Sensing => state_step(number, self.queues.ids.as_slice()),
             Point::Resolving => self.resolved_step(rules, number, effect),
-            Point::Claiming { rest, .. } => self.claim_step(number, rest.as_slice()),
-            Point::Storing { stores, .. } => next_store_step(number, stores.as_slice()),
-            Point::Releasing { nodes } => give_step(
+            Point::Claiming => self.claim_step(number, self.queues.rest.as_slice()),
+            Point::Storing => next_store_step(number, self.queues.stores.as_slice()),
+            Point::Releasing => give_step(
                 number,
-                nodes.as_slice(),
+                self.queues.got.as_slice(),
                 self.wanted.as_slice(),
             ),
-            Point::Returning { leaves } => give_step(number, &[], leaves.as_slice()),
-            Point::Yielding { nodes, leaves } => give_step(
+            Point::Returning => give_step(number, &[], self.queues.rest.as_slice()),
+            Point::Yielding => give_step(
                 number,
-                nodes.as_slice(),
-                leaves.as_slice(),
+                self.queues.got.as_slice(),
+                self.queues.rest.as_slice(),
             ),
         }
     }
     /// The effect that the action gives on what was loaded.
-    fn effect_on_loaded<A: Action>(&self, rules: &Rules<A>) -> Effect
+    fn effect_on_loaded<A: Action>(&self, rules: &Rules<A>, near: &mut NearList) -> Effect
         requires call { IsCall (A.takes rules.now.action) (record_read (view_of self.now).cmd.slot
             (view_of self.now).again)
             (loaded_near (fixed_of A.takes A.region_of A.effect_of rules.now) (view_of self.now))
@@ -161,11 +169,13 @@ impl Seat {
     {
         let cmd = self.hand();
         let region = rules.region(&cmd, self.own.as_slice());
-        let near = rules.near(
+        near.clear();
+        rules.near(
             &region,
             cmd.slot,
             self.others.as_slice(),
             self.states.as_slice(),
+            near,
         );
         rules.act(&self.before(), near.as_slice(), &cmd)
     }

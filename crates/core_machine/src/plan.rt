@@ -1,53 +1,14 @@
-ghost use Rattle.std.specs.Prelude.{◌≡◌, map};
-ghost use Rattle.core_steps.specs.Steps as steps;
-ghost use Rattle.core_machine.specs.Points.{point_of, store_of};
-
-use crate::lists::pop_first;
-use crate::point::{IdList, NodeList, Point, SlotList, StoreList};
+use crate::point::{IdList, Point};
 use crate::rules::Rules;
 use crate::seat::Seat;
-use arrayvec::ArrayVec;
 use entity_recs::{Action, Cmd};
 
-/// The states of these things are to be loaded, if any.
-pub fn sensing(ids: IdList) -> Point
-    ensures { point_of result ≡ steps.sensing ids.items }
-{
-    if ids.is_empty() {
-        Point::Resolving
-    } else {
-        Point::Sensing { ids }
-    }
-}
-
-/// These leaves are to be taken after those, if any.
-pub fn taking(got: NodeList, rest: NodeList) -> Point
-    ensures { point_of result ≡ steps.taking got.items rest.items }
-{
-    if rest.is_empty() {
-        Point::Checking
-    } else {
-        Point::Taking { got, rest }
-    }
-}
-
-/// These stores are owed, if any; then the write nodes are given back.
-pub fn storing(nodes: NodeList, stores: StoreList) -> Point
-    ensures { point_of result ≡ steps.storing nodes.items (map store_of stores.items) }
-{
-    if stores.is_empty() {
-        Point::Releasing { nodes }
-    } else {
-        Point::Storing { nodes, stores }
-    }
-}
-
 impl Seat {
-    ghost use Rattle.std.specs.Prelude.{◌≡◌};
+    ghost use Rattle.std.specs.Prelude.{◌≡◌, map};
     ghost use Rattle.entity_recs.specs.Actions.{HasPlayer, IsCommand};
     ghost use Rattle.core_steps.specs.Views.{record_read, things_in, region_in};
     ghost use Rattle.core_steps.specs.Steps as steps;
-    ghost use Rattle.core_machine.specs.Points.{point_of};
+    ghost use Rattle.core_machine.specs.Points.{store_of};
     ghost use Rattle.core_machine.specs.Seats.{view_of, hand_of};
     ghost use Rattle.core_machine.specs.Shown.{fixed_of};
 
@@ -69,41 +30,77 @@ impl Seat {
         rules.things(&region)
     }
 
-    /// The next node of the plan is visited, if any; else the things of the map come.
-    pub fn visiting<A: Action>(&self, rules: &Rules<A>, mut plan: NodeList) -> Point
-        requires { HasPlayer (A.takes rules.now.action) (record_read (hand_of self.now.cmd).slot self.now.own.items) (hand_of self.now.cmd) }
-        ensures { point_of result ≡ steps.visiting (fixed_of A.takes A.region_of A.effect_of rules.now) (view_of self.now) plan.items }
+    /// The states of the things that are left are to be loaded, if any.
+    pub(crate) fn sensing(&mut self)
+        ensures { view_of self.new ≡ record (view_of self.old) { point = steps.sensing self.old.queues.ids.items } }
     {
-        match pop_first(&mut plan) {
-            None => sensing(self.things(rules)),
-            Some(node) if rules.is_leaf(node) => Point::Entered { node, plan },
-            Some(node) => Point::Entering { node, plan },
+        self.point = if self.queues.ids.is_empty() {
+            Point::Resolving
+        } else {
+            Point::Sensing
+        };
+    }
+
+    /// The leaves that are left are to be taken, if any.
+    pub(crate) fn taking(&mut self)
+        ensures { view_of self.new
+            ≡ record (view_of self.old) { point = steps.taking self.old.queues.got.items self.old.queues.rest.items } }
+    {
+        self.point = if self.queues.rest.is_empty() {
+            Point::Checking
+        } else {
+            Point::Taking
+        };
+    }
+
+    /// The stores that are left are owed, if any; then the write nodes are given back.
+    pub(crate) fn storing(&mut self)
+        ensures { view_of self.new ≡ record (view_of self.old)
+            { point = steps.storing self.old.queues.got.items (map store_of self.old.queues.stores.items) } }
+    {
+        self.point = if self.queues.stores.is_empty() {
+            Point::Releasing
+        } else {
+            Point::Storing
+        };
+    }
+
+    /// The next node of the plan is visited, if any; else the things of the map come.
+    pub(crate) fn visit_next<A: Action>(&mut self, rules: &Rules<A>)
+        requires { HasPlayer (A.takes rules.now.action)
+            (record_read (hand_of self.old.cmd).slot self.old.own.items) (hand_of self.old.cmd) }
+        ensures { view_of self.new ≡ record (view_of self.old) {
+          point = steps.visiting
+              (fixed_of A.takes A.region_of A.effect_of rules.now) (view_of self.old) self.old.queues.plan.items;
+        } }
+    {
+        match self.queues.plan.pop_first() {
+            None => {
+                self.queues.ids = self.things(rules);
+                self.sensing();
+            }
+            Some(node) if rules.is_leaf(node) => self.point = Point::Entered { node },
+            Some(node) => self.point = Point::Entering { node },
         }
     }
 
-    /// These players are loaded under the node, if any; else it is left.
-    pub fn loading<A: Action>(
-        &self,
-        rules: &Rules<A>,
-        node: u8,
-        players: SlotList,
-        plan: NodeList,
-    ) -> Point
-        requires { HasPlayer (A.takes rules.now.action) (record_read (hand_of self.now.cmd).slot self.now.own.items) (hand_of self.now.cmd) }
-        ensures { point_of result ≡ steps.loading (fixed_of A.takes A.region_of A.effect_of rules.now) (view_of self.now) node players.items plan.items }
+    /// The players that are left are loaded under the node, if any; else it is left.
+    pub(crate) fn load_under<A: Action>(&mut self, rules: &Rules<A>, node: u8)
+        requires { HasPlayer (A.takes rules.now.action)
+            (record_read (hand_of self.old.cmd).slot self.old.own.items) (hand_of self.old.cmd) }
+        ensures { view_of self.new ≡ record (view_of self.old) {
+          point = steps.loading
+              (fixed_of A.takes A.region_of A.effect_of rules.now) (view_of self.old) node self.old.queues.players.items
+              self.old.queues.plan.items;
+        } }
     {
-        if !players.is_empty() {
-            return Point::Loading {
-                node,
-                part: ArrayVec::new(),
-                players,
-                plan,
-            };
-        }
-        if rules.is_leaf(node) {
-            self.visiting(rules, plan)
+        if !self.queues.players.is_empty() {
+            self.queues.part.clear();
+            self.point = Point::Loading { node };
+        } else if rules.is_leaf(node) {
+            self.visit_next(rules);
         } else {
-            Point::Leaving { node, plan }
+            self.point = Point::Leaving { node };
         }
     }
 }

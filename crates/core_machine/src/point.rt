@@ -1,19 +1,20 @@
+use crate::queue::Queue;
 use arrayvec::ArrayVec;
 
 /// A list of nodes, each at most once.
-pub type NodeList = ArrayVec<u8, 31>;
+pub type NodeList = Queue<u8, 31>;
 
 /// A list of players' slots, each at most once.
-pub type SlotList = ArrayVec<u8, 64>;
+pub type SlotList = Queue<u8, 64>;
 
 /// A list of ids, each at most once.
-pub type IdList = ArrayVec<u16, 256>;
+pub type IdList = Queue<u16, 256>;
 
 /// The words of a record that were loaded: a player's five, then the state word.
 pub type WordList = ArrayVec<u64, 6>;
 
 /// A list of stores that are owed.
-pub type StoreList = ArrayVec<Store, 16>;
+pub type StoreList = Queue<Store, 16>;
 
 /// The word of a record that is stored.
 #[derive(Clone, Copy, Debug, PartialEq, Eq)]
@@ -42,98 +43,99 @@ impl Default for Store {
     }
 }
 
-/// What a seat has left to do. In each list the first comes next.
+/// The lists that a seat's point speaks of. In each the first comes next. Where the point doesn't speak of a list, it holds
+/// whatever was left in it.
 #[derive(Drop)]
+pub struct Queues {
+    /// The nodes that are held: leaves while leaves are taken, and else inner nodes.
+    pub got: NodeList,
+    /// The nodes that are to be taken, or the leaves that are to be given back.
+    pub rest: NodeList,
+    /// The nodes that are visited after the present one.
+    pub plan: NodeList,
+    /// The words that were loaded of the first of the players.
+    pub part: WordList,
+    /// The players that are loaded under the present node.
+    pub players: SlotList,
+    /// The things of the map whose states are to be loaded.
+    pub ids: IdList,
+    /// The stores that are owed.
+    pub stores: StoreList,
+}
+
+impl Queues {
+    /// Empty lists.
+    pub fn new() -> Queues {
+        Queues {
+            got: Queue::new(),
+            rest: Queue::new(),
+            plan: Queue::new(),
+            part: ArrayVec::new(),
+            players: Queue::new(),
+            ids: Queue::new(),
+            stores: Queue::new(),
+        }
+    }
+}
+
+/// What a seat has left to do. The lists of it are beside it in the seat, so that a step changes them in place.
+#[derive(Clone, Copy, Debug, PartialEq, Eq)]
 pub enum Point {
     /// No command is in hand.
     Idle,
     /// The rest of the own record is to be loaded.
     Owning,
-    /// Some leaves are taken, the others are to be taken.
-    Taking {
-        got: NodeList,
-        rest: NodeList,
-    },
+    /// The leaves `got` are taken, and `rest` are to be taken.
+    Taking,
     /// The rest of the own record is to be loaded again.
     Checking,
-    /// An inner node is to be taken and visited, then the other nodes of the plan.
-    Entering {
-        node: u8,
-        plan: NodeList,
-    },
-    /// The list word of the node is to be loaded.
-    Entered {
-        node: u8,
-        plan: NodeList,
-    },
-    /// Under the node the first of the players is loaded, of which some words are loaded.
-    Loading {
-        node: u8,
-        part: WordList,
-        players: SlotList,
-        plan: NodeList,
-    },
-    /// The inner node is to be given back.
-    Leaving {
-        node: u8,
-        plan: NodeList,
-    },
-    /// The states of these things of the map are to be loaded.
-    Sensing {
-        ids: IdList,
-    },
+    /// This inner node is to be taken and visited, then the nodes of `plan`.
+    Entering { node: u8 },
+    /// The list word of this node is to be loaded.
+    Entered { node: u8 },
+    /// Under this node the first of `players` is loaded, of which the words `part` are loaded.
+    Loading { node: u8 },
+    /// This inner node is to be given back.
+    Leaving { node: u8 },
+    /// The states of the things `ids` of the map are to be loaded.
+    Sensing,
     /// All is read: the effect enters the view with the next step.
     Resolving,
-    /// Some write nodes are taken, the others are to be taken; then comes the commit.
-    Claiming {
-        got: NodeList,
-        rest: NodeList,
-    },
-    /// The write nodes are held, and these stores are owed.
-    Storing {
-        nodes: NodeList,
-        stores: StoreList,
-    },
-    /// These write nodes are to be given back, then the leaves.
-    Releasing {
-        nodes: NodeList,
-    },
-    /// These leaves are to be given back.
-    Returning {
-        leaves: NodeList,
-    },
-    /// The command is given up: these inner nodes and these leaves are to be given back.
-    Yielding {
-        nodes: NodeList,
-        leaves: NodeList,
-    },
+    /// The write nodes `got` are taken, and `rest` are to be taken; then comes the commit.
+    Claiming,
+    /// The write nodes `got` are held, and `stores` are owed.
+    Storing,
+    /// The write nodes `got` are to be given back, then the leaves.
+    Releasing,
+    /// The leaves `rest` are to be given back.
+    Returning,
+    /// The command is given up: the inner nodes `got` and the leaves `rest` are to be given back.
+    Yielding,
 }
 
 impl Point {
     ghost use Rattle.std.specs.Prelude.{◌≡◌};
+    ghost use Rattle.core_machine.specs.declared.point.Queues.{Queues};
     ghost use Rattle.core_steps.specs.Steps as steps;
     ghost use Rattle.core_machine.specs.Points.{point_of};
 
     /// Whether a node is to be taken next, or the command is to be committed: the command may be given up.
     pub fn is_taking(&self) -> bool
-        ensures { result ≡ steps.is_taking (point_of self.now) }
+        ensures { (queues : Queues) → result ≡ steps.is_taking (point_of queues self.now) }
     {
         match self {
-            Point::Taking { .. }
-            | Point::Entering { .. }
-            | Point::Resolving
-            | Point::Claiming { .. } => true,
+            Point::Taking | Point::Entering { .. } | Point::Resolving | Point::Claiming => true,
             Point::Idle
             | Point::Owning
             | Point::Checking
             | Point::Entered { .. }
             | Point::Loading { .. }
             | Point::Leaving { .. }
-            | Point::Sensing { .. }
-            | Point::Storing { .. }
-            | Point::Releasing { .. }
-            | Point::Returning { .. }
-            | Point::Yielding { .. } => false,
+            | Point::Sensing
+            | Point::Storing
+            | Point::Releasing
+            | Point::Returning
+            | Point::Yielding => false,
         }
     }
 }

@@ -1,7 +1,7 @@
 ghost use Rattle.std.specs.Prelude.{◌≡◌};
 
 use crate::lists::{bits_below, inner_among, joined, leaf_nodes, leaf_word};
-use crate::near::{near_of, things_of};
+use crate::near::{put_near, things_of};
 use crate::point::{IdList, NodeList};
 use crate::reading::read_record;
 use crate::seat::PlayerRead;
@@ -42,7 +42,7 @@ fn has_depth_4(tree: &Tree)
 }
 
 impl<'a, A: Action> Rules<'a, A> {
-    ghost use Rattle.std.specs.Prelude.{◌≡◌, ◌<◌, ◌≤◌, ◌+◌, ◌*◌, ◌^◌, suc, map, length, All, OnOk, IfOk, if◌then◌else◌};
+    ghost use Rattle.std.specs.Prelude.{◌≡◌, ◌<◌, ◌≤◌, ◌+◌, ◌*◌, ◌^◌, [], suc, map, length, All, OnOk, IfOk, if◌then◌else◌};
     ghost use Rattle.entity_recs.specs.Actions.{HasPlayer, IsCall};
     ghost use Rattle.entity_recs.specs.Records.{IsRecord};
     ghost use Rattle.entity_recs.specs.Commands.{command_of};
@@ -148,17 +148,19 @@ impl<'a, A: Action> Rules<'a, A> {
         things_of(self.start.as_slice(), region)
     }
 
-    /// The records loaded that touch a region, but this player's, in rising id.
+    /// Puts the records loaded that touch a region, but this player's, into an empty list, in rising id.
     pub fn near(
         &self,
         region: &Region,
         slot: u8,
         others: &[PlayerRead],
         states: &[NewState],
-    ) -> NearList
-        ensures { result ≡ near_loaded (fixed_of A.takes A.region_of A.effect_of self.now) region.now slot (map player_read_of others.now) states.now }
+        list: &mut NearList,
+    )
+        requires { list.old ≡ [] }
+        ensures { list.new ≡ near_loaded (fixed_of A.takes A.region_of A.effect_of self.now) region.now slot (map player_read_of others.now) states.now }
     {
-        near_of(self.start.as_slice(), region, slot, others, states)
+        put_near(self.start.as_slice(), region, slot, others, states, list);
     }
 
     /// What a command of this player does among these records.

@@ -1,5 +1,6 @@
 use crate::log::Log;
-use crate::point::{IdList, NodeList, Point, WordList};
+use crate::point::{NodeList, Point, Queues, WordList};
+use crate::queue::Queue;
 use arrayvec::ArrayVec;
 use entity_recs::{Cmd, Effect, NewState};
 use std::alloc::{AllocError, Global};
@@ -38,6 +39,7 @@ pub struct Seat {
     pub made: u8,
     pub cmd: Option<Cmd>,
     pub point: Point,
+    pub queues: Queues,
     pub own: WordList,
     pub wanted: NodeList,
     pub again: WordList,
@@ -67,8 +69,9 @@ impl Seat {
             made,
             cmd: None,
             point: Point::Idle,
+            queues: Queues::new(),
             own: ArrayVec::new(),
-            wanted: ArrayVec::new(),
+            wanted: Queue::new(),
             again: ArrayVec::new(),
             lists: ArrayVec::new(),
             others: ArrayVec::new(),
@@ -88,7 +91,7 @@ impl Seat {
         self.cmd = None;
         self.point = Point::Idle;
         self.own.clear();
-        self.wanted.clear();
+        self.wanted = Queue::new();
         self.again.clear();
         self.lists.clear();
         self.others.clear();

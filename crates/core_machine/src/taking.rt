@@ -1,4 +1,4 @@
-use crate::lists::{copied, same_words};
+use crate::lists::same_words;
 use crate::seat::{Refused, Seat};
 
 impl Seat {
@@ -15,7 +15,7 @@ impl Seat {
             node,
             word,
             own: same_words(self.own.as_slice()),
-            wanted: copied(&self.wanted),
+            wanted: self.wanted.copied(),
         });
     }
 }

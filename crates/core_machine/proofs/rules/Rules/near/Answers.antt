@@ -9,8 +9,8 @@ use Rattle.core_machine.specs.Shown.{fixed_of}
 use Rattle.core_machine.proofs.NearLists.{near_are, found_at_ids, few_ids}
 use Rattle.core_machine.proofs.rules.Rules.near.Goals as goal
 
-pub near_of-requires : goal.near_of-requires
-near_of-requires g c =
+pub put_near-requires-clause-few : goal.put_near-requires-clause-few
+put_near-requires-clause-few g c =
     let F = fixed_of g.A.Action.takes g.A.Action.region_of g.A.Action.effect_of (record { action = c.self.inside.action.now; tree = c.self.inside.tree; start = c.self.inside.start.items }) in
     let met = g.met.A.Action g.world.𝓛 g.world.𝓜 g.world.𝓡 ((λ s x. x), (λ x. x), (λ x. x), λ x. x) in
     let validity : HasValidity F.takes F.effect_of = met.validity c.self.inside.action.now in
@@ -22,5 +22,5 @@ pub returns : goal.returns
 returns g c =
     let F = fixed_of g.A.Action.takes g.A.Action.region_of g.A.Action.effect_of (record { action = c.self.inside.action.now; tree = c.self.inside.tree; start = c.self.inside.start.items }) in
     rw (← c.self.view_is)
-    (c.near_of.ensures ∙ ap (λ (rs : List Rec). filter_map (near_one c.args.region.now c.args.slot (map player_read_of c.args.others.now) c.args.states.now) rs) c.as_slice.ensures.value
+    (c.put_near.ensures ∙ ap (λ (rs : List Rec). filter_map (near_one c.args.region.now c.args.slot (map player_read_of c.args.others.now) c.args.states.now) rs) c.as_slice.ensures.value
     ∙ near_are F c.args.region.now c.args.slot (map player_read_of c.args.others.now) c.args.states.now c.self.inside.start.items (found_at_ids c.self.inside.start.items c.self.invariant.start.rising))

@@ -5,4 +5,4 @@ use Rattle.core_machine.proofs.seat.Seat.load_list.Goals as goal
 pub returns : goal.returns
 returns g c =
     let slot : c.hand.result.slot ≡ (hand_of c.args.self.now.cmd).slot = rw c.hand.ensures refl in
-    rw (c.insert.ensures.items, c.loading-self.ensures, c.players_of-players.ensures, slot) refl
+    rw (c.load_under.ensures, c.insert.ensures.items, c.players_of-self.ensures, slot) refl
