@@ -8,8 +8,8 @@ use prog.Atomic.{either}
 use Rattle.atomic_table.specs.Table.{Me, keeps, Allows}
 use Rattle.atomic_table.proofs.Lists.{set_here}
 use Rattle.entity_recs.specs.Commands.{Command}
-use Rattle.core_steps.specs.Views.{Fixed}
-use Rattle.core_steps.specs.Machine.{Next, index_of}
+use Rattle.core_steps.specs.Views.{Fixed, View}
+use Rattle.core_steps.specs.Machine.{Next, YieldCount, index_of}
 use Rattle.region_locks.specs.Sights.{SightView}
 use Rattle.region_locks.specs.Going.{MayGo}
 use Rattle.core_machine.specs.Going.{view_found, word_left}
@@ -51,6 +51,7 @@ allowed_here F rooms slots i me given quits next f may leaves s r _ at small =
           sound_sight = sound_sight F rooms _ ruled i new (set_here s.views i new (there_below s.views i me.0 at));
           small = found_small F rooms s r i me.0 at given quits next may;
           taken = found_taken F rooms s r i me.0 at given quits next may;
+          counted = λ is. subst (λ (n : Next). me.0.view.seen ≤ slice_index s.words (index_of 31 me.0.view n)) (sym is) (seen_is_below F rooms s r i me.0 at);
         },
         refl,
       ),
@@ -66,6 +67,14 @@ allowed F G rooms passes word slots i me given quits next f fixed count at may l
     (subst (λ (n : ℕ). Allows (IsRuled F rooms) slots i me word f (λ found after. SeatWent F n next me found after)) (sym count)
     (subst (λ (n : ℕ). Allows (IsRuled F rooms) slots i me n f (λ found after. SeatWent F (length rooms) next me found after)) (sym at)
     (allowed_here F rooms slots i me given quits next f (subst (λ (n : ℕ). MayGo F n me.0.number me.0.view given quits next) count may) leaves)))
+
+-- a step that leaves the same word whatever was found doesn't load the count
+no_store : {R : Type 0} (F : Fixed) (number : ℕ) (view : View) (next : Next) (new : ℕ) → ((found : ℕ) → word_left F number view next found ≡ new) → next ≡ YieldCount → R
+no_store F number view next new leaves is =
+    let left : (found : ℕ) → found ≡ new = λ found. subst (λ (n : Next). word_left F number view n found ≡ new) is (leaves found) in
+    let zero_is = left 0 in
+    let one_is = left 1 in
+    absurd (omega (arith, zero_is, one_is))
 
 -- the same for a store, whose step gets the word that is stored
 pub allowed_store : (F G : Fixed) (rooms : List ℕ) (passes word slots i : ℕ) (me : Me (Unit {0}) SightView) (given : Option Command) (quits : Bool) (next : Next) (new : ℕ)
@@ -87,6 +96,7 @@ allowed_store F G rooms passes word slots i me given quits next new fixed count 
           sound_sight = went.0.sound_sight;
           small = store_small F me.0.number me.0.view next new leaves;
           taken = λ node slot part players plan is five. store_loads F me.0.number me.0.view next new node slot part players plan leaves is;
+          counted = λ is. no_store F me.0.number me.0.view next new leaves is;
         },
         went.1,
       ),
@@ -144,6 +154,7 @@ allowed_add_here F rooms slots i me given quits next at_0 may leaves s r _ at sm
             sound_sight = sound_sight F rooms _ ruled i new (set_here s.views i new (there_below s.views i me.0 at));
             small = found_small F rooms s r i me.0 at given quits next may;
             taken = found_taken F rooms s r i me.0 at given quits next may;
+            counted = λ is. subst (λ (n : Next). me.0.view.seen ≤ slice_index s.words (index_of 31 me.0.view n)) (sym is) (seen_is_below F rooms s r i me.0 at);
           },
           refl,
         );

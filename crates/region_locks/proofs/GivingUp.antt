@@ -1,5 +1,5 @@
 -- A pass gives back what it holds, and its command is no longer in hand.
-use Rattle.std.proofs.Common.{◌≡◌, ◌⊎◌, ℕ, suc, ◌+◌, ◌<◌, Bool, true, false, if◌then◌else◌, List, [], ◌∷◌, length, refl, sym, ap, ◌∙◌, subst, inl, inr, Option, Some, None, is_some, arith}
+use Rattle.std.proofs.Common.{◌≤◌, ◌≡◌, ◌⊎◌, ℕ, suc, ◌+◌, ◌<◌, Bool, true, false, if◌then◌else◌, List, [], ◌∷◌, length, refl, sym, ap, ◌∙◌, subst, inl, inr, Option, Some, None, is_some, arith}
 use Rattle.std.proofs.lemmas.Bool.{cases_Bool, false≢true, true≢false, cond-true, cond-false}
 use Rattle.atomic_table.specs.Seated.{TableId}
 use Rattle.entity_recs.specs.Commands.{Command}
@@ -51,6 +51,7 @@ pub record IsKept (old new : View) : Type 0 where
   pub log : new.log ≡ old.log
   pub refused : new.refused ≡ old.refused
   pub refusals : new.refusals ≡ old.refusals
+  pub seen : old.seen ≤ new.seen
 
 -- a pass that began so gives up
 pub record IsGivingUp (F : Fixed) (passes : ℕ) (table : TableId) (start now : PassView) : Type 0 where
@@ -66,9 +67,9 @@ record YieldsOne (F : Fixed) (old new : View) (nodes leaves : List ℕ) : Type 0
   fewer : held_in F new < length nodes + length leaves
 
 yielding_one : (F : Fixed) (view : View) (nodes leaves : List ℕ) (count : ℕ) → length nodes + length leaves < count → (kept : IsKept view (yielding view nodes leaves)) × (has_yielded (yielding view nodes leaves).point ≡ true) × (held_in F (yielding view nodes leaves) < count)
-yielding_one F view [] [] count less = (record { room = refl; log = refl; refused = refl; refusals = refl }, refl, omega (arith, less))
-yielding_one F view [] (leaf ∷ leaves) count less = (record { room = refl; log = refl; refused = refl; refusals = refl }, refl, less)
-yielding_one F view (node ∷ nodes) leaves count less = (record { room = refl; log = refl; refused = refl; refusals = refl }, refl, less)
+yielding_one F view [] [] count less = (record { room = refl; log = refl; refused = refl; refusals = refl; seen = omega arith }, refl, omega (arith, less))
+yielding_one F view [] (leaf ∷ leaves) count less = (record { room = refl; log = refl; refused = refl; refusals = refl; seen = omega arith }, refl, less)
+yielding_one F view (node ∷ nodes) leaves count less = (record { room = refl; log = refl; refused = refl; refusals = refl; seen = omega arith }, refl, less)
 
 yields_one : (F : Fixed) (view : View) (nodes leaves : List ℕ) (node : ℕ) → first_of_two nodes leaves ≡ Some node → YieldsOne F view (yielded view nodes leaves) nodes leaves
 yields_one F view [] [] node e = cc
@@ -78,7 +79,7 @@ yields_one F view (n ∷ nodes) leaves node e =
     let one = yielding_one F view nodes leaves (length (n ∷ nodes) + length leaves) (omega arith) in record { kept = one.0; yields = one.1; fewer = one.2 }
 
 same_kept : (a b c : View) → IsKept a b → IsKept b c → IsKept a c
-same_kept a b c x y = record { room = y.room ∙ x.room; log = y.log ∙ x.log; refused = y.refused ∙ x.refused; refusals = y.refusals ∙ x.refusals }
+same_kept a b c x y = record { room = y.room ∙ x.room; log = y.log ∙ x.log; refused = y.refused ∙ x.refused; refusals = y.refusals ∙ x.refusals; seen = omega (arith, x.seen, y.seen) }
 
 none_is_some : {A R : Type 0} (o : Option A) → o ≡ None → is_some o ≡ true → R
 none_is_some None e some = absurd (false≢true some)
@@ -158,14 +159,14 @@ module _ (F : Fixed) (passes : ℕ) (table : TableId) (start now : PassView) whe
         let is = quit.holding some in record {
           own = own;
           number = ap (λ (q : PassView). q.number) is;
-          kept = record { room = ap (λ (q : PassView). q.view.room) is; log = ap (λ (q : PassView). q.view.log) is; refused = ap (λ (q : PassView). q.view.refused) is; refusals = ap (λ (q : PassView). q.view.refusals) is };
+          kept = record { room = ap (λ (q : PassView). q.view.room) is; log = ap (λ (q : PassView). q.view.log) is; refused = ap (λ (q : PassView). q.view.refused) is; refusals = ap (λ (q : PassView). q.view.refusals) is; seen = let same = ap (λ (q : PassView). q.view.seen) is in omega (arith, same) };
           phase = inl (record { quits = ap (λ (q : PassView). q.quits) is; some = ap (λ (q : PassView). is_some (first_yield F q.view)) is ∙ some });
         }
     | inr nothing ↦
         let is = quit.none_held nothing in record {
           own = own;
           number = ap (λ (q : PassView). q.number) is;
-          kept = record { room = ap (λ (q : PassView). q.view.room) is; log = ap (λ (q : PassView). q.view.log) is; refused = ap (λ (q : PassView). q.view.refused) is; refusals = ap (λ (q : PassView). q.view.refusals) is };
+          kept = record { room = ap (λ (q : PassView). q.view.room) is; log = ap (λ (q : PassView). q.view.log) is; refused = ap (λ (q : PassView). q.view.refused) is; refusals = ap (λ (q : PassView). q.view.refusals) is; seen = let same : now.view.seen ≡ quit.found = ap (λ (q : PassView). q.view.seen) is in let low = quit.seen nothing in omega (arith, same, low) };
           phase = inr (record { pursues = ap (λ (q : PassView). q.quits) is; none = ap (λ (q : PassView). q.given) is; yields = ap (λ (q : PassView). has_yielded q.view.point) is });
         }
   ]
@@ -199,6 +200,7 @@ module _ (F : Fixed) (passes : ℕ) (table : TableId) (start now : PassView) whe
       log = is.kept.log;
       refused = is.kept.refused;
       refusals = is.kept.refusals;
+      seen = is.kept.seen;
       none = more.none;
       idle = idle_at now.view.point more.yields is.own.sound_sight.sound.next.left nothing;
     }

@@ -1,5 +1,5 @@
 -- Which passes have a next step, and the pass that is to give up.
-use Rattle.std.proofs.Common.{◌≡◌, ◌≢◌, ℕ, ◌+◌, ◌<◌, Bool, true, false, if◌then◌else◌, List, [], ◌∷◌, ◌++◌, length, refl, sym, ap, ◌∙◌, subst, inl, inr, Option, Some, None, is_some, arith}
+use Rattle.std.proofs.Common.{◌≤◌, ◌≡◌, ◌≢◌, ℕ, ◌+◌, ◌<◌, Bool, true, false, if◌then◌else◌, List, [], ◌∷◌, ◌++◌, length, refl, sym, ap, ◌∙◌, subst, inl, inr, Option, Some, None, is_some, arith}
 use Rattle.std.specs.Prelude.{◌==◌, not, ◌&&◌, ◌||◌}
 use Rattle.std.specs.Option.{option_map}
 use Rattle.std.proofs.lemmas.Bool.{cases_Bool, false≢true, true≢false, ne_eqb, cond-false}
@@ -240,11 +240,12 @@ count_left F p q nothing found same e holds = ap (λ (next : Next). word_left F 
 
 -- and the command is then no longer in hand
 pub quit_at_once : (F : Fixed) (p q new : PassView) (nothing : Bool) (found : ℕ) → p ≡ q → nothing ≡ not (is_some (first_yield F q.view)) → nothing ≡ true
-    → new ≡ pass_after F (quitting (first_yield F p.view)) found p → HasQuit F q new
-quit_at_once F p q new nothing found same e holds is = record {
+    → new ≡ pass_after F (quitting (first_yield F p.view)) found p → (quitting (first_yield F p.view) ≡ YieldCount → p.view.seen ≤ found) → HasQuit F q new
+quit_at_once F p q new nothing found same e holds is low = record {
   holding = λ some. absurd (false≢true (sym (not_some (is_some (first_yield F q.view)) nothing e holds) ∙ some));
   found = found;
   none_held = λ none. is ∙ ap (λ (next : Next). pass_after F next found p) (count_next F p q nothing same e holds) ∙ ap (pass_after F YieldCount found) same;
+  seen = λ none. subst (λ (r : PassView). r.view.seen ≤ found) same (low (count_next F p q nothing same e holds));
 }
 
 taking_open : (point : Point) → is_taking point ≡ true → is_open (stage_of point) ≡ true

@@ -91,6 +91,7 @@ has_gone F passes table p old new word found is same went =
       sound_sight = subst (IsSoundSight F passes) (sight_is new.me.0 p.number _ number view) went.0.sound_sight;
       small = went.0.small;
       taken = went.0.taken;
+      counted = λ counts. subst (λ (v : View). v.seen ≤ found) is.same_view (went.0.counted counts);
       carries = went.1;
     }
 

@@ -11,6 +11,7 @@ use Rattle.region_locks.specs.Rule.{IsRuled}
 use Rattle.region_locks.specs.Plays.{SeatLooked}
 use Rattle.region_locks.proofs.Idle.{place_below}
 use Rattle.region_locks.proofs.SoundSights.{sound_sight}
+use Rattle.region_locks.proofs.Counting.{seen_is_below}
 use Rattle.region_locks.proofs.Looking.{looks}
 use Rattle.region_locks.proofs.Making.{makes}
 use Rattle.region_locks.proofs.Ending.{ends}
@@ -25,7 +26,7 @@ looked_here F rooms slots i me rests s r _ at small =
       keeps,
       tt,
       ruled,
-      (record { number = refl; view = refl; sound_sight = sound_sight F rooms _ ruled i new (set_here s.views i new (place_below s.views i me.0 at)) }, refl),
+      (record { number = refl; view = refl; seen = seen_is_below F rooms s r i me.0 at; sound_sight = sound_sight F rooms _ ruled i new (set_here s.views i new (place_below s.views i me.0 at)) }, refl),
     )
 
 -- a seat that rests may look at the count

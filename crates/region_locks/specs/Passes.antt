@@ -1,5 +1,5 @@
 -- A pass as contracts see it, and the table that it belongs to.
-use Rattle.std.specs.Prelude.{◌≡◌, ◌≢◌, ℕ, ◌+◌, ◌-◌, ◌/◌, ◌%◌, ◌^◌, ◌<◌, nat_le, Bool, true, false, if◌then◌else◌, List, [], ◌∷◌, ◌++◌}
+use Rattle.std.specs.Prelude.{◌≤◌, ◌≡◌, ◌≢◌, ℕ, ◌+◌, ◌-◌, ◌/◌, ◌%◌, ◌^◌, ◌<◌, nat_le, Bool, true, false, if◌then◌else◌, List, [], ◌∷◌, ◌++◌}
 use Rattle.std.specs.Prelude.{map, length, slice_index, Option, Some, None, is_some}
 use Rattle.std.specs.List.{range_with_len}
 use Rattle.arena_geo.specs.Bounds.{Bounds}
@@ -122,6 +122,7 @@ pub record HasGone (F : Fixed) (passes : ℕ) (p : PassView) (found : ℕ) (seat
   pub taken : (node slot : ℕ) (part players plan : List ℕ)
       → the_next (next_of_pass F p) ≡ ReadPlayer node part slot players plan → length part ≡ 5
       → F.takes (record_read slot (part ++ found ∷ [])) ≡ true
+  pub counted : the_next (next_of_pass F p) ≡ YieldCount → p.view.seen ≤ found
   pub sound_sight : IsSoundSight F passes (record {
     number = p.number;
     view = view_found F p.view (the_next (next_of_pass F p)) found;

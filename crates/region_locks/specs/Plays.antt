@@ -4,7 +4,7 @@ use Rattle.atomic_table.specs.Table.{Me}
 use Rattle.entity_recs.specs.Commands.{Command}
 use Rattle.core_steps.specs.Views.{Fixed, record_read}
 use Rattle.core_steps.specs.declared.step.StepKind.TheVariants.{Commit}
-use Rattle.core_steps.specs.Machine.{Next, ReadPlayer, index_of, kind_of}
+use Rattle.core_steps.specs.Machine.{Next, ReadPlayer, YieldCount, index_of, kind_of}
 use Rattle.core_machine.specs.Going.{view_found}
 use Rattle.core_machine.specs.Sound.{IsSound}
 use Rattle.region_locks.specs.Sights.{SightView}
@@ -17,8 +17,9 @@ pub record IsSoundSight (F : Fixed) (passes : ℕ) (sight : SightView) : Type 0 
   pub in_table : (given : Option Command) (quits : Bool) (next : Next)
       → MayGo F passes sight.number sight.view given quits next → index_of 31 sight.view next < 639
 
--- the seat keeps its number, its view is the one after the step and sound, a count that it adds 1 to doesn't wrap, and
--- a player's record whose last word it loads is one that the action takes
+-- the seat keeps its number, its view is the one after the step and sound, a count that it adds 1 to doesn't wrap, a
+-- player's record whose last word it loads is one that the action takes, and a count that it loads isn't below the one
+-- that it had seen
 pub record Went (F : Fixed) (passes : ℕ) (next : Next) (before : SightView) (found : ℕ) (after : SightView) : Type 0
   where
     pub number : after.number ≡ before.number
@@ -27,6 +28,7 @@ pub record Went (F : Fixed) (passes : ℕ) (next : Next) (before : SightView) (f
     pub small : kind_of next ≡ Commit → found + 1 < 2 ^ 64
     pub taken : (node slot : ℕ) (part players plan : List ℕ) → next ≡ ReadPlayer node part slot players plan
         → length part ≡ 5 → F.takes (record_read slot (part ++ found ∷ [])) ≡ true
+    pub counted : next ≡ YieldCount → before.view.seen ≤ found
 
 -- the seat went on, and carries what it carried
 abbrev pub SeatWent : Fixed → ℕ → Next → Me (Unit {0}) SightView → ℕ → Me (Unit {0}) SightView → Type 0
@@ -46,10 +48,12 @@ pub record SeatCounted (F : Fixed) (passes : ℕ) (next : Next) (before : Me (Un
   pub went : SeatWent F passes next before found after
   pub seen : before.0.view.seen ≤ found
 
--- the seat keeps its number, the count that was found is the one that it has seen, and its view is sound
+-- the seat keeps its number, the count that was found is the one that it has seen and isn't below the one that it had
+-- seen, and its view is sound
 pub record Looked (F : Fixed) (passes : ℕ) (before : SightView) (found : ℕ) (after : SightView) : Type 0 where
   pub number : after.number ≡ before.number
   pub view : after.view ≡ view_looked found before.view
+  pub seen : before.view.seen ≤ found
   pub sound_sight : IsSoundSight F passes after
 
 -- the seat looked at the count, and carries what it carried

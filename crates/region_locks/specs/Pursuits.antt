@@ -83,13 +83,15 @@ pub record WasRefused (F : Fixed) (passes : ℕ) (table : TableId) (old new : Pa
     pub cause : IsRefusedBy F passes new.number cmd r number leaves
     pub counted : new.view.refusals ≡ min (old.view.refusals + 1) (2 ^ 64 - 1)
 
--- the command in hand was given up: the same number, room, log and refused takes, and no command in hand
+-- the command in hand was given up: the same number, room, log and refused takes, no smaller count seen, and no command in
+-- hand
 pub record HasGivenUp (old new : PassView) : Type 0 where
   pub number : new.number ≡ old.number
   pub room : new.view.room ≡ old.view.room
   pub log : new.view.log ≡ old.view.log
   pub refused : new.view.refused ≡ old.view.refused
   pub refusals : new.view.refusals ≡ old.view.refusals
+  pub seen : old.view.seen ≤ new.view.seen
   pub none : new.given ≡ None
   pub idle : new.view.point ≡ Idle
 

@@ -1,5 +1,5 @@
 -- What a pass does next as a step, and the pass after it is to give up its command.
-use Rattle.std.specs.Prelude.{◌≡◌, ℕ, ◌<◌, Bool, true, false, not, ◌&&◌, ◌||◌, length, Option, None, is_some}
+use Rattle.std.specs.Prelude.{◌≤◌, ◌≡◌, ℕ, ◌<◌, Bool, true, false, not, ◌&&◌, ◌||◌, length, Option, None, is_some}
 use Rattle.std.specs.Option.{option_map}
 use Rattle.core_steps.specs.declared.step.Step.{Step}
 use Rattle.core_steps.specs.Views.{Fixed, Idle, stage_of, is_busy}
@@ -18,11 +18,12 @@ has_next_step p = is_some p.given || (is_busy (stage_of p.view.point)
     && not (is_resolving p.view.point && not p.quits && not (is_some p.effect)))
 
 -- a pass was asked to give up: where it holds a node, giving back what it holds comes next; else it has loaded the
--- count, and the command is no longer in hand
+-- count, which isn't below the one that it had seen, and the command is no longer in hand
 pub record HasQuit (F : Fixed) (old new : PassView) : Type 0 where
   pub holding : is_some (first_yield F old.view) ≡ true → new ≡ record old { quits = true }
   pub found : ℕ
   pub none_held : is_some (first_yield F old.view) ≡ false → new ≡ pass_after F YieldCount found old
+  pub seen : is_some (first_yield F old.view) ≡ false → old.view.seen ≤ found
 
 -- the pass has no command in hand, and room for one
 pub record MayBegin (p : PassView) : Type 0 where

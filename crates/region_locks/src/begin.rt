@@ -1,4 +1,4 @@
-ghost use Rattle.std.specs.Prelude.{◌≡◌, ◌%◌, ◌<◌, true, length, Some, None};
+ghost use Rattle.std.specs.Prelude.{◌≡◌, ◌≤◌, ◌%◌, ◌<◌, true, length, Some, None};
 ghost use Rattle.entity_recs.specs.Commands.{command_of};
 ghost use Rattle.core_steps.specs.Views.{Idle, has};
 ghost use Rattle.region_locks.specs.Going.{view_looked};
@@ -30,6 +30,7 @@ impl<'a, A: Action> NodeTable<'a, A> {
         requires own { IsPassOf (fixed_in A.takes A.region_of A.effect_of self.now) (length self.now.rooms) self.now.table pass.old }
         requires rests { pass.old.view.point ≡ Idle }
         ensures pass { pass.new ≡ record pass.old { view = view_looked result pass.old.view } }
+        ensures seen { pass.old.view.seen ≤ result }
         ensures sound_sight { IsSoundSight (fixed_in A.takes A.region_of A.effect_of self.now) (length self.now.rooms) (sight_of pass.new) }
     {
         let seen = look(&self.table.shared, &mut pass.place);
@@ -43,6 +44,7 @@ impl<'a, A: Action> NodeTable<'a, A> {
         requires none { (pass.old.given ≡ None) × (pass.old.view.point ≡ Idle) }
         ensures own { IsPassOf (fixed_in A.takes A.region_of A.effect_of self.now) (length self.now.rooms) self.now.table pass.new }
         ensures pass { pass.new ≡ record pass.old { view = view_looked result pass.old.view } }
+        ensures seen { pass.old.view.seen ≤ result }
     {
         self.look_word(pass)
     }

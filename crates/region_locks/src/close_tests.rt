@@ -1,4 +1,7 @@
-ghost use Rattle.std.specs.Prelude.{◌≡◌, false, length, Some};
+ghost use Rattle.std.specs.Prelude.{◌≡◌, true, false, length, Some};
+ghost use Rattle.core_steps.specs.Views.{Idle};
+ghost use Rattle.core_machine.specs.Seats.{view_of};
+ghost use Rattle.region_locks.specs.Closing.{HasNoCommand};
 ghost use Rattle.region_locks.specs.Passes.{fixed_in, IsPassOf};
 ghost use Rattle.region_locks.specs.Turns.{turn_of};
 
@@ -7,7 +10,7 @@ use crate::staying::Staying;
 use crate::table::NodeTable;
 use crate::tests::{FIRST, SECOND, near_world, plain};
 use crate::turn::Turn;
-use core_machine::Point;
+use core_machine::{Point, Seat};
 use core_steps::StepKind;
 use entity_recs::{Action, Rec};
 use move_journal::LogList;
@@ -90,6 +93,20 @@ fn finish<A: Action>(table: &NodeTable<A>, pass: &mut Pass<A>) -> Result<(), Fai
     Err("no end".into())
 }
 
+/// Whether no command is in view.
+fn is_idle(seat: &Seat) -> bool
+    ensures { result ≡ true → (view_of seat.now).point ≡ Idle }
+{
+    matches!(seat.point, Point::Idle)
+}
+
+/// Whether the pass has no command in hand.
+fn has_no_command(pass: &Pass<Staying>) -> bool
+    ensures { result ≡ true → HasNoCommand pass.now }
+{
+    pass.mirror.given.is_none() && is_idle(&pass.mirror)
+}
+
 #[test]
 fn a_move_is_in_its_log_after_close(rt: HostRuntime) -> Result<(), Fail> {
     let mut world = near_world(rt.alloc())?;
@@ -97,10 +114,7 @@ fn a_move_is_in_its_log_after_close(rt: HostRuntime) -> Result<(), Fail> {
     let mut pass = passes.pop().ok_or("a pass")?;
     table.begin(&mut pass, plain(0));
     finish(&table, &mut pass)?;
-    if pass.number != 0
-        || pass.mirror.given.is_some()
-        || !matches!(pass.mirror.point, Point::Idle)
-    {
+    if pass.number != 0 || !has_no_command(&pass) {
         return Err("a pass in hand".into());
     }
     passes.push_reserved(pass);

@@ -2,7 +2,6 @@ ghost use Rattle.std.specs.Prelude.{◌≡◌, false, None};
 ghost use Rattle.core_machine.specs.Going.{view_found};
 ghost use Rattle.core_machine.specs.Nexts.{next_with, the_next};
 ghost use Rattle.core_machine.specs.Ready as ready;
-ghost use Rattle.core_machine.specs.Points.{point_of};
 ghost use Rattle.core_machine.specs.Seats.{view_of, given_of};
 ghost use Rattle.core_machine.specs.Shown.{fixed_of};
 ghost use Rattle.region_locks.specs.Passes.{effect_kept};
@@ -12,10 +11,20 @@ use core_machine::{Point, Rules, Seat};
 use entity_recs::{Action, Effect};
 
 /// Whether all is read and no write node is taken.
-pub(crate) fn is_resolving(point: &Point) -> bool
-    ensures { result ≡ ready.is_resolving (point_of point.now) }
+pub(crate) fn is_resolving(seat: &Seat) -> bool
+    ensures { result ≡ ready.is_resolving (view_of seat.now).point }
 {
-    matches!(point, Point::Resolving)
+    matches!(seat.point, Point::Resolving)
+}
+
+/// The effect is let go, if there is one.
+fn let_go(effect: &mut Option<Effect>)
+    ensures { effect.new ≡ None }
+{
+    // An effect is large: where there is none, nothing is stored.
+    if effect.is_some() {
+        *effect = None;
+    }
 }
 
 /// The seat in plain values makes the step that its place at the table has made. The effect is kept on until it enters the
@@ -34,7 +43,7 @@ pub(crate) fn follow<A: Action>(
     ensures effect { effect.new ≡ effect_kept (view_of mirror.new) effect.old }
 {
     mirror.go(rules, effect, found);
-    if !is_resolving(&mirror.point) {
-        *effect = None;
+    if !is_resolving(mirror) {
+        let_go(effect);
     }
 }

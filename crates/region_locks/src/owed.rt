@@ -2,8 +2,8 @@ ghost use Rattle.std.specs.Prelude.{◌≡◌, map};
 ghost use Rattle.core_steps.specs.Views.{stores_owed};
 ghost use Rattle.core_steps.specs.Cells.{cell_index};
 ghost use Rattle.core_machine.specs.Tables.{cell_in};
-ghost use Rattle.core_machine.specs.Points.{point_of, store_of};
-ghost use Rattle.core_machine.specs.Seats.{hand_of};
+ghost use Rattle.core_machine.specs.Points.{store_of};
+ghost use Rattle.core_machine.specs.Seats.{view_of, hand_of};
 ghost use Rattle.region_locks.specs.Passes as passes;
 
 use core_machine::{Cell, Point, Seat, Store};
@@ -19,11 +19,11 @@ fn bit_of_first(stores: &[Store]) -> u8
 }
 
 /// The node at which the own bit is cleared or set next, and 0 where that isn't the next step.
-pub(crate) fn bit_owed(point: &Point) -> u8
-    ensures { result ≡ passes.bit_owed (stores_owed (point_of point.now)) }
+pub(crate) fn bit_owed(seat: &Seat) -> u8
+    ensures { result ≡ passes.bit_owed (stores_owed (view_of seat.now).point) }
 {
-    match point {
-        Point::Storing { stores, .. } => bit_of_first(stores.as_slice()),
+    match seat.point {
+        Point::Storing => bit_of_first(seat.queues.stores.as_slice()),
         _ => 0,
     }
 }
@@ -49,11 +49,14 @@ fn put_of_first(stores: &[Store]) -> (usize, u64)
 }
 
 /// The index and the word of the store that is made next, and 0 where it puts no word of a record.
-pub(crate) fn put_owed(point: &Point) -> (usize, u64)
-    ensures { result ≡ (passes.index_owed (stores_owed (point_of point.now)), passes.word_owed (stores_owed (point_of point.now))) }
+pub(crate) fn put_owed(seat: &Seat) -> (usize, u64)
+    ensures { result ≡ (
+      passes.index_owed (stores_owed (view_of seat.now).point),
+      passes.word_owed (stores_owed (view_of seat.now).point),
+    ) }
 {
-    match point {
-        Point::Storing { stores, .. } => put_of_first(stores.as_slice()),
+    match seat.point {
+        Point::Storing => put_of_first(seat.queues.stores.as_slice()),
         _ => (0, 0),
     }
 }

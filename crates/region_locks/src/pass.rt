@@ -8,6 +8,7 @@ use core_machine::Seat;
 use entity_recs::Effect;
 use move_journal::Log;
 use std::marker::{Model, PhantomData};
+use world_tree::NearList;
 
 /// A worker's seat at the table.
 #[derive(Drop)]
@@ -16,6 +17,7 @@ pub struct Pass<A> {
     pub(crate) number: u8,
     pub(crate) mirror: Seat,
     pub(crate) effect: Option<Effect>,
+    pub(crate) near: NearList,
     pub(crate) of: PhantomData<A>,
 }
 
@@ -46,6 +48,7 @@ impl<A> Pass<A> {
             number,
             mirror,
             effect: None,
+            near: NearList::new(),
             of: PhantomData,
         }
     }

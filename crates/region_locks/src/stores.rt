@@ -16,7 +16,7 @@ impl<'a, A: Action> NodeTable<'a, A> {
         ensures pass { pass.new ≡ pass_after (fixed_in A.takes A.region_of A.effect_of self.now) (the_next (next_of_pass (fixed_in A.takes A.region_of A.effect_of self.now) pass.old)) 0 pass.old }
     {
         let (slot, _) = slot_and_seq(&pass.mirror);
-        let word = 32 + usize::from(bit_owed(&pass.mirror.point));
+        let word = 32 + usize::from(bit_owed(&pass.mirror));
         self.clear_bit(pass, word, slot);
     }
 
@@ -28,7 +28,7 @@ impl<'a, A: Action> NodeTable<'a, A> {
         ensures own { IsPassOf (fixed_in A.takes A.region_of A.effect_of self.now) (length self.now.rooms) self.now.table pass.new }
         ensures pass { pass.new ≡ pass_after (fixed_in A.takes A.region_of A.effect_of self.now) (the_next (next_of_pass (fixed_in A.takes A.region_of A.effect_of self.now) pass.old)) 0 pass.old }
     {
-        let (word, new) = put_owed(&pass.mirror.point);
+        let (word, new) = put_owed(&pass.mirror);
         self.store_word(pass, word, new);
     }
 
@@ -40,7 +40,7 @@ impl<'a, A: Action> NodeTable<'a, A> {
         ensures pass { pass.new ≡ pass_after (fixed_in A.takes A.region_of A.effect_of self.now) (the_next (next_of_pass (fixed_in A.takes A.region_of A.effect_of self.now) pass.old)) 0 pass.old }
     {
         let (slot, _) = slot_and_seq(&pass.mirror);
-        let word = 32 + usize::from(bit_owed(&pass.mirror.point));
+        let word = 32 + usize::from(bit_owed(&pass.mirror));
         self.set_bit(pass, word, slot);
     }
 }

@@ -8,7 +8,7 @@ ghost use Rattle.core_steps.specs.Views.{Fixed, View};
 ghost use Rattle.core_steps.specs.Machine.{next_at, beginning};
 ghost use Rattle.core_machine.specs.Nexts.{next_point};
 ghost use Rattle.core_machine.specs.Ready as ready;
-ghost use Rattle.core_machine.specs.Points.{point_of, store_of};
+ghost use Rattle.core_machine.specs.Points.{store_of};
 ghost use Rattle.core_machine.specs.Seats.{view_of, given_of};
 ghost use Rattle.region_locks.specs.Passes.{fixed_in, IsPassOf};
 ghost use Rattle.region_locks.specs.Turns.{turn_for, turn_of, has_command_in_hand};
@@ -124,24 +124,24 @@ fn claim(seat: &Seat, rest: &[u8]) -> Option<Turn>
 
 /// The call of a seat that isn't to give up and has not read all.
 fn turn_at(seat: &Seat) -> Option<Turn>
-    ensures { (F : Fixed) (effect : Option Effect) → ready.is_resolving (point_of seat.now.point) ≡ false → result
-        ≡ turn_for (view_of seat.now) (next_point F (view_of seat.now) (given_of seat.now) effect (point_of seat.now.point)) }
+    ensures { (F : Fixed) (effect : Option Effect) → ready.is_resolving (view_of seat.now).point ≡ false → result
+        ≡ turn_for (view_of seat.now) (next_point F (view_of seat.now) (given_of seat.now) effect (view_of seat.now).point) }
 {
-    match &seat.point {
+    match seat.point {
         Point::Idle => begin(seat),
         Point::Owning | Point::Checking => Some(Turn::LoadRec(slot_and_seq(seat).0)),
-        Point::Taking { rest, .. } => take_first(rest.as_slice()),
-        Point::Entering { node, .. } => Some(Turn::Take(*node)),
-        Point::Entered { node, .. } => Some(Turn::LoadList(*node)),
-        Point::Loading { players, .. } => load_first(players.as_slice()),
-        Point::Leaving { node, .. } => Some(Turn::GiveBack(*node)),
-        Point::Sensing { ids } => sense_first(ids.as_slice()),
+        Point::Taking => take_first(seat.queues.rest.as_slice()),
+        Point::Entering { node } => Some(Turn::Take(node)),
+        Point::Entered { node } => Some(Turn::LoadList(node)),
+        Point::Loading { .. } => load_first(seat.queues.players.as_slice()),
+        Point::Leaving { node } => Some(Turn::GiveBack(node)),
+        Point::Sensing => sense_first(seat.queues.ids.as_slice()),
         Point::Resolving => None,
-        Point::Claiming { rest, .. } => claim(seat, rest.as_slice()),
-        Point::Storing { stores, .. } => store_first(stores.as_slice()),
-        Point::Releasing { nodes } => give_first(nodes.as_slice(), seat.wanted.as_slice()),
-        Point::Returning { leaves } => give_first(&[], leaves.as_slice()),
-        Point::Yielding { nodes, leaves } => give_first(nodes.as_slice(), leaves.as_slice()),
+        Point::Claiming => claim(seat, seat.queues.rest.as_slice()),
+        Point::Storing => store_first(seat.queues.stores.as_slice()),
+        Point::Releasing => give_first(seat.queues.got.as_slice(), seat.wanted.as_slice()),
+        Point::Returning => give_first(&[], seat.queues.rest.as_slice()),
+        Point::Yielding => give_first(seat.queues.got.as_slice(), seat.queues.rest.as_slice()),
     }
 }
 
@@ -153,7 +153,7 @@ impl<'a, A: Action> NodeTable<'a, A> {
         ensures turn { result ≡ turn_of (fixed_in A.takes A.region_of A.effect_of self.now) pass.now }
         ensures some { is_some result ≡ has_command_in_hand pass.now }
     {
-        if is_resolving(&pass.mirror.point) {
+        if is_resolving(&pass.mirror) {
             return self.resolved_turn(pass);
         }
         turn_at(&pass.mirror)

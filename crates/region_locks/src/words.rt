@@ -1,6 +1,6 @@
 ghost use Rattle.std.specs.Prelude.{◌≡◌, ℕ, List, [], ◌∷◌, ◌++◌, ◌+◌, ◌<◌, ◌≤◌, ◌==◌, true, length, is_some, if◌then◌else◌};
 ghost use Rattle.core_steps.specs.Cells.{with_bit, without_bit};
-ghost use Rattle.core_steps.specs.Machine.{ReadPlayer, index_of};
+ghost use Rattle.core_steps.specs.Machine.{ReadPlayer, YieldCount, index_of};
 ghost use Rattle.core_steps.specs.Views.{record_read};
 ghost use Rattle.core_machine.specs.Going.{view_found};
 ghost use Rattle.region_locks.specs.Holders.{IsFoundHeld, AreReached};
@@ -25,6 +25,7 @@ impl<'a, A: Action> NodeTable<'a, A> {
         ensures own { IsPassOf (fixed_in A.takes A.region_of A.effect_of self.now) (length self.now.rooms) self.now.table pass.new }
         ensures taken { (node slot : ℕ) (part players plan : List ℕ) → the_next (next_of_pass (fixed_in A.takes A.region_of A.effect_of self.now) pass.old) ≡ ReadPlayer node part slot players plan
             → length part ≡ 5 → A.takes self.now.action (record_read slot (part ++ result ∷ [])) ≡ true }
+        ensures counted { the_next (next_of_pass (fixed_in A.takes A.region_of A.effect_of self.now) pass.old) ≡ YieldCount → pass.old.view.seen ≤ result }
     {
         let about = Snapshot::of(&*pass);
         let found = load_next(&self.table.shared, &about, &mut pass.place, word);

@@ -8,16 +8,16 @@ use Rattle.region_locks.proofs.turn.turn_at.Goals as goal
 pub returns-in-Idle : goal.returns-in-Idle
 returns-in-Idle c = λ F effect other.
     let seat = c.args.seat.now in
-    turn_here F (view_of seat) (given_of seat) effect views.Idle _ (ap point_of c.in-Idle.is) (c.begin.ensures (view_of seat))
+    turn_here F (view_of seat) (given_of seat) effect views.Idle _ (ap (point_of seat.queues) c.in-Idle.is) (c.begin.ensures (view_of seat))
 
 pub returns-in-Claiming : goal.returns-in-Claiming
 returns-in-Claiming c = λ F effect other.
     let seat = c.args.seat.now in
-    turn_here F (view_of seat) (given_of seat) effect (views.Claiming c.in-Claiming.got.items c.in-Claiming.rest.items) _ (ap point_of c.in-Claiming.is)
-    (rw (sym c.as_slice-in-Claiming.ensures.value) (c.claim.ensures F c.in-Claiming.got.items))
+    turn_here F (view_of seat) (given_of seat) effect (views.Claiming seat.queues.got.items seat.queues.rest.items) _ (ap (point_of seat.queues) c.in-Claiming.is)
+    (rw (sym c.as_slice-in-Claiming.ensures.value) (c.claim.ensures F seat.queues.got.items))
 
 pub returns-in-Storing : goal.returns-in-Storing
 returns-in-Storing c = λ F effect other.
     let seat = c.args.seat.now in
-    turn_here F (view_of seat) (given_of seat) effect (views.Storing c.in-Storing.nodes.items (map store_of c.in-Storing.stores.items)) _ (ap point_of c.in-Storing.is)
-    (rw (sym c.as_slice-in-Storing.ensures.value) (c.store_first.ensures F (view_of seat) (given_of seat) c.in-Storing.nodes.items))
+    turn_here F (view_of seat) (given_of seat) effect (views.Storing seat.queues.got.items (map store_of seat.queues.stores.items)) _ (ap (point_of seat.queues) c.in-Storing.is)
+    (rw (sym c.as_slice-in-Storing.ensures.value) (c.store_first.ensures F (view_of seat) (given_of seat) seat.queues.got.items))

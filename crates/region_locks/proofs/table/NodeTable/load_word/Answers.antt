@@ -40,3 +40,9 @@ returns-clause-taken g c =
     let gone : HasGone (fixed_in g.A.Action.takes g.A.Action.region_of g.A.Action.effect_of c.args.self.now) (length c.args.self.now.rooms) c.args.pass.now c.load_next-found.result c.load_next-found.new.seat c.pass.inside.place.me.1 =
     rw (← c.self.view_is, ← c.of-about.ensures) c.load_next-found.ensures.gone in
     gone.taken
+
+pub returns-clause-counted : goal.returns-clause-counted
+returns-clause-counted g c =
+    let gone : HasGone (fixed_in g.A.Action.takes g.A.Action.region_of g.A.Action.effect_of c.args.self.now) (length c.args.self.now.rooms) c.args.pass.now c.load_next-found.result c.load_next-found.new.seat c.pass.inside.place.me.1 =
+    rw (← c.self.view_is, ← c.of-about.ensures) c.load_next-found.ensures.gone in
+    gone.counted

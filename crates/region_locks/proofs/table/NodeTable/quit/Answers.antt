@@ -18,7 +18,7 @@ load_word-requires-clause-left g c κs within found =
 pub returns-then-holds_nothing-clause-pass : goal.returns-then-holds_nothing-clause-pass
 returns-then-holds_nothing-clause-pass g c =
     quit_at_once (fixed_in g.A.Action.takes g.A.Action.region_of g.A.Action.effect_of c.args.self.now) _ c.args.pass.now _ c.holds_nothing-holds_nothing.result c.load_word.result c.pass.view_is
-    c.holds_nothing-holds_nothing.ensures c.if-holds_nothing.true c.load_word.ensures.pass
+    c.holds_nothing-holds_nothing.ensures c.if-holds_nothing.true c.load_word.ensures.pass c.load_word.ensures.counted
 
 pub returns-else-holds_nothing-clause-own : goal.returns-else-holds_nothing-clause-own
 returns-else-holds_nothing-clause-own g c =
@@ -28,4 +28,4 @@ pub returns-then-holds_nothing-clause-free : goal.returns-then-holds_nothing-cla
 returns-then-holds_nothing-clause-free g c none =
     may_begin (fixed_in g.A.Action.takes g.A.Action.region_of g.A.Action.effect_of c.args.self.now) (length c.args.self.now.rooms) c.args.self.now.table c.args.pass.now c.load_word.new.pass c.requires.own c.requires.at_take
     (quit_at_once (fixed_in g.A.Action.takes g.A.Action.region_of g.A.Action.effect_of c.args.self.now) _ c.args.pass.now _ c.holds_nothing-holds_nothing.result c.load_word.result c.pass.view_is
-    c.holds_nothing-holds_nothing.ensures c.if-holds_nothing.true c.load_word.ensures.pass) none
+    c.holds_nothing-holds_nothing.ensures c.if-holds_nothing.true c.load_word.ensures.pass c.load_word.ensures.counted) none
