@@ -194,6 +194,7 @@ was_not_run F passes table start c old mid new o node number leaves a r refused 
       number = gave.number ∙ refused.same.number ∙ r.number;
       room = gave.room ∙ refused.same.room ∙ r.room;
       log = gave.log ∙ refused.same.log ∙ was.log;
+      seen = subst (λ (n : ℕ). n ≤ new.view.seen) (refused.same.seen ∙ was.seen) gave.seen;
       rose = risen start.view.refusals old.view.refusals new.view.refusals was.refusals (gave.refusals ∙ refused.counted);
       r = refused.r;
       kept = gave.refused ∙ refused.kept;

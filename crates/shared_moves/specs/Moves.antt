@@ -53,8 +53,8 @@ abbrev pub IsCause : Fixed → ℕ → ℕ → Command → Refused → Again →
 IsCause F passes own c r (Held leaf holder leaves) = IsLeafHeld F passes own c r leaf holder leaves
 IsCause F passes own c r (Busy node holder) = IsNodeBusy F passes own c r node holder
 
--- the command wasn't run, for this cause, which the pass keeps as its last refused take: nothing is committed, and the
--- pass holds no node and has no command in hand
+-- the command wasn't run, for this cause, which the pass keeps as its last refused take: nothing is committed, the pass
+-- holds no node and has no command in hand, and it hasn't seen a smaller count than before
 pub record WasNotRun (F : Fixed) (passes : ℕ) (table : TableId) (old new : PassView) (c : Command) (a : Again) : Type 0
   where
     pub own : IsPassOf F passes table new
@@ -62,6 +62,7 @@ pub record WasNotRun (F : Fixed) (passes : ℕ) (table : TableId) (old new : Pas
     pub number : new.number ≡ old.number
     pub room : new.view.room ≡ old.view.room
     pub log : new.view.log ≡ old.view.log
+    pub seen : old.view.seen ≤ new.view.seen
     pub rose : HasRisen old.view.refusals new.view.refusals
     pub r : Refused
     pub kept : new.view.refused ≡ Some r

@@ -35,24 +35,15 @@ impl<'a, A: Action> Shared<'a, A> {
         moment.into_entry()
     }
 
-    /// Calls the gate where the pass holds all leaves and nothing is read yet, or where all is written, and gives the entry
-    /// back.
-    fn show_held<G: Gate>(
-        &self,
-        pass: &Pass<A>,
-        cmd: Cmd,
-        entry: Option<Entry>,
-        gate: &G,
-    ) -> Option<Entry>
-        ensures { result ≡ entry }
+    /// Calls the gate where the pass holds all leaves and nothing is read yet, or where all is written.
+    fn show_held<G: Gate>(&self, pass: &Pass<A>, cmd: Cmd, entry: &mut Option<Entry>, gate: &G)
+        ensures { entry.new ≡ entry.old }
     {
         if pass.has_written() {
-            return self.show_entry(pass, entry, gate);
-        }
-        if pass.has_its_leaves() {
+            *entry = self.show_entry(pass, entry.take(), gate);
+        } else if pass.has_its_leaves() {
             self.show(pass, cmd, Point::Leaves, gate);
         }
-        entry
     }
 
     /// Makes the next call of a pass that runs the command, and calls the gate at its points. `Err` exactly where a take is
@@ -74,7 +65,7 @@ impl<'a, A: Action> Shared<'a, A> {
         ensures refused { IfErr result (λ r. WasRefused (fixed_in A.takes A.region_of A.effect_of self.now) (length self.now.rooms) self.now.table pass.old pass.new r.node r.holder.number r.holder.leaves) }
         ensures kept { IfErr result (λ r. entry.new ≡ entry.old) }
     {
-        *entry = self.show_held(pass, cmd, entry.take(), gate);
+        self.show_held(pass, cmd, entry, gate);
         match self.table.go_on(pass, turn)? {
             Went::On => {}
             Went::Resolved => self.show(pass, cmd, Point::Computed, gate),

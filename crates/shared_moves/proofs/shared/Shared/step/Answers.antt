@@ -9,7 +9,7 @@ use Rattle.shared_moves.proofs.shared.Shared.step.Goals as goal
 pub returns-in_err-go_on-clause-running : goal.returns-in_err-go_on-clause-running
 returns-in_err-go_on-clause-running g c start d running =
     let refused : WasRefused (fixed_in g.A.Action.takes g.A.Action.region_of g.A.Action.effect_of c.args.self.now) (length c.args.self.now.rooms) c.args.self.now.table c.args.pass.now c.go_on.new.pass c.in_err-go_on.field-0.0.node c.in_err-go_on.field-0.0.holder.number c.in_err-go_on.field-0.0.holder.leaves = rw (← c.self.view_is) c.in_err-go_on.ensures.err in
-    subst (λ (o : Option Entry). IsRunning (fixed_in g.A.Action.takes g.A.Action.region_of g.A.Action.effect_of c.args.self.now) (length c.args.self.now.rooms) c.args.self.now.table start d c.go_on.new.pass o) (sym (c.show_held.ensures ∙ c.take.ensures.value))
+    subst (λ (o : Option Entry). IsRunning (fixed_in g.A.Action.takes g.A.Action.region_of g.A.Action.effect_of c.args.self.now) (length c.args.self.now.rooms) c.args.self.now.table start d c.go_on.new.pass o) (sym c.show_held.ensures)
     (runs_refused (fixed_in g.A.Action.takes g.A.Action.region_of g.A.Action.effect_of c.args.self.now) (length c.args.self.now.rooms) c.args.self.now.table start d c.args.pass.now c.go_on.new.pass c.args.entry.now running _ _ _ refused)
 
 pub show-requires-clause-at : goal.show-requires-clause-at
@@ -20,13 +20,13 @@ show-requires-clause-at g c κs within =
 pub returns-in-On-clause-running : goal.returns-in-On-clause-running
 returns-in-On-clause-running g c start d running =
     let gone : HasGoneOn (fixed_in g.A.Action.takes g.A.Action.region_of g.A.Action.effect_of c.args.self.now) (length c.args.self.now.rooms) c.args.self.now.table c.args.pass.now c.go_on.new.pass c.in_ok-go_on.field-0 = rw (← c.self.view_is) c.in_ok-go_on.ensures.ok in
-    subst (λ (o : Option Entry). IsRunning (fixed_in g.A.Action.takes g.A.Action.region_of g.A.Action.effect_of c.args.self.now) (length c.args.self.now.rooms) c.args.self.now.table start d c.go_on.new.pass o) (sym (c.show_held.ensures ∙ c.take.ensures.value))
+    subst (λ (o : Option Entry). IsRunning (fixed_in g.A.Action.takes g.A.Action.region_of g.A.Action.effect_of c.args.self.now) (length c.args.self.now.rooms) c.args.self.now.table start d c.go_on.new.pass o) (sym c.show_held.ensures)
     (runs_on (fixed_in g.A.Action.takes g.A.Action.region_of g.A.Action.effect_of c.args.self.now) (length c.args.self.now.rooms) c.args.self.now.table start d c.args.pass.now c.go_on.new.pass c.args.entry.now running c.in_ok-go_on.field-0 (ap entry_committed c.in-On.is) gone)
 
 pub returns-in-Resolved-clause-running : goal.returns-in-Resolved-clause-running
 returns-in-Resolved-clause-running g c start d running =
     let gone : HasGoneOn (fixed_in g.A.Action.takes g.A.Action.region_of g.A.Action.effect_of c.args.self.now) (length c.args.self.now.rooms) c.args.self.now.table c.args.pass.now c.go_on.new.pass c.in_ok-go_on.field-0 = rw (← c.self.view_is) c.in_ok-go_on.ensures.ok in
-    subst (λ (o : Option Entry). IsRunning (fixed_in g.A.Action.takes g.A.Action.region_of g.A.Action.effect_of c.args.self.now) (length c.args.self.now.rooms) c.args.self.now.table start d c.go_on.new.pass o) (sym (c.show_held.ensures ∙ c.take.ensures.value))
+    subst (λ (o : Option Entry). IsRunning (fixed_in g.A.Action.takes g.A.Action.region_of g.A.Action.effect_of c.args.self.now) (length c.args.self.now.rooms) c.args.self.now.table start d c.go_on.new.pass o) (sym c.show_held.ensures)
     (runs_on (fixed_in g.A.Action.takes g.A.Action.region_of g.A.Action.effect_of c.args.self.now) (length c.args.self.now.rooms) c.args.self.now.table start d c.args.pass.now c.go_on.new.pass c.args.entry.now running c.in_ok-go_on.field-0 (ap entry_committed c.in-Resolved.is) gone)
 
 pub returns-in-Committed-clause-running : goal.returns-in-Committed-clause-running
