@@ -37,7 +37,7 @@ events_both (e ∷ es) more p q = (p.0, events_both es more p.1 q)
 event_has_bytes : (line : Line) → IsSound line → EventsBytes (event_of (Some line))
 event_has_bytes (OfMap line) h = tt
 event_has_bytes Frame h = (tt, tt)
-event_has_bytes (From a) h = (h, tt)
+event_has_bytes (From a) h = (h.bytes, tt)
 event_has_bytes End h = (tt, tt)
 
 line_gives_bytes : (r : Reading) (line : List ℕ) → EventsBytes (events_of_line r line)

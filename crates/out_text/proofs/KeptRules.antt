@@ -21,6 +21,7 @@ use Rattle.demo_lines.specs.Recording.{next, after_line, after, with_map_line}
 use Rattle.demo_lines.specs.Bytes.{last_part, lines_of, refusal, refused_at, fault, map_of}
 use Rattle.demo_lines.proofs.Prefixes.{after_last}
 use Rattle.demo_lines.proofs.Taking.{IsTaken}
+use Rattle.out_text.specs.Laws.{RecordingsHaveMaps}
 use Rattle.out_text.proofs.EachLine.{IsTakenBy, of_each_line}
 
 -- the map, where there is one, keeps the rules
@@ -146,3 +147,6 @@ faultless_has_map bytes none =
     let r = after start (lines_of bytes) in
     let part = last_part bytes in
     ended_has r.stage r part (lines_have start (lines_of bytes) tt) (λ end. ap (λ ls. is_over (after start ls).stage) (with_end bytes end) ∙ after_last start (whole_lines bytes) part end) none
+
+pub have_maps : RecordingsHaveMaps
+have_maps = record { kept = map_keeps_rules; there = faultless_has_map }

@@ -20,3 +20,7 @@ pub mod Outputs
 pub mod Ids
 pub mod HexTexts
 pub mod LinesRead
+pub mod SmallFrames
+pub mod Lengths
+pub mod Bounded
+pub mod OneReply

@@ -11,7 +11,8 @@ use Rattle.plain_server.proofs.Frames.{opening_is}
 use Rattle.plain_server.proofs.Takers.{one_in_each, stay_away}
 use Rattle.out_text.specs.Journals.{dids}
 use Rattle.out_text.specs.Collecting.{frames_of}
-use Rattle.out_text.specs.Output.{AreRightIn, IsOutput, IsFront}
+use Rattle.out_text.specs.Output.{AreRightIn, IsOutput, IsFront, IsPart}
+use Rattle.out_text.specs.Laws.{OutputsHaveOneTaker}
 use Rattle.out_text.specs.OneTaker.{HasOneTakerEach}
 use Rattle.out_text.proofs.KeptRules.{map_keeps_rules}
 
@@ -45,3 +46,15 @@ taken_in_output workers bytes text is = one_taker_each bytes (frames_of bytes) (
 -- and off the text of some frames
 pub taken_in_front : (workers : ℕ) (bytes text : List ℕ) (k : ℕ) → IsFront workers bytes k text → HasOneTakerEach (map_of bytes) (dids text)
 taken_in_front workers bytes text k is = one_taker_each bytes _ (dids text) is.right
+
+-- and of those of which a part was written
+taken_in_part : (workers : ℕ) (bytes : List ℕ) (k : ℕ) (whole_with : List (List Entry) → List ℕ) (last : Option (List Entry)) (text : List ℕ) (is : IsPart workers bytes k whole_with last text) → HasOneTakerEach (map_of bytes) is.journals
+taken_in_part workers bytes k whole_with last text is = one_taker_each bytes _ is.journals is.right
+
+pub one_taker : OutputsHaveOneTaker
+one_taker = record {
+  right = one_taker_each;
+  whole = taken_in_output;
+  front = λ workers bytes k text. taken_in_front workers bytes text k;
+  part = taken_in_part;
+}

@@ -1,5 +1,5 @@
 -- What a line of a recording says: a line of the map with its numbers within their limits, or a packet with bytes.
-use Rattle.std.proofs.Common.{ℕ, ◌^◌, ◌<◌, ◌%◌, ◌==◌, Bool, true, false, cond, List, [], length, codes, bytes_eq, Option, Some, None, Result, Ok, Err, IfSome, option_map, ◌≡◌, refl}
+use Rattle.std.proofs.Common.{ℕ, ◌^◌, ◌<◌, ◌≤◌, ◌%◌, ◌==◌, Bool, true, false, cond, List, [], length, codes, bytes_eq, Option, Some, None, Result, Ok, Err, IfSome, option_map, ◌≡◌, refl, arith}
 use Rattle.std.specs.Bool.{⊤}
 use Rattle.std.specs.Result.{result_ok}
 use Rattle.std.proofs.lemmas.List.Elements.{All-nil, All-from_get_or}
@@ -8,7 +8,10 @@ use Rattle.hex.specs.declared.error.FromHexError.TheVariants.{OddLength}
 use Rattle.hex.specs.Hex.{decode_of, decode_pairs}
 use Rattle.hex.proofs.HexLemmas.{decode_pairs-ok}
 use Rattle.packet_read.specs.Laws.{AreBytes}
+use Rattle.client_ports.specs.declared.arrival.Arrival.{Arrival}
 use Rattle.edge_io.specs.Fields.{◌>>=◌}
+use Rattle.edge_io.specs.Numbers.{natural_up_to}
+use Rattle.edge_io.proofs.Decimals.{natural-spelled}
 use Rattle.arena_map.specs.declared.map_line.MapLine.{MapLine}
 use Rattle.arena_map.specs.MapLines.{IsWithinLimits}
 use Rattle.arena_map.specs.Reading.{line_within}
@@ -62,11 +65,16 @@ packet_has_bytes text =
 
 -- ---- what a line says
 
--- the numbers of a line of the map are within their limits, and a packet has bytes
+-- a packet has bytes, and comes from a port of 16 bits
+pub record IsSoundPacket (a : Arrival) : Type 0 where
+  pub bytes : HasBytes a
+  pub port : a.port < 65536
+
+-- the numbers of a line of the map are within their limits, and a packet is sound
 abbrev pub IsSound : Line → Type 0
 IsSound (OfMap line) = IsWithinLimits line
 IsSound Frame = ⊤
-IsSound (From a) = HasBytes a
+IsSound (From a) = IsSoundPacket a
 IsSound End = ⊤
 
 map-sound : (o : Option MapLine) → ((line : MapLine) → o ≡ Some line → IsWithinLimits line) → IfSome (option_map OfMap o) IsSound
@@ -77,15 +85,23 @@ fields-bytes : (o : Option (List ℕ × List ℕ)) → SomeBytes (o >>= (λ fiel
 fields-bytes None = tt
 fields-bytes (Some fields) = packet_has_bytes fields.1
 
-values-sound : (port : Option ℕ) (bytes : Option (List ℕ)) → SomeBytes bytes → IfSome (port >>= (λ p. bytes >>= (λ b. Some (From (record { port = p; bytes = b }))))) IsSound
-values-sound None bytes are = tt
-values-sound (Some port) None are = tt
-values-sound (Some port) (Some bytes) are = are
+small_port : (o : Option ℕ) → ((n : ℕ) → o ≡ Some n → n ≤ 65535) → IfSome o (λ n. n ≤ 65535)
+small_port None most = tt
+small_port (Some n) most = most n refl
+
+fields-port : (o : Option (List ℕ × List ℕ)) → IfSome (o >>= (λ fields. natural_up_to 65535 fields.0)) (λ n. n ≤ 65535)
+fields-port None = tt
+fields-port (Some fields) = small_port (natural_up_to 65535 fields.0) (λ n is. (natural-spelled 65535 n fields.0 (omega arith) is).1)
+
+values-sound : (port : Option ℕ) (bytes : Option (List ℕ)) → IfSome port (λ n. n ≤ 65535) → SomeBytes bytes → IfSome (port >>= (λ p. bytes >>= (λ b. Some (From (record { port = p; bytes = b }))))) IsSound
+values-sound None bytes most are = tt
+values-sound (Some port) None most are = tt
+values-sound (Some port) (Some bytes) most are = record { bytes = are; port = omega (arith, most) }
 
 word-sound : (word : Word) (rest : List ℕ) → IfSome (line_of word rest) IsSound
 word-sound (words.OfMap word) rest = map-sound (line_within word rest) (λ line is. (within-read word rest line is).limits)
 word-sound words.Frame rest = tt
-word-sound words.From rest = values-sound (port_in rest) (bytes_in rest) (fields-bytes (from_fields rest))
+word-sound words.From rest = values-sound (port_in rest) (bytes_in rest) (fields-port (from_fields rest)) (fields-bytes (from_fields rest))
 word-sound words.End rest = tt
 
 first-sound : (first : Option Word) (rest : List ℕ) → IfSome (line_of_first first rest) IsSound

@@ -1,8 +1,10 @@
 -- What holds of every text, and of the outputs of recordings.
-use Rattle.std.specs.Prelude.{◌≡◌, ℕ, ◌≤◌, ◌↔◌, true, List, take, None, Some}
+use Rattle.std.specs.Prelude.{◌≡◌, ℕ, ◌+◌, ◌*◌, ◌≤◌, ◌↔◌, true, List, length, take, Option, None, Some, IsSome}
 use Rattle.entity_recs.specs.declared.effect.Entry.{Entry}
-use Rattle.arena_map.specs.Maps.{MapView}
+use Rattle.arena_map.specs.Maps.{MapView, IsMap}
 use Rattle.client_ports.specs.declared.arrival.Arrival.{Arrival}
+use Rattle.client_ports.specs.States.{State, IsServerState}
+use Rattle.plain_server.specs.Frames.{received_in, moved_by}
 use Rattle.demo_lines.specs.Bytes.{fault, map_of}
 use Rattle.demo_lines.specs.Spelling.{IsRecording, recording_text}
 use Rattle.out_text.specs.Dids.{Did}
@@ -11,7 +13,10 @@ use Rattle.out_text.specs.Ranges.{IsInRange, IsPrinted}
 use Rattle.out_text.specs.Reading.{line_in}
 use Rattle.out_text.specs.Journals.{Opens, Reports, is_reportable, mark_of, dids}
 use Rattle.out_text.specs.Collecting.{frames_of}
-use Rattle.out_text.specs.Output.{AreRightIn, front_text, out_text, IsOutput}
+use Rattle.out_text.specs.Output.{AreRightIn, front_text, out_text, IsOutput, IsFront, IsPart}
+use Rattle.out_text.specs.OneTaker.{HasOneTakerEach}
+use Rattle.out_text.specs.FrameLines.{lines_with}
+use Rattle.out_text.specs.ToLines.{HasOneReplyEach}
 
 -- a line reports a move exactly where it is the `did` line of one that is in range
 abbrev pub DidLinesAreRead : Type 0
@@ -64,3 +69,40 @@ LinesReadBack = (line : List ℕ) (l : OutLine) → (line_in line ≡ Some l) �
 -- no two lines in range are printed alike
 abbrev pub LinesArePrintedApart : Type 0
 LinesArePrintedApart = (l k : OutLine) → IsInRange l → IsInRange k → spelled l ≡ spelled k → l ≡ k
+
+-- the map of a recording keeps the rules of maps, and a recording without a fault has one
+pub record RecordingsHaveMaps : Type 0 where
+  pub kept : (bytes : List ℕ) (map : MapView) → map_of bytes ≡ Some map → IsMap map
+  pub there : (bytes : List ℕ) → fault bytes ≡ None → IsSome (map_of bytes)
+
+-- each item has one taker, until its delay is over: in right journals of frames on the map of a recording, in those
+-- that are read off a whole output or off the text of the first frames, and in those of which a part was written
+pub record OutputsHaveOneTaker : Type 0 where
+  pub right : (bytes : List ℕ) (frames : List (List Arrival)) (journals : List (List Entry))
+      → AreRightIn (map_of bytes) frames journals → HasOneTakerEach (map_of bytes) journals
+  pub whole : (workers : ℕ) (bytes text : List ℕ) → IsOutput workers bytes text
+      → HasOneTakerEach (map_of bytes) (dids text)
+  pub front : (workers : ℕ) (bytes : List ℕ) (k : ℕ) (text : List ℕ) → IsFront workers bytes k text
+      → HasOneTakerEach (map_of bytes) (dids text)
+  pub part : (workers : ℕ) (bytes : List ℕ) (k : ℕ) (whole_with : List (List Entry) → List ℕ)
+      (last : Option (List Entry)) (text : List ℕ) (is : IsPart workers bytes k whole_with last text)
+      → HasOneTakerEach (map_of bytes) is.journals
+
+-- a recording has at most 100,000 frames; with right journals the text of its first frames has at most 600,000 bytes a
+-- frame, and its whole output at most 16 more, whatever their order
+pub record OutputsAreBounded : Type 0 where
+  pub few : (bytes : List ℕ) → length (frames_of bytes) ≤ 100000
+  pub front : (bytes : List ℕ) (k : ℕ) (journals : List (List Entry))
+      → AreRightIn (map_of bytes) (take k (frames_of bytes)) journals
+      → length (front_text bytes k journals) ≤ 600000 * length (take k (frames_of bytes))
+  pub whole : (bytes : List ℕ) (journals : List (List Entry)) → AreRightIn (map_of bytes) (frames_of bytes) journals
+      → length (out_text bytes journals) ≤ 600000 * length (frames_of bytes) + 16
+
+-- the lines of a frame have one `to` line for each slot that is live after the moves, with the snapshot of its player,
+-- in rising slot
+abbrev pub FramesHaveOneReplyEach : Type 0
+FramesHaveOneReplyEach =
+    (map : MapView) (frame : ℕ) (state : State) (arrivals : List Arrival) (journal : List Entry) → IsMap map
+    → IsServerState map state
+    → let r = received_in map frame state arrivals in
+    HasOneReplyEach frame (moved_by map r journal).records (lines_with map frame r journal)

@@ -30,4 +30,5 @@ pub mod Ranges
 pub mod Collecting
 pub mod Output
 pub mod OneTaker
+pub mod ToLines
 pub mod Laws

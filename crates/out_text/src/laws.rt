@@ -1,4 +1,4 @@
-ghost use Rattle.out_text.specs.Laws.{DidLinesAreRead, FrameLinesAreRead, FaultlessRecordingsHaveOutputs, WrittenRecordingsHaveOutputs, OneWorkerHasOneOutput, OutputsSpellTheirJournals, LinesReadBack, LinesArePrintedApart};
+ghost use Rattle.out_text.specs.Laws.{DidLinesAreRead, FrameLinesAreRead, FaultlessRecordingsHaveOutputs, WrittenRecordingsHaveOutputs, OneWorkerHasOneOutput, OutputsSpellTheirJournals, LinesReadBack, LinesArePrintedApart, RecordingsHaveMaps, OutputsHaveOneTaker, OutputsAreBounded, FramesHaveOneReplyEach};
 
 /// The journals are read off exactly the lines that are printed: no other line opens a frame or reports a move.
 pub fn only_printed_lines_are_read()
@@ -35,4 +35,27 @@ pub fn lines_read_back()
 /// No two lines in range are printed alike.
 pub fn lines_are_printed_apart()
     ensures { LinesArePrintedApart }
+{}
+
+/// The map of a recording keeps the rules of maps, and a recording without a fault has one.
+pub fn recordings_have_maps()
+    ensures { RecordingsHaveMaps }
+{}
+
+/// Each item has one taker, until its delay is over: in right journals of a recording's frames, in those that are read
+/// off its output or off the text of its first frames, and in those of which a part was written.
+pub fn outputs_have_one_taker()
+    ensures { OutputsHaveOneTaker }
+{}
+
+/// A recording has at most 100,000 frames; with right journals the text of its first frames has at most 600,000 bytes a
+/// frame, and its whole output at most 16 more.
+pub fn outputs_are_bounded()
+    ensures { OutputsAreBounded }
+{}
+
+/// The lines of a frame have one `to` line for each slot that is live after the moves, with the snapshot of its player,
+/// in rising slot.
+pub fn frames_have_one_reply_each()
+    ensures { FramesHaveOneReplyEach }
 {}
