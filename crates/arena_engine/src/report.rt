@@ -17,7 +17,7 @@ pub struct Report {
     pub rule: u8,
     /// The journal of the last frame that was run, where a recording was played and a frame was run.
     pub last: Option<Journal>,
-    /// No journal: it is for commands that keep the journals of all frames.
+    /// The journals of all frames that were run, for `match`; none for the other commands.
     pub all: JournalList,
 }
 
