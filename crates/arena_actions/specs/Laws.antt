@@ -39,8 +39,8 @@ PlayersStayFree =
     → is_blocked (body_of me) (solids_among arena near) ≡ false
     → is_blocked (body_of (outcome_in arena me near c).me) (solids_among arena near) ≡ false
 
--- what a player got was there and is touched where it moved to, and returns after its delay; nothing else changes state,
--- and the reply has the ids
+-- what a player got was there and is touched where it moved to, and returns after its delay; nothing else changes
+-- state, and the reply has the ids
 abbrev pub MovesTakeWhatIsThere : Type 0
 MovesTakeWhatIsThere =
     (arena : MapView) (me : Rec) (near : List Rec) (c : Command)

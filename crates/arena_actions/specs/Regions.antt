@@ -11,8 +11,8 @@ use Rattle.entity_recs.specs.Commands.{Command}
 use Rattle.player_move.specs.Laws.{reach_on}
 use Rattle.arena_map.specs.Maps.{MapView, entities_of, dest_of}
 
--- by how much the reach is larger than the absolute box: how far the move goes on each axis, with 256 to spare, and on z
--- the height of a stair more
+-- by how much the reach is larger than the absolute box: how far the move goes on each axis, with 256 to spare, and on
+-- z the height of a stair more
 abbrev pub reach_growth : Rec → ℕ → Vec3
 reach_growth me ms =
     vector (pos (reach_on me.vel.x ms + 256)) (pos (reach_on me.vel.y ms + 256)) (pos (reach_on me.vel.z ms + 4864))

@@ -59,7 +59,8 @@ impl<const N: usize> Boxes<N> {
         true
     }
 
-    /// Puts a box last if it overlaps `place`. `false` exactly where it does and there is no room; the list is then unchanged.
+    /// Puts a box last if it overlaps `place`. `false` exactly where it does and there is no room; the list is then
+    /// unchanged.
     fn push_if_overlapping(&mut self, place: &Aabb, b: Aabb) -> bool
         ensures boxes { OnTrue result (self.new ≡ self.old ++ filter (overlaps place.now) (b ∷ [])) }
         ensures room { length self.old < N → IsTrue result }
@@ -68,7 +69,8 @@ impl<const N: usize> Boxes<N> {
         !place.overlaps(&b) || self.push(b)
     }
 
-    /// Puts those of the solids last that overlap `place`, in their order. `false` only where there is no room for all of them.
+    /// Puts those of the solids last that overlap `place`, in their order. `false` only where there is no room for all
+    /// of them.
     pub fn push_overlapping(&mut self, place: &Aabb, solids: &[Aabb]) -> bool
         ensures boxes { OnTrue result (self.new ≡ self.old ++ filter (overlaps place.now) solids.now) }
         ensures room { length self.old + length solids.now ≤ N → IsTrue result }
@@ -81,8 +83,8 @@ impl<const N: usize> Boxes<N> {
         true
     }
 
-    /// Puts those bodies of solids among the records last that overlap `place`, in their order. `false` only where there is no
-    /// room for all of them.
+    /// Puts those bodies of solids among the records last that overlap `place`, in their order. `false` only where
+    /// there is no room for all of them.
     pub fn push_bodies(&mut self, place: &Aabb, near: &[Rec]) -> bool
         requires { All IsRecord near.now }
         ensures boxes { OnTrue result (self.new ≡ self.old ++ filter (overlaps place.now) (bodies_of_solids near.now)) }

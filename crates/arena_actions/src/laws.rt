@@ -1,6 +1,7 @@
 ghost use Rattle.arena_actions.specs.Worlds.{ValidRecordsAreTaken, TakenRecordsAreValid};
 ghost use Rattle.arena_actions.specs.Laws.{PlayersStayOnMaps, MovesKeepWhoMoves, PlayersStayFree};
-ghost use Rattle.arena_actions.specs.Laws.{MovesTakeWhatIsThere, NewStatesAreApart, RepliedIdsRise, RepliesHaveTheOrigin};
+ghost use Rattle.arena_actions.specs.Laws.{MovesTakeWhatIsThere, NewStatesAreApart, RepliedIdsRise};
+ghost use Rattle.arena_actions.specs.Laws.{RepliesHaveTheOrigin};
 
 /// A player's record stays within its bounds, and its body inside the arena.
 pub fn players_stay_on_maps()
@@ -17,8 +18,8 @@ pub fn players_stay_free()
     ensures { PlayersStayFree }
 {}
 
-/// What a player got was there in state 0 and is touched where it moved to, and its new state is the frame plus its delay.
-/// Nothing else changes state. The reply has the ids of what it got, at most 8.
+/// What a player got was there in state 0 and is touched where it moved to, and its new state is the frame plus its
+/// delay. Nothing else changes state. The reply has the ids of what it got, at most 8.
 pub fn moves_take_what_is_there()
     ensures { MovesTakeWhatIsThere }
 {}
@@ -43,7 +44,8 @@ pub fn valid_records_are_taken()
     ensures { ValidRecordsAreTaken }
 {}
 
-/// Each record that the action of a map takes, in a state of its kind, is valid for the map, and as the line of its thing says.
+/// Each record that the action of a map takes, in a state of its kind, is valid for the map, and as the line of its
+/// thing says.
 pub fn taken_records_are_valid()
     ensures { TakenRecordsAreValid }
 {}

@@ -54,7 +54,8 @@ fn move_within<const N: usize>(
     requires records { All IsRecord near.now }
     requires few { N ≤ MOST_SOLIDS }
     requires place { place.now ≡ moves.looked_at me.now cmd.now.ms }
-    ensures moved { IfSome result (λ moved. moved ≡ move_of me.now (intent_of cmd.now) (solids_among map.now near.now)) }
+    ensures moved { IfSome result (λ moved. moved ≡ move_of me.now (intent_of cmd.now)
+        (solids_among map.now near.now)) }
     ensures room { 1030 + length near.now ≤ N → IsSome result }
 {
     let mut solids = Boxes::<N>::new();

@@ -13,8 +13,8 @@ const MAX_SPEED: u32 = 81_920;
 /// How many milliseconds a second has.
 const SECOND: u32 = 1_000;
 
-/// How far a move that begins with this speed on an axis goes on it, but for stairs, in sub-units: in its time at the greatest
-/// speed that it may have.
+/// How far a move that begins with this speed on an axis goes on it, but for stairs, in sub-units: in its time at the
+/// greatest speed that it may have.
 pub fn reach_on(speed: i32, ms: u8) -> u32
     requires near { unsigned_abs speed ≤ GREATEST_VELOCITY }
     requires short { ms ≤ 50 }

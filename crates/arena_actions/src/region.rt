@@ -20,8 +20,8 @@ const SPARE: u32 = 256;
 /// No item's absolute box is longer than this on an axis, in sub-units.
 const ROOM: u32 = 16_384;
 
-/// The reach of a move of so many milliseconds: where the player's absolute box may come without a leap. It is the absolute box,
-/// larger on each axis by how far the move goes, on z by the height of a stair more, and by [`SPARE`].
+/// The reach of a move of so many milliseconds: where the player's absolute box may come without a leap. It is the
+/// absolute box, larger on each axis by how far the move goes, on z by the height of a stair more, and by [`SPARE`].
 fn reach_of(me: &Rec, ms: u8) -> Aabb
     requires record { IsRecord me.now }
     requires short { ms ≤ 50 }
@@ -82,8 +82,8 @@ fn push_landing(region: &mut Region, landing: Option<Aabb>)
     }
 }
 
-/// The region of a player's move: the reach with room around it, and the room at the destination of each teleporter that touches
-/// the reach, in rising id.
+/// The region of a player's move: the reach with room around it, and the room at the destination of each teleporter
+/// that touches the reach, in rising id.
 pub fn region_of(map: &ArenaMap, me: &Rec, cmd: &Cmd) -> Region
     requires { IsPlayerOn map.now me.now }
     ensures { result ≡ region_in map.now me.now (command_of cmd.now) }

@@ -1,7 +1,8 @@
 -- The numbers of the rules.
 use Rattle.std.specs.Prelude.{ℕ}
 use Rattle.arena_map.specs.declared.map_fault.MapFault.{MapFault}
-use Rattle.arena_map.specs.declared.map_fault.MapFault.TheVariants.{Arena, Box, Count, Stand, Item, Travel, NoSpawn, Shaft}
+use Rattle.arena_map.specs.declared.map_fault.MapFault.TheVariants.{Arena, Box, Count, Stand, Item, Travel, NoSpawn}
+use Rattle.arena_map.specs.declared.map_fault.MapFault.TheVariants.{Shaft}
 
 -- a rule's number
 abbrev pub number_of : MapFault → ℕ

@@ -1,5 +1,7 @@
 -- A map as contracts see it: its bounds, its blocks, its spawns, and the lines of its things, each in line order.
-use Rattle.std.specs.Prelude.{◌≡◌, ℕ, ◌-◌, ◌≤◌, Bool, true, false, List, ◌++◌, length, Option, None, option_and_then, All, AllPairs, count_by, filter_map, pos, ◌+ℤ◌, ◌≤ℤ◌, nat_lt, nat_le, unsigned_abs, slice_get, drop, if◌then◌else◌}
+use Rattle.std.specs.Prelude.{◌≡◌, ℕ, ◌-◌, ◌≤◌, Bool, true, false, List, ◌++◌, length, Option, None, option_and_then}
+use Rattle.std.specs.Prelude.{All, AllPairs, count_by, filter_map, pos, ◌+ℤ◌, ◌≤ℤ◌, nat_lt, nat_le, unsigned_abs}
+use Rattle.std.specs.Prelude.{slice_get, drop, if◌then◌else◌}
 use Rattle.arena_geo.specs.declared.vec3.Vec3.{Vec3}
 use Rattle.arena_geo.specs.Vectors.{IsNear}
 use Rattle.arena_geo.specs.Bounds.{Bounds, IsBox}
@@ -8,8 +10,10 @@ use Rattle.box_trace.specs.Walls.{walls_of}
 use Rattle.entity_recs.specs.declared.rec.Rec.{Rec}
 use Rattle.arena_map.specs.declared.lift.Lift.{Lift}
 use Rattle.arena_map.specs.declared.map_line.MapLine.{MapLine}
-use Rattle.arena_map.specs.MapLines.{IsWithinLimits, is_thing_line, is_item_line, is_teleport_line, is_goal_line, is_lift_line}
-use Rattle.arena_map.specs.Places.{is_wide, is_thick, is_player_inside, shaft_of, keeps_box, keeps_stand, keeps_item, keeps_travel}
+use Rattle.arena_map.specs.MapLines.{IsWithinLimits, is_thing_line, is_item_line, is_teleport_line, is_goal_line}
+use Rattle.arena_map.specs.MapLines.{is_lift_line}
+use Rattle.arena_map.specs.Places.{is_wide, is_thick, is_player_inside, shaft_of, keeps_box, keeps_stand, keeps_item}
+use Rattle.arena_map.specs.Places.{keeps_travel}
 use Rattle.arena_map.specs.Things.{records_from, dest_in, delay_in, lift_data}
 
 -- the arena, the blocks, the spawns, and the lines of items, teleporters, goals and lifts

@@ -1,6 +1,7 @@
 -- What a map line says: its word, then whether its fields have the form that the word wants, and then their values
 -- within the limits.
-use Rattle.std.specs.Prelude.{ℕ, zero, suc, Bool, true, false, ◌&&◌, List, [], ◌∷◌, Option, Some, None, is_some, ok_or, Result, Err, ℤ, pos, codes, bytes_eq, ◌||◌, if◌then◌else◌}
+use Rattle.std.specs.Prelude.{ℕ, zero, suc, Bool, true, false, ◌&&◌, List, [], ◌∷◌, Option, Some, None, is_some, ok_or}
+use Rattle.std.specs.Prelude.{Result, Err, ℤ, pos, codes, bytes_eq, ◌||◌, if◌then◌else◌}
 use Rattle.arena_geo.specs.declared.vec3.Vec3.{Vec3}
 use Rattle.arena_geo.specs.Vectors.{vector}
 use Rattle.entity_recs.specs.declared.kind.Kind.{Kind}

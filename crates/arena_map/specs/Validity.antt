@@ -1,6 +1,7 @@
 -- Which worlds are valid for a map: records by id, each within its bounds, the things as their lines say, and the
 -- players inside the arena.
-use Rattle.std.specs.Prelude.{◌≡◌, ◌≢◌, ℕ, ◌≤◌, ◌==◌, true, false, List, Option, Some, None, ⊤, ◌+ℤ◌, ◌≤ℤ◌, slice_index_or}
+use Rattle.std.specs.Prelude.{◌≡◌, ◌≢◌, ℕ, ◌≤◌, ◌==◌, true, false, List, Option, Some, None, ⊤, ◌+ℤ◌, ◌≤ℤ◌}
+use Rattle.std.specs.Prelude.{slice_index_or}
 use Rattle.std.specs.List.{find}
 use Rattle.arena_geo.specs.Boxes.{contains, overlaps, is_blocked}
 use Rattle.entity_recs.specs.declared.kind.Kind.TheVariants.{Player}

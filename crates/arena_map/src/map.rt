@@ -1,4 +1,5 @@
-ghost use Rattle.std.specs.Prelude.{◌≡◌, ◌↔◌, ◌+◌, ◌≤◌, ◌<◌, [], ◌∷◌, ◌++◌, length, count_by, map, nat_eq, Option, Some, None, Err, true, All, IfOk, IfSome, OnOk, OnErr};
+ghost use Rattle.std.specs.Prelude.{◌≡◌, ◌↔◌, ◌+◌, ◌≤◌, ◌<◌, [], ◌∷◌, ◌++◌, length, count_by, map, nat_eq, Option};
+ghost use Rattle.std.specs.Prelude.{Some, None, Err, true, All, IfOk, IfSome, OnOk, OnErr};
 ghost use Rattle.std.specs.List.{IsDistinct};
 ghost use Rattle.arena_geo.specs.Vectors.{IsNear};
 ghost use Rattle.arena_geo.specs.Bounds.{bounds};
@@ -35,9 +36,9 @@ const WALLS: usize = 6;
 const FIRST_THING: u16 = 64;
 
 /// The map of an arena, made of its lines. It keeps the rules: each side of the arena is at least
-/// [`LEAST_SIDE`](crate::LEAST_SIDE) long; each block has an inside and is inside the arena; a player at a spawn or at a
-/// teleporter's destination is inside it, and so are each item, each teleporter, each goal and each lift on all its way;
-/// no lift's way meets a block or another lift's; and there are no more of each than there may be.
+/// [`LEAST_SIDE`](crate::LEAST_SIDE) long; each block has an inside and is inside the arena; a player at a spawn or at
+/// a teleporter's destination is inside it, and so are each item, each teleporter, each goal and each lift on all its
+/// way; no lift's way meets a block or another lift's; and there are no more of each than there may be.
 #[derive(Drop)]
 pub struct ArenaMap {
     bounds: Aabb,
@@ -57,7 +58,8 @@ impl Model for ArenaMap {
 
     ghost view = { λ m. map_of m.bounds (drop 6 m.solids.items) m.spawns.items m.things.items };
 
-    ghost invariant = { λ m. IsKept m.bounds m.solids.items m.spawns.items m.things.items m.entities.items m.shafts.items };
+    ghost invariant = { λ m. IsKept m.bounds m.solids.items m.spawns.items m.things.items m.entities.items
+        m.shafts.items };
 }
 
 impl ArenaMap {
@@ -164,8 +166,8 @@ impl ArenaMap {
         self.things.iter().filter(is_goal).count()
     }
 
-    /// Rule 8: a block overlaps no earlier shaft, and a lift's shaft no earlier block and no earlier shaft. The line keeps
-    /// rule 2.
+    /// Rule 8: a block overlaps no earlier shaft, and a lift's shaft no earlier block and no earlier shaft. The line
+    /// keeps rule 2.
     fn keeps_shafts(&self, l: &MapLine) -> bool
         requires limits { IsWithinLimits l.now }
         requires inside { places.keeps_box self.now.bounds l.now ≡ true }
@@ -309,8 +311,8 @@ impl ArenaMap {
         things.get(usize::from(place)).copied()
     }
 
-    /// The origin of players that this teleporter has moved, at which a player is inside the arena. `None` exactly where
-    /// the id isn't a teleporter.
+    /// The origin of players that this teleporter has moved, at which a player is inside the arena. `None` exactly
+    /// where the id isn't a teleporter.
     pub fn dest_of(&self, id: u16) -> Option<Vec3>
         ensures value { result ≡ maps.dest_of self.now id }
         ensures stand { IfSome result (IsSpawn self.now.bounds) }

@@ -7,7 +7,7 @@ use Rattle.std.proofs.lemmas.Bool.{cases_eq, eq-eqb, ne_eqb, and_left, and_right
 use Rattle.std.proofs.lemmas.List.{append-nil, get_or_append_left, get_or_push, get_or-set_same, length_push, map-append}
 use Rattle.std.proofs.lemmas.List.Elements.{All-cons, All-get_or, All-head, All-nil, All-push, All-same, All-tail, All-weaker, filter-append}
 use Rattle.std.proofs.lemmas.List.Kept.{AllPairs-from_increasing}
-use Rattle.entity_recs.specs.Commands.{Command}
+use Rattle.entity_recs.specs.Commands.{Command, is_same_move}
 use Rattle.packet_read.specs.Reading.{reading}
 use Rattle.arena_map.specs.Maps.{MapView}
 use Rattle.client_ports.specs.declared.arrival.Arrival.{Arrival}
@@ -18,7 +18,7 @@ use Rattle.client_ports.specs.States.{State}
 use Rattle.client_ports.specs.Lists.{Lists}
 use Rattle.client_ports.specs.Receiving.{Receiving, after_arrival, after_arrivals, received}
 use Rattle.client_ports.specs.Laws.{IsAcceptedMove, IsRefused, IsJoined, IsLeave, IsMove}
-use Rattle.client_ports.specs.Frames.{last_of, move_count, numbers_of, last_in, IsAdvance, is_same_move}
+use Rattle.client_ports.specs.Frames.{last_of, move_count, numbers_of, last_in, IsAdvance}
 use Rattle.client_ports.proofs.Facts.{move_accepted, one_answer}
 use Rattle.client_ports.proofs.Slots.{read-set}
 use Rattle.client_ports.proofs.Changes.{live-inside, IsNewcomer, join-newcomer, IsAcceptedLeave, leave_accepted}

@@ -1,5 +1,6 @@
 -- What a packet is answered: what it changes, or why it is refused, the first reason that holds.
-use Rattle.std.specs.Prelude.{ℕ, ◌+◌, true, nat_le, List, Option, Some, None, option_map, Result, Ok, Err, ok_or, if◌then◌else◌}
+use Rattle.std.specs.Prelude.{ℕ, ◌+◌, true, nat_le, List, Option, Some, None, option_map, Result, Ok, Err, ok_or}
+use Rattle.std.specs.Prelude.{if◌then◌else◌}
 use Rattle.std.specs.List.{find}
 use Rattle.arena_geo.specs.declared.vec3.Vec3.{Vec3}
 use Rattle.arena_geo.specs.Bounds.{Bounds}
@@ -13,7 +14,8 @@ use Rattle.world_tree.specs.Queries.{is_free}
 use Rattle.client_ports.specs.declared.client.Client.{Client}
 use Rattle.client_ports.specs.declared.client.LiveSlot.{LiveSlot}
 use Rattle.client_ports.specs.declared.refusal.Refusal.{Refusal}
-use Rattle.client_ports.specs.declared.refusal.Refusal.TheVariants.{Already, Full, Crowded, NotJoined, Leaving, Old, Many}
+use Rattle.client_ports.specs.declared.refusal.Refusal.TheVariants.{Already, Full, Crowded, NotJoined, Leaving, Old}
+use Rattle.client_ports.specs.declared.refusal.Refusal.TheVariants.{Many}
 use Rattle.client_ports.specs.declared.spawns.Place.{Place}
 use Rattle.client_ports.specs.Clients.{client, ports_of, live_slot, live_with}
 use Rattle.client_ports.specs.States.{State}

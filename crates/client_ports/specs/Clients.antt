@@ -1,5 +1,6 @@
 -- The clients of the live slots: a list with a place for each slot, which has its client, if the slot is live.
-use Rattle.std.specs.Prelude.{◌≡◌, ℕ, ◌<◌, ◌≤◌, Bool, false, List, map, replicate, Option, Some, None, option_map, slice_index_or, slice_set}
+use Rattle.std.specs.Prelude.{◌≡◌, ℕ, ◌<◌, ◌≤◌, Bool, false, List, map, replicate, Option, Some, None, option_map}
+use Rattle.std.specs.Prelude.{slice_index_or, slice_set}
 use Rattle.entity_slots.specs.Ports as slots
 use Rattle.entity_slots.specs.Ports.{AreSlots}
 use Rattle.client_ports.specs.declared.client.Client.{Client}

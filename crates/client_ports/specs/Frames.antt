@@ -1,9 +1,10 @@
 -- What holds of all packets of a frame together, and of the end of a frame.
-use Rattle.std.specs.Prelude.{◌≡◌, ℕ, ◌+◌, ◌≤◌, ◌==◌, Bool, ◌&&◌, List, [], ◌∷◌, length, map, filter, count_by, All, Option, Some, None, IsSome}
+use Rattle.std.specs.Prelude.{◌≡◌, ℕ, ◌+◌, ◌≤◌, ◌==◌, List, [], ◌∷◌, length, map, filter, count_by, All}
+use Rattle.std.specs.Prelude.{Option, Some, None, IsSome}
 use Rattle.std.specs.List.{IsDistinct}
 use Rattle.std.specs.List.Sorted.{IsStrictlyIncreasing}
 use Rattle.entity_recs.specs.declared.rec.Rec.{Rec}
-use Rattle.entity_recs.specs.Commands.{Command}
+use Rattle.entity_recs.specs.Commands.{Command, is_same_move}
 use Rattle.arena_map.specs.Maps.{MapView, IsMap}
 use Rattle.arena_map.specs.Validity.{IsOpeningWorld, AreClear}
 use Rattle.client_ports.specs.declared.arrival.Arrival.{Arrival}
@@ -66,10 +67,6 @@ abbrev pub PlayersHaveFewMoves : Type 0
 PlayersHaveFewMoves =
     (map : MapView) (frame : ℕ) (state : State) (arrivals : List Arrival) (slot : ℕ) → AreClients state.clients
     → length (numbers_of slot (received map frame state arrivals).lists.moves) ≤ 8
-
--- two commands are one slot's, with one number
-abbrev pub is_same_move : Command → Command → Bool
-is_same_move a b = (a.slot == b.slot) && (a.seq == b.seq)
 
 -- no two accepted moves of a frame share slot and number
 abbrev pub NumbersAreApart : Type 0

@@ -10,8 +10,8 @@ use entity_slots::SLOTS;
 use world_tree::World;
 
 impl Ports {
-    /// The end of a frame: the clients that leave are taken out, of the world too, and the others begin the next frame with
-    /// no move. It takes no memory.
+    /// The end of a frame: the clients that leave are taken out, of the world too, and the others begin the next frame
+    /// with no move. It takes no memory.
     pub fn finish(&mut self, world: &mut World)
         requires { HaveSameLive self.old world.old.records }
         ensures finished { state_of self.new world.new.records ≡ finished (state_of self.old world.old.records) }
@@ -28,7 +28,8 @@ impl Ports {
     fn finish_slot(&mut self, slot: u8, world: &mut World)
         requires slot { slot < 64 }
         requires live { HaveSameLive self.old world.old.records }
-        ensures finished { state_of self.new world.new.records ≡ finished_at (state_of self.old world.old.records) slot }
+        ensures finished { state_of self.new world.new.records ≡ finished_at (state_of self.old world.old.records)
+            slot }
         ensures tree { world.new.tree ≡ world.old.tree }
         ensures live { HaveSameLive self.new world.new.records }
         ensures valid { (map : MapView) → IsValidWorld map world.old.records → IsValidWorld map world.new.records }

@@ -34,8 +34,8 @@ pub fn nobody_is_added_into_a_solid()
     ensures { NobodyIsAddedIntoASolid }
 {}
 
-/// A move is accepted only where its number is above the last accepted one, which it becomes, and where fewer than 8 moves
-/// of its client were accepted in the frame. So numbers rise, and a player has at most 8 moves in a frame.
+/// A move is accepted only where its number is above the last accepted one, which it becomes, and where fewer than 8
+/// moves of its client were accepted in the frame. So numbers rise, and a player has at most 8 moves in a frame.
 pub fn accepted_numbers_rise()
     ensures { AcceptedNumbersRise }
 {}
@@ -55,8 +55,8 @@ pub fn each_frame_is_answered()
     ensures { EachFrameIsAnswered }
 {}
 
-/// The accepted numbers of each slot rise strictly in a frame, from the last one before it to the last one after it, and the
-/// slot's client counts each.
+/// The accepted numbers of each slot rise strictly in a frame, from the last one before it to the last one after it,
+/// and the slot's client counts each.
 pub fn numbers_rise_in_a_frame()
     ensures { NumbersRiseInAFrame }
 {}
@@ -76,8 +76,8 @@ pub fn movers_are_live()
     ensures { MoversAreLive }
 {}
 
-/// The state in which a server begins, with nobody joined and only the things of the map live, is a server's: ports are apart,
-/// the live slots are the live players, and the world is valid.
+/// The state in which a server begins, with nobody joined and only the things of the map live, is a server's: ports are
+/// apart, the live slots are the live players, and the world is valid.
 pub fn opening_is_a_server_state()
     ensures { OpeningIsAServerState }
 {}
@@ -87,8 +87,8 @@ pub fn clients_stay_apart()
     ensures { ClientsStayApart }
 {}
 
-/// The live slots are the live players of a valid world after the packets of a frame, and after its end, where they were
-/// before.
+/// The live slots are the live players of a valid world after the packets of a frame, and after its end, where they
+/// were before.
 pub fn states_stay_valid()
     ensures { StatesStayValid }
 {}
@@ -98,8 +98,8 @@ pub fn opening_is_clear()
     ensures { OpeningIsClear }
 {}
 
-/// Where no player's body overlaps a wall or a block, and no bodies of two live solids overlap, none do after the packets of
-/// a frame, with those that joined in it, nor after its end.
+/// Where no player's body overlaps a wall or a block, and no bodies of two live solids overlap, none do after the
+/// packets of a frame, with those that joined in it, nor after its end.
 pub fn bodies_stay_clear()
     ensures { BodiesStayClear }
 {}

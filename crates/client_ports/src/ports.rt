@@ -1,6 +1,7 @@
 ghost use Rattle.std.specs.Prelude.{◌≡◌, ◌<◌, ◌≤◌, IfOk, IfSome, IsSome, None, is_some, length, slice_set};
 ghost use Rattle.client_ports.specs.Clients as clients;
-ghost use Rattle.client_ports.specs.Clients.{no_clients, client_at, ports_of, live_slot, new_client, with_client, AreClients, IsUpdate, IsPlaceFor};
+ghost use Rattle.client_ports.specs.Clients.{no_clients, client_at, ports_of, live_slot, new_client, with_client};
+ghost use Rattle.client_ports.specs.Clients.{AreClients, IsUpdate, IsPlaceFor};
 ghost use Rattle.client_ports.specs.Answers as answers;
 ghost use Rattle.entity_slots.specs.Places as places;
 

@@ -107,7 +107,8 @@ impl Ports {
     fn receive_leave(&mut self, place: u32, port: u16, out: &mut Received)
         requires { HasRoom 1 out.old }
         ensures received { (records : List (Option Rec)) → receiving_of (state_of self.new records) out.new.lists
-            ≡ receiving.after_leave (answers.leave_answer self.old port) (receiving_of (state_of self.old records) out.old.lists) place }
+            ≡ receiving.after_leave (answers.leave_answer self.old port) (receiving_of (state_of self.old records)
+            out.old.lists) place }
         ensures room { out.new.room ≡ out.old.room }
         ensures live { (records : List (Option Rec)) → HaveSameLive self.old records → HaveSameLive self.new records }
     {
@@ -157,7 +158,8 @@ impl Ports {
         requires room { HasRoom 1 out.old }
         requires state { IsState map.now (state_of self.old world.old.records) }
         ensures received { receiving_of (state_of self.new world.new.records) out.new.lists
-            ≡ receiving.after_arrival map.now frame (receiving_of (state_of self.old world.old.records) out.old.lists) place arrival.now }
+            ≡ receiving.after_arrival map.now frame (receiving_of (state_of self.old world.old.records) out.old.lists)
+            place arrival.now }
         ensures room { out.new.room ≡ out.old.room }
         ensures tree { world.new.tree ≡ world.old.tree }
         ensures state { IsState map.now (state_of self.new world.new.records) }

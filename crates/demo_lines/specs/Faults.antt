@@ -1,5 +1,6 @@
 -- The faults of a line, as tests in their order, and the first that holds.
-use Rattle.std.specs.Prelude.{ℕ, Bool, false, ◌&&◌, not, nat_lt, nat_le, List, length, Option, Some, None, is_none, option_map, if◌then◌else◌}
+use Rattle.std.specs.Prelude.{ℕ, Bool, false, ◌&&◌, not, nat_lt, nat_le, List, length, Option, Some, None, is_none}
+use Rattle.std.specs.Prelude.{option_map, if◌then◌else◌}
 use Rattle.std.specs.Option.{option_or}
 use Rattle.arena_map.specs.declared.map_fault.MapFault.{MapFault}
 use Rattle.arena_map.specs.declared.map_fault.MapFault.TheVariants as rules
@@ -9,7 +10,8 @@ use Rattle.arena_map.specs.Maps.{MapView, is_ready}
 use Rattle.arena_map.specs.Rules.{broken_at_first, broken_rule}
 use Rattle.arena_map.specs.Reading.{line_within}
 use Rattle.demo_lines.specs.declared.line_fault.LineFault.{LineFault}
-use Rattle.demo_lines.specs.declared.line_fault.LineFault.TheVariants.{Long, NoEnd, Byte, Word, Form, Place, Limit, Rule, Packet, Count}
+use Rattle.demo_lines.specs.declared.line_fault.LineFault.TheVariants.{Long, NoEnd, Byte, Word, Form, Place, Limit}
+use Rattle.demo_lines.specs.declared.line_fault.LineFault.TheVariants.{Rule, Packet, Count}
 use Rattle.demo_lines.specs.declared.word.Word as word_types
 use Rattle.demo_lines.specs.declared.word.Word.TheVariants as words
 use Rattle.demo_lines.specs.Known.{Reading, is_map_whole}

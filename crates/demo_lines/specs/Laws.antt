@@ -16,7 +16,8 @@ use Rattle.demo_lines.specs.Words.{has_form}
 use Rattle.demo_lines.specs.Lines.{text_of, are_printable, first_word, rest_of, line_in}
 use Rattle.demo_lines.specs.Faults.{is_long}
 use Rattle.demo_lines.specs.Recording.{after, events_of}
-use Rattle.demo_lines.specs.Spelling.{line_text, IsLine, recording_lines, recording_text, recording_events, IsRecording, small_map, small_frames, small_text}
+use Rattle.demo_lines.specs.Spelling.{line_text, IsLine, recording_lines, recording_text, recording_events, IsRecording}
+use Rattle.demo_lines.specs.Spelling.{small_map, small_frames, small_text}
 use Rattle.edge_io.specs.WholeLines.{whole_lines}
 use Rattle.demo_lines.specs.Bytes.{events, fault, map_of}
 

@@ -1,5 +1,6 @@
 -- What one line of a recording says: its text, its word, and the values of its fields.
-use Rattle.std.specs.Prelude.{ℕ, ◌-◌, Bool, ◌&&◌, nat_le, List, length, take, drop, Option, Some, None, option_map, codes, bytes_eq, if◌then◌else◌}
+use Rattle.std.specs.Prelude.{ℕ, ◌-◌, Bool, ◌&&◌, nat_le, List, length, take, drop, Option, Some, None, option_map}
+use Rattle.std.specs.Prelude.{codes, bytes_eq, if◌then◌else◌}
 use Rattle.std.specs.List.{list_all}
 use Rattle.edge_io.specs.Numbers.{natural_up_to}
 use Rattle.edge_io.specs.Fields.{◌>>=◌, cut}

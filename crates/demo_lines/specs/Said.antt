@@ -1,5 +1,6 @@
 -- What a line says by itself at a stage, or the first of its faults that neither the map nor a count decides.
-use Rattle.std.specs.Prelude.{ℕ, ◌==◌, Bool, List, nat_le, Option, Some, None, ok_or, option_map, Result, Ok, Err, if◌then◌else◌}
+use Rattle.std.specs.Prelude.{ℕ, ◌==◌, Bool, List, nat_le, Option, Some, None, ok_or, option_map, Result, Ok, Err}
+use Rattle.std.specs.Prelude.{if◌then◌else◌}
 use Rattle.edge_io.specs.Numbers.{natural_up_to}
 use Rattle.std.specs.Option.{option_or}
 use Rattle.arena_map.specs.declared.map_word.MapWord.{MapWord}

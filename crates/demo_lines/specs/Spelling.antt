@@ -1,5 +1,6 @@
 -- The text of a recording: how each line is written, and the lines of a map and of frames in their order.
-use Rattle.std.specs.Prelude.{◌≡◌, ℕ, ◌≤◌, ◌<◌, true, List, [], ◌∷◌, ◌++◌, length, codes, map, flat_map, pos, negsuc, decimal, ⊤}
+use Rattle.std.specs.Prelude.{◌≡◌, ℕ, ◌≤◌, ◌<◌, true, List, [], ◌∷◌, ◌++◌, length, codes, map, flat_map, pos, negsuc}
+use Rattle.std.specs.Prelude.{decimal, ⊤}
 use Rattle.std.specs.List.{AllByRecursion}
 use Rattle.hex.specs.Hex.{encode_lower}
 use Rattle.edge_io.specs.Lines.{AreBytes}

@@ -1,5 +1,6 @@
 -- The words of a recording's lines, the fields that each wants, and where each is allowed.
-use Rattle.std.specs.Prelude.{ℕ, ◌==◌, Bool, true, false, ◌&&◌, not, List, length, Option, Some, None, is_some, option_map, codes, bytes_eq, if◌then◌else◌}
+use Rattle.std.specs.Prelude.{ℕ, ◌==◌, Bool, true, false, ◌&&◌, not, List, length, Option, Some, None, is_some}
+use Rattle.std.specs.Prelude.{option_map, codes, bytes_eq, if◌then◌else◌}
 use Rattle.edge_io.specs.Numbers.{is_integer}
 use Rattle.edge_io.specs.Fields.{◌>>=◌, field_at}
 use Rattle.arena_map.specs.declared.map_word.MapWord.{MapWord}

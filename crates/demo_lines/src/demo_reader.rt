@@ -1,4 +1,5 @@
-ghost use Rattle.std.specs.Prelude.{◌≡◌, ◌⊎◌, ◌+◌, ◌^◌, ◌≤◌, ◌<◌, true, false, [], ◌∷◌, length, option_to_list, Ok, Err, None, IfOk, IfErr, OnOk, OnErr, IfSome};
+ghost use Rattle.std.specs.Prelude.{◌≡◌, ◌⊎◌, ◌+◌, ◌^◌, ◌≤◌, ◌<◌, true, false, [], ◌∷◌, length, option_to_list, Ok};
+ghost use Rattle.std.specs.Prelude.{Err, None, IfOk, IfErr, OnOk, OnErr, IfSome};
 ghost use Rattle.edge_io.specs.Counts.{HasRisen};
 ghost use Rattle.edge_io.specs.Lines.{ahead, HasNotReadAhead};
 ghost use Rattle.demo_lines.specs.Known.{is_over, is_refused};
@@ -7,7 +8,9 @@ ghost use Rattle.demo_lines.specs.Recording.{next, events_of_line, lines_left};
 ghost use Rattle.demo_lines.specs.Said.{line_said};
 ghost use Rattle.demo_lines.specs.Bytes.{refusal};
 ghost use Rattle.demo_lines.specs.Readings.{IsReading};
-ghost use Rattle.demo_lines.specs.Reads.{Reads, ReadsFront, ReadsQuietly, TakesCutEnd, stop_at, Refuses, EndsAt, IsQuiet, IsRefusedAt, IsRefusedLast, KeepsMap, OnRefused, OnReadFault, OnNoMemory, stage_after};
+ghost use Rattle.demo_lines.specs.Reads.{Reads, ReadsFront, ReadsQuietly, TakesCutEnd, stop_at, Refuses, EndsAt};
+ghost use Rattle.demo_lines.specs.Reads.{IsQuiet, IsRefusedAt, IsRefusedLast, KeepsMap, OnRefused, OnReadFault};
+ghost use Rattle.demo_lines.specs.Reads.{OnNoMemory, stage_after};
 
 use crate::demo_stop::DemoStop;
 use crate::event::Event;
@@ -123,8 +126,10 @@ fn next_event<S: Source>(
     ensures stage { IfOk result (λ e. reading.new.stage ≡ stage_after e) }
     ensures fewer { OnOk result (lines_left reading.new < lines_left reading.old) }
     ensures needed { IfOk result (λ e.
-        (HasNotReadAhead source.old source.new (S.last source.new) lines.old lines.new × (S.ended source.new ≡ S.ended source.old))
-        ⊎ ((e ≡ Event.End) × TakesCutEnd (ahead lines.old (S.left source.old)) (ahead lines.new (S.left source.new)) × (S.ended source.new ≡ true))) }
+        (HasNotReadAhead source.old source.new (S.last source.new) lines.old lines.new
+        × (S.ended source.new ≡ S.ended source.old))
+        ⊎ ((e ≡ Event.End) × TakesCutEnd (ahead lines.old (S.left source.old)) (ahead lines.new (S.left source.new))
+        × (S.ended source.new ≡ true))) }
 
     // A refusal.
     ensures refused { IfErr result (λ stop. OnRefused stop (λ why.
@@ -170,13 +175,16 @@ fn next_event<S: Source>(
 }
 
 impl DemoReader {
-    ghost use Rattle.std.specs.Prelude.{◌≡◌, ◌⊎◌, ◌≤◌, ◌<◌, true, [], ◌∷◌, Ok, Err, None, Some, IfOk, IfErr, OnOk, OnErr, IfSome};
+    ghost use Rattle.std.specs.Prelude.{◌≡◌, ◌⊎◌, ◌≤◌, ◌<◌, true, [], ◌∷◌, Ok, Err, None, Some, IfOk, IfErr, OnOk};
+    ghost use Rattle.std.specs.Prelude.{OnErr, IfSome};
     ghost use Rattle.edge_io.specs.Counts.{HasRisen};
     ghost use Rattle.edge_io.specs.Lines.{ahead, HasNotReadAhead};
     ghost use Rattle.demo_lines.specs.Known.{is_map_whole};
     ghost use Rattle.demo_lines.specs.Recording.{lines_left};
     ghost use Rattle.demo_lines.specs.Readings.{IsReading};
-    ghost use Rattle.demo_lines.specs.Reads.{fresh_reader, map_taken, IsOpen, Reads, ReadsFront, ReadsQuietly, TakesCutEnd, stop_at, Refuses, EndsAt, KeepsMap, OnRefused, OnReadFault, OnNoMemory, stage_after};
+    ghost use Rattle.demo_lines.specs.Reads.{fresh_reader, map_taken, IsOpen, Reads, ReadsFront, ReadsQuietly};
+    ghost use Rattle.demo_lines.specs.Reads.{TakesCutEnd, stop_at, Refuses, EndsAt, KeepsMap, OnRefused, OnReadFault};
+    ghost use Rattle.demo_lines.specs.Reads.{OnNoMemory, stage_after};
 
     /// A reader that has read nothing.
     pub fn new(alloc: Global) -> Result<DemoReader, AllocError>
@@ -215,8 +223,10 @@ impl DemoReader {
         ensures stage { IfOk result (λ e. self.new.reading.stage ≡ stage_after e) }
         ensures fewer { IsOpen self.old → OnOk result (lines_left self.new.reading < lines_left self.old.reading) }
         ensures needed { IsOpen self.old → IfOk result (λ e.
-            (HasNotReadAhead source.old source.new (S.last source.new) self.old.pending self.new.pending × (S.ended source.new ≡ S.ended source.old))
-            ⊎ ((e ≡ Event.End) × TakesCutEnd (ahead self.old.pending (S.left source.old)) (ahead self.new.pending (S.left source.new)) × (S.ended source.new ≡ true))) }
+            (HasNotReadAhead source.old source.new (S.last source.new) self.old.pending self.new.pending
+            × (S.ended source.new ≡ S.ended source.old))
+            ⊎ ((e ≡ Event.End) × TakesCutEnd (ahead self.old.pending (S.left source.old))
+            (ahead self.new.pending (S.left source.new)) × (S.ended source.new ≡ true))) }
 
         // A refusal.
         ensures refused { IsOpen self.old → IfErr result (λ stop. OnRefused stop (λ why.

@@ -7,8 +7,8 @@ use thiserror::Error;
 /// Why a recording isn't read further.
 #[derive(Clone, Copy, Debug, PartialEq, Eq, Error)]
 pub enum DemoStop {
-    /// This line, counted from 1, has this fault, 1 to 10: the first faulty line, and the first of its faults. The rule of
-    /// the map that it breaks is 1 to 8, or 0 where it breaks none.
+    /// This line, counted from 1, has this fault, 1 to 10: the first faulty line, and the first of its faults. The rule
+    /// of the map that it breaks is 1 to 8, or 0 where it breaks none.
     #[error("line {line} is refused, fault {fault}")]
     Refused { line: u64, fault: u8, rule: u8 },
     /// The source failed.

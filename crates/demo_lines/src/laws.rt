@@ -1,4 +1,6 @@
-ghost use Rattle.demo_lines.specs.Laws.{LimitsAreKnown, PacketReadsBack, NothingAfterTheEnd, NothingAfterARefusal, NothingNeedsTheMap, LinesReadBack, LinesAreBounded, PacketsHaveRoom, RecordingsReadBack, SmallRecording};
+ghost use Rattle.demo_lines.specs.Laws.{LimitsAreKnown, PacketReadsBack, NothingAfterTheEnd, NothingAfterARefusal};
+ghost use Rattle.demo_lines.specs.Laws.{NothingNeedsTheMap, LinesReadBack, LinesAreBounded, PacketsHaveRoom};
+ghost use Rattle.demo_lines.specs.Laws.{RecordingsReadBack, SmallRecording};
 
 /// The constants of this crate have the values that they say.
 pub fn limits_are_known()
@@ -10,8 +12,8 @@ pub fn packet_reads_back()
     ensures { PacketReadsBack }
 {}
 
-/// The rest of the input after the line `end` gives no event and is no fault: after its line feed, and, where it has none,
-/// after a line feed that follows.
+/// The rest of the input after the line `end` gives no event and is no fault: after its line feed, and, where it has
+/// none, after a line feed that follows.
 pub fn nothing_after_the_end()
     ensures { NothingAfterTheEnd }
 {}
@@ -26,8 +28,8 @@ pub fn nothing_needs_the_map()
     ensures { NothingNeedsTheMap }
 {}
 
-/// A line is read back from its text exactly where it can be written: its numbers are within their limits, or its packet
-/// has room.
+/// A line is read back from its text exactly where it can be written: its numbers are within their limits, or its
+/// packet has room.
 pub fn lines_read_back()
     ensures { LinesReadBack }
 {}

@@ -56,7 +56,8 @@ fn are_printable(text: &[u8]) -> bool
     text.iter().all(|b| 32 <= *b && *b <= 126)
 }
 
-/// The answer of [`read_map_line`], where the line is allowed here or not: that comes after its form and before its limits.
+/// The answer of [`read_map_line`], where the line is allowed here or not: that comes after its form and before its
+/// limits.
 fn in_order(read: Result<MapLine, u8>, is_here: bool) -> Result<MapLine, LineFault>
     requires { IfOk read IsWithinLimits }
     ensures value { result ≡ said.in_order is_here read }

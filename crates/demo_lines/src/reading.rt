@@ -1,4 +1,5 @@
-ghost use Rattle.std.specs.Prelude.{◌≡◌, ◌↔◌, ◌<◌, ◌^◌, true, false, Some, None, Ok, Err, IsSome, IfOk, OnOk, OnErr, option_to_list};
+ghost use Rattle.std.specs.Prelude.{◌≡◌, ◌↔◌, ◌<◌, ◌^◌, true, false, Some, None, Ok, Err, IsSome, IfOk, OnOk, OnErr};
+ghost use Rattle.std.specs.Prelude.{option_to_list};
 ghost use Rattle.arena_map.specs.declared.map_fault.MapFault.{MapFault};
 ghost use Rattle.arena_map.specs.declared.map_fault.MapRefusal.TheVariants as refusal;
 ghost use Rattle.arena_map.specs.MapLines as map_lines;
@@ -54,15 +55,16 @@ impl Model for Reading {
     } };
 }
 
-/// Adds a line to a map, or begins the map with it where there is none. `Rule` exactly where the line breaks that rule and
-/// none before it. The map is unchanged where the line isn't added.
+/// Adds a line to a map, or begins the map with it where there is none. `Rule` exactly where the line breaks that rule
+/// and none before it. The map is unchanged where the line isn't added.
 fn add_to(map: &mut Option<ArenaMap>, alloc: Global, line: &MapLine) -> Result<(), MapRefusal>
     requires limits { IsWithinLimits line.now }
     requires first { map.old ≡ None → map_lines.is_arena line.now ≡ true }
     requires later { IsSome map.old → map_lines.is_added line.now ≡ true }
     ensures map { OnOk result (map.new ≡ recording.with_map_line map.old line.now) }
     ensures unchanged { OnErr result (map.new ≡ map.old) }
-    ensures rule { (fault : MapFault) → (result ≡ Err (refusal.Rule fault)) ↔ (faults.broken_by_line map.old line.now ≡ Some fault) }
+    ensures rule { (fault : MapFault) → (result ≡ Err (refusal.Rule fault)) ↔ (faults.broken_by_line map.old line.now
+        ≡ Some fault) }
 {
     match map {
         Some(map) => map.add(line),
@@ -210,8 +212,8 @@ impl Reading {
         Ok(())
     }
 
-    /// Takes one more line, which says this, or has this fault. Nothing changes where memory is refused, which comes only
-    /// at a line of the map that would be taken.
+    /// Takes one more line, which says this, or has this fault. Nothing changes where memory is refused, which comes
+    /// only at a line of the map that would be taken.
     pub fn take(&mut self, alloc: Global, line: &Result<Line, LineFault>) -> Result<(), AllocError>
         requires reading { IsReading self.old }
         requires going { known.is_over self.old.stage ≡ false }

@@ -322,7 +322,8 @@ fn a_frame_has_at_most_512_packets(rt: HostRuntime) -> Result<(), Fail> {
     )
 }
 
-/// Reads the arena's line, which has 44 bytes, and `rest`, a byte in each read, from a source at which these reads fail.
+/// Reads the arena's line, which has 44 bytes, and `rest`, a byte in each read, from a source at which these reads
+/// fail.
 fn expect_faults(
     rt: &impl Abort,
     alloc: Global,

@@ -1,5 +1,6 @@
 -- The fields of a line, which single spaces separate.
-use Rattle.std.specs.Prelude.{ℕ, Bool, ◌==◌, List, [], ◌∷◌, Option, Some, None, ◌++◌, codes, take, drop, length, position, unwrap_or, if◌then◌else◌}
+use Rattle.std.specs.Prelude.{ℕ, Bool, ◌==◌, List, [], ◌∷◌, Option, Some, None, ◌++◌, codes, take, drop, length}
+use Rattle.std.specs.Prelude.{position, unwrap_or, if◌then◌else◌}
 
 -- f of the value, where there is one
 infixl 10 ◌>>=◌

@@ -1,5 +1,6 @@
 -- Numbers as a line spells them: decimal digits without a leading zero, and those up to a limit.
-use Rattle.std.specs.Prelude.{ℕ, zero, suc, ◌+◌, ◌-◌, ◌*◌, Bool, false, not, ◌&&◌, nat_le, ◌==◌, List, [], ◌∷◌, Option, Some, None, option_map, codes, bytes_eq, ℤ, pos, negsuc, if◌then◌else◌}
+use Rattle.std.specs.Prelude.{ℕ, zero, suc, ◌+◌, ◌-◌, ◌*◌, Bool, false, not, ◌&&◌, nat_le, ◌==◌, List, [], ◌∷◌, Option}
+use Rattle.std.specs.Prelude.{Some, None, option_map, codes, bytes_eq, ℤ, pos, negsuc, if◌then◌else◌}
 use Rattle.std.specs.List.{list_all}
 
 -- the byte is a decimal digit

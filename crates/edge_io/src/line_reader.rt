@@ -1,8 +1,10 @@
-ghost use Rattle.std.specs.Prelude.{◌≡◌, ℕ, ◌+◌, ◌<◌, ◌≤◌, ◌↔◌, true, List, [], ◌∷◌, ◌++◌, IsOk, IfOk, OnOk, OnErr, IsTrue, length, drop};
+ghost use Rattle.std.specs.Prelude.{◌≡◌, ℕ, ◌+◌, ◌<◌, ◌≤◌, ◌↔◌, true, List, [], ◌∷◌, ◌++◌, IsOk, IfOk, OnOk, OnErr};
+ghost use Rattle.std.specs.Prelude.{IsTrue, length, drop};
 ghost use Rattle.std.specs.Bool.{OnFalse, OnTrue};
 ghost use Rattle.std.specs.Io.KnownBytes.{Keeps, IsAtEnd};
 ghost use Rattle.edge_io.specs.Counts.{HasRisen};
-ghost use Rattle.edge_io.specs.Lines.{ahead, HasNoLineFeed, AreBytes, GivesLine, GivesLongFront, GivesFront, GivesLastPart, HasNotReadAhead, OnLine, OnWhole, OnLong, OnEnded, MovesFront};
+ghost use Rattle.edge_io.specs.Lines.{ahead, HasNoLineFeed, AreBytes, GivesLine, GivesLongFront, GivesFront};
+ghost use Rattle.edge_io.specs.Lines.{GivesLastPart, HasNotReadAhead, OnLine, OnWhole, OnLong, OnEnded, MovesFront};
 
 use crate::failed::Failed;
 use crate::line_buf::LineBuf;

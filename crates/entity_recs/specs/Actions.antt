@@ -1,5 +1,6 @@
 -- What a lawful action keeps: which records it takes, what it reads, and what it writes.
-use Rattle.std.specs.Prelude.{◌≡◌, ℕ, ◌^◌, ◌<◌, ◌≤◌, ◌==◌, Bool, ◌&&◌, true, false, List, map, filter, All, ◌≤ℤ◌, pos, neg_ℤ}
+use Rattle.std.specs.Prelude.{◌≡◌, ℕ, ◌^◌, ◌<◌, ◌≤◌, ◌==◌, Bool, ◌&&◌, true, false, List, map, filter, All, ◌≤ℤ◌, pos}
+use Rattle.std.specs.Prelude.{neg_ℤ}
 use Rattle.std.specs.List.{list_any, IsDistinct}
 use Rattle.std.specs.List.Sorted.{IsStrictlyIncreasing}
 use Rattle.arena_geo.specs.Bounds.{Bounds}

@@ -1,5 +1,5 @@
 -- A player's command as plain numbers, without the facts that its type keeps.
-use Rattle.std.specs.Prelude.{ℕ, ℤ}
+use Rattle.std.specs.Prelude.{ℕ, ℤ, ◌==◌, Bool, ◌&&◌}
 use Rattle.entity_recs.specs.declared.cmd.Cmd.{Cmd}
 
 -- whose command it is and its number, the frame in which it is done, how many milliseconds it takes, the speed that is
@@ -25,3 +25,7 @@ command_of c =
       wish_y = c.wish_y;
       buttons = c.buttons;
     }
+
+-- two commands are one player's, with one number
+abbrev pub is_same_move : Command → Command → Bool
+is_same_move a b = (a.slot == b.slot) && (a.seq == b.seq)

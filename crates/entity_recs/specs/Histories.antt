@@ -40,6 +40,14 @@ pub record Item : Type 0 where
   pub command : Command
   pub entry : Entry
 
+-- the commands of a history
+abbrev pub commands_of : List Item → List Command
+commands_of items = map (λ item. item.command) items
+
+-- the places of a history's entries
+abbrev pub places_of : List Item → List ℕ
+places_of items = map (λ item. item.entry.place) items
+
 -- the world after a history
 abbrev pub run : Action → World → List Item → World
 run act w history = world_after act w (map (λ item. item.command) history)

@@ -3,7 +3,8 @@ use Rattle.std.specs.Prelude.{◌≡◌, ℕ, true, pos, neg_ℤ}
 use Rattle.arena_geo.specs.Bounds.{IsBox}
 use Rattle.arena_geo.specs.Boxes.{contains}
 use Rattle.entity_recs.specs.declared.rec.Rec.{Rec}
-use Rattle.entity_recs.specs.declared.bodies.TheConstants.{PLAYER_MINS, PLAYER_MAXS, ITEM_MINS, ITEM_MAXS, ITEM_GROWTH, GROWTH}
+use Rattle.entity_recs.specs.declared.bodies.TheConstants.{PLAYER_MINS, PLAYER_MAXS, ITEM_MINS, ITEM_MAXS, ITEM_GROWTH}
+use Rattle.entity_recs.specs.declared.bodies.TheConstants.{GROWTH}
 use Rattle.entity_recs.specs.Records.{IsRecord, with_state}
 use Rattle.entity_recs.specs.Bodies.{body_of, abs_of}
 

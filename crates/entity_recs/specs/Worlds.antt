@@ -1,5 +1,5 @@
 -- A world: what is live, and the record of each.
-use Rattle.std.specs.Prelude.{◌≡◌, ℕ, ◌==◌, not, List, [], ◌∷◌, map, filter, All, pos, if◌then◌else◌}
+use Rattle.std.specs.Prelude.{◌≡◌, ℕ, ◌==◌, not, List, [], ◌∷◌, map, filter, All, pos, Option, Some, None, if◌then◌else◌}
 use Rattle.std.specs.List.Sorted.{IsStrictlyIncreasing}
 use Rattle.arena_geo.specs.declared.vec3.Vec3.{Vec3}
 use Rattle.entity_recs.specs.declared.kind.Kind.TheVariants.{Player}
@@ -45,6 +45,11 @@ nobody = record {
   seq = 0;
   state = 0;
 }
+
+-- the record of a place, and nobody's where the place is empty
+abbrev pub record_or_nobody : Option Rec → Rec
+record_or_nobody None = nobody
+record_or_nobody (Some r) = r
 
 -- the first of the records with this id
 abbrev pub record_with : List Rec → ℕ → Rec

@@ -13,9 +13,9 @@ use arena_geo::Region;
 /// What a move does, with the region outside of which it reads and writes nothing.
 ///
 /// Each implementation names the records that it takes, whatever their state. Over such records it keeps three laws.
-/// Validity: the records that a move changes are again records that it takes. Locality: the effect over all live records
-/// is the effect over those whose absolute box touches the region. Footprint: the player's record and each record whose
-/// state the effect lists lie, before and after, inside a box of the region, and nothing else changes.
+/// Validity: the records that a move changes are again records that it takes. Locality: the effect over all live
+/// records is the effect over those whose absolute box touches the region. Footprint: the player's record and each
+/// record whose state the effect lists lie, before and after, inside a box of the region, and nothing else changes.
 pub trait Action: Send + Sync {
     /// Which records it takes.
     ghost takes: { Self → Rec → Bool };

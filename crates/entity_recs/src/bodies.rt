@@ -7,14 +7,16 @@ use crate::kind::Kind;
 use crate::rec::Rec;
 use arena_geo::{Aabb, Vec3};
 
-/// The low corner of a player's body, seen from its origin, in sub-units: (-16, -16, -24) units, as `VEC_HULL_MIN` in Quake.
+/// The low corner of a player's body, seen from its origin, in sub-units: (-16, -16, -24) units, as `VEC_HULL_MIN` in
+/// Quake.
 pub const PLAYER_MINS: Vec3 = Vec3 {
     x: -4_096,
     y: -4_096,
     z: -6_144,
 };
 
-/// The high corner of a player's body, seen from its origin, in sub-units: (16, 16, 32) units, as `VEC_HULL_MAX` in Quake.
+/// The high corner of a player's body, seen from its origin, in sub-units: (16, 16, 32) units, as `VEC_HULL_MAX` in
+/// Quake.
 pub const PLAYER_MAXS: Vec3 = Vec3 {
     x: 4_096,
     y: 4_096,

@@ -1,5 +1,6 @@
 -- The ports of the live slots: a list with a place for each slot, which has the port that is joined there, if any.
-use Rattle.std.specs.Prelude.{◌≡◌, ℕ, Bool, false, ◌==◌, List, length, replicate, Option, Some, None, is_some, slice_index_or, slice_set}
+use Rattle.std.specs.Prelude.{◌≡◌, ℕ, Bool, false, ◌==◌, List, length, replicate, Option, Some, None, is_some}
+use Rattle.std.specs.Prelude.{slice_index_or, slice_set}
 use Rattle.std.specs.List.{list_any, list_all, position}
 
 -- the number of slots

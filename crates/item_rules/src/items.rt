@@ -26,9 +26,9 @@ fn may_take(me: &Rec, item: &Rec) -> bool
         }
 }
 
-/// What a player that touches an item gets: ammunition, up to [`MOST_AMMO`] in all, or a gem. The answer is the item's new
-/// state, the frame in which it returns, `delay` frames after this one. It is `None` exactly where the item is away, or the
-/// player has [`MOST_AMMO`] or [`MOST_GEMS`] already; the player is then unchanged.
+/// What a player that touches an item gets: ammunition, up to [`MOST_AMMO`] in all, or a gem. The answer is the item's
+/// new state, the frame in which it returns, `delay` frames after this one. It is `None` exactly where the item is
+/// away, or the player has [`MOST_AMMO`] or [`MOST_GEMS`] already; the player is then unchanged.
 pub fn take_item(me: &mut Rec, item: &Rec, delay: u16, frame: u32) -> Option<u64>
     requires item { is_item item.now.kind ≡ true }
     requires record { IsRecord me.old }

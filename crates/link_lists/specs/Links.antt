@@ -1,5 +1,6 @@
 -- How the links keep the lists of a pool.
-use Rattle.std.specs.Prelude.{◌≡◌, ℕ, zero, suc, List, [], ◌∷◌, map, length, Option, Some, None, slice_index_or, slice_set}
+use Rattle.std.specs.Prelude.{◌≡◌, ℕ, zero, suc, List, [], ◌∷◌, map, length, Option, Some, None, slice_index_or}
+use Rattle.std.specs.Prelude.{slice_set}
 use Rattle.link_lists.specs.Pool.{ListsView, IsProper, where_of, first_of, next_of}
 
 -- what is at this place of the links: none past their end

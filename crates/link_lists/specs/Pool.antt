@@ -1,5 +1,6 @@
 -- The lists over one pool of ids, and the lists after each call.
-use Rattle.std.specs.Prelude.{◌≡◌, ◌≢◌, ℕ, ◌<◌, Bool, not, if◌then◌else◌, List, [], ◌∷◌, map, replicate, Option, None, IsTrue, nat_eq, slice_get, slice_index_or, slice_set, filter, position}
+use Rattle.std.specs.Prelude.{◌≡◌, ◌≢◌, ℕ, ◌<◌, Bool, not, if◌then◌else◌, List, [], ◌∷◌, map, replicate, Option, None}
+use Rattle.std.specs.Prelude.{IsTrue, nat_eq, slice_get, slice_index_or, slice_set, filter, position}
 use Rattle.std.specs.List.{list_any, IsDistinct}
 use Rattle.std.specs.Option.{option_and_then}
 

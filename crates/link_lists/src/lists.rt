@@ -1,6 +1,8 @@
-ghost use Rattle.std.specs.Prelude.{◌≡◌, ℕ, ◌+◌, ◌<◌, ◌↔◌, false, [], length, None, IsSome, IsTrue, IfOk, IfSome, slice_get};
+ghost use Rattle.std.specs.Prelude.{◌≡◌, ℕ, ◌+◌, ◌<◌, ◌↔◌, false, [], length, None, IsSome, IsTrue, IfOk, IfSome};
+ghost use Rattle.std.specs.Prelude.{slice_get};
 ghost use Rattle.std.specs.Option.{ForSome};
-ghost use Rattle.link_lists.specs.Pool.{has, list_of, where_of, first_of, next_of, empty_pool, inserted, removed, IsProper, SetsOnly};
+ghost use Rattle.link_lists.specs.Pool.{has, list_of, where_of, first_of, next_of, empty_pool, inserted, removed};
+ghost use Rattle.link_lists.specs.Pool.{IsProper, SetsOnly};
 ghost use Rattle.link_lists.specs.Links.{with_link};
 
 use std::alloc::{AllocError, Global};

@@ -3,10 +3,10 @@ use Rattle.std.specs.Prelude.{◌≡◌, ℕ, ◌+◌, ◌==◌, true, false, Li
 use Rattle.std.specs.List.{IsDistinct, AllByRecursion}
 use Rattle.std.proofs.Common.{refl, ◌∙◌}
 use Rattle.std.proofs.lemmas.Bool.{eq-eqb, and_from, cond-true, cond-false}
-use Rattle.entity_recs.specs.Commands.{Command}
+use Rattle.entity_recs.specs.Commands.{Command, is_same_move}
 use Rattle.entity_recs.specs.Worlds.{World}
 use Rattle.entity_recs.specs.Histories.{Action, Item, outcome, apply, entry_of, entries_in_order}
-use Rattle.move_journal.specs.Merges.{history_of, is_same_move, HasNumbersApart}
+use Rattle.move_journal.specs.Merges.{history_of, HasNumbersApart}
 
 -- the first of the moves with this command's player and number is this command
 pub record IsFound (moves : List Command) (c : Command) : Type 0 where

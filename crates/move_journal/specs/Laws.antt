@@ -8,7 +8,8 @@ use Rattle.entity_recs.specs.Worlds.{World, world_of, HasRecordsInBounds}
 use Rattle.entity_recs.specs.Histories.{Action, world_after}
 use Rattle.move_journal.specs.Validity.{HasRecordsThatPass, KeepsRecords, KeepsRecordsThatPass}
 use Rattle.move_journal.specs.Lists.{AreNumbered}
-use Rattle.move_journal.specs.Merges.{IsMerge, IsWholeHistory, IsRight, IsInOrder, HasNumbersApart, history_of, journal_in_order}
+use Rattle.move_journal.specs.Merges.{IsMerge, IsWholeHistory, IsRight, IsInOrder, HasNumbersApart, history_of}
+use Rattle.move_journal.specs.Merges.{journal_in_order}
 
 -- the history of a journal that is a merge of the moves loses no entry and no move
 abbrev pub MergesHaveWholeHistories : Type 0

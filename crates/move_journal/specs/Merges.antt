@@ -2,7 +2,7 @@
 use Rattle.std.specs.Prelude.{◌≡◌, ℕ, ◌==◌, Bool, ◌&&◌, true, List, [], ◌∷◌, map, filter, find, All, Option, Some, None}
 use Rattle.std.specs.List.{IsDistinct}
 use Rattle.std.specs.List.Sorted.{IsPermutation}
-use Rattle.entity_recs.specs.Commands.{Command}
+use Rattle.entity_recs.specs.Commands.{Command, is_same_move}
 use Rattle.entity_recs.specs.declared.effect.Entry.{Entry}
 use Rattle.entity_recs.specs.Worlds.{World}
 use Rattle.entity_recs.specs.Histories.{Action, Item, IsLegal, entries_in_order}
@@ -59,10 +59,6 @@ IsInOrder journal moves = map (λ e. number e.slot e.seq) journal ≡ map (λ c.
   where
     number : ℕ → ℕ → Number
     number slot seq = record { slot = slot; seq = seq }
-
--- two commands are one player's, with one number
-abbrev pub is_same_move : Command → Command → Bool
-is_same_move a b = (a.slot == b.slot) && (a.seq == b.seq)
 
 -- no player sent one number twice
 abbrev pub HasNumbersApart : List Command → Type 0

@@ -2,7 +2,8 @@ use entity_recs::Entry;
 use std::alloc::{AllocError, Global};
 use std::marker::Model;
 
-/// The entries of a frame's moves, in the order in which they ran, with room for a number that was given when it was made.
+/// The entries of a frame's moves, in the order in which they ran, with room for a number that was given when it was
+/// made.
 #[derive(Drop)]
 pub struct Journal {
     entries: Vec<Entry>,

@@ -87,7 +87,8 @@ impl JournalList {
         self.journals.as_slice()
     }
 
-    /// Puts a journal last. The only error is that memory is refused; the list is then unchanged, and the journal is gone.
+    /// Puts a journal last. The only error is that memory is refused; the list is then unchanged, and the journal is
+    /// gone.
     pub fn push(&mut self, journal: Journal) -> Result<(), AllocError>
         ensures pushed { OnOk result (self.new ≡ self.old ++ journal ∷ []) }
         ensures unchanged { OnErr result (self.new ≡ self.old) }

@@ -13,7 +13,7 @@ use Rattle.entity_recs.specs.declared.kind.Kind.TheVariants.{Ammo, Gem}
 use Rattle.entity_recs.specs.declared.rec.Rec.{Rec}
 use Rattle.entity_recs.specs.Commands.{Command}
 use Rattle.entity_recs.specs.Records.{IsIdOf, with_state}
-use Rattle.entity_recs.specs.Histories.{Item, with_new_state}
+use Rattle.entity_recs.specs.Histories.{Item, with_new_state, commands_of}
 use Rattle.item_rules.specs.Items.{is_item}
 use Rattle.arena_map.specs.declared.map_line.MapLine.{MapLine}
 use Rattle.arena_map.specs.declared.map_line.MapLine.TheVariants as lines
@@ -25,7 +25,7 @@ use Rattle.plain_server.specs.Moving.{HasLivePlayer, effect_among, with_new_stat
 use Rattle.plain_server.proofs.NewStates.{still_at, Lacks, new_state-lacks}
 use Rattle.plain_server.proofs.Takes.{IsTakenIn, taken_in, got_are}
 use Rattle.plain_server.proofs.Moves.{after_all}
-use Rattle.plain_server.proofs.Runs.{commands_of, entries_of, IsRun, first_live, entry_is, run_rest}
+use Rattle.plain_server.proofs.Runs.{entries_of, IsRun, first_live, entry_is, run_rest}
 use Rattle.plain_server.proofs.OfFrame.{IsOfFrame}
 
 -- ---- delays

@@ -8,10 +8,10 @@ use Rattle.std.proofs.lemmas.Bool.{cases_eq, eq-eqb, ne_eqb, cond-true, cond-fal
 use Rattle.entity_recs.specs.declared.rec.Rec.{Rec}
 use Rattle.entity_recs.specs.declared.effect.Effect.{Effect}
 use Rattle.entity_recs.specs.declared.effect.NewState.{NewState}
-use Rattle.entity_recs.specs.Worlds.{World, nobody}
+use Rattle.entity_recs.specs.Worlds.{World, nobody, record_or_nobody}
 use Rattle.entity_recs.specs.Histories.{with_effect, with_new_state}
 use Rattle.world_tree.specs.Live.{record_at, ids_of}
-use Rattle.plain_server.specs.RecordsById.{record_or_nobody, world_of, records_in}
+use Rattle.plain_server.specs.RecordsById.{world_of, records_in}
 use Rattle.plain_server.specs.Moving.{with_new_states, records_with}
 use Rattle.plain_server.proofs.NewStates.{IsOfItem, same_id, record_at-restated, still_at, ids-restated, count-restated, new_state-lacks}
 

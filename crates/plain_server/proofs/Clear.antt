@@ -19,7 +19,7 @@ use Rattle.entity_recs.specs.Records.{IsIdOf}
 use Rattle.entity_recs.specs.Bodies.{body_of}
 use Rattle.entity_recs.specs.Kinds.{is_solid}
 use Rattle.entity_recs.specs.Commands.{Command}
-use Rattle.entity_recs.specs.Worlds.{others_of}
+use Rattle.entity_recs.specs.Worlds.{others_of, record_or_nobody}
 use Rattle.entity_recs.specs.Histories.{Item}
 use Rattle.move_journal.specs.Merges.{history_of}
 use Rattle.arena_map.specs.Maps.{MapView, IsMap, solids_of}
@@ -33,7 +33,7 @@ use Rattle.client_ports.specs.Receiving.{Receiving}
 use Rattle.arena_map.specs.Validity.{AreClear}
 use Rattle.client_ports.proofs.Slots.{read-set}
 use Rattle.client_ports.proofs.Staying.{clear_received, clear_finished}
-use Rattle.plain_server.specs.RecordsById.{record_or_nobody, world_of, opening}
+use Rattle.plain_server.specs.RecordsById.{world_of, opening}
 use Rattle.plain_server.specs.Moving.{HasLivePlayer, HaveMoved, effect_among, with_new_states, records_after}
 use Rattle.plain_server.specs.Entries.{IsReception}
 use Rattle.plain_server.specs.Frames.{state_after_tick, received_in, moved_by, state_after, first_of, rest_of, state_played}

@@ -7,14 +7,14 @@ use Rattle.std.proofs.lemmas.List.Elements.{All-head, All-tail}
 use Rattle.entity_recs.specs.declared.rec.Rec.{Rec}
 use Rattle.entity_recs.specs.declared.kind.Kind.TheVariants.{Player}
 use Rattle.entity_recs.specs.Commands.{Command}
-use Rattle.entity_recs.specs.Worlds.{World, others_of}
+use Rattle.entity_recs.specs.Worlds.{World, others_of, record_or_nobody}
 use Rattle.entity_recs.specs.Histories.{apply, world_after, with_new_state}
 use Rattle.arena_map.specs.Maps.{MapView, IsMap}
 use Rattle.arena_map.specs.Validity.{IsValidRecord, IsValidWorld}
 use Rattle.arena_actions.specs.Outcomes.{outcome_in}
 use Rattle.world_tree.specs.Live.{record_at}
 use Rattle.client_ports.proofs.Valid.{valid-with}
-use Rattle.plain_server.specs.RecordsById.{record_or_nobody, world_of, records_in}
+use Rattle.plain_server.specs.RecordsById.{world_of, records_in}
 use Rattle.plain_server.specs.Moving.{HasLivePlayer, effect_among, with_new_states, records_after, HaveMoved}
 use Rattle.plain_server.proofs.NewStates.{same_id, still_at, live-restated, count-restated, records_in-restated, valid-restated}
 use Rattle.plain_server.proofs.ById.{records_in-set, records_in-world_of, world_of-with}

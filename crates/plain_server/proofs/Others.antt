@@ -13,12 +13,12 @@ use Rattle.entity_recs.specs.declared.rec.Rec.{Rec}
 use Rattle.entity_recs.specs.Records.{IsRecord}
 use Rattle.entity_recs.specs.Bodies.{body_of, abs_of}
 use Rattle.entity_recs.proofs.Standing.{records_have_boxes, abs_contains_body}
-use Rattle.entity_recs.specs.Worlds.{others_of}
+use Rattle.entity_recs.specs.Worlds.{others_of, record_or_nobody}
 use Rattle.arena_map.specs.Maps.{MapView, IsMap}
 use Rattle.arena_map.specs.Validity.{IsValidWorld}
 use Rattle.world_tree.specs.Live.{record_at, live_in}
 use Rattle.world_tree.specs.Queries.{is_near, near_in}
-use Rattle.plain_server.specs.RecordsById.{record_or_nobody, world_of}
+use Rattle.plain_server.specs.RecordsById.{world_of}
 use Rattle.plain_server.proofs.Things.{live_inside}
 
 -- what holds of each record at its place holds of all live records

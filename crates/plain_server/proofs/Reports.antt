@@ -9,8 +9,8 @@ use Rattle.entity_recs.specs.declared.rec.Rec.{Rec}
 use Rattle.entity_recs.specs.declared.effect.NewState.{NewState}
 use Rattle.entity_recs.specs.declared.effect.Entry.{Entry}
 use Rattle.entity_recs.specs.Commands.{Command}
-use Rattle.entity_recs.specs.Worlds.{others_of}
-use Rattle.entity_recs.specs.Histories.{Item, entry_of}
+use Rattle.entity_recs.specs.Worlds.{others_of, record_or_nobody}
+use Rattle.entity_recs.specs.Histories.{Item, entry_of, commands_of}
 use Rattle.move_journal.specs.Merges.{history_of}
 use Rattle.arena_map.specs.Maps.{MapView, IsMap}
 use Rattle.arena_map.specs.Validity.{IsValidWorld}
@@ -18,7 +18,7 @@ use Rattle.arena_actions.specs.Lawful.Moves.{replies_have_origin}
 use Rattle.world_tree.specs.Live.{record_at}
 use Rattle.world_tree.proofs.Links.{id-below}
 use Rattle.client_ports.specs.Receiving.{Receiving}
-use Rattle.plain_server.specs.RecordsById.{record_or_nobody, world_of}
+use Rattle.plain_server.specs.RecordsById.{world_of}
 use Rattle.plain_server.specs.Moving.{HasLivePlayer, HasSmallNumber, effect_among, records_after}
 use Rattle.plain_server.specs.Entries.{IsReported, AreReported, IsReception}
 use Rattle.plain_server.specs.Frames.{IsRightAfter}
@@ -26,7 +26,7 @@ use Rattle.plain_server.proofs.Players.{live_record}
 use Rattle.plain_server.proofs.NewStates.{IsOfItem}
 use Rattle.plain_server.proofs.Takes.{of_items, few_got, got_are}
 use Rattle.plain_server.proofs.Moves.{moved_is_valid}
-use Rattle.plain_server.proofs.Runs.{commands_of, entries_of, IsRun, first_live, entry_is, run_rest, journal_runs, run_entries}
+use Rattle.plain_server.proofs.Runs.{entries_of, IsRun, first_live, entry_is, run_rest, journal_runs, run_entries}
 use Rattle.plain_server.proofs.Commands.{history_has}
 
 -- the ids of items among records have 16 bits

@@ -5,9 +5,8 @@ use Rattle.std.proofs.Common.{sym, subst}
 use Rattle.std.proofs.lemmas.List.Elements.{All-head, All-tail, All-weaker}
 use Rattle.entity_recs.specs.declared.rec.Rec.{Rec}
 use Rattle.entity_recs.specs.declared.effect.Entry.{Entry}
-use Rattle.entity_recs.specs.Commands.{Command}
 use Rattle.entity_recs.specs.Worlds.{World}
-use Rattle.entity_recs.specs.Histories.{Item, entry_of}
+use Rattle.entity_recs.specs.Histories.{Item, commands_of, entry_of}
 use Rattle.move_journal.specs.Merges.{history_of}
 use Rattle.move_journal.proofs.Orders.{IsLegalFrom}
 use Rattle.move_journal.proofs.Uniques.{first_entry, legal_after, legal_at_first}
@@ -23,10 +22,7 @@ use Rattle.plain_server.specs.Frames.{IsRightAfter}
 use Rattle.plain_server.proofs.Moves.{moved-none, moved-more, still-live}
 use Rattle.plain_server.proofs.Commands.{history_has}
 
--- the commands and the entries of a history
-abbrev pub commands_of : List Item → List Command
-commands_of items = map_list (λ (item : Item). item.command) items
-
+-- the entries of a history
 abbrev pub entries_of : List Item → List Entry
 entries_of items = map_list (λ (item : Item). item.entry) items
 

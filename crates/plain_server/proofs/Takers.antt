@@ -5,7 +5,7 @@ use Rattle.entity_recs.specs.declared.rec.Rec.{Rec}
 use Rattle.entity_recs.specs.declared.effect.Entry.{Entry}
 use Rattle.entity_recs.specs.declared.kind.Kind.{Kind}
 use Rattle.entity_recs.specs.declared.kind.Kind.TheVariants.{Ammo, Gem}
-use Rattle.entity_recs.specs.Histories.{Item}
+use Rattle.entity_recs.specs.Histories.{Item, commands_of}
 use Rattle.move_journal.specs.Merges.{history_of}
 use Rattle.item_rules.specs.Items.{is_item}
 use Rattle.arena_map.specs.MapLines as lines
@@ -20,7 +20,7 @@ use Rattle.plain_server.specs.Frames.{state_after_tick, received_in, moved_by, s
 use Rattle.plain_server.specs.Takers.{HasTaken, HasTakenIn, IsSameEntry, IsInState}
 use Rattle.plain_server.proofs.Commands.{history_has}
 use Rattle.plain_server.proofs.Moves.{after_all, after_all-are}
-use Rattle.plain_server.proofs.Runs.{commands_of, entries_of, IsRun, journal_runs, run_entries}
+use Rattle.plain_server.proofs.Runs.{entries_of, IsRun, journal_runs, run_entries}
 use Rattle.plain_server.proofs.OfFrame.{IsOfFrame, moves_are_of_frame}
 use Rattle.plain_server.proofs.ThingsStay.{things_received, things_finished}
 use Rattle.plain_server.proofs.Ticking.{server_ticked, waits}

@@ -6,14 +6,14 @@ use Rattle.std.proofs.lemmas.List.Elements.{All-contains, All-from_recursion, Al
 use Rattle.entity_recs.specs.declared.effect.NewState.{NewState}
 use Rattle.entity_recs.specs.declared.rec.Rec.{Rec}
 use Rattle.entity_recs.specs.Commands.{Command}
-use Rattle.entity_recs.specs.Worlds.{others_of}
+use Rattle.entity_recs.specs.Worlds.{others_of, record_or_nobody}
 use Rattle.item_rules.specs.Items.{is_item}
 use Rattle.arena_map.specs.Maps.{MapView, delay_of}
 use Rattle.trigger_rules.specs.Laws.{IsTaken}
 use Rattle.arena_actions.specs.Outcomes.{moved_among}
 use Rattle.arena_actions.specs.Lawful.Moves.{take_what_is_there}
 use Rattle.world_tree.specs.Live.{record_at}
-use Rattle.plain_server.specs.RecordsById.{record_or_nobody, world_of}
+use Rattle.plain_server.specs.RecordsById.{world_of}
 use Rattle.plain_server.specs.Moving.{effect_among}
 use Rattle.plain_server.proofs.NewStates.{IsOfItem}
 use Rattle.plain_server.proofs.Others.{IsOther, others_at}

@@ -2,16 +2,11 @@
 use Rattle.std.specs.Prelude.{List, map, fold, replicate, Option, Some, None, slice_set}
 use Rattle.std.specs.Option.{option_map}
 use Rattle.entity_recs.specs.declared.rec.Rec.{Rec}
-use Rattle.entity_recs.specs.Worlds.{World, nobody}
+use Rattle.entity_recs.specs.Worlds.{World, record_or_nobody}
 use Rattle.arena_map.specs.Maps.{MapView, entities_of}
 use Rattle.world_tree.specs.Live.{record_at, ids_of}
 use Rattle.client_ports.specs.Clients.{no_clients}
 use Rattle.client_ports.specs.States.{State, state_of}
-
--- the record of a place, and nobody's where the place is empty
-abbrev pub record_or_nobody : Option Rec → Rec
-record_or_nobody None = nobody
-record_or_nobody (Some r) = r
 
 -- the world of these records: the live ids in rising order, and the record of each
 abbrev pub world_of : List (Option Rec) → World

@@ -35,4 +35,5 @@ HasOneTaker journal = (place other id : ℕ) → HasTaken journal place id → H
 -- each item that an entry of this frame's journal took is away, until its delay is over
 abbrev pub HasItemsAway : MapView → ℕ → List Entry → List (Option Rec) → Type 0
 HasItemsAway map frame journal records =
-    (place id delay : ℕ) → HasTaken journal place id → delay_of map id ≡ Some delay → IsInState records id (frame + delay)
+    (place id delay : ℕ) → HasTaken journal place id → delay_of map id ≡ Some delay
+    → IsInState records id (frame + delay)

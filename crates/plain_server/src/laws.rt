@@ -1,12 +1,14 @@
-ghost use Rattle.plain_server.specs.Laws.{MovesKeepWorldsValid, WorldsStayValid, PortsStayApart, PlayersKeepRoom, JournalsAreRightInOrder, OrderLeavesOneJournalEach, RightJournalsAreInRange, FramesHaveOneTaker, OnlyItemsAreTaken, ItemsHaveOneTaker, TakenItemsStayAway};
+ghost use Rattle.plain_server.specs.Laws.{MovesKeepWorldsValid, WorldsStayValid, PortsStayApart, PlayersKeepRoom};
+ghost use Rattle.plain_server.specs.Laws.{JournalsAreRightInOrder, OrderLeavesOneJournalEach, RightJournalsAreInRange};
+ghost use Rattle.plain_server.specs.Laws.{FramesHaveOneTaker, OnlyItemsAreTaken, ItemsHaveOneTaker, TakenItemsStayAway};
 
 /// Moves of live players, in whatever order they run, keep a valid world valid.
 pub fn moves_keep_worlds_valid()
     ensures { MovesKeepWorldsValid }
 {}
 
-/// After any frames, with whatever journals, the state is one of the map: the world is valid, ports are apart, and the live
-/// slots are the live players.
+/// After any frames, with whatever journals, the state is one of the map: the world is valid, ports are apart, and the
+/// live slots are the live players.
 pub fn worlds_stay_valid()
     ensures { WorldsStayValid }
 {}
@@ -31,14 +33,14 @@ pub fn order_leaves_one_journal_each()
     ensures { OrderLeavesOneJournalEach }
 {}
 
-/// In a right journal of a frame each entry has its place, a player's slot, a number of 32 bits, an origin at most 1,048,576
-/// sub-units from 0 on each axis, and at most 8 ids of 16 bits.
+/// In a right journal of a frame each entry has its place, a player's slot, a number of 32 bits, an origin at most
+/// 1,048,576 sub-units from 0 on each axis, and at most 8 ids of 16 bits.
 pub fn right_journals_are_in_range()
     ensures { RightJournalsAreInRange }
 {}
 
-/// In a right journal of a frame at most one entry takes an item, whose state after the frame is the frame's number plus
-/// the item's delay.
+/// In a right journal of a frame at most one entry takes an item, whose state after the frame is the frame's number
+/// plus the item's delay.
 pub fn frames_have_one_taker()
     ensures { FramesHaveOneTaker }
 {}

@@ -7,8 +7,8 @@ use std::thread;
 use std::thread::Threads;
 use world_tree::World;
 
-/// Writes the snapshot of the player in each slot into the buffer at the same place, by as many threads as this is worth.
-/// It takes no memory.
+/// Writes the snapshot of the player in each slot into the buffer at the same place, by as many threads as this is
+/// worth. It takes no memory.
 pub fn write_replies<R: Threads + Sync>(
     rt: &R,
     world: &World,

@@ -1,5 +1,6 @@
 -- What a snapshot is as bytes.
-use Rattle.std.specs.Prelude.{◌≡◌, ℕ, ◌^◌, ◌<◌, ◌≤◌, ◌==◌, nat_lt, drop, Bool, true, false, ◌||◌, List, [], ◌∷◌, ◌++◌, length, map, flat_map}
+use Rattle.std.specs.Prelude.{◌≡◌, ℕ, ◌^◌, ◌<◌, ◌≤◌, ◌==◌, nat_lt, drop, Bool, true, false, ◌||◌, List, [], ◌∷◌, ◌++◌}
+use Rattle.std.specs.Prelude.{length, map, flat_map}
 use Rattle.std.specs.List.{list_all, list_any, zip}
 use Rattle.std.specs.Int.{w16, to_le_bytes}
 use Rattle.arena_geo.specs.Vectors.{Fits}

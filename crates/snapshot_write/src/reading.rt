@@ -1,4 +1,5 @@
-ghost use Rattle.std.specs.Prelude.{◌≡◌, ◌+◌, ◌*◌, ◌≤◌, ◌<◌, ◌↔◌, [], ◌∷◌, map, find, length, drop, Some, None, IfOk, if◌then◌else◌};
+ghost use Rattle.std.specs.Prelude.{◌≡◌, ◌+◌, ◌*◌, ◌≤◌, ◌<◌, ◌↔◌, [], ◌∷◌, map, find, length, drop, Some, None, IfOk};
+ghost use Rattle.std.specs.Prelude.{if◌then◌else◌};
 ghost use Rattle.std.specs.Simd.{first_chunks};
 ghost use Rattle.snapshot_write.specs.declared.snapshot.Snapshot.{Snapshot};
 ghost use Rattle.snapshot_write.specs.declared.snap_fault.SnapFault.{SnapFault};

@@ -1,5 +1,6 @@
 -- Touching: what the triggers that a player touches after a move do, one after another.
-use Rattle.std.specs.Prelude.{ℕ, ◌+◌, min, bit_or, Bool, true, false, not, ◌&&◌, nat_lt, if◌then◌else◌, List, [], ◌∷◌, ◌++◌, length, filter, fold, Option, Some, None}
+use Rattle.std.specs.Prelude.{ℕ, ◌+◌, min, bit_or, Bool, true, false, not, ◌&&◌, nat_lt, if◌then◌else◌, List, [], ◌∷◌}
+use Rattle.std.specs.Prelude.{◌++◌, length, filter, fold, Option, Some, None}
 use Rattle.std.specs.Prelude.{map as map_list}
 use Rattle.arena_geo.specs.declared.vec3.Vec3.{Vec3}
 use Rattle.arena_geo.specs.Vectors.{zero_vector}

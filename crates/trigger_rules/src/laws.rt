@@ -16,8 +16,8 @@ pub fn things_stay_few()
     ensures { ThingsStayFew }
 {}
 
-/// What a player got was there in state 0 and is touched, and its new state is the frame plus its delay. Nothing else changes
-/// state, and a player gets at most 8 items in a move.
+/// What a player got was there in state 0 and is touched, and its new state is the frame plus its delay. Nothing else
+/// changes state, and a player gets at most 8 items in a move.
 pub fn items_were_there()
     ensures { ItemsWereThere }
 {}
@@ -32,7 +32,8 @@ pub fn scores_never_fall()
     ensures { ScoresNeverFall }
 {}
 
-/// A player that a teleporter has moved is at rest, and its body overlaps no wall, no block and no body of another solid.
+/// A player that a teleporter has moved is at rest, and its body overlaps no wall, no block and no body of another
+/// solid.
 pub fn leaps_are_free()
     ensures { LeapsAreFree }
 {}
@@ -47,8 +48,8 @@ pub fn players_stay_themselves()
     ensures { PlayersStayThemselves }
 {}
 
-/// Records that the player doesn't touch change nothing, unless they are in the way at the destination of a teleporter that it
-/// touches.
+/// Records that the player doesn't touch change nothing, unless they are in the way at the destination of a teleporter
+/// that it touches.
 pub fn only_touched_matters()
     ensures { OnlyTouchedMatters }
 {}

@@ -11,7 +11,8 @@ ghost use Rattle.item_rules.specs.Items.{is_item};
 ghost use Rattle.arena_map.specs.Maps as maps;
 ghost use Rattle.arena_map.specs.Maps.{IsSpawn};
 ghost use Rattle.trigger_rules.specs.Touching as touching;
-ghost use Rattle.trigger_rules.specs.Touching.{walk_of, solids_among, after_touched_item, after_teleporter, after_trigger};
+ghost use Rattle.trigger_rules.specs.Touching.{walk_of, solids_among, after_touched_item, after_teleporter};
+ghost use Rattle.trigger_rules.specs.Touching.{after_trigger};
 
 use arena_geo::{Aabb, Vec3};
 use arena_map::ArenaMap;
@@ -138,7 +139,8 @@ fn touch(
     requires records { All IsRecord near.now }
     requires lists { length out.old ≡ length got.old }
     ensures walk { walk_of me.new out.new got.new result
-        ≡ after_trigger map.now (solids_among map.now near.now) frame (walk_of me.old out.old got.old false) trigger.now }
+        ≡ after_trigger map.now (solids_among map.now near.now) frame (walk_of me.old out.old got.old false)
+        trigger.now }
     ensures record { IsRecord me.new }
     ensures kind { me.new.kind ≡ Player }
     ensures inside { contains map.now.bounds (body_of me.old) ≡ true → contains map.now.bounds (body_of me.new) ≡ true }
@@ -161,10 +163,10 @@ fn touch(
     }
 }
 
-/// What a player touches after its move: the triggers among `near`, the other live records in rising id, whose absolute boxes
-/// touch the player's. One after another, an item is taken, with at most 8 in a move; at a goal what the player carries is
-/// added to its score; a teleporter whose destination is free moves the player there, which ends the walk. `out` gets the new
-/// states of the items that were taken, and `got` their ids. It takes no memory.
+/// What a player touches after its move: the triggers among `near`, the other live records in rising id, whose absolute
+/// boxes touch the player's. One after another, an item is taken, with at most 8 in a move; at a goal what the player
+/// carries is added to its score; a teleporter whose destination is free moves the player there, which ends the walk.
+/// `out` gets the new states of the items that were taken, and `got` their ids. It takes no memory.
 pub fn touch_all(
     map: &ArenaMap,
     me: &mut Rec,

@@ -47,9 +47,9 @@ fn move_thing(map: &ArenaMap, world: &mut World, thing: &Rec)
 ///
 /// A rising lift goes up by its speed, but not above its rise, and a falling one down by its speed, but not below its
 /// lowest place. It carries the players that stand on it, and those whose bodies its new box would overlap; each moves
-/// by its z alone, as far as the lift. Where a carried player would then overlap a wall, a block, another lift, the lift
-/// or a player that isn't carried, nothing moves, and the lift tries again in the next frame. At its highest place a
-/// lift turns to falling, at its lowest to rising. The rule is that of Quake's `SV_PushMove`, for lifts.
+/// by its z alone, as far as the lift. Where a carried player would then overlap a wall, a block, another lift, the
+/// lift or a player that isn't carried, nothing moves, and the lift tries again in the next frame. At its highest place
+/// a lift turns to falling, at its lowest to rising. The rule is that of Quake's `SV_PushMove`, for lifts.
 ///
 /// Each record that changes is linked anew. It takes no memory.
 pub fn tick(map: &ArenaMap, world: &mut World, frame: u32)

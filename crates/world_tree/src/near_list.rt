@@ -24,7 +24,8 @@ const NOBODY: Rec = Rec {
     state: 0,
 };
 
-/// A list of records, at most [`NEAR_RECORDS`] of them. It takes no memory: it holds the room for all of them, about 18 KB.
+/// A list of records, at most [`NEAR_RECORDS`] of them. It takes no memory: it holds the room for all of them, about 18
+/// KB.
 #[derive(Drop)]
 pub struct NearList {
     records: [Rec; NEAR_RECORDS],

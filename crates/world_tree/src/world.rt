@@ -80,8 +80,8 @@ impl World {
         })
     }
 
-    /// The world over these bounds with these records, put in one after another. The only error is that memory is refused,
-    /// however many records there are.
+    /// The world over these bounds with these records, put in one after another. The only error is that memory is
+    /// refused, however many records there are.
     pub fn new(alloc: Global, bounds: &Aabb, start: &[Rec]) -> Result<World, AllocError>
         requires records { All IsRecord start.now }
         requires apart { IsDistinct nat_eq (map (λ r. r.id) start.now) }
@@ -168,8 +168,8 @@ impl World {
         self.lists.copy_from(&o.lists);
     }
 
-    /// Puts into the empty list the live records other than `except` whose absolute boxes touch the region, in rising id.
-    /// It looks at those that are linked at the nodes visited for the region's leaves.
+    /// Puts into the empty list the live records other than `except` whose absolute boxes touch the region, in rising
+    /// id. It looks at those that are linked at the nodes visited for the region's leaves.
     pub fn near(&self, r: &Region, except: u16, out: &mut NearList)
         requires { out.old ≡ [] }
         ensures records { out.new ≡ near_in self.now.records r.now except }
