@@ -1,5 +1,6 @@
 -- An action for tests: a player stays where it is, and its record gets the number of the command.
-use Rattle.std.proofs.Common.{◌≡◌, ℕ, ◌^◌, ◌<◌, ◌≤◌, nat_lt, nat_le, Bool, true, false, ◌&&◌, ℤ, int_le, unsigned_abs, List, [], ◌∷◌, refl, arith}
+use Rattle.std.proofs.Common.{◌≡◌, ℕ, ◌^◌, ◌<◌, ◌≤◌, nat_lt, nat_le, Bool, true, false, ◌&&◌, ℤ, int_le, unsigned_abs}
+use Rattle.std.proofs.Common.{List, [], ◌∷◌, refl, arith}
 use Rattle.std.specs.Prelude.{◌==◌}
 use Rattle.std.specs.List.{IsDistinct}
 use Rattle.std.specs.Ordering.{int_eq}
@@ -124,15 +125,18 @@ keepable r Teleporter e h = absurd (false≢true h)
 keepable r Goal e h = absurd (false≢true h)
 keepable r Lift e h = absurd (false≢true h)
 
-numbered : (kind : Kind) (r : Rec) (seq : ℕ) → seq < 2 ^ 32 → is_taken kind r ≡ true → is_taken kind (record r { seq = seq }) ≡ true
-numbered Player r seq small h = and_from (is_player r) (nat_lt seq 4294967296) (both (is_player r) (nat_lt r.seq 4294967296) h).0 (is_below seq 4294967296 small)
+numbered : (kind : Kind) (r : Rec) (seq : ℕ) → seq < 2 ^ 32 → is_taken kind r ≡ true
+    → is_taken kind (record r { seq = seq }) ≡ true
+numbered Player r seq small h = and_from (is_player r) (nat_lt seq 4294967296)
+    (both (is_player r) (nat_lt r.seq 4294967296) h).0 (is_below seq 4294967296 small)
 numbered Ammo r seq small h = h
 numbered Gem r seq small h = h
 numbered Teleporter r seq small h = h
 numbered Goal r seq small h = h
 numbered Lift r seq small h = h
 
-stated : (kind : Kind) (r : Rec) (state : ℕ) → is_taken kind r ≡ true → is_taken kind (record r { state = state }) ≡ true
+stated : (kind : Kind) (r : Rec) (state : ℕ) → is_taken kind r ≡ true → is_taken kind (record r { state = state })
+    ≡ true
 stated Player r state h = h
 stated Ammo r state h = h
 stated Gem r state h = h
@@ -156,7 +160,15 @@ least_itself : (n : ℤ) → int_le n n ≡ true
 least_itself n = grind (arith, ints)
 
 contains_itself : (b : Bounds) → is_inside b (b ∷ []) ≡ true
-contains_itself b = rw (least_itself b.lo.x, least_itself b.hi.x, least_itself b.lo.y, least_itself b.hi.y, least_itself b.lo.z, least_itself b.hi.z) refl
+contains_itself b = rw (
+  least_itself b.lo.x,
+  least_itself b.hi.x,
+  least_itself b.lo.y,
+  least_itself b.hi.y,
+  least_itself
+      b.lo.z,
+  least_itself b.hi.z,
+) refl
 
 none_apart : IsDistinct (λ (a b : NewState). a.id == b.id) []
 unfolding IsDistinct
@@ -168,7 +180,8 @@ staying_stays_within = record {
   boxes = λ me c player. record {
     least = omega arith;
     most = omega arith;
-    boxes = All-cons IsBox (abs_of me) [] (records_have_boxes me (keepable me me.kind refl player.taken).bounds).abs (All-nil IsBox);
+    boxes = All-cons IsBox (abs_of me) [] (records_have_boxes me (keepable me me.kind refl player.taken).bounds).abs
+        (All-nil IsBox);
   };
   any_state = λ me state c. refl;
   within = λ me near c call. record {

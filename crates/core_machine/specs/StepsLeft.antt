@@ -22,8 +22,8 @@ abbrev pub states_listed : Option Effect → ℕ
 states_listed None = MOST_STATES
 states_listed (Some e) = length e.states
 
--- the steps after all is read, where so many leaves are wanted: two write nodes are taken, the command is committed, the
--- stores are made, and the nodes and leaves are given back
+-- the steps after all is read, where so many leaves are wanted: two write nodes are taken, the command is committed,
+-- the stores are made, and the nodes and leaves are given back
 abbrev pub after_reading : Option Effect → ℕ → ℕ
 after_reading effect wanted = 13 + states_listed effect + wanted
 
@@ -75,8 +75,8 @@ is_served (GiveNode node) found = true
 is_served (YieldNode node) found = true
 is_served YieldCount found = true
 
--- what a view says for its steps to lower how many are left: the loads are in part, leaves are wanted, and the effect in
--- view is the one that is kept
+-- what a view says for its steps to lower how many are left: the loads are in part, leaves are wanted, and the effect
+-- in view is the one that is kept
 pub record IsCounting (F : Fixed) (effect : Option Effect) (view : View) : Type 0 where
   pub depth : F.tree.depth ≡ 4
   pub own : view.point ≡ Owning → length view.own < 6

@@ -58,7 +58,8 @@ fn meets(origin: i32, min: i32, max: i32, by: i32, lo: i32, hi: i32) -> bool
 
 /// Whether the absolute box of a record, larger than its body by `by`, meets a box on the axis x.
 fn meets_x(r: &Rec, by: Vec3, one: &Aabb) -> bool
-    ensures { result ≡ boxes.touches_on ((r.now.origin.x +ℤ r.now.mins.x) -ℤ by.x) ((r.now.origin.x +ℤ r.now.maxs.x) +ℤ by.x)
+    ensures { result ≡ boxes.touches_on ((r.now.origin.x +ℤ r.now.mins.x) -ℤ by.x) ((r.now.origin.x +ℤ r.now.maxs.x) +ℤ
+        by.x)
         one.now.lo.x one.now.hi.x }
 {
     let lo = one.lo();
@@ -68,7 +69,8 @@ fn meets_x(r: &Rec, by: Vec3, one: &Aabb) -> bool
 
 /// The same on the axis y.
 fn meets_y(r: &Rec, by: Vec3, one: &Aabb) -> bool
-    ensures { result ≡ boxes.touches_on ((r.now.origin.y +ℤ r.now.mins.y) -ℤ by.y) ((r.now.origin.y +ℤ r.now.maxs.y) +ℤ by.y)
+    ensures { result ≡ boxes.touches_on ((r.now.origin.y +ℤ r.now.mins.y) -ℤ by.y) ((r.now.origin.y +ℤ r.now.maxs.y) +ℤ
+        by.y)
         one.now.lo.y one.now.hi.y }
 {
     let lo = one.lo();
@@ -78,7 +80,8 @@ fn meets_y(r: &Rec, by: Vec3, one: &Aabb) -> bool
 
 /// The same on the axis z.
 fn meets_z(r: &Rec, by: Vec3, one: &Aabb) -> bool
-    ensures { result ≡ boxes.touches_on ((r.now.origin.z +ℤ r.now.mins.z) -ℤ by.z) ((r.now.origin.z +ℤ r.now.maxs.z) +ℤ by.z)
+    ensures { result ≡ boxes.touches_on ((r.now.origin.z +ℤ r.now.mins.z) -ℤ by.z) ((r.now.origin.z +ℤ r.now.maxs.z) +ℤ
+        by.z)
         one.now.lo.z one.now.hi.z }
 {
     let lo = one.lo();

@@ -59,7 +59,8 @@ impl Seat {
         requires { length self.old.queues.got.items < 31 }
         ensures got { self.new.queues.got.items ≡ self.old.queues.got.items ++ node ∷ [] }
         ensures rest { self.new.queues.rest.items ≡ steps.rest_of self.old.queues.rest.items }
-        ensures view { (point : views.Point) → record (view_of self.new) { point = point } ≡ record (view_of self.old) { point = point } }
+        ensures view { (point : views.Point) → record (view_of self.new) { point = point } ≡ record
+            (view_of self.old) { point = point } }
         ensures point { self.new.point ≡ self.old.point }
     {
         self.queues.got.push(node);
@@ -130,8 +131,8 @@ impl Seat {
         rules.inner_of_two(rules.home(&self.before()), rules.home(&effect.me))
     }
 
-    /// The first write node of the effect that is kept, if any, is taken, with which the effect enters the view, or its take
-    /// is refused; where it has no write node, the command is committed with it.
+    /// The first write node of the effect that is kept, if any, is taken, with which the effect enters the view, or its
+    /// take is refused; where it has no write node, the command is committed with it.
     pub(crate) fn resolve<A: Action>(
         &mut self,
         rules: &Rules<A>,

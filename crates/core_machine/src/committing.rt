@@ -31,8 +31,8 @@ pub fn same_effect(effect: &Effect) -> Effect
 }
 
 /// The stores of an effect of the player in this slot, which was linked at the node `old` and is to be linked at `new`:
-/// the own bit is cleared, the five words and the state word of the own record are stored, then the listed states in the
-/// list's order, and the own bit is set.
+/// the own bit is cleared, the five words and the state word of the own record are stored, then the listed states in
+/// the list's order, and the own bit is set.
 fn stores_of(slot: u8, old: u8, new: u8, effect: &Effect) -> StoreList
     ensures { map store_of result.items ≡ views.Clear old ∷ (body_stores slot 0 (words_of effect.now.me)
         ++ (views.Put (State slot) effect.now.me.state
@@ -92,7 +92,8 @@ impl Seat {
         requires room { length self.old.log.items < self.old.log.room }
         requires place { place + 1 < 2 ^ 64 }
         ensures { (e : Effect) → self.old.effect ≡ Some e → view_of self.new
-            ≡ steps.view_after_commit (fixed_of A.takes A.region_of A.effect_of rules.now) place e self.old.queues.got.items
+            ≡ steps.view_after_commit (fixed_of A.takes A.region_of A.effect_of rules.now) place e
+            self.old.queues.got.items
             (view_of self.old) }
     {
         let cmd = self.hand();

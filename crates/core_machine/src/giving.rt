@@ -76,7 +76,8 @@ impl Seat {
         self.yielding();
     }
 
-    /// The seat begins to give up: the first of these inner nodes, or of these leaves where there is none, was given back.
+    /// The seat begins to give up: the first of these inner nodes, or of these leaves where there is none, was given
+    /// back.
     pub(crate) fn yield_from(&mut self, nodes: NodeList, leaves: NodeList)
         ensures { view_of self.new ≡ steps.yielded (view_of self.old) nodes.items leaves.items }
     {

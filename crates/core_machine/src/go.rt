@@ -43,8 +43,8 @@ impl Seat {
         self.quits = false;
     }
 
-    /// The first node that is held is given back by a seat that gives up; where none is held, the command is let go and the
-    /// word found is the count.
+    /// The first node that is held is given back by a seat that gives up; where none is held, the command is let go and
+    /// the word found is the count.
     fn give_up<A: Action>(&mut self, rules: &Rules<A>, found: u64)
         ensures { let F = fixed_of A.takes A.region_of A.effect_of rules.now in
             view_of self.new ≡ view_found F (view_of self.old) (quitting (first_yield F (view_of self.old))) found }

@@ -79,8 +79,8 @@ impl Seat {
         }
     }
 
-    /// The word that the first step of giving up leaves: 0 where a node is given back, and the count that was found where
-    /// none is held.
+    /// The word that the first step of giving up leaves: 0 where a node is given back, and the count that was found
+    /// where none is held.
     fn word_given_up<A: Action>(&self, rules: &Rules<A>, found: u64) -> u64
         ensures { let F = fixed_of A.takes A.region_of A.effect_of rules.now in (number : ℕ) → result
             ≡ word_left F number (view_of self.now) (quitting (steps.first_yield F (view_of self.now))) found }
@@ -92,8 +92,8 @@ impl Seat {
         }
     }
 
-    /// The word that a take of this node leaves, to write or not: that of a held node where it was free, and else what was
-    /// found.
+    /// The word that a take of this node leaves, to write or not: that of a held node where it was free, and else what
+    /// was found.
     fn word_taken<A: Action>(
         &self,
         rules: &Rules<A>,
@@ -115,7 +115,8 @@ impl Seat {
         }
     }
 
-    /// The word that a take of the first of these nodes leaves, to write or not; the count after it, where there is none.
+    /// The word that a take of the first of these nodes leaves, to write or not; the count after it, where there is
+    /// none.
     fn word_claimed<A: Action>(&self, rules: &Rules<A>, number: u8, nodes: &[u8], found: u64) -> u64
         requires nodes { All (λ n. n < 31) self.now.wanted.items }
         requires few { length self.now.wanted.items ≤ 31 }

@@ -9,6 +9,7 @@ pub use queue::Queue;
 pub use reading::read_record;
 pub use rules::Rules;
 pub use seat::{ListRead, PlayerRead, Refused, Seat};
+pub use start::with_top_bit;
 pub use words::Words;
 
 mod boxes;
@@ -29,17 +30,11 @@ mod point;
 mod queue;
 mod reading;
 mod reads;
-#[cfg(test)]
-mod rows;
 mod rules;
 mod seat;
 mod start;
-#[cfg(test)]
-mod staying;
 mod stepping;
 mod table;
 mod taking;
-#[cfg(test)]
-mod tests;
 mod word_steps;
 mod words;

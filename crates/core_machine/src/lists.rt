@@ -1,4 +1,5 @@
-ghost use Rattle.std.specs.Prelude.{◌≡◌, ◌+◌, ◌<◌, ◌≤◌, ◌-◌, ◌*◌, ◌++◌, All, ◌==◌, ◌||◌, ◌&&◌, [], ◌∷◌, MatchOption, length, filter, map, not, drop};
+ghost use Rattle.std.specs.Prelude.{◌≡◌, ◌+◌, ◌<◌, ◌≤◌, ◌-◌, ◌*◌, ◌++◌, All, ◌==◌, ◌||◌, ◌&&◌, [], ◌∷◌, MatchOption};
+ghost use Rattle.std.specs.Prelude.{length, filter, map, not, drop};
 ghost use Rattle.core_steps.specs.Steps.{rest_of};
 ghost use Rattle.std.specs.List.{range_with_len};
 ghost use Rattle.areanode.specs.Words.{has_bit};

@@ -67,8 +67,11 @@ impl Seat {
 
     /// The leaves of the own record, which is loaded whole, are wanted.
     fn want_leaves<A: Action>(&mut self, rules: &Rules<A>)
-        requires { HasPlayer (A.takes rules.now.action) (record_read (hand_of self.old.cmd).slot self.old.own.items) (hand_of self.old.cmd) }
-        ensures { let leaves = leaf_nodes (fixed_of A.takes A.region_of A.effect_of rules.now) (region_in (fixed_of A.takes A.region_of A.effect_of rules.now) (hand_of self.old.cmd) self.old.own.items) in
+        requires { HasPlayer (A.takes rules.now.action) (record_read (hand_of self.old.cmd).slot self.old.own.items)
+            (hand_of self.old.cmd) }
+        ensures { let leaves = leaf_nodes (fixed_of A.takes A.region_of A.effect_of rules.now)
+            (region_in (fixed_of A.takes A.region_of A.effect_of rules.now) (hand_of self.old.cmd) self.old.own.items)
+            in
             view_of self.new ≡ record (view_of self.old) { wanted = leaves; point = views.Taking [] leaves } }
     {
         let region = rules.region(&self.hand(), self.own.as_slice());
@@ -83,7 +86,8 @@ impl Seat {
         requires part { length self.old.own.items < 6 }
         requires player { length self.old.own.items ≡ 5 → HasPlayer (A.takes rules.now.action)
             (record_read (hand_of self.old.cmd).slot (self.old.own.items ++ word ∷ [])) (hand_of self.old.cmd) }
-        ensures { view_of self.new ≡ steps.view_after_own (fixed_of A.takes A.region_of A.effect_of rules.now) word (view_of self.old) }
+        ensures { view_of self.new ≡ steps.view_after_own (fixed_of A.takes A.region_of A.effect_of rules.now) word
+            (view_of self.old) }
     {
         self.own.push(word);
         if self.own.len() == 6 {
@@ -94,8 +98,10 @@ impl Seat {
     /// One more word of the own record was loaded again.
     pub fn load_again<A: Action>(&mut self, rules: &Rules<A>, word: u64)
         requires part { length self.old.again.items < 6 }
-        requires player { HasPlayer (A.takes rules.now.action) (record_read (hand_of self.old.cmd).slot self.old.own.items) (hand_of self.old.cmd) }
-        ensures { view_of self.new ≡ steps.view_after_again (fixed_of A.takes A.region_of A.effect_of rules.now) word (view_of self.old) }
+        requires player { HasPlayer (A.takes rules.now.action) (record_read (hand_of self.old.cmd).slot
+            self.old.own.items) (hand_of self.old.cmd) }
+        ensures { view_of self.new ≡ steps.view_after_again (fixed_of A.takes A.region_of A.effect_of rules.now) word
+            (view_of self.old) }
     {
         self.again.push(word);
         if self.again.len() == 6 {

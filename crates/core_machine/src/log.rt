@@ -49,14 +49,20 @@ impl Log {
     /// Puts a command last, with its entry. It takes no memory.
     pub fn push(&mut self, cmd: Cmd, entry: Entry)
         requires { length self.old.items < self.old.room }
-        ensures { self.new ≡ record self.old { items = self.old.items ++ record { command = command_of cmd; entry = entry } ∷ [] } }
+        ensures { self.new ≡ record self.old {
+          items = self.old.items ++ record {
+            command = command_of cmd;
+            entry
+                = entry;
+          } ∷ [];
+        } }
     {
         self.commands.push_reserved(cmd);
         self.entries.push(entry);
     }
 
-    /// The entries as a list of their own, in the order in which the commands were committed, with the same room. It takes
-    /// no memory.
+    /// The entries as a list of their own, in the order in which the commands were committed, with the same room. It
+    /// takes no memory.
     pub fn into_entries(self) -> EntryLog
         ensures { result ≡ log_view (entries_of self.items) self.room }
     {

@@ -11,8 +11,8 @@ use entity_recs::{Action, Cmd, Entry, Rec};
 use std::alloc::{AllocError, Global};
 use std::marker::Model;
 
-/// The pure core as a machine: the shared words and the seats, each with its view, as plain values. A seat with a command
-/// in hand makes one step on one word at a time, and any seat may be the next to make one.
+/// The pure core as a machine: the shared words and the seats, each with its view, as plain values. A seat with a
+/// command in hand makes one step on one word at a time, and any seat may be the next to make one.
 #[derive(Drop)]
 pub struct Core<'a, A: Action> {
     rules: Rules<'a, A>,
@@ -69,8 +69,8 @@ impl<'a, A: Action> Core<'a, A> {
     ghost use Rattle.core_machine.specs.Cores.{machine_of, IsFree, IsRefused};
     ghost use Rattle.core_machine.specs.Shown.{fixed_of};
 
-    /// The core at the start: over these records, with a seat for each number in `room`, which has room for so many entries.
-    /// No command is given, no node is held, and no command is committed.
+    /// The core at the start: over these records, with a seat for each number in `room`, which has room for so many
+    /// entries. No command is given, no node is held, and no command is committed.
     pub fn new(
         alloc: Global,
         action: &'a A,
@@ -108,8 +108,8 @@ impl<'a, A: Action> Core<'a, A> {
         &self.rules
     }
 
-    /// Gives a seat a command. The seat has none in hand and has room, the command's player is live, and no other seat has a
-    /// command of that player in hand.
+    /// Gives a seat a command. The seat has none in hand and has room, the command's player is live, and no other seat
+    /// has a command of that player in hand.
     pub fn give(&mut self, seat: u8, cmd: Cmd)
         requires { let F = fixed_of A.takes A.region_of A.effect_of self.old.rules in
             MayBeGiven F (machine_of F self.old) seat (command_of cmd) }
@@ -134,8 +134,9 @@ impl<'a, A: Action> Core<'a, A> {
         one.next_step(&self.rules, seat, &effect)
     }
 
-    /// Makes a step. It is false exactly where `s` isn't the next step of its seat, or it takes a node that another seat
-    /// holds. In the first case nothing changes. In the second case only the seat's record of the refused take changes.
+    /// Makes a step. It is false exactly where `s` isn't the next step of its seat, or it takes a node that another
+    /// seat holds. In the first case nothing changes. In the second case only the seat's record of the refused take
+    /// changes.
     pub fn step(&mut self, s: Step) -> bool
         ensures rules { self.new.rules ≡ self.old.rules }
         ensures seats { length self.new.seats ≡ length self.old.seats }
@@ -143,13 +144,16 @@ impl<'a, A: Action> Core<'a, A> {
             IsTrue result ↔ IsFree F (machine_of F self.old) s }
         ensures other { let F = fixed_of A.takes A.region_of A.effect_of self.old.rules in
             (next_step_of F (machine_of F self.old) s.seat ≡ Some s → ⊥) → self.new ≡ self.old }
-        ensures machine { let F = fixed_of A.takes A.region_of A.effect_of self.old.rules in let m = machine_of F self.old in
+        ensures machine { let F = fixed_of A.takes A.region_of A.effect_of self.old.rules in let m = machine_of F
+            self.old in
             (next : Next) → next_of F m s.seat ≡ Some next → next_step_of F m s.seat ≡ Some s
             → machine_of F self.new ≡ machine_after F m s.seat next }
-        ensures refused { let F = fixed_of A.takes A.region_of A.effect_of self.old.rules in let m = machine_of F self.old in
+        ensures refused { let F = fixed_of A.takes A.region_of A.effect_of self.old.rules in let m = machine_of F
+            self.old in
             (node : ℕ) → IsRefused F m s node → machine_of F self.new ≡ record m
             { core = refuse_node m.core s.seat node } }
-        ensures logs { let F = fixed_of A.takes A.region_of A.effect_of self.old.rules in let m = machine_of F self.old in
+        ensures logs { let F = fixed_of A.takes A.region_of A.effect_of self.old.rules in let m = machine_of F self.old
+            in
             (next : Next) (seat : ℕ) → next_of F m s.seat ≡ Some next → next_step_of F m s.seat ≡ Some s
             → ((machine_of F self.new).core.view seat).log ≡ (if seat == s.seat
             then (m.core.view s.seat).log ++ items_after m.core s.seat next else (m.core.view seat).log) }
@@ -190,7 +194,8 @@ impl<'a, A: Action> Core<'a, A> {
         let _seats = &self.seats;
     }
 
-    /// Where a seat has a command in hand, some seat with a command in hand doesn't wait for a node that another seat holds.
+    /// Where a seat has a command in hand, some seat with a command in hand doesn't wait for a node that another seat
+    /// holds.
     pub fn some_seat_goes_on(&self)
         ensures { let F = fixed_of A.takes A.region_of A.effect_of self.now.rules in (seat : ℕ)
             → has_command (machine_of F self.now) seat ≡ true

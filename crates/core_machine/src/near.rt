@@ -31,7 +31,8 @@ fn is_touched_thing(r: &Rec, region: &Region) -> bool
     r.id >= 64 && touches_region(r, region)
 }
 
-/// The ids of the things of the map among these records whose absolute box touches a region, in the order of the records.
+/// The ids of the things of the map among these records whose absolute box touches a region, in the order of the
+/// records.
 pub fn things_of(start: &[Rec], region: &Region) -> IdList
     requires { length start.now ≤ 256 }
     ensures { result.items ≡ map (λ (r : Rec). r.id) (filter (near.is_touched_thing region.now) start.now) }
@@ -45,7 +46,8 @@ pub fn things_of(start: &[Rec], region: &Region) -> IdList
     ids
 }
 
-/// The record as it was loaded, where it was: a player's as it was loaded last, a thing's with the state that was loaded.
+/// The record as it was loaded, where it was: a player's as it was loaded last, a thing's with the state that was
+/// loaded.
 fn loaded_of(r: &Rec, others: &[PlayerRead], states: &[NewState]) -> Option<Rec>
     ensures { result ≡ near.loaded_of (map player_read_of others.now) states.now r.now }
 {
@@ -91,7 +93,8 @@ fn near_one(
 
 /// Which slots have a player of whom something was loaded. To look a slot up here costs less than to search the list.
 fn slots_read(others: &[PlayerRead]) -> [bool; 256]
-    ensures { (slot : ℕ) → slice_index_or result slot true ≡ false → player_at (map player_read_of others.now) slot ≡ None }
+    ensures { (slot : ℕ) → slice_index_or result slot true ≡ false → player_at (map player_read_of others.now)
+        slot ≡ None }
 {
     let mut slots = [false; 256];
     for read in others {
@@ -109,7 +112,8 @@ fn near_read(
     states: &[NewState],
     slots: &[bool; 256],
 ) -> Option<Rec>
-    requires { (slot : ℕ) → slice_index_or slots.now slot true ≡ false → player_at (map player_read_of others.now) slot ≡ None }
+    requires { (slot : ℕ) → slice_index_or slots.now slot true ≡ false → player_at (map player_read_of others.now)
+        slot ≡ None }
     ensures { result ≡ near.near_one region.now slot (map player_read_of others.now) states.now r.now }
 {
     if r.id < 64 && !slots[usize::from(r.id)] {
@@ -131,7 +135,8 @@ pub fn put_near(
 )
     requires few { length start.now ≤ 256 }
     requires empty { list.old ≡ [] }
-    ensures { list.new ≡ filter_map (near.near_one region.now slot (map player_read_of others.now) states.now) start.now }
+    ensures { list.new ≡ filter_map (near.near_one region.now slot (map player_read_of others.now) states.now)
+        start.now }
 {
     let slots = slots_read(others);
     for r in start {

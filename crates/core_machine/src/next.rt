@@ -59,8 +59,8 @@ impl Seat {
     ghost use Rattle.core_machine.specs.Sound.{IsSound};
     ghost use Rattle.core_machine.specs.Ready.{IsReady, effect_due};
 
-    /// The effect that the action gives on what was loaded, where all is read and the effect enters the view with the next
-    /// step; else none.
+    /// The effect that the action gives on what was loaded, where all is read and the effect enters the view with the
+    /// next step; else none.
     pub fn resolved<A: Action>(&self, rules: &Rules<A>) -> Option<Effect>
         requires { IsSound (fixed_of A.takes A.region_of A.effect_of rules.now) (view_of self.now) }
         ensures { result ≡ effect_due (fixed_of A.takes A.region_of A.effect_of rules.now) (view_of self.now) }

@@ -22,7 +22,8 @@ impl Seat {
 
     /// The things of the map that touch the region of the command in hand.
     fn things<A: Action>(&self, rules: &Rules<A>) -> IdList
-        requires { HasPlayer (A.takes rules.now.action) (record_read (hand_of self.now.cmd).slot self.now.own.items) (hand_of self.now.cmd) }
+        requires { HasPlayer (A.takes rules.now.action) (record_read (hand_of self.now.cmd).slot self.now.own.items)
+            (hand_of self.now.cmd) }
         ensures { let F = fixed_of A.takes A.region_of A.effect_of rules.now in
             result.items ≡ things_in F (region_in F (hand_of self.now.cmd) self.now.own.items) }
     {

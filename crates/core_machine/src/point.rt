@@ -43,8 +43,8 @@ impl Default for Store {
     }
 }
 
-/// The lists that a seat's point speaks of. In each the first comes next. Where the point doesn't speak of a list, it holds
-/// whatever was left in it.
+/// The lists that a seat's point speaks of. In each the first comes next. Where the point doesn't speak of a list, it
+/// holds whatever was left in it.
 #[derive(Drop)]
 pub struct Queues {
     /// The nodes that are held: leaves while leaves are taken, and else inner nodes.

@@ -28,7 +28,8 @@ impl<'a, A: Action> Model for Rules<'a, A> {
 
     ghost view = { λ r. record { action = r.action.now; tree = r.tree; start = r.start.items } };
 
-    ghost invariant = { λ r. IsRuled (fixed_of A.takes A.region_of A.effect_of (record { action = r.action.now; tree = r.tree; start = r.start.items })) };
+    ghost invariant = { λ r. IsRuled (fixed_of A.takes A.region_of A.effect_of
+        (record { action = r.action.now; tree = r.tree; start = r.start.items })) };
 }
 
 /// A tree has the depth for which the table of words is made.
@@ -42,11 +43,13 @@ fn has_depth_4(tree: &Tree)
 }
 
 impl<'a, A: Action> Rules<'a, A> {
-    ghost use Rattle.std.specs.Prelude.{◌≡◌, ◌<◌, ◌≤◌, ◌+◌, ◌*◌, ◌^◌, [], suc, map, length, All, OnOk, IfOk, if◌then◌else◌};
+    ghost use Rattle.std.specs.Prelude.{◌≡◌, ◌<◌, ◌≤◌, ◌+◌, ◌*◌, ◌^◌, [], suc, map, length, All, OnOk, IfOk};
+    ghost use Rattle.std.specs.Prelude.{if◌then◌else◌};
     ghost use Rattle.entity_recs.specs.Actions.{HasPlayer, IsCall};
     ghost use Rattle.entity_recs.specs.Records.{IsRecord};
     ghost use Rattle.entity_recs.specs.Commands.{command_of};
-    ghost use Rattle.core_steps.specs.Views.{region_in, is_leaf, leaf_nodes, inner_visited, plan_of, inner_of_two, things_in, home, record_read, near_loaded, leaf_word};
+    ghost use Rattle.core_steps.specs.Views.{region_in, is_leaf, leaf_nodes, inner_visited, plan_of, inner_of_two};
+    ghost use Rattle.core_steps.specs.Views.{things_in, home, record_read, near_loaded, leaf_word};
     ghost use Rattle.core_steps.specs.Stands.{IsLawful, IsStart};
     ghost use Rattle.core_machine.specs.Seats.{player_read_of};
     ghost use Rattle.core_machine.specs.Starts.{record_at};
@@ -59,7 +62,8 @@ impl<'a, A: Action> Rules<'a, A> {
         tree: &Tree,
         start: &[Rec],
     ) -> Result<Rules<'a, A>, AllocError>
-        requires { IsStart (fixed_of A.takes A.region_of A.effect_of (record { action = action.now; tree = tree.now; start = start.now })) }
+        requires { IsStart (fixed_of A.takes A.region_of A.effect_of
+            (record { action = action.now; tree = tree.now; start = start.now })) }
         ensures { IfOk result (λ r. r ≡ record { action = action.now; tree = tree.now; start = start.now }) }
     {
         has_depth_4(tree);
@@ -158,7 +162,8 @@ impl<'a, A: Action> Rules<'a, A> {
         list: &mut NearList,
     )
         requires { list.old ≡ [] }
-        ensures { list.new ≡ near_loaded (fixed_of A.takes A.region_of A.effect_of self.now) region.now slot (map player_read_of others.now) states.now }
+        ensures { list.new ≡ near_loaded (fixed_of A.takes A.region_of A.effect_of self.now) region.now slot
+            (map player_read_of others.now) states.now }
     {
         put_near(self.start.as_slice(), region, slot, others, states, list);
     }

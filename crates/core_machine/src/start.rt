@@ -59,7 +59,7 @@ fn is_linked<A: Action>(rules: &Rules<A>, node: u8, slot: u8) -> bool
 }
 
 /// The word with the bit of a number that is above all its bits, where that bit is to be set.
-fn with_top_bit(word: u64, slot: u8, is_set: bool) -> u64
+pub fn with_top_bit(word: u64, slot: u8, is_set: bool) -> u64
     requires slot { slot < 64 }
     requires below { word < 2 ^ slot }
     ensures { result ≡ (if is_set then 2 ^ slot else 0) + word }
@@ -120,7 +120,8 @@ impl Words {
     ghost use Rattle.core_machine.specs.Tables.{words_in};
     ghost use Rattle.core_machine.specs.Shown.{fixed_of};
 
-    /// The words at the start: no node is held, each player is linked at its node, and the records are those of the start.
+    /// The words at the start: no node is held, each player is linked at its node, and the records are those of the
+    /// start.
     pub fn of_start<A: Action>(rules: &Rules<A>) -> Words
         ensures { let F = fixed_of A.takes A.region_of A.effect_of rules.now in
             words_in result (start_words F) ≡ start_words F }

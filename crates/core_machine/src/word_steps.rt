@@ -6,7 +6,7 @@ ghost use Rattle.core_steps.specs.Machine.{kind_of_store, index_of_store};
 ghost use Rattle.core_machine.specs.Points.{store_of};
 
 use crate::point::{Cell, Store};
-use core_steps::{Step, StepKind};
+use core_steps::{FIRST_STATE_WORD, Step, StepKind, list_word, node_word, record_word, state_word};
 
 /// The step of a seat on the word of a node.
 pub fn node_step(number: u8, node: u8, kind: StepKind) -> Step
@@ -14,7 +14,7 @@ pub fn node_step(number: u8, node: u8, kind: StepKind) -> Step
 {
     Step {
         seat: number,
-        word: 1 + u16::from(node),
+        word: node_word(node),
         kind,
     }
 }
@@ -25,7 +25,7 @@ pub fn list_step(number: u8, node: u8, kind: StepKind) -> Step
 {
     Step {
         seat: number,
-        word: 32 + u16::from(node),
+        word: list_word(node),
         kind,
     }
 }
@@ -35,9 +35,9 @@ pub fn load_step(number: u8, slot: u8, k: usize) -> Step
     ensures { result ≡ record { seat = number; word = cell_index 31 (cell_of slot k); kind = StepKind.Load } }
 {
     let word = if k < 5 {
-        63 + 5 * u16::from(slot) + k as u16
+        record_word(slot) + k as u16
     } else {
-        383 + u16::from(slot)
+        state_word(slot)
     };
     Step {
         seat: number,
@@ -57,7 +57,7 @@ pub fn state_step(number: u8, ids: &[u16]) -> Option<Step>
     };
     Some(Step {
         seat: number,
-        word: 383 + id,
+        word: FIRST_STATE_WORD + id,
         kind: StepKind::Load,
     })
 }
@@ -88,8 +88,11 @@ pub fn first_of_two(inner: &[u8], leaves: &[u8]) -> Option<u8>
 
 /// The step that gives back the first of these inner nodes, or of these leaves where no inner node is left, if any.
 pub fn give_step(number: u8, inner: &[u8], leaves: &[u8]) -> Option<Step>
-    ensures { result ≡ option_map (λ node. record
-        { seat = number; word = node_index node; kind = StepKind.GiveBack }) (steps.first_of_two inner.now leaves.now) }
+    ensures { result ≡ option_map (λ node. record {
+      seat = number;
+      word = node_index node;
+      kind = StepKind.GiveBack;
+    }) (steps.first_of_two inner.now leaves.now) }
 {
     match first_of_two(inner, leaves) {
         Some(node) => Some(node_step(number, node, StepKind::GiveBack)),
@@ -101,8 +104,7 @@ pub fn give_step(number: u8, inner: &[u8], leaves: &[u8]) -> Option<Step>
 pub fn player_step(number: u8, players: &[u8], k: usize) -> Option<Step>
     ensures { result ≡ option_map (λ slot. record {
       seat = number;
-      word = cell_index 31
-          (cell_of slot k);
+      word = cell_index 31 (cell_of slot k);
       kind = StepKind.Load;
     }) (steps.first players.now) }
 {
@@ -118,20 +120,19 @@ pub fn store_step(number: u8, store: Store) -> Step
     ensures { result ≡ record {
       seat = number;
       word = index_of_store 31 (store_of store);
-      kind = kind_of_store
-          (store_of store);
+      kind = kind_of_store (store_of store);
     } }
 {
     match store {
         Store::Clear(node) | Store::Link(node) => list_step(number, node, StepKind::Bit),
         Store::Put(Cell::Body(slot, k), _) => Step {
             seat: number,
-            word: 63 + 5 * u16::from(slot) + u16::from(k),
+            word: record_word(slot) + u16::from(k),
             kind: StepKind::Store,
         },
         Store::Put(Cell::State(id), _) => Step {
             seat: number,
-            word: 383 + id,
+            word: FIRST_STATE_WORD + id,
             kind: StepKind::Store,
         },
     }

@@ -55,7 +55,8 @@ impl Words {
     /// Stores a word of a record.
     pub fn set_cell(&mut self, cell: Cell, word: u64)
         requires { IsCellOf cell }
-        ensures { (beyond : cells.Words) → words_in self.new beyond ≡ with_word (words_in self.old beyond) (cell_in cell) word }
+        ensures { (beyond : cells.Words) → words_in self.new beyond ≡ with_word (words_in self.old beyond)
+            (cell_in cell) word }
     {
         match cell {
             Cell::Body(slot, k) => {
@@ -70,8 +71,9 @@ impl Words {
     pub fn link(&mut self, node: u8, slot: u8)
         requires node { node < 31 }
         requires slot { slot < 64 }
-        ensures { (beyond : cells.Words) → words_in self.new beyond ≡ record (words_in self.old beyond)
-            { links = put node (with_bit ((words_in self.old beyond).links node) slot) (words_in self.old beyond).links } }
+        ensures { (beyond : cells.Words) → words_in self.new beyond ≡ record (words_in self.old beyond) {
+          links = put node (with_bit ((words_in self.old beyond).links node) slot) (words_in self.old beyond).links;
+        } }
     {
         let word = self.links[usize::from(node)];
         self.links[usize::from(node)] = word | 1 << slot;
@@ -81,8 +83,10 @@ impl Words {
     pub fn unlink(&mut self, node: u8, slot: u8)
         requires node { node < 31 }
         requires slot { slot < 64 }
-        ensures { (beyond : cells.Words) → words_in self.new beyond ≡ record (words_in self.old beyond)
-            { links = put node (without_bit ((words_in self.old beyond).links node) slot) (words_in self.old beyond).links } }
+        ensures { (beyond : cells.Words) → words_in self.new beyond ≡ record (words_in self.old beyond) {
+          links = put node (without_bit ((words_in self.old beyond).links node) slot)
+              (words_in self.old beyond).links;
+        } }
     {
         let word = self.links[usize::from(node)];
         self.links[usize::from(node)] = word & !(1 << slot);
@@ -92,7 +96,8 @@ impl Words {
     pub fn make_store(&mut self, store: Store, slot: u8)
         requires store { IsStoreOf store }
         requires slot { slot < 64 }
-        ensures { (beyond : cells.Words) → words_in self.new beyond ≡ words_after_store slot (store_of store) (words_in self.old beyond) }
+        ensures { (beyond : cells.Words) → words_in self.new beyond ≡ words_after_store slot (store_of store)
+            (words_in self.old beyond) }
     {
         match store {
             Store::Clear(node) => self.unlink(node, slot),

@@ -5,10 +5,10 @@ use Rattle.std.specs.List.Sorted.{IsStrictlyIncreasing, IsPermutation}
 use Rattle.std.proofs.lemmas.List.Elements.{All-weaker}
 use Rattle.std.proofs.lemmas.List.Sorted.{IsPermutation-map}
 use Rattle.entity_recs.specs.Worlds.{World}
-use Rattle.entity_recs.specs.Histories.{Action, Item, IsLegal}
+use Rattle.entity_recs.specs.Histories.{Action, Item, IsLegal, places_of}
 use Rattle.core_steps.specs.Views.{Ended}
 use Rattle.core_steps.specs.Stands.{IsLogWithin, items_of}
-use Rattle.core_steps.specs.MachineLaws.{places_of, EachPlaceIsLoggedOnce}
+use Rattle.core_steps.specs.MachineLaws.{EachPlaceIsLoggedOnce}
 
 -- the rest of a legal history has the places from the number of the items before it on
 places_from : (act : Action) (start : World) (history before rest : List Item) → IsLegal act start history → history ≡ before ++ rest → places_of rest ≡ range_with_len (length before) (length rest)

@@ -1,5 +1,5 @@
 -- Calls of the machine from its start on, who waits, and which commands a log holds.
-use Rattle.std.specs.Prelude.{ℕ, map, ◌≡◌, ◌==◌, ◌||◌, Bool, true, false, if◌then◌else◌, List, []}
+use Rattle.std.specs.Prelude.{ℕ, ◌≡◌, ◌==◌, ◌||◌, Bool, true, false, if◌then◌else◌, List, []}
 use Rattle.std.specs.Prelude.{◌∷◌}
 use Rattle.std.specs.Prelude.{Option, Some, None, is_some, not, ◌&&◌, ◌++◌}
 use Rattle.entity_recs.specs.Commands.{Command}
@@ -146,10 +146,6 @@ pursued_of None false view = if is_pursued (stage_of view.point) then view.cmd �
 -- that command of a seat of the machine
 abbrev pub pursued : Machine → ℕ → List Command
 pursued m i = pursued_of (m.given i) (m.quits i) (m.core.view i)
-
--- the commands of a log
-abbrev pub commands_of : List Item → List Command
-commands_of = map (λ (item : Item). item.command)
 
 -- all but the last command
 abbrev pub without_last : List Command → List Command

@@ -8,7 +8,7 @@ use Rattle.core_steps.specs.Cells.{word_in, cell_of}
 use Rattle.core_steps.specs.Cells.{word_at, table_size}
 use Rattle.entity_recs.specs.Commands.{Command}
 use Rattle.entity_recs.specs.Worlds.{World}
-use Rattle.entity_recs.specs.Histories.{Item, run}
+use Rattle.entity_recs.specs.Histories.{Item, run, commands_of, places_of}
 use Rattle.core_steps.specs.Views.{Fixed, Resolving, record_read}
 use Rattle.core_steps.specs.Views.{Loading, stage_of, is_open}
 use Rattle.core_steps.specs.Views.{is_whole, nodes_of}
@@ -21,7 +21,7 @@ use Rattle.core_steps.specs.Machine.{items_after, machine_after, next_of}
 use Rattle.core_steps.specs.Calls.{MayAllBeCalled, has_command, start_machine}
 use Rattle.core_steps.specs.Machine.{index_of, word_of_next, core_after}
 use Rattle.core_steps.specs.Calls.{with_given, with_quitting, after_calls}
-use Rattle.core_steps.specs.Calls.{node_taken, commands_of, pursued, kept_by}
+use Rattle.core_steps.specs.Calls.{node_taken, pursued, kept_by}
 use Rattle.core_steps.specs.Stands.{IsLawful, IsStart, Stands, items_of}
 
 -- the machine at the start stands, with no history
@@ -134,10 +134,6 @@ EffectMayBeAsked =
     (core.view i).cmd
 
 -- ---- what a history says of the logs
-
--- the places of a list of items
-abbrev pub places_of : List Item → List ℕ
-places_of = map (λ (item : Item). item.entry.place)
 
 -- the places in the history are the numbers below the count of commits in order, those in all logs are the same
 -- numbers, and those in each log rise

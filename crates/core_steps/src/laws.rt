@@ -20,7 +20,8 @@ pub fn ended_seat_stands()
     ensures { EndedSeatStands }
 {}
 
-/// The items of all logs are the same, in the same order, after a seat is ended: its log goes under its number to seat 0.
+/// The items of all logs are the same, in the same order, after a seat is ended: its log goes under its number to seat
+/// 0.
 pub fn ended_seat_keeps_items()
     ensures { EndedSeatKeepsItems }
 {}
@@ -35,8 +36,8 @@ pub fn given_node_stands()
     ensures { GivenNodeStands }
 {}
 
-/// Giving up: the first node that is given back, at any take before the commit or where the commit comes next, keeps what
-/// stands.
+/// Giving up: the first node that is given back, at any take before the commit or where the commit comes next, keeps
+/// what stands.
 pub fn yielded_node_stands()
     ensures { YieldedNodeStands }
 {}
@@ -96,7 +97,8 @@ pub fn loaded_state_stands()
     ensures { LoadedStateStands }
 {}
 
-/// The first write node, with which the effect enters the view: it keeps what stands, where the effect is what the action gives on what was loaded.
+/// The first write node, with which the effect enters the view: it keeps what stands, where the effect is what the
+/// action gives on what was loaded.
 pub fn claimed_node_stands()
     ensures { ClaimedNodeStands }
 {}
@@ -106,8 +108,8 @@ pub fn stored_next_stands()
     ensures { StoredNextStands }
 {}
 
-/// The commit where the write nodes are held: the seat's command joins the history with its entry, at the place that the
-/// old count gives, and what stands is kept.
+/// The commit where the write nodes are held: the seat's command joins the history with its entry, at the place that
+/// the old count gives, and what stands is kept.
 pub fn committed_held_stands()
     ensures { CommittedHeldStands }
 {}

@@ -19,7 +19,8 @@ pub use machine_laws::{
 };
 pub use step::{Step, StepKind};
 pub use words::{
-    COUNT_WORD, PlayerWords, decode, encode, list_word, node_word, record_word, state_word,
+    COUNT_WORD, FIRST_LIST_WORD, FIRST_NODE_WORD, FIRST_RECORD_WORD, FIRST_STATE_WORD, PlayerWords,
+    decode, encode, list_word, node_word, record_word, state_word,
 };
 
 mod laws;

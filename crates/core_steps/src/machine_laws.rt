@@ -16,20 +16,20 @@ pub fn given_command_stands()
     ensures { GivenCommandStands }
 {}
 
-/// The next step of a seat, whichever it is, keeps what holds of the machine; where it commits, the seat's command with its
-/// entry is the last item of the history.
+/// The next step of a seat, whichever it is, keeps what holds of the machine; where it commits, the seat's command with
+/// its entry is the last item of the history.
 pub fn next_step_stands()
     ensures { NextStepStands }
 {}
 
-/// A seat that is asked to give up, at any take before its commit or where the commit comes next, keeps what holds of the
-/// machine.
+/// A seat that is asked to give up, at any take before its commit or where the commit comes next, keeps what holds of
+/// the machine.
 pub fn quitting_stands()
     ensures { QuittingStands }
 {}
 
-/// Whatever commands are given, whatever seats make their next steps in whatever order, and whatever seats give up: what
-/// the machine keeps holds.
+/// Whatever commands are given, whatever seats make their next steps in whatever order, and whatever seats give up:
+/// what the machine keeps holds.
 pub fn each_machine_stands()
     ensures { EachMachineStands }
 {}
@@ -54,9 +54,9 @@ pub fn steps_change_one_word()
     ensures { StepsChangeOneWord }
 {}
 
-/// A step of a seat, also a take that is refused or a load of the count, changes no view but that seat's; giving a seat a
-/// command, and asking it to give up, change no view and no word; making or ending a seat changes its own view and that of
-/// seat 0 alone.
+/// A step of a seat, also a take that is refused or a load of the count, changes no view but that seat's; giving a seat
+/// a command, and asking it to give up, change no view and no word; making or ending a seat changes its own view and
+/// that of seat 0 alone.
 pub fn steps_change_one_view()
     ensures { StepsChangeOneView }
 {}
@@ -66,7 +66,8 @@ pub fn refused_takes_change_their_record()
     ensures { RefusedTakesChangeTheirRecord }
 {}
 
-/// The own record of a command that isn't committed, once it is loaded whole, meets the action's condition on its region.
+/// The own record of a command that isn't committed, once it is loaded whole, meets the action's condition on its
+/// region.
 pub fn region_may_be_asked()
     ensures { RegionMayBeAsked }
 {}
@@ -91,32 +92,32 @@ pub fn count_is_within_the_rooms()
     ensures { CountIsWithinTheRooms }
 {}
 
-/// Each step is one on a word of the table: the step's index lies in the table, and there the word is found that the step
-/// loads or changes, before it and after it.
+/// Each step is one on a word of the table: the step's index lies in the table, and there the word is found that the
+/// step loads or changes, before it and after it.
 pub fn steps_have_their_word()
     ensures { StepsHaveTheirWord }
 {}
 
-/// A view has at most as many leaves as the tree, one list word for each node, one record for each slot and one state for
-/// each live id.
+/// A view has at most as many leaves as the tree, one list word for each node, one record for each slot and one state
+/// for each live id.
 pub fn each_view_reads_little()
     ensures { EachViewReadsLittle }
 {}
 
-/// Worked row: the first view. A seat's first step loads the first word of its player's record, which enters its view with the
-/// command.
+/// Worked row: the first view. A seat's first step loads the first word of its player's record, which enters its view
+/// with the command.
 pub fn first_view_is_right()
     ensures { FirstView }
 {}
 
-/// Worked row: two players share leaf 0. Once seat 0 holds node 15, seat 1's take of it is refused, and its view holds what
-/// it found: the node, its word, the own record and the leaves wanted.
+/// Worked row: two players share leaf 0. Once seat 0 holds node 15, seat 1's take of it is refused, and its view holds
+/// what it found: the node, its word, the own record and the leaves wanted.
 pub fn refused_take_is_right()
     ensures { NearRow }
 {}
 
-/// The commands of a seat's log, and the one that it still pursues, are those that it was given and didn't give up, each
-/// once and in its order.
+/// The commands of a seat's log, and the one that it still pursues, are those that it was given and didn't give up,
+/// each once and in its order.
 pub fn log_holds_the_commands_kept()
     ensures { LogHoldsTheCommandsKept }
 {}

@@ -1,4 +1,4 @@
-ghost use Rattle.std.specs.Prelude.{◌≡◌, ◌+◌, ◌*◌, ◌<◌, ◌^◌};
+ghost use Rattle.std.specs.Prelude.{◌≡◌, ◌+◌, ◌*◌, ◌^◌};
 ghost use Rattle.core_steps.specs.Cells.{node_index, links_index, body_index, state_index};
 ghost use Rattle.core_steps.specs.Encoding.{low_half, high_half, joined, words_of, record_from};
 
@@ -8,35 +8,44 @@ use entity_recs::{Kind, PLAYER_MAXS, PLAYER_MINS, Rec};
 /// The index of the count of commits.
 pub const COUNT_WORD: u16 = 0;
 
+/// The index of the word of node 0, the first of 31.
+pub const FIRST_NODE_WORD: u16 = 1;
+
+/// The index of the list word of node 0, the first of 31.
+pub const FIRST_LIST_WORD: u16 = 32;
+
+/// The index of the first of the five words of player 0, after which come those of the other 63.
+pub const FIRST_RECORD_WORD: u16 = 63;
+
+/// The index of the state word of id 0, the first of 256.
+pub const FIRST_STATE_WORD: u16 = 383;
+
 /// The index of the word of a node, 0 to 30.
 pub fn node_word(node: u8) -> u16
-    requires { node < 31 }
     ensures { result ≡ node_index node }
 {
-    1 + u16::from(node)
+    FIRST_NODE_WORD + u16::from(node)
 }
 
 /// The index of the list word of a node, 0 to 30, of which bit p is set where player p is linked there.
 pub fn list_word(node: u8) -> u16
-    requires { node < 31 }
     ensures { result ≡ links_index 31 node }
 {
-    32 + u16::from(node)
+    FIRST_LIST_WORD + u16::from(node)
 }
 
 /// The index of the first of the five words of a player, of slot 0 to 63.
 pub fn record_word(slot: u8) -> u16
-    requires { slot < 64 }
     ensures { result ≡ body_index 31 slot }
 {
-    63 + 5 * u16::from(slot)
+    FIRST_RECORD_WORD + 5 * u16::from(slot)
 }
 
 /// The index of the state word of an entity, of id 0 to 255.
 pub fn state_word(id: u8) -> u16
     ensures { result ≡ state_index 31 id }
 {
-    383 + u16::from(id)
+    FIRST_STATE_WORD + u16::from(id)
 }
 
 /// A player's record as five words: x and y; z and vx; vy and vz; score and seq, the low half first; and flags, ammo

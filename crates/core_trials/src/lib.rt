@@ -1,4 +1,5 @@
-//! Random schedules of the pure core, over moves with an item and a teleporter, against the same commands in a row.
+//! The pure core on trial: rows of steps, and random schedules of moves with an item and a teleporter against the same
+//! commands in a row.
 #![tactic(auto)]
 
 pub use errand::Errand;
@@ -10,7 +11,15 @@ mod places;
 #[cfg(test)]
 mod plain;
 #[cfg(test)]
+mod players;
+#[cfg(test)]
+mod rows;
+#[cfg(test)]
 mod schedule;
+#[cfg(test)]
+mod staying;
 mod taking;
 #[cfg(test)]
 mod tests;
+#[cfg(test)]
+mod words;

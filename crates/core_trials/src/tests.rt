@@ -1,66 +1,13 @@
 ghost use Rattle.std.specs.Prelude.{◌≡◌, ◌<◌, length, IfSome};
 
 use crate::plain::{outcome_in, put_effect};
+use crate::players::{FAR, FIRST, MIDDLE, NEAR};
 use crate::schedule::{begun, buttons_of, command, run_at_random};
 use crate::{Errand, ITEM};
-use arena_geo::Vec3;
 use core_machine::Core;
-use entity_recs::{Action, Effect, Entry, Kind, PLAYER_MAXS, PLAYER_MINS, Rec};
+use entity_recs::{Action, Effect, Entry, Rec};
 use std::alloc::Global;
 use std::test::Fail;
-
-/// A player at rest.
-const FIRST: Rec = Rec {
-    id: 0,
-    kind: Kind::Player,
-    origin: Vec3 {
-        x: 98_304,
-        y: 98_304,
-        z: 6_144,
-    },
-    mins: PLAYER_MINS,
-    maxs: PLAYER_MAXS,
-    vel: Vec3::ZERO,
-    flags: 0,
-    ammo: 0,
-    carry: 0,
-    score: 0,
-    seq: 0,
-    state: 0,
-};
-
-/// A player in the same leaf as the first.
-const NEAR: Rec = Rec {
-    id: 1,
-    origin: Vec3 {
-        x: 85_504,
-        y: 98_304,
-        z: 6_144,
-    },
-    ..FIRST
-};
-
-/// A player whose region shares with the first two only the boxes of the item and of the place of arrival.
-const FAR: Rec = Rec {
-    id: 2,
-    origin: Vec3 {
-        x: -98_304,
-        y: 98_304,
-        z: 6_144,
-    },
-    ..FIRST
-};
-
-/// A player at the middle of the tree, whose node is the root.
-const MIDDLE: Rec = Rec {
-    id: 3,
-    origin: Vec3 {
-        x: 0,
-        y: 0,
-        z: 6_144,
-    },
-    ..FIRST
-};
 
 /// The seat among four that has one entry, with this place.
 fn seat_at<A: Action>(core: &Core<A>, place: u64) -> Option<u8>

@@ -1,29 +1,9 @@
-use crate::{Cell, Seat, Store, Words};
+use crate::players::NEAR;
 use areanode::NODES;
-use arena_geo::Vec3;
+use core_machine::{Cell, Seat, Store, Words};
 use core_steps::encode;
-use entity_recs::{Cmd, Kind, PLAYER_MAXS, PLAYER_MINS, Rec};
+use entity_recs::Cmd;
 use std::test::Fail;
-
-/// The second near player of the worked rows.
-const PLAYER: Rec = Rec {
-    id: 1,
-    kind: Kind::Player,
-    origin: Vec3 {
-        x: 85_504,
-        y: 98_304,
-        z: 6_144,
-    },
-    mins: PLAYER_MINS,
-    maxs: PLAYER_MAXS,
-    vel: Vec3::ZERO,
-    flags: 0,
-    ammo: 0,
-    carry: 0,
-    score: 0,
-    seq: 0,
-    state: 0,
-};
 
 /// A command of 50 ms without a wish.
 const PLAIN: Cmd = Cmd {
@@ -45,7 +25,7 @@ fn first_word_of_the_own_record_is_loaded(rt: HostRuntime) -> Result<(), Fail> {
         body: [[0; 5]; 64],
         state: [0; 256],
     };
-    let body = encode(&PLAYER);
+    let body = encode(&NEAR);
     words.set_cell(Cell::Body(1, 0), body[0]);
     words.make_store(Store::Link(15), 1);
     assert_eq!(rt; words.links[15], 2);
