@@ -9,7 +9,7 @@ use mathlib.Core.Option as maybe
 use lib.ListN.{get_elem?}
 use Rattle.std.proofs.lemmas.Bool.{cases_Bool, cases_lt, true≢false, eqb-true, eqb-false, cond-true, cond-false}
 use Rattle.atomic_table.specs.Table.{State}
-use Rattle.entity_recs.specs.Histories.{Item}
+use Rattle.entity_recs.specs.Histories.{Item, places_of}
 use Rattle.core_steps.specs.Cells.{Cell, Body, State as StateCell, word_in, cell_index}
 use Rattle.core_steps.specs.Views.{Fixed, Point, Idle, stores_owed, Ended, View}
 use Rattle.core_steps.specs.Stands.{is_live_cell, value_in, owed_at, ended_log, is_ended, log_of, items_below, items_of, IsLogWithin, IsNumbered}
@@ -19,7 +19,7 @@ use Rattle.core_steps.proofs.Layouts.{layout_is_right}
 use Rattle.region_locks.specs.Sights.{SightView}
 use Rattle.region_locks.specs.Going.{IsAtRest}
 use Rattle.region_locks.specs.Rule.{IsRuled}
-use Rattle.region_locks.specs.Closing.{AreOthersEnded, AreEndedBelow, log_in, logs_in, places_of, Closes}
+use Rattle.region_locks.specs.Closing.{AreOthersEnded, AreEndedBelow, log_in, logs_in, Closes}
 use Rattle.region_locks.proofs.Readings.{HasRecordWords, record_read_is, is_entry}
 
 -- logs that agree below a number have the same items below it

@@ -1,5 +1,5 @@
 -- A pass commits.
-use Rattle.std.proofs.Common.{◌≡◌, ℕ, suc, ◌+◌, Bool, true, false, if◌then◌else◌, List, [], ◌∷◌, refl, ap, ◌∙◌, Option, Some, None, is_some, arith, IfSome}
+use Rattle.std.proofs.Common.{◌≡◌, ℕ, suc, ◌+◌, Bool, true, false, if◌then◌else◌, List, [], ◌∷◌, refl, ap, ◌∙◌, Option, Some, None, is_some, arith, IfSome, IsSomeAnd}
 use Rattle.std.proofs.lemmas.Bool.{false≢true}
 use Rattle.atomic_table.specs.Seated.{TableId}
 use Rattle.entity_recs.specs.declared.effect.Effect.{Effect}
@@ -12,13 +12,14 @@ use Rattle.core_steps.specs.Views.{Fixed, Point, Idle, Owning, Taking, Checking,
 use Rattle.core_steps.specs.Steps.{first_yield, next_give}
 use Rattle.core_steps.specs.Machine.{Next, beginning, CommitMove, resolving, quitting, committing, giving, index_of}
 use Rattle.core_machine.specs.Going.{view_found, word_left}
-use Rattle.region_locks.specs.Passes.{PassView, next_of_pass, is_commit, is_commit_next, IsPassOf}
+use Rattle.region_locks.specs.Passes.{PassView, first_effect, effect_in_hand, next_of_pass, is_commit, is_commit_next, IsPassOf}
 use Rattle.core_machine.specs.Nexts.{next_resolved, next_point, the_next}
 
 -- what is known of a pass whose next step commits
 pub record Commits (F : Fixed) (p : PassView) (next : Next) : Type 0 where
   pub index : index_of 31 p.view next ≡ 0
   pub left : (found : ℕ) → word_left F p.number p.view next found ≡ found + 1
+  pub has_effect : is_some (effect_in_hand p) ≡ true
 
 not_true : {R : Type 0} → false ≡ true → R
 not_true e = absurd (false≢true e)
@@ -38,21 +39,31 @@ quit_commits (Some node) e = not_true e
 one_more : (n : ℕ) → suc n ≡ n + 1
 one_more n = omega arith
 
+-- the first of two effects is there where either is
+kept_first : (kept in_view : Option Effect) → is_some kept ≡ true → is_some (first_effect kept in_view) ≡ true
+kept_first None in_view is = not_true is
+kept_first (Some e) in_view is = refl
+
+viewed_first : (kept in_view : Option Effect) → is_some in_view ≡ true → is_some (first_effect kept in_view) ≡ true
+viewed_first None in_view is = is
+viewed_first (Some e) in_view is = refl
+
 module _ (F : Fixed) (p : PassView) where
-  commits_with : (e : Effect) (nodes : List ℕ) → Commits F p (CommitMove e nodes)
-  commits_with e nodes = record { index = refl; left = one_more }
+  commits_with : (e : Effect) (nodes : List ℕ) → is_some (effect_in_hand p) ≡ true → Commits F p (CommitMove e nodes)
+  commits_with e nodes has = record { index = refl; left = one_more; has_effect = has }
 
-  commits_claimed : (o : Option Effect) (nodes : List ℕ) → is_commit_next (committing o nodes) ≡ true → Commits F p (the_next (committing o nodes))
-  commits_claimed None nodes e = not_true e
-  commits_claimed (Some f) nodes e = commits_with f nodes
+  commits_claimed : (o : Option Effect) (nodes : List ℕ) → p.view.effect ≡ o → is_commit_next (committing o nodes) ≡ true → Commits F p (the_next (committing o nodes))
+  commits_claimed None nodes same e = not_true e
+  commits_claimed (Some f) nodes same e = commits_with f nodes (viewed_first p.effect p.view.effect (ap (λ (o : Option Effect). is_some o) same))
 
-  commits_free : (f : Effect) (nodes : List ℕ) → is_commit (resolving f nodes) ≡ true → Commits F p (resolving f nodes)
-  commits_free f [] e = commits_with f []
-  commits_free f (node ∷ nodes) e = not_true e
+  commits_free : (f : Effect) (nodes : List ℕ) → is_some (effect_in_hand p) ≡ true → is_commit (resolving f nodes) ≡ true → Commits F p (resolving f nodes)
+  commits_free f [] has e = commits_with f [] has
+  commits_free f (node ∷ nodes) has e = not_true e
 
-  commits_resolved : (o : Option Effect) → is_commit_next (next_resolved F p.view o) ≡ true → Commits F p (the_next (next_resolved F p.view o))
-  commits_resolved None e = not_true e
-  commits_resolved (Some f) e = commits_free f (write_nodes F (record_read p.view.cmd.slot p.view.again) f) e
+  commits_resolved : (o : Option Effect) → p.effect ≡ o → is_commit_next (next_resolved F p.view o) ≡ true → Commits F p (the_next (next_resolved F p.view o))
+  commits_resolved None same e = not_true e
+  commits_resolved (Some f) same e =
+      commits_free f (write_nodes F (record_read p.view.cmd.slot p.view.again) f) (kept_first p.effect p.view.effect (ap (λ (o : Option Effect). is_some o) same)) e
 
   commits_at : (point : Point) → is_commit_next (next_point F p.view p.given p.effect point) ≡ true → Commits F p (the_next (next_point F p.view p.given p.effect point))
   commits_at Idle e = begin_commits p.given e
@@ -67,8 +78,8 @@ module _ (F : Fixed) (p : PassView) where
   commits_at (Leaving node plan) e = not_true e
   commits_at (Sensing []) e = not_true e
   commits_at (Sensing (id ∷ ids)) e = not_true e
-  commits_at Resolving e = commits_resolved p.effect e
-  commits_at (Claiming got []) e = commits_claimed p.view.effect got e
+  commits_at Resolving e = commits_resolved p.effect refl e
+  commits_at (Claiming got []) e = commits_claimed p.view.effect got refl e
   commits_at (Claiming got (node ∷ rest)) e = not_true e
   commits_at (Storing nodes []) e = not_true e
   commits_at (Storing nodes (store ∷ stores)) e = not_true e
@@ -92,7 +103,7 @@ abbrev entry_with : ℕ → ℕ → ℕ → Reply → Entry
 entry_with place slot seq reply = record { place = place; slot = slot; seq = seq; reply = reply }
 
 -- the entry of a commit, from what the pass holds
-pub entry_is : (place slot seq : ℕ) (c : Command) (reply : Reply) (o : Option Effect) → slot ≡ c.slot → seq ≡ c.seq → IfSome o (λ e. reply ≡ e.reply)
-    → IfSome o (λ e. entry_with place slot seq reply ≡ entry_of place c e)
-entry_is place slot seq c reply None same_slot same_seq is = tt
-entry_is place slot seq c reply (Some e) same_slot same_seq is = λ i. record { place = place; slot = same_slot i; seq = same_seq i; reply = is i }
+pub entry_is : (place slot seq : ℕ) (c : Command) (reply : Reply) (o : Option Effect) → slot ≡ c.slot → seq ≡ c.seq → is_some o ≡ true → IfSome o (λ e. reply ≡ e.reply)
+    → IsSomeAnd o (λ e. entry_with place slot seq reply ≡ entry_of place c e)
+entry_is place slot seq c reply None same_slot same_seq has is = not_true has
+entry_is place slot seq c reply (Some e) same_slot same_seq has is = λ i. record { place = place; slot = same_slot i; seq = same_seq i; reply = is i }

@@ -10,7 +10,7 @@ use Rattle.atomic_table.specs.Table.{Me}
 use Rattle.atomic_table.specs.Seated.{TableId}
 use Rattle.entity_recs.specs.declared.rec.Rec.{Rec}
 use Rattle.entity_recs.specs.Worlds.{World}
-use Rattle.entity_recs.specs.Histories.{Item}
+use Rattle.entity_recs.specs.Histories.{Item, places_of}
 use Rattle.move_journal.specs.Lists.{IsWorldOf}
 use Rattle.world_tree.specs.Live.{live_in}
 use Rattle.world_tree.specs.Worlds.{WorldView}
@@ -19,7 +19,7 @@ use Rattle.core_steps.specs.Stands.{ended_log, is_ended, items_below}
 use Rattle.region_locks.specs.Sights.{SightView, with_one_ended}
 use Rattle.region_locks.specs.Going.{IsAtRest}
 use Rattle.region_locks.specs.Passes.{PassView, sight_of, IsPassOf}
-use Rattle.region_locks.specs.Closing.{AreEndedBelow, HasNoCommand, log_in, logs_in, places_of, with_passes_ended, sight_at_end, Closes, IsClosed}
+use Rattle.region_locks.specs.Closing.{AreEndedBelow, HasNoCommand, log_in, logs_in, with_passes_ended, sight_at_end, Closes, IsClosed}
 use Rattle.region_locks.proofs.EndedPasses.{AllCanEnd, all_can_end}
 
 -- ---- what stays of a sight while others are ended into it

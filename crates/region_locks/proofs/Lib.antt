@@ -41,5 +41,3 @@ pub mod Finals
 pub mod EndedPasses
 pub mod EndedLogs
 pub mod RunWorlds
-pub mod Popped
-pub mod WordLoads

@@ -1,6 +1,6 @@
 -- What the calls that load a record, commit, resolve or are refused leave of a pass.
 use Rattle.std.proofs.Common.{◌≡◌, ◌≢◌, ℕ, suc, ◌+◌, ◌-◌, ◌*◌, ◌^◌, ◌<◌, ◌≤◌, Bool, true, false, if◌then◌else◌, List, [], ◌∷◌, ◌++◌, length, refl, sym, ap, ◌∙◌, subst, inl, inr, Option, Some, None, arith}
-use Rattle.std.specs.Prelude.{◌==◌, ◌&&◌, not, is_some, min, IfSome}
+use Rattle.std.specs.Prelude.{◌==◌, ◌&&◌, not, is_some, min, IsSomeAnd}
 use Rattle.std.proofs.lemmas.Bool.{cases_Bool, false≢true, true≢false, ne_eqb, cond-true, cond-false}
 use Rattle.atomic_table.specs.Seated.{TableId}
 use Rattle.entity_recs.specs.declared.effect.Effect.{Effect}
@@ -438,7 +438,7 @@ refused_view F view (Some YieldCount) node found x busy = cc
 module _ (F : Fixed) (passes : ℕ) (table : TableId) (p new : PassView) (going : IsGoingOn F passes table p) (own : IsPassOf F passes table new) where
   -- the pass commits
   pub commit_step : (e : Entry) → is_commit_next (next_of_pass F p) ≡ true → new ≡ pass_after F (the_next (next_of_pass F p)) e.place p → p.view.seen ≤ e.place
-      → IfSome (effect_in_hand p) (λ g. e ≡ entry_of e.place p.view.cmd g) → HasGoneOn F passes table p new (Committed e)
+      → IsSomeAnd (effect_in_hand p) (λ g. e ≡ entry_of e.place p.view.cmd g) → HasGoneOn F passes table p new (Committed e)
   commit_step e commits is seen entry =
       let at = next_pursued F p going.pursues in
       let of : IsCommitOf p (the_next (next_of_pass F p)) =
@@ -449,7 +449,7 @@ module _ (F : Fixed) (passes : ℕ) (table : TableId) (p new : PassView) (going 
       let kept : new.effect ≡ None = own.only_resolving (ap (λ (v : View). is_resolving v.point) view) in
       let hand : effect_in_hand new ≡ effect_in_hand p =
       ap (λ (o : Option Effect). first_effect o new.view.effect) kept ∙ ap (λ (v : View). v.effect) view ∙ sym of.hand in
-      let is_entry : e ≡ entry_of e.place p.view.cmd of.e = subst (λ (o : Option Effect). IfSome o (λ g. e ≡ entry_of e.place p.view.cmd g)) of.hand entry in
+      let is_entry : e ≡ entry_of e.place p.view.cmd of.e = subst (λ (o : Option Effect). IsSomeAnd o (λ g. e ≡ entry_of e.place p.view.cmd g)) of.hand entry in
       let none : new.given ≡ None = ap (λ (q : PassView). q.given) is in
       record {
         going = record { own = own; pursues = pursues; between = whole_between F new pursues (ap (λ (v : View). is_partial v v.point) view) };

@@ -12,14 +12,14 @@ use Rattle.entity_recs.specs.declared.rec.Rec.{Rec}
 use Rattle.entity_recs.specs.Bodies.{abs_of}
 use Rattle.areanode.specs.Words.{word_of}
 use Rattle.areanode.specs.Trees.{node_of}
-use Rattle.entity_recs.specs.Worlds.{nobody, record_with}
+use Rattle.entity_recs.specs.Worlds.{nobody, record_with, record_or_nobody}
 use Rattle.world_tree.specs.Live.{record_at, live_in, ids_of}
 use Rattle.world_tree.specs.Worlds.{WorldView, record_of, IsLinked}
 use Rattle.core_steps.specs.Encoding.{words_of, nth_word}
 use Rattle.core_steps.specs.Views.{has, home}
 use Rattle.core_steps.specs.Stands.{is_player}
 use Rattle.std.proofs.lemmas.Option.{same_Some, none-some}
-use Rattle.region_locks.specs.Starts.{record_or_nobody, world_at_start, fixed_of_world, home_of, start_word_at, AreStartWords}
+use Rattle.region_locks.specs.Starts.{world_at_start, fixed_of_world, home_of, start_word_at, AreStartWords}
 
 -- no record of these places has an id below theirs
 none_with : (start id : ℕ) (records : List (Option Rec)) → ((i : ℕ) (r : Rec) → record_at records i ≡ Some r → r.id ≡ start + i) → id < start

@@ -6,7 +6,7 @@ use Rattle.std.specs.List.Sorted.{IsPermutation, IsStrictlyIncreasing}
 use Rattle.entity_recs.specs.declared.rec.Rec.{Rec}
 use Rattle.entity_recs.specs.Records.{with_state}
 use Rattle.entity_recs.specs.Worlds.{World}
-use Rattle.entity_recs.specs.Histories.{Item, run, IsLegal}
+use Rattle.entity_recs.specs.Histories.{Item, run, IsLegal, places_of}
 use Rattle.move_journal.specs.Lists.{IsWorldOf}
 use Rattle.move_journal.specs.Logs.{LogView, log_view}
 use Rattle.world_tree.specs.Live.{live_in, IsEntry}
@@ -34,10 +34,6 @@ logs_in view = items_below view.made (log_in view)
 -- each number from 1 up to this count is that of a seat that was ended into seat 0
 abbrev pub AreEndedBelow : ℕ → View → Type 0
 AreEndedBelow passes view = (n : ℕ) → 0 < n → n < passes → is_ended view.ended n ≡ true
-
--- the places of a log's entries
-abbrev pub places_of : List Item → List ℕ
-places_of log = map (λ (item : Item). item.entry.place) log
 
 -- ---- the passes
 

@@ -32,8 +32,8 @@ pub record IsHand (place : places.Seat (Unit {0}) SightView) (number : ℕ) (mir
   pub carries : place.me.1 ≡ []
   pub mirrors : view_of mirror ≡ place.me.0.view
 
--- the step that comes next may be made where this word was found: the view is sound before and after it, and a count that
--- it adds 1 to doesn't wrap
+-- the step that comes next may be made where this word was found: the view is sound before and after it, and a count
+-- that it adds 1 to doesn't wrap
 pub record CanFollow (F : Fixed) (view : View) (given : Option Command) (quits : Bool) (effect : Option Effect)
     (found : ℕ) : Type 0 where
   pub comes : is_some (next_with F view given quits effect) ≡ true

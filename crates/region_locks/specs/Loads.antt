@@ -67,5 +67,6 @@ pub record IsLoading (F : Fixed) (passes : ℕ) (table : TableId) (old now : Pas
     Type 0 where
   pub own : IsPassOf F passes table now
   pub pass : now ≡ after_loads F old words
-  pub next : length words < 6 → player_word_next now.view (next_of_pass F now) ≡ Some (record { slot = slot; before = words })
+  pub next : length words < 6 → player_word_next now.view (next_of_pass F now) ≡ Some
+      (record { slot = slot; before = words })
   pub taken : length words ≡ 6 → F.takes (record_read slot words) ≡ true

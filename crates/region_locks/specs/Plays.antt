@@ -34,8 +34,8 @@ pub record Went (F : Fixed) (passes : ℕ) (next : Next) (before : SightView) (f
 abbrev pub SeatWent : Fixed → ℕ → Next → Me (Unit {0}) SightView → ℕ → Me (Unit {0}) SightView → Type 0
 SeatWent F passes next before found after = Went F passes next before.0 found after.0 × (after.1 ≡ before.1)
 
--- the seat went on, the node that the step takes is one of its leaves or visited by them, and where it isn't free, another
--- seat holds it
+-- the seat went on, the node that the step takes is one of its leaves or visited by them, and where it isn't free,
+-- another seat holds it
 pub record SeatTook (F : Fixed) (passes : ℕ) (next : Next) (before : Me (Unit {0}) SightView) (found : ℕ)
     (after : Me (Unit {0}) SightView) : Type 0 where
   pub went : SeatWent F passes next before found after

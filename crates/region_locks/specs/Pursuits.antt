@@ -58,8 +58,8 @@ pub record HasCommitted (old new : PassView) (e : Entry) : Type 0 where
   pub seen : new.view.seen ≡ e.place + 1
 
 -- the kept refused take, by a pass with this number: another pass with that number held the node, by the word that was
--- found; the leaves wanted are those of the command by the own record as loaded, and the node is one of them or an inner
--- node that they visit
+-- found; the leaves wanted are those of the command by the own record as loaded, and the node is one of them or an
+-- inner node that they visit
 pub record IsRefusedBy (F : Fixed) (passes own : ℕ) (c : Command) (r : Refused) (number leaves : ℕ) : Type 0 where
   pub held : IsHolderIn r.word r.node number leaves
   pub other : IsOtherHolder F passes own r.node number leaves
@@ -67,8 +67,8 @@ pub record IsRefusedBy (F : Fixed) (passes own : ℕ) (c : Command) (r : Refused
   pub is_wanted : nat_le 15 r.node ≡ true → has r.wanted r.node ≡ true
   pub is_visited : nat_le 15 r.node ≡ false → has (inner_visited F (region_in F c r.own)) r.node ≡ true
 
--- the take of this node was refused: the same pass with the same command keeps it as its last refused take, and one more
--- is counted
+-- the take of this node was refused: the same pass with the same command keeps it as its last refused take, and one
+-- more is counted
 pub record WasRefused (F : Fixed) (passes : ℕ) (table : TableId) (old new : PassView) (node number leaves : ℕ) : Type 0
   where
     pub going : IsGoingOn F passes table new
@@ -83,8 +83,8 @@ pub record WasRefused (F : Fixed) (passes : ℕ) (table : TableId) (old new : Pa
     pub cause : IsRefusedBy F passes new.number cmd r number leaves
     pub counted : new.view.refusals ≡ min (old.view.refusals + 1) (2 ^ 64 - 1)
 
--- the command in hand was given up: the same number, room, log and refused takes, no smaller count seen, and no command in
--- hand
+-- the command in hand was given up: the same number, room, log and refused takes, no smaller count seen, and no command
+-- in hand
 pub record HasGivenUp (old new : PassView) : Type 0 where
   pub number : new.number ≡ old.number
   pub room : new.view.room ≡ old.view.room
@@ -101,7 +101,8 @@ pub record HasGivenUp (old new : PassView) : Type 0 where
 abbrev pub effect_left : PassView → ℕ
 effect_left p = if is_busy (stage_of p.view.point) && not (is_some (effect_in_hand p)) then 1 else 0
 
--- the calls that are left at most, where no take is refused; a command that isn't begun has no word of its record loaded
+-- the calls that are left at most, where no take is refused; a command that isn't begun has no word of its record
+-- loaded
 abbrev pub calls_left : Fixed → PassView → ℕ
 calls_left F p =
     if is_some p.given then left_at F None 0 0 0 Owning + 1 else steps_left F (effect_in_hand p) p.view + effect_left p

@@ -1,21 +1,17 @@
 -- The world that a table begins with, as histories see it.
-use Rattle.std.specs.Prelude.{◌≡◌, ℕ, ◌<◌, Bool, true, List, [], if◌then◌else◌, length, slice_index, slice_index_or, Option, Some, None}
+use Rattle.std.specs.Prelude.{◌≡◌, ℕ, ◌<◌, Bool, true, List, [], if◌then◌else◌, length, slice_index, slice_index_or}
+use Rattle.std.specs.Prelude.{Option, Some, None}
 use Rattle.arena_geo.specs.Bounds.{Bounds}
 use Rattle.entity_recs.specs.declared.rec.Rec.{Rec}
 use Rattle.entity_recs.specs.declared.effect.Effect.{Effect}
 use Rattle.entity_recs.specs.Commands.{Command}
-use Rattle.entity_recs.specs.Worlds.{World, nobody, zero_vector, world_of}
+use Rattle.entity_recs.specs.Worlds.{World, record_or_nobody, zero_vector, world_of}
 use Rattle.world_tree.specs.Live.{live_in}
 use Rattle.world_tree.specs.Worlds.{WorldView}
 use Rattle.core_steps.specs.Cells.{word_at}
 use Rattle.core_steps.specs.Views.{Fixed, home}
 use Rattle.core_steps.specs.Stands.{is_player, start_words}
 use Rattle.core_machine.specs.Shown.{RulesView, fixed_of}
-
--- the record of a place, and nobody's where the place is empty
-abbrev pub record_or_nobody : Option Rec → Rec
-record_or_nobody None = nobody
-record_or_nobody (Some r) = r
 
 -- the world of the live records
 abbrev pub world_at_start : WorldView → World
@@ -47,7 +43,8 @@ fixed_of_world world = record nothing_fixed { tree = world.tree; start = world_a
 -- the node at which the player of this slot is linked, where it is live
 abbrev pub home_of : WorldView → ℕ → Option ℕ
 home_of world slot =
-    if is_player (fixed_of_world world) slot then Some (home (fixed_of_world world) ((world_at_start world).record_of slot))
+    if is_player (fixed_of_world world) slot
+    then Some (home (fixed_of_world world) ((world_at_start world).record_of slot))
     else None
 
 -- the nodes of all slots

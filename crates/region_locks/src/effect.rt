@@ -9,7 +9,8 @@ use entity_recs::{Action, Effect};
 impl<'a, A: Action> NodeTable<'a, A> {
     /// The effect of the command in hand, once all is read: what the action gives on what the pass has loaded.
     pub fn effect(&self, pass: &mut Pass<A>) -> Effect
-        requires own { IsPassOf (fixed_in A.takes A.region_of A.effect_of self.now) (length self.now.rooms) self.now.table pass.old }
+        requires own { IsPassOf (fixed_in A.takes A.region_of A.effect_of self.now) (length self.now.rooms)
+            self.now.table pass.old }
         requires read { pass.old.view.point ≡ Resolving }
         ensures effect { result ≡ effect_loaded (fixed_in A.takes A.region_of A.effect_of self.now) pass.old.view }
         ensures pass { pass.new ≡ pass.old }

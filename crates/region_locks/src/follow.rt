@@ -27,17 +27,19 @@ fn let_go(effect: &mut Option<Effect>)
     }
 }
 
-/// The seat in plain values makes the step that its place at the table has made. The effect is kept on until it enters the
-/// view, and let go where the command is given up.
+/// The seat in plain values makes the step that its place at the table has made. The effect is kept on until it enters
+/// the view, and let go where the command is given up.
 pub(crate) fn follow<A: Action>(
     rules: &Rules<A>,
     mirror: &mut Seat,
     effect: &mut Option<Effect>,
     found: u64,
 )
-    requires ready { CanFollow (fixed_of A.takes A.region_of A.effect_of rules.now) (view_of mirror.old) (given_of mirror.old) mirror.old.quits effect.old found }
+    requires ready { CanFollow (fixed_of A.takes A.region_of A.effect_of rules.now) (view_of mirror.old)
+        (given_of mirror.old) mirror.old.quits effect.old found }
     ensures view { let F = fixed_of A.takes A.region_of A.effect_of rules.now in view_of mirror.new
-        ≡ view_found F (view_of mirror.old) (the_next (next_with F (view_of mirror.old) (given_of mirror.old) mirror.old.quits effect.old)) found }
+        ≡ view_found F (view_of mirror.old) (the_next (next_with F (view_of mirror.old) (given_of mirror.old)
+        mirror.old.quits effect.old)) found }
     ensures given { mirror.new.given ≡ None }
     ensures quits { mirror.new.quits ≡ false }
     ensures effect { effect.new ≡ effect_kept (view_of mirror.new) effect.old }

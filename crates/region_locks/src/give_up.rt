@@ -27,12 +27,14 @@ impl<'a, A: Action> NodeTable<'a, A> {
         first_node(inner.as_slice(), leaves.as_slice())
     }
 
-    /// Gives up the command in hand, after a take that was refused: all that the pass holds is given back, and the command is
-    /// no longer in hand. It may be given again.
+    /// Gives up the command in hand, after a take that was refused: all that the pass holds is given back, and the
+    /// command is no longer in hand. It may be given again.
     pub fn give_up(&self, pass: &mut Pass<A>)
-        requires own { IsPassOf (fixed_in A.takes A.region_of A.effect_of self.now) (length self.now.rooms) self.now.table pass.old }
+        requires own { IsPassOf (fixed_in A.takes A.region_of A.effect_of self.now) (length self.now.rooms)
+            self.now.table pass.old }
         requires at_take { is_taking pass.old.view.point ≡ true }
-        ensures own { IsPassOf (fixed_in A.takes A.region_of A.effect_of self.now) (length self.now.rooms) self.now.table pass.new }
+        ensures own { IsPassOf (fixed_in A.takes A.region_of A.effect_of self.now) (length self.now.rooms)
+            self.now.table pass.new }
         ensures given_up { HasGivenUp pass.old pass.new }
     {
         self.quit(pass);

@@ -1,7 +1,7 @@
-ghost use Rattle.std.specs.Prelude.{◌≡◌, ◌≤◌, length, Some, IfOk, IfErr};
+ghost use Rattle.std.specs.Prelude.{◌≡◌, ◌≤◌, true, length, Some, IsSome, IfOk, IfErr};
 ghost use Rattle.region_locks.specs.Passes.{fixed_in};
 ghost use Rattle.region_locks.specs.Turns.{turn_of};
-ghost use Rattle.region_locks.specs.Pursuits.{IsGoingOn, HasGoneOn, WasRefused};
+ghost use Rattle.region_locks.specs.Pursuits.{IsGoingOn, HasGoneOn, WasRefused, is_resolved, entry_committed};
 
 use crate::pass::Pass;
 use crate::table::NodeTable;
@@ -19,10 +19,13 @@ fn few_states(effect: &Effect)
 impl<'a, A: Action> NodeTable<'a, A> {
     /// Takes the node, which is the pass's next step, or reports who holds it.
     fn take_or_refuse(&self, pass: &mut Pass<A>, node: u8) -> Result<Went, Refusal>
-        requires going { IsGoingOn (fixed_in A.takes A.region_of A.effect_of self.now) (length self.now.rooms) self.now.table pass.old }
+        requires going { IsGoingOn (fixed_in A.takes A.region_of A.effect_of self.now) (length self.now.rooms)
+            self.now.table pass.old }
         requires turn { turn_of (fixed_in A.takes A.region_of A.effect_of self.now) pass.old ≡ Some (Turn.Take node) }
-        ensures ok { IfOk result (λ w. HasGoneOn (fixed_in A.takes A.region_of A.effect_of self.now) (length self.now.rooms) self.now.table pass.old pass.new w) }
-        ensures err { IfErr result (λ r. WasRefused (fixed_in A.takes A.region_of A.effect_of self.now) (length self.now.rooms) self.now.table pass.old pass.new r.node r.holder.number r.holder.leaves) }
+        ensures ok { IfOk result (λ w. HasGoneOn (fixed_in A.takes A.region_of A.effect_of self.now)
+            (length self.now.rooms) self.now.table pass.old pass.new w) }
+        ensures err { IfErr result (λ r. WasRefused (fixed_in A.takes A.region_of A.effect_of self.now)
+            (length self.now.rooms) self.now.table pass.old pass.new r.node r.holder.number r.holder.leaves) }
     {
         match self.take(pass, node) {
             Ok(()) => Ok(Went::On),
@@ -32,9 +35,12 @@ impl<'a, A: Action> NodeTable<'a, A> {
 
     /// Keeps the effect of the command, once all is read.
     fn resolve_loaded(&self, pass: &mut Pass<A>) -> Went
-        requires going { IsGoingOn (fixed_in A.takes A.region_of A.effect_of self.now) (length self.now.rooms) self.now.table pass.old }
+        requires going { IsGoingOn (fixed_in A.takes A.region_of A.effect_of self.now) (length self.now.rooms)
+            self.now.table pass.old }
         requires turn { turn_of (fixed_in A.takes A.region_of A.effect_of self.now) pass.old ≡ Some Turn.Resolve }
-        ensures { HasGoneOn (fixed_in A.takes A.region_of A.effect_of self.now) (length self.now.rooms) self.now.table pass.old pass.new result }
+        ensures gone { HasGoneOn (fixed_in A.takes A.region_of A.effect_of self.now) (length self.now.rooms)
+            self.now.table pass.old pass.new result }
+        ensures said { is_resolved result ≡ true }
     {
         let effect = self.effect(pass);
         few_states(&effect);
@@ -42,12 +48,18 @@ impl<'a, A: Action> NodeTable<'a, A> {
         Went::Resolved
     }
 
-    /// Makes the call that comes next of the pass. `Err` exactly where it is a take that is refused; the pass may then try it again or give up.
+    /// Makes the call that comes next of the pass, and reports what it was. `Err` exactly where it is a take that is
+    /// refused; the pass may then try it again or give up.
     pub fn go_on(&self, pass: &mut Pass<A>, turn: Turn) -> Result<Went, Refusal>
-        requires going { IsGoingOn (fixed_in A.takes A.region_of A.effect_of self.now) (length self.now.rooms) self.now.table pass.old }
+        requires going { IsGoingOn (fixed_in A.takes A.region_of A.effect_of self.now) (length self.now.rooms)
+            self.now.table pass.old }
         requires turn { turn_of (fixed_in A.takes A.region_of A.effect_of self.now) pass.old ≡ Some turn }
-        ensures ok { IfOk result (λ w. HasGoneOn (fixed_in A.takes A.region_of A.effect_of self.now) (length self.now.rooms) self.now.table pass.old pass.new w) }
-        ensures err { IfErr result (λ r. WasRefused (fixed_in A.takes A.region_of A.effect_of self.now) (length self.now.rooms) self.now.table pass.old pass.new r.node r.holder.number r.holder.leaves) }
+        ensures ok { IfOk result (λ w. HasGoneOn (fixed_in A.takes A.region_of A.effect_of self.now)
+            (length self.now.rooms) self.now.table pass.old pass.new w) }
+        ensures err { IfErr result (λ r. WasRefused (fixed_in A.takes A.region_of A.effect_of self.now)
+            (length self.now.rooms) self.now.table pass.old pass.new r.node r.holder.number r.holder.leaves) }
+        ensures resolves { turn ≡ Turn.Resolve → IfOk result (λ w. is_resolved w ≡ true) }
+        ensures commits { turn ≡ Turn.Commit → IfOk result (λ w. IsSome (entry_committed w)) }
     {
         match turn {
             Turn::Take(node) => self.take_or_refuse(pass, node),

@@ -24,29 +24,3 @@ pub(crate) fn holder_in(word: u64, node: u8) -> Holder
         },
     }
 }
-
-#[cfg(test)]
-mod tests {
-    use super::*;
-    use std::test::Fail;
-
-    #[test]
-    fn word_names_its_holder(rt: HostRuntime) -> Result<(), Fail> {
-        let (near, inner) = (holder_in(257, 15), holder_in(260, 0));
-        assert_eq!(rt;
-            near,
-            Holder {
-                number: 0,
-                leaves: 1
-            }
-        );
-        assert_eq!(rt;
-            inner,
-            Holder {
-                number: 3,
-                leaves: 0
-            }
-        );
-        Ok(())
-    }
-}

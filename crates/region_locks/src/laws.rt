@@ -26,8 +26,8 @@ pub fn ended_seats_keep_the_rule()
     ensures { EndedSeatsKeepTheRule }
 {}
 
-/// Once all other seats are ended into seat 0, the items of all logs are those of a legal history, and the words of each
-/// live record are those of its run.
+/// Once all other seats are ended into seat 0, the items of all logs are those of a legal history, and the words of
+/// each live record are those of its run.
 pub fn closed_table_is_its_run()
     ensures { ClosedTableIsItsRun }
 {}

@@ -13,8 +13,6 @@ pub use went::{Refusal, Went};
 
 mod begin;
 mod close;
-#[cfg(test)]
-mod close_tests;
 mod commit;
 mod effect;
 mod follow;
@@ -37,14 +35,10 @@ mod resolve;
 mod seats;
 mod sight;
 mod start;
-#[cfg(test)]
-mod staying;
 mod steps;
 mod stores;
 mod table;
 mod take;
-#[cfg(test)]
-mod tests;
 mod turn;
 mod went;
 mod words;

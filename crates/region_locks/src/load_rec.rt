@@ -7,6 +7,7 @@ use crate::pass::Pass;
 use crate::table::NodeTable;
 use arrayvec::ArrayVec;
 use core_machine::{WordList, read_record};
+use core_steps::{record_word, state_word};
 use entity_recs::{Action, Rec};
 
 /// The index of the `k`-th of the six words of a player's record: its five words, and after them its state word.
@@ -15,19 +16,23 @@ fn index_of_word(slot: u8, k: usize) -> usize
     ensures { result ≡ cell_index 31 (cell_of slot k) }
 {
     if k < 5 {
-        63 + 5 * usize::from(slot) + k
+        usize::from(record_word(slot)) + k
     } else {
-        383 + usize::from(slot)
+        usize::from(state_word(slot))
     }
 }
 
 impl<'a, A: Action> NodeTable<'a, A> {
-    /// Loads the record of the player in this slot, which are the pass's next six steps: the own record for a command that was
-    /// given, the own record again once all leaves are held, or another player's under the node that is visited.
+    /// Loads the record of the player in this slot, which are the pass's next six steps: the own record for a command
+    /// that was given, the own record again once all leaves are held, or another player's under the node that is
+    /// visited.
     pub fn load_rec(&self, pass: &mut Pass<A>, slot: u8) -> Rec
-        requires own { IsPassOf (fixed_in A.takes A.region_of A.effect_of self.now) (length self.now.rooms) self.now.table pass.old }
-        requires next { record_loaded_next pass.old.view (next_of_pass (fixed_in A.takes A.region_of A.effect_of self.now) pass.old) ≡ Some slot }
-        ensures own { IsPassOf (fixed_in A.takes A.region_of A.effect_of self.now) (length self.now.rooms) self.now.table pass.new }
+        requires own { IsPassOf (fixed_in A.takes A.region_of A.effect_of self.now) (length self.now.rooms)
+            self.now.table pass.old }
+        requires next { record_loaded_next pass.old.view
+            (next_of_pass (fixed_in A.takes A.region_of A.effect_of self.now) pass.old) ≡ Some slot }
+        ensures own { IsPassOf (fixed_in A.takes A.region_of A.effect_of self.now) (length self.now.rooms)
+            self.now.table pass.new }
         ensures loaded { HasLoaded (fixed_in A.takes A.region_of A.effect_of self.now) pass.old pass.new slot result }
     {
         let mut words: WordList = ArrayVec::new();

@@ -20,10 +20,13 @@ pub(crate) fn load_next<A: Action>(
     seat: &mut Place,
     word: usize,
 ) -> u64
-    requires ready { IsReady (fixed_by A.takes A.region_of A.effect_of words.now.key.action.value words.now.key.world.value) (length words.now.key.rooms.items) words.now.table_id about.now.value seat.old word }
+    requires ready { IsReady (fixed_by A.takes A.region_of A.effect_of words.now.key.action.value
+        words.now.key.world.value) (length words.now.key.rooms.items) words.now.table_id about.now.value seat.old word }
     requires wide { words.now.table_id.words ≡ 639 }
-    requires left { (found : ℕ) → word_after (fixed_by A.takes A.region_of A.effect_of words.now.key.action.value words.now.key.world.value) about.now.value found ≡ found }
-    ensures gone { HasGone (fixed_by A.takes A.region_of A.effect_of words.now.key.action.value words.now.key.world.value) (length words.now.key.rooms.items) about.now.value result seat.new seat.old.me.1 }
+    requires left { (found : ℕ) → word_after (fixed_by A.takes A.region_of A.effect_of words.now.key.action.value
+        words.now.key.world.value) about.now.value found ≡ found }
+    ensures gone { HasGone (fixed_by A.takes A.region_of A.effect_of words.now.key.action.value
+        words.now.key.world.value) (length words.now.key.rooms.items) about.now.value result seat.new seat.old.me.1 }
 {
     load_as::<A, Brand>(words, about, seat, word)
 }
@@ -36,11 +39,20 @@ pub(crate) fn store_next<A: Action>(
     word: usize,
     new: u64,
 )
-    requires ready { IsReady (fixed_by A.takes A.region_of A.effect_of words.now.key.action.value words.now.key.world.value) (length words.now.key.rooms.items) words.now.table_id about.now.value seat.old word }
+    requires ready { IsReady (fixed_by A.takes A.region_of A.effect_of words.now.key.action.value
+        words.now.key.world.value) (length words.now.key.rooms.items) words.now.table_id about.now.value seat.old word }
     requires wide { words.now.table_id.words ≡ 639 }
-    requires left { (found : ℕ) → word_after (fixed_by A.takes A.region_of A.effect_of words.now.key.action.value words.now.key.world.value) about.now.value found ≡ new }
-    requires blind { (found : ℕ) → view_found (fixed_by A.takes A.region_of A.effect_of words.now.key.action.value words.now.key.world.value) about.now.value.view (the_next (next_of_pass (fixed_by A.takes A.region_of A.effect_of words.now.key.action.value words.now.key.world.value) about.now.value)) found ≡ view_found (fixed_by A.takes A.region_of A.effect_of words.now.key.action.value words.now.key.world.value) about.now.value.view (the_next (next_of_pass (fixed_by A.takes A.region_of A.effect_of words.now.key.action.value words.now.key.world.value) about.now.value)) new }
-    ensures gone { HasGone (fixed_by A.takes A.region_of A.effect_of words.now.key.action.value words.now.key.world.value) (length words.now.key.rooms.items) about.now.value new seat.new seat.old.me.1 }
+    requires left { (found : ℕ) → word_after (fixed_by A.takes A.region_of A.effect_of words.now.key.action.value
+        words.now.key.world.value) about.now.value found ≡ new }
+    requires blind { (found : ℕ) → view_found (fixed_by A.takes A.region_of A.effect_of words.now.key.action.value
+        words.now.key.world.value) about.now.value.view
+        (the_next (next_of_pass (fixed_by A.takes A.region_of A.effect_of words.now.key.action.value
+        words.now.key.world.value) about.now.value)) found ≡ view_found (fixed_by A.takes A.region_of A.effect_of
+        words.now.key.action.value words.now.key.world.value) about.now.value.view
+        (the_next (next_of_pass (fixed_by A.takes A.region_of A.effect_of words.now.key.action.value
+        words.now.key.world.value) about.now.value)) new }
+    ensures gone { HasGone (fixed_by A.takes A.region_of A.effect_of words.now.key.action.value
+        words.now.key.world.value) (length words.now.key.rooms.items) about.now.value new seat.new seat.old.me.1 }
 {
     store_as::<A, Brand>(words, about, seat, word, new);
 }
@@ -53,12 +65,21 @@ pub(crate) fn exchange_next<A: Action>(
     word: usize,
     new: u64,
 ) -> u64
-    requires ready { IsReady (fixed_by A.takes A.region_of A.effect_of words.now.key.action.value words.now.key.world.value) (length words.now.key.rooms.items) words.now.table_id about.now.value seat.old word }
+    requires ready { IsReady (fixed_by A.takes A.region_of A.effect_of words.now.key.action.value
+        words.now.key.world.value) (length words.now.key.rooms.items) words.now.table_id about.now.value seat.old word }
     requires wide { words.now.table_id.words ≡ 639 }
-    requires left { (found : ℕ) → word_after (fixed_by A.takes A.region_of A.effect_of words.now.key.action.value words.now.key.world.value) about.now.value found ≡ (if found == 0 then new else found) }
-    ensures gone { HasGone (fixed_by A.takes A.region_of A.effect_of words.now.key.action.value words.now.key.world.value) (length words.now.key.rooms.items) about.now.value result seat.new seat.old.me.1 }
-    ensures held { IsFoundHeld (fixed_by A.takes A.region_of A.effect_of words.now.key.action.value words.now.key.world.value) (length words.now.key.rooms.items) about.now.value.number (the_next (next_of_pass (fixed_by A.takes A.region_of A.effect_of words.now.key.action.value words.now.key.world.value) about.now.value)) result }
-    ensures reached { AreReached (fixed_by A.takes A.region_of A.effect_of words.now.key.action.value words.now.key.world.value) about.now.value.view (the_next (next_of_pass (fixed_by A.takes A.region_of A.effect_of words.now.key.action.value words.now.key.world.value) about.now.value)) }
+    requires left { (found : ℕ) → word_after (fixed_by A.takes A.region_of A.effect_of words.now.key.action.value
+        words.now.key.world.value) about.now.value found ≡ (if found == 0 then new else found) }
+    ensures gone { HasGone (fixed_by A.takes A.region_of A.effect_of words.now.key.action.value
+        words.now.key.world.value) (length words.now.key.rooms.items) about.now.value result seat.new seat.old.me.1 }
+    ensures held { IsFoundHeld (fixed_by A.takes A.region_of A.effect_of words.now.key.action.value
+        words.now.key.world.value) (length words.now.key.rooms.items) about.now.value.number
+        (the_next (next_of_pass (fixed_by A.takes A.region_of A.effect_of words.now.key.action.value
+        words.now.key.world.value) about.now.value)) result }
+    ensures reached { AreReached (fixed_by A.takes A.region_of A.effect_of words.now.key.action.value
+        words.now.key.world.value) about.now.value.view
+        (the_next (next_of_pass (fixed_by A.takes A.region_of A.effect_of words.now.key.action.value
+        words.now.key.world.value) about.now.value)) }
 {
     exchange_as::<A, Brand>(words, about, seat, word, new)
 }
@@ -70,11 +91,14 @@ pub(crate) fn count_next<A: Action>(
     seat: &mut Place,
     word: usize,
 ) -> u64
-    requires ready { IsReady (fixed_by A.takes A.region_of A.effect_of words.now.key.action.value words.now.key.world.value) (length words.now.key.rooms.items) words.now.table_id about.now.value seat.old word }
+    requires ready { IsReady (fixed_by A.takes A.region_of A.effect_of words.now.key.action.value
+        words.now.key.world.value) (length words.now.key.rooms.items) words.now.table_id about.now.value seat.old word }
     requires wide { words.now.table_id.words ≡ 639 }
     requires count { word ≡ 0 }
-    requires left { (found : ℕ) → word_after (fixed_by A.takes A.region_of A.effect_of words.now.key.action.value words.now.key.world.value) about.now.value found ≡ found + 1 }
-    ensures gone { HasGone (fixed_by A.takes A.region_of A.effect_of words.now.key.action.value words.now.key.world.value) (length words.now.key.rooms.items) about.now.value result seat.new seat.old.me.1 }
+    requires left { (found : ℕ) → word_after (fixed_by A.takes A.region_of A.effect_of words.now.key.action.value
+        words.now.key.world.value) about.now.value found ≡ found + 1 }
+    ensures gone { HasGone (fixed_by A.takes A.region_of A.effect_of words.now.key.action.value
+        words.now.key.world.value) (length words.now.key.rooms.items) about.now.value result seat.new seat.old.me.1 }
     ensures seen { about.now.value.view.seen ≤ result }
 {
     count_as::<A, Brand>(words, about, seat, word)
@@ -88,11 +112,14 @@ pub(crate) fn clear_next<A: Action>(
     word: usize,
     slot: u8,
 ) -> u64
-    requires ready { IsReady (fixed_by A.takes A.region_of A.effect_of words.now.key.action.value words.now.key.world.value) (length words.now.key.rooms.items) words.now.table_id about.now.value seat.old word }
+    requires ready { IsReady (fixed_by A.takes A.region_of A.effect_of words.now.key.action.value
+        words.now.key.world.value) (length words.now.key.rooms.items) words.now.table_id about.now.value seat.old word }
     requires wide { words.now.table_id.words ≡ 639 }
     requires slot { slot < 64 }
-    requires left { (found : ℕ) → word_after (fixed_by A.takes A.region_of A.effect_of words.now.key.action.value words.now.key.world.value) about.now.value found ≡ without_bit found slot }
-    ensures gone { HasGone (fixed_by A.takes A.region_of A.effect_of words.now.key.action.value words.now.key.world.value) (length words.now.key.rooms.items) about.now.value result seat.new seat.old.me.1 }
+    requires left { (found : ℕ) → word_after (fixed_by A.takes A.region_of A.effect_of words.now.key.action.value
+        words.now.key.world.value) about.now.value found ≡ without_bit found slot }
+    ensures gone { HasGone (fixed_by A.takes A.region_of A.effect_of words.now.key.action.value
+        words.now.key.world.value) (length words.now.key.rooms.items) about.now.value result seat.new seat.old.me.1 }
 {
     clear_as::<A, Brand>(words, about, seat, word, slot)
 }
@@ -105,11 +132,14 @@ pub(crate) fn set_next<A: Action>(
     word: usize,
     slot: u8,
 ) -> u64
-    requires ready { IsReady (fixed_by A.takes A.region_of A.effect_of words.now.key.action.value words.now.key.world.value) (length words.now.key.rooms.items) words.now.table_id about.now.value seat.old word }
+    requires ready { IsReady (fixed_by A.takes A.region_of A.effect_of words.now.key.action.value
+        words.now.key.world.value) (length words.now.key.rooms.items) words.now.table_id about.now.value seat.old word }
     requires wide { words.now.table_id.words ≡ 639 }
     requires slot { slot < 64 }
-    requires left { (found : ℕ) → word_after (fixed_by A.takes A.region_of A.effect_of words.now.key.action.value words.now.key.world.value) about.now.value found ≡ with_bit found slot }
-    ensures gone { HasGone (fixed_by A.takes A.region_of A.effect_of words.now.key.action.value words.now.key.world.value) (length words.now.key.rooms.items) about.now.value result seat.new seat.old.me.1 }
+    requires left { (found : ℕ) → word_after (fixed_by A.takes A.region_of A.effect_of words.now.key.action.value
+        words.now.key.world.value) about.now.value found ≡ with_bit found slot }
+    ensures gone { HasGone (fixed_by A.takes A.region_of A.effect_of words.now.key.action.value
+        words.now.key.world.value) (length words.now.key.rooms.items) about.now.value result seat.new seat.old.me.1 }
 {
     set_as::<A, Brand>(words, about, seat, word, slot)
 }

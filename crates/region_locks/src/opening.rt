@@ -70,8 +70,10 @@ pub(crate) fn lay_table<A: Action>(
     requires rooms { (0 < length room.now) × (length room.now ≤ 16) }
     requires taken { All (λ r. A.takes action.now r ≡ true) (live_in world.now.records) }
     ensures words { IfOk result (λ t. (t.0.shared.table_id.words ≡ 639) × (t.0.shared.table_id.slots ≡ 0)) }
-    ensures key { IfOk result (λ t. (t.0.shared.key.action.value ≡ action.now) × (t.0.shared.key.world.value ≡ world.now) × (t.0.shared.key.rooms.items ≡ room.now)) }
-    ensures seat { IfOk result (λ t. (t.1.table_id ≡ t.0.shared.table_id) × (t.1.me ≡ (first_sight (slice_index room.now 0), []))) }
+    ensures key { IfOk result (λ t. (t.0.shared.key.action.value ≡ action.now)
+        × (t.0.shared.key.world.value ≡ world.now) × (t.0.shared.key.rooms.items ≡ room.now)) }
+    ensures seat { IfOk result (λ t. (t.1.table_id ≡ t.0.shared.table_id)
+        × (t.1.me ≡ (first_sight (slice_index room.now 0), []))) }
 {
     let words = words_at_start(alloc, world)?;
     let _tree = world.tree();

@@ -7,6 +7,7 @@ ghost use Rattle.core_machine.specs.Seats.{view_of, hand_of};
 ghost use Rattle.region_locks.specs.Passes as passes;
 
 use core_machine::{Cell, Point, Seat, Store};
+use core_steps::{FIRST_STATE_WORD, record_word};
 
 /// The node at which the own bit is cleared or set by the first of these stores, and 0 where it is none of the bit.
 fn bit_of_first(stores: &[Store]) -> u8
@@ -33,8 +34,8 @@ fn index_of_cell(cell: Cell) -> usize
     ensures { result ≡ cell_index 31 (cell_in cell) }
 {
     match cell {
-        Cell::Body(slot, k) => 63 + 5 * usize::from(slot) + usize::from(k),
-        Cell::State(id) => 383 + usize::from(id),
+        Cell::Body(slot, k) => usize::from(record_word(slot)) + usize::from(k),
+        Cell::State(id) => usize::from(FIRST_STATE_WORD) + usize::from(id),
     }
 }
 

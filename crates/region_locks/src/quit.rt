@@ -9,10 +9,11 @@ use core_steps::Step;
 use entity_recs::Action;
 
 impl<'a, A: Action> NodeTable<'a, A> {
-    /// The pass's next step, by its kind and its word. `None` exactly where the pass has no command in hand, or where `resolve`
-    /// is to be called next.
+    /// The pass's next step, by its kind and its word. `None` exactly where the pass has no command in hand, or where
+    /// `resolve` is to be called next.
     pub fn next(&self, pass: &Pass<A>) -> Option<Step>
-        requires own { IsPassOf (fixed_in A.takes A.region_of A.effect_of self.now) (length self.now.rooms) self.now.table pass.now }
+        requires own { IsPassOf (fixed_in A.takes A.region_of A.effect_of self.now) (length self.now.rooms)
+            self.now.table pass.now }
         ensures step { result ≡ next_step (fixed_in A.takes A.region_of A.effect_of self.now) pass.now }
         ensures some { is_some result ≡ has_next_step pass.now }
     {
@@ -22,21 +23,25 @@ impl<'a, A: Action> NodeTable<'a, A> {
 
     /// Whether the pass holds no node.
     fn holds_nothing(&self, pass: &Pass<A>) -> bool
-        ensures { result ≡ not (is_some (first_yield (fixed_in A.takes A.region_of A.effect_of self.now) pass.now.view)) }
+        ensures { result ≡ not (is_some (first_yield (fixed_in A.takes A.region_of A.effect_of self.now)
+            pass.now.view)) }
     {
         pass.mirror.inner_held(&self.rules).is_empty() && pass.mirror.leaves_held().is_empty()
     }
 
-    /// Gives up the command in hand, after a take that was refused. What the pass holds is to be given back next, inner nodes
-    /// and then leaves, each in rising number, and with the last of them the command is no longer in hand. Where the pass holds
-    /// nothing the count is loaded at once, and the command is then no longer in hand. Giving up may begin at any take before
-    /// the commit; a pass that was not refused may do so too.
+    /// Gives up the command in hand, after a take that was refused. What the pass holds is to be given back next, inner
+    /// nodes and then leaves, each in rising number, and with the last of them the command is no longer in hand. Where
+    /// the pass holds nothing the count is loaded at once, and the command is then no longer in hand. Giving up may
+    /// begin at any take before the commit; a pass that was not refused may do so too.
     pub fn quit(&self, pass: &mut Pass<A>)
-        requires own { IsPassOf (fixed_in A.takes A.region_of A.effect_of self.now) (length self.now.rooms) self.now.table pass.old }
+        requires own { IsPassOf (fixed_in A.takes A.region_of A.effect_of self.now) (length self.now.rooms)
+            self.now.table pass.old }
         requires at_take { is_taking pass.old.view.point ≡ true }
-        ensures own { IsPassOf (fixed_in A.takes A.region_of A.effect_of self.now) (length self.now.rooms) self.now.table pass.new }
+        ensures own { IsPassOf (fixed_in A.takes A.region_of A.effect_of self.now) (length self.now.rooms)
+            self.now.table pass.new }
         ensures pass { HasQuit (fixed_in A.takes A.region_of A.effect_of self.now) pass.old pass.new }
-        ensures free { is_some (first_yield (fixed_in A.takes A.region_of A.effect_of self.now) pass.old.view) ≡ false → MayBegin pass.new }
+        ensures free { is_some (first_yield (fixed_in A.takes A.region_of A.effect_of self.now) pass.old.view) ≡ false
+            → MayBegin pass.new }
     {
         let holds_nothing = self.holds_nothing(pass);
         pass.mirror.quits = true;

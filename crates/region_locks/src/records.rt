@@ -5,25 +5,19 @@ ghost use Rattle.world_tree.specs.Live.{IsEntry};
 ghost use Rattle.world_tree.specs.Worlds.{record_of, IsLinked};
 ghost use Rattle.region_locks.specs.Closing.{body_in, state_in, record_in};
 
-use core_steps::{PlayerWords, decode};
+use core_steps::{FIRST_RECORD_WORD, FIRST_STATE_WORD, PlayerWords, decode};
 use entity_recs::Rec;
 use world_tree::World;
 
 /// The number of words of a table.
 pub(crate) const TABLE_WORDS: usize = 639;
 
-/// The index of the first of the five words of player 0.
-const FIRST_BODY: usize = 63;
-
-/// The index of the state word of id 0.
-const FIRST_STATE: usize = 383;
-
 /// The five words of the record of the player in this slot.
 fn body_in(words: &[u64; TABLE_WORDS], slot: usize) -> PlayerWords
     requires { slot < 64 }
     ensures { result ≡ body_in words.now slot }
 {
-    let at = FIRST_BODY + 5 * slot;
+    let at = usize::from(FIRST_RECORD_WORD) + 5 * slot;
     [
         words[at],
         words[at + 1],
@@ -39,7 +33,7 @@ fn record_in(words: &[u64; TABLE_WORDS], r: &Rec) -> Rec
     ensures { result ≡ record_in words.now r.now }
 {
     let id = usize::from(r.id);
-    let state = words[FIRST_STATE + id];
+    let state = words[usize::from(FIRST_STATE_WORD) + id];
     if id < 64 {
         decode(r.id, &body_in(words, id), state)
     } else {

@@ -7,14 +7,16 @@ use crate::table::NodeTable;
 use entity_recs::{Action, Effect};
 
 impl<'a, A: Action> NodeTable<'a, A> {
-    /// Gives the pass the effect of its command, which it keeps: what the action gives on what the pass has loaded. It is no
-    /// step on a word. The write nodes, the entry and the stores follow from it.
+    /// Gives the pass the effect of its command, which it keeps: what the action gives on what the pass has loaded. It
+    /// is no step on a word. The write nodes, the entry and the stores follow from it.
     pub fn resolve(&self, pass: &mut Pass<A>, e: Effect)
-        requires own { IsPassOf (fixed_in A.takes A.region_of A.effect_of self.now) (length self.now.rooms) self.now.table pass.old }
+        requires own { IsPassOf (fixed_in A.takes A.region_of A.effect_of self.now) (length self.now.rooms)
+            self.now.table pass.old }
         requires read { pass.old.view.point ≡ Resolving }
         requires once { pass.old.effect ≡ None }
         requires effect { e ≡ effect_loaded (fixed_in A.takes A.region_of A.effect_of self.now) pass.old.view }
-        ensures own { IsPassOf (fixed_in A.takes A.region_of A.effect_of self.now) (length self.now.rooms) self.now.table pass.new }
+        ensures own { IsPassOf (fixed_in A.takes A.region_of A.effect_of self.now) (length self.now.rooms)
+            self.now.table pass.new }
         ensures pass { pass.new ≡ record pass.old { effect = Some e } }
     {
         pass.effect = Some(e);

@@ -3,9 +3,12 @@ ghost use Rattle.areanode.specs.Words.{word_of};
 ghost use Rattle.core_steps.specs.Encoding.{words_of, nth_word};
 ghost use Rattle.core_steps.specs.Stands.{is_player};
 ghost use Rattle.core_steps.specs.Views.{home};
-ghost use Rattle.region_locks.specs.Starts.{world_at_start, fixed_of_world, home_of, AreHomes, start_word_at, AreStartWords};
+ghost use Rattle.region_locks.specs.Starts.{world_at_start, fixed_of_world, home_of, AreHomes, start_word_at};
+ghost use Rattle.region_locks.specs.Starts.{AreStartWords};
 
-use core_steps::encode;
+use crate::records::TABLE_WORDS;
+use core_machine::with_top_bit;
+use core_steps::{FIRST_LIST_WORD, FIRST_RECORD_WORD, FIRST_STATE_WORD, encode};
 use entity_recs::abs_box;
 use std::alloc::{AllocError, Global};
 use world_tree::World;
@@ -45,19 +48,11 @@ fn is_home(home: Option<u8>, node: u8) -> bool
     }
 }
 
-/// The word with the bit of a number that is above all its bits, where that bit is to be set.
-pub(crate) fn with_top_bit(word: u64, slot: u8, is_set: bool) -> u64
-    requires slot { slot < 64 }
-    requires below { word < 2 ^ slot }
-    ensures { result ≡ (if is_set then 2 ^ slot else 0) + word }
-{
-    if is_set { word + (1 << slot) } else { word }
-}
-
 /// The list word of a node at the start: bit p is set where player p is live and linked there.
 fn links_at_start(world: &World, homes: &[Option<u8>; SLOTS], node: u8) -> u64
     requires homes { AreHomes world.now homes.now }
-    ensures { result ≡ word_of 64 (λ slot. is_player (fixed_of_world world.now) slot && (node == home (fixed_of_world world.now) ((world_at_start world.now).record_of slot))) }
+    ensures { result ≡ word_of 64 (λ slot. is_player (fixed_of_world world.now) slot &&
+        (node == home (fixed_of_world world.now) ((world_at_start world.now).record_of slot))) }
 {
     let _ = world;
     let mut word = 0;
@@ -94,14 +89,17 @@ fn word_at_start(world: &World, homes: &[Option<u8>; SLOTS], index: usize) -> u6
     requires index { index < 639 }
     ensures { result ≡ start_word_at world.now index }
 {
-    if index < 32 {
+    let lists = usize::from(FIRST_LIST_WORD);
+    let records = usize::from(FIRST_RECORD_WORD);
+    let states = usize::from(FIRST_STATE_WORD);
+    if index < lists {
         0
-    } else if index < 63 {
-        links_at_start(world, homes, (index - 32) as u8)
-    } else if index < 383 {
-        body_at_start(world, ((index - 63) / 5) as u8, (index - 63) % 5)
+    } else if index < records {
+        links_at_start(world, homes, (index - lists) as u8)
+    } else if index < states {
+        body_at_start(world, ((index - records) / 5) as u8, (index - records) % 5)
     } else {
-        state_at_start(world, (index - 383) as u16)
+        state_at_start(world, (index - states) as u16)
     }
 }
 
@@ -110,8 +108,8 @@ pub(crate) fn words_at_start(alloc: Global, world: &World) -> Result<Vec<u64>, A
     ensures { IfOk result (λ v. AreStartWords world.now v.items) }
 {
     let homes = homes_at_start(world);
-    let mut words = Vec::with_capacity(alloc, 639)?;
-    for index in 0..639usize {
+    let mut words = Vec::with_capacity(alloc, TABLE_WORDS)?;
+    for index in 0..TABLE_WORDS {
         words.push(word_at_start(world, &homes, index))?;
     }
     Ok(words)

@@ -20,7 +20,8 @@ pub(crate) fn load_as<A: Action, N: Planned>(
     word: usize,
 ) -> u64
     requires table { (seat.old.table_id ≡ words.now.table_id) × (words.now.table_id.words ≡ 639) }
-    requires fixed { N.fixed ≡ fixed_by A.takes A.region_of A.effect_of words.now.key.action.value words.now.key.world.value }
+    requires fixed { N.fixed ≡ fixed_by A.takes A.region_of A.effect_of words.now.key.action.value
+        words.now.key.world.value }
     requires passes { N.passes ≡ length words.now.key.rooms.items }
     requires sound_sight { IsSoundSight N.fixed N.passes seat.old.me.0 }
     requires next { MayGo N.fixed N.passes seat.old.me.0.number seat.old.me.0.view N.given N.quits N.next }
@@ -42,13 +43,15 @@ pub(crate) fn store_as<A: Action, N: Planned>(
     new: u64,
 )
     requires table { (seat.old.table_id ≡ words.now.table_id) × (words.now.table_id.words ≡ 639) }
-    requires fixed { N.fixed ≡ fixed_by A.takes A.region_of A.effect_of words.now.key.action.value words.now.key.world.value }
+    requires fixed { N.fixed ≡ fixed_by A.takes A.region_of A.effect_of words.now.key.action.value
+        words.now.key.world.value }
     requires passes { N.passes ≡ length words.now.key.rooms.items }
     requires sound_sight { IsSoundSight N.fixed N.passes seat.old.me.0 }
     requires next { MayGo N.fixed N.passes seat.old.me.0.number seat.old.me.0.view N.given N.quits N.next }
     requires word { word ≡ index_of 31 seat.old.me.0.view N.next }
     requires left { (found : ℕ) → word_left N.fixed seat.old.me.0.number seat.old.me.0.view N.next found ≡ new }
-    requires blind { (found : ℕ) → view_found N.fixed seat.old.me.0.view N.next found ≡ view_found N.fixed seat.old.me.0.view N.next new }
+    requires blind { (found : ℕ) → view_found N.fixed seat.old.me.0.view N.next found ≡ view_found N.fixed
+        seat.old.me.0.view N.next new }
     ensures table { seat.new.table_id ≡ seat.old.table_id }
     ensures went { SeatWent N.fixed N.passes N.next seat.old.me new seat.new.me }
 {
@@ -65,12 +68,14 @@ pub(crate) fn exchange_as<A: Action, N: Planned>(
     new: u64,
 ) -> u64
     requires table { (seat.old.table_id ≡ words.now.table_id) × (words.now.table_id.words ≡ 639) }
-    requires fixed { N.fixed ≡ fixed_by A.takes A.region_of A.effect_of words.now.key.action.value words.now.key.world.value }
+    requires fixed { N.fixed ≡ fixed_by A.takes A.region_of A.effect_of words.now.key.action.value
+        words.now.key.world.value }
     requires passes { N.passes ≡ length words.now.key.rooms.items }
     requires sound_sight { IsSoundSight N.fixed N.passes seat.old.me.0 }
     requires next { MayGo N.fixed N.passes seat.old.me.0.number seat.old.me.0.view N.given N.quits N.next }
     requires word { word ≡ index_of 31 seat.old.me.0.view N.next }
-    requires left { (found : ℕ) → word_left N.fixed seat.old.me.0.number seat.old.me.0.view N.next found ≡ (if found == 0 then new else found) }
+    requires left { (found : ℕ) → word_left N.fixed seat.old.me.0.number seat.old.me.0.view N.next found
+        ≡ (if found == 0 then new else found) }
     ensures table { seat.new.table_id ≡ seat.old.table_id }
     ensures took { SeatTook N.fixed N.passes N.next seat.old.me result seat.new.me }
 {
@@ -86,7 +91,8 @@ pub(crate) fn count_as<A: Action, N: Planned>(
     word: usize,
 ) -> u64
     requires table { (seat.old.table_id ≡ words.now.table_id) × (words.now.table_id.words ≡ 639) }
-    requires fixed { N.fixed ≡ fixed_by A.takes A.region_of A.effect_of words.now.key.action.value words.now.key.world.value }
+    requires fixed { N.fixed ≡ fixed_by A.takes A.region_of A.effect_of words.now.key.action.value
+        words.now.key.world.value }
     requires passes { N.passes ≡ length words.now.key.rooms.items }
     requires sound_sight { IsSoundSight N.fixed N.passes seat.old.me.0 }
     requires next { MayGo N.fixed N.passes seat.old.me.0.number seat.old.me.0.view N.given N.quits N.next }
@@ -109,13 +115,15 @@ pub(crate) fn clear_as<A: Action, N: Planned>(
     slot: u8,
 ) -> u64
     requires table { (seat.old.table_id ≡ words.now.table_id) × (words.now.table_id.words ≡ 639) }
-    requires fixed { N.fixed ≡ fixed_by A.takes A.region_of A.effect_of words.now.key.action.value words.now.key.world.value }
+    requires fixed { N.fixed ≡ fixed_by A.takes A.region_of A.effect_of words.now.key.action.value
+        words.now.key.world.value }
     requires passes { N.passes ≡ length words.now.key.rooms.items }
     requires sound_sight { IsSoundSight N.fixed N.passes seat.old.me.0 }
     requires next { MayGo N.fixed N.passes seat.old.me.0.number seat.old.me.0.view N.given N.quits N.next }
     requires word { word ≡ index_of 31 seat.old.me.0.view N.next }
     requires slot { slot < 64 }
-    requires left { (found : ℕ) → word_left N.fixed seat.old.me.0.number seat.old.me.0.view N.next found ≡ without_bit found slot }
+    requires left { (found : ℕ) → word_left N.fixed seat.old.me.0.number seat.old.me.0.view N.next found ≡ without_bit
+        found slot }
     ensures table { seat.new.table_id ≡ seat.old.table_id }
     ensures went { SeatWent N.fixed N.passes N.next seat.old.me result seat.new.me }
 {
@@ -132,13 +140,15 @@ pub(crate) fn set_as<A: Action, N: Planned>(
     slot: u8,
 ) -> u64
     requires table { (seat.old.table_id ≡ words.now.table_id) × (words.now.table_id.words ≡ 639) }
-    requires fixed { N.fixed ≡ fixed_by A.takes A.region_of A.effect_of words.now.key.action.value words.now.key.world.value }
+    requires fixed { N.fixed ≡ fixed_by A.takes A.region_of A.effect_of words.now.key.action.value
+        words.now.key.world.value }
     requires passes { N.passes ≡ length words.now.key.rooms.items }
     requires sound_sight { IsSoundSight N.fixed N.passes seat.old.me.0 }
     requires next { MayGo N.fixed N.passes seat.old.me.0.number seat.old.me.0.view N.given N.quits N.next }
     requires word { word ≡ index_of 31 seat.old.me.0.view N.next }
     requires slot { slot < 64 }
-    requires left { (found : ℕ) → word_left N.fixed seat.old.me.0.number seat.old.me.0.view N.next found ≡ with_bit found slot }
+    requires left { (found : ℕ) → word_left N.fixed seat.old.me.0.number seat.old.me.0.view N.next found ≡ with_bit
+        found slot }
     ensures table { seat.new.table_id ≡ seat.old.table_id }
     ensures went { SeatWent N.fixed N.passes N.next seat.old.me result seat.new.me }
 {

@@ -37,9 +37,17 @@ impl<'a, A: Action> Model for NodeTable<'a, A> {
 
     ghost Value = { TableView A };
 
-    ghost view = { λ t. record { table = t.table.shared.table_id; action = t.table.shared.key.action.value; world = t.table.shared.key.world.value; rooms = t.table.shared.key.rooms.items } };
+    ghost view = { λ t. record {
+      table = t.table.shared.table_id;
+      action = t.table.shared.key.action.value;
+      world
+          = t.table.shared.key.world.value;
+      rooms = t.table.shared.key.rooms.items;
+    } };
 
-    ghost invariant = { λ t. (t.table.shared.table_id.words ≡ 639) × (t.rules ≡ rules_of t.table.shared.key.action.value t.table.shared.key.world.value) × (t.table.shared.table_id.slots ≡ 0) × HasSomeRooms t.table.shared.key.rooms.items };
+    ghost invariant = { λ t. (t.table.shared.table_id.words ≡ 639)
+        × (t.rules ≡ rules_of t.table.shared.key.action.value t.table.shared.key.world.value)
+        × (t.table.shared.table_id.slots ≡ 0) × HasSomeRooms t.table.shared.key.rooms.items };
 }
 
 /// Makes a seat for each room but the first, from seat 0.
@@ -52,8 +60,10 @@ fn make_others<A: Action>(
     requires table { (first.old.table_id ≡ words.now.table_id) × (words.now.table_id.words ≡ 639) }
     requires rooms { (words.now.key.rooms.items ≡ room.now) × (0 < length room.now) × (length room.now ≤ 16) }
     requires first { first.old.me ≡ (first_sight (slice_index room.now 0), []) }
-    ensures passes { IfOk result (λ v. v.items ≡ map (other_pass words.now.table_id room.now) (range_with_len 1 (length room.now - 1))) }
-    ensures first { OnOk result (first.new.me ≡ (record { number = 0; view = view_with_made (slice_index room.now 0) (length room.now) }, [])) }
+    ensures passes { IfOk result (λ v. v.items ≡ map (other_pass words.now.table_id room.now)
+        (range_with_len 1 (length room.now - 1))) }
+    ensures first { OnOk result
+        (first.new.me ≡ (record { number = 0; view = view_with_made (slice_index room.now 0) (length room.now) }, [])) }
     ensures table { first.new.table_id ≡ first.old.table_id }
 {
     let mut passes = Vec::with_capacity(alloc, room.len())?;
@@ -66,8 +76,8 @@ fn make_others<A: Action>(
 }
 
 impl<'a, A: Action> NodeTable<'a, A> {
-    /// A table with the words of `world`, which is only read, and its passes, numbered from 0: pass i has room for `room[i]`
-    /// entries.
+    /// A table with the words of `world`, which is only read, and its passes, numbered from 0: pass i has room for
+    /// `room[i]` entries.
     pub fn new(
         alloc: Global,
         action: &'a A,
@@ -76,9 +86,11 @@ impl<'a, A: Action> NodeTable<'a, A> {
     ) -> Result<(NodeTable<'a, A>, PassList<A>), AllocError>
         requires rooms { (0 < length room.now) × (length room.now ≤ 16) }
         requires taken { All (λ r. A.takes action.now r ≡ true) (live_in world.now.records) }
-        ensures table { IfOk result (λ r. (r.0.action ≡ action.now) × (r.0.world ≡ world.now) × (r.0.rooms ≡ room.now)) }
+        ensures table { IfOk result (λ r. (r.0.action ≡ action.now) × (r.0.world ≡ world.now)
+            × (r.0.rooms ≡ room.now)) }
         ensures passes { IfOk result (λ r. r.1.items ≡ new_passes r.0.table room.now) }
-        ensures own { IfOk result (λ r. All (IsPassOf (fixed_in A.takes A.region_of A.effect_of r.0) (length r.0.rooms) r.0.table) r.1.items) }
+        ensures own { IfOk result (λ r. All (IsPassOf (fixed_in A.takes A.region_of A.effect_of r.0) (length r.0.rooms)
+            r.0.table) r.1.items) }
     {
         let rules = rules_at_start(alloc, action, world)?;
         rules.is_ruled();
@@ -94,7 +106,8 @@ impl<'a, A: Action> NodeTable<'a, A> {
         ensures table { result.shared.table_id ≡ self.entry.table }
         ensures size { (result.shared.table_id.words ≡ 639) × (result.shared.table_id.slots ≡ 0) }
         ensures rooms { (result.shared.key.rooms.items ≡ self.entry.rooms) × HasSomeRooms self.entry.rooms }
-        ensures key { (result.shared.key.action.value ≡ self.entry.action) × (result.shared.key.world.value ≡ self.entry.world) }
+        ensures key { (result.shared.key.action.value ≡ self.entry.action)
+            × (result.shared.key.world.value ≡ self.entry.world) }
     {
         let NodeTable {
             rules: _rules,

@@ -88,7 +88,8 @@ fn give_first(inner: &[u8], leaves: &[u8]) -> Option<Turn>
 /// The first of these stores is made, if any.
 fn store_first(stores: &[Store]) -> Option<Turn>
     ensures { (F : Fixed) (view : View) (given : Option Command) (nodes : List ℕ) → result
-        ≡ turn_for (record view { point = views.Storing nodes (map store_of stores.now) }) (next_at F view given (views.Storing nodes (map store_of stores.now))) }
+        ≡ turn_for (record view { point = views.Storing nodes (map store_of stores.now) })
+        (next_at F view given (views.Storing nodes (map store_of stores.now))) }
 {
     match stores {
         [Store::Clear(_), ..] => Some(Turn::Unlink),
@@ -111,7 +112,8 @@ fn begin(seat: &Seat) -> Option<Turn>
 /// The first of these write nodes is taken, or the command is committed where none is left.
 fn claim(seat: &Seat, rest: &[u8]) -> Option<Turn>
     ensures { (F : Fixed) (got : List ℕ) → result
-        ≡ turn_for (record (view_of seat.now) { point = views.Claiming got rest.now }) (next_at F (view_of seat.now) (given_of seat.now) (views.Claiming got rest.now)) }
+        ≡ turn_for (record (view_of seat.now) { point = views.Claiming got rest.now })
+        (next_at F (view_of seat.now) (given_of seat.now) (views.Claiming got rest.now)) }
 {
     if let [node, ..] = rest {
         return Some(Turn::Take(*node));
@@ -125,7 +127,8 @@ fn claim(seat: &Seat, rest: &[u8]) -> Option<Turn>
 /// The call of a seat that isn't to give up and has not read all.
 fn turn_at(seat: &Seat) -> Option<Turn>
     ensures { (F : Fixed) (effect : Option Effect) → ready.is_resolving (view_of seat.now).point ≡ false → result
-        ≡ turn_for (view_of seat.now) (next_point F (view_of seat.now) (given_of seat.now) effect (view_of seat.now).point) }
+        ≡ turn_for (view_of seat.now) (next_point F (view_of seat.now) (given_of seat.now) effect
+        (view_of seat.now).point) }
 {
     match seat.point {
         Point::Idle => begin(seat),
@@ -148,7 +151,8 @@ fn turn_at(seat: &Seat) -> Option<Turn>
 impl<'a, A: Action> NodeTable<'a, A> {
     /// The call that makes the pass's next step. `None` exactly where the pass has no command in hand.
     pub fn turn(&self, pass: &Pass<A>) -> Option<Turn>
-        requires own { IsPassOf (fixed_in A.takes A.region_of A.effect_of self.now) (length self.now.rooms) self.now.table pass.now }
+        requires own { IsPassOf (fixed_in A.takes A.region_of A.effect_of self.now) (length self.now.rooms)
+            self.now.table pass.now }
         requires pursues { pass.now.quits ≡ false }
         ensures turn { result ≡ turn_of (fixed_in A.takes A.region_of A.effect_of self.now) pass.now }
         ensures some { is_some result ≡ has_command_in_hand pass.now }
@@ -161,7 +165,8 @@ impl<'a, A: Action> NodeTable<'a, A> {
 
     /// The call of a pass that has read all: `resolve`, and then the first take of a write node, or the commit.
     fn resolved_turn(&self, pass: &Pass<A>) -> Option<Turn>
-        requires own { IsPassOf (fixed_in A.takes A.region_of A.effect_of self.now) (length self.now.rooms) self.now.table pass.now }
+        requires own { IsPassOf (fixed_in A.takes A.region_of A.effect_of self.now) (length self.now.rooms)
+            self.now.table pass.now }
         requires pursues { pass.now.quits ≡ false }
         requires read { pass.now.view.point ≡ views.Resolving }
         ensures turn { result ≡ turn_of (fixed_in A.takes A.region_of A.effect_of self.now) pass.now }

@@ -38,8 +38,8 @@ pub record IsLeafHeld (F : Fixed) (passes own : ℕ) (c : Command) (r : Refused)
   pub other : IsOtherHolder F passes own r.node holder leaves
   pub has_leaf : has_bit leaves leaf ≡ true
 
--- the refused take was of an inner node that the command's leaves visit, by the own record as loaded, and its word names
--- the holder, which isn't this pass
+-- the refused take was of an inner node that the command's leaves visit, by the own record as loaded, and its word
+-- names the holder, which isn't this pass
 pub record IsNodeBusy (F : Fixed) (passes own : ℕ) (c : Command) (r : Refused) (node holder : ℕ) : Type 0 where
   pub is_node : r.node ≡ node
   pub below : node < 15

@@ -34,7 +34,10 @@ impl<'a, A: Action> Model for Second<'a, A> {
 
     ghost view = { λ s. s.entry };
 
-    ghost invariant = { λ s. (length s.shared.now.rooms ≡ 2) × (has (fixed_in A.takes A.region_of A.effect_of s.shared.now).start.ids 1 ≡ true) × (s.entry ≡ None → IsFree (fixed_in A.takes A.region_of A.effect_of s.shared.now) (length s.shared.now.rooms) s.shared.now.table 1 s.pass) };
+    ghost invariant = { λ s. (length s.shared.now.rooms ≡ 2)
+        × (has (fixed_in A.takes A.region_of A.effect_of s.shared.now).start.ids 1 ≡ true)
+        × (s.entry ≡ None → IsFree (fixed_in A.takes A.region_of A.effect_of s.shared.now) (length s.shared.now.rooms)
+        s.shared.now.table 1 s.pass) };
 }
 
 impl<'a, A: Action> Second<'a, A> {
@@ -72,7 +75,8 @@ impl<'a, A: Action> Beside<'a, A> {
     pub(crate) fn new(shared: &'a Shared<'a, A>, pass: Pass<A>) -> Beside<'a, A>
         requires two { length shared.now.rooms ≡ 2 }
         requires live { has (fixed_in A.takes A.region_of A.effect_of shared.now).start.ids 1 ≡ true }
-        requires free { IsFree (fixed_in A.takes A.region_of A.effect_of shared.now) (length shared.now.rooms) shared.now.table 1 pass }
+        requires free { IsFree (fixed_in A.takes A.region_of A.effect_of shared.now) (length shared.now.rooms)
+            shared.now.table 1 pass }
     {
         let second = Second {
             shared,

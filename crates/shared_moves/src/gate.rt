@@ -5,8 +5,8 @@ use crate::point::Point;
 use entity_recs::Entry;
 use std::marker::Model;
 
-/// A moment of a move, which is lent to the gate. Only the calls that run moves make one: it has no public constructor and
-/// can't be cloned.
+/// A moment of a move, which is lent to the gate. Only the calls that run moves make one: it has no public constructor
+/// and can't be cloned.
 #[derive(Debug, Drop)]
 pub struct Moment {
     worker: u8,
@@ -44,7 +44,14 @@ impl Moment {
 
     /// The moment after the commit, of the entry that was committed.
     pub(crate) fn committed(worker: u8, entry: Entry) -> Moment
-        ensures { result ≡ record { worker = worker; point = Point.Committed; slot = entry.slot; seq = entry.seq; entry = Some entry } }
+        ensures { result ≡ record {
+          worker = worker;
+          point = Point.Committed;
+          slot = entry.slot;
+          seq = entry.seq;
+          entry
+              = Some entry;
+        } }
     {
         Moment {
             worker,

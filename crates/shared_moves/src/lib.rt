@@ -19,6 +19,8 @@ mod shared;
 mod staying;
 mod step;
 #[cfg(test)]
+mod table_tests;
+#[cfg(test)]
 mod tests;
 #[cfg(test)]
 mod trial;

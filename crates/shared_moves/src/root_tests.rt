@@ -21,17 +21,21 @@ use world_tree::World;
 fn begin<A: Action>(shared: &Shared<A>, pass: &mut Pass<A>)
     requires two { length shared.now.rooms ≡ 2 }
     requires live { has (fixed_in A.takes A.region_of A.effect_of shared.now).start.ids 0 ≡ true }
-    requires free { IsFree (fixed_in A.takes A.region_of A.effect_of shared.now) (length shared.now.rooms) shared.now.table 0 pass.old }
-    ensures { IsMoving (fixed_in A.takes A.region_of A.effect_of shared.now) (length shared.now.rooms) shared.now.table 0 pass.new }
+    requires free { IsFree (fixed_in A.takes A.region_of A.effect_of shared.now) (length shared.now.rooms)
+        shared.now.table 0 pass.old }
+    ensures { IsMoving (fixed_in A.takes A.region_of A.effect_of shared.now) (length shared.now.rooms) shared.now.table
+        0 pass.new }
 {
     shared.begin(pass, plain(0));
 }
 
 /// Makes the pass's next call, which is to be none that is refused.
 fn go<A: Action>(shared: &Shared<A>, pass: &mut Pass<A>, turn: Turn) -> Result<Went, Fail>
-    requires going { IsGoingOn (fixed_in A.takes A.region_of A.effect_of shared.now) (length shared.now.rooms) shared.now.table pass.old }
+    requires going { IsGoingOn (fixed_in A.takes A.region_of A.effect_of shared.now) (length shared.now.rooms)
+        shared.now.table pass.old }
     requires turn { turn_of (fixed_in A.takes A.region_of A.effect_of shared.now) pass.old ≡ Some turn }
-    ensures going { IsGoingOn (fixed_in A.takes A.region_of A.effect_of shared.now) (length shared.now.rooms) shared.now.table pass.new }
+    ensures going { IsGoingOn (fixed_in A.takes A.region_of A.effect_of shared.now) (length shared.now.rooms)
+        shared.now.table pass.new }
     ensures number { pass.new.number ≡ pass.old.number }
 {
     match shared.table.go_on(pass, turn) {
@@ -42,8 +46,10 @@ fn go<A: Action>(shared: &Shared<A>, pass: &mut Pass<A>, turn: Turn) -> Result<W
 
 /// Makes the calls of pass 0 up to the take of the root, which it holds then.
 fn take_root<A: Action>(shared: &Shared<A>, pass: &mut Pass<A>) -> Result<(), Fail>
-    requires { IsMoving (fixed_in A.takes A.region_of A.effect_of shared.now) (length shared.now.rooms) shared.now.table 0 pass.old }
-    ensures { IfOk result (λ _. IsMoving (fixed_in A.takes A.region_of A.effect_of shared.now) (length shared.now.rooms) shared.now.table 0 pass.new) }
+    requires { IsMoving (fixed_in A.takes A.region_of A.effect_of shared.now) (length shared.now.rooms) shared.now.table
+        0 pass.old }
+    ensures { IfOk result (λ _. IsMoving (fixed_in A.takes A.region_of A.effect_of shared.now) (length shared.now.rooms)
+        shared.now.table 0 pass.new) }
 {
     for _ in 0..200 {
         let Some(turn) = shared.table.turn(pass) else {
@@ -59,8 +65,10 @@ fn take_root<A: Action>(shared: &Shared<A>, pass: &mut Pass<A>) -> Result<(), Fa
 
 /// Makes calls until pass 0 has no command in hand, and gives the place of the commit.
 fn finish<A: Action>(shared: &Shared<A>, pass: &mut Pass<A>) -> Result<Option<u64>, Fail>
-    requires { IsMoving (fixed_in A.takes A.region_of A.effect_of shared.now) (length shared.now.rooms) shared.now.table 0 pass.old }
-    ensures { IfOk result (λ _. IsResting (fixed_in A.takes A.region_of A.effect_of shared.now) (length shared.now.rooms) shared.now.table 0 pass.new) }
+    requires { IsMoving (fixed_in A.takes A.region_of A.effect_of shared.now) (length shared.now.rooms) shared.now.table
+        0 pass.old }
+    ensures { IfOk result (λ _. IsResting (fixed_in A.takes A.region_of A.effect_of shared.now)
+        (length shared.now.rooms) shared.now.table 0 pass.new) }
 {
     let mut place = None;
     for _ in 0..200 {
@@ -78,8 +86,10 @@ fn finish<A: Action>(shared: &Shared<A>, pass: &mut Pass<A>) -> Result<Option<u6
 fn refused<A: Action>(shared: &Shared<A>, pass: &mut Pass<A>) -> Result<Again, Fail>
     requires two { length shared.now.rooms ≡ 2 }
     requires live { has (fixed_in A.takes A.region_of A.effect_of shared.now).start.ids 1 ≡ true }
-    requires free { IsFree (fixed_in A.takes A.region_of A.effect_of shared.now) (length shared.now.rooms) shared.now.table 1 pass.old }
-    ensures { IfOk result (λ _. IsFree (fixed_in A.takes A.region_of A.effect_of shared.now) (length shared.now.rooms) shared.now.table 1 pass.new) }
+    requires free { IsFree (fixed_in A.takes A.region_of A.effect_of shared.now) (length shared.now.rooms)
+        shared.now.table 1 pass.old }
+    ensures { IfOk result (λ _. IsFree (fixed_in A.takes A.region_of A.effect_of shared.now) (length shared.now.rooms)
+        shared.now.table 1 pass.new) }
 {
     match shared.try_run(pass, plain(1), &NoGate) {
         Ok(_) => Err("the command was run".into()),
@@ -91,8 +101,10 @@ fn refused<A: Action>(shared: &Shared<A>, pass: &mut Pass<A>) -> Result<Again, F
 fn ran<A: Action>(shared: &Shared<A>, pass: &mut Pass<A>) -> Result<Entry, Fail>
     requires two { length shared.now.rooms ≡ 2 }
     requires live { has (fixed_in A.takes A.region_of A.effect_of shared.now).start.ids 1 ≡ true }
-    requires free { IsFree (fixed_in A.takes A.region_of A.effect_of shared.now) (length shared.now.rooms) shared.now.table 1 pass.old }
-    ensures { IfOk result (λ _. IsResting (fixed_in A.takes A.region_of A.effect_of shared.now) (length shared.now.rooms) shared.now.table 1 pass.new) }
+    requires free { IsFree (fixed_in A.takes A.region_of A.effect_of shared.now) (length shared.now.rooms)
+        shared.now.table 1 pass.old }
+    ensures { IfOk result (λ _. IsResting (fixed_in A.takes A.region_of A.effect_of shared.now)
+        (length shared.now.rooms) shared.now.table 1 pass.new) }
 {
     match shared.try_run(pass, plain(1), &NoGate) {
         Ok(entry) => Ok(entry),
@@ -109,8 +121,10 @@ fn close<A: Action>(
     world: &mut World,
 ) -> Result<LogList, Fail>
     requires two { length shared.rooms ≡ 2 }
-    requires first { IsResting (fixed_in A.takes A.region_of A.effect_of shared) (length shared.rooms) shared.table 0 first }
-    requires second { IsResting (fixed_in A.takes A.region_of A.effect_of shared) (length shared.rooms) shared.table 1 second }
+    requires first { IsResting (fixed_in A.takes A.region_of A.effect_of shared) (length shared.rooms) shared.table 0
+        first }
+    requires second { IsResting (fixed_in A.takes A.region_of A.effect_of shared) (length shared.rooms) shared.table 1
+        second }
     requires world { world.old ≡ shared.world }
 {
     let mut passes = Vec::with_capacity(alloc, 2)?;

@@ -36,7 +36,8 @@ fn again_after(refusal: Refusal) -> Again
 impl<'a, A: Action> Shared<'a, A> {
     /// Gives the pass the command.
     pub(crate) fn begin(&self, pass: &mut Pass<A>, cmd: Cmd)
-        requires own { IsPassOf (fixed_in A.takes A.region_of A.effect_of self.now) (length self.now.rooms) self.now.table pass.old }
+        requires own { IsPassOf (fixed_in A.takes A.region_of A.effect_of self.now) (length self.now.rooms)
+            self.now.table pass.old }
         requires free { MayBegin pass.old }
         requires live { has (fixed_in A.takes A.region_of A.effect_of self.now).start.ids cmd.slot ≡ true }
         requires serves { cmd.slot % length self.now.rooms ≡ pass.old.number }
@@ -46,14 +47,16 @@ impl<'a, A: Action> Shared<'a, A> {
         self.table.begin(pass, cmd);
     }
 
-    /// Runs the command and gives its entry. Each take that is refused is tried again until it is served, so the call may
-    /// wait.
+    /// Runs the command and gives its entry. Each take that is refused is tried again until it is served, so the call
+    /// may wait.
     pub fn run<R: Wait, G: Gate>(&self, rt: &R, pass: &mut Pass<A>, cmd: Cmd, gate: &G) -> Entry
-        requires own { IsPassOf (fixed_in A.takes A.region_of A.effect_of self.now) (length self.now.rooms) self.now.table pass.old }
+        requires own { IsPassOf (fixed_in A.takes A.region_of A.effect_of self.now) (length self.now.rooms)
+            self.now.table pass.old }
         requires free { MayBegin pass.old }
         requires live { has (fixed_in A.takes A.region_of A.effect_of self.now).start.ids cmd.slot ≡ true }
         requires serves { cmd.slot % length self.now.rooms ≡ pass.old.number }
-        ensures { HasRun (fixed_in A.takes A.region_of A.effect_of self.now) (length self.now.rooms) self.now.table pass.old pass.new (command_of cmd) result }
+        ensures { HasRun (fixed_in A.takes A.region_of A.effect_of self.now) (length self.now.rooms) self.now.table
+            pass.old pass.new (command_of cmd) result }
     {
         self.begin(pass, cmd);
         let mut entry = None;
@@ -68,15 +71,18 @@ impl<'a, A: Action> Shared<'a, A> {
         unreachable!()
     }
 
-    /// Runs the command and gives its entry, without waiting. `Err` where a node that it takes was held by another pass; then
-    /// nothing is committed, the pass holds no node, and the command may be tried again.
+    /// Runs the command and gives its entry, without waiting. `Err` where a node that it takes was held by another
+    /// pass; then nothing is committed, the pass holds no node, and the command may be tried again.
     pub fn try_run<G: Gate>(&self, pass: &mut Pass<A>, cmd: Cmd, gate: &G) -> Result<Entry, Again>
-        requires own { IsPassOf (fixed_in A.takes A.region_of A.effect_of self.now) (length self.now.rooms) self.now.table pass.old }
+        requires own { IsPassOf (fixed_in A.takes A.region_of A.effect_of self.now) (length self.now.rooms)
+            self.now.table pass.old }
         requires free { MayBegin pass.old }
         requires live { has (fixed_in A.takes A.region_of A.effect_of self.now).start.ids cmd.slot ≡ true }
         requires serves { cmd.slot % length self.now.rooms ≡ pass.old.number }
-        ensures ok { IfOk result (λ e. HasRun (fixed_in A.takes A.region_of A.effect_of self.now) (length self.now.rooms) self.now.table pass.old pass.new (command_of cmd) e) }
-        ensures err { IfErr result (λ a. WasNotRun (fixed_in A.takes A.region_of A.effect_of self.now) (length self.now.rooms) self.now.table pass.old pass.new (command_of cmd) a) }
+        ensures ok { IfOk result (λ e. HasRun (fixed_in A.takes A.region_of A.effect_of self.now)
+            (length self.now.rooms) self.now.table pass.old pass.new (command_of cmd) e) }
+        ensures err { IfErr result (λ a. WasNotRun (fixed_in A.takes A.region_of A.effect_of self.now)
+            (length self.now.rooms) self.now.table pass.old pass.new (command_of cmd) a) }
     {
         self.begin(pass, cmd);
         let mut entry = None;

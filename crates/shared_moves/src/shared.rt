@@ -27,8 +27,8 @@ impl<'a, A: Action> Model for Shared<'a, A> {
 }
 
 impl<'a, A: Action> Shared<'a, A> {
-    /// Shares the world, which is only read, among passes numbered from 0: pass i has room for `room[i]` entries, and runs
-    /// the commands of the slots that leave i when they are divided by the number of passes.
+    /// Shares the world, which is only read, among passes numbered from 0: pass i has room for `room[i]` entries, and
+    /// runs the commands of the slots that leave i when they are divided by the number of passes.
     pub fn start(
         alloc: Global,
         action: &'a A,
@@ -37,16 +37,18 @@ impl<'a, A: Action> Shared<'a, A> {
     ) -> Result<(Shared<'a, A>, PassList<A>), AllocError>
         requires rooms { (0 < length room.now) × (length room.now ≤ 16) }
         requires taken { All (λ r. A.takes action.now r ≡ true) (live_in world.now.records) }
-        ensures shared { IfOk result (λ r. (r.0.action ≡ action.now) × (r.0.world ≡ world.now) × (r.0.rooms ≡ room.now)) }
+        ensures shared { IfOk result (λ r. (r.0.action ≡ action.now) × (r.0.world ≡ world.now)
+            × (r.0.rooms ≡ room.now)) }
         ensures passes { IfOk result (λ r. r.1.items ≡ new_passes r.0.table room.now) }
-        ensures own { IfOk result (λ r. All (IsPassOf (fixed_in A.takes A.region_of A.effect_of r.0) (length r.0.rooms) r.0.table) r.1.items) }
+        ensures own { IfOk result (λ r. All (IsPassOf (fixed_in A.takes A.region_of A.effect_of r.0) (length r.0.rooms)
+            r.0.table) r.1.items) }
     {
         let (table, passes) = NodeTable::new(alloc, action, world, room)?;
         Ok((Shared { table }, passes))
     }
 
-    /// Ends all passes and gives what they did: the world after the moves of all, linked anew, and the entries of each pass
-    /// by its number. It takes no memory.
+    /// Ends all passes and gives what they did: the world after the moves of all, linked anew, and the entries of each
+    /// pass by its number. It takes no memory.
     pub fn close(self, passes: PassList<A>, world: &mut World, logs: &mut LogList)
         requires own { let F = fixed_in A.takes A.region_of A.effect_of self in
             All (IsPassOf F (length self.rooms) self.table) passes.items }

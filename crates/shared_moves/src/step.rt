@@ -46,8 +46,8 @@ impl<'a, A: Action> Shared<'a, A> {
         }
     }
 
-    /// Makes the next call of a pass that runs the command, and calls the gate at its points. `Err` exactly where a take is
-    /// refused.
+    /// Makes the next call of a pass that runs the command, and calls the gate at its points. `Err` exactly where a
+    /// take is refused.
     pub(crate) fn step<G: Gate>(
         &self,
         pass: &mut Pass<A>,
@@ -56,13 +56,16 @@ impl<'a, A: Action> Shared<'a, A> {
         entry: &mut Option<Entry>,
         gate: &G,
     ) -> Result<(), Refusal>
-        requires going { IsGoingOn (fixed_in A.takes A.region_of A.effect_of self.now) (length self.now.rooms) self.now.table pass.old }
+        requires going { IsGoingOn (fixed_in A.takes A.region_of A.effect_of self.now) (length self.now.rooms)
+            self.now.table pass.old }
         requires turn { turn_of (fixed_in A.takes A.region_of A.effect_of self.now) pass.old ≡ Some turn }
         ensures running { let F = fixed_in A.takes A.region_of A.effect_of self.now in let n = length self.now.rooms in
-            (start : PassView) (c : Command) → IsRunning F n self.now.table start c pass.old entry.old → IsRunning F n self.now.table start c pass.new entry.new }
+            (start : PassView) (c : Command) → IsRunning F n self.now.table start c pass.old entry.old
+            → IsRunning F n self.now.table start c pass.new entry.new }
         ensures fewer { let F = fixed_in A.takes A.region_of A.effect_of self.now in
             OnOk result (calls_left F pass.new < calls_left F pass.old) }
-        ensures refused { IfErr result (λ r. WasRefused (fixed_in A.takes A.region_of A.effect_of self.now) (length self.now.rooms) self.now.table pass.old pass.new r.node r.holder.number r.holder.leaves) }
+        ensures refused { IfErr result (λ r. WasRefused (fixed_in A.takes A.region_of A.effect_of self.now)
+            (length self.now.rooms) self.now.table pass.old pass.new r.node r.holder.number r.holder.leaves) }
         ensures kept { IfErr result (λ r. entry.new ≡ entry.old) }
     {
         self.show_held(pass, cmd, entry, gate);

@@ -23,7 +23,8 @@ fn run_first<A: Action, R: Wait, G: Gate>(
 ) -> (u64, u8, u32)
     requires two { length shared.now.rooms ≡ 2 }
     requires live { has (fixed_in A.takes A.region_of A.effect_of shared.now).start.ids 0 ≡ true }
-    requires free { IsFree (fixed_in A.takes A.region_of A.effect_of shared.now) (length shared.now.rooms) shared.now.table 0 pass.old }
+    requires free { IsFree (fixed_in A.takes A.region_of A.effect_of shared.now) (length shared.now.rooms)
+        shared.now.table 0 pass.old }
 {
     let entry = shared.run(rt, pass, plain(0), gate);
     (entry.place, entry.slot, entry.seq)

@@ -19,4 +19,5 @@ returns-clause-entry g c =
     subst (λ (q : PassView). IfSome (effect_in_hand q) (λ e. c.reply_in_hand-reply.result ≡ e.reply)) is c.reply_in_hand-reply.ensures in
     let both = c.slot_and_seq-slot.ensures in
     entry_is c.add_to_count-place.result _ _ c.args.pass.now.view.cmd c.reply_in_hand-reply.result (effect_in_hand c.args.pass.now)
-    (ap (λ (t : ℕ × ℕ). t.0) both ∙ ap (λ (q : PassView). q.view.cmd.slot) is) (ap (λ (t : ℕ × ℕ). t.1) both ∙ ap (λ (q : PassView). q.view.cmd.seq) is) reply
+    (ap (λ (t : ℕ × ℕ). t.0) both ∙ ap (λ (q : PassView). q.view.cmd.slot) is) (ap (λ (t : ℕ × ℕ). t.1) both ∙ ap (λ (q : PassView). q.view.cmd.seq) is)
+    (commits_next (fixed_in g.A.Action.takes g.A.Action.region_of g.A.Action.effect_of c.args.self.now) c.args.pass.now c.requires.next).has_effect reply

@@ -38,7 +38,7 @@ returns-in-Commit-clause-ok g c =
     commit_step (fixed_in g.A.Action.takes g.A.Action.region_of g.A.Action.effect_of c.args.self.now) (length c.args.self.now.rooms) c.args.self.now.table c.args.pass.now c.commit.new.pass c.requires.going c.commit.ensures.own c.commit.result (asked c.args.pass.now.view (next_of_pass (fixed_in g.A.Action.takes g.A.Action.region_of g.A.Action.effect_of c.args.self.now) c.args.pass.now) Commit (c.requires.turn ∙ ap Some c.in-Commit.is)).asks c.commit.ensures.pass c.commit.ensures.seen c.commit.ensures.entry
 
 pub returns-in-Resolve-clause-ok : goal.returns-in-Resolve-clause-ok
-returns-in-Resolve-clause-ok g c = c.resolve_loaded.ensures
+returns-in-Resolve-clause-ok g c = c.resolve_loaded.ensures.gone
 
 pub returns-in-LoadList-clause-ok : goal.returns-in-LoadList-clause-ok
 returns-in-LoadList-clause-ok g c = plain_call (fixed_in g.A.Action.takes g.A.Action.region_of g.A.Action.effect_of c.args.self.now) (length c.args.self.now.rooms) c.args.self.now.table c.args.pass.now c.requires.going (LoadList c.in-LoadList.node) c.load_list.result c.load_list.new.pass (c.requires.turn ∙ ap Some c.in-LoadList.is) refl refl c.load_list.ensures.pass c.load_list.ensures.own

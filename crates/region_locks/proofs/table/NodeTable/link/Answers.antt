@@ -10,7 +10,7 @@ set_bit-requires-clause-comes g c κs within = link_there _ c.requires.next
 
 pub set_bit-requires-clause-index : goal.set_bit-requires-clause-index
 set_bit-requires-clause-index g c κs within =
-    ap (λ (n : ℕ). 32 + n) (c.from-word.ensures ∙ c.bit_owed.ensures ∙ ap (λ (q : PassView). bit_owed (stores_owed q.view.point)) c.pass.view_is)
+    c.from.ensures ∙ c.list_word-word.ensures ∙ ap (λ (n : ℕ). 32 + n) (c.bit_owed.ensures ∙ ap (λ (q : PassView). bit_owed (stores_owed q.view.point)) c.pass.view_is)
     ∙ sym (links_next (fixed_in g.A.Action.takes g.A.Action.region_of g.A.Action.effect_of c.args.self.now) c.args.pass.now c.requires.next).index
 
 pub set_bit-requires-clause-left : goal.set_bit-requires-clause-left

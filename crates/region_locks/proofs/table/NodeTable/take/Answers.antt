@@ -12,7 +12,7 @@ exchange_word-found-requires-clause-comes g c κs within = taken_there _ _ c.req
 
 pub exchange_word-found-requires-clause-index : goal.exchange_word-found-requires-clause-index
 exchange_word-found-requires-clause-index g c κs within =
-    ap (λ (n : ℕ). 1 + n) c.from.ensures ∙ sym (taken_index (fixed_in g.A.Action.takes g.A.Action.region_of g.A.Action.effect_of c.args.self.now) c.args.pass.now c.args.node _ (takes_next _ _ _ _ _ c.requires.own c.requires.next))
+    c.from.ensures ∙ c.node_word.ensures ∙ sym (taken_index (fixed_in g.A.Action.takes g.A.Action.region_of g.A.Action.effect_of c.args.self.now) c.args.pass.now c.args.node _ (takes_next _ _ _ _ _ c.requires.own c.requires.next))
 
 pub exchange_word-found-requires-clause-left : goal.exchange_word-found-requires-clause-left
 exchange_word-found-requires-clause-left g c κs within found =

@@ -1,7 +1,7 @@
 use Rattle.std.proofs.Common.{length, ap, ◌∙◌, Some, ℕ}
 use Rattle.region_locks.specs.Passes.{fixed_in}
 use Rattle.region_locks.proofs.Stepping.{loads_own}
-use Rattle.region_locks.proofs.tests.begin.Goals as goal
+use Rattle.shared_moves.proofs.table_tests.begin.Goals as goal
 
 pub load_rec-requires-clause-next : goal.load_rec-requires-clause-next
 load_rec-requires-clause-next g c κs within =

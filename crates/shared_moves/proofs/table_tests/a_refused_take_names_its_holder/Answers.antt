@@ -3,7 +3,7 @@ use Rattle.core_steps.specs.Steps.{is_taking}
 use Rattle.region_locks.specs.Passes.{first_pass, other_pass}
 use Rattle.region_locks.proofs.Quitting.{free_of_steps}
 use Rattle.region_locks.proofs.Stepping.{each_of_two}
-use Rattle.region_locks.proofs.tests.a_refused_take_names_its_holder.Goals as goal
+use Rattle.shared_moves.proofs.table_tests.a_refused_take_names_its_holder.Goals as goal
 
 pub begin-requires-clause-own : goal.begin-requires-clause-own
 begin-requires-clause-own c κs within =

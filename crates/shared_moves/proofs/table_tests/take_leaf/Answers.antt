@@ -1,7 +1,7 @@
 use Rattle.std.proofs.Common.{sym, ◌∙◌}
 use Rattle.region_locks.specs.Passes.{fixed_in}
 use Rattle.region_locks.proofs.Stepping.{takes_node}
-use Rattle.region_locks.proofs.tests.take_leaf.Goals as goal
+use Rattle.shared_moves.proofs.table_tests.take_leaf.Goals as goal
 
 pub take-requires-clause-next : goal.take-requires-clause-next
 take-requires-clause-next g c κs within =
