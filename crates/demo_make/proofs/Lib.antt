@@ -10,3 +10,4 @@ pub mod Joining
 pub mod Accepted
 pub mod Clear
 pub mod Building
+pub mod Bounds

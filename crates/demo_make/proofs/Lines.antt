@@ -148,7 +148,7 @@ length-before (x ∷ xs) (suc i) =
       length-before xs i,
     )
 
-whole-fits : length (unlines (map map_line_text generated_lines)) ≤ 8300
+pub whole-fits : length (unlines (map map_line_text generated_lines)) ≤ 8300
 unfolding digits
 whole-fits = lit≤ tt
 

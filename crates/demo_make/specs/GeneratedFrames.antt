@@ -1,5 +1,6 @@
 -- The packets of every generated recording, frame by frame, and its text.
-use Rattle.std.specs.Prelude.{ℕ, ◌+◌, ◌-◌, ◌*◌, ◌/◌, ◌%◌, ◌^◌, ◌≤◌, ◌==◌, List, [], ◌++◌, map, ℤ, pos, ◌-ℤ◌, if◌then◌else◌}
+use Rattle.std.specs.Prelude.{ℕ, ◌+◌, ◌-◌, ◌*◌, ◌/◌, ◌%◌, ◌^◌, ◌≤◌, ◌==◌, List, [], ◌++◌, map, ℤ, pos, ◌-ℤ◌}
+use Rattle.std.specs.Prelude.{if◌then◌else◌}
 use Rattle.std.specs.List.{range_with_len}
 use Rattle.packet_read.specs.declared.move_packet.MovePacket.{MovePacket}
 use Rattle.packet_read.specs.declared.packet.Packet.TheVariants.{Join, Step}

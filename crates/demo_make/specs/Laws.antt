@@ -13,7 +13,8 @@ use Rattle.demo_lines.specs.Spelling.{recording_lines}
 use Rattle.demo_make.specs.declared.map_lines.TheConstants.{MAP_LINES}
 use Rattle.demo_make.specs.Words.{word_at}
 use Rattle.demo_make.specs.GeneratedMap.{generated_map, generated_lines, things}
-use Rattle.demo_make.specs.GeneratedFrames.{IsInRange, join_from, move_from, move_of, ports, moves_in, arrivals_in, generated_frames, generated_events, generated_text}
+use Rattle.demo_make.specs.GeneratedFrames.{IsInRange, join_from, move_from, move_of, ports, moves_in, arrivals_in}
+use Rattle.demo_make.specs.GeneratedFrames.{generated_frames, generated_events, generated_text}
 
 -- the text of a recording has no fault, and gives the map and the events
 pub record IsReadBack (seed players frames : ℕ) : Type 0 where
@@ -47,6 +48,13 @@ pub record FramesAreKnown : Type 0 where
   pub lines : (seed players frames : ℕ) → 1 ≤ frames
       → length (recording_lines generated_map (generated_frames seed players frames))
       ≡ 102 + players + frames * (players + 1)
+
+-- the text of a recording has at most 8,304 bytes for the map and the end, 13 for each join, and in each frame 6 and 33
+-- for each move
+abbrev pub GeneratedTextsAreBounded : Type 0
+GeneratedTextsAreBounded =
+    (seed players frames : ℕ) → IsInRange players frames
+    → length (generated_text seed players frames) ≤ 8304 + 13 * players + frames * (6 + 33 * players)
 
 -- the packets are read as joins and as moves with their numbers
 pub record PacketsAreRead : Type 0 where

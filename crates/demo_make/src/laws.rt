@@ -1,4 +1,5 @@
-ghost use Rattle.demo_make.specs.Laws.{GeneratedRecordingsReadBack, MapIsKnown, FramesAreKnown, PacketsAreRead, WordsAreKnown};
+ghost use Rattle.demo_make.specs.Laws.{GeneratedRecordingsReadBack, MapIsKnown, FramesAreKnown, PacketsAreRead};
+ghost use Rattle.demo_make.specs.Laws.{WordsAreKnown, GeneratedTextsAreBounded};
 ghost use Rattle.demo_make.specs.Accepting.{AllIsAccepted, SpawnsAreClear};
 
 /// Each generated recording, of 1 to 64 players and 1 to 100,000 frames, has no fault, and is read as the map and the
@@ -16,6 +17,12 @@ pub fn map_is_known()
 /// Frame 0 has a join of each player and then a move of each, each later frame a move of each.
 pub fn frames_are_known()
     ensures { FramesAreKnown }
+{}
+
+/// The text of a generated recording has at most 8,304 bytes for the map and the end, 13 for each join, and in each
+/// frame 6 and 33 for each move: so much room is enough to write it.
+pub fn generated_texts_are_bounded()
+    ensures { GeneratedTextsAreBounded }
 {}
 
 /// The packets of a generated recording are read as joins, and as moves with the numbers that the words give.
