@@ -24,3 +24,4 @@ pub mod SmallFrames
 pub mod Lengths
 pub mod Bounded
 pub mod OneReply
+pub mod OneAnswer

@@ -1,5 +1,6 @@
 -- The journals of a text, read off its `did` lines.
-use Rattle.std.specs.Prelude.{ℕ, ◌==◌, Bool, ◌&&◌, nat_le, List, [], ◌∷◌, length, map, Option, Some, None, codes, bytes_eq, ℤ, pos, int_lt, unsigned_abs, if◌then◌else◌}
+use Rattle.std.specs.Prelude.{ℕ, ◌==◌, Bool, ◌&&◌, nat_le, List, [], ◌∷◌, length, map, Option, Some, None, codes}
+use Rattle.std.specs.Prelude.{bytes_eq, ℤ, pos, int_lt, unsigned_abs, if◌then◌else◌}
 use Rattle.std.specs.List.{list_all, slice_split}
 use Rattle.edge_io.specs.Numbers.{natural_up_to, integer_up_to}
 use Rattle.edge_io.specs.Fields.{cut, field_at}

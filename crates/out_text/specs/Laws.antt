@@ -17,6 +17,7 @@ use Rattle.out_text.specs.Output.{AreRightIn, front_text, out_text, IsOutput, Is
 use Rattle.out_text.specs.OneTaker.{HasOneTakerEach}
 use Rattle.out_text.specs.FrameLines.{lines_with}
 use Rattle.out_text.specs.ToLines.{HasOneReplyEach}
+use Rattle.out_text.specs.PacketLines.{HasOneAnswerEach}
 
 -- a line reports a move exactly where it is the `did` line of one that is in range
 abbrev pub DidLinesAreRead : Type 0
@@ -106,3 +107,11 @@ FramesHaveOneReplyEach =
     → IsServerState map state
     → let r = received_in map frame state arrivals in
     HasOneReplyEach frame (moved_by map r journal).records (lines_with map frame r journal)
+
+-- the lines of a frame have one `no` line for each packet that was refused, with its place and the reason, and one
+-- `joined` line for each that joined, in the order of arrival, and no other
+abbrev pub FramesAnswerTheirPackets : Type 0
+FramesAnswerTheirPackets =
+    (map : MapView) (frame : ℕ) (state : State) (arrivals : List Arrival) (journal : List Entry)
+    → let r = received_in map frame state arrivals in
+    HasOneAnswerEach (length arrivals) r.lists (lines_with map frame r journal)

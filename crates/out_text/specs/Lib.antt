@@ -31,4 +31,5 @@ pub mod Collecting
 pub mod Output
 pub mod OneTaker
 pub mod ToLines
+pub mod PacketLines
 pub mod Laws

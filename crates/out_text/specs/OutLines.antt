@@ -4,9 +4,11 @@ use Rattle.std.specs.List.{join_with_byte}
 use Rattle.std.specs.Fmt.{signed_decimal}
 use Rattle.hex.specs.Hex.{encode_lower}
 use Rattle.client_ports.specs.declared.refusal.Refusal.{Refusal}
-use Rattle.client_ports.specs.declared.refusal.Refusal.TheVariants.{Packet, Already, Full, Crowded, NotJoined, Leaving, Old, Many}
+use Rattle.client_ports.specs.declared.refusal.Refusal.TheVariants.{Packet, Already, Full, Crowded, NotJoined, Leaving}
+use Rattle.client_ports.specs.declared.refusal.Refusal.TheVariants.{Old, Many}
 use Rattle.packet_read.specs.declared.packet_fault.PacketFault.{PacketFault}
-use Rattle.packet_read.specs.declared.packet_fault.PacketFault.TheVariants.{Empty, Version, Kind, Short, Long, Time, Buttons}
+use Rattle.packet_read.specs.declared.packet_fault.PacketFault.TheVariants.{Empty, Version, Kind, Short, Long, Time}
+use Rattle.packet_read.specs.declared.packet_fault.PacketFault.TheVariants.{Buttons}
 use Rattle.out_text.specs.Dids.{Did}
 
 -- one line of the output

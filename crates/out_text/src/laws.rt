@@ -1,4 +1,7 @@
-ghost use Rattle.out_text.specs.Laws.{DidLinesAreRead, FrameLinesAreRead, FaultlessRecordingsHaveOutputs, WrittenRecordingsHaveOutputs, OneWorkerHasOneOutput, OutputsSpellTheirJournals, LinesReadBack, LinesArePrintedApart, RecordingsHaveMaps, OutputsHaveOneTaker, OutputsAreBounded, FramesHaveOneReplyEach};
+ghost use Rattle.out_text.specs.Laws.{DidLinesAreRead, FrameLinesAreRead, FaultlessRecordingsHaveOutputs};
+ghost use Rattle.out_text.specs.Laws.{WrittenRecordingsHaveOutputs, OneWorkerHasOneOutput, OutputsSpellTheirJournals};
+ghost use Rattle.out_text.specs.Laws.{LinesReadBack, LinesArePrintedApart, RecordingsHaveMaps, OutputsHaveOneTaker};
+ghost use Rattle.out_text.specs.Laws.{OutputsAreBounded, FramesHaveOneReplyEach, FramesAnswerTheirPackets};
 
 /// The journals are read off exactly the lines that are printed: no other line opens a frame or reports a move.
 pub fn only_printed_lines_are_read()
@@ -58,4 +61,10 @@ pub fn outputs_are_bounded()
 /// in rising slot.
 pub fn frames_have_one_reply_each()
     ensures { FramesHaveOneReplyEach }
+{}
+
+/// The lines of a frame have one `no` line for each packet that was refused, with its place and the reason, and one
+/// `joined` line for each that joined, in the order of arrival, and no other.
+pub fn frames_answer_their_packets()
+    ensures { FramesAnswerTheirPackets }
 {}

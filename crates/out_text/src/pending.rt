@@ -74,7 +74,8 @@ impl Pending {
         self.bytes.push_reserved(b'\n');
     }
 
-    /// Puts a line and its line feed last. Where they don't fit, what is pending is written out first. It takes no memory.
+    /// Puts a line and its line feed last. Where they don't fit, what is pending is written out first. It takes no
+    /// memory.
     pub fn push_line<K: Sink>(&mut self, line: &[u8], sink: &mut K) -> Result<(), Failed>
         requires { length line.now ≤ ROOM }
         ensures ok { OnOk result

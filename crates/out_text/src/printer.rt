@@ -15,8 +15,8 @@ use snapshot_write::ReplyBuf;
 use std::alloc::{AllocError, Global};
 use std::marker::Model;
 
-/// Prints lines to a sink through a buffer, which is written out where the next line doesn't fit. It has its memory from
-/// the start, and takes none for a line.
+/// Prints lines to a sink through a buffer, which is written out where the next line doesn't fit. It has its memory
+/// from the start, and takes none for a line.
 #[derive(Drop)]
 pub struct Printer {
     line: LineBuf,
@@ -108,8 +108,9 @@ impl Printer {
         Ok(())
     }
 
-    /// Prints the lines of a frame, from what it gave out: its refusals, its joins, its journal, and the reply to each live
-    /// slot. There are as many replies as slots, and each has at least one byte. At a fault what wasn't written is gone.
+    /// Prints the lines of a frame, from what it gave out: its refusals, its joins, its journal, and the reply to each
+    /// live slot. There are as many replies as slots, and each has at least one byte. At a fault what wasn't written is
+    /// gone.
     pub fn print_frame<K: Sink>(
         &mut self,
         frame: u32,
@@ -126,7 +127,8 @@ impl Printer {
         ensures err { OnErr result (FailsIn K.taken K.faults sink.old sink.new
             (self.old ++ text_of (given_lines frame received.now.lists journal.now slots.now replies.now))) }
         ensures sure { length self.old
-            + length (text_of (given_lines frame received.now.lists journal.now slots.now replies.now)) ≤ K.room sink.old
+            + length (text_of (given_lines frame received.now.lists journal.now slots.now replies.now)) ≤ K.room
+            sink.old
             → IsOk result }
         ensures emptied { OnErr result (self.new ≡ []) }
     {

@@ -1,4 +1,5 @@
-ghost use Rattle.std.specs.Prelude.{◌≡◌, ◌<◌, ◌==◌, [], ◌∷◌, find, position, length, bytes_eq, option_map, None, Some, IfSome, if◌then◌else◌};
+ghost use Rattle.std.specs.Prelude.{◌≡◌, ◌<◌, ◌==◌, [], ◌∷◌, find, position, length, bytes_eq, option_map, None, Some};
+ghost use Rattle.std.specs.Prelude.{IfSome, if◌then◌else◌};
 ghost use Rattle.std.specs.List.{list_all};
 ghost use Rattle.out_text.specs.OutLines as lines;
 ghost use Rattle.out_text.specs.OutLines.{name_of};
@@ -270,8 +271,8 @@ fn line_in<'a>(line: &[u8], bytes: &'a mut ReplyBuf) -> Option<OutLine<'a>>
     }
 }
 
-/// The line of the output that is printed so, without its line feed. The bytes of a snapshot are put into `bytes`, which
-/// is empty.
+/// The line of the output that is printed so, without its line feed. The bytes of a snapshot are put into `bytes`,
+/// which is empty.
 ///
 /// There is none exactly where no line in range is printed so: numbers in decimal digits without a leading zero, single
 /// spaces, at most 8 ids, and 1 to 4,123 bytes of a snapshot in lower-case digits. It takes no memory.
