@@ -1,5 +1,6 @@
 -- The server over the events of a recording: what an event closes, and how the game goes on.
-use Rattle.std.specs.Prelude.{◌≡◌, ℕ, ◌<◌, ◌≤◌, Bool, true, false, List, [], ◌∷◌, ◌++◌, length, Option, Some, None, option_map, IfSome}
+use Rattle.std.specs.Prelude.{◌≡◌, ℕ, ◌<◌, ◌≤◌, Bool, true, false, List, [], ◌∷◌, ◌++◌, length, Option, Some, None}
+use Rattle.std.specs.Prelude.{option_map, IfSome}
 use Rattle.entity_recs.specs.declared.effect.Entry.{Entry}
 use Rattle.move_journal.specs.Merges.{IsInOrder}
 use Rattle.arena_map.specs.Maps.{MapView}
@@ -25,10 +26,11 @@ abbrev pub new_game : MapView → GameView
 new_game map = record { server = new_server map; opened = None; last = None; lines = [] }
 
 -- a frame with these packets was run: its journal is right, and with one worker has the moves in the order of arrival
-pub record RunsFrame (workers : ℕ) (old new : ServerView) (arrivals : List Arrival) (journal : List Entry) : Type 0 where
-  pub right : IsRightAfter old.map (received_in old.map old.frames old.state arrivals) journal
-  pub order : workers ≡ 1 → IsInOrder journal (received_in old.map old.frames old.state arrivals).lists.moves
-  pub next : new ≡ server_after old arrivals journal
+pub record RunsFrame (workers : ℕ) (old new : ServerView) (arrivals : List Arrival) (journal : List Entry) : Type 0
+  where
+    pub right : IsRightAfter old.map (received_in old.map old.frames old.state arrivals) journal
+    pub order : workers ≡ 1 → IsInOrder journal (received_in old.map old.frames old.state arrivals).lists.moves
+    pub next : new ≡ server_after old arrivals journal
 
 -- the frame that was open was run; where none was, the server is as it was
 abbrev pub ClosesFrame : ℕ → ServerView → ServerView → Option (List Arrival) → List Entry → Type 0

@@ -21,8 +21,8 @@ pub record Writes (old new : Option (List ℕ)) (P : List ℕ → Type 0) : Type
   pub holds : P text
 
 -- lines with their line feeds and the front of one more were taken from the source, which the recording still goes on
--- to, and the frames are written that those lines close, the last of which has the journal `last`: the front closes none,
--- also where it reads `end`
+-- to, and the frames are written that those lines close, the last of which has the journal `last`: the front closes
+-- none, also where it reads `end`
 pub record ReadsSome (workers : ℕ) (old new : Option (List ℕ)) (taken_before taken : Option (List ℕ))
     (last : Option (List Entry)) : Type 0 where
   pub lines : List (List ℕ)

@@ -49,11 +49,13 @@ impl Game {
     ghost use Rattle.move_phase.specs.Serving.{AreWorkers};
     ghost use Rattle.out_text.specs.OutLines.{text_of};
     ghost use Rattle.arena_engine.specs.LastFrames.{entries_of, entries_in, lines_if};
-    ghost use Rattle.arena_engine.specs.Games.{new_game, event_lines, closing_lines, ClosesFrame, last_after, Takes, GoesOn, IsReady};
+    ghost use Rattle.arena_engine.specs.Games.{new_game, event_lines, closing_lines, ClosesFrame, last_after, Takes};
+    ghost use Rattle.arena_engine.specs.Games.{GoesOn, IsReady};
     ghost use Rattle.arena_engine.specs.Dues.{due_lines};
     ghost use Rattle.arena_engine.specs.Stops.{OnWriteFault, OnMemory, IsGameStop};
 
-    /// A game in this arena, before the first event. It takes all memory but that for the packets and the moves of frames.
+    /// A game in this arena, before the first event. It takes all memory but that for the packets and the moves of
+    /// frames.
     pub fn new(alloc: Global, map: ArenaMap) -> Result<Game, AllocError>
         ensures game { IfOk result (λ game. game ≡ new_game map) }
         ensures rules { OnOk result (IsMap map) }
@@ -67,7 +69,8 @@ impl Game {
         })
     }
 
-    /// Runs the frame that is open on these workers. The answer says whether one was, so that its lines are to be printed.
+    /// Runs the frame that is open on these workers. The answer says whether one was, so that its lines are to be
+    /// printed.
     fn close<R: Threads + Wait + Sync, G: Gate>(
         &mut self,
         rt: &R,

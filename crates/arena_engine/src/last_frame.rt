@@ -29,7 +29,8 @@ impl Model for LastFrame {
 
     ghost view = { λ f. record {
       journal = if f.has_run then Some f.journal.entries else None;
-      lines = if f.has_run then given_lines f.out.frame f.out.received.lists f.journal.entries f.out.slots f.out.replies else [];
+      lines = if f.has_run then given_lines f.out.frame f.out.received.lists f.journal.entries f.out.slots f.out.replies
+          else [];
     } };
 
     ghost invariant = { λ f. (f.journal.room ≡ MOST_ARRIVALS) × ArePrintable f.out.slots f.out.replies };
@@ -56,8 +57,8 @@ impl LastFrame {
         })
     }
 
-    /// Runs a frame with these packets on these workers, which is the last one then. Where memory is refused, the server and
-    /// the journal of the last frame are as they were.
+    /// Runs a frame with these packets on these workers, which is the last one then. Where memory is refused, the
+    /// server and the journal of the last frame are as they were.
     pub fn run<R: Threads + Wait + Sync, G: Gate>(
         &mut self,
         rt: &R,
@@ -70,10 +71,12 @@ impl LastFrame {
         requires few { length arrivals.now ≤ 512 }
         requires frames { server.old.frames < 100000 }
         requires workers { AreWorkers workers }
-        ensures runs { OnOk result (RunsFrame workers server.old server.new arrivals.now (entries_in self.new.journal)) }
+        ensures runs { OnOk result (RunsFrame workers server.old server.new arrivals.now
+            (entries_in self.new.journal)) }
         ensures last { OnOk result (self.new.journal ≡ Some (entries_in self.new.journal)) }
         ensures lines { OnOk result (self.new.lines ≡ lines_with server.old.map server.old.frames
-            (received_in server.old.map server.old.frames server.old.state arrivals.now) (entries_in self.new.journal)) }
+            (received_in server.old.map server.old.frames server.old.state arrivals.now)
+            (entries_in self.new.journal)) }
         ensures kept { OnErr result (self.new.journal ≡ self.old.journal) }
         ensures unchanged { OnErr result (server.new ≡ server.old) }
     {

@@ -20,7 +20,8 @@ pub fn write_recording<K: Sink>(
 ) -> Report
     requires { IsInRange players frames }
     ensures status { IsOfWriting result.status }
-    ensures done { result.status ≡ 0 → Appends (K.taken sink.old) (K.taken sink.new) (generated_text seed players frames) }
+    ensures done { result.status ≡ 0 → Appends (K.taken sink.old) (K.taken sink.new)
+        (generated_text seed players frames) }
     ensures write_fault { result.status ≡ 4
         → AppendsPart (K.taken sink.old) (K.taken sink.new) (generated_text seed players frames) }
     ensures memory { result.status ≡ 5 → sink.new ≡ sink.old }

@@ -15,8 +15,8 @@ use std::alloc::Global;
 use std::sync::Wait;
 use std::thread::Threads;
 
-/// Plays the recording of this seed on these workers without writing it, and writes the line of its totals. The report has
-/// the journals of the frames that were run.
+/// Plays the recording of this seed on these workers without writing it, and writes the line of its totals. The report
+/// has the journals of the frames that were run.
 pub fn play_and_sum<R: Threads + Wait + Sync, K: Sink, G: Gate>(
     rt: &R,
     alloc: Global,
@@ -30,7 +30,8 @@ pub fn play_and_sum<R: Threads + Wait + Sync, K: Sink, G: Gate>(
     requires range { IsMatch players frames }
     requires workers { AreWorkers workers }
     ensures status { IsOfWriting result.status }
-    ensures done { result.status ≡ 0 → Appends (K.taken sink.old) (K.taken sink.new) (line_of_match seed players result.all) }
+    ensures done { result.status ≡ 0 → Appends (K.taken sink.old) (K.taken sink.new)
+        (line_of_match seed players result.all) }
     ensures write_fault { result.status ≡ 4
         → AppendsPart (K.taken sink.old) (K.taken sink.new) (line_of_match seed players result.all) }
     ensures memory { result.status ≡ 5 → sink.new ≡ sink.old }

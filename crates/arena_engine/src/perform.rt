@@ -38,12 +38,15 @@ pub fn perform<R: Threads + Wait + Sync, S: Source, K: Sink, G: Gate>(
     ensures done { WhenPlay command (λ n. result.status ≡ 0 → IfSome (S.left source.old) (λ bytes.
         Writes (K.taken sink.old) (K.taken sink.new) (HasLast (IsOutput n bytes) (last_in result)))) }
     ensures read { WhenPlay command (λ n. result.status ≡ 0 →
-        ReadsToEnd source.old source.new (S.last source.new) (S.ended source.new ≡ S.ended source.old) (S.ended source.new ≡ true)
+        ReadsToEnd source.old source.new (S.last source.new) (S.ended source.new ≡ S.ended source.old)
+        (S.ended source.new ≡ true)
         (S.left source.old) (S.left source.new)) }
     ensures refused { WhenPlay command (λ n. result.status ≡ 1 → IfSome (S.left source.old) (λ bytes.
-        Writes (K.taken sink.old) (K.taken sink.new) (HasLast (IsRefused n bytes (refusal_of result)) (last_in result)))) }
+        Writes (K.taken sink.old) (K.taken sink.new) (HasLast (IsRefused n bytes (refusal_of result))
+        (last_in result)))) }
     ensures refused_read { WhenPlay command (λ n. result.status ≡ 1 →
-        ReadsToRefusal source.old source.new (S.last source.new) (S.ended source.new ≡ S.ended source.old) (S.ended source.new ≡ true)
+        ReadsToRefusal source.old source.new (S.last source.new) (S.ended source.new ≡ S.ended source.old)
+        (S.ended source.new ≡ true)
         (S.left source.old) (S.left source.new)) }
     ensures read_fault { WhenPlay command (λ n. result.status ≡ 3 →
         ReadsSome n (S.left source.old) (S.left source.new) (K.taken sink.old) (K.taken sink.new) (last_in result)) }
@@ -71,9 +74,12 @@ pub fn perform<R: Threads + Wait + Sync, S: Source, K: Sink, G: Gate>(
         → Appends (K.taken sink.old) (K.taken sink.new) (line_of_match seed players result.all)) }
     ensures summed_cut { WhenMatch command (λ seed players frames workers. result.status ≡ 4
         → AppendsPart (K.taken sink.old) (K.taken sink.new) (line_of_match seed players result.all)) }
-    ensures summed_nothing { WhenMatch command (λ seed players frames workers. result.status ≡ 5 → sink.new ≡ sink.old) }
-    ensures match_frames { WhenMatch command (λ seed players frames workers. ArePlayed seed players frames workers result.status result.all) }
-    ensures match_status { WhenMatch command (λ seed players frames workers. IsOfWriting result.status × IsBare result) }
+    ensures summed_nothing { WhenMatch command (λ seed players frames workers. result.status ≡ 5
+        → sink.new ≡ sink.old) }
+    ensures match_frames { WhenMatch command (λ seed players frames workers. ArePlayed seed players frames workers
+        result.status result.all) }
+    ensures match_status { WhenMatch command (λ seed players frames workers. IsOfWriting result.status
+        × IsBare result) }
     ensures match_reads_nothing { WhenMatch command (λ seed players frames workers. source.new ≡ source.old) }
 
     ensures read_cause { result.status ≡ 3 → HasRisen (S.faults source.old) (S.faults source.new) }
@@ -85,7 +91,8 @@ pub fn perform<R: Threads + Wait + Sync, S: Source, K: Sink, G: Gate>(
     ensures writes_uncounted { (result.status ≡ 4 → ⊥) → K.faults sink.new ≡ K.faults sink.old }
 
     ensures sure_reads { S.never_fails source.old → result.status ≡ 3 → ⊥ }
-    ensures sure_writes { WhenPlay command (λ n. IsSomeAnd (S.left source.old) (λ bytes. HasRoom n bytes (K.room sink.old)) → result.status ≡ 4 → ⊥) }
+    ensures sure_writes { WhenPlay command (λ n. IsSomeAnd (S.left source.old)
+        (λ bytes. HasRoom n bytes (K.room sink.old)) → result.status ≡ 4 → ⊥) }
     ensures complete { WhenPlay command (λ n. IsSomeAnd (S.left source.old) (λ bytes. fault bytes ≡ None)
         → NothingFailed (S.faults source.old) (S.faults source.new) (K.faults sink.old) (K.faults sink.new)
         → IsOrMemory result.status 0) }
@@ -93,14 +100,20 @@ pub fn perform<R: Threads + Wait + Sync, S: Source, K: Sink, G: Gate>(
         → NothingFailed (S.faults source.old) (S.faults source.new) (K.faults sink.old) (K.faults sink.new)
         → IsOrMemory result.status 1) }
     ensures surely_complete { WhenPlay command (λ n. S.never_fails source.old
-        → IsSomeAnd (S.left source.old) (λ bytes. (fault bytes ≡ None) × HasRoom n bytes (K.room sink.old)) → IsOrMemory result.status 0) }
-    ensures surely_refused { WhenPlay command (λ n. S.never_fails source.old
-        → IsSomeAnd (S.left source.old) (λ bytes. IsSome (fault bytes) × HasRoom n bytes (K.room sink.old)) → IsOrMemory result.status 1) }
-    ensures sure_make { WhenMake command (λ seed players frames. length (generated_text seed players frames) ≤ K.room sink.old → result.status ≡ 4 → ⊥) }
-    ensures sure_match { WhenMatch command (λ seed players frames workers. 300 ≤ K.room sink.old → result.status ≡ 4 → ⊥) }
-    ensures complete_make { WhenMake command (λ seed players frames. (HasRisen (K.faults sink.old) (K.faults sink.new) → ⊥)
+        → IsSomeAnd (S.left source.old) (λ bytes. (fault bytes ≡ None) × HasRoom n bytes (K.room sink.old))
         → IsOrMemory result.status 0) }
-    ensures complete_match { WhenMatch command (λ seed players frames workers. (HasRisen (K.faults sink.old) (K.faults sink.new) → ⊥)
+    ensures surely_refused { WhenPlay command (λ n. S.never_fails source.old
+        → IsSomeAnd (S.left source.old) (λ bytes. IsSome (fault bytes) × HasRoom n bytes (K.room sink.old))
+        → IsOrMemory result.status 1) }
+    ensures sure_make { WhenMake command (λ seed players frames. length (generated_text seed players frames) ≤ K.room
+        sink.old → result.status ≡ 4 → ⊥) }
+    ensures sure_match { WhenMatch command (λ seed players frames workers. 300 ≤ K.room sink.old → result.status ≡ 4
+        → ⊥) }
+    ensures complete_make { WhenMake command (λ seed players frames. (HasRisen (K.faults sink.old) (K.faults sink.new)
+        → ⊥)
+        → IsOrMemory result.status 0) }
+    ensures complete_match { WhenMatch command (λ seed players frames workers.
+        (HasRisen (K.faults sink.old) (K.faults sink.new) → ⊥)
         → IsOrMemory result.status 0) }
 {
     match command {

@@ -6,7 +6,8 @@ ghost use Rattle.arena_engine.specs.Games as games;
 ghost use Rattle.out_text.specs.Output.{HasLast, IsOutput, IsRefused, IsCut, IsSomeFrames};
 ghost use Rattle.arena_engine.specs.LastFrames.{entries_of};
 ghost use Rattle.arena_engine.specs.Output.{Writes, ReadsSome, ReadsToEnd, ReadsToRefusal, HasRoom};
-ghost use Rattle.arena_engine.specs.Stops.{OnRefused, OnReadFault, OnWriteFault, OnMemory, ButOnReadFault, ButOnWriteFault};
+ghost use Rattle.arena_engine.specs.Stops.{OnRefused, OnReadFault, OnWriteFault, OnMemory, ButOnReadFault};
+ghost use Rattle.arena_engine.specs.Stops.{ButOnWriteFault};
 
 use crate::game::Game;
 use crate::played::Played;
@@ -27,8 +28,8 @@ fn is_end(event: &Event) -> bool
     }
 }
 
-/// Plays a recording from the source on these workers, and writes its output to the sink, each frame before the next line
-/// is read. Beside how that ended it gives the journal of the last frame that was run.
+/// Plays a recording from the source on these workers, and writes its output to the sink, each frame before the next
+/// line is read. Beside how that ended it gives the journal of the last frame that was run.
 pub fn play<R: Threads + Wait + Sync, S: Source, K: Sink, G: Gate>(
     rt: &R,
     alloc: Global,
@@ -43,27 +44,37 @@ pub fn play<R: Threads + Wait + Sync, S: Source, K: Sink, G: Gate>(
     ensures read { OnOk result.ended (ReadsToEnd source.old source.new (S.last source.new)
         (S.ended source.new ≡ S.ended source.old) (S.ended source.new ≡ true) (S.left source.old) (S.left source.new)) }
     ensures refused { IfErr result.ended (λ stop. OnRefused stop (λ why. IfSome (S.left source.old) (λ bytes.
-        Writes (K.taken sink.old) (K.taken sink.new) (HasLast (IsRefused workers bytes why) (entries_of result.last))))) }
-    ensures refused_read { IfErr result.ended (λ stop. OnRefused stop (λ _. ReadsToRefusal source.old source.new (S.last source.new)
-        (S.ended source.new ≡ S.ended source.old) (S.ended source.new ≡ true) (S.left source.old) (S.left source.new))) }
+        Writes (K.taken sink.old) (K.taken sink.new) (HasLast (IsRefused workers bytes why)
+        (entries_of result.last))))) }
+    ensures refused_read { IfErr result.ended (λ stop. OnRefused stop (λ _. ReadsToRefusal source.old source.new
+        (S.last source.new)
+        (S.ended source.new ≡ S.ended source.old) (S.ended source.new ≡ true) (S.left source.old)
+        (S.left source.new))) }
     ensures read_fault { IfErr result.ended (λ stop. OnReadFault stop
-        (ReadsSome workers (S.left source.old) (S.left source.new) (K.taken sink.old) (K.taken sink.new) (entries_of result.last))) }
+        (ReadsSome workers (S.left source.old) (S.left source.new) (K.taken sink.old) (K.taken sink.new)
+        (entries_of result.last))) }
     ensures front { IfErr result.ended (λ stop. OnReadFault stop (IfSome (S.left source.old) (λ bytes.
-        Writes (K.taken sink.old) (K.taken sink.new) (HasLast (IsSomeFrames workers bytes) (entries_of result.last))))) }
+        Writes (K.taken sink.old) (K.taken sink.new) (HasLast (IsSomeFrames workers bytes)
+        (entries_of result.last))))) }
     ensures write_fault { IfErr result.ended (λ stop. OnWriteFault stop (IfSome (S.left source.old) (λ bytes.
         Writes (K.taken sink.old) (K.taken sink.new) (IsCut workers bytes (entries_of result.last))))) }
     ensures memory { IfErr result.ended (λ stop. OnMemory stop (IfSome (S.left source.old) (λ bytes.
-        Writes (K.taken sink.old) (K.taken sink.new) (HasLast (IsSomeFrames workers bytes) (entries_of result.last))))) }
+        Writes (K.taken sink.old) (K.taken sink.new) (HasLast (IsSomeFrames workers bytes)
+        (entries_of result.last))))) }
 
-    ensures read_cause { IfErr result.ended (λ stop. OnReadFault stop (HasRisen (S.faults source.old) (S.faults source.new))) }
-    ensures write_cause { IfErr result.ended (λ stop. OnWriteFault stop (HasRisen (K.faults sink.old) (K.faults sink.new))) }
+    ensures read_cause { IfErr result.ended
+        (λ stop. OnReadFault stop (HasRisen (S.faults source.old) (S.faults source.new))) }
+    ensures write_cause { IfErr result.ended
+        (λ stop. OnWriteFault stop (HasRisen (K.faults sink.old) (K.faults sink.new))) }
     ensures no_end { IfErr result.ended (λ stop. OnReadFault stop (S.ended source.new ≡ S.ended source.old)) }
     ensures reads_done { OnOk result.ended (S.faults source.new ≡ S.faults source.old) }
-    ensures reads_stopped { IfErr result.ended (λ stop. ButOnReadFault stop (S.faults source.new ≡ S.faults source.old)) }
+    ensures reads_stopped { IfErr result.ended
+        (λ stop. ButOnReadFault stop (S.faults source.new ≡ S.faults source.old)) }
     ensures writes_done { OnOk result.ended (K.faults sink.new ≡ K.faults sink.old) }
     ensures writes_stopped { IfErr result.ended (λ stop. ButOnWriteFault stop (K.faults sink.new ≡ K.faults sink.old)) }
     ensures sure_reads { S.never_fails source.old → IfErr result.ended (λ stop. OnReadFault stop ⊥) }
-    ensures sure_writes { IsSomeAnd (S.left source.old) (λ bytes. HasRoom workers bytes (K.room sink.old)) → IfErr result.ended (λ stop. OnWriteFault stop ⊥) }
+    ensures sure_writes { IsSomeAnd (S.left source.old) (λ bytes. HasRoom workers bytes (K.room sink.old))
+        → IfErr result.ended (λ stop. OnWriteFault stop ⊥) }
     ensures read_later { S.faults source.old ≤ S.faults source.new }
     ensures write_later { K.faults sink.old ≤ K.faults sink.new }
 {

@@ -20,7 +20,8 @@ use std::alloc::Global;
 use std::sync::Wait;
 use std::thread::Threads;
 
-/// Plays a recording from the source on these workers, and writes its output to the sink. The report has how that ended.
+/// Plays a recording from the source on these workers, and writes its output to the sink. The report has how that
+/// ended.
 pub fn play_recording<R: Threads + Wait + Sync, S: Source, K: Sink, G: Gate>(
     rt: &R,
     alloc: Global,
@@ -33,15 +34,19 @@ pub fn play_recording<R: Threads + Wait + Sync, S: Source, K: Sink, G: Gate>(
     ensures done { result.status ≡ 0 → IfSome (S.left source.old) (λ bytes.
         Writes (K.taken sink.old) (K.taken sink.new) (HasLast (IsOutput workers bytes) (last_in result))) }
     ensures read { result.status ≡ 0 →
-        ReadsToEnd source.old source.new (S.last source.new) (S.ended source.new ≡ S.ended source.old) (S.ended source.new ≡ true)
+        ReadsToEnd source.old source.new (S.last source.new) (S.ended source.new ≡ S.ended source.old)
+        (S.ended source.new ≡ true)
         (S.left source.old) (S.left source.new) }
     ensures refused { result.status ≡ 1 → IfSome (S.left source.old) (λ bytes.
-        Writes (K.taken sink.old) (K.taken sink.new) (HasLast (IsRefused workers bytes (refusal_of result)) (last_in result))) }
+        Writes (K.taken sink.old) (K.taken sink.new) (HasLast (IsRefused workers bytes (refusal_of result))
+        (last_in result))) }
     ensures refused_read { result.status ≡ 1 →
-        ReadsToRefusal source.old source.new (S.last source.new) (S.ended source.new ≡ S.ended source.old) (S.ended source.new ≡ true)
+        ReadsToRefusal source.old source.new (S.last source.new) (S.ended source.new ≡ S.ended source.old)
+        (S.ended source.new ≡ true)
         (S.left source.old) (S.left source.new) }
     ensures read_fault { result.status ≡ 3 →
-        ReadsSome workers (S.left source.old) (S.left source.new) (K.taken sink.old) (K.taken sink.new) (last_in result) }
+        ReadsSome workers (S.left source.old) (S.left source.new) (K.taken sink.old) (K.taken sink.new)
+        (last_in result) }
     ensures write_fault { result.status ≡ 4 → IfSome (S.left source.old) (λ bytes.
         Writes (K.taken sink.old) (K.taken sink.new) (IsCut workers bytes (last_in result))) }
     ensures memory { result.status ≡ 5 → IfSome (S.left source.old) (λ bytes.
@@ -62,7 +67,8 @@ pub fn play_recording<R: Threads + Wait + Sync, S: Source, K: Sink, G: Gate>(
     ensures writes_uncounted { (result.status ≡ 4 → ⊥) → K.faults sink.new ≡ K.faults sink.old }
 
     ensures sure_reads { S.never_fails source.old → result.status ≡ 3 → ⊥ }
-    ensures sure_writes { IsSomeAnd (S.left source.old) (λ bytes. HasRoom workers bytes (K.room sink.old)) → result.status ≡ 4 → ⊥ }
+    ensures sure_writes { IsSomeAnd (S.left source.old) (λ bytes. HasRoom workers bytes (K.room sink.old))
+        → result.status ≡ 4 → ⊥ }
     ensures complete { IsSomeAnd (S.left source.old) (λ bytes. fault bytes ≡ None)
         → NothingFailed (S.faults source.old) (S.faults source.new) (K.faults sink.old) (K.faults sink.new)
         → IsOrMemory result.status 0 }
@@ -70,9 +76,11 @@ pub fn play_recording<R: Threads + Wait + Sync, S: Source, K: Sink, G: Gate>(
         → NothingFailed (S.faults source.old) (S.faults source.new) (K.faults sink.old) (K.faults sink.new)
         → IsOrMemory result.status 1 }
     ensures surely_complete { S.never_fails source.old
-        → IsSomeAnd (S.left source.old) (λ bytes. (fault bytes ≡ None) × HasRoom workers bytes (K.room sink.old)) → IsOrMemory result.status 0 }
+        → IsSomeAnd (S.left source.old) (λ bytes. (fault bytes ≡ None) × HasRoom workers bytes (K.room sink.old))
+        → IsOrMemory result.status 0 }
     ensures surely_refused { S.never_fails source.old
-        → IsSomeAnd (S.left source.old) (λ bytes. IsSome (fault bytes) × HasRoom workers bytes (K.room sink.old)) → IsOrMemory result.status 1 }
+        → IsSomeAnd (S.left source.old) (λ bytes. IsSome (fault bytes) × HasRoom workers bytes (K.room sink.old))
+        → IsOrMemory result.status 1 }
 {
     let all = JournalList::new(alloc);
     let Played { ended, last } = play(rt, alloc, workers, source, sink, gate);

@@ -3,7 +3,8 @@ use snapshot_write::ReplyBuf;
 use std::alloc::{AllocError, Global};
 use std::marker::Model;
 
-/// A list of at most [`MOST_SLOTS`] replies, each the bytes of a snapshot. It has the room for all of them from the start.
+/// A list of at most [`MOST_SLOTS`] replies, each the bytes of a snapshot. It has the room for all of them from the
+/// start.
 #[derive(Drop)]
 pub struct ReplyList {
     replies: Vec<ReplyBuf>,

@@ -84,11 +84,12 @@ impl Server {
     }
 }
 
-/// Runs a frame with these packets: the tick, the receive pass, the moves on so many workers, the replies, and the leaves.
-/// Slot p is served by worker p mod `workers`, which runs its moves in the order of arrival. `out` is written anew.
+/// Runs a frame with these packets: the tick, the receive pass, the moves on so many workers, the replies, and the
+/// leaves. Slot p is served by worker p mod `workers`, which runs its moves in the order of arrival. `out` is written
+/// anew.
 ///
-/// The only error is that memory is refused. What a frame takes is taken after the receive pass and before the first move; no
-/// move was run then, the server is as before, and the lists of `out` are empty.
+/// The only error is that memory is refused. What a frame takes is taken after the receive pass and before the first
+/// move; no move was run then, the server is as before, and the lists of `out` are empty.
 pub fn run_frame<R: Threads + Wait + Sync, G: Gate>(
     rt: &R,
     alloc: Global,
@@ -114,7 +115,8 @@ pub fn run_frame<R: Threads + Wait + Sync, G: Gate>(
         (received_in server.old.map server.old.frames server.old.state arrivals.now) out.new.journal.entries).records) }
     ensures next { OnOk result (server.new ≡ server_after server.old arrivals.now out.new.journal.entries) }
     ensures one_taker { OnOk result (HasOneTaker out.new.journal.entries) }
-    ensures away { OnOk result (HasItemsAway server.old.map server.old.frames out.new.journal.entries server.new.state.records) }
+    ensures away { OnOk result (HasItemsAway server.old.map server.old.frames out.new.journal.entries
+        server.new.state.records) }
     ensures unchanged { OnErr result (server.new ≡ server.old) }
     ensures emptied { OnErr result (IsEmpty out.new) }
 {

@@ -28,9 +28,10 @@ pub record RunsNothing (old new : GameView) (before after : List JournalView) : 
   pub totals : new.totals ≡ old.totals
   pub kept : after ≡ before
 
--- a frame with these packets was run: its journal is right, with one worker has the moves in the order of arrival, and was
--- put last
-pub record RunsFrame (workers : ℕ) (old new : GameView) (arrivals : List Arrival) (before after : List JournalView) : Type 0 where
+-- a frame with these packets was run: its journal is right, with one worker has the moves in the order of arrival, and
+-- was put last
+pub record RunsFrame (workers : ℕ) (old new : GameView) (arrivals : List Arrival) (before after : List JournalView)
+    : Type 0 where
   pub journal : JournalView
   pub kept : after ≡ before ++ journal ∷ []
   pub right : IsRightAfter old.server.map

@@ -65,8 +65,8 @@ impl Game {
         self.totals
     }
 
-    /// Runs the frame that is open on these workers, and puts its journal last, for which memory was taken before. Where no
-    /// frame is open nothing happens.
+    /// Runs the frame that is open on these workers, and puts its journal last, for which memory was taken before.
+    /// Where no frame is open nothing happens.
     fn close<R: Threads + Wait + Sync, G: Gate>(
         &mut self,
         rt: &R,
@@ -112,7 +112,8 @@ impl Game {
     ) -> Result<(), AllocError>
         requires ready { MayClose self.old (vec_len journals.old) (vec_capacity journals.old) }
         requires workers { AreWorkers workers }
-        ensures next { OnOk result (GoesOn workers self.old self.new Event.Frame journals.old.items journals.new.items) }
+        ensures next { OnOk result (GoesOn workers self.old self.new Event.Frame journals.old.items
+            journals.new.items) }
         ensures capacity { vec_capacity journals.new ≡ vec_capacity journals.old }
         ensures unchanged { OnErr result (journals.new.items ≡ journals.old.items) }
     {

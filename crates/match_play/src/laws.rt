@@ -6,8 +6,8 @@ pub fn counts_are_known()
     ensures { CountsAreKnown }
 {}
 
-/// Right journals of a match that have the moves in the order of arrival are those of the plain server that runs them in
-/// that order: with one worker the seed, the players and the frames decide the totals.
+/// Right journals of a match that have the moves in the order of arrival are those of the plain server that runs them
+/// in that order: with one worker the seed, the players and the frames decide the totals.
 pub fn order_leaves_one_match()
     ensures { OrderLeavesOneMatch }
 {}

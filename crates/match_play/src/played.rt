@@ -20,8 +20,8 @@ pub struct MatchPlayed {
     pub all: JournalList,
 }
 
-/// Plays a match, and puts the journals of its frames into the empty vector, for each of which memory is taken before its
-/// frame is run.
+/// Plays a match, and puts the journals of its frames into the empty vector, for each of which memory is taken before
+/// its frame is run.
 fn play_frames<R: Threads + Wait + Sync, G: Gate>(
     rt: &R,
     alloc: Global,
@@ -49,9 +49,9 @@ fn play_frames<R: Threads + Wait + Sync, G: Gate>(
     Ok(game.totals())
 }
 
-/// Plays the recording of this seed, with 1 to 64 players and 1 to 2,000 frames, without writing it: the same packets come
-/// in the same frames. The moves of a frame are run on 1 to 16 workers; one worker runs them in the order of arrival. It
-/// takes no memory that grows with the number of frames but that for their journals.
+/// Plays the recording of this seed, with 1 to 64 players and 1 to 2,000 frames, without writing it: the same packets
+/// come in the same frames. The moves of a frame are run on 1 to 16 workers; one worker runs them in the order of
+/// arrival. It takes no memory that grows with the number of frames but that for their journals.
 pub fn play_match<R: Threads + Wait + Sync, G: Gate>(
     rt: &R,
     alloc: Global,

@@ -8,11 +8,11 @@ use Rattle.std.proofs.lemmas.List.FromFn.{get_or-range_with_len}
 use Rattle.entity_recs.specs.Commands.{Command}
 use Rattle.entity_recs.specs.declared.effect.Entry.{Entry}
 use Rattle.entity_recs.specs.Worlds.{World}
-use Rattle.entity_recs.specs.Histories.{Action, Item, IsLegal}
+use Rattle.entity_recs.specs.Histories.{Action, Item, IsLegal, commands_of}
 use Rattle.move_journal.specs.Merges.{IsInOrder, history_of, reported_numbers, sent_numbers}
 use Rattle.move_journal.proofs.Founds.{IsFound}
 use Rattle.move_journal.proofs.Uniques.{HasNumberOf, looked_up_command, front_of_history}
-use Rattle.move_phase.specs.Serving.{commands_of, entries_from}
+use Rattle.move_phase.specs.Serving.{entries_from}
 use Rattle.move_phase.proofs.Rising.{HasRisingKeys, contains_first, contains_later}
 
 -- the item's entry has this place and the number of its command

@@ -6,10 +6,10 @@ use Rattle.std.proofs.lemmas.List.Elements.{filter-append}
 use Rattle.atomic_table.specs.Seated.{TableId}
 use Rattle.entity_recs.specs.declared.cmd.Cmd.{Cmd}
 use Rattle.entity_recs.specs.Commands.{Command, command_of}
-use Rattle.entity_recs.specs.Histories.{Item}
+use Rattle.entity_recs.specs.Histories.{Item, commands_of}
 use Rattle.core_steps.specs.Views.{Fixed}
 use Rattle.region_locks.specs.Passes.{PassView}
-use Rattle.move_phase.specs.Serving.{served_by, commands_of}
+use Rattle.move_phase.specs.Serving.{served_by}
 use Rattle.move_phase.specs.Running.{MayServe, HasServed}
 
 -- the first moves, with one more

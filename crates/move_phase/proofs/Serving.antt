@@ -11,11 +11,11 @@ use Rattle.std.proofs.lemmas.List.Sorted.{IsPermutation-sym, IsPermutation-trans
 use Rattle.entity_recs.specs.Commands.{Command}
 use Rattle.entity_recs.specs.declared.effect.Entry.{Entry}
 use Rattle.entity_recs.specs.Worlds.{World}
-use Rattle.entity_recs.specs.Histories.{Action, Item, IsLegal}
+use Rattle.entity_recs.specs.Histories.{Action, Item, IsLegal, commands_of}
 use Rattle.move_journal.specs.Merges.{IsMerge, IsRight, IsInOrder, HasNumbersApart, history_of}
 use Rattle.move_journal.proofs.Founds.{IsFound, each_is_found}
 use Rattle.move_journal.proofs.JournalLaws.{merges_have_whole_histories}
-use Rattle.move_phase.specs.Serving.{served_by, commands_of, entries_from, Rises, HaveServed}
+use Rattle.move_phase.specs.Serving.{served_by, entries_from, Rises, HaveServed}
 use Rattle.move_phase.proofs.Rising.{HasRisingKeys, same_list, contains_kept, contains_before, kept_passes, in_one, in_all, IsIn}
 use Rattle.move_phase.proofs.Filters.{contains_map, filter_map_same, filter_within, filter_whole}
 use Rattle.move_phase.proofs.Places.{legal_items, places_are, rises_in_row, numbers_are, order_is, history_is}

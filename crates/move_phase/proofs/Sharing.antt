@@ -9,14 +9,14 @@ use Rattle.atomic_table.specs.Seated.{TableId}
 use Rattle.entity_recs.specs.declared.rec.Rec.{Rec}
 use Rattle.entity_recs.specs.declared.effect.Effect.{Effect}
 use Rattle.entity_recs.specs.Commands.{Command}
-use Rattle.entity_recs.specs.Histories.{Item}
+use Rattle.entity_recs.specs.Histories.{Item, commands_of}
 use Rattle.move_journal.specs.Logs.{LogView}
 use Rattle.world_tree.specs.Worlds.{WorldView}
 use Rattle.core_steps.specs.Views.{Fixed}
 use Rattle.region_locks.specs.Starts.{fixed_by}
 use Rattle.region_locks.specs.Passes.{PassView, TableView, IsPassOf, fixed_in, new_passes, first_pass}
 use Rattle.region_locks.specs.Closing.{HasNoCommand, IsClosed, log_from}
-use Rattle.move_phase.specs.Serving.{served_by, commands_of, entries_from}
+use Rattle.move_phase.specs.Serving.{served_by, entries_from}
 use Rattle.move_phase.specs.Running.{HasServed, HaveRun}
 use Rattle.move_phase.proofs.NewPasses.{IsNew, new_at, new_count}
 

@@ -5,13 +5,13 @@ use Rattle.std.specs.Option.{option_map}
 use Rattle.std.proofs.lemmas.Bool.{cond-true, cond-false, eq-eqb, ne_eqb}
 use Rattle.entity_recs.specs.declared.rec.Rec.{Rec}
 use Rattle.entity_recs.specs.Commands.{Command}
-use Rattle.entity_recs.specs.Worlds.{World, nobody, record_with}
+use Rattle.entity_recs.specs.Worlds.{World, nobody, record_with, record_or_nobody}
 use Rattle.entity_recs.specs.Worlds as worlds
 use Rattle.entity_recs.specs.Histories.{Action, Item, apply, run, world_after}
 use Rattle.move_journal.specs.Lists.{IsWorldOf}
 use Rattle.world_tree.specs.Live.{record_at, live_in, ids_of, AreEntries}
 use Rattle.core_steps.specs.Views.{has}
-use Rattle.plain_server.specs.RecordsById.{record_or_nobody, world_of, records_in}
+use Rattle.plain_server.specs.RecordsById.{world_of, records_in}
 
 -- the record at each place has that number, counted from this one
 abbrev HaveIdsFrom : ℕ → List (Option Rec) → Type 0

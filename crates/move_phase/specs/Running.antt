@@ -2,13 +2,13 @@
 use Rattle.std.specs.Prelude.{◌≡◌, ℕ, ◌<◌, ◌≤◌, true, List, [], ◌++◌, map, length, slice_index, slice_index_or, All}
 use Rattle.atomic_table.specs.Seated.{TableId}
 use Rattle.entity_recs.specs.Commands.{Command}
-use Rattle.entity_recs.specs.Histories.{Item}
+use Rattle.entity_recs.specs.Histories.{Item, commands_of}
 use Rattle.move_journal.specs.Logs.{LogView}
 use Rattle.world_tree.specs.Worlds.{WorldView}
 use Rattle.core_steps.specs.Views.{Fixed, has}
 use Rattle.region_locks.specs.Passes.{PassView, IsPassOf}
 use Rattle.region_locks.specs.Closing.{HasNoCommand, IsClosed}
-use Rattle.move_phase.specs.Serving.{served_by, commands_of, entries_from}
+use Rattle.move_phase.specs.Serving.{served_by, entries_from}
 
 -- the commands are those of players that were live at the start
 abbrev pub AreOfLive : Fixed → List Command → Type 0
@@ -35,9 +35,10 @@ pub record HaveRoom (passes : ℕ) (commands : List Command) (rooms : List ℕ) 
   pub enough : passes ≤ length rooms
   pub each : (i : ℕ) → i < passes → slice_index rooms i ≡ length (served_by passes i commands)
 
--- the commands were run on a table with these passes, and these are its logs: each log has the commands of its pass, and
--- the table was closed
-pub record HaveRun (F : Fixed) (passes : ℕ) (commands : List Command) (views : List LogView) (world : WorldView) : Type 0
+-- the commands were run on a table with these passes, and these are its logs: each log has the commands of its pass,
+-- and the table was closed
+pub record HaveRun (F : Fixed) (passes : ℕ) (commands : List Command) (views : List LogView) (world : WorldView)
+    : Type 0
   where
     pub logs : List (List Item)
     pub views_are : map (λ view. view.entries) views ≡ map entries_from logs

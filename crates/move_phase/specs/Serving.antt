@@ -5,7 +5,7 @@ use Rattle.std.specs.List.Sorted.{IsPermutation}
 use Rattle.entity_recs.specs.Commands.{Command}
 use Rattle.entity_recs.specs.declared.effect.Entry.{Entry}
 use Rattle.entity_recs.specs.Worlds.{World}
-use Rattle.entity_recs.specs.Histories.{Action, Item, IsLegal}
+use Rattle.entity_recs.specs.Histories.{Action, Item, IsLegal, commands_of}
 
 -- how many workers a frame may have
 abbrev pub AreWorkers : ℕ → Type 0
@@ -15,10 +15,6 @@ AreWorkers workers = (1 ≤ workers) × (workers ≤ 16)
 abbrev pub served_by : ℕ → ℕ → List Command → List Command
 served_by passes number moves = filter (λ c. c.slot % passes == number) moves
 
--- the commands of items
-abbrev pub commands_of : List Item → List Command
-commands_of items = map (λ item. item.command) items
-
 -- the entries of items
 abbrev pub entries_from : List Item → List Entry
 entries_from items = map (λ item. item.entry) items
@@ -27,8 +23,8 @@ entries_from items = map (λ item. item.entry) items
 abbrev pub Rises : List Item → Type 0
 Rises items = AllPairs (λ a b. a.entry.place < b.entry.place) items
 
--- so many passes with these logs served the moves: each log has the moves of its pass, its places rise, and the items of
--- all logs are those of a legal history
+-- so many passes with these logs served the moves: each log has the moves of its pass, its places rise, and the items
+-- of all logs are those of a legal history
 pub record HaveServed (act : Action) (w : World) (passes : ℕ) (moves : List Command) (logs : List (List Item))
     (history : List Item) : Type 0 where
   pub count : length logs ≡ passes

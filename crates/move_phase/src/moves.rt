@@ -19,9 +19,9 @@ use std::sync::Wait;
 use std::thread::Threads;
 use world_tree::World;
 
-/// Runs the moves of live players on so many workers, and puts what was done into the journal, by place. Slot p is served
-/// by worker p mod `workers`, which runs its moves in the order of arrival. All memory is taken before the first move. The
-/// only error is that memory is refused; then no move was run, and the journal is empty.
+/// Runs the moves of live players on so many workers, and puts what was done into the journal, by place. Slot p is
+/// served by worker p mod `workers`, which runs its moves in the order of arrival. All memory is taken before the first
+/// move. The only error is that memory is refused; then no move was run, and the journal is empty.
 pub fn run_moves<R: Threads + Wait + Sync, G: Gate>(
     rt: &R,
     alloc: Global,
@@ -41,7 +41,8 @@ pub fn run_moves<R: Threads + Wait + Sync, G: Gate>(
     ensures right { OnOk result (IsRight (outcome_in action.now.map) (world_of world.old.records)
         (map_list command_of moves.now) journal.new.entries) }
     ensures order { OnOk result (workers ≡ 1 → IsInOrder journal.new.entries (map_list command_of moves.now)) }
-    ensures moved { OnOk result (world.new.records ≡ records_in (run (outcome_in action.now.map) (world_of world.old.records)
+    ensures moved { OnOk result (world.new.records ≡ records_in (run (outcome_in action.now.map)
+        (world_of world.old.records)
         (history_of (map_list command_of moves.now) journal.new.entries)) world.old.records) }
     ensures unchanged { OnErr result (world.new ≡ world.old) }
     ensures none { OnErr result (journal.new.entries ≡ []) }

@@ -23,11 +23,14 @@ fn serve<R: Wait, A: Action, G: Gate>(
     gate: &G,
 )
     requires workers { (workers ≡ length shared.now.rooms) × (0 < workers) }
-    requires own { IsPassOf (fixed_in A.takes A.region_of A.effect_of shared.now) (length shared.now.rooms) shared.now.table pass.old }
+    requires own { IsPassOf (fixed_in A.takes A.region_of A.effect_of shared.now) (length shared.now.rooms)
+        shared.now.table pass.old }
     requires free { HasNoCommand pass.old }
-    requires room { length pass.old.view.log + length (served_by (length shared.now.rooms) pass.old.number (command_of cmd ∷ [])) ≤ pass.old.view.room }
+    requires room { length pass.old.view.log + length (served_by (length shared.now.rooms) pass.old.number
+        (command_of cmd ∷ [])) ≤ pass.old.view.room }
     requires live { has (fixed_in A.takes A.region_of A.effect_of shared.now).start.ids cmd.slot ≡ true }
-    ensures served { HasServed (fixed_in A.takes A.region_of A.effect_of shared.now) (length shared.now.rooms) shared.now.table pass.old pass.new
+    ensures served { HasServed (fixed_in A.takes A.region_of A.effect_of shared.now) (length shared.now.rooms)
+        shared.now.table pass.old pass.new
         (served_by (length shared.now.rooms) pass.old.number (command_of cmd ∷ [])) }
 {
     if cmd.slot % workers == pass.number() {
@@ -45,9 +48,11 @@ fn run_pass<R: Wait, A: Action, G: Gate>(
     gate: &G,
 )
     requires workers { (workers ≡ length shared.now.rooms) × (0 < workers) }
-    requires may { MayServe (fixed_in A.takes A.region_of A.effect_of shared.now) (length shared.now.rooms) shared.now.table (map command_of moves.now) pass.old }
+    requires may { MayServe (fixed_in A.takes A.region_of A.effect_of shared.now) (length shared.now.rooms)
+        shared.now.table (map command_of moves.now) pass.old }
     requires live { AreOfLive (fixed_in A.takes A.region_of A.effect_of shared.now) (map command_of moves.now) }
-    ensures served { HasServed (fixed_in A.takes A.region_of A.effect_of shared.now) (length shared.now.rooms) shared.now.table pass.old pass.new
+    ensures served { HasServed (fixed_in A.takes A.region_of A.effect_of shared.now) (length shared.now.rooms)
+        shared.now.table pass.old pass.new
         (served_by (length shared.now.rooms) pass.old.number (map command_of moves.now)) }
 {
     for cmd in moves {
@@ -66,11 +71,13 @@ pub(crate) fn run_passes<R: Threads + Wait + Sync, A: Action, G: Gate>(
 )
     requires workers { (workers ≡ length shared.now.rooms) × (0 < workers) }
     requires may { (i : ℕ) (d : _) → i < length passes.old.items
-        → MayServe (fixed_in A.takes A.region_of A.effect_of shared.now) (length shared.now.rooms) shared.now.table (map command_of moves.now) (slice_index_or passes.old.items i d) }
+        → MayServe (fixed_in A.takes A.region_of A.effect_of shared.now) (length shared.now.rooms) shared.now.table
+        (map command_of moves.now) (slice_index_or passes.old.items i d) }
     requires live { AreOfLive (fixed_in A.takes A.region_of A.effect_of shared.now) (map command_of moves.now) }
     ensures count { length passes.new.items ≡ length passes.old.items }
     ensures served { (i : ℕ) (d : _) → i < length passes.old.items
-        → HasServed (fixed_in A.takes A.region_of A.effect_of shared.now) (length shared.now.rooms) shared.now.table (slice_index_or passes.old.items i d) (slice_index_or passes.new.items i d)
+        → HasServed (fixed_in A.takes A.region_of A.effect_of shared.now) (length shared.now.rooms) shared.now.table
+        (slice_index_or passes.old.items i d) (slice_index_or passes.new.items i d)
         (served_by (length shared.now.rooms) (slice_index_or passes.old.items i d).number (map command_of moves.now)) }
 {
     thread::for_each_mut(
@@ -79,9 +86,11 @@ pub(crate) fn run_passes<R: Threads + Wait + Sync, A: Action, G: Gate>(
         usize::from(workers),
         &|_: usize, pass: &mut Pass<A>|
             requires { ((workers ≡ length shared.now.rooms) × (0 < workers))
-                × MayServe (fixed_in A.takes A.region_of A.effect_of shared.now) (length shared.now.rooms) shared.now.table (map command_of moves.now) pass.now
+                × MayServe (fixed_in A.takes A.region_of A.effect_of shared.now) (length shared.now.rooms)
+                shared.now.table (map command_of moves.now) pass.now
                 × AreOfLive (fixed_in A.takes A.region_of A.effect_of shared.now) (map command_of moves.now) }
-            ensures { HasServed (fixed_in A.takes A.region_of A.effect_of shared.entry.now) (length shared.entry.now.rooms) shared.entry.now.table pass.entry.now pass.exit.now
+            ensures { HasServed (fixed_in A.takes A.region_of A.effect_of shared.entry.now)
+                (length shared.entry.now.rooms) shared.entry.now.table pass.entry.now pass.exit.now
                 (served_by (length shared.entry.now.rooms) pass.entry.now.number (map command_of moves.entry.now)) }
         {
             run_pass(rt, shared, pass, moves, workers, gate);

@@ -15,8 +15,8 @@ use std::sync::Wait;
 use std::thread::Threads;
 use world_tree::World;
 
-/// Shares the world among the workers, runs the moves, and gives what was done to the world and to the empty list of logs.
-/// The only error is that memory is refused, and then no move was run.
+/// Shares the world among the workers, runs the moves, and gives what was done to the world and to the empty list of
+/// logs. The only error is that memory is refused, and then no move was run.
 pub(crate) fn run_on_workers<R: Threads + Wait + Sync, A: Action, G: Gate>(
     rt: &R,
     alloc: Global,
@@ -30,9 +30,11 @@ pub(crate) fn run_on_workers<R: Threads + Wait + Sync, A: Action, G: Gate>(
     requires workers { (0 < workers) × (workers ≤ 16) }
     requires few { length moves.now < 2 ^ 32 }
     requires taken { All (λ r. A.takes action.now r ≡ true) (live_in world.old.records) }
-    requires live { AreOfLive (fixed_by A.takes A.region_of A.effect_of action.now world.old) (map command_of moves.now) }
+    requires live { AreOfLive (fixed_by A.takes A.region_of A.effect_of action.now world.old)
+        (map command_of moves.now) }
     requires logs { logs.old ≡ [] }
-    ensures ran { OnOk result (HaveRun (fixed_by A.takes A.region_of A.effect_of action.now world.old) workers (map command_of moves.now) logs.new world.new) }
+    ensures ran { OnOk result (HaveRun (fixed_by A.takes A.region_of A.effect_of action.now world.old) workers
+        (map command_of moves.now) logs.new world.new) }
     ensures unchanged { OnErr result (world.new ≡ world.old) }
     ensures tree { world.new.tree ≡ world.old.tree }
     ensures linked { OnOk result (IsLinked world.new) }

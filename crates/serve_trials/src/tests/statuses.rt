@@ -1,5 +1,5 @@
 use super::{CUT_END, ONE_JOIN};
-use crate::serve;
+use arena_engine::serve;
 use edge_io::{MemSink, MemSource};
 use shared_moves::NoGate;
 use std::alloc::{AllocError, AllocGlobal};

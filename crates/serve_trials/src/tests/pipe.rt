@@ -1,6 +1,6 @@
 ghost use Rattle.std.specs.Prelude.{None};
 
-use crate::serve;
+use arena_engine::serve;
 use edge_io::{Failed, Sink, Source};
 use shared_moves::NoGate;
 use std::cell::Cell;

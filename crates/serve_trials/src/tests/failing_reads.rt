@@ -1,5 +1,5 @@
 use super::{THREE_MOVES, THREE_MOVES_OUTPUT};
-use crate::serve;
+use arena_engine::serve;
 use edge_io::{MemSink, MemSource};
 use shared_moves::NoGate;
 use std::alloc::{AllocError, AllocGlobal};

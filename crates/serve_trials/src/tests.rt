@@ -3,12 +3,14 @@ ghost use Rattle.demo_lines.specs.Bytes.{fault};
 ghost use Rattle.arena_engine.specs.Output.{HasRoom};
 ghost use Rattle.arena_engine.specs.Serving.{IsOrMemory};
 
-use super::*;
+use arena_engine::{Report, serve};
 use edge_io::{MemSink, MemSource};
 use shared_moves::NoGate;
-use std::alloc::AllocError;
+use std::alloc::{AllocError, AllocGlobal, Global};
 use std::process::Abort;
+use std::sync::Wait;
 use std::test::Fail;
+use std::thread::Threads;
 
 mod cut;
 mod cut_input;

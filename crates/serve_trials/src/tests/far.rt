@@ -1,4 +1,4 @@
-use crate::serve;
+use arena_engine::serve;
 use edge_io::{MemSink, MemSource};
 use entity_recs::Entry;
 use shared_moves::{Gate, Moment, Point};

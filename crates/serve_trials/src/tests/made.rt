@@ -1,4 +1,4 @@
-use crate::serve;
+use arena_engine::serve;
 use edge_io::{MemSink, MemSource};
 use shared_moves::NoGate;
 use std::alloc::AllocGlobal;

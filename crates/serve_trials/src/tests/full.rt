@@ -1,6 +1,6 @@
 ghost use Rattle.std.specs.Prelude.{◌<◌, length};
 
-use crate::serve;
+use arena_engine::serve;
 use edge_io::{MemSink, MemSource};
 use shared_moves::NoGate;
 use std::alloc::{AllocError, Global};

@@ -1,6 +1,6 @@
 use super::things::ONE_ITEM;
 use super::{ONE_JOIN, ONE_JOIN_OUTPUT};
-use crate::serve;
+use arena_engine::serve;
 use edge_io::{MemSink, MemSource};
 use shared_moves::NoGate;
 use std::test::Fail;
