@@ -32,23 +32,33 @@ fn serve_arguments<R: Threads + Wait + Sync, S: Source, K: Sink, G: Gate>(
     ensures asked { IfOk result (λ report. AskForNothing (map string_bytes arguments.now) → report.status ≡ 2) }
     ensures refused { IfOk result (λ report. report.status ≡ 2 → AskForNothing (map string_bytes arguments.now)) }
     ensures known { IfOk result (λ report. report.status ≤ 5) }
-    ensures done { IfOk result (λ report. (n : ℕ) → AsksToPlay (map string_bytes arguments.now) n → report.status ≡ 0 → IfSome (S.left source.old) (λ bytes.
+    ensures done { IfOk result (λ report. (n : ℕ) → AsksToPlay (map string_bytes arguments.now) n → report.status ≡ 0
+        → IfSome (S.left source.old) (λ bytes.
         Writes (K.taken sink.old) (K.taken sink.new) (HasLast (IsOutput n bytes) (last_in report)))) }
     ensures read { IfOk result (λ report. (n : ℕ) → AsksToPlay (map string_bytes arguments.now) n → report.status ≡ 0 →
-        ReadsToEnd source.old source.new (S.last source.new) (S.ended source.new ≡ S.ended source.old) (S.ended source.new ≡ true)
+        ReadsToEnd source.old source.new (S.last source.new) (S.ended source.new ≡ S.ended source.old)
+        (S.ended source.new ≡ true)
         (S.left source.old) (S.left source.new)) }
-    ensures recording_refused { IfOk result (λ report. (n : ℕ) → AsksToPlay (map string_bytes arguments.now) n → report.status ≡ 1 → IfSome (S.left source.old) (λ bytes.
-        Writes (K.taken sink.old) (K.taken sink.new) (HasLast (IsRefused n bytes (refusal_of report)) (last_in report)))) }
+    ensures recording_refused { IfOk result (λ report. (n : ℕ) → AsksToPlay (map string_bytes arguments.now) n
+        → report.status ≡ 1 → IfSome (S.left source.old) (λ bytes.
+        Writes (K.taken sink.old) (K.taken sink.new) (HasLast (IsRefused n bytes (refusal_of report))
+        (last_in report)))) }
     ensures untouched { IfOk result (λ report. report.status ≡ 2 → (source.new ≡ source.old) × (sink.new ≡ sink.old)) }
-    ensures read_fault { IfOk result (λ report. (n : ℕ) → AsksToPlay (map string_bytes arguments.now) n → report.status ≡ 3 →
+    ensures read_fault { IfOk result (λ report. (n : ℕ) → AsksToPlay (map string_bytes arguments.now) n
+        → report.status ≡ 3 →
         ReadsSome n (S.left source.old) (S.left source.new) (K.taken sink.old) (K.taken sink.new) (last_in report)) }
-    ensures read_cause { IfOk result (λ report. report.status ≡ 3 → HasRisen (S.faults source.old) (S.faults source.new)) }
-    ensures write_fault { IfOk result (λ report. (n : ℕ) → AsksToPlay (map string_bytes arguments.now) n → report.status ≡ 4 → IfSome (S.left source.old) (λ bytes.
+    ensures read_cause { IfOk result (λ report. report.status ≡ 3 → HasRisen (S.faults source.old)
+        (S.faults source.new)) }
+    ensures write_fault { IfOk result (λ report. (n : ℕ) → AsksToPlay (map string_bytes arguments.now) n
+        → report.status ≡ 4 → IfSome (S.left source.old) (λ bytes.
         Writes (K.taken sink.old) (K.taken sink.new) (IsCut n bytes (last_in report)))) }
     ensures write_cause { IfOk result (λ report. report.status ≡ 4 → HasRisen (K.faults sink.old) (K.faults sink.new)) }
     ensures taken_once { IfOk result (λ report. (n : ℕ) → AsksToPlay (map string_bytes arguments.now) n
         → (report.status ≡ 4 → ⊥) → IfSome (S.left source.old) (λ bytes.
         Writes (K.taken sink.old) (K.taken sink.new) (λ text. HasOneTakerEach (map_of bytes) (dids text)))) }
+    ensures some_frames { IfOk result (λ report. (n : ℕ) → AsksToPlay (map string_bytes arguments.now) n
+        → report.status ≡ 5 → IfSome (S.left source.old) (λ bytes.
+        Writes (K.taken sink.old) (K.taken sink.new) (HasLast (IsSomeFrames n bytes) (last_in report)))) }
     ensures memory { OnErr result (sink.new ≡ sink.old) }
     ensures made { IfOk result (λ report. (seed players frames : ℕ)
         → AsksToMake (map string_bytes arguments.now) seed players frames → report.status ≡ 0
@@ -56,6 +66,9 @@ fn serve_arguments<R: Threads + Wait + Sync, S: Source, K: Sink, G: Gate>(
     ensures made_cut { IfOk result (λ report. (seed players frames : ℕ)
         → AsksToMake (map string_bytes arguments.now) seed players frames → report.status ≡ 4
         → AppendsPart (K.taken sink.old) (K.taken sink.new) (generated_text seed players frames)) }
+    ensures made_nothing { IfOk result (λ report. (seed players frames : ℕ)
+        → AsksToMake (map string_bytes arguments.now) seed players frames → report.status ≡ 5
+        → sink.new ≡ sink.old) }
     ensures summed { IfOk result (λ report. (seed players frames workers : ℕ)
         → AsksToMatch (map string_bytes arguments.now) seed players frames workers → report.status ≡ 0
         → Appends (K.taken sink.old) (K.taken sink.new) (line_of_match seed players report.all)) }
@@ -67,8 +80,8 @@ fn serve_arguments<R: Threads + Wait + Sync, S: Source, K: Sink, G: Gate>(
     Ok(serve(rt, alloc, &words, source, sink, gate))
 }
 
-/// Serves what the program's arguments ask for, and reports how that ended. Where the arguments can't be had, nothing is
-/// read or written: they ask for nothing where one isn't UTF-8.
+/// Serves what the program's arguments ask for, and reports how that ended. Where the arguments can't be had, nothing
+/// is read or written: they ask for nothing where one isn't UTF-8.
 pub fn answer<R: Threads + Wait + Sync, S: Source, K: Sink, G: Gate>(
     rt: &R,
     alloc: Global,
@@ -77,37 +90,52 @@ pub fn answer<R: Threads + Wait + Sync, S: Source, K: Sink, G: Gate>(
     sink: &mut K,
     gate: &G,
 ) -> Report
-    ensures asked { IfOk arguments (λ all. AskForNothing (map string_bytes all.items)) → (result.status ≡ 2) ⊎ (result.status ≡ 5) }
+    ensures asked { IfOk arguments (λ all. AskForNothing (map string_bytes all.items)) → (result.status ≡ 2)
+        ⊎ (result.status ≡ 5) }
     ensures refused { result.status ≡ 2 → IfOk arguments (λ all. AskForNothing (map string_bytes all.items)) }
     ensures known { result.status ≤ 5 }
-    ensures done { (n : ℕ) → IsOkAnd arguments (λ all. AsksToPlay (map string_bytes all.items) n) → result.status ≡ 0 → IfSome (S.left source.old) (λ bytes.
+    ensures done { (n : ℕ) → IsOkAnd arguments (λ all. AsksToPlay (map string_bytes all.items) n) → result.status ≡ 0
+        → IfSome (S.left source.old) (λ bytes.
         Writes (K.taken sink.old) (K.taken sink.new) (HasLast (IsOutput n bytes) (last_in result))) }
     ensures read { (n : ℕ) → IsOkAnd arguments (λ all. AsksToPlay (map string_bytes all.items) n) → result.status ≡ 0 →
-        ReadsToEnd source.old source.new (S.last source.new) (S.ended source.new ≡ S.ended source.old) (S.ended source.new ≡ true)
+        ReadsToEnd source.old source.new (S.last source.new) (S.ended source.new ≡ S.ended source.old)
+        (S.ended source.new ≡ true)
         (S.left source.old) (S.left source.new) }
-    ensures recording_refused { (n : ℕ) → IsOkAnd arguments (λ all. AsksToPlay (map string_bytes all.items) n) → result.status ≡ 1 → IfSome (S.left source.old) (λ bytes.
-        Writes (K.taken sink.old) (K.taken sink.new) (HasLast (IsRefused n bytes (refusal_of result)) (last_in result))) }
+    ensures recording_refused { (n : ℕ) → IsOkAnd arguments (λ all. AsksToPlay (map string_bytes all.items) n)
+        → result.status ≡ 1 → IfSome (S.left source.old) (λ bytes.
+        Writes (K.taken sink.old) (K.taken sink.new) (HasLast (IsRefused n bytes (refusal_of result))
+        (last_in result))) }
     ensures untouched { result.status ≡ 2 → (source.new ≡ source.old) × (sink.new ≡ sink.old) }
-    ensures read_fault { (n : ℕ) → IsOkAnd arguments (λ all. AsksToPlay (map string_bytes all.items) n) → result.status ≡ 3 →
+    ensures read_fault { (n : ℕ) → IsOkAnd arguments (λ all. AsksToPlay (map string_bytes all.items) n)
+        → result.status ≡ 3 →
         ReadsSome n (S.left source.old) (S.left source.new) (K.taken sink.old) (K.taken sink.new) (last_in result) }
     ensures read_cause { result.status ≡ 3 → HasRisen (S.faults source.old) (S.faults source.new) }
-    ensures write_fault { (n : ℕ) → IsOkAnd arguments (λ all. AsksToPlay (map string_bytes all.items) n) → result.status ≡ 4 → IfSome (S.left source.old) (λ bytes.
+    ensures write_fault { (n : ℕ) → IsOkAnd arguments (λ all. AsksToPlay (map string_bytes all.items) n)
+        → result.status ≡ 4 → IfSome (S.left source.old) (λ bytes.
         Writes (K.taken sink.old) (K.taken sink.new) (IsCut n bytes (last_in result))) }
     ensures write_cause { result.status ≡ 4 → HasRisen (K.faults sink.old) (K.faults sink.new) }
     ensures taken_once { (n : ℕ) → IsOkAnd arguments (λ all. AsksToPlay (map string_bytes all.items) n)
         → (result.status ≡ 4 → ⊥) → IfSome (S.left source.old) (λ bytes.
         Writes (K.taken sink.old) (K.taken sink.new) (λ text. HasOneTakerEach (map_of bytes) (dids text))) }
+    ensures some_frames { (n : ℕ) → IsOkAnd arguments (λ all. AsksToPlay (map string_bytes all.items) n)
+        → result.status ≡ 5 → IfSome (S.left source.old) (λ bytes.
+        Writes (K.taken sink.old) (K.taken sink.new) (HasLast (IsSomeFrames n bytes) (last_in result))) }
     ensures made { (seed players frames : ℕ)
         → IsOkAnd arguments (λ all. AsksToMake (map string_bytes all.items) seed players frames) → result.status ≡ 0
         → Appends (K.taken sink.old) (K.taken sink.new) (generated_text seed players frames) }
     ensures made_cut { (seed players frames : ℕ)
         → IsOkAnd arguments (λ all. AsksToMake (map string_bytes all.items) seed players frames) → result.status ≡ 4
         → AppendsPart (K.taken sink.old) (K.taken sink.new) (generated_text seed players frames) }
+    ensures made_nothing { (seed players frames : ℕ)
+        → IsOkAnd arguments (λ all. AsksToMake (map string_bytes all.items) seed players frames) → result.status ≡ 5
+        → sink.new ≡ sink.old }
     ensures summed { (seed players frames workers : ℕ)
-        → IsOkAnd arguments (λ all. AsksToMatch (map string_bytes all.items) seed players frames workers) → result.status ≡ 0
+        → IsOkAnd arguments (λ all. AsksToMatch (map string_bytes all.items) seed players frames workers)
+        → result.status ≡ 0
         → Appends (K.taken sink.old) (K.taken sink.new) (line_of_match seed players result.all) }
     ensures summed_cut { (seed players frames workers : ℕ)
-        → IsOkAnd arguments (λ all. AsksToMatch (map string_bytes all.items) seed players frames workers) → result.status ≡ 4
+        → IsOkAnd arguments (λ all. AsksToMatch (map string_bytes all.items) seed players frames workers)
+        → result.status ≡ 4
         → AppendsPart (K.taken sink.old) (K.taken sink.new) (line_of_match seed players result.all) }
 {
     match arguments {

@@ -1,4 +1,5 @@
-//! The arena server as a program: its words are the command, its input a recording, its output what the players receive.
+//! The arena server as a program: its words are the command, its input a recording, its output what the players
+//! receive.
 //!
 //! It ends with the status of the report. For every status but 0 it prints why, in one line on standard error.
 #![tactic(auto)]
