@@ -59,11 +59,8 @@ thing_with map id = find (λ thing. thing.id == id) (entities_of map)
 -- a record of this kind is one of those of a map
 abbrev pub is_one_of : Kind → MapView → Rec → Bool
 is_one_of kinds.Player map r = is_player map r
-is_one_of kinds.Ammo map r = is_thing (thing_with map r.id) r
-is_one_of kinds.Gem map r = is_thing (thing_with map r.id) r
-is_one_of kinds.Teleporter map r = is_thing (thing_with map r.id) r
-is_one_of kinds.Goal map r = is_thing (thing_with map r.id) r
 is_one_of kinds.Lift map r = is_lift (lift_of map r.id) (thing_with map r.id) r
+is_one_of _ map r = is_thing (thing_with map r.id) r
 
 -- the record is one of a world that is valid for the map, whatever its state
 unfoldable pub takes : MapView → Rec → Bool

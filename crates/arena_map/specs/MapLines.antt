@@ -8,30 +8,19 @@ use Rattle.arena_map.specs.declared.map_line.MapLine.TheVariants.{Arena, Block, 
 
 -- the kind is an item's
 abbrev pub is_item : Kind → Bool
-is_item kinds.Player = false
 is_item kinds.Ammo = true
 is_item kinds.Gem = true
-is_item kinds.Teleporter = false
-is_item kinds.Goal = false
-is_item kinds.Lift = false
+is_item _ = false
 
 -- the kind is a teleporter's
 abbrev pub is_teleporter : Kind → Bool
-is_teleporter kinds.Player = false
-is_teleporter kinds.Ammo = false
-is_teleporter kinds.Gem = false
 is_teleporter kinds.Teleporter = true
-is_teleporter kinds.Goal = false
-is_teleporter kinds.Lift = false
+is_teleporter _ = false
 
 -- the kind is a lift's
 abbrev pub is_lift : Kind → Bool
-is_lift kinds.Player = false
-is_lift kinds.Ammo = false
-is_lift kinds.Gem = false
-is_lift kinds.Teleporter = false
-is_lift kinds.Goal = false
 is_lift kinds.Lift = true
+is_lift _ = false
 
 -- the numbers of a line are within their limits, and an item's kind is one
 abbrev pub IsWithinLimits : MapLine → Type 0
@@ -48,12 +37,7 @@ IsWithinLimits (Lift lo hi rise speed) =
 -- the line is that of the arena, with which a map begins
 abbrev pub is_arena : MapLine → Bool
 is_arena (Arena lo hi) = true
-is_arena (Block lo hi) = false
-is_arena (Spawn at) = false
-is_arena (Item at kind delay) = false
-is_arena (Teleport lo hi dest) = false
-is_arena (Goal lo hi) = false
-is_arena (Lift lo hi rise speed) = false
+is_arena _ = false
 
 -- the line is one that is added to a map that has begun: any but that of the arena
 abbrev pub is_added : MapLine → Bool
@@ -61,50 +45,27 @@ is_added line = not (is_arena line)
 
 -- the line is an item's
 abbrev pub is_item_line : MapLine → Bool
-is_item_line (Arena lo hi) = false
-is_item_line (Block lo hi) = false
-is_item_line (Spawn at) = false
 is_item_line (Item at kind delay) = true
-is_item_line (Teleport lo hi dest) = false
-is_item_line (Goal lo hi) = false
-is_item_line (Lift lo hi rise speed) = false
+is_item_line _ = false
 
 -- the line is a teleporter's
 abbrev pub is_teleport_line : MapLine → Bool
-is_teleport_line (Arena lo hi) = false
-is_teleport_line (Block lo hi) = false
-is_teleport_line (Spawn at) = false
-is_teleport_line (Item at kind delay) = false
 is_teleport_line (Teleport lo hi dest) = true
-is_teleport_line (Goal lo hi) = false
-is_teleport_line (Lift lo hi rise speed) = false
+is_teleport_line _ = false
 
 -- the line is a goal's
 abbrev pub is_goal_line : MapLine → Bool
-is_goal_line (Arena lo hi) = false
-is_goal_line (Block lo hi) = false
-is_goal_line (Spawn at) = false
-is_goal_line (Item at kind delay) = false
-is_goal_line (Teleport lo hi dest) = false
 is_goal_line (Goal lo hi) = true
-is_goal_line (Lift lo hi rise speed) = false
+is_goal_line _ = false
 
 -- the line is a lift's
 abbrev pub is_lift_line : MapLine → Bool
-is_lift_line (Arena lo hi) = false
-is_lift_line (Block lo hi) = false
-is_lift_line (Spawn at) = false
-is_lift_line (Item at kind delay) = false
-is_lift_line (Teleport lo hi dest) = false
-is_lift_line (Goal lo hi) = false
 is_lift_line (Lift lo hi rise speed) = true
+is_lift_line _ = false
 
 -- the line gives a thing: an item, a teleporter, a goal or a lift
 abbrev pub is_thing_line : MapLine → Bool
 is_thing_line (Arena lo hi) = false
 is_thing_line (Block lo hi) = false
 is_thing_line (Spawn at) = false
-is_thing_line (Item at kind delay) = true
-is_thing_line (Teleport lo hi dest) = true
-is_thing_line (Goal lo hi) = true
-is_thing_line (Lift lo hi rise speed) = true
+is_thing_line _ = true

@@ -47,23 +47,13 @@ shaft lo hi rise = bounds lo (plus hi (upwards rise))
 
 -- the shaft of the lift on a line
 abbrev pub shaft_of : MapLine → Option Bounds
-shaft_of (Arena lo hi) = None
-shaft_of (Block lo hi) = None
-shaft_of (Spawn at) = None
-shaft_of (Item at kind delay) = None
-shaft_of (Teleport lo hi dest) = None
-shaft_of (Goal lo hi) = None
 shaft_of (Lift lo hi rise speed) = Some (shaft lo hi rise)
+shaft_of _ = None
 
 -- the lift on a line has an inside
 abbrev pub has_thick_lift : MapLine → Bool
-has_thick_lift (Arena lo hi) = true
-has_thick_lift (Block lo hi) = true
-has_thick_lift (Spawn at) = true
-has_thick_lift (Item at kind delay) = true
-has_thick_lift (Teleport lo hi dest) = true
-has_thick_lift (Goal lo hi) = true
 has_thick_lift (Lift lo hi rise speed) = is_thick lo hi
+has_thick_lift _ = true
 
 -- rule 2: a block, teleporter, goal or lift has an inside, and is inside the arena
 abbrev pub keeps_box : Bounds → MapLine → Bool
@@ -77,30 +67,16 @@ keeps_box arena (Lift lo hi rise speed) = is_box_inside arena lo hi
 
 -- rule 4: a player at the spawn or the destination is inside the arena
 abbrev pub keeps_stand : Bounds → MapLine → Bool
-keeps_stand arena (Arena lo hi) = true
-keeps_stand arena (Block lo hi) = true
 keeps_stand arena (Spawn at) = is_player_inside arena at
-keeps_stand arena (Item at kind delay) = true
 keeps_stand arena (Teleport lo hi dest) = is_player_inside arena dest
-keeps_stand arena (Goal lo hi) = true
-keeps_stand arena (Lift lo hi rise speed) = true
+keeps_stand _ _ = true
 
 -- rule 5: an item's body is inside the arena
 abbrev pub keeps_item : Bounds → MapLine → Bool
-keeps_item arena (Arena lo hi) = true
-keeps_item arena (Block lo hi) = true
-keeps_item arena (Spawn at) = true
 keeps_item arena (Item at kind delay) = contains arena (item_body at)
-keeps_item arena (Teleport lo hi dest) = true
-keeps_item arena (Goal lo hi) = true
-keeps_item arena (Lift lo hi rise speed) = true
+keeps_item _ _ = true
 
 -- rule 6: a lift at its highest place is inside the arena
 abbrev pub keeps_travel : Bounds → MapLine → Bool
-keeps_travel arena (Arena lo hi) = true
-keeps_travel arena (Block lo hi) = true
-keeps_travel arena (Spawn at) = true
-keeps_travel arena (Item at kind delay) = true
-keeps_travel arena (Teleport lo hi dest) = true
-keeps_travel arena (Goal lo hi) = true
 keeps_travel arena (Lift lo hi rise speed) = contains arena (raised lo hi rise)
+keeps_travel _ _ = true

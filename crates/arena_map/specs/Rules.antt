@@ -22,12 +22,7 @@ broken_by_arena lo hi = if is_wide lo hi then None else Some fault.Arena
 -- the rule that the line of an arena breaks
 abbrev pub broken_at_first : MapLine → Option MapFault
 broken_at_first (Arena lo hi) = broken_by_arena lo hi
-broken_at_first (Block lo hi) = None
-broken_at_first (Spawn at) = None
-broken_at_first (Item at kind delay) = None
-broken_at_first (Teleport lo hi dest) = None
-broken_at_first (Goal lo hi) = None
-broken_at_first (Lift lo hi rise speed) = None
+broken_at_first _ = None
 
 -- the map of an arena, with nothing in it
 abbrev pub bare_map : Vec3 → Vec3 → MapView
@@ -36,12 +31,7 @@ bare_map lo hi = map_of (bounds lo hi) [] [] []
 -- the map that the line of an arena begins
 abbrev pub begun_map : MapLine → Option MapView
 begun_map (Arena lo hi) = Some (bare_map lo hi)
-begun_map (Block lo hi) = None
-begun_map (Spawn at) = None
-begun_map (Item at kind delay) = None
-begun_map (Teleport lo hi dest) = None
-begun_map (Goal lo hi) = None
-begun_map (Lift lo hi rise speed) = None
+begun_map _ = None
 
 -- ---- the other lines
 
@@ -61,14 +51,10 @@ meets_shaft shafts box = list_any (λ shaft. overlaps shaft box) shafts
 
 -- rule 8: a block overlaps no earlier shaft, and a lift's shaft no earlier block and no earlier shaft
 abbrev pub keeps_shafts : MapView → MapLine → Bool
-keeps_shafts map (Arena lo hi) = true
 keeps_shafts map (Block lo hi) = not (meets_shaft (shafts_of map) (bounds lo hi))
-keeps_shafts map (Spawn at) = true
-keeps_shafts map (Item at kind delay) = true
-keeps_shafts map (Teleport lo hi dest) = true
-keeps_shafts map (Goal lo hi) = true
 keeps_shafts map (Lift lo hi rise speed) =
     not (is_blocked (shaft lo hi rise) map.blocks) && not (meets_shaft (shafts_of map) (shaft lo hi rise))
+keeps_shafts _ _ = true
 
 -- the first rule that a line breaks, added to a map
 abbrev pub broken_rule : MapView → MapLine → Option MapFault

@@ -49,30 +49,15 @@ records_from id (line ∷ lines) = record_of id line ∷ records_from (id + 1) l
 
 -- where a teleporter moves players
 abbrev pub dest_in : MapLine → Option Vec3
-dest_in (Arena lo hi) = None
-dest_in (Block lo hi) = None
-dest_in (Spawn at) = None
-dest_in (Item at kind delay) = None
 dest_in (Teleport lo hi dest) = Some dest
-dest_in (Goal lo hi) = None
-dest_in (Lift lo hi rise speed) = None
+dest_in _ = None
 
 -- how many frames an item stays away
 abbrev pub delay_in : MapLine → Option ℕ
-delay_in (Arena lo hi) = None
-delay_in (Block lo hi) = None
-delay_in (Spawn at) = None
 delay_in (Item at kind delay) = Some delay
-delay_in (Teleport lo hi dest) = None
-delay_in (Goal lo hi) = None
-delay_in (Lift lo hi rise speed) = None
+delay_in _ = None
 
 -- the data of a lift
 abbrev pub lift_data : MapLine → Option lifts.Lift
-lift_data (Arena lo hi) = None
-lift_data (Block lo hi) = None
-lift_data (Spawn at) = None
-lift_data (Item at kind delay) = None
-lift_data (Teleport lo hi dest) = None
-lift_data (Goal lo hi) = None
 lift_data (Lift lo hi rise speed) = Some (record { low = lo.z; rise = rise; speed = speed })
+lift_data _ = None

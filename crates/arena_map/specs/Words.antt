@@ -31,12 +31,9 @@ map_word text =
 
 -- how the kind of an item is written; the other kinds are on no line
 abbrev pub kind_text : Kind → List ℕ
-kind_text kinds.Player = []
 kind_text kinds.Ammo = codes "ammo"
 kind_text kinds.Gem = codes "gem"
-kind_text kinds.Teleporter = []
-kind_text kinds.Goal = []
-kind_text kinds.Lift = []
+kind_text _ = []
 
 -- the kind of an item that is written so
 abbrev pub item_kind : List ℕ → Option Kind

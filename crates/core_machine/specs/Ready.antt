@@ -2,8 +2,8 @@
 use Rattle.std.specs.Prelude.{◌≡◌, Bool, true, false, if◌then◌else◌, Option, Some, None}
 use Rattle.entity_recs.specs.declared.effect.Effect.{Effect}
 use Rattle.entity_recs.specs.Commands.{Command}
-use Rattle.core_steps.specs.Views.{Fixed, Point, Idle, Owning, Taking, Checking, Entering, Entered, Loading, Leaving}
-use Rattle.core_steps.specs.Views.{Sensing, Resolving, Claiming, Storing, Releasing, Returning, Yielding, View}
+use Rattle.core_steps.specs.Views.{Fixed, Point}
+use Rattle.core_steps.specs.Views.{Resolving, View}
 use Rattle.core_steps.specs.Views.{effect_loaded}
 use Rattle.core_steps.specs.Steps.{is_taking}
 use Rattle.core_steps.specs.Machine.{IsPending}
@@ -11,21 +11,8 @@ use Rattle.core_machine.specs.Sound.{IsSound}
 
 -- all is read, and the effect enters the view with the next step
 abbrev pub is_resolving : Point → Bool
-is_resolving Idle = false
-is_resolving Owning = false
-is_resolving (Taking got rest) = false
-is_resolving Checking = false
-is_resolving (Entering node plan) = false
-is_resolving (Entered node plan) = false
-is_resolving (Loading node part players plan) = false
-is_resolving (Leaving node plan) = false
-is_resolving (Sensing ids) = false
 is_resolving Resolving = true
-is_resolving (Claiming got rest) = false
-is_resolving (Storing nodes stores) = false
-is_resolving (Releasing nodes) = false
-is_resolving (Returning leaves) = false
-is_resolving (Yielding nodes leaves) = false
+is_resolving _ = false
 
 -- the effect that enters the view with the next step, if one does
 abbrev pub effect_due : Fixed → View → Option Effect

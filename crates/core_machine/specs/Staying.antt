@@ -42,11 +42,7 @@ is_player r =
 -- a record of this kind is taken: players alone are
 abbrev pub is_taken : Kind → Rec → Bool
 is_taken Player r = is_player r && nat_lt r.seq 4294967296
-is_taken Ammo r = false
-is_taken Gem r = false
-is_taken Teleporter r = false
-is_taken Goal r = false
-is_taken Lift r = false
+is_taken _ _ = false
 
 -- which records are taken
 abbrev pub takes : Rec → Bool
@@ -119,11 +115,7 @@ player_is_keepable r kind h =
 
 pub keepable : (r : Rec) (kind : Kind) → r.kind ≡ kind → is_taken kind r ≡ true → IsKeepable r
 keepable r Player e h = player_is_keepable r e h
-keepable r Ammo e h = absurd (false≢true h)
-keepable r Gem e h = absurd (false≢true h)
-keepable r Teleporter e h = absurd (false≢true h)
-keepable r Goal e h = absurd (false≢true h)
-keepable r Lift e h = absurd (false≢true h)
+keepable _ _ _ h = absurd (false≢true h)
 
 numbered : (kind : Kind) (r : Rec) (seq : ℕ) → seq < 2 ^ 32 → is_taken kind r ≡ true
     → is_taken kind (record r { seq = seq }) ≡ true

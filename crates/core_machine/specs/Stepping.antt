@@ -3,8 +3,7 @@ use Rattle.std.specs.Prelude.{ℕ, ◌≡◌, ◌<◌, ◌+◌, ◌^◌, ◌==�
 use Rattle.std.specs.Option.{option_map}
 use Rattle.core_steps.specs.declared.step.Step.{Step}
 use Rattle.core_steps.specs.declared.step.StepKind.{StepKind}
-use Rattle.core_steps.specs.declared.step.StepKind.TheVariants.{Take, GiveBack, LoadList, Load, Commit, Bit, Store}
-use Rattle.core_steps.specs.declared.step.StepKind.TheVariants.{Count}
+use Rattle.core_steps.specs.declared.step.StepKind.TheVariants.{Take, Commit}
 use Rattle.core_steps.specs.Cells.{Words, word_at}
 use Rattle.core_steps.specs.Views.{Fixed, View}
 use Rattle.core_steps.specs.Steps.{first_yield}
@@ -26,13 +25,7 @@ seat_next F seat =
 -- whether a step of this kind is done where this word was found: a take is done where the node is free
 abbrev pub is_done : StepKind → ℕ → Bool
 is_done Take found = found == 0
-is_done GiveBack found = true
-is_done LoadList found = true
-is_done Load found = true
-is_done Commit found = true
-is_done Bit found = true
-is_done Store found = true
-is_done Count found = true
+is_done _ _ = true
 
 -- the step's word lies in the table, the view after it is sound, and the count of commits doesn't reach its end
 pub record IsOnWord (F : Fixed) (words : Words) (view : View) (next : Next) : Type 0 where

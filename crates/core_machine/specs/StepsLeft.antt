@@ -4,8 +4,7 @@ use Rattle.std.specs.Prelude.{is_some}
 use Rattle.entity_recs.specs.declared.effect.Effect.{Effect}
 use Rattle.core_steps.specs.Views.{Fixed, Point, Idle, Owning, Taking, Checking, Entering, Entered, Loading, Leaving}
 use Rattle.core_steps.specs.Views.{Sensing, Resolving, Claiming, Storing, Releasing, Returning, Yielding, View}
-use Rattle.core_steps.specs.Machine.{Next, Begin, LoadOwn, LoadAgain, TakeNode, ClaimNode, ReadList, ReadPlayer}
-use Rattle.core_steps.specs.Machine.{ReadState, CommitMove, StoreWord, GiveNode, YieldNode, YieldCount}
+use Rattle.core_steps.specs.Machine.{Next, TakeNode, ClaimNode}
 use Rattle.core_machine.specs.Going.{view_found}
 use Rattle.core_machine.specs.Nexts.{next_with, the_next}
 
@@ -61,19 +60,9 @@ steps_left F effect view = left_at F effect (length view.own) (length view.again
 
 -- the step, where this word was found, is no refused take
 abbrev pub is_served : Next → ℕ → Bool
-is_served (Begin c) found = true
-is_served LoadOwn found = true
-is_served LoadAgain found = true
 is_served (TakeNode node) found = found == 0
 is_served (ClaimNode e node) found = found == 0
-is_served (ReadList node plan) found = true
-is_served (ReadPlayer node part slot players plan) found = true
-is_served (ReadState id ids) found = true
-is_served (CommitMove e nodes) found = true
-is_served (StoreWord nodes store stores) found = true
-is_served (GiveNode node) found = true
-is_served (YieldNode node) found = true
-is_served YieldCount found = true
+is_served _ _ = true
 
 -- what a view says for its steps to lower how many are left: the loads are in part, leaves are wanted, and the effect
 -- in view is the one that is kept

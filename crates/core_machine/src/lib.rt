@@ -10,6 +10,7 @@ pub use reading::read_record;
 pub use rules::Rules;
 pub use seat::{ListRead, PlayerRead, Refused, Seat};
 pub use start::with_top_bit;
+pub use word_steps::first_of_two;
 pub use words::Words;
 
 mod boxes;

@@ -14,8 +14,7 @@ use Rattle.core_steps.specs.Views.{is_busy, View, holds}
 use Rattle.core_steps.specs.Steps.{Core, is_taking}
 use Rattle.core_steps.specs.Steps.{make_seat}
 use Rattle.core_steps.specs.Stands.{start_core}
-use Rattle.core_steps.specs.Machine.{Machine, Next, Begin, LoadOwn, LoadAgain, TakeNode, ClaimNode, ReadList}
-use Rattle.core_steps.specs.Machine.{ReadPlayer, ReadState, CommitMove, StoreWord, GiveNode, YieldNode, YieldCount}
+use Rattle.core_steps.specs.Machine.{Machine, Next, TakeNode, ClaimNode}
 use Rattle.core_steps.specs.Machine.{next_of, machine_after, IsPending, MachineStands}
 
 -- the core after seats with these rooms are made from seat 0
@@ -88,19 +87,9 @@ pub record StandsSomehow (F : Fixed) (m : Machine) : Type 0 where
 
 -- the node of a take
 abbrev pub node_taken : Next → Option ℕ
-node_taken (Begin c) = None
-node_taken LoadOwn = None
-node_taken LoadAgain = None
 node_taken (TakeNode node) = Some node
 node_taken (ClaimNode e node) = Some node
-node_taken (ReadList node plan) = None
-node_taken (ReadPlayer node part slot players plan) = None
-node_taken (ReadState id ids) = None
-node_taken (CommitMove e nodes) = None
-node_taken (StoreWord nodes store stores) = None
-node_taken (GiveNode node) = None
-node_taken (YieldNode node) = None
-node_taken YieldCount = None
+node_taken _ = None
 
 -- the seat waits: it takes a node next that another seat holds
 pub record IsWaiting (F : Fixed) (m : Machine) (i : ℕ) : Type 0 where

@@ -15,11 +15,10 @@ use Rattle.core_steps.specs.Cells.{Words, put, word_in, cell_of, count_index, no
 use Rattle.core_steps.specs.Cells.{state_index}
 use Rattle.core_steps.specs.Views as views
 use Rattle.entity_recs.specs.declared.effect.NewState.{NewState}
-use Rattle.core_steps.specs.Views.{ListRead, PlayerRead, Stage, AtRest, AtOwning, AtTaking, AtChecking, AtReading}
-use Rattle.core_steps.specs.Views.{AtClaiming, AtStoring, AtReleasing, AtReturning, AtYielding}
+use Rattle.core_steps.specs.Views.{ListRead, PlayerRead}
 use Rattle.core_steps.specs.Views.{Fixed, Point, Idle, Owning, Taking, Checking, Entering, Entered, Loading, Leaving}
 use Rattle.core_steps.specs.Views.{Sensing, Resolving, Claiming, Storing, Releasing, Returning, Yielding, stage_of}
-use Rattle.core_steps.specs.Views.{is_busy, is_whole, View, record_read, write_nodes, effect_loaded, nodes_of, holds}
+use Rattle.core_steps.specs.Views.{is_busy, is_whole, View, record_read, write_nodes, effect_loaded, nodes_of}
 use Rattle.core_steps.specs.Views.{has}
 use Rattle.core_steps.specs.Steps.{Core, item_at, take_node, claim_node, refuse_node, next_give, give_node, is_taking}
 use Rattle.core_steps.specs.Steps.{first_yield, yield_node, yield_nothing, load_list, begin_move, load_own, load_again}
@@ -200,19 +199,8 @@ machine_after F m i next = record
 
 -- the item that it commits, if any
 abbrev pub items_after : Core → ℕ → Next → List Item
-items_after core i (Begin c) = []
-items_after core i LoadOwn = []
-items_after core i LoadAgain = []
-items_after core i (TakeNode node) = []
-items_after core i (ClaimNode e node) = []
-items_after core i (ReadList node plan) = []
-items_after core i (ReadPlayer node part slot players plan) = []
-items_after core i (ReadState id ids) = []
 items_after core i (CommitMove e nodes) = item_at core.words.commits (core.view i) e ∷ []
-items_after core i (StoreWord nodes store stores) = []
-items_after core i (GiveNode node) = []
-items_after core i (YieldNode node) = []
-items_after core i YieldCount = []
+items_after _ _ _ = []
 
 -- the word of a store
 abbrev pub word_of_store : Words → views.Store → ℕ
@@ -252,21 +240,10 @@ pub record AreLeavesLeft (inner leaves wanted : List ℕ) : Type 0 where
 
 -- something is left where the point says so
 abbrev pub SomeIsLeft : Point → List ℕ → Type 0
-SomeIsLeft Idle wanted = Unit {0}
-SomeIsLeft Owning wanted = Unit {0}
-SomeIsLeft (Taking got rest) wanted = Unit {0}
-SomeIsLeft Checking wanted = Unit {0}
-SomeIsLeft (Entering node plan) wanted = Unit {0}
-SomeIsLeft (Entered node plan) wanted = Unit {0}
-SomeIsLeft (Loading node part players plan) wanted = Unit {0}
-SomeIsLeft (Leaving node plan) wanted = Unit {0}
 SomeIsLeft (Sensing ids) wanted = 0 < length ids
-SomeIsLeft Resolving wanted = Unit {0}
-SomeIsLeft (Claiming got rest) wanted = Unit {0}
-SomeIsLeft (Storing nodes stores) wanted = Unit {0}
-SomeIsLeft (Releasing nodes) wanted = Unit {0}
 SomeIsLeft (Returning leaves) wanted = AreLeavesLeft [] leaves wanted
 SomeIsLeft (Yielding nodes leaves) wanted = AreLeavesLeft nodes leaves wanted
+SomeIsLeft _ _ = Unit {0}
 
 -- how many list words may still be read: as many as there are nodes before the first is read, and then the nodes of the
 -- plan that are ahead

@@ -285,21 +285,9 @@ IsAt F cmd own wanted again lists others states effect (Yielding nodes leaves) =
 
 -- the node of the present visit, once its list is read
 abbrev pub is_present : Point → ℕ → Bool
-is_present Idle node = false
-is_present Owning node = false
-is_present (Taking got rest) node = false
-is_present Checking node = false
-is_present (Entering n plan) node = false
-is_present (Entered n plan) node = false
 is_present (Loading n part players plan) node = n == node
 is_present (Leaving n plan) node = n == node
-is_present (Sensing ids) node = false
-is_present Resolving node = false
-is_present (Claiming got rest) node = false
-is_present (Storing nodes stores) node = false
-is_present (Releasing nodes) node = false
-is_present (Returning leaves) node = false
-is_present (Yielding nodes leaves) node = false
+is_present _ _ = false
 
 -- the words that were loaded of this player under the present node
 abbrev pub part_of : Point → ℕ → List ℕ

@@ -78,21 +78,10 @@ rest_of (n ∷ ns) = ns
 
 -- the node that is taken next, where no effect enters the view
 abbrev pub next_take : Point → Option ℕ
-next_take Idle = None
-next_take Owning = None
 next_take (Taking got rest) = first rest
-next_take Checking = None
 next_take (Entering node plan) = Some node
-next_take (Entered node plan) = None
-next_take (Loading node part players plan) = None
-next_take (Leaving node plan) = None
-next_take (Sensing ids) = None
-next_take Resolving = None
 next_take (Claiming got rest) = first rest
-next_take (Storing nodes stores) = None
-next_take (Releasing nodes) = None
-next_take (Returning leaves) = None
-next_take (Yielding nodes leaves) = None
+next_take _ = None
 
 -- the point after that node is taken
 abbrev pub point_after_take : ℕ → Point → Point
@@ -155,21 +144,11 @@ first_of_two (node ∷ nodes) leaves = Some node
 
 -- the node that is given back next
 abbrev pub next_give : Point → List ℕ → Option ℕ
-next_give Idle wanted = None
-next_give Owning wanted = None
-next_give (Taking got rest) wanted = None
-next_give Checking wanted = None
-next_give (Entering node plan) wanted = None
-next_give (Entered node plan) wanted = None
-next_give (Loading node part players plan) wanted = None
 next_give (Leaving node plan) wanted = Some node
-next_give (Sensing ids) wanted = None
-next_give Resolving wanted = None
-next_give (Claiming got rest) wanted = None
-next_give (Storing nodes stores) wanted = None
 next_give (Releasing nodes) wanted = first_of_two nodes wanted
 next_give (Returning leaves) wanted = first leaves
 next_give (Yielding nodes leaves) wanted = first_of_two nodes leaves
+next_give _ _ = None
 
 -- the view with the rest of these inner nodes and then of the leaves to be given back, after the commit
 abbrev pub released : View → List ℕ → View
@@ -208,21 +187,11 @@ give_node F core i node = with_node core node 0 i (view_after_give F (core.view 
 -- the command may be given up here: a node is to be taken next, or no write node is left to be taken and the commit
 -- comes next
 abbrev pub is_taking : Point → Bool
-is_taking Idle = false
-is_taking Owning = false
 is_taking (Taking got rest) = true
-is_taking Checking = false
 is_taking (Entering node plan) = true
-is_taking (Entered node plan) = false
-is_taking (Loading node part players plan) = false
-is_taking (Leaving node plan) = false
-is_taking (Sensing ids) = false
 is_taking Resolving = true
 is_taking (Claiming got rest) = true
-is_taking (Storing nodes stores) = false
-is_taking (Releasing nodes) = false
-is_taking (Returning leaves) = false
-is_taking (Yielding nodes leaves) = false
+is_taking _ = false
 
 -- the node that is given back first where the command is given up
 abbrev pub first_yield : Fixed → View → Option ℕ
@@ -243,21 +212,8 @@ yield_nothing core i = with_view core i (record (without_command (core.view i)) 
 
 -- the node whose list word is loaded next
 abbrev pub next_list : Point → Option ℕ
-next_list Idle = None
-next_list Owning = None
-next_list (Taking got rest) = None
-next_list Checking = None
-next_list (Entering node plan) = None
 next_list (Entered node plan) = Some node
-next_list (Loading node part players plan) = None
-next_list (Leaving node plan) = None
-next_list (Sensing ids) = None
-next_list Resolving = None
-next_list (Claiming got rest) = None
-next_list (Storing nodes stores) = None
-next_list (Releasing nodes) = None
-next_list (Returning leaves) = None
-next_list (Yielding nodes leaves) = None
+next_list _ = None
 
 -- the view after that list word is loaded, at the node with the rest of the plan
 abbrev pub view_after_list : Fixed → ℕ → List ℕ → ℕ → View → View

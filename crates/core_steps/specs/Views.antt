@@ -179,119 +179,62 @@ stage_of (Yielding nodes leaves) = AtYielding
 -- a command is in hand
 abbrev pub is_busy : Stage → Bool
 is_busy AtRest = false
-is_busy AtOwning = true
-is_busy AtTaking = true
-is_busy AtChecking = true
-is_busy AtReading = true
-is_busy AtClaiming = true
-is_busy AtStoring = true
-is_busy AtReleasing = true
-is_busy AtReturning = true
-is_busy AtYielding = true
+is_busy _ = true
 
 -- a command is in hand that isn't committed
 abbrev pub is_open : Stage → Bool
 is_open AtRest = false
-is_open AtOwning = true
-is_open AtTaking = true
-is_open AtChecking = true
-is_open AtReading = true
-is_open AtClaiming = true
 is_open AtStoring = false
 is_open AtReleasing = false
 is_open AtReturning = false
-is_open AtYielding = true
+is_open _ = true
 
 -- all own leaves are held, and the command isn't committed
 abbrev pub is_settled : Stage → Bool
-is_settled AtRest = false
-is_settled AtOwning = false
-is_settled AtTaking = false
 is_settled AtChecking = true
 is_settled AtReading = true
 is_settled AtClaiming = true
-is_settled AtStoring = false
-is_settled AtReleasing = false
-is_settled AtReturning = false
-is_settled AtYielding = false
+is_settled _ = false
 
 -- the command is committed, and no leaf is given back yet
 abbrev pub is_committed : Stage → Bool
-is_committed AtRest = false
-is_committed AtOwning = false
-is_committed AtTaking = false
-is_committed AtChecking = false
-is_committed AtReading = false
-is_committed AtClaiming = false
 is_committed AtStoring = true
 is_committed AtReleasing = true
-is_committed AtReturning = false
-is_committed AtYielding = false
+is_committed _ = false
 
 -- the leaves are not all held yet, or no command is in hand
 abbrev pub is_before_leaves : Stage → Bool
 is_before_leaves AtRest = true
 is_before_leaves AtOwning = true
 is_before_leaves AtTaking = true
-is_before_leaves AtChecking = false
-is_before_leaves AtReading = false
-is_before_leaves AtClaiming = false
-is_before_leaves AtStoring = false
-is_before_leaves AtReleasing = false
-is_before_leaves AtReturning = false
-is_before_leaves AtYielding = false
+is_before_leaves _ = false
 
 -- a command is in hand whose own record is loaded whole
 abbrev pub is_whole : Stage → Bool
 is_whole AtRest = false
 is_whole AtOwning = false
-is_whole AtTaking = true
-is_whole AtChecking = true
-is_whole AtReading = true
-is_whole AtClaiming = true
-is_whole AtStoring = true
-is_whole AtReleasing = true
-is_whole AtReturning = true
-is_whole AtYielding = true
+is_whole _ = true
 
 -- the own record is loaded again whole, and no leaf is given back yet
 abbrev pub is_read_again : Stage → Bool
-is_read_again AtRest = false
-is_read_again AtOwning = false
-is_read_again AtTaking = false
-is_read_again AtChecking = false
 is_read_again AtReading = true
 is_read_again AtClaiming = true
 is_read_again AtStoring = true
 is_read_again AtReleasing = true
-is_read_again AtReturning = false
-is_read_again AtYielding = false
+is_read_again _ = false
 
 -- the inner nodes that are held, if any, are held to write
 abbrev pub is_writing : Stage → Bool
-is_writing AtRest = false
-is_writing AtOwning = false
-is_writing AtTaking = false
-is_writing AtChecking = false
-is_writing AtReading = false
 is_writing AtClaiming = true
 is_writing AtStoring = true
 is_writing AtReleasing = true
-is_writing AtReturning = false
 is_writing AtYielding = true
+is_writing _ = false
 
 -- the own record is loaded in part
 abbrev pub is_owning : Stage → Bool
-is_owning AtRest = false
 is_owning AtOwning = true
-is_owning AtTaking = false
-is_owning AtChecking = false
-is_owning AtReading = false
-is_owning AtClaiming = false
-is_owning AtStoring = false
-is_owning AtReleasing = false
-is_owning AtReturning = false
-is_owning AtYielding = false
+is_owning _ = false
 
 -- a command is in hand whose effect isn't in view yet, or none is in hand
 abbrev pub is_without_effect : Stage → Bool
@@ -311,49 +254,19 @@ abbrev pub leaves_held : Point → List ℕ → List ℕ
 leaves_held Idle wanted = []
 leaves_held Owning wanted = []
 leaves_held (Taking got rest) wanted = got
-leaves_held Checking wanted = wanted
-leaves_held (Entering node plan) wanted = wanted
-leaves_held (Entered node plan) wanted = wanted
-leaves_held (Loading node part players plan) wanted = wanted
-leaves_held (Leaving node plan) wanted = wanted
-leaves_held (Sensing ids) wanted = wanted
-leaves_held Resolving wanted = wanted
-leaves_held (Claiming got rest) wanted = wanted
-leaves_held (Storing nodes stores) wanted = wanted
-leaves_held (Releasing nodes) wanted = wanted
 leaves_held (Returning leaves) wanted = leaves
 leaves_held (Yielding nodes leaves) wanted = leaves
+leaves_held _ wanted = wanted
 
 -- the stores that are owed
 abbrev pub stores_owed : Point → List Store
-stores_owed Idle = []
-stores_owed Owning = []
-stores_owed (Taking got rest) = []
-stores_owed Checking = []
-stores_owed (Entering node plan) = []
-stores_owed (Entered node plan) = []
-stores_owed (Loading node part players plan) = []
-stores_owed (Leaving node plan) = []
-stores_owed (Sensing ids) = []
-stores_owed Resolving = []
-stores_owed (Claiming got rest) = []
 stores_owed (Storing nodes stores) = stores
-stores_owed (Releasing nodes) = []
-stores_owed (Returning leaves) = []
-stores_owed (Yielding nodes leaves) = []
+stores_owed _ = []
 
 -- the stores of the own bit and words are being made
 abbrev pub is_storing : Stage → Bool
-is_storing AtRest = false
-is_storing AtOwning = false
-is_storing AtTaking = false
-is_storing AtChecking = false
-is_storing AtReading = false
-is_storing AtClaiming = false
 is_storing AtStoring = true
-is_storing AtReleasing = false
-is_storing AtReturning = false
-is_storing AtYielding = false
+is_storing _ = false
 
 -- the number is in the list
 abbrev pub has : List ℕ → ℕ → Bool

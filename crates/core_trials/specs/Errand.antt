@@ -5,7 +5,7 @@ use Rattle.arena_geo.specs.Vectors.{zero_vector}
 use Rattle.arena_geo.specs.Bounds.{Bounds}
 use Rattle.entity_recs.specs.declared.bodies.TheConstants.{ITEM_MINS, ITEM_MAXS}
 use Rattle.entity_recs.specs.declared.kind.Kind.{Kind}
-use Rattle.entity_recs.specs.declared.kind.Kind.TheVariants.{Player, Ammo, Gem, Teleporter, Goal, Lift}
+use Rattle.entity_recs.specs.declared.kind.Kind.TheVariants.{Player, Gem}
 use Rattle.entity_recs.specs.declared.rec.Rec.{Rec}
 use Rattle.entity_recs.specs.declared.effect.Effect.{Effect}
 use Rattle.entity_recs.specs.declared.effect.NewState.{NewState}
@@ -30,10 +30,7 @@ is_item r =
 abbrev pub is_taken : Kind → Rec → Bool
 is_taken Player r = is_player r && nat_lt r.seq 4294967296
 is_taken Gem r = is_item r && nat_lt r.seq 4294967296
-is_taken Ammo r = false
-is_taken Teleporter r = false
-is_taken Goal r = false
-is_taken Lift r = false
+is_taken _ _ = false
 
 -- which records are taken
 abbrev pub takes : Rec → Bool

@@ -105,10 +105,7 @@ item_is_keepable r kind h =
 pub keepable : (r : Rec) (kind : Kind) → r.kind ≡ kind → is_taken kind r ≡ true → IsKeepable r
 keepable r Player e h = staying.keepable r Player e h
 keepable r Gem e h = item_is_keepable r e h
-keepable r Ammo e h = absurd (false≢true h)
-keepable r Teleporter e h = absurd (false≢true h)
-keepable r Goal e h = absurd (false≢true h)
-keepable r Lift e h = absurd (false≢true h)
+keepable _ _ _ h = absurd (false≢true h)
 
 player_id : (r : Rec) → r.kind ≡ Player → is_taken Player r ≡ true → r.id < 64
 player_id r e h = rw e at (staying.keepable r Player e h).bounds.id
@@ -122,10 +119,7 @@ item_box r Player e h id = absurd (not_64 r.id (player_id r e h) id)
 item_box r Gem e h id =
     let is = item_is r (both (is_item r) (nat_lt r.seq 4294967296) h).0 in
     rw (e, is.origin, is.mins, is.maxs) refl
-item_box r Ammo e h id = absurd (false≢true h)
-item_box r Teleporter e h id = absurd (false≢true h)
-item_box r Goal e h id = absurd (false≢true h)
-item_box r Lift e h id = absurd (false≢true h)
+item_box _ _ _ h _ = absurd (false≢true h)
 
 -- ---- validity
 
@@ -166,10 +160,7 @@ pub slot_is_player : (r : Rec) (kind : Kind) → r.kind ≡ kind → is_taken ki
 slot_is_player r Player e h small = refl
 slot_is_player r Gem e h small =
     absurd (not_64 r.id small (item_is r (both (is_item r) (nat_lt r.seq 4294967296) h).0).id)
-slot_is_player r Ammo e h small = absurd (false≢true h)
-slot_is_player r Teleporter e h small = absurd (false≢true h)
-slot_is_player r Goal e h small = absurd (false≢true h)
-slot_is_player r Lift e h small = absurd (false≢true h)
+slot_is_player _ _ _ h _ = absurd (false≢true h)
 
 -- the player of a command
 pub record IsMover (me : Rec) : Type 0 where

@@ -121,13 +121,5 @@ fault_number Count = 9
 
 -- the number of the broken rule, 0 where none is
 abbrev pub rule_number : LineFault → ℕ
-rule_number Long = 0
-rule_number NoEnd = 0
-rule_number Byte = 0
-rule_number Word = 0
-rule_number Form = 0
-rule_number Place = 0
-rule_number Limit = 0
 rule_number (Rule rule) = number_of rule
-rule_number Packet = 0
-rule_number Count = 0
+rule_number _ = 0

@@ -2,7 +2,7 @@
 use Rattle.std.specs.Prelude.{ℕ, ◌==◌, Bool, true, false, ◌&&◌, not, List, length, Option, Some, None, is_some}
 use Rattle.std.specs.Prelude.{option_map, codes, bytes_eq, if◌then◌else◌}
 use Rattle.edge_io.specs.Numbers.{is_integer}
-use Rattle.edge_io.specs.Fields.{◌>>=◌, field_at}
+use Rattle.edge_io.specs.Fields.{field_at}
 use Rattle.arena_map.specs.declared.map_word.MapWord.{MapWord}
 use Rattle.arena_map.specs.declared.map_word.MapWord.TheVariants as words
 use Rattle.arena_map.specs.Words.{map_word, fields_of}
@@ -41,12 +41,7 @@ has_form End rest = is_nothing rest
 -- the word is the arena's
 abbrev pub is_arena_word : MapWord → Bool
 is_arena_word words.Arena = true
-is_arena_word words.Block = false
-is_arena_word words.Spawn = false
-is_arena_word words.Item = false
-is_arena_word words.Teleport = false
-is_arena_word words.Goal = false
-is_arena_word words.Lift = false
+is_arena_word _ = false
 
 -- the word is allowed at the start: the arena's, and only there
 abbrev pub is_first : Word → Bool

@@ -4,7 +4,7 @@ use Rattle.arena_geo.specs.Vectors.{plus}
 use Rattle.arena_geo.specs.Bounds.{Bounds, bounds}
 use Rattle.arena_geo.specs.Boxes.{grown}
 use Rattle.entity_recs.specs.declared.kind.Kind.{Kind}
-use Rattle.entity_recs.specs.declared.kind.Kind.TheVariants.{Player, Ammo, Gem, Teleporter, Goal, Lift}
+use Rattle.entity_recs.specs.declared.kind.Kind.TheVariants.{Ammo, Gem}
 use Rattle.entity_recs.specs.declared.rec.Rec.{Rec}
 use Rattle.entity_recs.specs.declared.bodies.TheConstants.{PLAYER_MINS, PLAYER_MAXS, ITEM_GROWTH, GROWTH}
 
@@ -22,12 +22,9 @@ body_of r = standing r.origin r.mins r.maxs
 
 -- by how much the absolute box of a kind is larger than the body on both sides of each axis
 abbrev pub growth_of : Kind → Vec3
-growth_of Player = GROWTH
 growth_of Ammo = ITEM_GROWTH
 growth_of Gem = ITEM_GROWTH
-growth_of Teleporter = GROWTH
-growth_of Goal = GROWTH
-growth_of Lift = GROWTH
+growth_of _ = GROWTH
 
 -- the absolute box of a record, which doesn't look at its state
 abbrev pub abs_of : Rec → Bounds

@@ -15,8 +15,5 @@ number_of Lift = 5
 -- a player or a lift, which other bodies can't enter; the other kinds are triggers
 abbrev pub is_solid : Kind → Bool
 is_solid Player = true
-is_solid Ammo = false
-is_solid Gem = false
-is_solid Teleporter = false
-is_solid Goal = false
 is_solid Lift = true
+is_solid _ = false

@@ -15,11 +15,7 @@ pub record IsMapId (id : ℕ) : Type 0 where
 -- the ids of a kind: a slot for a player
 abbrev pub IsIdOf : Kind → ℕ → Type 0
 IsIdOf Player id = id < 64
-IsIdOf Ammo id = IsMapId id
-IsIdOf Gem id = IsMapId id
-IsIdOf Teleporter id = IsMapId id
-IsIdOf Goal id = IsMapId id
-IsIdOf Lift id = IsMapId id
+IsIdOf _ id = IsMapId id
 
 -- the two corners, seen from the origin, are these
 pub record HasCorners (low high mins maxs : Vec3) : Type 0 where

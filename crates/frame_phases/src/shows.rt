@@ -5,13 +5,10 @@ ghost use Rattle.world_tree.specs.Worlds.{record_of, IsLinked};
 ghost use Rattle.plain_server.specs.Replies.{slots_of, replies_of};
 
 use crate::replies::ReplyList;
-use crate::slots::SlotList;
+use crate::slots::{MOST_SLOTS, SlotList};
 use reply_fan::write_replies;
 use std::thread::Threads;
 use world_tree::World;
-
-/// The number of slots.
-const SLOTS: u8 = 64;
 
 /// Puts this slot last, if it is live.
 fn list_slot(world: &World, slot: u8, slots: &mut SlotList)
@@ -32,7 +29,7 @@ fn list_slots(world: &World, slots: &mut SlotList)
 {
     // To ask for the tree is to know that the world is linked: each player has the id of its slot.
     let _tree = world.tree();
-    for slot in 0..SLOTS {
+    for slot in 0..MOST_SLOTS as u8 {
         list_slot(world, slot, slots);
     }
 }

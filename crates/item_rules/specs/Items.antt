@@ -2,26 +2,20 @@
 use Rattle.std.specs.Prelude.{◌≡◌, ◌≢◌, ◌⊎◌, ℕ, ◌+◌, min, Bool, true, false, ◌==◌, nat_lt, ◌&&◌, if◌then◌else◌, Option}
 use Rattle.std.specs.Prelude.{Some, None}
 use Rattle.entity_recs.specs.declared.kind.Kind.{Kind}
-use Rattle.entity_recs.specs.declared.kind.Kind.TheVariants.{Player, Ammo, Gem, Teleporter, Goal, Lift}
+use Rattle.entity_recs.specs.declared.kind.Kind.TheVariants.{Ammo, Gem}
 use Rattle.entity_recs.specs.declared.rec.Rec.{Rec}
 
 -- ammunition and gems are items
 abbrev pub is_item : Kind → Bool
-is_item Player = false
 is_item Ammo = true
 is_item Gem = true
-is_item Teleporter = false
-is_item Goal = false
-is_item Lift = false
+is_item _ = false
 
 -- the player has room for what an item of this kind gives
 abbrev pub has_room_for : Rec → Kind → Bool
-has_room_for me Player = false
 has_room_for me Ammo = nat_lt me.ammo 100
 has_room_for me Gem = nat_lt me.carry 8
-has_room_for me Teleporter = false
-has_room_for me Goal = false
-has_room_for me Lift = false
+has_room_for _ _ = false
 
 -- the item is there, and the player has room for it
 abbrev pub may_take : Rec → Rec → Bool
@@ -29,12 +23,9 @@ may_take me item = (item.state == 0) && has_room_for me item.kind
 
 -- the player with what an item of this kind gives: 20 of ammunition, up to 100 in all, or a gem
 abbrev pub with_item : Rec → Kind → Rec
-with_item me Player = me
 with_item me Ammo = record me { ammo = min 100 (me.ammo + 20) }
 with_item me Gem = record me { carry = me.carry + 1 }
-with_item me Teleporter = me
-with_item me Goal = me
-with_item me Lift = me
+with_item me _ = me
 
 -- the player after it touched an item
 abbrev pub after_item : Rec → Rec → Rec

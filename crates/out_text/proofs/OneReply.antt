@@ -1,10 +1,12 @@
 -- The lines of a frame have one `to` line for each live slot, in rising slot.
 use Rattle.std.proofs.Common.{◌≡◌, ℕ, zero, suc, ◌+◌, ◌≤◌, List, [], ◌∷◌, ◌++◌, map, take, Option, Some, None, refl, sym, ap, ◌∙◌, subst, arith}
+use Rattle.std.specs.List.Sorted.{IsStrictlyIncreasing}
 use Rattle.entity_recs.specs.declared.rec.Rec.{Rec}
 use Rattle.entity_recs.specs.declared.effect.Entry.{Entry}
 use Rattle.arena_map.specs.Maps.{MapView}
 use Rattle.arena_map.specs.Validity.{IsValidWorld}
 use Rattle.world_tree.specs.Live.{record_at, live_in, AreEntries}
+use Rattle.world_tree.proofs.Rising.{ids_rise}
 use Rattle.client_ports.specs.declared.received.Refused.{Refused}
 use Rattle.client_ports.specs.declared.received.Joined.{Joined}
 use Rattle.client_ports.specs.Lists.{Lists}
@@ -14,7 +16,7 @@ use Rattle.plain_server.proofs.Frames.{received_is, moved_by_is}
 use Rattle.plain_server.proofs.SlotPlayers.{players_are_first}
 use Rattle.out_text.specs.OutLines.{OutLine, FrameLine, NoLine, JoinedLine, DidLine, ToLine, EndLine}
 use Rattle.out_text.specs.FrameLines.{no_line, joined_line, did_line, to_line, to_lines, frame_lines}
-use Rattle.out_text.specs.ToLines.{Reply, replies_in, reply_to, AreRisingFrom, HasOneReplyEach}
+use Rattle.out_text.specs.ToLines.{Reply, replies_in, reply_to, HasOneReplyEach}
 use Rattle.out_text.specs.Laws.{FramesHaveOneReplyEach}
 
 replies-append : (xs ys : List OutLine) → replies_in (xs ++ ys) ≡ replies_in xs ++ replies_in ys
@@ -55,28 +57,25 @@ of_frame frame lists journal records =
 
 -- ---- in rising slot
 
-rising-lower : (n : ℕ) (ns : List ℕ) → AreRisingFrom (n + 1) ns → AreRisingFrom n ns
-rising-lower n [] rising = tt
-rising-lower n (m ∷ ns) rising = let above : n + 1 ≤ m = rising.0 in (omega (arith, above), rising.1)
+slots-are : (frame : ℕ) (live players : List Rec) → map (λ (r : Reply). r.slot) (map (reply_to frame live) players) ≡ map (λ (me : Rec). me.id) players
+slots-are frame live [] = refl
+slots-are frame live (me ∷ players) = ap (λ (ids : List ℕ). me.id ∷ ids) (slots-are frame live players)
 
--- the slots of the first records, the first of which has this id
-first_rise : (frame : ℕ) (live : List Rec) (k n : ℕ) (records : List (Option Rec)) → ((i : ℕ) (r : Rec) → record_at records i ≡ Some r → r.id ≡ n + i)
-    → AreRisingFrom n (map (λ (r : Reply). r.slot) (map (reply_to frame live) (live_in (take k records))))
-first_rise frame live zero n records own = tt
-first_rise frame live (suc k) n [] own = tt
-first_rise frame live (suc k) n (None ∷ records) own =
-    rising-lower n _ (first_rise frame live k (n + 1) records (λ i r at. omega (arith, own (suc i) r at)))
-first_rise frame live (suc k) n (Some r ∷ records) own =
-    let here : r.id ≡ n = omega (arith, own zero r refl) in
-    (omega (arith, here), first_rise frame live k (r.id + 1) records (λ i q at. omega (arith, own (suc i) q at, here)))
+-- a place of the first records is a place of all
+at_front : (k : ℕ) (records : List (Option Rec)) (i : ℕ) (r : Rec) → record_at (take k records) i ≡ Some r → record_at records i ≡ Some r
+at_front zero records i r at = cc
+at_front (suc k) [] i r at = cc
+at_front (suc k) (o ∷ records) zero r at = at
+at_front (suc k) (o ∷ records) (suc i) r at = at_front k records i r at
 
 one_each : (frame : ℕ) (lists : Lists) (journal : List Entry) (records : List (Option Rec)) → AreEntries records → HasOneReplyEach frame records (frame_lines frame lists journal records)
 one_each frame lists journal records entries =
     let shown = of_frame frame lists journal records ∙ ap (λ (ps : List Rec). map (reply_to frame (live_in records)) ps) (players_are_first records entries) in
-    let P : List Reply → Type 0 = λ rs. AreRisingFrom 0 (map (λ (r : Reply). r.slot) rs) in
+    let front = take 64 records in
+    let slots = ap (map (λ (r : Reply). r.slot)) shown ∙ slots-are frame (live_in records) (live_in front) in
     record {
       replies = shown;
-      rising = subst P (sym shown) (first_rise frame (live_in records) 64 0 records (λ id r at. omega (arith, (entries id r at).own_id)));
+      rising = subst IsStrictlyIncreasing (sym slots) (ids_rise front (λ id r at. (entries id r (at_front 64 records id r at)).own_id));
     }
 
 entries_of : (arena : MapView) (records : List (Option Rec)) → IsValidWorld arena records → AreEntries records

@@ -41,9 +41,5 @@ pub record IsPrinted (text : List ℕ) (l : OutLine) : Type 0 where
 
 -- a snapshot has at least one byte and fits a reply
 abbrev pub HasRoom : OutLine → Type 0
-HasRoom (FrameLine frame) = Unit {0}
-HasRoom (NoLine place why) = Unit {0}
-HasRoom (JoinedLine port slot) = Unit {0}
-HasRoom (DidLine d) = Unit {0}
 HasRoom (ToLine slot bytes) = (1 ≤ length bytes) × (length bytes ≤ 4123)
-HasRoom (EndLine frames) = Unit {0}
+HasRoom _ = Unit {0}

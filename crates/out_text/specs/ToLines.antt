@@ -1,5 +1,6 @@
 -- The replies that the `to` lines of a frame have.
-use Rattle.std.specs.Prelude.{◌≡◌, ℕ, ◌+◌, ◌≤◌, List, [], ◌∷◌, map, take, Option, ⊤}
+use Rattle.std.specs.Prelude.{◌≡◌, ℕ, List, [], ◌∷◌, map, take, Option}
+use Rattle.std.specs.List.Sorted.{IsStrictlyIncreasing}
 use Rattle.entity_recs.specs.declared.rec.Rec.{Rec}
 use Rattle.world_tree.specs.Live.{live_in}
 use Rattle.snapshot_write.specs.Snapshots.{snapshot}
@@ -24,12 +25,7 @@ replies_in (EndLine frames ∷ lines) = replies_in lines
 abbrev pub reply_to : ℕ → List Rec → Rec → Reply
 reply_to frame live me = record { slot = me.id; bytes = snapshot frame me live }
 
--- each number is above the one before it, and the first is at least this one
-abbrev pub AreRisingFrom : ℕ → List ℕ → Type 0
-AreRisingFrom least [] = ⊤
-AreRisingFrom least (n ∷ ns) = (least ≤ n) × AreRisingFrom (n + 1) ns
-
 -- the lines have one `to` line for each live record with an id below 64, with its snapshot, in rising id
 pub record HasOneReplyEach (frame : ℕ) (records : List (Option Rec)) (lines : List OutLine) : Type 0 where
   pub replies : replies_in lines ≡ map (reply_to frame (live_in records)) (live_in (take 64 records))
-  pub rising : AreRisingFrom 0 (map (λ (r : Reply). r.slot) (replies_in lines))
+  pub rising : IsStrictlyIncreasing (map (λ (r : Reply). r.slot) (replies_in lines))

@@ -3,8 +3,7 @@ use Rattle.std.specs.Prelude.{◌≡◌, ℕ, ◌<◌, true, List, [], ◌∷◌
 use Rattle.atomic_table.specs.Seated.{TableId}
 use Rattle.entity_recs.specs.declared.rec.Rec.{Rec}
 use Rattle.core_steps.specs.Views.{Fixed, View, record_read}
-use Rattle.core_steps.specs.Machine.{Next, Begin, LoadOwn, LoadAgain, TakeNode, ClaimNode, ReadList, ReadPlayer}
-use Rattle.core_steps.specs.Machine.{ReadState, CommitMove, StoreWord, GiveNode, YieldNode, YieldCount}
+use Rattle.core_steps.specs.Machine.{Next, Begin, LoadOwn, LoadAgain, ReadPlayer}
 use Rattle.core_machine.specs.Nexts.{the_next}
 use Rattle.region_locks.specs.Passes.{PassView, next_of_pass, pass_after, IsPassOf}
 
@@ -18,16 +17,8 @@ abbrev pub player_word : View → Next → Option PlayerWord
 player_word view (Begin c) = Some (record { slot = c.slot; before = [] })
 player_word view LoadOwn = Some (record { slot = view.cmd.slot; before = view.own })
 player_word view LoadAgain = Some (record { slot = view.cmd.slot; before = view.again })
-player_word view (TakeNode node) = None
-player_word view (ClaimNode e node) = None
-player_word view (ReadList node plan) = None
 player_word view (ReadPlayer node part slot players plan) = Some (record { slot = slot; before = part })
-player_word view (ReadState id ids) = None
-player_word view (CommitMove e nodes) = None
-player_word view (StoreWord nodes store stores) = None
-player_word view (GiveNode node) = None
-player_word view (YieldNode node) = None
-player_word view YieldCount = None
+player_word _ _ = None
 
 -- the same of what comes next, if anything does
 abbrev pub player_word_next : View → Option Next → Option PlayerWord

@@ -13,7 +13,7 @@ use Rattle.world_tree.specs.Worlds.{WorldView}
 use Rattle.core_steps.specs.Cells.{cell_index}
 use Rattle.core_steps.specs.Views.{Fixed, Store, Clear, Put, Link, View, new_view, record_read, effect_loaded}
 use Rattle.core_steps.specs.Steps.{is_taking}
-use Rattle.core_steps.specs.Machine.{Next, Begin, LoadOwn, LoadAgain, TakeNode, ClaimNode, ReadList, ReadPlayer}
+use Rattle.core_steps.specs.Machine.{Next, ReadList, ReadPlayer}
 use Rattle.core_steps.specs.Machine.{ReadState, CommitMove, StoreWord, GiveNode, YieldNode, YieldCount, index_of}
 use Rattle.core_steps.specs.Machine.{kind_of, IsPending}
 use Rattle.core_steps.specs.declared.step.StepKind.TheVariants.{Commit}
@@ -132,19 +132,9 @@ pub record HasGone (F : Fixed) (passes : ℕ) (p : PassView) (found : ℕ) (seat
 
 -- the node that a step gives back
 abbrev pub node_given : Next → Option ℕ
-node_given (Begin c) = None
-node_given LoadOwn = None
-node_given LoadAgain = None
-node_given (TakeNode node) = None
-node_given (ClaimNode e node) = None
-node_given (ReadList node plan) = None
-node_given (ReadPlayer node part slot players plan) = None
-node_given (ReadState id ids) = None
-node_given (CommitMove e nodes) = None
-node_given (StoreWord nodes store stores) = None
 node_given (GiveNode node) = Some node
 node_given (YieldNode node) = Some node
-node_given YieldCount = None
+node_given _ = None
 
 -- the same of what comes next, if anything does
 abbrev pub node_given_next : Option Next → Option ℕ
@@ -153,19 +143,8 @@ node_given_next (Some next) = node_given next
 
 -- the node whose list word a step loads
 abbrev pub list_read : Next → Option ℕ
-list_read (Begin c) = None
-list_read LoadOwn = None
-list_read LoadAgain = None
-list_read (TakeNode node) = None
-list_read (ClaimNode e node) = None
 list_read (ReadList node plan) = Some node
-list_read (ReadPlayer node part slot players plan) = None
-list_read (ReadState id ids) = None
-list_read (CommitMove e nodes) = None
-list_read (StoreWord nodes store stores) = None
-list_read (GiveNode node) = None
-list_read (YieldNode node) = None
-list_read YieldCount = None
+list_read _ = None
 
 -- the same of what comes next, if anything does
 abbrev pub list_read_next : Option Next → Option ℕ
@@ -174,19 +153,8 @@ list_read_next (Some next) = list_read next
 
 -- the id whose state a step loads
 abbrev pub state_read : Next → Option ℕ
-state_read (Begin c) = None
-state_read LoadOwn = None
-state_read LoadAgain = None
-state_read (TakeNode node) = None
-state_read (ClaimNode e node) = None
-state_read (ReadList node plan) = None
-state_read (ReadPlayer node part slot players plan) = None
 state_read (ReadState id ids) = Some id
-state_read (CommitMove e nodes) = None
-state_read (StoreWord nodes store stores) = None
-state_read (GiveNode node) = None
-state_read (YieldNode node) = None
-state_read YieldCount = None
+state_read _ = None
 
 -- the same of what comes next, if anything does
 abbrev pub state_read_next : Option Next → Option ℕ
@@ -195,19 +163,8 @@ state_read_next (Some next) = state_read next
 
 -- the step commits
 abbrev pub is_commit : Next → Bool
-is_commit (Begin c) = false
-is_commit LoadOwn = false
-is_commit LoadAgain = false
-is_commit (TakeNode node) = false
-is_commit (ClaimNode e node) = false
-is_commit (ReadList node plan) = false
-is_commit (ReadPlayer node part slot players plan) = false
-is_commit (ReadState id ids) = false
 is_commit (CommitMove e nodes) = true
-is_commit (StoreWord nodes store stores) = false
-is_commit (GiveNode node) = false
-is_commit (YieldNode node) = false
-is_commit YieldCount = false
+is_commit _ = false
 
 -- the same of what comes next, if anything does
 abbrev pub is_commit_next : Option Next → Bool
@@ -223,33 +180,18 @@ bit_owed (Link node ∷ stores) = node
 
 -- the index of the word that the first of these stores puts, and 0 where it puts none
 abbrev pub index_owed : List Store → ℕ
-index_owed [] = 0
-index_owed (Clear node ∷ stores) = 0
 index_owed (Put cell x ∷ stores) = cell_index 31 cell
-index_owed (Link node ∷ stores) = 0
+index_owed _ = 0
 
 -- the word that the first of these stores puts, and 0 where it puts none
 abbrev pub word_owed : List Store → ℕ
-word_owed [] = 0
-word_owed (Clear node ∷ stores) = 0
 word_owed (Put cell x ∷ stores) = x
-word_owed (Link node ∷ stores) = 0
+word_owed _ = 0
 
 -- the store that a step makes
 abbrev pub store_made : Next → Option Store
-store_made (Begin c) = None
-store_made LoadOwn = None
-store_made LoadAgain = None
-store_made (TakeNode node) = None
-store_made (ClaimNode e node) = None
-store_made (ReadList node plan) = None
-store_made (ReadPlayer node part slot players plan) = None
-store_made (ReadState id ids) = None
-store_made (CommitMove e nodes) = None
 store_made (StoreWord nodes store stores) = Some store
-store_made (GiveNode node) = None
-store_made (YieldNode node) = None
-store_made YieldCount = None
+store_made _ = None
 
 -- the same of what comes next, if anything does
 abbrev pub store_made_next : Option Next → Option Store
@@ -258,24 +200,18 @@ store_made_next (Some next) = store_made next
 
 -- the store clears the own bit
 abbrev pub is_clear : Option Store → Bool
-is_clear None = false
 is_clear (Some (Clear node)) = true
-is_clear (Some (Put cell x)) = false
-is_clear (Some (Link node)) = false
+is_clear _ = false
 
 -- the store puts a word of a record
 abbrev pub is_put : Option Store → Bool
-is_put None = false
-is_put (Some (Clear node)) = false
 is_put (Some (Put cell x)) = true
-is_put (Some (Link node)) = false
+is_put _ = false
 
 -- the store sets the own bit
 abbrev pub is_set : Option Store → Bool
-is_set None = false
-is_set (Some (Clear node)) = false
-is_set (Some (Put cell x)) = false
 is_set (Some (Link node)) = true
+is_set _ = false
 
 -- what comes next clears the own bit at the old node
 abbrev pub is_unlink_next : Option Next → Bool

@@ -1,12 +1,12 @@
 -- How a pass goes on with its command, call after call, and what a move leaves of it.
-use Rattle.std.specs.Prelude.{◌≡◌, ℕ, ◌+◌, ◌-◌, ◌*◌, ◌^◌, ◌<◌, ◌≤◌, nat_le, min, Bool, true, false, ◌&&◌, not}
+use Rattle.std.specs.Prelude.{◌≡◌, ℕ, ◌+◌, ◌-◌, ◌^◌, ◌<◌, ◌≤◌, nat_le, min, Bool, true, false, ◌&&◌, not}
 use Rattle.std.specs.Prelude.{if◌then◌else◌, List, [], ◌∷◌, ◌++◌, Option, Some, None, is_some}
 use Rattle.atomic_table.specs.Seated.{TableId}
 use Rattle.entity_recs.specs.declared.effect.Entry.{Entry}
 use Rattle.entity_recs.specs.Commands.{Command}
 use Rattle.entity_recs.specs.Histories.{Item}
-use Rattle.core_steps.specs.Views.{Fixed, Point, Idle, Owning, Taking, Checking, Entering, Entered, Loading, Leaving}
-use Rattle.core_steps.specs.Views.{Sensing, Resolving, Claiming, Storing, Releasing, Returning, Yielding, Refused}
+use Rattle.core_steps.specs.Views.{Fixed, Point, Idle, Owning, Checking}
+use Rattle.core_steps.specs.Views.{Resolving, Releasing, Refused}
 use Rattle.core_steps.specs.Views.{has, leaf_nodes, inner_visited, region_in, inner_held, leaves_held, stores_owed}
 use Rattle.core_steps.specs.Views.{stage_of, is_busy}
 use Rattle.core_steps.specs.Steps.{is_taking}
@@ -111,21 +111,8 @@ calls_left F p =
 
 -- all leaves are held, and the own record isn't loaded again whole
 abbrev pub is_checking : Point → Bool
-is_checking Idle = false
-is_checking Owning = false
-is_checking (Taking got rest) = false
 is_checking Checking = true
-is_checking (Entering node plan) = false
-is_checking (Entered node plan) = false
-is_checking (Loading node part players plan) = false
-is_checking (Leaving node plan) = false
-is_checking (Sensing ids) = false
-is_checking Resolving = false
-is_checking (Claiming got rest) = false
-is_checking (Storing nodes stores) = false
-is_checking (Releasing nodes) = false
-is_checking (Returning leaves) = false
-is_checking (Yielding nodes leaves) = false
+is_checking _ = false
 
 -- no node is left
 abbrev pub is_none : List ℕ → Bool
@@ -134,21 +121,8 @@ is_none (node ∷ nodes) = false
 
 -- all is written and the inner nodes are given back, and no leaf is
 abbrev pub is_written : Point → Bool
-is_written Idle = false
-is_written Owning = false
-is_written (Taking got rest) = false
-is_written Checking = false
-is_written (Entering node plan) = false
-is_written (Entered node plan) = false
-is_written (Loading node part players plan) = false
-is_written (Leaving node plan) = false
-is_written (Sensing ids) = false
-is_written Resolving = false
-is_written (Claiming got rest) = false
-is_written (Storing nodes stores) = false
 is_written (Releasing nodes) = is_none nodes
-is_written (Returning leaves) = false
-is_written (Yielding nodes leaves) = false
+is_written _ = false
 
 -- the pass holds all leaves that its command wants, no inner node, and owes no store
 pub record HoldsLeavesAlone (F : Fixed) (p : PassView) : Type 0 where

@@ -1,21 +1,12 @@
 ghost use Rattle.std.specs.Prelude.{◌≡◌, true, length};
-ghost use Rattle.core_steps.specs.Steps.{first_of_two, first_yield, is_taking};
+ghost use Rattle.core_steps.specs.Steps.{first_yield, is_taking};
 ghost use Rattle.region_locks.specs.Passes.{fixed_in, IsPassOf};
 ghost use Rattle.region_locks.specs.Pursuits.{HasGivenUp};
 
 use crate::pass::Pass;
 use crate::table::NodeTable;
+use core_machine::first_of_two;
 use entity_recs::Action;
-
-/// The first of these inner nodes, or of these leaves where there is no inner node.
-fn first_node(inner: &[u8], leaves: &[u8]) -> Option<u8>
-    ensures { result ≡ first_of_two inner.now leaves.now }
-{
-    match (inner, leaves) {
-        ([node, ..], _) | ([], [node, ..]) => Some(*node),
-        ([], []) => None,
-    }
-}
 
 impl<'a, A: Action> NodeTable<'a, A> {
     /// The first node that the pass holds: inner nodes come before leaves, each in rising number.
@@ -24,7 +15,7 @@ impl<'a, A: Action> NodeTable<'a, A> {
     {
         let inner = pass.mirror.inner_held(&self.rules);
         let leaves = pass.mirror.leaves_held();
-        first_node(inner.as_slice(), leaves.as_slice())
+        first_of_two(inner.as_slice(), leaves.as_slice())
     }
 
     /// Gives up the command in hand, after a take that was refused: all that the pass holds is given back, and the

@@ -1,9 +1,4 @@
-ghost use Rattle.std.specs.Prelude.{◌≡◌, IfOk, None};
-ghost use Rattle.demo_lines.specs.Bytes.{fault};
-ghost use Rattle.arena_engine.specs.Output.{HasRoom};
-ghost use Rattle.arena_engine.specs.Serving.{IsOrMemory};
-
-use arena_engine::{Report, serve};
+use arena_engine::serve;
 use edge_io::{MemSink, MemSource};
 use shared_moves::NoGate;
 use std::alloc::{AllocError, AllocGlobal, Global};
@@ -32,29 +27,6 @@ const ONE_JOIN: &str =
 
 const ONE_JOIN_OUTPUT: &str =
     "frame 0\njoined 7 0\nto 0 01000000000000000000000000000018000000000000000000000000000000000000000000000000000000\nend 1\n";
-
-/// Plays a recording from memory into memory. Where it has no fault and its output fits, the status is 0, or 5 where
-/// memory is short: what `serve` promises is enough to know that.
-fn played(
-    rt: &(impl AllocGlobal + Threads + Wait + Sync),
-    recording: &[u8],
-    room: usize,
-) -> Result<Report, AllocError>
-    requires whole { fault recording.now ≡ None }
-    requires room { HasRoom 1 recording.now room }
-    ensures { IfOk result (λ report. IsOrMemory report.status 0) }
-{
-    let mut source = MemSource::new(recording, 8, &[]);
-    let mut sink = MemSink::new(rt.alloc(), room, 8)?;
-    Ok(serve(
-        rt,
-        rt.alloc(),
-        &["play", "1"],
-        &mut source,
-        &mut sink,
-        &NoGate,
-    ))
-}
 
 /// The arena, a front, a piece so many times, and a back.
 fn write_pieces(

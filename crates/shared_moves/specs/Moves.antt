@@ -24,10 +24,6 @@ pub record HasRun (F : Fixed) (passes : ℕ) (table : TableId) (old new : PassVi
     pub place : old.view.seen ≤ e.place
     pub seen : new.view.seen ≡ e.place + 1
 
--- the count of refused takes rose, or is 2^64 - 1
-abbrev pub HasRisen : ℕ → ℕ → Type 0
-HasRisen old new = min (old + 1) (2 ^ 64 - 1) ≤ new
-
 -- the refused take was of a leaf that the command wants, by the own record as loaded, and its word names the holder,
 -- which isn't this pass, with its leaves, which have that leaf
 pub record IsLeafHeld (F : Fixed) (passes own : ℕ) (c : Command) (r : Refused) (leaf holder leaves : ℕ) : Type 0 where
@@ -54,7 +50,8 @@ IsCause F passes own c r (Held leaf holder leaves) = IsLeafHeld F passes own c r
 IsCause F passes own c r (Busy node holder) = IsNodeBusy F passes own c r node holder
 
 -- the command wasn't run, for this cause, which the pass keeps as its last refused take: nothing is committed, the pass
--- holds no node and has no command in hand, and it hasn't seen a smaller count than before
+-- holds no node and has no command in hand, and it hasn't seen a smaller count than before; its count of refused takes
+-- has risen, or is 2^64 - 1
 pub record WasNotRun (F : Fixed) (passes : ℕ) (table : TableId) (old new : PassView) (c : Command) (a : Again) : Type 0
   where
     pub own : IsPassOf F passes table new
@@ -63,7 +60,7 @@ pub record WasNotRun (F : Fixed) (passes : ℕ) (table : TableId) (old new : Pas
     pub room : new.view.room ≡ old.view.room
     pub log : new.view.log ≡ old.view.log
     pub seen : old.view.seen ≤ new.view.seen
-    pub rose : HasRisen old.view.refusals new.view.refusals
+    pub rose : min (old.view.refusals + 1) (2 ^ 64 - 1) ≤ new.view.refusals
     pub r : Refused
     pub kept : new.view.refused ≡ Some r
     pub cause : IsCause F passes new.number c r a

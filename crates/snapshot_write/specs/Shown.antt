@@ -2,7 +2,7 @@
 use Rattle.std.specs.Prelude.{◌≡◌, ℕ, ◌==◌, Bool, true, List, map, Option, Some}
 use Rattle.arena_geo.specs.Boxes.{touches}
 use Rattle.entity_recs.specs.declared.kind.Kind.{Kind}
-use Rattle.entity_recs.specs.declared.kind.Kind.TheVariants.{Player, Ammo, Gem, Teleporter, Goal, Lift}
+use Rattle.entity_recs.specs.declared.kind.Kind.TheVariants.{Ammo, Gem}
 use Rattle.entity_recs.specs.declared.rec.Rec.{Rec}
 use Rattle.entity_recs.specs.Records.{with_state}
 use Rattle.entity_recs.specs.Bodies.{abs_of}
@@ -13,12 +13,9 @@ use Rattle.snapshot_write.specs.Snapshots.{view_of, seen_by}
 
 -- an item that was taken isn't there, and all else is
 abbrev pub is_here : Kind → ℕ → Bool
-is_here Player state = true
 is_here Ammo state = state == 0
 is_here Gem state = state == 0
-is_here Teleporter state = true
-is_here Goal state = true
-is_here Lift state = true
+is_here _ _ = true
 
 -- what is shown of a record to others
 abbrev pub shown_as : Rec → Seen

@@ -8,7 +8,7 @@ use Rattle.arena_geo.specs.Bounds.{Bounds, bounds}
 use Rattle.arena_geo.specs.Boxes.{touches}
 use Rattle.entity_recs.specs.declared.rec.Rec.{Rec}
 use Rattle.entity_recs.specs.declared.kind.Kind.{Kind}
-use Rattle.entity_recs.specs.declared.kind.Kind.TheVariants.{Player, Ammo, Gem, Teleporter, Goal, Lift}
+use Rattle.entity_recs.specs.declared.kind.Kind.TheVariants.{Ammo, Gem}
 use Rattle.entity_recs.specs.Kinds.{number_of}
 use Rattle.entity_recs.specs.Bodies.{abs_of}
 
@@ -30,12 +30,9 @@ seen_by me records = filter (is_seen me) records
 
 -- 0 for an item that was taken, and else 1
 abbrev pub status_at : Kind → ℕ → ℕ
-status_at Player state = 1
 status_at Ammo state = if state == 0 then 1 else 0
 status_at Gem state = if state == 0 then 1 else 0
-status_at Teleporter state = 1
-status_at Goal state = 1
-status_at Lift state = 1
+status_at _ _ = 1
 
 -- a number of 32 bits with a sign, low byte first
 abbrev pub signed_bytes : ℤ → List ℕ

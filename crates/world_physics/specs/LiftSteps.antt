@@ -78,11 +78,7 @@ pub record IsStep (step : LiftStep) : Type 0 where
 -- the kind is a player's
 abbrev pub is_player : Kind → Bool
 is_player kinds.Player = true
-is_player kinds.Ammo = false
-is_player kinds.Gem = false
-is_player kinds.Teleporter = false
-is_player kinds.Goal = false
-is_player kinds.Lift = false
+is_player _ = false
 
 -- the player stands on the lift: its body, moved down by 1, overlaps the lift
 abbrev pub stands_on : Rec → Rec → Bool

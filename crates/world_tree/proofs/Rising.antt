@@ -35,8 +35,12 @@ ids-rise start (Some r ∷ records) own =
     let here = own 0 r refl in
     (omega arith, lower (start + 1) (r.id + 1) (ids_of records) (omega arith) (ids-rise (start + 1) records (λ i x e. own (suc i) x e ∙ omega arith)))
 
+-- where each record has its place as its id, the ids rise
+pub ids_rise : (records : List (Option Rec)) → ((i : ℕ) (r : Rec) → record_at records i ≡ Some r → r.id ≡ i) → IsStrictlyIncreasing (ids_of records)
+ids_rise records own = increasing 0 (ids_of records) (ids-rise 0 records (λ i r e. own i r e ∙ omega arith))
+
 pub live_ids_rise : LiveIdsRise
-live_ids_rise w linked = increasing 0 (ids_of w.records) (ids-rise 0 w.records (λ i r e. (linked.entries i r e).own_id ∙ omega arith))
+live_ids_rise w linked = ids_rise w.records (λ i r e. (linked.entries i r e).own_id)
 
 -- the live records by the live ids: from a place on, where f gives the record of each place
 records-by_ids : (start : ℕ) (f : ℕ → Option Rec) (records : List (Option Rec)) → ((i : ℕ) → f (start + i) ≡ record_at records i)

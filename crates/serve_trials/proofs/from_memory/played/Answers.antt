@@ -3,7 +3,7 @@ use Rattle.std.specs.Prelude.{None, All}
 use Rattle.demo_lines.specs.Bytes.{fault}
 use Rattle.arena_engine.specs.Output.{HasRoom}
 use Rattle.arena_engine.proofs.Words.{is_play}
-use Rattle.serve_trials.proofs.tests.played.Goals as goal
+use Rattle.serve_trials.proofs.from_memory.played.Goals as goal
 
 -- no call is one of none
 no_call : (calls : ℕ) → All (λ call. call < calls) []
