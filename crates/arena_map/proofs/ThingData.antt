@@ -1,6 +1,7 @@
 -- Each thing has the data of its kind.
 use Rattle.std.proofs.Common.{◌≡◌, ℕ, suc, ◌+◌, ◌-◌, ◌<◌, ◌≤◌, ◌==◌, Bool, true, false, cond, nat_le, nat_lt, List, [], ◌∷◌, Option, Some, None, is_some, option_and_then, slice_get, refl, sym, ap, ◌∙◌, subst, arith}
 use Rattle.std.specs.List.{find, AllByRecursion}
+use Rattle.std.specs.Option.{option_map_or}
 use Rattle.std.proofs.lemmas.Bool.Decides.{nat_tests}
 use Rattle.std.proofs.lemmas.Option.{none-some, same_Some}
 use Rattle.arena_geo.specs.declared.vec3.Vec3.{Vec3}
@@ -14,7 +15,7 @@ use Rattle.arena_map.specs.declared.map_line.MapLine.{MapLine}
 use Rattle.arena_map.specs.declared.map_line.MapLine.TheVariants.{Arena, Block, Spawn, Item, Teleport, Goal, Lift}
 use Rattle.arena_map.specs.MapLines.{is_thing_line, is_item, is_teleporter, is_lift}
 use Rattle.arena_map.specs.Things.{record_of, records_from, dest_in, delay_in, lift_data}
-use Rattle.arena_map.specs.Maps.{MapView, entities_of, thing_of, lift_of, IsThingInside, IsMap}
+use Rattle.arena_map.specs.Maps.{MapView, entities_of, thing_of, dest_of, delay_of, lift_of, has_thing, IsThingInside, IsMap}
 use Rattle.arena_map.specs.Validity.{IsAsItsLine, IsThing}
 use Rattle.arena_map.specs.Laws.{HasDataOf, HasData, DataFollowKinds, LiveRecordsHaveData}
 use Rattle.arena_map.proofs.Kept.{each-of}
@@ -134,3 +135,27 @@ live_records_have_data map records id r is valid live = by (nat_lt id 64) refl
         let low : 64 ≤ id = grind (arith, nat_tests) in
         let P : Option Rec → Type 0 = IsThing map (find (λ t. t.id == id) (entities_of map)) in
         thing-data map id (find (λ t. t.id == id) (entities_of map)) r (data_follow_kinds map id is) (subst P live (valid.things id low))
+
+-- ---- data are there exactly for the things of their kind
+
+module _ (map : MapView) (id : ℕ) (is : IsMap map) where
+  pub dest-some : is_some (dest_of map id) ≡ has_thing is_teleporter map id
+  dest-some = by (find (λ t. t.id == id) (entities_of map)) (data_follow_kinds map id is)
+    where
+      by : (o : Option Rec) → HasData map id o → is_some (dest_of map id) ≡ option_map_or (λ (thing : Rec). is_teleporter thing.kind) o false
+      by None has = ap is_some has.0
+      by (Some thing) has = has.0
+
+  pub delay-some : is_some (delay_of map id) ≡ has_thing is_item map id
+  delay-some = by (find (λ t. t.id == id) (entities_of map)) (data_follow_kinds map id is)
+    where
+      by : (o : Option Rec) → HasData map id o → is_some (delay_of map id) ≡ option_map_or (λ (thing : Rec). is_item thing.kind) o false
+      by None has = ap is_some has.1
+      by (Some thing) has = has.1
+
+  pub lift-some : is_some (lift_of map id) ≡ has_thing is_lift map id
+  lift-some = by (find (λ t. t.id == id) (entities_of map)) (data_follow_kinds map id is)
+    where
+      by : (o : Option Rec) → HasData map id o → is_some (lift_of map id) ≡ option_map_or (λ (thing : Rec). is_lift thing.kind) o false
+      by None has = ap is_some has.2
+      by (Some thing) has = has.2

@@ -1,12 +1,15 @@
 -- A map as contracts see it: its bounds, its blocks, its spawns, and the lines of its things, each in line order.
-use Rattle.std.specs.Prelude.{◌≡◌, ℕ, ◌-◌, ◌≤◌, Bool, true, false, List, ◌++◌, length, Option, None, option_and_then}
+use Rattle.std.specs.Prelude.{◌≡◌, ℕ, ◌-◌, ◌≤◌, ◌==◌, Bool, true, false, List, ◌++◌, length, Option, None, option_and_then}
 use Rattle.std.specs.Prelude.{All, AllPairs, count_by, filter_map, pos, ◌+ℤ◌, ◌≤ℤ◌, nat_lt, nat_le, unsigned_abs}
 use Rattle.std.specs.Prelude.{slice_get, drop, if◌then◌else◌}
+use Rattle.std.specs.List.{find}
+use Rattle.std.specs.Option.{option_map_or}
 use Rattle.arena_geo.specs.declared.vec3.Vec3.{Vec3}
 use Rattle.arena_geo.specs.Vectors.{IsNear}
 use Rattle.arena_geo.specs.Bounds.{Bounds, IsBox}
 use Rattle.arena_geo.specs.Boxes.{contains, overlaps, is_blocked}
 use Rattle.box_trace.specs.Walls.{walls_of}
+use Rattle.entity_recs.specs.declared.kind.Kind.{Kind}
 use Rattle.entity_recs.specs.declared.rec.Rec.{Rec}
 use Rattle.arena_map.specs.declared.lift.Lift.{Lift}
 use Rattle.arena_map.specs.declared.map_line.MapLine.{MapLine}
@@ -56,6 +59,11 @@ delay_of map id = option_and_then delay_in (thing_of map id)
 -- the data of a lift
 abbrev pub lift_of : MapView → ℕ → Option Lift
 lift_of map id = option_and_then lift_data (thing_of map id)
+
+-- the map has a thing with this id, and its kind passes the test
+abbrev pub has_thing : (Kind → Bool) → MapView → ℕ → Bool
+has_thing passes map id =
+    option_map_or (λ (thing : Rec). passes thing.kind) (find (λ (thing : Rec). thing.id == id) (entities_of map)) false
 
 -- the shafts of the lifts, in line order
 abbrev pub shafts_of : MapView → List Bounds

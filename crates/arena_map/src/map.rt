@@ -1,5 +1,5 @@
 ghost use Rattle.std.specs.Prelude.{◌≡◌, ◌↔◌, ◌+◌, ◌≤◌, ◌<◌, [], ◌∷◌, ◌++◌, length, count_by, map, nat_eq, Option};
-ghost use Rattle.std.specs.Prelude.{Some, None, Err, true, All, IfOk, IfSome, OnOk, OnErr};
+ghost use Rattle.std.specs.Prelude.{Some, None, Err, true, All, IfOk, IfSome, OnOk, OnErr, is_some};
 ghost use Rattle.std.specs.List.{IsDistinct};
 ghost use Rattle.arena_geo.specs.Vectors.{IsNear};
 ghost use Rattle.arena_geo.specs.Bounds.{bounds};
@@ -9,9 +9,9 @@ ghost use Rattle.arena_map.specs.declared.map_fault.MapRefusal.TheVariants.{Rule
 ghost use Rattle.arena_map.specs.declared.map_line.MapLine.TheVariants.{Block, Spawn};
 ghost use Rattle.arena_map.specs.Places as places;
 ghost use Rattle.arena_map.specs.Maps as maps;
-ghost use Rattle.arena_map.specs.Maps.{IsMap, IsSpawn, IsDelay, IsLift, solids_of, entities_of};
+ghost use Rattle.arena_map.specs.Maps.{IsMap, IsSpawn, IsDelay, IsLift, solids_of, entities_of, has_thing};
 ghost use Rattle.arena_map.specs.MapLines as lines;
-ghost use Rattle.arena_map.specs.MapLines.{IsWithinLimits, is_arena, is_added, is_thing_line};
+ghost use Rattle.arena_map.specs.MapLines.{IsWithinLimits, is_arena, is_added, is_thing_line, is_item, is_teleporter, is_lift};
 ghost use Rattle.arena_map.specs.Rules as rules;
 ghost use Rattle.arena_map.specs.Rules.{broken_at_first, begun_map, broken_rule, with_line, with_thing};
 
@@ -314,6 +314,7 @@ impl ArenaMap {
     /// The origin of players that this teleporter has moved, at which a player is inside the arena. `None` exactly
     /// where the id isn't a teleporter.
     pub fn dest_of(&self, id: u16) -> Option<Vec3>
+        ensures some { is_some result ≡ has_thing is_teleporter self.now id }
         ensures value { result ≡ maps.dest_of self.now id }
         ensures stand { IfSome result (IsSpawn self.now.bounds) }
     {
@@ -322,6 +323,7 @@ impl ArenaMap {
 
     /// After how many frames this item returns, 1 to 65,535. `None` exactly where the id isn't an item.
     pub fn delay_of(&self, id: u16) -> Option<u16>
+        ensures some { is_some result ≡ has_thing is_item self.now id }
         ensures value { result ≡ maps.delay_of self.now id }
         ensures delay { IfSome result IsDelay }
     {
@@ -330,6 +332,7 @@ impl ArenaMap {
 
     /// The data of this lift. `None` exactly where the id isn't a lift.
     pub fn lift_of(&self, id: u16) -> Option<Lift>
+        ensures some { is_some result ≡ has_thing is_lift self.now id }
         ensures value { result ≡ maps.lift_of self.now id }
         ensures lift { IfSome result IsLift }
     {

@@ -2,7 +2,7 @@
 use Rattle.std.specs.Prelude.{ℕ, ◌==◌, Bool, true, false, ◌&&◌, not, List, length, Option, Some, None, is_some}
 use Rattle.std.specs.Prelude.{option_map, codes, bytes_eq, if◌then◌else◌}
 use Rattle.edge_io.specs.Numbers.{is_integer}
-use Rattle.edge_io.specs.Fields.{field_at}
+use Rattle.edge_io.specs.Fields.{◌>>=◌, field_at}
 use Rattle.arena_map.specs.declared.map_word.MapWord.{MapWord}
 use Rattle.arena_map.specs.declared.map_word.MapWord.TheVariants as words
 use Rattle.arena_map.specs.Words.{map_word, fields_of}
