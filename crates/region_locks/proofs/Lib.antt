@@ -17,6 +17,7 @@ pub mod Owns
 pub mod Ready
 pub mod Takes
 pub mod Quitting
+pub mod Stepping
 pub mod Gives
 pub mod Seating
 pub mod Readings

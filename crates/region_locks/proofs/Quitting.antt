@@ -1,15 +1,15 @@
 -- Which passes have a next step, and the pass that is to give up.
-use Rattle.std.proofs.Common.{◌≤◌, ◌≡◌, ◌≢◌, ℕ, ◌+◌, ◌<◌, Bool, true, false, if◌then◌else◌, List, [], ◌∷◌, ◌++◌, length, refl, sym, ap, ◌∙◌, subst, Option, Some, None, is_some, arith}
+use Rattle.std.proofs.Common.{◌≤◌, ◌≡◌, ◌≢◌, ℕ, ◌+◌, ◌<◌, Bool, true, false, if◌then◌else◌, List, [], ◌∷◌, ◌++◌, length, refl, sym, ap, ◌∙◌, subst, inl, inr, Option, Some, None, is_some, arith}
 use Rattle.std.specs.Prelude.{◌==◌, not, ◌&&◌, ◌||◌}
 use Rattle.std.specs.Option.{option_map}
-use Rattle.std.proofs.lemmas.Bool.{false≢true, true≢false, ne_eqb, cond-false}
+use Rattle.std.proofs.lemmas.Bool.{cases_Bool, false≢true, true≢false, ne_eqb, cond-false}
 use Rattle.arena_geo.specs.Bounds.{Bounds}
 use Rattle.atomic_table.specs.Seated.{TableId}
 use Rattle.entity_recs.specs.declared.rec.Rec.{Rec}
 use Rattle.entity_recs.specs.declared.effect.Effect.{Effect}
 use Rattle.entity_recs.specs.Commands.{Command}
 use Rattle.core_steps.specs.declared.step.Step.{Step}
-use Rattle.core_steps.specs.Views.{Fixed, Point, Idle, Owning, Taking, Checking, Entering, Entered, Loading, Leaving, Sensing, Resolving, Claiming, Storing, Releasing, Returning, Yielding, View, stage_of, is_busy, is_whole, is_open}
+use Rattle.core_steps.specs.Views.{Fixed, Store, Point, Idle, Owning, Taking, Checking, Entering, Entered, Loading, Leaving, Sensing, Resolving, Claiming, Storing, Releasing, Returning, Yielding, View, stage_of, is_busy, is_whole, is_open}
 use Rattle.core_steps.specs.Steps.{first, first_of_two, first_yield, next_give, is_taking, view_after_take, view_after_claim, view_after_refusal}
 use Rattle.core_steps.specs.Stands.{IsAt}
 use Rattle.core_steps.specs.Machine.{Next, Begin, LoadOwn, LoadAgain, TakeNode, ClaimNode, ReadList, ReadPlayer, ReadState, CommitMove, StoreWord, GiveNode, YieldNode, YieldCount, giving, quitting, beginning, committing, index_of, step_of, SomeIsLeft}
@@ -274,6 +274,21 @@ may_begin F passes table old new own at quit none =
       idle = refl;
       room = own.sound_sight.sound.room (taking_open old.view.point at);
     })
+
+-- a pass that has quit and has no next step may begin another command
+pub free_of_steps : (F : Fixed) (passes : ℕ) (table : TableId) (old new : PassView) (step : Option Step) → IsPassOf F passes table old → is_taking old.view.point ≡ true → HasQuit F old new
+    → is_some step ≡ has_next_step new → step ≡ None → MayBegin new
+free_of_steps F passes table old new step own at quit is none = elim (cases_Bool (is_some (first_yield F old.view))) [
+  | inl some ↦
+      let there : has_next_step new ≡ true =
+      ap has_next_step (quit.holding some) ∙ ap (λ (b : Bool). is_some old.given || b) (sym (quits_there F old.view old.effect own.sound_sight.sound old.view.point at)) ∙ always (is_some old.given) in
+      absurd (false≢true (ap (λ (o : Option Step). is_some o) (sym none) ∙ is ∙ there))
+  | inr nothing ↦ may_begin F passes table old new own at quit nothing
+]
+  where
+    always : (b : Bool) → (b || true) ≡ true
+    always true = refl
+    always false = refl
 
 -- ---- what the seat in plain values knows of its pass
 
