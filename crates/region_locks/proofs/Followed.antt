@@ -347,6 +347,7 @@ module _ (F : Fixed) (passes : ℕ) (table : TableId) (p : PassView) (going : Is
           };
           command = ap command_pursued is ∙ left.command ∙ sym (command_in_view left.busy);
           refusals = ap (λ (v : View). v.refusals) view ∙ left.refusals;
+          refused = ap (λ (v : View). v.refused) view ∙ left.refused;
         };
         committed = λ e there. cc;
         reading = λ f. absurd (false≢true f);

@@ -41,6 +41,7 @@ record IsLoadedOf (q new : PassView) : Type 0 where
   seen : new.view.seen ≡ q.view.seen
   log : new.view.log ≡ q.view.log
   refusals : new.view.refusals ≡ q.view.refusals
+  refused : new.view.refused ≡ q.view.refused
   command : pursued_at new.view.cmd new.view.point ≡ command_pursued q
   whole : is_partial new.view new.view.point ≡ false
 
@@ -67,6 +68,7 @@ module _ (F : Fixed) (passes : ℕ) (table : TableId) (q new : PassView) (own : 
           same = record { number = is.number; room = is.room; seen = is.seen; log = is.log };
           command = ap (λ (o : Option Command). pursued_of o new.quits new.view) is.none ∙ ap (λ (b : Bool). pursued_of None b new.view) is.pursues ∙ is.command;
           refusals = is.refusals;
+          refused = is.refused;
         };
         committed = λ e there. cc;
         reading = λ f. absurd (false≢true f);
@@ -104,6 +106,7 @@ module _ (F : Fixed) (passes : ℕ) (table : TableId) (p new : PassView) (own : 
         seen = ap (λ (q : PassView). q.view.seen) is;
         log = ap (λ (q : PassView). q.view.log) is;
         refusals = ap (λ (q : PassView). q.view.refusals) is;
+        refused = ap (λ (q : PassView). q.view.refused) is;
         command = ap (λ (q : PassView). pursued_at q.view.cmd q.view.point) is;
         whole = ap (λ (q : PassView). is_partial q.view q.view.point) is;
       })
@@ -135,6 +138,7 @@ module _ (F : Fixed) (passes : ℕ) (table : TableId) (p new : PassView) (own : 
         seen = ap (λ (q : PassView). q.view.seen) is;
         log = ap (λ (q : PassView). q.view.log) is;
         refusals = ap (λ (q : PassView). q.view.refusals) is;
+        refused = ap (λ (q : PassView). q.view.refused) is;
         command = ap (λ (q : PassView). pursued_at q.view.cmd q.view.point) is;
         whole = ap (λ (q : PassView). is_partial q.view q.view.point) is;
       })
@@ -169,6 +173,7 @@ module _ (F : Fixed) (passes : ℕ) (table : TableId) (p new : PassView) (own : 
         seen = ap (λ (q : PassView). q.view.seen) is;
         log = ap (λ (q : PassView). q.view.log) is;
         refusals = ap (λ (q : PassView). q.view.refusals) is;
+        refused = ap (λ (q : PassView). q.view.refused) is;
         command = ap (λ (q : PassView). pursued_at q.view.cmd q.view.point) is ∙ pursued_reading p.view.cmd (view_found F v LoadAgain f).point plain.is_stage;
         whole = ap (λ (q : PassView). is_partial q.view q.view.point) is ∙ plain.whole;
       })
@@ -204,6 +209,7 @@ module _ (F : Fixed) (passes : ℕ) (table : TableId) (p new : PassView) (own : 
         seen = ap (λ (q : PassView). q.view.seen) is;
         log = ap (λ (q : PassView). q.view.log) is;
         refusals = ap (λ (q : PassView). q.view.refusals) is;
+        refused = ap (λ (q : PassView). q.view.refused) is;
         command = ap (λ (q : PassView). pursued_at q.view.cmd q.view.point) is ∙ pursued_reading p.view.cmd (view_found F v next f).point plain.is_stage;
         whole = ap (λ (q : PassView). is_partial q.view q.view.point) is ∙ plain.whole;
       })
@@ -465,6 +471,8 @@ module _ (F : Fixed) (passes : ℕ) (table : TableId) (p new : PassView) (going 
               log = ap (λ (v : View). v.log) view ∙ ap (λ (f : Entry). p.view.log ++ (record { command = p.view.cmd; entry = f }) ∷ []) (sym is_entry);
               place = seen;
               seen = ap (λ (v : View). v.seen) view ∙ one_more e.place;
+              refusals = ap (λ (v : View). v.refusals) view;
+              refused = ap (λ (v : View). v.refused) view;
             });
         reading = λ x. absurd (false≢true x);
         known = λ x. absurd (false≢true x);
@@ -504,6 +512,7 @@ module _ (F : Fixed) (passes : ℕ) (table : TableId) (p new : PassView) (going 
           };
           command = ap command_pursued is;
           refusals = ap (λ (v : View). v.refusals) view;
+          refused = ap (λ (v : View). v.refused) view;
         };
         committed = λ g x. cc;
         reading = λ _. ap (λ (v : View). v.point) view ∙ at;

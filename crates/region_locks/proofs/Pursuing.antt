@@ -73,6 +73,7 @@ pub record Leaves (view new : View) (kept : Option Effect) : Type 0 where
   pub seen : new.seen ≡ view.seen
   pub log : new.log ≡ view.log
   pub refusals : new.refusals ≡ view.refusals
+  pub refused : new.refused ≡ view.refused
   pub command : pursued_at new.cmd new.point ≡ pursued_at view.cmd view.point
   pub whole : is_partial new new.point ≡ false
   pub effect : is_busy (stage_of new.point) ≡ true → first_effect (effect_kept new kept) new.effect ≡ first_effect kept view.effect
@@ -134,6 +135,7 @@ module _ (F : Fixed) (view : View) (given : Option Command) (effect : Option Eff
     seen = refl;
     log = refl;
     refusals = refl;
+    refused = refl;
     command = sym (cond-true (is_pursued (stage_of view.point)) (view.cmd ∷ []) [] pursued);
     whole = ap (λ (ws : List ℕ). not (no_word ws)) empty;
     effect = λ _. same_effect (record view { point = taking got [] }) off refl;
@@ -144,6 +146,7 @@ module _ (F : Fixed) (view : View) (given : Option Command) (effect : Option Eff
     seen = refl;
     log = refl;
     refusals = refl;
+    refused = refl;
     command = sym (cond-true (is_pursued (stage_of view.point)) (view.cmd ∷ []) [] pursued);
     whole = refl;
     effect = λ _. same_effect (record view { point = taking got (leaf ∷ rest) }) off refl;
@@ -156,14 +159,15 @@ module _ (F : Fixed) (view : View) (given : Option Command) (effect : Option Eff
       (taken_leaf (got ++ leaf ∷ []) rest (no_effect (Taking got (leaf ∷ rest)) at refl) (again (ap (λ (q : Point). is_before_leaves (stage_of q)) at)) (ap (λ (q : Point). is_busy (stage_of q)) at) (ap (λ (q : Point). is_pursued (stage_of q)) at))
 
   -- a step that reads, or takes or gives back an inner node that is visited
-  reads_on : (point : Point) (new : View) → view.point ≡ point → stage_of point ≡ AtReading → is_resolving point ≡ false → new.room ≡ view.room → new.seen ≡ view.seen → new.log ≡ view.log → new.refusals ≡ view.refusals
+  reads_on : (point : Point) (new : View) → view.point ≡ point → stage_of point ≡ AtReading → is_resolving point ≡ false → new.room ≡ view.room → new.seen ≡ view.seen → new.log ≡ view.log → new.refusals ≡ view.refusals → new.refused ≡ view.refused
       → new.cmd ≡ view.cmd → new.effect ≡ view.effect → IsPlain new new.point AtReading → Leaves view new effect
-  reads_on point new at reading other room seen log refusals cmd eff plain =
+  reads_on point new at reading other room seen log refusals refused cmd eff plain =
       let was : stage_of view.point ≡ AtReading = ap stage_of at ∙ reading in record {
         room = room;
         seen = seen;
         log = log;
         refusals = refusals;
+        refused = refused;
         command = pursued_reading new.cmd new.point plain.is_stage ∙ ap (λ (c : Command). c ∷ []) cmd ∙ sym (pursued_reading view.cmd view.point was);
         whole = plain.whole;
         effect = λ _. same_effect new (no_effect point at other) eff;
@@ -172,12 +176,13 @@ module _ (F : Fixed) (view : View) (given : Option Command) (effect : Option Eff
 
   -- a step after the commit
   ends_on : (new : View) → effect ≡ None → is_busy (stage_of view.point) ≡ true → is_pursued (stage_of view.point) ≡ false → is_pursued (stage_of new.point) ≡ false → new.room ≡ view.room → new.seen ≡ view.seen
-      → new.log ≡ view.log → new.refusals ≡ view.refusals → is_partial new new.point ≡ false → (is_busy (stage_of new.point) ≡ true → new.effect ≡ view.effect) → Leaves view new effect
-  ends_on new off busy old after room seen log refusals whole eff = record {
+      → new.log ≡ view.log → new.refusals ≡ view.refusals → new.refused ≡ view.refused → is_partial new new.point ≡ false → (is_busy (stage_of new.point) ≡ true → new.effect ≡ view.effect) → Leaves view new effect
+  ends_on new off busy old after room seen log refusals refused whole eff = record {
     room = room;
     seen = seen;
     log = log;
     refusals = refusals;
+    refused = refused;
     command = cond-false (is_pursued (stage_of new.point)) (new.cmd ∷ []) [] after ∙ sym (cond-false (is_pursued (stage_of view.point)) (view.cmd ∷ []) [] old);
     whole = whole;
     effect = λ b. same_effect new off (eff b);
@@ -191,6 +196,7 @@ module _ (F : Fixed) (view : View) (given : Option Command) (effect : Option Eff
         seen = refl;
         log = refl;
         refusals = refl;
+        refused = refl;
         command = sym (cond-true (is_pursued (stage_of view.point)) (view.cmd ∷ []) [] (ap (λ (q : Point). is_pursued (stage_of q)) at));
         whole = refl;
         effect = λ _. same_effect (record view { point = point_after_take node (Claiming got (node ∷ rest)) }) (no_effect (Claiming got (node ∷ rest)) at refl) refl;
@@ -209,6 +215,7 @@ module _ (F : Fixed) (view : View) (given : Option Command) (effect : Option Eff
         seen = refl;
         log = refl;
         refusals = refl;
+        refused = refl;
         command = sym (cond-true (is_pursued (stage_of view.point)) (view.cmd ∷ []) [] (ap (λ (q : Point). is_pursued (stage_of q)) at));
         whole = refl;
         effect = λ _. sym (ap (λ (o : Option Effect). first_effect o view.effect) is);
@@ -222,17 +229,17 @@ module _ (F : Fixed) (view : View) (given : Option Command) (effect : Option Eff
       off = no_effect (Storing nodes (store ∷ stores)) at refl
 
       by_stores : (more : List Store) → Leaves view (record view { point = storing nodes more }) effect
-      by_stores [] = ends_on _ off (ap (λ (q : Point). is_busy (stage_of q)) at) (ap (λ (q : Point). is_pursued (stage_of q)) at) refl refl refl refl refl refl (λ _. refl)
-      by_stores (s ∷ more) = ends_on _ off (ap (λ (q : Point). is_busy (stage_of q)) at) (ap (λ (q : Point). is_pursued (stage_of q)) at) refl refl refl refl refl refl (λ _. refl)
+      by_stores [] = ends_on _ off (ap (λ (q : Point). is_busy (stage_of q)) at) (ap (λ (q : Point). is_pursued (stage_of q)) at) refl refl refl refl refl refl refl (λ _. refl)
+      by_stores (s ∷ more) = ends_on _ off (ap (λ (q : Point). is_busy (stage_of q)) at) (ap (λ (q : Point). is_pursued (stage_of q)) at) refl refl refl refl refl refl refl (λ _. refl)
 
   returned : (leaves : List ℕ) → effect ≡ None → is_busy (stage_of view.point) ≡ true → is_pursued (stage_of view.point) ≡ false → Leaves view (returning view leaves) effect
-  returned [] off busy old = ends_on _ off busy old refl refl refl refl refl refl (λ b. absurd (false≢true b))
-  returned (leaf ∷ leaves) off busy old = ends_on _ off busy old refl refl refl refl refl refl (λ _. refl)
+  returned [] off busy old = ends_on _ off busy old refl refl refl refl refl refl refl (λ b. absurd (false≢true b))
+  returned (leaf ∷ leaves) off busy old = ends_on _ off busy old refl refl refl refl refl refl refl (λ _. refl)
 
   gave_up : (nodes leaves : List ℕ) → effect ≡ None → is_busy (stage_of view.point) ≡ true → is_pursued (stage_of view.point) ≡ false → Leaves view (yielding view nodes leaves) effect
-  gave_up [] [] off busy old = ends_on _ off busy old refl refl refl refl refl refl (λ b. absurd (false≢true b))
-  gave_up [] (leaf ∷ leaves) off busy old = ends_on _ off busy old refl refl refl refl refl refl (λ _. refl)
-  gave_up (node ∷ nodes) leaves off busy old = ends_on _ off busy old refl refl refl refl refl refl (λ _. refl)
+  gave_up [] [] off busy old = ends_on _ off busy old refl refl refl refl refl refl refl (λ b. absurd (false≢true b))
+  gave_up [] (leaf ∷ leaves) off busy old = ends_on _ off busy old refl refl refl refl refl refl refl (λ _. refl)
+  gave_up (node ∷ nodes) leaves off busy old = ends_on _ off busy old refl refl refl refl refl refl refl (λ _. refl)
 
   here_releasing : (nodes : List ℕ) (found : ℕ) → view.point ≡ Releasing nodes → is_plain_next (next_point F view given effect (Releasing nodes)) ≡ true → Here (Releasing nodes) found
   here_releasing [] found at plain = by_leaves view.wanted refl plain
@@ -241,7 +248,7 @@ module _ (F : Fixed) (view : View) (given : Option Command) (effect : Option Eff
       by_leaves [] w plain = absurd (false≢true plain)
       by_leaves (leaf ∷ leaves) w plain = subst (λ (q : Point). Leaves view (view_after_give F view q) effect) (sym at) (returned (rest_of view.wanted) (no_effect (Releasing []) at refl) (ap (λ (q : Point). is_busy (stage_of q)) at) (ap (λ (q : Point). is_pursued (stage_of q)) at))
   here_releasing (node ∷ nodes) found at plain =
-      subst (λ (q : Point). Leaves view (view_after_give F view q) effect) (sym at) (ends_on _ (no_effect (Releasing (node ∷ nodes)) at refl) (ap (λ (q : Point). is_busy (stage_of q)) at) (ap (λ (q : Point). is_pursued (stage_of q)) at) refl refl refl refl refl refl (λ _. refl))
+      subst (λ (q : Point). Leaves view (view_after_give F view q) effect) (sym at) (ends_on _ (no_effect (Releasing (node ∷ nodes)) at refl) (ap (λ (q : Point). is_busy (stage_of q)) at) (ap (λ (q : Point). is_pursued (stage_of q)) at) refl refl refl refl refl refl refl (λ _. refl))
 
   here_returning : (leaves : List ℕ) (found : ℕ) → view.point ≡ Returning leaves → is_plain_next (next_point F view given effect (Returning leaves)) ≡ true → Here (Returning leaves) found
   here_returning [] found at plain = absurd (false≢true plain)
@@ -263,15 +270,15 @@ module _ (F : Fixed) (view : View) (given : Option Command) (effect : Option Eff
   leaves_at (Taking got (leaf ∷ rest)) found at plain free = subst (Here (Taking got (leaf ∷ rest))) (sym (eqb-true found 0 free)) (here_taking got leaf rest at)
   leaves_at Checking found at plain free = absurd (false≢true plain)
   leaves_at (Entering node plan) found at plain free =
-      subst (Here (Entering node plan)) (sym (eqb-true found 0 free)) (subst (λ (q : Point). Leaves view (record view { point = point_after_take node q }) effect) (sym at) (reads_on (Entering node plan) (record view { point = Entered node plan }) at refl refl refl refl refl refl refl refl (record { is_stage = refl; whole = refl })))
+      subst (Here (Entering node plan)) (sym (eqb-true found 0 free)) (subst (λ (q : Point). Leaves view (record view { point = point_after_take node q }) effect) (sym at) (reads_on (Entering node plan) (record view { point = Entered node plan }) at refl refl refl refl refl refl refl refl refl (record { is_stage = refl; whole = refl })))
   leaves_at (Entered node plan) found at plain free =
-      reads_on (Entered node plan) _ at refl refl refl refl refl refl refl refl (loading_plain F view _ node (players_in found view.cmd.slot) plan)
+      reads_on (Entered node plan) _ at refl refl refl refl refl refl refl refl refl (loading_plain F view _ node (players_in found view.cmd.slot) plan)
   leaves_at (Loading node part [] plan) found at plain free = absurd (false≢true plain)
   leaves_at (Loading node part (slot ∷ players) plan) found at plain free = absurd (false≢true plain)
   leaves_at (Leaving node plan) found at plain free =
-      subst (λ (q : Point). Leaves view (view_after_give F view q) effect) (sym at) (reads_on (Leaving node plan) (record view { point = visiting F view plan }) at refl refl refl refl refl refl refl refl (visiting_plain F view _ plan))
+      subst (λ (q : Point). Leaves view (view_after_give F view q) effect) (sym at) (reads_on (Leaving node plan) (record view { point = visiting F view plan }) at refl refl refl refl refl refl refl refl refl (visiting_plain F view _ plan))
   leaves_at (Sensing []) found at plain free = absurd (false≢true plain)
-  leaves_at (Sensing (id ∷ ids)) found at plain free = reads_on (Sensing (id ∷ ids)) _ at refl refl refl refl refl refl refl refl (sensing_plain _ ids)
+  leaves_at (Sensing (id ∷ ids)) found at plain free = reads_on (Sensing (id ∷ ids)) _ at refl refl refl refl refl refl refl refl refl (sensing_plain _ ids)
   leaves_at Resolving found at plain free =
       here_resolving effect found refl at plain free
   leaves_at (Claiming got []) found at plain free = commits_not view.effect got plain

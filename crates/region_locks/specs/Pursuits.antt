@@ -39,14 +39,16 @@ pub record IsSamePass (old new : PassView) : Type 0 where
   pub seen : new.view.seen ≡ old.view.seen
   pub log : new.view.log ≡ old.view.log
 
--- the same pass with the same command, and no take was refused
+-- the same pass with the same command, and no take was refused: neither the count of refused takes nor the last one
+-- has changed
 pub record IsSameMove (old new : PassView) : Type 0 where
   pub same : IsSamePass old new
   pub command : command_pursued new ≡ command_pursued old
   pub refusals : new.view.refusals ≡ old.view.refusals
+  pub refused : new.view.refused ≡ old.view.refused
 
 -- the command in hand is committed with this entry: it is the log's last item, its place isn't below the count that was
--- seen, and the pass has seen the place plus 1
+-- seen, the pass has seen the place plus 1, and no take was refused
 pub record HasCommitted (old new : PassView) (e : Entry) : Type 0 where
   pub number : new.number ≡ old.number
   pub room : new.view.room ≡ old.view.room
@@ -56,6 +58,8 @@ pub record HasCommitted (old new : PassView) (e : Entry) : Type 0 where
   pub log : new.view.log ≡ old.view.log ++ item_of cmd e ∷ []
   pub place : old.view.seen ≤ e.place
   pub seen : new.view.seen ≡ e.place + 1
+  pub refusals : new.view.refusals ≡ old.view.refusals
+  pub refused : new.view.refused ≡ old.view.refused
 
 -- the kept refused take, by a pass with this number: another pass with that number held the node, by the word that was
 -- found; the leaves wanted are those of the command by the own record as loaded, and the node is one of them or an

@@ -17,7 +17,7 @@ use Rattle.region_locks.specs.Closing.{HasNoCommand}
 use Rattle.region_locks.specs.Pursuits.{command_pursued, item_of, IsGoingOn, entry_committed, is_resolved, HasGoneOn, HasCommitted, IsSameMove, WasRefused, HasGivenUp, IsRefusedBy, HoldsLeavesAlone}
 use Rattle.shared_moves.specs.declared.again.Again.{Again}
 use Rattle.shared_moves.specs.declared.point.Point.TheVariants as points
-use Rattle.shared_moves.specs.Moves.{HasRun, IsLeafHeld, IsCause, WasNotRun, IsOpen, IsDone, IsRunning}
+use Rattle.shared_moves.specs.Moves.{HasRun, NoTakeWasRefused, IsLeafHeld, IsCause, WasNotRun, IsOpen, IsDone, IsRunning}
 use Rattle.shared_moves.specs.Moments.{IsAtPoint}
 
 -- a list with a command isn't empty
@@ -49,7 +49,7 @@ module _ (F : Fixed) (passes : ℕ) (table : TableId) (start : PassView) (c : Co
         going = gone.going;
         number = move.same.number ∙ r.number;
         room = move.same.room ∙ r.room;
-        uncommitted = λ none. let was = r.uncommitted none in record { command = move.command ∙ was.command; log = move.same.log ∙ was.log; seen = move.same.seen ∙ was.seen; refusals = subst (λ (n : ℕ). min start.view.refusals (2 ^ 64 - 1) ≤ n) (sym move.refusals) was.refusals };
+        uncommitted = λ none. let was = r.uncommitted none in record { command = move.command ∙ was.command; log = move.same.log ∙ was.log; seen = move.same.seen ∙ was.seen };
         done = λ e some. let was = r.done e some in record { done = move.command ∙ was.done; log = move.same.log ∙ was.log; place = was.place; seen = move.same.seen ∙ was.seen };
       }
 
@@ -92,12 +92,9 @@ module _ (F : Fixed) (passes : ℕ) (table : TableId) (start : PassView) (c : Co
         going = refused.going;
         number = refused.same.number ∙ r.number;
         room = refused.same.room ∙ r.room;
-        uncommitted = λ _. record { command = refused.still ∙ ap (λ (d : Command). d ∷ []) same; log = refused.same.log ∙ was.log; seen = refused.same.seen ∙ was.seen; refusals = not_fewer start.view.refusals old.view.refusals new.view.refusals was.refusals refused.counted };
+        uncommitted = λ _. record { command = refused.still ∙ ap (λ (d : Command). d ∷ []) same; log = refused.same.log ∙ was.log; seen = refused.same.seen ∙ was.seen };
         done = λ e some. has_one (command_pursued old) refused.cmd refused.command (r.done e some).done;
       }
-    where
-      not_fewer : (x y z : ℕ) → min x (2 ^ 64 - 1) ≤ y → z ≡ min (y + 1) (2 ^ 64 - 1) → min x (2 ^ 64 - 1) ≤ z
-      not_fewer x y z below is = omega (arith, below, is)
 
 -- ---- at the end
 
@@ -129,6 +126,17 @@ without_command p rests =
       given = none_of p.given parts.0;
       idle = idle_of p.view.point parts.1;
     }
+
+-- a call that isn't a refused take leaves the refused takes as they were
+pub none_refused : (F : Fixed) (passes : ℕ) (table : TableId) (old new : PassView) (went : Went) → HasGoneOn F passes table old new went → NoTakeWasRefused old new
+none_refused F passes table old new went gone = by_entry (entry_committed went) refl
+  where
+    by_entry : (o : Option Entry) → entry_committed went ≡ o → NoTakeWasRefused old new
+    by_entry None is = let move = gone.same is in record { refusals = move.refusals; refused = move.refused }
+    by_entry (Some e) is = let commit = gone.committed e is in record { refusals = commit.refusals; refused = commit.refused }
+
+pub none_refused_since : (start old new : PassView) → NoTakeWasRefused start old → NoTakeWasRefused old new → NoTakeWasRefused start new
+none_refused_since start old new before now = record { refusals = now.refusals ∙ before.refusals; refused = now.refused ∙ before.refused }
 
 -- a call leaves the pass its number
 pub keeps_number : (F : Fixed) (passes : ℕ) (table : TableId) (old new : PassView) (went : Went) → HasGoneOn F passes table old new went → new.number ≡ old.number
@@ -182,9 +190,9 @@ is_leaf_held F passes own c r node number leaves least same by =
 
 -- a command that was refused and given up
 pub was_not_run : (F : Fixed) (passes : ℕ) (table : TableId) (start : PassView) (c : Command) (old mid new : PassView) (o : Option Entry) (node number leaves : ℕ) (a : Again)
-    → IsRunning F passes table start c old o → WasRefused F passes table old mid node number leaves → IsPassOf F passes table new → HasGivenUp mid new
+    → IsRunning F passes table start c old o → NoTakeWasRefused start old → WasRefused F passes table old mid node number leaves → IsPassOf F passes table new → HasGivenUp mid new
     → ((G : Fixed) (n own : ℕ) (d : Command) (r : Refused) → r.node ≡ node → IsRefusedBy G n own d r number leaves → IsCause G n own d r a) → WasNotRun F passes table start new c a
-was_not_run F passes table start c old mid new o node number leaves a r refused own gave cause =
+was_not_run F passes table start c old mid new o node number leaves a r before refused own gave cause =
     let was = still_open F passes table start c old mid o r refused.cmd refused.command in
     let same : refused.cmd ≡ c = same_one (command_pursued old) refused.cmd c refused.command was.command in
     let mine : mid.number ≡ new.number = sym gave.number in
@@ -195,14 +203,11 @@ was_not_run F passes table start c old mid new o node number leaves a r refused 
       room = gave.room ∙ refused.same.room ∙ r.room;
       log = gave.log ∙ refused.same.log ∙ was.log;
       seen = subst (λ (n : ℕ). n ≤ new.view.seen) (refused.same.seen ∙ was.seen) gave.seen;
-      rose = risen start.view.refusals old.view.refusals new.view.refusals was.refusals (gave.refusals ∙ refused.counted);
+      counted = gave.refusals ∙ refused.counted ∙ ap (λ (n : ℕ). min (n + 1) (2 ^ 64 - 1)) before.refusals;
       r = refused.r;
       kept = gave.refused ∙ refused.kept;
       cause = subst (λ (n : ℕ). IsCause F passes n c refused.r a) mine (subst (λ (d : Command). IsCause F passes mid.number d refused.r a) same (cause F passes mid.number refused.cmd refused.r refused.is_node refused.cause));
     }
-  where
-    risen : (x y z : ℕ) → min x (2 ^ 64 - 1) ≤ y → z ≡ min (y + 1) (2 ^ 64 - 1) → min (x + 1) (2 ^ 64 - 1) ≤ z
-    risen x y z below is = omega (arith, below, is)
 
 -- ---- as the code has it
 

@@ -24,6 +24,11 @@ pub record HasRun (F : Fixed) (passes : ℕ) (table : TableId) (old new : PassVi
     pub place : old.view.seen ≤ e.place
     pub seen : new.view.seen ≡ e.place + 1
 
+-- no take was refused: neither the pass's count of refused takes nor its last one has changed
+pub record NoTakeWasRefused (old new : PassView) : Type 0 where
+  pub refusals : new.view.refusals ≡ old.view.refusals
+  pub refused : new.view.refused ≡ old.view.refused
+
 -- the refused take was of a leaf that the command wants, by the own record as loaded, and its word names the holder,
 -- which isn't this pass, with its leaves, which have that leaf
 pub record IsLeafHeld (F : Fixed) (passes own : ℕ) (c : Command) (r : Refused) (leaf holder leaves : ℕ) : Type 0 where
@@ -50,8 +55,7 @@ IsCause F passes own c r (Held leaf holder leaves) = IsLeafHeld F passes own c r
 IsCause F passes own c r (Busy node holder) = IsNodeBusy F passes own c r node holder
 
 -- the command wasn't run, for this cause, which the pass keeps as its last refused take: nothing is committed, the pass
--- holds no node and has no command in hand, and it hasn't seen a smaller count than before; its count of refused takes
--- has risen, or is 2^64 - 1
+-- holds no node and has no command in hand, and it hasn't seen a smaller count than before; one take was refused
 pub record WasNotRun (F : Fixed) (passes : ℕ) (table : TableId) (old new : PassView) (c : Command) (a : Again) : Type 0
   where
     pub own : IsPassOf F passes table new
@@ -60,19 +64,18 @@ pub record WasNotRun (F : Fixed) (passes : ℕ) (table : TableId) (old new : Pas
     pub room : new.view.room ≡ old.view.room
     pub log : new.view.log ≡ old.view.log
     pub seen : old.view.seen ≤ new.view.seen
-    pub rose : min (old.view.refusals + 1) (2 ^ 64 - 1) ≤ new.view.refusals
+    pub counted : new.view.refusals ≡ min (old.view.refusals + 1) (2 ^ 64 - 1)
     pub r : Refused
     pub kept : new.view.refused ≡ Some r
     pub cause : IsCause F passes new.number c r a
 
 -- ---- while a move is run
 
--- the command isn't committed, and no fewer takes were refused, as far as they are counted
+-- the command isn't committed
 pub record IsOpen (start : PassView) (c : Command) (now : PassView) : Type 0 where
   pub command : command_pursued now ≡ c ∷ []
   pub log : now.view.log ≡ start.view.log
   pub seen : now.view.seen ≡ start.view.seen
-  pub refusals : min start.view.refusals (2 ^ 64 - 1) ≤ now.view.refusals
 
 -- the command is committed with this entry
 pub record IsDone (start : PassView) (c : Command) (now : PassView) (e : Entry) : Type 0 where

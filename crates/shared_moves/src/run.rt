@@ -1,10 +1,10 @@
-ghost use Rattle.std.specs.Prelude.{◌≡◌, ℕ, ◌%◌, true, false, length, None, IfOk, IfErr};
+ghost use Rattle.std.specs.Prelude.{◌≡◌, ℕ, ◌%◌, true, false, length, None, IfOk, IfErr, OnOk};
 ghost use Rattle.entity_recs.specs.Commands.{Command, command_of};
 ghost use Rattle.core_steps.specs.Views.{Fixed, Refused, has};
 ghost use Rattle.region_locks.specs.Passes.{fixed_in, IsPassOf};
 ghost use Rattle.region_locks.specs.Quitting.{MayBegin};
 ghost use Rattle.region_locks.specs.Pursuits.{IsRefusedBy};
-ghost use Rattle.shared_moves.specs.Moves.{HasRun, WasNotRun, IsRunning, IsCause};
+ghost use Rattle.shared_moves.specs.Moves.{HasRun, NoTakeWasRefused, WasNotRun, IsRunning, IsCause};
 
 use crate::again::Again;
 use crate::gate::Gate;
@@ -43,6 +43,7 @@ impl<'a, A: Action> Shared<'a, A> {
         requires serves { cmd.slot % length self.now.rooms ≡ pass.old.number }
         ensures running { let F = fixed_in A.takes A.region_of A.effect_of self.now in
             IsRunning F (length self.now.rooms) self.now.table pass.old (command_of cmd) pass.new None }
+        ensures served { NoTakeWasRefused pass.old pass.new }
     {
         self.table.begin(pass, cmd);
     }
@@ -71,8 +72,9 @@ impl<'a, A: Action> Shared<'a, A> {
         unreachable!()
     }
 
-    /// Runs the command and gives its entry, without waiting. `Err` where a node that it takes was held by another
-    /// pass; then nothing is committed, the pass holds no node, and the command may be tried again.
+    /// Runs the command and gives its entry, without waiting: no take is refused. `Err` where a node that it takes was
+    /// held by another pass, at the first such take; then nothing is committed, the pass holds no node, and the command
+    /// may be tried again.
     pub fn try_run<G: Gate>(&self, pass: &mut Pass<A>, cmd: Cmd, gate: &G) -> Result<Entry, Again>
         requires own { IsPassOf (fixed_in A.takes A.region_of A.effect_of self.now) (length self.now.rooms)
             self.now.table pass.old }
@@ -81,6 +83,7 @@ impl<'a, A: Action> Shared<'a, A> {
         requires serves { cmd.slot % length self.now.rooms ≡ pass.old.number }
         ensures ok { IfOk result (λ e. HasRun (fixed_in A.takes A.region_of A.effect_of self.now)
             (length self.now.rooms) self.now.table pass.old pass.new (command_of cmd) e) }
+        ensures served { OnOk result (NoTakeWasRefused pass.old pass.new) }
         ensures err { IfErr result (λ a. WasNotRun (fixed_in A.takes A.region_of A.effect_of self.now)
             (length self.now.rooms) self.now.table pass.old pass.new (command_of cmd) a) }
     {

@@ -3,7 +3,7 @@ ghost use Rattle.entity_recs.specs.Commands.{Command};
 ghost use Rattle.region_locks.specs.Passes.{PassView, fixed_in};
 ghost use Rattle.region_locks.specs.Turns.{turn_of};
 ghost use Rattle.region_locks.specs.Pursuits.{IsGoingOn, WasRefused, calls_left};
-ghost use Rattle.shared_moves.specs.Moves.{IsRunning};
+ghost use Rattle.shared_moves.specs.Moves.{IsRunning, NoTakeWasRefused};
 ghost use Rattle.shared_moves.specs.Points.{has_entry};
 ghost use Rattle.shared_moves.specs.Moments.{IsAtPoint};
 
@@ -64,6 +64,7 @@ impl<'a, A: Action> Shared<'a, A> {
             → IsRunning F n self.now.table start c pass.new entry.new }
         ensures fewer { let F = fixed_in A.takes A.region_of A.effect_of self.now in
             OnOk result (calls_left F pass.new < calls_left F pass.old) }
+        ensures served { OnOk result (NoTakeWasRefused pass.old pass.new) }
         ensures refused { IfErr result (λ r. WasRefused (fixed_in A.takes A.region_of A.effect_of self.now)
             (length self.now.rooms) self.now.table pass.old pass.new r.node r.holder.number r.holder.leaves) }
         ensures kept { IfErr result (λ r. entry.new ≡ entry.old) }

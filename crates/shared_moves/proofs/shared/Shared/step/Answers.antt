@@ -3,7 +3,7 @@ use Rattle.entity_recs.specs.declared.effect.Entry.{Entry}
 use Rattle.region_locks.specs.Passes.{fixed_in}
 use Rattle.region_locks.specs.Pursuits.{HasGoneOn, WasRefused, entry_committed}
 use Rattle.shared_moves.specs.Moves.{IsRunning}
-use Rattle.shared_moves.proofs.Running.{at_computed, runs_on, runs_done, runs_refused}
+use Rattle.shared_moves.proofs.Running.{at_computed, runs_on, runs_done, runs_refused, none_refused}
 use Rattle.shared_moves.proofs.shared.Shared.step.Goals as goal
 
 pub returns-in_err-go_on-clause-running : goal.returns-in_err-go_on-clause-running
@@ -33,3 +33,18 @@ pub returns-in-Committed-clause-running : goal.returns-in-Committed-clause-runni
 returns-in-Committed-clause-running g c start d running =
     let gone : HasGoneOn (fixed_in g.A.Action.takes g.A.Action.region_of g.A.Action.effect_of c.args.self.now) (length c.args.self.now.rooms) c.args.self.now.table c.args.pass.now c.go_on.new.pass c.in_ok-go_on.field-0 = rw (← c.self.view_is) c.in_ok-go_on.ensures.ok in
     runs_done (fixed_in g.A.Action.takes g.A.Action.region_of g.A.Action.effect_of c.args.self.now) (length c.args.self.now.rooms) c.args.self.now.table start d c.args.pass.now c.go_on.new.pass c.args.entry.now running c.in_ok-go_on.field-0 c.in-Committed.e (ap entry_committed c.in-Committed.is) gone
+
+pub returns-in-On-clause-served : goal.returns-in-On-clause-served
+returns-in-On-clause-served g c =
+    let gone : HasGoneOn (fixed_in g.A.Action.takes g.A.Action.region_of g.A.Action.effect_of c.args.self.now) (length c.args.self.now.rooms) c.args.self.now.table c.args.pass.now c.go_on.new.pass c.in_ok-go_on.field-0 = rw (← c.self.view_is) c.in_ok-go_on.ensures.ok in
+    none_refused (fixed_in g.A.Action.takes g.A.Action.region_of g.A.Action.effect_of c.args.self.now) (length c.args.self.now.rooms) c.args.self.now.table c.args.pass.now c.go_on.new.pass c.in_ok-go_on.field-0 gone
+
+pub returns-in-Resolved-clause-served : goal.returns-in-Resolved-clause-served
+returns-in-Resolved-clause-served g c =
+    let gone : HasGoneOn (fixed_in g.A.Action.takes g.A.Action.region_of g.A.Action.effect_of c.args.self.now) (length c.args.self.now.rooms) c.args.self.now.table c.args.pass.now c.go_on.new.pass c.in_ok-go_on.field-0 = rw (← c.self.view_is) c.in_ok-go_on.ensures.ok in
+    none_refused (fixed_in g.A.Action.takes g.A.Action.region_of g.A.Action.effect_of c.args.self.now) (length c.args.self.now.rooms) c.args.self.now.table c.args.pass.now c.go_on.new.pass c.in_ok-go_on.field-0 gone
+
+pub returns-in-Committed-clause-served : goal.returns-in-Committed-clause-served
+returns-in-Committed-clause-served g c =
+    let gone : HasGoneOn (fixed_in g.A.Action.takes g.A.Action.region_of g.A.Action.effect_of c.args.self.now) (length c.args.self.now.rooms) c.args.self.now.table c.args.pass.now c.go_on.new.pass c.in_ok-go_on.field-0 = rw (← c.self.view_is) c.in_ok-go_on.ensures.ok in
+    none_refused (fixed_in g.A.Action.takes g.A.Action.region_of g.A.Action.effect_of c.args.self.now) (length c.args.self.now.rooms) c.args.self.now.table c.args.pass.now c.go_on.new.pass c.in_ok-go_on.field-0 gone
