@@ -1,4 +1,4 @@
-ghost use Rattle.std.specs.Prelude.{◌≡◌, ◌≤◌, ◌⊎◌, ℕ, true, IfSome, IfOk, OnErr, IsOkAnd, map, string_bytes};
+ghost use Rattle.std.specs.Prelude.{◌≡◌, ◌≤◌, ◌⊎◌, ℕ, true, Err, IsErr, IfSome, IfOk, OnErr, IsOkAnd, map, string_bytes};
 ghost use Rattle.std.specs.Io.KnownBytes.{Appends};
 ghost use Rattle.edge_io.specs.Counts.{HasRisen};
 ghost use Rattle.edge_io.specs.Writes.{AppendsPart};
@@ -7,9 +7,10 @@ ghost use Rattle.demo_make.specs.GeneratedFrames.{generated_text};
 ghost use Rattle.out_text.specs.Journals.{dids};
 ghost use Rattle.out_text.specs.OneTaker.{HasOneTakerEach};
 ghost use Rattle.out_text.specs.Output.{HasLast, IsOutput, IsRefused, IsCut, IsSomeFrames};
-ghost use Rattle.arena_engine.specs.Making.{line_of_match};
+ghost use Rattle.arena_engine.specs.Making.{ArePlayed, line_of_match};
 ghost use Rattle.arena_engine.specs.Output.{Writes, ReadsSome, ReadsToEnd, ReadsToRefusal};
 ghost use Rattle.arena_engine.specs.Reports.{refusal_of, last_in};
+ghost use Rattle.arena_cli.specs.declared.arguments.NoArguments.TheVariants.{NotUnicode, Memory};
 ghost use Rattle.arena_cli.specs.Asked.{AsksToPlay, AsksToMake, AsksToMatch, AskForNothing};
 
 use crate::arguments::{NoArguments, words_of};
@@ -43,6 +44,11 @@ fn serve_arguments<R: Threads + Wait + Sync, S: Source, K: Sink, G: Gate>(
         → report.status ≡ 1 → IfSome (S.left source.old) (λ bytes.
         Writes (K.taken sink.old) (K.taken sink.new) (HasLast (IsRefused n bytes (refusal_of report))
         (last_in report)))) }
+    ensures refused_read { IfOk result (λ report. (n : ℕ) → AsksToPlay (map string_bytes arguments.now) n
+        → report.status ≡ 1 →
+        ReadsToRefusal source.old source.new (S.last source.new) (S.ended source.new ≡ S.ended source.old)
+        (S.ended source.new ≡ true)
+        (S.left source.old) (S.left source.new)) }
     ensures untouched { IfOk result (λ report. report.status ≡ 2 → (source.new ≡ source.old) × (sink.new ≡ sink.old)) }
     ensures read_fault { IfOk result (λ report. (n : ℕ) → AsksToPlay (map string_bytes arguments.now) n
         → report.status ≡ 3 →
@@ -60,6 +66,7 @@ fn serve_arguments<R: Threads + Wait + Sync, S: Source, K: Sink, G: Gate>(
         → report.status ≡ 5 → IfSome (S.left source.old) (λ bytes.
         Writes (K.taken sink.old) (K.taken sink.new) (HasLast (IsSomeFrames n bytes) (last_in report)))) }
     ensures memory { OnErr result (sink.new ≡ sink.old) }
+    ensures unread { OnErr result (source.new ≡ source.old) }
     ensures made { IfOk result (λ report. (seed players frames : ℕ)
         → AsksToMake (map string_bytes arguments.now) seed players frames → report.status ≡ 0
         → Appends (K.taken sink.old) (K.taken sink.new) (generated_text seed players frames)) }
@@ -69,19 +76,29 @@ fn serve_arguments<R: Threads + Wait + Sync, S: Source, K: Sink, G: Gate>(
     ensures made_nothing { IfOk result (λ report. (seed players frames : ℕ)
         → AsksToMake (map string_bytes arguments.now) seed players frames → report.status ≡ 5
         → sink.new ≡ sink.old) }
+    ensures make_reads_nothing { IfOk result (λ report. (seed players frames : ℕ)
+        → AsksToMake (map string_bytes arguments.now) seed players frames → source.new ≡ source.old) }
     ensures summed { IfOk result (λ report. (seed players frames workers : ℕ)
         → AsksToMatch (map string_bytes arguments.now) seed players frames workers → report.status ≡ 0
         → Appends (K.taken sink.old) (K.taken sink.new) (line_of_match seed players report.all)) }
     ensures summed_cut { IfOk result (λ report. (seed players frames workers : ℕ)
         → AsksToMatch (map string_bytes arguments.now) seed players frames workers → report.status ≡ 4
         → AppendsPart (K.taken sink.old) (K.taken sink.new) (line_of_match seed players report.all)) }
+    ensures summed_nothing { IfOk result (λ report. (seed players frames workers : ℕ)
+        → AsksToMatch (map string_bytes arguments.now) seed players frames workers → report.status ≡ 5
+        → sink.new ≡ sink.old) }
+    ensures match_frames { IfOk result (λ report. (seed players frames workers : ℕ)
+        → AsksToMatch (map string_bytes arguments.now) seed players frames workers
+        → ArePlayed seed players frames workers report.status report.all) }
+    ensures match_reads_nothing { IfOk result (λ report. (seed players frames workers : ℕ)
+        → AsksToMatch (map string_bytes arguments.now) seed players frames workers → source.new ≡ source.old) }
 {
     let words = words_of(alloc, arguments)?;
     Ok(serve(rt, alloc, &words, source, sink, gate))
 }
 
 /// Serves what the program's arguments ask for, and reports how that ended. Where the arguments can't be had, nothing
-/// is read or written: they ask for nothing where one isn't UTF-8.
+/// is read or written, and the status is 2 where one isn't UTF-8, and 5 where there was not enough memory for them.
 pub fn answer<R: Threads + Wait + Sync, S: Source, K: Sink, G: Gate>(
     rt: &R,
     alloc: Global,
@@ -93,6 +110,9 @@ pub fn answer<R: Threads + Wait + Sync, S: Source, K: Sink, G: Gate>(
     ensures asked { IfOk arguments (λ all. AskForNothing (map string_bytes all.items)) → (result.status ≡ 2)
         ⊎ (result.status ≡ 5) }
     ensures refused { result.status ≡ 2 → IfOk arguments (λ all. AskForNothing (map string_bytes all.items)) }
+    ensures not_unicode { arguments ≡ Err NotUnicode → result.status ≡ 2 }
+    ensures no_arguments { arguments ≡ Err Memory → result.status ≡ 5 }
+    ensures unserved { IsErr arguments → (source.new ≡ source.old) × (sink.new ≡ sink.old) }
     ensures known { result.status ≤ 5 }
     ensures done { (n : ℕ) → IsOkAnd arguments (λ all. AsksToPlay (map string_bytes all.items) n) → result.status ≡ 0
         → IfSome (S.left source.old) (λ bytes.
@@ -105,6 +125,11 @@ pub fn answer<R: Threads + Wait + Sync, S: Source, K: Sink, G: Gate>(
         → result.status ≡ 1 → IfSome (S.left source.old) (λ bytes.
         Writes (K.taken sink.old) (K.taken sink.new) (HasLast (IsRefused n bytes (refusal_of result))
         (last_in result))) }
+    ensures refused_read { (n : ℕ) → IsOkAnd arguments (λ all. AsksToPlay (map string_bytes all.items) n)
+        → result.status ≡ 1 →
+        ReadsToRefusal source.old source.new (S.last source.new) (S.ended source.new ≡ S.ended source.old)
+        (S.ended source.new ≡ true)
+        (S.left source.old) (S.left source.new) }
     ensures untouched { result.status ≡ 2 → (source.new ≡ source.old) × (sink.new ≡ sink.old) }
     ensures read_fault { (n : ℕ) → IsOkAnd arguments (λ all. AsksToPlay (map string_bytes all.items) n)
         → result.status ≡ 3 →
@@ -129,6 +154,9 @@ pub fn answer<R: Threads + Wait + Sync, S: Source, K: Sink, G: Gate>(
     ensures made_nothing { (seed players frames : ℕ)
         → IsOkAnd arguments (λ all. AsksToMake (map string_bytes all.items) seed players frames) → result.status ≡ 5
         → sink.new ≡ sink.old }
+    ensures make_reads_nothing { (seed players frames : ℕ)
+        → IsOkAnd arguments (λ all. AsksToMake (map string_bytes all.items) seed players frames)
+        → source.new ≡ source.old }
     ensures summed { (seed players frames workers : ℕ)
         → IsOkAnd arguments (λ all. AsksToMatch (map string_bytes all.items) seed players frames workers)
         → result.status ≡ 0
@@ -137,6 +165,15 @@ pub fn answer<R: Threads + Wait + Sync, S: Source, K: Sink, G: Gate>(
         → IsOkAnd arguments (λ all. AsksToMatch (map string_bytes all.items) seed players frames workers)
         → result.status ≡ 4
         → AppendsPart (K.taken sink.old) (K.taken sink.new) (line_of_match seed players result.all) }
+    ensures summed_nothing { (seed players frames workers : ℕ)
+        → IsOkAnd arguments (λ all. AsksToMatch (map string_bytes all.items) seed players frames workers)
+        → result.status ≡ 5 → sink.new ≡ sink.old }
+    ensures match_frames { (seed players frames workers : ℕ)
+        → IsOkAnd arguments (λ all. AsksToMatch (map string_bytes all.items) seed players frames workers)
+        → ArePlayed seed players frames workers result.status result.all }
+    ensures match_reads_nothing { (seed players frames workers : ℕ)
+        → IsOkAnd arguments (λ all. AsksToMatch (map string_bytes all.items) seed players frames workers)
+        → source.new ≡ source.old }
 {
     match arguments {
         Ok(all) => match serve_arguments(rt, alloc, all.as_slice(), source, sink, gate) {
