@@ -73,7 +73,7 @@ refused_of (demo_stop.Refused line fault rule) P Q f p = f _ p
 refused_of demo_stop.ReadFault P Q f p = tt
 refused_of demo_stop.NoMemory P Q f p = tt
 
--- a reader's stop is want of memory, where P holds
+-- a reader's stop is lack of memory, where P holds
 no_memory_of : (d : DemoStop) (P : Type 0) → P → OnMemory (stop_of d) P
 no_memory_of (demo_stop.Refused line fault rule) P p = tt
 no_memory_of demo_stop.ReadFault P p = tt
@@ -399,7 +399,7 @@ but_read_fault ReadFault P h = tt
 but_read_fault WriteFault P h = h
 but_read_fault Memory P h = h
 
--- where a game stops for want of memory the sink is as it was
+-- where a game stops for lack of memory the sink is as it was
 pub but_write_fault_of_game : (s : Stop) (P Q : Type 0) → IsGameStop s → OnMemory s P → (P → Q) → ButOnWriteFault s Q
 but_write_fault_of_game (Refused line fault rule) P Q stop h f = absurd stop
 but_write_fault_of_game ReadFault P Q stop h f = absurd stop

@@ -5,7 +5,7 @@ use Rattle.match_play.specs.Matches.{AreRightSoFar, AreInOrderSoFar, match_total
 use Rattle.arena_engine.specs.declared.report.Report.{Report}
 use Rattle.arena_engine.specs.Summaries.{summary_text}
 
--- the status is done, a write fault or want of memory
+-- the status is done, a write fault or lack of memory
 abbrev pub IsOfWriting : ℕ → Type 0
 IsOfWriting status = (status ≡ 0) ⊎ (status ≡ 4) ⊎ (status ≡ 5)
 

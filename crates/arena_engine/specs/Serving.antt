@@ -31,6 +31,6 @@ pub record NothingFailed (reads_before reads writes_before writes : ℕ) : Type 
   pub reading : HasRisen reads_before reads → ⊥
   pub writing : HasRisen writes_before writes → ⊥
 
--- the status is this one, or that of want of memory
+-- the status is this one, or that of lack of memory
 abbrev pub IsOrMemory : ℕ → ℕ → Type 0
 IsOrMemory status wanted = (status ≡ wanted) ⊎ (status ≡ 5)

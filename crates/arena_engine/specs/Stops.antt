@@ -34,7 +34,7 @@ abbrev pub ButOnWriteFault : Stop → Type 0 → Type 0
 ButOnWriteFault WriteFault P = ⊤
 ButOnWriteFault _ P = P
 
--- what a game stops for: a write fault or want of memory
+-- what a game stops for: a write fault or lack of memory
 abbrev pub IsGameStop : Stop → Type 0
 IsGameStop (Refused line fault rule) = ⊥
 IsGameStop ReadFault = ⊥

@@ -7,7 +7,7 @@ use std::alloc::Global;
 #[derive(Drop)]
 pub struct Report {
     /// The status, which the program ends with: 0 done, 1 recording refused, 2 words refused, 3 read fault, 4 write
-    /// fault, 5 want of memory.
+    /// fault, 5 lack of memory.
     pub status: u8,
     /// The number of the refused line, from 1; 0 for every other status.
     pub line: u64,

@@ -147,7 +147,7 @@ fn next_event<S: Source>(
     ensures cause { IfErr result (λ stop. OnReadFault stop (HasRisen (S.faults source.old) (S.faults source.new))) }
     ensures sure { S.never_fails source.old → IfErr result (λ stop. OnReadFault stop ⊥) }
 
-    // Want of memory.
+    // Lack of memory.
     ensures memory { IfErr result (λ stop. OnNoMemory stop (ReadsQuietly reading.old
         (ahead lines.old (S.left source.old)) (ahead lines.new (S.left source.new)))) }
     ensures memory_end { IfErr result (λ stop. OnNoMemory stop (S.ended source.new ≡ S.ended source.old)) }
@@ -245,7 +245,7 @@ impl DemoReader {
             (HasRisen (S.faults source.old) (S.faults source.new))) }
         ensures sure { IsOpen self.old → S.never_fails source.old → IfErr result (λ stop. OnReadFault stop ⊥) }
 
-        // Want of memory.
+        // Lack of memory.
         ensures memory { IsOpen self.old → IfErr result (λ stop. OnNoMemory stop (ReadsQuietly self.old.reading
             (ahead self.old.pending (S.left source.old)) (ahead self.new.pending (S.left source.new)))) }
         ensures memory_end { IfErr result (λ stop. OnNoMemory stop (S.ended source.new ≡ S.ended source.old)) }

@@ -65,7 +65,7 @@ added-next index line some few e =
     parts true (Some f) a b h = cc
     parts false b a e h = cc
 
--- no rule is broken, so the only refusal is for want of memory
+-- no rule is broken, so the only refusal is for lack of memory
 pub no-rule : {T : Type 0} (answer : Result T MapRefusal) (broken : Option MapFault)
     → ((fault : MapFault) → (answer ≡ Err (Rule fault)) ↔ (broken ≡ Some fault)) → broken ≡ None → ForErr answer (λ refusal. refusal ≡ NoMemory)
 no-rule answer broken each none (Rule fault) is = absurd (none-some fault (sym none ∙ (each fault).0 is))
