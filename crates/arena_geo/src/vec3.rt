@@ -3,8 +3,11 @@ use std::ops::{Add, Sub};
 /// A place or a displacement, in sub-units (256 of them are one Quake unit), or a velocity, in sub-units a second.
 #[derive(Clone, Copy, Debug, PartialEq, Eq)]
 pub struct Vec3 {
+    /// The part along the first axis.
     pub x: i32,
+    /// The part along the second axis.
     pub y: i32,
+    /// The part along the third axis, which points up.
     pub z: i32,
 }
 

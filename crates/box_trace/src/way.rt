@@ -54,8 +54,11 @@ pub fn shift_at(d: Vec3, k: u32) -> Vec3
 /// A body's way along a displacement, in range at each step.
 #[derive(Drop)]
 pub struct Way {
+    /// The body at the start.
     pub body: Aabb,
+    /// The displacement, in sub-units.
     pub d: Vec3,
+    /// How many steps the way has: as many as the greatest part of the displacement has sub-units.
     pub count: u32,
     ghost is_box: { IsBox body },
     ghost near: { IsNear 65536 d },
@@ -64,6 +67,7 @@ pub struct Way {
 }
 
 impl Way {
+    /// The way of the body along this displacement, of which each part is at most [`REACH`] from 0.
     pub fn new(body: &Aabb, d: Vec3) -> Way
         requires near { IsNear REACH d }
         requires in_range { IsInRange (moved body.now d) }

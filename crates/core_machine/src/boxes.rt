@@ -1,28 +1,10 @@
 ghost use Rattle.std.specs.Prelude.{◌≡◌, ◌+ℤ◌, ◌-ℤ◌};
 ghost use Rattle.arena_geo.specs.Boxes as boxes;
 ghost use Rattle.arena_geo.specs.Regions as regions;
-ghost use Rattle.entity_recs.specs.Bodies.{growth_of, abs_of};
+ghost use Rattle.entity_recs.specs.Bodies.{abs_of};
 
 use arena_geo::{Aabb, Region, Vec3};
-use entity_recs::{Kind, Rec};
-
-/// By how much the absolute box of a kind is larger than the body on both sides of each axis, in sub-units.
-fn growth(kind: Kind) -> Vec3
-    ensures { result ≡ growth_of kind }
-{
-    match kind {
-        Kind::Ammo | Kind::Gem => Vec3 {
-            x: 3_840,
-            y: 3_840,
-            z: 0,
-        },
-        Kind::Player | Kind::Teleporter | Kind::Goal | Kind::Lift => Vec3 {
-            x: 256,
-            y: 256,
-            z: 256,
-        },
-    }
-}
+use entity_recs::{Rec, growth};
 
 /// The low end of an absolute box on an axis.
 fn low_end(origin: i32, min: i32, by: i32) -> i64

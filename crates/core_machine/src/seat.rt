@@ -8,23 +8,31 @@ use std::alloc::{AllocError, Global};
 /// The word of a node's list that was loaded.
 #[derive(Clone, Copy, Debug, Default, PartialEq, Eq)]
 pub struct ListRead {
+    /// The node.
     pub node: u8,
+    /// Its list word: bit p is set where player p is linked at the node.
     pub word: u64,
 }
 
 /// The six words of a player's record that were loaded, the state word last.
 #[derive(Clone, Copy, Debug, Default, PartialEq, Eq)]
 pub struct PlayerRead {
+    /// The player's slot.
     pub slot: u8,
+    /// The words of its record, of which the first ones are loaded.
     pub words: [u64; 6],
 }
 
 /// The last refused take: its node, the word that was found, the own record as loaded, and the leaves wanted.
 #[derive(Drop)]
 pub struct Refused {
+    /// The node that was held.
     pub node: u8,
+    /// The node's word, which names the holder.
     pub word: u64,
+    /// The words of the own record, as they were loaded at that step.
     pub own: WordList,
+    /// The leaves that the command wanted at that step.
     pub wanted: NodeList,
 }
 
@@ -32,22 +40,39 @@ pub struct Refused {
 /// is to give up. In the lists of what was read the newest comes first.
 #[derive(Drop)]
 pub struct Seat {
+    /// The count of commits that was seen last.
     pub seen: u64,
+    /// What the seat has committed.
     pub log: Log,
+    /// How many takes were refused, at most 2^64 - 1.
     pub refusals: u64,
+    /// The last refused take.
     pub refused: Option<Refused>,
+    /// How many seats were made from this one, itself among them.
     pub made: u8,
+    /// The command that is begun.
     pub cmd: Option<Cmd>,
+    /// How far the command is.
     pub point: Point,
+    /// The lists that the point speaks of.
     pub queues: Queues,
+    /// The words of the own record that are loaded.
     pub own: WordList,
+    /// The leaves that the command wants.
     pub wanted: NodeList,
+    /// The words of the own record that are loaded again, once all leaves are held.
     pub again: WordList,
+    /// The list words that are loaded.
     pub lists: ArrayVec<ListRead, 31>,
+    /// The words of other players that are loaded.
     pub others: ArrayVec<PlayerRead, 64>,
+    /// The states of things of the map that are loaded.
     pub states: ArrayVec<NewState, 256>,
+    /// The effect of the command, once it is in view.
     pub effect: Option<Effect>,
+    /// The command that was given and isn't begun.
     pub given: Option<Cmd>,
+    /// Whether the seat is to give up its command.
     pub quits: bool,
 }
 

@@ -13,10 +13,15 @@ use core_steps::PlayerWords;
 /// entity's state word.
 #[derive(Drop)]
 pub struct Words {
+    /// The count of commits.
     pub commits: u64,
+    /// Who holds each node, 0 where nobody does.
     pub node: [u64; NODES],
+    /// Which players are linked at each node: bit p is player p.
     pub links: [u64; NODES],
+    /// The words of each player's record but its state.
     pub body: [PlayerWords; 64],
+    /// The state word of each id.
     pub state: [u64; 256],
 }
 

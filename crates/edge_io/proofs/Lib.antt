@@ -1,5 +1,4 @@
 -- Lemmas on counts, blocks, lines, numbers, fields and writes.
-pub mod Rising
 pub mod Blocks
 pub mod ReadingAhead
 pub mod Writing

@@ -47,8 +47,8 @@ const GROWTH: Vec3 = Vec3 {
     z: 256,
 };
 
-/// By how much the absolute box of a kind is larger than the body on both sides of each axis.
-fn growth(kind: Kind) -> Vec3
+/// By how much the absolute box of a kind is larger than the body on both sides of each axis, in sub-units.
+pub fn growth(kind: Kind) -> Vec3
     ensures { result ≡ growth_of kind }
 {
     match kind {

@@ -2,7 +2,9 @@
 #![tactic(auto)]
 
 pub use action::Action;
-pub use bodies::{ITEM_MAXS, ITEM_MINS, PLAYER_MAXS, PLAYER_MINS, abs_box, body_box, player_box};
+pub use bodies::{
+    ITEM_MAXS, ITEM_MINS, PLAYER_MAXS, PLAYER_MINS, abs_box, body_box, growth, player_box,
+};
 pub use cmd::Cmd;
 pub use effect::{Effect, Entry, NewState, Reply};
 pub use kind::Kind;

@@ -8,7 +8,6 @@ pub mod Placing
 pub mod Things
 pub mod Lifts
 pub mod Others
-pub mod InRegion
 pub mod Takes
 pub mod Moves
 pub mod Commands

@@ -30,7 +30,6 @@ pub mod Commits
 pub mod Storing
 pub mod Loads
 pub mod Turns
-pub mod TurnCalls
 pub mod Pursuing
 pub mod Followed
 pub mod Onward
