@@ -1,5 +1,5 @@
 -- What a seat has left to do, as the point of the definitions.
-use Rattle.std.specs.Prelude.{◌<◌, map}
+use Rattle.std.specs.Prelude.{◌≡◌, ◌<◌, [], map}
 use Rattle.core_steps.specs.Views as views
 use Rattle.core_machine.specs.declared.point.Store.{Store}
 use Rattle.core_machine.specs.declared.point.Store.TheVariants.{Clear, Put, Link}
@@ -9,6 +9,16 @@ use Rattle.core_machine.specs.declared.point.Point.TheVariants.{Idle, Owning, Ta
 use Rattle.core_machine.specs.declared.point.Point.TheVariants.{Loading, Leaving, Sensing, Resolving, Claiming, Storing}
 use Rattle.core_machine.specs.declared.point.Point.TheVariants.{Releasing, Returning, Yielding}
 use Rattle.core_machine.specs.Tables.{cell_in, IsCellOf}
+
+-- the lists are empty
+pub record AreEmpty (qs : Queues) : Type 0 where
+  pub got : qs.got.items ≡ []
+  pub rest : qs.rest.items ≡ []
+  pub plan : qs.plan.items ≡ []
+  pub part : qs.part.items ≡ []
+  pub players : qs.players.items ≡ []
+  pub ids : qs.ids.items ≡ []
+  pub stores : qs.stores.items ≡ []
 
 -- the store of the definitions
 abbrev pub store_of : Store → views.Store

@@ -64,8 +64,12 @@ pub struct Queues {
 }
 
 impl Queues {
+    ghost use Rattle.core_machine.specs.Points.{AreEmpty};
+
     /// Empty lists.
-    pub fn new() -> Queues {
+    pub fn new() -> Queues
+        ensures { AreEmpty result }
+    {
         Queues {
             got: Queue::new(),
             rest: Queue::new(),
