@@ -198,7 +198,7 @@ end_is_over s true fault line is here = here
 end_is_over s false (Some why) line is here = refl
 end_is_over s false None line is here = ap (λ l. is_over (after_test s None l).stage) is
 
-after_end : (s : Reading) (raw : List ℕ) → is_end raw ≡ true → is_over (next s raw).stage ≡ true
+pub after_end : (s : Reading) (raw : List ℕ) → is_end raw ≡ true → is_over (next s raw).stage ≡ true
 after_end s raw end = end_is_over s (is_over s.stage) (fault_of s false raw) (line_in raw) (end_says raw end) refl
 
 pub after_last : (r : Reading) (lines : List (List ℕ)) (raw : List ℕ) → is_end raw ≡ true → is_over (after r (lines ++ raw ∷ [])).stage ≡ true
