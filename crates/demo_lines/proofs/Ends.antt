@@ -75,14 +75,14 @@ events_of-refused r line lines refused =
 
 -- ---- the ways to be refused
 
-refused_at-open : (stage : Stage) (r : Reading) (part : List ℕ) → is_over stage ≡ false → refused_at stage r part ≡ option_map (refusal (r.lines + 1)) (fault_of r true part)
+pub refused_at-open : (stage : Stage) (r : Reading) (part : List ℕ) → is_over stage ≡ false → refused_at stage r part ≡ option_map (refusal (r.lines + 1)) (fault_of r true part)
 refused_at-open Start r part going = refl
 refused_at-open Map r part going = refl
 refused_at-open Playing r part going = refl
 refused_at-open Ended r part going = cc
 refused_at-open (Refused why) r part going = cc
 
-refused_where-after : (t : Reading) (lines : List (List ℕ)) (part : List ℕ) (why : LineFault) → t.stage ≡ Refused why → refused_where (after t lines) part ≡ Some (refusal t.lines why)
+pub refused_where-after : (t : Reading) (lines : List (List ℕ)) (part : List ℕ) (why : LineFault) → t.stage ≡ Refused why → refused_where (after t lines) part ≡ Some (refusal t.lines why)
 refused_where-after t lines part why refused =
     ap (λ u. refused_where u part) (after-over t lines (ap is_over refused)) ∙ ap (λ stage. refused_at stage t part) refused
 

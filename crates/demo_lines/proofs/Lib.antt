@@ -10,6 +10,7 @@ pub mod Consuming
 pub mod Walks
 pub mod MapGiven
 pub mod Prefixes
+pub mod FirstFaults
 pub mod Spellings
 pub mod Ink
 pub mod Written

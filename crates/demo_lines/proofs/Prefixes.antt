@@ -198,7 +198,7 @@ end_is_over s true fault line is here = here
 end_is_over s false (Some why) line is here = refl
 end_is_over s false None line is here = ap (λ l. is_over (after_test s None l).stage) is
 
-after_end : (s : Reading) (raw : List ℕ) → is_end raw ≡ true → is_over (next s raw).stage ≡ true
+pub after_end : (s : Reading) (raw : List ℕ) → is_end raw ≡ true → is_over (next s raw).stage ≡ true
 after_end s raw end = end_is_over s (is_over s.stage) (fault_of s false raw) (line_in raw) (end_says raw end) refl
 
 pub after_last : (r : Reading) (lines : List (List ℕ)) (raw : List ℕ) → is_end raw ≡ true → is_over (after r (lines ++ raw ∷ [])).stage ≡ true
@@ -221,3 +221,16 @@ nothing_after_the_end = record {
   whole = λ bytes more ended. after_whole_lines bytes more (ap is_over ended);
   cut = λ bytes more none. after_cut bytes more (is_end (last_part bytes)) refl none;
 }
+
+-- ---- without a fault
+
+over-by : (bytes : List ℕ) (end : Bool) → is_end (last_part bytes) ≡ end → fault bytes ≡ None → is_over (after start (lines_of bytes)).stage ≡ true
+over-by bytes true end none =
+    let short : lines_of bytes ≡ whole_lines bytes ++ last_part bytes ∷ [] = ap (λ b. whole_lines bytes ++ cond b (last_part bytes ∷ []) []) end in
+    ap (λ ls. is_over (after start ls).stage) short ∙ after_last start (whole_lines bytes) (last_part bytes) end
+over-by bytes false end none =
+    let here = after start (lines_of bytes) in over_without_fault here.stage here (last_part bytes) (cut_fault here (last_part bytes) end) none
+
+-- a recording without a fault is over after its lines
+pub faultless_is_over : (bytes : List ℕ) → fault bytes ≡ None → is_over (after start (lines_of bytes)).stage ≡ true
+faultless_is_over bytes none = over-by bytes (is_end (last_part bytes)) refl none

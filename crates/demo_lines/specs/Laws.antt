@@ -1,5 +1,7 @@
 -- What holds of all recordings, and of the packets on their lines.
-use Rattle.std.specs.Prelude.{◌≡◌, ◌↔◌, ℕ, ◌≤◌, ◌<◌, true, false, List, [], ◌∷◌, ◌++◌, length, Some, None, codes}
+use Rattle.std.specs.Prelude.{◌≡◌, ◌↔◌, ℕ, ◌+◌, ◌≤◌, ◌<◌, Bool, true, false, List, [], ◌∷◌, ◌++◌, length, Some, None}
+use Rattle.std.specs.Prelude.{codes}
+use Rattle.std.specs.List.{slice_split}
 use Rattle.edge_io.specs.Lines.{AreBytes}
 use Rattle.hex.specs.Hex.{encode_lower, encode_upper}
 use Rattle.demo_lines.specs.Packets.{packet_bytes}
@@ -9,17 +11,18 @@ use Rattle.client_ports.specs.declared.arrival.TheConstants.{MOST_BYTES}
 use Rattle.demo_lines.specs.declared.reading.TheConstants.{MOST_FRAMES, MOST_ARRIVALS}
 use Rattle.demo_lines.specs.declared.line.Line.{Line}
 use Rattle.demo_lines.specs.declared.line.Line.TheVariants.{From}
+use Rattle.demo_lines.specs.declared.line_fault.LineFault.{LineFault}
 use Rattle.demo_lines.specs.declared.stage.Stage.TheVariants.{Ended}
 use Rattle.demo_lines.specs.Known.{Reading, start, without_map, is_map_whole, is_refused, is_over}
 use Rattle.demo_lines.specs.declared.word.Word.{Word}
 use Rattle.demo_lines.specs.Words.{has_form}
 use Rattle.demo_lines.specs.Lines.{text_of, are_printable, first_word, rest_of, line_in}
-use Rattle.demo_lines.specs.Faults.{is_long}
+use Rattle.demo_lines.specs.Faults.{is_long, fault_of}
 use Rattle.demo_lines.specs.Recording.{after, events_of}
 use Rattle.demo_lines.specs.Spelling.{line_text, IsLine, recording_lines, recording_text, recording_events, IsRecording}
 use Rattle.demo_lines.specs.Spelling.{small_map, small_frames, small_text}
-use Rattle.edge_io.specs.WholeLines.{whole_lines}
-use Rattle.demo_lines.specs.Bytes.{events, fault, map_of}
+use Rattle.edge_io.specs.WholeLines.{is_line_feed, whole_lines}
+use Rattle.demo_lines.specs.Bytes.{Refusal, refusal, events, fault, map_of}
 
 -- the numbers of this crate, and how many bytes a packet has at the most
 pub record LimitsAreKnown : Type 0 where
@@ -32,6 +35,27 @@ pub record PacketReadsBack : Type 0 where
   pub dash : packet_bytes (codes "-") ≡ Some []
   pub lower : (bytes : List ℕ) → AreBytes bytes → 0 < length bytes → packet_bytes (encode_lower bytes) ≡ Some bytes
   pub upper : (bytes : List ℕ) → AreBytes bytes → 0 < length bytes → packet_bytes (encode_upper bytes) ≡ Some bytes
+
+-- there are none of these parts
+abbrev pub are_none : List (List ℕ) → Bool
+are_none [] = true
+are_none (part ∷ parts) = false
+
+-- of the parts that line feeds separate this one has a fault, and none before it has one or ends the recording; its
+-- number is 1 more than how many are before it, and where none is later the input ended in it
+pub record IsFirstFault (bytes : List ℕ) (why : Refusal) : Type 0 where
+  pub before : List (List ℕ)
+  pub raw : List ℕ
+  pub later : List (List ℕ)
+  pub parts : slice_split is_line_feed bytes ≡ before ++ raw ∷ later
+  pub going : is_over (after start before).stage ≡ false
+  pub fault : LineFault
+  pub holds : fault_of (after start before) (are_none later) raw ≡ Some fault
+  pub is : why ≡ refusal (length before + 1) fault
+
+-- a recording is refused exactly for the first of its lines that has a fault, with that line's number and first fault
+abbrev pub FaultsAreTheFirst : Type 0
+FaultsAreTheFirst = (bytes : List ℕ) (why : Refusal) → (fault bytes ≡ Some why) ↔ IsFirstFault bytes why
 
 -- more bytes after these give no event, and change neither the fault nor the map
 pub record AddsNothing (bytes more : List ℕ) : Type 0 where

@@ -179,7 +179,7 @@ impl DemoReader {
     ghost use Rattle.std.specs.Prelude.{OnErr, IfSome};
     ghost use Rattle.edge_io.specs.Counts.{HasRisen};
     ghost use Rattle.edge_io.specs.Lines.{ahead, HasNotReadAhead};
-    ghost use Rattle.demo_lines.specs.Known.{is_map_whole};
+    ghost use Rattle.demo_lines.specs.Known.{is_map_whole, is_refused};
     ghost use Rattle.demo_lines.specs.Recording.{lines_left};
     ghost use Rattle.demo_lines.specs.Readings.{IsReading};
     ghost use Rattle.demo_lines.specs.Reads.{fresh_reader, map_taken, IsOpen, Reads, ReadsFront, ReadsQuietly};
@@ -198,11 +198,12 @@ impl DemoReader {
         })
     }
 
-    /// Gives the map, once. `None` exactly where it was taken before. It is to be called after [`next`](Self::next) has
-    /// given an event, and nothing that is read later needs the map.
+    /// Gives the map, once. `None` exactly where it was taken before. It is to be called where [`next`](Self::next) has
+    /// given an event and refused no line, and nothing that is read later needs the map.
     pub fn take_map(&mut self) -> Option<ArenaMap>
         requires holds { IsReading self.old.reading }
         requires given { is_map_whole self.old.reading.stage ≡ true }
+        requires accepted { is_refused self.old.reading.stage ≡ false }
         ensures map { result ≡ self.old.reading.map }
         ensures rest { self.new ≡ map_taken self.old }
         ensures holds { IsReading self.new.reading }

@@ -1,6 +1,6 @@
 ghost use Rattle.demo_lines.specs.Laws.{LimitsAreKnown, PacketReadsBack, NothingAfterTheEnd, NothingAfterARefusal};
 ghost use Rattle.demo_lines.specs.Laws.{NothingNeedsTheMap, LinesReadBack, LinesAreBounded, PacketsHaveRoom};
-ghost use Rattle.demo_lines.specs.Laws.{RecordingsReadBack, SmallRecording};
+ghost use Rattle.demo_lines.specs.Laws.{RecordingsReadBack, SmallRecording, FaultsAreTheFirst};
 
 /// The constants of this crate have the values that they say.
 pub fn limits_are_known()
@@ -10,6 +10,12 @@ pub fn limits_are_known()
 /// A packet is read back from its bytes as two hexadecimal digits each, in either case, and an empty one from `-`.
 pub fn packet_reads_back()
     ensures { PacketReadsBack }
+{}
+
+/// A recording is refused exactly for the first of its lines that has a fault, with that line's number, counted from 1,
+/// and the first of its faults.
+pub fn faults_are_the_first()
+    ensures { FaultsAreTheFirst }
 {}
 
 /// The rest of the input after the line `end` gives no event and is no fault: after its line feed, and, where it has

@@ -50,7 +50,7 @@ recording-closes (arrivals ∷ frames) =
     ∙ packets-kept [] arrivals (recording_events frames)
     ∙ frames-closed arrivals frames
 
-generated-closes : (seed players frames : ℕ) → closed_by None (generated_events seed players frames) ≡ generated_frames seed players frames
+pub generated-closes : (seed players frames : ℕ) → closed_by None (generated_events seed players frames) ≡ generated_frames seed players frames
 unfolding generated_events
 generated-closes seed players frames = recording-closes (generated_frames seed players frames)
 

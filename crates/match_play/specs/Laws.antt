@@ -1,10 +1,14 @@
 -- What holds of all matches.
-use Rattle.std.specs.Prelude.{◌≡◌, ℕ, ◌*◌, List, length}
+use Rattle.std.specs.Prelude.{◌≡◌, ℕ, ◌*◌, List, length, Some}
 use Rattle.entity_recs.specs.declared.effect.Entry.{Entry}
 use Rattle.plain_server.specs.RecordsById.{opening}
 use Rattle.plain_server.specs.Frames.{AreRight, journals_of}
 use Rattle.demo_make.specs.GeneratedMap.{generated_map}
-use Rattle.demo_make.specs.GeneratedFrames.{IsInRange, generated_frames}
+use Rattle.demo_make.specs.GeneratedFrames.{IsInRange, generated_frames, generated_text}
+use Rattle.demo_lines.specs.Bytes.{map_of}
+use Rattle.out_text.specs.Collecting.{frames_of}
+use Rattle.out_text.specs.Journals.{dids}
+use Rattle.out_text.specs.Output.{out_text, IsOutput}
 use Rattle.match_play.specs.declared.limits.TheConstants.{MOST_MATCH_FRAMES}
 use Rattle.match_play.specs.declared.totals.Totals.{Totals}
 use Rattle.match_play.specs.Totals.{totals_of}
@@ -30,6 +34,28 @@ OrderLeavesOneMatch =
     (seed players : ℕ) (journals : List (List Entry)) → AreRightSoFar seed players journals
     → AreInOrderSoFar seed players journals
     → journals ≡ journals_of generated_map 0 (opening generated_map) (generated_frames seed players (length journals))
+
+-- journals of a match of so many frames with so many workers: there is one right journal a frame, and with one worker
+-- each has the moves in the order of arrival
+pub record AreOfMatch (seed players frames workers : ℕ) (journals : List (List Entry)) : Type 0 where
+  pub count : length journals ≡ frames
+  pub right : AreRightSoFar seed players journals
+  pub order : workers ≡ 1 → AreInOrderSoFar seed players journals
+
+-- the generated recording, written out, has the map and the frames of a match; journals of a match make an output of
+-- it, and those that an output spells are of a match
+pub record IsPlayedAsWritten (seed players frames : ℕ) : Type 0 where
+  pub map_is : map_of (generated_text seed players frames) ≡ Some generated_map
+  pub frames_are : frames_of (generated_text seed players frames) ≡ generated_frames seed players frames
+  pub outputs : (workers : ℕ) (journals : List (List Entry)) → AreOfMatch seed players frames workers journals
+      → IsOutput workers (generated_text seed players frames) (out_text (generated_text seed players frames) journals)
+  pub journals : (workers : ℕ) (text : List ℕ) → IsOutput workers (generated_text seed players frames) text
+      → AreOfMatch seed players frames workers (dids text)
+
+-- a match plays what its recording would, written out
+abbrev pub MatchesArePlayedAsWritten : Type 0
+MatchesArePlayedAsWritten =
+    (seed players frames : ℕ) → IsInRange players frames → IsPlayedAsWritten seed players frames
 
 -- how many frames a match has at the most
 pub record LimitsAreKnown : Type 0 where

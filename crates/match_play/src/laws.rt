@@ -1,4 +1,4 @@
-ghost use Rattle.match_play.specs.Laws.{CountsAreKnown, OrderLeavesOneMatch, LimitsAreKnown};
+ghost use Rattle.match_play.specs.Laws.{CountsAreKnown, OrderLeavesOneMatch, MatchesArePlayedAsWritten, LimitsAreKnown};
 
 /// In a match of 1 to 64 players each player joins once and each of its moves is accepted, whichever right journals the
 /// frames have: so it has as many joins as players, as many moves as players in each frame, and no refusal.
@@ -10,6 +10,12 @@ pub fn counts_are_known()
 /// in that order: with one worker the seed, the players and the frames decide the totals.
 pub fn order_leaves_one_match()
     ensures { OrderLeavesOneMatch }
+{}
+
+/// A match plays what its recording would, written out: the text has the map and the frames of the match, journals of
+/// the match make an output of it, and those that an output spells are journals of the match.
+pub fn matches_are_played_as_written()
+    ensures { MatchesArePlayedAsWritten }
 {}
 
 /// The limit of a match has the value that the documents say: 2,000 frames.

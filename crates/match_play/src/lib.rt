@@ -1,7 +1,9 @@
 //! Matches: the recording that a number gives is played without being written.
 #![tactic(auto)]
 
-pub use laws::{counts_are_known, limits_are_known, order_leaves_one_match};
+pub use laws::{
+    counts_are_known, limits_are_known, matches_are_played_as_written, order_leaves_one_match,
+};
 pub use limits::MOST_MATCH_FRAMES;
 pub use played::{MatchPlayed, play_match};
 pub use totals::Totals;

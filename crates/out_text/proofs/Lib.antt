@@ -11,6 +11,7 @@ pub mod Growing
 pub mod Saying
 pub mod EachLine
 pub mod Agreement
+pub mod FrameEvents
 pub mod Fewness
 pub mod Arrivals
 pub mod KeptRules

@@ -1,12 +1,13 @@
 -- What holds of every text, and of the outputs of recordings.
-use Rattle.std.specs.Prelude.{◌≡◌, ℕ, ◌+◌, ◌*◌, ◌≤◌, ◌↔◌, true, List, length, take, Option, None, Some, IsSome}
+use Rattle.std.specs.Prelude.{◌≡◌, ℕ, ◌+◌, ◌*◌, ◌≤◌, ◌↔◌, ◌⊎◌, true, List, [], ◌∷◌, ◌++◌, length, take, flat_map}
+use Rattle.std.specs.Prelude.{Option, None, Some, IsSome}
 use Rattle.entity_recs.specs.declared.effect.Entry.{Entry}
 use Rattle.arena_map.specs.Maps.{MapView, IsMap}
 use Rattle.client_ports.specs.declared.arrival.Arrival.{Arrival}
 use Rattle.client_ports.specs.States.{State, IsServerState}
 use Rattle.plain_server.specs.Frames.{received_in, moved_by}
-use Rattle.demo_lines.specs.Bytes.{fault, map_of}
-use Rattle.demo_lines.specs.Spelling.{IsRecording, recording_text}
+use Rattle.demo_lines.specs.Bytes.{Refusal, events, fault, map_of}
+use Rattle.demo_lines.specs.Spelling.{IsRecording, recording_text, frame_events, recording_events}
 use Rattle.out_text.specs.Dids.{Did}
 use Rattle.out_text.specs.OutLines.{OutLine, FrameLine, DidLine, spelled}
 use Rattle.out_text.specs.Ranges.{IsInRange, IsPrinted}
@@ -33,6 +34,22 @@ pub record IsFrameLine (line : List ℕ) : Type 0 where
 -- a line opens a frame exactly where it is a frame's
 abbrev pub FrameLinesAreRead : Type 0
 FrameLinesAreRead = (line : List ℕ) → (mark_of line ≡ Opens) ↔ IsFrameLine line
+
+-- no frame was opened
+pub record HasNoFrame (bytes : List ℕ) : Type 0 where
+  pub events_are : events bytes ≡ []
+  pub frames_are : frames_of bytes ≡ []
+
+-- a frame is open: the events are those of the closed frames and then those of this one
+pub record HasOpenFrame (bytes : List ℕ) : Type 0 where
+  pub opened : List Arrival
+  pub events_are : events bytes ≡ flat_map frame_events (frames_of bytes ++ opened ∷ [])
+
+-- the events of a recording without a fault are those of its frames, each with its packets in their order, and then the
+-- end; those of a faulty one are those of its closed frames and of the one that is open, where any was opened
+pub record FramesHaveTheEvents : Type 0 where
+  pub whole : (bytes : List ℕ) → fault bytes ≡ None → events bytes ≡ recording_events (frames_of bytes)
+  pub faulty : (bytes : List ℕ) (why : Refusal) → fault bytes ≡ Some why → HasNoFrame bytes ⊎ HasOpenFrame bytes
 
 -- an output of a recording that is played by so many workers
 pub record HasOutput (workers : ℕ) (bytes : List ℕ) : Type 0 where

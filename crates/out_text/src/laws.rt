@@ -2,11 +2,18 @@ ghost use Rattle.out_text.specs.Laws.{DidLinesAreRead, FrameLinesAreRead, Faultl
 ghost use Rattle.out_text.specs.Laws.{WrittenRecordingsHaveOutputs, OneWorkerHasOneOutput, OutputsSpellTheirJournals};
 ghost use Rattle.out_text.specs.Laws.{LinesReadBack, LinesArePrintedApart, RecordingsHaveMaps, OutputsHaveOneTaker};
 ghost use Rattle.out_text.specs.Laws.{OutputsAreBounded, FramesHaveOneReplyEach, FramesAnswerTheirPackets};
+ghost use Rattle.out_text.specs.Laws.{FramesHaveTheEvents};
 
 /// The journals are read off exactly the lines that are printed: no other line opens a frame or reports a move.
 pub fn only_printed_lines_are_read()
     ensures dids { DidLinesAreRead }
     ensures frames { FrameLinesAreRead }
+{}
+
+/// The events of a recording without a fault are those of its frames, each with its packets in their order, and then the
+/// end; those of a faulty one are those of its closed frames and of the one that is open, where any was opened.
+pub fn frames_have_the_events()
+    ensures { FramesHaveTheEvents }
 {}
 
 /// Each recording without a fault has an output, with any number of workers.
