@@ -20,6 +20,7 @@ pub mod Rooms
 pub mod Lists
 pub mod Answers
 pub mod Receiving
+pub mod Linking
 pub mod Finishing
 pub mod Reasons
 pub mod Laws
