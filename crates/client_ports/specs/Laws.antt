@@ -82,7 +82,7 @@ pub record IsAcceptedLeave (clients : List (Option Client)) (live : LiveSlot) : 
   pub stays : was.leaves ≡ false
   pub is : live.client ≡ client was.port was.last true was.moves
 
--- a packet is refused: the clients and the world are as they were
+-- a packet is refused: the clients and the records are as they were
 pub record IsRefused (r next : Receiving) (place : ℕ) : Type 0 where
   pub why : Refusal
   pub state : next.state ≡ r.state

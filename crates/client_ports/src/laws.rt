@@ -47,9 +47,9 @@ pub fn accepted_numbers_rise()
     ensures { AcceptedNumbersRise }
 {}
 
-/// Each packet has one answer: a refusal, which changes neither clients nor world, a join, a leave or a move. The last
-/// three come only of packets of their kind, a leave and a move change the client of the packet's port, and the command
-/// of a move has the fields of its packet.
+/// Each packet has one answer: a refusal, which changes neither clients nor records, a join, a leave or a move. The
+/// last three come only of packets of their kind, a leave and a move change the client of the packet's port, and the
+/// command of a move has the fields of its packet.
 pub fn each_packet_has_one_answer()
     ensures { EachPacketHasOneAnswer }
 {}
