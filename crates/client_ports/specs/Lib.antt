@@ -20,8 +20,8 @@ pub mod Rooms
 pub mod Lists
 pub mod Answers
 pub mod Receiving
-pub mod Linking
 pub mod Finishing
+pub mod Linking
 pub mod Reasons
 pub mod Laws
 pub mod Frames
