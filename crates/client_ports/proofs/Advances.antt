@@ -8,7 +8,6 @@ use Rattle.std.proofs.lemmas.List.{append-nil, get_or_append_left, get_or_push, 
 use Rattle.std.proofs.lemmas.List.Elements.{All-cons, All-get_or, All-head, All-nil, All-push, All-same, All-tail, All-weaker, filter-append}
 use Rattle.std.proofs.lemmas.List.Kept.{AllPairs-from_increasing}
 use Rattle.entity_recs.specs.Commands.{Command, is_same_move}
-use Rattle.packet_read.specs.Reading.{reading}
 use Rattle.arena_map.specs.Maps.{MapView}
 use Rattle.client_ports.specs.declared.arrival.Arrival.{Arrival}
 use Rattle.client_ports.specs.declared.client.Client.{Client}
@@ -17,11 +16,11 @@ use Rattle.client_ports.specs.Clients.{client, client_at, live_slot, new_client,
 use Rattle.client_ports.specs.States.{State}
 use Rattle.client_ports.specs.Lists.{Lists}
 use Rattle.client_ports.specs.Receiving.{Receiving, after_arrival, after_arrivals, received}
-use Rattle.client_ports.specs.Laws.{IsAcceptedMove, IsRefused, IsJoined, IsLeave, IsMove}
+use Rattle.client_ports.specs.Laws.{IsAcceptedLeave, IsAcceptedMove, IsRefused, IsJoined, IsLeave, IsMove}
 use Rattle.client_ports.specs.Frames.{last_of, move_count, numbers_of, last_in, IsAdvance}
-use Rattle.client_ports.proofs.Facts.{move_accepted, one_answer}
+use Rattle.client_ports.proofs.Facts.{one_answer}
 use Rattle.client_ports.proofs.Slots.{read-set}
-use Rattle.client_ports.proofs.Changes.{live-inside, IsNewcomer, join-newcomer, IsAcceptedLeave, leave_accepted}
+use Rattle.client_ports.proofs.Changes.{live-inside, IsNewcomer, join-newcomer}
 
 -- ---- what a packet does to a slot
 
@@ -106,7 +105,7 @@ Step before after old new = (IsKept before after × (new ≡ old)) ⊎ ((seq : �
 
 step : (map : MapView) (frame : ℕ) (r : Receiving) (place : ℕ) (a : Arrival) (k : ℕ) → let next = after_arrival map frame r place a in
     Step (client_at r.state.clients k) (client_at next.state.clients k) (numbers_of k r.lists.moves) (numbers_of k next.lists.moves)
-step map frame r place a k = by (one_answer map frame (reading a.bytes) r place a.port)
+step map frame r place a k = by (one_answer map frame r place a)
   where
     next : Receiving
     next = after_arrival map frame r place a
@@ -120,31 +119,31 @@ step map frame r place a k = by (one_answer map frame (reading a.bytes) r place 
     clients-are : (s : State) → next.state ≡ s → IsKept (client_at r.state.clients k) (client_at s.clients k) → IsKept (client_at r.state.clients k) (client_at next.state.clients k)
     clients-are s e kept = subst (λ (t : State). IsKept (client_at r.state.clients k) (client_at t.clients k)) (sym e) kept
 
-    moved : IsMove r next a.port → Goal
+    moved : IsMove frame r next a → Goal
     moved m = at (cases_eq k m.live.slot)
       where
         is : IsAcceptedMove r.state.clients m.command.seq m.live
-        is = move_accepted r.state.clients a.port m.command.seq m.live m.answer
+        is = m.accepted
 
         at : (k ≡ m.live.slot) ⊎ (k ≢ m.live.slot) → Goal
         at (inl same) = inr (
           m.command.seq,
           subst (λ (s : State). IsRaised (client_at r.state.clients k) (client_at s.clients k) m.command.seq) (sym m.state)
               (subst (λ (j : ℕ). IsRaised (client_at r.state.clients j) (client_at (with_client r.state.clients m.live) j) m.command.seq) (sym same) (raised-move r.state.clients m.live m.command.seq is)),
-          ap (λ (l : Lists). numbers_of k l.moves) m.lists ∙ numbers-own k r.lists.moves m.command (m.own ∙ sym same),
+          ap (λ (l : Lists). numbers_of k l.moves) m.lists ∙ numbers-own k r.lists.moves m.command (m.of_packet.in_slot ∙ sym same),
         )
         at (inr other) = inl (
           clients-are _ m.state (kept-other r.state.clients m.live k other),
-          ap (λ (l : Lists). numbers_of k l.moves) m.lists ∙ numbers-other k r.lists.moves m.command (λ e. other (sym e ∙ m.own)),
+          ap (λ (l : Lists). numbers_of k l.moves) m.lists ∙ numbers-other k r.lists.moves m.command (λ e. other (sym e ∙ m.of_packet.in_slot)),
         )
 
-    by : (IsRefused r next place ⊎ IsJoined map r next a.port) ⊎ (IsLeave r next a.port ⊎ IsMove r next a.port) → Goal
+    by : (IsRefused r next place ⊎ IsJoined map r next a) ⊎ (IsLeave r next a ⊎ IsMove frame r next a) → Goal
     by (inl (inl f)) = inl (clients-are _ f.state (kept-same (client_at r.state.clients k) (client_at r.state.clients k) refl), moves-same _ f.lists refl)
     by (inl (inr j)) = inl (
       clients-are _ j.state (kept-join r.state.clients a.port j.to.slot k (join-newcomer map r.state a.port j.to j.answer)),
       moves-same _ j.lists refl,
     )
-    by (inr (inl l)) = inl (clients-are _ l.state (kept-leave r.state.clients l.live k (leave_accepted r.state.clients a.port l.live l.answer)), moves-same _ l.lists refl)
+    by (inr (inl l)) = inl (clients-are _ l.state (kept-leave r.state.clients l.live k l.accepted), moves-same _ l.lists refl)
     by (inr (inr m)) = moved m
 
 -- ---- rising numbers
@@ -306,7 +305,7 @@ abbrev AreLive : Receiving → Type 0
 AreLive r = All (IsMoverOf r) r.lists.moves
 
 live-step : (arena : MapView) (frame : ℕ) (r : Receiving) (place : ℕ) (a : Arrival) → AreLive r → AreLive (after_arrival arena frame r place a)
-live-step arena frame r place a live = by (one_answer arena frame (reading a.bytes) r place a.port)
+live-step arena frame r place a live = by (one_answer arena frame r place a)
   where
     next : Receiving
     next = after_arrival arena frame r place a
@@ -317,13 +316,13 @@ live-step arena frame r place a live = by (one_answer arena frame (reading a.byt
     kept : (l : Lists) → next.lists ≡ l → l.moves ≡ r.lists.moves → AreLive next
     kept l e moves = All-same (IsMoverOf next) next.lists.moves r.lists.moves (ap (λ (m : Lists). m.moves) e ∙ moves) same
 
-    by : (IsRefused r next place ⊎ IsJoined arena r next a.port) ⊎ (IsLeave r next a.port ⊎ IsMove r next a.port) → AreLive next
+    by : (IsRefused r next place ⊎ IsJoined arena r next a) ⊎ (IsLeave r next a ⊎ IsMove frame r next a) → AreLive next
     by (inl (inl f)) = kept _ f.lists refl
     by (inl (inr j)) = kept _ j.lists refl
     by (inr (inl l)) = kept _ l.lists refl
     by (inr (inr m)) =
-        let is = move_accepted r.state.clients a.port m.command.seq m.live m.answer in
-        let here : IsMoverOf next m.command = subst (λ (j : ℕ). IsSome (client_at next.state.clients j)) (sym m.own) (stays-live arena frame r place a m.live.slot (ap is_some is.in_slot)) in
+        let is = m.accepted in
+        let here : IsMoverOf next m.command = subst (λ (j : ℕ). IsSome (client_at next.state.clients j)) (sym m.of_packet.in_slot) (stays-live arena frame r place a m.live.slot (ap is_some is.in_slot)) in
         All-same (IsMoverOf next) next.lists.moves (r.lists.moves ++ m.command ∷ []) (ap (λ (l : Lists). l.moves) m.lists) (All-push (IsMoverOf next) r.lists.moves m.command same here)
 
 live-through : (arena : MapView) (frame : ℕ) (r : Receiving) (place : ℕ) (arrivals : List Arrival) → AreLive r → AreLive (after_arrivals arena frame r place arrivals)

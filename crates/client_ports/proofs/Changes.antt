@@ -10,13 +10,11 @@ use Rattle.entity_slots.specs.Ports.{port_at}
 use Rattle.entity_slots.specs.Places.{free_slot, place_for}
 use Rattle.arena_map.specs.Maps.{MapView}
 use Rattle.client_ports.specs.declared.client.Client.{Client}
-use Rattle.client_ports.specs.declared.client.LiveSlot.{LiveSlot}
-use Rattle.client_ports.specs.declared.refusal.Refusal.TheVariants as refusal
 use Rattle.client_ports.specs.declared.spawns.Place.{Place}
-use Rattle.client_ports.specs.Clients.{client, client_at, port_of, ports_of, live_with}
+use Rattle.client_ports.specs.Clients.{client_at, port_of, ports_of}
 use Rattle.client_ports.specs.States.{State}
-use Rattle.client_ports.specs.Answers.{join_answer, leaving, leave_by, leave_answer}
-use Rattle.client_ports.proofs.Facts.{same_Ok, got, live_at-found}
+use Rattle.client_ports.specs.Answers.{join_answer}
+use Rattle.client_ports.proofs.Facts.{same_Ok, got}
 use Rattle.client_ports.proofs.Slots.{port_at-client, port_of-none}
 
 -- a live slot is one of the list's
@@ -53,25 +51,3 @@ join-newcomer map state port to e = by (slots.is_joined ports port) (free_slot p
         let free = port_of-none (client_at state.clients slot) (sym (port_at-client state.clients slot) ∙ none-is (port_at ports slot) first.1) in
         let P : ℕ → Type 0 = λ s. IsNewcomer state.clients port s in
         subst P same (record { inside = omega (arith, first.0, length-map state.clients port_of); free = free; not_joined = j })
-
--- a leave is accepted: the client didn't leave before, and nothing else of it changes
-pub record IsAcceptedLeave (clients : List (Option Client)) (live : LiveSlot) : Type 0 where
-  pub was : Client
-  pub in_slot : client_at clients live.slot ≡ Some was
-  pub stays : was.leaves ≡ false
-  pub is : live.client ≡ client was.port was.last true was.moves
-
-pub leave_accepted : (clients : List (Option Client)) (port : ℕ) (live : LiveSlot) → leave_answer clients port ≡ Ok live → IsAcceptedLeave clients live
-leave_accepted clients port live e = by (live_with clients port) refl e
-  where
-    at : (l : LiveSlot) → client_at clients l.slot ≡ Some l.client → (leaves : Bool) → l.client.leaves ≡ leaves
-        → (if leaves then Err refusal.Leaving else Ok (leaving l)) ≡ Ok live → IsAcceptedLeave clients live
-    at l in_slot true a h = cc
-    at l in_slot false a h =
-        let same = same_Ok (leaving l) live h in
-        let P : LiveSlot → Type 0 = λ m. IsAcceptedLeave clients m in
-        subst P same (record { was = l.client; in_slot = in_slot; stays = a; is = refl })
-
-    by : (o : Option LiveSlot) → live_with clients port ≡ o → leave_by o ≡ Ok live → IsAcceptedLeave clients live
-    by None f h = cc
-    by (Some l) f h = at l (live_at-found clients (slots.slot_of (ports_of clients) port) l f) l.client.leaves refl h

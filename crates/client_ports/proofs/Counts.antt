@@ -2,7 +2,6 @@
 use Rattle.std.proofs.Common.{◌≡◌, ◌⊎◌, ℕ, ◌+◌, ◌<◌, Bool, true, false, cond, List, [], ◌∷◌, length, Option, Some, None, slice_set, refl, ap, ◌∙◌, inl, inr, arith}
 use Rattle.std.proofs.lemmas.List.{length_push}
 use Rattle.std.proofs.lemmas.List.Sums.{sum_by-set}
-use Rattle.packet_read.specs.Reading.{reading}
 use Rattle.arena_map.specs.Maps.{MapView}
 use Rattle.client_ports.specs.declared.arrival.Arrival.{Arrival}
 use Rattle.client_ports.specs.declared.client.Client.{Client}
@@ -12,10 +11,10 @@ use Rattle.client_ports.specs.States.{State}
 use Rattle.client_ports.specs.Lists.{Lists, no_lists}
 use Rattle.client_ports.specs.Finishing.{is_leaver}
 use Rattle.client_ports.specs.Receiving.{Receiving, receiving_of, after_arrival, after_arrivals, received}
-use Rattle.client_ports.specs.Laws.{IsAcceptedMove, IsRefused, IsJoined, IsLeave, IsMove}
+use Rattle.client_ports.specs.Laws.{IsAcceptedLeave, IsAcceptedMove, IsRefused, IsJoined, IsLeave, IsMove}
 use Rattle.client_ports.specs.Frames.{leaver_count}
-use Rattle.client_ports.proofs.Facts.{move_accepted, one_answer}
-use Rattle.client_ports.proofs.Changes.{live-inside, join-newcomer, IsAcceptedLeave, leave_accepted}
+use Rattle.client_ports.proofs.Facts.{one_answer}
+use Rattle.client_ports.proofs.Changes.{live-inside, join-newcomer}
 
 -- ---- leavers
 
@@ -67,19 +66,19 @@ count-of r s l state lists = ap (λ (m : Lists). lists_count m + leaver_count r.
 
 count-step : (map : MapView) (frame : ℕ) (r : Receiving) (place : ℕ) (a : Arrival) → answer_count (after_arrival map frame r place a) ≡ answer_count r + 1
 unfolding answer_count lists_count
-count-step map frame r place a = by (one_answer map frame (reading a.bytes) r place a.port)
+count-step map frame r place a = by (one_answer map frame r place a)
   where
     next : Receiving
     next = after_arrival map frame r place a
 
-    by : (IsRefused r next place ⊎ IsJoined map r next a.port) ⊎ (IsLeave r next a.port ⊎ IsMove r next a.port) → answer_count next ≡ answer_count r + 1
+    by : (IsRefused r next place ⊎ IsJoined map r next a) ⊎ (IsLeave r next a ⊎ IsMove frame r next a) → answer_count next ≡ answer_count r + 1
     by (inl (inl f)) = omega (arith, count-of next r.state _ f.state f.lists, length_push r.lists.refused (record { place = place; why = f.why }))
     by (inl (inr j)) =
         let new = join-newcomer map r.state a.port j.to j.answer in
         omega (arith, count-of next _ _ j.state j.lists, length_push r.lists.joined (record { port = a.port; slot = j.to.slot }), leavers-join r.state.clients a.port j.to.slot new.inside new.free)
-    by (inr (inl l)) = omega (arith, count-of next _ _ l.state l.lists, leavers-leave r.state.clients l.live (leave_accepted r.state.clients a.port l.live l.answer))
+    by (inr (inl l)) = omega (arith, count-of next _ _ l.state l.lists, leavers-leave r.state.clients l.live l.accepted)
     by (inr (inr m)) =
-        omega (arith, count-of next _ _ m.state m.lists, length_push r.lists.moves m.command, leavers-move r.state.clients m.live m.command.seq (move_accepted r.state.clients a.port m.command.seq m.live m.answer))
+        omega (arith, count-of next _ _ m.state m.lists, length_push r.lists.moves m.command, leavers-move r.state.clients m.live m.command.seq m.accepted)
 
 count-through : (map : MapView) (frame : ℕ) (r : Receiving) (place : ℕ) (arrivals : List Arrival) → answer_count (after_arrivals map frame r place arrivals) ≡ length arrivals + answer_count r
 count-through map frame r place [] = omega arith

@@ -14,13 +14,16 @@ use Rattle.entity_recs.specs.Kinds.{is_solid}
 use Rattle.packet_read.specs.declared.packet.Packet.{Packet}
 use Rattle.packet_read.specs.declared.packet.Packet.TheVariants.{Join, Step, Leave}
 use Rattle.packet_read.specs.declared.packet_fault.PacketFault.{PacketFault}
+use Rattle.packet_read.specs.declared.move_packet.MovePacket.{MovePacket}
+use Rattle.packet_read.specs.Reading.{reading}
 use Rattle.entity_slots.specs.declared.join_fault.JoinFault.{JoinFault}
 use Rattle.entity_slots.specs.Ports as slots
 use Rattle.entity_slots.specs.Places.{place_for, IsLeastFree}
-use Rattle.entity_slots.proofs.Found.{place_for-least}
+use Rattle.entity_slots.proofs.Found.{place_for-least, slot_of-joined}
 use Rattle.arena_map.specs.Maps.{MapView, solids_of}
 use Rattle.world_tree.specs.Live.{record_at}
 use Rattle.world_tree.specs.Queries.{is_free, solids_in}
+use Rattle.client_ports.specs.declared.arrival.Arrival.{Arrival}
 use Rattle.client_ports.specs.declared.client.Client.{Client}
 use Rattle.client_ports.specs.declared.client.LiveSlot.{LiveSlot}
 use Rattle.client_ports.specs.declared.refusal.Refusal.{Refusal}
@@ -28,9 +31,9 @@ use Rattle.client_ports.specs.declared.refusal.Refusal.TheVariants as refusal
 use Rattle.client_ports.specs.declared.spawns.Place.{Place}
 use Rattle.client_ports.specs.Clients.{client, client_at, port_of, ports_of, live_slot, live_at, live_with, AreClients}
 use Rattle.client_ports.specs.States.{State, IsState}
-use Rattle.client_ports.specs.Answers.{free_spawn, place_at, place_in, join_answer, leave_answer, moved, move_by, move_answer}
-use Rattle.client_ports.specs.Receiving.{Receiving, after_join, after_leave, after_move, after_packet, command_in}
-use Rattle.client_ports.specs.Laws.{IsClear, IsAcceptedMove, IsRefused, IsJoined, IsLeave, IsMove}
+use Rattle.client_ports.specs.Answers.{free_spawn, place_at, place_in, join_answer, leaving, leave_by, leave_answer, moved, move_by, move_answer}
+use Rattle.client_ports.specs.Receiving.{Receiving, after_join, after_leave, after_move, after_packet, after_arrival, command_in}
+use Rattle.client_ports.specs.Laws.{IsClear, IsAcceptedLeave, IsAcceptedMove, IsRefused, IsJoined, IsLeave, IsMove}
 use Rattle.client_ports.proofs.Slots.{port_at-client, port_of-none}
 use Rattle.client_ports.proofs.Live.{free-record}
 
@@ -114,29 +117,111 @@ move_accepted clients port seq live e = by (live_with clients port) refl e
     by None f h = cc
     by (Some l) f h = at l (live_at-found clients (slots.slot_of (ports_of clients) port) l f) l.client.leaves (nat_le seq l.client.last) (nat_le 8 l.client.moves) refl refl refl h
 
+-- an accepted leave
+pub leave_accepted : (clients : List (Option Client)) (port : ℕ) (live : LiveSlot) → leave_answer clients port ≡ Ok live → IsAcceptedLeave clients live
+leave_accepted clients port live e = by (live_with clients port) refl e
+  where
+    at : (l : LiveSlot) → client_at clients l.slot ≡ Some l.client → (leaves : Bool) → l.client.leaves ≡ leaves
+        → (if leaves then Err refusal.Leaving else Ok (leaving l)) ≡ Ok live → IsAcceptedLeave clients live
+    at l in_slot true a h = cc
+    at l in_slot false a h =
+        let same = same_Ok (leaving l) live h in
+        let P : LiveSlot → Type 0 = λ m. IsAcceptedLeave clients m in
+        subst P same (record { was = l.client; in_slot = in_slot; stays = a; is = refl })
+
+    by : (o : Option LiveSlot) → live_with clients port ≡ o → leave_by o ≡ Ok live → IsAcceptedLeave clients live
+    by None f h = cc
+    by (Some l) f h = at l (live_at-found clients (slots.slot_of (ports_of clients) port) l f) l.client.leaves refl h
+
+-- the client that is found for a port has this port
+pub live_with-own : (clients : List (Option Client)) (port : ℕ) (live : LiveSlot) → live_with clients port ≡ Some live → live.client.port ≡ port
+live_with-own clients port live e = by (slots.slot_of (ports_of clients) port) refl e
+  where
+    by : (o : Option ℕ) → slots.slot_of (ports_of clients) port ≡ o → live_at clients o ≡ Some live → live.client.port ≡ port
+    by None f h = absurd (none-some live h)
+    by (Some slot) f h =
+        let own = (slot_of-joined (ports_of clients) slot port f).1 in
+        let same : live.slot ≡ slot = slot-is (client_at clients slot) h in
+        let here = ap port_of (sym (live_at-found clients (Some slot) live h)) in
+        same_Some live.client.port port (here ∙ ap (λ (k : ℕ). port_of (client_at clients k)) same ∙ sym (port_at-client clients slot) ∙ own)
+      where
+        slot-is : (c : Option Client) → option_map (live_slot slot) c ≡ Some live → live.slot ≡ slot
+        slot-is None g = absurd (none-some live g)
+        slot-is (Some c) g = sym (ap (λ (l : LiveSlot). l.slot) (same_Some (live_slot slot c) live g))
+
+-- so has one that leaves
+leave-own : (clients : List (Option Client)) (port : ℕ) (live : LiveSlot) → leave_answer clients port ≡ Ok live → live.client.port ≡ port
+leave-own clients port live e = by (live_with clients port) refl e
+  where
+    at : (l : LiveSlot) → l.client.port ≡ port → (leaves : Bool) → (if leaves then Err refusal.Leaving else Ok (leaving l)) ≡ Ok live → live.client.port ≡ port
+    at l own true h = cc
+    at l own false h = sym (ap (λ (m : LiveSlot). m.client.port) (same_Ok (leaving l) live h)) ∙ own
+
+    by : (o : Option LiveSlot) → live_with clients port ≡ o → leave_by o ≡ Ok live → live.client.port ≡ port
+    by None f h = cc
+    by (Some l) f h = at l (live_with-own clients port l f) l.client.leaves h
+
+-- and one that moves
+move-own : (clients : List (Option Client)) (port seq : ℕ) (live : LiveSlot) → move_answer clients port seq ≡ Ok live → live.client.port ≡ port
+move-own clients port seq live e = by (live_with clients port) refl e
+  where
+    at : (l : LiveSlot) → l.client.port ≡ port → (leaves old many : Bool)
+        → (if leaves then Err refusal.Leaving else if old then Err refusal.Old else if many then Err refusal.Many else Ok (moved l seq)) ≡ Ok live → live.client.port ≡ port
+    at l own true old many h = cc
+    at l own false true many h = cc
+    at l own false false true h = cc
+    at l own false false false h = sym (ap (λ (m : LiveSlot). m.client.port) (same_Ok (moved l seq) live h)) ∙ own
+
+    by : (o : Option LiveSlot) → live_with clients port ≡ o → move_by o seq ≡ Ok live → live.client.port ≡ port
+    by None f h = cc
+    by (Some l) f h = at l (live_with-own clients port l f) l.client.leaves (nat_le seq l.client.last) (nat_le 8 l.client.moves) h
+
 -- ---- one answer
 
-pub one_answer : (map : MapView) (frame : ℕ) (read : Result Packet PacketFault) (r : Receiving) (place port : ℕ)
-    → let next = after_packet map frame read r place port in (IsRefused r next place ⊎ IsJoined map r next port) ⊎ (IsLeave r next port ⊎ IsMove r next port)
-one_answer map frame (Err why) r place port = inl (inl (record { why = refusal.Packet why; state = refl; lists = refl }))
-one_answer map frame (Ok Join) r place port = by (join_answer map r.state port) refl
-  where
-    by : (to : Result Place Refusal) → join_answer map r.state port ≡ to
-        → (IsRefused r (after_join to r place port) place ⊎ IsJoined map r (after_join to r place port) port) ⊎ (IsLeave r (after_join to r place port) port ⊎ IsMove r (after_join to r place port) port)
-    by (Err why) e = inl (inl (record { why = why; state = refl; lists = refl }))
-    by (Ok to) e = inl (inr (record { to = to; answer = e; state = refl; lists = refl }))
-one_answer map frame (Ok Leave) r place port = by (leave_answer r.state.clients port) refl
-  where
-    by : (to : Result LiveSlot Refusal) → leave_answer r.state.clients port ≡ to
-        → (IsRefused r (after_leave to r place) place ⊎ IsJoined map r (after_leave to r place) port) ⊎ (IsLeave r (after_leave to r place) port ⊎ IsMove r (after_leave to r place) port)
-    by (Err why) e = inl (inl (record { why = why; state = refl; lists = refl }))
-    by (Ok live) e = inr (inl (record { live = live; answer = e; state = refl; lists = refl }))
-one_answer map frame (Ok (Step m)) r place port = by (move_answer r.state.clients port m.seq) refl
-  where
-    by : (to : Result LiveSlot Refusal) → move_answer r.state.clients port m.seq ≡ to
-        → (IsRefused r (after_move to frame m r place) place ⊎ IsJoined map r (after_move to frame m r place) port) ⊎ (IsLeave r (after_move to frame m r place) port ⊎ IsMove r (after_move to frame m r place) port)
-    by (Err why) e = inl (inl (record { why = why; state = refl; lists = refl }))
-    by (Ok live) e = inr (inr (record { live = live; command = command_in frame live.slot m; answer = e; own = refl; state = refl; lists = refl }))
+module _ (map : MapView) (frame : ℕ) (r : Receiving) (place : ℕ) (a : Arrival) where
+  -- a refusal, a join, a leave or a move
+  abbrev IsAnswer : Receiving → Type 0
+  IsAnswer next = (IsRefused r next place ⊎ IsJoined map r next a) ⊎ (IsLeave r next a ⊎ IsMove frame r next a)
+
+  join-one : reading a.bytes ≡ Ok Join → (to : Result Place Refusal) → join_answer map r.state a.port ≡ to → IsAnswer (after_join to r place a.port)
+  join-one read (Err why) e = inl (inl (record { why = why; state = refl; lists = refl }))
+  join-one read (Ok to) e = inl (inr (record { to = to; read = read; answer = e; state = refl; lists = refl }))
+
+  leave-one : reading a.bytes ≡ Ok Leave → (to : Result LiveSlot Refusal) → leave_answer r.state.clients a.port ≡ to → IsAnswer (after_leave to r place)
+  leave-one read (Err why) e = inl (inl (record { why = why; state = refl; lists = refl }))
+  leave-one read (Ok live) e = inr (inl (record {
+    live = live;
+    read = read;
+    answer = e;
+    own_port = leave-own r.state.clients a.port live e;
+    accepted = leave_accepted r.state.clients a.port live e;
+    state = refl;
+    lists = refl;
+  }))
+
+  move-one : (m : MovePacket) → reading a.bytes ≡ Ok (Step m) → (to : Result LiveSlot Refusal) → move_answer r.state.clients a.port m.seq ≡ to → IsAnswer (after_move to frame m r place)
+  move-one m read (Err why) e = inl (inl (record { why = why; state = refl; lists = refl }))
+  move-one m read (Ok live) e = inr (inr (record {
+    live = live;
+    packet = m;
+    command = command_in frame live.slot m;
+    read = read;
+    of_packet = record { in_frame = refl; in_slot = refl; seq = refl; ms = refl; wish_x = refl; wish_y = refl; buttons = refl };
+    answer = e;
+    own_port = move-own r.state.clients a.port m.seq live e;
+    accepted = move_accepted r.state.clients a.port m.seq live e;
+    state = refl;
+    lists = refl;
+  }))
+
+  packet-one : (read : Result Packet PacketFault) → reading a.bytes ≡ read → IsAnswer (after_packet map frame read r place a.port)
+  packet-one (Err why) e = inl (inl (record { why = refusal.Packet why; state = refl; lists = refl }))
+  packet-one (Ok Join) e = join-one e (join_answer map r.state a.port) refl
+  packet-one (Ok Leave) e = leave-one e (leave_answer r.state.clients a.port) refl
+  packet-one (Ok (Step m)) e = move-one m e (move_answer r.state.clients a.port m.seq) refl
+
+  pub one_answer : let next = after_arrival map frame r place a in (IsRefused r next place ⊎ IsJoined map r next a) ⊎ (IsLeave r next a ⊎ IsMove frame r next a)
+  one_answer = packet-one (reading a.bytes) refl
 
 -- ---- clear places
 
@@ -155,7 +240,7 @@ both_not false true h = cc
 both_not true b h = cc
 
 -- where no body of the live solids but one overlaps the body, that of no live solid does whose id is another
-clear-live : (body : Bounds) (records : List (Option Rec)) (except : ℕ) → is_blocked body (map_list body_of (solids_in records except)) ≡ false
+pub clear-live : (body : Bounds) (records : List (Option Rec)) (except : ℕ) → is_blocked body (map_list body_of (solids_in records except)) ≡ false
     → (id : ℕ) (r : Rec) → record_at records id ≡ Some r → is_solid r.kind ≡ true → (r.id == except) ≡ false → overlaps body (body_of r) ≡ false
 clear-live body [] except h id r e solid apart = absurd (none-some r e)
 clear-live body (None ∷ records) except h zero r e solid apart = absurd (none-some r e)

@@ -4,6 +4,8 @@ pub mod Valid
 pub mod Arrivals
 pub mod Rooms
 pub mod Facts
+pub mod Reasons
+pub mod Linking
 pub mod Leavers
 pub mod Changes
 pub mod Advances

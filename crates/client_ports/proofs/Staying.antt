@@ -9,7 +9,6 @@ use Rattle.arena_geo.specs.Bounds.{Bounds}
 use Rattle.arena_geo.specs.Boxes.{overlaps, is_blocked}
 use Rattle.entity_recs.specs.declared.rec.Rec.{Rec}
 use Rattle.entity_recs.specs.Bodies.{body_of}
-use Rattle.packet_read.specs.Reading.{reading}
 use Rattle.entity_slots.specs.Places.{place_for}
 use Rattle.arena_map.specs.Maps.{MapView, IsMap, IsSpawn, solids_of}
 use Rattle.world_tree.specs.Live.{record_at}
@@ -22,10 +21,10 @@ use Rattle.client_ports.specs.States.{State, state_of, with_newcomer, with_updat
 use Rattle.client_ports.specs.Answers.{join_answer}
 use Rattle.client_ports.specs.Finishing.{finished_client, records_after, finished_at, finished_up_to, finished}
 use Rattle.client_ports.specs.Receiving.{Receiving, after_arrival, after_arrivals, received}
-use Rattle.client_ports.specs.Laws.{IsClear, IsAcceptedMove, IsRefused, IsJoined, IsLeave, IsMove}
+use Rattle.client_ports.specs.Laws.{IsClear, IsAcceptedLeave, IsAcceptedMove, IsRefused, IsJoined, IsLeave, IsMove}
 use Rattle.arena_map.specs.Validity.{AreClear}
-use Rattle.client_ports.proofs.Changes.{live-inside, IsNewcomer, join-newcomer, IsAcceptedLeave, leave_accepted}
-use Rattle.client_ports.proofs.Facts.{got, join_clear, move_accepted, one_answer}
+use Rattle.client_ports.proofs.Changes.{live-inside, IsNewcomer, join-newcomer}
+use Rattle.client_ports.proofs.Facts.{got, join_clear, one_answer}
 use Rattle.client_ports.proofs.Live.{live-updated, live-written}
 use Rattle.client_ports.proofs.Slots.{client_count, free-are_ports, join-are_ports, read-set, update-are_ports}
 use Rattle.client_ports.proofs.Valid.{state-joined, valid-without}
@@ -76,18 +75,18 @@ record IsSwap (before after : State) : Type 0 where
 
 state-step : (map : MapView) (frame : ℕ) (r : Receiving) (place : ℕ) (a : Arrival) → let after = (after_arrival map frame r place a).state in
     (after ≡ r.state) ⊎ (IsJoin map r.state after ⊎ IsSwap r.state after)
-state-step map frame r place a = by (one_answer map frame (reading a.bytes) r place a.port)
+state-step map frame r place a = by (one_answer map frame r place a)
   where
     next : Receiving
     next = after_arrival map frame r place a
 
-    by : (IsRefused r next place ⊎ IsJoined map r next a.port) ⊎ (IsLeave r next a.port ⊎ IsMove r next a.port) → (next.state ≡ r.state) ⊎ (IsJoin map r.state next.state ⊎ IsSwap r.state next.state)
+    by : (IsRefused r next place ⊎ IsJoined map r next a) ⊎ (IsLeave r next a ⊎ IsMove frame r next a) → (next.state ≡ r.state) ⊎ (IsJoin map r.state next.state ⊎ IsSwap r.state next.state)
     by (inl (inl f)) = inl f.state
     by (inl (inr j)) = inr (inl (record { port = a.port; to = j.to; answer = j.answer; is = j.state }))
-    by (inr (inl l)) = inr (inr (record { live = l.live; may = λ are. update-leave r.state.clients l.live are (leave_accepted r.state.clients a.port l.live l.answer); is = l.state }))
+    by (inr (inl l)) = inr (inr (record { live = l.live; may = λ are. update-leave r.state.clients l.live are l.accepted; is = l.state }))
     by (inr (inr m)) = inr (inr (record {
       live = m.live;
-      may = λ are. update-move r.state.clients m.command.seq m.live are (move_accepted r.state.clients a.port m.command.seq m.live m.answer);
+      may = λ are. update-move r.state.clients m.command.seq m.live are m.accepted;
       is = m.state;
     }))
 

@@ -1,10 +1,14 @@
 -- What holds of the receive pass and of the end of a frame, in the words of the subject.
-use Rattle.std.specs.Prelude.{◌≡◌, ℕ, ◌+◌, ◌<◌, ◌⊎◌, true, false, List, Option, Some, None, length, Ok, if◌then◌else◌}
+use Rattle.std.specs.Prelude.{◌≡◌, ◌⊎◌, ◌↔◌, ℕ, ◌+◌, ◌<◌, true, false, List, All, length, take, slice_get, Option, Some}
+use Rattle.std.specs.Prelude.{None, Ok, if◌then◌else◌}
 use Rattle.arena_geo.specs.Boxes.{overlaps, is_blocked}
 use Rattle.entity_recs.specs.declared.rec.Rec.{Rec}
 use Rattle.entity_recs.specs.Bodies.{body_of, player_body}
 use Rattle.entity_recs.specs.Kinds.{is_solid}
 use Rattle.entity_recs.specs.Commands.{Command}
+use Rattle.packet_read.specs.declared.move_packet.MovePacket.{MovePacket}
+use Rattle.packet_read.specs.declared.packet.Packet.TheVariants.{Join, Step, Leave}
+use Rattle.packet_read.specs.Reading.{reading}
 use Rattle.entity_slots.specs.Places.{IsLeastFree}
 use Rattle.arena_map.specs.Maps.{MapView, solids_of}
 use Rattle.world_tree.specs.Live.{record_at}
@@ -17,7 +21,8 @@ use Rattle.client_ports.specs.Clients.{client, client_at, ports_of, AreClients}
 use Rattle.client_ports.specs.States.{State, IsState, with_newcomer, with_update}
 use Rattle.client_ports.specs.Lists.{with_join, with_move, with_refusal}
 use Rattle.client_ports.specs.Answers.{join_answer, leave_answer, move_answer}
-use Rattle.client_ports.specs.Receiving.{Receiving, after_arrival}
+use Rattle.client_ports.specs.Receiving.{Receiving, after_refusal, after_arrival}
+use Rattle.client_ports.specs.Reasons.{HasNoRoom, HasReason}
 use Rattle.client_ports.specs.Finishing.{is_leaver, finished_client, finished}
 
 -- no two live slots share a port
@@ -42,6 +47,19 @@ NobodyIsAddedIntoASolid =
     (map : MapView) (state : State) (port : ℕ) (to : Place) → AreClients state.clients → IsState map state
     → join_answer map state port ≡ Ok to → IsClear map state to
 
+-- a join is put at the first spawn with room
+pub record IsAtFirstRoom (map : MapView) (state : State) (to : Place) : Type 0 where
+  pub number : ℕ
+  pub is_spawn : slice_get map.spawns number ≡ Some to.at
+  pub room : IsClear map state to
+  pub no_room_before : All (HasNoRoom map state.records) (take number map.spawns)
+
+-- a player that joins is put at a spawn with room, and no spawn before it in line order has room
+abbrev pub JoinsAreAtTheFirstRoom : Type 0
+JoinsAreAtTheFirstRoom =
+    (map : MapView) (state : State) (port : ℕ) (to : Place) → AreClients state.clients → IsState map state
+    → join_answer map state port ≡ Ok to → IsAtFirstRoom map state to
+
 -- a move is accepted: its number is above the last one, which it becomes, and fewer than 8 moves of the client were
 -- accepted in the frame
 pub record IsAcceptedMove (clients : List (Option Client)) (seq : ℕ) (live : LiveSlot) : Type 0 where
@@ -57,32 +75,57 @@ abbrev pub AcceptedNumbersRise : Type 0
 AcceptedNumbersRise = (clients : List (Option Client)) (port seq : ℕ) (live : LiveSlot)
     → move_answer clients port seq ≡ Ok live → IsAcceptedMove clients seq live
 
--- a packet is refused: the clients and the world are as they were
+-- a leave is accepted: the client didn't leave before, and nothing else of it changes
+pub record IsAcceptedLeave (clients : List (Option Client)) (live : LiveSlot) : Type 0 where
+  pub was : Client
+  pub in_slot : client_at clients live.slot ≡ Some was
+  pub stays : was.leaves ≡ false
+  pub is : live.client ≡ client was.port was.last true was.moves
+
+-- a packet is refused: the clients and the records are as they were
 pub record IsRefused (r next : Receiving) (place : ℕ) : Type 0 where
   pub why : Refusal
   pub state : next.state ≡ r.state
   pub lists : next.lists ≡ with_refusal r.lists place why
 
--- a packet joins its port
-pub record IsJoined (map : MapView) (r next : Receiving) (port : ℕ) : Type 0 where
+-- a packet is a join, and joins its port
+pub record IsJoined (map : MapView) (r next : Receiving) (a : Arrival) : Type 0 where
   pub to : Place
-  pub answer : join_answer map r.state port ≡ Ok to
-  pub state : next.state ≡ with_newcomer r.state port to.slot to.at
-  pub lists : next.lists ≡ with_join r.lists port to.slot
+  pub read : reading a.bytes ≡ Ok Join
+  pub answer : join_answer map r.state a.port ≡ Ok to
+  pub state : next.state ≡ with_newcomer r.state a.port to.slot to.at
+  pub lists : next.lists ≡ with_join r.lists a.port to.slot
 
--- a packet makes its client leave at the end of the frame
-pub record IsLeave (r next : Receiving) (port : ℕ) : Type 0 where
+-- a packet is a leave, and makes the client of its port leave at the end of the frame
+pub record IsLeave (r next : Receiving) (a : Arrival) : Type 0 where
   pub live : LiveSlot
-  pub answer : leave_answer r.state.clients port ≡ Ok live
+  pub read : reading a.bytes ≡ Ok Leave
+  pub answer : leave_answer r.state.clients a.port ≡ Ok live
+  pub own_port : live.client.port ≡ a.port
+  pub accepted : IsAcceptedLeave r.state.clients live
   pub state : next.state ≡ with_update r.state live
   pub lists : next.lists ≡ r.lists
 
--- a packet is an accepted move
-pub record IsMove (r next : Receiving) (port : ℕ) : Type 0 where
+-- a command is that of a move packet: it has this frame and slot, and all else from the packet
+pub record IsCommandOf (frame slot : ℕ) (packet : MovePacket) (command : Command) : Type 0 where
+  pub in_frame : command.frame ≡ frame
+  pub in_slot : command.slot ≡ slot
+  pub seq : command.seq ≡ packet.seq
+  pub ms : command.ms ≡ packet.ms
+  pub wish_x : command.wish_x ≡ packet.wish_x
+  pub wish_y : command.wish_y ≡ packet.wish_y
+  pub buttons : command.buttons ≡ packet.buttons
+
+-- a packet is a move of the client of its port, and is accepted
+pub record IsMove (frame : ℕ) (r next : Receiving) (a : Arrival) : Type 0 where
   pub live : LiveSlot
+  pub packet : MovePacket
   pub command : Command
-  pub answer : move_answer r.state.clients port command.seq ≡ Ok live
-  pub own : command.slot ≡ live.slot
+  pub read : reading a.bytes ≡ Ok (Step packet)
+  pub of_packet : IsCommandOf frame live.slot packet command
+  pub answer : move_answer r.state.clients a.port command.seq ≡ Ok live
+  pub own_port : live.client.port ≡ a.port
+  pub accepted : IsAcceptedMove r.state.clients command.seq live
   pub state : next.state ≡ with_update r.state live
   pub lists : next.lists ≡ with_move r.lists command
 
@@ -90,7 +133,14 @@ pub record IsMove (r next : Receiving) (port : ℕ) : Type 0 where
 abbrev pub EachPacketHasOneAnswer : Type 0
 EachPacketHasOneAnswer = (map : MapView) (frame : ℕ) (r : Receiving) (place : ℕ) (a : Arrival)
     → let next = after_arrival map frame r place a in
-    (IsRefused r next place ⊎ IsJoined map r next a.port) ⊎ (IsLeave r next a.port ⊎ IsMove r next a.port)
+    (IsRefused r next place ⊎ IsJoined map r next a) ⊎ (IsLeave r next a ⊎ IsMove frame r next a)
+
+-- a packet is refused, for this refusal, exactly where the reason of the refusal holds and none before it
+abbrev pub RefusalsHaveReasons : Type 0
+RefusalsHaveReasons = (map : MapView) (frame : ℕ) (r : Receiving) (place : ℕ) (a : Arrival) (why : Refusal)
+    → AreClients r.state.clients → IsState map r.state
+    → (after_arrival map frame r place a ≡ after_refusal r place why)
+    ↔ HasReason map r.state (reading a.bytes) a.port why
 
 -- the end of a frame takes out the clients that leave, with their players, and no other
 abbrev pub FinishTakesLeaversOut : Type 0

@@ -21,5 +21,7 @@ pub mod Lists
 pub mod Answers
 pub mod Receiving
 pub mod Finishing
+pub mod Linking
+pub mod Reasons
 pub mod Laws
 pub mod Frames

@@ -2,8 +2,10 @@ ghost use Rattle.client_ports.specs.Laws.{
   PortsAreApart,
   SlotIsLeastFree,
   NobodyIsAddedIntoASolid,
+  JoinsAreAtTheFirstRoom,
   AcceptedNumbersRise,
   EachPacketHasOneAnswer,
+  RefusalsHaveReasons,
   FinishTakesLeaversOut,
 };
 ghost use Rattle.client_ports.specs.Frames.{
@@ -34,15 +36,27 @@ pub fn nobody_is_added_into_a_solid()
     ensures { NobodyIsAddedIntoASolid }
 {}
 
+/// A player that joins is put at a spawn with room, and no spawn before it in line order has room.
+pub fn joins_are_at_the_first_room()
+    ensures { JoinsAreAtTheFirstRoom }
+{}
+
 /// A move is accepted only where its number is above the last accepted one, which it becomes, and where fewer than 8
 /// moves of its client were accepted in the frame. So numbers rise, and a player has at most 8 moves in a frame.
 pub fn accepted_numbers_rise()
     ensures { AcceptedNumbersRise }
 {}
 
-/// Each packet has one answer: a refusal, which changes neither clients nor world, a join, a leave or a move.
+/// Each packet has one answer: a refusal, which changes neither clients nor records, a join, a leave or a move. The
+/// last three come only of packets of their kind, a leave and a move change the client of the packet's port, and the
+/// command of a move has the fields of its packet.
 pub fn each_packet_has_one_answer()
     ensures { EachPacketHasOneAnswer }
+{}
+
+/// A packet is refused, for a certain refusal, exactly where the reason of this refusal holds and none before it.
+pub fn refusals_have_reasons()
+    ensures { RefusalsHaveReasons }
 {}
 
 /// The end of a frame takes out the clients that leave, with their players, and no other.

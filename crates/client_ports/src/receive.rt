@@ -1,13 +1,15 @@
-ghost use Rattle.std.specs.Prelude.{◌≡◌, ◌<◌, ◌≤◌, List, Option, length, IfOk};
+ghost use Rattle.std.specs.Prelude.{◌≡◌, ◌<◌, ◌≤◌, List, [], Option, length, IfOk};
 ghost use Rattle.entity_recs.specs.declared.rec.Rec.{Rec};
 ghost use Rattle.arena_map.specs.Maps.{IsSpawn};
 ghost use Rattle.entity_recs.specs.Commands.{command_of};
 ghost use Rattle.arena_map.specs.Validity.{IsValidWorld};
+ghost use Rattle.world_tree.specs.Worlds.{with_records};
 ghost use Rattle.client_ports.specs.States as states;
 ghost use Rattle.client_ports.specs.States.{state_of, HaveSameLive, IsState};
 ghost use Rattle.client_ports.specs.Lists.{no_lists, HasRoom};
 ghost use Rattle.client_ports.specs.Answers as answers;
 ghost use Rattle.client_ports.specs.Clients.{IsPlaceFor};
+ghost use Rattle.client_ports.specs.Linking.{IsWorldAfter, players_of};
 ghost use Rattle.client_ports.specs.Receiving as receiving;
 ghost use Rattle.client_ports.specs.Receiving.{receiving_of};
 
@@ -91,6 +93,7 @@ impl Ports {
             (receiving_of (state_of self.old world.old.records) out.old.lists) place port }
         ensures room { out.new.room ≡ out.old.room }
         ensures tree { world.new.tree ≡ world.old.tree }
+        ensures world { IsWorldAfter world.old world.new out.old.lists.joined out.new.lists.joined }
         ensures state { IsState map.now (state_of self.new world.new.records) }
     {
         match self.join_answer(map, world, port) {
@@ -110,6 +113,7 @@ impl Ports {
             ≡ receiving.after_leave (answers.leave_answer self.old port) (receiving_of (state_of self.old records)
             out.old.lists) place }
         ensures room { out.new.room ≡ out.old.room }
+        ensures joined { out.new.lists.joined ≡ out.old.lists.joined }
         ensures live { (records : List (Option Rec)) → HaveSameLive self.old records → HaveSameLive self.new records }
     {
         match self.leave_answer(port) {
@@ -134,6 +138,7 @@ impl Ports {
             ≡ receiving.after_move (answers.move_answer self.old port step.now.seq) frame step.now
             (receiving_of (state_of self.old records) out.old.lists) place }
         ensures room { out.new.room ≡ out.old.room }
+        ensures joined { out.new.lists.joined ≡ out.old.lists.joined }
         ensures live { (records : List (Option Rec)) → HaveSameLive self.old records → HaveSameLive self.new records }
     {
         match self.move_answer(port, step.seq) {
@@ -162,6 +167,7 @@ impl Ports {
             place arrival.now }
         ensures room { out.new.room ≡ out.old.room }
         ensures tree { world.new.tree ≡ world.old.tree }
+        ensures world { IsWorldAfter world.old world.new out.old.lists.joined out.new.lists.joined }
         ensures state { IsState map.now (state_of self.new world.new.records) }
     {
         match read_packet(arrival.bytes.as_slice()) {
@@ -172,7 +178,8 @@ impl Ports {
         }
     }
 
-    /// The receive pass: the packets of a frame, in their order. It takes no memory.
+    /// The receive pass: the packets of a frame, in their order. The world gets the records of the players that join, in
+    /// the order of their joins, and no link changes otherwise. It takes no memory.
     pub fn receive(
         &mut self,
         map: &ArenaMap,
@@ -188,6 +195,8 @@ impl Ports {
         ensures received { receiving_of (state_of self.new world.new.records) out.new.lists
             ≡ receiving.received map.now frame (state_of self.old world.old.records) arrivals.now }
         ensures room { out.new.room ≡ out.old.room }
+        ensures world { world.new ≡ with_records world.old (players_of world.new.records out.new.lists.joined) }
+        ensures unchanged { out.new.lists.joined ≡ [] → world.new ≡ world.old }
         ensures tree { world.new.tree ≡ world.old.tree }
         ensures live { HaveSameLive self.new world.new.records }
         ensures valid { IsValidWorld map.now world.new.records }

@@ -4,7 +4,6 @@ use Rattle.std.specs.List.{AllByRecursion}
 use Rattle.std.proofs.lemmas.List.{length-map, length-set}
 use Rattle.std.proofs.lemmas.List.Elements.{All-head, All-tail}
 use Rattle.std.proofs.lemmas.List.Sorted.{length_permutation}
-use Rattle.packet_read.specs.Reading.{reading}
 use Rattle.entity_recs.specs.declared.rec.Rec.{Rec}
 use Rattle.entity_recs.specs.declared.effect.Entry.{Entry}
 use Rattle.entity_recs.specs.Histories.{Item}
@@ -70,12 +69,12 @@ counted n r s l state lists slots size = record {
 
 counted-step : (arena : MapView) (frame n : ℕ) (r : Receiving) (a : Arrival) → n < 512 → HasPort a → IsCounted n r → IsCounted (n + 1) (after_arrival arena frame r n a)
 unfolding lists_size
-counted-step arena frame n r a below port is = by (one_answer arena frame (reading a.bytes) r n a.port)
+counted-step arena frame n r a below port is = by (one_answer arena frame r n a)
   where
     next : Receiving
     next = after_arrival arena frame r n a
 
-    by : (IsRefused r next n ⊎ IsJoined arena r next a.port) ⊎ (IsLeave r next a.port ⊎ IsMove r next a.port) → IsCounted (n + 1) next
+    by : (IsRefused r next n ⊎ IsJoined arena r next a) ⊎ (IsLeave r next a ⊎ IsMove frame r next a) → IsCounted (n + 1) next
     by (inl (inl f)) =
         counted (n + 1) next _ _ f.state f.lists is.slots (omega (arith, push-long no_line r.lists.refused (record { place = n; why = f.why }), no_line-long n f.why below, is.size))
     by (inl (inr j)) =

@@ -4,7 +4,6 @@ use Rattle.std.specs.List.Sorted.{IsStrictlyIncreasing}
 use Rattle.std.proofs.lemmas.Bool.{cases_eq}
 use Rattle.std.proofs.lemmas.List.{get_or_append_left, get_or_push, length_push, map-append}
 use Rattle.std.proofs.lemmas.List.Elements.{All-get_or, All-nil, All-push, All-weaker}
-use Rattle.packet_read.specs.Reading.{reading}
 use Rattle.entity_recs.specs.declared.rec.Rec.{Rec}
 use Rattle.entity_recs.specs.declared.effect.Entry.{Entry}
 use Rattle.arena_map.specs.Maps.{MapView}
@@ -137,12 +136,12 @@ wider : (n : ℕ) (places : List ℕ) → All (λ place. place < n) places → A
 wider n places within = All-weaker (λ place. place < n) (λ place. place < n + 1) (λ place below. omega (arith, below)) places within
 
 answered-step : (arena : MapView) (frame n : ℕ) (r : Receiving) (a : Arrival) → IsAnswered n r.lists → IsAnswered (n + 1) (after_arrival arena frame r n a).lists
-answered-step arena frame n r a is = by (one_answer arena frame (reading a.bytes) r n a.port)
+answered-step arena frame n r a is = by (one_answer arena frame r n a)
   where
     next : Receiving
     next = after_arrival arena frame r n a
 
-    by : (IsRefused r next n ⊎ IsJoined arena r next a.port) ⊎ (IsLeave r next a.port ⊎ IsMove r next a.port) → IsAnswered (n + 1) next.lists
+    by : (IsRefused r next n ⊎ IsJoined arena r next a) ⊎ (IsLeave r next a ⊎ IsMove frame r next a) → IsAnswered (n + 1) next.lists
     by (inl (inl f)) =
         let last : Refused = record { place = n; why = f.why } in
         let places : map place_of (r.lists.refused ++ last ∷ []) ≡ map place_of r.lists.refused ++ n ∷ [] = map-append place_of r.lists.refused (last ∷ []) in

@@ -2,7 +2,6 @@
 use Rattle.std.proofs.Common.{◌≡◌, ◌≢◌, ◌⊎◌, ℕ, ◌+◌, ◌≤◌, List, [], ◌∷◌, length, Option, Some, None, if◌then◌else◌, inl, inr, refl, ap, ◌∙◌, arith, get_or-set_other}
 use Rattle.std.proofs.lemmas.List.{get_or_past, length-set}
 use Rattle.entity_recs.specs.declared.rec.Rec.{Rec}
-use Rattle.packet_read.specs.Reading.{reading}
 use Rattle.arena_map.specs.Maps.{MapView}
 use Rattle.world_tree.specs.Live.{record_at}
 use Rattle.client_ports.specs.declared.arrival.Arrival.{Arrival}
@@ -25,12 +24,12 @@ record HasThing (id : ℕ) (place : Option Rec) (state : State) : Type 0 where
 
 thing-after : (map : MapView) (frame id : ℕ) (thing : Option Rec) (r : Receiving) (place : ℕ) (a : Arrival) → 64 ≤ id → HasThing id thing r.state
     → HasThing id thing (after_arrival map frame r place a).state
-thing-after map frame id thing r place a from has = by (one_answer map frame (reading a.bytes) r place a.port)
+thing-after map frame id thing r place a from has = by (one_answer map frame r place a)
   where
     next : Receiving
     next = after_arrival map frame r place a
 
-    by : (IsRefused r next place ⊎ IsJoined map r next a.port) ⊎ (IsLeave r next a.port ⊎ IsMove r next a.port) → HasThing id thing next.state
+    by : (IsRefused r next place ⊎ IsJoined map r next a) ⊎ (IsLeave r next a ⊎ IsMove frame r next a) → HasThing id thing next.state
     by (inl (inl f)) = record { few = ap (λ (s : State). length s.clients) f.state ∙ has.few; at = ap (λ (s : State). record_at s.records id) f.state ∙ has.at }
     by (inl (inr j)) =
         let inside = (join-newcomer map r.state a.port j.to j.answer).inside in

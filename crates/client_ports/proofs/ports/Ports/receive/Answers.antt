@@ -4,6 +4,7 @@ use Rattle.client_ports.specs.Lists.{Lists}
 use Rattle.client_ports.specs.Receiving.{receiving_of, after_arrivals, received}
 use Rattle.client_ports.proofs.Arrivals.{arrivals-next, arrivals-end}
 use Rattle.client_ports.proofs.Rooms.{room_after}
+use Rattle.client_ports.proofs.Linking.{linked-step, linked-none}
 use Rattle.client_ports.proofs.ports.Ports.receive.Goals as goal
 
 pub overflow_add-place : goal.overflow_add-place
@@ -18,6 +19,7 @@ loop-arrival-preserved c =
       place = omega (arith, c.loop-arrival.invariant.place);
       room = c.receive_one.ensures.room ∙ c.loop-arrival.invariant.room;
       left = room_after i c.args.map.now c.args.frame before after c.loop-arrival.place c.arrival-item.result c.receive_one.new.out refl c.receive_one.ensures.received c.loop-arrival.invariant.left.short;
+      linked = linked-step c.args.world.now c.loop-arrival.world c.receive_one.new.world c.loop-arrival.out.lists.joined c.receive_one.new.out.lists.joined c.loop-arrival.invariant.linked c.receive_one.ensures.world;
       tree = c.receive_one.ensures.tree ∙ c.loop-arrival.invariant.tree;
       state = c.receive_one.ensures.state;
       rest = arrivals-next c.args.map.now c.args.frame before after _ c.loop-arrival.place i c.arrival-item.result c.args.arrivals.now
@@ -31,3 +33,9 @@ returns-clause-received c =
     arrivals-end c.args.map.now c.args.frame (receiving_of (state_of c.loop-arrival.self c.loop-arrival.world.records) c.loop-arrival.out.lists) _ c.loop-arrival.place
     c.loop-arrival.arrival-index c.args.arrivals.now c.loop-arrival-test.false c.loop-arrival.invariant.rest
     ∙ ap (λ (l : Lists). after_arrivals c.args.map.now c.args.frame (receiving_of old l) 0 c.args.arrivals.now) c.requires.empty
+
+pub returns-clause-world : goal.returns-clause-world
+returns-clause-world c = c.loop-arrival.invariant.linked.world
+
+pub returns-clause-unchanged : goal.returns-clause-unchanged
+returns-clause-unchanged c = linked-none c.args.world.now c.loop-arrival.world c.loop-arrival.out.lists.joined c.loop-arrival.invariant.linked
