@@ -41,7 +41,7 @@ lifts_stay_on_their_way map frame records id lift r is_map valid has at =
 same_ids_twice : (a b c : List (Option Rec)) → HaveSameIds a b → HaveSameIds b c → HaveSameIds a c
 same_ids_twice a b c one two = record { count = two.count ∙ one.count; live = λ id. two.live id ∙ one.live id }
 
-same_ids_changed : (f : Rec → Rec) (records : List (Option Rec)) → HaveSameIds records (each_changed f records)
+pub same_ids_changed : (f : Rec → Rec) (records : List (Option Rec)) → HaveSameIds records (each_changed f records)
 same_ids_changed f records = record {
   count = length-changed f records;
   live = λ id. ap is_some (at-changed f records id) ∙ by (record_at records id);
@@ -62,7 +62,7 @@ same_ids_step map step records = by (is_stopped map step records)
     by true = same_ids_none records
     by false = same_ids_changed (moved_along step) records
 
-same_ids_lift : (map : MapView) (records : List (Option Rec)) (l : Option Lift) (o : Option Rec) → HaveSameIds records (after_lift map records l o)
+pub same_ids_lift : (map : MapView) (records : List (Option Rec)) (l : Option Lift) (o : Option Rec) → HaveSameIds records (after_lift map records l o)
 same_ids_lift map records None o = same_ids_none records
 same_ids_lift map records (Some lift) None = same_ids_none records
 same_ids_lift map records (Some lift) (Some r) = same_ids_step map (step_of lift r) records
@@ -216,7 +216,7 @@ item_returned frame r item = record { there = there; away = away }
         let later : nat_le r.state frame ≡ false = grind (arith, nat_tests) in
         ap (λ b. cond b (with_state r 0) r) (due false false some later)
 
-kind_returned : (frame : ℕ) (r : Rec) → (returned frame r).kind ≡ r.kind
+pub kind_returned : (frame : ℕ) (r : Rec) → (returned frame r).kind ≡ r.kind
 kind_returned frame r = either_returned (λ (s : Rec). s.kind ≡ r.kind) frame r refl (λ due. refl)
 
 pub items_return_at_their_frame : ItemsReturnAtTheirFrame
