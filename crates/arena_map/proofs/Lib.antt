@@ -3,6 +3,7 @@ pub mod Boxes
 pub mod Counting
 pub mod FieldLists
 pub mod Keeping
+pub mod Breaking
 pub mod Kept
 pub mod ThingRecords
 pub mod Lifts
