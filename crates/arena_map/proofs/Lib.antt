@@ -10,5 +10,6 @@ pub mod Lifts
 pub mod ThingsFound
 pub mod LinesSound
 pub mod LinesBack
+pub mod Causes
 pub mod Opening
 pub mod ThingData
