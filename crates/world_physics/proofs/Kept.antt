@@ -162,8 +162,8 @@ only_places_and_states_change map frame records id old new is_map valid at_old a
 -- ---- items
 
 -- what is no solid stays as it is
-record StaysUnlessSolid (old new : Rec) : Type 0 where
-  same : is_solid old.kind ≡ false → new ≡ old
+pub record StaysUnlessSolid (old new : Rec) : Type 0 where
+  pub same : is_solid old.kind ≡ false → new ≡ old
 
 stays_twice : (a b c : Rec) → StaysUnlessSolid a b → StaysUnlessSolid b c → StaysUnlessSolid a c
 stays_twice a b c one two = record {
@@ -172,7 +172,7 @@ stays_twice a b c one two = record {
       two.same (ap (λ (r : Rec). is_solid r.kind) first ∙ h) ∙ first;
 }
 
-stays_kept : (map : MapView) → IsMap map → IsKeptByEach map StaysUnlessSolid
+pub stays_kept : (map : MapView) → IsMap map → IsKeptByEach map StaysUnlessSolid
 stays_kept map is_map = record {
   none = λ r. record { same = λ h. refl };
   both = stays_twice;
@@ -183,7 +183,7 @@ stays_kept map is_map = record {
       (λ carried. record { same = λ h. absurd (false-true (is_solid r.kind) (ap is_solid (carried_is_player step r carried)) h) });
 }
 
-item_is_no_solid : (kind : Kind) → is_item kind ≡ true → is_solid kind ≡ false
+pub item_is_no_solid : (kind : Kind) → is_item kind ≡ true → is_solid kind ≡ false
 item_is_no_solid kinds.Ammo h = refl
 item_is_no_solid kinds.Gem h = refl
 item_is_no_solid kinds.Teleporter h = refl

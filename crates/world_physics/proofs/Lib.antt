@@ -18,4 +18,5 @@ pub mod WholeSteps
 pub mod OwnSteps
 pub mod Riders
 pub mod Holding
+pub mod Stillness
 pub mod Given

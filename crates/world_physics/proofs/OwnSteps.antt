@@ -136,11 +136,11 @@ module _ (map : MapView) (is_map : IsMap map) (id : ℕ) (lift : Lift) (has : li
       ∙ ap (after_lift map records (Some lift)) at in
       subst (Becomes lift id r records) (sym here) (own_step records r valid at)
 
-  valid_thing : (records : List (Option Rec)) (thing : Rec) → IsValidWorld map records → IsValidWorld map (after_thing map records thing)
+  pub valid_thing : (records : List (Option Rec)) (thing : Rec) → IsValidWorld map records → IsValidWorld map (after_thing map records thing)
   valid_thing records thing valid = after_one map (IsValidWorld map) is_map (valid_kept map is_map) records thing valid valid
 
   -- things with later ids leave it
-  later : (first : ℕ) (lines : List MapLine) (records : List (Option Rec)) (r : Rec) → IsValidWorld map records → id < first
+  pub later : (first : ℕ) (lines : List MapLine) (records : List (Option Rec)) (r : Rec) → IsValidWorld map records → id < first
       → AllByRecursion (λ line. is_thing_line line ≡ true) lines → record_at records id ≡ Some r
       → record_at (after_things map records (records_from first lines)) id ≡ Some r
   later first [] records r valid below each at = at
