@@ -111,7 +111,7 @@ unfolding step_of
 carried-goes lift old player kind = ap (λ (k : Kind). is_player k && goes_with lift old player) kind
 
 -- a step that is made takes the player along, or leaves it
-made : (lift : Lift) (old player : Rec) → player.kind ≡ kinds.Player → (player.id == old.id) ≡ false
+pub made : (lift : Lift) (old player : Rec) → player.kind ≡ kinds.Player → (player.id == old.id) ≡ false
     → GoesAlong lift old (lift_after lift old) player (moved_along (step_of lift old) player)
 unfolding step_of
 made lift old player kind apart = record {

@@ -1,6 +1,6 @@
 -- What holds of the tick of a frame.
 use Rattle.std.specs.Prelude.{◌≡◌, ◌≢◌, ◌⊎◌, ℕ, ◌<◌, ◌≤◌, true, false, Bool, ◌||◌, ℤ, ◌+ℤ◌, ◌-ℤ◌, ◌≤ℤ◌}
-use Rattle.std.specs.Prelude.{List, length, Option, Some, None, is_some}
+use Rattle.std.specs.Prelude.{List, [], ◌∷◌, length, Option, Some, None, is_some}
 use Rattle.arena_geo.specs.Vectors.{vector}
 use Rattle.arena_geo.specs.Bounds.{Bounds}
 use Rattle.arena_geo.specs.Boxes.{overlaps, is_blocked}
@@ -12,10 +12,11 @@ use Rattle.entity_recs.specs.Records.{with_state}
 use Rattle.entity_recs.specs.Bodies.{body_of}
 use Rattle.arena_map.specs.declared.lift.Lift.{Lift}
 use Rattle.arena_map.specs.MapLines.{is_item, is_lift}
-use Rattle.arena_map.specs.Maps.{MapView, IsMap, lift_of, solids_of}
+use Rattle.arena_map.specs.Maps.{MapView, IsMap, entities_of, lift_of, solids_of}
 use Rattle.arena_map.specs.Validity.{IsValidWorld, AreClear}
 use Rattle.world_tree.specs.Live.{record_at}
 use Rattle.world_physics.specs.LiftSteps.{IsOnItsWay, stands_on, raised, lift_after}
+use Rattle.world_physics.specs.Returns.{after_returns}
 use Rattle.world_physics.specs.Ticks.{after_tick}
 
 -- a valid world stays valid
@@ -134,41 +135,82 @@ PlayersGoAlong =
     → record_at records slot ≡ Some player → player.kind ≡ kinds.Player
     → record_at (after_tick map frame records) slot ≡ Some after → GoesAlong lift old new player after
 
--- the body overlaps that of a player who doesn't go with the lift
-pub record MeetsPlayer (records : List (Option Rec)) (lift : Lift) (old : Rec) (body : Bounds) : Type 0 where
-  pub slot : ℕ
+-- the body overlaps that of another lift, or of a player who doesn't go with the lift
+pub record MeetsOther (records : List (Option Rec)) (id : ℕ) (lift : Lift) (old : Rec) (body : Bounds) : Type 0 where
+  pub place : ℕ
   pub other : Rec
-  pub at : record_at records slot ≡ Some other
-  pub is_player : other.kind ≡ kinds.Player
-  pub left : goes_with lift old other ≡ false
+  pub at : record_at records place ≡ Some other
+  pub apart : place ≢ id
+  pub solid : is_solid other.kind ≡ true
+  pub left : other.kind ≡ kinds.Player → goes_with lift old other ≡ false
   pub meets : overlaps body (body_of other) ≡ true
 
--- a player's body has no room: it overlaps a wall or a block, the lift after its step, or a player who doesn't go with
--- the lift
-abbrev pub HasNoRoom : MapView → List (Option Rec) → Lift → Rec → Bounds → Type 0
-HasNoRoom map records lift old body =
+-- a player's body has no room: it overlaps a wall or a block, the lift after its step, another lift, or a player who
+-- doesn't go with the lift
+abbrev pub HasNoRoom : MapView → List (Option Rec) → ℕ → Lift → Rec → Bounds → Type 0
+HasNoRoom map records id lift old body =
     (is_blocked body (solids_of map) ≡ true)
-    ⊎ ((overlaps body (body_of (lift_after lift old)) ≡ true) ⊎ MeetsPlayer records lift old body)
+    ⊎ ((overlaps body (body_of (lift_after lift old)) ≡ true) ⊎ MeetsOther records id lift old body)
 
 -- a player holds the lift: it goes with the lift, and its body would have no room, as much higher or lower as the lift
 -- after its step
-pub record IsHeld (map : MapView) (records : List (Option Rec)) (lift : Lift) (old : Rec) : Type 0 where
+pub record IsHeld (map : MapView) (records : List (Option Rec)) (id : ℕ) (lift : Lift) (old : Rec) : Type 0 where
   pub slot : ℕ
   pub player : Rec
   pub at : record_at records slot ≡ Some player
   pub is_player : player.kind ≡ kinds.Player
   pub goes : goes_with lift old player ≡ true
-  pub no_room : HasNoRoom map records lift old
+  pub no_room : HasNoRoom map records id lift old
       (body_of (raised player ((lift_after lift old).origin.z -ℤ old.origin.z)))
 
 -- a lift that no player holds makes its whole step, and one that a player holds is as it was
-pub record StepsUnlessHeld (map : MapView) (records : List (Option Rec)) (lift : Lift) (old new : Rec) : Type 0 where
-  pub either : (new ≡ lift_after lift old) ⊎ IsHeld map records lift old
-  pub held : IsHeld map records lift old → new ≡ old
+pub record StepsUnlessHeld (map : MapView) (records : List (Option Rec)) (id : ℕ) (lift : Lift) (old new : Rec) : Type 0 where
+  pub either : (new ≡ lift_after lift old) ⊎ IsHeld map records id lift old
+  pub held : IsHeld map records id lift old → new ≡ old
 
 -- so it is with the lift of a map that has one
 abbrev pub OnlyPlayersHoldLifts : Type 0
 OnlyPlayersHoldLifts =
     (map : MapView) (frame : ℕ) (records : List (Option Rec)) (id : ℕ) (lift : Lift) (old new : Rec) → IsMap map
     → IsValidWorld map records → lift_of map id ≡ Some lift → IsOnlyLift map id → record_at records id ≡ Some old
-    → record_at (after_tick map frame records) id ≡ Some new → StepsUnlessHeld map records lift old new
+    → record_at (after_tick map frame records) id ≡ Some new → StepsUnlessHeld map records id lift old new
+
+-- ---- several lifts, in turn
+
+-- the step of a lift is made: the lift is as after its whole step, players go along or stay, and all else is as it was
+pub record IsMade (id : ℕ) (lift : Lift) (old : Rec) (before after : List (Option Rec)) : Type 0 where
+  pub ids : HaveSameIds before after
+  pub own : record_at after id ≡ Some (lift_after lift old)
+  pub players : (slot : ℕ) (player new : Rec) → record_at before slot ≡ Some player → player.kind ≡ kinds.Player
+      → record_at after slot ≡ Some new → GoesAlong lift old (lift_after lift old) player new
+  pub others : (other : ℕ) (r : Rec) → other ≢ id → record_at before other ≡ Some r → r.kind ≢ kinds.Player
+      → record_at after other ≡ Some r
+
+-- the turn of a lift: its step is made unless a player holds it, and then nothing changes
+pub record IsTurn (map : MapView) (id : ℕ) (lift : Lift) (before after : List (Option Rec)) : Type 0 where
+  pub old : Rec
+  pub at : record_at before id ≡ Some old
+  pub either : IsMade id lift old before after ⊎ IsHeld map before id lift old
+  pub held : IsHeld map before id lift old → after ≡ before
+
+-- the turn of an id, if it is that of a lift
+abbrev pub IsTurnOf : MapView → ℕ → Option Lift → List (Option Rec) → List (Option Rec) → Type 0
+IsTurnOf map id None before after = after ≡ before
+IsTurnOf map id (Some lift) before after = IsTurn map id lift before after
+
+-- the turn of a thing, and what holds after it
+pub record HasTurn (map : MapView) (thing : Rec) (before : List (Option Rec)) (Rest : List (Option Rec) → Type 0) : Type 0 where
+  pub between : List (Option Rec)
+  pub turn : IsTurnOf map thing.id (lift_of map thing.id) before between
+  pub rest : Rest between
+
+-- the lifts among these things have had their turns, one after another
+abbrev pub AreTurns : MapView → List Rec → List (Option Rec) → List (Option Rec) → Type 0
+AreTurns map [] before after = after ≡ before
+AreTurns map (thing ∷ things) before after = HasTurn map thing before (λ between. AreTurns map things between after)
+
+-- after a tick the lifts have had their turns, in rising id, from the records after the returns
+abbrev pub LiftsStepInTurn : Type 0
+LiftsStepInTurn =
+    (map : MapView) (frame : ℕ) (records : List (Option Rec)) → IsMap map → IsValidWorld map records
+    → AreTurns map (entities_of map) (after_returns frame records) (after_tick map frame records)

@@ -1,6 +1,6 @@
 ghost use Rattle.world_physics.specs.Laws.{ValidWorldsStayValid, IdsStay, PlayersKeepRoom, LiftsStayOnTheirWay};
 ghost use Rattle.world_physics.specs.Laws.{OnlyPlacesAndStatesChange, ItemsReturnAtTheirFrame};
-ghost use Rattle.world_physics.specs.Laws.{LiftsMakeTheirStep, StepsAreWhole, PlayersGoAlong, OnlyPlayersHoldLifts};
+ghost use Rattle.world_physics.specs.Laws.{LiftsMakeTheirStep, StepsAreWhole, PlayersGoAlong, OnlyPlayersHoldLifts, LiftsStepInTurn};
 
 /// A valid world of a map that keeps its rules is valid after a tick.
 pub fn worlds_stay_valid()
@@ -52,4 +52,10 @@ pub fn players_go_along()
 /// The one lift of a map makes its step, unless a player that goes with it would have no room.
 pub fn only_players_hold_lifts()
     ensures { OnlyPlayersHoldLifts }
+{}
+
+/// The lifts of a map have their turns one after another, in rising id. In its turn a lift makes its step, and players go
+/// along, unless a player that goes with it would have no room: then nothing changes.
+pub fn lifts_step_in_turn()
+    ensures { LiftsStepInTurn }
 {}
