@@ -58,7 +58,7 @@ pub record KeepsAll (map : MapView) (line : MapLine) : Type 0 where
   pub shafts : keeps_shafts map line ≡ true
 
 -- the answer of the six tests, one after another
-abbrev first_broken : Bool → Bool → Bool → Bool → Bool → Bool → Option MapFault
+abbrev pub first_broken : Bool → Bool → Bool → Bool → Bool → Bool → Option MapFault
 first_broken inside count stand item travel shafts =
     if not inside then Some fault.Box
     else if not count then Some fault.Count
@@ -178,7 +178,7 @@ with_spawn-is_map map at is near keeps = record {
 -- ---- things
 
 -- how many pass with one more line
-count-push : (p : MapLine → Bool) (lines : List MapLine) (line : MapLine) → count_by p (lines ++ line ∷ []) ≡ count_by p lines + cond (p line) 1 0
+pub count-push : (p : MapLine → Bool) (lines : List MapLine) (line : MapLine) → count_by p (lines ++ line ∷ []) ≡ count_by p lines + cond (p line) 1 0
 count-push p lines line =
     let one = sum_by-cons (λ l. cond (p l) 1 0) line [] in
     omega (arith, sum_by-append (λ l. cond (p l) 1 0) lines (line ∷ []), one)

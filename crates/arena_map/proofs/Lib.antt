@@ -3,11 +3,13 @@ pub mod Boxes
 pub mod Counting
 pub mod FieldLists
 pub mod Keeping
+pub mod Breaking
 pub mod Kept
 pub mod ThingRecords
 pub mod Lifts
 pub mod ThingsFound
 pub mod LinesSound
 pub mod LinesBack
+pub mod Causes
 pub mod Opening
 pub mod ThingData

@@ -164,7 +164,7 @@ word-above words.Teleport = search rules
 word-above words.Goal = search rules
 word-above words.Lift = search rules
 
-map_word-back : (word : MapWord) → map_word (word_text word) ≡ Some word
+pub map_word-back : (word : MapWord) → map_word (word_text word) ≡ Some word
 map_word-back words.Arena = refl
 map_word-back words.Block = refl
 map_word-back words.Spawn = refl

@@ -273,7 +273,8 @@ word-choice text w v more others h = by (bytes_eq text (word_text w)) refl h
 no-word : (text : List ℕ) (v : MapWord) → None ≡ Some v → text ≡ word_text v
 no-word text v h = cc
 
-word-spelled : (text : List ℕ) (v : MapWord) → map_word text ≡ Some v → text ≡ word_text v
+-- a word is read where its text is
+pub word-spelled : (text : List ℕ) (v : MapWord) → map_word text ≡ Some v → text ≡ word_text v
 word-spelled text v =
     word-choice text words.Arena v _ (
     word-choice text words.Block v _ (

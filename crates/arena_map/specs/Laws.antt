@@ -18,12 +18,15 @@ use Rattle.arena_map.specs.Maps.{MapView, IsMap, solids_of, entities_of, dest_of
 use Rattle.arena_map.specs.Rules.{bare_map, broken_by_arena, broken_rule, with_line}
 use Rattle.arena_map.specs.Validity.{IsSameLift, IsOpeningWorld, IsValidWorld}
 
--- an arena that breaks no rule begins a map that keeps them, and a line that breaks none leaves such a map
+-- an arena that breaks no rule begins a map that keeps them, and a line that breaks none leaves such a map; and an arena
+-- that begins a map which keeps the rules breaks none, nor does a line that leaves such a map
 pub record LinesKeepTheRules : Type 0 where
   pub begun : (lo hi : Vec3) → IsNear 1048576 lo → IsNear 1048576 hi → broken_by_arena lo hi ≡ None
       → IsMap (bare_map lo hi)
   pub added : (map : MapView) (line : MapLine) → IsMap map → IsWithinLimits line → broken_rule map line ≡ None
       → IsMap (with_line map line)
+  pub begun_only : (lo hi : Vec3) → IsMap (bare_map lo hi) → broken_by_arena lo hi ≡ None
+  pub added_only : (map : MapView) (line : MapLine) → IsMap (with_line map line) → broken_rule map line ≡ None
 
 -- the solids of a map block what its walls block
 abbrev pub SolidsHaveWalls : Type 0

@@ -11,6 +11,7 @@ pub mod MapLines
 pub mod Words
 pub mod Reading
 pub mod Spelling
+pub mod Causes
 pub mod Places
 pub mod Things
 pub mod Maps

@@ -1,7 +1,8 @@
 ghost use Rattle.arena_map.specs.Laws.{LinesKeepTheRules, SolidsHaveWalls, MapLinesReadBack};
 ghost use Rattle.arena_map.specs.Laws.{DataFollowKinds, LiveRecordsHaveData, OpeningWorldIsValid, LiftsStayInside};
 
-/// A map that lines begin and lengthen without breaking a rule keeps all of them.
+/// A map that lines begin and lengthen without breaking a rule keeps all of them, and lines that give a map which keeps
+/// them break none.
 pub fn lines_keep_the_rules()
     ensures { LinesKeepTheRules }
 {}

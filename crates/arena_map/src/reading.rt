@@ -1,8 +1,10 @@
-ghost use Rattle.std.specs.Prelude.{◌≡◌, ◌≤◌, ◌^◌, true, false, option_map, IfOk, IfSome, unsigned_abs};
+ghost use Rattle.std.specs.Prelude.{◌≡◌, ◌↔◌, ◌≤◌, ◌^◌, true, false, option_map, Ok, Err, IfOk, IfSome, unsigned_abs};
 ghost use Rattle.arena_geo.specs.Vectors.{IsNear};
 ghost use Rattle.edge_io.specs.Fields as fields;
 ghost use Rattle.arena_map.specs.MapLines.{IsWithinLimits, is_item};
 ghost use Rattle.arena_map.specs.Reading as reading;
+ghost use Rattle.arena_map.specs.Spelling.{map_line_text};
+ghost use Rattle.arena_map.specs.Causes.{HasNoWord, HasNoForm, IsOutOfLimit};
 
 use crate::map_line::MapLine;
 use crate::map_word::{MapField, MapWord, item_kind};
@@ -222,6 +224,12 @@ pub fn read_map_line(line: &[u8]) -> Result<MapLine, u8>
     requires { reading.is_word_of_play (fields.cut line.now).0 ≡ false }
     ensures value { result ≡ reading.map_line_of line.now }
     ensures limits { IfOk result IsWithinLimits }
+    ensures found { IfOk result (λ l. line.now ≡ map_line_text l) }
+    ensures only { (l : MapLine) → IsWithinLimits l → line.now ≡ map_line_text l → result ≡ Ok l }
+    // Each fault comes exactly where it is the cause.
+    ensures no_word { (result ≡ Err 3) ↔ HasNoWord line.now }
+    ensures no_form { (result ≡ Err 4) ↔ HasNoForm line.now }
+    ensures out_of_limit { (result ≡ Err 6) ↔ IsOutOfLimit line.now }
 {
     let (text, rest) = cut(line);
     let Some(word) = MapWord::read(text) else {

@@ -1,5 +1,5 @@
 -- Frames, one after another: what holds of the state after each.
-use Rattle.std.proofs.Common.{◌≡◌, ℕ, zero, suc, ◌+◌, ◌<◌, List, [], ◌∷◌, length, Option, None, IsSome, replicate, refl, sym, ap, ◌∙◌, subst, arith}
+use Rattle.std.proofs.Common.{◌≡◌, ℕ, zero, suc, ◌+◌, ◌<◌, List, [], ◌∷◌, length, slice_index_or, Option, None, IsSome, replicate, refl, sym, ap, ◌∙◌, subst, arith}
 use Rattle.std.specs.Prelude.{map as map_list}
 use Rattle.std.proofs.lemmas.List.{length-replicate}
 use Rattle.std.proofs.lemmas.List.Elements.{All-weaker}
@@ -25,6 +25,7 @@ use Rattle.client_ports.specs.States.{State, state_of, IsServerState}
 use Rattle.client_ports.specs.Receiving.{Receiving}
 use Rattle.client_ports.proofs.Advances.{numbers_apart, movers_live}
 use Rattle.client_ports.proofs.Staying.{clients_received, clients_finished, server_received, server_finished}
+use Rattle.plain_server.specs.Laws.{OpeningIsAsTheMapSays}
 use Rattle.plain_server.specs.RecordsById.{world_of, opening}
 use Rattle.plain_server.specs.Moving.{HasLivePlayer, HaveMoved}
 use Rattle.plain_server.specs.Entries.{IsReception}
@@ -147,6 +148,19 @@ opening_world map is id =
 pub opening_is : (map : MapView) → IsMap map → IsServerState map (opening map)
 unfolding opening
 opening_is map is = opening-is_server map (opening map).records is (opening_places map) (opening_world map is)
+
+-- nobody is joined there
+nobody_in : (count slot : ℕ) → slice_index_or (replicate {A = Option Client} count None) slot None ≡ None
+nobody_in zero slot = refl
+nobody_in (suc count) zero = refl
+nobody_in (suc count) (suc slot) = nobody_in count slot
+
+opening_nobody : (map : MapView) (slot : ℕ) → client_at (opening map).clients slot ≡ None
+unfolding opening
+opening_nobody map slot = nobody_in 64 slot
+
+pub opening_is_as_the_map_says : OpeningIsAsTheMapSays
+opening_is_as_the_map_says = record { nobody = opening_nobody; things = opening_world }
 
 -- no two live slots share a port, after any frames
 pub ports_apart_through : (map : MapView) (frame : ℕ) (state : State) (frames : List (List Arrival)) (journals : List (List Entry)) → AreClients state.clients

@@ -1,14 +1,14 @@
 -- What holds of the plain server, after any frames.
-use Rattle.std.specs.Prelude.{◌≡◌, ℕ, ◌+◌, ◌<◌, ◌≤◌, List, Option, Some, IsSome, All}
+use Rattle.std.specs.Prelude.{◌≡◌, ℕ, ◌+◌, ◌<◌, ◌≤◌, List, Option, Some, None, IsSome, All}
 use Rattle.entity_recs.specs.declared.rec.Rec.{Rec}
 use Rattle.entity_recs.specs.declared.effect.Entry.{Entry}
 use Rattle.entity_recs.specs.Commands.{Command}
 use Rattle.entity_recs.specs.Histories.{world_after}
 use Rattle.arena_map.specs.Maps.{MapView, IsMap, delay_of}
-use Rattle.arena_map.specs.Validity.{IsValidWorld, AreClear}
+use Rattle.arena_map.specs.Validity.{IsValidWorld, IsOpeningWorld, AreClear}
 use Rattle.arena_actions.specs.Outcomes.{outcome_in}
 use Rattle.client_ports.specs.declared.arrival.Arrival.{Arrival}
-use Rattle.client_ports.specs.Clients.{AreClients}
+use Rattle.client_ports.specs.Clients.{client_at, AreClients}
 use Rattle.client_ports.specs.States.{State, IsServerState}
 use Rattle.plain_server.specs.RecordsById.{world_of, records_in, opening}
 use Rattle.plain_server.specs.Moving.{HasLivePlayer}
@@ -16,6 +16,12 @@ use Rattle.plain_server.specs.Entries.{AreReported, HasBytes}
 use Rattle.plain_server.specs.Frames.{received_in, state_after, state_played, IsRightAfter}
 use Rattle.plain_server.specs.Frames.{AreRight, AreInOrder, journals_of}
 use Rattle.plain_server.specs.Takers.{HasTaken, HasTakenIn, IsSameEntry, IsInState}
+
+-- before the first frame nobody is joined, and each thing of the map is live at its id and as at the start, and nothing
+-- else is
+pub record OpeningIsAsTheMapSays : Type 0 where
+  pub nobody : (map : MapView) (slot : ℕ) → client_at (opening map).clients slot ≡ None
+  pub things : (map : MapView) → IsMap map → IsOpeningWorld map (opening map).records
 
 -- moves of live players, in whatever order they run, keep a valid world valid
 abbrev pub MovesKeepWorldsValid : Type 0

@@ -1,6 +1,13 @@
+ghost use Rattle.plain_server.specs.Laws.{OpeningIsAsTheMapSays};
 ghost use Rattle.plain_server.specs.Laws.{MovesKeepWorldsValid, WorldsStayValid, PortsStayApart, PlayersKeepRoom};
 ghost use Rattle.plain_server.specs.Laws.{JournalsAreRightInOrder, OrderLeavesOneJournalEach, RightJournalsAreInRange};
 ghost use Rattle.plain_server.specs.Laws.{FramesHaveOneTaker, OnlyItemsAreTaken, ItemsHaveOneTaker, TakenItemsStayAway};
+
+/// Before the first frame nobody is joined, and each thing of the map is live at its id and as at the start, and nothing
+/// else is.
+pub fn opening_is_as_the_map_says()
+    ensures { OpeningIsAsTheMapSays }
+{}
 
 /// Moves of live players, in whatever order they run, keep a valid world valid.
 pub fn moves_keep_worlds_valid()

@@ -41,7 +41,7 @@ pub changed_none : (f : Rec → Rec) (records : List (Option Rec)) → IsChanged
 changed_none f records = record { count = refl; below = λ k h. absurd (omega (arith, h)); rest = λ k h. refl }
 
 -- one place that is written
-at-place : (records : List (Option Rec)) (id : ℕ) (f : Rec → Rec) → record_at (changed_at f records id) id ≡ option_map f (record_at records id)
+pub at-place : (records : List (Option Rec)) (id : ℕ) (f : Rec → Rec) → record_at (changed_at f records id) id ≡ option_map f (record_at records id)
 at-place records id f = elim (cases_lt id (length records)) [
   | inl within ↦ get_or-set_same records id (option_map f (record_at records id)) None within
   | inr past ↦

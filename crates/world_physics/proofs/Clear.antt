@@ -47,7 +47,7 @@ together a b up =
 
 -- ---- what stays
 
-is_solid_kind : (kind : Kind) → is_solid kind ≡ true → (kind ≡ kinds.Player) ⊎ (kind ≡ kinds.Lift)
+pub is_solid_kind : (kind : Kind) → is_solid kind ≡ true → (kind ≡ kinds.Player) ⊎ (kind ≡ kinds.Lift)
 is_solid_kind kinds.Player h = inl refl
 is_solid_kind kinds.Lift h = inr refl
 is_solid_kind kinds.Ammo h = cc

@@ -41,7 +41,7 @@ lifts_stay_on_their_way map frame records id lift r is_map valid has at =
 same_ids_twice : (a b c : List (Option Rec)) → HaveSameIds a b → HaveSameIds b c → HaveSameIds a c
 same_ids_twice a b c one two = record { count = two.count ∙ one.count; live = λ id. two.live id ∙ one.live id }
 
-same_ids_changed : (f : Rec → Rec) (records : List (Option Rec)) → HaveSameIds records (each_changed f records)
+pub same_ids_changed : (f : Rec → Rec) (records : List (Option Rec)) → HaveSameIds records (each_changed f records)
 same_ids_changed f records = record {
   count = length-changed f records;
   live = λ id. ap is_some (at-changed f records id) ∙ by (record_at records id);
@@ -62,7 +62,7 @@ same_ids_step map step records = by (is_stopped map step records)
     by true = same_ids_none records
     by false = same_ids_changed (moved_along step) records
 
-same_ids_lift : (map : MapView) (records : List (Option Rec)) (l : Option Lift) (o : Option Rec) → HaveSameIds records (after_lift map records l o)
+pub same_ids_lift : (map : MapView) (records : List (Option Rec)) (l : Option Lift) (o : Option Rec) → HaveSameIds records (after_lift map records l o)
 same_ids_lift map records None o = same_ids_none records
 same_ids_lift map records (Some lift) None = same_ids_none records
 same_ids_lift map records (Some lift) (Some r) = same_ids_step map (step_of lift r) records
@@ -162,8 +162,8 @@ only_places_and_states_change map frame records id old new is_map valid at_old a
 -- ---- items
 
 -- what is no solid stays as it is
-record StaysUnlessSolid (old new : Rec) : Type 0 where
-  same : is_solid old.kind ≡ false → new ≡ old
+pub record StaysUnlessSolid (old new : Rec) : Type 0 where
+  pub same : is_solid old.kind ≡ false → new ≡ old
 
 stays_twice : (a b c : Rec) → StaysUnlessSolid a b → StaysUnlessSolid b c → StaysUnlessSolid a c
 stays_twice a b c one two = record {
@@ -172,7 +172,7 @@ stays_twice a b c one two = record {
       two.same (ap (λ (r : Rec). is_solid r.kind) first ∙ h) ∙ first;
 }
 
-stays_kept : (map : MapView) → IsMap map → IsKeptByEach map StaysUnlessSolid
+pub stays_kept : (map : MapView) → IsMap map → IsKeptByEach map StaysUnlessSolid
 stays_kept map is_map = record {
   none = λ r. record { same = λ h. refl };
   both = stays_twice;
@@ -183,7 +183,7 @@ stays_kept map is_map = record {
       (λ carried. record { same = λ h. absurd (false-true (is_solid r.kind) (ap is_solid (carried_is_player step r carried)) h) });
 }
 
-item_is_no_solid : (kind : Kind) → is_item kind ≡ true → is_solid kind ≡ false
+pub item_is_no_solid : (kind : Kind) → is_item kind ≡ true → is_solid kind ≡ false
 item_is_no_solid kinds.Ammo h = refl
 item_is_no_solid kinds.Gem h = refl
 item_is_no_solid kinds.Teleporter h = refl
@@ -216,7 +216,7 @@ item_returned frame r item = record { there = there; away = away }
         let later : nat_le r.state frame ≡ false = grind (arith, nat_tests) in
         ap (λ b. cond b (with_state r 0) r) (due false false some later)
 
-kind_returned : (frame : ℕ) (r : Rec) → (returned frame r).kind ≡ r.kind
+pub kind_returned : (frame : ℕ) (r : Rec) → (returned frame r).kind ≡ r.kind
 kind_returned frame r = either_returned (λ (s : Rec). s.kind ≡ r.kind) frame r refl (λ due. refl)
 
 pub items_return_at_their_frame : ItemsReturnAtTheirFrame

@@ -14,4 +14,9 @@ pub mod Through
 pub mod Kept
 pub mod Shafts
 pub mod Clear
+pub mod WholeSteps
+pub mod OwnSteps
+pub mod Riders
+pub mod Holding
+pub mod Stillness
 pub mod Given

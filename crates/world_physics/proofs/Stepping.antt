@@ -50,7 +50,8 @@ module _ (map : MapView) (records : List (Option Rec)) (id : ℕ) (step : LiftSt
       ∙ ap is_some (at-changed (carried_along step) records id)
       ∙ ap (λ o. is_some (option_map (carried_along step) o)) is.at
 
-  own-id : (k : ℕ) (r : Rec) → record_at records k ≡ Some r → k ≢ id → (r.id == step.before.id) ≡ false
+  -- the record of another id has another id than the lift's
+  pub own-id : (k : ℕ) (r : Rec) → record_at records k ≡ Some r → k ≢ id → (r.id == step.before.id) ≡ false
   own-id k r at apart =
       let own = (valid.each k r at).own_id in
       let lift = is.valid.own_id in

@@ -21,7 +21,7 @@ pub record IsKept (map : MapView) (P : List (Option Rec) → Type 0) : Type 0 wh
   pub by : (records : List (Option Rec)) (id : ℕ) (step : LiftStep) → IsValidWorld map records → IsStepAt map records id step → P records → P (after_step map step records)
 
 -- it holds after the step of one thing
-after_one : (map : MapView) (P : List (Option Rec) → Type 0) → IsMap map → IsKept map P → (records : List (Option Rec)) (thing : Rec) → IsValidWorld map records → P records
+pub after_one : (map : MapView) (P : List (Option Rec) → Type 0) → IsMap map → IsKept map P → (records : List (Option Rec)) (thing : Rec) → IsValidWorld map records → P records
     → P (after_thing map records thing)
 after_one map P is_map kept records thing valid holds = by (lift_of map thing.id) (record_at records thing.id) refl refl
   where

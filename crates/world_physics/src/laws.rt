@@ -1,5 +1,6 @@
 ghost use Rattle.world_physics.specs.Laws.{ValidWorldsStayValid, IdsStay, PlayersKeepRoom, LiftsStayOnTheirWay};
 ghost use Rattle.world_physics.specs.Laws.{OnlyPlacesAndStatesChange, ItemsReturnAtTheirFrame};
+ghost use Rattle.world_physics.specs.Laws.{LiftsMakeTheirStep, StepsAreWhole, PlayersGoAlong, OnlyPlayersHoldLifts, LiftsStepInTurn};
 
 /// A valid world of a map that keeps its rules is valid after a tick.
 pub fn worlds_stay_valid()
@@ -30,4 +31,31 @@ pub fn only_places_and_states_change()
 /// A taken item is there again after the tick of its frame, and not before.
 pub fn items_return_at_their_frame()
     ensures { ItemsReturnAtTheirFrame }
+{}
+
+/// A lift is as it was or has made its whole step, and where no player is live it has made it.
+pub fn lifts_make_their_step()
+    ensures { LiftsMakeTheirStep }
+{}
+
+/// In its step a lift moves by its speed, or to the end of its way, and turns there.
+pub fn steps_are_whole()
+    ensures { StepsAreWhole }
+{}
+
+/// On a map with one lift, a player goes as far up or down in a tick as the lift does where it stands on the lift or the
+/// lift's box after its step overlaps it, and else it stays.
+pub fn players_go_along()
+    ensures { PlayersGoAlong }
+{}
+
+/// The one lift of a map makes its step, unless a player that goes with it would have no room.
+pub fn only_players_hold_lifts()
+    ensures { OnlyPlayersHoldLifts }
+{}
+
+/// The lifts of a map have their turns one after another, in rising id. In its turn a lift makes its step, and players go
+/// along, unless a player that goes with it would have no room: then nothing changes.
+pub fn lifts_step_in_turn()
+    ensures { LiftsStepInTurn }
 {}

@@ -2,8 +2,9 @@
 #![tactic(auto)]
 
 pub use laws::{
-    ids_stay, items_return_at_their_frame, lifts_stay_on_their_way, only_places_and_states_change,
-    players_keep_room, worlds_stay_valid,
+    ids_stay, items_return_at_their_frame, lifts_make_their_step, lifts_stay_on_their_way,
+    lifts_step_in_turn, only_places_and_states_change, only_players_hold_lifts, players_go_along,
+    players_keep_room, steps_are_whole, worlds_stay_valid,
 };
 pub use ticking::tick;
 

@@ -36,6 +36,7 @@ fn return_item(world: &mut World, id: u16, frame: u32)
     requires { id < 256 }
     ensures records { world.new.records ≡ changed_at (returned frame) world.old.records id }
     ensures tree { world.new.tree ≡ world.old.tree }
+    ensures still { world.new.records ≡ world.old.records → world.new ≡ world.old }
 {
     if let Some(r) = world.get(id) {
         if is_due(&r, frame) {
@@ -48,6 +49,7 @@ fn return_item(world: &mut World, id: u16, frame: u32)
 pub fn return_items(world: &mut World, frame: u32)
     ensures records { world.new.records ≡ after_returns frame world.old.records }
     ensures tree { world.new.tree ≡ world.old.tree }
+    ensures still { world.new.records ≡ world.old.records → world.new ≡ world.old }
 {
     let _linked = world.tree();
     for id in 0..IDS as u16 {

@@ -20,6 +20,7 @@ fn move_lift(map: &ArenaMap, world: &mut World, id: u16, lift: &Lift)
         ≡ after_lift map.now world.old.records (Some lift.now) (record_at world.old.records id) }
     ensures tree { world.new.tree ≡ world.old.tree }
     ensures valid { IsValidWorld map.now world.new.records }
+    ensures still { world.new.records ≡ world.old.records → world.new ≡ world.old }
 {
     let _rules = map.bounds();
     let r = world.get(id).unwrap();
@@ -36,6 +37,7 @@ fn move_thing(map: &ArenaMap, world: &mut World, thing: &Rec)
     ensures records { world.new.records ≡ after_thing map.now world.old.records thing.now }
     ensures tree { world.new.tree ≡ world.old.tree }
     ensures valid { IsValidWorld map.now world.new.records }
+    ensures still { world.new.records ≡ world.old.records → world.new ≡ world.old }
 {
     if let Some(lift) = map.lift_of(thing.id) {
         move_lift(map, world, thing.id, &lift);
@@ -57,7 +59,9 @@ pub fn tick(map: &ArenaMap, world: &mut World, frame: u32)
     ensures records { world.new.records ≡ after_tick map.now frame world.old.records }
     ensures tree { world.new.tree ≡ world.old.tree }
     ensures valid { IsValidWorld map.now world.new.records }
+    ensures still { world.new.records ≡ world.old.records → world.new ≡ world.old }
 {
+    let _rules = map.bounds();
     return_items(world, frame);
     for thing in map.entities() {
         move_thing(map, world, thing);

@@ -5,7 +5,7 @@ use Rattle.entity_recs.specs.Records.{IsRecord}
 use Rattle.world_tree.specs.Live.{record_at}
 use Rattle.world_physics.specs.Returns.{returned}
 use Rattle.world_physics.proofs.Changes.{is_entry, live_with, relinked-changed}
-use Rattle.world_physics.proofs.Returning.{record_in_any_state, due-returned}
+use Rattle.world_physics.proofs.Returning.{record_in_any_state, due-returned, due_moves}
 use Rattle.world_physics.proofs.returns.return_item.Goals as goal
 
 pub relink-requires-clause-record : goal.relink-requires-clause-record
@@ -26,3 +26,9 @@ returns-then-is_due-clause-records c =
     relinked-changed c.args.world.now c.relink.new.self (returned c.args.frame) c.args.id c.in-Some.r c.back.result at
     (due-returned c.args.frame c.in-Some.r c.back.result (sym c.is_due.ensures ∙ c.if-is_due.true) c.back.ensures)
     (ap (λ (r : Rec). r.id) c.back.ensures ∙ entry.own_id) c.relink.ensures.world
+
+pub returns-then-is_due-clause-still : goal.returns-then-is_due-clause-still
+returns-then-is_due-clause-still c = λ still.
+    let at : record_at c.args.world.now.records c.args.id ≡ Some c.in-Some.r = sym c.get.ensures.record ∙ c.in-Some.is in
+    absurd (due_moves c.args.frame c.args.world.now.records c.relink.new.self.records c.args.id c.in-Some.r at (sym c.is_due.ensures ∙ c.if-is_due.true)
+    (returns-then-is_due-clause-records c) still)

@@ -1,8 +1,11 @@
 use Rattle.std.proofs.Common.{◌≡◌}
 use Rattle.world_physics.specs.Returns.{returned}
 use Rattle.world_physics.proofs.Changes.{IsChangedBelow}
+use Rattle.world_physics.proofs.Returning.{IsStillBelow}
 use Rattle.world_physics.proofs.returns.return_items.Given as goal
 
--- the items with lower ids have returned
+-- the items with lower ids have returned, and where none of them was due the world is as it was
 abbrev pub invariant-loop-id : goal.invariant-loop-id
-invariant-loop-id l = IsChangedBelow (returned l.frame) l.id l.initial.world.records l.world.records × (l.world.tree ≡ l.initial.world.tree)
+invariant-loop-id l =
+    IsChangedBelow (returned l.frame) l.id l.initial.world.records l.world.records
+    × ((l.world.tree ≡ l.initial.world.tree) × IsStillBelow (returned l.frame) l.id l.initial.world l.world)

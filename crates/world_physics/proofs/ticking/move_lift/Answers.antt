@@ -4,6 +4,7 @@ use Rattle.world_tree.specs.Live.{record_at}
 use Rattle.world_physics.proofs.LiftRecords.{has_lift, is_step_at, is_step}
 use Rattle.world_physics.proofs.Valid.{has_room}
 use Rattle.world_physics.proofs.Stepping.{still_live, step-stopped, relinked-done, after_lift-is, after_lift_is_valid, way_at}
+use Rattle.world_physics.proofs.Stillness.{done_moves}
 use Rattle.world_physics.proofs.ticking.move_lift.Goals as goal
 
 pub unwrap-r-requires : goal.unwrap-r-requires
@@ -70,3 +71,12 @@ returns-else-not-is_stopped-clause-records c =
     after_lift-is c.args.map.now c.args.world.now.records c.args.world.now.records c.args.id c.args.lift.now c.unwrap-r.result c.of-step.result
     (sym c.get.ensures.record ∙ c.unwrap-r.ensures) c.of-step.ensures
     (step-stopped c.args.map.now c.of-step.result c.args.world.now.records (sym c.is_stopped.ensures ∙ c.if-not-is_stopped.false))
+
+pub returns-then-not-is_stopped-clause-still : goal.returns-then-not-is_stopped-clause-still
+returns-then-not-is_stopped-clause-still c = λ still.
+    let is = is_step_at c.args.map.now c.args.world.now.records c.args.id c.args.lift.now c.unwrap-r.result c.of-step.result c.bounds-rules.ensures.rules
+    c.requires.valid c.requires.lift (sym c.get.ensures.record ∙ c.unwrap-r.ensures) c.of-step.ensures in
+    let free = sym c.is_stopped.ensures ∙ c.if-not-is_stopped.true in
+    absurd (done_moves c.args.map.now c.args.world.now.records c.relink.new.self.records c.args.id c.args.lift.now c.unwrap-r.result c.of-step.result c.bounds-rules.ensures.rules
+    c.requires.valid c.requires.lift (sym c.get.ensures.record ∙ c.unwrap-r.ensures) c.of-step.ensures free
+    (relinked-done c.args.map.now c.args.world.now.records c.args.id c.of-step.result c.requires.valid is c.carry.new.world c.relink.new.self c.carry.ensures.records c.relink.ensures.world free) still)
