@@ -47,5 +47,7 @@ pub mod OneView
 pub mod Asking
 pub mod Places
 pub mod Rooms
+pub mod SameSeats
+pub mod GivenRooms
 pub mod TableWords
 pub mod Fitting

@@ -168,6 +168,12 @@ CountIsWithinTheRooms =
     (F : Fixed) (core : Core) (history : List Item) (now : World) → Stands F core history now
     → core.words.commits ≤ sum_by (λ (room : ℕ). room) (rooms_of core.view)
 
+-- whatever calls are made from the start on, the rooms under the numbers that were given out are those that were given
+abbrev pub RoomsAreThoseGiven : Type 0
+RoomsAreThoseGiven =
+    (F : Fixed) (room : ℕ) (rooms : List ℕ) (calls : List Call)
+    → rooms_of (after_calls F (start_machine F room rooms) calls).core.view ≡ room ∷ rooms
+
 -- the word of what comes next lies in the table at the step's index, before the step and after it
 pub record HasItsWord (F : Fixed) (core : Core) (i : ℕ) (next : Next) : Type 0 where
   pub in_table : index_of (nodes_of F) (core.view i) next < table_size (nodes_of F)

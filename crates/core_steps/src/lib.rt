@@ -14,8 +14,8 @@ pub use machine_laws::{
     each_view_reads_little, effect_may_be_asked, first_view_is_right, given_command_stands,
     loaded_record_is_taken, log_holds_the_commands_kept, logs_grow_by_commits,
     machine_start_stands, next_exists, next_step_stands, quitting_stands, refused_take_is_right,
-    refused_takes_change_their_record, region_may_be_asked, some_seat_is_free,
-    steps_change_one_view, steps_change_one_word, steps_have_their_word,
+    refused_takes_change_their_record, region_may_be_asked, rooms_are_those_given,
+    some_seat_is_free, steps_change_one_view, steps_change_one_word, steps_have_their_word,
 };
 pub use step::{Step, StepKind};
 pub use words::{
