@@ -40,6 +40,7 @@ pub mod NextSteps
 pub mod Reached
 pub mod Logs
 pub mod Nexts
+pub mod AtTakes
 pub mod Kept
 pub mod Rowing
 pub mod OneWord

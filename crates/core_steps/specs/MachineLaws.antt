@@ -106,6 +106,12 @@ RefusedTakesChangeTheirRecord =
     (F : Fixed) (m : Machine) (i node : ℕ) (next : Next) → node_taken next ≡ Some node
     → (m.core.words.node node == 0) ≡ false → core_after F m.core i next ≡ refuse_node m.core i node
 
+-- a seat whose next step is a take may be asked to give up
+abbrev pub SeatAtATakeMayGiveUp : Type 0
+SeatAtATakeMayGiveUp =
+    (F : Fixed) (m : Machine) (i node : ℕ) (next : Next) → next_of F m i ≡ Some next → node_taken next ≡ Some node
+    → is_taking (m.core.view i).point ≡ true
+
 -- ---- what the action may be asked
 
 -- the own record of a command that isn't committed, once it is loaded whole, is one for which the action may be asked

@@ -4,7 +4,7 @@ ghost use Rattle.core_steps.specs.MachineLaws.{StepsChangeOneWord, RefusedTakesC
 ghost use Rattle.core_steps.specs.MachineLaws.{LoadedRecordIsTaken, EffectMayBeAsked, EachPlaceIsLoggedOnce};
 ghost use Rattle.core_steps.specs.MachineLaws.{StepsHaveTheirWord, EachViewReadsLittle};
 ghost use Rattle.core_steps.specs.MachineLaws.{LogHoldsTheCommandsKept, StepsChangeOneView, CountIsWithinTheRooms};
-ghost use Rattle.core_steps.specs.MachineLaws.{RoomsAreThoseGiven};
+ghost use Rattle.core_steps.specs.MachineLaws.{RoomsAreThoseGiven, SeatAtATakeMayGiveUp};
 ghost use Rattle.core_steps.specs.Rows.{FirstView, NearRow};
 
 /// What the machine keeps holds at the start: a seat for each room, no command given, and no history.
@@ -65,6 +65,11 @@ pub fn steps_change_one_view()
 /// A take of a held node changes nothing but the record of the refused take in the view of its seat.
 pub fn refused_takes_change_their_record()
     ensures { RefusedTakesChangeTheirRecord }
+{}
+
+/// A seat whose next step is a take may be asked to give up.
+pub fn seat_at_a_take_may_give_up()
+    ensures { SeatAtATakeMayGiveUp }
 {}
 
 /// The own record of a command that isn't committed, once it is loaded whole, meets the action's condition on its
