@@ -1,6 +1,7 @@
 -- Lemmas on the pure core.
 pub mod Puts
 pub mod Frames
+pub mod Unyielding
 pub mod Resting
 pub mod Starts
 pub mod Seats
@@ -34,6 +35,7 @@ pub mod Logged
 pub mod Committing
 pub mod Commits
 pub mod Waiting
+pub mod WhileHeld
 pub mod Machines
 pub mod Planned
 pub mod NextSteps
