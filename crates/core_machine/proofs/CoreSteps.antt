@@ -1,5 +1,5 @@
 -- A core after a step.
-use Rattle.std.proofs.Common.{◌≡◌, ℕ, ◌+◌, ◌*◌, ◌^◌, ◌<◌, ◌≤◌, ◌⊎◌, Bool, false, if◌then◌else◌, List, ◌++◌, length, map, set, get_or, refl, sym, ap, ◌∙◌, subst, inl, inr, Some, None}
+use Rattle.std.proofs.Common.{◌≡◌, ℕ, ◌+◌, ◌*◌, ◌^◌, ◌<◌, ◌≤◌, ◌⊎◌, Bool, true, false, if◌then◌else◌, List, ◌++◌, length, map, set, get_or, refl, sym, ap, ◌∙◌, subst, inl, inr, Some, None}
 use Rattle.std.specs.Prelude.{◌==◌, ◌↔◌, IsTrue}
 use Rattle.std.specs.Option.{option_map}
 use Rattle.std.proofs.lemmas.List.{set-get_or, length-map, get_or_past}
@@ -10,7 +10,7 @@ use Rattle.core_steps.specs.declared.step.Step.{Step}
 use Rattle.core_steps.specs.declared.step.StepKind.TheVariants.{Commit}
 use Rattle.core_steps.specs.Cells as cells
 use Rattle.core_steps.specs.Views.{Fixed, Store, Clear, Put, Link, View, nodes_of}
-use Rattle.core_steps.specs.Steps.{refuse_node}
+use Rattle.core_steps.specs.Steps.{refuse_node, is_taking}
 use Rattle.core_steps.specs.Stands.{IsLawful, IsStart, start_words}
 use Rattle.core_steps.specs.Machine.{Machine, Next, Begin, LoadOwn, LoadAgain, TakeNode, ClaimNode, ReadList, ReadPlayer, ReadState, CommitMove, StoreWord, GiveNode, YieldNode, YieldCount, kind_of_store, next_of, next_step_of, step_of, kind_of, index_of, word_of_next, machine_after, items_after, MachineStands}
 use Rattle.core_steps.specs.Calls.{StandsSomehow}
@@ -29,7 +29,7 @@ use Rattle.core_machine.proofs.Sounding.{sound_here}
 use Rattle.core_machine.proofs.SeatRooms.{rooms_after, count_is_small}
 use Rattle.core_machine.proofs.StepsMade.{one_comes}
 use Rattle.core_machine.proofs.WordsAfter.{words_after}
-use Rattle.core_machine.proofs.Waits.{waiting_fails, free_is_done, waiting_refused}
+use Rattle.core_machine.proofs.Waits.{waiting_fails, free_is_done, waiting_refused, may_give_up}
 use Rattle.core_machine.proofs.Cores.{core_view, ready_here, stepped_machine, seat_numbered}
 
 -- ---- before the step
@@ -182,6 +182,13 @@ pub step_logs : {A : Type 0} (F : Fixed) (old new : CoreView A) (s : Step) (answ
 step_logs F old new s answer step next seat comes =
     ap (λ (k : Machine). (k.core.view seat).log) (step_after F old new s answer step next comes) ∙ logs_grow_by_commits F (machine_of F old) s.seat seat next
 
+-- where it isn't done its seat may give up
+pub step_may_give_up : {A : Type 0} (F : Fixed) (old new : CoreView A) (s : Step) (answer : Bool) → IsCore F old → IsCoreStep F old new s answer → answer ≡ false
+    → is_taking ((machine_of F new).core.view s.seat).point ≡ true
+step_may_give_up F old new s answer core step refused =
+    ap (λ (k : Machine). is_taking (k.core.view s.seat).point) step.after
+    ∙ may_give_up F (machine_of F old) core.stands.history core.stands.now s.seat step.next core.stands.stands step.comes (sym step.done ∙ refused)
+
 -- a seat that isn't there has no next step
 pub none_beyond : {A : Type 0} (F : Fixed) (rules : RulesView A) (words : Words) (seats : List Seat) (n : ℕ) → length seats ≤ n → next_step_of F (machine_of F (core_view rules words seats)) n ≡ None
 none_beyond F rules words seats n past =
@@ -253,4 +260,11 @@ pub outcome_logs : {A : Type 0} (F : Fixed) (old new : CoreView A) (s : Step) (a
 outcome_logs F old new s answer made next seat comes same = elim made [
   | inl other ↦ absurd (other.other same)
   | inr step ↦ step_logs F old new s answer step next seat comes
+]
+
+pub outcome_may_give_up : {A : Type 0} (F : Fixed) (old new : CoreView A) (s : Step) (answer : Bool) → IsCore F old → Outcome F old new s answer → next_step_of F (machine_of F old) s.seat ≡ Some s → answer ≡ false
+    → is_taking ((machine_of F new).core.view s.seat).point ≡ true
+outcome_may_give_up F old new s answer core made same refused = elim made [
+  | inl other ↦ absurd (other.other same)
+  | inr step ↦ step_may_give_up F old new s answer core step refused
 ]

@@ -11,9 +11,11 @@ use Rattle.core_steps.specs.declared.step.StepKind.{StepKind}
 use Rattle.core_steps.specs.declared.step.StepKind.TheVariants.{Take}
 use Rattle.core_steps.specs.Cells.{Words, put}
 use Rattle.core_steps.specs.Views.{Fixed, Store, Clear, Put, Link, Point, Idle, Owning, Taking, Checking, Entering, Entered, Loading, Leaving, Sensing, Resolving, Claiming, Storing, Releasing, Returning, Yielding, View, holds, record_read, write_nodes, effect_loaded}
-use Rattle.core_steps.specs.Steps.{Core, first, first_yield, next_give, next_node_at, refuse_node}
-use Rattle.core_steps.specs.Machine.{Machine, Next, Begin, LoadOwn, LoadAgain, TakeNode, ClaimNode, ReadList, ReadPlayer, ReadState, CommitMove, StoreWord, GiveNode, YieldNode, YieldCount, next_at, next_of, quitting, resolving, beginning, committing, giving, kind_of, kind_of_store, word_of_next, machine_after, MachineStands}
+use Rattle.core_steps.specs.Steps.{Core, first, first_yield, next_give, next_node_at, refuse_node, is_taking, view_after_refusal}
+use Rattle.core_steps.specs.Machine.{Machine, Next, Begin, LoadOwn, LoadAgain, TakeNode, ClaimNode, ReadList, ReadPlayer, ReadState, CommitMove, StoreWord, GiveNode, YieldNode, YieldCount, next_at, next_of, quitting, resolving, beginning, committing, giving, kind_of, kind_of_store, word_of_next, core_after, machine_after, MachineStands}
 use Rattle.core_steps.specs.Calls.{node_taken, IsWaiting}
+use Rattle.core_steps.proofs.Puts.{put_same}
+use Rattle.core_steps.proofs.AtTakes.{seat_at_a_take_may_give_up}
 use Rattle.core_steps.proofs.OneWord.{refused_takes_change_their_record}
 use Rattle.core_steps.proofs.Waiting.{holder_below, holder_is_below, comes_next}
 use Rattle.core_machine.specs.Stepping.{is_done}
@@ -220,3 +222,18 @@ module _ (F : Fixed) (m : Machine) (history : List Item) (now : World) (n : ℕ)
       same_parts _ _ _ _ _ _ (refused_takes_change_their_record F m n node next taken (subst (λ (v : ℕ). (m.core.words.node v == 0) ≡ false) same held))
       (put_self n None m.given (none_given node taken (m.given n) refl))
       (put_self n false m.quits (goes_on node taken))
+
+  refused_at : (node : ℕ) → node_taken next ≡ Some node → is_done (kind_of next) (word_of_next m.core.words view next) ≡ false → (m.core.words.node node == 0) ≡ false
+  refused_at node taken refused =
+      let take = take_is m.core.words view next node taken in
+      ap (λ (w : ℕ). w == 0) (sym take.word) ∙ sym (ap (λ (k : StepKind). is_done k (word_of_next m.core.words view next)) take.kind) ∙ refused
+
+  -- a step that isn't done leaves its seat where it may give up
+  pub may_give_up : is_done (kind_of next) (word_of_next m.core.words view next) ≡ false → is_taking ((core_after F m.core n next).view n).point ≡ true
+  may_give_up refused = elim (cases_node (node_taken next)) [
+    | inl none ↦ absurd (true≢false (sym (other_done next (word_of_next m.core.words view next) none) ∙ refused))
+    | inr some ↦
+        ap (λ (core : Core). is_taking (core.view n).point) (refused_takes_change_their_record F m n some.node next some.is (refused_at some.node some.is refused))
+        ∙ ap (λ (v : View). is_taking v.point) (put_same n (view_after_refusal some.node (m.core.words.node some.node) view) m.core.view)
+        ∙ seat_at_a_take_may_give_up F m n some.node next comes some.is
+  ]

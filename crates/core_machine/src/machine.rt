@@ -57,7 +57,7 @@ impl<'a, A: Action> Model for Core<'a, A> {
 }
 
 impl<'a, A: Action> Core<'a, A> {
-    ghost use Rattle.std.specs.Prelude.{◌≡◌, ◌≤◌, ◌<◌, ◌==◌, ◌++◌, ◌∷◌, ◌↔◌, ℕ, List, true, length, is_some};
+    ghost use Rattle.std.specs.Prelude.{◌≡◌, ◌≤◌, ◌<◌, ◌==◌, ◌++◌, ◌∷◌, ◌↔◌, ℕ, List, true, false, length, is_some};
     ghost use Rattle.std.specs.Prelude.{if◌then◌else◌, IsTrue, IfOk};
     ghost use Rattle.entity_recs.specs.Commands.{command_of};
     ghost use Rattle.core_steps.specs.Steps.{is_taking, refuse_node};
@@ -136,7 +136,7 @@ impl<'a, A: Action> Core<'a, A> {
 
     /// Makes a step. It is false exactly where `s` isn't the next step of its seat, or it takes a node that another
     /// seat holds. In the first case nothing changes. In the second case only the seat's record of the refused take
-    /// changes.
+    /// changes, and the seat may give up.
     pub fn step(&mut self, s: Step) -> bool
         ensures rules { self.new.rules ≡ self.old.rules }
         ensures seats { length self.new.seats ≡ length self.old.seats }
@@ -152,6 +152,9 @@ impl<'a, A: Action> Core<'a, A> {
             self.old in
             (node : ℕ) → IsRefused F m s node → machine_of F self.new ≡ record m
             { core = refuse_node m.core s.seat node } }
+        ensures may_give_up { let F = fixed_of A.takes A.region_of A.effect_of self.old.rules in
+            next_step_of F (machine_of F self.old) s.seat ≡ Some s → result ≡ false
+            → is_taking ((machine_of F self.new).core.view s.seat).point ≡ true }
         ensures logs { let F = fixed_of A.takes A.region_of A.effect_of self.old.rules in let m = machine_of F self.old
             in
             (next : Next) (seat : ℕ) → next_of F m s.seat ≡ Some next → next_step_of F m s.seat ≡ Some s

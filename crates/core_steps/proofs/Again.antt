@@ -10,6 +10,7 @@ use Rattle.core_steps.specs.Views.{Fixed, list_at, player_at, is_before_leaves, 
 use Rattle.core_steps.specs.Steps.{Core, visiting}
 use Rattle.core_steps.specs.Stands.{OwesRight, IsStart, IsLawful, IsHolding, HasOwn, IsCounted, IsUnread, IsReadRight, IsResolved, IsAt, Stands, value_in, is_live_cell, is_player, touches_own}
 use Rattle.core_steps.specs.Laws.{LoadedAgainStands}
+use Rattle.core_steps.proofs.Unyielding.{is_yielding, not_giving_up}
 use Rattle.core_steps.proofs.Puts.{eqb_sym}
 use Rattle.core_steps.proofs.Frames.{busy_lives, stands_with_view}
 use Rattle.core_steps.proofs.Points.{visiting_between, at_visiting}
@@ -127,6 +128,7 @@ loaded_again_stands F core history now i lawful start e is =
                 has_its_bit = λ _. seat.right.has_its_bit settled;
               });
               resolved = subst (λ (s : Stage). IsResolved F now view.cmd s view.effect) (sym between.stage) (record { is_outcome = λ _. seat.resolved.is_outcome settled });
+              giving_up = not_giving_up (ap is_yielding between.stage);
               committed = record {
                 item = λ done. absurd (false≢true (ap is_committed (sym between.stage) ∙ done));
                 owed = subst (OwesRight now) (sym between.owes) tt;
@@ -173,6 +175,7 @@ loaded_again_stands F core history now i lawful start e is =
                 has_its_bit = seat.right.has_its_bit;
               };
               resolved = seat.resolved;
+              giving_up = not_giving_up (ap is_yielding stage);
               committed = record {
                 item = λ done. absurd (false≢true (sym (ap is_committed stage) ∙ done));
                 owed = seat.committed.owed;

@@ -6,6 +6,7 @@ use Rattle.entity_recs.specs.Histories.{outcome}
 use Rattle.core_steps.specs.Views.{Point, Resolving, AtReading, AtClaiming, stage_of, is_busy, is_open, is_whole, is_settled, is_read_again, has, is_leaf, home, record_read, write_nodes}
 use Rattle.core_steps.specs.Steps.{first, rest_of, view_after_claim}
 use Rattle.core_steps.specs.Laws.{ClaimedNodeStands}
+use Rattle.core_steps.proofs.Unyielding.{not_giving_up}
 use Rattle.core_steps.proofs.Giving.{seat_at}
 use Rattle.core_steps.proofs.Taking.{IsTaken, take_on}
 use Rattle.core_steps.proofs.Takes.{two_inner}
@@ -89,6 +90,7 @@ claimed_node_stands F core history now i e node lawful start at_point effect nex
           has_its_bit = λ _. seat.right.has_its_bit settled;
         };
         resolved = record { is_outcome = λ _ f is_f. let same : e ≡ f = cc in sym same ∙ right };
+        giving_up = not_giving_up refl;
         committed = record { item = λ done. absurd (false≢true done); owed = tt; linked = λ storing. absurd (false≢true storing) };
       };
     }))

@@ -12,7 +12,8 @@ use Rattle.core_steps.specs.Cells.{Words, Cell, Body, State, put, word_in, cell_
 use Rattle.core_steps.specs.Encoding.{words_of, nth_word}
 use Rattle.core_steps.specs.Views.{Fixed, Store, Stage, AtRest, AtOwning, AtTaking, AtChecking, AtReading, AtClaiming, AtStoring, AtReleasing, AtReturning, AtYielding, stage_of, is_busy, is_open, is_settled, is_committed, is_read_again, is_storing, Ended, View, has, home, record_read, region_in, write_nodes, inner_held, leaves_held, holds, held_word, stores_owed, list_at, state_at}
 use Rattle.core_steps.specs.Steps.{Core, item_at, view_after_commit, commit}
-use Rattle.core_steps.specs.Stands.{IsGiven, IsStart, IsLawful, IsLogWithin, LeavesAlone, IsLastItem, IsReadRight, SeatStands, SeatsApart, Stands, is_player, is_live_cell, value_in, touches_own, owed_at, is_storing_for}
+use Rattle.core_steps.specs.Stands.{IsGiven, IsStart, IsLawful, IsLogWithin, LeavesAlone, IsLastItem, IsReadRight, IsResolved, SeatStands, SeatsApart, Stands, is_player, is_live_cell, value_in, touches_own, owed_at, is_storing_for}
+use Rattle.core_steps.proofs.Unyielding.{not_giving_up}
 use Rattle.core_steps.proofs.Puts.{each_put, put_same, put_other, kept_put, eqb_sym}
 use Rattle.core_steps.proofs.Frames.{apart_put, busy_lives}
 use Rattle.core_steps.proofs.Giving.{current_unsettled, same_holding}
@@ -20,7 +21,7 @@ use Rattle.core_steps.proofs.Seats.{within_more}
 use Rattle.core_steps.proofs.Owned.{given_player}
 use Rattle.core_steps.proofs.Owing.{is_written, owed_written, stores_written, settled_owes_nothing}
 use Rattle.core_steps.proofs.Runs.{run_append, other_after, is_call}
-use Rattle.core_steps.proofs.Exclusion.{IsSettledStage, settled_stage, all_leaves, now_world, settled_seat, own_touches}
+use Rattle.core_steps.proofs.Exclusion.{IsSettledStage, IsSettledSeat, settled_stage, all_leaves, now_world, settled_seat, giving_up_seat, own_touches}
 use Rattle.core_steps.proofs.Quiet.{has_committed, writes_elsewhere}
 use Rattle.core_steps.proofs.Storing.{storing_busy}
 use Rattle.core_steps.proofs.Resolved.{again_is}
@@ -169,6 +170,7 @@ module _ (F : Fixed) (core : Core) (history : List Item) (now : World) (i : ℕ)
           has_its_bit = λ s. absurd (false≢true s);
         };
         resolved = record { is_outcome = λ s. absurd (false≢true s) };
+        giving_up = not_giving_up refl;
         committed = record {
           item = λ _. last_item;
           owed = owes_outcome F now view.cmd (home F (record_read slot view.again)) within.apart
@@ -216,31 +218,38 @@ module _ (F : Fixed) (core : Core) (history : List Item) (now : World) (i : ℕ)
   same_body : (j k : ℕ) → (j == i) ≡ false → is_busy (stage_of (core.view j).point) ≡ true → value_in new (Body (core.view j).cmd.slot k) ≡ value_in now (Body (core.view j).cmd.slot k)
   same_body j k other busy = unwritten_body F now view.cmd (core.view j).cmd.slot k ((is.apart j i other).slots busy stage.busy)
 
-  read_right : (j : ℕ) → (j == i) ≡ false
-      → IsReadRight F new (core.view j).cmd (stage_of (core.view j).point) (core.view j).own (core.view j).again (core.view j).lists (core.view j).others (core.view j).states
-  read_right j other =
+  -- what another seat has read is as in the run still, where it holds its region at stages that ask for it
+  read_right : (j : ℕ) (asked : Stage) → (j == i) ≡ false → (is_settled asked ≡ true → IsSettledSeat F now (core.view j))
+      → IsReadRight F now (core.view j).cmd asked (core.view j).own (core.view j).again (core.view j).lists (core.view j).others (core.view j).states
+      → IsReadRight F new (core.view j).cmd asked (core.view j).own (core.view j).again (core.view j).lists (core.view j).others (core.view j).states
+  read_right j asked other holds_it old =
       let theirs = core.view j in
-      let old = (is.seats j).right in
       let region = region_in F theirs.cmd theirs.own in
       record {
         same_again = λ s k below six. old.same_again s k below six
-            ∙ same_cell now new theirs.cmd.slot k (same_own F core history now i lawful start is step.settled j other s);
+            ∙ same_cell now new theirs.cmd.slot k (same_own F core history now i lawful start is step.settled j other (holds_it s));
         whole = old.whole;
         same_player = λ s p words player read touches. elim (or_cases (touches_own region (record_read p words)) (touches_own region (new.record_of p)) touches) [
           | inl loaded ↦
               let same = old.same_player s p words player read (or_left _ _ loaded) in
-              same ∙ sym (same_there F core history now i lawful start is step.settled j other s p (sym (ap (touches_own region) same) ∙ loaded))
+              same ∙ sym (same_there F core history now i lawful start is step.settled j other (holds_it s) p (sym (ap (touches_own region) same) ∙ loaded))
           | inr there ↦
-              let still = same_after F core history now i lawful start is step.settled j other s p there in
+              let still = same_after F core history now i lawful start is step.settled j other (holds_it s) p there in
               old.same_player s p words player read (or_right _ _ (ap (touches_own region) (sym still) ∙ there)) ∙ sym still
         ];
         same_state = λ s id state high live read touches.
-            let still = same_after F core history now i lawful start is step.settled j other s id touches in
+            let still = same_after F core history now i lawful start is step.settled j other (holds_it s) id touches in
             old.same_state s id state high live read (ap (touches_own region) (sym still) ∙ touches) ∙ ap (λ (r : Rec). r.state) (sym still);
         has_its_bit = λ s p word player differ touches read.
-            let still = same_after F core history now i lawful start is step.settled j other s p touches in
+            let still = same_after F core history now i lawful start is step.settled j other (holds_it s) p touches in
             old.has_its_bit s p word player differ (ap (touches_own region) (sym still) ∙ touches) (ap (λ (r : Rec). list_at theirs.lists (home F r)) (sym still) ∙ read);
       }
+
+  resolved_still : (j : ℕ) (asked : Stage) → (j == i) ≡ false → (is_settled asked ≡ true → IsSettledSeat F now (core.view j))
+      → IsResolved F now (core.view j).cmd asked (core.view j).effect → IsResolved F new (core.view j).cmd asked (core.view j).effect
+  resolved_still j asked other holds_it old = record {
+    is_outcome = λ s f effect. old.is_outcome s f effect ∙ same_outcome F core history now i lawful start is step.settled j other (holds_it s);
+  }
 
   other_seat : (j : ℕ) → (j == i) ≡ false → SeatStands F new_words longer new j (core.view j)
   other_seat j other =
@@ -261,9 +270,18 @@ module _ (F : Fixed) (core : Core) (history : List Item) (now : World) (i : ℕ)
         unread = seat.unread;
         at = seat.at;
         current = record { same_list = seat.current.same_list; same_part = seat.current.same_part };
-        right = read_right j other;
-        resolved = record {
-          is_outcome = λ s f effect. seat.resolved.is_outcome s f effect ∙ same_outcome F core history now i lawful start is step.settled j other s;
+        right = read_right j (stage_of theirs.point) other (settled_seat F core history now j lawful start is) seat.right;
+        resolved = resolved_still j (stage_of theirs.point) other (settled_seat F core history now j lawful start is) seat.resolved;
+        giving_up = record {
+          few = seat.giving_up.few;
+          still = λ nodes e.
+              let old = seat.giving_up.still nodes e in
+              let held = giving_up_seat F core history now j nodes lawful start is e in
+              record {
+                right = read_right j AtClaiming other (λ _. held) old.right;
+                resolved = resolved_still j AtClaiming other (λ _. held) old.resolved;
+                same_list = old.same_list;
+              };
         };
         committed = record {
           item = last_item_of j other;

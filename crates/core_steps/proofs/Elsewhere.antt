@@ -16,7 +16,7 @@ use Rattle.core_steps.specs.Views.{Fixed, stage_of, is_settled, region_in, store
 use Rattle.core_steps.specs.Steps.{Core}
 use Rattle.core_steps.specs.Stands.{IsStart, IsLawful, OwesRight, Stands, touches_own, owed_at}
 use Rattle.core_steps.proofs.Runs.{IsRunWorld, is_call, live_ordered, other_after, actor_after, world_after_one}
-use Rattle.core_steps.proofs.Exclusion.{now_world, settled_seat, inside_touches, own_touches, regions_apart}
+use Rattle.core_steps.proofs.Exclusion.{IsSettledSeat, now_world, settled_seat, inside_touches, own_touches_in, own_touches, regions_apart}
 use Rattle.core_steps.proofs.Owing.{is_written}
 use Rattle.core_steps.proofs.Quiet.{IsListedInside, listed_inside, nothing_owed, id_of_cell, written_by}
 use Rattle.core_steps.proofs.Changes.{unwritten_record, unwritten_value, owes_still}
@@ -124,22 +124,22 @@ module _ (F : Fixed) (core : Core) (history : List Item) (now : World) (i : ℕ)
   region_at j = region_in F (core.view j).cmd (core.view j).own
 
   -- what touches its region before the outcome isn't changed
-  pub same_there : (j : ℕ) → (j == i) ≡ false → is_settled (stage_of (core.view j).point) ≡ true → (id : ℕ) → touches_own (region_at j) (now.record_of id) ≡ true
+  pub same_there : (j : ℕ) → (j == i) ≡ false → IsSettledSeat F now (core.view j) → (id : ℕ) → touches_own (region_at j) (now.record_of id) ≡ true
       → new.record_of id ≡ now.record_of id
   same_there j other theirs id touches = unwritten_record F now (core.view i).cmd id (false_from_ne_true _ (λ changed.
       regions_apart F core history now j i (region_at j) own_region (abs_of (now.record_of id)) is other
-      (settled_seat F core history now j lawful start is theirs).holds_it (settled_seat F core history now i lawful start is settled).holds_it (changed_inside id changed) touches))
+      theirs.holds_it (settled_seat F core history now i lawful start is settled).holds_it (changed_inside id changed) touches))
 
   -- what touches its region after the outcome isn't changed
-  pub same_after : (j : ℕ) → (j == i) ≡ false → is_settled (stage_of (core.view j).point) ≡ true → (id : ℕ) → touches_own (region_at j) (new.record_of id) ≡ true
+  pub same_after : (j : ℕ) → (j == i) ≡ false → IsSettledSeat F now (core.view j) → (id : ℕ) → touches_own (region_at j) (new.record_of id) ≡ true
       → new.record_of id ≡ now.record_of id
   same_after j other theirs id touches = unwritten_record F now (core.view i).cmd id (false_from_ne_true _ (λ changed.
       regions_apart F core history now j i (region_at j) own_region (abs_of (new.record_of id)) is other
-      (settled_seat F core history now j lawful start is theirs).holds_it (settled_seat F core history now i lawful start is settled).holds_it (changed_inside_after id changed) touches))
+      theirs.holds_it (settled_seat F core history now i lawful start is settled).holds_it (changed_inside_after id changed) touches))
 
   -- its own record isn't changed
-  pub same_own : (j : ℕ) → (j == i) ≡ false → is_settled (stage_of (core.view j).point) ≡ true → new.record_of (core.view j).cmd.slot ≡ now.record_of (core.view j).cmd.slot
-  same_own j other theirs = same_there j other theirs (core.view j).cmd.slot (own_touches F core history now j lawful start is theirs)
+  pub same_own : (j : ℕ) → (j == i) ≡ false → IsSettledSeat F now (core.view j) → new.record_of (core.view j).cmd.slot ≡ now.record_of (core.view j).cmd.slot
+  same_own j other theirs = same_there j other theirs (core.view j).cmd.slot (own_touches_in F core history now j lawful start is theirs)
 
   -- the world after the outcome is one of a run
   pub new_world : IsRunWorld F new
@@ -147,19 +147,18 @@ module _ (F : Fixed) (core : Core) (history : List Item) (now : World) (i : ℕ)
       world_after_one F now (core.view i).cmd lawful start (now_world F core history now lawful start is) (settled_seat F core history now i lawful start is settled).given
 
   -- the outcome of its command is the same
-  pub same_outcome : (j : ℕ) → (j == i) ≡ false → is_settled (stage_of (core.view j).point) ≡ true
+  pub same_outcome : (j : ℕ) → (j == i) ≡ false → IsSettledSeat F now (core.view j)
       → outcome F.effect_of now (core.view j).cmd ≡ outcome F.effect_of new (core.view j).cmd
   same_outcome j other theirs =
       let cmd = (core.view j).cmd in
       let world = now_world F core history now lawful start is in
-      let seat = settled_seat F core history now j lawful start is theirs in
       let me = same_own j other theirs in
       let ids = filter (λ id. not (id == cmd.slot)) now.ids in
       let near : touching (F.region_of (now.record_of cmd.slot) cmd) (others_of now cmd.slot) ≡ touching (F.region_of (now.record_of cmd.slot) cmd) (others_of new cmd.slot) =
-      subst (λ (region : List Bounds). touching region (others_of now cmd.slot) ≡ touching region (others_of new cmd.slot)) seat.region
+      subst (λ (region : List Bounds). touching region (others_of now cmd.slot) ≡ touching region (others_of new cmd.slot)) theirs.region
       (same_passing (touches_own (region_at j)) now.record_of new.record_of ids (λ id touches. sym (same_there j other theirs id touches)) (λ id touches. sym (same_after j other theirs id touches))) in
-      let before = lawful.locality.near (now.record_of cmd.slot) (others_of now cmd.slot) cmd (is_call F now cmd start world seat.given) in
-      let after = lawful.locality.near (new.record_of cmd.slot) (others_of new cmd.slot) cmd (is_call F new cmd start new_world seat.given) in
+      let before = lawful.locality.near (now.record_of cmd.slot) (others_of now cmd.slot) cmd (is_call F now cmd start world theirs.given) in
+      let after = lawful.locality.near (new.record_of cmd.slot) (others_of new cmd.slot) cmd (is_call F new cmd start new_world theirs.given) in
       before
       ∙ ap (λ (rs : List Rec). F.effect_of (now.record_of cmd.slot) rs cmd) near
       ∙ ap (λ (r : Rec). F.effect_of r (touching (F.region_of r cmd) (others_of new cmd.slot)) cmd) (sym me)

@@ -157,18 +157,23 @@ settled_stage AtReleasing e = absurd (false≢true e)
 settled_stage AtReturning e = absurd (false≢true e)
 settled_stage AtYielding e = absurd (false≢true e)
 
--- a settled seat holds its region, which is that of the run
+-- what is true of a stage at which a command is in hand whose own record is loaded whole and that isn't committed
+record IsOpenStage (stage : Stage) : Type 0 where
+  busy : is_busy stage ≡ true
+  open' : is_open stage ≡ true
+  whole : is_whole stage ≡ true
+
+-- a seat that holds all its leaves, and hasn't committed, holds its region, which is that of the run
 pub record IsSettledSeat (F : Fixed) (now : World) (view : View) : Type 0 where
   pub given : IsGiven F view.cmd
   pub region : region_in F view.cmd view.own ≡ F.region_of (now.record_of view.cmd.slot) view.cmd
   pub holds_it : HoldsRegion F view (region_in F view.cmd view.own)
 
-pub settled_seat : (F : Fixed) (core : Core) (history : List Item) (now : World) (i : ℕ) → IsLawful F → IsStart F → Stands F core history now
-    → is_settled (stage_of (core.view i).point) ≡ true → IsSettledSeat F now (core.view i)
-settled_seat F core history now i lawful start is settled =
+holding_seat : (F : Fixed) (core : Core) (history : List Item) (now : World) (i : ℕ) → IsLawful F → IsStart F → Stands F core history now
+    → IsOpenStage (stage_of (core.view i).point) → leaves_held (core.view i).point (core.view i).wanted ≡ (core.view i).wanted → IsSettledSeat F now (core.view i)
+holding_seat F core history now i lawful start is stage all =
     let view = core.view i in
     let seat = is.seats i in
-    let stage = settled_stage (stage_of view.point) settled in
     let given = seat.hand stage.busy in
     let world = now_world F core history now lawful start is in
     let region = own_region_is F now view.cmd (stage_of view.point) view.own view.wanted lawful world given stage.open' stage.whole seat.own in
@@ -176,10 +181,25 @@ settled_seat F core history now i lawful start is settled =
       given = given;
       region = region;
       holds_it = record {
-        leaves = all_leaves view.point view.wanted (or_left _ _ settled) ∙ seat.own.leaves stage.whole;
+        leaves = all ∙ seat.own.leaves stage.whole;
         ordered = subst (All IsOrdered) (sym region) (region_ordered F now view.cmd lawful world given);
       };
     }
+
+pub settled_seat : (F : Fixed) (core : Core) (history : List Item) (now : World) (i : ℕ) → IsLawful F → IsStart F → Stands F core history now
+    → is_settled (stage_of (core.view i).point) ≡ true → IsSettledSeat F now (core.view i)
+settled_seat F core history now i lawful start is settled =
+    let view = core.view i in
+    let stage = settled_stage (stage_of view.point) settled in
+    holding_seat F core history now i lawful start is (record { busy = stage.busy; open' = stage.open'; whole = stage.whole }) (all_leaves view.point view.wanted (or_left _ _ settled))
+
+-- and so is one that gives up and holds all its leaves still
+pub giving_up_seat : (F : Fixed) (core : Core) (history : List Item) (now : World) (i : ℕ) (nodes : List ℕ) → IsLawful F → IsStart F → Stands F core history now
+    → (core.view i).point ≡ Yielding nodes (core.view i).wanted → IsSettledSeat F now (core.view i)
+giving_up_seat F core history now i nodes lawful start is e =
+    let wanted = (core.view i).wanted in
+    holding_seat F core history now i lawful start is (subst (λ (p : Point). IsOpenStage (stage_of p)) (sym e) (record { busy = refl; open' = refl; whole = refl }))
+    (ap (λ (p : Point). leaves_held p wanted) e)
 
 -- ---- what lies inside a region touches it
 
@@ -204,15 +224,19 @@ inside_touches b (one ∷ region) ordered inside =
       | inr rest ↦ or_right _ _ (inside_touches b region ordered rest)
     ]
 
--- the own record of a settled seat touches its region
-pub own_touches : (F : Fixed) (core : Core) (history : List Item) (now : World) (i : ℕ) → IsLawful F → IsStart F → Stands F core history now
-    → is_settled (stage_of (core.view i).point) ≡ true
+-- the own record of such a seat touches its region
+pub own_touches_in : (F : Fixed) (core : Core) (history : List Item) (now : World) (i : ℕ) → IsLawful F → IsStart F → Stands F core history now
+    → IsSettledSeat F now (core.view i)
     → touches_own (region_in F (core.view i).cmd (core.view i).own) (now.record_of (core.view i).cmd.slot) ≡ true
-own_touches F core history now i lawful start is settled =
+own_touches_in F core history now i lawful start is mine =
     let view = core.view i in
     let cmd = view.cmd in
     let world = now_world F core history now lawful start is in
-    let mine = settled_seat F core history now i lawful start is settled in
     let within = lawful.footprint.within (now.record_of cmd.slot) (others_of now cmd.slot) cmd (is_call F now cmd start world mine.given) in
     subst (λ (region : List Bounds). touches_own region (now.record_of cmd.slot) ≡ true) (sym mine.region)
     (inside_touches (abs_of (now.record_of cmd.slot)) (F.region_of (now.record_of cmd.slot) cmd) (live_ordered F now cmd.slot lawful world mine.given.live) within.before)
+
+pub own_touches : (F : Fixed) (core : Core) (history : List Item) (now : World) (i : ℕ) → IsLawful F → IsStart F → Stands F core history now
+    → is_settled (stage_of (core.view i).point) ≡ true
+    → touches_own (region_in F (core.view i).cmd (core.view i).own) (now.record_of (core.view i).cmd.slot) ≡ true
+own_touches F core history now i lawful start is settled = own_touches_in F core history now i lawful start is (settled_seat F core history now i lawful start is settled)

@@ -110,6 +110,7 @@ seat_with_nodes F words node' history now i view same is = record {
   current = is.current;
   right = is.right;
   resolved = is.resolved;
+  giving_up = is.giving_up;
   committed = is.committed;
 }
 

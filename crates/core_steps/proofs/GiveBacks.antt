@@ -1,18 +1,19 @@
 -- Each kind of point at which a node is given back.
-use Rattle.std.proofs.Common.{◌≡◌, ℕ, Bool, true, false, List, [], ◌∷◌, refl, sym, ap, subst, Some, None, arith}
+use Rattle.std.proofs.Common.{◌≡◌, ℕ, Bool, true, false, List, [], ◌∷◌, length, refl, sym, ap, ◌∙◌, subst, Some, None, arith, length-append}
 use Rattle.std.specs.Prelude.{◌==◌, ◌||◌, ◌&&◌}
-use Rattle.std.proofs.lemmas.Bool.{false≢true, cond-false}
+use Rattle.std.proofs.lemmas.Bool.{false≢true, or_left, cond-false}
 use Rattle.entity_recs.specs.Worlds.{World}
 use Rattle.entity_recs.specs.Histories.{Item}
-use Rattle.core_steps.specs.Views.{Fixed, Point, Idle, Owning, Taking, Checking, Entering, Entered, Loading, Leaving, Sensing, Resolving, Claiming, Storing, Releasing, Returning, Yielding, Stage, AtTaking, AtReading, AtClaiming, AtReleasing, AtReturning, AtYielding, stage_of, is_busy, is_whole, is_storing, is_writing, has, inner_held, leaves_held, is_leaf, visited_node, stores_owed, without_command}
+use Rattle.core_steps.specs.Views.{Fixed, Point, Idle, Owning, Taking, Checking, Entering, Entered, Loading, Leaving, Sensing, Resolving, Claiming, Storing, Releasing, Returning, Yielding, Stage, AtTaking, AtReading, AtClaiming, AtReleasing, AtReturning, AtYielding, stage_of, is_busy, is_settled, is_whole, is_storing, is_writing, has, inner_held, leaves_held, is_leaf, visited_node, stores_owed, without_command}
 use Rattle.core_steps.specs.Steps.{Core, with_node, visiting, returning, yielded, rest_of, first, first_of_two, next_give, view_after_give, is_taking}
-use Rattle.core_steps.specs.Stands.{IsHolding, Stands}
+use Rattle.core_steps.specs.Stands.{IsHolding, IsReadRight, IsResolved, Stands}
 use Rattle.core_steps.specs.Laws.{GivenNodeStands, YieldedNodeStands, YieldedNothingStands}
 use Rattle.core_steps.proofs.Frames.{busy_lives, stands_with_view}
+use Rattle.core_steps.proofs.Unyielding.{is_yielding, not_giving_up}
 use Rattle.core_steps.proofs.Resting.{rests}
 use Rattle.core_steps.proofs.Points.{StageAsksLess, visiting_between, at_visiting, current_between, reading_goes_on}
 use Rattle.core_steps.proofs.Drops.{Drops, drop_inner, drop_leaf, holding_rest_inner, holding_rest_leaf, word_at_stages, word_of_leaf}
-use Rattle.core_steps.proofs.Giving.{seat_at, IsGiving, give_on, same_drops, same_holding, current_unsettled, return_on, yield_first, resting_counted}
+use Rattle.core_steps.proofs.Giving.{ReadsStill, seat_at, IsGiving, give_on, same_drops, same_holding, current_unsettled, return_on, yield_first, resting_counted}
 use Rattle.core_steps.proofs.Seats.{within_more}
 
 -- ---- how stages follow one another where nodes are given back
@@ -135,7 +136,7 @@ leave_node F core history now i node plan is e =
     let seat = seat_at F core history now i (Leaving node plan) is e in
     let inner : visited_node F node ≡ node ∷ [] = cond-false (is_leaf F node) [] (node ∷ []) seat.at.inner in
     let holding : IsHolding F wanted wanted (node ∷ []) = subst (IsHolding F wanted wanted) inner seat.holding in
-    give_on F core history now i node new is (subst (λ (point : Point). IsGiving F core i node new point) (sym e) (record {
+    give_on F core history now i node new is (subst (λ (point : Point). IsGiving F core now i node new point) (sym e) (record {
       less = subst (λ (s : Stage). StageAsksLess s AtReading) (sym between.stage) reading_goes_on;
       drops = same_drops (visited_node F node) wanted (inner_held F new) (leaves_held new wanted) (node ∷ []) wanted [] wanted node inner refl between.inner (between.leaves wanted)
           (drop_inner F wanted wanted [] node holding);
@@ -146,6 +147,7 @@ leave_node F core history now i node plan is e =
       owes = between.owes;
       owed = refl;
       was_not_storing = refl;
+      giving_up = not_giving_up (ap is_yielding between.stage);
     }))
 
 -- a write node is given back
@@ -154,7 +156,7 @@ release_node : (F : Fixed) (core : Core) (history : List Item) (now : World) (i 
 release_node F core history now i node nodes is e =
     let view = core.view i in
     let seat = seat_at F core history now i (Releasing (node ∷ nodes)) is e in
-    give_on F core history now i node (Releasing nodes) is (subst (λ (point : Point). IsGiving F core i node (Releasing nodes) point) (sym e) (record {
+    give_on F core history now i node (Releasing nodes) is (subst (λ (point : Point). IsGiving F core now i node (Releasing nodes) point) (sym e) (record {
       less = releasing_goes_on;
       drops = drop_inner F view.wanted view.wanted nodes node seat.holding;
       holding = holding_rest_inner F view.wanted view.wanted nodes node seat.holding;
@@ -164,6 +166,7 @@ release_node F core history now i node nodes is e =
       owes = refl;
       owed = refl;
       was_not_storing = refl;
+      giving_up = not_giving_up refl;
     }))
 
 -- the first leaf is given back, after the write nodes
@@ -196,7 +199,8 @@ yield_next : (F : Fixed) (core : Core) (history : List Item) (now : World) (i no
     → first_of_two nodes leaves ≡ Some node → Stands F (with_node core node 0 i (yielded (core.view i) nodes leaves)) history now
 yield_next F core history now i node nodes leaves is e next =
     let seat = seat_at F core history now i (Yielding nodes leaves) is e in
-    yield_first F core history now i node (Yielding nodes leaves) nodes leaves is e yielding_goes_on refl refl seat.holding (λ v _. refl) refl refl next
+    yield_first F core history now i node (Yielding nodes leaves) nodes leaves is e yielding_goes_on refl refl seat.holding (λ v _. refl) refl refl
+    ((is.seats i).giving_up.few nodes leaves e) (λ _ all. (is.seats i).giving_up.still nodes (e ∙ ap (λ (ls : List ℕ). Yielding nodes ls) all)) next
 
 given_at : (F : Fixed) (core : Core) (history : List Item) (now : World) (i node : ℕ) (point : Point) → Stands F core history now → (core.view i).point ≡ point
     → next_give point (core.view i).wanted ≡ Some node → Stands F (with_node core node 0 i (view_after_give F (core.view i) point)) history now
@@ -226,6 +230,18 @@ given_node_stands F core history now i node next is = given_at F core history no
 
 -- ---- giving up
 
+-- what a seat that takes write nodes has read
+claiming_still : (F : Fixed) (core : Core) (history : List Item) (now : World) (i : ℕ) (got rest : List ℕ) → Stands F core history now → (core.view i).point ≡ Claiming got rest → ReadsStill F core now i
+claiming_still F core history now i got rest is e =
+    let view = core.view i in
+    let seat = is.seats i in
+    let stage : stage_of view.point ≡ AtClaiming = ap stage_of e in
+    record {
+      right = subst (λ (s : Stage). IsReadRight F now view.cmd s view.own view.again view.lists view.others view.states) stage seat.right;
+      resolved = subst (λ (s : Stage). IsResolved F now view.cmd s view.effect) stage seat.resolved;
+      same_list = λ node word read leaf. seat.current.same_list (ap is_settled stage) node word read (or_left _ _ leaf);
+    }
+
 -- the first node of a command is given back that is given up at this point
 yielded_at : (F : Fixed) (core : Core) (history : List Item) (now : World) (i node : ℕ) (point : Point) → Stands F core history now → (core.view i).point ≡ point → is_taking point ≡ true
     → first_of_two (inner_held F point) (leaves_held point (core.view i).wanted) ≡ Some node
@@ -235,12 +251,14 @@ yielded_at F core history now i node Owning is e taking next = absurd (false≢t
 yielded_at F core history now i node (Taking got rest) is e taking next =
     let seat = seat_at F core history now i (Taking got rest) is e in
     yield_first F core history now i node (Taking got rest) [] got is e yielding_after_taking refl refl seat.holding
-    (λ v held. word_of_leaf F i AtYielding AtTaking (core.view i).wanted v (seat.holding.leaves_are_leaves v held)) refl refl next
+    (λ v held. word_of_leaf F i AtYielding AtTaking (core.view i).wanted v (seat.holding.leaves_are_leaves v held)) refl refl
+    (let size = length-append got rest in let all = ap length seat.at.all in omega (arith, size, all)) (λ some. absurd (omega (arith, some))) next
 yielded_at F core history now i node Checking is e taking next = absurd (false≢true taking)
 yielded_at F core history now i node (Entering n plan) is e taking next =
     let seat = seat_at F core history now i (Entering n plan) is e in
     yield_first F core history now i node (Entering n plan) [] (core.view i).wanted is e yielding_after_reading refl refl seat.holding
-    (λ v held. word_of_leaf F i AtYielding AtReading (core.view i).wanted v (seat.holding.leaves_are_leaves v held)) refl refl next
+    (λ v held. word_of_leaf F i AtYielding AtReading (core.view i).wanted v (seat.holding.leaves_are_leaves v held)) refl refl
+    (omega arith) (λ some. absurd (omega (arith, some))) next
 yielded_at F core history now i node (Entered n plan) is e taking next = absurd (false≢true taking)
 yielded_at F core history now i node (Loading n part players plan) is e taking next = absurd (false≢true taking)
 yielded_at F core history now i node (Leaving n plan) is e taking next = absurd (false≢true taking)
@@ -248,10 +266,12 @@ yielded_at F core history now i node (Sensing ids) is e taking next = absurd (fa
 yielded_at F core history now i node Resolving is e taking next =
     let seat = seat_at F core history now i Resolving is e in
     yield_first F core history now i node Resolving [] (core.view i).wanted is e yielding_after_reading refl refl seat.holding
-    (λ v held. word_of_leaf F i AtYielding AtReading (core.view i).wanted v (seat.holding.leaves_are_leaves v held)) refl refl next
+    (λ v held. word_of_leaf F i AtYielding AtReading (core.view i).wanted v (seat.holding.leaves_are_leaves v held)) refl refl
+    (omega arith) (λ some. absurd (omega (arith, some))) next
 yielded_at F core history now i node (Claiming got rest) is e taking next =
     let seat = seat_at F core history now i (Claiming got rest) is e in
-    yield_first F core history now i node (Claiming got rest) got (core.view i).wanted is e yielding_after_claiming refl refl seat.holding (λ v _. refl) refl refl next
+    yield_first F core history now i node (Claiming got rest) got (core.view i).wanted is e yielding_after_claiming refl refl seat.holding (λ v _. refl) refl refl
+    (omega arith) (λ _ _. claiming_still F core history now i got rest is e) next
 yielded_at F core history now i node (Storing nodes stores) is e taking next = absurd (false≢true taking)
 yielded_at F core history now i node (Releasing nodes) is e taking next = absurd (false≢true taking)
 yielded_at F core history now i node (Returning leaves) is e taking next = absurd (false≢true taking)

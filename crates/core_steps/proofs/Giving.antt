@@ -1,15 +1,16 @@
 -- A node is given back.
-use Rattle.std.proofs.Common.{◌≡◌, ℕ, Bool, true, false, List, [], ◌∷◌, length, refl, sym, ap, ◌∙◌, subst, inl, inr, Some, arith}
+use Rattle.std.proofs.Common.{◌≡◌, ℕ, ◌<◌, ◌≤◌, Bool, true, false, List, [], ◌∷◌, length, refl, sym, ap, ◌∙◌, subst, inl, inr, Some, arith}
 use Rattle.std.specs.Prelude.{◌==◌, ◌||◌, ◌&&◌}
 use Rattle.std.proofs.lemmas.Bool.{cases_Bool, false≢true, true≢false, cond-true, cond-false, ne_eqb, false_from_ne_true}
 use Rattle.entity_recs.specs.Worlds.{World}
 use Rattle.entity_recs.specs.Histories.{Item}
 use Rattle.core_steps.specs.Cells.{put}
-use Rattle.core_steps.specs.Views.{Fixed, Point, Returning, Yielding, ListRead, Stage, AtRest, AtReturning, AtYielding, stage_of, is_busy, is_settled, is_storing, has, inner_held, leaves_held, holds, held_word, stores_owed, without_command}
+use Rattle.core_steps.specs.Views.{Fixed, Point, Returning, Yielding, ListRead, Stage, AtRest, AtClaiming, AtReturning, AtYielding, stage_of, is_busy, is_settled, is_storing, has, inner_held, leaves_held, holds, held_word, stores_owed, without_command}
 use Rattle.core_steps.specs.Steps.{Core, with_node, returning, yielding, yielded, first_of_two}
-use Rattle.core_steps.specs.Stands.{IsAt, IsCurrent, IsHolding, IsCounted, owed_at, part_of, Stands}
+use Rattle.core_steps.specs.Stands.{IsAt, IsCurrent, IsHolding, IsReadStill, IsGivingUp, IsCounted, owed_at, part_of, Stands}
 use Rattle.core_steps.proofs.Puts.{put_other, eqb_sym}
 use Rattle.core_steps.proofs.Frames.{stands_after, none_before, busy_lives}
+use Rattle.core_steps.proofs.Unyielding.{not_giving_up}
 use Rattle.core_steps.proofs.Resting.{rests, rest_apart}
 use Rattle.core_steps.proofs.Points.{StageAsksLess, seat_with_point}
 use Rattle.core_steps.proofs.Drops.{Drops, drop_inner, drop_leaf, holding_rest_inner, holding_rest_leaf, word_of_leaf}
@@ -34,7 +35,7 @@ seat_at F core history now i old is e =
     subst (λ (point : Point). IsSeatAt F core i point) e (record { holding = seat.holding; at = seat.at; current = seat.current })
 
 -- the seat's point after it has given a node back at the old one
-pub record IsGiving (F : Fixed) (core : Core) (i node : ℕ) (point old : Point) : Type 0 where
+pub record IsGiving (F : Fixed) (core : Core) (now : World) (i node : ℕ) (point old : Point) : Type 0 where
   pub less : StageAsksLess (stage_of point) (stage_of old)
   pub drops : Drops (inner_held F old) (leaves_held old (core.view i).wanted) (inner_held F point) (leaves_held point (core.view i).wanted) node
   pub holding : IsHolding F (core.view i).wanted (leaves_held point (core.view i).wanted) (inner_held F point)
@@ -45,8 +46,9 @@ pub record IsGiving (F : Fixed) (core : Core) (i node : ℕ) (point old : Point)
   pub owes : stores_owed point ≡ []
   pub owed : stores_owed old ≡ []
   pub was_not_storing : is_storing (stage_of old) ≡ false
+  pub giving_up : IsGivingUp F core.words.links now (core.view i).cmd point (core.view i).own (core.view i).wanted (core.view i).again (core.view i).lists (core.view i).others (core.view i).states (core.view i).effect
 
-pub give_on : (F : Fixed) (core : Core) (history : List Item) (now : World) (i node : ℕ) (point : Point) → Stands F core history now → IsGiving F core i node point (core.view i).point
+pub give_on : (F : Fixed) (core : Core) (history : List Item) (now : World) (i node : ℕ) (point : Point) → Stands F core history now → IsGiving F core now i node point (core.view i).point
     → Stands F (with_node core node 0 i (record (core.view i) { point = point })) history now
 give_on F core history now i node point is step =
     let view = core.view i in
@@ -62,6 +64,7 @@ give_on F core history now i node point is step =
         at = step.at;
         current = step.current;
         owes = step.owes;
+        giving_up = step.giving_up;
       });
       others = λ j other v held. put_other node v 0 core.words.node (not_by_others F core history now i j node v is other drops.held held);
       apart = λ j other.
@@ -145,7 +148,7 @@ return_on F core history now i node old [] is e less drops holding owed not_stor
       was_not_storing = not_storing;
     }))
 return_on F core history now i node old (leaf ∷ rest) is e less drops holding owed not_storing =
-    give_on F core history now i node (Returning (leaf ∷ rest)) is (subst (λ (point : Point). IsGiving F core i node (Returning (leaf ∷ rest)) point) (sym e) (record {
+    give_on F core history now i node (Returning (leaf ∷ rest)) is (subst (λ (point : Point). IsGiving F core now i node (Returning (leaf ∷ rest)) point) (sym e) (record {
       less = less;
       drops = drops;
       holding = holding;
@@ -155,23 +158,44 @@ return_on F core history now i node old (leaf ∷ rest) is e less drops holding 
       owes = refl;
       owed = owed;
       was_not_storing = not_storing;
+      giving_up = not_giving_up refl;
     }))
+
+-- what a seat has read, while it gives up and holds all its leaves
+abbrev pub ReadsStill : Fixed → Core → World → ℕ → Type 0
+ReadsStill F core now i =
+    IsReadStill F core.words.links now (core.view i).cmd AtClaiming (core.view i).own (core.view i).wanted (core.view i).again (core.view i).lists (core.view i).others (core.view i).states (core.view i).effect
+
+-- a seat that gives up at this point
+abbrev pub GivesUp : Fixed → Core → World → ℕ → Point → Type 0
+GivesUp F core now i point =
+    IsGivingUp F core.words.links now (core.view i).cmd point (core.view i).own (core.view i).wanted (core.view i).again (core.view i).lists (core.view i).others (core.view i).states (core.view i).effect
+
+gives_up_at : (F : Fixed) (core : Core) (now : World) (i : ℕ) (nodes leaves : List ℕ) → length leaves ≤ length (core.view i).wanted → (leaves ≡ (core.view i).wanted → ReadsStill F core now i)
+    → GivesUp F core now i (Yielding nodes leaves)
+gives_up_at F core now i nodes leaves few still = record {
+  few = λ others left e. subst (λ (ls : List ℕ). length ls ≤ length (core.view i).wanted) (same_leaves nodes leaves others left e) few;
+  still = λ others e. still (same_leaves nodes leaves others (core.view i).wanted e);
+}
+  where
+    same_leaves : (nodes leaves others left : List ℕ) → Yielding nodes leaves ≡ Yielding others left → leaves ≡ left
+    same_leaves nodes leaves others left e = cc
 
 -- inner nodes and leaves are given back one by one, where the command is given up
 yield_on : (F : Fixed) (core : Core) (history : List Item) (now : World) (i node : ℕ) (old : Point) (nodes rest : List ℕ) → Stands F core history now → (core.view i).point ≡ old
     → StageAsksLess AtYielding (stage_of old) → Drops (inner_held F old) (leaves_held old (core.view i).wanted) nodes rest node → IsHolding F (core.view i).wanted rest nodes
     → ((v : ℕ) → (has nodes v || has rest v) ≡ true → held_word F i AtYielding (core.view i).wanted v ≡ held_word F i (stage_of old) (core.view i).wanted v)
-    → stores_owed old ≡ [] → is_storing (stage_of old) ≡ false
+    → stores_owed old ≡ [] → is_storing (stage_of old) ≡ false → GivesUp F core now i (Yielding nodes rest)
     → Stands F (with_node core node 0 i (yielding (core.view i) nodes rest)) history now
-yield_on F core history now i node old [] [] is e less drops holding word owed not_storing =
+yield_on F core history now i node old [] [] is e less drops holding word owed not_storing gives_up =
     give_last F core history now i node is (subst (λ (point : Point). IsLastGiving F core i node point) (sym e) (record {
       busy = less.was_busy;
       drops = drops;
       owed = owed;
       was_not_storing = not_storing;
     }))
-yield_on F core history now i node old [] (leaf ∷ rest) is e less drops holding word owed not_storing =
-    give_on F core history now i node (Yielding [] (leaf ∷ rest)) is (subst (λ (point : Point). IsGiving F core i node (Yielding [] (leaf ∷ rest)) point) (sym e) (record {
+yield_on F core history now i node old [] (leaf ∷ rest) is e less drops holding word owed not_storing gives_up =
+    give_on F core history now i node (Yielding [] (leaf ∷ rest)) is (subst (λ (point : Point). IsGiving F core now i node (Yielding [] (leaf ∷ rest)) point) (sym e) (record {
       less = less;
       drops = drops;
       holding = holding;
@@ -181,9 +205,10 @@ yield_on F core history now i node old [] (leaf ∷ rest) is e less drops holdin
       owes = refl;
       owed = owed;
       was_not_storing = not_storing;
+      giving_up = gives_up;
     }))
-yield_on F core history now i node old (n ∷ nodes) rest is e less drops holding word owed not_storing =
-    give_on F core history now i node (Yielding (n ∷ nodes) rest) is (subst (λ (point : Point). IsGiving F core i node (Yielding (n ∷ nodes) rest) point) (sym e) (record {
+yield_on F core history now i node old (n ∷ nodes) rest is e less drops holding word owed not_storing gives_up =
+    give_on F core history now i node (Yielding (n ∷ nodes) rest) is (subst (λ (point : Point). IsGiving F core now i node (Yielding (n ∷ nodes) rest) point) (sym e) (record {
       less = less;
       drops = drops;
       holding = holding;
@@ -193,26 +218,31 @@ yield_on F core history now i node old (n ∷ nodes) rest is e less drops holdin
       owes = refl;
       owed = owed;
       was_not_storing = not_storing;
+      giving_up = gives_up;
     }))
 
 -- the first of these is given back, where the command is given up
 pub yield_first : (F : Fixed) (core : Core) (history : List Item) (now : World) (i node : ℕ) (old : Point) (inner leaves : List ℕ) → Stands F core history now → (core.view i).point ≡ old
     → StageAsksLess AtYielding (stage_of old) → inner_held F old ≡ inner → leaves_held old (core.view i).wanted ≡ leaves → IsHolding F (core.view i).wanted leaves inner
     → ((v : ℕ) → (has inner v || has leaves v) ≡ true → held_word F i AtYielding (core.view i).wanted v ≡ held_word F i (stage_of old) (core.view i).wanted v)
-    → stores_owed old ≡ [] → is_storing (stage_of old) ≡ false → first_of_two inner leaves ≡ Some node
+    → stores_owed old ≡ [] → is_storing (stage_of old) ≡ false → length leaves ≤ length (core.view i).wanted
+    → (0 < length inner → leaves ≡ (core.view i).wanted → ReadsStill F core now i)
+    → first_of_two inner leaves ≡ Some node
     → Stands F (with_node core node 0 i (yielded (core.view i) inner leaves)) history now
-yield_first F core history now i node old [] [] is e less inner leaves holding word owed not_storing next = cc
-yield_first F core history now i node old [] (leaf ∷ rest) is e less inner leaves holding word owed not_storing next =
+yield_first F core history now i node old [] [] is e less inner leaves holding word owed not_storing few still next = cc
+yield_first F core history now i node old [] (leaf ∷ rest) is e less inner leaves holding word owed not_storing few still next =
     let same : leaf ≡ node = cc in
     let drops = drop_leaf F (core.view i).wanted rest leaf holding in
     yield_on F core history now i node old [] rest is e less
     (subst (λ (n : ℕ). Drops (inner_held F old) (leaves_held old (core.view i).wanted) [] rest n) same
     (same_drops (inner_held F old) (leaves_held old (core.view i).wanted) [] rest [] (leaf ∷ rest) [] rest leaf inner leaves refl refl drops))
     (holding_rest_leaf F (core.view i).wanted rest [] leaf holding) (λ v held. word v (drops.less v held)) owed not_storing
-yield_first F core history now i node old (n ∷ nodes) rest is e less inner leaves holding word owed not_storing next =
+    (gives_up_at F core now i [] rest (omega (arith, few)) (λ all. let same_length = ap length all in absurd (omega (arith, few, same_length))))
+yield_first F core history now i node old (n ∷ nodes) rest is e less inner leaves holding word owed not_storing few still next =
     let same : n ≡ node = cc in
     let drops = drop_inner F (core.view i).wanted rest nodes n holding in
     yield_on F core history now i node old nodes rest is e less
     (subst (λ (m : ℕ). Drops (inner_held F old) (leaves_held old (core.view i).wanted) nodes rest m) same
     (same_drops (inner_held F old) (leaves_held old (core.view i).wanted) nodes rest (n ∷ nodes) rest nodes rest n inner leaves refl refl drops))
     (holding_rest_inner F (core.view i).wanted rest nodes n holding) (λ v held. word v (drops.less v held)) owed not_storing
+    (gives_up_at F core now i nodes rest few (still (omega arith)))

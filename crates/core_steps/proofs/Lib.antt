@@ -1,6 +1,7 @@
 -- Lemmas on the pure core.
 pub mod Puts
 pub mod Frames
+pub mod Unyielding
 pub mod Resting
 pub mod Starts
 pub mod Seats
@@ -34,12 +35,14 @@ pub mod Logged
 pub mod Committing
 pub mod Commits
 pub mod Waiting
+pub mod WhileHeld
 pub mod Machines
 pub mod Planned
 pub mod NextSteps
 pub mod Reached
 pub mod Logs
 pub mod Nexts
+pub mod AtTakes
 pub mod Kept
 pub mod Rowing
 pub mod OneWord
@@ -47,5 +50,7 @@ pub mod OneView
 pub mod Asking
 pub mod Places
 pub mod Rooms
+pub mod SameSeats
+pub mod GivenRooms
 pub mod TableWords
 pub mod Fitting

@@ -8,6 +8,7 @@ use Rattle.core_steps.specs.Views.{Fixed, Point, Entered, Leaving, Stage, AtRead
 use Rattle.core_steps.specs.Steps.{loading, visiting, view_after_list}
 use Rattle.core_steps.specs.Stands.{OwesRight, IsCounted, HasOwn, IsUnread, IsReadRight, IsResolved, IsAt, HasRead, IsLoadable, IsHolding, is_present, part_of}
 use Rattle.core_steps.specs.Laws.{LoadedListStands}
+use Rattle.core_steps.proofs.Unyielding.{is_yielding, not_giving_up}
 use Rattle.core_steps.proofs.Puts.{eqb_sym}
 use Rattle.core_steps.proofs.Lists.{has_filter, filter_has, has_range, range_has}
 use Rattle.core_steps.proofs.Frames.{busy_lives, stands_with_view}
@@ -177,6 +178,7 @@ loaded_list_stands F core history now i node plan lawful start e is =
           ];
         });
         resolved = subst (λ (s : Stage). IsResolved F now view.cmd s view.effect) (sym same_stage) seat.resolved;
+        giving_up = not_giving_up (ap is_yielding listed.stage);
         committed = record {
           item = λ done. absurd (false≢true (ap is_committed (sym listed.stage) ∙ done));
           owed = subst (OwesRight now) (sym listed.owes) tt;

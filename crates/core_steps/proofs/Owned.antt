@@ -20,6 +20,7 @@ use Rattle.core_steps.specs.Views.{Fixed, Point, Idle, Owning, Taking, Stage, At
 use Rattle.core_steps.specs.Steps.{Core, view_after_begin}
 use Rattle.core_steps.specs.Stands.{IsAt, IsGiven, HasOwn, AreDistinct, Stands, value_in, is_player, owed_at}
 use Rattle.core_steps.specs.Laws.{BegunMoveStands, LoadedOwnStands}
+use Rattle.core_steps.proofs.Unyielding.{is_yielding, not_giving_up}
 use Rattle.core_steps.proofs.Puts.{eqb_sym}
 use Rattle.core_steps.proofs.Lists.{has_shifted, distinct_shifted, distinct_filter, distinct_range}
 use Rattle.core_steps.proofs.Frames.{busy_lives, stands_with_view}
@@ -123,6 +124,7 @@ begun_move_stands F core history now i c rest given room others is =
           has_its_bit = λ e. absurd (false≢true e);
         };
         resolved = record { is_outcome = λ e. absurd (false≢true e) };
+        giving_up = not_giving_up refl;
         committed = record { item = λ e. absurd (false≢true e); owed = tt; linked = λ e. absurd (false≢true e) };
       };
       same = λ v. ap (λ (p : Point). holds F p view.wanted v) (sym idle);
@@ -247,6 +249,7 @@ loaded_own_stands F core history now i lawful start e is =
                 has_its_bit = λ e. absurd (false≢true e);
               };
               resolved = record { is_outcome = λ e. absurd (false≢true e) };
+              giving_up = not_giving_up refl;
               committed = record { item = λ e. absurd (false≢true e); owed = tt; linked = λ e. absurd (false≢true e) };
             };
             same = λ v. ap (λ (p : Point). holds F p view.wanted v) (sym e);
@@ -290,6 +293,7 @@ loaded_own_stands F core history now i lawful start e is =
                 has_its_bit = λ settled. absurd (false≢true (sym (ap is_settled stage) ∙ settled));
               };
               resolved = seat.resolved;
+              giving_up = not_giving_up (ap is_yielding stage);
               committed = record {
                 item = λ done. absurd (false≢true (sym (ap is_committed stage) ∙ done));
                 owed = seat.committed.owed;

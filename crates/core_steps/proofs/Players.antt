@@ -12,6 +12,7 @@ use Rattle.core_steps.specs.Views.{Fixed, Point, Loading, PlayerRead, Stage, AtR
 use Rattle.core_steps.specs.Steps.{Core, loading}
 use Rattle.core_steps.specs.Stands.{OwesRight, IsStart, IsLawful, IsHolding, HasOwn, IsCounted, IsUnread, IsReadRight, IsResolved, is_present, part_of, Stands, touches_own}
 use Rattle.core_steps.specs.Laws.{LoadedPlayerStands}
+use Rattle.core_steps.proofs.Unyielding.{is_yielding, not_giving_up}
 use Rattle.core_steps.proofs.Puts.{eqb_sym}
 use Rattle.core_steps.proofs.Frames.{busy_lives, stands_with_view}
 use Rattle.core_steps.proofs.Giving.{seat_at}
@@ -204,6 +205,7 @@ loaded_player_stands F core history now i node p part players plan lawful start 
                 has_its_bit = seat.right.has_its_bit;
               });
               resolved = subst (λ (s : Stage). IsResolved F now view.cmd s view.effect) (sym same_stage) seat.resolved;
+              giving_up = not_giving_up (ap is_yielding listed.stage);
               committed = record {
                 item = λ done. absurd (false≢true (ap is_committed (sym listed.stage) ∙ done));
                 owed = subst (OwesRight now) (sym listed.owes) tt;
@@ -248,6 +250,7 @@ loaded_player_stands F core history now i node p part players plan lawful start 
               };
               right = subst (λ (s : Stage). IsReadRight F now view.cmd s view.own view.again view.lists view.others view.states) stage seat.right;
               resolved = subst (λ (s : Stage). IsResolved F now view.cmd s view.effect) stage seat.resolved;
+              giving_up = not_giving_up refl;
               committed = record { item = λ done. absurd (false≢true done); owed = tt; linked = λ storing. absurd (false≢true storing) };
             };
             same = same_holds;

@@ -7,7 +7,7 @@ use Rattle.entity_recs.specs.Histories.{Item}
 use Rattle.core_steps.specs.Cells.{Words}
 use Rattle.core_steps.specs.Views.{Fixed, Point, ListRead, Stage, AtReading, stage_of, is_busy, is_open, is_settled, is_committed, is_before_leaves, is_whole, is_owning, is_read_again, is_without_effect, is_storing, View, has, inner_held, leaves_held, is_leaf, things_in, region_in, holds, held_word, stores_owed}
 use Rattle.core_steps.specs.Steps.{visiting, sensing}
-use Rattle.core_steps.specs.Stands.{OwesRight, IsAt, IsCurrent, IsHolding, HasRead, HasSensed, SeatStands, is_present, part_of}
+use Rattle.core_steps.specs.Stands.{OwesRight, IsAt, IsCurrent, IsGivingUp, IsHolding, HasRead, HasSensed, SeatStands, is_present, part_of}
 
 -- the first holds only where the second does
 abbrev pub implies : Bool → Bool → Bool
@@ -48,16 +48,17 @@ reading_goes_on = record {
 }
 
 -- a seat stands with another point, of which this is known
-pub record IsPointStep (F : Fixed) (words : Words) (i : ℕ) (view : View) (point : Point) (node' : ℕ → ℕ) : Type 0 where
+pub record IsPointStep (F : Fixed) (words : Words) (now : World) (i : ℕ) (view : View) (point : Point) (node' : ℕ → ℕ) : Type 0 where
   pub less : StageAsksLess (stage_of point) (stage_of view.point)
   pub named : (node : ℕ) → holds F point view.wanted node ≡ true → node' node ≡ held_word F i (stage_of point) view.wanted node
   pub holding : IsHolding F view.wanted (leaves_held point view.wanted) (inner_held F point)
   pub at : IsAt F view.cmd view.own view.wanted view.again view.lists view.others view.states view.effect point
   pub current : IsCurrent words.links words.body point view.wanted view.lists
   pub owes : stores_owed point ≡ []
+  pub giving_up : IsGivingUp F words.links now view.cmd point view.own view.wanted view.again view.lists view.others view.states view.effect
 
 pub seat_with_point : (F : Fixed) (words : Words) (history : List Item) (now : World) (i : ℕ) (view : View) (point : Point) (node' : ℕ → ℕ)
-    → SeatStands F words history now i view → IsPointStep F words i view point node'
+    → SeatStands F words history now i view → IsPointStep F words now i view point node'
     → SeatStands F (record words { node = node' }) history now i (record view { point = point })
 seat_with_point F words history now i view point node' is step =
     let less = step.less in
@@ -91,6 +92,7 @@ seat_with_point F words history now i view point node' is step =
         has_its_bit = λ e. is.right.has_its_bit (implied _ _ less.settled e);
       };
       resolved = record { is_outcome = λ e. is.resolved.is_outcome (implied _ _ less.settled e) };
+      giving_up = step.giving_up;
       committed = record {
         item = λ e. is.committed.item (implied _ _ less.committed e);
         owed = subst (OwesRight now) (sym step.owes) tt;

@@ -6,6 +6,7 @@ use Rattle.entity_recs.specs.Histories.{Item}
 use Rattle.core_steps.specs.Cells.{Words}
 use Rattle.core_steps.specs.Views.{Fixed, AtRest, View, without_command}
 use Rattle.core_steps.specs.Stands.{IsCounted, IsHolding, SeatStands, SeatsApart}
+use Rattle.core_steps.proofs.Unyielding.{not_giving_up}
 
 nothing_is_held : (F : Fixed) → IsHolding F [] [] []
 nothing_is_held F = record {
@@ -43,6 +44,7 @@ rests F words history now i view counted = record {
     has_its_bit = λ settled. absurd (false≢true settled);
   };
   resolved = record { is_outcome = λ settled. absurd (false≢true settled) };
+  giving_up = not_giving_up refl;
   committed = record { item = λ done. absurd (false≢true done); owed = tt; linked = λ storing. absurd (false≢true storing) };
 }
 

@@ -39,6 +39,7 @@ seat_with_numbers F words history now i view made ended is = record {
   current = is.current;
   right = is.right;
   resolved = is.resolved;
+  giving_up = is.giving_up;
   committed = is.committed;
 }
 
@@ -65,6 +66,7 @@ loaded_count_stands F core history now i rest is =
         current = seat.current;
         right = seat.right;
         resolved = seat.resolved;
+        giving_up = seat.giving_up;
         committed = seat.committed;
       };
       same = λ node. refl;

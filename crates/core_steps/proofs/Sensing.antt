@@ -8,6 +8,7 @@ use Rattle.core_steps.specs.Views.{Point, Sensing, Stage, AtReading, stage_of, i
 use Rattle.core_steps.specs.Steps.{sensing}
 use Rattle.core_steps.specs.Stands.{OwesRight, IsHolding, HasOwn, IsCounted, IsUnread, IsReadRight, IsResolved}
 use Rattle.core_steps.specs.Laws.{LoadedStateStands}
+use Rattle.core_steps.proofs.Unyielding.{is_yielding, not_giving_up}
 use Rattle.core_steps.proofs.Puts.{eqb_sym}
 use Rattle.core_steps.proofs.Frames.{busy_lives, stands_with_view}
 use Rattle.core_steps.proofs.Points.{sensing_between, at_sensing, current_between}
@@ -77,6 +78,7 @@ loaded_state_stands F core history now i id ids lawful start e is =
           has_its_bit = seat.right.has_its_bit;
         });
         resolved = subst (λ (s : Stage). IsResolved F now view.cmd s view.effect) (sym same_stage) seat.resolved;
+        giving_up = not_giving_up (ap is_yielding between.stage);
         committed = record {
           item = λ done. absurd (false≢true (ap is_committed (sym between.stage) ∙ done));
           owed = subst (OwesRight now) (sym between.owes) tt;

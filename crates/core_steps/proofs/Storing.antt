@@ -11,8 +11,9 @@ use Rattle.std.specs.List.{range_with_len}
 use Rattle.core_steps.specs.Cells.{Words, Cell, Body, State, put, is_cell, word_in, with_word, with_bit, without_bit}
 use Rattle.core_steps.specs.Views.{Fixed, Store, Clear, Put, Link, Point, Idle, Owning, Taking, Checking, Entering, Entered, Loading, Leaving, Sensing, Resolving, Claiming, Storing, Releasing, Returning, Yielding, Stage, AtRest, AtOwning, AtTaking, AtChecking, AtReading, AtClaiming, AtStoring, AtReleasing, AtReturning, AtYielding, stage_of, is_busy, is_open, is_settled, is_committed, is_before_leaves, is_whole, is_owning, is_read_again, is_without_effect, is_storing, is_writing, Ended, View, has, is_leaf, inner_nodes, home, record_read, region_in, inner_held, leaves_held, holds, stores_owed}
 use Rattle.core_steps.specs.Steps.{Core, storing, store_next}
-use Rattle.core_steps.specs.Stands.{OwesRight, IsAt, IsStart, IsLawful, IsLogWithin, IsHolding, IsCurrent, IsStoring, is_present, part_of, is_player, is_live_cell, value_in, owed_at, is_linked_at, is_storing_for, SeatStands, Stands}
+use Rattle.core_steps.specs.Stands.{OwesRight, IsAt, IsStart, IsLawful, IsLogWithin, IsHolding, IsCurrent, IsGivingUp, IsStoring, is_present, part_of, is_player, is_live_cell, value_in, owed_at, is_linked_at, is_storing_for, SeatStands, Stands}
 use Rattle.core_steps.specs.Laws.{StoredNextStands}
+use Rattle.core_steps.proofs.Unyielding.{is_yielding, not_giving_up}
 use Rattle.core_steps.proofs.Puts.{each_put, put_same, put_other, kept_put, eqb_sym}
 use Rattle.core_steps.proofs.Lists.{filter_has, range_has}
 use Rattle.core_steps.proofs.Frames.{same_logs_put, items_of_same, numbered_put, apart_put, busy_lives, KeepsLog}
@@ -42,10 +43,11 @@ pub record IsAfterStore (F : Fixed) (nodes : List ℕ) (stores : List Store) (po
   pub inner : inner_held F point ≡ nodes
   pub owes : stores_owed point ≡ stores
   pub part : (p : ℕ) → part_of point p ≡ []
+  pub yielding : is_yielding (stage_of point) ≡ false
 
 pub after_store : (F : Fixed) (nodes : List ℕ) (stores : List Store) → IsAfterStore F nodes stores (storing nodes stores)
-after_store F nodes [] = record { committed = refl; busy = refl; closed = refl; unsettled = refl; whole = refl; owning = refl; again = refl; before = refl; effect = refl; writing = refl; leaves = λ w. refl; inner = refl; owes = refl; part = λ p. refl }
-after_store F nodes (s ∷ stores) = record { committed = refl; busy = refl; closed = refl; unsettled = refl; whole = refl; owning = refl; again = refl; before = refl; effect = refl; writing = refl; leaves = λ w. refl; inner = refl; owes = refl; part = λ p. refl }
+after_store F nodes [] = record { committed = refl; busy = refl; closed = refl; unsettled = refl; whole = refl; owning = refl; again = refl; before = refl; effect = refl; writing = refl; leaves = λ w. refl; inner = refl; owes = refl; part = λ p. refl; yielding = refl }
+after_store F nodes (s ∷ stores) = record { committed = refl; busy = refl; closed = refl; unsettled = refl; whole = refl; owning = refl; again = refl; before = refl; effect = refl; writing = refl; leaves = λ w. refl; inner = refl; owes = refl; part = λ p. refl; yielding = refl }
 
 -- some stores are left: the seat is storing still
 still_storing : (nodes : List ℕ) (stores : List Store) → 0 < length stores → is_storing (stage_of (storing nodes stores)) ≡ true
@@ -116,6 +118,7 @@ seat_after F words words' history now i view nodes store stores e node_same comm
         has_its_bit = λ s. absurd (false≢true (sym after.unsettled ∙ s));
       };
       resolved = record { is_outcome = λ s. absurd (false≢true (sym after.unsettled ∙ s)) };
+      giving_up = not_giving_up after.yielding;
       committed = record {
         item = λ _. is.committed.item (ap is_committed stage);
         owed = subst (OwesRight now) (sym after.owes) owes;
@@ -126,9 +129,10 @@ seat_after F words words' history now i view nodes store stores e node_same comm
 -- another seat stands after words changed that it doesn't speak of
 other_after : (F : Fixed) (words words' : Words) (history : List Item) (now : World) (j : ℕ) (view : View) → words'.node ≡ words.node → words'.commits ≡ words.commits
     → IsCurrent words'.links words'.body view.point view.wanted view.lists
+    → IsGivingUp F words'.links now view.cmd view.point view.own view.wanted view.again view.lists view.others view.states view.effect
     → (is_storing (stage_of view.point) ≡ true → (v : ℕ) → has_bit (words'.links v) view.cmd.slot ≡ is_linked_at (stores_owed view.point) v)
     → SeatStands F words history now j view → SeatStands F words' history now j view
-other_after F words words' history now j view node_same commits_same current linked is = record {
+other_after F words words' history now j view node_same commits_same current giving_up linked is = record {
   named = λ v held. ap (λ (f : ℕ → ℕ). f v) node_same ∙ is.named v held;
   holding = is.holding;
   counted = record { within = is.counted.within; known = subst (λ (n : ℕ). view.seen ≤ n) (sym commits_same) is.counted.known; has_room = is.counted.has_room };
@@ -139,6 +143,7 @@ other_after F words words' history now j view node_same commits_same current lin
   current = current;
   right = is.right;
   resolved = is.resolved;
+  giving_up = giving_up;
   committed = record { item = is.committed.item; owed = is.committed.owed; linked = linked };
 }
 
@@ -162,6 +167,8 @@ record IsStoreStep (F : Fixed) (core : Core) (now : World) (i : ℕ) (nodes : Li
   commits_same : words'.commits ≡ core.words.commits
   own_bit : is_storing (stage_of (storing nodes stores)) ≡ true → (v : ℕ) → has_bit (words'.links v) (core.view i).cmd.slot ≡ is_linked_at stores v
   current : (j : ℕ) → (j == i) ≡ false → IsCurrent words'.links words'.body (core.view j).point (core.view j).wanted (core.view j).lists
+  giving_up : (j : ℕ) → (j == i) ≡ false
+      → IsGivingUp F words'.links now (core.view j).cmd (core.view j).point (core.view j).own (core.view j).wanted (core.view j).again (core.view j).lists (core.view j).others (core.view j).states (core.view j).effect
   others_bit : (j : ℕ) → (j == i) ≡ false → is_storing (stage_of (core.view j).point) ≡ true → (v : ℕ)
       → has_bit (words'.links v) (core.view j).cmd.slot ≡ is_linked_at (stores_owed (core.view j).point) v
   unowed : (cell : Cell) → is_live_cell F cell ≡ true → owed_at stores cell ≡ None → ((j : ℕ) → (j == i) ≡ false → owed_at (stores_owed (core.view j).point) cell ≡ None)
@@ -197,7 +204,7 @@ store_on F core history now i nodes store stores words' e owes is step =
           (subst (All (λ (x : Ended). IsLogWithin core.words.commits x.room x.log)) (sym (kept_put (λ (v : View). v.ended) i new core.view refl 0)) is.ended);
       seats = each_put (λ (j : ℕ) (v : View). SeatStands F words' history now j v) i new core.view
           (seat_after F core.words words' history now i view nodes store stores e step.node_same step.commits_same (is.seats i) owes step.own_bit)
-          (λ j other. other_after F core.words words' history now j (core.view j) step.node_same step.commits_same (step.current j other) (step.others_bit j other) (is.seats j));
+          (λ j other. other_after F core.words words' history now j (core.view j) step.node_same step.commits_same (step.current j other) (step.giving_up j other) (step.others_bit j other) (is.seats j));
       apart = apart_put F core.view i new is.apart (λ j other.
           let old = is.apart i j (eqb_sym j i other) in
           record {
@@ -260,6 +267,28 @@ links_current F core history now i j n word is other held =
         | inr away ↦ put_other n v word core.words.links away ∙ current.same_list settled v read there looked
       ];
       same_part = current.same_part;
+    }
+
+-- and so it does where the other seat gives up
+links_giving_up : (F : Fixed) (core : Core) (history : List Item) (now : World) (i j n word : ℕ) → Stands F core history now → (j == i) ≡ false
+    → holds F (core.view i).point (core.view i).wanted n ≡ true
+    → IsGivingUp F (put n word core.words.links) now (core.view j).cmd (core.view j).point (core.view j).own (core.view j).wanted (core.view j).again (core.view j).lists (core.view j).others (core.view j).states (core.view j).effect
+links_giving_up F core history now i j n word is other held =
+    let theirs = core.view j in
+    let up = (is.seats j).giving_up in
+    record {
+      few = up.few;
+      still = λ nodes e. let old = up.still nodes e in record {
+        right = old.right;
+        resolved = old.resolved;
+        same_list = λ v read there leaf. elim (cases_Bool (v == n)) [
+          | inl same ↦
+              let by_j : holds F theirs.point theirs.wanted v ≡ true = subst (λ (p : Point). holds F p theirs.wanted v ≡ true) (sym e) (or_right (has nodes v) (has theirs.wanted v) leaf) in
+              let by_i = subst (λ (m : ℕ). holds F (core.view i).point (core.view i).wanted m ≡ true) (sym (eqb-true v n same)) held in
+              absurd (true≢false (sym by_j ∙ (is.apart i j (eqb_sym j i other)).nodes v by_i))
+          | inr away ↦ put_other n v word core.words.links away ∙ old.same_list v read there leaf
+        ];
+      };
     }
 
 -- a player of whom words are loaded has its bit set somewhere
@@ -330,6 +359,7 @@ link_step F core history now i n word nodes store stores is e same_owed held oth
       commits_same = refl;
       own_bit = own_bit;
       current = λ j other. links_current F core history now i j n word is other held;
+      giving_up = λ j other. links_giving_up F core history now i j n word is other held;
       others_bit = λ j other storing v.
           let theirs = core.view j in
           let busy_j = storing_busy (stage_of theirs.point) storing in
@@ -455,6 +485,10 @@ put_step F core history now i cell x nodes stores words' is e left none node_sam
         same_list = λ settled v word read held. ap (λ (f : ℕ → ℕ). f v) links_same ∙ old.same_list settled v word read held;
         same_part = λ p k below five. bodies j other p k below ∙ old.same_part p k below five;
       };
+      giving_up = λ j other.
+          let theirs = core.view j in
+          subst (λ (links : ℕ → ℕ). IsGivingUp F links now theirs.cmd theirs.point theirs.own theirs.wanted theirs.again theirs.lists theirs.others theirs.states theirs.effect) (sym links_same)
+          (is.seats j).giving_up;
       others_bit = λ j other storing' v. same_bit (core.view j).cmd.slot v ∙ (is.seats j).committed.linked storing' v;
       unowed = λ c live owed_none others_none. elim (cases_Bool (is_cell cell c)) [
         | inl same ↦ same_cell cell c same stored

@@ -11,6 +11,7 @@ use Rattle.core_steps.specs.Stands.{AreDistinct, Stands}
 use Rattle.core_steps.specs.Laws.{TakenNodeStands, RefusedNodeStands}
 use Rattle.core_steps.proofs.Puts.{eqb_sym}
 use Rattle.core_steps.proofs.Frames.{busy_lives, stands_with_view}
+use Rattle.core_steps.proofs.Unyielding.{not_giving_up}
 use Rattle.core_steps.proofs.Points.{StageAsksLess, seat_with_point, reading_goes_on}
 use Rattle.core_steps.proofs.Drops.{word_at_stages}
 use Rattle.core_steps.proofs.Giving.{seat_at, current_unsettled}
@@ -116,6 +117,7 @@ take_leaf F core history now i node next got rest is e free =
         at = record { all = all; left = omega arith };
         current = current_unsettled core.words.links core.words.body new view.wanted view.lists (record { unsettled = refl; part = λ p. refl });
         owes = refl;
+        giving_up = not_giving_up refl;
       });
     }))
 
@@ -160,6 +162,7 @@ enter_node F core history now i node plan is e free =
         at = seat.at.read;
         current = record { same_list = seat.current.same_list; same_part = seat.current.same_part };
         owes = refl;
+        giving_up = not_giving_up refl;
       });
     }))
   where
@@ -223,6 +226,7 @@ claim_next F core history now i node got rest is e free =
         at = record { sensing = seat.at.sensing; claim = record { e = claim.e; is = claim.is; nodes = nodes } };
         current = record { same_list = seat.current.same_list; same_part = seat.current.same_part };
         owes = refl;
+        giving_up = not_giving_up refl;
       });
     }))
 
@@ -281,6 +285,7 @@ refused_node_stands F core history now i node taking is =
         current = seat.current;
         right = seat.right;
         resolved = seat.resolved;
+        giving_up = seat.giving_up;
         committed = seat.committed;
       };
       same = λ v. refl;

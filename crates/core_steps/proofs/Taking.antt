@@ -1,5 +1,5 @@
 -- A node is taken.
-use Rattle.std.proofs.Common.{◌≡◌, ℕ, suc, ◌<◌, Bool, true, false, List, [], length, sym, ap, ◌∙◌, subst, inl, inr, arith}
+use Rattle.std.proofs.Common.{◌≡◌, ℕ, suc, ◌<◌, Bool, true, false, List, [], length, refl, sym, ap, ◌∙◌, subst, inl, inr, arith}
 use Rattle.std.specs.Prelude.{◌==◌, ◌&&◌}
 use Rattle.std.proofs.lemmas.Bool.{cases_Bool, false≢true, true≢false, eqb-true, ne_eqb, cond-true, cond-false, false_from_ne_true}
 use Rattle.entity_recs.specs.declared.effect.NewState.{NewState}
@@ -9,6 +9,7 @@ use Rattle.core_steps.specs.Cells.{Words, put}
 use Rattle.core_steps.specs.Views.{Fixed, ListRead, PlayerRead, list_at, player_at, state_at, is_before_leaves, is_open, is_whole, is_without_effect, Point, Taking, Checking, AtTaking, AtChecking, stage_of, is_busy, is_storing, View, home, holds, held_word, stores_owed}
 use Rattle.core_steps.specs.Steps.{Core, with_node}
 use Rattle.core_steps.specs.Stands.{SeatStands, owed_at, Stands}
+use Rattle.core_steps.proofs.Unyielding.{not_giving_up}
 use Rattle.core_steps.proofs.Puts.{put_other, eqb_sym}
 use Rattle.core_steps.proofs.Frames.{KeepsLog, stands_after, none_before, busy_lives}
 
@@ -135,5 +136,6 @@ checking_stands F words history now i view got rest node' e is named =
         has_its_bit = λ _ p word _ _ _ read. let none = ap (λ (ls : List ListRead). list_at ls (home F (now.record_of p))) lists in cc;
       };
       resolved = record { is_outcome = λ _ e is_e. cc };
+      giving_up = not_giving_up refl;
       committed = record { item = λ done. absurd (false≢true done); owed = tt; linked = λ storing. absurd (false≢true storing) };
     }

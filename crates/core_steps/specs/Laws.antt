@@ -13,12 +13,14 @@ use Rattle.entity_recs.specs.Commands.{Command}
 use Rattle.entity_recs.specs.Worlds.{World}
 use Rattle.entity_recs.specs.Histories.{Item, apply}
 use Rattle.core_steps.specs.Views.{Store, Storing, Fixed, Resolving, Claiming, record_read, write_nodes, effect_loaded}
-use Rattle.core_steps.specs.Views.{Idle, Owning, Checking, Sensing, Loading, Entered, stage_of, is_busy}
+use Rattle.core_steps.specs.Views.{Idle, Owning, Checking, Sensing, Loading, Entered, AtChecking, stage_of, is_busy}
+use Rattle.core_steps.specs.Views.{is_open, leaves_held}
 use Rattle.core_steps.specs.Steps.{store_next, item_at, commit, SomeSeatGoesOn, Core, first, claim_node, next_take}
 use Rattle.core_steps.specs.Steps.{take_node, refuse_node, next_give, give_node, is_taking, first_yield, yield_node}
 use Rattle.core_steps.specs.Steps.{yield_nothing, load_list, begin_move, load_own, load_again, load_player, load_state}
 use Rattle.core_steps.specs.Steps.{make_seat, end_seat, load_count}
 use Rattle.core_steps.specs.Stands.{IsGiven, IsLawful, IsStart, Stands, start_core, items_of, IsNumbered}
+use Rattle.core_steps.specs.Stands.{IsReadStill}
 
 -- a seat is there and has no command in hand
 pub record IsResting (core : Core) (i : ℕ) : Type 0 where
@@ -189,6 +191,16 @@ CommittedFreeStands =
     → write_nodes F (record_read (core.view i).cmd.slot (core.view i).again) e ≡ [] → Stands F core history now
     → Stands F (commit F core i e [])
     (history ++ item_at core.words.commits (core.view i) e ∷ []) (apply F.effect_of now (core.view i).cmd)
+
+-- of a seat that holds all its leaves and hasn't committed, also one that gives up: what it has read and needs is as in
+-- the run, its effect is the outcome there, and the words that were read at its leaves are still their words
+abbrev pub ReadIsRightWhileLeavesAreHeld : Type 0
+ReadIsRightWhileLeavesAreHeld =
+    (F : Fixed) (core : Core) (history : List Item) (now : World) (i : ℕ) → Stands F core history now
+    → is_open (stage_of (core.view i).point) ≡ true
+    → leaves_held (core.view i).point (core.view i).wanted ≡ (core.view i).wanted
+    → IsReadStill F core.words.links now (core.view i).cmd AtChecking (core.view i).own (core.view i).wanted
+    (core.view i).again (core.view i).lists (core.view i).others (core.view i).states (core.view i).effect
 
 -- where a seat has a command in hand, some seat with a command in hand doesn't wait
 abbrev pub NotAllWait : Type 0

@@ -106,6 +106,12 @@ RefusedTakesChangeTheirRecord =
     (F : Fixed) (m : Machine) (i node : ℕ) (next : Next) → node_taken next ≡ Some node
     → (m.core.words.node node == 0) ≡ false → core_after F m.core i next ≡ refuse_node m.core i node
 
+-- a seat whose next step is a take may be asked to give up
+abbrev pub SeatAtATakeMayGiveUp : Type 0
+SeatAtATakeMayGiveUp =
+    (F : Fixed) (m : Machine) (i node : ℕ) (next : Next) → next_of F m i ≡ Some next → node_taken next ≡ Some node
+    → is_taking (m.core.view i).point ≡ true
+
 -- ---- what the action may be asked
 
 -- the own record of a command that isn't committed, once it is loaded whole, is one for which the action may be asked
@@ -167,6 +173,12 @@ abbrev pub CountIsWithinTheRooms : Type 0
 CountIsWithinTheRooms =
     (F : Fixed) (core : Core) (history : List Item) (now : World) → Stands F core history now
     → core.words.commits ≤ sum_by (λ (room : ℕ). room) (rooms_of core.view)
+
+-- whatever calls are made from the start on, the rooms under the numbers that were given out are those that were given
+abbrev pub RoomsAreThoseGiven : Type 0
+RoomsAreThoseGiven =
+    (F : Fixed) (room : ℕ) (rooms : List ℕ) (calls : List Call)
+    → rooms_of (after_calls F (start_machine F room rooms) calls).core.view ≡ room ∷ rooms
 
 -- the word of what comes next lies in the table at the step's index, before the step and after it
 pub record HasItsWord (F : Fixed) (core : Core) (i : ℕ) (next : Next) : Type 0 where

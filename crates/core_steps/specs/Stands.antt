@@ -18,7 +18,8 @@ use Rattle.core_steps.specs.Cells.{Words, Cell, Body, State, is_cell, word_in, c
 use Rattle.core_steps.specs.Encoding.{words_of, nth_word}
 use Rattle.core_steps.specs.Views.{Fixed, Store, Clear, Put, Link, Point, Idle, Owning, Taking, Checking, Entering}
 use Rattle.core_steps.specs.Views.{Entered, Loading, Leaving, Sensing, Resolving, Claiming, Storing, Releasing}
-use Rattle.core_steps.specs.Views.{Returning, Yielding, Stage, stage_of, is_busy, is_open, is_settled, is_committed}
+use Rattle.core_steps.specs.Views.{Returning, Yielding, Stage, AtClaiming, stage_of, is_busy, is_open, is_settled}
+use Rattle.core_steps.specs.Views.{is_committed}
 use Rattle.core_steps.specs.Views.{is_before_leaves, is_whole, is_owning, is_read_again, is_without_effect, is_storing}
 use Rattle.core_steps.specs.Views.{ListRead, PlayerRead, Ended, View, new_view, spent, has, list_at, player_at}
 use Rattle.core_steps.specs.Views.{state_at, record_read, is_leaf, leaf_nodes, plan_of, home, region_in, things_in}
@@ -337,6 +338,26 @@ pub record IsReadRight (F : Fixed) (now : World) (cmd : Command) (stage : Stage)
 pub record IsResolved (F : Fixed) (now : World) (cmd : Command) (stage : Stage) (effect : Option Effect) : Type 0 where
   pub is_outcome : is_settled stage ≡ true → (e : Effect) → effect ≡ Some e → e ≡ outcome F.effect_of now cmd
 
+-- ---- a seat that gives up
+
+-- what a seat has read and needs, and its effect, are as in the run, and the words that were read at its leaves are
+-- still their words
+pub record IsReadStill (F : Fixed) (links : ℕ → ℕ) (now : World) (cmd : Command) (stage : Stage)
+    (own wanted again : List ℕ) (lists : List ListRead) (others : List PlayerRead) (states : List NewState)
+    (effect : Option Effect) : Type 0 where
+  pub right : IsReadRight F now cmd stage own again lists others states
+  pub resolved : IsResolved F now cmd stage effect
+  pub same_list : (node word : ℕ) → list_at lists node ≡ Some word → has wanted node ≡ true → links node ≡ word
+
+-- a seat that gives up has no more leaves left than it wanted; while it holds them all, what it has read and needs and
+-- its effect are right still, as at the takes of write nodes
+pub record IsGivingUp (F : Fixed) (links : ℕ → ℕ) (now : World) (cmd : Command) (point : Point)
+    (own wanted again : List ℕ) (lists : List ListRead) (others : List PlayerRead) (states : List NewState)
+    (effect : Option Effect) : Type 0 where
+  pub few : (nodes leaves : List ℕ) → point ≡ Yielding nodes leaves → length leaves ≤ length wanted
+  pub still : (nodes : List ℕ) → point ≡ Yielding nodes wanted
+      → IsReadStill F links now cmd AtClaiming own wanted again lists others states effect
+
 -- ---- what a seat committed
 
 -- an item leaves the records of an effect of this player alone: it is not of its slot, and of no player that the effect
@@ -387,6 +408,8 @@ pub record SeatStands (F : Fixed) (words : Words) (history : List Item) (now : W
     pub current : IsCurrent words.links words.body view.point view.wanted view.lists
     pub right : IsReadRight F now view.cmd (stage_of view.point) view.own view.again view.lists view.others view.states
     pub resolved : IsResolved F now view.cmd (stage_of view.point) view.effect
+    pub giving_up : IsGivingUp F words.links now view.cmd view.point view.own view.wanted view.again view.lists
+        view.others view.states view.effect
     pub committed : IsCommitted F words.links history now view.cmd view.point view.own view.again view.effect view.log
 
 -- two seats hold no node in common, have commands of different slots, and owe no word in common

@@ -189,7 +189,7 @@ is_open AtReleasing = false
 is_open AtReturning = false
 is_open _ = true
 
--- all own leaves are held, and the command isn't committed
+-- all own leaves are held, and the command is neither committed nor given up
 abbrev pub is_settled : Stage → Bool
 is_settled AtChecking = true
 is_settled AtReading = true

@@ -4,6 +4,7 @@ ghost use Rattle.core_steps.specs.Laws.{TakenNodeStands, RefusedNodeStands, Layo
 ghost use Rattle.core_steps.specs.Laws.{BegunMoveStands, LoadedOwnStands, LoadedAgainStands, LoadedListStands};
 ghost use Rattle.core_steps.specs.Laws.{LoadedPlayerStands, LoadedStateStands, ClaimedNodeStands, StoredNextStands};
 ghost use Rattle.core_steps.specs.Laws.{CommittedHeldStands, CommittedFreeStands, NotAllWait};
+ghost use Rattle.core_steps.specs.Laws.{ReadIsRightWhileLeavesAreHeld};
 
 /// The start stands: seat 0 without a command, no entry, and words that are those of the world.
 pub fn start_stands()
@@ -118,6 +119,12 @@ pub fn committed_held_stands()
 /// action gives on what was loaded.
 pub fn committed_free_stands()
     ensures { CommittedFreeStands }
+{}
+
+/// What a seat has read and needs is as in the run, its effect is the outcome there, and the words that were read at its
+/// leaves are still their words, as long as it holds all its leaves and hasn't committed: also while it gives up.
+pub fn read_is_right_while_leaves_are_held()
+    ensures { ReadIsRightWhileLeavesAreHeld }
 {}
 
 /// Where a seat has a command in hand, some seat with a command in hand doesn't wait for a node that another one holds.

@@ -4,6 +4,7 @@ ghost use Rattle.core_steps.specs.MachineLaws.{StepsChangeOneWord, RefusedTakesC
 ghost use Rattle.core_steps.specs.MachineLaws.{LoadedRecordIsTaken, EffectMayBeAsked, EachPlaceIsLoggedOnce};
 ghost use Rattle.core_steps.specs.MachineLaws.{StepsHaveTheirWord, EachViewReadsLittle};
 ghost use Rattle.core_steps.specs.MachineLaws.{LogHoldsTheCommandsKept, StepsChangeOneView, CountIsWithinTheRooms};
+ghost use Rattle.core_steps.specs.MachineLaws.{RoomsAreThoseGiven, SeatAtATakeMayGiveUp};
 ghost use Rattle.core_steps.specs.Rows.{FirstView, NearRow};
 
 /// What the machine keeps holds at the start: a seat for each room, no command given, and no history.
@@ -66,6 +67,11 @@ pub fn refused_takes_change_their_record()
     ensures { RefusedTakesChangeTheirRecord }
 {}
 
+/// A seat whose next step is a take may be asked to give up.
+pub fn seat_at_a_take_may_give_up()
+    ensures { SeatAtATakeMayGiveUp }
+{}
+
 /// The own record of a command that isn't committed, once it is loaded whole, meets the action's condition on its
 /// region.
 pub fn region_may_be_asked()
@@ -90,6 +96,11 @@ pub fn each_place_is_logged_once()
 /// The count of commits is at most the sum of the rooms of all seats, those that were ended too.
 pub fn count_is_within_the_rooms()
     ensures { CountIsWithinTheRooms }
+{}
+
+/// Whatever calls are made from the start on, the rooms under the numbers that were given out are those that were given.
+pub fn rooms_are_those_given()
+    ensures { RoomsAreThoseGiven }
 {}
 
 /// Each step is one on a word of the table: the step's index lies in the table, and there the word is found that the

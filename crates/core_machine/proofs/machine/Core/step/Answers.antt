@@ -1,10 +1,11 @@
-use Rattle.std.proofs.Common.{◌≡◌, ◌<◌, ◌++◌, ℕ, if◌then◌else◌, length, set, subst, Some, arith}
+use Rattle.std.proofs.Common.{◌≡◌, ◌<◌, ◌++◌, ℕ, true, false, if◌then◌else◌, length, set, subst, Some, arith}
 use Rattle.std.specs.Prelude.{◌==◌}
+use Rattle.core_steps.specs.Steps.{is_taking}
 use Rattle.core_steps.specs.Machine.{Next, next_of, next_step_of, machine_after, items_after}
 use Rattle.core_machine.specs.Shown.{fixed_of}
 use Rattle.core_machine.specs.Cores.{CoreView, machine_of}
 use Rattle.core_machine.proofs.Cores.{core_view}
-use Rattle.core_machine.proofs.CoreSteps.{seat_may_step, outcome, outcome_core, outcome_done, outcome_other, outcome_machine, outcome_refused, outcome_logs}
+use Rattle.core_machine.proofs.CoreSteps.{seat_may_step, outcome, outcome_core, outcome_done, outcome_other, outcome_machine, outcome_refused, outcome_logs, outcome_may_give_up}
 use Rattle.core_machine.proofs.machine.Core.step.Goals as goal
 
 pub make_step-requires-after_bounds : goal.make_step-requires-after_bounds
@@ -99,3 +100,18 @@ returns-clause-logs g c =
     subst (λ (v : CoreView g.row.A.Denot). let G = fixed_of g.A.Action.takes g.A.Action.region_of g.A.Action.effect_of v.rules in let m = machine_of G v in (next : Next) (seat : ℕ) → next_of G m c.args.s.seat ≡ Some next → next_step_of G m c.args.s.seat ≡ Some c.args.s
     → ((machine_of G new).core.view seat).log ≡ (if seat == c.args.s.seat then (m.core.view c.args.s.seat).log ++ items_after m.core c.args.s.seat next else (m.core.view seat).log)) c.self.view_is
     (outcome_logs F old new c.args.s c.make_step.result made)
+
+pub returns-clause-may_give_up : goal.returns-clause-may_give_up
+returns-clause-may_give_up g c =
+    let F = fixed_of g.A.Action.takes g.A.Action.region_of g.A.Action.effect_of c.self.inside.rules in
+    let rules = c.self.inside.rules in
+    let words = c.self.inside.words in
+    let seats = c.self.inside.seats.items in
+    let i = c.from-i.result in
+    let below : i < length seats = omega (arith, c.if-i-len.false, c.len.ensures) in
+    let old = core_view rules words seats in
+    let new = core_view rules c.make_step.new.words (set seats i c.make_step.new.seat) in
+    let made = outcome F rules words c.make_step.new.words seats i c.args.s c.index_mut.result.now c.make_step.new.seat c.make_step.result c.from-i.ensures below c.index_mut.ensures.value c.self.invariant c.make_step.ensures in
+    subst (λ (v : CoreView g.row.A.Denot). let G = fixed_of g.A.Action.takes g.A.Action.region_of g.A.Action.effect_of v.rules in next_step_of G (machine_of G v) c.args.s.seat ≡ Some c.args.s → c.make_step.result ≡ false
+    → is_taking ((machine_of G new).core.view c.args.s.seat).point ≡ true) c.self.view_is
+    (outcome_may_give_up F old new c.args.s c.make_step.result c.self.invariant made)
