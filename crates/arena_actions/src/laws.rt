@@ -1,7 +1,7 @@
 ghost use Rattle.arena_actions.specs.Worlds.{ValidRecordsAreTaken, TakenRecordsAreValid};
 ghost use Rattle.arena_actions.specs.Laws.{PlayersStayOnMaps, MovesKeepWhoMoves, PlayersStayFree};
 ghost use Rattle.arena_actions.specs.Laws.{MovesTakeWhatIsThere, NewStatesAreApart, RepliedIdsRise};
-ghost use Rattle.arena_actions.specs.Laws.{RepliesHaveTheOrigin};
+ghost use Rattle.arena_actions.specs.Laws.{RepliesHaveTheOrigin, MovesAreMade};
 
 /// A player's record stays within its bounds, and its body inside the arena.
 pub fn players_stay_on_maps()
@@ -11,6 +11,12 @@ pub fn players_stay_on_maps()
 /// A player keeps its id, its kind, its shape and its state, and has the number of the command.
 pub fn moves_keep_who_moves()
     ensures { MovesKeepWhoMoves }
+{}
+
+/// Where a player touches nothing after its move, the outcome is its whole move among the walls, the blocks and the
+/// bodies of the other solids, and nothing else.
+pub fn moves_are_made()
+    ensures { MovesAreMade }
 {}
 
 /// A player whose body overlaps no wall, no block and no body of another solid overlaps none after its move.

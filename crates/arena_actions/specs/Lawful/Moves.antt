@@ -1,5 +1,5 @@
 -- What holds of every move.
-use Rattle.std.proofs.Common.{◌≡◌, ℕ, Bool, true, false, List, refl, ap, ◌∙◌}
+use Rattle.std.proofs.Common.{◌≡◌, ℕ, Bool, true, false, List, [], fold, refl, sym, ap, ◌∙◌, subst}
 use Rattle.arena_geo.specs.declared.vec3.Vec3.{Vec3}
 use Rattle.arena_geo.specs.Bounds.{Bounds}
 use Rattle.arena_geo.specs.Boxes.{is_blocked}
@@ -10,11 +10,12 @@ use Rattle.entity_recs.specs.Bodies.{standing, body_of}
 use Rattle.entity_recs.specs.Commands.{Command}
 use Rattle.player_move.proofs.Ending.{move_ends_free}
 use Rattle.arena_map.specs.Maps.{MapView}
-use Rattle.trigger_rules.specs.Touching.{solids_among, touched}
+use Rattle.player_move.specs.Moves.{move_of}
+use Rattle.trigger_rules.specs.Touching.{touched_by, solids_among, Walk, first_walk, after_trigger, touched}
 use Rattle.trigger_rules.proofs.Taken.{stay_themselves, leaps_free, only_leaps, were_there, ids_rise}
 use Rattle.trigger_rules.proofs.Bounds.{stay_on, states_apart}
-use Rattle.arena_actions.specs.Outcomes.{asked, moved_among, outcome_in}
-use Rattle.arena_actions.specs.Laws.{PlayersStayOnMaps, IsPlayerAfter, MovesKeepWhoMoves, PlayersStayFree, MovesTakeWhatIsThere, NewStatesAreApart, RepliedIdsRise, RepliesHaveTheOrigin}
+use Rattle.arena_actions.specs.Outcomes.{asked, after_move, effect_of, moved_among, outcome_in}
+use Rattle.arena_actions.specs.Laws.{PlayersStayOnMaps, IsPlayerAfter, MovesKeepWhoMoves, IsMoveAlone, MovesAreMade, PlayersStayFree, MovesTakeWhatIsThere, NewStatesAreApart, RepliedIdsRise, RepliesHaveTheOrigin}
 use Rattle.arena_actions.specs.Lawful.Players.{player_shape, moved_stays_on}
 
 pub stay_on_maps : PlayersStayOnMaps
@@ -92,3 +93,17 @@ replied_rise map me near c rise = ids_rise map c.frame (moved_among map me near 
 pub replies_have_origin : RepliesHaveTheOrigin
 unfolding outcome_in
 replies_have_origin map me near c = refl
+
+-- where nothing is touched, the walk is over before it begins
+none_touched : (map : MapView) (frame : ℕ) (me : Rec) (near : List Rec) → touched_by me near ≡ []
+    → touched map frame me near ≡ first_walk me
+unfolding touched
+none_touched map frame me near none = ap (fold (after_trigger map (solids_among map near) frame) (first_walk me)) none
+
+pub are_made : MovesAreMade
+unfolding outcome_in moved_among
+are_made map me near c none =
+    let moved = move_of me (asked c) (solids_among map near) in
+    let there = after_move me moved c.seq in
+    subst (λ (w : Walk). IsMoveAlone me moved (effect_of w)) (sym (none_touched map c.frame there near none))
+    (record { origin = refl; vel = refl; flags = refl; ammo = refl; carry = refl; score = refl; states = refl; got = refl })
