@@ -20,7 +20,7 @@ use Rattle.trigger_rules.proofs.Doing.{good-before}
 -- ---- which ids were got
 
 -- the id was got
-abbrev has : ℕ → List ℕ → Bool
+abbrev pub has : ℕ → List ℕ → Bool
 has x got = list_any (λ id. id == x) got
 
 no-more : (a b : Bool) → b ≡ false → (a || (b || false)) ≡ a
@@ -42,7 +42,7 @@ has-step map solids frame x w next r (inr (inl t)) less =
 has-step map solids frame x w next r (inr (inr (inl goal))) less = ap (λ (v : Walk). has x v.got) goal.is
 has-step map solids frame x w next r (inr (inr (inr l))) less = ap (λ (v : Walk). has x v.got) l.is
 
-has-through : (map : MapView) (solids : List Bounds) (frame x n : ℕ) (w : Walk) (rs : List Rec) → x < n → Rises n rs → has x (fold (after_trigger map solids frame) w rs).got ≡ has x w.got
+pub has-through : (map : MapView) (solids : List Bounds) (frame x n : ℕ) (w : Walk) (rs : List Rec) → x < n → Rises n rs → has x (fold (after_trigger map solids frame) w rs).got ≡ has x w.got
 unfolding Rises
 has-through map solids frame x n w [] less up = refl
 has-through map solids frame x n w (r ∷ rs) less up =

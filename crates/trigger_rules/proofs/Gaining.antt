@@ -1,5 +1,5 @@
 -- What a player has in the end: its ammunition, and the gems that it carries and has brought in.
-use Rattle.std.proofs.Common.{◌≡◌, ◌≢◌, ℕ, ◌+◌, ◌*◌, ◌<◌, ◌≤◌, ◌==◌, min, Bool, true, false, if◌then◌else◌, List, [], ◌∷◌, ◌++◌, fold, refl, sym, ap, ◌∙◌, subst, inl, inr, arith}
+use Rattle.std.proofs.Common.{◌≡◌, ◌≢◌, ℕ, ◌+◌, ◌*◌, ◌<◌, ◌==◌, min, Bool, true, false, if◌then◌else◌, List, [], ◌∷◌, ◌++◌, fold, refl, sym, ap, ◌∙◌, subst, inl, inr, arith}
 use Rattle.std.proofs.lemmas.List.Elements.{recursion_from_All}
 use Rattle.std.proofs.lemmas.List.Sums.{fold-append}
 use Rattle.arena_geo.specs.Bounds.{Bounds}
@@ -10,9 +10,9 @@ use Rattle.entity_recs.specs.Kinds.{number_of}
 use Rattle.arena_map.specs.Maps.{MapView}
 use Rattle.item_rules.specs.Items.{may_take, with_item, after_item}
 use Rattle.trigger_rules.specs.Touching.{touched_by, solids_among, Walk, walk_of, first_walk, scored, after_kind, after_trigger, touched}
-use Rattle.trigger_rules.specs.Laws.{count_got, AmmunitionIsCounted, NoGemIsLost, HaveNoGoal, CarriesWhatIsLeft, GoalsTakeWhatIsCarried}
+use Rattle.trigger_rules.specs.Laws.{HasFewThings, count_got, AmmunitionIsCounted, NoGemIsLost, HaveNoGoal, AreCarried, GoalsTakeWhatIsCarried}
 use Rattle.trigger_rules.proofs.Steps.{IsTake, Step, step, item-change, true-false}
-use Rattle.trigger_rules.proofs.Taken.{stay_few, Rises, IsBelow, below-step, touched-rise, none-below}
+use Rattle.trigger_rules.proofs.Taken.{few-through, Rises, IsBelow, below-step, touched-rise, none-below}
 use Rattle.trigger_rules.proofs.Counting.{IsOther, counted, each}
 use Rattle.trigger_rules.proofs.Doing.{good-before, on-step}
 
@@ -80,15 +80,19 @@ same-ammo map solids frame w next r (inr (inl t)) = kept-ammo map solids frame w
 same-ammo map solids frame w next r (inr (inr (inl goal))) = ap (λ (v : Walk). v.me.ammo) goal.is
 same-ammo map solids frame w next r (inr (inr (inr l))) = ap (λ (v : Walk). v.me.ammo) l.is
 
-pub ammunition_counted : AmmunitionIsCounted
-unfolding touched
-ammunition_counted map frame me near rise few =
-    let solids = solids_among map near in
-    let most : (touched map frame me near).me.ammo ≤ 100 = (stay_few map frame me near few).ammo in
+-- over triggers whose ids rise
+pub armed-of : (map : MapView) (solids : List Bounds) (frame : ℕ) (me : Rec) (rs : List Rec) → Rises 0 rs → HasFewThings me
+    → let w = fold (after_trigger map solids frame) (first_walk me) rs in w.me.ammo ≡ min 100 (me.ammo + 20 * count_got Ammo rs w)
+armed-of map solids frame me rs up few =
+    let most = (few-through map solids frame me rs few).ammo in
     counted map solids frame Ammo (λ v. Unit {0}) (λ v r good. tt) (λ r. Unit {0}) (λ v. v.me.ammo) (λ c x y. y ≡ min 100 (x + 20 * c))
     (λ w next r t kind c y is. let e = taken-ammo map solids frame w next r t kind in omega (arith, e, is))
     (λ w next r good q other. same-ammo map solids frame w next r other)
-    0 (first_walk me) (touched_by me near) (touched-rise me near rise) none-below (each (touched_by me near)) tt (omega (arith, most))
+    0 (first_walk me) rs up none-below (each rs) tt (omega (arith, most))
+
+pub ammunition_counted : AmmunitionIsCounted
+unfolding touched
+ammunition_counted map frame me near rise few = armed-of map (solids_among map near) frame me (touched_by me near) (touched-rise me near rise) few
 
 -- ---- gems
 
@@ -141,12 +145,12 @@ carried map solids frame n w rs up is none =
     n w rs up is (recursion_from_All (λ r. r.kind ≢ Goal) rs none) tt (omega arith)
 
 -- the ids that follow rise above those that were got
-record Follow (w : Walk) (rest : List Rec) : Type 0 where
-  from : ℕ
-  rise : Rises from rest
-  below : IsBelow from w.got
+pub record Follow (w : Walk) (rest : List Rec) : Type 0 where
+  pub from : ℕ
+  pub rise : Rises from rest
+  pub below : IsBelow from w.got
 
-follow : (map : MapView) (solids : List Bounds) (frame n : ℕ) (w : Walk) (before rest : List Rec) → Rises n (before ++ rest) → IsBelow n w.got → Follow (fold (after_trigger map solids frame) w before) rest
+pub follow : (map : MapView) (solids : List Bounds) (frame n : ℕ) (w : Walk) (before rest : List Rec) → Rises n (before ++ rest) → IsBelow n w.got → Follow (fold (after_trigger map solids frame) w before) rest
 unfolding Rises
 follow map solids frame n w [] rest up is = record { from = n; rise = up; below = is }
 follow map solids frame n w (r ∷ before) rest up is =
@@ -180,7 +184,7 @@ carried-since map solids frame me before goal after up on kind none =
     subst (λ (u : Walk). u.me.carry ≡ count_got Gem after u) (sym whole) (carried-after map solids frame v goal after ready still kind none)
 
 pub carried-of : (map : MapView) (solids : List Bounds) (frame : ℕ) (me : Rec) (rs : List Rec) → Rises 0 rs
-    → let w = fold (after_trigger map solids frame) (first_walk me) rs in w.ended ≡ false → CarriesWhatIsLeft me rs w
+    → let w = fold (after_trigger map solids frame) (first_walk me) rs in w.ended ≡ false → AreCarried w.me.carry me rs w
 carried-of map solids frame me rs up on =
     let whole = fold (after_trigger map solids frame) (first_walk me) in
     record {

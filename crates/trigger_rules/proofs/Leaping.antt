@@ -1,16 +1,19 @@
 -- That a leap is from a teleporter that the player touches, the first that isn't blocked.
-use Rattle.std.proofs.Common.{◌≡◌, ◌⊎◌, ℕ, ◌+◌, Bool, true, false, bit_or, List, [], ◌∷◌, ◌++◌, fold, Contains, refl, sym, ap, ◌∙◌, subst, inl, inr}
+use Rattle.std.specs.Prelude.{map as map_list}
+use Rattle.std.specs.List.Sorted.{IsStrictlyIncreasing}
+use Rattle.std.proofs.Common.{◌≡◌, ◌⊎◌, ℕ, Bool, true, false, bit_or, List, [], ◌∷◌, ◌++◌, fold, Contains, refl, sym, ap, ◌∙◌, subst, inl, inr}
 use Rattle.arena_geo.specs.declared.vec3.Vec3.{Vec3}
 use Rattle.arena_geo.specs.Bounds.{Bounds}
 use Rattle.entity_recs.specs.declared.rec.Rec.{Rec}
 use Rattle.arena_map.specs.Maps.{MapView}
 use Rattle.trigger_rules.specs.Touching.{touched_by, solids_among, Walk, walk_of, first_walk, leapt, after_trigger, touched}
-use Rattle.trigger_rules.specs.Laws.{IsInPlace, IsLeftFor, IsAway, AreEnough, IsArmed, IsLaden, CarriesWhatIsLeft, HasLeaptFrom, LeapsAreFromTeleporters}
+use Rattle.trigger_rules.specs.Laws.{IsInPlace, IsLeftFor, IsAway, AreEnough, IsArmed, IsLaden, AreCarried, HadNoRoom, WereEnough, WasArmed, WasLaden, HasLeaptFrom, LeapsAreFromTeleporters}
 use Rattle.trigger_rules.proofs.Walks.{ended-stays}
 use Rattle.trigger_rules.proofs.Steps.{IsLeap, Step, step, item-change, true-false}
-use Rattle.trigger_rules.proofs.Taken.{taken-before, Rises, touched-rise}
+use Rattle.trigger_rules.proofs.Taken.{taken-before, Rises, rises-first, touched-rise}
 use Rattle.trigger_rules.proofs.Doing.{kept-through, on-step, items-of, passed-of}
 use Rattle.trigger_rules.proofs.Gaining.{carried-of}
+use Rattle.trigger_rules.proofs.Leaving.{without-room-of}
 
 place-step : (map : MapView) (solids : List Bounds) (frame : ℕ) (me : Rec) (w next : Walk) (r : Rec) → Step map solids frame w r next → next.ended ≡ false → IsInPlace me w.me → IsInPlace me next.me
 place-step map solids frame me w next r (inl same) on is = subst (λ (v : Walk). IsInPlace me v.me) (sym same) is
@@ -80,11 +83,11 @@ left-after_leap me item w dest (AreEnough all) = AreEnough all
 left-after_leap me item w dest (IsArmed kind full) = IsArmed kind full
 left-after_leap me item w dest (IsLaden kind laden) = IsLaden kind laden
 
--- the ids of the first of these rise
-rises-front : (n : ℕ) (before more : List Rec) → Rises n (before ++ more) → Rises n before
-unfolding Rises
-rises-front n [] more up = tt
-rises-front n (r ∷ before) more up = (up.0, rises-front (r.id + 1) before more up.1)
+-- so were the reasons for which there was no room for them
+without-room-after_leap : (me item : Rec) (before : List Rec) (w : Walk) (dest : Vec3) → HadNoRoom me before w item → HadNoRoom me before (walk_of (leapt w.me dest) w.states w.got true) item
+without-room-after_leap me item before w dest (WereEnough all below) = WereEnough all below
+without-room-after_leap me item before w dest (WasArmed kind armed) = WasArmed kind armed
+without-room-after_leap me item before w dest (WasLaden kind laden) = WasLaden kind (record { after_a_goal = laden.after_a_goal; without_a_goal = laden.without_a_goal })
 
 pub leaps_from_teleporters : LeapsAreFromTeleporters
 unfolding touched
@@ -103,11 +106,21 @@ leaps_from_teleporters map frame me near end =
       flags = ap (λ (n : ℕ). bit_or n 2) (in-place map solids frame me e.before e.on).flags;
       passed = passed-of map solids frame me e.before e.on;
       items = λ few below item delay listed item_is delayed. taken item (items-of map solids frame me e.before few e.on below item delay listed item_is delayed);
-      gems = λ rise. left-over e.before v e.leap.dest (carried-of map solids frame me e.before (rises-front 0 e.before (e.teleporter ∷ e.after) (subst (Rises 0) e.are (touched-rise me near rise))) e.on);
+      room = λ rise few first item rest delay are item_is delayed there.
+          no-room first item v e.leap.dest (without-room-of map solids frame me e.before (rise-before e.before (e.teleporter ∷ e.after) e.are rise) few e.on first item rest delay are item_is delayed there);
+      gems = λ rise. left-over e.before v e.leap.dest (carried-of map solids frame me e.before (rise-before e.before (e.teleporter ∷ e.after) e.are rise) e.on);
       got = taken-before map solids frame me near e.before (e.teleporter ∷ e.after) e.are;
     })
   where
-    left-over : (before : List Rec) (w : Walk) (dest : Vec3) → CarriesWhatIsLeft me before w → CarriesWhatIsLeft me before (walk_of (leapt w.me dest) w.states w.got true)
+    rise-before : (before more : List Rec) → touched_by me near ≡ before ++ more → IsStrictlyIncreasing (map_list (λ r. r.id) near) → Rises 0 before
+    rise-before before more are rise = rises-first 0 before more (subst (Rises 0) are (touched-rise me near rise))
+
+    no-room : (before : List Rec) (item : Rec) (w : Walk) (dest : Vec3) → Contains w.got item.id ⊎ HadNoRoom me before w item
+        → Contains w.got item.id ⊎ HadNoRoom me before (walk_of (leapt w.me dest) w.states w.got true) item
+    no-room before item w dest (inl got) = inl got
+    no-room before item w dest (inr left) = inr (without-room-after_leap me item before w dest left)
+
+    left-over : (before : List Rec) (w : Walk) (dest : Vec3) → AreCarried w.me.carry me before w → AreCarried w.me.carry me before (walk_of (leapt w.me dest) w.states w.got true)
     left-over before w dest is = record { after_a_goal = is.after_a_goal; without_a_goal = is.without_a_goal }
 
     after_leap : (item : Rec) (w : Walk) (dest : Vec3) → Contains w.got item.id ⊎ IsLeftFor me w item

@@ -4,5 +4,6 @@ pub mod Taken
 pub mod Doing
 pub mod Counting
 pub mod Gaining
+pub mod Leaving
 pub mod Leaping
 pub mod Bounds

@@ -30,11 +30,14 @@ few-step map solids frame w next r (inr (inl t)) few = subst (λ (v : Walk). Has
 few-step map solids frame w next r (inr (inr (inl goal))) few = subst (λ (v : Walk). HasFewThings v.me) (sym goal.is) (record { ammo = few.ammo; carry = omega arith })
 few-step map solids frame w next r (inr (inr (inr l))) few = subst (λ (v : Walk). HasFewThings v.me) (sym l.is) (record { ammo = few.ammo; carry = few.carry })
 
+-- over any records
+pub few-through : (map : MapView) (solids : List Bounds) (frame : ℕ) (me : Rec) (rs : List Rec) → HasFewThings me → HasFewThings (fold (after_trigger map solids frame) (first_walk me) rs).me
+few-through map solids frame me rs few =
+    walk-keeps (after_trigger map solids frame) (λ w. HasFewThings w.me) (first_walk me) rs (λ v r. few-step map solids frame v (after_trigger map solids frame v r) r (step map solids frame v r)) few
+
 pub stay_few : ThingsStayFew
 unfolding touched
-stay_few map frame me near few =
-    let solids = solids_among map near in
-    walk-keeps (after_trigger map solids frame) (λ w. HasFewThings w.me) (first_walk me) (touched_by me near) (λ v r. few-step map solids frame v (after_trigger map solids frame v r) r (step map solids frame v r)) few
+stay_few map frame me near few = few-through map (solids_among map near) frame me (touched_by me near) few
 
 -- ---- scores
 
@@ -262,6 +265,12 @@ rises-filter test n (r ∷ rs) up = by (test r) (rises-filter test (r.id + 1) rs
     by : (b : Bool) → Rises (r.id + 1) (filter test rs) → Rises n (cond b (r ∷ filter test rs) (filter test rs))
     by true more = (up.0, more)
     by false more = rises-less (r.id + 1) n (filter test rs) (omega (arith, up.0)) more
+
+-- the ids of the first of them rise
+pub rises-first : (n : ℕ) (before more : List Rec) → Rises n (before ++ more) → Rises n before
+unfolding Rises
+rises-first n [] more up = tt
+rises-first n (r ∷ before) more up = (up.0, rises-first (r.id + 1) before more up.1)
 
 rises-from : (n : ℕ) (rs : List Rec) → IsStrictlyIncreasing (map_list (λ r. r.id) rs) → ((r : Rec) (more : List Rec) → rs ≡ r ∷ more → n ≤ r.id) → Rises n rs
 unfolding Rises

@@ -116,18 +116,40 @@ NoGemIsLost =
 abbrev pub HaveNoGoal : List Rec → Type 0
 HaveNoGoal triggers = All (λ r. r.kind ≢ Goal) triggers
 
--- a player that touched these triggers carries the gems that it got after the last goal among them; or, if none of them
--- is a goal, those that it carried before and those that it got
-pub record CarriesWhatIsLeft (me : Rec) (triggers : List Rec) (w : Walk) : Type 0 where
+-- so many gems a player carries after it touched these triggers: those that it got after the last goal among them; or,
+-- if none of them is a goal, those that it carried before and those that it got
+pub record AreCarried (gems : ℕ) (me : Rec) (triggers : List Rec) (w : Walk) : Type 0 where
   pub after_a_goal : (before : List Rec) (goal : Rec) (after : List Rec) → triggers ≡ before ++ goal ∷ after
-      → goal.kind ≡ Goal → HaveNoGoal after → w.me.carry ≡ count_got Gem after w
-  pub without_a_goal : HaveNoGoal triggers → w.me.carry ≡ me.carry + count_got Gem triggers w
+      → goal.kind ≡ Goal → HaveNoGoal after → gems ≡ count_got Gem after w
+  pub without_a_goal : HaveNoGoal triggers → gems ≡ me.carry + count_got Gem triggers w
 
 -- at a goal a player leaves all that it carries, where no teleporter moves it and the ids of the records rise
 abbrev pub GoalsTakeWhatIsCarried : Type 0
 GoalsTakeWhatIsCarried =
     (arena : MapView) (frame : ℕ) (me : Rec) (near : List Rec) → IsStrictlyIncreasing (map (λ r. r.id) near)
-    → let w = touched arena frame me near in w.ended ≡ false → CarriesWhatIsLeft me (touched_by me near) w
+    → let w = touched arena frame me near in w.ended ≡ false → AreCarried w.me.carry me (touched_by me near) w
+
+-- why a player had no room for an item when it touched it, after these triggers: it had got 8 items, which are all
+-- that it got; it had 100 of ammunition; or it carried 8 gems
+pub data HadNoRoom (me : Rec) (before : List Rec) (w : Walk) (item : Rec) : Type 0 where
+  WereEnough : length w.got ≡ 8 → All (λ id. id < item.id) w.got → HadNoRoom me before w item
+  WasArmed : item.kind ≡ Ammo → 100 ≤ me.ammo + 20 * count_got Ammo before w → HadNoRoom me before w item
+  WasLaden : item.kind ≡ Gem → AreCarried 8 me before w → HadNoRoom me before w item
+
+-- each item among these triggers that was there was got, or there was no room for it then
+abbrev pub AreLeftWithoutRoom : MapView → Rec → List Rec → Walk → Type 0
+AreLeftWithoutRoom arena me triggers w =
+    (before : List Rec) (item : Rec) (after : List Rec) (delay : ℕ) → triggers ≡ before ++ item ∷ after
+    → is_item item.kind ≡ true → delay_of arena item.id ≡ Some delay → item.state ≡ 0
+    → Contains w.got item.id ⊎ HadNoRoom me before w item
+
+-- a player leaves an item that is there only where it has no room for it then, where no teleporter moves it and the ids
+-- of the records rise
+abbrev pub ItemsAreLeftWithoutRoom : Type 0
+ItemsAreLeftWithoutRoom =
+    (arena : MapView) (frame : ℕ) (me : Rec) (near : List Rec) → IsStrictlyIncreasing (map (λ r. r.id) near)
+    → HasFewThings me
+    → let w = touched arena frame me near in w.ended ≡ false → AreLeftWithoutRoom arena me (touched_by me near) w
 
 -- no score falls
 abbrev pub ScoresNeverFall : Type 0
@@ -177,7 +199,8 @@ pub record HasLeaptFrom (arena : MapView) (frame : ℕ) (me : Rec) (near : List 
   pub flags : w.me.flags ≡ bit_or me.flags 2
   pub passed : AreBlocked arena near before
   pub items : HasFewThings me → w.me.score < 4294967295 → AreTakenOrLeft arena me before w
-  pub gems : IsStrictlyIncreasing (map (λ r. r.id) near) → CarriesWhatIsLeft me before w
+  pub room : IsStrictlyIncreasing (map (λ r. r.id) near) → HasFewThings me → AreLeftWithoutRoom arena me before w
+  pub gems : IsStrictlyIncreasing (map (λ r. r.id) near) → AreCarried w.me.carry me before w
   pub got : AreTaken arena frame me before w.states w.got
 
 -- each leap is from a teleporter that the player touched, the first that isn't blocked

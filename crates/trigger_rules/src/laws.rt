@@ -15,6 +15,7 @@ ghost use Rattle.trigger_rules.specs.Laws.{
   AmmunitionIsCounted,
   NoGemIsLost,
   GoalsTakeWhatIsCarried,
+  ItemsAreLeftWithoutRoom,
 };
 
 /// Nobody's ammunition passes 100, and nobody carries more than 8 gems.
@@ -55,6 +56,12 @@ pub fn no_gem_is_lost()
 /// carried before. This holds where no teleporter moves the player.
 pub fn goals_take_what_is_carried()
     ensures { GoalsTakeWhatIsCarried }
+{}
+
+/// A player leaves an item that is there only where it has no room for it when it touches it: it has got 8 in this move,
+/// or has 100 of ammunition, or carries 8 gems. This holds where no teleporter moves the player.
+pub fn items_are_left_without_room()
+    ensures { ItemsAreLeftWithoutRoom }
 {}
 
 /// No score falls.
