@@ -66,14 +66,14 @@ pub data IsLeftFor (me : Rec) (w : Walk) (item : Rec) : Type 0 where
   IsArmed : item.kind ≡ Ammo → w.me.ammo ≡ 100 → IsLeftFor me w item
   IsLaden : item.kind ≡ Gem → me.score + 8 ≤ w.me.score + w.me.carry → IsLeftFor me w item
 
--- each item among these triggers was got, or left for one of these reasons
+-- each item of the map among these triggers was got, or left for one of these reasons
 abbrev pub AreTakenOrLeft : MapView → Rec → List Rec → Walk → Type 0
 AreTakenOrLeft arena me triggers w =
     (item : Rec) (delay : ℕ) → Contains triggers item → is_item item.kind ≡ true → delay_of arena item.id ≡ Some delay
     → Contains w.got item.id ⊎ IsLeftFor me w item
 
--- each item that a player touches it gets, or leaves for a reason, where no teleporter moves it and its score isn't at
--- its end
+-- each item of the map that a player touches it gets, or leaves for a reason, where no teleporter moves it and its
+-- score isn't at its end
 abbrev pub TouchedItemsAreTaken : Type 0
 TouchedItemsAreTaken =
     (arena : MapView) (frame : ℕ) (me : Rec) (near : List Rec) → HasFewThings me
@@ -136,15 +136,15 @@ pub data HadNoRoom (me : Rec) (before : List Rec) (w : Walk) (item : Rec) : Type
   WasArmed : item.kind ≡ Ammo → 100 ≤ me.ammo + 20 * count_got Ammo before w → HadNoRoom me before w item
   WasLaden : item.kind ≡ Gem → AreCarried 8 me before w → HadNoRoom me before w item
 
--- each item among these triggers that was there was got, or there was no room for it then
+-- each item of the map among these triggers that was there was got, or there was no room for it then
 abbrev pub AreLeftWithoutRoom : MapView → Rec → List Rec → Walk → Type 0
 AreLeftWithoutRoom arena me triggers w =
     (before : List Rec) (item : Rec) (after : List Rec) (delay : ℕ) → triggers ≡ before ++ item ∷ after
     → is_item item.kind ≡ true → delay_of arena item.id ≡ Some delay → item.state ≡ 0
     → Contains w.got item.id ⊎ HadNoRoom me before w item
 
--- a player leaves an item that is there only where it has no room for it then, where no teleporter moves it and the ids
--- of the records rise
+-- a player leaves an item of the map that is there only where it has no room for it then, where no teleporter moves it
+-- and the ids of the records rise
 abbrev pub ItemsAreLeftWithoutRoom : Type 0
 ItemsAreLeftWithoutRoom =
     (arena : MapView) (frame : ℕ) (me : Rec) (near : List Rec) → IsStrictlyIncreasing (map (λ r. r.id) near)

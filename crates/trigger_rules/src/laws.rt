@@ -29,9 +29,9 @@ pub fn items_were_there()
     ensures { ItemsWereThere }
 {}
 
-/// Each item that a player touches it gets, unless the item is away, 8 were got, or the player has no room for it: it
-/// has 100 of ammunition, or had 8 gems, which it carries still or has brought to a goal. This holds where no teleporter
-/// moves the player and its score isn't at its end.
+/// Each item of the map that a player touches it gets, unless the item is away, 8 were got, or the player has no room
+/// for it: it has 100 of ammunition, or had 8 gems, which it carries still or has brought to a goal. This holds where no
+/// teleporter moves the player and its score isn't at its end.
 pub fn touched_items_are_taken()
     ensures { TouchedItemsAreTaken }
 {}
@@ -58,8 +58,8 @@ pub fn goals_take_what_is_carried()
     ensures { GoalsTakeWhatIsCarried }
 {}
 
-/// A player leaves an item that is there only where it has no room for it when it touches it: it has got 8 in this move,
-/// or has 100 of ammunition, or carries 8 gems. This holds where no teleporter moves the player.
+/// A player leaves an item of the map that is there only where it has no room for it when it touches it: it has got 8 in
+/// this move, or has 100 of ammunition, or carries 8 gems. This holds where no teleporter moves the player.
 pub fn items_are_left_without_room()
     ensures { ItemsAreLeftWithoutRoom }
 {}
