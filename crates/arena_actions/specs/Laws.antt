@@ -1,15 +1,19 @@
 -- What holds of every move in an arena.
-use Rattle.std.specs.Prelude.{◌≡◌, ℕ, false, List, map}
+use Rattle.std.specs.Prelude.{◌≡◌, ◌≢◌, ℕ, false, List, [], map, All}
 use Rattle.std.specs.List.{IsDistinct}
 use Rattle.std.specs.List.Sorted.{IsStrictlyIncreasing}
 use Rattle.arena_geo.specs.Boxes.{is_blocked}
+use Rattle.entity_recs.specs.declared.effect.Effect.{Effect}
+use Rattle.entity_recs.specs.declared.kind.Kind.TheVariants.{Teleporter}
 use Rattle.entity_recs.specs.declared.rec.Rec.{Rec}
 use Rattle.entity_recs.specs.Bodies.{body_of}
 use Rattle.entity_recs.specs.Commands.{Command}
 use Rattle.arena_map.specs.Maps.{MapView, IsMap}
-use Rattle.trigger_rules.specs.Touching.{solids_among}
+use Rattle.player_move.specs.declared.moved.Moved.{Moved}
+use Rattle.player_move.specs.Moves.{move_of}
+use Rattle.trigger_rules.specs.Touching.{touched_by, solids_among, Walk, touched}
 use Rattle.trigger_rules.specs.Laws.{IsPlayerOn, AreTaken, is_same_record}
-use Rattle.arena_actions.specs.Outcomes.{moved_among, outcome_in}
+use Rattle.arena_actions.specs.Outcomes.{asked, flags_of, after_move, moved_among, outcome_in}
 
 -- a player on a map is one after its move
 abbrev pub PlayersStayOnMaps : Type 0
@@ -31,6 +35,55 @@ abbrev pub MovesKeepWhoMoves : Type 0
 MovesKeepWhoMoves =
     (arena : MapView) (me : Rec) (near : List Rec) (c : Command)
     → IsPlayerAfter me c.seq (outcome_in arena me near c).me
+
+-- the effect is this move alone: the player is where the move ends, as fast as it leaves it, and has what it had; no
+-- record changes state, and nothing was got
+pub record IsMoveAlone (me : Rec) (moved : Moved) (effect : Effect) : Type 0 where
+  pub origin : effect.me.origin ≡ moved.origin
+  pub vel : effect.me.vel ≡ moved.vel
+  pub flags : effect.me.flags ≡ flags_of moved.ground
+  pub ammo : effect.me.ammo ≡ me.ammo
+  pub carry : effect.me.carry ≡ me.carry
+  pub score : effect.me.score ≡ me.score
+  pub states : effect.states ≡ []
+  pub got : effect.reply.got ≡ []
+
+-- where nothing is touched after the move, the outcome is the whole move among the walls, the blocks and the bodies of
+-- the other solids
+abbrev pub MovesAreMade : Type 0
+MovesAreMade =
+    (arena : MapView) (me : Rec) (near : List Rec) (c : Command)
+    → let moved = move_of me (asked c) (solids_among arena near) in
+    touched_by (after_move me moved c.seq) near ≡ []
+    → IsMoveAlone me moved (outcome_in arena me near c)
+
+-- the player is where the move ends, as fast as it leaves it, with its bit for the ground
+pub record IsWhereItMoved (moved : Moved) (after : Rec) : Type 0 where
+  pub origin : after.origin ≡ moved.origin
+  pub vel : after.vel ≡ moved.vel
+  pub flags : after.flags ≡ flags_of moved.ground
+
+-- a player that touches no teleporter after its move is where it moved
+abbrev pub PlayersAreWhereTheyMoved : Type 0
+PlayersAreWhereTheyMoved =
+    (arena : MapView) (me : Rec) (near : List Rec) (c : Command)
+    → let moved = move_of me (asked c) (solids_among arena near) in
+    All (λ r. r.kind ≢ Teleporter) (touched_by (after_move me moved c.seq) near)
+    → IsWhereItMoved moved (outcome_in arena me near c).me
+
+-- the effect is what this walk over what a player touches does, and the reply has its origin and the ids that it got
+pub record IsEffectOf (w : Walk) (effect : Effect) : Type 0 where
+  pub player : effect.me ≡ w.me
+  pub states : effect.states ≡ w.states
+  pub origin : effect.reply.origin ≡ w.me.origin
+  pub got : effect.reply.got ≡ w.got
+
+-- after its move a player touches what it touches where it moved to
+abbrev pub TouchingFollowsMoves : Type 0
+TouchingFollowsMoves =
+    (arena : MapView) (me : Rec) (near : List Rec) (c : Command)
+    → let moved = move_of me (asked c) (solids_among arena near) in
+    IsEffectOf (touched arena c.frame (after_move me moved c.seq) near) (outcome_in arena me near c)
 
 -- a player whose body overlaps no solid before its move overlaps none after it
 abbrev pub PlayersStayFree : Type 0

@@ -1,7 +1,8 @@
 ghost use Rattle.arena_actions.specs.Worlds.{ValidRecordsAreTaken, TakenRecordsAreValid};
 ghost use Rattle.arena_actions.specs.Laws.{PlayersStayOnMaps, MovesKeepWhoMoves, PlayersStayFree};
 ghost use Rattle.arena_actions.specs.Laws.{MovesTakeWhatIsThere, NewStatesAreApart, RepliedIdsRise};
-ghost use Rattle.arena_actions.specs.Laws.{RepliesHaveTheOrigin};
+ghost use Rattle.arena_actions.specs.Laws.{RepliesHaveTheOrigin, MovesAreMade, PlayersAreWhereTheyMoved};
+ghost use Rattle.arena_actions.specs.Laws.{TouchingFollowsMoves};
 
 /// A player's record stays within its bounds, and its body inside the arena.
 pub fn players_stay_on_maps()
@@ -11,6 +12,23 @@ pub fn players_stay_on_maps()
 /// A player keeps its id, its kind, its shape and its state, and has the number of the command.
 pub fn moves_keep_who_moves()
     ensures { MovesKeepWhoMoves }
+{}
+
+/// Where a player touches nothing after its move, the outcome is its whole move among the walls, the blocks and the
+/// bodies of the other solids, and nothing else.
+pub fn moves_are_made()
+    ensures { MovesAreMade }
+{}
+
+/// A player that touches no teleporter after its move is where it moved, as fast as the move left it.
+pub fn players_are_where_they_moved()
+    ensures { PlayersAreWhereTheyMoved }
+{}
+
+/// After its move a player touches what it touches where it moved to, and the reply has its origin then and the ids of
+/// what it got.
+pub fn touching_follows_moves()
+    ensures { TouchingFollowsMoves }
 {}
 
 /// A player whose body overlaps no wall, no block and no body of another solid overlaps none after its move.

@@ -14,6 +14,7 @@ use Rattle.entity_recs.specs.Bodies.{body_of}
 use Rattle.speed_rules.specs.declared.constants.TheConstants.{MAX_SPEED, SECOND}
 use Rattle.speed_rules.specs.Measures.{greatest_velocity}
 use Rattle.player_move.specs.declared.moved.Moved.{Moved}
+use Rattle.player_move.specs.declared.limits.TheConstants.{FARTHEST_ORIGIN}
 use Rattle.player_move.specs.declared.stairs.TheConstants.{STAIR_HEIGHT}
 use Rattle.player_move.specs.Intents.{Intent}
 use Rattle.player_move.specs.Velocities.{walks, velocity_after}
@@ -110,3 +111,9 @@ MoveLooksWithin =
 abbrev pub MoveStaysSlow : Type 0
 MoveStaysSlow =
     (me : Rec) (cmd : Intent) (solids : List Bounds) → IsNear greatest_velocity (move_of me cmd solids).vel
+
+-- ---- the numbers
+-- the numbers that the clauses of a move cite: the farthest from 0 that it ends on an axis, and the height of a stair
+pub record LimitsAreKnown : Type 0 where
+  pub farthest_origin : FARTHEST_ORIGIN ≡ 1074176
+  pub stair_height : STAIR_HEIGHT ≡ 4608

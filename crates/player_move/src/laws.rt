@@ -1,5 +1,10 @@
-ghost use Rattle.player_move.specs.Laws.{MoveEndsFree, MoveGoesNoLessFar, MoveReach};
+ghost use Rattle.player_move.specs.Laws.{LimitsAreKnown, MoveEndsFree, MoveGoesNoLessFar, MoveReach};
 ghost use Rattle.player_move.specs.Laws.{MoveLooksWithin, MoveStaysInside, MoveStaysSlow};
+
+/// The farthest from 0 that a move ends on an axis is 1,074,176, and a stair is 4,608 high, in sub-units.
+pub fn limits_are_known()
+    ensures { LimitsAreKnown }
+{}
 
 /// A body that overlaps no solid at the start overlaps none at the end.
 pub fn move_ends_free()

@@ -2,7 +2,9 @@
 use Rattle.std.specs.Prelude.{◌≡◌, ◌↔◌, ℕ, ◌^◌, ◌<◌, List, All, Contains, length, Option, Some, None, Ok, Err}
 use Rattle.entity_recs.specs.declared.rec.Rec.{Rec}
 use Rattle.world_tree.specs.Live.{record_at, live_in, AreEntries}
+use Rattle.snapshot_write.specs.declared.reply_buf.TheConstants.{REPLY_ROOM}
 use Rattle.snapshot_write.specs.declared.seen.Seen.{Seen}
+use Rattle.snapshot_write.specs.declared.seen.TheConstants.{MOST_SEEN}
 use Rattle.snapshot_write.specs.declared.snapshot.Snapshot.{Snapshot}
 use Rattle.snapshot_write.specs.declared.snap_fault.SnapFault.{SnapFault}
 use Rattle.snapshot_write.specs.Snapshots.{snapshot}
@@ -60,3 +62,8 @@ pub record AgreeOnPlaces : Type 0 where
   pub each_other : (records : List (Option Rec)) → AreEntries records → (a b : ℕ) (s t : Snapshot)
       → IsShownTo records a s → IsShownTo records b t → (p : Seen) → Contains s.seen p
       → p.id ≡ t.own.id → p.origin ≡ t.own.origin
+
+-- the numbers that the lists of bytes and of entities cite
+pub record LimitsAreKnown : Type 0 where
+  pub reply_room : REPLY_ROOM ≡ 4123
+  pub most_seen : MOST_SEEN ≡ 255

@@ -29,3 +29,8 @@ pub fn snapshots_show_who_is_in_sight()
 pub fn snapshots_agree_on_places()
     ensures { laws.AgreeOnPlaces }
 {}
+
+/// A list of bytes has room for 4,123, and a list of entities for 255.
+pub fn limits_are_known()
+    ensures { laws.LimitsAreKnown }
+{}

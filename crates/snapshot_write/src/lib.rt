@@ -2,8 +2,8 @@
 #![tactic(auto)]
 
 pub use laws::{
-    no_cause_where_spelled, one_spelling, read_where_spelled, snapshots_agree_on_places,
-    snapshots_show_who_is_in_sight, written_snapshots_are_read,
+    limits_are_known, no_cause_where_spelled, one_spelling, read_where_spelled,
+    snapshots_agree_on_places, snapshots_show_who_is_in_sight, written_snapshots_are_read,
 };
 pub use reading::read_snapshot;
 pub use reply_buf::{REPLY_ROOM, ReplyBuf};

@@ -1,5 +1,5 @@
 -- By how much the rules change a velocity.
-use Rattle.std.specs.Prelude.{◌≡◌, ℕ, ◌≤◌, ℤ, pos, neg_ℤ, ◌-ℤ◌, ◌≤ℤ◌, unsigned_abs}
+use Rattle.std.specs.Prelude.{◌≡◌, ℕ, ◌≤◌, ℤ, pos, neg_ℤ, ◌+ℤ◌, ◌-ℤ◌, ◌≤ℤ◌, unsigned_abs}
 use Rattle.arena_geo.specs.declared.vec3.Vec3.{Vec3}
 use Rattle.speed_rules.specs.declared.constants.TheConstants.{MAX_VELOCITY}
 use Rattle.speed_rules.specs.Measures.{speed_of, greatest_velocity}
@@ -21,6 +21,12 @@ pub record AddsAtMost (most : ℕ) (old new : Vec3) : Type 0 where
   pub x : unsigned_abs (new.x -ℤ old.x) ≤ most
   pub y : unsigned_abs (new.y -ℤ old.y) ≤ most
   pub z : new.z ≡ old.z
+
+-- this much is added to z, and x and y are the same
+pub record AddsUpwards (added : ℤ) (old new : Vec3) : Type 0 where
+  pub x : new.x ≡ old.x
+  pub y : new.y ≡ old.y
+  pub z : new.z ≡ old.z +ℤ added
 
 -- no speed over the ground is left
 pub record IsStill (v : Vec3) : Type 0 where

@@ -1,6 +1,6 @@
 -- What holds of the rules of a player's velocity.
 use Rattle.std.specs.Prelude.{◌≡◌, ℕ, ◌+◌, ◌*◌, ◌/◌, ◌<◌, ◌≤◌, Bool, List, length, fold, All}
-use Rattle.std.specs.Prelude.{ℤ, pos, ◌+ℤ◌, ◌<ℤ◌, ◌≤ℤ◌}
+use Rattle.std.specs.Prelude.{ℤ, pos, neg_ℤ, ◌+ℤ◌, ◌<ℤ◌, ◌≤ℤ◌}
 use Rattle.std.specs.Int.{int_min, int_max}
 use Rattle.arena_geo.specs.declared.vec3.Vec3.{Vec3}
 use Rattle.arena_geo.specs.Vectors.{IsNear}
@@ -8,9 +8,9 @@ use Rattle.speed_rules.specs.declared.constants.TheConstants.{UNIT, SECOND, FRIC
 use Rattle.speed_rules.specs.declared.constants.TheConstants.{MAX_AIR_SPEED, GRAVITY, JUMP_SPEED}
 use Rattle.speed_rules.specs.declared.constants.TheConstants.{MAX_VELOCITY, MAX_UNCLAMPED}
 use Rattle.speed_rules.specs.Measures.{speed_of, greatest_velocity}
-use Rattle.speed_rules.specs.Rules.{slowed, friction_of, accelerated, clamped, unclamped}
+use Rattle.speed_rules.specs.Rules.{jumped, slowed, friction_of, accelerated, gravity_of, clamped, unclamped}
 use Rattle.speed_rules.specs.Wishes.{wish_length, dot_with_wish, part_along_wish, wish_cap, wish_gain}
-use Rattle.speed_rules.specs.Changes.{Shortens, KeepsZeros, AddsAtMost, IsClamped, IsStill}
+use Rattle.speed_rules.specs.Changes.{Shortens, KeepsZeros, AddsAtMost, AddsUpwards, IsClamped, IsStill}
 
 -- the numbers that the rules cite: Quake's, where a unit has 256 sub-units and a second 1,000 milliseconds; and the
 -- limit of the velocities that they take, which is this project's
@@ -104,6 +104,15 @@ pub record ActsBelowCap (v : Vec3) (wish_x wish_y : ℤ) (ms : ℕ) (on_ground :
 abbrev pub AccelerationActsBelowTheCap : Type 0
 AccelerationActsBelowTheCap =
     (v : Vec3) (wish_x wish_y : ℤ) (ms : ℕ) (on_ground : Bool) → ActsBelowCap v wish_x wish_y ms on_ground
+
+-- ---- gravity and jumps
+-- gravity takes 204,800 sub-units a second from z in a second, cut toward 0, and keeps x and y
+abbrev pub GravityPullsDown : Type 0
+GravityPullsDown = (v : Vec3) (ms : ℕ) → AddsUpwards (neg_ℤ (pos (204800 * ms / 1000))) v (gravity_of v ms)
+
+-- a jump adds 69,120 sub-units a second to z, and keeps x and y
+abbrev pub JumpsPushUp : Type 0
+JumpsPushUp = (v : Vec3) → AddsUpwards (pos 69120) v (jumped v)
 
 -- ---- the clamp
 -- the clamp keeps each part that is in range, and takes each other part to the end of the range that it is beyond

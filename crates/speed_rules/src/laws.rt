@@ -1,6 +1,7 @@
 ghost use Rattle.speed_rules.specs.Laws.{AreQuakesNumbers, FrictionShortens, FrictionKeepsZeros, FrictionSlows};
 ghost use Rattle.speed_rules.specs.Laws.{FrictionStops, AccelerationIsBounded, AccelerationStopsAtTheCap};
 ghost use Rattle.speed_rules.specs.Laws.{AccelerationReachesTheCap, AccelerationActsBelowTheCap};
+ghost use Rattle.speed_rules.specs.Laws.{GravityPullsDown, JumpsPushUp};
 ghost use Rattle.speed_rules.specs.Laws.{ClampKeepsWhatIsInRange, ClampIsIdempotent, WhatEntersTheClampIsNear};
 
 /// The rules' numbers are Quake's, in sub-units, and they take velocities within 600,000.
@@ -51,6 +52,16 @@ pub fn acceleration_reaches_the_cap()
 /// missing.
 pub fn acceleration_acts_below_the_cap()
     ensures { AccelerationActsBelowTheCap }
+{}
+
+/// Gravity takes 204,800 * time / 1000, cut toward 0, from z, and keeps x and y.
+pub fn gravity_pulls_down()
+    ensures { GravityPullsDown }
+{}
+
+/// A jump adds 69,120 to z, and keeps x and y.
+pub fn jumps_push_up()
+    ensures { JumpsPushUp }
 {}
 
 /// The clamp keeps each part that is in range, and takes each other part to the end of the range that it is beyond.

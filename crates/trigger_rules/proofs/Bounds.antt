@@ -140,7 +140,7 @@ on-item map me item may is = subst (λ (b : Bool). IsPlayerOn map (if b then wit
 on-step : (map : MapView) (solids : List Bounds) (frame : ℕ) (w next : Walk) (r : Rec) → IsMap map → Step map solids frame w r next → IsPlayerOn map w.me → IsPlayerOn map next.me
 on-step map solids frame w next r rules (inl same) is = subst (λ (v : Walk). IsPlayerOn map v.me) (sym same) is
 on-step map solids frame w next r rules (inr (inl t)) is = subst (λ (v : Walk). IsPlayerOn map v.me) (sym t.is) (on-item map w.me r t.may is)
-on-step map solids frame w next r rules (inr (inr (inl goal))) is = subst (λ (v : Walk). IsPlayerOn map v.me) (sym goal) (on-goal map w.me is)
+on-step map solids frame w next r rules (inr (inr (inl goal))) is = subst (λ (v : Walk). IsPlayerOn map v.me) (sym goal.is) (on-goal map w.me is)
 on-step map solids frame w next r rules (inr (inr (inr l))) is =
     subst (λ (v : Walk). IsPlayerOn map v.me) (sym l.is) (on-leap map w.me l.dest (dest-stands map r.id l.dest rules l.from) is)
 

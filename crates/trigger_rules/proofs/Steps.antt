@@ -24,6 +24,11 @@ pub record IsTake (map : MapView) (frame : ℕ) (w : Walk) (item : Rec) (next : 
   pub may : may_take w.me item ≡ true
   pub is : next ≡ walk_of (after_item w.me item) (w.states ++ new_state item.id (frame + delay) ∷ []) (w.got ++ item.id ∷ []) w.ended
 
+-- a goal adds what the player carries to its score
+pub record IsGoal (w : Walk) (r : Rec) (next : Walk) : Type 0 where
+  pub kind : r.kind ≡ Goal
+  pub is : next ≡ walk_of (scored w.me) w.states w.got w.ended
+
 -- the player leaps
 pub record IsLeap (map : MapView) (solids : List Bounds) (w : Walk) (r : Rec) (next : Walk) : Type 0 where
   pub kind : r.kind ≡ Teleporter
@@ -34,7 +39,7 @@ pub record IsLeap (map : MapView) (solids : List Bounds) (w : Walk) (r : Rec) (n
 
 -- what a record changes
 abbrev pub Step : MapView → List Bounds → ℕ → Walk → Rec → Walk → Type 0
-Step map solids frame w r next = (next ≡ w) ⊎ (IsTake map frame w r next ⊎ ((next ≡ walk_of (scored w.me) w.states w.got w.ended) ⊎ IsLeap map solids w r next))
+Step map solids frame w r next = (next ≡ w) ⊎ (IsTake map frame w r next ⊎ (IsGoal w r next ⊎ IsLeap map solids w r next))
 
 item-step : (map : MapView) (solids : List Bounds) (frame : ℕ) (w : Walk) (r : Rec) (delay : Option ℕ) → is_item r.kind ≡ true → delay_of map r.id ≡ delay → Step map solids frame w r (after_touched_item delay frame w r)
 item-step map solids frame w r None kind is = inl refl
@@ -67,7 +72,7 @@ step map solids frame w r = by w.ended
     kinds Ammo e = item-step map solids frame w r (delay_of map r.id) (ap is_item e) refl
     kinds Gem e = item-step map solids frame w r (delay_of map r.id) (ap is_item e) refl
     kinds Teleporter e = teleporter-step map solids frame w r (dest_of map r.id) e refl
-    kinds Goal e = inr (inr (inl refl))
+    kinds Goal e = inr (inr (inl (record { kind = e; is = refl })))
     kinds Lift e = inl refl
 
     by : (ended : Bool) → Step map solids frame w r (if ended then w else after_kind r.kind map solids frame w r)
@@ -101,6 +106,9 @@ item-change me item = by (may_take me item) item.kind
     by true Teleporter = change me refl refl refl refl refl refl refl refl refl refl
     by true Goal = change me refl refl refl refl refl refl refl refl refl refl
     by true Lift = change me refl refl refl refl refl refl refl refl refl refl
+
+pub true-false : true ≡ false → ⊥
+true-false h = cc
 
 pub both : (a b : Bool) → (a && b) ≡ true → (a ≡ true) × (b ≡ true)
 both true b h = (refl, h)

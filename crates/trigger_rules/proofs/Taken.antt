@@ -20,21 +20,24 @@ use Rattle.arena_map.specs.Maps.{MapView, dest_of}
 use Rattle.item_rules.specs.Items.{after_item}
 use Rattle.trigger_rules.specs.Touching.{is_touched, touched_by, solids_among, Walk, walk_of, first_walk, new_state, scored, leapt, after_teleporter, after_kind, after_trigger, touched}
 use Rattle.trigger_rules.specs.Laws.{HasFewThings, ThingsStayFew, IsTaken, AreTaken, ItemsWereThere, GotIdsRise, ScoresNeverFall, HasLeapt, LeapsAreFree, IsInPlace, OnlyLeapsMove, IsSamePlayer, PlayersStayThemselves, OnlyTouchedMatters}
-use Rattle.trigger_rules.proofs.Steps.{Step, step, item-change, was-there, few-with, walk-keeps, walk-keeps-in}
+use Rattle.trigger_rules.proofs.Steps.{Step, step, item-change, true-false, was-there, few-with, walk-keeps, walk-keeps-in}
 
 -- ---- things stay few
 
 few-step : (map : MapView) (solids : List Bounds) (frame : ℕ) (w next : Walk) (r : Rec) → Step map solids frame w r next → HasFewThings w.me → HasFewThings next.me
 few-step map solids frame w next r (inl same) few = subst (λ (v : Walk). HasFewThings v.me) (sym same) few
 few-step map solids frame w next r (inr (inl t)) few = subst (λ (v : Walk). HasFewThings v.me) (sym t.is) (few-with w.me r t.may few)
-few-step map solids frame w next r (inr (inr (inl goal))) few = subst (λ (v : Walk). HasFewThings v.me) (sym goal) (record { ammo = few.ammo; carry = omega arith })
+few-step map solids frame w next r (inr (inr (inl goal))) few = subst (λ (v : Walk). HasFewThings v.me) (sym goal.is) (record { ammo = few.ammo; carry = omega arith })
 few-step map solids frame w next r (inr (inr (inr l))) few = subst (λ (v : Walk). HasFewThings v.me) (sym l.is) (record { ammo = few.ammo; carry = few.carry })
+
+-- over any records
+pub few-through : (map : MapView) (solids : List Bounds) (frame : ℕ) (me : Rec) (rs : List Rec) → HasFewThings me → HasFewThings (fold (after_trigger map solids frame) (first_walk me) rs).me
+few-through map solids frame me rs few =
+    walk-keeps (after_trigger map solids frame) (λ w. HasFewThings w.me) (first_walk me) rs (λ v r. few-step map solids frame v (after_trigger map solids frame v r) r (step map solids frame v r)) few
 
 pub stay_few : ThingsStayFew
 unfolding touched
-stay_few map frame me near few =
-    let solids = solids_among map near in
-    walk-keeps (after_trigger map solids frame) (λ w. HasFewThings w.me) (first_walk me) (touched_by me near) (λ v r. few-step map solids frame v (after_trigger map solids frame v r) r (step map solids frame v r)) few
+stay_few map frame me near few = few-through map (solids_among map near) frame me (touched_by me near) few
 
 -- ---- scores
 
@@ -47,7 +50,7 @@ score-step map solids frame least w next r (inl same) is = subst (λ (v : Walk).
 score-step map solids frame least w next r (inr (inl t)) is =
     let same = (item-change w.me r).score in
     subst (λ (v : Walk). IsScore least v.me) (sym t.is) (record { low = omega (arith, same, is.low); high = omega (arith, same, is.high) })
-score-step map solids frame least w next r (inr (inr (inl goal))) is = subst (λ (v : Walk). IsScore least v.me) (sym goal) (record { low = omega (arith, is.low, is.high); high = omega arith })
+score-step map solids frame least w next r (inr (inr (inl goal))) is = subst (λ (v : Walk). IsScore least v.me) (sym goal.is) (record { low = omega (arith, is.low, is.high); high = omega arith })
 score-step map solids frame least w next r (inr (inr (inr l))) is = subst (λ (v : Walk). IsScore least v.me) (sym l.is) (record { low = is.low; high = is.high })
 
 pub never_fall : ScoresNeverFall
@@ -66,7 +69,7 @@ self-step : (map : MapView) (solids : List Bounds) (frame : ℕ) (me : Rec) (w n
 self-step map solids frame me w next r (inl same) is = subst (λ (v : Walk). IsSamePlayer me v.me) (sym same) is
 self-step map solids frame me w next r (inr (inl t)) is = subst (λ (v : Walk). IsSamePlayer me v.me) (sym t.is) (same-through me w.me (after_item w.me r) is (item-change w.me r).same)
 self-step map solids frame me w next r (inr (inr (inl goal))) is =
-    subst (λ (v : Walk). IsSamePlayer me v.me) (sym goal) (same-through me w.me (scored w.me) is (record { id = refl; kind = refl; mins = refl; maxs = refl; seq = refl; state = refl }))
+    subst (λ (v : Walk). IsSamePlayer me v.me) (sym goal.is) (same-through me w.me (scored w.me) is (record { id = refl; kind = refl; mins = refl; maxs = refl; seq = refl; state = refl }))
 self-step map solids frame me w next r (inr (inr (inr l))) is =
     subst (λ (v : Walk). IsSamePlayer me v.me) (sym l.is) (same-through me w.me (leapt w.me l.dest) is (record { id = refl; kind = refl; mins = refl; maxs = refl; seq = refl; state = refl }))
 
@@ -98,9 +101,6 @@ leapt-as map near a b place same l = record {
 corners-as : (a b : Rec) → IsSamePlayer a b → HasCorners PLAYER_MINS PLAYER_MAXS b.mins b.maxs → HasCorners PLAYER_MINS PLAYER_MAXS a.mins a.maxs
 corners-as a b same c = record { low_is = sym same.mins ∙ c.low_is; high_is = sym same.maxs ∙ c.high_is }
 
-true-false : true ≡ false → ⊥
-true-false h = cc
-
 place-step : (map : MapView) (near : List Rec) (frame : ℕ) (me : Rec) (w next : Walk) (r : Rec) → Step map (solids_among map near) frame w r next → HasPlace map near me w → HasPlace map near me next
 place-step map near frame me w next r (inl same) is = subst (HasPlace map near me) (sym same) is
 place-step map near frame me w next r (inr (inl t)) is =
@@ -112,7 +112,7 @@ place-step map near frame me w next r (inr (inl t)) is =
 place-step map near frame me w next r (inr (inr (inl goal))) is =
     let place : IsInPlace w.me (scored w.me) = record { origin = refl; vel = refl; flags = refl } in
     let same : IsSamePlayer w.me (scored w.me) = record { id = refl; kind = refl; mins = refl; maxs = refl; seq = refl; state = refl } in
-    subst (HasPlace map near me) (sym goal) (record {
+    subst (HasPlace map near me) (sym goal.is) (record {
       stays = λ on. in_place-through me w.me (scored w.me) (is.stays on) place;
       leaps = λ c off. leapt-as map near w.me (scored w.me) place same (is.leaps c off);
     })
@@ -216,21 +216,39 @@ taken-step map solids frame me near w next r (inr (inl t)) one are = subst (λ (
   where
     new : NewState
     new = new_state r.id (frame + t.delay)
-taken-step map solids frame me near w next r (inr (inr (inl goal))) one are = subst (λ (v : Walk). AreTaken map frame me near v.states v.got) (sym goal) are
+taken-step map solids frame me near w next r (inr (inr (inl goal))) one are = subst (λ (v : Walk). AreTaken map frame me near v.states v.got) (sym goal.is) are
 taken-step map solids frame me near w next r (inr (inr (inr l))) one are = subst (λ (v : Walk). AreTaken map frame me near v.states v.got) (sym l.is) are
+
+-- what a walk over records takes is theirs, where each is one of these
+taken-through : (map : MapView) (solids : List Bounds) (frame : ℕ) (me : Rec) (near rs : List Rec) → AllByRecursion (IsOne me near) rs
+    → let w = fold (after_trigger map solids frame) (first_walk me) rs in AreTaken map frame me near w.states w.got
+taken-through map solids frame me near rs all =
+    walk-keeps-in (after_trigger map solids frame) (λ w. AreTaken map frame me near w.states w.got) (IsOne me near) (first_walk me) rs
+    (λ v r one. taken-step map solids frame me near v (after_trigger map solids frame v r) r (step map solids frame v r) one) all
+    (record { got_are = refl; each = All-nil (IsTaken map frame me near); few = omega arith })
 
 pub were_there : ItemsWereThere
 unfolding touched
-were_there map frame me near =
-    let solids = solids_among map near in
-    walk-keeps-in (after_trigger map solids frame) (λ w. AreTaken map frame me near w.states w.got) (IsOne me near) (first_walk me) (touched_by me near)
-    (λ v r one. taken-step map solids frame me near v (after_trigger map solids frame v r) r (step map solids frame v r) one) (ones me near)
-    (record { got_are = refl; each = All-nil (IsTaken map frame me near); few = omega arith })
+were_there map frame me near = taken-through map (solids_among map near) frame me near (touched_by me near) (ones me near)
+
+-- what holds of each of some records holds of the first of them
+first-ones : (P : Rec → Type 0) (before more : List Rec) → AllByRecursion P (before ++ more) → AllByRecursion P before
+first-ones P [] more all = tt
+first-ones P (r ∷ before) more all = (all.0, first-ones P before more all.1)
+
+-- what a walk over the first triggers that a player touches takes is theirs
+pub taken-before : (map : MapView) (solids : List Bounds) (frame : ℕ) (me : Rec) (near before more : List Rec) → touched_by me near ≡ before ++ more
+    → let w = fold (after_trigger map solids frame) (first_walk me) before in AreTaken map frame me before w.states w.got
+taken-before map solids frame me near before more are =
+    let test = is_touched (abs_of me) in
+    let passes = subst (AllByRecursion (λ r. test r ≡ true)) are (recursion_from_All (λ r. test r ≡ true) (touched_by me near) (filter_passes test near)) in
+    taken-through map solids frame me before before
+    (all-both me before before (recursion_from_All (Contains before) before (All-contains_itself before)) (first-ones (λ r. test r ≡ true) before more passes))
 
 -- ---- rising ids
 
 -- the ids rise from this number on
-Rises : ℕ → List Rec → Type 0
+unfoldable pub Rises : ℕ → List Rec → Type 0
 Rises n [] = Unit {0}
 Rises n (r ∷ rs) = (n ≤ r.id) × Rises (r.id + 1) rs
 
@@ -247,6 +265,12 @@ rises-filter test n (r ∷ rs) up = by (test r) (rises-filter test (r.id + 1) rs
     by : (b : Bool) → Rises (r.id + 1) (filter test rs) → Rises n (cond b (r ∷ filter test rs) (filter test rs))
     by true more = (up.0, more)
     by false more = rises-less (r.id + 1) n (filter test rs) (omega (arith, up.0)) more
+
+-- the ids of the first of them rise
+pub rises-first : (n : ℕ) (before more : List Rec) → Rises n (before ++ more) → Rises n before
+unfolding Rises
+rises-first n [] more up = tt
+rises-first n (r ∷ before) more up = (up.0, rises-first (r.id + 1) before more up.1)
 
 rises-from : (n : ℕ) (rs : List Rec) → IsStrictlyIncreasing (map_list (λ r. r.id) rs) → ((r : Rec) (more : List Rec) → rs ≡ r ∷ more → n ≤ r.id) → Rises n rs
 unfolding Rises
@@ -290,21 +314,21 @@ rising-push xs n rise below k more = by (cases_eq (k + 1) (length xs))
         omega (arith, first, last, less)
 
 -- the ids that were got rise, and are below a number
-record IsBelow (n : ℕ) (got : List ℕ) : Type 0 where
-  rise : IsStrictlyIncreasing got
-  below : All (λ g. g < n) got
+pub record IsBelow (n : ℕ) (got : List ℕ) : Type 0 where
+  pub rise : IsStrictlyIncreasing got
+  pub below : All (λ g. g < n) got
 
 below-more : (n m : ℕ) (got : List ℕ) → n ≤ m → IsBelow n got → IsBelow m got
 below-more n m got less is = record { rise = is.rise; below = All-weaker (λ g. g < n) (λ g. g < m) (λ g h. omega (arith, h, less)) got is.below }
 
-below-step : (map : MapView) (solids : List Bounds) (frame n : ℕ) (w next : Walk) (r : Rec) → Step map solids frame w r next → n ≤ r.id → IsBelow n w.got → IsBelow (r.id + 1) next.got
+pub below-step : (map : MapView) (solids : List Bounds) (frame n : ℕ) (w next : Walk) (r : Rec) → Step map solids frame w r next → n ≤ r.id → IsBelow n w.got → IsBelow (r.id + 1) next.got
 below-step map solids frame n w next r (inl same) low is = subst (λ (v : Walk). IsBelow (r.id + 1) v.got) (sym same) (below-more n (r.id + 1) w.got (omega (arith, low)) is)
 below-step map solids frame n w next r (inr (inl t)) low is =
     let here = below-more n r.id w.got low is in
     let more = below-more n (r.id + 1) w.got (omega (arith, low)) is in
     subst (λ (v : Walk). IsBelow (r.id + 1) v.got) (sym t.is)
     (record { rise = rising-push w.got r.id is.rise here.below; below = All-push (λ g. g < r.id + 1) w.got r.id more.below (omega arith) })
-below-step map solids frame n w next r (inr (inr (inl goal))) low is = subst (λ (v : Walk). IsBelow (r.id + 1) v.got) (sym goal) (below-more n (r.id + 1) w.got (omega (arith, low)) is)
+below-step map solids frame n w next r (inr (inr (inl goal))) low is = subst (λ (v : Walk). IsBelow (r.id + 1) v.got) (sym goal.is) (below-more n (r.id + 1) w.got (omega (arith, low)) is)
 below-step map solids frame n w next r (inr (inr (inr l))) low is = subst (λ (v : Walk). IsBelow (r.id + 1) v.got) (sym l.is) (below-more n (r.id + 1) w.got (omega (arith, low)) is)
 
 below-through : (map : MapView) (solids : List Bounds) (frame n : ℕ) (w : Walk) (rs : List Rec) → Rises n rs → IsBelow n w.got → IsStrictlyIncreasing (fold (after_trigger map solids frame) w rs).got
@@ -314,8 +338,14 @@ below-through map solids frame n w (r ∷ rs) up is =
     let next = after_trigger map solids frame w r in
     below-through map solids frame (r.id + 1) next rs up.1 (below-step map solids frame n w next r (step map solids frame w r) up.0 is)
 
+-- the ids of the triggers that a player touches rise, where those of the records do
+pub touched-rise : (me : Rec) (near : List Rec) → IsStrictlyIncreasing (map_list (λ r. r.id) near) → Rises 0 (touched_by me near)
+touched-rise me near rise = rises-filter (is_touched (abs_of me)) 0 near (rises-from 0 near rise (λ r more e. omega arith))
+
+-- no ids rise
+pub none-below : IsBelow 0 []
+none-below = record { rise = λ k below. absurd (omega (arith, below)); below = All-nil (λ g. g < 0) }
+
 pub ids_rise : GotIdsRise
 unfolding touched
-ids_rise map frame me near rise =
-    below-through map (solids_among map near) frame 0 (first_walk me) (touched_by me near) (rises-filter (is_touched (abs_of me)) 0 near (rises-from 0 near rise (λ r more e. omega arith)))
-    (record { rise = λ k below. absurd (omega (arith, below)); below = All-nil (λ g. g < 0) })
+ids_rise map frame me near rise = below-through map (solids_among map near) frame 0 (first_walk me) (touched_by me near) (touched-rise me near rise) none-below

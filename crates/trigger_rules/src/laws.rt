@@ -9,6 +9,13 @@ ghost use Rattle.trigger_rules.specs.Laws.{
   OnlyTouchedMatters,
   PlayersStayOn,
   StatesAreApart,
+  TouchedItemsAreTaken,
+  PassedTeleportersAreBlocked,
+  LeapsAreFromTeleporters,
+  AmmunitionIsCounted,
+  NoGemIsLost,
+  GoalsTakeWhatIsCarried,
+  ItemsAreLeftWithoutRoom,
 };
 
 /// Nobody's ammunition passes 100, and nobody carries more than 8 gems.
@@ -22,9 +29,39 @@ pub fn items_were_there()
     ensures { ItemsWereThere }
 {}
 
+/// Each item of the map that a player touches it gets, unless the item is away, 8 were got, or the player has no room
+/// for it: it has 100 of ammunition, or had 8 gems, which it carries still or has brought to a goal. This holds where no
+/// teleporter moves the player and its score isn't at its end.
+pub fn touched_items_are_taken()
+    ensures { TouchedItemsAreTaken }
+{}
+
 /// The ids of what a player got rise.
 pub fn got_ids_rise()
     ensures { GotIdsRise }
+{}
+
+/// A player has the ammunition that it had and 20 for each item of it that it got, up to 100.
+pub fn ammunition_is_counted()
+    ensures { AmmunitionIsCounted }
+{}
+
+/// The gems that a player carries and has brought in are those of before and those that it got, where its score is below
+/// its end.
+pub fn no_gem_is_lost()
+    ensures { NoGemIsLost }
+{}
+
+/// A player that touches a goal carries the gems that it got after it, and one that touches none also those that it
+/// carried before. This holds where no teleporter moves the player.
+pub fn goals_take_what_is_carried()
+    ensures { GoalsTakeWhatIsCarried }
+{}
+
+/// A player leaves an item of the map that is there only where it has no room for it when it touches it: it has got 8 in
+/// this move, or has 100 of ammunition, or carries 8 gems. This holds where no teleporter moves the player.
+pub fn items_are_left_without_room()
+    ensures { ItemsAreLeftWithoutRoom }
 {}
 
 /// No score falls.
@@ -36,6 +73,17 @@ pub fn scores_never_fall()
 /// solid.
 pub fn leaps_are_free()
     ensures { LeapsAreFree }
+{}
+
+/// Where no teleporter has moved a player, a solid is in the way at the destination of each that it touches.
+pub fn passed_teleporters_are_blocked()
+    ensures { PassedTeleportersAreBlocked }
+{}
+
+/// A player that a teleporter has moved is at the destination of one that it touches, with bit 1 of its flags set. Each
+/// that it touches before that one is blocked. It got the items before it, or left them for a reason, and none after it.
+pub fn leaps_are_from_teleporters()
+    ensures { LeapsAreFromTeleporters }
 {}
 
 /// A player that no teleporter has moved is where it was, as fast as it was.

@@ -119,7 +119,7 @@ lands-step arena moved near solids frame w next r listed (inr (inl t)) is =
       at = (item-change w.me r).place.origin ∙ l.at;
     })
 lands-step arena moved near solids frame w next r listed (inr (inr (inl goal))) is =
-    subst (λ (v : Walk). Lands arena moved near v) (sym goal) (λ ended. let l = is ended
+    subst (λ (v : Walk). Lands arena moved near v) (sym goal.is) (λ ended. let l = is ended
     in record { r = l.r; dest = l.dest; way = l.way; at = l.at })
 lands-step arena moved near solids frame w next r listed (inr (inr (inr l))) is =
     subst (λ (v : Walk). Lands arena moved near v) (sym l.is) (λ ended. record {

@@ -1,20 +1,25 @@
 -- What holds of every move.
-use Rattle.std.proofs.Common.{◌≡◌, ℕ, Bool, true, false, List, refl, ap, ◌∙◌}
+use Rattle.std.proofs.Common.{◌≡◌, ℕ, ◌≢◌, Bool, true, false, List, [], ◌∷◌, fold, All, Contains, refl, sym, ap, ◌∙◌, subst, arith}
+use Rattle.std.proofs.lemmas.Bool.{false_from_ne_true}
+use Rattle.std.proofs.lemmas.List.Elements.{All-contains, Contains-append_right}
 use Rattle.arena_geo.specs.declared.vec3.Vec3.{Vec3}
 use Rattle.arena_geo.specs.Bounds.{Bounds}
 use Rattle.arena_geo.specs.Boxes.{is_blocked}
 use Rattle.entity_recs.specs.declared.bodies.TheConstants.{PLAYER_MINS, PLAYER_MAXS}
+use Rattle.entity_recs.specs.declared.kind.Kind.TheVariants.{Teleporter}
 use Rattle.entity_recs.specs.declared.rec.Rec.{Rec}
 use Rattle.entity_recs.specs.Records.{HasCorners}
 use Rattle.entity_recs.specs.Bodies.{standing, body_of}
 use Rattle.entity_recs.specs.Commands.{Command}
 use Rattle.player_move.proofs.Ending.{move_ends_free}
 use Rattle.arena_map.specs.Maps.{MapView}
-use Rattle.trigger_rules.specs.Touching.{solids_among, touched}
+use Rattle.player_move.specs.Moves.{move_of}
+use Rattle.trigger_rules.specs.Touching.{touched_by, solids_among, Walk, first_walk, after_trigger, touched}
 use Rattle.trigger_rules.proofs.Taken.{stay_themselves, leaps_free, only_leaps, were_there, ids_rise}
+use Rattle.trigger_rules.proofs.Leaping.{leaps_from_teleporters}
 use Rattle.trigger_rules.proofs.Bounds.{stay_on, states_apart}
-use Rattle.arena_actions.specs.Outcomes.{asked, moved_among, outcome_in}
-use Rattle.arena_actions.specs.Laws.{PlayersStayOnMaps, IsPlayerAfter, MovesKeepWhoMoves, PlayersStayFree, MovesTakeWhatIsThere, NewStatesAreApart, RepliedIdsRise, RepliesHaveTheOrigin}
+use Rattle.arena_actions.specs.Outcomes.{asked, after_move, effect_of, moved_among, outcome_in}
+use Rattle.arena_actions.specs.Laws.{PlayersStayOnMaps, IsPlayerAfter, MovesKeepWhoMoves, IsMoveAlone, MovesAreMade, PlayersAreWhereTheyMoved, TouchingFollowsMoves, PlayersStayFree, MovesTakeWhatIsThere, NewStatesAreApart, RepliedIdsRise, RepliesHaveTheOrigin}
 use Rattle.arena_actions.specs.Lawful.Players.{player_shape, moved_stays_on}
 
 pub stay_on_maps : PlayersStayOnMaps
@@ -92,3 +97,44 @@ replied_rise map me near c rise = ids_rise map c.frame (moved_among map me near 
 pub replies_have_origin : RepliesHaveTheOrigin
 unfolding outcome_in
 replies_have_origin map me near c = refl
+
+-- where nothing is touched, the walk is over before it begins
+none_touched : (map : MapView) (frame : ℕ) (me : Rec) (near : List Rec) → touched_by me near ≡ []
+    → touched map frame me near ≡ first_walk me
+unfolding touched
+none_touched map frame me near none = ap (fold (after_trigger map (solids_among map near) frame) (first_walk me)) none
+
+pub are_made : MovesAreMade
+unfolding outcome_in moved_among
+are_made map me near c none =
+    let moved = move_of me (asked c) (solids_among map near) in
+    let there = after_move me moved c.seq in
+    subst (λ (w : Walk). IsMoveAlone me moved (effect_of w)) (sym (none_touched map c.frame there near none))
+    (record { origin = refl; vel = refl; flags = refl; ammo = refl; carry = refl; score = refl; states = refl; got = refl })
+
+-- the first of some records is among them
+is_first : (r : Rec) (more : List Rec) → Contains (r ∷ more) r
+is_first r more = (0, omega arith, refl)
+
+-- a player that touches no teleporter isn't moved by one
+isnt_led_away : (map : MapView) (frame : ℕ) (me : Rec) (near : List Rec) → All (λ r. r.kind ≢ Teleporter) (touched_by me near)
+    → (touched map frame me near).ended ≡ false
+isnt_led_away map frame me near none = false_from_ne_true (touched map frame me near).ended ends_not
+  where
+    ends_not : (touched map frame me near).ended ≡ true → ⊥
+    ends_not end =
+        let led = leaps_from_teleporters map frame me near end in
+        let listed = Contains-append_right led.before (led.teleporter ∷ led.after) led.teleporter (is_first led.teleporter led.after) in
+        All-contains (λ r. r.kind ≢ Teleporter) (touched_by me near) led.teleporter none
+        (subst (λ (l : List Rec). Contains l led.teleporter) (sym led.touched_are) listed) led.kind
+
+pub are_where_they_moved : PlayersAreWhereTheyMoved
+unfolding outcome_in moved_among
+are_where_they_moved map me near c none =
+    let there = after_move me (move_of me (asked c) (solids_among map near)) c.seq in
+    let place = only_leaps map c.frame there near (isnt_led_away map c.frame there near none) in
+    record { origin = place.origin; vel = place.vel; flags = place.flags }
+
+pub follows_moves : TouchingFollowsMoves
+unfolding outcome_in moved_among
+follows_moves map me near c = record { player = refl; states = refl; origin = refl; got = refl }
