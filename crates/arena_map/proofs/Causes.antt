@@ -1,14 +1,16 @@
 -- What a text that is read as no line is.
-use Rattle.std.proofs.Common.{◌≡◌, ◌≢◌, ◌↔◌, ℕ, Bool, true, false, cond, List, Option, Some, None, Result, Ok, Err, ok_or, IfOk, refl, sym, ap, ◌∙◌, arith}
+use Rattle.std.proofs.Common.{◌≡◌, ◌≢◌, ◌↔◌, ℕ, Bool, true, false, cond, List, Option, Some, None, Result, Ok, Err, ok_or, IfOk, refl, sym, ap, ◌∙◌, inl, inr, arith}
+use Rattle.std.proofs.lemmas.Bool.{cases_Bool}
 use Rattle.std.proofs.lemmas.Option.{none-some, same_Some}
 use Rattle.edge_io.specs.Fields.{cut}
 use Rattle.arena_map.specs.declared.map_line.MapLine.{MapLine}
 use Rattle.arena_map.specs.declared.map_word.MapWord.{MapWord}
 use Rattle.arena_map.specs.MapLines.{IsWithinLimits}
-use Rattle.arena_map.specs.Words.{map_word, fields_of}
+use Rattle.arena_map.specs.Words.{word_text, map_word, fields_of}
 use Rattle.arena_map.specs.Reading.{has_fields, line_within, line_of_word, line_of_first, map_line_of}
 use Rattle.arena_map.specs.Spelling.{map_line_text}
-use Rattle.arena_map.specs.Causes.{HasNoWord, HasWord, HasNoForm, IsOutOfLimit}
+use Rattle.arena_map.specs.Causes.{HasNoWord, HasNoForm, HasForm, IsOutOfLimit}
+use Rattle.arena_map.proofs.FieldForms.{fields_are_spaced}
 use Rattle.arena_map.proofs.LinesSound.{word-spelled, line-sound}
 use Rattle.arena_map.proofs.LinesBack.{map_word-back, line-back}
 
@@ -56,6 +58,25 @@ fault_in (Err fault) = fault
 two_answers : (text : List ℕ) (a b : Result MapLine ℕ) → fault_in a ≢ fault_in b → map_line_of text ≡ a → map_line_of text ≡ b → ⊥
 two_answers text a b apart one other = apart (ap fault_in (sym one ∙ other))
 
+-- the first word of the text is a word of a map, and whether it has the fields that the word wants
+record HasWord (text : List ℕ) (form : Bool) : Type 0 where
+  word : MapWord
+  first : (cut text).0 ≡ word_text word
+  fields : has_fields (fields_of word) (cut text).1 ≡ form
+
+has_form : (text : List ℕ) → HasForm text → HasWord text true
+has_form text h = record { word = h.word; first = h.first; fields = (fields_are_spaced (fields_of h.word) (cut text).1).1 h.fields }
+
+has_no_form : (text : List ℕ) → HasNoForm text → HasWord text false
+has_no_form text h = record {
+  word = h.word;
+  first = h.first;
+  fields = elim (cases_Bool (has_fields (fields_of h.word) (cut text).1)) [
+    | inl form ↦ absurd (h.no_fields ((fields_are_spaced (fields_of h.word) (cut text).1).0 form))
+    | inr none ↦ none
+  ];
+}
+
 -- a text with a word has it as its first word
 has_word : (text : List ℕ) (form : Bool) (h : HasWord text form) → map_word (cut text).0 ≡ Some h.word
 has_word text form h = ap map_word h.first ∙ map_word-back h.word
@@ -79,21 +100,28 @@ no-word text (line word first form l is) =
 
 no-form : (text : List ℕ) → Answer text → (map_line_of text ≡ Err 4) ↔ HasNoForm text
 no-form text (no_word none is) =
-    ((λ h. absurd (two_answers text (Err 3) (Err 4) (λ e. omega (arith, e)) is h)), λ h. absurd (none-some h.word (sym none ∙ has_word text false h)))
-no-form text (no_form word first form is) = ((λ h. record { word = word; first = word-spelled (cut text).0 word first; fields = form }), λ h. is)
+    ((λ h. absurd (two_answers text (Err 3) (Err 4) (λ e. omega (arith, e)) is h)), λ h. absurd (none-some (has_no_form text h).word (sym none ∙ has_word text false (has_no_form text h))))
+no-form text (no_form word first form is) = (
+  (λ h. record {
+    word = word;
+    first = word-spelled (cut text).0 word first;
+    no_fields = λ is. let has = (fields_are_spaced (fields_of word) (cut text).1).1 is in cc;
+  }),
+  λ h. is,
+)
 no-form text (no_value word first form is) =
-    ((λ h. absurd (two_answers text (Err 6) (Err 4) (λ e. omega (arith, e)) is h)), λ h. let other = one_form text false h word first in cc)
+    ((λ h. absurd (two_answers text (Err 6) (Err 4) (λ e. omega (arith, e)) is h)), λ h. let other = one_form text false (has_no_form text h) word first in cc)
 no-form text (line word first form l is) =
-    ((λ h. absurd (two_answers text (Ok l) (Err 4) (λ e. omega (arith, e)) is h)), λ h. let other = one_form text false h word first in cc)
+    ((λ h. absurd (two_answers text (Ok l) (Err 4) (λ e. omega (arith, e)) is h)), λ h. let other = one_form text false (has_no_form text h) word first in cc)
 
 out-of-limit : (text : List ℕ) → Answer text → (map_line_of text ≡ Err 6) ↔ IsOutOfLimit text
 out-of-limit text (no_word none is) =
-    ((λ h. absurd (two_answers text (Err 3) (Err 6) (λ e. omega (arith, e)) is h)), λ h. absurd (none-some h.form.word (sym none ∙ has_word text true h.form)))
+    ((λ h. absurd (two_answers text (Err 3) (Err 6) (λ e. omega (arith, e)) is h)), λ h. absurd (none-some (has_form text h.form).word (sym none ∙ has_word text true (has_form text h.form))))
 out-of-limit text (no_form word first form is) =
-    ((λ h. absurd (two_answers text (Err 4) (Err 6) (λ e. omega (arith, e)) is h)), λ h. let other = one_form text true h.form word first in cc)
+    ((λ h. absurd (two_answers text (Err 4) (Err 6) (λ e. omega (arith, e)) is h)), λ h. let other = one_form text true (has_form text h.form) word first in cc)
 out-of-limit text (no_value word first form is) = (
   (λ h. record {
-    form = record { word = word; first = word-spelled (cut text).0 word first; fields = form };
+    form = record { word = word; first = word-spelled (cut text).0 word first; fields = (fields_are_spaced (fields_of word) (cut text).1).0 form };
     no_line = λ line limits text_is. two_answers text (Err 6) (Ok line) (λ e. omega (arith, e)) is (ap map_line_of text_is ∙ line-back line limits);
   }),
   λ h. is,

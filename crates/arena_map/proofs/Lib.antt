@@ -10,6 +10,7 @@ pub mod Lifts
 pub mod ThingsFound
 pub mod LinesSound
 pub mod LinesBack
+pub mod FieldForms
 pub mod Causes
 pub mod Opening
 pub mod ThingData

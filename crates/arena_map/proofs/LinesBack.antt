@@ -57,7 +57,7 @@ count-back limit n rest some few low ends =
 last-count : (limit n : ℕ) → 1 ≤ n → n ≤ limit → limit ≤ 1048576 → count_at limit (field_text (decimal n)) ≡ Some (n, [])
 last-count limit n some few low = ap (count_at limit) (sym (append-nil (field_text (decimal n)))) ∙ count-back limit n [] some few low tt
 
-kind-above : (kind : Kind) → is_item kind ≡ true → AreAbove 32 (kind_text kind)
+pub kind-above : (kind : Kind) → is_item kind ≡ true → AreAbove 32 (kind_text kind)
 kind-above kinds.Ammo is = search rules
 kind-above kinds.Gem is = search rules
 kind-above kind is = cc

@@ -117,7 +117,7 @@ count-read limit rest c low h =
 abbrev ReadsKind : List ℕ → Kind × List ℕ → Type 0
 ReadsKind rest k = (is_item k.0 ≡ true) × IsRead (ItemKind ∷ []) (field_text (kind_text k.0)) rest k.1
 
-kind-spelled : (text : List ℕ) (kind : Kind) → item_kind text ≡ Some kind → (text ≡ kind_text kind) × (is_item kind ≡ true)
+pub kind-spelled : (text : List ℕ) (kind : Kind) → item_kind text ≡ Some kind → (text ≡ kind_text kind) × (is_item kind ≡ true)
 kind-spelled text kind h = by (bytes_eq text (codes "ammo")) (bytes_eq text (codes "gem")) refl refl h
   where
     by : (a g : Bool) → bytes_eq text (codes "ammo") ≡ a → bytes_eq text (codes "gem") ≡ g → cond a (Some kinds.Ammo) (cond g (Some kinds.Gem) None) ≡ Some kind

@@ -1,30 +1,51 @@
 -- Why a text is no line of a map.
-use Rattle.std.specs.Prelude.{◌≡◌, ◌≢◌, Bool, true, false, ℕ, List}
-use Rattle.edge_io.specs.Fields.{cut}
+use Rattle.std.specs.Prelude.{◌≡◌, ◌≢◌, ⊤, true, ℕ, List, [], ◌∷◌, ◌++◌}
+use Rattle.edge_io.specs.Fields.{cut, field_text}
 use Rattle.arena_map.specs.declared.map_line.MapLine.{MapLine}
 use Rattle.arena_map.specs.declared.map_word.MapWord.{MapWord}
+use Rattle.arena_map.specs.declared.map_word.MapField.{MapField}
 use Rattle.arena_map.specs.MapLines.{IsWithinLimits}
 use Rattle.arena_map.specs.Words.{word_text, fields_of}
-use Rattle.arena_map.specs.Reading.{has_fields}
+use Rattle.arena_map.specs.Reading.{is_field}
 use Rattle.arena_map.specs.Spelling.{map_line_text}
+
+-- fields, each after a space
+abbrev pub spaced : List (List ℕ) → List ℕ
+spaced [] = []
+spaced (text ∷ texts) = field_text text ++ spaced texts
+
+-- there are as many texts as fields, and each is a number or an item's kind where that field is one
+abbrev pub AreOfForm : List MapField → List (List ℕ) → Type 0
+AreOfForm [] [] = ⊤
+AreOfForm [] (text ∷ texts) = ⊥
+AreOfForm (field ∷ fields) [] = ⊥
+AreOfForm (field ∷ fields) (text ∷ texts) = (is_field field text ≡ true) × AreOfForm fields texts
+
+-- the text is that of such fields, and nothing more
+pub record IsOfFields (fields : List MapField) (rest : List ℕ) : Type 0 where
+  pub texts : List (List ℕ)
+  pub forms : AreOfForm fields texts
+  pub spelled : rest ≡ spaced texts
 
 -- the first word of the text is no word of a map
 abbrev pub HasNoWord : List ℕ → Type 0
 HasNoWord text = (word : MapWord) → (cut text).0 ≢ word_text word
 
--- the first word of the text is a word of a map; whether after it are as many fields as the word wants, each a number or
--- an item's kind where the word wants one, and nothing more
-pub record HasWord (text : List ℕ) (form : Bool) : Type 0 where
+-- the first word of the text is a word of a map, and after it aren't the fields that the word wants: their number is
+-- another, or one isn't a number or an item's kind where it should be
+pub record HasNoForm (text : List ℕ) : Type 0 where
   pub word : MapWord
   pub first : (cut text).0 ≡ word_text word
-  pub fields : has_fields (fields_of word) (cut text).1 ≡ form
+  pub no_fields : IsOfFields (fields_of word) (cut text).1 → ⊥
 
--- the text has a word of a map, and not the fields that the word wants
-abbrev pub HasNoForm : List ℕ → Type 0
-HasNoForm text = HasWord text false
+-- the first word of the text is a word of a map, and after it are the fields that the word wants
+pub record HasForm (text : List ℕ) : Type 0 where
+  pub word : MapWord
+  pub first : (cut text).0 ≡ word_text word
+  pub fields : IsOfFields (fields_of word) (cut text).1
 
 -- the text has a word of a map and the fields that the word wants, and it is the text of no line whose numbers are within
 -- their limits
 pub record IsOutOfLimit (text : List ℕ) : Type 0 where
-  pub form : HasWord text true
+  pub form : HasForm text
   pub no_line : (line : MapLine) → IsWithinLimits line → text ≢ map_line_text line

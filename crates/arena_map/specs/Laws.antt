@@ -11,8 +11,10 @@ use Rattle.entity_recs.specs.Records.{IsShapeOf}
 use Rattle.entity_recs.specs.Bodies.{body_of}
 use Rattle.arena_map.specs.declared.lift.Lift.{Lift}
 use Rattle.arena_map.specs.declared.map_line.MapLine.{MapLine}
+use Rattle.arena_map.specs.declared.map_word.MapField.{MapField}
 use Rattle.arena_map.specs.MapLines.{IsWithinLimits, is_item, is_teleporter, is_lift}
-use Rattle.arena_map.specs.Reading.{map_line_of}
+use Rattle.arena_map.specs.Reading.{has_fields, map_line_of}
+use Rattle.arena_map.specs.Causes.{IsOfFields}
 use Rattle.arena_map.specs.Spelling.{map_line_text}
 use Rattle.arena_map.specs.Maps.{MapView, IsMap, solids_of, entities_of, dest_of, delay_of, lift_of}
 use Rattle.arena_map.specs.Rules.{bare_map, broken_by_arena, broken_rule, with_line}
@@ -37,6 +39,11 @@ abbrev pub MapLinesReadBack : Type 0
 MapLinesReadBack =
     (text : List ℕ) (line : MapLine) → (map_line_of text ≡ Ok line)
     ↔ ((text ≡ map_line_text line) × IsWithinLimits line)
+
+-- a text has fields of some forms exactly where it is such fields, each after a space, and nothing more
+abbrev pub FieldsAreSpaced : Type 0
+FieldsAreSpaced =
+    (fields : List MapField) (rest : List ℕ) → (has_fields fields rest ≡ true) ↔ IsOfFields fields rest
 
 -- an id has a destination exactly where this kind is a teleporter's, a delay where it is an item's, and the data of a
 -- lift where it is a lift's

@@ -1,4 +1,4 @@
-ghost use Rattle.arena_map.specs.Laws.{LinesKeepTheRules, SolidsHaveWalls, MapLinesReadBack};
+ghost use Rattle.arena_map.specs.Laws.{LinesKeepTheRules, SolidsHaveWalls, MapLinesReadBack, FieldsAreSpaced};
 ghost use Rattle.arena_map.specs.Laws.{DataFollowKinds, LiveRecordsHaveData, OpeningWorldIsValid, LiftsStayInside};
 
 /// A map that lines begin and lengthen without breaking a rule keeps all of them, and lines that give a map which keeps
@@ -15,6 +15,11 @@ pub fn solids_have_walls()
 /// A text is read as a line exactly where it is what is printed for that line.
 pub fn map_lines_read_back()
     ensures { MapLinesReadBack }
+{}
+
+/// A text has fields of some forms exactly where it is such fields, each after a space, and nothing more.
+pub fn fields_are_spaced()
+    ensures { FieldsAreSpaced }
 {}
 
 /// An id has a destination, a delay or the data of a lift exactly where it is that of a teleporter, an item or a lift.

@@ -2,8 +2,8 @@
 #![tactic(auto)]
 
 pub use laws::{
-    data_follow_kinds, lifts_stay_inside, lines_keep_the_rules, live_records_have_data,
-    map_lines_read_back, opening_world_is_valid, solids_have_walls,
+    data_follow_kinds, fields_are_spaced, lifts_stay_inside, lines_keep_the_rules,
+    live_records_have_data, map_lines_read_back, opening_world_is_valid, solids_have_walls,
 };
 pub use lift::Lift;
 pub use map::ArenaMap;

@@ -78,14 +78,14 @@ module _ (map : MapView) (id : ℕ) (lift : Lift) (has : lift_of map id ≡ Some
 
 -- ---- players
 
-pub player_no_item : (kind : Kind) → kind ≡ kinds.Player → is_item kind ≡ true → ⊥
+player_no_item : (kind : Kind) → kind ≡ kinds.Player → is_item kind ≡ true → ⊥
 player_no_item kind is item = let no : is_item kinds.Player ≡ true = ap is_item (sym is) ∙ item in cc
 
 player_no_lift : (kind : Kind) → kind ≡ kinds.Player → kind ≡ kinds.Lift → ⊥
 player_no_lift kind is lift = let both : kinds.Player ≡ kinds.Lift = sym is ∙ lift in cc
 
 -- a player isn't changed by the returns
-pub player_returned : (frame : ℕ) (records : List (Option Rec)) (slot : ℕ) (player : Rec) → player.kind ≡ kinds.Player → record_at records slot ≡ Some player
+player_returned : (frame : ℕ) (records : List (Option Rec)) (slot : ℕ) (player : Rec) → player.kind ≡ kinds.Player → record_at records slot ≡ Some player
     → record_at (after_returns frame records) slot ≡ Some player
 player_returned frame records slot player kind at =
     let same = either_returned (λ s. s ≡ player) frame player refl (λ due. absurd (player_no_item player.kind kind (due_is_item frame player due))) in
