@@ -1,6 +1,6 @@
 ghost use Rattle.std.specs.Prelude.{◌≡◌, ◌<◌, length};
 
-use crate::players::{FAR_AT_ONE, FIRST, NEAR};
+use crate::players::{FAR_AT_ONE, FIRST, LOW, MIDDLE_AT_ONE, NEAR};
 use crate::schedule::begun;
 use crate::staying::Staying;
 use arena_geo::Vec3;
@@ -39,6 +39,22 @@ fn run<A: Action>(core: &mut Core<A>, seat: u8) -> Result<(), Fail>
     Err("a command without an end".into())
 }
 
+/// Makes a seat's next step, which is refused, and lets the seat give up. It is false where the step is done, or there
+/// is none.
+fn give_up_refused<A: Action>(core: &mut Core<A>, seat: u8) -> bool
+    requires { seat < length core.old.seats }
+    ensures { length core.new.seats ≡ length core.old.seats }
+{
+    let Some(s) = core.next_step(seat) else {
+        return false;
+    };
+    if core.step(s) {
+        return false;
+    }
+    core.give_up(seat);
+    true
+}
+
 /// The place of the one entry that a seat has committed, whose reply is this origin.
 fn place_of<A: Action>(core: &Core<A>, seat: u8, origin: Vec3) -> Option<u64>
     requires { seat < length core.now.seats }
@@ -70,6 +86,20 @@ fn near_seat_waits_for_the_leaf(rt: HostRuntime) -> Result<(), Fail> {
     run(&mut core, 1)?;
     assert_eq!(rt; place_of(&core, 0, FIRST.origin), Some(0));
     assert_eq!(rt; place_of(&core, 1, NEAR.origin), Some(1));
+    Ok(())
+}
+
+#[test]
+fn refused_seat_gives_back_what_it_holds(rt: HostRuntime) -> Result<(), Fail> {
+    let mut core = begun(rt.alloc(), &Staying, &[LOW, MIDDLE_AT_ONE], &[1, 1], 0)?;
+    assert!(rt; make_steps(&mut core, 0, 7));
+    assert!(rt; make_steps(&mut core, 1, 9));
+    assert!(rt; give_up_refused(&mut core, 1));
+    assert!(rt; make_steps(&mut core, 1, 3));
+    assert_eq!(rt; core.next_step(1), None);
+    assert!(rt; core.log(1).is_empty());
+    run(&mut core, 0)?;
+    assert_eq!(rt; place_of(&core, 0, LOW.origin), Some(0));
     Ok(())
 }
 
