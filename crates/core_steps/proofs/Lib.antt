@@ -47,6 +47,7 @@ pub mod Kept
 pub mod Rowing
 pub mod OneWord
 pub mod OneView
+pub mod InHand
 pub mod Asking
 pub mod Places
 pub mod Rooms

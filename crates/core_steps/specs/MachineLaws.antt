@@ -1,6 +1,6 @@
 -- What the machine keeps.
 use Rattle.std.specs.Prelude.{◌≡◌, ℕ, ◌<◌, ◌==◌, length, true, false, if◌then◌else◌, is_some, List, [], ◌∷◌, ◌++◌}
-use Rattle.std.specs.Prelude.{Some, map, All, ◌≤◌, ◌^◌}
+use Rattle.std.specs.Prelude.{Option, Some, None, map, All, ◌≤◌, ◌^◌}
 use Rattle.std.specs.List.{range_with_len, sum_by}
 use Rattle.std.specs.List.Sorted.{IsStrictlyIncreasing, IsPermutation}
 use Rattle.entity_recs.specs.Actions.{HasPlayer, IsCall}
@@ -10,7 +10,7 @@ use Rattle.entity_recs.specs.Commands.{Command}
 use Rattle.entity_recs.specs.Worlds.{World}
 use Rattle.entity_recs.specs.Histories.{Item, run, commands_of, places_of}
 use Rattle.core_steps.specs.Views.{Fixed, Resolving, record_read}
-use Rattle.core_steps.specs.Views.{Loading, stage_of, is_open}
+use Rattle.core_steps.specs.Views.{Loading, stage_of, is_busy, is_open}
 use Rattle.core_steps.specs.Views.{is_whole, nodes_of}
 use Rattle.core_steps.specs.Views.{loaded_near, Ended, View}
 use Rattle.core_steps.specs.Steps.{Core}
@@ -111,6 +111,22 @@ abbrev pub SeatAtATakeMayGiveUp : Type 0
 SeatAtATakeMayGiveUp =
     (F : Fixed) (m : Machine) (i node : ℕ) (next : Next) → next_of F m i ≡ Some next → node_taken next ≡ Some node
     → is_taking (m.core.view i).point ≡ true
+
+-- the command in hand: the one that was given and isn't begun, or else the one in view
+abbrev pub hand_of : Option Command → View → Option Command
+hand_of (Some c) view = Some c
+hand_of None view = if is_busy (stage_of view.point) then Some view.cmd else None
+
+-- the command that a seat of the machine has in hand
+abbrev pub in_hand : Machine → ℕ → Option Command
+in_hand m i = hand_of (m.given i) (m.core.view i)
+
+-- a command that a seat has in hand after a step it had in hand before it
+abbrev pub StepsBringNoCommand : Type 0
+StepsBringNoCommand =
+    (F : Fixed) (m : Machine) (history : List Item) (now : World) (i : ℕ) (next : Next) → next_of F m i ≡ Some next
+    → MachineStands F m history now
+    → (j : ℕ) (c : Command) → in_hand (machine_after F m i next) j ≡ Some c → in_hand m j ≡ Some c
 
 -- ---- what the action may be asked
 

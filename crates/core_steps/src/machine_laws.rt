@@ -4,7 +4,7 @@ ghost use Rattle.core_steps.specs.MachineLaws.{StepsChangeOneWord, RefusedTakesC
 ghost use Rattle.core_steps.specs.MachineLaws.{LoadedRecordIsTaken, EffectMayBeAsked, EachPlaceIsLoggedOnce};
 ghost use Rattle.core_steps.specs.MachineLaws.{StepsHaveTheirWord, EachViewReadsLittle};
 ghost use Rattle.core_steps.specs.MachineLaws.{LogHoldsTheCommandsKept, StepsChangeOneView, CountIsWithinTheRooms};
-ghost use Rattle.core_steps.specs.MachineLaws.{RoomsAreThoseGiven, SeatAtATakeMayGiveUp};
+ghost use Rattle.core_steps.specs.MachineLaws.{RoomsAreThoseGiven, SeatAtATakeMayGiveUp, StepsBringNoCommand};
 ghost use Rattle.core_steps.specs.Rows.{FirstView, NearRow};
 
 /// What the machine keeps holds at the start: a seat for each room, no command given, and no history.
@@ -70,6 +70,11 @@ pub fn refused_takes_change_their_record()
 /// A seat whose next step is a take may be asked to give up.
 pub fn seat_at_a_take_may_give_up()
     ensures { SeatAtATakeMayGiveUp }
+{}
+
+/// A command that a seat has in hand after a step, of whichever seat, it had in hand before it.
+pub fn steps_bring_no_command()
+    ensures { StepsBringNoCommand }
 {}
 
 /// The own record of a command that isn't committed, once it is loaded whole, meets the action's condition on its

@@ -2,5 +2,6 @@
 pub use Rattle.core_machine.specs.Staying
 pub use Rattle.core_machine.specs.Cores
 pub mod Errand
+pub mod Hands
 pub mod Keeping
 pub mod Lawful

@@ -56,3 +56,17 @@ pub const MIDDLE: Rec = Rec {
     },
     ..FIRST
 };
+
+/// That player under the id of the second.
+pub const MIDDLE_AT_ONE: Rec = Rec { id: 1, ..MIDDLE };
+
+/// A player in the last of the four leaves that meet at the middle.
+pub const LOW: Rec = Rec {
+    id: 0,
+    origin: Vec3 {
+        x: -32_768,
+        y: -32_768,
+        z: 6_144,
+    },
+    ..FIRST
+};

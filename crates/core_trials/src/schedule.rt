@@ -7,6 +7,7 @@ ghost use Rattle.core_steps.specs.Views.{has};
 ghost use Rattle.core_steps.specs.Stands.{IsStart};
 ghost use Rattle.core_machine.specs.Shown.{fixed_of};
 ghost use Rattle.core_trials.specs.Errand.{errand_command};
+ghost use Rattle.core_trials.specs.Hands.{HasOwnCommands};
 
 use areanode::Tree;
 use arena_geo::{Aabb, Vec3};
@@ -63,7 +64,8 @@ pub fn begun<'a, A: Action>(
     requires some { 0 < length room.now }
     requires few { length room.now ≤ 16 }
     requires room { (k : ℕ) → k < length room.now → 0 < slice_index room.now k }
-    ensures { IfOk result (λ c. length c.seats ≡ length room.now) }
+    ensures seats { IfOk result (λ c. length c.seats ≡ length room.now) }
+    ensures own { IfOk result (λ c. HasOwnCommands c) }
 {
     let tree = arena_tree()?;
     let mut core = Core::new(alloc, action, &tree, start, room)?;

@@ -8,6 +8,7 @@ use Rattle.core_machine.specs.Shown.{RulesView, fixed_of}
 use Rattle.core_machine.specs.Cores.{machine_of}
 use Rattle.core_machine.proofs.Filled.{IsFilled, none_given_yet}
 use Rattle.core_trials.proofs.Given.{may_give, given_more}
+use Rattle.core_trials.proofs.GivingUp.{own_when_filled}
 use Rattle.core_trials.proofs.schedule.begun.Goals as goal
 
 pub new-requires-clause-start : goal.new-requires-clause-start
@@ -44,3 +45,12 @@ loop-slot-preserved g c =
       filled = subst (λ (m : Machine). IsFilled m (slot + 1) (length c.args.room.now)) (sym (made ∙ ap (with_given (machine_of F c.loop-slot.core) slot) c.command.ensures.value))
           (given_more F (machine_of F c.loop-slot.core) slot (length c.args.room.now) c.buttons_of.result c.loop-slot.invariant.filled);
     }
+
+pub returns-clause-own : goal.returns-clause-own
+returns-clause-own g c =
+    let core = c.loop-slot.core in
+    let F = fixed_of g.A.Action.takes g.A.Action.region_of g.A.Action.effect_of c.in_ok-core.core.rules in
+    let rules = c.loop-slot.invariant.rules ∙ c.in_ok-core.ensures.rules in
+    own_when_filled F core c.loop-slot.slot (length c.args.room.now) c.loop-slot.invariant.seats c.requires.few
+    (λ j below. ap (λ (r : RulesView g.row.A.Denot). has (map (λ (x : Rec). x.id) r.start) j) rules ∙ c.requires.live j below)
+    c.loop-slot.invariant.filled
