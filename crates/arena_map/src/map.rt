@@ -11,7 +11,8 @@ ghost use Rattle.arena_map.specs.Places as places;
 ghost use Rattle.arena_map.specs.Maps as maps;
 ghost use Rattle.arena_map.specs.Maps.{IsMap, IsSpawn, IsDelay, IsLift, solids_of, entities_of, has_thing};
 ghost use Rattle.arena_map.specs.MapLines as lines;
-ghost use Rattle.arena_map.specs.MapLines.{IsWithinLimits, is_arena, is_added, is_thing_line, is_item, is_teleporter, is_lift};
+ghost use Rattle.arena_map.specs.MapLines.{IsWithinLimits, is_arena, is_added, is_thing_line};
+ghost use Rattle.arena_map.specs.MapLines.{is_item, is_teleporter, is_lift};
 ghost use Rattle.arena_map.specs.Rules as rules;
 ghost use Rattle.arena_map.specs.Rules.{broken_at_first, begun_map, broken_rule, with_line, with_thing};
 

@@ -164,7 +164,8 @@ pub record IsHeld (map : MapView) (records : List (Option Rec)) (id : ℕ) (lift
       (body_of (raised player ((lift_after lift old).origin.z -ℤ old.origin.z)))
 
 -- a lift that no player holds makes its whole step, and one that a player holds is as it was
-pub record StepsUnlessHeld (map : MapView) (records : List (Option Rec)) (id : ℕ) (lift : Lift) (old new : Rec) : Type 0 where
+pub record StepsUnlessHeld (map : MapView) (records : List (Option Rec)) (id : ℕ) (lift : Lift) (old new : Rec)
+    : Type 0 where
   pub either : (new ≡ lift_after lift old) ⊎ IsHeld map records id lift old
   pub held : IsHeld map records id lift old → new ≡ old
 
@@ -199,7 +200,8 @@ IsTurnOf map id None before after = after ≡ before
 IsTurnOf map id (Some lift) before after = IsTurn map id lift before after
 
 -- the turn of a thing, and what holds after it
-pub record HasTurn (map : MapView) (thing : Rec) (before : List (Option Rec)) (Rest : List (Option Rec) → Type 0) : Type 0 where
+pub record HasTurn (map : MapView) (thing : Rec) (before : List (Option Rec)) (Rest : List (Option Rec) → Type 0)
+    : Type 0 where
   pub between : List (Option Rec)
   pub turn : IsTurnOf map thing.id (lift_of map thing.id) before between
   pub rest : Rest between

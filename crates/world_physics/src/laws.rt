@@ -1,6 +1,7 @@
 ghost use Rattle.world_physics.specs.Laws.{ValidWorldsStayValid, IdsStay, PlayersKeepRoom, LiftsStayOnTheirWay};
 ghost use Rattle.world_physics.specs.Laws.{OnlyPlacesAndStatesChange, ItemsReturnAtTheirFrame};
-ghost use Rattle.world_physics.specs.Laws.{LiftsMakeTheirStep, StepsAreWhole, PlayersGoAlong, OnlyPlayersHoldLifts, LiftsStepInTurn};
+ghost use Rattle.world_physics.specs.Laws.{LiftsMakeTheirStep, StepsAreWhole, PlayersGoAlong, OnlyPlayersHoldLifts};
+ghost use Rattle.world_physics.specs.Laws.{LiftsStepInTurn};
 
 /// A valid world of a map that keeps its rules is valid after a tick.
 pub fn worlds_stay_valid()
