@@ -1,5 +1,5 @@
 -- Words and their sets.
-use Rattle.std.proofs.Common.{◌≡◌, ℕ, zero, suc, ◌+◌, ◌-◌, ◌*◌, ◌%◌, ◌^◌, ◌<◌, ◌==◌, Bool, true, false, ◌&&◌, ◌||◌, if◌then◌else◌, ◌⊎◌, inl, inr, bit_or, max, refl, ap, sym, ◌∙◌, arith}
+use Rattle.std.proofs.Common.{◌≡◌, ℕ, zero, suc, ◌+◌, ◌-◌, ◌*◌, ◌%◌, ◌^◌, ◌<◌, ◌==◌, Bool, true, false, ◌||◌, if◌then◌else◌, ◌⊎◌, inl, inr, bit_or, max, refl, ap, sym, ◌∙◌, arith}
 use Rattle.std.specs.Int.{bit_at}
 use Rattle.std.proofs.Math.Nat.{pow-suc}
 use Rattle.std.proofs.lemmas.Nat.{pow_pos, pow_below, or_lt}
@@ -96,11 +96,6 @@ pub word_of-none : (n : ℕ) → word_of n (λ _. false) ≡ 0
 unfolding word_of
 word_of-none zero = refl
 word_of-none (suc n) = omega (arith, word_of-none n)
-
--- the word of a set under a condition
-pub word_of-if : (n : ℕ) (c : Bool) (p : ℕ → Bool) → (if c then word_of n p else 0) ≡ word_of n (λ i. c && p i)
-word_of-if n true p = refl
-word_of-if n false p = sym (word_of-none n)
 
 bit_of_one : (k i : ℕ) → bit_at (2 ^ k) i ≡ bit (k == i)
 bit_of_one k i =

@@ -1,5 +1,5 @@
 -- The loop that plays a recording, and its exits.
-use Rattle.std.proofs.Common.{◌≡◌, ℕ, ◌+◌, ◌≤◌, Bool, true, false, List, [], ◌∷◌, ◌++◌, length, Option, Some, None, IfSome, IsSome, IsSomeAnd, ◌⊎◌, inl, inr, refl, sym, ap, ◌∙◌, subst, arith, length-append}
+use Rattle.std.proofs.Common.{◌≡◌, ℕ, ◌+◌, ◌≤◌, Bool, true, false, List, [], ◌∷◌, ◌++◌, length, Option, Some, None, IfSome, IsSomeAnd, ◌⊎◌, inl, inr, refl, sym, ap, ◌∙◌, subst, arith, length-append}
 use Rattle.std.specs.Io.KnownBytes.{Appends}
 use Rattle.std.proofs.KnownBytes.{prepend_known-nil}
 use Rattle.edge_io.specs.Counts.{HasRisen}
@@ -108,10 +108,6 @@ first_fault workers demo d l l' t last none is h =
     let Q : Option (List ℕ) → Type 0 = λ o. ReadsFront start o l' [] in
     read_fault_of d (ReadsFront start (ahead [] l) l' []) (ReadsSome workers l l' t t last) (λ reads. fault_at_first workers l l' t last none (subst Q (prepend_known-nil l) reads)) (subst P is h fresh_is_open)
 
-pub first_cause : (demo : DemoReaderView) (d : DemoStop) (P : Type 0) → demo ≡ fresh_reader → (IsOpen demo → reads_of.OnReadFault d P) → OnReadFault (stop_of d) P
-first_cause demo d P is h =
-    let Q : DemoReaderView → Type 0 = λ x. IsOpen x → reads_of.OnReadFault d P in read_fault_of d P P (λ p. p) (subst Q is h fresh_is_open)
-
 pub first_event : (workers : ℕ) (demo : DemoReaderView) (r : Reading) (l b t : Option (List ℕ)) (e : Event) (arena : MapView) (g : GameView) → demo ≡ fresh_reader
     → (IsOpen demo → Reads demo.reading r (ahead demo.pending l) b (e ∷ [])) → r.stage ≡ stage_after e → IsReading r → r.map ≡ Some arena → IsMap arena → g ≡ new_game arena
     → Progress workers arena r l b t t g e
@@ -123,10 +119,6 @@ first_event workers demo r l b t e arena g is h stage holds has is_map sets =
 -- the map is whole then
 pub map_is_given : (r : Reading) (e : Event) → r.stage ≡ stage_after e → is_map_whole r.stage ≡ true
 map_is_given r e stage = ap is_map_whole stage ∙ whole_after e
-
--- and there is one
-pub map_is_there : (demo : DemoReaderView) (r : Reading) → demo ≡ fresh_reader → reads_of.KeepsMap demo.reading r → IsSome r.map
-map_is_there demo r is keeps = keeps.completed (ap (λ (x : DemoReaderView). is_map_whole x.reading.stage) is)
 
 -- ---- in the loop
 
@@ -148,12 +140,6 @@ no_refusal (Refused line fault rule) P stop = absurd stop
 no_refusal ReadFault P stop = tt
 no_refusal WriteFault P stop = tt
 no_refusal Memory P stop = tt
-
-pub no_read_fault : (s : Stop) (P : Type 0) → IsGameStop s → OnReadFault s P
-no_read_fault (Refused line fault rule) P stop = tt
-no_read_fault ReadFault P stop = absurd stop
-no_read_fault WriteFault P stop = tt
-no_read_fault Memory P stop = tt
 
 pub on_memory : (s : Stop) (P Q : Type 0) → (P → Q) → OnMemory s P → OnMemory s Q
 on_memory (Refused line fault rule) P Q f p = tt
@@ -371,10 +357,6 @@ no_fault_of (demo_stop.Refused line fault rule) h = tt
 no_fault_of demo_stop.ReadFault h = h
 no_fault_of demo_stop.NoMemory h = tt
 
-pub first_sure : (demo : DemoReaderView) (d : DemoStop) (P : Type 0) → demo ≡ fresh_reader → (IsOpen demo → P → reads_of.OnReadFault d ⊥) → P → OnReadFault (stop_of d) ⊥
-first_sure demo d P is h p =
-    let Q : DemoReaderView → Type 0 = λ x. IsOpen x → P → reads_of.OnReadFault d ⊥ in no_fault_of d (subst Q is h fresh_is_open p)
-
 -- but where a read failed the source's count of faults is as it was
 pub same_reads : (d : DemoStop) (m0 m1 m2 : ℕ) → m1 ≡ m0 → reads_of.OnRefused d (λ _. m2 ≡ m1) → reads_of.OnNoMemory d (m2 ≡ m1) → ButOnReadFault (stop_of d) (m2 ≡ m0)
 same_reads (demo_stop.Refused line fault rule) m0 m1 m2 so_far refused memory = refused ∙ so_far
@@ -392,16 +374,3 @@ but_write_fault (Refused line fault rule) P h = h
 but_write_fault ReadFault P h = h
 but_write_fault WriteFault P h = tt
 but_write_fault Memory P h = h
-
-pub but_read_fault : (s : Stop) (P : Type 0) → P → ButOnReadFault s P
-but_read_fault (Refused line fault rule) P h = h
-but_read_fault ReadFault P h = tt
-but_read_fault WriteFault P h = h
-but_read_fault Memory P h = h
-
--- where a game stops for lack of memory the sink is as it was
-pub but_write_fault_of_game : (s : Stop) (P Q : Type 0) → IsGameStop s → OnMemory s P → (P → Q) → ButOnWriteFault s Q
-but_write_fault_of_game (Refused line fault rule) P Q stop h f = absurd stop
-but_write_fault_of_game ReadFault P Q stop h f = absurd stop
-but_write_fault_of_game WriteFault P Q stop h f = tt
-but_write_fault_of_game Memory P Q stop h f = f h

@@ -3,7 +3,7 @@ use Rattle.std.proofs.Common.{arith}
 use Rattle.std.proofs.lemmas.Int.{ints}
 use Rattle.arena_geo.specs.Vectors.{IsNear}
 use Rattle.arena_geo.specs.Bounds.{Bounds, bounds, IsOrdered, IsBox}
-use Rattle.box_trace.specs.Walls.{low, high, with_x, with_y, with_z}
+use Rattle.box_trace.specs.Walls.{low, high, with_x}
 
 -- the corners of an arena
 pub record AreCorners (b : Bounds) : Type 0 where
@@ -13,51 +13,6 @@ pub record AreCorners (b : Bounds) : Type 0 where
 
 pub IsBox-low_x : (b : Bounds) → AreCorners b → IsBox (bounds (low b) (with_x (high b) b.lo))
 IsBox-low_x b corners = record {
-  ordered = record { x = omega (arith, ints); y = omega (arith, ints); z = omega (arith, ints) };
-  in_range = record {
-    lo = record { x = omega (arith, ints); y = omega (arith, ints); z = omega (arith, ints) };
-    hi = record { x = omega (arith, ints); y = omega (arith, ints); z = omega (arith, ints) };
-  };
-}
-
-pub IsBox-high_x : (b : Bounds) → AreCorners b → IsBox (bounds (with_x (low b) b.hi) (high b))
-IsBox-high_x b corners = record {
-  ordered = record { x = omega (arith, ints); y = omega (arith, ints); z = omega (arith, ints) };
-  in_range = record {
-    lo = record { x = omega (arith, ints); y = omega (arith, ints); z = omega (arith, ints) };
-    hi = record { x = omega (arith, ints); y = omega (arith, ints); z = omega (arith, ints) };
-  };
-}
-
-pub IsBox-low_y : (b : Bounds) → AreCorners b → IsBox (bounds (low b) (with_y (high b) b.lo))
-IsBox-low_y b corners = record {
-  ordered = record { x = omega (arith, ints); y = omega (arith, ints); z = omega (arith, ints) };
-  in_range = record {
-    lo = record { x = omega (arith, ints); y = omega (arith, ints); z = omega (arith, ints) };
-    hi = record { x = omega (arith, ints); y = omega (arith, ints); z = omega (arith, ints) };
-  };
-}
-
-pub IsBox-high_y : (b : Bounds) → AreCorners b → IsBox (bounds (with_y (low b) b.hi) (high b))
-IsBox-high_y b corners = record {
-  ordered = record { x = omega (arith, ints); y = omega (arith, ints); z = omega (arith, ints) };
-  in_range = record {
-    lo = record { x = omega (arith, ints); y = omega (arith, ints); z = omega (arith, ints) };
-    hi = record { x = omega (arith, ints); y = omega (arith, ints); z = omega (arith, ints) };
-  };
-}
-
-pub IsBox-low_z : (b : Bounds) → AreCorners b → IsBox (bounds (low b) (with_z (high b) b.lo))
-IsBox-low_z b corners = record {
-  ordered = record { x = omega (arith, ints); y = omega (arith, ints); z = omega (arith, ints) };
-  in_range = record {
-    lo = record { x = omega (arith, ints); y = omega (arith, ints); z = omega (arith, ints) };
-    hi = record { x = omega (arith, ints); y = omega (arith, ints); z = omega (arith, ints) };
-  };
-}
-
-pub IsBox-high_z : (b : Bounds) → AreCorners b → IsBox (bounds (with_z (low b) b.hi) (high b))
-IsBox-high_z b corners = record {
   ordered = record { x = omega (arith, ints); y = omega (arith, ints); z = omega (arith, ints) };
   in_range = record {
     lo = record { x = omega (arith, ints); y = omega (arith, ints); z = omega (arith, ints) };

@@ -1,14 +1,13 @@
 -- The linked world through the packets of a frame and its end.
 use Rattle.std.proofs.Common.{◌≡◌, ◌≢◌, List, [], ◌∷◌, ◌++◌, All, Option, Some, None, is_some, IsSome, sym, refl, ap, ◌∙◌, subst, inl, inr, get_or-set_other, ℕ, zero, suc, ◌+◌, ◌≤◌, Bool, true, false, cond, if◌then◌else◌, filter, add-one, arith}
 use Rattle.std.specs.List.{cons_option, range_with_len}
-use Rattle.std.proofs.lemmas.List.Elements.{All-head, All-nil, All-push, All-tail, All-weaker, filter-append, filter_map-append}
+use Rattle.std.proofs.lemmas.List.Elements.{All-head, All-push, All-tail, All-weaker, filter-append, filter_map-append}
 use Rattle.std.proofs.lemmas.List.{append-nil}
 use Rattle.std.proofs.lemmas.List.Sums.{fold_push}
 use Rattle.entity_recs.specs.declared.rec.Rec.{Rec}
 use Rattle.world_tree.specs.Live.{record_at}
 use Rattle.world_tree.specs.Worlds.{WorldView, with_record, with_records, without_id}
 use Rattle.client_ports.specs.declared.received.Joined.{Joined}
-use Rattle.client_ports.specs.Lists.{Lists, no_lists}
 use Rattle.client_ports.specs.declared.client.Client.{Client}
 use Rattle.client_ports.specs.Clients.{client_at}
 use Rattle.client_ports.specs.States.{State}
@@ -19,13 +18,6 @@ use Rattle.client_ports.specs.Linking.{players_of, HasNewPlayer, IsWorldAfter, l
 pub record IsLinkedSince (start w : WorldView) (joined : List Joined) : Type 0 where
   pub world : w ≡ with_records start (players_of w.records joined)
   pub live : All (λ j. IsSome (record_at w.records j.slot)) joined
-
--- nobody has joined
-pub linked-start : (w : WorldView) (l : Lists) → l ≡ no_lists → IsLinkedSince w w l.joined
-linked-start w l none = subst (λ (joined : List Joined). IsLinkedSince w w joined) (sym (ap (λ (m : Lists). m.joined) none)) (record {
-  world = refl;
-  live = All-nil (λ j. IsSome (record_at w.records j.slot));
-})
 
 -- where the same records are read, the same players are
 players-same : (records other : List (Option Rec)) (joined : List Joined) → All (λ j. record_at other j.slot ≡ record_at records j.slot) joined → players_of other joined ≡ players_of records joined

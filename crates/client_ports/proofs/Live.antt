@@ -1,5 +1,5 @@
 -- That the live slots stay the live players.
-use Rattle.std.proofs.Common.{◌≡◌, ◌≢◌, ◌⊎◌, ℕ, ◌<◌, true, false, List, length, Option, Some, None, is_some, IsSome, slice_set, sym, refl, ap, ◌∙◌, inl, inr, arith, get_or-set_same, get_or-set_other}
+use Rattle.std.proofs.Common.{◌≡◌, ◌≢◌, ◌⊎◌, ℕ, ◌<◌, true, false, List, length, Option, Some, None, is_some, slice_set, sym, refl, ap, ◌∙◌, inl, inr, arith, get_or-set_same, get_or-set_other}
 use Rattle.std.proofs.lemmas.Bool.{cases_eq}
 use Rattle.entity_recs.specs.declared.rec.Rec.{Rec}
 use Rattle.world_tree.specs.Live.{record_at}
@@ -47,8 +47,3 @@ free-record clients records slot below live e = none (record_at records slot) (s
     none : (o : Option Rec) → is_some o ≡ false → o ≡ None
     none None h = refl
     none (Some r) h = cc
-
--- and a live one has one
-pub live-record : (clients : List (Option Client)) (records : List (Option Rec)) (slot : ℕ) → slot < 64 → HaveSameLive clients records
-    → IsSome (client_at clients slot) → IsSome (record_at records slot)
-live-record clients records slot below live h = sym (live.same slot below) ∙ h

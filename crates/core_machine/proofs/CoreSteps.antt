@@ -1,8 +1,8 @@
 -- A core after a step.
-use Rattle.std.proofs.Common.{◌≡◌, ℕ, ◌+◌, ◌*◌, ◌^◌, ◌<◌, ◌≤◌, ◌⊎◌, Bool, true, false, if◌then◌else◌, List, ◌++◌, length, map, set, get_or, refl, sym, ap, ◌∙◌, subst, inl, inr, Some, None}
+use Rattle.std.proofs.Common.{◌≡◌, ℕ, ◌+◌, ◌*◌, ◌^◌, ◌<◌, ◌⊎◌, Bool, true, false, if◌then◌else◌, List, ◌++◌, length, set, get_or, refl, sym, ap, ◌∙◌, subst, inl, inr, Some}
 use Rattle.std.specs.Prelude.{◌==◌, ◌↔◌, IsTrue}
 use Rattle.std.specs.Option.{option_map}
-use Rattle.std.proofs.lemmas.List.{set-get_or, length-map, get_or_past}
+use Rattle.std.proofs.lemmas.List.{set-get_or}
 use Rattle.std.proofs.lemmas.Bool.{false≢true, true≢false}
 use Rattle.entity_recs.specs.Worlds.{World}
 use Rattle.entity_recs.specs.Histories.{Item}
@@ -22,7 +22,7 @@ use Rattle.core_machine.specs.declared.seat.Seat.{Seat}
 use Rattle.core_machine.specs.Tables.{words_in}
 use Rattle.core_machine.specs.Shown.{RulesView}
 use Rattle.core_machine.specs.Sound.{IsSound}
-use Rattle.core_machine.specs.Cores.{SeatView, CoreView, HasRooms, IsCore, IsFree, IsRefused, seat_of, no_seat, machine_of}
+use Rattle.core_machine.specs.Cores.{SeatView, CoreView, HasRooms, IsCore, IsFree, IsRefused, seat_of, machine_of}
 use Rattle.core_machine.specs.Stepping.{seat_next, is_done, IsOnWord, MayStep, IsStepped, IsOther, IsMade}
 use Rattle.core_machine.proofs.Changing.{view_here}
 use Rattle.core_machine.proofs.Sounding.{sound_here}
@@ -188,12 +188,6 @@ pub step_may_give_up : {A : Type 0} (F : Fixed) (old new : CoreView A) (s : Step
 step_may_give_up F old new s answer core step refused =
     ap (λ (k : Machine). is_taking (k.core.view s.seat).point) step.after
     ∙ may_give_up F (machine_of F old) core.stands.history core.stands.now s.seat step.next core.stands.stands step.comes (sym step.done ∙ refused)
-
--- a seat that isn't there has no next step
-pub none_beyond : {A : Type 0} (F : Fixed) (rules : RulesView A) (words : Words) (seats : List Seat) (n : ℕ) → length seats ≤ n → next_step_of F (machine_of F (core_view rules words seats)) n ≡ None
-none_beyond F rules words seats n past =
-    let beyond : length (map seat_of seats) ≤ n = rw (length-map seats seat_of) past in
-    ap (λ (x : SeatView). option_map (step_of F n x.view) (seat_next F x)) (get_or_past (map seat_of seats) n no_seat beyond)
 
 -- ---- either way
 

@@ -1,5 +1,5 @@
 -- What the point of the code says of the point of the definitions.
-use Rattle.std.proofs.Common.{◌≡◌, ℕ, ◌<◌, List, [], ◌∷◌, length, refl, arith, slice_index}
+use Rattle.std.proofs.Common.{◌≡◌, ℕ, List, refl}
 use Rattle.core_steps.specs.Views as views
 use Rattle.core_machine.specs.declared.point.Queues.{Queues}
 use Rattle.core_machine.specs.declared.point.Point.{Point}
@@ -23,8 +23,3 @@ not_entered qs Storing node plan other at = cc
 not_entered qs Releasing node plan other at = cc
 not_entered qs Returning node plan other at = cc
 not_entered qs Yielding node plan other at = cc
-
--- what holds of the first of a list
-pub of_first : (P : ℕ → Type 0) (ns : List ℕ) → 0 < length ns → ((n : ℕ) (rest : List ℕ) → ns ≡ n ∷ rest → P n) → P (slice_index ns 0)
-of_first P [] some each = absurd (omega arith)
-of_first P (n ∷ rest) some each = each n rest refl

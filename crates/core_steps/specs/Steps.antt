@@ -210,11 +210,6 @@ yield_nothing core i = with_view core i (record (without_command (core.view i)) 
 
 -- ---- a list word is loaded
 
--- the node whose list word is loaded next
-abbrev pub next_list : Point → Option ℕ
-next_list (Entered node plan) = Some node
-next_list _ = None
-
 -- the view after that list word is loaded, at the node with the rest of the plan
 abbrev pub view_after_list : Fixed → ℕ → List ℕ → ℕ → View → View
 view_after_list F node plan word view = record view {

@@ -2,7 +2,7 @@
 use Rattle.std.proofs.Common.{◌≡◌, ℕ, ◌+◌, true, false, List, [], ◌∷◌, ◌++◌, ◌⊎◌, inl, inr, Option, Some, None, IfSome, cond, refl, sym, ap, ◌∙◌, subst, append_assoc, append-nil}
 use Rattle.std.specs.List.{AllByRecursion}
 use Rattle.std.specs.Io.KnownBytes.{Consumes, IsAtEnd}
-use Rattle.std.proofs.KnownBytes.{Consumes-nil, Consumes-trans, prepend_known-nil}
+use Rattle.std.proofs.KnownBytes.{Consumes-trans, prepend_known-nil}
 use Rattle.edge_io.specs.Lines.{HasNoLineFeed, GivesLine, GivesLongFront, GivesFront, GivesLastPart, ahead}
 use Rattle.edge_io.specs.WholeLines.{all_but_last, unlines}
 use Rattle.edge_io.proofs.Feeds.{unlines-push, AllByRecursion-push, all_but_last-push}
@@ -19,13 +19,6 @@ use Rattle.demo_lines.proofs.Machines.{run_of-append, outputs_of-append}
 use Rattle.demo_lines.proofs.Parts.{lines_of-unlines, lines_of-none}
 use Rattle.demo_lines.proofs.Ends.{next-counts, ends_after, ends_where_first, ends_long, ends_cut}
 
-abbrev IsGoing : Reading → Type 0
-IsGoing r = is_over r.stage ≡ false
-
--- nothing was taken
-pub Reads-nil : (r : Reading) (a : Option (List ℕ)) → is_over r.stage ≡ false → Reads r r a a []
-Reads-nil r a going = record { lines = []; text = []; each = tt; spelled = inl refl; consumed = Consumes-nil a; reached = refl; events = refl; going = going }
-
 -- whole lines that the reading goes on after
 pub record ReadsWhole (old new : Reading) (before later : Option (List ℕ)) (given : List Event) : Type 0 where
   pub lines : List (List ℕ)
@@ -34,9 +27,6 @@ pub record ReadsWhole (old new : Reading) (before later : Option (List ℕ)) (gi
   pub reached : new ≡ after old lines
   pub events : events_of old lines ≡ given
   pub going : is_over (after old (all_but_last lines)).stage ≡ false
-
-pub whole-nil : (r : Reading) (a : Option (List ℕ)) → is_over r.stage ≡ false → ReadsWhole r r a a []
-whole-nil r a going = record { lines = []; each = tt; consumed = Consumes-nil a; reached = refl; events = refl; going = going }
 
 pub reads-whole : (r s : Reading) (a b : Option (List ℕ)) (es : List Event) → ReadsWhole r s a b es → Reads r s a b es
 reads-whole r s a b es whole = record {

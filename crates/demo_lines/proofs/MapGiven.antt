@@ -212,9 +212,6 @@ pub record MapSoFar (old new : Reading) : Type 0 where
   pub kept : is_map_whole old.stage ≡ true → new.map ≡ old.map
   pub there : is_map_whole old.stage ≡ false → is_map_whole new.stage ≡ true → IsSome new.map
 
-pub so_far-none : (r : Reading) → MapSoFar r r
-so_far-none r = record { whole = λ h. h; kept = λ h. refl; there = λ h w. cc }
-
 -- after a line that isn't refused a whole map is there
 record IsThere (r s : Reading) : Type 0 where
   there : HasMap r.stage r → is_map_whole r.stage ≡ false → is_refused s.stage ≡ false → is_map_whole s.stage ≡ true → IsSome s.map

@@ -20,14 +20,6 @@ pub none_without_memory : {T : Type 0} (r : Result T MapRefusal) (broken : Optio
 none_without_memory r None names is = refl
 none_without_memory r (Some fault) names is = let no = (names fault).1 refl in cc
 
--- the same answer of another call
-pub names-ok : {T : Type 0} (r : Result T MapRefusal) (o : Option MapView) (line : MapLine) (x : T) → o ≡ None → Names r (broken_at_first line) → r ≡ Ok x
-    → Names {T = Unit {0}} (Ok tt) (broken_by_line o line)
-names-ok r o line x is names ok fault = (
-  λ h. cc,
-  λ h. let broken = sym (ap (λ m. broken_by_line m line) is) ∙ h in let no = (names fault).1 broken in cc,
-)
-
 same_error : {T : Type 0} (r : Result T MapRefusal) (e f : MapRefusal) → r ≡ Err e → r ≡ Err f → e ≡ f
 same_error r e f p q = let both : Err e ≡ Err f = sym p ∙ q in cc
 

@@ -16,7 +16,7 @@ use Rattle.demo_lines.specs.Said.{line_said}
 use Rattle.demo_lines.specs.Bytes.{Refusal, refusal}
 use Rattle.demo_lines.specs.Readings.{IsReading}
 use Rattle.demo_lines.specs.Reads.{Reads, ReadsQuietly, Refuses, EndsAt, IsQuiet, IsRefusedAt, IsRefusedLast, TakesCutEnd, OnRefused, OnNoMemory, stage_after}
-use Rattle.demo_lines.proofs.Consuming.{ReadsWhole, whole-nil, whole-line, quiet-whole, reads-whole, Reads-cut, takes_cut_end, Refuses-line, Refuses-end, refused_by_line, refused_by_end, refused_by_cut_end}
+use Rattle.demo_lines.proofs.Consuming.{ReadsWhole, whole-line, quiet-whole, reads-whole, Reads-cut, takes_cut_end, Refuses-line, Refuses-end, refused_by_line, refused_by_end, refused_by_cut_end}
 use Rattle.demo_lines.proofs.Ends.{next-counts}
 use Rattle.demo_lines.proofs.OnePass.{next-short, events-short}
 use Rattle.demo_lines.proofs.Prefixes.{end_says}
@@ -27,10 +27,6 @@ pub record Walks (r s : Reading) (a b : Option (List ℕ)) : Type 0 where
   pub going : is_over s.stage ≡ false
   pub reads : ReadsWhole r s a b []
   pub fewer : lines_left s ≤ lines_left r
-
--- no line yet
-pub walk_none : (r : Reading) (a : Option (List ℕ)) → IsReading r → is_over r.stage ≡ false → Walks r r a a
-walk_none r a holds going = record { holds = holds; going = going; reads = whole-nil r a going; fewer = omega arith }
 
 -- a line that gives an event
 pub walk_event : (r s t : Reading) (a b c : Option (List ℕ)) (line : List ℕ) (e : Event) → Walks r s a b → GivesLine b c line
@@ -186,11 +182,6 @@ pub last_needed : (result : Result Event DemoStop) (r s : Reading) (a b c : Opti
     → OnOk result (is_end line ≡ true) → IfOk result (λ e. events_of_line s line ≡ e ∷ []) → Q → IfOk result (λ e. P ⊎ ((e ≡ events.End) × TakesCutEnd a c × Q))
 last_needed (Ok e) r s a b c line pending P Q walks gives end given q = inr (end_event s line e end given, walk_takes_cut r s a b c line pending walks gives end, q)
 last_needed (Err stop) r s a b c line pending P Q walks gives end given q = tt
-
-pub last_stage : (result : Result Event DemoStop) (s t : Reading) (line : List ℕ) → OnOk result (t ≡ next s line) → IfOk result (λ e. events_of_line s line ≡ e ∷ [])
-    → IfOk result (λ e. t.stage ≡ stage_after e)
-last_stage (Ok e) s t line is given = stage_after-line s t line e is given
-last_stage (Err stop) s t line is given = tt
 
 refused_last : (r s t : Reading) (a b c : Option (List ℕ)) (line pending : List ℕ) (why : Refusal) → Walks r s a b → GivesLastPart b c line pending
     → IsRefusedLast s t line why → IfSome a (EndsAt r why)

@@ -71,7 +71,3 @@ fault bytes = fault_in start bytes
 -- the map of a recording
 abbrev pub map_of : List ℕ → Option MapView
 map_of bytes = (after start (lines_of bytes)).map
-
--- the events of the lines that a line feed ends
-abbrev pub events_of_whole_lines : List ℕ → List Event
-events_of_whole_lines bytes = events_of start (whole_lines bytes)

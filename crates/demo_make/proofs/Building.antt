@@ -12,7 +12,7 @@ use Rattle.arena_map.specs.declared.map_line.MapLine.TheVariants.{Arena}
 use Rattle.arena_map.specs.MapLines.{is_added}
 use Rattle.arena_map.specs.Maps.{MapView}
 use Rattle.arena_map.specs.Rules.{bare_map, broken_at_first, broken_rule, with_line}
-use Rattle.demo_make.specs.GeneratedMap.{arena, generated_map, generated_lines}
+use Rattle.demo_make.specs.GeneratedMap.{arena, generated_lines}
 use Rattle.demo_make.proofs.MapKept.{pass-at}
 use Rattle.demo_make.proofs.Lines.{take-next}
 
@@ -31,12 +31,6 @@ adds index = option_map_or (λ line. is_added line && is_none (broken_rule (map_
 
 all-add : list_all (λ k. adds (k + 1)) (range_with_len 0 100) ≡ true
 all-add = refl
-
-pub whole-map : map_after 101 ≡ generated_map
-whole-map = refl
-
-pub first-map : map_after 1 ≡ bare_map arena.lo arena.hi
-first-map = refl
 
 -- ---- a line by its number
 

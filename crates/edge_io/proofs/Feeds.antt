@@ -1,8 +1,7 @@
 -- Bytes that are split into lines at their line feeds.
-use Rattle.std.proofs.Common.{◌≡◌, ℕ, Bool, true, false, List, [], ◌∷◌, ◌++◌, ◌⊎◌, refl, sym, ap, ◌∙◌, append_assoc, append-nil, inl, inr, cond}
+use Rattle.std.proofs.Common.{◌≡◌, ℕ, Bool, true, false, List, [], ◌∷◌, ◌++◌, refl, sym, ap, ◌∙◌, append_assoc, append-nil, cond}
 use Rattle.std.specs.List.{slice_split, onto_first, AllByRecursion}
 use Rattle.std.proofs.lemmas.List.Splits.{slice_split_none, slice_split_at, slice_split-cons_no}
-use Rattle.std.proofs.lemmas.List.Elements.{recursion_from_All}
 use Rattle.std.proofs.lemmas.Grind.{flat_map-append}
 use Rattle.edge_io.specs.Lines.{HasNoLineFeed}
 use Rattle.edge_io.specs.WholeLines.{is_line_feed, all_but_last, whole_lines, unlines}
@@ -65,18 +64,6 @@ pub record GoesOn (front : List ℕ) (lines : List (List ℕ)) : Type 0 where
   pub more : List ℕ
   pub rest : List (List ℕ)
   pub is : lines ≡ (front ++ more) ∷ rest
-
-all_but_last-front : (front : List ℕ) (parts : List (List ℕ)) (first : List ℕ) (rest : List (List ℕ)) → parts ≡ (front ++ first) ∷ rest
-    → (all_but_last parts ≡ []) ⊎ GoesOn front (all_but_last parts)
-all_but_last-front front parts first [] is = inl (ap all_but_last is)
-all_but_last-front front parts first (part ∷ rest) is = inr (record { more = first; rest = all_but_last (part ∷ rest); is = ap all_but_last is })
-
--- bytes without a line feed are the front of the first whole line, if there is one
-pub whole_lines-front : (front bytes : List ℕ) → HasNoLineFeed front → (whole_lines (front ++ bytes) ≡ []) ⊎ GoesOn front (whole_lines (front ++ bytes))
-whole_lines-front front bytes none =
-    let begins = parts_begin bytes in
-    all_but_last-front front (slice_split is_line_feed (front ++ bytes)) begins.first begins.rest
-    (parts-front front bytes begins.first begins.rest (recursion_from_All (λ b. is_line_feed b ≡ false) front none) begins.is)
 
 -- one more line
 pub unlines-push : (lines : List (List ℕ)) (line : List ℕ) → unlines (lines ++ line ∷ []) ≡ unlines lines ++ (line ++ 10 ∷ [])

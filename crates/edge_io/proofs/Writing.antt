@@ -1,7 +1,7 @@
 -- A text that is written in several pieces.
-use Rattle.std.proofs.Common.{◌≡◌, ℕ, ◌-◌, ◌<◌, List, [], ◌++◌, Option, length, take, drop, refl, sym, ap, ◌∙◌, subst, arith}
-use Rattle.std.proofs.lemmas.List.{append_assoc, append-nil, take-append-drop, take_at, take_rest, length-append, nil_from_length}
-use Rattle.std.proofs.KnownBytes.{Appends-nil, Appends-trans, Appends-kept}
+use Rattle.std.proofs.Common.{◌≡◌, ℕ, ◌-◌, ◌<◌, List, ◌++◌, Option, length, take, drop, refl, sym, ap, ◌∙◌, subst, arith}
+use Rattle.std.proofs.lemmas.List.{append_assoc, take-append-drop, take_at, take_rest, length-append}
+use Rattle.std.proofs.KnownBytes.{Appends-trans, Appends-kept}
 use Rattle.std.specs.Io.KnownBytes.{Appends, Keeps}
 use Rattle.edge_io.specs.Writes.{AppendsPart}
 
@@ -10,9 +10,6 @@ pub record IsWritten (old now : Option (List ℕ)) (bytes rest : List ℕ) : Typ
   pub front : List ℕ
   pub split : bytes ≡ front ++ rest
   pub appended : Appends old now front
-
-pub IsWritten-none : (old : Option (List ℕ)) (bytes : List ℕ) → IsWritten old old bytes bytes
-IsWritten-none old bytes = record { front = []; split = refl; appended = Appends-nil old }
 
 pub IsWritten-more : (old now next : Option (List ℕ)) (bytes rest : List ℕ) (n : ℕ) → IsWritten old now bytes rest → Appends now next (take n rest)
     → IsWritten old next bytes (take (length rest - n) (drop n rest))
@@ -24,12 +21,6 @@ IsWritten-more old now next bytes rest n written more = record {
       ∙ ap (λ l. (written.front ++ take n rest) ++ l) (sym (take_rest rest n));
   appended = Appends-trans old now next written.front (take n rest) written.appended more;
 }
-
-pub IsWritten-all : (old now : Option (List ℕ)) (bytes rest : List ℕ) → length rest ≡ 0 → IsWritten old now bytes rest → Appends old now bytes
-IsWritten-all old now bytes rest none written =
-    let whole : bytes ≡ written.front =
-    written.split ∙ ap (λ l. written.front ++ l) (nil_from_length rest none) ∙ append-nil written.front in
-    subst (Appends old now) (sym whole) written.appended
 
 pub IsWritten-part : (old now next : Option (List ℕ)) (bytes rest : List ℕ) → 0 < length rest → IsWritten old now bytes rest → Keeps now next → AppendsPart old next bytes
 IsWritten-part old now next bytes rest some written kept = record {

@@ -1,14 +1,13 @@
 -- The replies to the live slots are what is shown of the live players.
-use Rattle.std.proofs.Common.{◌≡◌, ℕ, Bool, true, false, List, [], ◌∷◌, ◌++◌, length, map, filter, take, drop, All, replicate, Option, Some, IsSome, refl, sym, subst, ap, ap₂, ◌∙◌, inl, inr}
+use Rattle.std.proofs.Common.{◌≡◌, ℕ, Bool, List, [], ◌∷◌, ◌++◌, length, map, filter, take, drop, Option, Some, IsSome, refl, sym, subst, ap, ap₂, ◌∙◌, inl, inr}
 use Rattle.std.specs.List.{AllByRecursion}
 use Rattle.std.proofs.lemmas.Bool.{cases_Bool}
-use Rattle.std.proofs.lemmas.List.{length-map, length-replicate}
-use Rattle.std.proofs.lemmas.List.Elements.{All-from_recursion, All-replicate}
+use Rattle.std.proofs.lemmas.List.Elements.{All-from_recursion}
 use Rattle.std.proofs.Math.Seq.{take-append_seam}
 use Rattle.entity_recs.specs.declared.rec.Rec.{Rec}
 use Rattle.world_tree.specs.Live.{record_at, live_in, AreEntries}
 use Rattle.snapshot_write.specs.Snapshots.{snapshot}
-use Rattle.reply_fan.specs.Replies.{AreLive, AreEmpty, reply_from, reply_to, replies_to}
+use Rattle.reply_fan.specs.Replies.{AreLive, reply_from, reply_to, replies_to}
 use Rattle.plain_server.specs.Replies.{players_in, slots_of, replies_of}
 use Rattle.plain_server.proofs.Others.{each_live}
 use Rattle.frame_phases.specs.ReplyLoans.{rewritten}
@@ -45,10 +44,6 @@ module _ (records : List (Option Rec)) where
   -- the replies to them are the snapshots of their players
   pub replies_shown : (frame : ℕ) → AreEntries records → replies_to frame records (slots_of records) ≡ replies_of frame records
   replies_shown frame entries = replies_at frame (players_in records) (players_at entries)
-
--- buffers that were just emptied
-pub all_empty : (count : ℕ) → AreEmpty (replicate count [])
-all_empty count = All-replicate (λ (bytes : List ℕ). bytes ≡ []) count [] refl
 
 -- where as many items were written as there were, the list has the new ones
 pub rewritten-all : (old new : List (List ℕ)) → length old ≡ length new → rewritten old new ≡ new

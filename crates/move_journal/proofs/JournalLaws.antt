@@ -1,11 +1,11 @@
 -- The laws of journals, for callers in other crates.
 use Rattle.std.specs.Prelude.{◌≡◌, ℕ, ◌+◌, List, [], ◌∷◌, map}
-use Rattle.std.proofs.Common.{refl, sym, ap, ◌∙◌, subst}
+use Rattle.std.proofs.Common.{refl, sym, ap, subst}
 use Rattle.std.proofs.lemmas.List.Elements.{All-from_recursion}
-use Rattle.entity_recs.specs.Histories.{Action, Item, IsLegal, apply, run, world_after}
+use Rattle.entity_recs.specs.Histories.{Action, Item, IsLegal, apply}
 use Rattle.entity_recs.specs.Commands.{Command}
 use Rattle.entity_recs.specs.Worlds.{World}
-use Rattle.move_journal.specs.Merges.{history_of, HasNumbersApart, journal_in_order}
+use Rattle.move_journal.specs.Merges.{history_of}
 use Rattle.move_journal.specs.Laws.{MergesHaveWholeHistories, MovesInOrderAreRight, OrderLeavesOneJournal}
 use Rattle.move_journal.proofs.Founds.{IsFound, each_is_found, items_in_order, history_in_order}
 use Rattle.move_journal.proofs.Orders.{legal_in_order, player_items_in_order, order_in_order, legal_from_first}
@@ -39,8 +39,3 @@ order_leaves_one_journal = λ act w moves journal apart right.
 commands_in_order : (act : Action) (w : World) (place : ℕ) (commands : List Command) → map (λ item. item.command) (items_in_order act w place commands) ≡ commands
 commands_in_order act w place [] = refl
 commands_in_order act w place (c ∷ commands) = ap (λ (cs : List Command). c ∷ cs) (commands_in_order act (apply act w c) (place + 1) commands)
-
--- the run of the journal in order is the moves, one after another
-pub run-in_order : (act : Action) (w : World) (moves : List Command) → HasNumbersApart moves → run act w (history_of moves (journal_in_order act w moves)) ≡ world_after act w moves
-run-in_order act w moves apart =
-    ap (run act w) (history_in_order act moves w 0 moves (each_is_found moves apart)) ∙ ap (world_after act w) (commands_in_order act w 0 moves)

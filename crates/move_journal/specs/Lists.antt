@@ -2,12 +2,11 @@
 use Rattle.std.specs.Prelude.{◌≡◌, ℕ, zero, suc, ◌+◌, ◌<◌, ◌==◌, true, false, not, List, [], ◌∷◌, ◌++◌, length, map}
 use Rattle.std.specs.Prelude.{filter, Some, if◌then◌else◌, slice_get, slice_set}
 use Rattle.std.specs.List.{IsDistinct, AllByRecursion}
-use Rattle.std.proofs.Common.{refl, sym, ap, ◌∙◌, subst, inl, inr, arith}
+use Rattle.std.proofs.Common.{refl, sym, ap, subst, inl, inr, arith}
 use Rattle.std.proofs.lemmas.Bool.{cases_Bool, eq-eqb, eqb-true, ne_eqb, cond-true, cond-false}
 use Rattle.entity_recs.specs.declared.rec.Rec.{Rec}
-use Rattle.entity_recs.specs.Commands.{Command}
-use Rattle.entity_recs.specs.Worlds.{World, others_of, record_with, world_of}
-use Rattle.entity_recs.specs.Histories.{Action, outcome, with_new_state, apply}
+use Rattle.entity_recs.specs.Worlds.{World, others_of, record_with}
+use Rattle.entity_recs.specs.Histories.{with_new_state}
 use Rattle.entity_recs.specs.declared.effect.NewState.{NewState}
 use Rattle.entity_recs.specs.declared.effect.Effect.{Effect}
 
@@ -67,10 +66,6 @@ found_at_ids (r ∷ rs) apart =
     let tail = found_at_ids rs apart.1 in
     cc
 
--- the world of records with their ids apart is that of these records
-pub world_of-is : (rs : List Rec) → HaveIdsApart rs → IsWorldOf (world_of rs) rs
-world_of-is rs apart = record { ids = refl; records = found_at_ids rs apart }
-
 -- the records are what the world gives at their ids
 given_at_ids : (w : World) (rs : List Rec) → IsWorldOf w rs → map w.record_of (map (λ r. r.id) rs) ≡ rs
 given_at_ids w rs of = subst (λ (ids : List ℕ). map w.record_of ids ≡ rs) of.ids of.records
@@ -92,11 +87,6 @@ record_given f (x ∷ rs) zero r given at =
     let same : x ≡ r = cc in
     subst (λ (y : Rec). f y.id ≡ y) same (first_given f x rs given)
 record_given f (x ∷ rs) (suc k) r given at = record_given f rs k r (others_given f x rs given) at
-
--- each record is the world's at its id
-pub record-is : (w : World) (rs : List Rec) (k : ℕ) (r : Rec) → IsWorldOf w rs → slice_get rs k ≡ Some r
-    → w.record_of r.id ≡ r
-record-is w rs k r of at = record_given w.record_of rs k r (given_at_ids w rs of) at
 
 -- the records without one id, where the function gives each at its id
 others_without : (f : ℕ → Rec) (rs : List Rec) (slot : ℕ) → map f (map (λ r. r.id) rs) ≡ rs
@@ -142,19 +132,6 @@ effect_records f (r ∷ rs) slot e given =
     let tail = effect_records f rs slot e (others_given f r rs given) in
     rw (head, tail)
 
--- the world after a command is that of the records with its effect, where the player keeps its id
-pub apply-is : (act : Action) (w : World) (c : Command) (rs : List Rec) → IsWorldOf w rs
-    → (outcome act w c).me.id ≡ c.slot
-    → IsWorldOf (apply act w c) (with_effect_in rs c.slot (outcome act w c))
-apply-is act w c rs of own =
-    let later = effect_records w.record_of rs c.slot (outcome act w c) (given_at_ids w rs of) in
-    record {
-      ids = of.ids ∙ sym (effect_ids rs c.slot (outcome act w c) own);
-      records =
-          subst (λ (ids : List ℕ). map (apply act w c).record_of ids
-          ≡ with_effect_in rs c.slot (outcome act w c)) (sym of.ids) later;
-    }
-
 -- where no others change, an effect of a slot below the first place changes no record
 effect_elsewhere : (rs : List Rec) (slot n : ℕ) (e : Effect) → slot < n → AreNumbered n rs → e.states ≡ []
     → with_effect_in rs slot e ≡ rs
@@ -183,14 +160,6 @@ set_from n (suc k) (r ∷ rs) e numbered none =
     ≡ slice_set rs k e.me) place (set_from (n + 1) k rs e numbered.1 none) in
     rw (differs, none, tail)
 
--- where no others change, an effect is a new record at the player's place
-pub numbered_set : (rs : List Rec) (slot : ℕ) (e : Effect) → AreNumbered 0 rs → e.states ≡ []
-    → with_effect_in rs slot e ≡ slice_set rs slot e.me
-numbered_set rs slot e numbered none =
-    let from_first : 0 + slot ≡ slot = omega arith in
-    subst (λ (place : ℕ). with_effect_in rs place e
-    ≡ slice_set rs slot e.me) from_first (set_from 0 slot rs e numbered none)
-
 -- the record so far after the first place has that number
 record_from : (n k : ℕ) (rs : List Rec) (r : Rec) → AreNumbered n rs → slice_get rs k ≡ Some r → r.id ≡ n + k
 record_from n k [] r numbered at = cc
@@ -203,12 +172,6 @@ record_from n (suc k) (x ∷ rs) r numbered at =
     let later = record_from (n + 1) k rs r numbered.1 at in
     omega arith
 
--- the record at a place has that id
-pub numbered_record : (rs : List Rec) (slot : ℕ) (r : Rec) → AreNumbered 0 rs → slice_get rs slot ≡ Some r → r.id ≡ slot
-numbered_record rs slot r numbered at =
-    let from_first = record_from 0 slot rs r numbered at in
-    omega arith
-
 -- a record so far after the first place, with that number, leaves the records numbered
 after_set_from : (n k : ℕ) (rs : List Rec) (me : Rec) → AreNumbered n rs → me.id ≡ n + k
     → AreNumbered n (slice_set rs k me)
@@ -217,16 +180,7 @@ after_set_from n zero (r ∷ rs) me numbered own = (omega arith, numbered.1)
 after_set_from n (suc k) (r ∷ rs) me numbered own =
     (numbered.0, after_set_from (n + 1) k rs me numbered.1 (omega arith))
 
--- a record at its own place leaves the records numbered
-pub numbered_after_set : (rs : List Rec) (slot : ℕ) (me : Rec) → AreNumbered 0 rs → me.id ≡ slot
-    → AreNumbered 0 (slice_set rs slot me)
-numbered_after_set rs slot me numbered own = after_set_from 0 slot rs me numbered (omega arith)
-
 -- one more record, with the next number from the first place on, leaves the records numbered
 push_from : (n : ℕ) (rs : List Rec) (r : Rec) → AreNumbered n rs → r.id ≡ n + length rs → AreNumbered n (rs ++ r ∷ [])
 push_from n [] r numbered next = (omega arith, tt)
 push_from n (x ∷ rs) r numbered next = (numbered.0, push_from (n + 1) rs r numbered.1 (omega arith))
-
--- one more record, with the next number, leaves the records numbered
-pub numbered_push : (rs : List Rec) (r : Rec) → AreNumbered 0 rs → r.id ≡ length rs → AreNumbered 0 (rs ++ r ∷ [])
-numbered_push rs r numbered next = push_from 0 rs r numbered (omega arith)

@@ -1,5 +1,5 @@
 -- A world whose records are made those of a table's words, id by id.
-use Rattle.std.proofs.Common.{◌≡◌, ◌≢◌, ℕ, ◌+◌, ◌<◌, ◌≤◌, List, Some, None, refl, sym, ap, ◌∙◌, subst, inl, inr, arith, slice_set, get_or-set_other}
+use Rattle.std.proofs.Common.{◌≡◌, ◌≢◌, ℕ, ◌+◌, ◌<◌, ◌≤◌, List, Some, None, sym, ap, ◌∙◌, subst, inl, inr, arith, slice_set, get_or-set_other}
 use Rattle.std.specs.Option.{option_map}
 use Rattle.std.proofs.lemmas.Bool.{cases_eq, cases_lt}
 use Rattle.std.proofs.lemmas.List.{get_or_past}
@@ -13,14 +13,6 @@ pub record IsRelinkedBelow (n : ℕ) (words : List ℕ) (before after : WorldVie
   pub left : (id : ℕ) → n ≤ id → record_of after id ≡ record_of before id
   pub tree : after.tree ≡ before.tree
   pub linked : 0 < n → IsLinked after
-
-pub relinked_none : (words : List ℕ) (w : WorldView) → IsRelinkedBelow 0 words w w
-relinked_none words w = record {
-  done = λ id below. absurd (omega (arith, below));
-  left = λ id _. refl;
-  tree = refl;
-  linked = λ below. absurd (omega (arith, below));
-}
 
 pub relinked_next : (n : ℕ) (words : List ℕ) (before after next : WorldView) → IsRelinkedBelow n words before after
     → record_of next n ≡ option_map (record_in words) (record_of after n)

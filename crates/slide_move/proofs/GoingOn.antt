@@ -41,11 +41,6 @@ part-minus X v w = refl
 part-minus Y v w = refl
 part-minus Z v w = refl
 
-part-without : (axis : Axis) (v : Vec3) → part axis (without axis v) ≡ pos 0
-part-without X v = refl
-part-without Y v = refl
-part-without Z v = refl
-
 part-zero_vector : (axis : Axis) → part axis zero_vector ≡ pos 0
 part-zero_vector X = refl
 part-zero_vector Y = refl

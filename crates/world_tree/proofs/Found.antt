@@ -305,9 +305,3 @@ pub free-is : (records walked : List (Option Rec)) (body : Bounds) (fixed : List
 free-is records walked body fixed except by_fixed by_solids fixed_is none solids_is walked_is =
     ap not (solids_is ∙ ap (list_any (is_in_the_way body except)) walked_is ∙ in_the_way-is body except records)
     ∙ ap (λ (b : Bool). not b && not (is_blocked body (map body_of (solids_in records except)))) (sym none ∙ fixed_is)
-
--- and where one is
-pub not_free-is : (records : List (Option Rec)) (body : Bounds) (fixed : List Bounds) (except : ℕ) (by_fixed : Bool)
-    → by_fixed ≡ is_blocked body fixed → by_fixed ≡ true → false ≡ is_free records body fixed except
-not_free-is records body fixed except by_fixed fixed_is some =
-    ap (λ (b : Bool). not b && not (is_blocked body (map body_of (solids_in records except)))) (sym some ∙ fixed_is)

@@ -44,10 +44,6 @@ unfolding marked
 marked-append records region [] ys marks = refl
 marked-append records region (x ∷ xs) ys marks = marked-append records region xs ys _
 
-pub marked-none : (records : List (Option Rec)) (region : List Bounds) (marks : List Bool) → marks ≡ marked records region [] marks
-unfolding marked
-marked-none records region marks = refl
-
 ids_at-last : (lists : ListsView) (nodes : List ℕ) (node : ℕ) → ids_at lists (nodes ++ node ∷ []) ≡ ids_at lists nodes ++ (list_of lists node ++ list_of lists (31 + node))
 unfolding ids_at
 ids_at-last lists nodes node =
