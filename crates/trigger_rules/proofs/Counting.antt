@@ -15,7 +15,6 @@ use Rattle.trigger_rules.specs.Touching.{Walk, after_trigger}
 use Rattle.trigger_rules.specs.Laws.{is_got, count_got}
 use Rattle.trigger_rules.proofs.Steps.{IsTake, IsGoal, IsLeap, Step, step}
 use Rattle.trigger_rules.proofs.Taken.{Rises, IsBelow, below-step}
-use Rattle.trigger_rules.proofs.Doing.{good-before}
 
 -- ---- which ids were got
 
@@ -70,49 +69,62 @@ abbrev pub IsOther : Kind → MapView → List Bounds → ℕ → Walk → Rec �
 IsOther kind map solids frame w r next =
     (next ≡ w) ⊎ ((IsTake map frame w r next × ((number_of r.kind == number_of kind) ≡ false)) ⊎ (IsGoal w r next ⊎ IsLeap map solids w r next))
 
--- a measure of walks that each item of a kind changes, and nothing else
-module _ (map : MapView) (solids : List Bounds) (frame : ℕ) (kind : Kind) (Good : Walk → Type 0) (back : (v : Walk) (r : Rec) → Good (after_trigger map solids frame v r) → Good v) (Q : Rec → Type 0)
-    (measure : Walk → ℕ) (Counts : ℕ → ℕ → ℕ → Type 0)
-    (more : (w next : Walk) (r : Rec) → IsTake map frame w r next → number_of r.kind ≡ number_of kind → (c y : ℕ) → Counts c (measure next) y → Counts (c + 1) (measure w) y)
-    (same : (w next : Walk) (r : Rec) → Good next → Q r → IsOther kind map solids frame w r next → measure next ≡ measure w) where
+-- what each item of a kind changes between a walk and its end, and nothing else
+module _ (map : MapView) (solids : List Bounds) (frame : ℕ) (kind : Kind) (Q : Rec → Type 0)
+    (Counts : ℕ → Walk → Walk → Type 0)
+    (more : (w next : Walk) (r : Rec) → IsTake map frame w r next → number_of r.kind ≡ number_of kind → (c : ℕ) (final : Walk) → Counts c next final → Counts (c + 1) w final)
+    (same : (w next : Walk) (r : Rec) → Q r → IsOther kind map solids frame w r next → (c : ℕ) (final : Walk) → Counts c next final → Counts c w final) where
   -- a record that takes nothing of this kind isn't counted
-  uncounted : (w next final : Walk) (r : Rec) (rs : List Rec) → measure next ≡ measure w → is_got kind final r ≡ false
-      → Counts (count_got kind rs final) (measure next) (measure final) → Counts (count_got kind (r ∷ rs) final) (measure w) (measure final)
-  uncounted w next final r rs e fails is =
-      subst (λ (c : ℕ). Counts c (measure w) (measure final)) (sym (count-no (is_got kind final) r rs fails)) (subst (λ (x : ℕ). Counts (count_got kind rs final) x (measure final)) e is)
+  uncounted : (w final : Walk) (r : Rec) (rs : List Rec) → is_got kind final r ≡ false → Counts (count_got kind rs final) w final → Counts (count_got kind (r ∷ rs) final) w final
+  uncounted w final r rs fails is = subst (λ (c : ℕ). Counts c w final) (sym (count-no (is_got kind final) r rs fails)) is
 
-  counted-step : (n : ℕ) (w next final : Walk) (r : Rec) (rs : List Rec) → Step map solids frame w r next → Good next → Q r → n ≤ r.id → IsBelow n w.got → has r.id final.got ≡ has r.id next.got
-      → Counts (count_got kind rs final) (measure next) (measure final) → Counts (count_got kind (r ∷ rs) final) (measure w) (measure final)
-  counted-step n w next final r rs (inl e) good q low is kept counts =
-      uncounted w next final r rs (same w next r good q (inl e))
-      (and_right (number_of r.kind == number_of kind) (has r.id final.got) (kept ∙ ap (λ (v : Walk). has r.id v.got) e ∙ not-yet n r.id w.got low is.below)) counts
-  counted-step n w next final r rs (inr (inl t)) good q low is kept counts = by (number_of r.kind == number_of kind) refl
+  counted-step : (n : ℕ) (w next final : Walk) (r : Rec) (rs : List Rec) → Step map solids frame w r next → Q r → n ≤ r.id → IsBelow n w.got → has r.id final.got ≡ has r.id next.got
+      → Counts (count_got kind rs final) next final → Counts (count_got kind (r ∷ rs) final) w final
+  counted-step n w next final r rs (inl e) q low is kept counts =
+      uncounted w final r rs
+      (and_right (number_of r.kind == number_of kind) (has r.id final.got) (kept ∙ ap (λ (v : Walk). has r.id v.got) e ∙ not-yet n r.id w.got low is.below)) (same w next r q (inl e) (count_got kind rs final) final counts)
+  counted-step n w next final r rs (inr (inl t)) q low is kept counts = by (number_of r.kind == number_of kind) refl
     where
       got : has r.id final.got ≡ true
       got = kept ∙ ap (λ (v : Walk). has r.id v.got) t.is ∙ list_any-append (λ id. id == r.id) w.got (r.id ∷ []) ∙ one-more (has r.id w.got) (r.id == r.id) (eq-eqb r.id r.id refl)
 
-      by : (b : Bool) → (number_of r.kind == number_of kind) ≡ b → Counts (count_got kind (r ∷ rs) final) (measure w) (measure final)
+      by : (b : Bool) → (number_of r.kind == number_of kind) ≡ b → Counts (count_got kind (r ∷ rs) final) w final
       by true e =
-          subst (λ (c : ℕ). Counts c (measure w) (measure final)) (sym (count-yes (is_got kind final) r rs (and_from (number_of r.kind == number_of kind) (has r.id final.got) e got)))
-          (more w next r t (eqb-true (number_of r.kind) (number_of kind) e) (count_got kind rs final) (measure final) counts)
-      by false e = uncounted w next final r rs (same w next r good q (inr (inl (t, e)))) (and_left (number_of r.kind == number_of kind) (has r.id final.got) e) counts
-  counted-step n w next final r rs (inr (inr (inl goal))) good q low is kept counts =
-      uncounted w next final r rs (same w next r good q (inr (inr (inl goal))))
-      (and_right (number_of r.kind == number_of kind) (has r.id final.got) (kept ∙ ap (λ (v : Walk). has r.id v.got) goal.is ∙ not-yet n r.id w.got low is.below)) counts
-  counted-step n w next final r rs (inr (inr (inr l))) good q low is kept counts =
-      uncounted w next final r rs (same w next r good q (inr (inr (inr l))))
-      (and_right (number_of r.kind == number_of kind) (has r.id final.got) (kept ∙ ap (λ (v : Walk). has r.id v.got) l.is ∙ not-yet n r.id w.got low is.below)) counts
+          subst (λ (c : ℕ). Counts c w final) (sym (count-yes (is_got kind final) r rs (and_from (number_of r.kind == number_of kind) (has r.id final.got) e got)))
+          (more w next r t (eqb-true (number_of r.kind) (number_of kind) e) (count_got kind rs final) final counts)
+      by false e = uncounted w final r rs (and_left (number_of r.kind == number_of kind) (has r.id final.got) e) (same w next r q (inr (inl (t, e))) (count_got kind rs final) final counts)
+  counted-step n w next final r rs (inr (inr (inl goal))) q low is kept counts =
+      uncounted w final r rs
+      (and_right (number_of r.kind == number_of kind) (has r.id final.got) (kept ∙ ap (λ (v : Walk). has r.id v.got) goal.is ∙ not-yet n r.id w.got low is.below))
+      (same w next r q (inr (inr (inl goal))) (count_got kind rs final) final counts)
+  counted-step n w next final r rs (inr (inr (inr l))) q low is kept counts =
+      uncounted w final r rs
+      (and_right (number_of r.kind == number_of kind) (has r.id final.got) (kept ∙ ap (λ (v : Walk). has r.id v.got) l.is ∙ not-yet n r.id w.got low is.below))
+      (same w next r q (inr (inr (inr l))) (count_got kind rs final) final counts)
 
-  pub counted : (n : ℕ) (w : Walk) (rs : List Rec) → Rises n rs → IsBelow n w.got → AllByRecursion Q rs
-      → let final = fold (after_trigger map solids frame) w rs in Good final → Counts 0 (measure final) (measure final) → Counts (count_got kind rs final) (measure w) (measure final)
+  pub counted-between : (n : ℕ) (w : Walk) (rs : List Rec) → Rises n rs → IsBelow n w.got → AllByRecursion Q rs
+      → let final = fold (after_trigger map solids frame) w rs in Counts 0 final final → Counts (count_got kind rs final) w final
   unfolding Rises
-  counted n w [] up is all good none = none
-  counted n w (r ∷ rs) up is all good none =
+  counted-between n w [] up is all none = none
+  counted-between n w (r ∷ rs) up is all none =
       let f = after_trigger map solids frame in
       let next = f w r in
       let at = step map solids frame w r in
-      counted-step n w next (fold f next rs) r rs at (good-before f Good back next rs good) all.0 up.0 is (has-through map solids frame r.id (r.id + 1) next rs (omega arith) up.1)
-      (counted (r.id + 1) next rs up.1 (below-step map solids frame n w next r at up.0 is) all.1 good none)
+      counted-step n w next (fold f next rs) r rs at all.0 up.0 is (has-through map solids frame r.id (r.id + 1) next rs (omega arith) up.1)
+      (counted-between (r.id + 1) next rs up.1 (below-step map solids frame n w next r at up.0 is) all.1 none)
+
+-- a measure of walks that each item of a kind changes, and nothing else
+module _ (map : MapView) (solids : List Bounds) (frame : ℕ) (kind : Kind) (Q : Rec → Type 0)
+    (measure : Walk → ℕ) (Counts : ℕ → ℕ → ℕ → Type 0)
+    (more : (w next : Walk) (r : Rec) → IsTake map frame w r next → number_of r.kind ≡ number_of kind → (c y : ℕ) → Counts c (measure next) y → Counts (c + 1) (measure w) y)
+    (same : (w next : Walk) (r : Rec) → Q r → IsOther kind map solids frame w r next → measure next ≡ measure w) where
+  pub counted : (n : ℕ) (w : Walk) (rs : List Rec) → Rises n rs → IsBelow n w.got → AllByRecursion Q rs
+      → let final = fold (after_trigger map solids frame) w rs in Counts 0 (measure final) (measure final) → Counts (count_got kind rs final) (measure w) (measure final)
+  counted n w rs up is all none =
+      counted-between map solids frame kind Q (λ c u v. Counts c (measure u) (measure v))
+      (λ u next r t own c final counts. more u next r t own c (measure final) counts)
+      (λ u next r q other c final counts. subst (λ (x : ℕ). Counts c x (measure final)) (same u next r q other) counts)
+      n w rs up is all none
 
 -- any record
 pub each : (rs : List Rec) → AllByRecursion (λ (r : Rec). Unit {0}) rs

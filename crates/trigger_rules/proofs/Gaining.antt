@@ -1,5 +1,5 @@
 -- What a player has in the end: its ammunition, and the gems that it carries and has brought in.
-use Rattle.std.proofs.Common.{◌≡◌, ◌≢◌, ℕ, ◌+◌, ◌*◌, ◌<◌, ◌==◌, min, Bool, true, false, if◌then◌else◌, List, [], ◌∷◌, ◌++◌, fold, refl, sym, ap, ◌∙◌, subst, inl, inr, arith}
+use Rattle.std.proofs.Common.{◌≡◌, ◌≢◌, ℕ, ◌+◌, ◌-◌, ◌*◌, ◌<◌, ◌≤◌, ◌==◌, min, Bool, true, false, if◌then◌else◌, List, [], ◌∷◌, ◌++◌, fold, refl, sym, ap, ◌∙◌, subst, inl, inr, arith}
 use Rattle.std.proofs.lemmas.List.Elements.{recursion_from_All}
 use Rattle.std.proofs.lemmas.List.Sums.{fold-append}
 use Rattle.arena_geo.specs.Bounds.{Bounds}
@@ -10,10 +10,10 @@ use Rattle.entity_recs.specs.Kinds.{number_of}
 use Rattle.arena_map.specs.Maps.{MapView}
 use Rattle.item_rules.specs.Items.{may_take, with_item, after_item}
 use Rattle.trigger_rules.specs.Touching.{touched_by, solids_among, Walk, walk_of, first_walk, scored, after_kind, after_trigger, touched}
-use Rattle.trigger_rules.specs.Laws.{HasFewThings, count_got, AmmunitionIsCounted, NoGemIsLost, HaveNoGoal, AreCarried, GoalsTakeWhatIsCarried}
+use Rattle.trigger_rules.specs.Laws.{HasFewThings, count_got, AmmunitionIsCounted, IsScoreOf, ScoresAreCounted, NoGemIsLost, HaveNoGoal, AreCarried, GoalsTakeWhatIsCarried}
 use Rattle.trigger_rules.proofs.Steps.{IsTake, Step, step, item-change, true-false}
-use Rattle.trigger_rules.proofs.Taken.{few-through, Rises, IsBelow, below-step, touched-rise, none-below}
-use Rattle.trigger_rules.proofs.Counting.{IsOther, counted, each}
+use Rattle.trigger_rules.proofs.Taken.{few-through, score-through, Rises, IsBelow, below-step, touched-rise, none-below}
+use Rattle.trigger_rules.proofs.Counting.{IsOther, counted-between, counted, each}
 use Rattle.trigger_rules.proofs.Doing.{good-before, on-step}
 
 -- ---- what an item gives
@@ -85,14 +85,64 @@ pub armed-of : (map : MapView) (solids : List Bounds) (frame : ℕ) (me : Rec) (
     → let w = fold (after_trigger map solids frame) (first_walk me) rs in w.me.ammo ≡ min 100 (me.ammo + 20 * count_got Ammo rs w)
 armed-of map solids frame me rs up few =
     let most = (few-through map solids frame me rs few).ammo in
-    counted map solids frame Ammo (λ v. Unit {0}) (λ v r good. tt) (λ r. Unit {0}) (λ v. v.me.ammo) (λ c x y. y ≡ min 100 (x + 20 * c))
+    counted map solids frame Ammo (λ r. Unit {0}) (λ v. v.me.ammo) (λ c x y. y ≡ min 100 (x + 20 * c))
     (λ w next r t kind c y is. let e = taken-ammo map solids frame w next r t kind in omega (arith, e, is))
-    (λ w next r good q other. same-ammo map solids frame w next r other)
-    0 (first_walk me) rs up none-below (each rs) tt (omega (arith, most))
+    (λ w next r q other. same-ammo map solids frame w next r other)
+    0 (first_walk me) rs up none-below (each rs) (omega (arith, most))
 
 pub ammunition_counted : AmmunitionIsCounted
 unfolding touched
 ammunition_counted map frame me near rise few = armed-of map (solids_among map near) frame me (touched_by me near) (touched-rise me near rise) few
+
+-- ---- scores
+
+-- what a player has in the end, where it takes so many gems from here on
+record Scores (gems : ℕ) (me last : Rec) : Type 0 where
+  carried : last.carry ≤ me.carry + gems
+  score : last.score ≡ min 4294967295 (me.score + me.carry + gems - last.carry)
+
+scores-more : (gems : ℕ) (me next last : Rec) → next.carry ≡ me.carry + 1 → next.score ≡ me.score → Scores gems next last → Scores (gems + 1) me last
+scores-more gems me next last carry score is = record {
+  carried = omega (arith, carry, is.carried);
+  score = omega (arith, carry, score, is.carried, is.score);
+}
+
+scores-same : (gems : ℕ) (me next last : Rec) → next.carry ≡ me.carry → next.score ≡ me.score → Scores gems next last → Scores gems me last
+scores-same gems me next last carry score is = record {
+  carried = omega (arith, carry, is.carried);
+  score = omega (arith, carry, score, is.carried, is.score);
+}
+
+-- at a goal the player leaves what it carries
+scores-goal : (gems : ℕ) (me last : Rec) → Scores gems (scored me) last → Scores gems me last
+scores-goal gems me last is = record {
+  carried = omega (arith, is.carried);
+  score = omega (arith, is.carried, is.score);
+}
+
+scores-other : (map : MapView) (solids : List Bounds) (frame gems : ℕ) (w next final : Walk) (r : Rec) → IsOther Gem map solids frame w r next → Scores gems next.me final.me → Scores gems w.me final.me
+scores-other map solids frame gems w next final r (inl e) is = subst (λ (v : Walk). Scores gems v.me final.me) e is
+scores-other map solids frame gems w next final r (inr (inl t)) is =
+    scores-same gems w.me next.me final.me (kept-carry map solids frame w next r t.0 t.1) (kept-score map solids frame w next r t.0) is
+scores-other map solids frame gems w next final r (inr (inr (inl goal))) is = scores-goal gems w.me final.me (subst (λ (v : Walk). Scores gems v.me final.me) goal.is is)
+scores-other map solids frame gems w next final r (inr (inr (inr l))) is =
+    scores-same gems w.me next.me final.me (ap (λ (v : Walk). v.me.carry) l.is) (ap (λ (v : Walk). v.me.score) l.is) is
+
+scores-last : (me : Rec) → me.score ≤ 4294967295 → Scores 0 me me
+scores-last me high = record { carried = omega arith; score = omega (arith, high) }
+
+pub scores_counted : ScoresAreCounted
+unfolding touched
+scores_counted map frame me near rise high =
+    let solids = solids_among map near in
+    let rs = touched_by me near in
+    let final = fold (after_trigger map solids frame) (first_walk me) rs in
+    let is : Scores (count_got Gem rs final) me final.me =
+    counted-between map solids frame Gem (λ r. Unit {0}) (λ c u v. Scores c u.me v.me)
+    (λ w next r t kind c last. scores-more c w.me next.me last.me (taken-carry map solids frame w next r t kind) (kept-score map solids frame w next r t))
+    (λ w next r q other c last. scores-other map solids frame c w next last r other)
+    0 (first_walk me) rs (touched-rise me near rise) none-below (each rs) (scores-last final.me (score-through map solids frame me rs high).high) in
+    record { carried = omega (arith, is.carried); score = is.score }
 
 -- ---- gems
 
@@ -107,25 +157,17 @@ below_end-step map solids frame w next r (inr (inl t)) good = omega (arith, kept
 below_end-step map solids frame w next r (inr (inr (inl goal))) good = omega (arith, subst IsBelowEnd goal.is good)
 below_end-step map solids frame w next r (inr (inr (inr l))) good = subst IsBelowEnd l.is good
 
-same-gems : (map : MapView) (solids : List Bounds) (frame : ℕ) (w next : Walk) (r : Rec) → IsBelowEnd next → IsOther Gem map solids frame w r next → next.me.score + next.me.carry ≡ w.me.score + w.me.carry
-unfolding IsBelowEnd
-same-gems map solids frame w next r good (inl e) = ap (λ (v : Walk). v.me.score + v.me.carry) e
-same-gems map solids frame w next r good (inr (inl t)) = omega (arith, kept-score map solids frame w next r t.0, kept-carry map solids frame w next r t.0 t.1)
-same-gems map solids frame w next r good (inr (inr (inl goal))) =
-    let below = subst IsBelowEnd goal.is good in
-    let e : (scored w.me).score + (scored w.me).carry ≡ w.me.score + w.me.carry = omega (arith, below) in
-    ap (λ (v : Walk). v.me.score + v.me.carry) goal.is ∙ e
-same-gems map solids frame w next r good (inr (inr (inr l))) = ap (λ (v : Walk). v.me.score + v.me.carry) l.is
+-- a score below its end is all that was brought in
+none-lost : (gems : ℕ) (me : Rec) → IsScoreOf gems me → me.score < 4294967295 → me.score + me.carry ≡ gems
+none-lost gems me is below = omega (arith, is.carried, is.score, below)
 
 pub gems_kept : NoGemIsLost
 unfolding touched IsBelowEnd
 gems_kept map frame me near rise below =
-    let solids = solids_among map near in
-    let f = after_trigger map solids frame in
-    counted map solids frame Gem IsBelowEnd (λ v r good. below_end-step map solids frame v (f v r) r (step map solids frame v r) good) (λ r. Unit {0}) (λ v. v.me.score + v.me.carry) (λ c x y. y ≡ x + c)
-    (λ w next r t kind c y is. omega (arith, taken-carry map solids frame w next r t kind, kept-score map solids frame w next r t, is))
-    (λ w next r good q other. same-gems map solids frame w next r good other)
-    0 (first_walk me) (touched_by me near) (touched-rise me near rise) none-below (each (touched_by me near)) below (omega arith)
+    let f = after_trigger map (solids_among map near) frame in
+    let before : me.score < 4294967295 = good-before f IsBelowEnd (λ v r good. below_end-step map (solids_among map near) frame v (f v r) r (step map (solids_among map near) frame v r) good) (first_walk me) (touched_by me near) below in
+    let w = touched map frame me near in
+    none-lost (me.score + me.carry + count_got Gem (touched_by me near) w) w.me (scores_counted map frame me near rise (omega (arith, before))) below
 
 -- ---- goals
 
@@ -139,10 +181,10 @@ same-carry map solids frame w next r other (inr (inr (inr l))) = ap (λ (v : Wal
 carried : (map : MapView) (solids : List Bounds) (frame n : ℕ) (w : Walk) (rs : List Rec) → Rises n rs → IsBelow n w.got → HaveNoGoal rs
     → let final = fold (after_trigger map solids frame) w rs in final.me.carry ≡ w.me.carry + count_got Gem rs final
 carried map solids frame n w rs up is none =
-    counted map solids frame Gem (λ v. Unit {0}) (λ v r good. tt) (λ r. r.kind ≢ Goal) (λ v. v.me.carry) (λ c x y. y ≡ x + c)
+    counted map solids frame Gem (λ r. r.kind ≢ Goal) (λ v. v.me.carry) (λ c x y. y ≡ x + c)
     (λ w next r t kind c y is. omega (arith, taken-carry map solids frame w next r t kind, is))
-    (λ w next r good q other. same-carry map solids frame w next r q other)
-    n w rs up is (recursion_from_All (λ r. r.kind ≢ Goal) rs none) tt (omega arith)
+    (λ w next r q other. same-carry map solids frame w next r q other)
+    n w rs up is (recursion_from_All (λ r. r.kind ≢ Goal) rs none) (omega arith)
 
 -- the ids that follow rise above those that were got
 pub record Follow (w : Walk) (rest : List Rec) : Type 0 where

@@ -41,9 +41,10 @@ stay_few map frame me near few = few-through map (solids_among map near) frame m
 
 -- ---- scores
 
-record IsScore (least : ℕ) (me : Rec) : Type 0 where
-  low : least ≤ me.score
-  high : me.score ≤ 4294967295
+-- a score from the least on, up to the end of scores
+pub record IsScore (least : ℕ) (me : Rec) : Type 0 where
+  pub low : least ≤ me.score
+  pub high : me.score ≤ 4294967295
 
 score-step : (map : MapView) (solids : List Bounds) (frame least : ℕ) (w next : Walk) (r : Rec) → Step map solids frame w r next → IsScore least w.me → IsScore least next.me
 score-step map solids frame least w next r (inl same) is = subst (λ (v : Walk). IsScore least v.me) (sym same) is
@@ -53,12 +54,15 @@ score-step map solids frame least w next r (inr (inl t)) is =
 score-step map solids frame least w next r (inr (inr (inl goal))) is = subst (λ (v : Walk). IsScore least v.me) (sym goal.is) (record { low = omega (arith, is.low, is.high); high = omega arith })
 score-step map solids frame least w next r (inr (inr (inr l))) is = subst (λ (v : Walk). IsScore least v.me) (sym l.is) (record { low = is.low; high = is.high })
 
+-- over any records
+pub score-through : (map : MapView) (solids : List Bounds) (frame : ℕ) (me : Rec) (rs : List Rec) → me.score ≤ 4294967295 → IsScore me.score (fold (after_trigger map solids frame) (first_walk me) rs).me
+score-through map solids frame me rs high =
+    walk-keeps (after_trigger map solids frame) (λ w. IsScore me.score w.me) (first_walk me) rs
+    (λ v r. score-step map solids frame me.score v (after_trigger map solids frame v r) r (step map solids frame v r)) (record { low = omega arith; high = high })
+
 pub never_fall : ScoresNeverFall
 unfolding touched
-never_fall map frame me near high =
-    let solids = solids_among map near in
-    (walk-keeps (after_trigger map solids frame) (λ w. IsScore me.score w.me) (first_walk me) (touched_by me near)
-    (λ v r. score-step map solids frame me.score v (after_trigger map solids frame v r) r (step map solids frame v r)) (record { low = omega arith; high = high })).low
+never_fall map frame me near high = (score-through map (solids_among map near) frame me (touched_by me near) high).low
 
 -- ---- who a player is
 

@@ -1,5 +1,5 @@
 -- What holds of every walk over what a player touches.
-use Rattle.std.specs.Prelude.{◌≡◌, ◌≢◌, ◌⊎◌, ℕ, ◌+◌, ◌*◌, ◌<◌, ◌≤◌, ◌==◌, min, bit_or, Bool, true, false, ◌&&◌}
+use Rattle.std.specs.Prelude.{◌≡◌, ◌≢◌, ◌⊎◌, ℕ, ◌+◌, ◌-◌, ◌*◌, ◌<◌, ◌≤◌, ◌==◌, min, bit_or, Bool, true, false, ◌&&◌}
 use Rattle.std.specs.Prelude.{List, ◌∷◌, ◌++◌, map, length, count_by, Contains, All, Some}
 use Rattle.std.specs.List.{IsDistinct, list_any}
 use Rattle.std.specs.List.Sorted.{IsStrictlyIncreasing}
@@ -111,6 +111,20 @@ NoGemIsLost =
     → let w = touched arena frame me near in
     w.me.score < 4294967295
     → w.me.score + w.me.carry ≡ me.score + me.carry + count_got Gem (touched_by me near) w
+
+-- of so many gems a player carries some; it has brought in the others, which are its score, up to 4,294,967,295
+pub record IsScoreOf (gems : ℕ) (me : Rec) : Type 0 where
+  pub carried : me.carry ≤ gems
+  pub score : me.score ≡ min 4294967295 (gems - me.carry)
+
+-- a player's score is its score of before with the gems that it carried and those that it got, without those that it
+-- carries, up to 4,294,967,295, where the ids of the records rise
+abbrev pub ScoresAreCounted : Type 0
+ScoresAreCounted =
+    (arena : MapView) (frame : ℕ) (me : Rec) (near : List Rec) → IsStrictlyIncreasing (map (λ r. r.id) near)
+    → me.score ≤ 4294967295
+    → let w = touched arena frame me near in
+    IsScoreOf (me.score + me.carry + count_got Gem (touched_by me near) w) w.me
 
 -- none of these triggers is a goal
 abbrev pub HaveNoGoal : List Rec → Type 0

@@ -14,6 +14,7 @@ ghost use Rattle.trigger_rules.specs.Laws.{
   LeapsAreFromTeleporters,
   AmmunitionIsCounted,
   NoGemIsLost,
+  ScoresAreCounted,
   GoalsTakeWhatIsCarried,
   ItemsAreLeftWithoutRoom,
 };
@@ -50,6 +51,12 @@ pub fn ammunition_is_counted()
 /// its end.
 pub fn no_gem_is_lost()
     ensures { NoGemIsLost }
+{}
+
+/// A player's score is its score of before with the gems that it carried and those that it got, without those that it
+/// carries, up to 4,294,967,295.
+pub fn scores_are_counted()
+    ensures { ScoresAreCounted }
 {}
 
 /// A player that touches a goal carries the gems that it got after it, and one that touches none also those that it
