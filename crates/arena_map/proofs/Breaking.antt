@@ -1,4 +1,4 @@
--- That lines which give maps that keep the rules break none.
+-- That a line passes the test of each rule that the map with it keeps.
 use Rattle.std.proofs.Common.{◌≡◌, ℕ, ◌+◌, ◌<◌, ◌≤◌, Bool, true, false, not, cond, ◌||◌, nat_lt, List, [], ◌∷◌, ◌++◌, length, Some, None, All, AllPairs, count_by, get_or, refl, sym, ap, ◌∙◌, subst, arith, length-append}
 use Rattle.std.specs.List.{list_any}
 use Rattle.std.proofs.lemmas.Bool.Decides.{nat_tests}
@@ -10,15 +10,16 @@ use Rattle.std.specs.Cmp.Derive.{both_true}
 use Rattle.arena_geo.specs.declared.vec3.Vec3.{Vec3}
 use Rattle.arena_geo.specs.Bounds.{Bounds, bounds}
 use Rattle.arena_geo.specs.Boxes.{overlaps, is_blocked}
-use Rattle.entity_recs.specs.declared.kind.Kind.{Kind}
+use Rattle.arena_map.specs.declared.map_fault.MapFault.{MapFault}
 use Rattle.arena_map.specs.declared.map_fault.MapFault.TheVariants as fault
 use Rattle.arena_map.specs.declared.map_line.MapLine.{MapLine}
 use Rattle.arena_map.specs.declared.map_line.MapLine.TheVariants.{Arena, Block, Spawn, Item, Teleport, Goal, Lift}
-use Rattle.arena_map.specs.MapLines.{is_item_line, is_teleport_line, is_goal_line, is_lift_line}
-use Rattle.arena_map.specs.Places.{shaft, shaft_of}
-use Rattle.arena_map.specs.Maps.{MapView, shafts_of, IsSpawn, IsBlock, IsThingInside, IsMap}
-use Rattle.arena_map.specs.Rules.{broken_by_arena, bare_map, broken_rule, meets_shaft, with_block, with_spawn, with_thing, with_line}
-use Rattle.arena_map.proofs.Keeping.{KeepsAll, first_broken, count-push}
+use Rattle.arena_map.specs.MapLines.{is_thing_line, is_item_line, is_teleport_line, is_goal_line, is_lift_line}
+use Rattle.arena_map.specs.Places.{is_box_inside, is_player_inside, shaft, shaft_of, keeps_box, keeps_stand, keeps_item, keeps_travel}
+use Rattle.arena_map.specs.Maps.{MapView, shafts_of, IsMap}
+use Rattle.arena_map.specs.Rules.{broken_by_arena, bare_map, keeps_count, meets_shaft, keeps_shafts, broken_rule, with_block, with_spawn, with_thing, with_line}
+use Rattle.arena_map.specs.KeptRules.{HasFew, HasClearShafts, KeepsRule}
+use Rattle.arena_map.proofs.Keeping.{first_broken, count-push}
 
 -- ---- lists
 
@@ -67,104 +68,121 @@ room-of xs x most few = let more = length-append xs (x ∷ []) in below (length 
     below : (m n : ℕ) → m < n → nat_lt m n ≡ true
     below m n h = grind (arith, nat_tests)
 
--- ---- what keeps each breaks no rule
+-- ---- what the map with a line keeps the line keeps
 
-none_broken : (map : MapView) (line : MapLine) → KeepsAll map line → broken_rule map line ≡ None
-none_broken map line keeps = λ i. first_broken (keeps.inside i) (keeps.count i) (keeps.stand i) (keeps.item i) (keeps.travel i) (keeps.shafts i)
+-- the line passes the test of this rule
+abbrev pub passes : MapView → MapLine → MapFault → Bool
+passes map line fault.Arena = true
+passes map line fault.Box = keeps_box map.bounds line
+passes map line fault.Count = keeps_count map line
+passes map line fault.Stand = keeps_stand map.bounds line
+passes map line fault.Item = keeps_item map.bounds line
+passes map line fault.Travel = keeps_travel map.bounds line
+passes map line fault.NoSpawn = true
+passes map line fault.Shaft = keeps_shafts map line
 
--- ---- lines by their kinds
+arena-passes : (map : MapView) (lo hi : Vec3) (rule : MapFault) → passes map (Arena lo hi) rule ≡ true
+arena-passes map lo hi fault.Arena = refl
+arena-passes map lo hi fault.Box = refl
+arena-passes map lo hi fault.Count = refl
+arena-passes map lo hi fault.Stand = refl
+arena-passes map lo hi fault.Item = refl
+arena-passes map lo hi fault.Travel = refl
+arena-passes map lo hi fault.NoSpawn = refl
+arena-passes map lo hi fault.Shaft = refl
 
-block-before : (map : MapView) (lo hi : Vec3) → IsMap (with_block map (bounds lo hi)) → KeepsAll map (Block lo hi)
-block-before map lo hi is =
-    let block = all-last (IsBlock map.bounds) map.blocks (bounds lo hi) is.blocks in
-    record {
-      inside = both_true block.thick block.inside;
-      count = room-of map.blocks (bounds lo hi) 1024 is.few_blocks;
-      stand = refl;
-      item = refl;
-      travel = refl;
-      shafts = ap not (list_any_none (λ shaft. overlaps shaft (bounds lo hi)) (shafts_of map) (λ i d within.
-          last_clear (get_or (shafts_of map) i d) (is.clear_shafts i d within)));
-    }
+block-passes : (map : MapView) (lo hi : Vec3) (rule : MapFault) → KeepsRule (with_block map (bounds lo hi)) rule → passes map (Block lo hi) rule ≡ true
+block-passes map lo hi fault.Arena keeps = refl
+block-passes map lo hi fault.Box keeps = all-last (λ block. is_box_inside map.bounds block.lo block.hi ≡ true) map.blocks (bounds lo hi) keeps.0
+block-passes map lo hi fault.Count keeps = room-of map.blocks (bounds lo hi) 1024 keeps.blocks
+block-passes map lo hi fault.Stand keeps = refl
+block-passes map lo hi fault.Item keeps = refl
+block-passes map lo hi fault.Travel keeps = refl
+block-passes map lo hi fault.NoSpawn keeps = refl
+block-passes map lo hi fault.Shaft keeps =
+    ap not (list_any_none (λ shaft. overlaps shaft (bounds lo hi)) (shafts_of map) (λ i d within. last_clear (get_or (shafts_of map) i d) (keeps.clear i d within)))
   where
     last_clear : (own : Bounds) → is_blocked own (map.blocks ++ bounds lo hi ∷ []) ≡ false → overlaps own (bounds lo hi) ≡ false
     last_clear own clear = none-last (overlaps own) map.blocks (bounds lo hi) clear
 
-spawn-before : (map : MapView) (at : Vec3) → IsMap (with_spawn map at) → KeepsAll map (Spawn at)
-spawn-before map at is =
-    let spawn = all-last (IsSpawn map.bounds) map.spawns at is.spawns in
-    record { inside = refl; count = room-of map.spawns at 64 is.few_spawns; stand = spawn.inside; item = refl; travel = refl; shafts = refl }
+spawn-passes : (map : MapView) (at : Vec3) (rule : MapFault) → KeepsRule (with_spawn map at) rule → passes map (Spawn at) rule ≡ true
+spawn-passes map at fault.Arena keeps = refl
+spawn-passes map at fault.Box keeps = refl
+spawn-passes map at fault.Count keeps = room-of map.spawns at 64 keeps.spawns
+spawn-passes map at fault.Stand keeps = all-last (λ at. is_player_inside map.bounds at ≡ true) map.spawns at keeps.0
+spawn-passes map at fault.Item keeps = refl
+spawn-passes map at fault.Travel keeps = refl
+spawn-passes map at fault.NoSpawn keeps = refl
+spawn-passes map at fault.Shaft keeps = refl
 
--- a thing is as its line says
-thing-last : (map : MapView) (line : MapLine) → IsMap (with_thing map line) → IsThingInside map.bounds line
-thing-last map line is = all-last (IsThingInside map.bounds) map.things line is.things
+thing-room : (map : MapView) (line : MapLine) → is_thing_line line ≡ true → HasFew (with_thing map line) → keeps_count map line ≡ true
+thing-room map (Arena lo hi) is few = refl
+thing-room map (Block lo hi) is few = cc
+thing-room map (Spawn at) is few = cc
+thing-room map (Item at kind delay) is few = room-before is_item_line 144 map.things (Item at kind delay) refl few.items
+thing-room map (Teleport lo hi dest) is few = room-before is_teleport_line 16 map.things (Teleport lo hi dest) refl few.teleporters
+thing-room map (Goal lo hi) is few = room-before is_goal_line 16 map.things (Goal lo hi) refl few.goals
+thing-room map (Lift lo hi rise speed) is few = room-before is_lift_line 16 map.things (Lift lo hi rise speed) refl few.lifts
 
 -- a lift's shaft meets no block and no earlier shaft
-record IsShaftClear (map : MapView) (own : Bounds) : Type 0 where
-  clear : is_blocked own map.blocks ≡ false
-  apart : meets_shaft (shafts_of map) own ≡ false
-
-shaft-last : (map : MapView) (lo hi : Vec3) (rise speed : _) → IsMap (with_thing map (Lift lo hi rise speed)) → IsShaftClear map (shaft lo hi rise)
-shaft-last map lo hi rise speed is =
+lift-clear : (map : MapView) (lo hi : Vec3) (rise speed : _) → HasClearShafts (with_thing map (Lift lo hi rise speed)) → keeps_shafts map (Lift lo hi rise speed) ≡ true
+lift-clear map lo hi rise speed has =
     let own = shaft lo hi rise in
     let shafts-are = filter_map-append shaft_of map.things (Lift lo hi rise speed ∷ []) in
     let Clear : List Bounds → Type 0 = All (λ shaft. is_blocked shaft map.blocks ≡ false) in
     let Apart : List Bounds → Type 0 = AllPairs (λ one other. overlaps one other ≡ false) in
-    record {
-      clear = all-last (λ shaft. is_blocked shaft map.blocks ≡ false) (shafts_of map) own (subst Clear shafts-are is.clear_shafts);
-      apart = pairs-last (shafts_of map) own (subst Apart shafts-are is.shafts_apart);
-    }
+    both_true (ap not (all-last (λ shaft. is_blocked shaft map.blocks ≡ false) (shafts_of map) own (subst Clear shafts-are has.clear)))
+    (ap not (pairs-last (shafts_of map) own (subst Apart shafts-are has.apart)))
 
-lift-before : (map : MapView) (lo hi : Vec3) (rise speed : _) → IsMap (with_thing map (Lift lo hi rise speed)) → KeepsAll map (Lift lo hi rise speed)
-lift-before map lo hi rise speed is =
-    let thing = thing-last map (Lift lo hi rise speed) is in
-    let own = shaft-last map lo hi rise speed is in
-    record {
-      inside = thing.inside;
-      count = room-before is_lift_line 16 map.things (Lift lo hi rise speed) refl is.few_lifts;
-      stand = refl;
-      item = refl;
-      travel = thing.travel;
-      shafts = both_true (ap not own.clear) (ap not own.apart);
-    }
+thing-clear : (map : MapView) (line : MapLine) → is_thing_line line ≡ true → HasClearShafts (with_thing map line) → keeps_shafts map line ≡ true
+thing-clear map (Arena lo hi) is has = refl
+thing-clear map (Block lo hi) is has = cc
+thing-clear map (Spawn at) is has = refl
+thing-clear map (Item at kind delay) is has = refl
+thing-clear map (Teleport lo hi dest) is has = refl
+thing-clear map (Goal lo hi) is has = refl
+thing-clear map (Lift lo hi rise speed) is has = lift-clear map lo hi rise speed has
 
-item-before : (map : MapView) (at : Vec3) (kind : Kind) (delay : ℕ) → IsMap (with_thing map (Item at kind delay)) → KeepsAll map (Item at kind delay)
-item-before map at kind delay is =
-    let thing = thing-last map (Item at kind delay) is in
-    record {
-      inside = refl;
-      count = room-before is_item_line 144 map.things (Item at kind delay) refl is.few_items;
-      stand = refl;
-      item = thing.item;
-      travel = refl;
-      shafts = refl;
-    }
+thing-passes : (map : MapView) (line : MapLine) → is_thing_line line ≡ true → (rule : MapFault) → KeepsRule (with_thing map line) rule → passes map line rule ≡ true
+thing-passes map line is fault.Arena keeps = refl
+thing-passes map line is fault.Box keeps = all-last (λ l. keeps_box map.bounds l ≡ true) map.things line keeps.1
+thing-passes map line is fault.Count keeps = thing-room map line is keeps
+thing-passes map line is fault.Stand keeps = all-last (λ l. keeps_stand map.bounds l ≡ true) map.things line keeps.1
+thing-passes map line is fault.Item keeps = all-last (λ l. keeps_item map.bounds l ≡ true) map.things line keeps
+thing-passes map line is fault.Travel keeps = all-last (λ l. keeps_travel map.bounds l ≡ true) map.things line keeps
+thing-passes map line is fault.NoSpawn keeps = refl
+thing-passes map line is fault.Shaft keeps = thing-clear map line is keeps
 
-teleport-before : (map : MapView) (lo hi dest : Vec3) → IsMap (with_thing map (Teleport lo hi dest)) → KeepsAll map (Teleport lo hi dest)
-teleport-before map lo hi dest is =
-    let thing = thing-last map (Teleport lo hi dest) is in
-    record {
-      inside = thing.inside;
-      count = room-before is_teleport_line 16 map.things (Teleport lo hi dest) refl is.few_teleporters;
-      stand = thing.stand;
-      item = refl;
-      travel = refl;
-      shafts = refl;
-    }
+-- a line passes the test of each rule that the map with it keeps
+pub line-passes : (map : MapView) (line : MapLine) (rule : MapFault) → KeepsRule (with_line map line) rule → passes map line rule ≡ true
+line-passes map (Arena lo hi) rule keeps = arena-passes map lo hi rule
+line-passes map (Block lo hi) rule keeps = block-passes map lo hi rule keeps
+line-passes map (Spawn at) rule keeps = spawn-passes map at rule keeps
+line-passes map (Item at kind delay) rule keeps = thing-passes map (Item at kind delay) refl rule keeps
+line-passes map (Teleport lo hi dest) rule keeps = thing-passes map (Teleport lo hi dest) refl rule keeps
+line-passes map (Goal lo hi) rule keeps = thing-passes map (Goal lo hi) refl rule keeps
+line-passes map (Lift lo hi rise speed) rule keeps = thing-passes map (Lift lo hi rise speed) refl rule keeps
 
-goal-before : (map : MapView) (lo hi : Vec3) → IsMap (with_thing map (Goal lo hi)) → KeepsAll map (Goal lo hi)
-goal-before map lo hi is =
-    let thing = thing-last map (Goal lo hi) is in
-    record {
-      inside = thing.inside;
-      count = room-before is_goal_line 16 map.things (Goal lo hi) refl is.few_goals;
-      stand = refl;
-      item = refl;
-      travel = refl;
-      shafts = refl;
-    }
+-- ---- maps that keep the rules
 
--- ---- any line
+-- such a map keeps each of them
+pub map-keeps : (map : MapView) → IsMap map → (rule : MapFault) → KeepsRule map rule
+map-keeps map is fault.Arena = is.wide
+map-keeps map is fault.Box =
+    (λ i d within. let block = is.blocks i d within in both_true block.thick block.inside, λ i d within. (is.things i d within).inside)
+map-keeps map is fault.Count = record {
+  blocks = is.few_blocks;
+  spawns = is.few_spawns;
+  items = is.few_items;
+  teleporters = is.few_teleporters;
+  goals = is.few_goals;
+  lifts = is.few_lifts;
+}
+map-keeps map is fault.Stand = (λ i d within. (is.spawns i d within).inside, λ i d within. (is.things i d within).stand)
+map-keeps map is fault.Item = λ i d within. (is.things i d within).item
+map-keeps map is fault.Travel = λ i d within. (is.things i d within).travel
+map-keeps map is fault.NoSpawn = tt
+map-keeps map is fault.Shaft = record { clear = is.clear_shafts; apart = is.shafts_apart }
 
 -- an arena that begins a map which keeps the rules breaks none
 pub begins-unbroken : (lo hi : Vec3) → IsMap (bare_map lo hi) → broken_by_arena lo hi ≡ None
@@ -172,10 +190,6 @@ begins-unbroken lo hi is = ap (λ (wide : Bool). cond wide None (Some fault.Aren
 
 -- nor does a line that leaves such a map
 pub leaves-unbroken : (map : MapView) (line : MapLine) → IsMap (with_line map line) → broken_rule map line ≡ None
-leaves-unbroken map (Arena lo hi) is = refl
-leaves-unbroken map (Block lo hi) is = none_broken map (Block lo hi) (block-before map lo hi is)
-leaves-unbroken map (Spawn at) is = none_broken map (Spawn at) (spawn-before map at is)
-leaves-unbroken map (Item at kind delay) is = none_broken map (Item at kind delay) (item-before map at kind delay is)
-leaves-unbroken map (Teleport lo hi dest) is = none_broken map (Teleport lo hi dest) (teleport-before map lo hi dest is)
-leaves-unbroken map (Goal lo hi) is = none_broken map (Goal lo hi) (goal-before map lo hi is)
-leaves-unbroken map (Lift lo hi rise speed) is = none_broken map (Lift lo hi rise speed) (lift-before map lo hi rise speed is)
+leaves-unbroken map line is =
+    let each : (rule : MapFault) → passes map line rule ≡ true = λ rule. line-passes map line rule (map-keeps (with_line map line) is rule) in
+    λ i. first_broken (each fault.Box i) (each fault.Count i) (each fault.Stand i) (each fault.Item i) (each fault.Travel i) (each fault.Shaft i)

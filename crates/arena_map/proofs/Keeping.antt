@@ -39,10 +39,10 @@ or-false true b h k = cc
 or-false false true h k = cc
 or-false false false h k = refl
 
-lt-from : (m n : ℕ) → nat_lt m n ≡ true → m < n
+pub lt-from : (m n : ℕ) → nat_lt m n ≡ true → m < n
 lt-from m n h = grind (arith, nat_tests)
 
-not-true : (b : Bool) → not b ≡ true → b ≡ false
+pub not-true : (b : Bool) → not b ≡ true → b ≡ false
 not-true true h = cc
 not-true false h = refl
 
@@ -130,7 +130,7 @@ block-is_block arena lo hi low high h =
     record { is_box = thick_box lo hi low high parts.0; thick = parts.0; inside = parts.1 }
 
 -- shafts that a block doesn't meet either
-clear-more : (shafts blocks : List Bounds) (block : Bounds) → All (λ shaft. is_blocked shaft blocks ≡ false) shafts → meets_shaft shafts block ≡ false
+pub clear-more : (shafts blocks : List Bounds) (block : Bounds) → All (λ shaft. is_blocked shaft blocks ≡ false) shafts → meets_shaft shafts block ≡ false
     → All (λ shaft. is_blocked shaft (blocks ++ block ∷ []) ≡ false) shafts
 clear-more shafts blocks block clear none i d within =
     let own = get_or shafts i d in
@@ -184,7 +184,7 @@ count-push p lines line =
     omega (arith, sum_by-append (λ l. cond (p l) 1 0) lines (line ∷ []), one)
 
 -- there are still few, where there was room for one more of those that pass
-few-more : (p : MapLine → Bool) (most : ℕ) (lines : List MapLine) (line : MapLine) → count_by p lines ≤ most → (p line ≡ true → count_by p lines < most)
+pub few-more : (p : MapLine → Bool) (most : ℕ) (lines : List MapLine) (line : MapLine) → count_by p lines ≤ most → (p line ≡ true → count_by p lines < most)
     → count_by p (lines ++ line ∷ []) ≤ most
 few-more p most lines line few room = by (p line) refl (count-push p lines line)
   where
@@ -192,26 +192,26 @@ few-more p most lines line few room = by (p line) refl (count-push p lines line)
     by true e count = let less = room e in omega (arith, count, less)
     by false e count = omega (arith, count, few)
 
-item-room : (map : MapView) (line : MapLine) → keeps_count map line ≡ true → is_item_line line ≡ true → count_by is_item_line map.things < 144
+pub item-room : (map : MapView) (line : MapLine) → keeps_count map line ≡ true → is_item_line line ≡ true → count_by is_item_line map.things < 144
 item-room map (Item at kind delay) room is = lt-from _ _ room
 item-room map line room is = cc
 
-teleporter-room : (map : MapView) (line : MapLine) → keeps_count map line ≡ true → is_teleport_line line ≡ true → count_by is_teleport_line map.things < 16
+pub teleporter-room : (map : MapView) (line : MapLine) → keeps_count map line ≡ true → is_teleport_line line ≡ true → count_by is_teleport_line map.things < 16
 teleporter-room map (Teleport lo hi dest) room is = lt-from _ _ room
 teleporter-room map line room is = cc
 
-goal-room : (map : MapView) (line : MapLine) → keeps_count map line ≡ true → is_goal_line line ≡ true → count_by is_goal_line map.things < 16
+pub goal-room : (map : MapView) (line : MapLine) → keeps_count map line ≡ true → is_goal_line line ≡ true → count_by is_goal_line map.things < 16
 goal-room map (Goal lo hi) room is = lt-from _ _ room
 goal-room map line room is = cc
 
-lift-room : (map : MapView) (line : MapLine) → keeps_count map line ≡ true → is_lift_line line ≡ true → count_by is_lift_line map.things < 16
+pub lift-room : (map : MapView) (line : MapLine) → keeps_count map line ≡ true → is_lift_line line ≡ true → count_by is_lift_line map.things < 16
 lift-room map (Lift lo hi rise speed) room is = lt-from _ _ room
 lift-room map line room is = cc
 
 -- the shafts of a map
-record HasShafts (blocks shafts : List Bounds) : Type 0 where
-  clear : All (λ shaft. is_blocked shaft blocks ≡ false) shafts
-  apart : AllPairs (λ one other. overlaps one other ≡ false) shafts
+pub record HasShafts (blocks shafts : List Bounds) : Type 0 where
+  pub clear : All (λ shaft. is_blocked shaft blocks ≡ false) shafts
+  pub apart : AllPairs (λ one other. overlaps one other ≡ false) shafts
 
 -- with one more shaft that meets none and no block
 shafts-push : (blocks shafts : List Bounds) (own : Bounds) → HasShafts blocks shafts → is_blocked own blocks ≡ false → meets_shaft shafts own ≡ false
@@ -224,7 +224,7 @@ shafts-push blocks shafts own has clear none = record {
 shafts-same : (blocks shafts : List Bounds) → HasShafts blocks shafts → HasShafts blocks (shafts ++ [])
 shafts-same blocks shafts has = subst (HasShafts blocks) (sym (append-nil shafts)) has
 
-shafts-more : (map : MapView) (line : MapLine) → HasShafts map.blocks (shafts_of map) → keeps_shafts map line ≡ true
+pub shafts-more : (map : MapView) (line : MapLine) → HasShafts map.blocks (shafts_of map) → keeps_shafts map line ≡ true
     → HasShafts map.blocks (shafts_of map ++ filter_map shaft_of (line ∷ []))
 shafts-more map (Lift lo hi rise speed) has keeps =
     let parts = both_parts (not (is_blocked (shaft lo hi rise) map.blocks)) (not (meets_shaft (shafts_of map) (shaft lo hi rise))) keeps in

@@ -4,6 +4,7 @@ pub mod Counting
 pub mod FieldLists
 pub mod Keeping
 pub mod Breaking
+pub mod FirstBroken
 pub mod Kept
 pub mod ThingRecords
 pub mod Lifts

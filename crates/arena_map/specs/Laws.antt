@@ -10,6 +10,7 @@ use Rattle.entity_recs.specs.declared.rec.Rec.{Rec}
 use Rattle.entity_recs.specs.Records.{IsShapeOf}
 use Rattle.entity_recs.specs.Bodies.{body_of}
 use Rattle.arena_map.specs.declared.lift.Lift.{Lift}
+use Rattle.arena_map.specs.declared.map_fault.MapFault.{MapFault}
 use Rattle.arena_map.specs.declared.map_line.MapLine.{MapLine}
 use Rattle.arena_map.specs.declared.map_word.MapField.{MapField}
 use Rattle.arena_map.specs.MapLines.{IsWithinLimits, is_item, is_teleporter, is_lift}
@@ -18,6 +19,7 @@ use Rattle.arena_map.specs.Causes.{IsOfFields}
 use Rattle.arena_map.specs.Spelling.{map_line_text}
 use Rattle.arena_map.specs.Maps.{MapView, IsMap, solids_of, entities_of, dest_of, delay_of, lift_of}
 use Rattle.arena_map.specs.Rules.{bare_map, broken_by_arena, broken_rule, with_line}
+use Rattle.arena_map.specs.KeptRules.{IsFirstBroken}
 use Rattle.arena_map.specs.Validity.{IsSameLift, IsOpeningWorld, IsValidWorld}
 
 -- an arena that breaks no rule begins a map that keeps them, and a line that breaks none leaves such a map; and an arena
@@ -29,6 +31,14 @@ pub record LinesKeepTheRules : Type 0 where
       → IsMap (with_line map line)
   pub begun_only : (lo hi : Vec3) → IsMap (bare_map lo hi) → broken_by_arena lo hi ≡ None
   pub added_only : (map : MapView) (line : MapLine) → IsMap (with_line map line) → broken_rule map line ≡ None
+
+-- the rule that is reported of an arena, or of a line that is added to a map which keeps the rules, is exactly the first
+-- one that the map with it breaks
+pub record BrokenRulesAreTheFirst : Type 0 where
+  pub begun : (lo hi : Vec3) (rule : MapFault) → (broken_by_arena lo hi ≡ Some rule)
+      ↔ IsFirstBroken (bare_map lo hi) rule
+  pub added : (map : MapView) (line : MapLine) (rule : MapFault) → IsMap map → (broken_rule map line ≡ Some rule)
+      ↔ IsFirstBroken (with_line map line) rule
 
 -- the solids of a map block what its walls block
 abbrev pub SolidsHaveWalls : Type 0

@@ -16,5 +16,6 @@ pub mod Places
 pub mod Things
 pub mod Maps
 pub mod Rules
+pub mod KeptRules
 pub mod Validity
 pub mod Laws

@@ -1,10 +1,16 @@
-ghost use Rattle.arena_map.specs.Laws.{LinesKeepTheRules, SolidsHaveWalls, MapLinesReadBack, FieldsAreSpaced};
-ghost use Rattle.arena_map.specs.Laws.{DataFollowKinds, LiveRecordsHaveData, OpeningWorldIsValid, LiftsStayInside};
+ghost use Rattle.arena_map.specs.Laws.{LinesKeepTheRules, BrokenRulesAreTheFirst, SolidsHaveWalls, MapLinesReadBack};
+ghost use Rattle.arena_map.specs.Laws.{FieldsAreSpaced, DataFollowKinds, LiveRecordsHaveData, OpeningWorldIsValid};
+ghost use Rattle.arena_map.specs.Laws.{LiftsStayInside};
 
 /// A map that lines begin and lengthen without breaking a rule keeps all of them, and lines that give a map which keeps
 /// them break none.
 pub fn lines_keep_the_rules()
     ensures { LinesKeepTheRules }
+{}
+
+/// The rule that a line breaks is the first, in the order of their numbers, that the map with this line breaks.
+pub fn broken_rules_are_the_first()
+    ensures { BrokenRulesAreTheFirst }
 {}
 
 /// The solids of a map block what the walls of its arena block.

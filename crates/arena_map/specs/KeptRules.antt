@@ -1,0 +1,48 @@
+-- The rules of a map as what the whole map keeps, and the first of them that it breaks.
+use Rattle.std.specs.Prelude.{◌≡◌, ⊤, ◌<◌, ◌≤◌, Bool, true, false, length, count_by, All, AllPairs}
+use Rattle.arena_geo.specs.Bounds.{Bounds}
+use Rattle.arena_geo.specs.Boxes.{overlaps, is_blocked}
+use Rattle.arena_map.specs.declared.map_fault.MapFault.{MapFault}
+use Rattle.arena_map.specs.declared.map_fault.MapFault.TheVariants as fault
+use Rattle.arena_map.specs.declared.map_line.MapLine.{MapLine}
+use Rattle.arena_map.specs.Faults.{number_of}
+use Rattle.arena_map.specs.MapLines.{is_item_line, is_teleport_line, is_goal_line, is_lift_line}
+use Rattle.arena_map.specs.Places.{is_wide, is_box_inside, is_player_inside, keeps_box, keeps_stand, keeps_item}
+use Rattle.arena_map.specs.Places.{keeps_travel}
+use Rattle.arena_map.specs.Maps.{MapView, shafts_of}
+
+-- the line of each thing passes this test in the arena
+abbrev pub AllThings : (Bounds → MapLine → Bool) → MapView → Type 0
+AllThings test map = All (λ line. test map.bounds line ≡ true) map.things
+
+-- the map has no more of each kind than it may
+pub record HasFew (map : MapView) : Type 0 where
+  pub blocks : length map.blocks ≤ 1024
+  pub spawns : length map.spawns ≤ 64
+  pub items : count_by is_item_line map.things ≤ 144
+  pub teleporters : count_by is_teleport_line map.things ≤ 16
+  pub goals : count_by is_goal_line map.things ≤ 16
+  pub lifts : count_by is_lift_line map.things ≤ 16
+
+-- no lift's shaft overlaps a block or another shaft
+pub record HasClearShafts (map : MapView) : Type 0 where
+  pub clear : All (λ shaft. is_blocked shaft map.blocks ≡ false) (shafts_of map)
+  pub apart : AllPairs (λ one other. overlaps one other ≡ false) (shafts_of map)
+
+-- the map keeps this rule; that there is a spawn is asked of a frame, and of no line
+abbrev pub KeepsRule : MapView → MapFault → Type 0
+KeepsRule map fault.Arena = is_wide map.bounds.lo map.bounds.hi ≡ true
+KeepsRule map fault.Box =
+    All (λ block. is_box_inside map.bounds block.lo block.hi ≡ true) map.blocks × AllThings keeps_box map
+KeepsRule map fault.Count = HasFew map
+KeepsRule map fault.Stand =
+    All (λ at. is_player_inside map.bounds at ≡ true) map.spawns × AllThings keeps_stand map
+KeepsRule map fault.Item = AllThings keeps_item map
+KeepsRule map fault.Travel = AllThings keeps_travel map
+KeepsRule map fault.NoSpawn = ⊤
+KeepsRule map fault.Shaft = HasClearShafts map
+
+-- the map breaks this rule, and keeps each one before it
+pub record IsFirstBroken (map : MapView) (rule : MapFault) : Type 0 where
+  pub broken : KeepsRule map rule → ⊥
+  pub earlier : (other : MapFault) → number_of other < number_of rule → KeepsRule map other
