@@ -1,6 +1,7 @@
 -- Lemmas on words of bits, on the parts of an area, on the nodes of a tree and on the ways down and up.
 pub mod Words
 pub mod Parts
+pub mod Points
 pub mod Nodes
 pub mod WaysDown
 pub mod WaysUp

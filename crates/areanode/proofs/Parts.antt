@@ -33,7 +33,7 @@ pub ordered_on : (axis : Axis) (b : Bounds) → IsOrdered b → low_on axis b �
 ordered_on X b ordered = ordered.x
 ordered_on Y b ordered = ordered.y
 
-cut_is_between : (area : Bounds) → IsOrdered area
+pub cut_is_between : (area : Bounds) → IsOrdered area
     → IsBetween (low_on (cut_of area).axis area) (high_on (cut_of area).axis area) (cut_of area).dist
 cut_is_between area ordered = halfway_is_between _ _ (ordered_on (axis_of area) area ordered)
 

@@ -24,6 +24,10 @@ length_on-choice : (area : Bounds) (t : Bool)
 length_on-choice area true = refl
 length_on-choice area false = refl
 
+-- where neither is longer, it is the second
+equally_long : (x y : ℤ) → x ≡ y → (if int_lt y x then X else Y) ≡ Y
+equally_long x y same = grind (arith, ints)
+
 halves : (lo hi half : ℤ) → IsHalf (lo +ℤ hi) half
     → ((half -ℤ lo) ≤ℤ (hi -ℤ half)) × ((hi -ℤ half) ≤ℤ (half -ℤ lo +ℤ pos 1))
 halves lo hi half is = (omega (arith, ints, is.low), omega (arith, ints, is.high))
@@ -36,6 +40,7 @@ areas_are_cut_in_half area =
     record {
       from_x = rw length_on-choice most.0;
       from_y = rw length_on-choice most.1;
+      tie = equally_long (length_on X area) (length_on Y area);
       least = parts.0;
       most = parts.1;
     }

@@ -7,7 +7,7 @@ use Rattle.areanode.specs.Words.{word_of, has_bit}
 use Rattle.areanode.specs.Cuts.{cut_of}
 use Rattle.areanode.specs.Trees.{TreeView, leaf_node, node_of, has_leaf, region_has_leaf}
 use Rattle.areanode.specs.Trees.{leaves_of, is_over, visited_of}
-use Rattle.areanode.specs.Sides.{IsCutInHalf, GoesToItsSide, IsOnItsSide, HasLeavesOnItsSide}
+use Rattle.areanode.specs.Sides.{IsCutInHalf, HasPartsAtCut, GoesToItsSide, IsOnItsSide, HasLeavesOnItsSide}
 
 -- some number below n passes
 pub record SomeBelow (n : ℕ) (test : ℕ → Bool) : Type 0 where
@@ -29,9 +29,13 @@ pub record SharedLeaf (tree : TreeView) (region other : List Bounds) : Type 0 wh
   pub first : region_has_leaf tree region leaf ≡ true
   pub second : region_has_leaf tree other leaf ≡ true
 
--- an area is cut halfway on the longer of the axes x and y
+-- an area is cut halfway on the longer of the axes x and y, and on y where neither is longer
 abbrev pub AreasAreCutInHalf : Type 0
 AreasAreCutInHalf = (area : Bounds) → IsCutInHalf area (cut_of area)
+
+-- the parts of an area have exactly its points on their sides of the cut, and both have those on the cut
+abbrev pub AreasHaveTheirParts : Type 0
+AreasHaveTheirParts = (area : Bounds) → IsOrdered area → HasPartsAtCut area (cut_of area)
 
 -- at each inner node of its way a box goes on to the child on its side of the cut, and stays where it meets the cut
 abbrev pub BoxGoesToItsSide : Type 0

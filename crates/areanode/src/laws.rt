@@ -1,12 +1,18 @@
-ghost use Rattle.areanode.specs.Laws.{AreasAreCutInHalf, BoxGoesToItsSide, NodeIsOnItsSide, LeavesAreOnItsSide};
-ghost use Rattle.areanode.specs.Laws.{NodeIsOverLeaves, TouchingBoxesShareALeaf, TouchedNodeIsVisited, BoxHasALeaf};
+ghost use Rattle.areanode.specs.Laws.{AreasAreCutInHalf, AreasHaveTheirParts, BoxGoesToItsSide, NodeIsOnItsSide};
+ghost use Rattle.areanode.specs.Laws.{LeavesAreOnItsSide, NodeIsOverLeaves, TouchingBoxesShareALeaf, TouchedNodeIsVisited, BoxHasALeaf};
 ghost use Rattle.areanode.specs.Laws.{TouchedLeafIsListed, InsideAndTouchedShareALeaf, LeavesAreInRange, NodeIsInRange};
 ghost use Rattle.areanode.specs.Laws.{LeafOverLeaf, WordHasItsBits, WordFits};
 
-/// An area is cut halfway on the longer of the axes x and y: there the part above is at most 1 longer than the one
-/// below.
+/// An area is cut halfway on the longer of the axes x and y, and on y where neither is longer: it reaches as far beyond
+/// the cut as before it, or farther by 1.
 pub fn areas_are_cut_in_half()
     ensures { AreasAreCutInHalf }
+{}
+
+/// The part of an area above its cut has exactly the area's points beyond the cut, the part below those before it, and
+/// both have the points on it.
+pub fn areas_have_their_parts()
+    ensures { AreasHaveTheirParts }
 {}
 
 /// At each inner node of its way a box goes on to the child on its side of the cut, and stays where it meets the cut.
