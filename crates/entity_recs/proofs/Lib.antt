@@ -1,2 +1,3 @@
 -- Lemmas on the boxes of records.
 pub mod Standing
+pub mod KnownBoxes

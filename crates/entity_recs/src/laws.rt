@@ -1,4 +1,5 @@
 ghost use Rattle.entity_recs.specs.Laws.{RecordsHaveBoxes, AbsIgnoresState, AbsContainsBody, SizesAreKnown};
+ghost use Rattle.entity_recs.specs.Laws.{BoxesAreKnown};
 
 /// The body and the absolute box of a record within its bounds are boxes: ordered on every axis, and in range.
 pub fn records_have_boxes()
@@ -15,9 +16,16 @@ pub fn abs_contains_body()
     ensures { AbsContainsBody }
 {}
 
-/// A player's body reaches from (-4096, -4096, -6144) to (4096, 4096, 8192), seen from its origin, and an item's from
-/// (0, 0, 0) to (8192, 8192, 14336). An item's absolute box is larger by 3,840 on x and y, every other one by 256 on
-/// all axes.
+/// The constants of bodies and of absolute boxes: `PLAYER_MINS` is (-4096, -4096, -6144) and `PLAYER_MAXS` (4096, 4096,
+/// 8192), `ITEM_MINS` is (0, 0, 0) and `ITEM_MAXS` (8192, 8192, 14336), and the two growths are (3840, 3840, 0) and (256,
+/// 256, 256).
 pub fn sizes_are_known()
     ensures { SizesAreKnown }
+{}
+
+/// An item's absolute box is larger than its body by 3,840 on x and y alone, every other one by 256 on all axes. Where a
+/// record is within its bounds, a player's body reaches from (-4096, -4096, -6144) to (4096, 4096, 8192), seen from its
+/// origin, an item's from (0, 0, 0) to (8192, 8192, 14336), and another one's from (0, 0, 0) to the high corner.
+pub fn boxes_are_known()
+    ensures { BoxesAreKnown }
 {}

@@ -8,7 +8,9 @@ pub use bodies::{
 pub use cmd::Cmd;
 pub use effect::{Effect, Entry, NewState, Reply};
 pub use kind::Kind;
-pub use laws::{abs_contains_body, abs_ignores_state, records_have_boxes, sizes_are_known};
+pub use laws::{
+    abs_contains_body, abs_ignores_state, boxes_are_known, records_have_boxes, sizes_are_known,
+};
 pub use lists::{IdList, LIST_LEN, StateList};
 pub use rec::Rec;
 
