@@ -1,9 +1,9 @@
 -- On which axis a body is stopped.
 use Rattle.std.proofs.Common.{◌≡◌, ◌≢◌, ℕ, ◌+◌, ◌*◌, ◌/◌, Bool, true, false, cond, List, [], ◌∷◌, Option, Some, None, option_map, ℤ, pos, ◌+ℤ◌, refl, sym, ap, ◌∙◌, arith, subst}
-use Rattle.std.specs.Prelude.{find, option_and_then}
+use Rattle.std.specs.Prelude.{◌↔◌, find, option_and_then, slice_get}
 use Rattle.std.proofs.Math.Nat.{zero-div}
 use Rattle.std.proofs.lemmas.Bool.{both_ways}
-use Rattle.std.proofs.lemmas.Option.{same_Some}
+use Rattle.std.proofs.lemmas.Option.{same_Some, get_or_from_slice_get}
 use Rattle.arena_geo.specs.declared.vec3.Vec3.{Vec3}
 use Rattle.arena_geo.specs.Vectors.{zero_vector}
 use Rattle.arena_geo.specs.Bounds.{Bounds}
@@ -13,8 +13,9 @@ use Rattle.box_trace.specs.declared.axis.Axis.{Axis}
 use Rattle.box_trace.specs.declared.axis.Axis.TheVariants.{X, Y, Z}
 use Rattle.box_trace.specs.Axes.{number_of, part}
 use Rattle.box_trace.specs.Steps.{step_count, part_at, body_at}
-use Rattle.box_trace.specs.Traces.{separating_axis, apart_axis, axis_after, blocker_at, trace_of}
-use Rattle.box_trace.specs.Laws.{IsMovedAlong, AxisIsMovedAlong}
+use Rattle.box_trace.specs.Traces.{separating_axis, apart_axis, axis_after, block_at, blocker_at, trace_of}
+use Rattle.box_trace.specs.Laws.{IsMovedAlong, AxisIsMovedAlong, IsFirstFailing, x_fails, y_fails, z_fails, IsFirstApart, FirstAxisIsNamed}
+use Rattle.box_trace.proofs.Firsts.{find-Some}
 use Rattle.box_trace.proofs.Traces.{IsTrace-trace_of}
 
 -- whether two boxes overlap on an axis
@@ -112,3 +113,43 @@ pub axis_is_moved_along : AxisIsMovedAlong
 axis_is_moved_along body d solids number h =
     let hit = trace_of body d solids in
     moved_along body d solids hit.steps number hit.whole (sym (IsTrace-trace_of body d solids).axis ∙ h)
+
+-- ---- which axis that is
+first_failing_of : (x y z : Bool) (number : ℕ)
+    → option_map number_of (cond x (cond y (cond z None (Some Z)) (Some Y)) (Some X)) ≡ Some number
+    → IsFirstFailing x y z number
+first_failing_of true true true number h = cc
+first_failing_of true true false number h = z_fails refl refl refl (sym (same_Some 2 number h))
+first_failing_of true false z number h = y_fails refl refl (sym (same_Some 1 number h))
+first_failing_of false y z number h = x_fails refl (sym (same_Some 0 number h))
+
+axis_of_first : (x y z : Bool) (number : ℕ) → IsFirstFailing x y z number
+    → option_map number_of (cond x (cond y (cond z None (Some Z)) (Some Y)) (Some X)) ≡ Some number
+axis_of_first x y z number (x_fails a is) = rw a (ap Some (sym is))
+axis_of_first x y z number (y_fails a b is) = rw (a, b) (ap Some (sym is))
+axis_of_first x y z number (z_fails a b c is) = rw (a, b, c) (ap Some (sym is))
+
+first_apart : (a b : Bounds) (number : ℕ) → (apart_axis a b ≡ Some number) ↔ IsFirstApart a b number
+first_apart a b number = (
+  first_failing_of (overlaps_on a.lo.x a.hi.x b.lo.x b.hi.x) (overlaps_on a.lo.y a.hi.y b.lo.y b.hi.y) (overlaps_on a.lo.z a.hi.z b.lo.z b.hi.z) number,
+  axis_of_first (overlaps_on a.lo.x a.hi.x b.lo.x b.hi.x) (overlaps_on a.lo.y a.hi.y b.lo.y b.hi.y) (overlaps_on a.lo.z a.hi.z b.lo.z b.hi.z) number,
+)
+
+-- where a trace names a solid, its axis is that on which the body is apart from this solid
+axis_by_solid : (body : Bounds) (d : Vec3) (solids : List Bounds) (k block : ℕ) (solid : Bounds) (whole : Bool)
+    → cond whole None (block_at body d solids (k + 1)) ≡ Some block → slice_get solids block ≡ Some solid
+    → cond whole None (axis_after body d solids k) ≡ apart_axis (body_at body d k) solid
+axis_by_solid body d solids k block solid true named there = cc
+axis_by_solid body d solids k block solid false named there =
+    ap (option_and_then (apart_axis (body_at body d k))) (find-Some (overlaps (body_at body d (k + 1))) solids block solid named (sym (get_or_from_slice_get solids block solid solid there)))
+
+same_axis : (axis other : Option ℕ) (number : ℕ) (P : Type 0) → axis ≡ other → ((other ≡ Some number) ↔ P)
+    → (axis ≡ Some number) ↔ P
+same_axis axis other number P is each = rw is each
+
+pub first_axis_is_named : FirstAxisIsNamed
+first_axis_is_named body d solids block solid number named there =
+    let hit = trace_of body d solids in
+    let trace = IsTrace-trace_of body d solids in
+    let at = axis_by_solid body d solids hit.steps block solid hit.whole (sym trace.block ∙ named) there in
+    same_axis hit.axis (apart_axis (body_at body d hit.steps) solid) number _ (trace.axis ∙ at) (first_apart (body_at body d hit.steps) solid number)

@@ -1,8 +1,8 @@
 -- What holds of all traces, and of the walls of all arenas.
-use Rattle.std.specs.Prelude.{◌≡◌, ◌≢◌, ℕ, ◌+◌, ◌≤◌, ◌<◌, ◌↔◌, true, false, List, Some, slice_get, pos}
+use Rattle.std.specs.Prelude.{◌≡◌, ◌≢◌, ℕ, ◌+◌, ◌≤◌, ◌<◌, ◌↔◌, Bool, true, false, List, Some, slice_get, pos}
 use Rattle.arena_geo.specs.declared.vec3.Vec3.{Vec3}
 use Rattle.arena_geo.specs.Bounds.{Bounds, IsInRange, IsOrdered}
-use Rattle.arena_geo.specs.Boxes.{moved, contains, overlaps, is_blocked}
+use Rattle.arena_geo.specs.Boxes.{moved, contains, overlaps_on, overlaps, is_blocked}
 use Rattle.box_trace.specs.declared.axis.Axis.{Axis}
 use Rattle.box_trace.specs.declared.hit.Hit.{Hit}
 use Rattle.box_trace.specs.declared.hit.TheConstants.{MOST_SOLIDS}
@@ -74,6 +74,29 @@ abbrev pub AxisIsMovedAlong : Type 0
 AxisIsMovedAlong =
     (body : Bounds) (d : Vec3) (solids : List Bounds) (number : ℕ)
     → (trace_of body d solids).axis ≡ Some number → IsMovedAlong d number
+
+-- the number of the first of three tests that fails, from 0 on
+pub data IsFirstFailing (x y z : Bool) (number : ℕ) : Type 0 where
+  x_fails : x ≡ false → number ≡ 0 → IsFirstFailing x y z number
+  y_fails : x ≡ true → y ≡ false → number ≡ 1 → IsFirstFailing x y z number
+  z_fails : x ≡ true → y ≡ true → z ≡ false → number ≡ 2 → IsFirstFailing x y z number
+
+-- the number of the first of x, y and z on which two boxes don't overlap
+abbrev pub IsFirstApart : Bounds → Bounds → ℕ → Type 0
+IsFirstApart a b number =
+    IsFirstFailing
+    (overlaps_on a.lo.x a.hi.x b.lo.x b.hi.x)
+    (overlaps_on a.lo.y a.hi.y b.lo.y b.hi.y)
+    (overlaps_on a.lo.z a.hi.z b.lo.z b.hi.z)
+    number
+
+-- the axis named is the first on which the body and the solid that stops it don't overlap at the last step gone
+abbrev pub FirstAxisIsNamed : Type 0
+FirstAxisIsNamed =
+    (body : Bounds) (d : Vec3) (solids : List Bounds) (block : ℕ) (solid : Bounds) (number : ℕ)
+    → (trace_of body d solids).block ≡ Some block → slice_get solids block ≡ Some solid
+    → ((trace_of body d solids).axis ≡ Some number)
+    ↔ IsFirstApart (body_at body d (trace_of body d solids).steps) solid number
 
 -- the walls of an arena block no body inside it, faces counted
 abbrev pub WallsLeaveInsideFree : Type 0

@@ -1,5 +1,6 @@
 ghost use Rattle.box_trace.specs.Laws.{LimitsAreKnown, TraceIsUnique, StepsStayInRange, StepsAreFree, FreeWayIsGone};
-ghost use Rattle.box_trace.specs.Laws.{NamedSolidStops, AxisIsMovedAlong, WallsLeaveInsideFree, TraceStaysInside};
+ghost use Rattle.box_trace.specs.Laws.{NamedSolidStops, AxisIsMovedAlong, FirstAxisIsNamed, WallsLeaveInsideFree};
+ghost use Rattle.box_trace.specs.Laws.{TraceStaysInside};
 
 /// A displacement has no part that is more than 65,536 from 0, and there are at most 65,535 solids.
 pub fn limits_are_known()
@@ -35,6 +36,12 @@ pub fn named_solid_stops()
 /// A body is stopped on an axis along which it moves.
 pub fn axis_is_moved_along()
     ensures { AxisIsMovedAlong }
+{}
+
+/// The axis that a trace names is the first of x, y and z on which the body and the solid that stops it don't overlap at
+/// the last step gone, and it names none where the two overlap on all three.
+pub fn first_axis_is_named()
+    ensures { FirstAxisIsNamed }
 {}
 
 /// The walls of an arena block no body that lies inside it, the faces counted.

@@ -6,8 +6,9 @@ pub use by_steps::trace_by_steps;
 pub use by_windows::trace;
 pub use hit::{Hit, MOST_SOLIDS};
 pub use laws::{
-    axis_is_moved_along, free_way_is_gone, limits_are_known, named_solid_stops, steps_are_free,
-    steps_stay_in_range, trace_is_unique, trace_stays_inside, walls_leave_inside_free,
+    axis_is_moved_along, first_axis_is_named, free_way_is_gone, limits_are_known,
+    named_solid_stops, steps_are_free, steps_stay_in_range, trace_is_unique, trace_stays_inside,
+    walls_leave_inside_free,
 };
 pub use walls::arena_walls;
 pub use way::{REACH, shift_at, step_count};
