@@ -11,3 +11,4 @@ pub mod Agreeing
 pub mod Looking
 pub mod Slows
 pub mod Farther
+pub mod Standings

@@ -1,11 +1,12 @@
 -- What holds of all moves.
-use Rattle.std.specs.Prelude.{◌≡◌, ℕ, ◌+◌, ◌*◌, ◌/◌, ◌<◌, ◌≤◌, ◌⊎◌, min, true, false, List}
+use Rattle.std.specs.Prelude.{◌≡◌, ℕ, ◌+◌, ◌*◌, ◌/◌, ◌<◌, ◌≤◌, ◌⊎◌, ◌↔◌, min, true, false, List, All, Any}
 use Rattle.std.specs.Prelude.{ℤ, pos, ◌-ℤ◌, unsigned_abs}
 use Rattle.std.specs.List.{filter}
 use Rattle.arena_geo.specs.declared.vec3.Vec3.{Vec3}
 use Rattle.arena_geo.specs.Vectors.{IsNear, plus, minus}
 use Rattle.arena_geo.specs.Bounds.{Bounds, IsOrdered}
-use Rattle.arena_geo.specs.Boxes.{overlaps, contains, grown, is_blocked}
+use Rattle.arena_geo.specs.Boxes.{overlaps_on, overlaps, contains, grown, moved, is_blocked}
+use Rattle.arena_geo.specs.Laws.{HasInside}
 use Rattle.box_trace.specs.Walls.{HaveWalls}
 use Rattle.slide_move.specs.declared.slid.Slid.{Slid}
 use Rattle.slide_move.specs.Slides.{slide_of}
@@ -14,11 +15,12 @@ use Rattle.entity_recs.specs.Bodies.{body_of}
 use Rattle.speed_rules.specs.declared.constants.TheConstants.{MAX_SPEED, SECOND}
 use Rattle.speed_rules.specs.Measures.{greatest_velocity}
 use Rattle.player_move.specs.declared.moved.Moved.{Moved}
+use Rattle.player_move.specs.declared.walk.Walked.{Walked}
 use Rattle.player_move.specs.declared.limits.TheConstants.{FARTHEST_ORIGIN}
 use Rattle.player_move.specs.declared.stairs.TheConstants.{STAIR_HEIGHT}
 use Rattle.player_move.specs.Intents.{Intent}
 use Rattle.player_move.specs.Velocities.{walks, velocity_after}
-use Rattle.player_move.specs.Walks.{ground_of, flat_square}
+use Rattle.player_move.specs.Walks.{ground_of, flat_square, stairs_of}
 use Rattle.player_move.specs.Moves.{body_after, move_of}
 
 -- ---- where a move ends
@@ -54,11 +56,14 @@ pub record IsSlide (me : Rec) (slid : Slid) (moved : Moved) : Type 0 where
   pub origin : moved.origin ≡ plus me.origin slid.shift
   pub vel : moved.vel ≡ slid.vel
 
--- the move walks, goes strictly farther over the ground than this slide, and ends on the ground
+-- the move walks, its slide runs into a solid on x or y, and it goes strictly farther over the ground than that, to a
+-- place on the ground, with no velocity on z left
 pub record GoesFarther (me : Rec) (cmd : Intent) (solids : List Bounds) (slid : Slid) (moved : Moved) : Type 0 where
   pub walks : walks (ground_of (body_of me) solids) cmd ≡ true
+  pub side : slid.side ≡ true
   pub farther : flat_square slid.shift < flat_square_of me moved
   pub on_ground : ground_of (body_after me moved) solids ≡ true
+  pub level : moved.vel.z ≡ pos 0
 
 -- the move goes no less far over the ground than this slide; it is that slide, or goes farther and ends on the ground
 pub record GoesNoLessFar (me : Rec) (cmd : Intent) (solids : List Bounds) (slid : Slid) (moved : Moved) : Type 0 where
@@ -70,6 +75,56 @@ abbrev pub MoveGoesNoLessFar : Type 0
 MoveGoesNoLessFar =
     (me : Rec) (cmd : Intent) (solids : List Bounds)
     → GoesNoLessFar me cmd solids (plain_slide_of me cmd solids) (move_of me cmd solids)
+
+-- ---- a move and its stairs
+-- the stairs of a move, whether they are taken or not
+abbrev pub stairs_of_move : Rec → Intent → List Bounds → Walked
+stairs_of_move me cmd solids =
+    let on_ground = ground_of (body_of me) solids in
+    stairs_of (body_of me) (velocity_after on_ground me cmd) cmd.ms solids
+
+-- the move is these stairs
+pub record IsStairs (me : Rec) (stairs : Walked) (moved : Moved) : Type 0 where
+  pub origin : moved.origin ≡ plus me.origin stairs.shift
+  pub vel : moved.vel ≡ stairs.vel
+
+-- the move walks, its slide runs into a solid on x or y, and the stairs lead strictly farther, to a place on the ground
+pub record LeadFarther (me : Rec) (cmd : Intent) (solids : List Bounds) (slid : Slid) (stairs : Walked) : Type 0 where
+  pub walks : walks (ground_of (body_of me) solids) cmd ≡ true
+  pub side : slid.side ≡ true
+  pub farther : flat_square slid.shift < flat_square stairs.shift
+  pub on_ground : ground_of (moved (body_of me) stairs.shift) solids ≡ true
+
+-- where the stairs lead farther than this slide the move is the stairs, and else it is the slide
+pub record IsTheFarther (me : Rec) (cmd : Intent) (solids : List Bounds) (slid : Slid) (stairs : Walked) (moved : Moved) : Type 0 where
+  pub taken : LeadFarther me cmd solids slid stairs → IsStairs me stairs moved
+  pub left : (LeadFarther me cmd solids slid stairs → ⊥) → IsSlide me slid moved
+
+-- a move takes the stairs exactly where they lead farther than its plain slide
+abbrev pub StairsAreTaken : Type 0
+StairsAreTaken =
+    (me : Rec) (cmd : Intent) (solids : List Bounds)
+    → IsTheFarther me cmd solids (plain_slide_of me cmd solids) (stairs_of_move me cmd solids) (move_of me cmd solids)
+
+-- ---- the ground
+-- a move says whether the record was on the ground before it
+abbrev pub GroundIsTested : Type 0
+GroundIsTested =
+    (me : Rec) (cmd : Intent) (solids : List Bounds)
+    → (move_of me cmd solids).ground ≡ ground_of (body_of me) solids
+
+-- the body stands on the solid: its bottom is level with the solid's top, and the two overlap on x and y
+pub record StandsOn (body solid : Bounds) : Type 0 where
+  pub top : solid.hi.z ≡ body.lo.z
+  pub x : overlaps_on body.lo.x body.hi.x solid.lo.x solid.hi.x ≡ true
+  pub y : overlaps_on body.lo.y body.hi.y solid.lo.y solid.hi.y ≡ true
+
+-- a body that overlaps no solid is on the ground exactly where it stands on one, where neither it nor a solid is flat
+abbrev pub OnGroundIsStanding : Type 0
+OnGroundIsStanding =
+    (body : Bounds) (solids : List Bounds)
+    → HasInside body → All HasInside solids → is_blocked body solids ≡ false
+    → (ground_of body solids ≡ true) ↔ Any (StandsOn body) solids
 
 -- ---- how far a move goes
 -- how far a move that begins with this speed on an axis goes on it, but for stairs

@@ -1,5 +1,6 @@
 ghost use Rattle.player_move.specs.Laws.{LimitsAreKnown, MoveEndsFree, MoveGoesNoLessFar, MoveReach};
-ghost use Rattle.player_move.specs.Laws.{MoveLooksWithin, MoveStaysInside, MoveStaysSlow};
+ghost use Rattle.player_move.specs.Laws.{MoveLooksWithin, MoveStaysInside, MoveStaysSlow, StairsAreTaken};
+ghost use Rattle.player_move.specs.Laws.{GroundIsTested, OnGroundIsStanding};
 
 /// The farthest from 0 that a move ends on an axis is 1,074,176, and a stair is 4,608 high, in sub-units.
 pub fn limits_are_known()
@@ -11,10 +12,27 @@ pub fn move_ends_free()
     ensures { MoveEndsFree }
 {}
 
-/// A move goes no less far over the ground than its plain slide. It is that slide, or it walks, goes strictly farther
-/// and ends on the ground.
+/// A move goes no less far over the ground than its plain slide. It is that slide, or it walks, the slide runs into a
+/// solid on x or y, and the move goes strictly farther, ends on the ground and has no velocity on z left.
 pub fn move_goes_no_less_far()
     ensures { MoveGoesNoLessFar }
+{}
+
+/// A move takes the stairs exactly where it walks, its plain slide runs into a solid on x or y, and the stairs lead
+/// strictly farther over the ground, to a place on the ground. Else it is the slide.
+pub fn stairs_are_taken()
+    ensures { StairsAreTaken }
+{}
+
+/// A move says whether the record was on the ground before it.
+pub fn ground_is_tested()
+    ensures { GroundIsTested }
+{}
+
+/// A body that overlaps no solid is on the ground exactly where it stands on one: its bottom is level with the solid's
+/// top, and the two overlap on x and y. The body and the solids are longer than 0 on each axis.
+pub fn on_ground_is_standing()
+    ensures { OnGroundIsStanding }
 {}
 
 /// How far a move reaches: on each axis what the greatest speed on it goes in the time, which is the record's own
