@@ -1,8 +1,8 @@
--- That a move goes no less far over the ground than its plain slide.
-use Rattle.std.proofs.Common.{◌≡◌, ℕ, ◌<◌, Bool, true, false, inl, inr, if◌then◌else◌, List, ℤ, pos, ◌+ℤ◌, ◌-ℤ◌, refl, ap, ◌∙◌, arith}
+-- That a move goes no less far over the ground than its plain slide, and when it takes the stairs.
+use Rattle.std.proofs.Common.{◌≡◌, ◌≢◌, ℕ, ◌<◌, ◌%◌, Bool, not, true, false, inl, inr, if◌then◌else◌, List, ℤ, pos, ◌+ℤ◌, ◌-ℤ◌, refl, ap, ◌∙◌, arith}
 use Rattle.std.specs.Prelude.{◌&&◌}
 use Rattle.std.specs.Cmp.Derive.{both_true}
-use Rattle.std.proofs.lemmas.Bool.{ltb-true, lt-ltb, and_parts, both_ways}
+use Rattle.std.proofs.lemmas.Bool.{ltb-true, lt-ltb, eq-eqb, ne_eqb, and_parts, both_ways}
 use Rattle.std.proofs.lemmas.Int.{ints}
 use Rattle.arena_geo.specs.declared.vec3.Vec3.{Vec3}
 use Rattle.arena_geo.specs.Vectors.{plus, minus}
@@ -14,10 +14,10 @@ use Rattle.entity_recs.specs.declared.rec.Rec.{Rec}
 use Rattle.entity_recs.specs.Bodies.{body_of}
 use Rattle.player_move.specs.declared.walk.Walked.{Walked}
 use Rattle.player_move.specs.Intents.{Intent}
-use Rattle.player_move.specs.Velocities.{walks, velocity_after}
+use Rattle.player_move.specs.Velocities.{jumps, walks, velocity_after}
 use Rattle.player_move.specs.Walks.{ground_of, flat_square, goes_farther, are_taken, stairs_of, walk_of}
 use Rattle.player_move.specs.Moves.{body_after, moved_by, move_of}
-use Rattle.player_move.specs.Laws.{flat_square_of, GoesNoLessFar, MoveGoesNoLessFar, LeadFarther, IsTheFarther, StairsAreTaken, GroundIsTested}
+use Rattle.player_move.specs.Laws.{flat_square_of, GoesNoLessFar, MoveGoesNoLessFar, LeadFarther, IsTheFarther, StairsAreTaken}
 use Rattle.player_move.proofs.Walking.{plain_of}
 use Rattle.player_move.proofs.WholeMoves.{standing-moved}
 
@@ -86,11 +86,20 @@ move_goes_no_less_far me cmd solids =
     no_less_far me cmd solids _ _ (walk_leads (walks ground cmd) (body_of me) (velocity_after ground me cmd) cmd.ms solids)
 
 -- ---- the stairs
+-- to walk is to be on the ground and not to jump
+walks_where : (on_ground : Bool) (cmd : Intent) → on_ground ≡ true → cmd.buttons % 2 ≢ 1 → walks on_ground cmd ≡ true
+walks_where on_ground cmd ground stays = both_true ground (ap not (ne_eqb (cmd.buttons % 2) 1 stays))
+
+walks_from : (on_ground : Bool) (cmd : Intent) → walks on_ground cmd ≡ true → (on_ground ≡ true) × (cmd.buttons % 2 ≢ 1)
+walks_from on_ground cmd is =
+    let parts = and_parts on_ground (not (jumps cmd)) is in
+    (parts.0, λ e. both_ways (not (jumps cmd)) (ap not (eq-eqb (cmd.buttons % 2) 1 e)) parts.1)
+
 -- the test of the stairs says what it means
 taken_where : (me : Rec) (cmd : Intent) (solids : List Bounds) (slid : Slid) (stairs : Walked) → LeadFarther me cmd solids slid stairs
     → (walks (ground_of (body_of me) solids) cmd && slid.side && are_taken (body_of me) stairs.shift slid.shift solids) ≡ true
 taken_where me cmd solids slid stairs lead =
-    both_true (both_true lead.walks lead.side) (both_true (lt-ltb (flat_square slid.shift) (flat_square stairs.shift) lead.farther) lead.on_ground)
+    both_true (both_true (walks_where _ cmd lead.begins lead.stays) lead.side) (both_true (lt-ltb (flat_square slid.shift) (flat_square stairs.shift) lead.farther) lead.on_ground)
 
 lead_where : (me : Rec) (cmd : Intent) (solids : List Bounds) (slid : Slid) (stairs : Walked)
     → (walks (ground_of (body_of me) solids) cmd && slid.side && are_taken (body_of me) stairs.shift slid.shift solids) ≡ true → LeadFarther me cmd solids slid stairs
@@ -98,7 +107,8 @@ lead_where me cmd solids slid stairs taken =
     let parts = and_parts (walks (ground_of (body_of me) solids) cmd && slid.side) (are_taken (body_of me) stairs.shift slid.shift solids) taken in
     let ends = and_parts (goes_farther stairs.shift slid.shift) (ground_of (moved (body_of me) stairs.shift) solids) parts.1 in
     let first = and_parts (walks (ground_of (body_of me) solids) cmd) slid.side parts.0 in
-    record { walks = first.0; side = first.1; farther = ltb-true (flat_square slid.shift) (flat_square stairs.shift) ends.0; on_ground = ends.1 }
+    let walking = walks_from (ground_of (body_of me) solids) cmd first.0 in
+    record { begins = walking.0; stays = walking.1; side = first.1; farther = ltb-true (flat_square slid.shift) (flat_square stairs.shift) ends.0; on_ground = ends.1 }
 
 the_farther : (me : Rec) (cmd : Intent) (solids : List Bounds) (slid : Slid) (stairs : Walked) (ground taken : Bool)
     → (walks (ground_of (body_of me) solids) cmd && slid.side && are_taken (body_of me) stairs.shift slid.shift solids) ≡ taken
@@ -118,8 +128,3 @@ stairs_are_taken me cmd solids =
     let ground = ground_of (body_of me) solids in
     let vel = velocity_after ground me cmd in
     the_farther me cmd solids (slide_of (body_of me) vel cmd.ms solids) (stairs_of (body_of me) vel cmd.ms solids) ground _ refl
-
--- ---- the ground
-pub ground_is_tested : GroundIsTested
-unfolding move_of
-ground_is_tested me cmd solids = refl

@@ -12,3 +12,4 @@ pub mod Looking
 pub mod Slows
 pub mod Farther
 pub mod Standings
+pub mod Climbing

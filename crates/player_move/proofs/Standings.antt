@@ -8,7 +8,8 @@ use Rattle.arena_geo.specs.Boxes.{overlaps_on, overlaps, moved, is_blocked}
 use Rattle.arena_geo.specs.Laws.{HasInside}
 use Rattle.arena_geo.proofs.Containment.{three_pass, all_three}
 use Rattle.player_move.specs.Walks.{downwards, ground_of}
-use Rattle.player_move.specs.Laws.{StandsOn, OnGroundIsStanding}
+use Rattle.player_move.specs.Moves.{move_of}
+use Rattle.player_move.specs.Laws.{StandsOn, OnGroundIsStanding, GroundIsTested}
 
 -- moving by 0 changes nothing
 overlaps_on-stays : (lo hi l h : ℤ) → overlaps_on (lo +ℤ pos 0) (hi +ℤ pos 0) l h ≡ overlaps_on lo hi l h
@@ -70,3 +71,7 @@ on_ground_is_standing body solids long each_long free =
           let other_long = each_at solids any.0 any.1 each_long any.2 any.3 in
           list_any_at (overlaps lower) solids any.0 any.1 any.2 (ap (overlaps lower) any.3 ∙ meets_lower body any.1 long other_long any.4),
     )
+
+pub ground_is_tested : GroundIsTested
+unfolding move_of
+ground_is_tested me cmd solids = refl

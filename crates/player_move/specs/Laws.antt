@@ -1,12 +1,13 @@
 -- What holds of all moves.
-use Rattle.std.specs.Prelude.{◌≡◌, ℕ, ◌+◌, ◌*◌, ◌/◌, ◌<◌, ◌≤◌, ◌⊎◌, ◌↔◌, min, true, false, List, All, Any}
-use Rattle.std.specs.Prelude.{ℤ, pos, ◌-ℤ◌, unsigned_abs}
+use Rattle.std.specs.Prelude.{◌≡◌, ◌≢◌, ℕ, ◌+◌, ◌*◌, ◌/◌, ◌%◌, ◌<◌, ◌≤◌, ◌⊎◌, ◌↔◌, min, true, false, List, All, Any}
+use Rattle.std.specs.Prelude.{ℤ, pos, ◌-ℤ◌, ◌≤ℤ◌, unsigned_abs}
 use Rattle.std.specs.List.{filter}
 use Rattle.arena_geo.specs.declared.vec3.Vec3.{Vec3}
-use Rattle.arena_geo.specs.Vectors.{IsNear, plus, minus}
+use Rattle.arena_geo.specs.Vectors.{IsNear, vector, plus, minus}
 use Rattle.arena_geo.specs.Bounds.{Bounds, IsOrdered}
 use Rattle.arena_geo.specs.Boxes.{overlaps_on, overlaps, contains, grown, moved, is_blocked}
 use Rattle.arena_geo.specs.Laws.{HasInside}
+use Rattle.box_trace.specs.Traces.{trace_of}
 use Rattle.box_trace.specs.Walls.{HaveWalls}
 use Rattle.slide_move.specs.declared.slid.Slid.{Slid}
 use Rattle.slide_move.specs.Slides.{slide_of}
@@ -20,7 +21,7 @@ use Rattle.player_move.specs.declared.limits.TheConstants.{FARTHEST_ORIGIN}
 use Rattle.player_move.specs.declared.stairs.TheConstants.{STAIR_HEIGHT}
 use Rattle.player_move.specs.Intents.{Intent}
 use Rattle.player_move.specs.Velocities.{walks, velocity_after}
-use Rattle.player_move.specs.Walks.{ground_of, flat_square, stairs_of}
+use Rattle.player_move.specs.Walks.{upwards, level, ground_of, flat_square, stairs_of}
 use Rattle.player_move.specs.Moves.{body_after, move_of}
 
 -- ---- where a move ends
@@ -56,8 +57,7 @@ pub record IsSlide (me : Rec) (slid : Slid) (moved : Moved) : Type 0 where
   pub origin : moved.origin ≡ plus me.origin slid.shift
   pub vel : moved.vel ≡ slid.vel
 
--- the move walks, its slide runs into a solid on x or y, and it goes strictly farther over the ground than that, to a
--- place on the ground, with no velocity on z left
+-- the move walks, this slide hits a side, and the move goes strictly farther and ends on the ground, without speed on z
 pub record GoesFarther (me : Rec) (cmd : Intent) (solids : List Bounds) (slid : Slid) (moved : Moved) : Type 0 where
   pub walks : walks (ground_of (body_of me) solids) cmd ≡ true
   pub side : slid.side ≡ true
@@ -76,6 +76,30 @@ MoveGoesNoLessFar =
     (me : Rec) (cmd : Intent) (solids : List Bounds)
     → GoesNoLessFar me cmd solids (plain_slide_of me cmd solids) (move_of me cmd solids)
 
+-- ---- what stairs are
+-- how far the body comes up before a solid stops it, at most the height of a stair
+abbrev pub rise_of : Bounds → List Bounds → ℕ
+rise_of body solids = (trace_of body (upwards STAIR_HEIGHT) solids).steps
+
+-- the stairs go over the ground as this slide, from this far up, and then down to the ground or as low as they began
+pub record AreStairs (body : Bounds) (solids : List Bounds) (rise : ℕ) (along : Slid) (stairs : Walked) : Type 0 where
+  pub x : stairs.shift.x ≡ along.shift.x
+  pub y : stairs.shift.y ≡ along.shift.y
+  pub vel : stairs.vel ≡ level along.vel
+  pub lowest : pos 0 ≤ℤ stairs.shift.z
+  pub highest : stairs.shift.z ≤ℤ pos rise
+  pub free : (height : ℕ) → stairs.shift.z ≤ℤ pos height → height < rise
+      → is_blocked (moved body (vector along.shift.x along.shift.y (pos height))) solids ≡ false
+  pub ends : (stairs.shift.z ≡ pos 0) ⊎ (ground_of (moved body stairs.shift) solids ≡ true)
+
+-- over the ground stairs are the level slide from as far up as the body comes, and from there they lead down again
+abbrev pub StairsGoUpAndDown : Type 0
+StairsGoUpAndDown =
+    (body : Bounds) (vel : Vec3) (ms : ℕ) (solids : List Bounds)
+    → AreStairs body solids (rise_of body solids)
+    (slide_of (moved body (upwards (rise_of body solids))) (level vel) ms solids)
+    (stairs_of body vel ms solids)
+
 -- ---- a move and its stairs
 -- the stairs of a move, whether they are taken or not
 abbrev pub stairs_of_move : Rec → Intent → List Bounds → Walked
@@ -88,9 +112,10 @@ pub record IsStairs (me : Rec) (stairs : Walked) (moved : Moved) : Type 0 where
   pub origin : moved.origin ≡ plus me.origin stairs.shift
   pub vel : moved.vel ≡ stairs.vel
 
--- the move walks, its slide runs into a solid on x or y, and the stairs lead strictly farther, to a place on the ground
+-- on the ground, without a jump, this slide hits a side, and the stairs lead strictly farther, to a place on the ground
 pub record LeadFarther (me : Rec) (cmd : Intent) (solids : List Bounds) (slid : Slid) (stairs : Walked) : Type 0 where
-  pub walks : walks (ground_of (body_of me) solids) cmd ≡ true
+  pub begins : ground_of (body_of me) solids ≡ true
+  pub stays : cmd.buttons % 2 ≢ 1
   pub side : slid.side ≡ true
   pub farther : flat_square slid.shift < flat_square stairs.shift
   pub on_ground : ground_of (moved (body_of me) stairs.shift) solids ≡ true

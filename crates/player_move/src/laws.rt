@@ -1,6 +1,6 @@
 ghost use Rattle.player_move.specs.Laws.{LimitsAreKnown, MoveEndsFree, MoveGoesNoLessFar, MoveReach};
 ghost use Rattle.player_move.specs.Laws.{MoveLooksWithin, MoveStaysInside, MoveStaysSlow, StairsAreTaken};
-ghost use Rattle.player_move.specs.Laws.{GroundIsTested, OnGroundIsStanding};
+ghost use Rattle.player_move.specs.Laws.{GroundIsTested, OnGroundIsStanding, StairsGoUpAndDown};
 
 /// The farthest from 0 that a move ends on an axis is 1,074,176, and a stair is 4,608 high, in sub-units.
 pub fn limits_are_known()
@@ -18,8 +18,15 @@ pub fn move_goes_no_less_far()
     ensures { MoveGoesNoLessFar }
 {}
 
-/// A move takes the stairs exactly where it walks, its plain slide runs into a solid on x or y, and the stairs lead
-/// strictly farther over the ground, to a place on the ground. Else it is the slide.
+/// Over the ground stairs are the level slide from as far up as the body comes, which is at most the height of a stair.
+/// They end no lower than they begin and no higher than that slide, with no solid in between, on the ground or as high as
+/// they begin.
+pub fn stairs_go_up_and_down()
+    ensures { StairsGoUpAndDown }
+{}
+
+/// A move takes the stairs exactly where it begins on the ground and doesn't jump, its plain slide runs into a solid on x
+/// or y, and the stairs lead strictly farther over the ground, to a place on the ground. Else it is the slide.
 pub fn stairs_are_taken()
     ensures { StairsAreTaken }
 {}

@@ -5,6 +5,7 @@ pub use ground::on_ground;
 pub use laws::{
     ground_is_tested, limits_are_known, move_ends_free, move_goes_no_less_far, move_looks_within,
     move_reach, move_stays_inside, move_stays_slow, on_ground_is_standing, stairs_are_taken,
+    stairs_go_up_and_down,
 };
 pub use limits::FARTHEST_ORIGIN;
 pub use moved::Moved;

@@ -1,4 +1,4 @@
-use Rattle.player_move.proofs.Farther.{ground_is_tested}
+use Rattle.player_move.proofs.Standings.{ground_is_tested}
 use Rattle.player_move.proofs.laws.ground_is_tested.Goals as goal
 
 pub returns : goal.returns
