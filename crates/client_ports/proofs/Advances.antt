@@ -148,11 +148,11 @@ step map frame r place a k = by (one_answer map frame r place a)
 
 -- ---- rising numbers
 
-rising-one : (n : ℕ) → IsStrictlyIncreasing (n ∷ [])
+pub rising-one : (n : ℕ) → IsStrictlyIncreasing (n ∷ [])
 rising-one n k below = absurd (omega (arith, below))
 
 -- one number more, above all that are there
-rising-push : (xs : List ℕ) (m n : ℕ) → IsStrictlyIncreasing xs → All (λ x. x ≤ m) xs → m < n → IsStrictlyIncreasing (xs ++ n ∷ [])
+pub rising-push : (xs : List ℕ) (m n : ℕ) → IsStrictlyIncreasing xs → All (λ x. x ≤ m) xs → m < n → IsStrictlyIncreasing (xs ++ n ∷ [])
 rising-push xs m n rise below above k more = by (cases_eq (k + 1) (length xs))
   where
     long : length (xs ++ n ∷ []) ≡ length xs + 1

@@ -11,4 +11,5 @@ pub mod Changes
 pub mod Advances
 pub mod Counts
 pub mod Staying
+pub mod Turns
 pub mod Things

@@ -141,11 +141,15 @@ server-after map before after (inl same) rules is = subst (IsServerState map) (s
 server-after map before after (inr (inl j)) rules is = subst (IsServerState map) (sym j.is) (server-join map before j.port j.to rules is j.answer)
 server-after map before after (inr (inr u)) rules is = subst (IsServerState map) (sym u.is) (server-update map before u.live (u.may is.clients) is)
 
+-- and so through a packet
+pub server_next : (map : MapView) (frame : ℕ) (r : Receiving) (place : ℕ) (a : Arrival) → IsMap map → IsServerState map r.state → IsServerState map (after_arrival map frame r place a).state
+server_next map frame r place a rules is = server-after map r.state (after_arrival map frame r place a).state (state-step map frame r place a) rules is
+
 server-through : (map : MapView) (frame : ℕ) (r : Receiving) (place : ℕ) (arrivals : List Arrival) → IsMap map → IsServerState map r.state → IsServerState map (after_arrivals map frame r place arrivals).state
 server-through map frame r place [] rules is = is
 server-through map frame r place (a ∷ more) rules is =
     let next = after_arrival map frame r place a in
-    server-through map frame next (place + 1) more rules (server-after map r.state next.state (state-step map frame r place a) rules is)
+    server-through map frame next (place + 1) more rules (server_next map frame r place a rules is)
 
 -- the packets of a frame keep it
 pub server_received : (map : MapView) (frame : ℕ) (state : State) (arrivals : List Arrival) → IsMap map → IsServerState map state → IsServerState map (received map frame state arrivals).state

@@ -1,18 +1,51 @@
 -- What holds of all packets of a frame together, and of the end of a frame.
-use Rattle.std.specs.Prelude.{◌≡◌, ℕ, ◌+◌, ◌≤◌, ◌==◌, List, [], ◌∷◌, length, map, filter, count_by, All}
-use Rattle.std.specs.Prelude.{Option, Some, None, IsSome}
-use Rattle.std.specs.List.{IsDistinct}
+use Rattle.std.specs.Prelude.{◌≡◌, ◌↔◌, ℕ, ◌+◌, ◌≤◌, ◌==◌, List, [], ◌∷◌, ◌++◌, length, take, slice_get, map, filter}
+use Rattle.std.specs.Prelude.{count_by, All, Option, Some, None, IsSome}
+use Rattle.std.specs.List.{IsDistinct, Contains}
 use Rattle.std.specs.List.Sorted.{IsStrictlyIncreasing}
 use Rattle.entity_recs.specs.declared.rec.Rec.{Rec}
 use Rattle.entity_recs.specs.Commands.{Command, is_same_move}
+use Rattle.packet_read.specs.Reading.{reading}
 use Rattle.arena_map.specs.Maps.{MapView, IsMap}
 use Rattle.arena_map.specs.Validity.{IsOpeningWorld, AreClear}
 use Rattle.client_ports.specs.declared.arrival.Arrival.{Arrival}
 use Rattle.client_ports.specs.declared.client.Client.{Client}
+use Rattle.client_ports.specs.declared.received.Refused.{Refused}
 use Rattle.client_ports.specs.Clients.{no_clients, client_at, AreClients}
 use Rattle.client_ports.specs.States.{State, state_of, IsServerState}
 use Rattle.client_ports.specs.Finishing.{is_leaver, finished}
-use Rattle.client_ports.specs.Receiving.{received}
+use Rattle.client_ports.specs.Lists.{no_lists}
+use Rattle.client_ports.specs.Reasons.{HasReason}
+use Rattle.client_ports.specs.Receiving.{receiving_of, after_arrival, received}
+
+-- ---- the packets of a frame, in turn
+
+-- the packets of a frame are taken in the order of arrival: first there is nothing, and each packet finds what those
+-- before it came to, and has as its place how many they are
+pub record PacketsAreTakenInTurn : Type 0 where
+  pub none : (map : MapView) (frame : ℕ) (state : State) → received map frame state [] ≡ receiving_of state no_lists
+  pub one_more : (map : MapView) (frame : ℕ) (state : State) (arrivals : List Arrival) (a : Arrival)
+      → received map frame state (arrivals ++ a ∷ [])
+      ≡ after_arrival map frame (received map frame state arrivals) (length arrivals) a
+
+-- at its place is a packet for which the reason of the refusal holds, after the packets before it
+pub record IsRefusedIn (map : MapView) (frame : ℕ) (state : State) (arrivals : List Arrival) (t : Refused) : Type 0 where
+  pub a : Arrival
+  pub at : slice_get arrivals t.place ≡ Some a
+  pub reason : HasReason map (received map frame state (take t.place arrivals)).state (reading a.bytes) a.port t.why
+
+-- the places of refusals
+abbrev pub places_of : List Refused → List ℕ
+places_of refused = map (λ t. t.place) refused
+
+-- the refusals of a frame are those of the packets at their places, each for its reason, and no others; their places
+-- rise, so that each is listed once and in the order of arrival
+pub record RefusalsHaveTheirPlaces : Type 0 where
+  pub each : (map : MapView) (frame : ℕ) (state : State) (arrivals : List Arrival) (t : Refused) → IsMap map
+      → IsServerState map state
+      → Contains (received map frame state arrivals).lists.refused t ↔ IsRefusedIn map frame state arrivals t
+  pub rising : (map : MapView) (frame : ℕ) (state : State) (arrivals : List Arrival)
+      → IsStrictlyIncreasing (places_of (received map frame state arrivals).lists.refused)
 
 -- ---- the packets of a frame, counted
 

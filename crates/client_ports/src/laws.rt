@@ -9,6 +9,8 @@ ghost use Rattle.client_ports.specs.Laws.{
   FinishTakesLeaversOut,
 };
 ghost use Rattle.client_ports.specs.Frames.{
+  PacketsAreTakenInTurn,
+  RefusalsHaveTheirPlaces,
   EachFrameIsAnswered,
   NumbersRiseInAFrame,
   PlayersHaveFewMoves,
@@ -62,6 +64,18 @@ pub fn refusals_have_reasons()
 /// The end of a frame takes out the clients that leave, with their players, and no other.
 pub fn finish_takes_leavers_out()
     ensures { FinishTakesLeaversOut }
+{}
+
+/// The packets of a frame are taken in the order of arrival: each packet finds what those before it came to, and has as
+/// its place how many they are.
+pub fn packets_are_taken_in_turn()
+    ensures { PacketsAreTakenInTurn }
+{}
+
+/// A frame's refusals are exactly those of the packets at their places, each for the reason that holds for its packet
+/// after the packets before it. Their places rise, so that each is listed once and in the order of arrival.
+pub fn refusals_have_their_places()
+    ensures { RefusalsHaveTheirPlaces }
 {}
 
 /// As many refusals, joins, accepted moves and new leavers come of a frame as packets came.
