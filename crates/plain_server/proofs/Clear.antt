@@ -228,14 +228,21 @@ clear_moved map r journal is_map is clear =
     subst (AreClear map) (sym (after_all-are map records commands is_map is.state.fits.valid live))
     (clear_after_all map records records [] commands is_map (moved-none map records is.state.fits.valid) live clear)
 
--- and those after any frames
+-- and those after the moves of a frame that begins clear
+pub clear_shown : (map : MapView) (frame : ℕ) (state : State) (arrivals : List Arrival) (journal : List Entry) → IsMap map → IsServerState map state → AreClear map state.records
+    → AreClear map (moved_by map (received_in map frame state arrivals) journal).records
+clear_shown map frame state arrivals journal is_map is clear =
+    clear_moved map (received_in map frame state arrivals) journal is_map (received_is map frame state arrivals is_map is)
+    (clear_received map frame (state_after_tick map frame state) arrivals is_map (server_ticked map frame state is_map is) (clear_ticked map frame state is_map is clear))
+
+-- so are those after any frames
 pub clear_through : (map : MapView) (frame : ℕ) (state : State) (frames : List (List Arrival)) (journals : List (List Entry)) → IsMap map → IsServerState map state → AreClear map state.records
     → AreClear map (state_played map frame state frames journals).records
 clear_through map frame state [] journals is_map is clear = clear
 clear_through map frame state (arrivals ∷ frames) journals is_map is clear =
     let r = received_in map frame state arrivals in
     let pass = received_is map frame state arrivals is_map is in
-    let moved = clear_moved map r (first_of journals) is_map pass (clear_received map frame (state_after_tick map frame state) arrivals is_map (server_ticked map frame state is_map is) (clear_ticked map frame state is_map is clear)) in
+    let moved = clear_shown map frame state arrivals (first_of journals) is_map is clear in
     clear_through map (frame + 1) (state_after map r (first_of journals)) frames (rest_of journals) is_map (state_after_is map r (first_of journals) is_map pass)
     (clear_finished map (moved_by map r (first_of journals)) moved)
 

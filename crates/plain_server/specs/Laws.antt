@@ -1,5 +1,5 @@
 -- What holds of the plain server, after any frames.
-use Rattle.std.specs.Prelude.{◌≡◌, ℕ, ◌+◌, ◌<◌, ◌≤◌, List, Option, Some, None, IsSome, All}
+use Rattle.std.specs.Prelude.{◌≡◌, ℕ, ◌+◌, ◌<◌, ◌≤◌, List, length, Option, Some, None, IsSome, All}
 use Rattle.entity_recs.specs.declared.rec.Rec.{Rec}
 use Rattle.entity_recs.specs.declared.effect.Entry.{Entry}
 use Rattle.entity_recs.specs.Commands.{Command}
@@ -10,10 +10,11 @@ use Rattle.arena_actions.specs.Outcomes.{outcome_in}
 use Rattle.client_ports.specs.declared.arrival.Arrival.{Arrival}
 use Rattle.client_ports.specs.Clients.{client_at, AreClients}
 use Rattle.client_ports.specs.States.{State, IsServerState}
+use Rattle.client_ports.specs.Receiving.{Receiving}
 use Rattle.plain_server.specs.RecordsById.{world_of, records_in, opening}
 use Rattle.plain_server.specs.Moving.{HasLivePlayer}
 use Rattle.plain_server.specs.Entries.{AreReported, HasBytes}
-use Rattle.plain_server.specs.Frames.{received_in, state_after, state_played, IsRightAfter}
+use Rattle.plain_server.specs.Frames.{received_in, moved_by, state_after, state_played, IsRightAfter}
 use Rattle.plain_server.specs.Frames.{AreRight, AreInOrder, journals_of}
 use Rattle.plain_server.specs.Takers.{HasTaken, HasTakenIn, IsSameEntry, IsInState}
 
@@ -30,12 +31,19 @@ MovesKeepWorldsValid =
     → All (HasLivePlayer records) commands
     → IsValidWorld map (records_in (world_after (outcome_in map) (world_of records) commands) records)
 
--- after any frames, with whatever journals, the state is one of the map: the world is valid, and the live slots are the
--- live players
-abbrev pub WorldsStayValid : Type 0
-WorldsStayValid =
-    (map : MapView) (frames : List (List Arrival)) (journals : List (List Entry)) → IsMap map
-    → IsServerState map (state_played map 0 (opening map) frames journals)
+-- what is received in the frame after these, played with these journals
+abbrev pub received_next : MapView → List (List Arrival) → List (List Entry) → List Arrival → Receiving
+received_next map frames journals arrivals =
+    received_in map (length frames) (state_played map 0 (opening map) frames journals) arrivals
+
+-- after any frames, with whatever journals, the state is one of the map: the world is valid, ports are apart, and the
+-- live slots are the live players; so is the one after the moves of a frame, which its replies show
+pub record WorldsStayValid : Type 0 where
+  pub between : (map : MapView) (frames : List (List Arrival)) (journals : List (List Entry)) → IsMap map
+      → IsServerState map (state_played map 0 (opening map) frames journals)
+  pub shown : (map : MapView) (frames : List (List Arrival)) (journals : List (List Entry)) (arrivals : List Arrival)
+      (journal : List Entry) → IsMap map
+      → IsServerState map (moved_by map (received_next map frames journals arrivals) journal)
 
 -- after any frames, with whatever journals, no two live slots share a port
 abbrev pub PortsStayApart : Type 0
@@ -44,11 +52,13 @@ PortsStayApart =
     → AreClients (state_played map 0 (opening map) frames journals).clients
 
 -- after any frames, with whatever journals, no player's body overlaps a wall or a block, and no bodies of two live
--- solids overlap
-abbrev pub PlayersKeepRoom : Type 0
-PlayersKeepRoom =
-    (map : MapView) (frames : List (List Arrival)) (journals : List (List Entry)) → IsMap map
-    → AreClear map (state_played map 0 (opening map) frames journals).records
+-- solids overlap; nor do they after the moves of a frame, where those that leave are still there
+pub record PlayersKeepRoom : Type 0 where
+  pub between : (map : MapView) (frames : List (List Arrival)) (journals : List (List Entry)) → IsMap map
+      → AreClear map (state_played map 0 (opening map) frames journals).records
+  pub shown : (map : MapView) (frames : List (List Arrival)) (journals : List (List Entry)) (arrivals : List Arrival)
+      (journal : List Entry) → IsMap map
+      → AreClear map (moved_by map (received_next map frames journals arrivals) journal).records
 
 -- there are right journals of any frames that have the moves in the order of arrival
 pub record JournalsAreRightInOrder : Type 0 where

@@ -15,7 +15,7 @@ pub fn moves_keep_worlds_valid()
 {}
 
 /// After any frames, with whatever journals, the state is one of the map: the world is valid, ports are apart, and the
-/// live slots are the live players.
+/// live slots are the live players. So is the state after the moves of a frame, which its replies show.
 pub fn worlds_stay_valid()
     ensures { WorldsStayValid }
 {}
@@ -25,7 +25,8 @@ pub fn ports_stay_apart()
     ensures { PortsStayApart }
 {}
 
-/// After any frames, with whatever journals, no player is in a wall, in a block or in another live solid.
+/// After any frames, with whatever journals, no player is in a wall, in a block or in another live solid; nor is one
+/// after the moves of a frame, where those that leave are still there.
 pub fn players_keep_room()
     ensures { PlayersKeepRoom }
 {}
