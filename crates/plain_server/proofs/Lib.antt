@@ -19,6 +19,7 @@ pub mod ThingsStay
 pub mod Reports
 pub mod Ticking
 pub mod Frames
+pub mod Turns
 pub mod Clear
 pub mod Away
 pub mod Takers

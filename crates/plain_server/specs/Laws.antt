@@ -1,9 +1,11 @@
 -- What holds of the plain server, after any frames.
-use Rattle.std.specs.Prelude.{◌≡◌, ℕ, ◌+◌, ◌<◌, ◌≤◌, List, length, Option, Some, None, IsSome, All}
+use Rattle.std.specs.Prelude.{◌≡◌, ◌↔◌, ℕ, ◌+◌, ◌<◌, ◌≤◌, List, [], ◌∷◌, ◌++◌, length, take, slice_get, Option, Some}
+use Rattle.std.specs.Prelude.{None, IsSome, All}
 use Rattle.entity_recs.specs.declared.rec.Rec.{Rec}
 use Rattle.entity_recs.specs.declared.effect.Entry.{Entry}
 use Rattle.entity_recs.specs.Commands.{Command}
 use Rattle.entity_recs.specs.Histories.{world_after}
+use Rattle.move_journal.specs.Merges.{IsInOrder}
 use Rattle.arena_map.specs.Maps.{MapView, IsMap, delay_of}
 use Rattle.arena_map.specs.Validity.{IsValidWorld, IsOpeningWorld, AreClear}
 use Rattle.arena_actions.specs.Outcomes.{outcome_in}
@@ -59,6 +61,39 @@ pub record PlayersKeepRoom : Type 0 where
   pub shown : (map : MapView) (frames : List (List Arrival)) (journals : List (List Entry)) (arrivals : List Arrival)
       (journal : List Entry) → IsMap map
       → AreClear map (moved_by map (received_next map frames journals arrivals) journal).records
+
+-- what is received in the frame with this number, after the frames before it with their journals
+abbrev pub received_at : MapView → List (List Arrival) → List (List Entry) → ℕ → List Arrival → Receiving
+received_at map frames journals number arrivals =
+    received_in map number (state_played map 0 (opening map) (take number frames) (take number journals)) arrivals
+
+-- there is one journal a frame, and each is right for what is received in its frame, in the state after the frames
+-- before it with their journals
+pub record AreRightInTurn (map : MapView) (frames : List (List Arrival)) (journals : List (List Entry)) : Type 0 where
+  pub one_each : length journals ≡ length frames
+  pub each : (number : ℕ) (arrivals : List Arrival) (journal : List Entry) → slice_get frames number ≡ Some arrivals
+      → slice_get journals number ≡ Some journal
+      → IsRightAfter map (received_at map frames journals number arrivals) journal
+
+-- there is one journal a frame, and each has the moves that are accepted in its frame, in the order of arrival
+pub record AreOrderedInTurn (map : MapView) (frames : List (List Arrival)) (journals : List (List Entry)) : Type 0 where
+  pub one_each : length journals ≡ length frames
+  pub each : (number : ℕ) (arrivals : List Arrival) (journal : List Entry) → slice_get frames number ≡ Some arrivals
+      → slice_get journals number ≡ Some journal
+      → IsInOrder journal (received_at map frames journals number arrivals).lists.moves
+
+-- frames are played in turn, numbered from 0: each goes on from the state that those before it leave with their
+-- journals; and journals are right, or in the order of arrival, exactly where there is one a frame and each is so there
+pub record FramesAreInTurn : Type 0 where
+  pub none : (map : MapView) → state_played map 0 (opening map) [] [] ≡ opening map
+  pub one_more : (map : MapView) (frames : List (List Arrival)) (journals : List (List Entry))
+      (arrivals : List Arrival) (journal : List Entry) → length journals ≡ length frames
+      → state_played map 0 (opening map) (frames ++ arrivals ∷ []) (journals ++ journal ∷ [])
+      ≡ state_after map (received_next map frames journals arrivals) journal
+  pub right : (map : MapView) (frames : List (List Arrival)) (journals : List (List Entry))
+      → AreRight map 0 (opening map) frames journals ↔ AreRightInTurn map frames journals
+  pub order : (map : MapView) (frames : List (List Arrival)) (journals : List (List Entry))
+      → AreInOrder map 0 (opening map) frames journals ↔ AreOrderedInTurn map frames journals
 
 -- there are right journals of any frames that have the moves in the order of arrival
 pub record JournalsAreRightInOrder : Type 0 where

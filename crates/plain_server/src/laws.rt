@@ -1,6 +1,7 @@
 ghost use Rattle.plain_server.specs.Laws.{OpeningIsAsTheMapSays};
 ghost use Rattle.plain_server.specs.Laws.{MovesKeepWorldsValid, WorldsStayValid, PortsStayApart, PlayersKeepRoom};
-ghost use Rattle.plain_server.specs.Laws.{JournalsAreRightInOrder, OrderLeavesOneJournalEach, RightJournalsAreInRange};
+ghost use Rattle.plain_server.specs.Laws.{FramesAreInTurn, JournalsAreRightInOrder, OrderLeavesOneJournalEach};
+ghost use Rattle.plain_server.specs.Laws.{RightJournalsAreInRange};
 ghost use Rattle.plain_server.specs.Laws.{FramesHaveOneTaker, OnlyItemsAreTaken, ItemsHaveOneTaker, TakenItemsStayAway};
 
 /// Before the first frame nobody is joined, and each thing of the map is live at its id and as at the start, and nothing
@@ -29,6 +30,12 @@ pub fn ports_stay_apart()
 /// after the moves of a frame, where those that leave are still there.
 pub fn players_keep_room()
     ensures { PlayersKeepRoom }
+{}
+
+/// Frames are played in turn, numbered from 0: each goes on from the state that those before it leave with their
+/// journals. Journals are right, or in the order of arrival, exactly where there is one a frame and each is so there.
+pub fn frames_are_in_turn()
+    ensures { FramesAreInTurn }
 {}
 
 /// Any frames have right journals with the moves in the order of arrival.
