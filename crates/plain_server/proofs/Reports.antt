@@ -14,7 +14,7 @@ use Rattle.entity_recs.specs.Histories.{Item, entry_of, commands_of}
 use Rattle.move_journal.specs.Merges.{history_of}
 use Rattle.arena_map.specs.Maps.{MapView, IsMap}
 use Rattle.arena_map.specs.Validity.{IsValidWorld}
-use Rattle.arena_actions.specs.Lawful.Moves.{replies_have_origin}
+use Rattle.arena_actions.specs.Lawful.Moves.{replied_rise, replies_have_origin}
 use Rattle.world_tree.specs.Live.{record_at}
 use Rattle.world_tree.proofs.Links.{id-below}
 use Rattle.client_ports.specs.Receiving.{Receiving}
@@ -24,6 +24,7 @@ use Rattle.plain_server.specs.Entries.{IsReported, AreReported, IsReception}
 use Rattle.plain_server.specs.Frames.{IsRightAfter}
 use Rattle.plain_server.proofs.Players.{live_record}
 use Rattle.plain_server.proofs.NewStates.{IsOfItem}
+use Rattle.plain_server.proofs.Others.{others_rise}
 use Rattle.plain_server.proofs.Takes.{of_items, few_got, got_are}
 use Rattle.plain_server.proofs.Moves.{moved_is_valid}
 use Rattle.plain_server.proofs.Runs.{entries_of, IsRun, first_live, entry_is, run_rest, journal_runs, run_entries}
@@ -55,6 +56,7 @@ reported_one map records place c is_map valid has small =
       origin = subst (IsNear 1048576) (sym origin) me.is_record.origin;
       got = record {
         few = few_got map records c own;
+        rising = replied_rise map (record_or_nobody (record_at records c.slot)) (others_of (world_of records) c.slot) c (others_rise records c.slot own);
         small = subst (AllByRecursion (λ id. id < 2 ^ 16)) (sym (got_are map records c own)) (small_ids map records e.states valid (of_items map records c own));
       };
     }

@@ -1,6 +1,7 @@
 -- What an entry of a right journal keeps to, so that the line that reports it is read back.
 use Rattle.std.specs.Prelude.{◌≡◌, ℕ, ◌+◌, ◌<◌, ◌≤◌, ◌^◌, List, [], ◌∷◌, length, All}
 use Rattle.std.specs.List.{AllByRecursion}
+use Rattle.std.specs.List.Sorted.{IsStrictlyIncreasing}
 use Rattle.arena_geo.specs.Vectors.{IsNear}
 use Rattle.entity_recs.specs.declared.effect.Entry.{Entry}
 use Rattle.move_journal.specs.Merges.{HasNumbersApart}
@@ -10,12 +11,13 @@ use Rattle.client_ports.specs.States.{IsServerState}
 use Rattle.client_ports.specs.Receiving.{Receiving}
 use Rattle.plain_server.specs.Moving.{HasLivePlayer}
 
--- a list of at most 8 ids, each of 16 bits
+-- a list of at most 8 ids, each of 16 bits, in rising order, so that none is there twice
 pub record AreFewIds (ids : List ℕ) : Type 0 where
   pub few : length ids ≤ 8
+  pub rising : IsStrictlyIncreasing ids
   pub small : AllByRecursion (λ id. id < 2 ^ 16) ids
 
--- the entry has its place, a player's slot and a number of 32 bits, its player is near, and it got a few ids
+-- the entry has its place, a player's slot and a number of 32 bits, its player is near, and it got a few ids, which rise
 pub record IsReported (place : ℕ) (e : Entry) : Type 0 where
   pub place_is : e.place ≡ place
   pub slot : e.slot < 64

@@ -109,7 +109,7 @@ OrderLeavesOneJournalEach =
     → AreRight map 0 (opening map) frames journals
     → AreInOrder map 0 (opening map) frames journals → journals ≡ journals_of map 0 (opening map) frames
 
--- the entries of a right journal have their places, and are in range
+-- the entries of a right journal have their places, and are in range, and the ids that each got rise
 abbrev pub RightJournalsAreInRange : Type 0
 RightJournalsAreInRange =
     (map : MapView) (frame : ℕ) (state : State) (arrivals : List Arrival) (journal : List Entry) → IsMap map

@@ -49,7 +49,7 @@ pub fn order_leaves_one_journal_each()
 {}
 
 /// In a right journal of a frame each entry has its place, a player's slot, a number of 32 bits, an origin at most
-/// 1,048,576 sub-units from 0 on each axis, and at most 8 ids of 16 bits.
+/// 1,048,576 sub-units from 0 on each axis, and at most 8 ids of 16 bits, in rising order.
 pub fn right_journals_are_in_range()
     ensures { RightJournalsAreInRange }
 {}
