@@ -1,6 +1,7 @@
-ghost use Rattle.std.specs.Prelude.{◌≡◌, ◌<◌, ◌≤◌, []};
+ghost use Rattle.std.specs.Prelude.{◌≡◌, ◌<◌, ◌≤◌, [], IfOk, IsSome};
 ghost use Rattle.arena_geo.specs.Vectors.{IsNear};
 ghost use Rattle.entity_recs.specs.Records.{IsRecord};
+ghost use Rattle.world_tree.specs.Worlds.{record_of, empty_world};
 
 use super::*;
 use arena_geo::Vec3;
@@ -86,8 +87,8 @@ fn lift(id: u16, origin: Vec3) -> Rec
 }
 
 /// The arena of the rows.
-fn arena() -> Option<Aabb> {
-    Aabb::new(at(-131_072, -131_072, 0), at(131_072, 131_072, 65_536))
+fn arena() -> Result<Aabb, &'static str> {
+    Aabb::new(at(-131_072, -131_072, 0), at(131_072, 131_072, 65_536)).ok_or("a box")
 }
 
 /// Puts in a record whose id isn't live.
@@ -99,6 +100,14 @@ fn put(rt: &impl Abort, world: &mut World, r: Rec)
     world.add(r);
 }
 
+/// Expects that the id is live and linked in this list.
+fn expect_linked(rt: &impl Abort, world: &World, id: u16, list: u8)
+    ensures { IsSome (record_of world.now id) }
+{
+    assert_eq!(rt; world.list_of(id), Some(list));
+    assert!(rt; world.get(id).is_some());
+}
+
 /// The ids of the first records in order, and 0 where there is none.
 fn ids(list: &NearList) -> [u16; 4] {
     let mut ids = [0; 4];
@@ -106,6 +115,44 @@ fn ids(list: &NearList) -> [u16; 4] {
         *id = r.id;
     }
     ids
+}
+
+/// A world in which player 3, on the root's plane, stands on lift 64, item 65 just touches its absolute box, and item 66
+/// is 1 farther.
+fn filled(rt: &impl Abort, alloc: Global, bounds: &Aabb) -> Result<World, Fail>
+    ensures { IfOk result (λ w. w.tree ≡ (empty_world bounds.now).tree) }
+{
+    let mut world = World::new(alloc, bounds, &[player(3, at(0, 0, 8_704))])?;
+    put(rt, &mut world, ammo(65, at(8_192, 0, 0)));
+    put(rt, &mut world, lift(64, at(-6_400, -12_800, 0)));
+    put(rt, &mut world, ammo(66, at(8_193, 0, 0)));
+    Ok(world)
+}
+
+/// A copy of that world, over the arena of the rows.
+fn copied(rt: &impl Abort, alloc: Global) -> Result<World, Fail> {
+    let bounds = arena()?;
+    let filled = filled(rt, alloc, &bounds)?;
+    let mut world = World::new(alloc, &bounds, &[])?;
+    world.copy_from(&filled);
+    Ok(world)
+}
+
+/// The absolute box of player 3.
+fn abs_box_of_3() -> Result<Aabb, &'static str> {
+    Aabb::new(at(-4_352, -4_352, 2_304), at(4_352, 4_352, 17_152)).ok_or("a box")
+}
+
+/// A box as wide as a player from one height to another.
+fn column(low: i32, high: i32) -> Result<Aabb, &'static str> {
+    Aabb::new(at(-4_096, -4_096, low), at(4_096, 4_096, high)).ok_or("a box")
+}
+
+/// The ids that `near` gives for a box.
+fn near_ids(world: &World, abs: Aabb, except: u16) -> [u16; 4] {
+    let mut list = NearList::new();
+    world.near(&Region::one(abs), except, &mut list);
+    ids(&list)
 }
 
 /// The triggers that touch a box, found with a count of looks that is then dropped.
@@ -122,14 +169,11 @@ fn touched<L: Ledger>(world: &World, abs: &Aabb, blank: Blank) -> NearList
 
 #[test]
 fn a_player_on_the_plane_is_linked_at_the_root(rt: HostRuntime) -> Result<(), Fail> {
-    let mut world = World::new(rt.alloc(), &arena().ok_or("a box")?, &[])?;
-    assert!(rt; world.get(7).is_none());
-    world.add(player(7, at(0, -4_352, 6_144)));
-    assert_eq!(rt; world.list_of(7), Some(0));
-    assert!(rt; world.get(7).is_some());
+    let mut world = World::new(rt.alloc(), &arena()?, &[])?;
+    put(&rt, &mut world, player(7, at(0, -4_352, 6_144)));
+    expect_linked(&rt, &world, 7, 0);
     world.relink(player(7, at(0, -4_353, 6_144)));
-    assert_eq!(rt; world.list_of(7), Some(2));
-    assert!(rt; world.get(7).is_some());
+    expect_linked(&rt, &world, 7, 2);
     world.remove(7);
     assert_eq!(rt; world.list_of(7), None);
     assert_eq!(rt; world.get(7), None);
@@ -137,33 +181,39 @@ fn a_player_on_the_plane_is_linked_at_the_root(rt: HostRuntime) -> Result<(), Fa
 }
 
 #[test]
-fn queries_find_what_touches(rt: HostRuntime) -> Result<(), Fail> {
-    let bounds = arena().ok_or("a box")?;
-    // A player on the root's plane that stands on a lift, an item that its absolute box just touches, and one that is
-    // 1 farther.
-    let mut filled = World::new(rt.alloc(), &bounds, &[player(3, at(0, 0, 8_704))])?;
-    put(&rt, &mut filled, ammo(65, at(8_192, 0, 0)));
-    put(&rt, &mut filled, lift(64, at(-6_400, -12_800, 0)));
-    put(&rt, &mut filled, ammo(66, at(8_193, 0, 0)));
-    let mut world = World::new(rt.alloc(), &bounds, &[])?;
-    world.copy_from(&filled);
+fn a_copy_is_linked_as_its_original(rt: HostRuntime) -> Result<(), Fail> {
+    let bounds = arena()?;
+    let world = copied(&rt, rt.alloc())?;
     assert_eq!(rt; world.tree().node_of(&bounds), 0);
-    assert_eq!(rt; world.list_of(3), Some(0));
-    assert_eq!(rt; world.list_of(64), Some(0));
-    assert_eq!(rt; world.list_of(65), Some(31));
+    expect_linked(&rt, &world, 3, 0);
+    expect_linked(&rt, &world, 64, 0);
+    expect_linked(&rt, &world, 65, 31);
+    Ok(())
+}
 
-    let abs = Aabb::new(at(-4_352, -4_352, 2_304), at(4_352, 4_352, 17_152)).ok_or("a box")?;
-    let mut list = NearList::new();
-    world.near(&Region::one(abs), 3, &mut list);
-    assert_eq!(rt; ids(&list), [64, 65, 0, 0]);
-    let mut list = NearList::new();
-    world.near(&Region::one(abs), 300, &mut list);
-    assert_eq!(rt; ids(&list), [3, 64, 65, 0]);
+#[test]
+fn near_finds_what_touches_but_one(rt: HostRuntime) -> Result<(), Fail> {
+    let abs = abs_box_of_3()?;
+    let world = copied(&rt, rt.alloc())?;
+    assert_eq!(rt; near_ids(&world, abs, 3), [64, 65, 0, 0]);
+    assert_eq!(rt; near_ids(&world, abs, 300), [3, 64, 65, 0]);
+    Ok(())
+}
+
+#[test]
+fn touching_finds_the_trigger_that_touches(rt: HostRuntime) -> Result<(), Fail> {
+    let abs = abs_box_of_3()?;
+    let world = copied(&rt, rt.alloc())?;
     let list = touched::<Brand>(&world, &abs, Blank::new(1));
     assert_eq!(rt; ids(&list), [65, 0, 0, 0]);
+    Ok(())
+}
 
-    let body = Aabb::new(at(-4_096, -4_096, 2_560), at(4_096, 4_096, 16_896)).ok_or("a box")?;
-    let lower = Aabb::new(at(-4_096, -4_096, 2_559), at(4_096, 4_096, 16_895)).ok_or("a box")?;
+#[test]
+fn a_body_on_a_lift_is_free_and_one_in_it_is_not(rt: HostRuntime) -> Result<(), Fail> {
+    let body = column(2_560, 16_896)?;
+    let lower = column(2_559, 16_895)?;
+    let world = copied(&rt, rt.alloc())?;
     assert!(rt; world.free(&body, &[], 3));
     assert!(rt; !world.free(&body, &[], 64));
     assert!(rt; !world.free(&lower, &[], 3));
@@ -173,7 +223,7 @@ fn queries_find_what_touches(rt: HostRuntime) -> Result<(), Fail> {
 
 #[test]
 fn a_world_has_room_for_every_id(rt: HostRuntime) -> Result<(), Fail> {
-    let bounds = arena().ok_or("a box")?;
+    let bounds = arena()?;
     let mut world = World::new(rt.alloc(), &bounds, &[])?;
     for id in 0..64 {
         put(&rt, &mut world, player(id, at(0, 0, 6_144)));
@@ -189,7 +239,7 @@ fn a_world_has_room_for_every_id(rt: HostRuntime) -> Result<(), Fail> {
 
 #[test]
 fn a_world_begins_with_all_its_records(rt: HostRuntime) -> Result<(), Fail> {
-    let bounds = arena().ok_or("a box")?;
+    let bounds = arena()?;
     let start = [
         player(3, at(0, 0, 8_704)),
         ammo(255, at(8_192, 0, 0)),
