@@ -179,42 +179,62 @@ fn expect(
     Ok(())
 }
 
-#[test]
-fn a_snapshot_has_the_player_and_what_it_sees(rt: HostRuntime) -> Result<(), Fail> {
-    let mut world = empty_world(&rt)?;
-    put(&mut world, player(0, at(0, 0, 6_144)));
-    expect(&rt, &world, 0, ALONE)?;
-
-    put(&mut world, player_that_moved());
-    expect(&rt, &world, 1, MOVED)?;
-
-    put(&mut world, player(0, at(0, 0, 11_264)));
-    put(&mut world, gem(66, at(265_984, 0, 142_336)));
-    put(&mut world, lift(64, at(-12_800, -12_800, 2_560)));
-    put(&mut world, ammo(65, at(8_192, 0, 11_264), 7));
-    // One farther on x, and one farther on z.
-    put(&mut world, gem(67, at(265_985, 0, 142_336)));
-    put(&mut world, gem(68, at(265_984, 0, 142_337)));
-    expect(&rt, &world, 0, AMONG_THINGS.as_slice())
+/// Puts in a lift, an item that was taken, a gem at the edge of what slot 0 sees, one that is one farther on x, and one
+/// that is one farther on z.
+fn put_things(world: &mut World) {
+    put(world, gem(66, at(265_984, 0, 142_336)));
+    put(world, lift(64, at(-12_800, -12_800, 2_560)));
+    put(world, ammo(65, at(8_192, 0, 11_264), 7));
+    put(world, gem(67, at(265_985, 0, 142_336)));
+    put(world, gem(68, at(265_984, 0, 142_337)));
 }
 
 #[test]
-fn the_longest_snapshot_fits(rt: HostRuntime) -> Result<(), Fail> {
+fn a_snapshot_has_the_player_as_it_is(rt: HostRuntime) -> Result<(), Fail> {
     let mut world = empty_world(&rt)?;
+    put(&mut world, player(0, at(0, 0, 6_144)));
+    expect(&rt, &world, 0, ALONE)?;
+    put(&mut world, player_that_moved());
+    expect(&rt, &world, 1, MOVED)
+}
+
+#[test]
+fn a_snapshot_has_what_its_player_sees(rt: HostRuntime) -> Result<(), Fail> {
+    let mut world = empty_world(&rt)?;
+    put(&mut world, player_that_moved());
+    put(&mut world, player(0, at(0, 0, 11_264)));
+    put_things(&mut world);
+    expect(&rt, &world, 0, AMONG_THINGS.as_slice())
+}
+
+/// A world with 64 players at one place and 192 items at another.
+fn full_world(rt: &impl AllocGlobal) -> Result<World, Fail> {
+    let mut world = empty_world(rt)?;
     for id in 0..64 {
         put(&mut world, player(id, at(0, 0, 6_144)));
     }
     for id in 64..256 {
         put(&mut world, ammo(id, at(0, 0, 0), 0));
     }
-    let mut reply = ReplyBuf::new(rt.alloc())?;
-    assert!(rt; world.get(63).is_some());
-    write_snapshot(&world, 0, 63, &mut reply);
+    Ok(world)
+}
+
+/// Expects that a buffer is full, and that it takes a byte once it is cleared.
+fn expect_full(rt: &impl Abort, reply: &mut ReplyBuf) {
     assert_eq!(rt; reply.as_slice().len(), REPLY_ROOM);
     assert!(rt; !reply.push(0));
     reply.clear();
     assert!(rt; reply.push(7));
     assert_eq!(rt; reply.as_slice(), [7].as_slice());
+}
+
+#[test]
+fn the_longest_snapshot_fits(rt: HostRuntime) -> Result<(), Fail> {
+    let mut reply = ReplyBuf::new(rt.alloc())?;
+    let world = full_world(&rt)?;
+    assert!(rt; world.get(63).is_some());
+    write_snapshot(&world, 0, 63, &mut reply);
+    expect_full(&rt, &mut reply);
     Ok(())
 }
 
@@ -280,42 +300,49 @@ const THINGS: [Seen; 3] = [
     },
 ];
 
-#[test]
-fn snapshots_are_read(rt: HostRuntime) {
-    for (bytes, own, seen) in [
-        (ALONE, player(0, at(0, 0, 6_144)), [].as_slice()),
-        (
-            AMONG_THINGS.as_slice(),
-            player(0, at(0, 0, 11_264)),
-            THINGS.as_slice(),
-        ),
-    ] {
-        let read = read_snapshot(bytes);
-        assert!(rt; read.is_ok());
-        if let Ok(snapshot) = read {
-            assert_eq!(rt; snapshot.frame, 0);
-            assert_eq!(rt; snapshot.own, own);
-            assert_eq!(rt; snapshot.seen.as_slice(), seen);
-        }
+/// Reads a snapshot of frame 0, and compares its player and what it sees.
+fn expect_read(rt: &impl Abort, bytes: &[u8], own: Rec, seen: &[Seen]) {
+    let read = read_snapshot(bytes);
+    assert!(rt; read.is_ok());
+    if let Ok(snapshot) = read {
+        assert_eq!(rt; snapshot.frame, 0);
+        assert_eq!(rt; snapshot.own, own);
+        assert_eq!(rt; snapshot.seen.as_slice(), seen);
     }
 }
 
 #[test]
-fn the_first_fault_is_given(rt: HostRuntime) {
+fn snapshots_are_read(rt: HostRuntime) {
+    expect_read(&rt, ALONE, player(0, at(0, 0, 6_144)), &[]);
+    let own = player(0, at(0, 0, 11_264));
+    expect_read(&rt, AMONG_THINGS.as_slice(), own, THINGS.as_slice());
+}
+
+#[test]
+fn a_snapshot_has_as_many_bytes_as_it_says(rt: HostRuntime) {
     assert_eq!(rt; read_snapshot(&ALONE[..42]).err(), Some(SnapFault::Short));
     assert_eq!(rt;
         read_snapshot(ALONE_AND_A_BYTE).err(),
         Some(SnapFault::Long)
     );
-    for (changes, fault) in FAULTS {
-        let mut bytes = *AMONG_THINGS;
-        for (i, byte) in *changes {
-            if let Some(place) = bytes.get_mut(*i) {
-                *place = *byte;
-            }
+}
+
+/// [`AMONG_THINGS`] with these bytes at their places.
+fn changed(changes: &[(usize, u8)]) -> [u8; 91] {
+    let mut bytes = *AMONG_THINGS;
+    for (i, byte) in changes {
+        if let Some(place) = bytes.get_mut(*i) {
+            *place = *byte;
         }
+    }
+    bytes
+}
+
+#[test]
+fn the_first_fault_is_given(rt: HostRuntime) {
+    for (changes, fault) in FAULTS {
         assert_eq!(rt;
-            read_snapshot(&bytes).err(),
+            read_snapshot(&changed(changes)).err(),
             Some(*fault),
             "with {changes:?}"
         );
