@@ -147,28 +147,63 @@ impl Lists {
 #[cfg(test)]
 mod tests {
     use super::*;
+    use std::process::Abort;
     use std::test::Fail;
 
-    #[test]
-    fn goes_first_and_leaves_the_others_in_order(rt: HostRuntime) -> Result<(), Fail> {
-        let mut lists = Lists::new(rt.alloc(), 4, 2)?;
+    /// Expects this id first in a list.
+    fn expect_first(rt: &impl Abort, lists: &Lists, list: u8, want: Option<u16>) {
+        assert_eq!(rt; lists.first(list), want);
+    }
+
+    /// Expects this id after another, which is in a list.
+    fn expect_next(rt: &impl Abort, lists: &Lists, id: u16, want: Option<u16>)
+        requires { IsSome (where_of lists.now id) }
+    {
+        assert_eq!(rt; lists.next(id), want);
+    }
+
+    /// Expects an id in this list.
+    fn expect_where(rt: &impl Abort, lists: &Lists, id: u16, want: Option<u8>) {
+        assert_eq!(rt; lists.where_is(id), want);
+    }
+
+    /// Two lists over four ids, with 3 and then 0 put in list 1.
+    fn filled(alloc: Global) -> Result<Lists, Fail>
+        ensures { IfOk result (λ made. made ≡ inserted (inserted (empty_pool 4 2) 1 3) 1 0) }
+    {
+        let mut lists = Lists::new(alloc, 4, 2)?;
         lists.insert(1, 3);
         lists.insert(1, 0);
-        assert_eq!(rt; lists.first(1), Some(0));
-        assert_eq!(rt; lists.next(0), Some(3));
-        assert_eq!(rt; lists.next(3), None);
+        Ok(lists)
+    }
 
+    #[test]
+    fn the_last_one_put_in_goes_first(rt: HostRuntime) -> Result<(), Fail> {
+        let lists = filled(rt.alloc())?;
+        expect_first(&rt, &lists, 1, Some(0));
+        expect_next(&rt, &lists, 0, Some(3));
+        expect_next(&rt, &lists, 3, None);
+        Ok(())
+    }
+
+    #[test]
+    fn a_copy_has_the_others_order(rt: HostRuntime) -> Result<(), Fail> {
         let mut copy = Lists::new(rt.alloc(), 4, 2)?;
-        copy.copy_from(&lists);
-        assert_eq!(rt; copy.first(1), Some(0));
-        assert_eq!(rt; copy.next(0), Some(3));
+        copy.copy_from(&filled(rt.alloc())?);
+        expect_first(&rt, &copy, 1, Some(0));
+        expect_next(&rt, &copy, 0, Some(3));
+        Ok(())
+    }
 
+    #[test]
+    fn taking_one_out_leaves_the_others_in_order(rt: HostRuntime) -> Result<(), Fail> {
+        let mut lists = filled(rt.alloc())?;
         lists.remove(0);
-        assert_eq!(rt; lists.first(1), Some(3));
-        assert_eq!(rt; lists.next(3), None);
-        assert_eq!(rt; lists.where_is(3), Some(1));
-        assert_eq!(rt; lists.where_is(0), None);
-        assert_eq!(rt; lists.first(0), None);
+        expect_first(&rt, &lists, 1, Some(3));
+        expect_next(&rt, &lists, 3, None);
+        expect_where(&rt, &lists, 3, Some(1));
+        expect_where(&rt, &lists, 0, None);
+        expect_first(&rt, &lists, 0, None);
         Ok(())
     }
 
@@ -176,8 +211,8 @@ mod tests {
     fn lists_of_a_world_are_as_many_as_its_nodes_ask_for(rt: HostRuntime) -> Result<(), Fail> {
         let mut lists = Lists::new(rt.alloc(), 256, 62)?;
         lists.insert(61, 255);
-        assert_eq!(rt; lists.where_is(255), Some(61));
-        assert_eq!(rt; lists.first(61), Some(255));
+        expect_where(&rt, &lists, 255, Some(61));
+        expect_first(&rt, &lists, 61, Some(255));
         Ok(())
     }
 }
