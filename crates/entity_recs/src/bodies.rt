@@ -126,25 +126,35 @@ mod tests {
         }
     }
 
+    /// The box between two corners.
+    fn boxed(lo: Vec3, hi: Vec3) -> Result<Aabb, &'static str> {
+        Aabb::new(lo, hi).ok_or("a box")
+    }
+
     #[test]
-    fn boxes_follow_the_kind(rt: HostRuntime) -> Result<(), Fail> {
-        let player = record_of(
-            3,
-            Kind::Player,
-            at(0, -4_352, 6_144),
-            PLAYER_MINS,
-            PLAYER_MAXS,
-        );
-        let body = Aabb::new(at(-4_096, -8_448, 0), at(4_096, -256, 14_336)).ok_or("a box")?;
-        let abs = Aabb::new(at(-4_352, -8_704, -256), at(4_352, 0, 14_592)).ok_or("a box")?;
-        assert_eq!(rt; player_box(at(0, -4_352, 6_144)), body);
+    fn an_absolute_box_of_a_player_is_wider_than_its_body(rt: HostRuntime) -> Result<(), Fail> {
+        let body = boxed(at(-4_096, -8_448, 0), at(4_096, -256, 14_336))?;
+        let abs = boxed(at(-4_352, -8_704, -256), at(4_352, 0, 14_592))?;
+        let origin = at(0, -4_352, 6_144);
+        let player = record_of(3, Kind::Player, origin, PLAYER_MINS, PLAYER_MAXS);
+        assert_eq!(rt; player_box(origin), body);
         assert_eq!(rt; body_box(&player), body);
         assert_eq!(rt; abs_box(&player), abs);
+        Ok(())
+    }
 
+    #[test]
+    fn an_absolute_box_of_an_item_is_wider_on_two_axes(rt: HostRuntime) -> Result<(), Fail> {
+        let abs = boxed(at(16_160, -7_936, 0), at(32_032, 7_936, 14_336))?;
         let item = record_of(64, Kind::Ammo, at(20_000, -4_096, 0), ITEM_MINS, ITEM_MAXS);
-        let abs = Aabb::new(at(16_160, -7_936, 0), at(32_032, 7_936, 14_336)).ok_or("a box")?;
         assert_eq!(rt; abs_box(&item), abs);
+        Ok(())
+    }
 
+    #[test]
+    fn an_absolute_box_of_a_lift_is_wider_than_its_body(rt: HostRuntime) -> Result<(), Fail> {
+        let body = boxed(at(-12_800, -12_800, 0), at(0, 12_800, 2_560))?;
+        let abs = boxed(at(-13_056, -13_056, -256), at(256, 13_056, 2_816))?;
         let lift = record_of(
             255,
             Kind::Lift,
@@ -152,8 +162,6 @@ mod tests {
             at(0, 0, 0),
             at(12_800, 25_600, 2_560),
         );
-        let body = Aabb::new(at(-12_800, -12_800, 0), at(0, 12_800, 2_560)).ok_or("a box")?;
-        let abs = Aabb::new(at(-13_056, -13_056, -256), at(256, 13_056, 2_816)).ok_or("a box")?;
         assert_eq!(rt; body_box(&lift), body);
         assert_eq!(rt; abs_box(&lift), abs);
         Ok(())
