@@ -1,4 +1,4 @@
-ghost use Rattle.std.specs.Prelude.{◌≡◌, ◌≤◌, length, IfOk};
+ghost use Rattle.std.specs.Prelude.{◌≡◌, ◌≤◌, All, length, IfOk};
 ghost use Rattle.out_text.specs.Printing.{line_of};
 ghost use Rattle.out_text.specs.Ranges.{HasRoom};
 
@@ -53,27 +53,41 @@ fn entry(place: u8, x: i32, got: &[u16]) -> Entry {
     }
 }
 
+/// Prints a line into an empty sink, which gets nothing before the flush.
+fn print(rt: &(impl AllocGlobal + Abort), line: &OutLine, sink: &mut MemSink) -> Result<(), Fail>
+    requires { HasRoom (line_of line.now) }
+{
+    let mut printer = Printer::new(rt.alloc())?;
+    printer.print(line, sink)?;
+    assert!(rt; sink.bytes().is_empty());
+    printer.flush(sink)?;
+    Ok(())
+}
+
 /// Compares what is printed of a line.
 fn expect(rt: &(impl AllocGlobal + Abort), line: &OutLine, printed: &str) -> Result<(), Fail>
     requires { HasRoom (line_of line.now) }
 {
     let mut sink = MemSink::new(rt.alloc(), 100, 100)?;
-    let mut printer = Printer::new(rt.alloc())?;
-    printer.print(line, &mut sink)?;
-    assert!(rt; sink.bytes().is_empty());
-    printer.flush(&mut sink)?;
+    print(rt, line, &mut sink)?;
     assert_eq!(rt; sink.bytes(), printed.as_bytes());
     Ok(())
 }
 
 #[test]
-fn each_line_is_printed(rt: HostRuntime) -> Result<(), Fail> {
+fn lines_of_a_refusal_and_a_join_are_printed(rt: HostRuntime) -> Result<(), Fail> {
     let refused = Refused {
         place: 3,
         why: Refusal::Leaving,
     };
     let joined = Joined { port: 7, slot: 0 };
-    let did = Entry {
+    expect(&rt, &refused.line(), "no 3 Leaving\n")?;
+    expect(&rt, &joined.line(), "joined 7 0\n")
+}
+
+/// The entry of a move that took three items.
+fn did() -> Entry {
+    Entry {
         place: 1,
         slot: 1,
         seq: 1,
@@ -81,11 +95,13 @@ fn each_line_is_printed(rt: HostRuntime) -> Result<(), Fail> {
             origin: at(24_096, -11_952, 6_144),
             got: ids(&[64, 200, 7]),
         },
-    };
+    }
+}
+
+#[test]
+fn lines_of_a_frame_and_the_end_are_printed(rt: HostRuntime) -> Result<(), Fail> {
     expect(&rt, &OutLine::Frame(0), "frame 0\n")?;
-    expect(&rt, &refused.line(), "no 3 Leaving\n")?;
-    expect(&rt, &joined.line(), "joined 7 0\n")?;
-    expect(&rt, &did.line(), "did 1 1 24096 -11952 6144 64,200,7\n")?;
+    expect(&rt, &did().line(), "did 1 1 24096 -11952 6144 64,200,7\n")?;
     expect(
         &rt,
         &OutLine::To {
@@ -97,47 +113,82 @@ fn each_line_is_printed(rt: HostRuntime) -> Result<(), Fail> {
     expect(&rt, &OutLine::End(2), "end 2\n")
 }
 
+/// The refusals, and how the line of each is printed.
+const REFUSALS: [(Refusal, &str); 14] = [
+    (Refusal::Packet(PacketFault::Empty), "no 0 Empty\n"),
+    (Refusal::Packet(PacketFault::Version), "no 0 Version\n"),
+    (Refusal::Packet(PacketFault::Kind), "no 0 Kind\n"),
+    (Refusal::Packet(PacketFault::Short), "no 0 Short\n"),
+    (Refusal::Packet(PacketFault::Long), "no 0 Long\n"),
+    (Refusal::Packet(PacketFault::Time), "no 0 Time\n"),
+    (Refusal::Packet(PacketFault::Buttons), "no 0 Buttons\n"),
+    (Refusal::Already, "no 0 Already\n"),
+    (Refusal::Full, "no 0 Full\n"),
+    (Refusal::Crowded, "no 0 Crowded\n"),
+    (Refusal::NotJoined, "no 0 NotJoined\n"),
+    (Refusal::Leaving, "no 0 Leaving\n"),
+    (Refusal::Old, "no 0 Old\n"),
+    (Refusal::Many, "no 0 Many\n"),
+];
+
 #[test]
 fn each_refusal_has_its_name(rt: HostRuntime) -> Result<(), Fail> {
-    for (why, printed) in [
-        (Refusal::Packet(PacketFault::Empty), "no 0 Empty\n"),
-        (Refusal::Packet(PacketFault::Version), "no 0 Version\n"),
-        (Refusal::Packet(PacketFault::Kind), "no 0 Kind\n"),
-        (Refusal::Packet(PacketFault::Short), "no 0 Short\n"),
-        (Refusal::Packet(PacketFault::Long), "no 0 Long\n"),
-        (Refusal::Packet(PacketFault::Time), "no 0 Time\n"),
-        (Refusal::Packet(PacketFault::Buttons), "no 0 Buttons\n"),
-        (Refusal::Already, "no 0 Already\n"),
-        (Refusal::Full, "no 0 Full\n"),
-        (Refusal::Crowded, "no 0 Crowded\n"),
-        (Refusal::NotJoined, "no 0 NotJoined\n"),
-        (Refusal::Leaving, "no 0 Leaving\n"),
-        (Refusal::Old, "no 0 Old\n"),
-        (Refusal::Many, "no 0 Many\n"),
-    ] {
+    for (why, printed) in REFUSALS {
         expect(&rt, &OutLine::No { place: 0, why }, printed)?;
     }
     Ok(())
 }
 
-#[test]
-fn a_frame_has_its_journal_and_a_reply_for_each_slot(rt: HostRuntime) -> Result<(), Fail> {
+/// Prints frame 1 with what was received, this journal and these replies.
+fn print_frame(
+    alloc: Global,
+    received: &Received,
+    journal: &[Entry],
+    slots: &[u8],
+    replies: &[ReplyBuf],
+    sink: &mut MemSink,
+) -> Result<(), Fail>
+    requires one_each { length slots.now ≡ length replies.now }
+    requires some { All (λ bytes. 1 ≤ length bytes) replies.now }
+{
+    let mut printer = Printer::new(alloc)?;
+    printer.print_frame(1, received, journal, slots, replies, sink)?;
+    printer.flush(sink)?;
+    Ok(())
+}
+
+/// Compares what is printed of frame 1 with this journal and these replies.
+fn expect_frame(
+    rt: &(impl AllocGlobal + Abort),
+    journal: &[Entry],
+    slots: &[u8],
+    replies: &[ReplyBuf],
+    printed: &str,
+) -> Result<(), Fail>
+    requires one_each { length slots.now ≡ length replies.now }
+    requires some { All (λ bytes. 1 ≤ length bytes) replies.now }
+{
     let received = Received::new(rt.alloc(), 0)?;
-    let journal = [
+    let mut sink = MemSink::new(rt.alloc(), 200, 100)?;
+    print_frame(rt.alloc(), &received, journal, slots, replies, &mut sink)?;
+    assert_eq!(rt; sink.bytes(), printed.as_bytes());
+    Ok(())
+}
+
+/// Three moves of slot 0, the second of which took an item.
+fn moves() -> [Entry; 3] {
+    [
         entry(0, 2_048, &[]),
         entry(1, 5_734, &[64]),
         entry(2, 9_830, &[]),
-    ];
-    let replies = [
-        reply(rt.alloc(), &[0x01, 0xab])?,
-        reply(rt.alloc(), &[0xff])?,
-    ];
-    let mut sink = MemSink::new(rt.alloc(), 200, 100)?;
-    let mut printer = Printer::new(rt.alloc())?;
-    printer.print_frame(1, &received, &journal, &[0, 63], &replies, &mut sink)?;
-    printer.flush(&mut sink)?;
-    assert_eq!(rt; sink.bytes(), FRAME.as_bytes());
-    Ok(())
+    ]
+}
+
+#[test]
+fn a_frame_has_its_journal_and_a_reply_for_each_slot(rt: HostRuntime) -> Result<(), Fail> {
+    let first = reply(rt.alloc(), &[0x01, 0xab])?;
+    let second = reply(rt.alloc(), &[0xff])?;
+    expect_frame(&rt, &moves(), &[0, 63], &[first, second], FRAME)
 }
 
 /// Lines that are printed so.
@@ -179,16 +230,27 @@ const OTHERS: [&str; 20] = [
     "END 2",
 ];
 
+/// Expects that a line is read, and that what is read is printed as this line.
+fn expect_read(
+    rt: &impl Abort,
+    line: &str,
+    bytes: &mut ReplyBuf,
+    printed: &mut LineBuf,
+) -> Result<(), Fail> {
+    bytes.clear();
+    printed.clear();
+    let read = read_line(line.as_bytes(), bytes).ok_or("a line")?;
+    print_line(&read, printed);
+    assert_eq!(rt; printed.as_slice(), line.as_bytes());
+    Ok(())
+}
+
 #[test]
 fn lines_are_read_and_printed_again(rt: HostRuntime) -> Result<(), Fail> {
     let mut bytes = ReplyBuf::new(rt.alloc())?;
     let mut printed = LineBuf::new(rt.alloc())?;
     for line in LINES {
-        bytes.clear();
-        printed.clear();
-        let read = read_line(line.as_bytes(), &mut bytes).ok_or("a line")?;
-        print_line(&read, &mut printed);
-        assert_eq!(rt; printed.as_slice(), line.as_bytes());
+        expect_read(&rt, line, &mut bytes, &mut printed)?;
     }
     Ok(())
 }
