@@ -14,6 +14,7 @@ use entity_recs::{
     Action, Cmd, Effect, ITEM_MAXS, ITEM_MINS, Kind, PLAYER_MAXS, PLAYER_MINS, Rec, body_box,
 };
 use std::alloc::Global;
+use std::process::Abort;
 use std::test::Fail;
 
 fn at(x: i32, y: i32, z: i32) -> Vec3
@@ -107,6 +108,28 @@ fn effect_among(
     Some(action.act(me, &[first, second], cmd))
 }
 
+/// What a command does in the arena of one thing, among another player and the thing's record.
+fn effect_with(
+    alloc: Global,
+    line: &MapLine,
+    me: &Rec,
+    other: Rec,
+    thing: Rec,
+    cmd: &Cmd,
+) -> Result<Effect, Fail>
+    requires added { is_added line.now ≡ true }
+    requires limits { IsWithinLimits line.now }
+    requires kind { me.now.kind ≡ Player }
+    requires record { IsRecord me.now }
+    requires score { me.now.score ≤ 4294967295 }
+    requires other { IsRecord other }
+    requires thing { IsRecord thing }
+    requires rising { other.id < thing.id }
+{
+    let action = action_with(alloc, line).map_err(|_| "a map")?;
+    Ok(effect_among(&action, me, other, thing, cmd).ok_or("inside")?)
+}
+
 /// Ammunition with its box over the way of two players, which returns after 100 frames.
 fn ammo_line() -> MapLine
     ensures added { is_added result ≡ true }
@@ -140,23 +163,39 @@ fn ammo(state: u64) -> Rec
     }
 }
 
-#[test]
-fn one_of_two_players_gets_the_item(rt: HostRuntime) -> Result<(), Fail> {
-    let action = action_with(rt.alloc(), &ammo_line()).map_err(|_| "a map")?;
-    let one = player(0, at(24_096, 14_000, 6_144));
-    let two = player(1, at(24_096, -14_000, 6_144));
-    let first = effect_among(&action, &one, two, ammo(0), &wish(0, 0, -320)).ok_or("inside")?;
-    assert_eq!(rt; first.reply.origin, at(24_096, 11_952, 6_144));
-    assert_eq!(rt; first.reply.got.as_slice(), [64].as_slice());
+/// Expects that the ammunition was taken, and that each state given out is its own.
+fn expect_taken(rt: &impl Abort, effect: &Effect) {
+    assert_eq!(rt; effect.reply.got.as_slice(), [64].as_slice());
     assert!(rt;
-        first
+        effect
             .states
             .as_slice()
             .iter()
             .all(|s| s.id == 64 && s.state == 100)
     );
-    assert_eq!(rt; (first.me.ammo, first.me.flags, first.me.seq), (20, 1, 1));
-    let second = effect_among(&action, &two, one, ammo(100), &wish(1, 0, 320)).ok_or("inside")?;
+    assert_eq!(rt;
+        (effect.me.ammo, effect.me.flags, effect.me.seq),
+        (20, 1, 1)
+    );
+}
+
+#[test]
+fn the_first_of_two_players_gets_the_item(rt: HostRuntime) -> Result<(), Fail> {
+    let one = player(0, at(24_096, 14_000, 6_144));
+    let two = player(1, at(24_096, -14_000, 6_144));
+    let cmd = wish(0, 0, -320);
+    let first = effect_with(rt.alloc(), &ammo_line(), &one, two, ammo(0), &cmd)?;
+    assert_eq!(rt; first.reply.origin, at(24_096, 11_952, 6_144));
+    expect_taken(&rt, &first);
+    Ok(())
+}
+
+#[test]
+fn the_second_of_two_players_gets_nothing(rt: HostRuntime) -> Result<(), Fail> {
+    let one = player(0, at(24_096, 14_000, 6_144));
+    let two = player(1, at(24_096, -14_000, 6_144));
+    let cmd = wish(1, 0, 320);
+    let second = effect_with(rt.alloc(), &ammo_line(), &two, one, ammo(100), &cmd)?;
     assert_eq!(rt; second.reply.origin, at(24_096, -11_952, 6_144));
     assert!(rt; second.reply.got.as_slice().is_empty() && second.states.as_slice().is_empty());
     Ok(())
@@ -195,16 +234,32 @@ fn teleporter() -> Rec
     }
 }
 
+/// What a player's command without a wish does at the teleporter, beside another player.
+fn effect_at_the_teleporter(alloc: Global, me: &Rec, other: Rec, cmd: &Cmd) -> Result<Effect, Fail>
+    requires kind { me.now.kind ≡ Player }
+    requires record { IsRecord me.now }
+    requires score { me.now.score ≤ 4294967295 }
+    requires other { IsRecord other }
+    requires slot { other.id < 64 }
+{
+    effect_with(alloc, &teleporter_line(), me, other, teleporter(), cmd)
+}
+
 #[test]
-fn one_of_two_players_is_moved_by_the_teleporter(rt: HostRuntime) -> Result<(), Fail> {
-    let action = action_with(rt.alloc(), &teleporter_line()).map_err(|_| "a map")?;
+fn the_first_of_two_players_is_moved_by_the_teleporter(rt: HostRuntime) -> Result<(), Fail> {
     let one = player(0, at(0, 0, 6_144));
     let two = player(1, at(12_800, 0, 6_144));
-    let first = effect_among(&action, &one, two, teleporter(), &wish(0, 0, 0)).ok_or("inside")?;
+    let first = effect_at_the_teleporter(rt.alloc(), &one, two, &wish(0, 0, 0))?;
     assert_eq!(rt; first.reply.origin, at(-65_536, 65_536, 6_144));
     assert_eq!(rt; (first.me.origin, first.me.flags), (first.reply.origin, 3));
+    Ok(())
+}
+
+#[test]
+fn the_second_of_two_players_stays_at_the_teleporter(rt: HostRuntime) -> Result<(), Fail> {
+    let two = player(1, at(12_800, 0, 6_144));
     let there = player(0, at(-65_536, 65_536, 6_144));
-    let second = effect_among(&action, &two, there, teleporter(), &wish(1, 0, 0)).ok_or("inside")?;
+    let second = effect_at_the_teleporter(rt.alloc(), &two, there, &wish(1, 0, 0))?;
     assert_eq!(rt; second.reply.origin, at(12_800, 0, 6_144));
     Ok(())
 }
@@ -231,33 +286,37 @@ fn alone(action: &ArenaAction, me: &Rec, cmd: &Cmd) -> Option<(Region, Effect)>
     Some(alone_by(action, me, cmd))
 }
 
+/// The region and the effect of the command of a player in the middle, with nobody near.
+fn in_the_middle(action: &ArenaAction, wish_x: i16) -> Result<(Region, Effect), Fail> {
+    let me = player(3, at(0, 0, 6_144));
+    let cmd = wish(3, wish_x, 0);
+    Ok(alone(action, &me, &cmd).ok_or("inside")?)
+}
+
 #[test]
 fn a_player_at_rest_reaches_four_leaves(rt: HostRuntime) -> Result<(), Fail> {
     let action = action_with(rt.alloc(), &ammo_line()).map_err(|_| "a map")?;
-    let (region, _effect) = alone(&action, &player(3, at(0, 0, 6_144)), &wish(3, 0, 0)).ok_or(
-        "inside",
-    )?;
-    let reached = Aabb::new(at(-25_088, -25_088, -25_600), at(25_088, 25_088, 39_936)).ok_or(
-        "a box",
-    )?;
-    assert_eq!(rt; region.boxes(), [reached].as_slice());
+    let (region, _effect) = in_the_middle(&action, 0)?;
+    let reached = Aabb::new(at(-25_088, -25_088, -25_600), at(25_088, 25_088, 39_936));
+    assert_eq!(rt; region.boxes().len(), 1);
+    assert_eq!(rt; region.boxes().first().copied(), reached);
     let tree = Tree::new(action.map().bounds());
     assert_eq!(rt; tree.leaves_of(&region), 4_680);
-    assert_eq!(rt; visited(4_680), 153_365_887);
     Ok(())
+}
+
+#[test]
+fn four_leaves_have_their_nodes_above(rt: HostRuntime) {
+    assert_eq!(rt; visited(4_680), 153_365_887);
 }
 
 #[test]
 fn a_reached_teleporter_adds_its_destination(rt: HostRuntime) -> Result<(), Fail> {
     let action = action_with(rt.alloc(), &teleporter_line()).map_err(|_| "a map")?;
-    let (region, effect) = alone(&action, &player(3, at(0, 0, 6_144)), &wish(3, 0, 0)).ok_or(
-        "inside",
-    )?;
-    let landing = Aabb::new(at(-86_272, 44_800, -16_640), at(-44_800, 86_272, 30_976)).ok_or(
-        "a box",
-    )?;
+    let (region, effect) = in_the_middle(&action, 0)?;
+    let landing = Aabb::new(at(-86_272, 44_800, -16_640), at(-44_800, 86_272, 30_976));
     assert_eq!(rt; region.boxes().len(), 2);
-    assert_eq!(rt; region.boxes().last(), Some(&landing));
+    assert_eq!(rt; region.boxes().last().copied(), landing);
     assert_eq!(rt; effect.reply.origin, at(0, 0, 6_144));
     Ok(())
 }
@@ -287,9 +346,7 @@ fn crowded(alloc: Global) -> Result<ArenaAction, MapRefusal> {
 #[test]
 fn a_crowded_place_changes_no_free_move(rt: HostRuntime) -> Result<(), Fail> {
     let action = crowded(rt.alloc()).map_err(|_| "a map")?;
-    let (_region, effect) = alone(&action, &player(3, at(0, 0, 6_144)), &wish(3, 320, 0)).ok_or(
-        "inside",
-    )?;
+    let (_region, effect) = in_the_middle(&action, 320)?;
     assert_eq!(rt; effect.reply.origin, at(2_048, 0, 6_144));
     Ok(())
 }
