@@ -116,13 +116,24 @@ fn before(alloc: Global, first: Rec, things: &[Rec]) -> Result<Vec<Rec>, AllocEr
     Ok(near)
 }
 
+/// What a player touches in frame 5 among these records: the states and the ids.
+fn touched(map: &ArenaMap, me: &mut Rec, near: &[Rec]) -> (StateList, IdList)
+    requires player { me.old.kind ≡ Player }
+    requires record { IsRecord me.old }
+    requires records { All IsRecord near.now }
+    ensures { IsRecord me.new }
+{
+    let mut out = StateList::new();
+    let mut got = IdList::new();
+    touch_all(map, me, near, 5, &mut out, &mut got);
+    (out, got)
+}
+
 #[test]
 fn at_most_8_items_are_taken_and_a_goal_works_after_them(rt: HostRuntime) -> Result<(), Fail> {
     let map = map_of_items(rt.alloc()).map_err(|_| "a map")?;
     let mut me = player(3, at(0, 0, 6_144));
-    let mut out = StateList::new();
-    let mut got = IdList::new();
-    touch_all(&map, &mut me, map.entities(), 5, &mut out, &mut got);
+    let (out, got) = touched(&map, &mut me, map.entities());
     assert_eq!(rt; got.as_slice(), [64, 65, 66, 67, 68, 69, 70, 71].as_slice());
     assert!(rt; out.as_slice().iter().all(|s| s.state == 7));
     assert_eq!(rt; (me.ammo, me.carry, me.score), (100, 0, u32::MAX));
@@ -130,22 +141,32 @@ fn at_most_8_items_are_taken_and_a_goal_works_after_them(rt: HostRuntime) -> Res
     Ok(())
 }
 
-#[test]
-fn a_teleporter_moves_the_first_and_passes_the_second_over(rt: HostRuntime) -> Result<(), Fail> {
-    let map = map_of_a_teleporter(rt.alloc()).map_err(|_| "a map")?;
+/// The first player, which stood at the middle, after what it touched there.
+fn first_player(map: &ArenaMap) -> Rec
+    ensures { IsRecord result }
+{
     let mut first = player(0, at(0, 0, 6_144));
-    let mut out = StateList::new();
-    let mut got = IdList::new();
-    touch_all(&map, &mut first, map.entities(), 5, &mut out, &mut got);
+    let _lists = touched(map, &mut first, map.entities());
+    first
+}
+
+#[test]
+fn a_teleporter_moves_the_first_player(rt: HostRuntime) -> Result<(), Fail> {
+    let map = map_of_a_teleporter(rt.alloc()).map_err(|_| "a map")?;
+    let first = first_player(&map);
     assert_eq!(rt;
         (first.origin, first.flags),
         (at(-65_536, 65_536, 6_144), 3)
     );
-    let near = before(rt.alloc(), first, map.entities())?;
+    Ok(())
+}
+
+#[test]
+fn a_teleporter_passes_the_second_player_over(rt: HostRuntime) -> Result<(), Fail> {
+    let map = map_of_a_teleporter(rt.alloc()).map_err(|_| "a map")?;
+    let near = before(rt.alloc(), first_player(&map), map.entities())?;
     let mut second = player(1, at(12_800, 0, 6_144));
-    let mut out = StateList::new();
-    let mut got = IdList::new();
-    touch_all(&map, &mut second, &near, 5, &mut out, &mut got);
+    let _lists = touched(&map, &mut second, &near);
     assert_eq!(rt; (second.origin, second.flags), (at(12_800, 0, 6_144), 1));
     Ok(())
 }
