@@ -12,6 +12,7 @@ use arena_geo::Vec3;
 use arena_map::{ArenaMap, MapLine, MapRefusal};
 use entity_recs::{Kind, PLAYER_MAXS, PLAYER_MINS, Rec, player_box};
 use std::alloc::{AllocError, Global};
+use std::process::Abort;
 use std::test::Fail;
 use world_tree::World;
 
@@ -175,13 +176,19 @@ struct Row {
     places: [i32; 4],
 }
 
+/// The world of a map after the frames of a row.
+fn played(alloc: Global, map: &ArenaMap, row: &Row) -> Result<World, AllocError> {
+    let mut world = opening(alloc, map)?;
+    run(map, &mut world, 0, row.alone);
+    join_all(map, &mut world, row.players);
+    run(map, &mut world, row.alone, row.frames);
+    Ok(world)
+}
+
 /// The z of slots 0 and 1 and of the first two things after the frames of a row.
 fn places(alloc: Global, row: &Row) -> Result<[i32; 4], Fail> {
     let map = map_of(alloc, row.lines).map_err(|_| "a map")?;
-    let mut world = opening(alloc, &map)?;
-    run(&map, &mut world, 0, row.alone);
-    join_all(&map, &mut world, row.players);
-    run(&map, &mut world, row.alone, row.frames);
+    let world = played(alloc, &map, row)?;
     Ok([
         z_of(&world, 0),
         z_of(&world, 1),
@@ -193,84 +200,85 @@ fn places(alloc: Global, row: &Row) -> Result<[i32; 4], Fail> {
 /// A lift that rises ten times as high as it is, in ten frames.
 const LIFT: Line = Line::Lift((-12_800, -12_800, 0), (0, 12_800, 2_560), 25_600, 2_560);
 
+const ROWS: [Row; 8] = [
+    // A block is above the rider: the lift has risen in frame 0, and then tries in vain.
+    Row {
+        lines: &[
+            LIFT,
+            Line::Block((0, -12_800, 20_000), (12_800, 12_800, 30_000)),
+        ],
+        players: &[(0, 0, 11_264)],
+        alone: 1,
+        frames: 3,
+        places: [11_264, -1, 2_560, -1],
+    },
+    // The last step up is the rest of the rise, after which the lift falls, and then rises again.
+    Row {
+        lines: &[Line::Lift((-12_800, -12_800, 0), (0, 12_800, 2_560), 5_000, 2_560)],
+        players: &[(-6_400, 0, 8_704)],
+        alone: 0,
+        frames: 2,
+        places: [13_704, -1, 5_000, -1],
+    },
+    Row {
+        lines: &[Line::Lift((-12_800, -12_800, 0), (0, 12_800, 2_560), 5_000, 2_560)],
+        players: &[(-6_400, 0, 8_704)],
+        alone: 0,
+        frames: 3,
+        places: [11_144, -1, 2_440, -1],
+    },
+    Row {
+        lines: &[Line::Lift((-12_800, -12_800, 0), (0, 12_800, 2_560), 5_000, 2_560)],
+        players: &[(-6_400, 0, 8_704)],
+        alone: 0,
+        frames: 5,
+        places: [11_264, -1, 2_560, -1],
+    },
+    // A rider over two level lifts: both rise, the first with it, and then neither falls.
+    Row {
+        lines: &[
+            Line::Lift((-12_800, -12_800, 0), (0, 12_800, 2_560), 2_560, 2_560),
+            Line::Lift((0, -12_800, 0), (12_800, 12_800, 2_560), 2_560, 2_560),
+        ],
+        players: &[(0, 0, 8_704)],
+        alone: 0,
+        frames: 4,
+        places: [11_264, -1, 2_560, 2_560],
+    },
+    // A player that stands on a rider isn't carried, and so presses it.
+    Row {
+        lines: &[LIFT],
+        players: &[(-6_400, 0, 8_704), (-6_400, 0, 23_040)],
+        alone: 0,
+        frames: 1,
+        places: [8_704, 23_040, 0, -1],
+    },
+    // A lift that would rise into a player's body carries it.
+    Row {
+        lines: &[LIFT],
+        players: &[(-6_400, 0, 9_704)],
+        alone: 0,
+        frames: 1,
+        places: [12_264, -1, 2_560, -1],
+    },
+    // A falling lift stops above a player on the floor.
+    Row {
+        lines: &[Line::Lift(
+            (-12_800, -12_800, 10_000),
+            (0, 12_800, 12_560),
+            10_240,
+            2_560,
+        )],
+        players: &[(-6_400, 0, 6_144)],
+        alone: 4,
+        frames: 8,
+        places: [6_144, -1, 15_120, -1],
+    },
+];
+
 #[test]
 fn lifts_carry_their_riders_or_stand_still(rt: HostRuntime) -> Result<(), Fail> {
-    let rows = [
-        // A block is above the rider: the lift has risen in frame 0, and then tries in vain.
-        Row {
-            lines: &[
-                LIFT,
-                Line::Block((0, -12_800, 20_000), (12_800, 12_800, 30_000)),
-            ],
-            players: &[(0, 0, 11_264)],
-            alone: 1,
-            frames: 3,
-            places: [11_264, -1, 2_560, -1],
-        },
-        // The last step up is the rest of the rise, after which the lift falls, and then rises again.
-        Row {
-            lines: &[Line::Lift((-12_800, -12_800, 0), (0, 12_800, 2_560), 5_000, 2_560)],
-            players: &[(-6_400, 0, 8_704)],
-            alone: 0,
-            frames: 2,
-            places: [13_704, -1, 5_000, -1],
-        },
-        Row {
-            lines: &[Line::Lift((-12_800, -12_800, 0), (0, 12_800, 2_560), 5_000, 2_560)],
-            players: &[(-6_400, 0, 8_704)],
-            alone: 0,
-            frames: 3,
-            places: [11_144, -1, 2_440, -1],
-        },
-        Row {
-            lines: &[Line::Lift((-12_800, -12_800, 0), (0, 12_800, 2_560), 5_000, 2_560)],
-            players: &[(-6_400, 0, 8_704)],
-            alone: 0,
-            frames: 5,
-            places: [11_264, -1, 2_560, -1],
-        },
-        // A rider over two level lifts: both rise, the first with it, and then neither falls.
-        Row {
-            lines: &[
-                Line::Lift((-12_800, -12_800, 0), (0, 12_800, 2_560), 2_560, 2_560),
-                Line::Lift((0, -12_800, 0), (12_800, 12_800, 2_560), 2_560, 2_560),
-            ],
-            players: &[(0, 0, 8_704)],
-            alone: 0,
-            frames: 4,
-            places: [11_264, -1, 2_560, 2_560],
-        },
-        // A player that stands on a rider isn't carried, and so presses it.
-        Row {
-            lines: &[LIFT],
-            players: &[(-6_400, 0, 8_704), (-6_400, 0, 23_040)],
-            alone: 0,
-            frames: 1,
-            places: [8_704, 23_040, 0, -1],
-        },
-        // A lift that would rise into a player's body carries it.
-        Row {
-            lines: &[LIFT],
-            players: &[(-6_400, 0, 9_704)],
-            alone: 0,
-            frames: 1,
-            places: [12_264, -1, 2_560, -1],
-        },
-        // A falling lift stops above a player on the floor.
-        Row {
-            lines: &[Line::Lift(
-                (-12_800, -12_800, 10_000),
-                (0, 12_800, 12_560),
-                10_240,
-                2_560,
-            )],
-            players: &[(-6_400, 0, 6_144)],
-            alone: 4,
-            frames: 8,
-            places: [6_144, -1, 15_120, -1],
-        },
-    ];
-    for row in &rows {
+    for row in &ROWS {
         assert_eq!(rt; places(rt.alloc(), row)?, row.places);
     }
     Ok(())
@@ -295,6 +303,25 @@ fn in_state(r: &Rec, state: u64) -> Rec
     Rec { state, ..*r }
 }
 
+/// The world of a map in which its first two things, if they are items, are taken: they return in frames 4 and 5.
+fn two_items_taken(alloc: Global, map: &ArenaMap) -> Result<World, AllocError>
+    ensures { IfOk result (λ w. IsValidWorld map.now w.records) }
+{
+    let mut world = opening(alloc, map)?;
+    take(map, &mut world, 64, 4);
+    take(map, &mut world, 65, 5);
+    Ok(world)
+}
+
+/// Expects these states of the first three things after the tick of a frame.
+fn expect_states(rt: &impl Abort, map: &ArenaMap, world: &mut World, frame: u32, want: [u64; 3])
+    requires { IsValidWorld map.now world.old.records }
+    ensures { IsValidWorld map.now world.new.records }
+{
+    tick(map, world, frame);
+    assert_eq!(rt; states(world), want);
+}
+
 #[test]
 fn items_return_at_their_frame(rt: HostRuntime) -> Result<(), Fail> {
     let lines = [
@@ -303,15 +330,10 @@ fn items_return_at_their_frame(rt: HostRuntime) -> Result<(), Fail> {
         Line::Item((0, 20_000, 0), 9),
     ];
     let map = map_of(rt.alloc(), &lines).map_err(|_| "a map")?;
-    let mut world = opening(rt.alloc(), &map)?;
-    take(&map, &mut world, 64, 4);
-    take(&map, &mut world, 65, 5);
-    tick(&map, &mut world, 3);
-    assert_eq!(rt; states(&world), [4, 5, 0]);
-    tick(&map, &mut world, 4);
-    assert_eq!(rt; states(&world), [0, 5, 0]);
-    tick(&map, &mut world, 6);
-    assert_eq!(rt; states(&world), [0, 0, 0]);
+    let mut world = two_items_taken(rt.alloc(), &map)?;
+    expect_states(&rt, &map, &mut world, 3, [4, 5, 0]);
+    expect_states(&rt, &map, &mut world, 4, [0, 5, 0]);
+    expect_states(&rt, &map, &mut world, 6, [0, 0, 0]);
     Ok(())
 }
 
