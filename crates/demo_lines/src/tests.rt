@@ -1,3 +1,7 @@
+ghost use Rattle.std.specs.Prelude.{◌≡◌, true, false, IfOk};
+ghost use Rattle.demo_lines.specs.Known.{is_map_whole, is_refused};
+ghost use Rattle.demo_lines.specs.Readings.{IsReading};
+
 use super::*;
 use arena_geo::{Aabb, Vec3};
 use arena_map::ArenaMap;
@@ -95,16 +99,51 @@ fn expect_recording(
     Ok(())
 }
 
-/// The map that a recording has before its first event, which is given once.
-fn taken_map(rt: &impl Abort, alloc: Global, text: &[u8]) -> Result<ArenaMap, Fail> {
+/// A reader that has read the first event of a text.
+fn begun(alloc: Global, text: &[u8]) -> Result<DemoReader, Fail>
+    ensures holds { IfOk result (λ demo. IsReading demo.reading) }
+    ensures given { IfOk result (λ demo. is_map_whole demo.reading.stage ≡ true) }
+    ensures accepted { IfOk result (λ demo. is_refused demo.reading.stage ≡ false) }
+{
     let mut demo = DemoReader::new(alloc)?;
     let mut source = MemSource::new(text, 8_192, &[]);
-    if demo.next(alloc, &mut source).is_err() {
-        return Err(Fail::from("no event"));
+    match demo.next(alloc, &mut source) {
+        Ok(_) => Ok(demo),
+        Err(_) => Err(Fail::from("no event")),
     }
+}
+
+/// The map of a reader, which is given once.
+fn taken_map(rt: &impl Abort, demo: &mut DemoReader) -> Result<ArenaMap, Fail>
+    requires holds { IsReading demo.old.reading }
+    requires given { is_map_whole demo.old.reading.stage ≡ true }
+    requires accepted { is_refused demo.old.reading.stage ≡ false }
+{
     let map = demo.take_map().ok_or("no map")?;
     assert!(rt; demo.take_map().is_none());
     Ok(map)
+}
+
+/// The map that a recording of these lines has before its first event.
+fn map_of(rt: &impl Abort, alloc: Global, lines: &[&[u8]]) -> Result<ArenaMap, Fail> {
+    let text = text_of(alloc, lines)?;
+    let mut demo = begun(alloc, text.as_slice())?;
+    taken_map(rt, &mut demo)
+}
+
+/// The lines of `front`, and then one line this many times.
+fn repeated(
+    alloc: Global,
+    front: &[&'static [u8]],
+    line: &'static [u8],
+    count: u32,
+) -> Result<Vec<&'static [u8]>, Fail> {
+    let mut lines = Vec::new(alloc);
+    lines.extend_from_slice(front)?;
+    for _ in 0..count {
+        lines.push(line)?;
+    }
+    Ok(lines)
 }
 
 fn expect_blocks(rt: &impl Abort, map: &ArenaMap, want: &[Option<Aabb>]) {
@@ -116,12 +155,24 @@ fn expect_blocks(rt: &impl Abort, map: &ArenaMap, want: &[Option<Aabb>]) {
 }
 
 #[test]
+fn recordings_without_a_frame_give_the_end(rt: HostRuntime) -> Result<(), Fail> {
+    let rows: [(&[&[u8]], &[u8]); 6] = [
+        (&[ARENA], b"end\n"),
+        (&[ARENA], b"end\nfrob\nframe"),
+        (&[ARENA, SPAWN, SPAWN], b"end\n"),
+        (&[ARENA], b"spawn 126976 -126976 57344\nend\n"),
+        (&[], b"arena 0 0 0 32768 32768 32768\nend\n"),
+        (&[WIDEST], b"end\n"),
+    ];
+    for (front, rest) in rows {
+        expect_recording(&rt, rt.alloc(), front, rest, &[], End)?;
+    }
+    Ok(())
+}
+
+#[test]
 fn recordings_give_their_events_to_the_end(rt: HostRuntime) -> Result<(), Fail> {
-    let rows: [(&[&[u8]], &[u8], &[Answer<'_>]); 10] = [
-        (&[ARENA], b"end\n", &[]),
-        (&[ARENA], b"end\nfrob\nframe", &[]),
-        (&[ARENA, SPAWN, SPAWN], b"end\n", &[]),
-        (&[ARENA], b"spawn 126976 -126976 57344\nend\n", &[]),
+    let rows: [(&[&[u8]], &[u8], &[Answer<'_>]); 4] = [
         (&[ARENA, SPAWN], b"frame\nend\n", &[Frame]),
         (
             &[ARENA, SPAWN, FRAME],
@@ -137,12 +188,6 @@ fn recordings_give_their_events_to_the_end(rt: HostRuntime) -> Result<(), Fail> 
             &[ARENA, SPAWN, FRAME],
             b"from 0 -\nfrom 65535 0aFf\nend\n",
             &[Frame, From(0, &[]), From(65_535, &[10, 255])],
-        ),
-        (&[], b"arena 0 0 0 32768 32768 32768\nend\n", &[]),
-        (
-            &[],
-            b"arena -1048576 -1048576 -1048576 1048576 1048576 1048576\nend\n",
-            &[],
         ),
     ];
     for (front, rest, want) in rows {
@@ -237,8 +282,7 @@ fn a_map_has_things(rt: HostRuntime) -> Result<(), Fail> {
         b"item 0 0 6144 gem 30\nteleport 0 0 0 10 10 10 0 0 6144\n",
         b"goal 0 0 0 10 10 10\nlift 0 0 0 10 10 10 5 1\nend",
     ];
-    let text = text_of(rt.alloc(), &lines)?;
-    let map = taken_map(&rt, rt.alloc(), text.as_slice())?;
+    let map = map_of(&rt, rt.alloc(), &lines)?;
     assert_eq!(rt; map.entities().len(), 4);
     assert_eq!(rt; map.delay_of(64), Some(30));
     assert_eq!(rt; map.dest_of(65), Some(point((0, 0, 6_144))));
@@ -267,11 +311,7 @@ fn blocks_are_before_and_after_the_spawn(rt: HostRuntime) -> Result<(), Fail> {
 
 #[test]
 fn an_arena_has_at_most_1024_blocks(rt: HostRuntime) -> Result<(), Fail> {
-    let mut front = Vec::new(rt.alloc());
-    front.push(ARENA)?;
-    for _ in 0..1024 {
-        front.push(BLOCK)?;
-    }
+    let mut front = repeated(rt.alloc(), &[ARENA], BLOCK, 1024)?;
     front.push(SPAWN)?;
     let front = front.as_slice();
     let over: &[u8] = b"block 0 0 0 1 1 1\nend\n";
@@ -298,18 +338,20 @@ fn a_line_has_at_most_512_bytes(rt: HostRuntime) -> Result<(), Fail> {
     )
 }
 
-#[test]
-fn a_frame_has_at_most_512_packets(rt: HostRuntime) -> Result<(), Fail> {
-    let mut front = Vec::new(rt.alloc());
-    let mut want = Vec::new(rt.alloc());
-    for line in [ARENA, SPAWN, FRAME] {
-        front.push(line)?;
-    }
+/// A frame and 512 empty packets of a port.
+fn full_frame(alloc: Global) -> Result<Vec<Answer<'static>>, Fail> {
+    let mut want = Vec::new(alloc);
     want.push(Frame)?;
     for _ in 0..512 {
-        front.push(b"from 7 -\n".as_slice())?;
         want.push(From(7, &[]))?;
     }
+    Ok(want)
+}
+
+#[test]
+fn a_frame_has_at_most_512_packets(rt: HostRuntime) -> Result<(), Fail> {
+    let front = repeated(rt.alloc(), &[ARENA, SPAWN, FRAME], b"from 7 -\n", 512)?;
+    let want = full_frame(rt.alloc())?;
     let (front, want) = (front.as_slice(), want.as_slice());
     expect_recording(&rt, rt.alloc(), front, b"end\n", want, End)?;
     expect_recording(
@@ -363,37 +405,40 @@ fn a_fault_that_comes_later_changes_nothing(rt: HostRuntime) -> Result<(), Fail>
     Ok(())
 }
 
+/// The lines of a map of two blocks and two spawns, before a frame.
+const TWO_OF_EACH: &[&[u8]] = &[
+    ARENA,
+    BLOCK,
+    SPAWN,
+    b"block 0 0 0 1 2 3\n",
+    b"spawn 1 2 6145\n",
+    FRAME,
+];
+
 #[test]
 fn a_recording_gives_its_map_once(rt: HostRuntime) -> Result<(), Fail> {
-    let lines = [
-        ARENA,
-        BLOCK,
-        SPAWN,
-        b"block 0 0 0 1 2 3\n",
-        b"spawn 1 2 6145\n",
-        FRAME,
-    ];
-    let text = text_of(rt.alloc(), &lines)?;
-    let map = taken_map(&rt, rt.alloc(), text.as_slice())?;
+    let map = map_of(&rt, rt.alloc(), TWO_OF_EACH)?;
     let arena = between((-131_072, -131_072, 0), (131_072, 131_072, 65_536));
+    let spawns = [point((0, 0, 6_144)), point((1, 2, 6_145))];
+    assert_eq!(rt; Some(*map.bounds()), arena);
+    assert_eq!(rt; map.spawns(), spawns.as_slice());
+    Ok(())
+}
+
+#[test]
+fn a_map_has_its_blocks_in_order(rt: HostRuntime) -> Result<(), Fail> {
+    let map = map_of(&rt, rt.alloc(), TWO_OF_EACH)?;
     let blocks = [
         between((-131_072, -131_072, 0), (-131_071, 0, 1)),
         between((0, 0, 0), (1, 2, 3)),
     ];
-    let spawns = [point((0, 0, 6_144)), point((1, 2, 6_145))];
-    assert_eq!(rt; Some(*map.bounds()), arena);
-    assert_eq!(rt; map.spawns(), spawns.as_slice());
     expect_blocks(&rt, &map, &blocks);
     Ok(())
 }
 
 #[test]
 fn a_map_has_at_most_64_spawns(rt: HostRuntime) -> Result<(), Fail> {
-    let mut front = Vec::new(rt.alloc());
-    front.push(ARENA)?;
-    for _ in 0..64 {
-        front.push(SPAWN)?;
-    }
+    let front = repeated(rt.alloc(), &[ARENA], SPAWN, 64)?;
     let front = front.as_slice();
     expect_recording(&rt, rt.alloc(), front, b"frame\nend\n", &[Frame], End)?;
     expect_recording(&rt, rt.alloc(), front, SPAWN, &[], refused(66, 7, 3))
