@@ -259,20 +259,3 @@ new_state-last [] s id r lacks same = rw (eq-eqb s.id id same) refl
 new_state-last (t ∷ states) s id r lacks same =
     let head = ne_eqb t.id id (All-head (λ (u : NewState). u.id ≢ id) t states lacks) in
     rw head (new_state-last states s id r (All-tail (λ (u : NewState). u.id ≢ id) t states lacks) same)
-
--- one new state more, of a live record that has none yet, is that record put in with it
-pub new_states-push : (states : List NewState) (s : NewState) (records : List (Option Rec)) (r : Rec) → ((id : ℕ) (x : Rec) → record_at records id ≡ Some x → x.id ≡ id)
-    → Lacks states s.id → record_at records s.id ≡ Some r
-    → with_new_states (states ++ s ∷ []) records ≡ slice_set (with_new_states states records) s.id (Some (with_state r s.state))
-new_states-push states s records r own lacks at =
-    changed_one (λ x. with_new_state states x.id x) (λ x. with_new_state (states ++ s ∷ []) x.id x) records s.id r at
-    (λ i x here apart. sym (new_state-other states s x.id x (λ same. apart (sym (own i x here) ∙ sym same))))
-    ∙ ap (λ (x : Rec). slice_set (with_new_states states records) s.id (Some x))
-    (ap (λ (id : ℕ). with_new_state (states ++ s ∷ []) id r) (own s.id r at) ∙ new_state-last states s s.id r lacks refl)
-
--- and that record is, before it, as it was
-pub new_states-before : (states : List NewState) (s : NewState) (records : List (Option Rec)) (r : Rec) → ((id : ℕ) (x : Rec) → record_at records id ≡ Some x → x.id ≡ id)
-    → Lacks states s.id → record_at records s.id ≡ Some r → record_at (with_new_states states records) s.id ≡ Some r
-new_states-before states s records r own lacks at =
-    still_at states records s.id r at
-    ∙ ap Some (ap (λ (id : ℕ). with_new_state states id r) (own s.id r at) ∙ new_state-lacks states s.id r lacks)

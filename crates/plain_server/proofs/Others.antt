@@ -1,28 +1,20 @@
 -- The other live records of a move: those that a query over the arena's bounds gives.
-use Rattle.std.specs.Prelude.{◌≡◌, ℕ, zero, suc, ◌==◌, Bool, true, false, ◌&&◌, ◌||◌, not, int_le, List, [], ◌∷◌, filter, Option, Some, None, ◌≤ℤ◌}
+use Rattle.std.specs.Prelude.{◌≡◌, ℕ, zero, suc, ◌==◌, true, false, not, List, [], ◌∷◌, filter, Option, Some, None}
 use Rattle.std.specs.Prelude.{map as map_list}
 use Rattle.std.specs.List.{AllByRecursion}
 use Rattle.std.specs.List.Sorted.{IsStrictlyIncreasing}
-use Rattle.std.proofs.Common.{refl, sym, ap, ◌∙◌, subst, inl, inr, arith}
-use Rattle.std.proofs.lemmas.Int.{ints}
+use Rattle.std.proofs.Common.{refl, sym, ap, ◌∙◌, subst, inl, inr}
 use Rattle.std.proofs.lemmas.Bool.{cases_Bool}
 use Rattle.std.proofs.lemmas.List.Kept.{IsStrictlyIncreasing-filter}
 use Rattle.arena_geo.specs.Bounds.{Bounds}
-use Rattle.arena_geo.specs.Boxes.{contains, touches}
 use Rattle.arena_geo.specs.Regions.{touches_region}
-use Rattle.arena_geo.proofs.Containment.{three_pass, all_three}
 use Rattle.entity_recs.specs.declared.rec.Rec.{Rec}
-use Rattle.entity_recs.specs.Records.{IsRecord}
-use Rattle.entity_recs.specs.Bodies.{body_of, abs_of}
-use Rattle.entity_recs.proofs.Standing.{records_have_boxes, abs_contains_body}
+use Rattle.entity_recs.specs.Bodies.{abs_of}
 use Rattle.entity_recs.specs.Worlds.{others_of, record_or_nobody}
-use Rattle.arena_map.specs.Maps.{MapView, IsMap}
-use Rattle.arena_map.specs.Validity.{IsValidWorld}
 use Rattle.world_tree.proofs.Rising.{ids_rise}
 use Rattle.world_tree.specs.Live.{record_at, live_in, ids_of}
-use Rattle.world_tree.specs.Queries.{is_near, near_in}
+use Rattle.world_tree.specs.Queries.{is_near}
 use Rattle.plain_server.specs.RecordsById.{world_of}
-use Rattle.plain_server.proofs.Things.{live_inside}
 
 -- what holds of each record at its place holds of all live records
 pub each_live : (P : Rec → Type 0) (records : List (Option Rec)) → ((k : ℕ) (r : Rec) → record_at records k ≡ Some r → P r) → AllByRecursion P (live_in records)
@@ -89,26 +81,3 @@ all_near region slot (r ∷ rs) touch =
     let here : touches_region (abs_of r) region ≡ true = touch.0 in
     let tail = all_near region slot rs touch.1 in
     elim (cases_Bool (r.id == slot)) [ inl e ↦ rw (here, e) tail | inr e ↦ rw (here, e) (ap (λ (l : List Rec). r ∷ l) tail) ]
-
--- a box that contains a body is touched by the absolute box
-touches_where_inside : (bounds : Bounds) (r : Rec) → IsRecord r → contains bounds (body_of r) ≡ true → touches (abs_of r) bounds ≡ true
-touches_where_inside bounds r is inside =
-    let boxes = records_have_boxes r is in
-    let body = boxes.body.ordered in
-    let t = three_pass _ _ _ inside in
-    let g = three_pass _ _ _ (abs_contains_body r) in
-    all_three (on _ _ _ _ _ _ body.x t.x g.x) (on _ _ _ _ _ _ body.y t.y g.y) (on _ _ _ _ _ _ body.z t.z g.z)
-  where
-    on : (lo hi l h al ah : _) → l ≤ℤ h → (int_le lo l && int_le h hi) ≡ true → (int_le al l && int_le h ah) ≡ true → (int_le al hi && int_le lo ah) ≡ true
-    on lo hi l h al ah ordered inside grown = grind (arith, ints)
-
--- what touches the bounds of the arena, but for one record, are the other live records of a move
-pub near-others : (map : MapView) (records : List (Option Rec)) (slot : ℕ) → IsMap map → IsValidWorld map records
-    → near_in records (map.bounds ∷ []) slot ≡ others_of (world_of records) slot
-near-others map records slot is valid =
-    all_near (map.bounds ∷ []) slot (live_in records) (each_live (λ r. touches_region (abs_of r) (map.bounds ∷ []) ≡ true) records touch)
-    ∙ sym (others-are records slot (λ id r at. (valid.each id r at).own_id))
-  where
-    touch : (k : ℕ) (r : Rec) → record_at records k ≡ Some r → touches_region (abs_of r) (map.bounds ∷ []) ≡ true
-    touch k r at =
-        ap (λ (b : Bool). b || false) (touches_where_inside map.bounds r (valid.each k r at).is_record (live_inside map records k r is valid at))

@@ -1,7 +1,6 @@
 -- Each live record of a valid world is inside the arena: a player's, and a thing's.
-use Rattle.std.proofs.Common.{◌≡◌, ℕ, ◌==◌, true, ◌&&◌, ℤ, pos, ◌+ℤ◌, List, Option, Some, None, inl, inr, refl, ap, ◌∙◌, subst, arith}
+use Rattle.std.proofs.Common.{◌≡◌, ℕ, ◌==◌, true, ◌&&◌, ℤ, pos, ◌+ℤ◌, Option, Some, None, refl, ap, ◌∙◌, arith}
 use Rattle.std.specs.List.{find}
-use Rattle.std.proofs.lemmas.Bool.{cases_lt}
 use Rattle.std.proofs.lemmas.Int.{ints}
 use Rattle.arena_geo.specs.declared.vec3.Vec3.{Vec3}
 use Rattle.arena_geo.specs.Vectors.{plus, minus, vector, zero_vector}
@@ -15,13 +14,11 @@ use Rattle.arena_map.specs.declared.map_line.MapLine.TheVariants.{Arena, Block, 
 use Rattle.arena_map.specs.Places.{is_thick}
 use Rattle.arena_map.specs.Things.{record_of}
 use Rattle.arena_map.specs.Maps.{MapView, IsMap, IsThingInside, entities_of, lift_of}
-use Rattle.arena_map.specs.Validity.{IsSameThing, IsAsItsLine, IsThing, IsValidWorld}
+use Rattle.arena_map.specs.Validity.{IsSameThing, IsAsItsLine}
 use Rattle.arena_map.proofs.Boxes.{both_parts}
-use Rattle.arena_map.proofs.ThingRecords.{corner, own-id}
+use Rattle.arena_map.proofs.ThingRecords.{corner}
 use Rattle.arena_map.proofs.Opening.{found-in}
 use Rattle.arena_map.proofs.Lifts.{lifts_stay_inside}
-use Rattle.world_tree.specs.Live.{record_at}
-use Rattle.plain_server.proofs.Players.{slot_is_player}
 
 at_origin : (at : ℤ) → (at +ℤ pos 0) ≡ at
 at_origin at = omega (arith, ints)
@@ -61,21 +58,3 @@ as_line_inside map id None thing r is at none same =
     let found = found-in map id thing is at in
     ap (contains map.bounds) (same_body thing r same ∙ ap body_of found.is) ∙ starts_inside map.bounds id found.line found.inside
 as_line_inside map id (Some lift) thing r is at some same = (lifts_stay_inside map id lift thing r is some at same).inside
-
-thing_inside : (map : MapView) (id : ℕ) (thing : Option Rec) (r : Rec) → IsMap map → find (λ thing. thing.id == id) (entities_of map) ≡ thing → IsThing map thing (Some r)
-    → contains map.bounds (body_of r) ≡ true
-thing_inside map id None r is at same = absurd same
-thing_inside map id (Some thing) r is at same =
-    let found = found-in map id thing is at in
-    let own : thing.id ≡ id = ap (λ (t : Rec). t.id) found.is ∙ own-id id found.line found.inside.thing in
-    as_line_inside map id (lift_of map id) thing r is at refl (subst (λ (k : ℕ). IsAsItsLine (lift_of map k) thing r) own same)
-
--- each live record of a valid world is inside the arena
-pub live_inside : (map : MapView) (records : List (Option Rec)) (id : ℕ) (r : Rec) → IsMap map → IsValidWorld map records → record_at records id ≡ Some r
-    → contains map.bounds (body_of r) ≡ true
-live_inside map records id r is valid at = elim (cases_lt id 64) [
-  | inl below ↦ let here = valid.each id r at in here.inside (slot_is_player map id r here below)
-  | inr thing ↦
-      let P : Option Rec → Type 0 = IsThing map (find (λ thing. thing.id == id) (entities_of map)) in
-      thing_inside map id (find (λ thing. thing.id == id) (entities_of map)) r is refl (subst P at (valid.things id (omega (arith, thing))))
-]
