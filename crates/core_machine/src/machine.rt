@@ -168,7 +168,8 @@ impl<'a, A: Action> Core<'a, A> {
         make_step(&self.rules, &mut self.words, &mut self.seats[i], s)
     }
 
-    /// The seat is to give up its command, at a take before its commit: its next steps give back what it holds.
+    /// The seat is to give up its command, at a take before its commit or where the commit comes next: its next steps
+    /// give back what it holds.
     pub fn give_up(&mut self, seat: u8)
         requires { let F = fixed_of A.takes A.region_of A.effect_of self.old.rules in
             is_taking ((machine_of F self.old).core.view seat).point ≡ true }

@@ -32,7 +32,7 @@ impl<'a, A: Action> NodeTable<'a, A> {
     /// Gives up the command in hand, after a take that was refused. What the pass holds is to be given back next, inner
     /// nodes and then leaves, each in rising number, and with the last of them the command is no longer in hand. Where
     /// the pass holds nothing the count is loaded at once, and the command is then no longer in hand. Giving up may
-    /// begin at any take before the commit; a pass that was not refused may do so too.
+    /// begin at any take before the commit, and where the commit comes next; a pass that was not refused may do so too.
     pub fn quit(&self, pass: &mut Pass<A>)
         requires own { IsPassOf (fixed_in A.takes A.region_of A.effect_of self.now) (length self.now.rooms)
             self.now.table pass.old }
