@@ -2,3 +2,4 @@
 pub mod Keeping
 pub mod Rising
 pub mod Effects
+pub mod Nearness

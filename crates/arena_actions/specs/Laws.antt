@@ -1,19 +1,24 @@
 -- What holds of every move in an arena.
-use Rattle.std.specs.Prelude.{◌≡◌, ◌≢◌, ℕ, false, List, [], map, All}
+use Rattle.std.specs.Prelude.{◌≡◌, ◌≢◌, ℕ, ◌+◌, ◌*◌, ◌/◌, min, ℤ, pos, unsigned_abs, true, false, List, [], map, All}
+use Rattle.std.specs.Prelude.{Contains, Some}
 use Rattle.std.specs.List.{IsDistinct}
 use Rattle.std.specs.List.Sorted.{IsStrictlyIncreasing}
-use Rattle.arena_geo.specs.Boxes.{is_blocked}
+use Rattle.arena_geo.specs.declared.vec3.Vec3.{Vec3}
+use Rattle.arena_geo.specs.Vectors.{vector}
+use Rattle.arena_geo.specs.Bounds.{Bounds}
+use Rattle.arena_geo.specs.Boxes.{is_blocked, touches, contains, grown}
 use Rattle.entity_recs.specs.declared.effect.Effect.{Effect}
 use Rattle.entity_recs.specs.declared.kind.Kind.TheVariants.{Teleporter}
 use Rattle.entity_recs.specs.declared.rec.Rec.{Rec}
-use Rattle.entity_recs.specs.Bodies.{body_of}
+use Rattle.entity_recs.specs.Bodies.{body_of, abs_of}
 use Rattle.entity_recs.specs.Commands.{Command}
-use Rattle.arena_map.specs.Maps.{MapView, IsMap}
+use Rattle.arena_map.specs.Maps.{MapView, IsMap, entities_of, dest_of}
 use Rattle.player_move.specs.declared.moved.Moved.{Moved}
 use Rattle.player_move.specs.Moves.{move_of}
 use Rattle.trigger_rules.specs.Touching.{touched_by, solids_among, Walk, touched}
 use Rattle.trigger_rules.specs.Laws.{IsPlayerOn, AreTaken, is_same_record}
 use Rattle.arena_actions.specs.Outcomes.{asked, flags_of, after_move, moved_among, outcome_in}
+use Rattle.arena_actions.specs.Regions.{region_in}
 
 -- a player on a map is one after its move
 abbrev pub PlayersStayOnMaps : Type 0
@@ -117,3 +122,33 @@ abbrev pub RepliesHaveTheOrigin : Type 0
 RepliesHaveTheOrigin =
     (arena : MapView) (me : Rec) (near : List Rec) (c : Command)
     → let e = outcome_in arena me near c in e.reply.origin ≡ e.me.origin
+
+-- ---- where a move may read and write
+-- how far a player that begins with this speed on an axis may go on it in this time: it comes to 81,920 a second more
+-- than that speed, and to 512,000 at most
+abbrev pub farthest_on : ℤ → ℕ → ℕ
+farthest_on speed ms = min 512000 (unsigned_abs speed + 81920) * ms / 1000
+
+-- the player's absolute box, larger by how far the player may go in this time, and by so much more on x and y and so
+-- much more on z
+abbrev pub box_around : Rec → ℕ → ℕ → ℕ → Bounds
+box_around me ms flat high =
+    grown (abs_of me) (vector
+    (pos (farthest_on me.vel.x ms + flat)) (pos (farthest_on me.vel.y ms + flat))
+    (pos (farthest_on me.vel.z ms + high)))
+
+-- a box is near a player
+pub data IsNearPlayer (arena : MapView) (me : Rec) (ms : ℕ) (box : Bounds) : Type 0 where
+  -- it lies around the player, no farther than the player may go and 16,640 more, on z 21,248 more
+  IsAround : contains (box_around me ms 16640 21248) box ≡ true → IsNearPlayer arena me ms box
+  -- it lies around the place where a teleporter puts the player, no farther than 16,384; and the teleporter touches what
+  -- lies around the player, no farther than it may go and 256 more, on z 4,864 more
+  IsLanding : (teleporter : Rec) (dest : Vec3) → Contains (entities_of arena) teleporter
+      → dest_of arena teleporter.id ≡ Some dest
+      → touches (abs_of teleporter) (box_around me ms 256 4864) ≡ true
+      → contains (grown (abs_of (record me { origin = dest })) (vector (pos 16384) (pos 16384) (pos 16384))) box ≡ true
+      → IsNearPlayer arena me ms box
+
+-- each box of the region of a move is near its player
+abbrev pub RegionsAreNear : Type 0
+RegionsAreNear = (arena : MapView) (me : Rec) (c : Command) → All (IsNearPlayer arena me c.ms) (region_in arena me c)

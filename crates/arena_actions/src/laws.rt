@@ -2,7 +2,7 @@ ghost use Rattle.arena_actions.specs.Worlds.{ValidRecordsAreTaken, TakenRecordsA
 ghost use Rattle.arena_actions.specs.Laws.{PlayersStayOnMaps, MovesKeepWhoMoves, PlayersStayFree};
 ghost use Rattle.arena_actions.specs.Laws.{MovesTakeWhatIsThere, NewStatesAreApart, RepliedIdsRise};
 ghost use Rattle.arena_actions.specs.Laws.{RepliesHaveTheOrigin, MovesAreMade, PlayersAreWhereTheyMoved};
-ghost use Rattle.arena_actions.specs.Laws.{TouchingFollowsMoves};
+ghost use Rattle.arena_actions.specs.Laws.{TouchingFollowsMoves, RegionsAreNear};
 
 /// A player's record stays within its bounds, and its body inside the arena.
 pub fn players_stay_on_maps()
@@ -66,4 +66,10 @@ pub fn valid_records_are_taken()
 /// thing says.
 pub fn taken_records_are_valid()
     ensures { TakenRecordsAreValid }
+{}
+
+/// Each box of the region of a move is near its player: it lies around it, as far as the player may go in the time and
+/// a little more, or around the place where a teleporter as near puts it.
+pub fn regions_are_near()
+    ensures { RegionsAreNear }
 {}
