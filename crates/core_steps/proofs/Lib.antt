@@ -35,6 +35,7 @@ pub mod Logged
 pub mod Committing
 pub mod Commits
 pub mod Waiting
+pub mod Orders
 pub mod WhileHeld
 pub mod Machines
 pub mod Planned

@@ -8,12 +8,12 @@ use Rattle.entity_recs.specs.Worlds.{World}
 use Rattle.entity_recs.specs.Histories.{Item}
 use Rattle.core_steps.specs.Views.{Fixed, Point, Idle, Owning, Taking, Checking, Entering, Entered, Loading, Leaving, Sensing, Resolving, Claiming, Storing, Releasing, Returning, Yielding, stage_of, is_busy, is_whole, View, write_nodes, record_read, effect_loaded}
 use Rattle.core_steps.specs.Steps.{first, first_of_two, first_yield, next_give, next_node, next_node_at, Waits}
-use Rattle.core_steps.specs.Machine.{Machine, Next, Begin, LoadOwn, LoadAgain, TakeNode, ReadList, ReadPlayer, ReadState, CommitMove, StoreWord, GiveNode, YieldNode, YieldCount, next_at, quitting, resolving, beginning, committing, giving, SomeIsLeft, MachineStands}
+use Rattle.core_steps.specs.Machine.{Machine, Next, Begin, LoadOwn, LoadAgain, TakeNode, ReadList, ReadPlayer, ReadState, CommitMove, StoreWord, GiveNode, YieldNode, YieldCount, next_at, next_of, quitting, resolving, beginning, committing, giving, SomeIsLeft, MachineStands}
 use Rattle.core_steps.specs.Calls.{node_taken, IsWaiting}
-use Rattle.core_steps.specs.MachineLaws.{NextExists, SomeSeatIsFree}
+use Rattle.core_steps.specs.MachineLaws.{NextExists, SomeSeatIsFree, EachTakeComesLater}
 use Rattle.core_steps.proofs.Giving.{seat_at}
 use Rattle.core_steps.proofs.GiveBacks.{taking_point}
-use Rattle.core_steps.proofs.Waiting.{not_all_wait}
+use Rattle.core_steps.proofs.Waiting.{not_all_wait, takes_come_in_order}
 
 -- ---- a next step exists
 
@@ -125,17 +125,25 @@ taken_quitting : (yields : Option ℕ) (next : Next) (node : ℕ) → Some (quit
 taken_quitting None next node e taken = same_taken YieldCount next node e taken
 taken_quitting (Some n) next node e taken = same_taken (YieldNode n) next node e taken
 
+-- the node of a seat's take is its next node
+next_is_taken : (F : Fixed) (m : Machine) (i : ℕ) (next : Next) (node : ℕ) → next_of F m i ≡ Some next → node_taken next ≡ Some node → next_node F (m.core.view i) ≡ Some node
+next_is_taken F m i next node comes taken =
+    let view = m.core.view i in
+    elim (cases_Bool (m.quits i)) [
+      | inl quits ↦ no_node node (taken_quitting (first_yield F view) next node
+          (sym (cond-true (m.quits i) (Some (quitting (first_yield F view))) (next_at F view (m.given i) view.point) quits) ∙ comes) taken)
+      | inr goes ↦ taken_is_next F view (m.given i) view.point next node
+          (sym (cond-false (m.quits i) (Some (quitting (first_yield F view))) (next_at F view (m.given i) view.point) goes) ∙ comes) taken
+    ]
+
+pub each_take_comes_later : EachTakeComesLater
+each_take_comes_later F m history now i node held next is comes taken has_it =
+    takes_come_in_order F m.core history now i node held is.core (next_is_taken F m i next node comes taken) has_it
+
 -- a seat that waits in the machine waits in the core
 waits_in_core : (F : Fixed) (m : Machine) (i : ℕ) → IsWaiting F m i → Waits F m.core i
 waits_in_core F m i waits =
-    let view = m.core.view i in
-    let found : next_node F view ≡ Some waits.node = elim (cases_Bool (m.quits i)) [
-      | inl quits ↦ no_node waits.node (taken_quitting (first_yield F view) waits.next waits.node
-          (sym (cond-true (m.quits i) (Some (quitting (first_yield F view))) (next_at F view (m.given i) view.point) quits) ∙ waits.comes) waits.taken)
-      | inr goes ↦ taken_is_next F view (m.given i) view.point waits.next waits.node
-          (sym (cond-false (m.quits i) (Some (quitting (first_yield F view))) (next_at F view (m.given i) view.point) goes) ∙ waits.comes) waits.taken
-    ] in
-    record { node = waits.node; next = found; holder = waits.holder; other = waits.other; held = waits.held }
+    record { node = waits.node; next = next_is_taken F m i waits.next waits.node waits.comes waits.taken; holder = waits.holder; other = waits.other; held = waits.held }
 
 -- a seat whose command isn't begun doesn't wait
 pending_goes_on : (F : Fixed) (m : Machine) (history : List Item) (now : World) (i : ℕ) (given : Option Command) → MachineStands F m history now → m.given i ≡ given

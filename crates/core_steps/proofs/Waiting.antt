@@ -1,6 +1,6 @@
 -- Not all seats wait: nodes are taken in one order, leaves before inner nodes, each by number.
 use Rattle.std.proofs.Common.{◌≡◌, ℕ, zero, suc, ◌+◌, ◌-◌, ◌^◌, ◌<◌, ◌≤◌, ◌⊎◌, Bool, true, false, List, [], ◌∷◌, ◌++◌, map, refl, sym, ap, ◌∙◌, subst, inl, inr, Option, Some, None, arith}
-use Rattle.std.specs.Prelude.{◌==◌, ◌||◌, filter, if◌then◌else◌}
+use Rattle.std.specs.Prelude.{◌==◌, ◌||◌, filter}
 use Rattle.std.specs.List.{range_with_len}
 use Rattle.std.proofs.lemmas.Bool.{cases_Bool, false≢true, true≢false, eqb-true, eq-eqb, or_cases, or_left, or_right, leb-true, leb-false, cond-true, cond-false}
 use Rattle.arena_geo.specs.Bounds.{Bounds}
@@ -8,10 +8,10 @@ use Rattle.entity_recs.specs.Worlds.{World}
 use Rattle.entity_recs.specs.Histories.{Item}
 use Rattle.areanode.specs.Words.{has_bit}
 use Rattle.areanode.specs.Trees.{leaves_of}
-use Rattle.core_steps.specs.Views.{Fixed, Point, Idle, Owning, Taking, Checking, Entering, Entered, Loading, Leaving, Sensing, Resolving, Claiming, Storing, Releasing, Returning, Yielding, stage_of, is_busy, is_whole, has, is_leaf, inner_nodes, leaf_nodes, inner_of_two, home, record_read, write_nodes, effect_loaded, region_in, holds}
+use Rattle.core_steps.specs.Views.{Fixed, Point, Idle, Owning, Taking, Checking, Entering, Entered, Loading, Leaving, Sensing, Resolving, Claiming, Storing, Releasing, Returning, Yielding, stage_of, is_busy, is_whole, has, is_leaf, inner_nodes, leaf_nodes, inner_of_two, home, record_read, write_nodes, effect_loaded, region_in, holds, place_of}
 use Rattle.core_steps.specs.Steps.{Core, first, next_node_at, next_node, Waits, SomeSeatGoesOn}
 use Rattle.core_steps.specs.Stands.{Stands}
-use Rattle.core_steps.specs.Laws.{NotAllWait}
+use Rattle.core_steps.specs.Laws.{NotAllWait, TakesComeInOrder}
 use Rattle.core_steps.proofs.Lists.{has_filter, has_range, has_shifted, has_append}
 use Rattle.core_steps.proofs.Frames.{busy_lives}
 use Rattle.core_steps.proofs.Giving.{seat_at}
@@ -20,15 +20,15 @@ use Rattle.core_steps.proofs.Takes.{two_inner}
 -- ---- rising lists
 
 -- each number of the list is below those after it
-abbrev Rises : List ℕ → Type 0
+abbrev pub Rises : List ℕ → Type 0
 Rises [] = Unit {0}
 Rises (x ∷ xs) = ((v : ℕ) → has xs v ≡ true → x < v) × Rises xs
 
-rises_range : (low n : ℕ) → Rises (range_with_len low n)
+pub rises_range : (low n : ℕ) → Rises (range_with_len low n)
 rises_range low zero = tt
 rises_range low (suc n) = ((λ v there. let is = has_range (low + 1) n v there in omega arith), rises_range (low + 1) n)
 
-rises_filter : (test : ℕ → Bool) (xs : List ℕ) → Rises xs → Rises (filter test xs)
+pub rises_filter : (test : ℕ → Bool) (xs : List ℕ) → Rises xs → Rises (filter test xs)
 rises_filter test [] is = tt
 rises_filter test (x ∷ xs) is =
     elim (cases_Bool (test x)) [
@@ -60,14 +60,10 @@ two_rise F a b = rises_filter (λ node. (node == a) || (node == b)) (range_with_
 
 -- ---- the order of nodes
 
--- the place of a node in the order in which nodes are taken: leaves by number, then inner nodes by number
-abbrev place_of : Fixed → ℕ → ℕ
-place_of F node = if is_leaf F node then node - inner_nodes F else 2 ^ F.tree.depth + node
-
-place_of_leaf : (F : Fixed) (node : ℕ) → is_leaf F node ≡ true → place_of F node ≡ node - inner_nodes F
+pub place_of_leaf : (F : Fixed) (node : ℕ) → is_leaf F node ≡ true → place_of F node ≡ node - inner_nodes F
 place_of_leaf F node leaf = cond-true (is_leaf F node) (node - inner_nodes F) (2 ^ F.tree.depth + node) leaf
 
-place_of_inner : (F : Fixed) (node : ℕ) → is_leaf F node ≡ false → place_of F node ≡ 2 ^ F.tree.depth + node
+pub place_of_inner : (F : Fixed) (node : ℕ) → is_leaf F node ≡ false → place_of F node ≡ 2 ^ F.tree.depth + node
 place_of_inner F node inner = cond-false (is_leaf F node) (node - inner_nodes F) (2 ^ F.tree.depth + node) inner
 
 pub leaf_below : (F : Fixed) (region : List Bounds) (v : ℕ) → has (leaf_nodes F region) v ≡ true → v < inner_nodes F + 2 ^ F.tree.depth
@@ -78,7 +74,7 @@ leaf_below F region v there =
     omega (arith, s.is, range.most)
 
 -- a leaf comes before each inner node
-leaf_first : (F : Fixed) (leaf node : ℕ) → is_leaf F leaf ≡ true → leaf < inner_nodes F + 2 ^ F.tree.depth → is_leaf F node ≡ false → place_of F leaf < place_of F node
+pub leaf_first : (F : Fixed) (leaf node : ℕ) → is_leaf F leaf ≡ true → leaf < inner_nodes F + 2 ^ F.tree.depth → is_leaf F node ≡ false → place_of F leaf < place_of F node
 leaf_first F leaf node is below inner =
     let a = place_of_leaf F leaf is in
     let b = place_of_inner F node inner in
@@ -183,6 +179,9 @@ comes_next F core history now j node (Storing nodes stores) is e next = cc
 comes_next F core history now j node (Releasing nodes) is e next = cc
 comes_next F core history now j node (Returning leaves) is e next = cc
 comes_next F core history now j node (Yielding nodes leaves) is e next = cc
+
+pub takes_come_in_order : TakesComeInOrder
+takes_come_in_order F core history now i node held is next has_it = (comes_next F core history now i node (core.view i).point is refl next).before held has_it
 
 -- ---- the holder of a node
 

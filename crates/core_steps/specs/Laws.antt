@@ -1,6 +1,8 @@
 -- That each kind of step keeps what stands.
 use Rattle.std.specs.Prelude.{◌≡◌, ℕ, ◌<◌, ◌==◌, length, true, false, List, [], ◌∷◌, ◌++◌}
-use Rattle.std.specs.Prelude.{Some, None}
+use Rattle.std.specs.Prelude.{Some, None, map}
+use Rattle.std.specs.List.Sorted.{IsStrictlyIncreasing}
+use Rattle.arena_geo.specs.Bounds.{Bounds}
 use Rattle.entity_recs.specs.declared.kind.Kind.TheVariants.{Player}
 use Rattle.entity_recs.specs.declared.rec.Rec.{Rec}
 use Rattle.entity_recs.specs.Records.{with_state}
@@ -14,11 +16,11 @@ use Rattle.entity_recs.specs.Worlds.{World}
 use Rattle.entity_recs.specs.Histories.{Item, apply}
 use Rattle.core_steps.specs.Views.{Store, Storing, Fixed, Resolving, Claiming, record_read, write_nodes, effect_loaded}
 use Rattle.core_steps.specs.Views.{Idle, Owning, Checking, Sensing, Loading, Entered, AtChecking, stage_of, is_busy}
-use Rattle.core_steps.specs.Views.{is_open, leaves_held}
+use Rattle.core_steps.specs.Views.{is_open, leaves_held, holds, place_of, plan_of}
 use Rattle.core_steps.specs.Steps.{store_next, item_at, commit, SomeSeatGoesOn, Core, first, claim_node, next_take}
 use Rattle.core_steps.specs.Steps.{take_node, refuse_node, next_give, give_node, is_taking, first_yield, yield_node}
 use Rattle.core_steps.specs.Steps.{yield_nothing, load_list, begin_move, load_own, load_again, load_player, load_state}
-use Rattle.core_steps.specs.Steps.{make_seat, end_seat, load_count}
+use Rattle.core_steps.specs.Steps.{make_seat, end_seat, load_count, next_node}
 use Rattle.core_steps.specs.Stands.{IsGiven, IsLawful, IsStart, Stands, start_core, items_of, IsNumbered}
 use Rattle.core_steps.specs.Stands.{IsReadStill}
 
@@ -208,3 +210,15 @@ NotAllWait =
     (F : Fixed) (core : Core) (history : List Item) (now : World) (i : ℕ) → Stands F core history now
     → is_busy (stage_of (core.view i).point) ≡ true
     → SomeSeatGoesOn F core
+
+-- a seat that takes a node next holds only nodes that come before it: leaves by number, then inner nodes by number
+abbrev pub TakesComeInOrder : Type 0
+TakesComeInOrder =
+    (F : Fixed) (core : Core) (history : List Item) (now : World) (i node held : ℕ) → Stands F core history now
+    → next_node F (core.view i) ≡ Some node
+    → holds F (core.view i).point (core.view i).wanted held ≡ true
+    → place_of F held < place_of F node
+
+-- the nodes that are read for a region come in that order too
+abbrev pub PlansComeInOrder : Type 0
+PlansComeInOrder = (F : Fixed) (region : List Bounds) → IsStrictlyIncreasing (map (place_of F) (plan_of F region))

@@ -11,7 +11,7 @@ use Rattle.entity_recs.specs.Worlds.{World}
 use Rattle.entity_recs.specs.Histories.{Item, run, commands_of, places_of}
 use Rattle.core_steps.specs.Views.{Fixed, Resolving, record_read}
 use Rattle.core_steps.specs.Views.{Loading, stage_of, is_busy, is_open}
-use Rattle.core_steps.specs.Views.{is_whole, nodes_of}
+use Rattle.core_steps.specs.Views.{is_whole, nodes_of, holds, place_of}
 use Rattle.core_steps.specs.Views.{loaded_near, Ended, View}
 use Rattle.core_steps.specs.Steps.{Core}
 use Rattle.core_steps.specs.Steps.{refuse_node, is_taking, make_seat, end_seat, load_count}
@@ -75,6 +75,15 @@ LogsGrowByCommits =
 abbrev pub SomeSeatIsFree : Type 0
 SomeSeatIsFree = (F : Fixed) (m : Machine) (history : List Item) (now : World) (i : ℕ) → MachineStands F m history now
     → has_command m i ≡ true → SomeGoesOn F m
+
+-- a seat whose next step is a take holds only nodes that come before the node that it takes: leaves by number, then
+-- inner nodes by number
+abbrev pub EachTakeComesLater : Type 0
+EachTakeComesLater =
+    (F : Fixed) (m : Machine) (history : List Item) (now : World) (i node held : ℕ) (next : Next)
+    → MachineStands F m history now → next_of F m i ≡ Some next → node_taken next ≡ Some node
+    → holds F (m.core.view i).point (m.core.view i).wanted held ≡ true
+    → place_of F held < place_of F node
 
 -- a step changes no word of the table but its own
 abbrev pub StepsChangeOneWord : Type 0

@@ -311,6 +311,10 @@ nodes_of F = 2 ^ (F.tree.depth + 1) - 1
 abbrev pub is_leaf : Fixed → ℕ → Bool
 is_leaf F node = nat_le (inner_nodes F) node
 
+-- the place of a node in the order in which nodes are taken: leaves by number, then inner nodes by number
+abbrev pub place_of : Fixed → ℕ → ℕ
+place_of F node = if is_leaf F node then node - inner_nodes F else 2 ^ F.tree.depth + node
+
 -- the nodes of a region's leaves, rising
 abbrev pub leaf_nodes : Fixed → List Bounds → List ℕ
 leaf_nodes F region = map (leaf_node F.tree.depth)

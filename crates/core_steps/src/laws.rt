@@ -4,7 +4,7 @@ ghost use Rattle.core_steps.specs.Laws.{TakenNodeStands, RefusedNodeStands, Layo
 ghost use Rattle.core_steps.specs.Laws.{BegunMoveStands, LoadedOwnStands, LoadedAgainStands, LoadedListStands};
 ghost use Rattle.core_steps.specs.Laws.{LoadedPlayerStands, LoadedStateStands, ClaimedNodeStands, StoredNextStands};
 ghost use Rattle.core_steps.specs.Laws.{CommittedHeldStands, CommittedFreeStands, NotAllWait};
-ghost use Rattle.core_steps.specs.Laws.{ReadIsRightWhileLeavesAreHeld};
+ghost use Rattle.core_steps.specs.Laws.{ReadIsRightWhileLeavesAreHeld, TakesComeInOrder, PlansComeInOrder};
 
 /// The start stands: seat 0 without a command, no entry, and words that are those of the world.
 pub fn start_stands()
@@ -130,4 +130,15 @@ pub fn read_is_right_while_leaves_are_held()
 /// Where a seat has a command in hand, some seat with a command in hand doesn't wait for a node that another one holds.
 pub fn not_all_wait()
     ensures { NotAllWait }
+{}
+
+/// A seat that takes a node next holds only nodes that come before it in the order of takes: leaves by number, then
+/// inner nodes by number.
+pub fn takes_come_in_order()
+    ensures { TakesComeInOrder }
+{}
+
+/// The nodes that are read for a region come in that order too.
+pub fn plans_come_in_order()
+    ensures { PlansComeInOrder }
 {}

@@ -6,17 +6,18 @@ pub use laws::{
     encoded_is_decoded, ended_seat_keeps_items, ended_seat_stands, given_node_stands,
     layout_is_right, loaded_again_stands, loaded_count_stands, loaded_list_stands,
     loaded_own_stands, loaded_player_stands, loaded_state_stands, made_seat_stands, not_all_wait,
-    read_is_right_while_leaves_are_held, refused_node_stands, start_stands, stored_next_stands,
-    taken_node_stands, yielded_node_stands, yielded_nothing_stands,
+    plans_come_in_order, read_is_right_while_leaves_are_held, refused_node_stands, start_stands,
+    stored_next_stands, taken_node_stands, takes_come_in_order, yielded_node_stands,
+    yielded_nothing_stands,
 };
 pub use machine_laws::{
     count_is_within_the_rooms, each_machine_stands, each_place_is_logged_once,
-    each_view_reads_little, effect_may_be_asked, first_view_is_right, given_command_stands,
-    loaded_record_is_taken, log_holds_the_commands_kept, logs_grow_by_commits,
-    machine_start_stands, next_exists, next_step_stands, quitting_stands, refused_take_is_right,
-    refused_takes_change_their_record, region_may_be_asked, rooms_are_those_given,
-    seat_at_a_take_may_give_up, some_seat_is_free, steps_bring_no_command, steps_change_one_view,
-    steps_change_one_word, steps_have_their_word,
+    each_take_comes_later, each_view_reads_little, effect_may_be_asked, first_view_is_right,
+    given_command_stands, loaded_record_is_taken, log_holds_the_commands_kept,
+    logs_grow_by_commits, machine_start_stands, next_exists, next_step_stands, quitting_stands,
+    refused_take_is_right, refused_takes_change_their_record, region_may_be_asked,
+    rooms_are_those_given, seat_at_a_take_may_give_up, some_seat_is_free, steps_bring_no_command,
+    steps_change_one_view, steps_change_one_word, steps_have_their_word,
 };
 pub use step::{Step, StepKind};
 pub use words::{

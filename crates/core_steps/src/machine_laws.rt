@@ -5,6 +5,7 @@ ghost use Rattle.core_steps.specs.MachineLaws.{LoadedRecordIsTaken, EffectMayBeA
 ghost use Rattle.core_steps.specs.MachineLaws.{StepsHaveTheirWord, EachViewReadsLittle};
 ghost use Rattle.core_steps.specs.MachineLaws.{LogHoldsTheCommandsKept, StepsChangeOneView, CountIsWithinTheRooms};
 ghost use Rattle.core_steps.specs.MachineLaws.{RoomsAreThoseGiven, SeatAtATakeMayGiveUp, StepsBringNoCommand};
+ghost use Rattle.core_steps.specs.MachineLaws.{EachTakeComesLater};
 ghost use Rattle.core_steps.specs.Rows.{FirstView, NearRow};
 
 /// What the machine keeps holds at the start: a seat for each room, no command given, and no history.
@@ -48,6 +49,12 @@ pub fn logs_grow_by_commits()
 /// Where a seat of the machine has a command in hand, some seat with a command in hand doesn't wait.
 pub fn some_seat_is_free()
     ensures { SomeSeatIsFree }
+{}
+
+/// A seat of the machine whose next step is a take holds only nodes that come before the node that it takes: leaves by
+/// number, then inner nodes by number.
+pub fn each_take_comes_later()
+    ensures { EachTakeComesLater }
 {}
 
 /// A step changes no word of the table but its own.
