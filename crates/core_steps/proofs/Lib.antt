@@ -47,6 +47,7 @@ pub mod AtTakes
 pub mod Kept
 pub mod Rowing
 pub mod OneWord
+pub mod Following
 pub mod OneView
 pub mod InHand
 pub mod Asking

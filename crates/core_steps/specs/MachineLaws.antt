@@ -219,6 +219,20 @@ StepsHaveTheirWord =
     (F : Fixed) (m : Machine) (history : List Item) (now : World) (i : ℕ) (next : Next) → IsLawful F → IsStart F
     → next_of F m i ≡ Some next → MachineStands F m history now → HasItsWord F m.core i next
 
+-- a step follows its seat's view and its own word alone: among other words, of which its own is the same, it leaves the
+-- same view and the same word
+pub record FollowsItsWord (F : Fixed) (core other : Core) (i : ℕ) (next : Next) : Type 0 where
+  pub view : (core_after F other i next).view i ≡ (core_after F core i next).view i
+  pub word : word_of_next (core_after F other i next).words (core.view i) next
+      ≡ word_of_next (core_after F core i next).words (core.view i) next
+
+-- each step does
+abbrev pub StepsFollowTheirWord : Type 0
+StepsFollowTheirWord =
+    (F : Fixed) (core other : Core) (i : ℕ) (next : Next) → other.view i ≡ core.view i
+    → word_of_next other.words (core.view i) next ≡ word_of_next core.words (core.view i) next
+    → FollowsItsWord F core other i next
+
 -- ---- how much a view reads
 
 -- how much a view has read at most

@@ -17,7 +17,7 @@ pub use machine_laws::{
     logs_grow_by_commits, machine_start_stands, next_exists, next_step_stands, quitting_stands,
     refused_take_is_right, refused_takes_change_their_record, region_may_be_asked,
     rooms_are_those_given, seat_at_a_take_may_give_up, some_seat_is_free, steps_bring_no_command,
-    steps_change_one_view, steps_change_one_word, steps_have_their_word,
+    steps_change_one_view, steps_change_one_word, steps_follow_their_word, steps_have_their_word,
 };
 pub use step::{Step, StepKind};
 pub use words::{

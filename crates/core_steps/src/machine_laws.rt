@@ -5,7 +5,7 @@ ghost use Rattle.core_steps.specs.MachineLaws.{LoadedRecordIsTaken, EffectMayBeA
 ghost use Rattle.core_steps.specs.MachineLaws.{StepsHaveTheirWord, EachViewReadsLittle};
 ghost use Rattle.core_steps.specs.MachineLaws.{LogHoldsTheCommandsKept, StepsChangeOneView, CountIsWithinTheRooms};
 ghost use Rattle.core_steps.specs.MachineLaws.{RoomsAreThoseGiven, SeatAtATakeMayGiveUp, StepsBringNoCommand};
-ghost use Rattle.core_steps.specs.MachineLaws.{EachTakeComesLater};
+ghost use Rattle.core_steps.specs.MachineLaws.{EachTakeComesLater, StepsFollowTheirWord};
 ghost use Rattle.core_steps.specs.Rows.{FirstView, NearRow};
 
 /// What the machine keeps holds at the start: a seat for each room, no command given, and no history.
@@ -115,10 +115,16 @@ pub fn rooms_are_those_given()
     ensures { RoomsAreThoseGiven }
 {}
 
-/// Each step is one on a word of the table: the step's index lies in the table, and there the word is found that the
-/// step loads or changes, before it and after it.
+/// Each step is one on a word of the table: the step's index lies in the table, and its word is there, before it and
+/// after it.
 pub fn steps_have_their_word()
     ensures { StepsHaveTheirWord }
+{}
+
+/// A step follows its seat's view and its own word alone, whatever the other words are: so its word is the one that it
+/// loads, and from which it makes the new one.
+pub fn steps_follow_their_word()
+    ensures { StepsFollowTheirWord }
 {}
 
 /// A view has at most as many leaves as the tree, one list word for each node, one record for each slot and one state
