@@ -18,8 +18,8 @@ impl<'a, A: Action> NodeTable<'a, A> {
         first_of_two(inner.as_slice(), leaves.as_slice())
     }
 
-    /// Gives up the command in hand, after a take that was refused: all that the pass holds is given back, and the
-    /// command is no longer in hand. It may be given again.
+    /// Gives up the command in hand, as after a take that was refused: all that the pass holds is given back, and the
+    /// command is no longer in hand. It may be given again. That a take, or the commit, comes next is all that it asks.
     pub fn give_up(&self, pass: &mut Pass<A>)
         requires own { IsPassOf (fixed_in A.takes A.region_of A.effect_of self.now) (length self.now.rooms)
             self.now.table pass.old }

@@ -29,8 +29,8 @@ impl<'a, A: Action> NodeTable<'a, A> {
         pass.mirror.inner_held(&self.rules).is_empty() && pass.mirror.leaves_held().is_empty()
     }
 
-    /// Gives up the command in hand, after a take that was refused. What the pass holds is to be given back next, inner
-    /// nodes and then leaves, each in rising number, and with the last of them the command is no longer in hand. Where
+    /// Gives up the command in hand, as after a refused take. What the pass holds is to be given back next, inner nodes
+    /// and then leaves, each in rising number, and with the last of them the command is no longer in hand. Where
     /// the pass holds nothing the count is loaded at once, and the command is then no longer in hand. Giving up may
     /// begin at any take before the commit, and where the commit comes next; a pass that was not refused may do so too.
     pub fn quit(&self, pass: &mut Pass<A>)
