@@ -100,21 +100,32 @@ fn joins(alloc: Global) -> Result<Vec<Arrival>, AllocError>
     (1..66).map(|port| packet(port, Sent::Join)).collect(alloc)
 }
 
-#[test]
-fn the_65th_join_is_full(rt: HostRuntime) -> Result<(), Fail> {
-    let map = map_with(rt.alloc(), 64).map_err(|_| "a map")?;
-    let mut world = opening(rt.alloc(), &map)?;
+/// What the joins of ports 1 to 65 come to in the first frame of a map.
+fn first_frame(alloc: Global, map: &ArenaMap) -> Result<Received, AllocError> {
+    let joins = joins(alloc)?;
+    let mut world = opening(alloc, map)?;
     let mut ports = Ports::new();
-    let mut out = Received::new(rt.alloc(), 65)?;
-    let joins = joins(rt.alloc())?;
-    ports.receive(&map, &mut world, 0, &joins, &mut out);
-    let (place, why) = (64, Refusal::Full);
-    assert_eq!(rt; out.refused(), [Refused { place, why }].as_slice());
-    assert_eq!(rt; out.joined().len(), 64);
-    for (slot, joined) in (0..64).zip(out.joined()) {
+    let mut out = Received::new(alloc, 65)?;
+    ports.receive(map, &mut world, 0, &joins, &mut out);
+    Ok(out)
+}
+
+/// Expects that ports 1 to 64 have joined, in the order of the slots.
+fn expect_all_slots(rt: &impl Abort, joins: &[Joined]) {
+    assert_eq!(rt; joins.len(), 64);
+    for (slot, joined) in (0..64).zip(joins) {
         let port = u16::from(slot) + 1;
         assert_eq!(rt; *joined, Joined { port, slot });
     }
+}
+
+#[test]
+fn the_65th_join_is_full(rt: HostRuntime) -> Result<(), Fail> {
+    let map = map_with(rt.alloc(), 64).map_err(|_| "a map")?;
+    let out = first_frame(rt.alloc(), &map)?;
+    let (place, why) = (64, Refusal::Full);
+    assert_eq!(rt; out.refused(), [Refused { place, why }].as_slice());
+    expect_all_slots(&rt, out.joined());
     Ok(())
 }
 
