@@ -116,6 +116,20 @@ fn replies<R: AllocGlobal + Abort + Threads + Sync>(
     Ok(outs)
 }
 
+/// Compares a reply of frame 7 with what `write_snapshot` writes for its slot.
+fn expect_snapshot(
+    rt: &(impl AllocGlobal + Abort),
+    world: &World,
+    slot: u8,
+    out: &ReplyBuf,
+) -> Result<(), Fail> {
+    let mut alone = ReplyBuf::new(rt.alloc())?;
+    assert!(rt; world.get(u16::from(slot)).is_some());
+    write_snapshot(world, 7, slot, &mut alone);
+    assert_eq!(rt; out.as_slice(), alone.as_slice());
+    Ok(())
+}
+
 /// Compares the replies to live slots with what `write_snapshot` writes for each.
 fn expect_each<R: AllocGlobal + Abort + Threads + Sync>(
     rt: &R,
@@ -125,10 +139,7 @@ fn expect_each<R: AllocGlobal + Abort + Threads + Sync>(
     let outs = replies(rt, world, 7, slots)?;
     assert_eq!(rt; outs.len(), slots.len());
     for (slot, out) in slots.iter().zip(outs.as_slice()) {
-        let mut alone = ReplyBuf::new(rt.alloc())?;
-        assert!(rt; world.get(u16::from(*slot)).is_some());
-        write_snapshot(world, 7, *slot, &mut alone);
-        assert_eq!(rt; out.as_slice(), alone.as_slice());
+        expect_snapshot(rt, world, *slot, out)?;
     }
     Ok(())
 }
