@@ -3,6 +3,7 @@ ghost use Rattle.std.specs.Prelude.{◌≡◌};
 use super::*;
 use arena_geo::Vec3;
 use entity_recs::{Entry, IdList, Reply};
+use std::alloc::Global;
 use std::process::Abort;
 use std::test::Fail;
 
@@ -37,13 +38,17 @@ fn expect(rt: &impl Abort, entries: &[Entry], seqs: &[u32]) {
 }
 
 #[test]
-fn logs_and_journals_keep_their_entries(rt: HostRuntime) -> Result<(), Fail> {
+fn logs_keep_their_entries(rt: HostRuntime) -> Result<(), Fail> {
     let mut log = Log::new(rt.alloc(), 2)?;
     log.push(entry(3, 40));
     log.push(entry(5, 41));
     expect(&rt, log.as_slice(), &[40, 41]);
     assert_eq!(rt; log.room(), 2);
+    Ok(())
+}
 
+#[test]
+fn journals_keep_their_entries_until_they_are_cleared(rt: HostRuntime) -> Result<(), Fail> {
     let mut journal = Journal::new(rt.alloc(), 2)?;
     journal.push(entry(0, 40));
     expect(&rt, journal.as_slice(), &[40]);
@@ -64,11 +69,17 @@ fn a_list_holds_sixteen_logs(rt: HostRuntime) -> Result<(), Fail> {
     Ok(())
 }
 
+/// A list of two journals, with room for one entry and for two.
+fn two_journals(alloc: Global) -> Result<JournalList, Fail> {
+    let mut journals = JournalList::new(alloc);
+    journals.push(Journal::new(alloc, 1)?)?;
+    journals.push(Journal::new(alloc, 2)?)?;
+    Ok(journals)
+}
+
 #[test]
 fn journals_are_listed_in_order(rt: HostRuntime) -> Result<(), Fail> {
-    let mut journals = JournalList::new(rt.alloc());
-    journals.push(Journal::new(rt.alloc(), 1)?)?;
-    journals.push(Journal::new(rt.alloc(), 2)?)?;
+    let journals = two_journals(rt.alloc())?;
     let rooms: Vec<u32> = journals
         .as_slice()
         .iter()
