@@ -17,23 +17,23 @@ use Rattle.shared_moves.specs.Moves.{HasRun, WasNotRun}
 use Rattle.shared_moves.specs.Trials.{IsFree, IsMoving, IsResting}
 use Rattle.shared_moves.proofs.Running.{without_command}
 
--- the rooms of the two passes
-abbrev pub rooms : List ℕ
-rooms = 2 ∷ 2 ∷ []
+-- the rooms of two passes, as large as each other
+abbrev pub rooms : ℕ → List ℕ
+rooms room = room ∷ room ∷ []
 
-first_may_begin : (table : TableId) → MayBegin (first_pass table rooms)
-first_may_begin table = record { none = refl; idle = refl; room = omega arith }
+first_may_begin : (table : TableId) (room : ℕ) → 0 < room → MayBegin (first_pass table (rooms room))
+first_may_begin table room some = record { none = refl; idle = refl; room = some }
 
-second_may_begin : (table : TableId) → MayBegin (other_pass table rooms 1)
-second_may_begin table = record { none = refl; idle = refl; room = omega arith }
+second_may_begin : (table : TableId) (room : ℕ) → 0 < room → MayBegin (other_pass table (rooms room) 1)
+second_may_begin table room some = record { none = refl; idle = refl; room = some }
 
 -- each of two new passes is free
-pub are_free : (F : Fixed) (passes : ℕ) (table : TableId) (items : List PassView) (x y : PassView) → items ≡ first_pass table rooms ∷ other_pass table rooms 1 ∷ []
-    → x ≡ first_pass table rooms → y ≡ other_pass table rooms 1 → All (IsPassOf F passes table) items → IsFree F passes table 0 x × IsFree F passes table 1 y
-are_free F passes table items x y are first second own =
-    let two = recursion_from_All (IsPassOf F passes table) (first_pass table rooms ∷ other_pass table rooms 1 ∷ []) (subst (All (IsPassOf F passes table)) are own) in (
-      record { own = subst (IsPassOf F passes table) (sym first) two.0; number_is = ap (λ (p : PassView). p.number) first; free = subst MayBegin (sym first) (first_may_begin table) },
-      record { own = subst (IsPassOf F passes table) (sym second) two.1.0; number_is = ap (λ (p : PassView). p.number) second; free = subst MayBegin (sym second) (second_may_begin table) },
+pub are_free : (F : Fixed) (passes : ℕ) (table : TableId) (room : ℕ) (items : List PassView) (x y : PassView) → 0 < room → items ≡ first_pass table (rooms room) ∷ other_pass table (rooms room) 1 ∷ []
+    → x ≡ first_pass table (rooms room) → y ≡ other_pass table (rooms room) 1 → All (IsPassOf F passes table) items → IsFree F passes table 0 x × IsFree F passes table 1 y
+are_free F passes table room items x y some are first second own =
+    let two = recursion_from_All (IsPassOf F passes table) (first_pass table (rooms room) ∷ other_pass table (rooms room) 1 ∷ []) (subst (All (IsPassOf F passes table)) are own) in (
+      record { own = subst (IsPassOf F passes table) (sym first) two.0; number_is = ap (λ (p : PassView). p.number) first; free = subst MayBegin (sym first) (first_may_begin table room some) },
+      record { own = subst (IsPassOf F passes table) (sym second) two.1.0; number_is = ap (λ (p : PassView). p.number) second; free = subst MayBegin (sym second) (second_may_begin table room some) },
     )
 
 module _ (F : Fixed) (passes : ℕ) (table : TableId) (number : ℕ) (old new : PassView) where

@@ -13,7 +13,8 @@ use crate::trial::{FAR, FIRST, far_world, plain, shared_by_two};
 use entity_recs::{Action, Entry, Rec};
 use move_journal::{Log, LogList};
 use region_locks::{Pass, Turn, Went};
-use std::alloc::Global;
+use std::alloc::{AllocGlobal, Global};
+use std::process::Abort;
 use std::test::Fail;
 use world_tree::World;
 
@@ -112,6 +113,75 @@ fn ran<A: Action>(shared: &Shared<A>, pass: &mut Pass<A>) -> Result<Entry, Fail>
     }
 }
 
+/// The command of pass 1 isn't run, since pass 0 holds the root, and leaves no trace.
+fn expect_busy<A: Action>(
+    rt: &impl Abort,
+    shared: &Shared<A>,
+    pass: &mut Pass<A>,
+) -> Result<(), Fail>
+    requires two { length shared.now.rooms ≡ 2 }
+    requires live { has (fixed_in A.takes A.region_of A.effect_of shared.now).start.ids 1 ≡ true }
+    requires free { IsFree (fixed_in A.takes A.region_of A.effect_of shared.now) (length shared.now.rooms)
+        shared.now.table 1 pass.old }
+    ensures { IfOk result (λ _. IsFree (fixed_in A.takes A.region_of A.effect_of shared.now) (length shared.now.rooms)
+        shared.now.table 1 pass.new) }
+{
+    let again = refused(shared, pass)?;
+    let busy = Again::Busy { node: 0, holder: 0 };
+    assert_eq!(rt; (again, pass.seen()), (busy, 0));
+    Ok(())
+}
+
+/// Runs the command of pass 0. While it holds the root, that of pass 1 is tried.
+fn run_first<A: Action>(
+    rt: &impl Abort,
+    shared: &Shared<A>,
+    first: &mut Pass<A>,
+    second: &mut Pass<A>,
+) -> Result<(), Fail>
+    requires two { length shared.now.rooms ≡ 2 }
+    requires live { has (fixed_in A.takes A.region_of A.effect_of shared.now).start.ids 1 ≡ true }
+    requires first { IsMoving (fixed_in A.takes A.region_of A.effect_of shared.now) (length shared.now.rooms)
+        shared.now.table 0 first.old }
+    requires second { IsFree (fixed_in A.takes A.region_of A.effect_of shared.now) (length shared.now.rooms)
+        shared.now.table 1 second.old }
+    ensures first { IfOk result (λ _. IsResting (fixed_in A.takes A.region_of A.effect_of shared.now)
+        (length shared.now.rooms) shared.now.table 0 first.new) }
+    ensures second { IfOk result (λ _. IsFree (fixed_in A.takes A.region_of A.effect_of shared.now)
+        (length shared.now.rooms) shared.now.table 1 second.new) }
+{
+    take_root(shared, first)?;
+    expect_busy(rt, shared, second)?;
+    assert_eq!(rt; finish(shared, first)?, Some(0));
+    Ok(())
+}
+
+/// Runs the commands of both passes, that of pass 1 at its second try.
+fn run_both<A: Action>(
+    rt: &impl Abort,
+    shared: &Shared<A>,
+    first: &mut Pass<A>,
+    second: &mut Pass<A>,
+) -> Result<(), Fail>
+    requires two { length shared.now.rooms ≡ 2 }
+    requires zero { has (fixed_in A.takes A.region_of A.effect_of shared.now).start.ids 0 ≡ true }
+    requires one { has (fixed_in A.takes A.region_of A.effect_of shared.now).start.ids 1 ≡ true }
+    requires first { IsFree (fixed_in A.takes A.region_of A.effect_of shared.now) (length shared.now.rooms)
+        shared.now.table 0 first.old }
+    requires second { IsFree (fixed_in A.takes A.region_of A.effect_of shared.now) (length shared.now.rooms)
+        shared.now.table 1 second.old }
+    ensures first { IfOk result (λ _. IsResting (fixed_in A.takes A.region_of A.effect_of shared.now)
+        (length shared.now.rooms) shared.now.table 0 first.new) }
+    ensures second { IfOk result (λ _. IsResting (fixed_in A.takes A.region_of A.effect_of shared.now)
+        (length shared.now.rooms) shared.now.table 1 second.new) }
+{
+    begin(shared, first);
+    run_first(rt, shared, first, second)?;
+    let entry = ran(shared, second)?;
+    assert_eq!(rt; entry.place, 1);
+    Ok(())
+}
+
 /// Closes the shared world of two passes, and gives their logs.
 fn close<A: Action>(
     alloc: Global,
@@ -143,24 +213,48 @@ fn only_entry(log: &Log) -> Result<(u64, u8), Fail> {
     Ok((entry.place, entry.slot))
 }
 
-#[test]
-fn a_held_root_is_busy_and_a_refused_move_leaves_no_trace(rt: HostRuntime) -> Result<(), Fail> {
-    let mut world = far_world(rt.alloc())?;
-    let (shared, mut first, mut second) = shared_by_two(rt.alloc(), &Staying, &world)?;
-    begin(&shared, &mut first);
-    take_root(&shared, &mut first)?;
-    let again = refused(&shared, &mut second)?;
-    let busy = Again::Busy { node: 0, holder: 0 };
-    assert_eq!(rt; (again, second.seen()), (busy, 0));
-    assert_eq!(rt; finish(&shared, &mut first)?, Some(0));
-    let entry = ran(&shared, &mut second)?;
-    assert_eq!(rt; entry.place, 1);
-    let logs = close(rt.alloc(), shared, first, second, &mut world)?;
+/// Each pass has one entry, that of its slot.
+fn expect_logs(rt: &impl Abort, logs: &LogList) -> Result<(), Fail> {
     let [one, two] = logs.as_slice() else {
         return Err("two logs".into());
     };
     assert_eq!(rt; (only_entry(one)?, only_entry(two)?), ((0, 0), (1, 1)));
+    Ok(())
+}
+
+/// Each player's record has the number of its command.
+fn expect_moved(rt: &impl Abort, world: &World) {
     assert_eq!(rt; world.get(0), Some(Rec { seq: 1, ..FIRST }));
     assert_eq!(rt; world.get(1), Some(Rec { seq: 1, ..FAR }));
+}
+
+/// Runs the commands of both passes, and closes the shared world: each pass has one entry.
+fn expect_both_run<A: Action>(
+    rt: &(impl AllocGlobal + Abort),
+    shared: Shared<A>,
+    mut first: Pass<A>,
+    mut second: Pass<A>,
+    world: &mut World,
+) -> Result<(), Fail>
+    requires two { length shared.rooms ≡ 2 }
+    requires zero { has (fixed_in A.takes A.region_of A.effect_of shared).start.ids 0 ≡ true }
+    requires one { has (fixed_in A.takes A.region_of A.effect_of shared).start.ids 1 ≡ true }
+    requires first { IsFree (fixed_in A.takes A.region_of A.effect_of shared) (length shared.rooms) shared.table 0
+        first }
+    requires second { IsFree (fixed_in A.takes A.region_of A.effect_of shared) (length shared.rooms) shared.table 1
+        second }
+    requires world { world.old ≡ shared.world }
+{
+    run_both(rt, &shared, &mut first, &mut second)?;
+    let logs = close(rt.alloc(), shared, first, second, world)?;
+    expect_logs(rt, &logs)
+}
+
+#[test]
+fn a_held_root_is_busy_and_a_refused_move_leaves_no_trace(rt: HostRuntime) -> Result<(), Fail> {
+    let mut world = far_world(rt.alloc())?;
+    let (shared, first, second) = shared_by_two(rt.alloc(), &Staying, &world, 2)?;
+    expect_both_run(&rt, shared, first, second, &mut world)?;
+    expect_moved(&rt, &world);
     Ok(())
 }

@@ -3,13 +3,15 @@ ghost use Rattle.core_steps.specs.Views.{has};
 ghost use Rattle.core_steps.specs.Steps.{is_taking};
 ghost use Rattle.region_locks.specs.Passes.{fixed_in, IsPassOf};
 ghost use Rattle.region_locks.specs.Quitting.{MayBegin};
+ghost use Rattle.shared_moves.specs.Trials.{IsFree};
 
 use crate::staying::Staying;
-use crate::trial::{FIRST, NEAR, near_world, plain};
+use crate::trial::{FIRST, NEAR, near_world, plain, shared_by_two};
 use core_steps::StepKind;
 use entity_recs::{Action, Cmd};
 use move_journal::LogList;
 use region_locks::{Holder, NodeTable, Pass};
+use std::process::Abort;
 use std::test::Fail;
 
 /// Gives the pass a command, and loads its own record.
@@ -47,16 +49,37 @@ fn take_leaf<A: Action>(table: &NodeTable<A>, pass: &mut Pass<A>) -> Result<Opti
     }
 }
 
-#[test]
-fn a_refused_take_names_its_holder(rt: HostRuntime) -> Result<(), Fail> {
-    let world = near_world(rt.alloc())?;
-    let (table, mut passes) = NodeTable::new(rt.alloc(), &Staying, &world, &[1, 1])?;
-    let mut second = passes.pop().ok_or("two passes")?;
-    let mut first = passes.pop().ok_or("two passes")?;
-    begin(&table, &mut first, plain(0));
-    begin(&table, &mut second, plain(1));
-    assert_eq!(rt; take_leaf(&table, &mut first)?, None);
-    let holder = take_leaf(&table, &mut second)?.ok_or("a holder")?;
+/// Gives each pass the command of its slot.
+fn begin_both<A: Action>(table: &NodeTable<A>, first: &mut Pass<A>, second: &mut Pass<A>)
+    requires two { length table.now.rooms ≡ 2 }
+    requires zero { has (fixed_in A.takes A.region_of A.effect_of table.now).start.ids 0 ≡ true }
+    requires one { has (fixed_in A.takes A.region_of A.effect_of table.now).start.ids 1 ≡ true }
+    requires first { IsFree (fixed_in A.takes A.region_of A.effect_of table.now) (length table.now.rooms)
+        table.now.table 0 first.old }
+    requires second { IsFree (fixed_in A.takes A.region_of A.effect_of table.now) (length table.now.rooms)
+        table.now.table 1 second.old }
+    ensures first { IsPassOf (fixed_in A.takes A.region_of A.effect_of table.now) (length table.now.rooms)
+        table.now.table first.new }
+    ensures second { IsPassOf (fixed_in A.takes A.region_of A.effect_of table.now) (length table.now.rooms)
+        table.now.table second.new }
+{
+    begin(table, first, plain(0));
+    begin(table, second, plain(1));
+}
+
+/// The pass is refused node 15, which pass 0 holds as its one leaf.
+fn expect_refused<A: Action>(
+    rt: &impl Abort,
+    table: &NodeTable<A>,
+    pass: &mut Pass<A>,
+) -> Result<(), Fail>
+    requires { IsPassOf (fixed_in A.takes A.region_of A.effect_of table.now) (length table.now.rooms) table.now.table
+        pass.old }
+    ensures own { IfOk result (λ _. IsPassOf (fixed_in A.takes A.region_of A.effect_of table.now)
+        (length table.now.rooms) table.now.table pass.new) }
+    ensures taking { IfOk result (λ _. is_taking pass.new.view.point ≡ true) }
+{
+    let holder = take_leaf(table, pass)?.ok_or("a holder")?;
     assert_eq!(rt;
         holder,
         Holder {
@@ -64,15 +87,81 @@ fn a_refused_take_names_its_holder(rt: HostRuntime) -> Result<(), Fail> {
             leaves: 1
         }
     );
-    table.quit(&mut second);
-    assert_eq!(rt; second.seen(), 0);
-    let None = table.next(&second) else {
+    Ok(())
+}
+
+/// The pass gives up its command, of which nothing is left.
+fn expect_given_up<A: Action>(
+    rt: &impl Abort,
+    table: &NodeTable<A>,
+    pass: &mut Pass<A>,
+) -> Result<(), Fail>
+    requires own { IsPassOf (fixed_in A.takes A.region_of A.effect_of table.now) (length table.now.rooms)
+        table.now.table pass.old }
+    requires taking { is_taking pass.old.view.point ≡ true }
+    ensures own { IfOk result (λ _. IsPassOf (fixed_in A.takes A.region_of A.effect_of table.now)
+        (length table.now.rooms) table.now.table pass.new) }
+    ensures free { IfOk result (λ _. MayBegin pass.new) }
+{
+    table.quit(pass);
+    assert_eq!(rt; pass.seen(), 0);
+    let None = table.next(pass) else {
         return Err("a step".into());
     };
-    if second.number() != 1 {
+    Ok(())
+}
+
+/// Pass 1 is given the command of slot 1 once more.
+fn begin_again<A: Action>(table: &NodeTable<A>, pass: &mut Pass<A>) -> Result<(), Fail>
+    requires two { length table.now.rooms ≡ 2 }
+    requires one { has (fixed_in A.takes A.region_of A.effect_of table.now).start.ids 1 ≡ true }
+    requires own { IsPassOf (fixed_in A.takes A.region_of A.effect_of table.now) (length table.now.rooms)
+        table.now.table pass.old }
+    requires free { MayBegin pass.old }
+{
+    if pass.number() != 1 {
         return Err("another number".into());
     }
-    begin(&table, &mut second, plain(1));
+    begin(table, pass, plain(1));
+    Ok(())
+}
+
+/// Of two passes that need one leaf the first takes it. The second is refused it, gives up, and may begin again.
+fn expect_one_holder<A: Action>(
+    rt: &impl Abort,
+    table: &NodeTable<A>,
+    mut first: Pass<A>,
+    mut second: Pass<A>,
+) -> Result<(), Fail>
+    requires two { length table.now.rooms ≡ 2 }
+    requires zero { has (fixed_in A.takes A.region_of A.effect_of table.now).start.ids 0 ≡ true }
+    requires one { has (fixed_in A.takes A.region_of A.effect_of table.now).start.ids 1 ≡ true }
+    requires first { IsFree (fixed_in A.takes A.region_of A.effect_of table.now) (length table.now.rooms)
+        table.now.table 0 first }
+    requires second { IsFree (fixed_in A.takes A.region_of A.effect_of table.now) (length table.now.rooms)
+        table.now.table 1 second }
+{
+    begin_both(table, &mut first, &mut second);
+    assert_eq!(rt; take_leaf(table, &mut first)?, None);
+    expect_refused(rt, table, &mut second)?;
+    expect_given_up(rt, table, &mut second)?;
+    begin_again(table, &mut second)
+}
+
+#[test]
+fn a_refused_take_names_its_holder(rt: HostRuntime) -> Result<(), Fail> {
+    let world = near_world(rt.alloc())?;
+    let (shared, first, second) = shared_by_two(rt.alloc(), &Staying, &world, 1)?;
+    expect_one_holder(&rt, &shared.table, first, second)
+}
+
+/// The logs of two passes that have room for one and two entries, and have made none.
+fn expect_empty_logs(rt: &impl Abort, logs: &LogList) -> Result<(), Fail> {
+    let [first, second] = logs.as_slice() else {
+        return Err("two logs".into());
+    };
+    assert_eq!(rt; (first.room(), second.room()), (1, 2));
+    assert_eq!(rt; (first.as_slice().len(), second.as_slice().len()), (0, 0));
     Ok(())
 }
 
@@ -82,11 +171,7 @@ fn a_table_without_moves_closes_with_its_world(rt: HostRuntime) -> Result<(), Fa
     let (table, passes) = NodeTable::new(rt.alloc(), &Staying, &world, &[1, 2])?;
     let mut logs = LogList::new(rt.alloc());
     table.close(passes, &mut world, &mut logs);
-    let [first, second] = logs.as_slice() else {
-        return Err("two logs".into());
-    };
-    assert_eq!(rt; (first.room(), second.room()), (1, 2));
-    assert_eq!(rt; (first.as_slice().len(), second.as_slice().len()), (0, 0));
+    expect_empty_logs(&rt, &logs)?;
     assert_eq!(rt; (world.get(0), world.get(1)), (Some(FIRST), Some(NEAR)));
     Ok(())
 }

@@ -4,13 +4,14 @@ ghost use Rattle.region_locks.specs.Passes.{fixed_in};
 ghost use Rattle.shared_moves.specs.Trials.{IsFree};
 
 use crate::again::Again;
-use crate::beside::Beside;
+use crate::beside::{Beside, Second};
 use crate::gate::Gate;
 use crate::shared::Shared;
 use crate::staying::Staying;
 use crate::trial::{far_world, near_world, plain, shared_by_two};
 use entity_recs::Action;
 use region_locks::Pass;
+use std::process::Abort;
 use std::sync::Wait;
 use std::test::Fail;
 
@@ -30,26 +31,25 @@ fn run_first<A: Action, R: Wait, G: Gate>(
     (entry.place, entry.slot, entry.seq)
 }
 
-#[test]
-fn a_far_move_passes_a_held_one(rt: HostRuntime) -> Result<(), Fail> {
-    let world = far_world(rt.alloc())?;
-    let (shared, mut first, second) = shared_by_two(rt.alloc(), &Staying, &world)?;
-    let gate = Beside::new(&shared, second);
-    let held = run_first(&rt, &shared, &mut first, &gate);
-    let second = gate.into_second();
+/// The move of pass 1 was run at once, before the one that was held.
+fn expect_passed<A: Action>(rt: &impl Abort, held: (u64, u8, u32), second: &Second<A>) {
     assert_eq!(rt; second.refused(), None);
     assert_eq!(rt; second.ran(), Some((0, 1, 1)));
     assert_eq!(rt; held, (1, 0, 1));
-    Ok(())
 }
 
 #[test]
-fn a_near_move_is_refused_until_the_held_one_has_ended(rt: HostRuntime) -> Result<(), Fail> {
-    let world = near_world(rt.alloc())?;
-    let (shared, mut first, second) = shared_by_two(rt.alloc(), &Staying, &world)?;
+fn a_far_move_passes_a_held_one(rt: HostRuntime) -> Result<(), Fail> {
+    let world = far_world(rt.alloc())?;
+    let (shared, mut first, second) = shared_by_two(rt.alloc(), &Staying, &world, 2)?;
     let gate = Beside::new(&shared, second);
     let held = run_first(&rt, &shared, &mut first, &gate);
-    let mut second = gate.into_second();
+    expect_passed(&rt, held, &gate.into_second());
+    Ok(())
+}
+
+/// The move of pass 1 was refused the leaf of the one that was held, and is run when it is tried again.
+fn expect_refused_once<A: Action>(rt: &impl Abort, held: (u64, u8, u32), second: &mut Second<A>) {
     let refused = Again::Held {
         leaf: 0,
         holder: 0,
@@ -60,5 +60,14 @@ fn a_near_move_is_refused_until_the_held_one_has_ended(rt: HostRuntime) -> Resul
     assert_eq!(rt; held, (0, 0, 1));
     second.attempt();
     assert_eq!(rt; second.ran(), Some((1, 1, 1)));
+}
+
+#[test]
+fn a_near_move_is_refused_until_the_held_one_has_ended(rt: HostRuntime) -> Result<(), Fail> {
+    let world = near_world(rt.alloc())?;
+    let (shared, mut first, second) = shared_by_two(rt.alloc(), &Staying, &world, 2)?;
+    let gate = Beside::new(&shared, second);
+    let held = run_first(&rt, &shared, &mut first, &gate);
+    expect_refused_once(&rt, held, &mut gate.into_second());
     Ok(())
 }

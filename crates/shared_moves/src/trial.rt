@@ -118,12 +118,14 @@ pub(crate) fn far_world(alloc: Global) -> Result<World, Fail>
     Ok(World::new(alloc, &bounds, &[FIRST, FAR])?)
 }
 
-/// The world is shared by two passes with room for two entries each.
+/// The world is shared by two passes with room for so many entries each.
 pub(crate) fn shared_by_two<'a, A: Action>(
     alloc: Global,
     action: &'a A,
     world: &World,
+    room: u32,
 ) -> Result<(Shared<'a, A>, Pass<A>, Pass<A>), Fail>
+    requires room { 0 < room }
     requires taken { All (λ r. A.takes action.now r ≡ true) (live_in world.now.records) }
     ensures shared { IfOk result (λ r. (r.0.action ≡ action.now) × (r.0.world ≡ world.now) × (length r.0.rooms ≡ 2)) }
     ensures first { IfOk result (λ r. IsFree (fixed_in A.takes A.region_of A.effect_of r.0) (length r.0.rooms) r.0.table
@@ -131,7 +133,7 @@ pub(crate) fn shared_by_two<'a, A: Action>(
     ensures second { IfOk result (λ r. IsFree (fixed_in A.takes A.region_of A.effect_of r.0) (length r.0.rooms)
         r.0.table 1 r.2) }
 {
-    let (shared, mut passes) = Shared::start(alloc, action, world, &[2, 2])?;
+    let (shared, mut passes) = Shared::start(alloc, action, world, &[room, room])?;
     let second = passes.pop().ok_or("two passes")?;
     let first = passes.pop().ok_or("two passes")?;
     Ok((shared, first, second))
