@@ -1,5 +1,6 @@
 use crate::{DEPTH, Tree, visited};
 use arena_geo::{Aabb, Region, Vec3};
+use std::process::Abort;
 use std::test::Fail;
 
 /// The arena of the rows.
@@ -128,6 +129,12 @@ fn boxes_are_linked_where_they_touch_no_deeper_cut(rt: HostRuntime) -> Result<()
         let b = box_of(corners).ok_or("a box")?;
         assert_eq!(rt; tree.node_of(&b), node, "{corners:?}");
     }
+    Ok(())
+}
+
+#[test]
+fn a_box_has_leaves_on_both_sides_of_its_cuts(rt: HostRuntime) -> Result<(), Fail> {
+    let tree = Tree::new(&box_of(ARENA).ok_or("a box")?);
     // the region of a player at rest in the middle, and a box that ends on the root's cut
     for (corners, leaves) in [
         ([-25_088, -25_088, -25_600, 25_088, 25_088, 39_936], 4_680),
@@ -140,19 +147,31 @@ fn boxes_are_linked_where_they_touch_no_deeper_cut(rt: HostRuntime) -> Result<()
     Ok(())
 }
 
+/// The region of three boxes, of which the first is put in twice.
+fn region_of(boxes: [[i32; 6]; 3]) -> Result<Region, &'static str> {
+    let mut region = Region::one(box_of(boxes[0]).ok_or("a box")?);
+    for corners in boxes {
+        let _ = region.push(box_of(corners).ok_or("a box")?);
+    }
+    Ok(region)
+}
+
+/// Expects the node, the leaves and the visited nodes of a row.
+fn expect_row(rt: &impl Abort, row: &Row) -> Result<(), Fail> {
+    let arena = row.arena;
+    let tree = Tree::new(&box_of(arena).ok_or("a box")?);
+    let first = box_of(row.boxes[0]).ok_or("a box")?;
+    let region = region_of(row.boxes)?;
+    assert_eq!(rt; tree.node_of(&first), row.node, "{arena:?}");
+    assert_eq!(rt; tree.leaves_of(&region), row.leaves, "{arena:?}");
+    assert_eq!(rt; visited(row.leaves), row.nodes, "{arena:?}");
+    Ok(())
+}
+
 #[test]
 fn regions_have_the_leaves_of_their_boxes(rt: HostRuntime) -> Result<(), Fail> {
     for row in &ROWS {
-        let tree = Tree::new(&box_of(row.arena).ok_or("a box")?);
-        let first = box_of(row.boxes[0]).ok_or("a box")?;
-        let mut region = Region::one(first);
-        for corners in row.boxes {
-            let _ = region.push(box_of(corners).ok_or("a box")?);
-        }
-        let arena = row.arena;
-        assert_eq!(rt; tree.node_of(&first), row.node, "{arena:?}");
-        assert_eq!(rt; tree.leaves_of(&region), row.leaves, "{arena:?}");
-        assert_eq!(rt; visited(row.leaves), row.nodes, "{arena:?}");
+        expect_row(&rt, row)?;
     }
     Ok(())
 }
@@ -200,6 +219,31 @@ fn plain(node: u8, levels: u8, lo: [i64; 2], hi: [i64; 2], from: [i64; 2], to: [
     }
 }
 
+/// Expects that the tree over an arena and the plain recursion answer alike for the square of this size from (x, y) on.
+fn expect_as_plain(
+    rt: &impl Abort,
+    tree: &Tree,
+    arena: [i32; 6],
+    x: i32,
+    y: i32,
+    size: i32,
+) -> Result<(), Fail> {
+    let lo = [i64::from(arena[0]), i64::from(arena[1])];
+    let hi = [i64::from(arena[3]), i64::from(arena[4])];
+    let to_x = x.saturating_add(size);
+    let to_y = y.saturating_add(size);
+    let b = box_of([x, y, 0, to_x, to_y, 1]).ok_or("a box")?;
+    let from = [i64::from(x), i64::from(y)];
+    let want = plain(0, DEPTH, lo, hi, from, [i64::from(to_x), i64::from(to_y)]);
+    assert_eq!(rt; tree.node_of(&b), want.node, "{x} {y} {size}");
+    assert_eq!(rt;
+        tree.leaves_of(&Region::one(b)),
+        want.leaves,
+        "{x} {y} {size}"
+    );
+    Ok(())
+}
+
 #[test]
 fn tree_agrees_with_a_plain_recursion(rt: HostRuntime) -> Result<(), Fail> {
     let ends: [i32; 9] = [
@@ -207,22 +251,10 @@ fn tree_agrees_with_a_plain_recursion(rt: HostRuntime) -> Result<(), Fail> {
     ];
     for arena in [ARENA, [-101, -7, 0, 100, 300, 9], [5, 5, 5, 5, 5, 5]] {
         let tree = Tree::new(&box_of(arena).ok_or("a box")?);
-        let lo = [i64::from(arena[0]), i64::from(arena[1])];
-        let hi = [i64::from(arena[3]), i64::from(arena[4])];
         for x in ends {
             for y in ends {
                 for size in [0i32, 32_768, 150_000] {
-                    let to_x = x.saturating_add(size);
-                    let to_y = y.saturating_add(size);
-                    let b = box_of([x, y, 0, to_x, to_y, 1]).ok_or("a box")?;
-                    let from = [i64::from(x), i64::from(y)];
-                    let want = plain(0, DEPTH, lo, hi, from, [i64::from(to_x), i64::from(to_y)]);
-                    assert_eq!(rt; tree.node_of(&b), want.node, "{x} {y} {size}");
-                    assert_eq!(rt;
-                        tree.leaves_of(&Region::one(b)),
-                        want.leaves,
-                        "{x} {y} {size}"
-                    );
+                    expect_as_plain(&rt, &tree, arena, x, y, size)?;
                 }
             }
         }
