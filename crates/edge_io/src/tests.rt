@@ -1,6 +1,7 @@
 ghost use Rattle.std.specs.Prelude.{◌≡◌, ◌≤◌, [], IfOk, IsOk, length};
 
 use super::*;
+use std::alloc::AllocGlobal;
 use std::io;
 use std::io::{Cursor, ErrorKind, Read, Write};
 use std::process::Abort;
@@ -85,7 +86,7 @@ fn expect_writes(
 }
 
 /// Reads `source` line by line, and compares each answer and its bytes.
-fn expect_lines(
+fn expect_answers(
     rt: &impl Abort,
     reader: &mut LineReader,
     line: &mut LineBuf,
@@ -99,20 +100,36 @@ fn expect_lines(
     }
 }
 
+/// Reads these bytes line by line, at most so many of them in a call, where some calls fail.
+fn expect_lines(
+    rt: &(impl AllocGlobal + Abort),
+    bytes: &[u8],
+    most: usize,
+    fails: &[u64],
+    want: &[(Result<NextLine, Failed>, &[u8])],
+) -> Result<(), Fail>
+    requires { 1 ≤ most }
+{
+    let mut line = LineBuf::new(rt.alloc())?;
+    let mut reader = LineReader::new(rt.alloc())?;
+    let mut source = MemSource::new(bytes, most, fails);
+    expect_answers(rt, &mut reader, &mut line, &mut source, want);
+    Ok(())
+}
+
+/// The lines of `ab\ncd\r\n\nxyz`.
+const FOUR_LINES: &[(Result<NextLine, Failed>, &[u8])] = &[
+    (Ok(NextLine::Whole), b"ab"),
+    (Ok(NextLine::Whole), b"cd\r"),
+    (Ok(NextLine::Whole), b""),
+    (Ok(NextLine::Ended), b"xyz"),
+    (Ok(NextLine::Ended), b""),
+];
+
 #[test]
 fn lines_come_whole_whatever_the_reads_give(rt: HostRuntime) -> Result<(), Fail> {
-    let want: [(Result<NextLine, Failed>, &[u8]); 5] = [
-        (Ok(NextLine::Whole), b"ab"),
-        (Ok(NextLine::Whole), b"cd\r"),
-        (Ok(NextLine::Whole), b""),
-        (Ok(NextLine::Ended), b"xyz"),
-        (Ok(NextLine::Ended), b""),
-    ];
-    let mut line = LineBuf::new(rt.alloc())?;
     for most in [1, 2, 3, 100] {
-        let mut reader = LineReader::new(rt.alloc())?;
-        let mut source = MemSource::new(b"ab\ncd\r\n\nxyz", most, &[]);
-        expect_lines(&rt, &mut reader, &mut line, &mut source, &want);
+        expect_lines(&rt, b"ab\ncd\r\n\nxyz", most, &[], FOUR_LINES)?;
     }
     Ok(())
 }
@@ -121,39 +138,30 @@ fn lines_come_whole_whatever_the_reads_give(rt: HostRuntime) -> Result<(), Fail>
 fn a_line_of_512_bytes_is_whole_and_one_of_513_is_long(rt: HostRuntime) -> Result<(), Fail> {
     let longest = [b'a'; 512];
     let long = [b'a'; 513];
-    let mut text = Vec::new(rt.alloc());
-    text.extend_from_slice(&longest)?;
-    text.extend_from_slice(b"\n")?;
-    text.extend_from_slice(&long)?;
-    text.extend_from_slice(b"\n")?;
-    text.extend_from_slice(&longest)?;
+    let mut text = [b'a'; 1_539];
+    text[512] = b'\n';
+    text[1_026] = b'\n';
     let want: [(Result<NextLine, Failed>, &[u8]); 4] = [
         (Ok(NextLine::Whole), &longest),
         (Ok(NextLine::Long), &long),
         (Ok(NextLine::Whole), b""),
         (Ok(NextLine::Ended), &longest),
     ];
-    let mut line = LineBuf::new(rt.alloc())?;
-    let mut reader = LineReader::new(rt.alloc())?;
-    let mut source = MemSource::new(text.as_slice(), 300, &[]);
-    expect_lines(&rt, &mut reader, &mut line, &mut source, &want);
-    Ok(())
+    expect_lines(&rt, &text, 300, &[], &want)
 }
+
+/// The answers for `abcdef\ngh` where the calls 1, 2 and 7 fail.
+const AMONG_FAULTS: &[(Result<NextLine, Failed>, &[u8])] = &[
+    (Err(Failed), b"ab"),
+    (Err(Failed), b""),
+    (Ok(NextLine::Whole), b"cdef"),
+    (Err(Failed), b"gh"),
+    (Ok(NextLine::Ended), b""),
+];
 
 #[test]
 fn a_fault_gives_the_front_of_the_line_and_is_no_end(rt: HostRuntime) -> Result<(), Fail> {
-    let want: [(Result<NextLine, Failed>, &[u8]); 5] = [
-        (Err(Failed), b"ab"),
-        (Err(Failed), b""),
-        (Ok(NextLine::Whole), b"cdef"),
-        (Err(Failed), b"gh"),
-        (Ok(NextLine::Ended), b""),
-    ];
-    let mut line = LineBuf::new(rt.alloc())?;
-    let mut reader = LineReader::new(rt.alloc())?;
-    let mut source = MemSource::new(b"abcdef\ngh", 2, &[1, 2, 7]);
-    expect_lines(&rt, &mut reader, &mut line, &mut source, &want);
-    Ok(())
+    expect_lines(&rt, b"abcdef\ngh", 2, &[1, 2, 7], AMONG_FAULTS)
 }
 
 /// Reads a line from a source in memory that has no failing call.
@@ -178,13 +186,19 @@ fn write_to_room(sink: &mut MemSink, text: &[u8]) -> Result<(), Failed>
 }
 
 #[test]
-fn where_nothing_fails_each_call_succeeds(rt: HostRuntime) -> Result<(), Fail> {
-    let mut reader = LineReader::new(rt.alloc())?;
+fn where_no_read_fails_a_line_is_read(rt: HostRuntime) -> Result<(), Fail> {
     let mut line = LineBuf::new(rt.alloc())?;
+    let mut reader = LineReader::new(rt.alloc())?;
     let next = next_line_of(&mut reader, &mut line, b"abc\n");
+    assert_eq!(rt; next, Ok(NextLine::Whole));
+    Ok(())
+}
+
+#[test]
+fn where_no_write_fails_a_text_is_written(rt: HostRuntime) -> Result<(), Fail> {
     let mut sink = MemSink::new(rt.alloc(), 3, 2)?;
     let written = write_to_room(&mut sink, b"abc");
-    assert_eq!(rt; (next, written), (Ok(NextLine::Whole), Ok(())));
+    assert_eq!(rt; written, Ok(()));
     Ok(())
 }
 
@@ -250,22 +264,25 @@ fn a_write_that_failed_is_not_tried_again(rt: HostRuntime) {
     expect_writes(&rt, &[None, Some(5), None, Some(0)], &want, 4);
 }
 
+/// Writes a text to a sink in memory, and compares the answer.
+fn expect_written(rt: &impl Abort, sink: &mut MemSink, text: &[u8], want: Result<(), Failed>) {
+    let answer = write_whole(sink, text);
+    assert_eq!(rt; answer, want);
+}
+
 #[test]
 fn a_text_is_written_whole_or_in_part(rt: HostRuntime) -> Result<(), Fail> {
     let text = vec![in rt.alloc(); b'x'; 1_000_000]?;
     let mut sink = MemSink::new(rt.alloc(), 1_000_000, 300_000)?;
-    let most = write_whole(&mut sink, &text[2..]);
-    let part = write_whole(&mut sink, b"xxx");
-    let nothing = write_whole(&mut sink, b"");
-    assert_eq!(rt; (most, part, nothing), (Ok(()), Err(Failed), Ok(())));
+    expect_written(&rt, &mut sink, &text[2..], Ok(()));
+    expect_written(&rt, &mut sink, b"xxx", Err(Failed));
+    expect_written(&rt, &mut sink, b"", Ok(()));
     assert_eq!(rt; sink.bytes(), text.as_slice());
     Ok(())
 }
 
-#[test]
-fn a_line_buffer_is_full_at_its_room(rt: HostRuntime) -> Result<(), Fail> {
-    let mut line = LineBuf::new(rt.alloc())?;
-    line.extend(&[b'a'; 8_299]);
+/// Expects that a buffer which isn't empty takes one byte more, has then 8,300, takes no other, and can be cleared.
+fn expect_room_for_one(rt: &impl Abort, line: &mut LineBuf) {
     assert!(rt; !line.is_empty());
     let last = line.push(b'b');
     let over = line.push(b'c');
@@ -273,27 +290,39 @@ fn a_line_buffer_is_full_at_its_room(rt: HostRuntime) -> Result<(), Fail> {
     assert_eq!(rt; line.len(), 8_300);
     line.clear();
     assert_eq!(rt; line.as_slice(), b"".as_slice());
-    Ok(())
 }
 
 #[test]
+fn a_line_buffer_is_full_at_its_room(rt: HostRuntime) -> Result<(), Fail> {
+    let mut line = LineBuf::new(rt.alloc())?;
+    line.extend(&[b'a'; 8_299]);
+    expect_room_for_one(&rt, &mut line);
+    Ok(())
+}
+
+/// A field, the number of at most 512 from 0 that it spells, and whether it has the form of a number.
+const NUMBERS: &[(&[u8], Option<i32>, bool)] = &[
+    (b"0", Some(0), true),
+    (b"512", Some(512), true),
+    (b"-512", Some(-512), true),
+    (b"513", None, true),
+    (b"-340282366920938463463374607431768211456", None, true),
+    (b"-0", None, false),
+    (b"01", None, false),
+    (b"+1", None, false),
+    (b"", None, false),
+];
+
+#[test]
 fn a_number_out_of_its_limit_has_the_form_of_one(rt: HostRuntime) {
-    // field, a number of at most 512 from 0, the form of a number
-    let rows: [(&[u8], Option<i32>, bool); 9] = [
-        (b"0", Some(0), true),
-        (b"512", Some(512), true),
-        (b"-512", Some(-512), true),
-        (b"513", None, true),
-        (b"-340282366920938463463374607431768211456", None, true),
-        (b"-0", None, false),
-        (b"01", None, false),
-        (b"+1", None, false),
-        (b"", None, false),
-    ];
-    for (field, number, form) in rows {
-        assert_eq!(rt; integer(field, 512), number);
-        assert_eq!(rt; is_integer(field), form);
+    for (field, number, form) in NUMBERS {
+        assert_eq!(rt; integer(field, 512), *number);
+        assert_eq!(rt; is_integer(field), *form);
     }
+}
+
+#[test]
+fn a_natural_number_has_no_sign(rt: HostRuntime) {
     assert_eq!(rt; natural(b"-1", 512), None);
     assert!(rt; !is_natural(b"-1"));
 }
