@@ -1,12 +1,12 @@
 -- Reads that follow each other.
-use Rattle.std.proofs.Common.{◌≡◌, ℕ, ◌+◌, true, false, List, [], ◌∷◌, ◌++◌, ◌⊎◌, inl, inr, Option, Some, None, IfSome, cond, refl, sym, ap, ◌∙◌, subst, append_assoc, append-nil}
+use Rattle.std.proofs.Common.{◌≡◌, ℕ, ◌+◌, ◌≤◌, true, false, List, [], ◌∷◌, ◌++◌, length, ◌⊎◌, inl, inr, Option, Some, None, IfSome, cond, refl, sym, ap, ◌∙◌, subst, append_assoc, append-nil, length-append, arith}
 use Rattle.std.specs.List.{AllByRecursion}
 use Rattle.std.specs.Io.KnownBytes.{Consumes, IsAtEnd}
 use Rattle.std.proofs.KnownBytes.{Consumes-trans, prepend_known-nil}
 use Rattle.edge_io.specs.Lines.{HasNoLineFeed, GivesLine, GivesLongFront, GivesFront, GivesLastPart, ahead}
 use Rattle.edge_io.specs.WholeLines.{all_but_last, unlines}
 use Rattle.edge_io.proofs.Feeds.{unlines-push, AllByRecursion-push, all_but_last-push}
-use Rattle.demo_lines.specs.declared.stage.Stage.TheVariants.{Refused}
+use Rattle.demo_lines.specs.declared.stage.Stage.TheVariants.{Map, Refused}
 use Rattle.demo_lines.specs.declared.line_fault.LineFault.{LineFault}
 use Rattle.demo_lines.specs.declared.line_fault.LineFault.TheVariants as faults
 use Rattle.demo_lines.specs.declared.event.Event.{Event}
@@ -47,6 +47,9 @@ events-push r s lines line es reached given =
     ∙ ap (λ t. events_of r lines ++ events_of t (line ∷ [])) (sym reached)
     ∙ ap (λ xs. events_of r lines ++ xs) (append-nil (events_of_line s line))
     ∙ ap (λ xs. xs ++ events_of_line s line) given
+
+length-push : (lines : List (List ℕ)) (line : List ℕ) → 1 ≤ length (lines ++ line ∷ [])
+length-push lines line = omega (arith, length-append lines (line ∷ []))
 
 reached-push : (r s : Reading) (lines : List (List ℕ)) (line : List ℕ) → s ≡ after r lines → next s line ≡ after r (lines ++ line ∷ [])
 reached-push r s lines line reached = ap (λ t. next t line) reached ∙ sym (run_of-append next events_of_line r lines (line ∷ []))
@@ -96,15 +99,20 @@ takes_cut_end r s a b c es line pending reads gives is = record {
   consumed = Consumes-trans a b c _ _ reads.consumed gives.front.consumed;
 }
 
--- whole lines that gave no event
-pub quiet-whole : (r s : Reading) (a b : Option (List ℕ)) → ReadsWhole r s a b [] → is_over s.stage ≡ false → ReadsQuietly r a b
-quiet-whole r s a b reads going = record {
-  lines = reads.lines;
-  each = reads.each;
-  consumed = reads.consumed;
-  events = reads.events;
-  going = ap (λ (t : Reading). is_over t.stage) (sym reads.reached) ∙ going;
-}
+-- whole lines that gave no event, and then one more that gave none and is taken into the map
+pub quiet-line : (r s : Reading) (a b c : Option (List ℕ)) (line : List ℕ) → ReadsWhole r s a b [] → is_over s.stage ≡ false → GivesLine b c line
+    → events_of_line s line ≡ [] → (next s line).stage ≡ Map → ReadsQuietly r a c
+unfolding whole-line
+quiet-line r s a b c line reads going gives none of_map =
+    let more = whole-line r s a b c [] line reads going gives in
+    record {
+      lines = reads.lines ++ line ∷ [];
+      some = length-push reads.lines line;
+      each = more.each;
+      consumed = more.consumed;
+      events = more.events ∙ none;
+      of_map = ap (λ (t : Reading). t.stage) (sym more.reached) ∙ of_map;
+    }
 
 -- the front of a line after them
 pub ReadsFront-of : (r s : Reading) (a b c : Option (List ℕ)) (es : List Event) (line pending : List ℕ) → ReadsWhole r s a b es → is_over s.stage ≡ false

@@ -11,7 +11,7 @@ use Rattle.demo_lines.specs.Faults.{is_long, is_cut, has_strange_byte, fault_of_
 use Rattle.demo_lines.specs.Known.{Reading, without_map, having_map, is_map_whole, is_over, is_refused}
 use Rattle.demo_lines.specs.Recording.{after}
 use Rattle.demo_lines.specs.Bytes.{Refusal, refusal, refused_at, refused_where, lines_of, last_part}
-use Rattle.demo_lines.specs.Reads.{Reads, ReadsFront, ReadsQuietly, Refuses, IsRefusedLine, IsLongFront, IsLastPart, EndsAt}
+use Rattle.demo_lines.specs.Reads.{Reads, ReadsFront, Refuses, IsRefusedLine, IsLongFront, IsLastPart, EndsAt}
 use Rattle.demo_lines.proofs.MapGiven.{nothing_needs_the_map, same_without, after-whole, after-kept, next-without}
 
 cut-fault : (long cut : Bool) (x y : Option LineFault) → cond long (Some faults.Long) x ≡ cond long (Some faults.Long) y
@@ -67,15 +67,6 @@ module _ (r : Reading) (whole : is_map_whole r.stage ≡ true) where
     each = reads.each;
     one_line = reads.one_line;
     fits = reads.fits;
-    consumed = reads.consumed;
-    events = sym (nothing_needs_the_map r reads.lines whole).events ∙ reads.events;
-    going = same_stage reads.lines ∙ reads.going;
-  }
-
-  pub ReadsQuietly-given : (a b : Option (List ℕ)) → ReadsQuietly (without_map r) a b → ReadsQuietly r a b
-  ReadsQuietly-given a b reads = record {
-    lines = reads.lines;
-    each = reads.each;
     consumed = reads.consumed;
     events = sym (nothing_needs_the_map r reads.lines whole).events ∙ reads.events;
     going = same_stage reads.lines ∙ reads.going;

@@ -22,7 +22,7 @@ use Rattle.demo_lines.specs.Recording.{next, after_test, events_of_test, events_
 use Rattle.demo_lines.specs.Said.{of_map, map_line_said, packet_said, port_said, from_said, first_said, line_said, place_fault, after_said}
 use Rattle.demo_lines.specs.Readings.{IsReading, IsOfMap, HasMap}
 use Rattle.demo_lines.specs.Reads.{KeepsMap}
-use Rattle.demo_lines.specs.Laws.{NothingNeedsTheMap}
+use Rattle.demo_lines.specs.Laws.{NothingNeedsTheMap, MemoryIsForTheMap}
 use Rattle.demo_lines.proofs.Ends.{next-over, next-long, events_of_line-over, fault_of-long}
 use Rattle.demo_lines.proofs.OnePass.{next-said, fault-said, fault_said}
 use Rattle.demo_lines.proofs.MapWords.{if_ok-here}
@@ -265,3 +265,10 @@ so_far-line r s t line so holds is fine =
 
 pub keeps_map : (r t : Reading) → MapSoFar r t → is_map_whole t.stage ≡ true → KeepsMap r t
 keeps_map r t so whole = record { kept = so.kept; completed = λ h. so.there h whole }
+
+-- a line of the map comes only before it is whole
+pub memory_is_for_the_map : MemoryIsForTheMap
+memory_is_for_the_map r before later whole reads =
+    let there : is_map_whole (after r reads.lines).stage ≡ true = after-whole r reads.lines whole in
+    let not_yet : is_map_whole (after r reads.lines).stage ≡ false = ap is_map_whole reads.of_map in
+    cc

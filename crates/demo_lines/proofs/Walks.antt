@@ -16,7 +16,7 @@ use Rattle.demo_lines.specs.Said.{line_said}
 use Rattle.demo_lines.specs.Bytes.{Refusal, refusal}
 use Rattle.demo_lines.specs.Readings.{IsReading}
 use Rattle.demo_lines.specs.Reads.{Reads, ReadsQuietly, Refuses, EndsAt, IsQuiet, IsRefusedAt, IsRefusedLast, TakesCutEnd, OnRefused, OnNoMemory, stage_after}
-use Rattle.demo_lines.proofs.Consuming.{ReadsWhole, whole-line, quiet-whole, reads-whole, Reads-cut, takes_cut_end, Refuses-line, Refuses-end, refused_by_line, refused_by_end, refused_by_cut_end}
+use Rattle.demo_lines.proofs.Consuming.{ReadsWhole, whole-line, quiet-line, reads-whole, Reads-cut, takes_cut_end, Refuses-line, Refuses-end, refused_by_line, refused_by_end, refused_by_cut_end}
 use Rattle.demo_lines.proofs.Ends.{next-counts}
 use Rattle.demo_lines.proofs.OnePass.{next-short, events-short}
 use Rattle.demo_lines.proofs.Prefixes.{end_says}
@@ -115,9 +115,7 @@ walk_quiet r s a b c line walks gives quiet =
     let is = next-short s line walks.going gives.fits in
     let fine : is_refused (next s line).stage ≡ false = ap (λ (t : Reading). is_refused t.stage) is ∙ ap is_refused quiet.stage in
     let none : events_of_line s line ≡ [] = events-short s line walks.going gives.fits fine ∙ quiet.event in
-    let P : List Event → Type 0 = λ es. ReadsWhole r (next s line) a c es in
-    quiet-whole r (next s line) a c (subst P none (whole-line r s a b c [] line walks.reads walks.going gives))
-    (ap (λ (t : Reading). is_over t.stage) is ∙ ap is_over quiet.stage)
+    quiet-line r s a b c line walks.reads walks.going gives none (ap (λ (t : Reading). t.stage) is ∙ quiet.stage)
 
 -- ---- how far a recording has come after an event
 

@@ -1,5 +1,5 @@
 -- What holds of all recordings, and of the packets on their lines.
-use Rattle.std.specs.Prelude.{◌≡◌, ◌↔◌, ℕ, ◌+◌, ◌≤◌, ◌<◌, Bool, true, false, List, [], ◌∷◌, ◌++◌, length, Some, None}
+use Rattle.std.specs.Prelude.{◌≡◌, ◌↔◌, ℕ, ◌+◌, ◌≤◌, ◌<◌, Bool, true, false, List, [], ◌∷◌, ◌++◌, length, Option, Some, None}
 use Rattle.std.specs.Prelude.{codes}
 use Rattle.std.specs.List.{slice_split}
 use Rattle.edge_io.specs.Lines.{AreBytes}
@@ -19,6 +19,7 @@ use Rattle.demo_lines.specs.Words.{has_form}
 use Rattle.demo_lines.specs.Lines.{text_of, are_printable, first_word, rest_of, line_in}
 use Rattle.demo_lines.specs.Faults.{is_long, fault_of}
 use Rattle.demo_lines.specs.Recording.{after, events_of}
+use Rattle.demo_lines.specs.Reads.{ReadsQuietly}
 use Rattle.demo_lines.specs.Spelling.{line_text, IsLine, recording_lines, recording_text, recording_events, IsRecording}
 use Rattle.demo_lines.specs.Spelling.{small_map, small_frames, small_text}
 use Rattle.edge_io.specs.WholeLines.{is_line_feed, whole_lines}
@@ -82,6 +83,11 @@ pub record MapMayBeGivenOut (r : Reading) (lines : List (List ℕ)) : Type 0 whe
 -- this holds of all lines
 abbrev pub NothingNeedsTheMap : Type 0
 NothingNeedsTheMap = (r : Reading) (lines : List (List ℕ)) → is_map_whole r.stage ≡ true → MapMayBeGivenOut r lines
+
+-- lack of memory is never reported where the map is whole, so not after the first event
+abbrev pub MemoryIsForTheMap : Type 0
+MemoryIsForTheMap =
+    (r : Reading) (before later : Option (List ℕ)) → is_map_whole r.stage ≡ true → ReadsQuietly r before later → ⊥
 
 -- a text is a line that says this: it has at most 512 bytes, all printed and the last no carriage return, a word and
 -- fields of its form, and their values

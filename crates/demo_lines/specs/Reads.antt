@@ -72,13 +72,15 @@ pub record ReadsFront (old : Reading) (before later : Option (List ℕ)) (given 
   pub events : events_of old lines ≡ given
   pub going : is_over (after old lines).stage ≡ false
 
--- whole lines were taken that gave no event, and that the recording goes on after
+-- one or more whole lines were taken that gave no event, the last of which is a line of the map that would be taken
+-- into it
 pub record ReadsQuietly (old : Reading) (before later : Option (List ℕ)) : Type 0 where
   pub lines : List (List ℕ)
+  pub some : 1 ≤ length lines
   pub each : AllByRecursion HasNoLineFeed lines
   pub consumed : Consumes before later (unlines lines)
   pub events : events_of old lines ≡ []
-  pub going : is_over (after old lines).stage ≡ false
+  pub of_map : (after old lines).stage ≡ stages.Map
 
 -- a line that says this would be taken into the map: it gives no event, and the recording goes on after it
 pub record IsQuiet (r : Reading) (said : Result Line LineFault) : Type 0 where

@@ -1,6 +1,6 @@
 ghost use Rattle.demo_lines.specs.Laws.{LimitsAreKnown, PacketReadsBack, NothingAfterTheEnd, NothingAfterARefusal};
 ghost use Rattle.demo_lines.specs.Laws.{NothingNeedsTheMap, LinesReadBack, LinesAreBounded, PacketsHaveRoom};
-ghost use Rattle.demo_lines.specs.Laws.{RecordingsReadBack, SmallRecording, FaultsAreTheFirst};
+ghost use Rattle.demo_lines.specs.Laws.{RecordingsReadBack, SmallRecording, FaultsAreTheFirst, MemoryIsForTheMap};
 
 /// The constants of this crate have the values that they say.
 pub fn limits_are_known()
@@ -32,6 +32,11 @@ pub fn nothing_after_a_refusal()
 /// From the first frame on, the lines are read as well after the map was given out.
 pub fn nothing_needs_the_map()
     ensures { NothingNeedsTheMap }
+{}
+
+/// From the first event on, lack of memory is never reported: it comes only at a line of the map.
+pub fn memory_is_for_the_map()
+    ensures { MemoryIsForTheMap }
 {}
 
 /// A line is read back from its text exactly where it can be written: its numbers are within their limits, or its
