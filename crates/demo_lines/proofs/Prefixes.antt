@@ -223,3 +223,14 @@ nothing_after_the_end = record {
 }
 
 -- ---- without a fault
+
+over-by : (bytes : List ℕ) (end : Bool) → is_end (last_part bytes) ≡ end → fault bytes ≡ None → is_over (after start (lines_of bytes)).stage ≡ true
+over-by bytes true end none =
+    let short : lines_of bytes ≡ whole_lines bytes ++ last_part bytes ∷ [] = ap (λ b. whole_lines bytes ++ cond b (last_part bytes ∷ []) []) end in
+    ap (λ ls. is_over (after start ls).stage) short ∙ after_last start (whole_lines bytes) (last_part bytes) end
+over-by bytes false end none =
+    let here = after start (lines_of bytes) in over_without_fault here.stage here (last_part bytes) (cut_fault here (last_part bytes) end) none
+
+-- a recording without a fault is over after its lines
+pub faultless_is_over : (bytes : List ℕ) → fault bytes ≡ None → is_over (after start (lines_of bytes)).stage ≡ true
+faultless_is_over bytes none = over-by bytes (is_end (last_part bytes)) refl none

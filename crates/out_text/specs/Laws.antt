@@ -5,7 +5,7 @@ use Rattle.entity_recs.specs.declared.effect.Entry.{Entry}
 use Rattle.arena_map.specs.Maps.{MapView, IsMap}
 use Rattle.client_ports.specs.declared.arrival.Arrival.{Arrival}
 use Rattle.client_ports.specs.States.{State, IsServerState}
-use Rattle.plain_server.specs.Frames.{received_in, moved_by}
+use Rattle.plain_server.specs.Frames.{received_in, moved_by, state_played}
 use Rattle.demo_lines.specs.Bytes.{Refusal, events, fault, map_of}
 use Rattle.demo_lines.specs.Spelling.{IsRecording, recording_text, frame_events, recording_events}
 use Rattle.out_text.specs.Dids.{Did}
@@ -16,7 +16,7 @@ use Rattle.out_text.specs.Journals.{Opens, Reports, is_reportable, mark_of, dids
 use Rattle.out_text.specs.Collecting.{frames_of}
 use Rattle.out_text.specs.Output.{AreRightIn, front_text, out_text, IsOutput, IsFront, IsPart}
 use Rattle.out_text.specs.OneTaker.{HasOneTakerEach}
-use Rattle.out_text.specs.FrameLines.{lines_with}
+use Rattle.out_text.specs.FrameLines.{lines_with, run_lines}
 use Rattle.out_text.specs.ToLines.{HasOneReplyEach}
 use Rattle.out_text.specs.PacketLines.{HasOneAnswerEach}
 
@@ -132,3 +132,14 @@ FramesAnswerTheirPackets =
     (map : MapView) (frame : ℕ) (state : State) (arrivals : List Arrival) (journal : List Entry)
     → let r = received_in map frame state arrivals in
     HasOneAnswerEach (length arrivals) r.lists (lines_with map frame r journal)
+
+-- no frames have no lines, and one frame more adds its own: it has the number that follows, and begins with the state
+-- that the frames before it left
+pub record LinesAreInTurn : Type 0 where
+  pub none : (map : MapView) (frame : ℕ) (state : State) → run_lines map frame state [] [] ≡ []
+  pub more : (map : MapView) (frame : ℕ) (state : State) (frames : List (List Arrival)) (journals : List (List Entry))
+      (arrivals : List Arrival) (journal : List Entry) → length journals ≡ length frames
+      → let number = frame + length frames in
+      let r = received_in map number (state_played map frame state frames journals) arrivals in
+      run_lines map frame state (frames ++ arrivals ∷ []) (journals ++ journal ∷ [])
+      ≡ run_lines map frame state frames journals ++ lines_with map number r journal

@@ -2,7 +2,7 @@ ghost use Rattle.out_text.specs.Laws.{DidLinesAreRead, FrameLinesAreRead, Faultl
 ghost use Rattle.out_text.specs.Laws.{WrittenRecordingsHaveOutputs, OneWorkerHasOneOutput, OutputsSpellTheirJournals};
 ghost use Rattle.out_text.specs.Laws.{LinesReadBack, LinesArePrintedApart, RecordingsHaveMaps, OutputsHaveOneTaker};
 ghost use Rattle.out_text.specs.Laws.{OutputsAreBounded, FramesHaveOneReplyEach, FramesAnswerTheirPackets};
-ghost use Rattle.out_text.specs.Laws.{FramesHaveTheEvents};
+ghost use Rattle.out_text.specs.Laws.{FramesHaveTheEvents, LinesAreInTurn};
 
 /// The journals are read off exactly the lines that are printed: no other line opens a frame or reports a move.
 pub fn only_printed_lines_are_read()
@@ -74,4 +74,10 @@ pub fn frames_have_one_reply_each()
 /// `joined` line for each that joined, in the order of arrival, and no other.
 pub fn frames_answer_their_packets()
     ensures { FramesAnswerTheirPackets }
+{}
+
+/// No frames have no lines, and one frame more adds its own, with the number that follows, and from the state that the
+/// frames before it left.
+pub fn lines_are_in_turn()
+    ensures { LinesAreInTurn }
 {}
