@@ -31,7 +31,7 @@ abbrev pub place_of : Refused → ℕ
 place_of t = t.place
 
 -- of so many packets each that was refused has one `no` line and each that joined one `joined` line, in the order of
--- arrival; no packet has two of them, and none of these is a move
+-- arrival; the places of those refused rise, and there are no more such lines and moves together than packets
 pub record HasOneAnswerEach (packets : ℕ) (lists : Lists) (lines : List OutLine) : Type 0 where
   pub refusals : refusals_in lines ≡ lists.refused
   pub joins : joins_in lines ≡ lists.joined
