@@ -1,17 +1,21 @@
 -- What holds of all matches.
-use Rattle.std.specs.Prelude.{◌≡◌, ℕ, ◌*◌, List, length, Some}
+use Rattle.std.specs.Prelude.{◌≡◌, ℕ, ◌*◌, List, length, Some, sum_by}
+use Rattle.std.specs.List.{range_with_len}
 use Rattle.entity_recs.specs.declared.effect.Entry.{Entry}
+use Rattle.arena_map.specs.Maps.{MapView, IsMap}
+use Rattle.client_ports.specs.declared.arrival.Arrival.{Arrival}
 use Rattle.plain_server.specs.RecordsById.{opening}
-use Rattle.plain_server.specs.Frames.{AreRight, journals_of}
+use Rattle.plain_server.specs.Frames.{AreRight, journals_of, state_played}
 use Rattle.demo_make.specs.GeneratedMap.{generated_map}
 use Rattle.demo_make.specs.GeneratedFrames.{IsInRange, generated_frames, generated_text}
 use Rattle.demo_lines.specs.Bytes.{map_of}
 use Rattle.out_text.specs.Collecting.{frames_of}
 use Rattle.out_text.specs.Journals.{dids}
-use Rattle.out_text.specs.Output.{out_text, IsOutput}
+use Rattle.out_text.specs.Output.{lines_in, out_text, IsOutput}
 use Rattle.match_play.specs.declared.limits.TheConstants.{MOST_MATCH_FRAMES}
 use Rattle.match_play.specs.declared.totals.Totals.{Totals}
 use Rattle.match_play.specs.Totals.{totals_of}
+use Rattle.match_play.specs.TotalsOfLines.{AreTotalsOf, score_of_slot}
 use Rattle.match_play.specs.Matches.{AreRightSoFar, AreInOrderSoFar}
 
 -- so many frames were run, each player joined, each moved once in each frame, and nothing was refused
@@ -60,3 +64,16 @@ MatchesArePlayedAsWritten =
 -- how many frames a match has at the most
 pub record LimitsAreKnown : Type 0 where
   pub frames : MOST_MATCH_FRAMES ≡ 2000
+
+-- the totals of frames are those of the lines that are printed for them, with one journal a frame
+abbrev pub TotalsAreOfTheOutput : Type 0
+TotalsAreOfTheOutput =
+    (map : MapView) (frames : List (List Arrival)) (journals : List (List Entry)) → length journals ≡ length frames
+    → AreTotalsOf (lines_in (Some map) frames journals) (totals_of map frames journals)
+
+-- the score of frames is the sum of the scores of those that are clients after the last of them, slot by slot
+abbrev pub ScoresAreOfTheClients : Type 0
+ScoresAreOfTheClients =
+    (map : MapView) (frames : List (List Arrival)) (journals : List (List Entry)) → IsMap map
+    → (totals_of map frames journals).score
+    ≡ sum_by (score_of_slot (state_played map 0 (opening map) frames journals)) (range_with_len 0 64)

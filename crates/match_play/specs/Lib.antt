@@ -12,6 +12,7 @@ pub use Rattle.out_text.specs.Collecting
 pub use Rattle.out_text.specs.Journals
 pub use Rattle.out_text.specs.Output
 pub mod Totals
+pub mod TotalsOfLines
 pub mod Matches
 pub mod Games
 pub mod Laws

@@ -1,4 +1,5 @@
 ghost use Rattle.match_play.specs.Laws.{CountsAreKnown, OrderLeavesOneMatch, MatchesArePlayedAsWritten, LimitsAreKnown};
+ghost use Rattle.match_play.specs.Laws.{TotalsAreOfTheOutput, ScoresAreOfTheClients};
 
 /// In a match of 1 to 64 players each player joins once and each of its moves is accepted, whichever right journals the
 /// frames have: so it has as many joins as players, as many moves as players in each frame, and no refusal.
@@ -21,4 +22,15 @@ pub fn matches_are_played_as_written()
 /// The limit of a match has the value that the documents say: 2,000 frames.
 pub fn limits_are_known()
     ensures { LimitsAreKnown }
+{}
+
+/// The totals of frames are those of the lines that are printed for them: the `joined`, `did` and `no` lines, and the
+/// items that the `did` lines have.
+pub fn totals_are_of_the_output()
+    ensures { TotalsAreOfTheOutput }
+{}
+
+/// The score is the sum of the scores of the players whose clients are live after the last frame.
+pub fn scores_are_of_the_clients()
+    ensures { ScoresAreOfTheClients }
 {}

@@ -3,6 +3,7 @@
 
 pub use laws::{
     counts_are_known, limits_are_known, matches_are_played_as_written, order_leaves_one_match,
+    scores_are_of_the_clients, totals_are_of_the_output,
 };
 pub use limits::MOST_MATCH_FRAMES;
 pub use played::{MatchPlayed, play_match};
