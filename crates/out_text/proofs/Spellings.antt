@@ -190,9 +190,6 @@ from_x slot seq rest = integer_at rest >>= (λ x. from_y slot seq x.0 x.1)
 abbrev from_seq : ℕ → List ℕ → Option Did
 from_seq slot rest = number_at 4294967295 rest >>= (λ seq. from_x slot seq.0 seq.1)
 
-abbrev from_slot : List ℕ → Option Did
-from_slot rest = number_at 255 rest >>= (λ slot. from_seq slot.0 slot.1)
-
 got-word : (slot seq : ℕ) (x y z : ℤ) (ids word : List ℕ) → Lacks 32 word → ids_in word ≡ Some ids
     → from_got slot seq x y z (32 ∷ word) ≡ Some (record { slot = slot; seq = seq; origin = record { x = x; y = y; z = z }; got = ids })
 got-word slot seq x y z ids word none read =

@@ -1,8 +1,7 @@
 -- What is known of a pass by its next step: which node it takes, and whose record it loads.
-use Rattle.std.proofs.Common.{◌≡◌, ℕ, ◌+◌, Bool, true, false, if◌then◌else◌, refl, sym, ap, ◌∙◌, subst, Option, Some, None, List, [], ◌∷◌, All, arith}
+use Rattle.std.proofs.Common.{◌≡◌, ℕ, ◌+◌, Bool, true, false, if◌then◌else◌, refl, sym, ap, ◌∙◌, subst, Option, Some, None, arith}
 use Rattle.std.specs.Option.{option_map}
 use Rattle.std.proofs.lemmas.Bool.{false≢true}
-use Rattle.std.proofs.lemmas.List.Elements.{recursion_from_All}
 use Rattle.atomic_table.specs.Seated.{TableId}
 use Rattle.entity_recs.specs.Commands.{Command}
 use Rattle.core_steps.specs.declared.step.Step.{Step}
@@ -11,7 +10,7 @@ use Rattle.core_steps.specs.Views.{Fixed, Clear, Put, Link, Point, View, nodes_o
 use Rattle.core_steps.specs.Steps.{first_yield, is_taking}
 use Rattle.core_steps.specs.Machine.{Next, Begin, LoadOwn, LoadAgain, TakeNode, ClaimNode, ReadList, ReadPlayer, ReadState, CommitMove, StoreWord, GiveNode, YieldNode, YieldCount, quitting, kind_of, index_of, step_of}
 use Rattle.core_steps.specs.Calls.{node_taken}
-use Rattle.core_machine.specs.Nexts.{next_point, the_next}
+use Rattle.core_machine.specs.Nexts.{next_point}
 use Rattle.region_locks.specs.Passes.{PassView, next_of_pass, node_taken_next, IsPassOf}
 use Rattle.region_locks.specs.Loads.{record_loaded_next}
 use Rattle.region_locks.specs.Quitting.{next_step, MayBegin}
@@ -56,10 +55,3 @@ loads_own F passes table p q c own free is =
         → record_loaded_next p.view (if quits then Some (quitting (first_yield F p.view)) else next_point F p.view (Some c) p.effect p.view.point) ≡ Some c.slot
     by_quits true never = absurd (false≢true (never refl))
     by_quits false never = subst (λ (point : Point). record_loaded_next p.view (next_point F p.view (Some c) p.effect point) ≡ Some c.slot) (sym free.idle) refl
-
--- both of two passes that belong to a table do
-pub each_of_two : (F : Fixed) (passes : ℕ) (table : TableId) (xs : List PassView) (a b x y : PassView) → xs ≡ a ∷ b ∷ [] → x ≡ a → y ≡ b → All (IsPassOf F passes table) xs
-    → IsPassOf F passes table x × IsPassOf F passes table y
-each_of_two F passes table xs a b x y are first second all =
-    let two = recursion_from_All (IsPassOf F passes table) (a ∷ b ∷ []) (subst (All (IsPassOf F passes table)) are all) in
-    (subst (IsPassOf F passes table) (sym first) two.0, subst (IsPassOf F passes table) (sym second) two.1.0)
