@@ -9,6 +9,9 @@ use entity_recs::{Action, Effect, Entry, Rec};
 use std::alloc::Global;
 use std::test::Fail;
 
+/// The world of each schedule: four players and the item.
+const WORLD: [Rec; 5] = [FIRST, NEAR, FAR, MIDDLE, ITEM];
+
 /// The seat among four that has one entry, with this place.
 fn seat_at<A: Action>(core: &Core<A>, place: u64) -> Option<u8>
     requires { length core.now.seats ≡ 4 }
@@ -56,20 +59,28 @@ fn check_place<A: Action>(
     Ok(effect.reply.got.as_slice().len())
 }
 
-/// Runs one random schedule to its end, and compares each reply with that of the commands in a row, in the order of
-/// their places. The item is got once.
-fn try_schedule(alloc: Global, number: u64) -> Result<u64, Fail> {
-    let mut world = [FIRST, NEAR, FAR, MIDDLE, ITEM];
-    let away = ((number >> 40) % 16) as u8;
-    let mut core = begun(alloc, &Errand, &world, &[1, 1, 1, 1], away)?;
-    let number = run_at_random(&mut core, number)?;
+/// Runs the commands in a row in a plain world, in the order of their places, and compares each reply. The item is got
+/// once.
+fn check_places<A: Action>(alloc: Global, core: &Core<A>, away: u8) -> Result<(), Fail>
+    requires { length core.now.seats ≡ 4 }
+{
+    let mut world = WORLD;
     let mut got = 0usize;
     for place in 0..4 {
-        got = got.saturating_add(check_place(alloc, &core, &mut world, place, away)?);
+        got = got.saturating_add(check_place(alloc, core, &mut world, place, away)?);
     }
     if got != 1 || world[4].state != 1 {
         return Err("an item that isn't got once".into());
     }
+    Ok(())
+}
+
+/// Runs one random schedule to its end, and compares its replies with those of the commands in a row.
+fn try_schedule(alloc: Global, number: u64) -> Result<u64, Fail> {
+    let away = ((number >> 40) % 16) as u8;
+    let mut core = begun(alloc, &Errand, &WORLD, &[1, 1, 1, 1], away)?;
+    let number = run_at_random(&mut core, number)?;
+    check_places(alloc, &core, away)?;
     Ok(number)
 }
 

@@ -3,6 +3,7 @@ use areanode::NODES;
 use core_machine::{Cell, Seat, Store, Words};
 use core_steps::encode;
 use entity_recs::Cmd;
+use std::alloc::{AllocError, Global};
 use std::test::Fail;
 
 /// A command of 50 ms without a wish.
@@ -16,25 +17,52 @@ const PLAIN: Cmd = Cmd {
     buttons: 0,
 };
 
-#[test]
-fn first_word_of_the_own_record_is_loaded(rt: HostRuntime) -> Result<(), Fail> {
-    let mut words = Words {
+/// Words that are all 0.
+fn zeros() -> Words {
+    Words {
         commits: 0,
         node: [0; NODES],
         links: [0; NODES],
         body: [[0; 5]; 64],
         state: [0; 256],
-    };
-    let body = encode(&NEAR);
-    words.set_cell(Cell::Body(1, 0), body[0]);
+    }
+}
+
+#[test]
+fn a_stored_link_is_a_bit_until_it_is_cleared(rt: HostRuntime) {
+    let mut words = zeros();
     words.make_store(Store::Link(15), 1);
     assert_eq!(rt; words.links[15], 2);
     words.make_store(Store::Clear(15), 1);
     assert_eq!(rt; words.links[15], 0);
-    let mut seat = Seat::new(rt.alloc(), 1, 1)?;
-    seat.begin(PLAIN, words.of_player(1, 0));
+}
+
+/// Words that have the first word of the record of [`NEAR`].
+fn words_of_near() -> Words {
+    let mut words = zeros();
+    let body = encode(&NEAR);
+    words.set_cell(Cell::Body(1, 0), body[0]);
+    words
+}
+
+/// A seat that has begun its command, and loaded the first word of its own record.
+fn begun_seat(alloc: Global) -> Result<Seat, AllocError> {
+    let mut seat = Seat::new(alloc, 1, 1)?;
+    seat.begin(PLAIN, words_of_near().of_player(1, 0));
+    Ok(seat)
+}
+
+#[test]
+fn first_word_of_the_own_record_is_loaded(rt: HostRuntime) -> Result<(), Fail> {
+    let seat = begun_seat(rt.alloc())?;
     assert_eq!(rt; seat.own.as_slice(), [422_212_465_151_488].as_slice());
     assert_eq!(rt; seat.cmd, Some(PLAIN));
+    Ok(())
+}
+
+#[test]
+fn a_seat_counts_refusals_and_forgets_its_command(rt: HostRuntime) -> Result<(), Fail> {
+    let mut seat = begun_seat(rt.alloc())?;
     seat.refuse(15, 257);
     assert_eq!(rt; seat.refusals, 1);
     seat.forget();
@@ -42,28 +70,32 @@ fn first_word_of_the_own_record_is_loaded(rt: HostRuntime) -> Result<(), Fail> {
     Ok(())
 }
 
-#[test]
-fn words_lie_in_the_order_of_the_table(rt: HostRuntime) -> Result<(), Fail> {
-    let mut words = Words {
-        commits: 0,
-        node: [0; NODES],
-        links: [0; NODES],
-        body: [[0; 5]; 64],
-        state: [0; 256],
-    };
+/// Words with a number in each part of the table.
+fn numbered() -> Words {
+    let mut words = zeros();
     words.set(0, 7);
     words.set(4, 5);
     words.set(47, 2);
     words.set(77, 9);
     words.set(583, 11);
+    words
+}
+
+#[test]
+fn words_lie_in_the_order_of_the_table(rt: HostRuntime) {
+    let words = numbered();
     assert_eq!(rt; words.commits, 7);
     assert_eq!(rt; words.node[3], 5);
     assert_eq!(rt; words.links[15], 2);
     assert_eq!(rt; words.body[2][4], 9);
     assert_eq!(rt; words.state[200], 11);
+}
+
+#[test]
+fn words_are_read_where_they_were_set(rt: HostRuntime) {
+    let words = numbered();
     assert_eq!(rt; words.get(0), 7);
     assert_eq!(rt; words.get(77), 9);
     assert_eq!(rt; words.get(78), 0);
     assert_eq!(rt; words.get(583), 11);
-    Ok(())
 }
