@@ -5,7 +5,7 @@ use crate::{FrameOut, MOST_FRAMES, Server, run_frame};
 use arena_geo::Vec3;
 use arena_map::{ArenaMap, MapLine, MapRefusal};
 use client_ports::{Arrival, ArrivalBytes, Joined};
-use entity_recs::Kind;
+use entity_recs::{Entry, Kind};
 use shared_moves::NoGate;
 use std::alloc::{AllocGlobal, Global};
 use std::process::Abort;
@@ -91,8 +91,8 @@ fn teleporter() -> MapLine
     }
 }
 
-/// A server of the arena with these two things.
-fn server(alloc: Global, one: &MapLine, other: &MapLine) -> Result<Server, MapRefusal>
+/// The arena with these two things.
+fn map_of(alloc: Global, one: &MapLine, other: &MapLine) -> Result<ArenaMap, MapRefusal>
     requires one_added { is_added one.now ≡ true }
     requires one_limits { IsWithinLimits one.now }
     requires other_added { is_added other.now ≡ true }
@@ -101,7 +101,23 @@ fn server(alloc: Global, one: &MapLine, other: &MapLine) -> Result<Server, MapRe
     let mut map = ArenaMap::new(alloc, &arena())?;
     map.add(one)?;
     map.add(other)?;
-    Ok(Server::new(alloc, map)?)
+    Ok(map)
+}
+
+/// A server of this map.
+fn server_of(alloc: Global, map: Result<ArenaMap, MapRefusal>) -> Result<Server, Fail> {
+    let map = map.map_err(|_| "a server")?;
+    Ok(Server::new(alloc, map).map_err(|_| "a server")?)
+}
+
+/// A server of the arena with these two things.
+fn server(alloc: Global, one: &MapLine, other: &MapLine) -> Result<Server, Fail>
+    requires one_added { is_added one.now ≡ true }
+    requires one_limits { IsWithinLimits one.now }
+    requires other_added { is_added other.now ≡ true }
+    requires other_limits { IsWithinLimits other.now }
+{
+    server_of(alloc, map_of(alloc, one, other))
 }
 
 /// Runs one frame more.
@@ -118,6 +134,13 @@ fn play(
     Ok(())
 }
 
+/// Compares an entry of slot 0, the first of its frame.
+fn expect_entry(rt: &impl Abort, entry: &Entry, seq: u32, origin: Vec3, got: &[u16]) {
+    assert_eq!(rt; (entry.place, entry.slot, entry.seq), (0, 0, seq));
+    assert_eq!(rt; entry.reply.origin, origin);
+    assert_eq!(rt; entry.reply.got.as_slice(), got);
+}
+
 /// Compares the frame's only entry.
 fn expect_move(
     rt: &impl Abort,
@@ -126,58 +149,92 @@ fn expect_move(
     origin: Vec3,
     got: &[u16],
 ) -> Result<(), Fail> {
-    assert_eq!(rt; out.journal.as_slice().len(), 1);
-    let entry = out.journal.as_slice().first().ok_or("a move")?;
-    assert_eq!(rt; (entry.place, entry.slot, entry.seq), (0, 0, seq));
-    assert_eq!(rt; entry.reply.origin, origin);
-    assert_eq!(rt; entry.reply.got.as_slice(), got);
+    let [entry] = out.journal.as_slice() else {
+        return Err("one move".into());
+    };
+    expect_entry(rt, entry, seq, origin, got);
     Ok(())
 }
 
-/// Runs one frame more, and compares its only entry, of a player at the spawn.
-fn expect_frame(
+/// A frame in which a player joins and moves, without a wish.
+fn join_and_move(
     rt: &(impl AllocGlobal + Abort + Threads + Wait + Sync),
     server: &mut Server,
-    arrivals: &[Arrival],
     out: &mut FrameOut,
-    seq: u32,
+) -> Result<(), Fail> {
+    play(rt, server, &[arrival(7, &JOIN), step(7, 1, 0)], out)
+}
+
+/// One frame more, in which the player at the spawn moves without a wish. Compares its entry.
+fn expect_step(
+    rt: &(impl AllocGlobal + Abort + Threads + Wait + Sync),
+    server: &mut Server,
+    out: &mut FrameOut,
+    seq: u8,
     got: &[u16],
-) -> Result<(), Fail>
-    requires { length arrivals.now ≤ 512 }
-{
-    play(rt, server, arrivals, out)?;
-    expect_move(rt, out, seq, at(0, 0, 6_144), got)
+) -> Result<(), Fail> {
+    play(rt, server, &[step(7, seq, 0)], out)?;
+    expect_move(rt, out, u32::from(seq), at(0, 0, 6_144), got)
 }
 
 /// Three frames of a player on an item that returns after two.
 fn take_twice(
     rt: &(impl AllocGlobal + Abort + Threads + Wait + Sync),
     server: &mut Server,
+    out: &mut FrameOut,
+) -> Result<(), Fail> {
+    join_and_move(rt, server, out)?;
+    expect_move(rt, out, 1, at(0, 0, 6_144), &[64])?;
+    expect_step(rt, server, out, 2, &[])?;
+    expect_step(rt, server, out, 3, &[64])
+}
+
+/// The item that a player takes is back after its delay.
+fn expect_return(
+    rt: &(impl AllocGlobal + Abort + Threads + Wait + Sync),
+    server: &mut Server,
 ) -> Result<(), Fail> {
     let mut out = FrameOut::new(rt.alloc())?;
-    let first = [arrival(7, &JOIN), step(7, 1, 0)];
-    expect_frame(rt, server, &first, &mut out, 1, &[64])?;
-    expect_frame(rt, server, &[step(7, 2, 0)], &mut out, 2, &[])?;
-    expect_frame(rt, server, &[step(7, 3, 0)], &mut out, 3, &[64])
+    take_twice(rt, server, &mut out)
 }
 
 #[test]
 fn a_taken_item_returns_after_its_delay(rt: HostRuntime) -> Result<(), Fail> {
-    let mut server = server(rt.alloc(), &spawn(), &gem()).map_err(|_| "a server")?;
-    take_twice(&rt, &mut server)
+    let mut server = server(rt.alloc(), &spawn(), &gem())?;
+    expect_return(&rt, &mut server)
+}
+
+/// A frame in which a player joins at the teleporter, and is moved to its destination.
+fn leap(
+    rt: &(impl AllocGlobal + Abort + Threads + Wait + Sync),
+    server: &mut Server,
+    out: &mut FrameOut,
+) -> Result<(), Fail> {
+    join_and_move(rt, server, out)?;
+    expect_move(rt, out, 1, at(-65_536, 65_536, 6_144), &[])
+}
+
+/// A player that moves in the teleporter is at its destination.
+fn expect_leap(
+    rt: &(impl AllocGlobal + Abort + Threads + Wait + Sync),
+    server: &mut Server,
+) -> Result<(), Fail> {
+    let mut out = FrameOut::new(rt.alloc())?;
+    leap(rt, server, &mut out)
 }
 
 #[test]
 fn a_teleporter_moves_a_player(rt: HostRuntime) -> Result<(), Fail> {
-    let mut server = server(rt.alloc(), &spawn(), &teleporter()).map_err(|_| "a server")?;
-    let mut out = FrameOut::new(rt.alloc())?;
-    play(
-        &rt,
-        &mut server,
-        &[arrival(7, &JOIN), step(7, 1, 0)],
-        &mut out,
-    )?;
-    expect_move(&rt, &out, 1, at(-65_536, 65_536, 6_144), &[])
+    let mut server = server(rt.alloc(), &spawn(), &teleporter())?;
+    expect_leap(&rt, &mut server)
+}
+
+/// The player of slot 0 has joined, and it alone is shown.
+fn expect_joined(rt: &impl Abort, out: &FrameOut) {
+    let joined = [Joined { port: 7, slot: 0 }];
+    assert_eq!(rt; out.received.joined(), joined.as_slice());
+    assert_eq!(rt; out.slots.as_slice(), [0].as_slice());
+    assert_eq!(rt; out.replies.as_slice().len(), 1);
 }
 
 /// A frame in which a player joins and leaves, and is shown.
@@ -188,13 +245,14 @@ fn join_and_leave(
 ) -> Result<(), Fail> {
     let arrivals = [arrival(7, &JOIN), arrival(7, &LEAVE)];
     play(rt, server, &arrivals, out)?;
-    assert_eq!(rt;
-        out.received.joined(),
-        [Joined { port: 7, slot: 0 }].as_slice()
-    );
-    assert_eq!(rt; out.slots.as_slice(), [0].as_slice());
-    assert_eq!(rt; out.replies.as_slice().len(), 1);
+    expect_joined(rt, out);
     Ok(())
+}
+
+/// Nobody is shown.
+fn expect_no_replies(rt: &impl Abort, out: &FrameOut) {
+    assert!(rt; out.slots.as_slice().is_empty());
+    assert!(rt; out.replies.as_slice().is_empty());
 }
 
 /// A frame in which nobody is there.
@@ -204,15 +262,31 @@ fn expect_nobody(
     out: &mut FrameOut,
 ) -> Result<(), Fail> {
     play(rt, server, &[], out)?;
-    assert!(rt; out.slots.as_slice().is_empty());
-    assert!(rt; out.replies.as_slice().is_empty());
+    expect_no_replies(rt, out);
     Ok(())
+}
+
+/// The frame in which a player joins and leaves, and the next one.
+fn shown_once(
+    rt: &(impl AllocGlobal + Abort + Threads + Wait + Sync),
+    server: &mut Server,
+    out: &mut FrameOut,
+) -> Result<(), Fail> {
+    join_and_leave(rt, server, out)?;
+    expect_nobody(rt, server, out)
+}
+
+/// A player that joins and leaves in one frame is shown in it, and in no later one.
+fn expect_shown_once(
+    rt: &(impl AllocGlobal + Abort + Threads + Wait + Sync),
+    server: &mut Server,
+) -> Result<(), Fail> {
+    let mut out = FrameOut::new(rt.alloc())?;
+    shown_once(rt, server, &mut out)
 }
 
 #[test]
 fn a_player_that_leaves_is_shown_once_more(rt: HostRuntime) -> Result<(), Fail> {
-    let mut server = server(rt.alloc(), &spawn(), &gem()).map_err(|_| "a server")?;
-    let mut out = FrameOut::new(rt.alloc())?;
-    join_and_leave(&rt, &mut server, &mut out)?;
-    expect_nobody(&rt, &mut server, &mut out)
+    let mut server = server(rt.alloc(), &spawn(), &gem())?;
+    expect_shown_once(&rt, &mut server)
 }

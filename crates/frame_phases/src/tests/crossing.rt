@@ -4,7 +4,11 @@ ghost use Rattle.arena_map.specs.MapLines.{IsWithinLimits, is_added};
 use super::oracle::{Move, Twins};
 use super::{at, server, spawn};
 use arena_map::MapLine;
+use std::alloc::{AllocGlobal, Global};
+use std::process::Abort;
+use std::sync::Wait;
 use std::test::Fail;
+use std::thread::Threads;
 
 /// The spawn so near to the one in the middle that both players need the same leaves.
 fn spawn_beside() -> MapLine
@@ -26,15 +30,37 @@ fn along_x(slot: u8, seq: u8, wish_x: i16) -> Move {
     }
 }
 
-#[test]
-fn crossing_moves(rt: HostRuntime) -> Result<(), Fail> {
-    let one = server(rt.alloc(), &spawn(), &spawn_beside()).map_err(|_| "a server")?;
-    let other = server(rt.alloc(), &spawn(), &spawn_beside()).map_err(|_| "a server")?;
-    let mut twins = Twins::new(rt.alloc(), one, other)?;
-    twins.play(&rt, 2, &[], 2)?;
+/// Two servers of the arena with both spawns.
+fn twins_beside(alloc: Global) -> Result<Twins, Fail> {
+    let one = server(alloc, &spawn(), &spawn_beside())?;
+    let other = server(alloc, &spawn(), &spawn_beside())?;
+    Ok(Twins::new(alloc, one, other)?)
+}
+
+/// A frame in which the two players move towards each other.
+fn cross(
+    rt: &(impl AllocGlobal + Abort + Threads + Wait + Sync),
+    twins: &mut Twins,
+    seq: u8,
+) -> Result<(), Fail> {
+    let moves = [along_x(0, seq, 320), along_x(1, seq, -320)];
+    twins.play(rt, 0, &moves, 2)
+}
+
+/// A frame of two joins, and then a hundred in which the players move towards each other.
+fn join_and_cross(
+    rt: &(impl AllocGlobal + Abort + Threads + Wait + Sync),
+    twins: &mut Twins,
+) -> Result<(), Fail> {
+    twins.play(rt, 2, &[], 2)?;
     for seq in 1..101 {
-        let moves = [along_x(0, seq, 320), along_x(1, seq, -320)];
-        twins.play(&rt, 0, &moves, 2)?;
+        cross(rt, twins, seq)?;
     }
     Ok(())
+}
+
+#[test]
+fn crossing_moves(rt: HostRuntime) -> Result<(), Fail> {
+    let mut twins = twins_beside(rt.alloc())?;
+    join_and_cross(&rt, &mut twins)
 }

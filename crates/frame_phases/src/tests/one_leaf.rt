@@ -2,8 +2,7 @@ ghost use Rattle.std.specs.Prelude.{◌≡◌, ◌≤◌, true, unsigned_abs};
 ghost use Rattle.arena_map.specs.MapLines.{IsWithinLimits, is_added};
 
 use super::oracle::{Move, Twins};
-use super::{arena, at};
-use crate::Server;
+use super::{arena, at, server_of};
 use arena_map::{ArenaMap, MapLine, MapRefusal};
 use std::alloc::{AllocError, Global};
 use std::test::Fail;
@@ -26,13 +25,20 @@ fn spawn_in_rows(number: u8) -> MapLine
     }
 }
 
-/// A server of the arena with sixteen of these spawns.
-fn crowded_server(alloc: Global) -> Result<Server, MapRefusal> {
+/// The arena with sixteen of these spawns.
+fn crowded_map(alloc: Global) -> Result<ArenaMap, MapRefusal> {
     let mut map = ArenaMap::new(alloc, &arena())?;
     for number in 0..16 {
         map.add(&spawn_in_rows(number))?;
     }
-    Ok(Server::new(alloc, map)?)
+    Ok(map)
+}
+
+/// Two servers of that arena.
+fn crowded_twins(alloc: Global) -> Result<Twins, Fail> {
+    let one = server_of(alloc, crowded_map(alloc))?;
+    let other = server_of(alloc, crowded_map(alloc))?;
+    Ok(Twins::new(alloc, one, other)?)
 }
 
 /// Eight moves without a wish of each of sixteen players.
@@ -51,11 +57,8 @@ fn moves_in_place(alloc: Global) -> Result<Vec<Move>, AllocError> {
 
 #[test]
 fn sixteen_on_one_leaf(rt: HostRuntime) -> Result<(), Fail> {
-    let one = crowded_server(rt.alloc()).map_err(|_| "a server")?;
-    let other = crowded_server(rt.alloc()).map_err(|_| "a server")?;
-    let mut twins = Twins::new(rt.alloc(), one, other)?;
+    let mut twins = crowded_twins(rt.alloc())?;
     let moves = moves_in_place(rt.alloc())?;
     assert_eq!(&rt; moves.len(), 128);
-    twins.play(&rt, 16, moves.as_slice(), 16)?;
-    Ok(())
+    twins.play(&rt, 16, moves.as_slice(), 16)
 }

@@ -92,11 +92,15 @@ fn expect_same_entries(rt: &impl Abort, out: &FrameOut, other: &FrameOut) {
     }
 }
 
-/// Compares the joined players and the snapshots of two frames.
-fn expect_same_replies(rt: &impl Abort, out: &FrameOut, other: &FrameOut) {
+/// Compares the numbers of two frames, the players that have joined, and the slots that are shown.
+fn expect_same_players(rt: &impl Abort, out: &FrameOut, other: &FrameOut) {
     assert_eq!(rt; out.frame, other.frame);
     assert_eq!(rt; out.received.joined(), other.received.joined());
     assert_eq!(rt; out.slots.as_slice(), other.slots.as_slice());
+}
+
+/// Compares the snapshots of two frames.
+fn expect_same_replies(rt: &impl Abort, out: &FrameOut, other: &FrameOut) {
     let (replies, others) = (out.replies.as_slice(), other.replies.as_slice());
     assert_eq!(rt; replies.len(), others.len());
     for (reply, other) in replies.iter().zip(others) {
@@ -158,8 +162,14 @@ impl Twins {
         assert_eq!(rt; ordered.len(), moves.len());
         let arrivals = arrivals_of(rt.alloc(), joins, ordered.as_slice())?;
         play_on(rt, &mut self.again, arrivals.as_slice(), 1, &mut self.other)?;
-        expect_same_entries(rt, &self.out, &self.other);
-        expect_same_replies(rt, &self.out, &self.other);
+        self.expect_same(rt);
         Ok(())
+    }
+
+    /// Compares what the two frames give out.
+    fn expect_same(&self, rt: &impl Abort) {
+        expect_same_entries(rt, &self.out, &self.other);
+        expect_same_players(rt, &self.out, &self.other);
+        expect_same_replies(rt, &self.out, &self.other);
     }
 }
