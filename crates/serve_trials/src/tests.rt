@@ -1,4 +1,4 @@
-use arena_engine::serve;
+use arena_engine::{Report, serve};
 use edge_io::{MemSink, MemSource};
 use shared_moves::NoGate;
 use std::alloc::{AllocError, AllocGlobal, Global};
@@ -46,6 +46,16 @@ fn write_pieces(
     Ok(text)
 }
 
+/// What comes of these words, over memory and without a gate.
+pub fn report_of(
+    rt: &(impl AllocGlobal + Threads + Wait + Sync),
+    words: &[&str],
+    source: &mut MemSource,
+    sink: &mut MemSink,
+) -> Report {
+    serve(rt, rt.alloc(), words, source, sink, &NoGate)
+}
+
 /// Plays a recording without a fault, and compares the status and the output.
 fn expect(
     rt: &(impl AllocGlobal + Abort + Threads + Wait + Sync),
@@ -55,14 +65,7 @@ fn expect(
 ) -> Result<(), AllocError> {
     let mut source = MemSource::new(recording.as_bytes(), 100, &[]);
     let mut sink = MemSink::new(rt.alloc(), 10_000, 100)?;
-    let report = serve(
-        rt,
-        rt.alloc(),
-        &["play", "1"],
-        &mut source,
-        &mut sink,
-        &NoGate,
-    );
+    let report = report_of(rt, &["play", "1"], &mut source, &mut sink);
     assert_eq!(rt; report.status, status);
     assert_eq!(rt; sink.bytes(), output.as_bytes());
     Ok(())

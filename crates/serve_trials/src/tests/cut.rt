@@ -1,7 +1,6 @@
-use arena_engine::serve;
+use super::report_of;
 use edge_io::{MemSink, MemSource};
 use entity_recs::Entry;
-use shared_moves::NoGate;
 use std::process::Abort;
 use std::test::Fail;
 
@@ -27,14 +26,7 @@ fn expect_move(rt: &impl Abort, entry: &Entry) {
 fn a_frame_whose_text_is_cut_leaves_its_journal(rt: HostRuntime) -> Result<(), Fail> {
     let mut source = MemSource::new(MOVE_IN_FRAME_2.as_bytes(), 100, &[]);
     let mut sink = MemSink::new(rt.alloc(), 216, 100)?;
-    let report = serve(
-        &rt,
-        rt.alloc(),
-        &["play", "1"],
-        &mut source,
-        &mut sink,
-        &NoGate,
-    );
+    let report = report_of(&rt, &["play", "1"], &mut source, &mut sink);
     assert_eq!(rt; report.status, 4);
     assert_eq!(rt; sink.bytes(), CUT_IN_FRAME_2.as_bytes());
     assert!(rt; report.all.as_slice().is_empty());

@@ -1,6 +1,5 @@
-use arena_engine::serve;
+use super::report_of;
 use edge_io::{MemSink, MemSource};
-use shared_moves::NoGate;
 use std::test::Fail;
 
 /// Three whole frames, and the front of a line in the fourth.
@@ -15,14 +14,7 @@ const THREE_FRAMES: &str =
 fn frames_before_a_cut_line_are_written(rt: HostRuntime) -> Result<(), Fail> {
     let mut source = MemSource::new(CUT_IN_FRAME_3.as_bytes(), 100, &[]);
     let mut sink = MemSink::new(rt.alloc(), 10_000, 100)?;
-    let report = serve(
-        &rt,
-        rt.alloc(),
-        &["play", "1"],
-        &mut source,
-        &mut sink,
-        &NoGate,
-    );
+    let report = report_of(&rt, &["play", "1"], &mut source, &mut sink);
     assert_eq!(rt; report.status, 1);
     assert_eq!(rt; (report.line, report.fault, report.rule), (9, 10, 0));
     assert_eq!(rt; sink.bytes(), THREE_FRAMES.as_bytes());

@@ -1,8 +1,8 @@
-use arena_engine::serve;
+use arena_engine::{Report, serve};
 use edge_io::{MemSink, MemSource};
 use entity_recs::Entry;
 use shared_moves::{Gate, Moment, Point};
-use std::alloc::AllocGlobal;
+use std::alloc::{AllocError, AllocGlobal};
 use std::process::Abort;
 use std::sync::Wait;
 use std::sync::atomic::{AtomicBool, AtomicI32, AtomicU64, Ordering};
@@ -118,6 +118,14 @@ impl Gate for HoldingGate {
     }
 }
 
+/// The entry's origin is where the worker saw it.
+fn expect_origin(rt: &impl Abort, seen: &Seen, entry: &Entry) {
+    let origin = entry.reply.origin;
+    assert_eq!(rt; origin.x, seen.x.load(Ordering::SeqCst));
+    assert_eq!(rt; origin.y, seen.y.load(Ordering::SeqCst));
+    assert_eq!(rt; origin.z, seen.z.load(Ordering::SeqCst));
+}
+
 /// Compares what was seen of the worker that serves this slot with the entries of the frame.
 fn expect_seen(rt: &impl Abort, seen: &Seen, slot: u8, entries: &[Entry]) -> Result<(), Fail> {
     assert!(rt; seen.leaves.load(Ordering::SeqCst));
@@ -126,11 +134,28 @@ fn expect_seen(rt: &impl Abort, seen: &Seen, slot: u8, entries: &[Entry]) -> Res
     let entry = entries.get(place as usize).ok_or("an entry at its place")?;
     assert_eq!(rt; entry.place, place);
     assert_eq!(rt; entry.slot, slot);
-    let origin = entry.reply.origin;
-    assert_eq!(rt; origin.x, seen.x.load(Ordering::SeqCst));
-    assert_eq!(rt; origin.y, seen.y.load(Ordering::SeqCst));
-    assert_eq!(rt; origin.z, seen.z.load(Ordering::SeqCst));
+    expect_origin(rt, seen, entry);
     Ok(())
+}
+
+/// Of the frame's two entries the first is that of the worker that wasn't held, and each was seen.
+fn expect_entries(rt: &impl Abort, gate: &HoldingGate, entries: &[Entry]) -> Result<(), Fail> {
+    assert!(rt; !gate.has_failed.load(Ordering::SeqCst));
+    assert_eq!(rt; entries.len(), 2);
+    let first = entries.first().ok_or("a first entry")?;
+    assert!(rt; first.slot != gate.held);
+    expect_seen(rt, &gate.first, 0, entries)?;
+    expect_seen(rt, &gate.second, 1, entries)
+}
+
+/// Plays the far players on two workers with this gate, and gives the report.
+fn report_with(
+    rt: &(impl AllocGlobal + Threads + Wait + Sync),
+    gate: &HoldingGate,
+) -> Result<Report, AllocError> {
+    let mut source = MemSource::new(FAR_PLAYERS.as_bytes(), 1_000, &[]);
+    let mut sink = MemSink::new(rt.alloc(), 10_000, 1_000)?;
+    Ok(serve(rt, rt.alloc(), &["play", "2"], &mut source, &mut sink, gate))
 }
 
 /// Plays the far players while this worker is held: the other one's move is the first.
@@ -139,25 +164,10 @@ fn expect_passed(
     held: u8,
 ) -> Result<(), Fail> {
     let gate = HoldingGate::new(held);
-    let mut source = MemSource::new(FAR_PLAYERS.as_bytes(), 1_000, &[]);
-    let mut sink = MemSink::new(rt.alloc(), 10_000, 1_000)?;
-    let report = serve(
-        rt,
-        rt.alloc(),
-        &["play", "2"],
-        &mut source,
-        &mut sink,
-        &gate,
-    );
+    let report = report_with(rt, &gate)?;
     assert_eq!(rt; report.status, 0);
-    assert!(rt; !gate.has_failed.load(Ordering::SeqCst));
     let last = report.last.as_ref().ok_or("a journal")?;
-    let entries = last.as_slice();
-    assert_eq!(rt; entries.len(), 2);
-    let first = entries.first().ok_or("a first entry")?;
-    assert!(rt; first.slot != held);
-    expect_seen(rt, &gate.first, 0, entries)?;
-    expect_seen(rt, &gate.second, 1, entries)
+    expect_entries(rt, &gate, last.as_slice())
 }
 
 #[test]

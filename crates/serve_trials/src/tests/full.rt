@@ -1,8 +1,7 @@
 ghost use Rattle.std.specs.Prelude.{◌<◌, length};
 
-use arena_engine::serve;
+use super::report_of;
 use edge_io::{MemSink, MemSource};
-use shared_moves::NoGate;
 use std::alloc::{AllocError, Global};
 use std::test::Fail;
 
@@ -72,14 +71,7 @@ fn sixty_four_players_join(rt: HostRuntime) -> Result<(), Fail> {
     let lines = joined_lines(rt.alloc())?;
     let mut source = MemSource::new(text.as_bytes(), 65_536, &[]);
     let mut sink = MemSink::new(rt.alloc(), 1_000_000, 65_536)?;
-    let report = serve(
-        &rt,
-        rt.alloc(),
-        &["play", "1"],
-        &mut source,
-        &mut sink,
-        &NoGate,
-    );
+    let report = report_of(&rt, &["play", "1"], &mut source, &mut sink);
     assert_eq!(rt; report.status, 0);
     assert!(rt; sink.bytes().starts_with(lines.as_bytes()));
     assert!(rt; sink.bytes().ends_with(b"\nend 1\n"));
@@ -91,14 +83,7 @@ fn a_frame_of_512_packets_is_played(rt: HostRuntime) -> Result<(), Fail> {
     let text = full_of_blocks_and_packets(rt.alloc())?;
     let mut source = MemSource::new(text.as_bytes(), 65_536, &[]);
     let mut sink = MemSink::new(rt.alloc(), 100_000, 65_536)?;
-    let report = serve(
-        &rt,
-        rt.alloc(),
-        &["play", "1"],
-        &mut source,
-        &mut sink,
-        &NoGate,
-    );
+    let report = report_of(&rt, &["play", "1"], &mut source, &mut sink);
     assert_eq!(rt; report.status, 0);
     assert!(rt; has(sink.bytes(), b"\nno 511 Many\njoined 7 0\ndid 0 "));
     assert!(rt; sink.bytes().ends_with(b"\nend 1\n"));

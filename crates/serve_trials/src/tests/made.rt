@@ -1,6 +1,5 @@
-use arena_engine::serve;
+use super::report_of;
 use edge_io::{MemSink, MemSource};
-use shared_moves::NoGate;
 use std::alloc::AllocGlobal;
 use std::sync::Wait;
 use std::test::Fail;
@@ -13,7 +12,7 @@ fn written(
 ) -> Result<(MemSink, u8), Fail> {
     let mut source = MemSource::new(&[], 1, &[]);
     let mut sink = MemSink::new(rt.alloc(), 10_000, 10_000)?;
-    let report = serve(rt, rt.alloc(), words, &mut source, &mut sink, &NoGate);
+    let report = report_of(rt, words, &mut source, &mut sink);
     Ok((sink, report.status))
 }
 

@@ -3,8 +3,11 @@ ghost use Rattle.std.specs.Prelude.{None};
 use arena_engine::serve;
 use edge_io::{Failed, Sink, Source};
 use shared_moves::NoGate;
+use std::alloc::AllocGlobal;
 use std::cell::Cell;
-use std::test::Fail;
+use std::process::Abort;
+use std::sync::Wait;
+use std::thread::Threads;
 
 /// A pipe that stays open. It gives a block at each read, and notes where it is read too early or too often.
 #[derive(Drop)]
@@ -86,33 +89,34 @@ const TO_THE_END: [(&str, usize); 5] = [
 
 const TO_A_REFUSAL: [(&str, usize); 3] = [(HEAD, 0), ("frame\n", 0), ("frob\n", 111)];
 
+/// Plays what comes through a pipe of these blocks: it is read in time, and so many bytes are written.
+fn expect_in_time(
+    rt: &(impl AllocGlobal + Abort + Threads + Wait + Sync),
+    blocks: &[(&str, usize)],
+    status: u8,
+    total: usize,
+) {
+    let written = Cell::new(0);
+    let mut pipe = Pipe {
+        blocks,
+        next: 0,
+        written: &written,
+        is_early: false,
+        is_overread: false,
+        last: 0,
+        has_ended: false,
+    };
+    let mut meter = Meter { written: &written };
+    let words = ["play", "1"];
+    let report = serve(rt, rt.alloc(), &words, &mut pipe, &mut meter, &NoGate);
+    assert_eq!(rt; report.status, status);
+    assert!(rt; !pipe.is_early);
+    assert!(rt; !pipe.is_overread);
+    assert_eq!(rt; written.get(), total);
+}
+
 #[test]
-fn each_frame_is_written_before_more_is_read(rt: HostRuntime) -> Result<(), Fail> {
-    let rows: [(&[(&str, usize)], u8, usize); 2] = [(&TO_THE_END, 0, 317), (&TO_A_REFUSAL, 1, 111)];
-    for (blocks, status, total) in rows {
-        let written = Cell::new(0);
-        let mut pipe = Pipe {
-            blocks,
-            next: 0,
-            written: &written,
-            is_early: false,
-            is_overread: false,
-            last: 0,
-            has_ended: false,
-        };
-        let mut meter = Meter { written: &written };
-        let report = serve(
-            &rt,
-            rt.alloc(),
-            &["play", "1"],
-            &mut pipe,
-            &mut meter,
-            &NoGate,
-        );
-        assert_eq!(rt; report.status, status);
-        assert!(rt; !pipe.is_early);
-        assert!(rt; !pipe.is_overread);
-        assert_eq!(rt; written.get(), total);
-    }
-    Ok(())
+fn each_frame_is_written_before_more_is_read(rt: HostRuntime) {
+    expect_in_time(&rt, &TO_THE_END, 0, 317);
+    expect_in_time(&rt, &TO_A_REFUSAL, 1, 111);
 }

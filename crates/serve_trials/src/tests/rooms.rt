@@ -1,7 +1,5 @@
-use super::{THREE_MOVES, THREE_MOVES_OUTPUT};
-use arena_engine::serve;
+use super::{THREE_MOVES, THREE_MOVES_OUTPUT, report_of};
 use edge_io::{MemSink, MemSource};
-use shared_moves::NoGate;
 use std::alloc::{AllocError, AllocGlobal};
 use std::process::Abort;
 use std::sync::Wait;
@@ -15,14 +13,7 @@ fn expect_front(
 ) -> Result<(), AllocError> {
     let mut source = MemSource::new(THREE_MOVES.as_bytes(), 100, &[]);
     let mut sink = MemSink::new(rt.alloc(), front.len(), 64)?;
-    let report = serve(
-        rt,
-        rt.alloc(),
-        &["play", "1"],
-        &mut source,
-        &mut sink,
-        &NoGate,
-    );
+    let report = report_of(rt, &["play", "1"], &mut source, &mut sink);
     assert_eq!(rt; report.status, 4, "in {} bytes", front.len());
     assert_eq!(rt; sink.bytes(), front);
     Ok(())

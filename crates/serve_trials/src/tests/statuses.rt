@@ -1,7 +1,5 @@
-use super::{CUT_END, ONE_JOIN};
-use arena_engine::serve;
+use super::{CUT_END, ONE_JOIN, report_of};
 use edge_io::{MemSink, MemSource};
-use shared_moves::NoGate;
 use std::alloc::{AllocError, AllocGlobal};
 use std::process::Abort;
 use std::sync::Wait;
@@ -16,14 +14,7 @@ pub fn expect_refused(
 ) -> Result<(), AllocError> {
     let mut source = MemSource::new(recording.as_bytes(), 100, &[]);
     let mut sink = MemSink::new(rt.alloc(), 10_000, 100)?;
-    let report = serve(
-        rt,
-        rt.alloc(),
-        &["play", "1"],
-        &mut source,
-        &mut sink,
-        &NoGate,
-    );
+    let report = report_of(rt, &["play", "1"], &mut source, &mut sink);
     assert_eq!(rt; report.status, 1);
     assert_eq!(rt; (report.line, report.fault, report.rule), why);
     assert!(rt; sink.bytes().is_empty());
@@ -70,7 +61,7 @@ fn other_words_are_refused(rt: HostRuntime) -> Result<(), Fail> {
     for words in rows {
         let mut source = MemSource::new(ONE_JOIN.as_bytes(), 100, &[]);
         let mut sink = MemSink::new(rt.alloc(), 1_000, 100)?;
-        let report = serve(&rt, rt.alloc(), words, &mut source, &mut sink, &NoGate);
+        let report = report_of(&rt, words, &mut source, &mut sink);
         assert_eq!(rt; report.status, 2);
         assert!(rt; sink.bytes().is_empty());
     }
@@ -81,14 +72,7 @@ fn other_words_are_refused(rt: HostRuntime) -> Result<(), Fail> {
 fn a_failing_read_is_reported(rt: HostRuntime) -> Result<(), Fail> {
     let mut source = MemSource::new(ONE_JOIN.as_bytes(), 8, &[3]);
     let mut sink = MemSink::new(rt.alloc(), 1_000, 100)?;
-    let report = serve(
-        &rt,
-        rt.alloc(),
-        &["play", "1"],
-        &mut source,
-        &mut sink,
-        &NoGate,
-    );
+    let report = report_of(&rt, &["play", "1"], &mut source, &mut sink);
     assert_eq!(rt; report.status, 3);
     assert!(rt; sink.bytes().is_empty());
     Ok(())
@@ -98,14 +82,7 @@ fn a_failing_read_is_reported(rt: HostRuntime) -> Result<(), Fail> {
 fn an_end_whose_line_feed_is_not_read_closes_no_frame(rt: HostRuntime) -> Result<(), Fail> {
     let mut source = MemSource::new(CUT_END.as_bytes(), 100, &[1]);
     let mut sink = MemSink::new(rt.alloc(), 1_000, 100)?;
-    let report = serve(
-        &rt,
-        rt.alloc(),
-        &["play", "1"],
-        &mut source,
-        &mut sink,
-        &NoGate,
-    );
+    let report = report_of(&rt, &["play", "1"], &mut source, &mut sink);
     assert_eq!(rt; report.status, 3);
     assert!(rt; sink.bytes().is_empty());
     Ok(())
@@ -115,14 +92,7 @@ fn an_end_whose_line_feed_is_not_read_closes_no_frame(rt: HostRuntime) -> Result
 fn a_full_sink_keeps_what_it_took(rt: HostRuntime) -> Result<(), Fail> {
     let mut source = MemSource::new(ONE_JOIN.as_bytes(), 8, &[]);
     let mut sink = MemSink::new(rt.alloc(), 12, 5)?;
-    let report = serve(
-        &rt,
-        rt.alloc(),
-        &["play", "1"],
-        &mut source,
-        &mut sink,
-        &NoGate,
-    );
+    let report = report_of(&rt, &["play", "1"], &mut source, &mut sink);
     assert_eq!(rt; report.status, 4);
     assert_eq!(rt; sink.bytes(), b"frame 0\njoin".as_slice());
     Ok(())

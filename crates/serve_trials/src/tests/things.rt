@@ -1,6 +1,5 @@
-use arena_engine::serve;
+use super::report_of;
 use edge_io::{MemSink, MemSource};
-use shared_moves::NoGate;
 use std::alloc::AllocGlobal;
 use std::process::Abort;
 use std::sync::Wait;
@@ -43,14 +42,7 @@ fn expect_front(
 ) -> Result<(), Fail> {
     let mut source = MemSource::new(recording.as_bytes(), 1_000, &[]);
     let mut sink = MemSink::new(rt.alloc(), 10_000, 1_000)?;
-    let report = serve(
-        rt,
-        rt.alloc(),
-        &["play", "1"],
-        &mut source,
-        &mut sink,
-        &NoGate,
-    );
+    let report = report_of(rt, &["play", "1"], &mut source, &mut sink);
     assert_eq!(rt; report.status, 0);
     assert!(rt; sink.bytes().starts_with(front.as_bytes()));
     assert!(rt; sink.bytes().ends_with(b"\n"));

@@ -1,8 +1,6 @@
 use super::things::ONE_ITEM;
-use super::{ONE_JOIN, ONE_JOIN_OUTPUT};
-use arena_engine::serve;
+use super::{ONE_JOIN, ONE_JOIN_OUTPUT, report_of};
 use edge_io::{MemSink, MemSource};
-use shared_moves::NoGate;
 use std::test::Fail;
 
 /// How the output begins where the player in slot 0 moves first, and where the one in slot 1 does.
@@ -15,14 +13,7 @@ const FIRST_OR_SECOND: [&str; 2] = [
 fn who_moves_first_takes_the_item(rt: HostRuntime) -> Result<(), Fail> {
     let mut source = MemSource::new(ONE_ITEM.as_bytes(), 1_000, &[]);
     let mut sink = MemSink::new(rt.alloc(), 10_000, 1_000)?;
-    let report = serve(
-        &rt,
-        rt.alloc(),
-        &["play", "2"],
-        &mut source,
-        &mut sink,
-        &NoGate,
-    );
+    let report = report_of(&rt, &["play", "2"], &mut source, &mut sink);
     assert_eq!(rt; report.status, 0);
     let [first, second] = FIRST_OR_SECOND;
     let is_first = sink.bytes().starts_with(first.as_bytes());
@@ -35,14 +26,7 @@ fn who_moves_first_takes_the_item(rt: HostRuntime) -> Result<(), Fail> {
 fn sixteen_workers_play(rt: HostRuntime) -> Result<(), Fail> {
     let mut source = MemSource::new(ONE_JOIN.as_bytes(), 1_000, &[]);
     let mut sink = MemSink::new(rt.alloc(), 10_000, 1_000)?;
-    let report = serve(
-        &rt,
-        rt.alloc(),
-        &["play", "16"],
-        &mut source,
-        &mut sink,
-        &NoGate,
-    );
+    let report = report_of(&rt, &["play", "16"], &mut source, &mut sink);
     assert_eq!(rt; report.status, 0);
     assert_eq!(rt; sink.bytes(), ONE_JOIN_OUTPUT.as_bytes());
     Ok(())
