@@ -9,7 +9,7 @@ module _ (words : List (Bor (List ℕ))) (arguments : List (List ℕ)) (same : m
   pub is_asked : (c : Command) → AsksFor arguments c → serving.AskFor words c
   is_asked c asks = subst (λ (texts : List (List ℕ)). Spells texts c) (sym same) asks
 
-  asks_for : (c : Command) → serving.AskFor words c → AsksFor arguments c
+  pub asks_for : (c : Command) → serving.AskFor words c → AsksFor arguments c
   asks_for c is = subst (λ (texts : List (List ℕ)). Spells texts c) same is
 
   pub none_asked : AskForNothing arguments → serving.AskForNothing words

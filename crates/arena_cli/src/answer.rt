@@ -1,5 +1,5 @@
-ghost use Rattle.std.specs.Prelude.{◌≡◌, ◌≤◌, ◌⊎◌, ℕ, true, Err, IsErr, IfSome, IfOk, OnErr, IsOkAnd, map};
-ghost use Rattle.std.specs.Prelude.{string_bytes};
+ghost use Rattle.std.specs.Prelude.{◌≡◌, ◌≤◌, ◌⊎◌, ℕ, true, [], None, Err, IsErr, IfSome, IsSomeAnd, IfOk, OnErr, IsOkAnd};
+ghost use Rattle.std.specs.Prelude.{length, map, string_bytes};
 ghost use Rattle.std.specs.Io.KnownBytes.{Appends};
 ghost use Rattle.edge_io.specs.Counts.{HasRisen};
 ghost use Rattle.edge_io.specs.Writes.{AppendsPart};
@@ -8,8 +8,8 @@ ghost use Rattle.demo_make.specs.GeneratedFrames.{generated_text};
 ghost use Rattle.out_text.specs.Journals.{dids};
 ghost use Rattle.out_text.specs.OneTaker.{HasOneTakerEach};
 ghost use Rattle.out_text.specs.Output.{HasLast, IsOutput, IsRefused, IsCut, IsSomeFrames};
-ghost use Rattle.arena_engine.specs.Making.{ArePlayed, line_of_match};
-ghost use Rattle.arena_engine.specs.Output.{Writes, ReadsSome, ReadsToEnd, ReadsToRefusal};
+ghost use Rattle.arena_engine.specs.Making.{IsOfWriting, IsBare, ArePlayed, line_of_match};
+ghost use Rattle.arena_engine.specs.Output.{Writes, ReadsSome, ReadsToEnd, ReadsToRefusal, HasRoom};
 ghost use Rattle.arena_engine.specs.Reports.{refusal_of, last_in};
 ghost use Rattle.arena_cli.specs.declared.arguments.NoArguments.TheVariants.{NotUnicode, Memory};
 ghost use Rattle.arena_cli.specs.Asked.{AsksToPlay, AsksToMake, AsksToMatch, AskForNothing};
@@ -93,6 +93,31 @@ fn serve_arguments<R: Threads + Wait + Sync, S: Source, K: Sink, G: Gate>(
         → ArePlayed seed players frames workers report.status report.all) }
     ensures match_reads_nothing { IfOk result (λ report. (seed players frames workers : ℕ)
         → AsksToMatch (map string_bytes arguments.now) seed players frames workers → source.new ≡ source.old) }
+    ensures make_status { IfOk result (λ report. (seed players frames : ℕ)
+        → AsksToMake (map string_bytes arguments.now) seed players frames
+        → IsOfWriting report.status × IsBare report) }
+    ensures match_status { IfOk result (λ report. (seed players frames workers : ℕ)
+        → AsksToMatch (map string_bytes arguments.now) seed players frames workers
+        → IsOfWriting report.status × IsBare report) }
+    ensures no_frame { IfOk result (λ report. report.status ≡ 2 → report.last ≡ None) }
+    ensures place { IfOk result (λ report. (report.status ≡ 1 → ⊥)
+        → (report.line ≡ 0) × (report.fault ≡ 0) × (report.rule ≡ 0)) }
+    ensures all { IfOk result (λ report. ((seed players frames workers : ℕ)
+        → AsksToMatch (map string_bytes arguments.now) seed players frames workers → ⊥) → report.all ≡ []) }
+    ensures before_end { IfOk result (λ report. report.status ≡ 3 → S.ended source.new ≡ S.ended source.old) }
+    ensures reads_uncounted { IfOk result (λ report. (report.status ≡ 3 → ⊥)
+        → S.faults source.new ≡ S.faults source.old) }
+    ensures writes_uncounted { IfOk result (λ report. (report.status ≡ 4 → ⊥)
+        → K.faults sink.new ≡ K.faults sink.old) }
+    ensures sure_reads { IfOk result (λ report. S.never_fails source.old → report.status ≡ 3 → ⊥) }
+    ensures sure_writes { IfOk result (λ report. (n : ℕ) → AsksToPlay (map string_bytes arguments.now) n
+        → IsSomeAnd (S.left source.old) (λ bytes. HasRoom n bytes (K.room sink.old)) → report.status ≡ 4 → ⊥) }
+    ensures sure_make { IfOk result (λ report. (seed players frames : ℕ)
+        → AsksToMake (map string_bytes arguments.now) seed players frames
+        → length (generated_text seed players frames) ≤ K.room sink.old → report.status ≡ 4 → ⊥) }
+    ensures sure_match { IfOk result (λ report. (seed players frames workers : ℕ)
+        → AsksToMatch (map string_bytes arguments.now) seed players frames workers
+        → 300 ≤ K.room sink.old → report.status ≡ 4 → ⊥) }
 {
     let words = words_of(alloc, arguments)?;
     Ok(serve(rt, alloc, &words, source, sink, gate))
@@ -175,6 +200,29 @@ pub fn answer<R: Threads + Wait + Sync, S: Source, K: Sink, G: Gate>(
     ensures match_reads_nothing { (seed players frames workers : ℕ)
         → IsOkAnd arguments (λ all. AsksToMatch (map string_bytes all.items) seed players frames workers)
         → source.new ≡ source.old }
+    ensures make_status { (seed players frames : ℕ)
+        → IsOkAnd arguments (λ all. AsksToMake (map string_bytes all.items) seed players frames)
+        → IsOfWriting result.status × IsBare result }
+    ensures match_status { (seed players frames workers : ℕ)
+        → IsOkAnd arguments (λ all. AsksToMatch (map string_bytes all.items) seed players frames workers)
+        → IsOfWriting result.status × IsBare result }
+    ensures no_frame { result.status ≡ 2 → result.last ≡ None }
+    ensures place { (result.status ≡ 1 → ⊥) → (result.line ≡ 0) × (result.fault ≡ 0) × (result.rule ≡ 0) }
+    ensures all { ((seed players frames workers : ℕ)
+        → IsOkAnd arguments (λ all. AsksToMatch (map string_bytes all.items) seed players frames workers) → ⊥)
+        → result.all ≡ [] }
+    ensures before_end { result.status ≡ 3 → S.ended source.new ≡ S.ended source.old }
+    ensures reads_uncounted { (result.status ≡ 3 → ⊥) → S.faults source.new ≡ S.faults source.old }
+    ensures writes_uncounted { (result.status ≡ 4 → ⊥) → K.faults sink.new ≡ K.faults sink.old }
+    ensures sure_reads { S.never_fails source.old → result.status ≡ 3 → ⊥ }
+    ensures sure_writes { (n : ℕ) → IsOkAnd arguments (λ all. AsksToPlay (map string_bytes all.items) n)
+        → IsSomeAnd (S.left source.old) (λ bytes. HasRoom n bytes (K.room sink.old)) → result.status ≡ 4 → ⊥ }
+    ensures sure_make { (seed players frames : ℕ)
+        → IsOkAnd arguments (λ all. AsksToMake (map string_bytes all.items) seed players frames)
+        → length (generated_text seed players frames) ≤ K.room sink.old → result.status ≡ 4 → ⊥ }
+    ensures sure_match { (seed players frames workers : ℕ)
+        → IsOkAnd arguments (λ all. AsksToMatch (map string_bytes all.items) seed players frames workers)
+        → 300 ≤ K.room sink.old → result.status ≡ 4 → ⊥ }
 {
     match arguments {
         Ok(all) => match serve_arguments(rt, alloc, all.as_slice(), source, sink, gate) {
