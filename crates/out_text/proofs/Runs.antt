@@ -96,6 +96,33 @@ pub in_order-push : (map : MapView) (frame : ℕ) (s : State) (frames : List (Li
     → AreInOrder map frame s (frames ++ arrivals ∷ []) (js ++ j ∷ [])
 in_order-push map frame s frames arrivals js j order here = in_order-append map frame s frames (arrivals ∷ []) js (j ∷ []) order (here, tt)
 
+-- right journals of frames are right of all but the last, and of the last after those
+pub right-split_last : (map : MapView) (frame : ℕ) (s : State) (frames : List (List Arrival)) (arrivals : List Arrival) (js : List (List Entry)) (j : List Entry) → length js ≡ length frames
+    → AreRight map frame s (frames ++ arrivals ∷ []) (js ++ j ∷ [])
+    → AreRight map frame s frames js × IsRightAfter map (received_in map (frame + length frames) (state_played map frame s frames js) arrivals) j
+right-split_last map frame s [] arrivals [] j same right =
+    (tt, subst (λ (n : ℕ). IsRightAfter map (received_in map n s arrivals) j) (sym (add-zero frame)) right.0)
+right-split_last map frame s [] arrivals (k ∷ js) j same right = absurd (omega (arith, same))
+right-split_last map frame s (x ∷ frames) arrivals [] j same right = absurd (omega (arith, same))
+right-split_last map frame s (x ∷ frames) arrivals (k ∷ js) j same right =
+    let next = state_after map (received_in map frame s x) k in
+    let rest = right-split_last map (frame + 1) next frames arrivals js j (omega (arith, same)) right.1 in
+    let P : ℕ → Type 0 = λ n. IsRightAfter map (received_in map n (state_played map (frame + 1) next frames js) arrivals) j in
+    ((right.0, rest.0), subst P (next_number frame (length frames)) rest.1)
+
+pub in_order-split_last : (map : MapView) (frame : ℕ) (s : State) (frames : List (List Arrival)) (arrivals : List Arrival) (js : List (List Entry)) (j : List Entry) → length js ≡ length frames
+    → AreInOrder map frame s (frames ++ arrivals ∷ []) (js ++ j ∷ [])
+    → AreInOrder map frame s frames js × IsInOrder j (received_in map (frame + length frames) (state_played map frame s frames js) arrivals).lists.moves
+in_order-split_last map frame s [] arrivals [] j same order =
+    (tt, subst (λ (n : ℕ). IsInOrder j (received_in map n s arrivals).lists.moves) (sym (add-zero frame)) order.0)
+in_order-split_last map frame s [] arrivals (k ∷ js) j same order = absurd (omega (arith, same))
+in_order-split_last map frame s (x ∷ frames) arrivals [] j same order = absurd (omega (arith, same))
+in_order-split_last map frame s (x ∷ frames) arrivals (k ∷ js) j same order =
+    let next = state_after map (received_in map frame s x) k in
+    let rest = in_order-split_last map (frame + 1) next frames arrivals js j (omega (arith, same)) order.1 in
+    let P : ℕ → Type 0 = λ n. IsInOrder j (received_in map n (state_played map (frame + 1) next frames js) arrivals).lists.moves in
+    ((order.0, rest.0), subst P (next_number frame (length frames)) rest.1)
+
 -- ---- the first frames
 
 -- the first journals are right of the first frames

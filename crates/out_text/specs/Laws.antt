@@ -2,10 +2,11 @@
 use Rattle.std.specs.Prelude.{◌≡◌, ℕ, ◌+◌, ◌*◌, ◌≤◌, ◌↔◌, ◌⊎◌, true, List, [], ◌∷◌, ◌++◌, length, take, flat_map}
 use Rattle.std.specs.Prelude.{Option, None, Some, IsSome}
 use Rattle.entity_recs.specs.declared.effect.Entry.{Entry}
+use Rattle.move_journal.specs.Merges.{IsInOrder}
 use Rattle.arena_map.specs.Maps.{MapView, IsMap}
 use Rattle.client_ports.specs.declared.arrival.Arrival.{Arrival}
 use Rattle.client_ports.specs.States.{State, IsServerState}
-use Rattle.plain_server.specs.Frames.{received_in, moved_by, state_played}
+use Rattle.plain_server.specs.Frames.{received_in, moved_by, state_played, IsRightAfter, AreRight, AreInOrder}
 use Rattle.demo_lines.specs.Bytes.{Refusal, events, fault, map_of}
 use Rattle.demo_lines.specs.Spelling.{IsRecording, recording_text, frame_events, recording_events}
 use Rattle.out_text.specs.Dids.{Did}
@@ -143,3 +144,20 @@ pub record LinesAreInTurn : Type 0 where
       let r = received_in map number (state_played map frame state frames journals) arrivals in
       run_lines map frame state (frames ++ arrivals ∷ []) (journals ++ journal ∷ [])
       ≡ run_lines map frame state frames journals ++ lines_with map number r journal
+
+-- journals of frames and of one more are right exactly where those of the frames are, and the last is right for what is
+-- received then: in the frame with the number that follows, in the state that the frames before it left; the same of
+-- the order of arrival
+pub record JournalsAreInTurn : Type 0 where
+  pub right : (map : MapView) (frame : ℕ) (state : State) (frames : List (List Arrival)) (journals : List (List Entry))
+      (arrivals : List Arrival) (journal : List Entry) → length journals ≡ length frames
+      → let number = frame + length frames in
+      let r = received_in map number (state_played map frame state frames journals) arrivals in
+      AreRight map frame state (frames ++ arrivals ∷ []) (journals ++ journal ∷ [])
+      ↔ (AreRight map frame state frames journals × IsRightAfter map r journal)
+  pub order : (map : MapView) (frame : ℕ) (state : State) (frames : List (List Arrival)) (journals : List (List Entry))
+      (arrivals : List Arrival) (journal : List Entry) → length journals ≡ length frames
+      → let number = frame + length frames in
+      let r = received_in map number (state_played map frame state frames journals) arrivals in
+      AreInOrder map frame state (frames ++ arrivals ∷ []) (journals ++ journal ∷ [])
+      ↔ (AreInOrder map frame state frames journals × IsInOrder journal r.lists.moves)

@@ -2,7 +2,7 @@ ghost use Rattle.out_text.specs.Laws.{DidLinesAreRead, FrameLinesAreRead, Faultl
 ghost use Rattle.out_text.specs.Laws.{WrittenRecordingsHaveOutputs, OneWorkerHasOneOutput, OutputsSpellTheirJournals};
 ghost use Rattle.out_text.specs.Laws.{LinesReadBack, LinesArePrintedApart, RecordingsHaveMaps, OutputsHaveOneTaker};
 ghost use Rattle.out_text.specs.Laws.{OutputsAreBounded, FramesHaveOneReplyEach, FramesAnswerTheirPackets};
-ghost use Rattle.out_text.specs.Laws.{FramesHaveTheEvents, LinesAreInTurn};
+ghost use Rattle.out_text.specs.Laws.{FramesHaveTheEvents, LinesAreInTurn, JournalsAreInTurn};
 
 /// The journals are read off exactly the lines that are printed: no other line opens a frame or reports a move.
 pub fn only_printed_lines_are_read()
@@ -80,4 +80,10 @@ pub fn frames_answer_their_packets()
 /// frames before it left.
 pub fn lines_are_in_turn()
     ensures { LinesAreInTurn }
+{}
+
+/// Journals of frames and of one more are right exactly where those of the frames are, and the last is right for what is
+/// received in the frame that follows; the same of the order of arrival.
+pub fn journals_are_in_turn()
+    ensures { JournalsAreInTurn }
 {}
