@@ -1,17 +1,16 @@
 -- The score of frames, slot by slot.
-use Rattle.std.proofs.Common.{◌≡◌, ℕ, zero, suc, ◌+◌, ◌<◌, ◌≤◌, Bool, true, false, cond, List, [], ◌∷◌, Option, Some, None, is_some, add-one, refl, sym, ap, ◌∙◌, arith}
+use Rattle.std.proofs.Common.{◌≡◌, ℕ, zero, suc, ◌+◌, ◌≤◌, Bool, true, false, cond, [], Option, Some, None, is_some, add-one, refl, sym, ap, ◌∙◌, arith}
 use Rattle.std.specs.Prelude.{sum_by}
 use Rattle.std.specs.List.{range_with_len}
 use Rattle.std.proofs.lemmas.List.Sums.{sum_by-cons}
 use Rattle.entity_recs.specs.declared.rec.Rec.{Rec}
-use Rattle.arena_map.specs.Maps.{MapView, IsMap}
 use Rattle.world_tree.specs.Live.{record_at}
 use Rattle.client_ports.specs.Clients.{client_at}
-use Rattle.client_ports.specs.States.{State, IsState, IsServerState, HaveSameLive}
+use Rattle.client_ports.specs.States.{State, HaveSameLive}
 use Rattle.plain_server.specs.RecordsById.{opening}
 use Rattle.plain_server.specs.Frames.{state_played}
 use Rattle.plain_server.proofs.Frames.{played_is, opening_is}
-use Rattle.frame_phases.specs.Scores.{score_at, score_in}
+use Rattle.frame_phases.specs.Scores.{score_at}
 use Rattle.frame_phases.proofs.Scoring.{score_first, score-next, score-all}
 use Rattle.match_play.specs.TotalsOfLines.{score_of_slot}
 use Rattle.match_play.specs.Laws.{ScoresAreOfTheClients}

@@ -15,7 +15,7 @@ use Rattle.client_ports.specs.States.{State}
 use Rattle.plain_server.specs.RecordsById.{opening}
 use Rattle.plain_server.specs.Replies.{players_in}
 use Rattle.plain_server.specs.Frames.{received_in, moved_by, state_after}
-use Rattle.out_text.specs.Dids.{Did, did_of}
+use Rattle.out_text.specs.Dids.{did_of}
 use Rattle.out_text.specs.OutLines.{OutLine, FrameLine, NoLine, JoinedLine, DidLine, ToLine, EndLine}
 use Rattle.out_text.specs.FrameLines.{no_line, joined_line, did_line, to_line, to_lines, frame_lines, lines_with, run_lines}
 use Rattle.out_text.specs.PacketLines as packet_lines
