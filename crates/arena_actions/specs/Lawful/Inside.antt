@@ -33,6 +33,10 @@ contains_on-moved : (from to low high g : ℤ) (far by : ℕ) → unsigned_abs (
     → contains_on (((from +ℤ low) -ℤ g) -ℤ pos by) (((from +ℤ high) +ℤ g) +ℤ pos by) ((to +ℤ low) -ℤ g) ((to +ℤ high) +ℤ g) ≡ true
 contains_on-moved from to low high g far by near less = grind (arith, ints)
 
+contains_on-larger : (lo hi : ℤ) (less more : ℕ) → less ≤ more
+    → contains_on (lo -ℤ pos more) (hi +ℤ pos more) (lo -ℤ pos less) (hi +ℤ pos less) ≡ true
+contains_on-larger lo hi less more le = grind (arith, ints)
+
 -- ---- on all axes
 
 pub contains-through : (a b c : Bounds) → contains a b ≡ true → contains b c ≡ true → contains a c ≡ true
@@ -82,3 +86,9 @@ pub contains-moved : (from to mins maxs g : Vec3) (far_x far_y far_z x y z : ℕ
 contains-moved from to mins maxs g far_x far_y far_z x y z near_x near_y near_z less_x less_y less_z =
     all_three (contains_on-moved from.x to.x mins.x maxs.x g.x far_x x near_x less_x) (contains_on-moved from.y to.y mins.y maxs.y g.y far_y y near_y less_y)
     (contains_on-moved from.z to.z mins.z maxs.z g.z far_z z near_z less_z)
+
+-- a box that grows more contains one that grows less
+pub contains-larger : (b : Bounds) (x y z x' y' z' : ℕ) → x ≤ x' → y ≤ y' → z ≤ z'
+    → contains (grown b (amount x' y' z')) (grown b (amount x y z)) ≡ true
+contains-larger b x y z x' y' z' less_x less_y less_z =
+    all_three (contains_on-larger b.lo.x b.hi.x x x' less_x) (contains_on-larger b.lo.y b.hi.y y y' less_y) (contains_on-larger b.lo.z b.hi.z z z' less_z)
