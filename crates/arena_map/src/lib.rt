@@ -24,6 +24,4 @@ mod map_word;
 mod reading;
 mod rules;
 mod spelling;
-#[cfg(test)]
-mod tests;
 mod things;

@@ -7,6 +7,8 @@ pub use places::{ARRIVAL, ITEM};
 pub use taking::is_taken;
 
 mod errand;
+#[cfg(test)]
+mod layout;
 mod places;
 #[cfg(test)]
 mod plain;

@@ -24,6 +24,4 @@ mod line_fault;
 mod packet;
 mod reading;
 mod stage;
-#[cfg(test)]
-mod tests;
 mod word;

@@ -19,7 +19,5 @@ mod laws;
 mod make_stop;
 mod map_lines;
 mod moves;
-#[cfg(test)]
-mod tests;
 mod text;
 mod writing;

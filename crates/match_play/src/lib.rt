@@ -14,6 +14,4 @@ mod items;
 mod laws;
 mod limits;
 mod played;
-#[cfg(test)]
-mod tests;
 mod totals;

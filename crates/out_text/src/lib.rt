@@ -23,5 +23,3 @@ mod pending;
 mod printer;
 mod printing;
 mod reading;
-#[cfg(test)]
-mod tests;

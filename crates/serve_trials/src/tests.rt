@@ -12,12 +12,17 @@ mod cut_input;
 mod failing_reads;
 mod far;
 mod full;
+mod generated;
+mod lines;
 mod made;
+mod maps;
 mod pipe;
+mod recordings;
 mod refused;
 mod rooms;
 mod statuses;
 mod things;
+mod totals;
 mod workers;
 
 const ARENA: &str = "arena -131072 -131072 0 131072 131072 65536\n";

@@ -1,8 +1,8 @@
 ghost use Rattle.std.specs.Prelude.{◌≡◌, true, IfOk};
 ghost use Rattle.arena_map.specs.MapLines.{IsWithinLimits, is_added};
 
-use super::*;
 use arena_geo::{Aabb, Vec3};
+use arena_map::{ArenaMap, Lift, MapFault, MapLine, MapRefusal, print_map_line, read_map_line};
 use edge_io::{LineBuf, cut};
 use entity_recs::{ITEM_MAXS, ITEM_MINS, Kind, Rec};
 use std::alloc::Global;

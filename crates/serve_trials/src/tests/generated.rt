@@ -1,8 +1,8 @@
 ghost use Rattle.demo_make.specs.GeneratedFrames.{IsInRange};
 
-use super::*;
 use client_ports::Arrival;
 use demo_lines::Event;
+use demo_make::{Generator, MakeStop, generated_map, make};
 use edge_io::MemSink;
 use std::alloc::Global;
 use std::test::Fail;

@@ -2,9 +2,9 @@ ghost use Rattle.std.specs.Prelude.{◌≡◌, true, false, IfOk};
 ghost use Rattle.demo_lines.specs.Known.{is_map_whole, is_refused};
 ghost use Rattle.demo_lines.specs.Readings.{IsReading};
 
-use super::*;
 use arena_geo::{Aabb, Vec3};
 use arena_map::ArenaMap;
+use demo_lines::{DemoReader, DemoStop, Event};
 use edge_io::MemSource;
 use std::alloc::Global;
 use std::process::Abort;

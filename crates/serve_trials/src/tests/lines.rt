@@ -2,11 +2,11 @@ ghost use Rattle.std.specs.Prelude.{◌≡◌, ◌≤◌, All, length, IfOk};
 ghost use Rattle.out_text.specs.Printing.{line_of};
 ghost use Rattle.out_text.specs.Ranges.{HasRoom};
 
-use super::*;
 use arena_geo::Vec3;
 use client_ports::{Joined, Received, Refusal, Refused};
 use edge_io::MemSink;
 use entity_recs::{Entry, IdList, Reply};
+use out_text::{LineBuf, OutLine, Printed, Printer, print_line, read_line};
 use packet_read::PacketFault;
 use snapshot_write::ReplyBuf;
 use std::alloc::{AllocError, AllocGlobal, Global};

@@ -1,5 +1,4 @@
-use crate::played::play_match;
-use crate::totals::Totals;
+use match_play::{Totals, play_match};
 use move_journal::Journal;
 use shared_moves::NoGate;
 use std::process::Abort;
