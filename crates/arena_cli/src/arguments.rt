@@ -1,4 +1,5 @@
-ghost use Rattle.std.specs.Prelude.{◌≡◌, Err, IsErr, IfOk, drop, map, string_bytes};
+ghost use Rattle.std.specs.Prelude.{◌≡◌, Err, IsErr, IfOk, IsOkAnd, drop, map, string_bytes};
+ghost use Rattle.std.specs.Vec.Iter.{into_iter_items};
 ghost use Rattle.arena_cli.specs.declared.arguments.NoArguments.TheVariants.{NotUnicode};
 
 use std::alloc::{AllocError, Global};
@@ -48,7 +49,8 @@ impl From<AllocError> for NoArguments {
 
 /// All arguments of the program, the first of which is its name.
 pub fn arguments_of(alloc: Global, arguments: io::Result<Args>) -> Result<Vec<String>, NoArguments>
-    ensures { result ≡ Err NotUnicode → IsErr arguments }
+    ensures all { IfOk result (λ all. IsOkAnd arguments (λ given. all.items ≡ into_iter_items given)) }
+    ensures not_unicode { result ≡ Err NotUnicode → IsErr arguments }
 {
     Ok(arguments?.collect(alloc)?)
 }

@@ -4,8 +4,10 @@
 //! It ends with the status of the report. For every status but 0 it prints why, in one line on standard error.
 #![tactic(auto)]
 
-ghost use Rattle.std.specs.Prelude.{◌≡◌, ◌≤◌};
+ghost use Rattle.std.specs.Prelude.{◌≡◌, ◌≤◌, ◌⊎◌, IfOk, map, string_bytes};
 ghost use Rattle.std.specs.Process.{exit_status};
+ghost use Rattle.std.specs.Vec.Iter.{into_iter_items};
+ghost use Rattle.arena_cli.specs.Asked.{AskForNothing};
 
 use answer::answer;
 use arena_engine::Report;
@@ -35,7 +37,11 @@ fn answer_streams<R: Threads + Wait + Sync>(
     mut input: StdSource<Stdin>,
     mut output: StdSink<Stdout>,
 ) -> Report
-    ensures { result.status ≤ 5 }
+    ensures asked { IfOk arguments (λ given. AskForNothing (map string_bytes (into_iter_items given)))
+        → (result.status ≡ 2) ⊎ (result.status ≡ 5) }
+    ensures refused { result.status ≡ 2
+        → IfOk arguments (λ given. AskForNothing (map string_bytes (into_iter_items given))) }
+    ensures known { result.status ≤ 5 }
 {
     let arguments = arguments_of(alloc, arguments);
     answer(rt, alloc, arguments, &mut input, &mut output, &NoGate)
