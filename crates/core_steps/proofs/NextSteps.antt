@@ -128,13 +128,13 @@ module _ (F : Fixed) (m : Machine) (history : List Item) (now : World) (i : ℕ)
       ]) (loaded_again_stands F m.core history now i lawful start e is.core))
 
   -- a take, which is refused where the node is held
-  on_refused : (next : Next) (node : ℕ) → is_taking view.point ≡ true → core_after F m.core i next ≡ refuse_node m.core i node
+  on_refused : (next : Next) (node : ℕ) → is_taking view.point ≡ true → (m.core.words.node node == 0) ≡ false → core_after F m.core i next ≡ refuse_node m.core i node
       → MachineStands F (record { core = core_after F m.core i next; given = put i None m.given; quits = put i false m.quits }) history now
-  on_refused next node takes same =
+  on_refused next node takes held same =
       let point = taking_point view.point takes in
       subst (λ (core : Core). MachineStands F (record { core = core; given = put i None m.given; quits = put i false m.quits }) history now) (sym same)
       (busy_on F m history history now now i m.core.words (view_after_refusal node (m.core.words.node node) view) is point.busy (record { cmd = λ _. refl; next = is.next i; fits = is.fits i })
-      (refused_node_stands F m.core history now i node takes is.core))
+      (refused_node_stands F m.core history now i node takes held is.core))
 
   on_take : (node : ℕ) (point : Point) → view.point ≡ point → is_taking point ≡ true → next_take point ≡ Some node → is_whole (stage_of point) ≡ true → SomeIsLeft (point_after_take node point) view.wanted
       → Fits F (point_after_take node point) view.lists view.others view.states → StandsAfter (TakeNode node)
@@ -151,7 +151,7 @@ module _ (F : Fixed) (m : Machine) (history : List Item) (now : World) (i : ℕ)
               fits = subst (λ (p : Point). Fits F (point_after_take node p) view.lists view.others view.states) (sym e) fits;
             })
             (taken_node_stands F m.core history now i node (ap next_take e ∙ next) (eqb-true (m.core.words.node node) 0 free) is.core))
-        | inr held ↦ on_refused (TakeNode node) node takes_here (cond-false (m.core.words.node node == 0) (take_node F m.core i node) (refuse_node m.core i node) held)
+        | inr held ↦ on_refused (TakeNode node) node takes_here held (cond-false (m.core.words.node node == 0) (take_node F m.core i node) (refuse_node m.core i node) held)
       ])
 
   fits_taking : (got : List ℕ) (leaf : ℕ) (rest : List ℕ) → view.point ≡ Taking got (leaf ∷ rest) → Fits F (taking (got ++ leaf ∷ []) rest) view.lists view.others view.states
@@ -173,7 +173,7 @@ module _ (F : Fixed) (m : Machine) (history : List Item) (now : World) (i : ℕ)
               fits = fits_at Resolving (Claiming (node ∷ []) (rest_of (write_nodes F (record_read view.cmd.slot view.again) effect))) e (omega arith) (omega arith);
             })
             (claimed_node_stands F m.core history now i effect node lawful start e refl (ap first writes) (eqb-true (m.core.words.node node) 0 free) is.core))
-        | inr held ↦ on_refused (ClaimNode effect node) node (ap is_taking e) (cond-false (m.core.words.node node == 0) (claim_node F m.core i effect node) (refuse_node m.core i node) held)
+        | inr held ↦ on_refused (ClaimNode effect node) node (ap is_taking e) held (cond-false (m.core.words.node node == 0) (claim_node F m.core i effect node) (refuse_node m.core i node) held)
       ])
 
   list_fits : (node : ℕ) (plan : List ℕ) → view.point ≡ Entered node plan

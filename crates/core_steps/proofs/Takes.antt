@@ -267,7 +267,7 @@ pub taken_node_stands : TakenNodeStands
 taken_node_stands F core history now i node next free is = taken_at F core history now i node (core.view i).point is refl next free
 
 pub refused_node_stands : RefusedNodeStands
-refused_node_stands F core history now i node taking is =
+refused_node_stands F core history now i node taking held is =
     let view = core.view i in
     let seat = is.seats i in
     let point = taking_point view.point taking in

@@ -85,10 +85,11 @@ TakenNodeStands =
     → next_take (core.view i).point ≡ Some node → core.words.node node ≡ 0
     → Stands F core history now → Stands F (take_node F core i node) history now
 
--- a take that is refused leaves what stands
+-- a take of a held node is refused, which leaves what stands
 abbrev pub RefusedNodeStands : Type 0
 RefusedNodeStands =
     (F : Fixed) (core : Core) (history : List Item) (now : World) (i node : ℕ) → is_taking (core.view i).point ≡ true
+    → (core.words.node node == 0) ≡ false
     → Stands F core history now → Stands F (refuse_node core i node) history now
 
 -- the five words of a player's record that can be kept give it back, with the state that is given
