@@ -20,6 +20,7 @@ pub mod Reports
 pub mod Ticking
 pub mod Frames
 pub mod Turns
+pub mod Ending
 pub mod Clear
 pub mod Away
 pub mod Takers

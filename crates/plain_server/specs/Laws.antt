@@ -1,6 +1,6 @@
 -- What holds of the plain server, after any frames.
 use Rattle.std.specs.Prelude.{◌≡◌, ◌↔◌, ℕ, ◌+◌, ◌<◌, ◌≤◌, List, [], ◌∷◌, ◌++◌, length, take, slice_get, Option, Some}
-use Rattle.std.specs.Prelude.{None, IsSome, All}
+use Rattle.std.specs.Prelude.{None, IsSome, All, true, false}
 use Rattle.entity_recs.specs.declared.rec.Rec.{Rec}
 use Rattle.entity_recs.specs.declared.effect.Entry.{Entry}
 use Rattle.entity_recs.specs.Commands.{Command}
@@ -9,16 +9,19 @@ use Rattle.move_journal.specs.Merges.{IsInOrder}
 use Rattle.arena_map.specs.Maps.{MapView, IsMap, delay_of}
 use Rattle.arena_map.specs.Validity.{IsValidWorld, IsOpeningWorld, AreClear}
 use Rattle.arena_actions.specs.Outcomes.{outcome_in}
+use Rattle.world_tree.specs.Live.{record_at}
 use Rattle.client_ports.specs.declared.arrival.Arrival.{Arrival}
 use Rattle.client_ports.specs.Clients.{client_at, AreClients}
 use Rattle.client_ports.specs.States.{State, IsServerState}
 use Rattle.client_ports.specs.Receiving.{Receiving}
+use Rattle.client_ports.specs.Finishing.{is_leaver}
 use Rattle.plain_server.specs.RecordsById.{world_of, records_in, opening}
 use Rattle.plain_server.specs.Moving.{HasLivePlayer}
 use Rattle.plain_server.specs.Entries.{AreReported, HasBytes}
 use Rattle.plain_server.specs.Frames.{received_in, moved_by, state_after, state_played, IsRightAfter}
 use Rattle.plain_server.specs.Frames.{AreRight, AreInOrder, journals_of}
 use Rattle.plain_server.specs.Takers.{HasTaken, HasTakenIn, IsSameEntry, IsInState}
+use Rattle.plain_server.specs.Ends.{HasNoEntryOf, IsLastEntry, IsAsReported}
 
 -- before the first frame nobody is joined, and each thing of the map is live at its id and as at the start, and nothing
 -- else is
@@ -150,3 +153,28 @@ TakenItemsStayAway =
     → (frame place later other id delay : ℕ) → delay_of map id ≡ Some delay
     → HasTakenIn journals frame place id → HasTakenIn journals later other id
     → frame ≤ later → later < frame + delay → IsSameEntry frame place later other
+
+-- a frame ends where its moves did. After the moves of a right journal each player with an entry is where the last one
+-- reports it, which is what the replies show, and a player without an entry is as the receive pass left it. Whatever
+-- the journal, the next frame begins with these records: only those whose client leaves are gone
+pub record FramesEndWithTheirMoves : Type 0 where
+  pub moved : (map : MapView) (frame : ℕ) (state : State) (arrivals : List Arrival) (journal : List Entry) → IsMap map
+      → IsServerState map state
+      → let r = received_in map frame state arrivals in
+      IsRightAfter map r journal → (e : Entry) → IsLastEntry journal e
+      → IsAsReported (moved_by map r journal).records e
+  pub unmoved : (map : MapView) (frame : ℕ) (state : State) (arrivals : List Arrival) (journal : List Entry)
+      → IsMap map → IsServerState map state
+      → let r = received_in map frame state arrivals in
+      IsRightAfter map r journal → (slot : ℕ) → slot < 64 → HasNoEntryOf slot journal
+      → record_at (moved_by map r journal).records slot ≡ record_at r.state.records slot
+  pub kept : (map : MapView) (frame : ℕ) (state : State) (arrivals : List Arrival) (journal : List Entry) → IsMap map
+      → IsServerState map state
+      → let r = received_in map frame state arrivals in
+      (id : ℕ) → is_leaver (client_at r.state.clients id) ≡ false
+      → record_at (state_after map r journal).records id ≡ record_at (moved_by map r journal).records id
+  pub gone : (map : MapView) (frame : ℕ) (state : State) (arrivals : List Arrival) (journal : List Entry) → IsMap map
+      → IsServerState map state
+      → let r = received_in map frame state arrivals in
+      (id : ℕ) → is_leaver (client_at r.state.clients id) ≡ true
+      → record_at (state_after map r journal).records id ≡ None

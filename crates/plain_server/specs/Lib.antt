@@ -23,5 +23,6 @@ pub mod Moving
 pub mod Entries
 pub mod Frames
 pub mod Takers
+pub mod Ends
 pub mod Replies
 pub mod Laws

@@ -1,7 +1,7 @@
 ghost use Rattle.plain_server.specs.Laws.{OpeningIsAsTheMapSays};
 ghost use Rattle.plain_server.specs.Laws.{MovesKeepWorldsValid, WorldsStayValid, PortsStayApart, PlayersKeepRoom};
 ghost use Rattle.plain_server.specs.Laws.{FramesAreInTurn, JournalsAreRightInOrder, OrderLeavesOneJournalEach};
-ghost use Rattle.plain_server.specs.Laws.{RightJournalsAreInRange};
+ghost use Rattle.plain_server.specs.Laws.{RightJournalsAreInRange, FramesEndWithTheirMoves};
 ghost use Rattle.plain_server.specs.Laws.{FramesHaveOneTaker, OnlyItemsAreTaken, ItemsHaveOneTaker, TakenItemsStayAway};
 
 /// Before the first frame nobody is joined, and each thing of the map is live at its id and as at the start, and nothing
@@ -74,4 +74,11 @@ pub fn items_have_one_taker()
 /// says, from that one on, no other entry takes it.
 pub fn taken_items_stay_away()
     ensures { TakenItemsStayAway }
+{}
+
+/// A frame ends where its moves did. After the moves of a right journal each player with an entry is where the last one
+/// reports it, and each other one is as the receive pass left it; the replies show these records. The next frame begins
+/// with them, but for those of the players that leave.
+pub fn frames_end_with_their_moves()
+    ensures { FramesEndWithTheirMoves }
 {}
