@@ -25,3 +25,4 @@ pub mod Frames
 pub mod Takers
 pub mod Replies
 pub mod Laws
+pub mod Numbers
