@@ -35,3 +35,7 @@ effect_of w = record { me = w.me; states = w.states; reply = record { origin = w
 -- what a move does in an arena, among all other live records in rising id
 unfoldable pub outcome_in : MapView → Action
 outcome_in map me near c = effect_of (touched map c.frame (moved_among map me near c) near)
+
+-- what a move does on a map, as the map decides: each is an arena in which nothing else is done
+abbrev pub outcome_on : MapView → Action
+outcome_on map = outcome_in map

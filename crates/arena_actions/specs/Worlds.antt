@@ -1,9 +1,8 @@
 -- The records that the action takes are those of valid worlds.
 use Rattle.std.specs.Prelude.{◌≡◌, ℕ, ◌<◌, ◌≤◌, true, List, Option, Some, None, slice_index_or}
 use Rattle.entity_recs.specs.declared.rec.Rec.{Rec}
-use Rattle.entity_recs.specs.Records.{IsStateOf}
 use Rattle.arena_map.specs.Maps.{MapView, IsMap}
-use Rattle.arena_map.specs.Validity.{IsThing, IsValidRecord, IsValidWorld}
+use Rattle.arena_map.specs.Validity.{IsThing, IsStateOn, IsValidRecord, IsValidWorld}
 use Rattle.arena_actions.specs.Takes.{thing_with, takes}
 
 -- each record of a world that is valid for a map is taken, where its score and its number have 32 bits
@@ -20,4 +19,4 @@ pub record IsOfWorld (arena : MapView) (r : Rec) : Type 0 where
 -- each record that is taken, in a state of its kind, is such a record
 abbrev pub TakenRecordsAreValid : Type 0
 TakenRecordsAreValid =
-    (arena : MapView) (r : Rec) → IsMap arena → takes arena r ≡ true → IsStateOf r.kind r.state → IsOfWorld arena r
+    (arena : MapView) (r : Rec) → IsMap arena → takes arena r ≡ true → IsStateOn arena r.kind r.state → IsOfWorld arena r

@@ -8,14 +8,14 @@ use Rattle.arena_geo.specs.Bounds.{Bounds}
 use Rattle.entity_recs.specs.declared.kind.Kind.{Kind}
 use Rattle.entity_recs.specs.declared.kind.Kind.TheVariants as kinds
 use Rattle.entity_recs.specs.declared.rec.Rec.{Rec}
-use Rattle.entity_recs.specs.Records.{IsMapId, IsStateOf}
+use Rattle.entity_recs.specs.Records.{IsMapId}
 use Rattle.arena_map.specs.declared.lift.Lift as lifts
 use Rattle.arena_map.specs.declared.map_line.MapLine.{MapLine}
 use Rattle.arena_map.specs.declared.map_line.MapLine.TheVariants.{Arena, Block, Spawn, Item, Teleport, Goal, Lift}
 use Rattle.arena_map.specs.MapLines.{is_item}
 use Rattle.arena_map.specs.Things.{record_of, records_from, lift_data}
 use Rattle.arena_map.specs.Maps.{MapView, entities_of, lift_of, IsThingInside, IsMap}
-use Rattle.arena_map.specs.Validity.{IsAsItsLine, IsThing, IsValidRecord}
+use Rattle.arena_map.specs.Validity.{IsAsItsLine, IsThing, IsStateOn, IsValidRecord}
 use Rattle.arena_map.specs.Laws.{OpeningWorldIsValid}
 use Rattle.arena_map.proofs.Kept.{each-of, few_things}
 use Rattle.arena_map.proofs.ThingRecords.{own-id, thing-is_record}
@@ -97,19 +97,19 @@ at-start arena id (Arena lo hi) inside = let no = inside.thing in cc
 at-start arena id (Block lo hi) inside = let no = inside.thing in cc
 at-start arena id (Spawn at) inside = let no = inside.thing in cc
 
-item-state : (kind : Kind) → is_item kind ≡ true → IsStateOf kind 0
-item-state kinds.Ammo h = tt
-item-state kinds.Gem h = tt
-item-state kind h = cc
+item-state : (map : MapView) (kind : Kind) → is_item kind ≡ true → IsStateOn map kind 0
+item-state map kinds.Ammo h = tt
+item-state map kinds.Gem h = tt
+item-state map kind h = cc
 
-state-at-start : (arena : Bounds) (id : ℕ) (line : MapLine) → IsThingInside arena line → IsStateOf (record_of id line).kind (record_of id line).state
-state-at-start arena id (Item at kind delay) inside = item-state kind inside.limits.1
-state-at-start arena id (Teleport lo hi dest) inside = refl
-state-at-start arena id (Goal lo hi) inside = refl
-state-at-start arena id (Lift lo hi rise speed) inside = omega arith
-state-at-start arena id (Arena lo hi) inside = let no = inside.thing in cc
-state-at-start arena id (Block lo hi) inside = let no = inside.thing in cc
-state-at-start arena id (Spawn at) inside = let no = inside.thing in cc
+state-at-start : (map : MapView) (id : ℕ) (line : MapLine) → IsThingInside map.bounds line → IsStateOn map (record_of id line).kind (record_of id line).state
+state-at-start map id (Item at kind delay) inside = item-state map kind inside.limits.1
+state-at-start map id (Teleport lo hi dest) inside = refl
+state-at-start map id (Goal lo hi) inside = refl
+state-at-start map id (Lift lo hi rise speed) inside = omega arith
+state-at-start map id (Arena lo hi) inside = let no = inside.thing in cc
+state-at-start map id (Block lo hi) inside = let no = inside.thing in cc
+state-at-start map id (Spawn at) inside = let no = inside.thing in cc
 
 no-player : (kind : Kind) → is_item kind ≡ true → kind ≡ kinds.Player → ⊥
 no-player kind h e = let P : Kind → Type 0 = λ k. is_item k ≡ true in let no : is_item kinds.Player ≡ true = subst P e h in cc
@@ -131,7 +131,7 @@ valid-at-start map id thing is found =
     subst P (sym found.is) (record {
       is_record = thing-is_record map.bounds id found.line own found.inside;
       own_id = own-id id found.line found.inside.thing;
-      state = state-at-start map.bounds id found.line found.inside;
+      state = state-at-start map id found.line found.inside;
       inside = λ e. absurd (player-at-start map.bounds id found.line found.inside e);
     })
 

@@ -4,6 +4,7 @@ use Rattle.std.specs.Prelude.{◌≡◌, ◌≢◌, ℕ, ◌≤◌, ◌==◌, tr
 use Rattle.std.specs.Prelude.{slice_index_or}
 use Rattle.std.specs.List.{find}
 use Rattle.arena_geo.specs.Boxes.{contains, overlaps, is_blocked}
+use Rattle.entity_recs.specs.declared.kind.Kind.{Kind}
 use Rattle.entity_recs.specs.declared.kind.Kind.TheVariants.{Player}
 use Rattle.entity_recs.specs.declared.rec.Rec.{Rec}
 use Rattle.entity_recs.specs.Records.{IsRecord, IsStateOf}
@@ -41,11 +42,20 @@ IsThing map None (Some r) = ⊥
 IsThing map (Some thing) None = ⊥
 IsThing map (Some thing) (Some r) = IsAsItsLine (lift_of map thing.id) thing r
 
+-- the states of a player on a map: 0 on each
+abbrev pub IsPlayerStateOn : MapView → ℕ → Type 0
+IsPlayerStateOn map state = IsStateOf Player state
+
+-- the states of a kind on a map: the map decides which are a player's
+abbrev pub IsStateOn : MapView → Kind → ℕ → Type 0
+IsStateOn map Player state = IsPlayerStateOn map state
+IsStateOn map kind state = IsStateOf kind state
+
 -- the record is within its bounds, has this id, and is inside the arena where it is a player's
 pub record IsValidRecord (map : MapView) (id : ℕ) (r : Rec) : Type 0 where
   pub is_record : IsRecord r
   pub own_id : r.id ≡ id
-  pub state : IsStateOf r.kind r.state
+  pub state : IsStateOn map r.kind r.state
   pub inside : r.kind ≡ Player → contains map.bounds (body_of r) ≡ true
 
 -- the records, each at the place of its id, are those of a valid world

@@ -224,6 +224,13 @@ followed arena frame slot start r place (a ∷ more) so_far =
     followed arena frame slot start next (place + 1) more
     (followed-step start (client_at r.state.clients slot) (client_at next.state.clients slot) (numbers_of slot r.lists.moves) (numbers_of slot next.lists.moves) so_far (step arena frame r place a slot))
 
+-- the last number after a frame is at least each of its numbers, and the last one before it
+pub numbers_most : (arena : MapView) (frame : ℕ) (state : State) (arrivals : List Arrival) (slot : ℕ)
+    → let next = received arena frame state arrivals in
+    All (λ n. n ≤ last_of (client_at next.state.clients slot)) (last_of (client_at state.clients slot) ∷ numbers_of slot next.lists.moves)
+unfolding received
+numbers_most arena frame state arrivals slot = (followed arena frame slot (client_at state.clients slot) _ 0 arrivals (followed-start (client_at state.clients slot))).most
+
 -- the accepted numbers of each slot rise in a frame
 pub numbers_rise : (arena : MapView) (frame : ℕ) (state : State) (arrivals : List Arrival) (slot : ℕ)
     → let next = received arena frame state arrivals in IsAdvance (client_at state.clients slot) (client_at next.state.clients slot) (numbers_of slot next.lists.moves)
@@ -278,6 +285,12 @@ apart-where_rising (c ∷ moves) rise = (above-apart c moves (rising-head c.seq 
         by : (own : Bool) → IsStrictlyIncreasing (numbers_with c moves slot own) → IsStrictlyIncreasing (numbers_of slot moves)
         by true h = rising-tail c.seq (numbers_of slot moves) h
         by false h = h
+
+-- each number is above the last one before the frame
+pub numbers_above : (arena : MapView) (frame : ℕ) (state : State) (arrivals : List Arrival) (slot : ℕ)
+    → All (λ n. last_of (client_at state.clients slot) < n) (numbers_of slot (received arena frame state arrivals).lists.moves)
+numbers_above arena frame state arrivals slot =
+    rising-head (last_of (client_at state.clients slot)) (numbers_of slot (received arena frame state arrivals).lists.moves) (numbers_rise arena frame state arrivals slot).rise
 
 -- no two accepted moves of a frame share slot and number
 pub numbers_apart : (arena : MapView) (frame : ℕ) (state : State) (arrivals : List Arrival) → IsDistinct is_same_move (received arena frame state arrivals).lists.moves

@@ -1,13 +1,14 @@
 -- The end of a frame, slot by slot.
-use Rattle.std.proofs.Common.{◌≡◌, ◌≢◌, ℕ, zero, suc, ◌<◌, ◌≤◌, Bool, true, false, if◌then◌else◌, List, length, Option, None, slice_set, sym, refl, ap, ◌∙◌, subst, inl, inr, arith, get_or-set_same, get_or-set_other}
+use Rattle.std.proofs.Common.{◌≡◌, ◌≢◌, ℕ, zero, suc, ◌<◌, ◌≤◌, Bool, true, false, if◌then◌else◌, List, length, Option, Some, None, slice_set, sym, refl, ap, ◌∙◌, subst, inl, inr, arith, get_or-set_same, get_or-set_other}
 use Rattle.std.proofs.lemmas.Bool.{cases_eq, cases_lt}
 use Rattle.std.proofs.lemmas.List.{get_or_past, length-set}
 use Rattle.entity_recs.specs.declared.rec.Rec.{Rec}
 use Rattle.world_tree.specs.Live.{record_at}
 use Rattle.client_ports.specs.declared.client.Client.{Client}
-use Rattle.client_ports.specs.Clients.{client_at}
+use Rattle.client_ports.specs.Clients.{client, client_at}
 use Rattle.client_ports.specs.States.{State}
 use Rattle.client_ports.specs.Finishing.{is_leaver, finished_client, records_after, finished_at, finished_up_to, finished}
+use Rattle.client_ports.specs.Laws.{IsStillThere, FinishKeepsWhoStays}
 
 -- the record of an id after the frame
 abbrev record_after : Option Client → Option Rec → Option Rec
@@ -99,3 +100,18 @@ leavers_out state few many id = elim (cases_lt id 64) [
         let kept = (up_to state few many 64 (omega arith)).above id more in
         let none : client_at state.clients id ≡ None = get_or_past state.clients id None (omega (arith, more, few)) in
         (kept.0 ∙ none ∙ sym (ap finished_client none), kept.1 ∙ sym (ap (λ (c : Option Client). record_after c (record_at state.records id)) none))
+
+-- a client that doesn't leave is there after the frame, with its port and its last number
+still-there : (before : Client) (after : Option Client) → before.leaves ≡ false → after ≡ finished_client (Some before) → IsStillThere before after
+still-there before after stays is = record {
+  now = client before.port before.last before.leaves 0;
+  in_slot = is ∙ ap (λ (b : Bool). if b then None else Some (client before.port before.last before.leaves 0)) stays;
+  port = refl;
+  last = refl;
+  leaves = stays;
+  moves = refl;
+}
+
+pub who_stays : FinishKeepsWhoStays
+who_stays state slot before few many at stays =
+    still-there before (client_at (finished state).clients slot) stays ((leavers_out state few many slot).0 ∙ ap finished_client at)

@@ -148,3 +148,20 @@ FinishTakesLeaversOut = (state : State) → length state.clients ≡ 64 → leng
     → (client_at (finished state).clients id ≡ finished_client (client_at state.clients id))
     × (record_at (finished state).records id ≡ (if is_leaver (client_at state.clients id)
     then None else record_at state.records id))
+
+-- the client of a slot after the end of a frame, in which it stays: it has its port and its last number, doesn't leave,
+-- and begins the next frame with no move
+pub record IsStillThere (before : Client) (after : Option Client) : Type 0 where
+  pub now : Client
+  pub in_slot : after ≡ Some now
+  pub port : now.port ≡ before.port
+  pub last : now.last ≡ before.last
+  pub leaves : now.leaves ≡ false
+  pub moves : now.moves ≡ 0
+
+-- the end of a frame keeps each client that doesn't leave, with its port and its last number
+abbrev pub FinishKeepsWhoStays : Type 0
+FinishKeepsWhoStays =
+    (state : State) (slot : ℕ) (before : Client) → length state.clients ≡ 64 → length state.records ≡ 256
+    → client_at state.clients slot ≡ Some before → before.leaves ≡ false
+    → IsStillThere before (client_at (finished state).clients slot)

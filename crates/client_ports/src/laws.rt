@@ -7,6 +7,7 @@ ghost use Rattle.client_ports.specs.Laws.{
   EachPacketHasOneAnswer,
   RefusalsHaveReasons,
   FinishTakesLeaversOut,
+  FinishKeepsWhoStays,
 };
 ghost use Rattle.client_ports.specs.Frames.{
   PacketsAreTakenInTurn,
@@ -64,6 +65,12 @@ pub fn refusals_have_reasons()
 /// The end of a frame takes out the clients that leave, with their players, and no other.
 pub fn finish_takes_leavers_out()
     ensures { FinishTakesLeaversOut }
+{}
+
+/// The end of a frame keeps each client that doesn't leave, with its port and its last accepted number, also where it had
+/// no move in the frame; in the next frame it has none yet.
+pub fn finish_keeps_who_stays()
+    ensures { FinishKeepsWhoStays }
 {}
 
 /// The packets of a frame are taken in the order of arrival: each packet finds what those before it came to, and has as

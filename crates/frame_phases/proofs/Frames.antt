@@ -1,5 +1,5 @@
 -- A frame of the server is one of the plain server.
-use Rattle.std.proofs.Common.{◌≡◌, ℕ, ◌+◌, ◌≤◌, List, length, map, Option, sym, ap, ◌∙◌, subst, arith}
+use Rattle.std.proofs.Common.{◌≡◌, ℕ, ◌+◌, ◌*◌, ◌≤◌, List, length, map, Option, sym, ap, ◌∙◌, subst, arith}
 use Rattle.std.specs.Prelude.{All}
 use Rattle.std.proofs.lemmas.List.{length-map}
 use Rattle.entity_recs.specs.declared.rec.Rec.{Rec}
@@ -18,7 +18,7 @@ use Rattle.client_ports.specs.Finishing.{finished}
 use Rattle.client_ports.proofs.Staying.{server_finished}
 use Rattle.frame_phases.specs.Servers.{ServerView, server_view, server_after, IsServer}
 use Rattle.plain_server.specs.RecordsById.{world_of, records_in}
-use Rattle.arena_actions.specs.Outcomes.{outcome_in}
+use Rattle.arena_actions.specs.Outcomes.{outcome_on}
 use Rattle.plain_server.specs.Moving.{HasLivePlayer, HaveMoved}
 use Rattle.plain_server.specs.Entries.{IsReception}
 use Rattle.plain_server.specs.Frames.{state_after_tick, received_in, moved_by, state_after, IsRightAfter}
@@ -29,16 +29,16 @@ use Rattle.plain_server.proofs.Frames.{received_is, moved_by_is, state_after_is}
 use Rattle.plain_server.specs.Takers.{HasOneTaker, HasItemsAway, IsInState}
 use Rattle.plain_server.proofs.Takers.{one_taker, returns_later}
 
--- what the receive pass leaves for the moves: a reception, and few moves
+-- what the receive pass leaves for the moves: a reception, and at most 8 moves for each of 64 slots
 pub record IsReceived (map : MapView) (r : Receiving) (arrivals : List Arrival) : Type 0 where
   pub pass : IsReception map r
-  pub few : length r.lists.moves ≤ length arrivals
+  pub few : length r.lists.moves ≤ 8 * 64
 
 pub is_received : (map : MapView) (frame : ℕ) (state : State) (arrivals : List Arrival) (r : Receiving) → IsMap map → IsServerState map state → r ≡ received_in map frame state arrivals
     → IsReceived map r arrivals
 is_received map frame state arrivals r is_map is r_is =
     let P : Receiving → Type 0 = λ q. IsReceived map q arrivals in
-    subst P (sym r_is) (record { pass = received_is map frame state arrivals is_map is; few = moves_are_few map frame (state_after_tick map frame state) arrivals })
+    subst P (sym r_is) (record { pass = received_is map frame state arrivals is_map is; few = moves_are_few map frame (state_after_tick map frame state) arrivals is.clients })
 
 -- the moves that the code runs are those of live players
 pub live_moves : (map_view : MapView) (r : Receiving) (arrivals : List Arrival) (moves : List Cmd) → map command_of moves ≡ r.lists.moves → IsReceived map_view r arrivals
@@ -46,7 +46,7 @@ pub live_moves : (map_view : MapView) (r : Receiving) (arrivals : List Arrival) 
 live_moves map_view r arrivals moves is got = subst (All (HasLivePlayer r.state.records)) (sym is) got.pass.live
 
 -- and few
-pub few_moves : (map_view : MapView) (r : Receiving) (arrivals : List Arrival) (moves : List Cmd) → map command_of moves ≡ r.lists.moves → IsReceived map_view r arrivals → length moves ≤ length arrivals
+pub few_moves : (map_view : MapView) (r : Receiving) (arrivals : List Arrival) (moves : List Cmd) → map command_of moves ≡ r.lists.moves → IsReceived map_view r arrivals → length moves ≤ 8 * 64
 few_moves map_view r arrivals moves is got = omega (arith, got.few, ap length is, length-map moves command_of)
 
 -- the moves that the code runs have their numbers apart
@@ -55,9 +55,9 @@ apart_moves map_view r arrivals moves is got = subst HasNumbersApart (sym is) go
 
 -- what the code's moves come to: a right journal, in the order of arrival with one worker, and the records after it
 pub record AreRun (map_view : MapView) (r : Receiving) (workers : ℕ) (moves : List Command) (new : List (Option Rec)) (journal : List reports.Entry) : Type 0 where
-  pub right : IsRight (outcome_in map_view) (world_of r.state.records) moves journal
+  pub right : IsRight (outcome_on map_view) (world_of r.state.records) moves journal
   pub order : workers ≡ 1 → IsInOrder journal moves
-  pub moved : new ≡ records_in (run (outcome_in map_view) (world_of r.state.records) (history_of moves journal)) r.state.records
+  pub moved : new ≡ records_in (run (outcome_on map_view) (world_of r.state.records) (history_of moves journal)) r.state.records
 
 -- what a frame comes to: its journal is right, and in order with one worker, and the records and the state are those
 -- after it
@@ -90,7 +90,7 @@ pub record IsFrameOf (t : ServerView) (workers : ℕ) (arrivals : List Arrival) 
   pub shown : new ≡ (moved_by t.map (received_in t.map t.frames t.state arrivals) journal).records
   pub next_is : server_view t.map next (t.frames + 1) ≡ server_after t arrivals journal
   pub fits : IsServerState t.map next
-  pub once : HasOneTaker journal
+  pub once : HasOneTaker t.map journal
   pub away : HasItemsAway t.map t.frames journal next.records
 
 pub frame_of : (t : ServerView) (workers : ℕ) (arrivals : List Arrival) (r : Receiving) (new : List (Option Rec)) (next : State) (journal : List reports.Entry) → IsServer t.map t.state
@@ -105,9 +105,9 @@ frame_of t workers arrivals r new next journal is r_is frame =
       shown = ap (λ (s : State). s.records) frame.shown ∙ ap (λ (p : Receiving). (moved_by t.map p journal).records) r_is;
       next_is = ap (λ (s : State). server_view t.map s (t.frames + 1)) next_is;
       fits = frame.fits;
-      once = λ place other id. one_taker t.map t.frames t.state arrivals journal is.is_map is.fits right id place other;
+      once = one_taker t.map t.frames t.state arrivals journal is.is_map is.fits right;
       away = λ place id delay has delay_is.
-          subst (λ (s : State). IsInState s.records id (t.frames + delay)) (sym next_is) (returns_later t.map t.frames t.state arrivals journal is.is_map is.fits right id place delay has delay_is);
+          subst (λ (s : State). IsInState s.records id (t.frames + delay)) (sym next_is) (returns_later t.map t.frames t.state arrivals journal is.is_map is.fits right place id delay has delay_is);
     }
 
 -- what the receive pass leaves, from what the code's calls ensure: it began from a copy of the state

@@ -114,7 +114,7 @@ pub fn run_frame<R: Threads + Wait + Sync, G: Gate>(
     ensures replies { OnOk result (out.new.replies ≡ replies_of server.old.frames (moved_by server.old.map
         (received_in server.old.map server.old.frames server.old.state arrivals.now) out.new.journal.entries).records) }
     ensures next { OnOk result (server.new ≡ server_after server.old arrivals.now out.new.journal.entries) }
-    ensures one_taker { OnOk result (HasOneTaker out.new.journal.entries) }
+    ensures one_taker { OnOk result (HasOneTaker server.old.map out.new.journal.entries) }
     ensures away { OnOk result (HasItemsAway server.old.map server.old.frames out.new.journal.entries
         server.new.state.records) }
     ensures unchanged { OnErr result (server.new ≡ server.old) }

@@ -15,7 +15,7 @@ use Rattle.move_journal.specs.Merges.{IsRight, HasNumbersApart, history_of}
 use Rattle.arena_map.specs.Maps.{MapView, IsMap}
 use Rattle.arena_map.specs.Validity.{IsValidWorld}
 use Rattle.arena_actions.specs.declared.arena_action.ArenaAction.{ArenaAction}
-use Rattle.arena_actions.specs.Outcomes.{outcome_in}
+use Rattle.arena_actions.specs.Outcomes.{outcome_on}
 use Rattle.arena_actions.specs.Regions.{region_in}
 use Rattle.arena_actions.specs.Takes.{takes}
 use Rattle.arena_actions.specs.Lawful.Worlds.{valid_is_taken}
@@ -36,7 +36,7 @@ use Rattle.move_phase.proofs.Journals.{history_is_run, journal_right}
 -- what doesn't change, of an arena's action and a world
 abbrev pub fixed_of_arena : ArenaAction → WorldView → Fixed
 fixed_of_arena action world =
-    fixed_by (λ (a : ArenaAction). takes a.map) (λ (a : ArenaAction). region_in a.map) (λ (a : ArenaAction). outcome_in a.map) action world
+    fixed_by (λ (a : ArenaAction). takes a.map) (λ (a : ArenaAction). region_in a.map) (λ (a : ArenaAction). outcome_on a.map) action world
 
 -- ---- what is asked
 
@@ -76,10 +76,10 @@ none_right act w commands journal no_commands no_entries =
     (subst (IsRight act w []) (sym no_entries) (record { merge = record { each = λ slot. refl }; legal = none_legal act w }))
 
 pub none_moved : (arena : MapView) (records : List (Option Rec)) (commands : List Command) (journal : List Entry) → IsValidWorld arena records
-    → journal ≡ [] → records ≡ records_in (run (outcome_in arena) (world_of records) (history_of commands journal)) records
+    → journal ≡ [] → records ≡ records_in (run (outcome_on arena) (world_of records) (history_of commands journal)) records
 none_moved arena records commands journal valid no_entries =
     sym (records_in-world_of records (λ id r at. (valid.each id r at).own_id))
-    ∙ ap (λ (es : List Entry). records_in (run (outcome_in arena) (world_of records) (history_of commands es)) records) (sym no_entries)
+    ∙ ap (λ (es : List Entry). records_in (run (outcome_on arena) (world_of records) (history_of commands es)) records) (sym no_entries)
 
 no_items : {X : Type 0} (xs : List X) → true ≡ (length xs == 0) → xs ≡ []
 no_items [] none = refl
@@ -99,16 +99,16 @@ ran_as_lent F workers commands logs lent world same ran = subst (λ (views : Lis
 module _ (action : ArenaAction) (old new : WorldView) (workers : ℕ) (commands : List Command) (logs : List LogView)
     (ran : HaveRun (fixed_of_arena action old) workers commands logs new) (some : 0 < workers) (apart : HasNumbersApart commands)
     (linked_old : IsLinked old) (linked_new : IsLinked new) (journal : List Entry) (by_place : IsByPlace journal logs) where
-  pub arena_right : IsRight (outcome_in action.map) (world_of old.records) commands journal
+  pub arena_right : IsRight (outcome_on action.map) (world_of old.records) commands journal
   arena_right =
-      subst (λ (w : World). IsRight (outcome_in action.map) w commands journal) (start_world_is old.records linked_old.entries)
+      subst (λ (w : World). IsRight (outcome_on action.map) w commands journal) (start_world_is old.records linked_old.entries)
       (journal_right (fixed_of_arena action old) workers commands logs new ran some apart journal by_place)
 
-  pub arena_moved : new.records ≡ records_in (run (outcome_in action.map) (world_of old.records) (history_of commands journal)) old.records
+  pub arena_moved : new.records ≡ records_in (run (outcome_on action.map) (world_of old.records) (history_of commands journal)) old.records
   arena_moved =
       let start = start_world_is old.records linked_old.entries in
       let history = history_is_run (fixed_of_arena action old) workers commands logs new ran some apart journal by_place in
-      records_are (outcome_in action.map) (fixed_of_arena action old).start ran.closed.history old.records new.records linked_old.entries
+      records_are (outcome_on action.map) (fixed_of_arena action old).start ran.closed.history old.records new.records linked_old.entries
       linked_new.entries (linked_new.places ∙ sym linked_old.places) start ran.closed.run_is
-      ∙ ap (λ (w : World). records_in (run (outcome_in action.map) w ran.closed.history) old.records) start
-      ∙ ap (λ (items : List Item). records_in (run (outcome_in action.map) (world_of old.records) items) old.records) (sym history)
+      ∙ ap (λ (w : World). records_in (run (outcome_on action.map) w ran.closed.history) old.records) start
+      ∙ ap (λ (items : List Item). records_in (run (outcome_on action.map) (world_of old.records) items) old.records) (sym history)

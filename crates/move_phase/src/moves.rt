@@ -3,7 +3,7 @@ ghost use Rattle.entity_recs.specs.Commands.{command_of};
 ghost use Rattle.entity_recs.specs.Histories.{run};
 ghost use Rattle.move_journal.specs.Merges.{HasNumbersApart, IsRight, IsInOrder, history_of};
 ghost use Rattle.arena_map.specs.Validity.{IsValidWorld};
-ghost use Rattle.arena_actions.specs.Outcomes.{outcome_in};
+ghost use Rattle.arena_actions.specs.Outcomes.{outcome_on};
 ghost use Rattle.plain_server.specs.RecordsById.{world_of, records_in};
 ghost use Rattle.plain_server.specs.Moving.{HasLivePlayer};
 ghost use Rattle.move_phase.specs.Serving.{AreWorkers};
@@ -38,10 +38,10 @@ pub fn run_moves<R: Threads + Wait + Sync, G: Gate>(
     requires apart { HasNumbersApart (map_list command_of moves.now) }
     requires empty { journal.old.entries ≡ [] }
     requires room { length moves.now ≤ journal.old.room }
-    ensures right { OnOk result (IsRight (outcome_in action.now.map) (world_of world.old.records)
+    ensures right { OnOk result (IsRight (outcome_on action.now.map) (world_of world.old.records)
         (map_list command_of moves.now) journal.new.entries) }
     ensures order { OnOk result (workers ≡ 1 → IsInOrder journal.new.entries (map_list command_of moves.now)) }
-    ensures moved { OnOk result (world.new.records ≡ records_in (run (outcome_in action.now.map)
+    ensures moved { OnOk result (world.new.records ≡ records_in (run (outcome_on action.now.map)
         (world_of world.old.records)
         (history_of (map_list command_of moves.now) journal.new.entries)) world.old.records) }
     ensures unchanged { OnErr result (world.new ≡ world.old) }

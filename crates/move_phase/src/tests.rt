@@ -118,7 +118,7 @@ fn receive(map: &ArenaMap, world: &mut World, out: &mut Received)
     ensures valid { IsValidWorld map.now world.new.records }
     ensures live { All (HasLivePlayer world.new.records) out.new.lists.moves }
     ensures apart { HasNumbersApart out.new.lists.moves }
-    ensures few { length out.new.lists.moves ≤ 4 }
+    ensures few { length out.new.lists.moves ≤ 512 }
 {
     let arrivals = [
         arrival(7, &[1, 1]),
@@ -141,7 +141,7 @@ fn reach(
     let mut world = opening(rt.alloc(), &map)?;
     let mut received = Received::new(rt.alloc(), 4)?;
     receive(&map, &mut world, &mut received);
-    let mut journal = Journal::new(rt.alloc(), 4)?;
+    let mut journal = Journal::new(rt.alloc(), 512)?;
     run_moves(
         rt,
         rt.alloc(),

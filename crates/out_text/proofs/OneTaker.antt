@@ -22,7 +22,7 @@ nothing_taken n place id has = none-some has.journal has.of_frame
 
 none_each : (map : Option MapView) → HasOneTakerEach map []
 none_each map = record {
-  once = λ frame place other id has also. absurd (nothing_taken frame place id has);
+  once = λ frame place other id item has also. absurd (nothing_taken frame place id has);
   away = λ frame place later other id delay delay_is has also from before. absurd (nothing_taken frame place id has);
 }
 

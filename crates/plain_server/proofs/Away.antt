@@ -1,5 +1,5 @@
 -- An item that is taken is away until its frame: commands leave it as it is, and take it no second time.
-use Rattle.std.proofs.Common.{◌≡◌, ◌≢◌, ℕ, zero, suc, ◌+◌, ◌<◌, ◌≤◌, ◌-◌, ◌==◌, true, false, nat_le, option_and_then, List, [], ◌∷◌, Option, Some, None, slice_get, inl, inr, refl, sym, ap, ◌∙◌, subst, arith, get_or-set_other}
+use Rattle.std.proofs.Common.{◌≡◌, ◌≢◌, ℕ, zero, suc, ◌+◌, ◌<◌, ◌≤◌, ◌-◌, ◌==◌, true, false, nat_le, option_and_then, List, [], ◌∷◌, Option, Some, None, is_some, slice_get, inl, inr, refl, sym, ap, ◌∙◌, subst, arith, get_or-set_other}
 use Rattle.std.specs.Prelude.{All, Contains}
 use Rattle.std.specs.Prelude.{map as map_list}
 use Rattle.std.proofs.lemmas.Bool.{cases_Bool, eq-eqb, eqb-true, cond-true, cond-false}
@@ -22,6 +22,7 @@ use Rattle.arena_map.specs.Maps.{MapView, IsMap, IsThingInside, thing_of, delay_
 use Rattle.arena_map.specs.Validity.{IsValidWorld}
 use Rattle.world_tree.specs.Live.{record_at}
 use Rattle.plain_server.specs.Moving.{HasLivePlayer, effect_among, with_new_states, records_after}
+use Rattle.plain_server.specs.Takers.{IsItemOf}
 use Rattle.plain_server.proofs.NewStates.{still_at, Lacks, new_state-lacks}
 use Rattle.plain_server.proofs.Takes.{IsTakenIn, taken_in, got_are}
 use Rattle.plain_server.proofs.Moves.{after_all}
@@ -161,9 +162,15 @@ module _ (map : MapView) (records : List (Option Rec)) (c : Command) (valid : Is
       All-contains (λ (k : ℕ). k ≢ id) e.reply.got id
       (subst (All (λ (k : ℕ). k ≢ id)) (sym (got_are map records c own)) (All-map (λ (k : ℕ). k ≢ id) (λ (s : NewState). s.id) e.states (lacks id until later away))) got refl
 
+  -- what is got is an item
+  pub got_is_item : (id : ℕ) → Contains e.reply.got id → IsItemOf map id
+  got_is_item id got =
+      let f = first_of_id map records c.frame e.states id taken (subst (λ (ids : List ℕ). Contains ids id) (got_are map records c own) got) in
+      ap is_some (ap (delay_of map) (sym f.same) ∙ f.taken.delay_is)
+
   -- an item that is taken is away then
-  pub got_away : (id : ℕ) → Contains e.reply.got id → IsAwayThen map (records_after map records c) c.frame id
-  got_away id got =
+  pub got_away : (id : ℕ) → IsItemOf map id → Contains e.reply.got id → IsAwayThen map (records_after map records c) c.frame id
+  got_away id item got =
       let f = first_of_id map records c.frame e.states id taken (subst (λ (ids : List ℕ). Contains ids id) (got_are map records c own) got) in
       let t = f.taken in
       let at : record_at records id ≡ Some t.item = ap (record_at records) (sym f.same) ∙ t.at in
@@ -206,14 +213,23 @@ nobody_got map place records (item ∷ items) id until (suc a) x is_map is later
     nobody_got map (place + 1) (records_after map records item.command) items id until a x is_map (run_rest map place records item items is_map is) later
     (away_after map records item.command is.valid (first_live map place records item items is) id until later away) at got
 
+-- what an entry got is an item
+pub got_are_items : (map : MapView) (place : ℕ) (records : List (Option Rec)) (items : List Item) (id a : ℕ) (x : Entry) → IsMap map → IsRun map place records items
+    → slice_get (entries_of items) a ≡ Some x → Contains x.reply.got id → IsItemOf map id
+got_are_items map place records [] id a x is_map is at got = absurd (none-some x at)
+got_are_items map place records (item ∷ items) id zero x is_map is at got =
+    got_is_item map records item.command is.valid (first_live map place records item items is) id (first_got map place records item items x id is at got)
+got_are_items map place records (item ∷ items) id (suc a) x is_map is at got =
+    got_are_items map (place + 1) (records_after map records item.command) items id a x is_map (run_rest map place records item items is_map is) at got
+
 -- an item that an entry got is away after the run
-pub got_through : (map : MapView) (frame place : ℕ) (records : List (Option Rec)) (items : List Item) (id a : ℕ) (x : Entry) → IsMap map → IsRun map place records items
+pub got_through : (map : MapView) (frame place : ℕ) (records : List (Option Rec)) (items : List Item) (id a : ℕ) (x : Entry) → IsMap map → IsItemOf map id → IsRun map place records items
     → All (IsOfFrame frame) (commands_of items) → slice_get (entries_of items) a ≡ Some x → Contains x.reply.got id → IsAwayThen map (after_all map records (commands_of items)) frame id
-got_through map frame place records [] id a x is_map is of at got = absurd (none-some x at)
-got_through map frame place records (item ∷ items) id zero x is_map is of at got =
+got_through map frame place records [] id a x is_map of_map is of at got = absurd (none-some x at)
+got_through map frame place records (item ∷ items) id zero x is_map of_map is of at got =
     let c = item.command in
     let has = first_live map place records item items is in
-    let then_away = got_away map records c is.valid has id (first_got map place records item items x id is at got) in
+    let then_away = got_away map records c is.valid has id of_map (first_got map place records item items x id is at got) in
     let number : c.frame ≡ frame = All-head (IsOfFrame frame) c (commands_of items) of in
     let least = least_delay map id then_away.delay is_map then_away.delay_is in
     let here = subst (λ (n : ℕ). IsAway (records_after map records c) id (n + then_away.delay)) number then_away.away in
@@ -222,25 +238,25 @@ got_through map frame place records (item ∷ items) id zero x is_map is of at g
       delay_is = then_away.delay_is;
       away = away_through map (place + 1) (records_after map records c) items id (frame + then_away.delay) is_map (run_rest map place records item items is_map is) (omega (arith, least)) here;
     }
-got_through map frame place records (item ∷ items) id (suc a) x is_map is of at got =
-    got_through map frame (place + 1) (records_after map records item.command) items id a x is_map (run_rest map place records item items is_map is)
+got_through map frame place records (item ∷ items) id (suc a) x is_map of_map is of at got =
+    got_through map frame (place + 1) (records_after map records item.command) items id a x is_map of_map (run_rest map place records item items is_map is)
     (All-tail (IsOfFrame frame) item.command (commands_of items) of) at got
 
--- what the first entry got no later one has
-not_again : (map : MapView) (place : ℕ) (records : List (Option Rec)) (item : Item) (items : List Item) (id b : ℕ) (x y : Entry) → IsMap map → IsRun map place records (item ∷ items)
+-- an item that the first entry got no later one has
+not_again : (map : MapView) (place : ℕ) (records : List (Option Rec)) (item : Item) (items : List Item) (id b : ℕ) (x y : Entry) → IsMap map → IsItemOf map id → IsRun map place records (item ∷ items)
     → ◌≡◌ {A = Option Entry} (Some item.entry) (Some x) → slice_get (entries_of items) b ≡ Some y → Contains x.reply.got id → Contains y.reply.got id → ⊥
-not_again map place records item items id b x y is_map is at_x at_y got_x got_y =
+not_again map place records item items id b x y is_map of_map is at_x at_y got_x got_y =
     let c = item.command in
-    let then_away = got_away map records c is.valid (first_live map place records item items is) id (first_got map place records item items x id is at_x got_x) in
+    let then_away = got_away map records c is.valid (first_live map place records item items is) id of_map (first_got map place records item items x id is at_x got_x) in
     let least = least_delay map id then_away.delay is_map then_away.delay_is in
     nobody_got map (place + 1) (records_after map records c) items id (c.frame + then_away.delay) b y is_map (run_rest map place records item items is_map is) (omega (arith, least)) then_away.away at_y got_y
 
 -- at most one entry has an item
-pub one_got : (map : MapView) (place : ℕ) (records : List (Option Rec)) (items : List Item) (id a b : ℕ) (x y : Entry) → IsMap map → IsRun map place records items
+pub one_got : (map : MapView) (place : ℕ) (records : List (Option Rec)) (items : List Item) (id a b : ℕ) (x y : Entry) → IsMap map → IsItemOf map id → IsRun map place records items
     → slice_get (entries_of items) a ≡ Some x → slice_get (entries_of items) b ≡ Some y → Contains x.reply.got id → Contains y.reply.got id → b ≡ a
-one_got map place records [] id a b x y is_map is at_a at_b got_x got_y = absurd (none-some x at_a)
-one_got map place records (item ∷ items) id zero zero x y is_map is at_a at_b got_x got_y = refl
-one_got map place records (item ∷ items) id zero (suc b) x y is_map is at_a at_b got_x got_y = absurd (not_again map place records item items id b x y is_map is at_a at_b got_x got_y)
-one_got map place records (item ∷ items) id (suc a) zero x y is_map is at_a at_b got_x got_y = absurd (not_again map place records item items id a y x is_map is at_b at_a got_y got_x)
-one_got map place records (item ∷ items) id (suc a) (suc b) x y is_map is at_a at_b got_x got_y =
-    ap suc (one_got map (place + 1) (records_after map records item.command) items id a b x y is_map (run_rest map place records item items is_map is) at_a at_b got_x got_y)
+one_got map place records [] id a b x y is_map of_map is at_a at_b got_x got_y = absurd (none-some x at_a)
+one_got map place records (item ∷ items) id zero zero x y is_map of_map is at_a at_b got_x got_y = refl
+one_got map place records (item ∷ items) id zero (suc b) x y is_map of_map is at_a at_b got_x got_y = absurd (not_again map place records item items id b x y is_map of_map is at_a at_b got_x got_y)
+one_got map place records (item ∷ items) id (suc a) zero x y is_map of_map is at_a at_b got_x got_y = absurd (not_again map place records item items id a y x is_map of_map is at_b at_a got_y got_x)
+one_got map place records (item ∷ items) id (suc a) (suc b) x y is_map of_map is at_a at_b got_x got_y =
+    ap suc (one_got map (place + 1) (records_after map records item.command) items id a b x y is_map of_map (run_rest map place records item items is_map is) at_a at_b got_x got_y)

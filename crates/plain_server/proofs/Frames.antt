@@ -14,7 +14,7 @@ use Rattle.arena_map.specs.Maps.{MapView, IsMap, entities_of}
 use Rattle.arena_map.specs.Validity.{IsOpeningWorld}
 use Rattle.arena_map.proofs.Kept.{each-of}
 use Rattle.arena_map.proofs.ThingRecords.{entities-are, entities-apart}
-use Rattle.arena_actions.specs.Outcomes.{outcome_in}
+use Rattle.arena_actions.specs.Outcomes.{outcome_on}
 use Rattle.world_tree.proofs.Links.{id-below, record_at-empty}
 use Rattle.client_ports.specs.declared.arrival.Arrival.{Arrival}
 use Rattle.client_ports.specs.declared.client.Client.{Client}
@@ -103,7 +103,7 @@ pub right_in_order : (map : MapView) (frame : ℕ) (state : State) (frames : Lis
 right_in_order map frame state [] = tt
 right_in_order map frame state (arrivals ∷ frames) =
     let r = received_in map frame state arrivals in (
-      (moves_in_order_are_right (outcome_in map) (world_of r.state.records) r.lists.moves (numbers_apart map frame (state_after_tick map frame state) arrivals)).right,
+      (moves_in_order_are_right (outcome_on map) (world_of r.state.records) r.lists.moves (numbers_apart map frame (state_after_tick map frame state) arrivals)).right,
       right_in_order map (frame + 1) (state_after map r (journal_of map r)) frames,
     )
 
@@ -113,7 +113,7 @@ pub order_in_order : (map : MapView) (frame : ℕ) (state : State) (frames : Lis
 order_in_order map frame state [] = tt
 order_in_order map frame state (arrivals ∷ frames) =
     let r = received_in map frame state arrivals in (
-      (moves_in_order_are_right (outcome_in map) (world_of r.state.records) r.lists.moves (numbers_apart map frame (state_after_tick map frame state) arrivals)).order,
+      (moves_in_order_are_right (outcome_on map) (world_of r.state.records) r.lists.moves (numbers_apart map frame (state_after_tick map frame state) arrivals)).order,
       order_in_order map (frame + 1) (state_after map r (journal_of map r)) frames,
     )
 
@@ -126,7 +126,7 @@ one_journal_each map frame state (arrivals ∷ frames) [] right order = absurd r
 one_journal_each map frame state (arrivals ∷ frames) (j ∷ js) right order =
     let r = received_in map frame state arrivals in
     let first : j ≡ journal_of map r =
-    order_leaves_one_journal (outcome_in map) (world_of r.state.records) r.lists.moves j (numbers_apart map frame (state_after_tick map frame state) arrivals) (record { right = right.0; order = order.0 }) in
+    order_leaves_one_journal (outcome_on map) (world_of r.state.records) r.lists.moves j (numbers_apart map frame (state_after_tick map frame state) arrivals) (record { right = right.0; order = order.0 }) in
     let rest = one_journal_each map (frame + 1) (state_after map r j) frames js right.1 order.1 in
     λ i. first i ∷ (rest ∙ ap (λ (k : List Entry). journals_of map (frame + 1) (state_after map r k) frames) first) i
 

@@ -25,3 +25,4 @@ pub mod Clear
 pub mod Away
 pub mod Takers
 pub mod SlotPlayers
+pub mod Numbers

@@ -11,7 +11,7 @@ use Rattle.entity_recs.specs.Worlds.{World, others_of, record_or_nobody}
 use Rattle.entity_recs.specs.Histories.{apply, world_after, with_new_state}
 use Rattle.arena_map.specs.Maps.{MapView, IsMap}
 use Rattle.arena_map.specs.Validity.{IsValidRecord, IsValidWorld}
-use Rattle.arena_actions.specs.Outcomes.{outcome_in}
+use Rattle.arena_actions.specs.Outcomes.{outcome_on}
 use Rattle.world_tree.specs.Live.{record_at}
 use Rattle.client_ports.proofs.Valid.{valid-with}
 use Rattle.plain_server.specs.RecordsById.{world_of, records_in}
@@ -38,9 +38,9 @@ moved-none map records valid = record { world = refl; given = λ w. refl; live =
 
 -- the world after commands and one more
 pub world_after-more : (map : MapView) (w : World) (commands : List Command) (c : Command)
-    → world_after (outcome_in map) w (commands ++ c ∷ []) ≡ apply (outcome_in map) (world_after (outcome_in map) w commands) c
+    → world_after (outcome_on map) w (commands ++ c ∷ []) ≡ apply (outcome_on map) (world_after (outcome_on map) w commands) c
 world_after-more map w [] c = refl
-world_after-more map w (d ∷ commands) c = world_after-more map (apply (outcome_in map) w d) commands c
+world_after-more map w (d ∷ commands) c = world_after-more map (apply (outcome_on map) w d) commands c
 
 live-set : (records : List (Option Rec)) (slot : ℕ) (r me : Rec) → record_at records slot ≡ Some r → (id : ℕ)
     → is_some (record_at (slice_set records slot (Some me)) id) ≡ is_some (record_at records id)
@@ -69,9 +69,9 @@ moved-more map old new commands c is_map has is =
     let states = with_new_states e.states new in
     let was = still_at e.states new c.slot r at in
     let same = own ∙ sym (same_id e.states r.id r) in
-    let step : world_of (records_after map new c) ≡ apply (outcome_in map) (world_of new) c = world_of-with new c.slot r e ids (live_below new c.slot r at) at own items in
+    let step : world_of (records_after map new c) ≡ apply (outcome_on map) (world_of new) c = world_of-with new c.slot r e ids (live_below new c.slot r at) at own items in
     record {
-      world = step ∙ ap (λ (w : World). apply (outcome_in map) w c) is.world ∙ sym (world_after-more map (world_of old) commands c);
+      world = step ∙ ap (λ (w : World). apply (outcome_on map) w c) is.world ∙ sym (world_after-more map (world_of old) commands c);
       given = λ w. records_in-set w states c.slot (with_new_state e.states r.id r) e.me was same ∙ records_in-restated w e.states new ∙ is.given w;
       live = λ id. live-set states c.slot (with_new_state e.states r.id r) e.me was id ∙ live-restated e.states new id ∙ is.live id;
       count = length-set states c.slot (Some e.me) ∙ count-restated e.states new ∙ is.count;
@@ -80,7 +80,7 @@ moved-more map old new commands c is_map has is =
 
 -- what the commands leave are the new records
 pub moved-records : (map : MapView) (old new : List (Option Rec)) (commands : List Command) → HaveMoved map old new commands
-    → records_in (world_after (outcome_in map) (world_of old) commands) old ≡ new
+    → records_in (world_after (outcome_on map) (world_of old) commands) old ≡ new
 moved-records map old new commands is =
     ap (λ (w : World). records_in w old) (sym is.world)
     ∙ sym (is.given (world_of new))
@@ -111,11 +111,11 @@ moved map records commands is_map valid live = moved-on map records records [] c
 
 -- which are what the commands leave
 pub after_all-are : (map : MapView) (records : List (Option Rec)) (commands : List Command) → IsMap map → IsValidWorld map records → All (HasLivePlayer records) commands
-    → records_in (world_after (outcome_in map) (world_of records) commands) records ≡ after_all map records commands
+    → records_in (world_after (outcome_on map) (world_of records) commands) records ≡ after_all map records commands
 after_all-are map records commands is_map valid live = moved-records map records (after_all map records commands) commands (moved map records commands is_map valid live)
 
 -- and keep the world valid
 pub moves_keep_valid : (map : MapView) (records : List (Option Rec)) (commands : List Command) → IsMap map → IsValidWorld map records
-    → All (HasLivePlayer records) commands → IsValidWorld map (records_in (world_after (outcome_in map) (world_of records) commands) records)
+    → All (HasLivePlayer records) commands → IsValidWorld map (records_in (world_after (outcome_on map) (world_of records) commands) records)
 moves_keep_valid map records commands is_map valid live =
     subst (IsValidWorld map) (sym (after_all-are map records commands is_map valid live)) (moved map records commands is_map valid live).valid

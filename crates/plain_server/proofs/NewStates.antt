@@ -15,13 +15,13 @@ use Rattle.entity_recs.specs.declared.kind.Kind.TheVariants.{Player, Ammo, Gem}
 use Rattle.entity_recs.specs.declared.rec.Rec.{Rec}
 use Rattle.entity_recs.specs.Bodies.{body_of}
 use Rattle.entity_recs.specs.Kinds.{is_solid}
-use Rattle.entity_recs.specs.Records.{IsStateOf, with_state}
+use Rattle.entity_recs.specs.Records.{with_state}
 use Rattle.entity_recs.specs.Worlds.{World}
 use Rattle.entity_recs.specs.Histories.{with_new_state}
 use Rattle.item_rules.specs.Items.{is_item}
 use Rattle.arena_map.specs.declared.lift.Lift as lifts
 use Rattle.arena_map.specs.Maps.{MapView, entities_of, lift_of, solids_of}
-use Rattle.arena_map.specs.Validity.{IsAsItsLine, IsThing, IsValidRecord, IsValidWorld, AreClear}
+use Rattle.arena_map.specs.Validity.{IsAsItsLine, IsThing, IsStateOn, IsValidRecord, IsValidWorld, AreClear}
 use Rattle.world_tree.specs.Live.{record_at, ids_of}
 use Rattle.plain_server.specs.RecordsById.{records_in}
 use Rattle.plain_server.specs.Moving.{with_new_states}
@@ -115,27 +115,27 @@ pub record IsOfItem (records : List (Option Rec)) (s : NewState) : Type 0 where
   pub at : record_at records s.id ≡ Some item
   pub kind : is_item item.kind ≡ true
 
-item_state : (kind : Kind) (state : ℕ) → is_item kind ≡ true → IsStateOf kind state
-item_state Ammo state item = tt
-item_state Gem state item = tt
-item_state kind state item = cc
+item_state : (map : MapView) (kind : Kind) (state : ℕ) → is_item kind ≡ true → IsStateOn map kind state
+item_state map Ammo state item = tt
+item_state map Gem state item = tt
+item_state map kind state item = cc
 
 -- a new state is one of its record's kind
-pub state_fits : (records : List (Option Rec)) (states : List NewState) (id : ℕ) (r : Rec) → record_at records id ≡ Some r → All (IsOfItem records) states → IsStateOf r.kind r.state
-    → IsStateOf r.kind (with_new_state states id r).state
-state_fits records [] id r at items is = is
-state_fits records (s ∷ states) id r at items is =
-    let rest = state_fits records states id r at (All-tail (IsOfItem records) s states items) is in
+pub state_fits : (map : MapView) (records : List (Option Rec)) (states : List NewState) (id : ℕ) (r : Rec) → record_at records id ≡ Some r → All (IsOfItem records) states → IsStateOn map r.kind r.state
+    → IsStateOn map r.kind (with_new_state states id r).state
+state_fits map records [] id r at items is = is
+state_fits map records (s ∷ states) id r at items is =
+    let rest = state_fits map records states id r at (All-tail (IsOfItem records) s states items) is in
     elim (cases_Bool (s.id == id)) [
       | inl e ↦
           let item = All-head (IsOfItem records) s states items in
           let same : item.item ≡ r = same_Some item.item r (sym item.at ∙ ap (record_at records) (eqb-true s.id id e) ∙ at) in
-          rw e (item_state r.kind s.state (ap (λ (x : Rec). is_item x.kind) (sym same) ∙ item.kind))
+          rw e (item_state map r.kind s.state (ap (λ (x : Rec). is_item x.kind) (sym same) ∙ item.kind))
       | inr e ↦ rw e rest
     ]
 
 -- a record in another state that fits its kind is as valid
-restated_is_valid : (map : MapView) (id : ℕ) (r : Rec) (state : ℕ) → IsStateOf r.kind state → IsValidRecord map id r → IsValidRecord map id (with_state r state)
+restated_is_valid : (map : MapView) (id : ℕ) (r : Rec) (state : ℕ) → IsStateOn map r.kind state → IsValidRecord map id r → IsValidRecord map id (with_state r state)
 restated_is_valid map id r state fits valid = record {
   is_record = record {
     id = valid.is_record.id;
@@ -173,10 +173,10 @@ valid-restated map states records items valid = record {
       let was = before.was in
       let here = valid.each id was before.at in
       let after = restated states was.id was in
-      let fits : IsStateOf was.kind (with_new_state states was.id was).state =
-      state_fits records states was.id was (ap (record_at records) here.own_id ∙ before.at) items here.state in
+      let fits : IsStateOn map was.kind (with_new_state states was.id was).state =
+      state_fits map records states was.id was (ap (record_at records) here.own_id ∙ before.at) items here.state in
       let state : (with_new_state states was.id was).state ≡ after.state = ap (λ (x : Rec). x.state) after.is in
-      subst (IsValidRecord map id) (sym after.is ∙ before.is) (restated_is_valid map id was after.state (subst (IsStateOf was.kind) state fits) here);
+      subst (IsValidRecord map id) (sym after.is ∙ before.is) (restated_is_valid map id was after.state (subst (IsStateOn map was.kind) state fits) here);
   things = λ id from.
       subst (IsThing map (find (λ thing. thing.id == id) (entities_of map))) (sym (record_at-restated states records id))
       (thing-restated map states (find (λ thing. thing.id == id) (entities_of map)) (record_at records id) (valid.things id from));

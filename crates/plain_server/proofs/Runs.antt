@@ -13,7 +13,7 @@ use Rattle.move_journal.proofs.Uniques.{first_entry, legal_after, legal_at_first
 use Rattle.move_journal.proofs.JournalLaws.{merges_have_whole_histories}
 use Rattle.arena_map.specs.Maps.{MapView, IsMap}
 use Rattle.arena_map.specs.Validity.{IsValidWorld}
-use Rattle.arena_actions.specs.Outcomes.{outcome_in}
+use Rattle.arena_actions.specs.Outcomes.{outcome_on}
 use Rattle.client_ports.specs.Receiving.{Receiving}
 use Rattle.plain_server.specs.RecordsById.{world_of}
 use Rattle.plain_server.specs.Moving.{HasLivePlayer, effect_among, records_after}
@@ -30,7 +30,7 @@ entries_of items = map_list (λ (item : Item). item.entry) items
 pub record IsRun (map : MapView) (place : ℕ) (records : List (Option Rec)) (items : List Item) : Type 0 where
   pub valid : IsValidWorld map records
   pub live : All (HasLivePlayer records) (commands_of items)
-  pub legal : IsLegalFrom (outcome_in map) place (world_of records) items
+  pub legal : IsLegalFrom (outcome_on map) place (world_of records) items
 
 -- the player of its first command is live
 pub first_live : (map : MapView) (place : ℕ) (records : List (Option Rec)) (item : Item) (items : List Item) → IsRun map place records (item ∷ items) → HasLivePlayer records item.command
@@ -39,7 +39,7 @@ first_live map place records item items is = All-head (HasLivePlayer records) it
 -- its first entry is that of its command
 pub entry_is : (map : MapView) (place : ℕ) (records : List (Option Rec)) (item : Item) (items : List Item) → IsRun map place records (item ∷ items)
     → item.entry ≡ entry_of place item.command (effect_among map records item.command)
-entry_is map place records item items is = first_entry (outcome_in map) place (world_of records) item.command item.entry items is.legal
+entry_is map place records item items is = first_entry (outcome_on map) place (world_of records) item.command item.entry items is.legal
 
 -- the rest runs from the next place, in the records after that command
 pub run_rest : (map : MapView) (place : ℕ) (records : List (Option Rec)) (item : Item) (items : List Item) → IsMap map → IsRun map place records (item ∷ items)
@@ -51,7 +51,7 @@ run_rest map place records item items is_map is =
       valid = more.valid;
       live = All-weaker (HasLivePlayer records) (HasLivePlayer (records_after map records c)) (λ d has. still-live map records (records_after map records c) (c ∷ []) d more has) (commands_of items)
           (All-tail (HasLivePlayer records) c (commands_of items) is.live);
-      legal = subst (λ (w : World). IsLegalFrom (outcome_in map) (place + 1) w items) (sym more.world) (legal_after (outcome_in map) place (world_of records) c item.entry items is.legal);
+      legal = subst (λ (w : World). IsLegalFrom (outcome_on map) (place + 1) w items) (sym more.world) (legal_after (outcome_on map) place (world_of records) c item.entry items is.legal);
     }
 
 -- the history of a right journal of what was received runs from the records there
@@ -59,7 +59,7 @@ pub journal_runs : (map : MapView) (r : Receiving) (journal : List Entry) → Is
 journal_runs map r journal is right = record {
   valid = is.state.fits.valid;
   live = history_has (HasLivePlayer r.state.records) r.lists.moves journal is.live;
-  legal = legal_at_first (outcome_in map) (world_of r.state.records) (history_of r.lists.moves journal) right.legal;
+  legal = legal_at_first (outcome_on map) (world_of r.state.records) (history_of r.lists.moves journal) right.legal;
 }
 
 -- and its entries are the journal's

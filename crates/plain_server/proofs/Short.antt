@@ -1,51 +1,96 @@
--- A frame has no more accepted moves than packets.
-use Rattle.std.proofs.Common.{ℕ, ◌+◌, ◌≤◌, List, [], ◌∷◌, length, Result, Ok, Err, arith}
-use Rattle.std.proofs.lemmas.List.{length_push}
-use Rattle.packet_read.specs.declared.move_packet.MovePacket.{MovePacket}
-use Rattle.packet_read.specs.declared.packet.Packet.{Packet}
-use Rattle.packet_read.specs.declared.packet.Packet.TheVariants.{Join, Step, Leave}
-use Rattle.packet_read.specs.declared.packet_fault.PacketFault.{PacketFault}
-use Rattle.packet_read.specs.Reading.{reading}
+-- A frame has at most 8 accepted moves for each of 64 slots.
+use Rattle.std.proofs.Common.{◌≡◌, ℕ, zero, suc, ◌+◌, ◌*◌, ◌<◌, ◌≤◌, ◌==◌, Bool, true, false, cond, List, [], ◌∷◌, length, filter, All, Option, IsSome, refl, arith}
+use Rattle.std.specs.Prelude.{nat_lt}
+use Rattle.std.proofs.lemmas.Bool.Decides.{nat_tests}
+use Rattle.std.proofs.lemmas.List.{length-map}
+use Rattle.std.proofs.lemmas.List.Elements.{All-head, All-tail, All-weaker}
+use Rattle.entity_recs.specs.Commands.{Command}
 use Rattle.arena_map.specs.Maps.{MapView}
 use Rattle.client_ports.specs.declared.arrival.Arrival.{Arrival}
-use Rattle.client_ports.specs.declared.client.LiveSlot.{LiveSlot}
-use Rattle.client_ports.specs.declared.refusal.Refusal.{Refusal}
-use Rattle.client_ports.specs.declared.spawns.Place.{Place}
-use Rattle.client_ports.specs.Answers.{join_answer, leave_answer, move_answer}
+use Rattle.client_ports.specs.declared.client.Client.{Client}
+use Rattle.client_ports.specs.Clients.{client_at, AreClients}
 use Rattle.client_ports.specs.States.{State}
-use Rattle.client_ports.specs.Lists.{no_lists}
-use Rattle.client_ports.specs.Receiving.{Receiving, receiving_of, command_in, after_join, after_leave, after_move, after_packet, after_arrival, after_arrivals, received}
+use Rattle.client_ports.specs.Receiving.{received}
+use Rattle.client_ports.specs.Frames.{numbers_of}
+use Rattle.client_ports.proofs.Advances.{few_moves, movers_live}
+use Rattle.client_ports.proofs.Slots.{client_count}
+use Rattle.client_ports.proofs.Staying.{clients_received}
 
--- at most one move more
-abbrev HasOneMore : Receiving → Receiving → Type 0
-HasOneMore r next = length next.lists.moves ≤ length r.lists.moves + 1
+-- ---- the moves of the slots below one
 
-short_join : (to : Result Place Refusal) (r : Receiving) (place port : ℕ) → HasOneMore r (after_join to r place port)
-short_join (Err why) r place port = omega arith
-short_join (Ok to) r place port = omega arith
+-- the move is that of a slot below this one
+abbrev is_below : ℕ → Command → Bool
+is_below n c = nat_lt c.slot n
 
-short_leave : (to : Result LiveSlot Refusal) (r : Receiving) (place : ℕ) → HasOneMore r (after_leave to r place)
-short_leave (Err why) r place = omega arith
-short_leave (Ok live) r place = omega arith
+-- the move is that of this slot
+abbrev is_own : ℕ → Command → Bool
+is_own n c = c.slot == n
 
-short_move : (to : Result LiveSlot Refusal) (frame : ℕ) (m : MovePacket) (r : Receiving) (place : ℕ) → HasOneMore r (after_move to frame m r place)
-short_move (Err why) frame m r place = omega arith
-short_move (Ok live) frame m r place = let count = length_push r.lists.moves (command_in frame live.slot m) in omega (arith, count)
+-- one move more, where the test holds
+length-kept : (b : Bool) (c : Command) (moves : List Command) → length (cond b (c ∷ moves) moves) ≡ cond b 1 0 + length moves
+length-kept true c moves = omega arith
+length-kept false c moves = omega arith
 
-short_packet : (read : Result Packet PacketFault) (map : MapView) (frame : ℕ) (r : Receiving) (place port : ℕ) → HasOneMore r (after_packet map frame read r place port)
-short_packet (Err why) map frame r place port = omega arith
-short_packet (Ok Join) map frame r place port = short_join (join_answer map r.state port) r place port
-short_packet (Ok (Step m)) map frame r place port = short_move (move_answer r.state.clients port m.seq) frame m r place
-short_packet (Ok Leave) map frame r place port = short_leave (leave_answer r.state.clients port) r place
+-- a slot below the next one is below this one, or this one
+test-next : (slot n : ℕ) → cond (nat_lt slot (suc n)) 1 0 ≡ cond (nat_lt slot n) 1 0 + cond (slot == n) 1 0
+test-next slot n = grind (arith, nat_tests)
 
-short_arrivals : (map : MapView) (frame : ℕ) (r : Receiving) (place : ℕ) (arrivals : List Arrival) → length (after_arrivals map frame r place arrivals).lists.moves ≤ length r.lists.moves + length arrivals
-short_arrivals map frame r place [] = omega arith
-short_arrivals map frame r place (a ∷ more) =
-    let one : HasOneMore r (after_arrival map frame r place a) = short_packet (reading a.bytes) map frame r place a.port in
-    let rest = short_arrivals map frame (after_arrival map frame r place a) (place + 1) more in
-    omega (arith, one, rest)
+none-below : (moves : List Command) → length (filter (is_below 0) moves) ≡ 0
+none-below [] = refl
+none-below (c ∷ moves) =
+    let rest = none-below moves in
+    let kept = length-kept (nat_lt c.slot 0) c (filter (is_below 0) moves) in
+    let none : ◌≡◌ {A = ℕ} (cond (nat_lt c.slot 0) 1 0) 0 = grind (arith, nat_tests) in
+    omega (arith, kept, none, rest)
 
--- a frame has no more accepted moves than packets
-pub moves_are_few : (map : MapView) (frame : ℕ) (state : State) (arrivals : List Arrival) → length (received map frame state arrivals).lists.moves ≤ length arrivals
-unfolding received
-moves_are_few map frame state arrivals = let all = short_arrivals map frame (receiving_of state no_lists) 0 arrivals in omega (arith, all)
+-- the moves of the slots below the next one are those below this one, and its own
+more-below : (n : ℕ) (moves : List Command) → length (filter (is_below (suc n)) moves) ≡ length (filter (is_below n) moves) + length (filter (is_own n) moves)
+more-below n [] = refl
+more-below n (c ∷ moves) =
+    let rest = more-below n moves in
+    let next = length-kept (nat_lt c.slot (suc n)) c (filter (is_below (suc n)) moves) in
+    let below = length-kept (nat_lt c.slot n) c (filter (is_below n) moves) in
+    let own = length-kept (c.slot == n) c (filter (is_own n) moves) in
+    omega (arith, next, below, own, rest, test-next c.slot n)
+
+-- all of them, where each slot is below
+all-below : (n : ℕ) (moves : List Command) → All (λ c. c.slot < n) moves → length (filter (is_below n) moves) ≡ length moves
+all-below n [] below = refl
+all-below n (c ∷ moves) below =
+    let rest = all-below n moves (All-tail (λ (d : Command). d.slot < n) c moves below) in
+    let here : c.slot < n = All-head (λ (d : Command). d.slot < n) c moves below in
+    let kept = length-kept (nat_lt c.slot n) c (filter (is_below n) moves) in
+    let one : ◌≡◌ {A = ℕ} (cond (nat_lt c.slot n) 1 0) 1 = grind (arith, nat_tests) in
+    omega (arith, kept, one, rest)
+
+-- where each slot has at most 8 moves, so many slots have 8 times as many at most
+few-below : (n : ℕ) (moves : List Command) → ((slot : ℕ) → length (numbers_of slot moves) ≤ 8) → length (filter (is_below n) moves) ≤ 8 * n
+few-below zero moves few = let none = none-below moves in omega (arith, none)
+few-below (suc n) moves few =
+    let rest = few-below n moves few in
+    let more = more-below n moves in
+    let own = few n in
+    let count = length-map (filter (is_own n) moves) (λ (c : Command). c.seq) in
+    omega (arith, rest, more, own, count)
+
+-- ---- the moves of a frame
+
+-- the slot of a live client is one of the slots
+within : (clients : List (Option Client)) (slot : ℕ) → IsSome (client_at clients slot) → slot < length clients
+within [] slot some = cc
+within (x ∷ clients) zero some = omega arith
+within (x ∷ clients) (suc slot) some = let rest = within clients slot some in omega (arith, rest)
+
+-- a frame has at most 8 accepted moves for each of 64 slots
+pub moves_are_few : (map : MapView) (frame : ℕ) (state : State) (arrivals : List Arrival) → AreClients state.clients
+    → length (received map frame state arrivals).lists.moves ≤ 8 * 64
+moves_are_few map frame state arrivals are =
+    let next = received map frame state arrivals in
+    let clients = next.state.clients in
+    let after : AreClients clients = clients_received map frame state arrivals are in
+    let below : All (λ (c : Command). c.slot < 64) next.lists.moves =
+    All-weaker (λ (c : Command). IsSome (client_at clients c.slot)) (λ (c : Command). c.slot < 64)
+    (λ c live. omega (arith, within clients c.slot live, client_count clients after.slots)) next.lists.moves (movers_live map frame state arrivals) in
+    let few = few-below 64 next.lists.moves (λ slot. few_moves map frame state arrivals slot after) in
+    let all = all-below 64 next.lists.moves below in
+    omega (arith, few, all)

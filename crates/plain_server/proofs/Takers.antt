@@ -1,5 +1,5 @@
 -- Who took an item in frames with right journals.
-use Rattle.std.proofs.Common.{◌≡◌, ℕ, zero, suc, ◌+◌, ◌<◌, ◌≤◌, true, List, [], ◌∷◌, Option, Some, is_some, IsSome, slice_get, refl, sym, ap, ◌∙◌, subst, arith}
+use Rattle.std.proofs.Common.{◌≡◌, ℕ, zero, suc, ◌+◌, ◌<◌, ◌≤◌, true, List, [], ◌∷◌, Option, Some, is_some, slice_get, refl, sym, ap, ◌∙◌, subst, arith}
 use Rattle.std.proofs.lemmas.Option.{none-some, same_Some}
 use Rattle.entity_recs.specs.declared.rec.Rec.{Rec}
 use Rattle.entity_recs.specs.declared.effect.Entry.{Entry}
@@ -17,7 +17,7 @@ use Rattle.client_ports.specs.Receiving.{Receiving}
 use Rattle.plain_server.specs.Moving.{HasLivePlayer}
 use Rattle.plain_server.specs.Entries.{IsReception}
 use Rattle.plain_server.specs.Frames.{state_after_tick, received_in, moved_by, state_after, IsRightAfter, AreRight}
-use Rattle.plain_server.specs.Takers.{HasTaken, HasTakenIn, IsSameEntry, IsInState}
+use Rattle.plain_server.specs.Takers.{HasTaken, HasTakenIn, IsItemOf, IsSameEntry, HasOneTaker, HasItemsAway}
 use Rattle.plain_server.proofs.Commands.{history_has}
 use Rattle.plain_server.proofs.Moves.{after_all, after_all-are}
 use Rattle.plain_server.proofs.Runs.{entries_of, IsRun, journal_runs, run_entries}
@@ -25,7 +25,7 @@ use Rattle.plain_server.proofs.OfFrame.{IsOfFrame, moves_are_of_frame}
 use Rattle.plain_server.proofs.ThingsStay.{things_received, things_finished}
 use Rattle.plain_server.proofs.Ticking.{server_ticked, waits}
 use Rattle.plain_server.proofs.Frames.{moved_by_is, received_is, state_after_is}
-use Rattle.plain_server.proofs.Away.{IsAway, IsAwayThen, away_is_thing, away_through, nobody_got, got_through, one_got}
+use Rattle.plain_server.proofs.Away.{IsAway, IsAwayThen, away_is_thing, away_through, nobody_got, got_are_items, got_through, one_got}
 
 item_line : (kind : Kind) → is_item kind ≡ true → lines.is_item kind ≡ true
 item_line Ammo item = refl
@@ -88,12 +88,16 @@ module _ (map : MapView) (frame : ℕ) (state : State) (arrivals : List Arrival)
   not_taken id until place before away has =
       nobody_got map 0 r.state.records items id until place has.entry is_map runs (omega (arith, before)) (away_then id until before away) (in_history place has.entry has.in_place) has.got
 
+  -- what an entry has is an item
+  pub is_item_then : (id place : ℕ) → HasTaken journal place id → IsItemOf map id
+  is_item_then id place has = got_are_items map 0 r.state.records items id place has.entry is_map runs (in_history place has.entry has.in_place) has.got
+
   -- an item that an entry has is away after the frame
-  pub away_later : (id place : ℕ) → HasTaken journal place id → IsAwayThen map (state_after map r journal).records frame id
-  away_later id place has =
+  pub away_later : (id place : ℕ) → IsItemOf map id → HasTaken journal place id → IsAwayThen map (state_after map r journal).records frame id
+  away_later id place item has =
       let records = after_all map r.state.records (commands_of items) in
       let of_frame = history_has (IsOfFrame frame) r.lists.moves journal (moves_are_of_frame map frame (state_after_tick map frame state) arrivals) in
-      let then_away = got_through map frame 0 r.state.records items id place has.entry is_map runs of_frame (in_history place has.entry has.in_place) has.got in
+      let then_away = got_through map frame 0 r.state.records items id place has.entry is_map item runs of_frame (in_history place has.entry has.in_place) has.got in
       let after : IsServerState map (moved_by map r journal) = moved_by_is map r journal is_map pass in
       let same = after_all-are map r.state.records (commands_of items) is_map pass.state.fits.valid (history_has (HasLivePlayer r.state.records) r.lists.moves journal pass.live) in
       let moved = away_there records (moved_by map r journal).records id (frame + then_away.delay) (ap (λ (rs : List (Option Rec)). record_at rs id) same) then_away.away in
@@ -105,16 +109,16 @@ module _ (map : MapView) (frame : ℕ) (state : State) (arrivals : List Arrival)
       }
 
   -- the frame in which it returns is its state
-  pub returns_later : (id place delay : ℕ) → HasTaken journal place id → delay_of map id ≡ Some delay → IsInState (state_after map r journal).records id (frame + delay)
-  returns_later id place delay has delay_is =
-      let then_away = away_later id place has in
+  pub returns_later : HasItemsAway map frame journal (state_after map r journal).records
+  returns_later place id delay has delay_is =
+      let then_away = away_later id place (ap is_some delay_is) has in
       let same : then_away.delay ≡ delay = same_Some then_away.delay delay (sym then_away.delay_is ∙ delay_is) in
       record { now = then_away.away.item; at = then_away.away.at; state_is = then_away.away.state ∙ ap (λ (d : ℕ). frame + d) same }
 
   -- at most one entry has an item
-  pub one_taker : (id place other : ℕ) → HasTaken journal place id → HasTaken journal other id → other ≡ place
-  one_taker id place other one also =
-      one_got map 0 r.state.records items id place other one.entry also.entry is_map runs (in_history place one.entry one.in_place) (in_history other also.entry also.in_place) one.got also.got
+  pub one_taker : HasOneTaker map journal
+  one_taker place other id item one also =
+      one_got map 0 r.state.records items id place other one.entry also.entry is_map item runs (in_history place one.entry one.in_place) (in_history other also.entry also.in_place) one.got also.got
 
 -- ---- all frames
 
@@ -127,27 +131,27 @@ taken_later : (j : List Entry) (js : List (List Entry)) (frame place id : ℕ) �
 taken_later j js frame place id has = record { journal = has.journal; of_frame = has.of_frame; taken = has.taken }
 
 pub only_items : (map : MapView) (frame : ℕ) (state : State) (frames : List (List Arrival)) (journals : List (List Entry)) → IsMap map → IsServerState map state
-    → AreRight map frame state frames journals → (n place id : ℕ) → HasTakenIn journals n place id → IsSome (delay_of map id)
+    → AreRight map frame state frames journals → (n place id : ℕ) → HasTakenIn journals n place id → IsItemOf map id
 only_items map frame state [] [] is_map is right n place id has = absurd (none-some has.journal has.of_frame)
 only_items map frame state [] (j ∷ js) is_map is right n place id has = absurd right
 only_items map frame state (arrivals ∷ frames) [] is_map is right n place id has = absurd right
 only_items map frame state (arrivals ∷ frames) (j ∷ js) is_map is right zero place id has =
-    ap is_some (away_later map frame state arrivals j is_map is right.0 id place (taken_first j js place id has)).delay_is
+    is_item_then map frame state arrivals j is_map is right.0 id place (taken_first j js place id has)
 only_items map frame state (arrivals ∷ frames) (j ∷ js) is_map is right (suc n) place id has =
     let r = received_in map frame state arrivals in
     only_items map (frame + 1) (state_after map r j) frames js is_map (state_after_is map r j is_map (received_is map frame state arrivals is_map is)) right.1 n place id
     (taken_later j js n place id has)
 
 pub one_in_each : (map : MapView) (frame : ℕ) (state : State) (frames : List (List Arrival)) (journals : List (List Entry)) → IsMap map → IsServerState map state
-    → AreRight map frame state frames journals → (n place other id : ℕ) → HasTakenIn journals n place id → HasTakenIn journals n other id → other ≡ place
-one_in_each map frame state [] [] is_map is right n place other id has also = absurd (none-some has.journal has.of_frame)
-one_in_each map frame state [] (j ∷ js) is_map is right n place other id has also = absurd right
-one_in_each map frame state (arrivals ∷ frames) [] is_map is right n place other id has also = absurd right
-one_in_each map frame state (arrivals ∷ frames) (j ∷ js) is_map is right zero place other id has also =
-    one_taker map frame state arrivals j is_map is right.0 id place other (taken_first j js place id has) (taken_first j js other id also)
-one_in_each map frame state (arrivals ∷ frames) (j ∷ js) is_map is right (suc n) place other id has also =
+    → AreRight map frame state frames journals → (n place other id : ℕ) → IsItemOf map id → HasTakenIn journals n place id → HasTakenIn journals n other id → other ≡ place
+one_in_each map frame state [] [] is_map is right n place other id item has also = absurd (none-some has.journal has.of_frame)
+one_in_each map frame state [] (j ∷ js) is_map is right n place other id item has also = absurd right
+one_in_each map frame state (arrivals ∷ frames) [] is_map is right n place other id item has also = absurd right
+one_in_each map frame state (arrivals ∷ frames) (j ∷ js) is_map is right zero place other id item has also =
+    one_taker map frame state arrivals j is_map is right.0 place other id item (taken_first j js place id has) (taken_first j js other id also)
+one_in_each map frame state (arrivals ∷ frames) (j ∷ js) is_map is right (suc n) place other id item has also =
     let r = received_in map frame state arrivals in
-    one_in_each map (frame + 1) (state_after map r j) frames js is_map (state_after_is map r j is_map (received_is map frame state arrivals is_map is)) right.1 n place other id
+    one_in_each map (frame + 1) (state_after map r j) frames js is_map (state_after_is map r j is_map (received_is map frame state arrivals is_map is)) right.1 n place other id item
     (taken_later j js n place id has) (taken_later j js n other id also)
 
 -- an item that is away isn't taken before its frame
@@ -171,11 +175,11 @@ stay_away map frame state [] (j ∷ js) is_map is right n place later other id d
 stay_away map frame state (arrivals ∷ frames) [] is_map is right n place later other id delay delay_is has also from before = absurd right
 stay_away map frame state (arrivals ∷ frames) (j ∷ js) is_map is right zero place zero other id delay delay_is has also from before = record {
   frame_is = refl;
-  place_is = one_taker map frame state arrivals j is_map is right.0 id place other (taken_first j js place id has) (taken_first j js other id also);
+  place_is = one_taker map frame state arrivals j is_map is right.0 place other id (ap is_some delay_is) (taken_first j js place id has) (taken_first j js other id also);
 }
 stay_away map frame state (arrivals ∷ frames) (j ∷ js) is_map is right zero place (suc later) other id delay delay_is has also from before =
     let r = received_in map frame state arrivals in
-    let then_away = away_later map frame state arrivals j is_map is right.0 id place (taken_first j js place id has) in
+    let then_away = away_later map frame state arrivals j is_map is right.0 id place (ap is_some delay_is) (taken_first j js place id has) in
     let same : then_away.delay ≡ delay = same_Some then_away.delay delay (sym then_away.delay_is ∙ delay_is) in
     absurd (away_in_all map (frame + 1) (state_after map r j) frames js id (frame + then_away.delay) is_map
     (state_after_is map r j is_map (received_is map frame state arrivals is_map is)) right.1 then_away.away later other (omega (arith, before, same))

@@ -28,7 +28,7 @@ one_more map frame state (a ∷ frames) (j ∷ js) arrivals journal same =
 -- ---- what holds of each frame, where this holds of frames from a state on
 
 -- what is received in the frame with this place, where the first one has this number
-abbrev received_from : MapView → ℕ → State → List (List Arrival) → List (List Entry) → ℕ → List Arrival → Receiving
+abbrev pub received_from : MapView → ℕ → State → List (List Arrival) → List (List Entry) → ℕ → List Arrival → Receiving
 received_from map frame state frames journals k arrivals = received_in map (frame + k) (state_played map frame state (take k frames) (take k journals)) arrivals
 
 -- it holds of what is received in each frame and of its journal

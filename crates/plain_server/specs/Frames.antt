@@ -4,7 +4,7 @@ use Rattle.entity_recs.specs.declared.effect.Entry.{Entry}
 use Rattle.entity_recs.specs.Histories.{run}
 use Rattle.move_journal.specs.Merges.{history_of, IsRight, IsInOrder, journal_in_order}
 use Rattle.arena_map.specs.Maps.{MapView}
-use Rattle.arena_actions.specs.Outcomes.{outcome_in}
+use Rattle.arena_actions.specs.Outcomes.{outcome_on}
 use Rattle.world_physics.specs.Ticks.{after_tick}
 use Rattle.client_ports.specs.declared.arrival.Arrival.{Arrival}
 use Rattle.client_ports.specs.States.{State, state_of}
@@ -24,7 +24,7 @@ received_in map frame state arrivals = received map frame (state_after_tick map 
 abbrev pub moved_by : MapView → Receiving → List Entry → State
 moved_by map r journal =
     state_of r.state.clients
-    (records_in (run (outcome_in map) (world_of r.state.records) (history_of r.lists.moves journal)) r.state.records)
+    (records_in (run (outcome_on map) (world_of r.state.records) (history_of r.lists.moves journal)) r.state.records)
 
 -- the state for the next frame: those that leave are gone
 abbrev pub state_after : MapView → Receiving → List Entry → State
@@ -32,7 +32,7 @@ state_after map r journal = finished (moved_by map r journal)
 
 -- a right journal of what was received
 abbrev pub IsRightAfter : MapView → Receiving → List Entry → Type 0
-IsRightAfter map r journal = IsRight (outcome_in map) (world_of r.state.records) r.lists.moves journal
+IsRightAfter map r journal = IsRight (outcome_on map) (world_of r.state.records) r.lists.moves journal
 
 -- the first journal, and those of the frames after it
 abbrev pub first_of : List (List Entry) → List Entry
@@ -72,7 +72,7 @@ AreInOrder map frame state (arrivals ∷ frames) (j ∷ js) =
 
 -- the journal of a frame
 abbrev pub journal_of : MapView → Receiving → List Entry
-journal_of map r = journal_in_order (outcome_in map) (world_of r.state.records) r.lists.moves
+journal_of map r = journal_in_order (outcome_on map) (world_of r.state.records) r.lists.moves
 
 -- the journals of frames, the first of which has this number
 abbrev pub journals_of : MapView → ℕ → State → List (List Arrival) → List (List Entry)

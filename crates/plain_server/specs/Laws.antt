@@ -1,6 +1,6 @@
 -- What holds of the plain server, after any frames.
 use Rattle.std.specs.Prelude.{◌≡◌, ◌↔◌, ℕ, ◌+◌, ◌<◌, ◌≤◌, List, [], ◌∷◌, ◌++◌, length, take, slice_get, Option, Some}
-use Rattle.std.specs.Prelude.{None, IsSome, All, true, false}
+use Rattle.std.specs.Prelude.{None, All, true, false}
 use Rattle.entity_recs.specs.declared.rec.Rec.{Rec}
 use Rattle.entity_recs.specs.declared.effect.Entry.{Entry}
 use Rattle.entity_recs.specs.Commands.{Command}
@@ -8,7 +8,7 @@ use Rattle.entity_recs.specs.Histories.{world_after}
 use Rattle.move_journal.specs.Merges.{IsInOrder}
 use Rattle.arena_map.specs.Maps.{MapView, IsMap, delay_of}
 use Rattle.arena_map.specs.Validity.{IsValidWorld, IsOpeningWorld, AreClear}
-use Rattle.arena_actions.specs.Outcomes.{outcome_in}
+use Rattle.arena_actions.specs.Outcomes.{outcome_on}
 use Rattle.world_tree.specs.Live.{record_at}
 use Rattle.client_ports.specs.declared.arrival.Arrival.{Arrival}
 use Rattle.client_ports.specs.Clients.{client_at, AreClients}
@@ -20,7 +20,7 @@ use Rattle.plain_server.specs.Moving.{HasLivePlayer}
 use Rattle.plain_server.specs.Entries.{AreReported, HasBytes}
 use Rattle.plain_server.specs.Frames.{received_in, moved_by, state_after, state_played, IsRightAfter}
 use Rattle.plain_server.specs.Frames.{AreRight, AreInOrder, journals_of}
-use Rattle.plain_server.specs.Takers.{HasTaken, HasTakenIn, IsSameEntry, IsInState}
+use Rattle.plain_server.specs.Takers.{HasTakenIn, IsItemOf, IsSameEntry, HasOneTaker, HasItemsAway}
 use Rattle.plain_server.specs.Ends.{HasNoEntryOf, IsLastEntry, IsAsReported}
 
 -- before the first frame nobody is joined, and each thing of the map is live at its id and as at the start, and nothing
@@ -34,7 +34,7 @@ abbrev pub MovesKeepWorldsValid : Type 0
 MovesKeepWorldsValid =
     (map : MapView) (records : List (Option Rec)) (commands : List Command) → IsMap map → IsValidWorld map records
     → All (HasLivePlayer records) commands
-    → IsValidWorld map (records_in (world_after (outcome_in map) (world_of records) commands) records)
+    → IsValidWorld map (records_in (world_after (outcome_on map) (world_of records) commands) records)
 
 -- what is received in the frame after these, played with these journals
 abbrev pub received_next : MapView → List (List Arrival) → List (List Entry) → List Arrival → Receiving
@@ -123,26 +123,26 @@ RightJournalsAreInRange =
 pub record FramesHaveOneTaker : Type 0 where
   pub once : (map : MapView) (frame : ℕ) (state : State) (arrivals : List Arrival) (journal : List Entry) → IsMap map
       → IsServerState map state → IsRightAfter map (received_in map frame state arrivals) journal
-      → (place other id : ℕ) → HasTaken journal place id → HasTaken journal other id → other ≡ place
+      → HasOneTaker map journal
   pub away : (map : MapView) (frame : ℕ) (state : State) (arrivals : List Arrival) (journal : List Entry) → IsMap map
       → IsServerState map state → IsRightAfter map (received_in map frame state arrivals) journal
-      → (place id delay : ℕ) → HasTaken journal place id → delay_of map id ≡ Some delay
-      → IsInState (state_after map (received_in map frame state arrivals) journal).records id (frame + delay)
+      → HasItemsAway map frame journal (state_after map (received_in map frame state arrivals) journal).records
 
--- in right journals each id that an entry got is that of an item of the map
+-- in right journals each id that an entry got is that of an item of the map: of what a move does today nothing else
+-- is got
 abbrev pub OnlyItemsAreTaken : Type 0
 OnlyItemsAreTaken =
     (map : MapView) (frames : List (List Arrival)) (journals : List (List Entry)) → IsMap map
     → AreRight map 0 (opening map) frames journals
-    → (frame place id : ℕ) → HasTakenIn journals frame place id → IsSome (delay_of map id)
+    → (frame place id : ℕ) → HasTakenIn journals frame place id → IsItemOf map id
 
 -- in a frame at most one entry takes an item
 abbrev pub ItemsHaveOneTaker : Type 0
 ItemsHaveOneTaker =
     (map : MapView) (frames : List (List Arrival)) (journals : List (List Entry)) → IsMap map
     → AreRight map 0 (opening map) frames journals
-    → (frame place other id : ℕ) → HasTakenIn journals frame place id → HasTakenIn journals frame other id
-    → other ≡ place
+    → (frame place other id : ℕ) → IsItemOf map id → HasTakenIn journals frame place id
+    → HasTakenIn journals frame other id → other ≡ place
 
 -- an item that an entry took stays away for its delay: in the frames from that one on, as many as the delay says, no
 -- other entry takes it

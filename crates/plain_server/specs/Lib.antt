@@ -26,3 +26,4 @@ pub mod Takers
 pub mod Ends
 pub mod Replies
 pub mod Laws
+pub mod Numbers

@@ -10,7 +10,7 @@ use Rattle.entity_recs.specs.Worlds.{World}
 use Rattle.entity_recs.specs.Histories.{outcome, world_after, with_new_state}
 use Rattle.arena_map.specs.Maps.{MapView}
 use Rattle.arena_map.specs.Validity.{IsValidWorld}
-use Rattle.arena_actions.specs.Outcomes.{outcome_in}
+use Rattle.arena_actions.specs.Outcomes.{outcome_on}
 use Rattle.world_tree.specs.Live.{record_at}
 use Rattle.plain_server.specs.RecordsById.{world_of, records_in}
 
@@ -25,7 +25,7 @@ HasSmallNumber c = c.seq < 2 ^ 32
 
 -- what a command does among these records
 abbrev pub effect_among : MapView → List (Option Rec) → Command → Effect
-effect_among map records c = outcome (outcome_in map) (world_of records) c
+effect_among map records c = outcome (outcome_on map) (world_of records) c
 
 -- the live records, each with its state from the list, where it is listed
 abbrev pub with_new_states : List NewState → List (Option Rec) → List (Option Rec)
@@ -42,7 +42,7 @@ records_after map records c = records_with records c.slot (effect_among map reco
 -- the new records are the old ones after these commands, one after another: they make the world that the commands
 -- leave, the same ids are live, and they are those of a valid world
 pub record HaveMoved (map : MapView) (old new : List (Option Rec)) (commands : List Command) : Type 0 where
-  pub world : world_of new ≡ world_after (outcome_in map) (world_of old) commands
+  pub world : world_of new ≡ world_after (outcome_on map) (world_of old) commands
   pub given : (w : World) → records_in w new ≡ records_in w old
   pub live : (id : ℕ) → is_some (record_at new id) ≡ is_some (record_at old id)
   pub count : length new ≡ length old

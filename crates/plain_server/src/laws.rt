@@ -3,6 +3,7 @@ ghost use Rattle.plain_server.specs.Laws.{MovesKeepWorldsValid, WorldsStayValid,
 ghost use Rattle.plain_server.specs.Laws.{FramesAreInTurn, JournalsAreRightInOrder, OrderLeavesOneJournalEach};
 ghost use Rattle.plain_server.specs.Laws.{RightJournalsAreInRange, FramesEndWithTheirMoves};
 ghost use Rattle.plain_server.specs.Laws.{FramesHaveOneTaker, OnlyItemsAreTaken, ItemsHaveOneTaker, TakenItemsStayAway};
+ghost use Rattle.plain_server.specs.Numbers.{NumbersRiseAcrossFrames};
 
 /// Before the first frame nobody is joined, and each thing of the map is live at its id and as at the start, and nothing
 /// else is.
@@ -46,6 +47,12 @@ pub fn journals_are_right_in_order()
 /// Right journals that have the moves in the order of arrival are those that running them in that order gives.
 pub fn order_leaves_one_journal_each()
     ensures { OrderLeavesOneJournalEach }
+{}
+
+/// The sequence numbers that are accepted since a join rise from frame to frame: as long as a slot's client stays, each
+/// one of a later frame is above each one of an earlier one, also where it has no move in the frames between them.
+pub fn numbers_rise_across_frames()
+    ensures { NumbersRiseAcrossFrames }
 {}
 
 /// In a right journal of a frame each entry has its place, a player's slot, a number of 32 bits, an origin at most

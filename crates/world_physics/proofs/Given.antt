@@ -113,7 +113,7 @@ pub taken : (map : MapView) (w new : WorldView) (id state : ℕ) (r away : Rec) 
     → away ≡ with_state r state → new ≡ with_record (without_id w away.id) away → IsValidWorld map new.records
 taken map w new id state r away valid at item is made =
     let here = valid.each id r at in
-    let next = valid_in_state map id r state here (item_state r.kind state item) in
+    let next = valid_in_state map id r state here (item_state map r.kind state item) in
     let P : Option Rec → Type 0 = IsThing map (find (λ t. t.id == id) (entities_of map)) in
     let there = valid-with map w.records id (with_state r state) valid next (λ low. thing_in_state map (find (λ t. t.id == id) (entities_of map)) r state (subst P at (valid.things id low))) in
     let records_are =

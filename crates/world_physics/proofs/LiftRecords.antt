@@ -6,11 +6,11 @@ use Rattle.std.proofs.lemmas.Option.{none-some, same_Some}
 use Rattle.entity_recs.specs.declared.kind.Kind.{Kind}
 use Rattle.entity_recs.specs.declared.kind.Kind.TheVariants as kinds
 use Rattle.entity_recs.specs.declared.rec.Rec.{Rec}
-use Rattle.entity_recs.specs.Records.{IsStateOf, with_state}
+use Rattle.entity_recs.specs.Records.{with_state}
 use Rattle.arena_map.specs.declared.lift.Lift.{Lift}
 use Rattle.arena_map.specs.MapLines.{is_lift}
 use Rattle.arena_map.specs.Maps.{MapView, IsMap, IsLift, entities_of, lift_of}
-use Rattle.arena_map.specs.Validity.{IsSameLift, IsAsItsLine, IsThing, IsValidRecord, IsValidWorld}
+use Rattle.arena_map.specs.Validity.{IsSameLift, IsAsItsLine, IsThing, IsStateOn, IsValidRecord, IsValidWorld}
 use Rattle.arena_map.specs.Laws.{HasData}
 use Rattle.arena_map.proofs.Opening.{found-in, lift-of-line}
 use Rattle.arena_map.proofs.ThingRecords.{own-id}
@@ -110,11 +110,11 @@ state_below true b state is = omega arith
 state_below false true state is = omega arith
 state_below false false state is = is
 
-lift_state : (kind : Kind) (state : ℕ) → kind ≡ kinds.Lift → IsStateOf kind state → state ≤ 1
-lift_state kind state is has = let P : Kind → Type 0 = λ k. IsStateOf k state in subst P is has
+lift_state : (map : MapView) (kind : Kind) (state : ℕ) → kind ≡ kinds.Lift → IsStateOn map kind state → state ≤ 1
+lift_state map kind state is has = let P : Kind → Type 0 = λ k. IsStateOn map k state in subst P is has
 
-is_lift_state : (kind : Kind) (state : ℕ) → kind ≡ kinds.Lift → state ≤ 1 → IsStateOf kind state
-is_lift_state kind state is has = let P : Kind → Type 0 = λ k. IsStateOf k state in subst P (sym is) has
+is_lift_state : (map : MapView) (kind : Kind) (state : ℕ) → kind ≡ kinds.Lift → state ≤ 1 → IsStateOn map kind state
+is_lift_state map kind state is has = let P : Kind → Type 0 = λ k. IsStateOn map k state in subst P (sym is) has
 
 no-player : (kind : Kind) → kind ≡ kinds.Lift → kind ≡ kinds.Player → ⊥
 no-player kind is player = let both : kinds.Lift ≡ kinds.Player = sym is ∙ player in cc
@@ -129,8 +129,8 @@ lift_after_is_valid map id lift r is_map has is valid =
     record {
       is_record = record { id = rec.id; origin = inside.origin; shape = inside.shape; vel = rec.vel; flags = rec.flags; ammo = rec.ammo; carry = rec.carry };
       own_id = valid.own_id;
-      state = is_lift_state r.kind (next_state lift r) is.kind
-          (state_below (int_eq (next_height lift r) lift.rise) (int_eq (next_height lift r) (pos 0)) r.state (lift_state r.kind r.state is.kind valid.state));
+      state = is_lift_state map r.kind (next_state lift r) is.kind
+          (state_below (int_eq (next_height lift r) lift.rise) (int_eq (next_height lift r) (pos 0)) r.state (lift_state map r.kind r.state is.kind valid.state));
       inside = λ player. absurd (no-player r.kind is.kind player);
     }
 

@@ -8,13 +8,13 @@ use Rattle.arena_geo.specs.Boxes.{overlaps, moved, is_blocked}
 use Rattle.entity_recs.specs.declared.kind.Kind.{Kind}
 use Rattle.entity_recs.specs.declared.kind.Kind.TheVariants as kinds
 use Rattle.entity_recs.specs.declared.rec.Rec.{Rec}
-use Rattle.entity_recs.specs.Records.{IsIdOf, IsStateOf, with_state}
+use Rattle.entity_recs.specs.Records.{IsIdOf, with_state}
 use Rattle.entity_recs.specs.Bodies.{body_of}
 use Rattle.arena_map.specs.declared.lift.Lift.{Lift}
 use Rattle.arena_map.specs.MapLines.{is_item}
 use Rattle.arena_map.specs.Places.{upwards}
 use Rattle.arena_map.specs.Maps.{MapView, IsMap, entities_of, lift_of, solids_of}
-use Rattle.arena_map.specs.Validity.{IsSameLift, IsAsItsLine, IsThing, IsValidRecord, IsValidWorld}
+use Rattle.arena_map.specs.Validity.{IsSameLift, IsAsItsLine, IsThing, IsStateOn, IsValidRecord, IsValidWorld}
 use Rattle.arena_map.proofs.Boxes.{both_parts}
 use Rattle.world_tree.specs.Live.{record_at}
 use Rattle.world_physics.specs.declared.lift_step.LiftStep.{LiftStep}
@@ -55,13 +55,13 @@ pub any_state : (lift : Option Lift) (thing r : Rec) (state : ℕ) → IsAsItsLi
 any_state None thing r state is = record { kind = is.kind; origin = is.origin; mins = is.mins; maxs = is.maxs }
 any_state (Some lift) thing r state is = record { kind = is.kind; x = is.x; y = is.y; low = is.low; high = is.high; mins = is.mins; maxs = is.maxs }
 
-pub item_state : (kind : Kind) (state : ℕ) → is_item kind ≡ true → IsStateOf kind state
-item_state kinds.Ammo state is = tt
-item_state kinds.Gem state is = tt
-item_state kinds.Player state is = cc
-item_state kinds.Teleporter state is = cc
-item_state kinds.Goal state is = cc
-item_state kinds.Lift state is = cc
+pub item_state : (map : MapView) (kind : Kind) (state : ℕ) → is_item kind ≡ true → IsStateOn map kind state
+item_state map kinds.Ammo state is = tt
+item_state map kinds.Gem state is = tt
+item_state map kinds.Player state is = cc
+item_state map kinds.Teleporter state is = cc
+item_state map kinds.Goal state is = cc
+item_state map kinds.Lift state is = cc
 
 three_first : (a b c : Bool) → (a && b && c) ≡ true → a ≡ true
 three_first true b c h = refl
@@ -71,7 +71,7 @@ three_first false b c h = cc
 pub due_is_item : (frame : ℕ) (r : Rec) → is_due frame r ≡ true → is_item r.kind ≡ true
 due_is_item frame r due = three_first (is_item r.kind) _ _ due
 
-pub valid_in_state : (map : MapView) (id : ℕ) (r : Rec) (state : ℕ) → IsValidRecord map id r → IsStateOf r.kind state → IsValidRecord map id (with_state r state)
+pub valid_in_state : (map : MapView) (id : ℕ) (r : Rec) (state : ℕ) → IsValidRecord map id r → IsStateOn map r.kind state → IsValidRecord map id (with_state r state)
 valid_in_state map id r state valid is =
     let rec = valid.is_record in
     record {
@@ -94,7 +94,7 @@ returns_keep_valid map frame records valid =
     valid-changed map (returned frame) records valid (record {
       each = λ id r at.
           let here = valid.each id r at in
-          either_returned (IsValidRecord map id) frame r here (λ due. valid_in_state map id r 0 here (item_state r.kind 0 (due_is_item frame r due)));
+          either_returned (IsValidRecord map id) frame r here (λ due. valid_in_state map id r 0 here (item_state map r.kind 0 (due_is_item frame r due)));
       things = λ id thing r low e at is. either_returned (IsAsItsLine (lift_of map thing.id) thing) frame r is (λ due. any_state (lift_of map thing.id) thing r 0 is);
     })
 

@@ -40,7 +40,7 @@ run_moves-requires-clause-room g c κs within =
     let got = frame_got t c.args.arrivals.now c.map.result.now (state_of c.copy_from.new.self.ports c.copy_from.new.self.world.records) r c.server.invariant.0 c.map.ensures.value
     (ap (λ (s : State). state_of s.ports s.world.records) c.copy_from.ensures) c.receive.ensures.received in
     let few = few_moves t.map r c.args.arrivals.now c.moves.result.now c.moves.ensures got in
-    omega (arith, few, c.requires.few, c.clear.new.self.journal_fits)
+    omega (arith, few, c.clear.new.self.journal_fits)
 
 pub finish-requires : goal.finish-requires
 finish-requires g c =

@@ -1,7 +1,7 @@
 use Rattle.std.proofs.Common.{map, arith}
 use Rattle.std.proofs.lemmas.List.{length-map}
 use Rattle.entity_recs.specs.Commands.{command_of}
-use Rattle.arena_actions.specs.Outcomes.{outcome_in}
+use Rattle.arena_actions.specs.Outcomes.{outcome_on}
 use Rattle.plain_server.specs.RecordsById.{world_of}
 use Rattle.move_phase.proofs.ArenaMoves.{fixed_of_arena, all_taken, all_listed, none_asked, none_right, none_moved, ran_as_lent, arena_right, arena_moved}
 use Rattle.move_phase.proofs.Journals.{entries_fit, places_numbered, journal_in_order}
@@ -9,7 +9,7 @@ use Rattle.move_phase.proofs.moves.run_moves.Goals as goal
 
 pub returns-then-is_empty-clause-right : goal.returns-then-is_empty-clause-right
 returns-then-is_empty-clause-right g c =
-    none_right (outcome_in c.args.action.now.map) (world_of c.args.world.now.records) (map command_of c.args.moves.now) c.args.journal.now.entries
+    none_right (outcome_on c.args.action.now.map) (world_of c.args.world.now.records) (map command_of c.args.moves.now) c.args.journal.now.entries
     (none_asked c.args.moves.now c.if-is_empty.ensures) c.requires.empty
 
 pub returns-then-is_empty-clause-moved : goal.returns-then-is_empty-clause-moved

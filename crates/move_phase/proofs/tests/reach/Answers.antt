@@ -16,5 +16,5 @@ run_moves-requires-clause-apart g c κs within = subst HasNumbersApart (sym c.mo
 
 pub run_moves-requires-clause-room : goal.run_moves-requires-clause-room
 run_moves-requires-clause-room g c κs within =
-    let room : c.in_ok-journal.journal.room ≡ 4 = ap (λ (j : JournalView). j.room) c.in_ok-journal.ensures in
+    let room : c.in_ok-journal.journal.room ≡ 512 = ap (λ (j : JournalView). j.room) c.in_ok-journal.ensures in
     omega (arith, room, c.receive.ensures.few, ap length c.moves.ensures, length-map c.moves.result.now command_of)

@@ -3,6 +3,6 @@ use Rattle.plain_server.proofs.laws.frames_have_one_taker.Goals as goal
 
 pub returns : goal.returns
 returns c = record {
-  once = λ map frame state arrivals journal is_map is right place other id. one_taker map frame state arrivals journal is_map is right id place other;
-  away = λ map frame state arrivals journal is_map is right place id delay. returns_later map frame state arrivals journal is_map is right id place delay;
+  once = one_taker;
+  away = returns_later;
 }
