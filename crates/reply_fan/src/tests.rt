@@ -18,10 +18,20 @@ use world_tree::World;
 const MOVED: &[u8] =
     b"\x01\x01\0\0\0\0\x66\x26\0\0\0\0\0\0\0\x18\0\0\0\x40\x01\0\0\0\0\0\0\0\0\0\x01\0\0\0\0\0\0\x03\0\0\0\0\0";
 
-/// The slots of 32 players, the last one first.
+/// The slots of 32 players, the last one first, nine times over: so many that four threads write.
 const FALLING: &[u8] = &[
     62, 60, 58, 56, 54, 52, 50, 48, 46, 44, 42, 40, 38, 36, 34, 32, 30, 28, 26, 24, 22, 20, 18, 16,
-    14, 12, 10, 8, 6, 4, 2, 0,
+    14, 12, 10, 8, 6, 4, 2, 0, 62, 60, 58, 56, 54, 52, 50, 48, 46, 44, 42, 40, 38, 36, 34, 32, 30,
+    28, 26, 24, 22, 20, 18, 16, 14, 12, 10, 8, 6, 4, 2, 0, 62, 60, 58, 56, 54, 52, 50, 48, 46, 44,
+    42, 40, 38, 36, 34, 32, 30, 28, 26, 24, 22, 20, 18, 16, 14, 12, 10, 8, 6, 4, 2, 0, 62, 60, 58,
+    56, 54, 52, 50, 48, 46, 44, 42, 40, 38, 36, 34, 32, 30, 28, 26, 24, 22, 20, 18, 16, 14, 12, 10,
+    8, 6, 4, 2, 0, 62, 60, 58, 56, 54, 52, 50, 48, 46, 44, 42, 40, 38, 36, 34, 32, 30, 28, 26, 24,
+    22, 20, 18, 16, 14, 12, 10, 8, 6, 4, 2, 0, 62, 60, 58, 56, 54, 52, 50, 48, 46, 44, 42, 40, 38,
+    36, 34, 32, 30, 28, 26, 24, 22, 20, 18, 16, 14, 12, 10, 8, 6, 4, 2, 0, 62, 60, 58, 56, 54, 52,
+    50, 48, 46, 44, 42, 40, 38, 36, 34, 32, 30, 28, 26, 24, 22, 20, 18, 16, 14, 12, 10, 8, 6, 4, 2,
+    0, 62, 60, 58, 56, 54, 52, 50, 48, 46, 44, 42, 40, 38, 36, 34, 32, 30, 28, 26, 24, 22, 20, 18,
+    16, 14, 12, 10, 8, 6, 4, 2, 0, 62, 60, 58, 56, 54, 52, 50, 48, 46, 44, 42, 40, 38, 36, 34, 32,
+    30, 28, 26, 24, 22, 20, 18, 16, 14, 12, 10, 8, 6, 4, 2, 0,
 ];
 
 fn at(x: i32, y: i32, z: i32) -> Vec3
@@ -167,10 +177,11 @@ fn nothing_is_written_without_a_slot(rt: HostRuntime) -> Result<(), Fail> {
 #[test]
 fn each_buffer_has_what_is_written_alone(rt: HostRuntime) -> Result<(), Fail> {
     let world = crowd(rt.alloc(), 32)?;
-    // By one thread, by several, and by several of which the last writes fewer than the others.
+    // By one thread, by four, and by two of which the last writes fewer than the other.
     expect_each(&rt, &world, &[0, 2, 4])?;
+    expect_each(&rt, &world, &FALLING[..64])?;
     expect_each(&rt, &world, FALLING)?;
-    expect_each(&rt, &world, &FALLING[..27])?;
+    expect_each(&rt, &world, &FALLING[..133])?;
     // A slot may be asked for twice.
     expect_each(&rt, &world, &[4, 62, 4, 0])
 }
