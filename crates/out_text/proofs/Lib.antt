@@ -26,3 +26,4 @@ pub mod Lengths
 pub mod Bounded
 pub mod OneReply
 pub mod OneAnswer
+pub mod LastShown

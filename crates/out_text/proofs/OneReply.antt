@@ -1,5 +1,5 @@
 -- The lines of a frame have one `to` line for each live slot, in rising slot.
-use Rattle.std.proofs.Common.{◌≡◌, ℕ, zero, suc, ◌+◌, ◌≤◌, List, [], ◌∷◌, ◌++◌, map, take, Option, Some, None, refl, sym, ap, ◌∙◌, subst, arith}
+use Rattle.std.proofs.Common.{◌≡◌, ℕ, zero, suc, List, [], ◌∷◌, ◌++◌, map, take, Option, Some, refl, sym, ap, ◌∙◌, subst}
 use Rattle.std.specs.List.Sorted.{IsStrictlyIncreasing}
 use Rattle.entity_recs.specs.declared.rec.Rec.{Rec}
 use Rattle.entity_recs.specs.declared.effect.Entry.{Entry}
@@ -62,7 +62,7 @@ slots-are frame live [] = refl
 slots-are frame live (me ∷ players) = ap (λ (ids : List ℕ). me.id ∷ ids) (slots-are frame live players)
 
 -- a place of the first records is a place of all
-at_front : (k : ℕ) (records : List (Option Rec)) (i : ℕ) (r : Rec) → record_at (take k records) i ≡ Some r → record_at records i ≡ Some r
+pub at_front : (k : ℕ) (records : List (Option Rec)) (i : ℕ) (r : Rec) → record_at (take k records) i ≡ Some r → record_at records i ≡ Some r
 at_front zero records i r at = cc
 at_front (suc k) [] i r at = cc
 at_front (suc k) (o ∷ records) zero r at = at
@@ -78,7 +78,7 @@ one_each frame lists journal records entries =
       rising = subst IsStrictlyIncreasing (sym slots) (ids_rise front (λ id r at. (entries id r (at_front 64 records id r at)).own_id));
     }
 
-entries_of : (arena : MapView) (records : List (Option Rec)) → IsValidWorld arena records → AreEntries records
+pub entries_of : (arena : MapView) (records : List (Option Rec)) → IsValidWorld arena records → AreEntries records
 entries_of arena records valid id r at = record { is_record = (valid.each id r at).is_record; own_id = (valid.each id r at).own_id }
 
 pub one_reply : FramesHaveOneReplyEach

@@ -1,12 +1,15 @@
 -- What holds of every text, and of the outputs of recordings.
-use Rattle.std.specs.Prelude.{◌≡◌, ℕ, ◌+◌, ◌*◌, ◌≤◌, ◌↔◌, ◌⊎◌, true, List, [], ◌∷◌, ◌++◌, length, take, flat_map}
+use Rattle.std.specs.Prelude.{◌≡◌, ℕ, ◌+◌, ◌*◌, ◌≤◌, ◌↔◌, ◌⊎◌, true, false, List, [], ◌∷◌, ◌++◌, length, take, flat_map}
 use Rattle.std.specs.Prelude.{Option, None, Some, IsSome}
 use Rattle.entity_recs.specs.declared.effect.Entry.{Entry}
 use Rattle.move_journal.specs.Merges.{IsInOrder}
 use Rattle.arena_map.specs.Maps.{MapView, IsMap}
 use Rattle.client_ports.specs.declared.arrival.Arrival.{Arrival}
+use Rattle.client_ports.specs.Clients.{client_at}
 use Rattle.client_ports.specs.States.{State, IsServerState}
-use Rattle.plain_server.specs.Frames.{received_in, moved_by, state_played, IsRightAfter, AreRight, AreInOrder}
+use Rattle.client_ports.specs.Finishing.{is_leaver}
+use Rattle.plain_server.specs.Frames.{received_in, moved_by, state_after, state_played, IsRightAfter, AreRight}
+use Rattle.plain_server.specs.Frames.{AreInOrder}
 use Rattle.demo_lines.specs.Bytes.{Refusal, events, fault, map_of}
 use Rattle.demo_lines.specs.Spelling.{IsRecording, recording_text, frame_events, recording_events}
 use Rattle.out_text.specs.Dids.{Did}
@@ -20,6 +23,7 @@ use Rattle.out_text.specs.OneTaker.{HasOneTakerEach}
 use Rattle.out_text.specs.FrameLines.{lines_with, run_lines}
 use Rattle.out_text.specs.ToLines.{HasOneReplyEach}
 use Rattle.out_text.specs.PacketLines.{HasOneAnswerEach}
+use Rattle.out_text.specs.LastMoves.{IsLastMove, IsShownAt, IsLiveAt}
 
 -- a line reports a move exactly where it is the `did` line of one that is in range
 abbrev pub DidLinesAreRead : Type 0
@@ -161,3 +165,18 @@ pub record JournalsAreInTurn : Type 0 where
       let r = received_in map number (state_played map frame state frames journals) arrivals in
       AreInOrder map frame state (frames ++ arrivals ∷ []) (journals ++ journal ∷ [])
       ↔ (AreInOrder map frame state frames journals × IsInOrder journal r.lists.moves)
+
+-- where the last `did` line of a slot in a frame reports its player, also after a leap, there its `to` line shows it
+-- and there it begins the next frame, before the tick, unless it leaves
+pub record LastMovesAreShown : Type 0 where
+  pub shown : (map : MapView) (frame : ℕ) (state : State) (arrivals : List Arrival) (journal : List Entry) → IsMap map
+      → IsServerState map state
+      → let r = received_in map frame state arrivals in
+      IsRightAfter map r journal → (d : Did) → IsLastMove (lines_with map frame r journal) d
+      → IsShownAt (lines_with map frame r journal) d.slot d.origin
+  pub next : (map : MapView) (frame : ℕ) (state : State) (arrivals : List Arrival) (journal : List Entry) → IsMap map
+      → IsServerState map state
+      → let r = received_in map frame state arrivals in
+      IsRightAfter map r journal → (d : Did) → IsLastMove (lines_with map frame r journal) d
+      → is_leaver (client_at r.state.clients d.slot) ≡ false
+      → IsLiveAt (state_after map r journal).records d.slot d.origin

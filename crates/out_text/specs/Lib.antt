@@ -19,6 +19,7 @@ pub use Rattle.plain_server.specs.Takers
 pub use Rattle.demo_lines.specs.Bytes
 pub use Rattle.demo_lines.specs.Spelling
 pub use Rattle.snapshot_write.specs.Snapshots
+pub use Rattle.snapshot_write.specs.Reading as SnapshotReading
 pub mod Dids
 pub mod OutLines
 pub mod FrameLines
@@ -32,4 +33,5 @@ pub mod Output
 pub mod OneTaker
 pub mod ToLines
 pub mod PacketLines
+pub mod LastMoves
 pub mod Laws

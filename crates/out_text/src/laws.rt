@@ -2,7 +2,7 @@ ghost use Rattle.out_text.specs.Laws.{DidLinesAreRead, FrameLinesAreRead, Faultl
 ghost use Rattle.out_text.specs.Laws.{WrittenRecordingsHaveOutputs, OneWorkerHasOneOutput, OutputsSpellTheirJournals};
 ghost use Rattle.out_text.specs.Laws.{LinesReadBack, LinesArePrintedApart, RecordingsHaveMaps, OutputsHaveOneTaker};
 ghost use Rattle.out_text.specs.Laws.{OutputsAreBounded, FramesHaveOneReplyEach, FramesAnswerTheirPackets};
-ghost use Rattle.out_text.specs.Laws.{FramesHaveTheEvents, LinesAreInTurn, JournalsAreInTurn};
+ghost use Rattle.out_text.specs.Laws.{FramesHaveTheEvents, LinesAreInTurn, JournalsAreInTurn, LastMovesAreShown};
 
 /// The journals are read off exactly the lines that are printed: no other line opens a frame or reports a move.
 pub fn only_printed_lines_are_read()
@@ -86,4 +86,10 @@ pub fn lines_are_in_turn()
 /// received in the frame that follows; the same of the order of arrival.
 pub fn journals_are_in_turn()
     ensures { JournalsAreInTurn }
+{}
+
+/// Where the last `did` line of a slot in a frame reports its player, there its `to` line shows it, and there it begins
+/// the next frame, before the tick, unless it leaves.
+pub fn last_moves_are_shown()
+    ensures { LastMovesAreShown }
 {}
