@@ -12,3 +12,4 @@ pub mod Places
 pub mod Hits
 pub mod Changes
 pub mod Laws
+pub mod FreeWays

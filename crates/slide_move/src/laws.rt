@@ -2,6 +2,7 @@ ghost use Rattle.slide_move.specs.Laws.{LimitIsKnown, FreeSlideGoesAll, SideIsSi
 ghost use Rattle.slide_move.specs.Laws.{EndsStillWhereStopped, AtMostThreeTraces, ShiftIsPart, VelocityIsKeptOrStopped};
 ghost use Rattle.slide_move.specs.Laws.{PlacesAreFree, EndsAtLastPlace, PlacesAreInRange, ReachSuffices};
 ghost use Rattle.slide_move.specs.Laws.{SlideStaysInside};
+ghost use Rattle.slide_move.specs.FreeWays.{FreeSlidesGoByTheirVelocity};
 
 /// No part of a slide's velocity is more than 600,000 from 0.
 pub fn limit_is_known()
@@ -68,4 +69,9 @@ pub fn reach_suffices()
 /// solids block what the walls of the arena block.
 pub fn slide_stays_inside()
     ensures { SlideStaysInside }
+{}
+
+/// A slide of which the whole way is free goes on each axis by its velocity times the time by 1,000, cut toward 0.
+pub fn free_slides_go_by_their_velocity()
+    ensures { FreeSlidesGoByTheirVelocity }
 {}

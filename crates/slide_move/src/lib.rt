@@ -3,8 +3,8 @@
 
 pub use laws::{
     at_most_three_traces, ends_at_last_place, ends_still_where_stopped, free_slide_goes_all,
-    goes_on_where_not_stopped, limit_is_known, places_are_free, places_are_in_range,
-    reach_suffices, shift_is_part, side_is_sideways_hit, slide_stays_inside,
+    free_slides_go_by_their_velocity, goes_on_where_not_stopped, limit_is_known, places_are_free,
+    places_are_in_range, reach_suffices, shift_is_part, side_is_sideways_hit, slide_stays_inside,
     velocity_is_kept_or_stopped,
 };
 pub use slid::Slid;

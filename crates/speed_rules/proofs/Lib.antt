@@ -7,3 +7,4 @@ pub mod Aiming
 pub mod Capping
 pub mod Entering
 pub mod Typed
+pub mod Together

@@ -6,3 +6,4 @@ pub mod Rules
 pub mod Wishes
 pub mod Changes
 pub mod Laws
+pub mod Together

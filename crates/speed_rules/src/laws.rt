@@ -3,6 +3,8 @@ ghost use Rattle.speed_rules.specs.Laws.{FrictionStops, AccelerationIsBounded, A
 ghost use Rattle.speed_rules.specs.Laws.{AccelerationReachesTheCap, AccelerationActsBelowTheCap};
 ghost use Rattle.speed_rules.specs.Laws.{GravityPullsDown, JumpsPushUp};
 ghost use Rattle.speed_rules.specs.Laws.{ClampKeepsWhatIsInRange, ClampIsIdempotent, WhatEntersTheClampIsNear};
+ghost use Rattle.speed_rules.specs.Together.{HeightsAreKnown, FliersKeepTheirCourse, WalkersAreSlowed};
+ghost use Rattle.speed_rules.specs.Together.{WishesAreFollowed};
 
 /// The rules' numbers are Quake's, in sub-units, and they take velocities within 600,000.
 pub fn numbers_are_quakes()
@@ -77,4 +79,28 @@ pub fn clamp_is_idempotent()
 /// What enters the clamp is within 600,000 where the move began with a record's velocity, which is within 512,000.
 pub fn what_enters_the_clamp_is_near()
     ensures { WhatEntersTheClampIsNear }
+{}
+
+/// Whatever a player wishes, its z falls in the air by 204,800 * time / 1000, down to -512,000. A jump adds 69,120 to it,
+/// less that fall, up to 512,000. Where the player walks, z stays.
+pub fn heights_are_known()
+    ensures { HeightsAreKnown }
+{}
+
+/// A player that is in the air or jumps, and wishes nothing, keeps x and y: no friction acts on it.
+pub fn fliers_keep_their_course()
+    ensures { FliersKeepTheirCourse }
+{}
+
+/// A player that walks and wishes nothing is slowed by friction alone: x and y keep their share of the speed less
+/// time * 4 / 1000 of itself, or of 25,600 where that is more.
+pub fn walkers_are_slowed()
+    ensures { WalkersAreSlowed }
+{}
+
+/// A wish leads a player along it to the wish's length, at most 81,920 where the player walks and 7,680 where it jumps or
+/// is in the air, or as near to that as the time allows. The part along the wish comes at most 1 past it, and at most 3
+/// short of it.
+pub fn wishes_are_followed()
+    ensures { WishesAreFollowed }
 {}
