@@ -1,5 +1,5 @@
 -- A recording that was written is read as what was written.
-use Rattle.std.proofs.Common.{◌≡◌, ℕ, ◌+◌, ◌≤◌, ◌<◌, ◌≤ℤ◌, Bool, true, false, not, ◌&&◌, nat_le, nat_lt, List, [], ◌∷◌, ◌++◌, length, map, flat_map, filter_map, count_by, Some, None, option_map, cond, refl, sym, ap, ◌∙◌, subst, arith, ℤ, unsigned_abs, append_assoc, append-nil, length-append, All}
+use Rattle.std.proofs.Common.{◌≡◌, ℕ, ◌+◌, ◌≤◌, ◌<◌, ◌≤ℤ◌, Bool, true, false, not, ◌&&◌, nat_le, nat_lt, List, [], ◌∷◌, ◌++◌, length, fold, map, flat_map, filter_map, count_by, Some, None, option_map, cond, refl, sym, ap, ◌∙◌, subst, arith, ℤ, unsigned_abs, append_assoc, append-nil, length-append, All}
 use Rattle.std.specs.Option.{option_or}
 use Rattle.std.specs.Result.{result_ok}
 use Rattle.std.specs.List.{AllByRecursion, AllPairs}
@@ -12,6 +12,7 @@ use Rattle.std.proofs.lemmas.List.Elements.{recursion_from_All, filter_map-appen
 use Rattle.std.proofs.Math.ListN.{get_or-append}
 use Rattle.std.proofs.Math.Seq.{get_or-append_seam}
 use Rattle.edge_io.specs.Lines.{HasNoLineFeed}
+use Rattle.edge_io.specs.WholeLines.{unlines}
 use Rattle.edge_io.proofs.Feeds.{each_of_both}
 use Rattle.arena_geo.specs.declared.vec3.Vec3.{Vec3}
 use Rattle.arena_geo.specs.Vectors.{IsNear}
@@ -38,7 +39,8 @@ use Rattle.demo_lines.specs.Recording.{next, after_line, after_test, event_of, e
 use Rattle.demo_lines.specs.Said.{place_fault, after_said}
 use Rattle.demo_lines.specs.Bytes.{last_part, lines_of, refused_where}
 use Rattle.demo_lines.specs.Spelling.{line_text, IsArrival, IsLine, arena_line, block_line, spawn_line, map_lines, frame_lines, recording_lines, recording_text, frame_events, recording_events, IsFrame, IsRecording}
-use Rattle.demo_lines.specs.Laws.{RecordingsReadBack}
+use Rattle.demo_lines.specs.InTurn.{AreAccepted, map_in_turn, lines_in_turn, text_in_turn, IsBuilt}
+use Rattle.demo_lines.specs.Laws.{IsTextOf}
 use Rattle.demo_lines.proofs.Machines.{run_of-append, outputs_of-append}
 use Rattle.demo_lines.proofs.OnePass.{next-short, events-short}
 use Rattle.demo_lines.proofs.Parts.{lines_of-unlines}
@@ -379,15 +381,42 @@ goes_recording : (m : MapView) (frames : List (List Arrival)) → IsRecording m 
 goes_recording m frames is =
     goes-then start (map_lines m) (tail_lines frames) (mapping m) (ended m) [] (recording_events frames) (goes_map m is.is_map) (λ n. goes_tail m frames n is.each is.few is.spawn)
 
-pub recordings_read_back : RecordingsReadBack
-recordings_read_back m frames is =
-    let goes = goes_recording m frames is in
-    let lines = map line_text (recording_lines m frames) in
-    let whole : lines_of (recording_text m frames) ≡ lines =
-    ap lines_of (sym (append-nil (recording_text m frames))) ∙ lines_of-unlines lines [] goes.each ∙ append-nil lines in
+-- what is read of the text of written lines that lead to an end
+read-text : (lines : List Line) (m : MapView) (frames : List (List Arrival)) → Goes start lines (ended m) (recording_events frames) → IsTextOf m frames (unlines (map line_text lines))
+read-text lines m frames goes =
+    let text = unlines (map line_text lines) in
+    let whole : lines_of text ≡ map line_text lines =
+    ap lines_of (sym (append-nil text)) ∙ lines_of-unlines (map line_text lines) [] goes.each ∙ append-nil (map line_text lines) in
     record {
-      fault = ap (λ ls. refused_where (after start ls) (last_part (recording_text m frames))) whole
-          ∙ ap (λ r. refused_where r (last_part (recording_text m frames))) goes.reached;
+      fault = ap (λ ls. refused_where (after start ls) (last_part text)) whole ∙ ap (λ r. refused_where r (last_part text)) goes.reached;
       map = ap (λ ls. (after start ls).map) whole ∙ ap (λ (r : Reading). r.map) goes.reached;
       events = ap (events_of start) whole ∙ goes.events;
     }
+
+pub recordings_read_back : (m : MapView) (frames : List (List Arrival)) → IsRecording m frames → IsTextOf m frames (recording_text m frames)
+recordings_read_back m frames is = read-text (recording_lines m frames) m frames (goes_recording m frames is)
+
+-- ---- map lines in any order
+
+-- lines that are accepted in turn lead to the map with them
+goes_accepted : (m : MapView) (lines : List MapLine) (n : ℕ) → AreAccepted m lines → Goes (mapping m n) (map OfMap lines) (mapping (fold with_line m lines)) []
+goes_accepted m [] n accepted = record { at = n; each = tt; reached = refl; events = refl }
+goes_accepted m (line ∷ more) n accepted =
+    let is = accepted.0 in
+    goes-then (mapping m n) (OfMap line ∷ []) (map OfMap more) (mapping (with_line m line)) (mapping (fold with_line m (line ∷ more))) [] []
+    (goes-line (mapping m n) (OfMap line) (mapping (with_line m line)) (n + 1) is.limits refl is.added (ap (option_map faults.Rule) is.rules) refl)
+    (λ k. goes_accepted (with_line m line) more k accepted.1)
+
+goes_in_turn : (arena : Bounds) (added : List MapLine) (frames : List (List Arrival)) → IsBuilt arena added frames
+    → Goes start (lines_in_turn arena added frames) (ended (map_in_turn arena added)) (recording_events frames)
+goes_in_turn arena added frames is =
+    let bare = map_of arena [] [] [] in
+    let m = map_in_turn arena added in
+    goes-then start (arena_line arena ∷ []) (map OfMap added ++ tail_lines frames) (mapping bare) (ended m) [] (recording_events frames)
+    (goes-line start (arena_line arena) (mapping bare) 1 is.near refl refl (arena_passes _ is.wide) refl)
+    (λ n. goes-then (mapping bare n) (map OfMap added) (tail_lines frames) (mapping m) (ended m) [] (recording_events frames) (goes_accepted bare added n is.accepted)
+    (λ k. goes_tail m frames k is.each is.few is.spawn))
+
+pub read_in_turn : (arena : Bounds) (added : List MapLine) (frames : List (List Arrival)) → IsBuilt arena added frames
+    → IsTextOf (map_in_turn arena added) frames (text_in_turn arena added frames)
+read_in_turn arena added frames is = read-text (lines_in_turn arena added frames) (map_in_turn arena added) frames (goes_in_turn arena added frames is)

@@ -11,7 +11,8 @@ use Rattle.edge_io.specs.Lines.{AreBytes}
 use Rattle.client_ports.specs.declared.arrival.Arrival.{Arrival}
 use Rattle.arena_map.specs.Maps.{IsSpawn, IsBlock, IsThingInside, IsMap}
 use Rattle.arena_geo.specs.Boxes.{is_blocked}
-use Rattle.demo_lines.specs.Spelling.{IsArrival, IsRecording, small_map, small_frames}
+use Rattle.demo_lines.specs.Spelling.{IsArrival, IsRecording, small_map, small_lines, small_frames}
+use Rattle.demo_lines.specs.InTurn.{IsBuilt}
 use Rattle.demo_lines.specs.Laws.{SmallRecording}
 use Rattle.demo_lines.proofs.Written.{packets_have_room}
 
@@ -108,6 +109,23 @@ small_is = record {
   spawn = λ h. refl;
 }
 
+-- its map's lines, the block first
+block_near : IsNear 1048576 small_block.lo × IsNear 1048576 small_block.hi
+block_near = (record { x = omega arith; y = omega arith; z = omega arith }, record { x = omega arith; y = omega arith; z = omega arith })
+
+small_built : IsBuilt small_map.bounds small_lines small_frames
+small_built = record {
+  near = (small_lo, small_hi);
+  wide = refl;
+  accepted = (
+    record { limits = block_near; added = refl; rules = refl },
+    (record { limits = small_spawn_is.near; added = refl; rules = refl }, (record { limits = other_spawn_is.near; added = refl; rules = refl }, tt)),
+  );
+  few = small_is.few;
+  each = small_is.each;
+  spawn = λ h. refl;
+}
+
 pub small_recording : SmallRecording
 unfolding digits encode_with
-small_recording = record { is = small_is; text = refl }
+small_recording = record { is = small_is; text = refl; built = small_built; same = refl }

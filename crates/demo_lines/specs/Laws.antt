@@ -5,6 +5,8 @@ use Rattle.std.specs.List.{slice_split}
 use Rattle.edge_io.specs.Lines.{AreBytes}
 use Rattle.hex.specs.Hex.{encode_lower, encode_upper}
 use Rattle.demo_lines.specs.Packets.{packet_bytes}
+use Rattle.arena_geo.specs.Bounds.{Bounds}
+use Rattle.arena_map.specs.declared.map_line.MapLine.{MapLine}
 use Rattle.arena_map.specs.Maps.{MapView}
 use Rattle.client_ports.specs.declared.arrival.Arrival.{Arrival}
 use Rattle.client_ports.specs.declared.arrival.TheConstants.{MOST_BYTES}
@@ -21,7 +23,8 @@ use Rattle.demo_lines.specs.Faults.{is_long, fault_of}
 use Rattle.demo_lines.specs.Recording.{after, events_of}
 use Rattle.demo_lines.specs.Reads.{ReadsQuietly}
 use Rattle.demo_lines.specs.Spelling.{line_text, IsLine, recording_lines, recording_text, recording_events, IsRecording}
-use Rattle.demo_lines.specs.Spelling.{small_map, small_frames, small_text}
+use Rattle.demo_lines.specs.Spelling.{small_map, small_lines, small_frames, small_text}
+use Rattle.demo_lines.specs.InTurn.{IsBuilt, map_in_turn, text_in_turn}
 use Rattle.edge_io.specs.WholeLines.{is_line_feed, whole_lines}
 use Rattle.demo_lines.specs.Bytes.{Refusal, refusal, events, fault, map_of}
 
@@ -110,20 +113,27 @@ pub record PacketsHaveRoom : Type 0 where
   pub low : (a : Arrival) → a.port < 10000 → length a.bytes ≤ 251 → length (line_text (From a)) ≤ 512
   pub lowest : (a : Arrival) → a.port < 100 → length a.bytes ≤ 252 → length (line_text (From a)) ≤ 512
 
--- the text of a recording has no fault, and gives the map, the frames with their packets and then the end
-pub record ReadsBack (m : MapView) (frames : List (List Arrival)) : Type 0 where
-  pub fault : fault (recording_text m frames) ≡ None
-  pub map : map_of (recording_text m frames) ≡ Some m
-  pub events : events (recording_text m frames) ≡ recording_events frames
+-- a text is that of a recording of this map and these frames: it has no fault, and gives the map, the frames with their
+-- packets and then the end
+pub record IsTextOf (m : MapView) (frames : List (List Arrival)) (text : List ℕ) : Type 0 where
+  pub fault : fault text ≡ None
+  pub map : map_of text ≡ Some m
+  pub events : events text ≡ recording_events frames
 
--- a recording that can be written is read as what was written
-abbrev pub RecordingsReadBack : Type 0
-RecordingsReadBack = (m : MapView) (frames : List (List Arrival)) → IsRecording m frames → ReadsBack m frames
+-- a recording that can be written is read as what was written: with the spawns of its map first, then the blocks and
+-- then the things, and with its map's lines in any order in which each is accepted in turn
+pub record RecordingsReadBack : Type 0 where
+  pub in_order : (m : MapView) (frames : List (List Arrival)) → IsRecording m frames
+      → IsTextOf m frames (recording_text m frames)
+  pub in_turn : (arena : Bounds) (added : List MapLine) (frames : List (List Arrival)) → IsBuilt arena added frames
+      → IsTextOf (map_in_turn arena added) frames (text_in_turn arena added frames)
 
--- a small recording can be written, and this is its text
+-- a small recording can be written, and this is its text; and so it can with its block before its spawns
 pub record SmallRecording : Type 0 where
   pub is : IsRecording small_map small_frames
   pub text : recording_text small_map small_frames ≡ small_text
+  pub built : IsBuilt small_map.bounds small_lines small_frames
+  pub same : map_in_turn small_map.bounds small_lines ≡ small_map
 
 -- a recording that can be written and has so many lines
 pub record HasLines (count : ℕ) : Type 0 where

@@ -16,5 +16,6 @@ pub mod Said
 pub mod Bytes
 pub mod Readings
 pub mod Spelling
+pub mod InTurn
 pub mod Reads
 pub mod Laws

@@ -7,6 +7,7 @@ use Rattle.edge_io.specs.Lines.{AreBytes}
 use Rattle.edge_io.specs.WholeLines.{unlines}
 use Rattle.arena_geo.specs.declared.vec3.Vec3.{Vec3}
 use Rattle.arena_geo.specs.Bounds.{Bounds, bounds}
+use Rattle.arena_map.specs.declared.map_line.MapLine.{MapLine}
 use Rattle.arena_map.specs.declared.map_line.MapLine.TheVariants.{Arena, Block, Spawn}
 use Rattle.arena_map.specs.Maps.{MapView, IsMap, is_ready, map_of}
 use Rattle.arena_map.specs.MapLines.{IsWithinLimits}
@@ -101,6 +102,13 @@ small_map = map_of
     ∷ [])
     (record { x = pos 0; y = pos 4096; z = pos 6144 } ∷ record { x = pos 12288; y = pos 4096; z = pos 6144 } ∷ [])
     []
+
+-- the lines of this map after its arena, with the block first
+abbrev pub small_lines : List MapLine
+small_lines =
+    Block (record { x = pos 1; y = pos 20; z = pos 300 }) (record { x = pos 4000; y = pos 30000; z = pos 32768 })
+    ∷ Spawn (record { x = pos 0; y = pos 4096; z = pos 6144 }) ∷ Spawn (record { x = pos 12288; y = pos 4096; z = pos 6144 })
+    ∷ []
 
 -- its two frames, of two packets and of none
 abbrev pub small_frames : List (List Arrival)

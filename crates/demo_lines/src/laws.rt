@@ -52,12 +52,15 @@ pub fn packets_have_room()
 {}
 
 /// A recording that can be written is read as what was written: it has no fault, and gives its map, its frames with
-/// their packets, and its end.
+/// their packets, and its end. So it is with the spawns of its map before the blocks and these before the things, and
+/// with the lines of its map in any order in which each is accepted in turn, as they were where it was built line by
+/// line.
 pub fn recordings_read_back()
     ensures { RecordingsReadBack }
 {}
 
-/// A small recording can be written, and its text is the one that it says.
+/// A small recording can be written, and its text is the one that it says; and so it can with the lines of its map in
+/// another order.
 pub fn small_recording_can_be_written()
     ensures { SmallRecording }
 {}

@@ -1,5 +1,5 @@
-use Rattle.demo_lines.proofs.RecordingsRead.{recordings_read_back}
+use Rattle.demo_lines.proofs.RecordingsRead.{recordings_read_back, read_in_turn}
 use Rattle.demo_lines.proofs.laws.recordings_read_back.Goals as goal
 
 pub returns : goal.returns
-returns c = recordings_read_back
+returns c = record { in_order = recordings_read_back; in_turn = read_in_turn }
