@@ -9,8 +9,8 @@ use Rattle.atomic_table.specs.Table.{Me, keeps, Allows}
 use Rattle.atomic_table.proofs.Lists.{set_here}
 use Rattle.entity_recs.specs.Commands.{Command}
 use Rattle.core_steps.specs.Views.{Fixed, View}
-use Rattle.core_steps.specs.Machine.{Next, YieldCount, index_of}
-use Rattle.region_locks.specs.Sights.{SightView}
+use Rattle.core_steps.specs.Machine.{Next, Begin, LoadOwn, LoadAgain, TakeNode, ClaimNode, ReadList, ReadPlayer, ReadState, CommitMove, StoreWord, GiveNode, YieldNode, YieldCount, index_of}
+use Rattle.region_locks.specs.Sights.{SightView, sight_found, Tally, tally_after}
 use Rattle.region_locks.specs.Going.{MayGo}
 use Rattle.core_machine.specs.Going.{view_found, word_left}
 use Rattle.region_locks.specs.Rule.{IsRuled}
@@ -38,7 +38,7 @@ allowed_here : (F : Fixed) (rooms : List ℕ) (slots i : ℕ) (me : Me (Unit {0}
     → Allows (IsRuled F rooms) slots i me (index_of 31 me.0.view next) f (λ found after. SeatWent F (length rooms) next me found after)
 allowed_here F rooms slots i me given quits next f may leaves s r _ at small =
     let found = slice_index s.words (index_of 31 me.0.view next) in
-    let new : SightView = record { number = me.0.number; view = view_found F me.0.view next found } in
+    let new : SightView = sight_found F me.0 next found in
     let ruled = goes F rooms s r i me.0 at given quits next may (f found) (leaves found small) in (
       new,
       keeps,
@@ -48,6 +48,7 @@ allowed_here F rooms slots i me given quits next f may leaves s r _ at small =
         record {
           number = refl;
           view = refl;
+          tally = refl;
           sound_sight = sound_sight F rooms _ ruled i new (set_here s.views i new (there_below s.views i me.0 at));
           small = found_small F rooms s r i me.0 at given quits next may;
           taken = found_taken F rooms s r i me.0 at given quits next may;
@@ -76,6 +77,23 @@ no_store F number view next new leaves is =
     let one_is = left 1 in
     absurd (omega (arith, zero_is, one_is))
 
+-- and takes no node
+store_takes : (F : Fixed) (number : ℕ) (view : View) (next : Next) (new found : ℕ) (tally : Tally) → ((n : ℕ) → word_left F number view next n ≡ new)
+    → tally_after next found (word_left F number view next found) tally ≡ tally_after next new (word_left F number view next new) tally
+store_takes F number view (Begin c) new found tally leaves = refl
+store_takes F number view LoadOwn new found tally leaves = refl
+store_takes F number view LoadAgain new found tally leaves = refl
+store_takes F number view (TakeNode node) new found tally leaves = let one = leaves 1 in let two = leaves 2 in absurd (omega (arith, one, two))
+store_takes F number view (ClaimNode e node) new found tally leaves = let one = leaves 1 in let two = leaves 2 in absurd (omega (arith, one, two))
+store_takes F number view (ReadList node plan) new found tally leaves = refl
+store_takes F number view (ReadPlayer node part slot players plan) new found tally leaves = refl
+store_takes F number view (ReadState id ids) new found tally leaves = refl
+store_takes F number view (CommitMove e nodes) new found tally leaves = refl
+store_takes F number view (StoreWord nodes store stores) new found tally leaves = refl
+store_takes F number view (GiveNode node) new found tally leaves = refl
+store_takes F number view (YieldNode node) new found tally leaves = refl
+store_takes F number view YieldCount new found tally leaves = refl
+
 -- the same for a store, whose step gets the word that is stored
 pub allowed_store : (F G : Fixed) (rooms : List ℕ) (passes word slots i : ℕ) (me : Me (Unit {0}) SightView) (given : Option Command) (quits : Bool) (next : Next) (new : ℕ)
     → F ≡ G → passes ≡ length rooms → word ≡ index_of 31 me.0.view next → MayGo F passes me.0.number me.0.view given quits next
@@ -93,6 +111,7 @@ allowed_store F G rooms passes word slots i me given quits next new fixed count 
         record {
           number = went.0.number;
           view = went.0.view ∙ blind (slice_index s.words word);
+          tally = went.0.tally ∙ store_takes F me.0.number me.0.view next new (slice_index s.words word) me.0.tally leaves;
           sound_sight = went.0.sound_sight;
           small = store_small F me.0.number me.0.view next new leaves;
           taken = λ node slot part players plan is five. store_loads F me.0.number me.0.view next new node slot part players plan leaves is;
@@ -138,7 +157,7 @@ allowed_add_here : (F : Fixed) (rooms : List ℕ) (slots i : ℕ) (me : Me (Unit
     → Allows (IsRuled F rooms) slots i me (index_of 31 me.0.view next) (λ n. (n + 1) % 2 ^ 64) (λ found after. SeatCounted F (length rooms) next me found after)
 allowed_add_here F rooms slots i me given quits next at_0 may leaves s r _ at small =
     let found = slice_index s.words (index_of 31 me.0.view next) in
-    let new : SightView = record { number = me.0.number; view = view_found F me.0.view next found } in
+    let new : SightView = sight_found F me.0 next found in
     let seen_below : me.0.view.seen ≤ found = subst (λ (n : ℕ). me.0.view.seen ≤ slice_index s.words n) (sym at_0) (seen_is_below F rooms s r i me.0 at) in
     let bound : found < 2 ^ 40 = subst (λ (n : ℕ). slice_index s.words n < 2 ^ 40) (sym at_0) (count_is_small F rooms s r) in
     let ruled = goes F rooms s r i me.0 at given quits next may ((found + 1) % 2 ^ 64) (grown found bound ∙ sym (leaves found)) in (
@@ -151,6 +170,7 @@ allowed_add_here F rooms slots i me given quits next at_0 may leaves s r _ at sm
           record {
             number = refl;
             view = refl;
+            tally = refl;
             sound_sight = sound_sight F rooms _ ruled i new (set_here s.views i new (there_below s.views i me.0 at));
             small = found_small F rooms s r i me.0 at given quits next may;
             taken = found_taken F rooms s r i me.0 at given quits next may;

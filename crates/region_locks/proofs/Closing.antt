@@ -16,10 +16,11 @@ use Rattle.core_steps.specs.Stands.{is_live_cell, value_in, owed_at, ended_log, 
 use Rattle.core_steps.proofs.Runs.{IsRunWorld}
 use Rattle.core_steps.proofs.Exclusion.{now_world}
 use Rattle.core_steps.proofs.Layouts.{layout_is_right}
-use Rattle.region_locks.specs.Sights.{SightView}
+use Rattle.region_locks.specs.Sights.{AreRefusalsServed, SightView}
 use Rattle.region_locks.specs.Going.{IsAtRest}
 use Rattle.region_locks.specs.Rule.{IsRuled}
 use Rattle.region_locks.specs.Closing.{AreOthersEnded, AreEndedBelow, log_in, logs_in, Closes}
+use Rattle.region_locks.proofs.Takings.{takes_at_end}
 use Rattle.region_locks.proofs.Readings.{HasRecordWords, record_read_is, is_entry}
 
 -- logs that agree below a number have the same items below it
@@ -125,6 +126,9 @@ module _ (F : Fixed) (rooms : List ℕ) (s : State (Unit {0}) SightView) (r : Is
       taken = is_run.taken;
       read = record_read_is F words r.now r.lawful r.start is_run record_words;
     }
+
+  pub refusals : AreRefusalsServed sight.tally
+  refusals = takes_at_end s.views sight r.core.words.node r.takes at (λ k x e other. ap (λ (v : View). v.live) (sym (r.seats.view k x e)) ∙ ended k other)
 
   pub closes : Closes F s.words sight.view
   closes = closes_with s.words (λ k below. refl)

@@ -1,18 +1,16 @@
 -- A pass commits.
-use Rattle.std.proofs.Common.{◌≡◌, ℕ, suc, ◌+◌, Bool, true, false, if◌then◌else◌, List, [], ◌∷◌, refl, ap, ◌∙◌, Option, Some, None, is_some, arith, IfSome, IsSomeAnd}
+use Rattle.std.proofs.Common.{◌≡◌, ℕ, suc, ◌+◌, Bool, true, false, if◌then◌else◌, List, [], ◌∷◌, refl, ap, Option, Some, None, is_some, arith, IfSome, IsSomeAnd}
 use Rattle.std.proofs.lemmas.Bool.{false≢true}
-use Rattle.atomic_table.specs.Seated.{TableId}
 use Rattle.entity_recs.specs.declared.effect.Effect.{Effect}
 use Rattle.entity_recs.specs.declared.effect.Reply.{Reply}
 use Rattle.entity_recs.specs.declared.effect.Entry.{Entry}
-use Rattle.entity_recs.specs.declared.cmd.Cmd.{Cmd}
-use Rattle.entity_recs.specs.Commands.{Command, command_of}
+use Rattle.entity_recs.specs.Commands.{Command}
 use Rattle.entity_recs.specs.Histories.{entry_of}
-use Rattle.core_steps.specs.Views.{Fixed, Point, Idle, Owning, Taking, Checking, Entering, Entered, Loading, Leaving, Sensing, Resolving, Claiming, Storing, Releasing, Returning, Yielding, stage_of, is_busy, record_read, write_nodes}
+use Rattle.core_steps.specs.Views.{Fixed, Point, Idle, Owning, Taking, Checking, Entering, Entered, Loading, Leaving, Sensing, Resolving, Claiming, Storing, Releasing, Returning, Yielding, record_read, write_nodes}
 use Rattle.core_steps.specs.Steps.{first_yield, next_give}
 use Rattle.core_steps.specs.Machine.{Next, beginning, CommitMove, resolving, quitting, committing, giving, index_of}
-use Rattle.core_machine.specs.Going.{view_found, word_left}
-use Rattle.region_locks.specs.Passes.{PassView, first_effect, effect_in_hand, next_of_pass, is_commit, is_commit_next, IsPassOf}
+use Rattle.core_machine.specs.Going.{word_left}
+use Rattle.region_locks.specs.Passes.{PassView, first_effect, effect_in_hand, next_of_pass, is_commit, is_commit_next}
 use Rattle.core_machine.specs.Nexts.{next_resolved, next_point, the_next}
 
 -- what is known of a pass whose next step commits

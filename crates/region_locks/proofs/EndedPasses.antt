@@ -1,18 +1,19 @@
 -- Passes whose seats are ended into the first one's, one after another.
-use Rattle.std.proofs.Common.{◌≡◌, ℕ, zero, suc, ◌<◌, ◌≤◌, ◌↔◌, Bool, true, false, IsTrue, List, [], ◌∷◌, ◌++◌, map, length, refl, sym, ap, ◌∙◌, subst, arith, All, slice_index_or, drop, append_assoc, length-append}
-use Rattle.std.proofs.lemmas.List.{length-map}
+use Rattle.std.proofs.Common.{◌≡◌, ℕ, zero, suc, ◌+◌, ◌<◌, ◌≤◌, ◌↔◌, Bool, true, false, IsTrue, List, [], ◌∷◌, ◌++◌, map, length, refl, sym, ap, ◌∙◌, subst, arith, All, slice_index_or, Option, Some, None, drop, append_assoc, length-append}
+use Rattle.std.proofs.lemmas.List.{length-map, append-nil}
 use Rattle.std.specs.List.{range_with_len}
-use Rattle.std.proofs.lemmas.List.Elements.{recursion_from_All}
+use Rattle.std.proofs.lemmas.List.Elements.{recursion_from_All, All-from_recursion}
 use Rattle.std.specs.Bool.{OnTrue}
 use Rattle.std.specs.List.{AllByRecursion}
 use Rattle.atomic_table.specs.Table.{Me}
 use Rattle.atomic_table.specs.Seated.{TableId}
 use Rattle.move_journal.specs.Logs.{LogView}
-use Rattle.core_steps.specs.Views.{Fixed}
-use Rattle.region_locks.specs.Sights.{SightView, with_one_ended}
+use Rattle.core_steps.specs.Views.{Fixed, Refused}
+use Rattle.region_locks.specs.Sights.{HeldWord, IsOneOf, Tally, tally_of_both, AreRefusalsServed, SightView, with_one_ended}
 use Rattle.region_locks.specs.Going.{IsAtRest}
-use Rattle.region_locks.specs.Passes.{PassView, sight_of, IsPassOf}
-use Rattle.region_locks.specs.Closing.{HasNoCommand, with_passes_ended, sight_at_end, log_from}
+use Rattle.region_locks.specs.Passes.{PassView, RefusalIsListed, sight_of, IsPassOf}
+use Rattle.region_locks.specs.Closing.{tally_of_all, AreRefusalsHeld, HasNoCommand, with_passes_ended, sight_at_end, log_from}
+use Rattle.region_locks.proofs.Takings.{one_in_front, one_in_back}
 
 -- the pass can be ended
 pub record CanEnd (table : TableId) (p : PassView) : Type 0 where
@@ -119,3 +120,42 @@ next_ended table all items left p at at' me me' other given given' log fits is f
     let whole = put_last fits given given' log fit (has_room table all p left at me given now few) put in
     let sight : me' ≡ (with_one_ended me.0 (sight_of p), me.1) = ended ∙ ap (λ (m : Me (Unit {0}) SightView). (with_one_ended me.0 m.0, me.1)) seat in
     rw (whole, here, own) (goes_on table all p left at me me' given now sight)
+
+-- what the seat that is left did is what all passes did
+no_more : (n : ℕ) → n ≡ n + 0
+no_more n = omega arith
+
+add_assoc : (a b c : ℕ) → (a + b) + c ≡ a + (b + c)
+add_assoc a b c = omega arith
+
+both_assoc : (a b c : Tally) → tally_of_both (tally_of_both a b) c ≡ tally_of_both a (tally_of_both b c)
+both_assoc a b c i = record { begun = add_assoc a.begun b.begun c.begun i; served = append_assoc a.served b.served c.served i; refused = append_assoc a.refused b.refused c.refused i }
+
+takes_ended : (passes : List PassView) (sight : SightView) → (with_passes_ended passes sight).tally ≡ tally_of_both sight.tally (tally_of_all passes)
+takes_ended [] sight = λ i. record { begun = no_more sight.tally.begun i; served = sym (append-nil sight.tally.served) i; refused = sym (append-nil sight.tally.refused) i }
+takes_ended (p ∷ passes) sight = takes_ended passes (with_one_ended sight (sight_of p)) ∙ both_assoc sight.tally p.tally (tally_of_all passes)
+
+pub takes_at_close : (passes : List PassView) (me : Me (Unit {0}) SightView) → me ≡ (sight_at_end passes, []) → AreRefusalsServed me.0.tally → AreRefusalsServed (tally_of_all passes)
+takes_at_close passes me is served = subst AreRefusalsServed (ap (λ (m : Me (Unit {0}) SightView). m.0.tally) is ∙ at_end passes) served
+  where
+    at_end : (ps : List PassView) → (sight_at_end ps).tally ≡ tally_of_all ps
+    at_end [] = refl
+    at_end (p ∷ ps) = takes_ended ps (sight_of p)
+
+-- what one pass was refused is among what all were
+listed_more : (o : Option Refused) (xs ys : List HeldWord) → ((h : HeldWord) → IsOneOf h xs → IsOneOf h ys) → RefusalIsListed o xs → RefusalIsListed o ys
+listed_more None xs ys more is = tt
+listed_more (Some r) xs ys more is = more (record { node = r.node; word = r.word }) is
+
+each_listed : (F : Fixed) (count : ℕ) (table : TableId) (passes : List PassView) (served : List HeldWord) → AllByRecursion (IsPassOf F count table) passes
+    → ((h : HeldWord) → IsOneOf h (tally_of_all passes).refused → IsOneOf h served) → AllByRecursion (λ (p : PassView). RefusalIsListed p.view.refused served) passes
+each_listed F count table [] served own more = tt
+each_listed F count table (p ∷ passes) served own more = (
+  listed_more p.view.refused p.tally.refused served (λ h is. more h (one_in_front h p.tally.refused (tally_of_all passes).refused is)) own.0.refusal,
+  each_listed F count table passes served own.1 (λ h is. more h (one_in_back h p.tally.refused (tally_of_all passes).refused is)),
+)
+
+pub refusals_held : (F : Fixed) (count : ℕ) (table : TableId) (passes : List PassView) → All (IsPassOf F count table) passes → AreRefusalsServed (tally_of_all passes) → AreRefusalsHeld passes
+refusals_held F count table passes own served =
+    All-from_recursion (λ (p : PassView). RefusalIsListed p.view.refused (tally_of_all passes).served) passes
+    (each_listed F count table passes (tally_of_all passes).served (recursion_from_All (IsPassOf F count table) passes own) (λ h is. served h is))

@@ -1,5 +1,5 @@
 -- A seat is ended into seat 0, which keeps the rule.
-use Rattle.std.proofs.Common.{◌≡◌, ◌≢◌, ℕ, ◌%◌, ◌^◌, ◌<◌, ◌≤◌, true, false, List, length, sym, ap, ◌∙◌, subst, inl, inr, arith, slice_set, All, length-set}
+use Rattle.std.proofs.Common.{◌≡◌, ◌≢◌, ℕ, ◌%◌, ◌^◌, ◌<◌, ◌≤◌, true, false, List, length, refl, sym, ap, ◌∙◌, subst, inl, inr, arith, slice_set, All, length-set}
 use Rattle.std.specs.Prelude.{◌==◌}
 use mathlib.Core.Option as maybe
 use mathlib.Core.Option.{some-injective, some-ne-none}
@@ -15,9 +15,10 @@ use Rattle.core_steps.specs.Laws.{IsResting}
 use Rattle.core_steps.specs.Machine.{HasNext, ViewFits, MachineStands}
 use Rattle.core_steps.proofs.Puts.{each_put, put_same, put_other}
 use Rattle.core_steps.proofs.Seats.{ended_seat_stands}
-use Rattle.region_locks.specs.Sights.{SightView, no_sight}
+use Rattle.region_locks.specs.Sights.{SightView, no_sight, with_one_ended}
 use Rattle.region_locks.specs.Going.{IsAtRest}
 use Rattle.region_locks.specs.Rule.{at_rest, IsRuled}
+use Rattle.region_locks.proofs.Takings.{takes_joined}
 use Rattle.region_locks.proofs.Idle.{stands_at_rest, fits_new, next_new}
 
 module _ (F : Fixed) (rooms : List ℕ) (s : State (Unit {0}) SightView) (r : IsRuled F rooms s) (i : ℕ) (sight ended : SightView) (at : get_elem? s.views 0 ≡ maybe.some sight)
@@ -62,7 +63,7 @@ module _ (F : Fixed) (rooms : List ℕ) (s : State (Unit {0}) SightView) (r : Is
   view_ended = put_same i spent (put 0 with_end r.core.view)
 
   abbrev both : SightView
-  both = record { number = sight.number; view = with_ended ended.number ended.view sight.view }
+  both = with_one_ended sight ended
 
   number_is : ended.number ≡ i
   number_is = r.seats.number i ended there rests_too.lives
@@ -108,4 +109,5 @@ module _ (F : Fixed) (rooms : List ℕ) (s : State (Unit {0}) SightView) (r : Is
       ended = subst (λ (es : List Ended). All (λ (e : Ended). e.room < 2 ^ 32) es) (sym (ap (λ (v : View). v.ended) view_0))
           (All-from_recursion (λ (e : Ended). e.room < 2 ^ 32) with_end.ended (r.fits.room i, recursion_from_All (λ (e : Ended). e.room < 2 ^ 32) (r.core.view 0).ended r.fits.ended));
     };
+    takes = takes_joined s.views i sight ended both no_sight r.core.words.node r.takes at other there refl rests.lives refl;
   }

@@ -5,11 +5,11 @@ use lib.ListN.{get_elem?}
 use Rattle.atomic_table.specs.Table.{Final, Seen}
 use Rattle.core_steps.specs.Views.{Fixed}
 use Rattle.core_steps.specs.Stands.{IsStart}
-use Rattle.region_locks.specs.Sights.{SightView}
+use Rattle.region_locks.specs.Sights.{AreRefusalsServed, SightView}
 use Rattle.region_locks.specs.Going.{IsAtRest}
 use Rattle.region_locks.specs.Rule.{IsRuled}
 use Rattle.region_locks.specs.Closing.{AreEndedBelow, Closes}
-use Rattle.region_locks.proofs.Closing.{closes_with, others_ended, made_is}
+use Rattle.region_locks.proofs.Closing.{refusals, closes_with, others_ended, made_is}
 use Rattle.region_locks.proofs.TableCopies.{word_found}
 
 module _ (F : Fixed) (rooms : List ℕ) (id : ℕ) (sight : SightView) (words : List ℕ) (homes : List (Unit {0})) (final : Final (Seen (IsRuled F rooms) id sight) words homes)
@@ -30,3 +30,6 @@ module _ (F : Fixed) (rooms : List ℕ) (id : ℕ) (sight : SightView) (words : 
   closes_at_end copy each =
       closes_with F rooms final.0 ruled sight at_first rests (others_ended F rooms final.0 ruled sight at_first ended) copy
       (λ k below. sym (ap (λ (ws : List ℕ). slice_index ws k) final.2 ∙ word_found words k (slice_index copy k) (each k below)))
+
+  pub refusals_at_end : AreRefusalsServed sight.tally
+  refusals_at_end = refusals F rooms final.0 ruled sight at_first rests (others_ended F rooms final.0 ruled sight at_first ended)

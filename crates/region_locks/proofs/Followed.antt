@@ -1,17 +1,16 @@
 -- The pass after the call that comes next.
-use Rattle.std.proofs.Common.{◌≡◌, ◌≢◌, ℕ, suc, ◌+◌, ◌*◌, ◌<◌, ◌≤◌, Bool, true, false, if◌then◌else◌, List, [], ◌∷◌, ◌++◌, length, refl, sym, ap, ◌∙◌, subst, inl, inr, Option, Some, None, arith}
-use Rattle.std.specs.Prelude.{◌==◌, ◌&&◌, not, is_some}
-use Rattle.std.proofs.lemmas.Bool.{cases_Bool, false≢true, true≢false, cond-true, cond-false}
+use Rattle.std.proofs.Common.{◌≡◌, ℕ, ◌+◌, ◌<◌, Bool, true, false, if◌then◌else◌, List, [], ◌∷◌, length, refl, sym, ap, ◌∙◌, subst, Option, Some, None, arith}
+use Rattle.std.specs.Prelude.{◌&&◌, not, is_some}
+use Rattle.std.proofs.lemmas.Bool.{false≢true, true≢false, cond-false}
 use Rattle.atomic_table.specs.Seated.{TableId}
 use Rattle.entity_recs.specs.declared.effect.Effect.{Effect}
-use Rattle.entity_recs.specs.declared.effect.Entry.{Entry}
 use Rattle.entity_recs.specs.Commands.{Command}
 use Rattle.core_steps.specs.Views.{Fixed, Store, Clear, Put, Link, Point, Idle, Owning, Taking, Checking, Entering, Entered, Loading, Leaving, Sensing, Resolving, Claiming, Storing, Releasing, Returning, Yielding, View, stage_of, is_busy, is_owning, is_whole, is_without_effect}
-use Rattle.core_steps.specs.Steps.{first_yield, next_give}
+use Rattle.core_steps.specs.Steps.{next_give}
 use Rattle.core_steps.specs.Machine.{Next, Begin, LoadOwn, LoadAgain, TakeNode, ClaimNode, ReadList, ReadPlayer, ReadState, CommitMove, StoreWord, GiveNode, YieldNode, YieldCount, giving, beginning, committing, quitting}
 use Rattle.core_steps.specs.Stands.{IsAt}
-use Rattle.core_steps.specs.Calls.{is_pursued, pursued_of}
-use Rattle.core_machine.specs.Going.{view_found}
+use Rattle.core_steps.specs.Calls.{pursued_of}
+use Rattle.core_machine.specs.Going.{view_found, word_left}
 use Rattle.core_machine.specs.Nexts.{next_with, next_point, next_resolved, the_next}
 use Rattle.core_machine.specs.Ready.{is_resolving}
 use Rattle.core_machine.specs.Sound.{IsSound}
@@ -20,11 +19,12 @@ use Rattle.core_machine.proofs.StepsLeft.{served_steps_leave_fewer}
 use Rattle.region_locks.specs.declared.turn.Turn.{Turn}
 use Rattle.region_locks.specs.declared.turn.Turn.TheVariants.{LoadRec, Take, LoadList, LoadState, Resolve, Commit, Unlink, StoreNext, SetLink, GiveBack}
 use Rattle.region_locks.specs.declared.went.Went.TheVariants.{On}
-use Rattle.region_locks.specs.Passes.{PassView, first_effect, effect_kept, effect_in_hand, next_of_pass, pass_after, node_taken_next, node_given_next, list_read_next, state_read_next, is_commit_next, is_unlink_next, is_store_next, is_link_next, IsPassOf}
+use Rattle.region_locks.specs.Passes.{PassView, first_effect, effect_in_hand, next_of_pass, pass_after, node_taken_next, node_given_next, list_read_next, state_read_next, is_commit_next, is_unlink_next, is_store_next, is_link_next, IsPassOf}
 use Rattle.region_locks.specs.Loads.{PlayerWord, player_word_next, slot_of_first, slot_begun, record_loaded_next}
 use Rattle.region_locks.specs.Turns.{turn_of_store, turn_for, turn_of, IsBetweenRecords}
-use Rattle.region_locks.specs.Pursuits.{command_pursued, IsGoingOn, IsSamePass, IsSameMove, effect_left, calls_left, HasGoneOn}
-use Rattle.region_locks.proofs.Pursuing.{no_word, is_partial, pursued_at, Leaves, is_other, is_plain_next, leaves_here}
+use Rattle.region_locks.specs.Sights.{Tally, begun_after, tally_after}
+use Rattle.region_locks.specs.Pursuits.{command_pursued, commands_given, IsGoingOn, effect_left, calls_left, HasGoneOn}
+use Rattle.region_locks.proofs.Pursuing.{no_word, is_partial, pursued_at, Leaves, is_plain_next, leaves_here}
 
 -- ---- which step a call makes
 
@@ -178,6 +178,22 @@ whole_between F p pursues whole w e =
     whole_at F p.view p.given p.effect p.view.point whole w (ap (player_word_next p.view) (sym (next_pursued F p pursues)) ∙ e)
 
 -- ---- a pass that goes on
+
+-- a step that is no refused take lists none
+pub none_refused : (next : Next) (found left : ℕ) (tally : Tally) → is_served next found ≡ true → (tally_after next found left tally).refused ≡ tally.refused
+none_refused (Begin c) found left tally served = refl
+none_refused LoadOwn found left tally served = refl
+none_refused LoadAgain found left tally served = refl
+none_refused (TakeNode node) found left tally served = rw served refl
+none_refused (ClaimNode f node) found left tally served = rw served refl
+none_refused (ReadList node plan) found left tally served = refl
+none_refused (ReadPlayer node part slot players plan) found left tally served = refl
+none_refused (ReadState id ids) found left tally served = refl
+none_refused (CommitMove f nodes) found left tally served = refl
+none_refused (StoreWord nodes store stores) found left tally served = refl
+none_refused (GiveNode node) found left tally served = refl
+none_refused (YieldNode node) found left tally served = refl
+none_refused YieldCount found left tally served = refl
 
 not_busy : (point : Point) → point ≡ Idle → is_busy (stage_of point) ≡ true → ⊥
 not_busy point idle busy = false≢true (sym (ap (λ (q : Point). is_busy (stage_of q)) idle) ∙ busy)
@@ -346,8 +362,10 @@ module _ (F : Fixed) (passes : ℕ) (table : TableId) (p : PassView) (going : Is
             log = ap (λ (v : View). v.log) view ∙ left.log;
           };
           command = ap command_pursued is ∙ left.command ∙ sym (command_in_view left.busy);
+          given = ap commands_given is ∙ none_begun (next_of_pass F p) plain ∙ sym (ap (λ (o : Option Command). p.tally.begun + (if is_some o then 1 else 0)) (none_given left.busy));
           refusals = ap (λ (v : View). v.refusals) view ∙ left.refusals;
           refused = ap (λ (v : View). v.refused) view ∙ left.refused;
+          listed = ap (λ (q : PassView). q.tally.refused) is ∙ none_refused (the_next (next_of_pass F p)) found (word_left F p.number p.view (the_next (next_of_pass F p)) found) p.tally served;
         };
         committed = λ e there. cc;
         reading = λ f. absurd (false≢true f);
@@ -357,6 +375,22 @@ module _ (F : Fixed) (passes : ℕ) (table : TableId) (p : PassView) (going : Is
       there : (o : Option Next) → is_plain_next o ≡ true → is_some o ≡ true
       there None e = absurd (false≢true e)
       there (Some next) e = refl
+
+      none_begun : (o : Option Next) → is_plain_next o ≡ true → begun_after (the_next o) p.tally.begun + 0 ≡ p.tally.begun + 0
+      none_begun None e = absurd (false≢true e)
+      none_begun (Some (Begin c)) e = absurd (false≢true e)
+      none_begun (Some LoadOwn) e = refl
+      none_begun (Some LoadAgain) e = refl
+      none_begun (Some (TakeNode node)) e = refl
+      none_begun (Some (ClaimNode f node)) e = refl
+      none_begun (Some (ReadList node plan)) e = refl
+      none_begun (Some (ReadPlayer node part slot players plan)) e = refl
+      none_begun (Some (ReadState id ids)) e = refl
+      none_begun (Some (CommitMove f nodes)) e = refl
+      none_begun (Some (StoreWord nodes store stores)) e = refl
+      none_begun (Some (GiveNode node)) e = refl
+      none_begun (Some (YieldNode node)) e = refl
+      none_begun (Some YieldCount) e = refl
 
   -- the call that comes next, which makes a step that is no take, no load of a record and no commit
   pub plain_call : (t : Turn) (found : ℕ) (new : PassView) → turn_of F p ≡ Some t → is_plain_turn t ≡ true → is_take_turn t ≡ false → new ≡ pass_after F (the_next (next_of_pass F p)) found p → IsPassOf F passes table new

@@ -1,11 +1,11 @@
 -- A pass gives back its next node, or loads its next list word or state.
-use Rattle.std.proofs.Common.{◌≡◌, ℕ, ◌+◌, Bool, true, false, if◌then◌else◌, List, [], ◌∷◌, refl, sym, ap, subst, Option, Some, None, is_some}
+use Rattle.std.proofs.Common.{◌≡◌, ℕ, ◌+◌, Bool, true, false, if◌then◌else◌, List, [], ◌∷◌, refl, ap, Option, Some, None, is_some}
 use Rattle.atomic_table.specs.Seated.{TableId}
 use Rattle.entity_recs.specs.declared.effect.Effect.{Effect}
 use Rattle.entity_recs.specs.Commands.{Command}
-use Rattle.core_steps.specs.Views.{Fixed, Point, Idle, Owning, Taking, Checking, Entering, Entered, Loading, Leaving, Sensing, Resolving, Claiming, Storing, Releasing, Returning, Yielding, View, record_read, write_nodes, inner_held, leaves_held}
-use Rattle.core_steps.specs.Steps.{rest_of, first_yield, next_give, returning, released, yielding, yielded, view_after_give}
-use Rattle.core_steps.specs.Machine.{Next, beginning, ReadList, ReadState, GiveNode, YieldNode, resolving, quitting, committing, giving, index_of}
+use Rattle.core_steps.specs.Views.{Fixed, Point, Idle, Owning, Taking, Checking, Entering, Entered, Loading, Leaving, Sensing, Resolving, Claiming, Storing, Releasing, Returning, Yielding, View, record_read, write_nodes}
+use Rattle.core_steps.specs.Steps.{first_yield, next_give}
+use Rattle.core_steps.specs.Machine.{Next, beginning, resolving, quitting, committing, giving, index_of}
 use Rattle.core_machine.specs.Going.{view_found, word_left}
 use Rattle.region_locks.specs.Passes.{PassView, next_of_pass, node_given, node_given_next, list_read, list_read_next, state_read, state_read_next, IsPassOf}
 use Rattle.core_machine.specs.Nexts.{next_resolved, next_point, the_next}

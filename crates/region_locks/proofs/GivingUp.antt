@@ -1,16 +1,18 @@
 -- A pass gives back what it holds, and its command is no longer in hand.
-use Rattle.std.proofs.Common.{◌≤◌, ◌≡◌, ◌⊎◌, ℕ, suc, ◌+◌, ◌<◌, Bool, true, false, if◌then◌else◌, List, [], ◌∷◌, length, refl, sym, ap, ◌∙◌, subst, inl, inr, Option, Some, None, is_some, arith}
-use Rattle.std.proofs.lemmas.Bool.{cases_Bool, false≢true, true≢false, cond-true, cond-false}
+use Rattle.std.proofs.Common.{◌≤◌, ◌≡◌, ◌⊎◌, ℕ, ◌+◌, ◌<◌, Bool, true, false, if◌then◌else◌, List, [], ◌∷◌, length, refl, sym, ap, ◌∙◌, subst, inl, inr, Option, Some, None, is_some, arith}
+use Rattle.std.proofs.lemmas.Bool.{cases_Bool, false≢true, cond-true, cond-false}
 use Rattle.atomic_table.specs.Seated.{TableId}
 use Rattle.entity_recs.specs.Commands.{Command}
-use Rattle.core_steps.specs.Views.{Fixed, Point, Idle, Owning, Taking, Checking, Entering, Entered, Loading, Leaving, Sensing, Resolving, Claiming, Storing, Releasing, Returning, Yielding, View, stage_of, is_busy, inner_held, leaves_held}
+use Rattle.core_steps.specs.Views.{Fixed, Point, Idle, Owning, Taking, Checking, Entering, Entered, Loading, Leaving, Sensing, Resolving, Claiming, Storing, Releasing, Returning, Yielding, View, inner_held, leaves_held}
 use Rattle.core_steps.specs.Steps.{first, first_of_two, first_yield, yielding, yielded, rest_of, is_taking}
-use Rattle.core_steps.specs.Machine.{Next, YieldNode, GiveNode, YieldCount, giving, quitting, SomeIsLeft}
-use Rattle.core_machine.specs.Going.{view_found}
+use Rattle.core_steps.specs.Machine.{Next, YieldNode, GiveNode, giving, quitting, SomeIsLeft}
+use Rattle.core_steps.specs.Calls.{node_taken}
+use Rattle.core_machine.specs.Going.{view_found, word_left}
 use Rattle.core_machine.specs.Nexts.{next_point, the_next}
 use Rattle.region_locks.specs.Passes.{PassView, next_of_pass, pass_after, node_given_next, IsPassOf}
 use Rattle.region_locks.specs.Quitting.{HasQuit}
-use Rattle.region_locks.specs.Pursuits.{HasGivenUp}
+use Rattle.region_locks.specs.Sights.{begun_after, tally_taken}
+use Rattle.region_locks.specs.Pursuits.{commands_given, HasGivenUp}
 
 -- the number of nodes that are held
 abbrev pub held_in : Fixed → View → ℕ
@@ -57,6 +59,9 @@ pub record IsKept (old new : View) : Type 0 where
 pub record IsGivingUp (F : Fixed) (passes : ℕ) (table : TableId) (start now : PassView) : Type 0 where
   pub own : IsPassOf F passes table now
   pub number : now.number ≡ start.number
+  pub none : now.given ≡ None
+  pub commands : commands_given now ≡ commands_given start
+  pub listed : now.tally.refused ≡ start.tally.refused
   pub kept : IsKept start.view now.view
   pub phase : Begins F now ⊎ Began now
 
@@ -90,6 +95,8 @@ record GivesNext (F : Fixed) (p : PassView) (node : ℕ) : Type 0 where
   next : Next
   comes : next_of_pass F p ≡ Some next
   given : node_given_next (Some next) ≡ Some node
+  unbegun : (begun : ℕ) → begun_after next begun ≡ begun
+  untaken : node_taken next ≡ None
   one : YieldsOne F p.view (view_found F p.view next 0) (inner_held F p.view.point) (leaves_held p.view.point p.view.wanted)
 
 module _ (F : Fixed) (p : PassView) (node : ℕ) (held : first_yield F p.view ≡ Some node) where
@@ -98,6 +105,8 @@ module _ (F : Fixed) (p : PassView) (node : ℕ) (held : first_yield F p.view �
     next = YieldNode node;
     comes = cond-true p.quits _ _ is.quits ∙ ap (λ (o : Option ℕ). Some (quitting o)) held;
     given = refl;
+    unbegun = λ begun. refl;
+    untaken = refl;
     one = yields_one F p.view (inner_held F p.view.point) (leaves_held p.view.point p.view.wanted) node held;
   }
 
@@ -120,6 +129,8 @@ module _ (F : Fixed) (p : PassView) (node : ℕ) (held : first_yield F p.view �
     next = GiveNode node;
     comes = cond-false p.quits _ _ pursues ∙ ap (next_point F p.view p.given p.effect) at ∙ ap giving there;
     given = refl;
+    unbegun = λ begun. refl;
+    untaken = refl;
     one = subst (λ (q : Point). YieldsOne F p.view (Rattle.core_steps.specs.Steps.view_after_give F p.view q) (inner_held F q) (leaves_held q p.view.wanted)) (sym at) (yields_one F p.view nodes leaves node there);
   }
 
@@ -137,9 +148,15 @@ module _ (F : Fixed) (passes : ℕ) (table : TableId) (start now new : PassView)
   -- one more node is given back
   pub gives_on : IsGivingUp F passes table start new
   gives_on =
-      let one = (gives_next F now node held is.phase).one in record {
+      let gives = gives_next F now node held is.phase in
+      let one = gives.one in record {
         own = own;
         number = ap (λ (q : PassView). q.number) after ∙ is.number;
+        none = ap (λ (q : PassView). q.given) after;
+        commands = ap commands_given after ∙ ap (λ (o : Option Next). begun_after (the_next o) now.tally.begun + 0) gives.comes ∙ ap (λ (n : ℕ). n + 0) (gives.unbegun now.tally.begun)
+            ∙ sym (ap (λ (o : Option Command). now.tally.begun + (if is_some o then 1 else 0)) is.none) ∙ is.commands;
+        listed = ap (λ (q : PassView). q.tally.refused) after ∙ ap (λ (o : Option Next). (tally_taken (node_taken (the_next o)) 0 (word_left F now.number now.view (the_next (next_of_pass F now)) 0) now.tally).refused) gives.comes
+            ∙ ap (λ (o : Option ℕ). (tally_taken o 0 (word_left F now.number now.view (the_next (next_of_pass F now)) 0) now.tally).refused) gives.untaken ∙ is.listed;
         kept = subst (IsKept start.view) (sym view_is) (same_kept start.view now.view _ is.kept one.kept);
         phase = inr (record {
           pursues = ap (λ (q : PassView). q.quits) after;
@@ -153,12 +170,15 @@ module _ (F : Fixed) (passes : ℕ) (table : TableId) (start now new : PassView)
 
 module _ (F : Fixed) (passes : ℕ) (table : TableId) (start now : PassView) where
   -- a pass is asked to give up
-  pub begins_giving : IsPassOf F passes table now → HasQuit F start now → IsGivingUp F passes table start now
-  begins_giving own quit = elim (cases_Bool (is_some (first_yield F start.view))) [
+  pub begins_giving : IsPassOf F passes table start → is_taking start.view.point ≡ true → IsPassOf F passes table now → HasQuit F start now → IsGivingUp F passes table start now
+  begins_giving before taking own quit = elim (cases_Bool (is_some (first_yield F start.view))) [
     | inl some ↦
         let is = quit.holding some in record {
           own = own;
           number = ap (λ (q : PassView). q.number) is;
+          none = ap (λ (q : PassView). q.given) is ∙ none_waits start.given refl;
+          commands = ap commands_given is;
+          listed = ap (λ (q : PassView). q.tally.refused) is;
           kept = record { room = ap (λ (q : PassView). q.view.room) is; log = ap (λ (q : PassView). q.view.log) is; refused = ap (λ (q : PassView). q.view.refused) is; refusals = ap (λ (q : PassView). q.view.refusals) is; seen = let same = ap (λ (q : PassView). q.view.seen) is in omega (arith, same) };
           phase = inl (record { quits = ap (λ (q : PassView). q.quits) is; some = ap (λ (q : PassView). is_some (first_yield F q.view)) is ∙ some });
         }
@@ -166,10 +186,17 @@ module _ (F : Fixed) (passes : ℕ) (table : TableId) (start now : PassView) whe
         let is = quit.none_held nothing in record {
           own = own;
           number = ap (λ (q : PassView). q.number) is;
+          none = ap (λ (q : PassView). q.given) is;
+          commands = ap commands_given is ∙ sym (ap (λ (o : Option Command). start.tally.begun + (if is_some o then 1 else 0)) (none_waits start.given refl));
+          listed = ap (λ (q : PassView). q.tally.refused) is;
           kept = record { room = ap (λ (q : PassView). q.view.room) is; log = ap (λ (q : PassView). q.view.log) is; refused = ap (λ (q : PassView). q.view.refused) is; refusals = ap (λ (q : PassView). q.view.refusals) is; seen = let same : now.view.seen ≡ quit.found = ap (λ (q : PassView). q.view.seen) is in let low = quit.seen nothing in omega (arith, same, low) };
           phase = inr (record { pursues = ap (λ (q : PassView). q.quits) is; none = ap (λ (q : PassView). q.given) is; yields = ap (λ (q : PassView). has_yielded q.view.point) is });
         }
   ]
+    where
+      none_waits : (o : Option Command) → start.given ≡ o → o ≡ None
+      none_waits None given = refl
+      none_waits (Some c) given = absurd (false≢true (sym (ap is_taking (before.pending c given).idle) ∙ taking))
 
   idle_at : (point : Point) → has_yielded point ≡ true → SomeIsLeft point now.view.wanted → first_of_two (inner_held F point) (leaves_held point now.view.wanted) ≡ None → point ≡ Idle
   idle_at Idle yields left none = refl
@@ -200,8 +227,10 @@ module _ (F : Fixed) (passes : ℕ) (table : TableId) (start now : PassView) whe
       log = is.kept.log;
       refused = is.kept.refused;
       refusals = is.kept.refusals;
+      listed = is.listed;
       seen = is.kept.seen;
       none = more.none;
+      given = is.commands;
       idle = idle_at now.view.point more.yields is.own.sound_sight.sound.next.left nothing;
     }
   ]

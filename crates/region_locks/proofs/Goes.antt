@@ -1,5 +1,5 @@
 -- A step of the core, made on the words of the table, keeps the rule.
-use Rattle.std.proofs.Common.{◌≡◌, ℕ, ◌+◌, ◌-◌, ◌%◌, ◌^◌, ◌<◌, ◌≤◌, Bool, true, false, if◌then◌else◌, List, [], ◌++◌, length, sym, ap, ◌∙◌, subst, inl, inr, Option, Some, None, slice_index, slice_set, All, length-set, get_or-set_same, get_or-set_other}
+use Rattle.std.proofs.Common.{◌≡◌, ℕ, ◌+◌, ◌-◌, ◌%◌, ◌^◌, ◌<◌, ◌≤◌, Bool, true, false, if◌then◌else◌, List, [], ◌++◌, length, refl, sym, ap, ◌∙◌, subst, inl, inr, Option, Some, None, slice_index, slice_set, All, length-set, get_or-set_same, get_or-set_other}
 use Rattle.std.specs.Prelude.{◌==◌}
 use mathlib.Core.Option as maybe
 use lib.ListN.{get_elem?}
@@ -18,11 +18,12 @@ use Rattle.core_steps.proofs.Puts.{each_put, put_same, put_other}
 use Rattle.core_steps.proofs.NextSteps.{next_step_stands}
 use Rattle.core_steps.proofs.TableWords.{steps_have_their_word}
 use Rattle.core_steps.proofs.OneWord.{steps_change_one_word}
-use Rattle.region_locks.specs.Sights.{SightView}
+use Rattle.region_locks.specs.Sights.{SightView, sight_found}
 use Rattle.region_locks.specs.Going.{next_asked, MayGo}
 use Rattle.core_machine.specs.Going.{view_found, word_left}
 use Rattle.region_locks.specs.Rule.{at_rest, HasWords, HasSeats, ServesItsSlots, HasRooms, IsRuled}
 use Rattle.core_machine.proofs.Changing.{view_here, view_there, word_here}
+use Rattle.region_locks.proofs.Takings.{takes_step}
 use Rattle.region_locks.proofs.Views.{command_next, keeps_found, asked_is}
 
 none_given : {R : Type 0} (c : Command) → None ≡ Some c → R
@@ -140,7 +141,7 @@ module _ (F : Fixed) (rooms : List ℕ) (s : State (Unit {0}) SightView) (r : Is
     found_is = r.words.each index in_table ∙ before_word
 
     abbrev new : SightView
-    new = record { number = sight.number; view = view_found F V next (slice_index s.words index) }
+    new = sight_found F (record { number = sight.number; view = V; tally = sight.tally }) next (slice_index s.words index)
 
     new_is : after.view i ≡ new.view
     new_is = view_here F r.core i next ∙ ap (λ (n : ℕ). view_found F V next n) (sym found_is)
@@ -219,6 +220,8 @@ module _ (F : Fixed) (rooms : List ℕ) (s : State (Unit {0}) SightView) (r : Is
       seats = seats_after;
       serves = serves_after;
       fits = fits_after;
+      takes = takes_step F s.views r.core i sight new next (slice_index s.words index) (word_left F sight.number V next (slice_index s.words index)) r.takes at found_is
+          (ap (λ (n : ℕ). word_left F n V next (slice_index s.words index)) here) ((keeps_found F V next (slice_index s.words index)).live ∙ may_here.lives) refl;
     }
 
     -- the step is one on a word of the table
@@ -227,9 +230,9 @@ module _ (F : Fixed) (rooms : List ℕ) (s : State (Unit {0}) SightView) (r : Is
 
     -- the rule holds after the step
     pub goes : (left : ℕ) → left ≡ word_left F sight.number sight.view next (slice_index s.words (index_of 31 sight.view next))
-        → IsRuled F rooms (stepped s (index_of 31 sight.view next) left i [] (record { number = sight.number; view = view_found F sight.view next (slice_index s.words (index_of 31 sight.view next)) }) keeps)
+        → IsRuled F rooms (stepped s (index_of 31 sight.view next) left i [] (sight_found F sight next (slice_index s.words (index_of 31 sight.view next))) keeps)
     goes = subst
         (λ (v : View). (left : ℕ) → left ≡ word_left F sight.number v next (slice_index s.words (index_of 31 v next))
-        → IsRuled F rooms (stepped s (index_of 31 v next) left i [] (record { number = sight.number; view = view_found F v next (slice_index s.words (index_of 31 v next)) }) keeps))
+        → IsRuled F rooms (stepped s (index_of 31 v next) left i [] (sight_found F (record { number = sight.number; view = v; tally = sight.tally }) next (slice_index s.words (index_of 31 v next))) keeps))
         seen
         (λ left is. goes_here left (is ∙ ap (λ (n : ℕ). word_left F n V next (slice_index s.words index)) here))

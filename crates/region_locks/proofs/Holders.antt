@@ -1,6 +1,6 @@
 -- Who holds a node that is not free: another seat than the one that is to take it.
-use Rattle.std.proofs.Common.{◌≡◌, ◌≢◌, ℕ, suc, ◌+◌, ◌-◌, ◌*◌, ◌/◌, ◌%◌, ◌^◌, ◌<◌, ◌≤◌, ◌⊎◌, Bool, true, false, if◌then◌else◌, List, [], ◌∷◌, ◌++◌, length, refl, sym, ap, ◌∙◌, subst, inl, inr, Option, Some, None, arith, slice_index}
-use Rattle.std.specs.Prelude.{◌||◌, nat_le, filter}
+use Rattle.std.proofs.Common.{◌≡◌, ◌≢◌, ℕ, suc, ◌+◌, ◌-◌, ◌*◌, ◌/◌, ◌%◌, ◌^◌, ◌<◌, Bool, true, false, if◌then◌else◌, List, [], ◌∷◌, length, refl, sym, ap, ◌∙◌, subst, inl, inr, Option, Some, None, arith, slice_index}
+use Rattle.std.specs.Prelude.{nat_le, filter}
 use Rattle.std.specs.List.{range_with_len}
 use mathlib.Core.Option as maybe
 use lib.ListN.{get_elem?}
@@ -13,9 +13,9 @@ use Rattle.areanode.specs.Words.{has_bit}
 use Rattle.areanode.specs.Trees.{leaves_of, region_has_leaf}
 use Rattle.areanode.proofs.Words.{word_of-below}
 use Rattle.core_steps.specs.Cells.{Words}
-use Rattle.core_steps.specs.Views.{Fixed, Point, Idle, Owning, Taking, Checking, Entering, Entered, Loading, Leaving, Sensing, Resolving, Claiming, Storing, Releasing, Returning, Yielding, View, stage_of, is_busy, is_whole, is_writing, has, is_leaf, inner_nodes, leaf_nodes, leaf_word, region_in, holds, held_word, inner_held, leaves_held, record_read, write_nodes, effect_loaded}
-use Rattle.core_steps.specs.Steps.{Core, first, first_yield, next_give, next_node_at}
-use Rattle.core_steps.specs.Stands.{Stands, SeatStands, IsAt, IsTaking}
+use Rattle.core_steps.specs.Views.{Fixed, Point, Idle, Owning, Taking, Checking, Entering, Entered, Loading, Leaving, Sensing, Resolving, Claiming, Storing, Releasing, Returning, Yielding, View, stage_of, is_busy, is_whole, is_writing, has, is_leaf, inner_nodes, leaf_nodes, leaf_word, region_in, holds, inner_held, leaves_held, record_read, write_nodes, effect_loaded}
+use Rattle.core_steps.specs.Steps.{first, first_yield, next_give, next_node_at}
+use Rattle.core_steps.specs.Stands.{IsAt}
 use Rattle.core_steps.specs.Machine.{Next, Begin, LoadOwn, LoadAgain, TakeNode, ClaimNode, ReadList, ReadPlayer, ReadState, CommitMove, StoreWord, GiveNode, YieldNode, YieldCount, giving, quitting, beginning, resolving, committing, next_at, index_of, word_of_next, SomeIsLeft}
 use Rattle.core_steps.specs.Calls.{node_taken}
 use Rattle.core_steps.proofs.Lists.{has_front, has_filter, has_shifted}

@@ -1,5 +1,7 @@
 -- Lemmas on the rule of the table.
 pub mod Views
+pub mod Idle
+pub mod Takings
 pub mod Goes
 pub mod SoundSights
 pub mod LeafWords
@@ -9,10 +11,10 @@ pub mod Counting
 pub mod Found
 pub mod Allowed
 pub mod Bits
-pub mod Idle
 pub mod Looking
 pub mod Making
 pub mod Ending
+pub mod Refusing
 pub mod Owns
 pub mod Ready
 pub mod Takes

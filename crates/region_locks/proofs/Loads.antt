@@ -1,12 +1,12 @@
 -- A pass loads a player's record.
-use Rattle.std.proofs.Common.{◌≡◌, ℕ, zero, suc, ◌+◌, ◌<◌, Bool, true, false, if◌then◌else◌, List, [], ◌∷◌, ◌++◌, length, refl, sym, ap, ◌∙◌, subst, inl, inr, Option, Some, None, is_some, arith, length-append}
+use Rattle.std.proofs.Common.{◌≡◌, ℕ, ◌+◌, ◌<◌, Bool, true, false, List, [], ◌∷◌, ◌++◌, length, refl, sym, ap, ◌∙◌, subst, Option, Some, None, is_some, arith, length-append}
 use Rattle.std.specs.Prelude.{◌==◌}
-use Rattle.std.proofs.lemmas.Bool.{cases_Bool, false≢true, eqb-true, eq-eqb, ne_eqb, cond-true, cond-false}
+use Rattle.std.proofs.lemmas.Bool.{false≢true, eqb-true, eq-eqb, cond-true, cond-false}
 use Rattle.atomic_table.specs.Seated.{TableId}
 use Rattle.entity_recs.specs.declared.effect.Effect.{Effect}
 use Rattle.entity_recs.specs.declared.rec.Rec.{Rec}
 use Rattle.core_steps.specs.Cells.{cell_of, cell_index}
-use Rattle.core_steps.specs.Views.{Fixed, Point, Owning, Taking, Checking, Loading, View, Stage, stage_of, is_settled, is_read_again, region_in, leaf_nodes, plan_of, record_read}
+use Rattle.core_steps.specs.Views.{Fixed, Point, Owning, Taking, Checking, Loading, View, is_settled, is_read_again, region_in, leaf_nodes, plan_of, record_read}
 use Rattle.core_steps.specs.Steps.{visiting}
 use Rattle.core_steps.specs.Machine.{Next, Begin, LoadOwn, LoadAgain, TakeNode, ClaimNode, ReadList, ReadPlayer, ReadState, CommitMove, StoreWord, GiveNode, YieldNode, YieldCount, index_of}
 use Rattle.core_steps.proofs.Points.{visiting_between}

@@ -16,6 +16,7 @@ use Rattle.core_steps.proofs.Seats.{loaded_count_stands}
 use Rattle.region_locks.specs.Sights.{SightView}
 use Rattle.region_locks.specs.Going.{IsAtRest, view_looked}
 use Rattle.region_locks.specs.Rule.{at_rest, HasWords, IsRuled}
+use Rattle.region_locks.proofs.Takings.{takes_set}
 use Rattle.region_locks.proofs.Idle.{stands_at_rest, each_fits, put_fits}
 
 module _ (F : Fixed) (rooms : List ℕ) (s : State (Unit {0}) SightView) (r : IsRuled F rooms s) (i : ℕ) (sight : SightView) (at : get_elem? s.views i ≡ maybe.some sight) (rests : IsAtRest sight.view) where
@@ -46,7 +47,7 @@ module _ (F : Fixed) (rooms : List ℕ) (s : State (Unit {0}) SightView) (r : Is
       (loaded_count_stands F r.core r.history r.now i resting r.stands.core)
 
   abbrev new : SightView
-  new = record { number = sight.number; view = view_looked found V }
+  new = record { number = sight.number; view = view_looked found V; tally = sight.tally }
 
   new_is : looked.view i ≡ new.view
   new_is = put_same i _ r.core.view ∙ ap (λ (n : ℕ). view_looked n V) (sym count_is)
@@ -86,7 +87,8 @@ module _ (F : Fixed) (rooms : List ℕ) (s : State (Unit {0}) SightView) (r : Is
       room = λ k. subst (λ (n : ℕ). n < 2 ^ 32) (sym (looked_kept (λ (v : View). v.room) refl k)) (r.fits.room k);
       ended = subst (λ (es : List Ended). All (λ (e : Ended). e.room < 2 ^ 32) es) (sym (looked_kept (λ (v : View). v.ended) refl 0)) r.fits.ended;
     };
+    takes = takes_set s.views i sight new r.core.words.node r.takes at refl resting.lives;
   }
 
-  pub looks : IsRuled F rooms (stepped s 0 found i [] (record { number = sight.number; view = view_looked found sight.view }) keeps)
-  looks = subst (λ (v : View). IsRuled F rooms (stepped s 0 found i [] (record { number = sight.number; view = view_looked found v }) keeps)) seen looks_here
+  pub looks : IsRuled F rooms (stepped s 0 found i [] (record sight { view = view_looked found sight.view }) keeps)
+  looks = subst (λ (v : View). IsRuled F rooms (stepped s 0 found i [] (record { number = sight.number; view = view_looked found v; tally = sight.tally }) keeps)) seen looks_here

@@ -1,5 +1,5 @@
 -- A seat is made from seat 0, which keeps the rule.
-use Rattle.std.proofs.Common.{◌≡◌, ℕ, suc, ◌%◌, ◌^◌, ◌<◌, ◌≤◌, true, false, List, [], ◌∷◌, ◌++◌, length, sym, ap, ◌∙◌, subst, inl, inr, arith, slice_set, All, length-set, length-append}
+use Rattle.std.proofs.Common.{◌≡◌, ℕ, suc, ◌%◌, ◌^◌, ◌<◌, ◌≤◌, true, false, List, [], ◌∷◌, ◌++◌, length, refl, sym, ap, ◌∙◌, subst, inl, inr, arith, slice_set, All, length-set, length-append}
 use Rattle.std.specs.Prelude.{◌==◌}
 use mathlib.Core.Option as maybe
 use mathlib.Core.Option.{some-injective, some-ne-none}
@@ -14,9 +14,10 @@ use Rattle.core_steps.specs.Laws.{IsResting}
 use Rattle.core_steps.specs.Machine.{HasNext, ViewFits, MachineStands}
 use Rattle.core_steps.proofs.Puts.{each_put, put_same, put_other}
 use Rattle.core_steps.proofs.Seats.{made_seat_stands}
-use Rattle.region_locks.specs.Sights.{SightView}
+use Rattle.region_locks.specs.Sights.{SightView, with_one_made, sight_made}
 use Rattle.region_locks.specs.Going.{IsAtRest}
 use Rattle.region_locks.specs.Rule.{at_rest, IsRuled}
+use Rattle.region_locks.proofs.Takings.{takes_set, takes_end}
 use Rattle.region_locks.proofs.Idle.{stands_at_rest, fits_new, next_new, at_end, place_below}
 
 module _ (F : Fixed) (rooms : List ℕ) (room : ℕ) (s : State (Unit {0}) SightView) (r : IsRuled F rooms s) (sight : SightView) (at : get_elem? s.views 0 ≡ maybe.some sight) (rests : IsAtRest sight.view)
@@ -65,10 +66,10 @@ module _ (F : Fixed) (rooms : List ℕ) (room : ℕ) (s : State (Unit {0}) Sight
   view_new = put_same made (new_view room) (put 0 with_made r.core.view)
 
   abbrev left : SightView
-  left = record { number = sight.number; view = record sight.view { made = suc sight.view.made } }
+  left = with_one_made sight
 
   abbrev right : SightView
-  right = record { number = sight.view.made; view = new_view room }
+  right = sight_made room sight
 
   left_is : with_made ≡ left.view
   left_is = ap (λ (v : View). record v { made = suc v.made }) seen
@@ -123,6 +124,7 @@ module _ (F : Fixed) (rooms : List ℕ) (room : ℕ) (s : State (Unit {0}) Sight
       room = each_view (λ (k : ℕ) (v : View). v.room < 2 ^ 32) small (r.fits.room 0) (λ k _. r.fits.room k);
       ended = subst (λ (es : List Ended). All (λ (e : Ended). e.room < 2 ^ 32) es) (sym (ap (λ (v : View). v.ended) view_0)) r.fits.ended;
     };
+    takes = takes_end (slice_set s.views 0 left) right r.core.words.node (takes_set s.views 0 sight left r.core.words.node r.takes at refl rests.lives) refl;
   }
     where
       counted : suc (length s.views) ≡ length (slice_set s.views 0 left ++ right ∷ [])

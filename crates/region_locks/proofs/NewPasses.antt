@@ -19,6 +19,7 @@ use Rattle.region_locks.specs.Going.{MayGo}
 use Rattle.region_locks.specs.Plays.{IsSoundSight}
 use Rattle.core_machine.specs.Sound.{IsSound}
 use Rattle.core_machine.specs.Ready.{is_resolving}
+use Rattle.region_locks.specs.Sights.{no_tally}
 use Rattle.region_locks.specs.Passes.{IsPassOf, new_pass, view_with_made, other_pass, new_passes}
 
 module _ (F : Fixed) (depth : F.tree.depth ≡ 4) (room made : ℕ) where
@@ -68,7 +69,7 @@ module _ (F : Fixed) (depth : F.tree.depth ≡ 4) (room made : ℕ) where
       same_next : Some (Begin c) ≡ Some next → Begin c ≡ next
       same_next e = cc
 
-  pub sound_sight_new : (passes number : ℕ) → IsSoundSight F passes (record { number = number; view = view })
+  pub sound_sight_new : (passes number : ℕ) → IsSoundSight F passes (record { number = number; view = view; tally = no_tally })
   sound_sight_new passes number = record { sound = sound; in_table = λ given quits next may. in_table given quits next may }
     where
       in_table : (given : Option Command) (quits : Bool) (next : Next) → MayGo F passes number view given quits next → index_of 31 view next < 639
@@ -85,6 +86,7 @@ module _ (F : Fixed) (depth : F.tree.depth ≡ 4) (room made : ℕ) where
     may_quit = λ e. absurd (false≢true e);
     has_effect = λ e. absurd (false≢true e);
     only_resolving = λ e. refl;
+    refusal = tt;
   }
     where
       no_given : (c : Command) → None ≡ Some c → ⊥

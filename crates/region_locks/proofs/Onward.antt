@@ -1,18 +1,18 @@
 -- What the calls that load a record, commit, resolve or are refused leave of a pass.
-use Rattle.std.proofs.Common.{◌≡◌, ◌≢◌, ℕ, suc, ◌+◌, ◌-◌, ◌*◌, ◌^◌, ◌<◌, ◌≤◌, Bool, true, false, if◌then◌else◌, List, [], ◌∷◌, ◌++◌, length, refl, sym, ap, ◌∙◌, subst, inl, inr, Option, Some, None, arith}
-use Rattle.std.specs.Prelude.{◌==◌, ◌&&◌, not, is_some, min, IsSomeAnd}
-use Rattle.std.proofs.lemmas.Bool.{cases_Bool, false≢true, true≢false, ne_eqb, cond-true, cond-false}
+use Rattle.std.proofs.Common.{◌≡◌, ◌≢◌, ℕ, suc, ◌+◌, ◌<◌, ◌≤◌, Bool, true, false, if◌then◌else◌, List, [], ◌∷◌, ◌++◌, length, refl, sym, ap, ◌∙◌, subst, inl, inr, Option, Some, None, arith}
+use Rattle.std.specs.Prelude.{◌==◌, ◌&&◌, not, is_some, IsSomeAnd}
+use Rattle.std.proofs.lemmas.Bool.{cases_Bool, false≢true, ne_eqb, cond-true, cond-false}
 use Rattle.atomic_table.specs.Seated.{TableId}
 use Rattle.entity_recs.specs.declared.effect.Effect.{Effect}
 use Rattle.entity_recs.specs.declared.effect.Entry.{Entry}
 use Rattle.entity_recs.specs.declared.rec.Rec.{Rec}
 use Rattle.entity_recs.specs.Commands.{Command}
 use Rattle.entity_recs.specs.Histories.{entry_of}
-use Rattle.core_steps.specs.Views.{Fixed, Point, Idle, Owning, Taking, Checking, Entering, Entered, Loading, Leaving, Sensing, Resolving, Claiming, Storing, Releasing, Returning, Yielding, View, stage_of, is_busy, is_without_effect, region_in, leaf_nodes, plan_of, record_read, write_nodes}
+use Rattle.core_steps.specs.Views.{Fixed, Point, Idle, Owning, Taking, Checking, Entering, Entered, Loading, Leaving, Sensing, Resolving, Claiming, Storing, Releasing, Returning, Yielding, View, stage_of, is_busy, is_without_effect, region_in, plan_of, record_read, write_nodes}
 use Rattle.core_steps.specs.Steps.{view_after_refusal, next_give, is_taking}
 use Rattle.core_steps.specs.Machine.{Next, Begin, LoadOwn, LoadAgain, TakeNode, ClaimNode, ReadList, ReadPlayer, ReadState, CommitMove, StoreWord, GiveNode, YieldNode, YieldCount, giving, beginning, committing, resolving}
 use Rattle.core_steps.specs.Calls.{is_pursued, pursued_of}
-use Rattle.core_machine.specs.Going.{view_found}
+use Rattle.core_machine.specs.Going.{view_found, word_left}
 use Rattle.core_machine.specs.Nexts.{next_with, next_point, next_resolved, the_next}
 use Rattle.core_machine.specs.Ready.{is_resolving}
 use Rattle.core_machine.specs.StepsLeft.{steps_left, is_served, IsCounting}
@@ -23,10 +23,11 @@ use Rattle.region_locks.specs.Passes.{PassView, first_effect, effect_kept, effec
 use Rattle.region_locks.specs.Holders.{IsOtherHolder, IsReached}
 use Rattle.region_locks.specs.Loads.{PlayerWord, player_word_next, after_loads, HasLoaded}
 use Rattle.region_locks.specs.Turns.{turn_of}
-use Rattle.region_locks.specs.Pursuits.{command_pursued, IsGoingOn, IsSamePass, IsSameMove, HasCommitted, WasRefused, effect_left, calls_left, HasGoneOn}
+use Rattle.region_locks.specs.Pursuits.{command_pursued, commands_given, IsGoingOn, HasCommitted, WasRefused, effect_left, calls_left, HasGoneOn}
 use Rattle.region_locks.proofs.Turns.{resolving_is}
 use Rattle.region_locks.proofs.Pursuing.{is_partial, pursued_at, visiting_plain, loading_plain, pursued_reading}
-use Rattle.region_locks.proofs.Followed.{asked, next_pursued, whole_between, none_given, unread, fewer_step, command_in_view}
+use Rattle.region_locks.specs.Sights.{Tally, begun_after, tally_taken, tally_after}
+use Rattle.region_locks.proofs.Followed.{asked, none_refused, next_pursued, whole_between, none_given, unread, fewer_step, command_in_view}
 
 -- ---- a record is loaded
 
@@ -43,7 +44,12 @@ record IsLoadedOf (q new : PassView) : Type 0 where
   refusals : new.view.refusals ≡ q.view.refusals
   refused : new.view.refused ≡ q.view.refused
   command : pursued_at new.view.cmd new.view.point ≡ command_pursued q
+  given : commands_given new ≡ commands_given q
+  listed : new.tally.refused ≡ q.tally.refused
   whole : is_partial new.view new.view.point ≡ false
+
+one_given : (n : ℕ) → suc n + 0 ≡ n + 1
+one_given n = omega arith
 
 kept_none : (view : View) → effect_kept view None ≡ None
 kept_none view = elim (cases_Bool (is_resolving view.point)) [ inl is ↦ rw is refl | inr other ↦ rw other refl ]
@@ -67,8 +73,10 @@ module _ (F : Fixed) (passes : ℕ) (table : TableId) (q new : PassView) (own : 
         same = λ _. record {
           same = record { number = is.number; room = is.room; seen = is.seen; log = is.log };
           command = ap (λ (o : Option Command). pursued_of o new.quits new.view) is.none ∙ ap (λ (b : Bool). pursued_of None b new.view) is.pursues ∙ is.command;
+          given = is.given;
           refusals = is.refusals;
           refused = is.refused;
+          listed = is.listed;
         };
         committed = λ e there. cc;
         reading = λ f. absurd (false≢true f);
@@ -107,6 +115,8 @@ module _ (F : Fixed) (passes : ℕ) (table : TableId) (p new : PassView) (own : 
         log = ap (λ (q : PassView). q.view.log) is;
         refusals = ap (λ (q : PassView). q.view.refusals) is;
         refused = ap (λ (q : PassView). q.view.refused) is;
+        given = ap commands_given is ∙ one_given p.tally.begun;
+        listed = ap (λ (q : PassView). q.tally.refused) is;
         command = ap (λ (q : PassView). pursued_at q.view.cmd q.view.point) is;
         whole = ap (λ (q : PassView). is_partial q.view q.view.point) is;
       })
@@ -139,6 +149,8 @@ module _ (F : Fixed) (passes : ℕ) (table : TableId) (p new : PassView) (own : 
         log = ap (λ (q : PassView). q.view.log) is;
         refusals = ap (λ (q : PassView). q.view.refusals) is;
         refused = ap (λ (q : PassView). q.view.refused) is;
+        given = ap commands_given is;
+        listed = ap (λ (q : PassView). q.tally.refused) is;
         command = ap (λ (q : PassView). pursued_at q.view.cmd q.view.point) is;
         whole = ap (λ (q : PassView). is_partial q.view q.view.point) is;
       })
@@ -174,6 +186,8 @@ module _ (F : Fixed) (passes : ℕ) (table : TableId) (p new : PassView) (own : 
         log = ap (λ (q : PassView). q.view.log) is;
         refusals = ap (λ (q : PassView). q.view.refusals) is;
         refused = ap (λ (q : PassView). q.view.refused) is;
+        given = ap commands_given is;
+        listed = ap (λ (q : PassView). q.tally.refused) is;
         command = ap (λ (q : PassView). pursued_at q.view.cmd q.view.point) is ∙ pursued_reading p.view.cmd (view_found F v LoadAgain f).point plain.is_stage;
         whole = ap (λ (q : PassView). is_partial q.view q.view.point) is ∙ plain.whole;
       })
@@ -210,6 +224,8 @@ module _ (F : Fixed) (passes : ℕ) (table : TableId) (p new : PassView) (own : 
         log = ap (λ (q : PassView). q.view.log) is;
         refusals = ap (λ (q : PassView). q.view.refusals) is;
         refused = ap (λ (q : PassView). q.view.refused) is;
+        given = ap commands_given is;
+        listed = ap (λ (q : PassView). q.tally.refused) is;
         command = ap (λ (q : PassView). pursued_at q.view.cmd q.view.point) is ∙ pursued_reading p.view.cmd (view_found F v next f).point plain.is_stage;
         whole = ap (λ (q : PassView). is_partial q.view q.view.point) is ∙ plain.whole;
       })
@@ -441,6 +457,29 @@ refused_view F view (Some (GiveNode n)) node found x busy = cc
 refused_view F view (Some (YieldNode n)) node found x busy = cc
 refused_view F view (Some YieldCount) node found x busy = cc
 
+-- a take begins no command
+none_begun : (o : Option Next) (node begun : ℕ) → node_taken_next o ≡ Some node → begun_after (the_next o) begun ≡ begun
+none_begun None node begun x = cc
+none_begun (Some (Begin cmd)) node begun x = cc
+none_begun (Some LoadOwn) node begun x = refl
+none_begun (Some LoadAgain) node begun x = refl
+none_begun (Some (TakeNode n)) node begun x = refl
+none_begun (Some (ClaimNode g n)) node begun x = refl
+none_begun (Some (ReadList n plan)) node begun x = refl
+none_begun (Some (ReadPlayer n part slot players plan)) node begun x = refl
+none_begun (Some (ReadState id ids)) node begun x = refl
+none_begun (Some (CommitMove g nodes)) node begun x = refl
+none_begun (Some (StoreWord nodes store stores)) node begun x = refl
+none_begun (Some (GiveNode n)) node begun x = refl
+none_begun (Some (YieldNode n)) node begun x = refl
+none_begun (Some YieldCount) node begun x = refl
+
+-- a take of this node that is refused is listed
+one_refused : (o : Option Next) (node found left : ℕ) (tally : Tally) → node_taken_next o ≡ Some node → found ≢ 0 → (tally_after (the_next o) found left tally).refused ≡ record { node = node; word = found } ∷ tally.refused
+one_refused None node found left tally x busy = cc
+one_refused (Some next) node found left tally x busy =
+    ap (λ (t : Option ℕ). (tally_taken t found left tally).refused) x ∙ ap (λ (t : Tally). t.refused) (cond-false (found == 0) _ _ (ne_eqb found 0 busy))
+
 module _ (F : Fixed) (passes : ℕ) (table : TableId) (p new : PassView) (going : IsGoingOn F passes table p) (own : IsPassOf F passes table new) where
   -- the pass commits
   pub commit_step : (e : Entry) → is_commit_next (next_of_pass F p) ≡ true → new ≡ pass_after F (the_next (next_of_pass F p)) e.place p → p.view.seen ≤ e.place
@@ -471,8 +510,10 @@ module _ (F : Fixed) (passes : ℕ) (table : TableId) (p new : PassView) (going 
               log = ap (λ (v : View). v.log) view ∙ ap (λ (f : Entry). p.view.log ++ (record { command = p.view.cmd; entry = f }) ∷ []) (sym is_entry);
               place = seen;
               seen = ap (λ (v : View). v.seen) view ∙ one_more e.place;
+              given = ap commands_given is ∙ ap (λ (n : Next). begun_after n p.tally.begun + 0) of.is ∙ sym (ap (λ (o : Option Command). p.tally.begun + (if is_some o then 1 else 0)) (none_given F passes table p going busy));
               refusals = ap (λ (v : View). v.refusals) view;
               refused = ap (λ (v : View). v.refused) view;
+              listed = ap (λ (q : PassView). q.tally.refused) is ∙ none_refused (the_next (next_of_pass F p)) e.place (word_left F p.number p.view (the_next (next_of_pass F p)) e.place) p.tally (ap (λ (n : Next). is_served n e.place) of.is);
             });
         reading = λ x. absurd (false≢true x);
         known = λ x. absurd (false≢true x);
@@ -511,8 +552,10 @@ module _ (F : Fixed) (passes : ℕ) (table : TableId) (p new : PassView) (going 
             log = ap (λ (v : View). v.log) view;
           };
           command = ap command_pursued is;
+          given = ap commands_given is;
           refusals = ap (λ (v : View). v.refusals) view;
           refused = ap (λ (v : View). v.refused) view;
+          listed = ap (λ (q : PassView). q.tally.refused) is;
         };
         committed = λ g x. cc;
         reading = λ _. ap (λ (v : View). v.point) view ∙ at;
@@ -552,6 +595,9 @@ module _ (F : Fixed) (passes : ℕ) (table : TableId) (p new : PassView) (going 
           is_visited = reached.is_visited;
         };
         counted = ap (λ (v : View). v.refusals) view;
+        given = ap commands_given is ∙ ap (λ (n : ℕ). n + 0) (none_begun (next_of_pass F p) node p.tally.begun taken)
+            ∙ sym (ap (λ (o : Option Command). p.tally.begun + (if is_some o then 1 else 0)) (none_given F passes table p going take.busy));
+        listed = ap (λ (q : PassView). q.tally.refused) is ∙ one_refused (next_of_pass F p) node found (word_left F p.number p.view (the_next (next_of_pass F p)) found) p.tally taken holder.is_held;
       }
 
 module _ (F : Fixed) (passes : ℕ) (table : TableId) (p : PassView) (going : IsGoingOn F passes table p) where

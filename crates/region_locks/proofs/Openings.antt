@@ -1,12 +1,12 @@
 -- The world at the start is one that a table may begin with.
-use Rattle.std.proofs.Common.{◌≡◌, ℕ, suc, ◌+◌, true, List, [], ◌∷◌, map, refl, sym, ap, ◌∙◌, subst, Option, Some, None, arith, All}
+use Rattle.std.proofs.Common.{◌≡◌, ℕ, true, List, [], ◌∷◌, map, sym, ap, subst, All}
 use Rattle.std.specs.List.{AllByRecursion}
 use Rattle.std.proofs.lemmas.List.Elements.{recursion_from_All, All-from_recursion}
 use Rattle.entity_recs.specs.declared.rec.Rec.{Rec}
 use Rattle.std.specs.List.Sorted.{IsStrictlyIncreasing}
 use Rattle.entity_recs.specs.Worlds.{World, record_with}
-use Rattle.world_tree.specs.Live.{record_at, live_in, ids_of}
-use Rattle.world_tree.specs.Worlds.{WorldView, record_of, IsLinked}
+use Rattle.world_tree.specs.Live.{live_in, ids_of}
+use Rattle.world_tree.specs.Worlds.{WorldView, IsLinked}
 use Rattle.world_tree.proofs.Rising.{live_ids_rise}
 use Rattle.core_steps.specs.Views.{Fixed}
 use Rattle.core_steps.specs.Stands.{IsStart, start_core}

@@ -8,12 +8,13 @@ use Rattle.entity_recs.specs.Commands.{Command}
 use Rattle.core_steps.specs.Views.{Fixed, Point, Idle, Owning, Taking, Checking, Entering, Entered, Loading, Leaving, Sensing, Resolving, Claiming, Storing, Releasing, Returning, Yielding, View, record_read, write_nodes, inner_held, leaves_held, effect_loaded}
 use Rattle.core_steps.specs.Steps.{rest_of, yielding, yielded, first_yield, view_after_claim, view_after_refusal}
 use Rattle.core_steps.specs.Machine.{Next, resolving, quitting}
-use Rattle.core_machine.specs.Going.{view_found}
+use Rattle.core_machine.specs.Going.{view_found, word_left}
 use Rattle.core_machine.specs.Nexts.{next_resolved, next_point, the_next}
 use Rattle.core_machine.specs.Ready.{is_resolving}
 use Rattle.region_locks.specs.Going.{view_looked}
 use Rattle.region_locks.specs.Plays.{IsSoundSight}
-use Rattle.region_locks.specs.Passes.{PassView, sight_of, effect_kept, next_of_pass, pass_after, IsPassOf}
+use Rattle.region_locks.specs.Passes.{PassView, sight_of, next_of_pass, pass_after, IsPassOf}
+use Rattle.region_locks.proofs.Refusing.{refusal_listed}
 use Rattle.region_locks.proofs.Views.{keeps_found}
 
 pub no_effect : {R : Type 0} (o : Option Effect) (e : Effect) → o ≡ None → o ≡ Some e → R
@@ -107,6 +108,7 @@ own_after F passes table p found own comes sound_sight =
       may_quit = λ e. absurd (false≢true e);
       has_effect = λ at e some. right_after F passes table p found own comes at e (sym (cond-true (is_resolving view.point) p.effect None at) ∙ some);
       only_resolving = λ at. cond-false (is_resolving view.point) p.effect None at;
+      refusal = refusal_listed F p.view next found (word_left F p.number p.view next found) p.tally own.refusal;
     }
 
 -- the pass that has looked at the count is still the table's
@@ -122,6 +124,7 @@ looked_own F passes table p new found is own sound_sight =
       may_quit = own.may_quit;
       has_effect = own.has_effect;
       only_resolving = own.only_resolving;
+      refusal = own.refusal;
     })
 
 same_effect : (a b : Effect) → Some a ≡ Some b → a ≡ b
@@ -139,4 +142,5 @@ resolved_own F passes table p e own at is = record {
   may_quit = own.may_quit;
   has_effect = λ resolving f some. sym (same_effect e f some) ∙ is;
   only_resolving = λ not. absurd (true≢false (sym (ap is_resolving at) ∙ not));
+  refusal = own.refusal;
 }

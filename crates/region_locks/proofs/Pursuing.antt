@@ -1,14 +1,13 @@
 -- What one step leaves of a view, but for a load of a player's record and the commit.
-use Rattle.std.proofs.Common.{◌≡◌, ◌≢◌, ℕ, suc, ◌+◌, ◌*◌, ◌<◌, ◌≤◌, Bool, true, false, if◌then◌else◌, List, [], ◌∷◌, ◌++◌, length, refl, sym, ap, ◌∙◌, subst, inl, inr, Option, Some, None, arith}
-use Rattle.std.specs.Prelude.{◌==◌, ◌&&◌, not, is_some}
+use Rattle.std.proofs.Common.{◌≡◌, ℕ, Bool, true, false, if◌then◌else◌, List, [], ◌∷◌, ◌++◌, refl, sym, ap, ◌∙◌, subst, inl, inr, Option, Some, None}
+use Rattle.std.specs.Prelude.{not}
 use Rattle.std.proofs.lemmas.Bool.{cases_Bool, false≢true, eqb-true, cond-true, cond-false}
 use Rattle.entity_recs.specs.declared.effect.Effect.{Effect}
 use Rattle.entity_recs.specs.Commands.{Command}
 use Rattle.core_steps.specs.Views.{Fixed, Store, Point, Idle, Owning, Taking, Checking, Entering, Entered, Loading, Leaving, Sensing, Resolving, Claiming, Storing, Releasing, Returning, Yielding, View, Stage, AtReading, stage_of, is_busy, is_leaf, is_without_effect, is_before_leaves, players_in, region_in, things_in, record_read, write_nodes}
-use Rattle.core_steps.specs.Steps.{sensing, visiting, loading, taking, storing, returning, yielding, released, yielded, rest_of, first, first_of_two, next_give, view_after_give, point_after_take}
+use Rattle.core_steps.specs.Steps.{sensing, visiting, loading, taking, storing, returning, yielding, rest_of, first, view_after_give, point_after_take}
 use Rattle.core_steps.specs.Machine.{Next, Begin, LoadOwn, LoadAgain, TakeNode, ClaimNode, ReadList, ReadPlayer, ReadState, CommitMove, StoreWord, GiveNode, YieldNode, YieldCount, giving, beginning, committing, resolving}
-use Rattle.core_steps.specs.Calls.{is_pursued, pursued_of}
-use Rattle.core_steps.proofs.Points.{visiting_between}
+use Rattle.core_steps.specs.Calls.{is_pursued}
 use Rattle.core_machine.specs.Going.{view_found}
 use Rattle.core_machine.specs.Nexts.{next_point, next_resolved, the_next}
 use Rattle.core_machine.specs.Ready.{is_resolving}

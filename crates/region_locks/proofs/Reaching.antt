@@ -1,12 +1,12 @@
 -- The node that a seat takes next is one of the leaves that it wants, or an inner node that they visit.
-use Rattle.std.proofs.Common.{◌≡◌, ℕ, ◌+◌, ◌-◌, ◌^◌, ◌<◌, ◌≤◌, Bool, true, false, List, [], ◌∷◌, ◌++◌, length, refl, sym, ap, ◌∙◌, subst, inl, inr, Option, Some, None, arith}
-use Rattle.std.specs.Prelude.{◌||◌, ◌==◌, nat_le, filter, slice_index, All}
+use Rattle.std.proofs.Common.{◌≡◌, ℕ, ◌-◌, ◌^◌, ◌<◌, Bool, true, false, List, [], ◌∷◌, ◌++◌, length, refl, sym, ap, ◌∙◌, subst, inl, inr, Option, Some, arith}
+use Rattle.std.specs.Prelude.{◌||◌, ◌==◌, nat_le, All}
 use Rattle.std.specs.List.{range_with_len}
 use mathlib.Core.Option as maybe
 use lib.ListN.{get_elem?}
-use Rattle.std.proofs.lemmas.Bool.{cases_Bool, false≢true, true≢false, or_cases, or_left, or_right, eq-eqb, eqb-true, leb-true, leb-false}
+use Rattle.std.proofs.lemmas.Bool.{cases_Bool, true≢false, or_cases, or_left, or_right, eq-eqb, eqb-true, leb-true, leb-false}
 use Rattle.arena_geo.specs.Bounds.{Bounds, IsOrdered}
-use Rattle.arena_geo.specs.Regions.{touches_region, is_inside}
+use Rattle.arena_geo.specs.Regions.{touches_region}
 use Rattle.atomic_table.specs.Table.{State}
 use Rattle.entity_recs.specs.declared.rec.Rec.{Rec}
 use Rattle.entity_recs.specs.declared.effect.Effect.{Effect}
@@ -17,12 +17,11 @@ use Rattle.entity_recs.specs.Histories.{outcome}
 use Rattle.entity_recs.proofs.Standing.{records_have_boxes}
 use Rattle.areanode.specs.Words.{has_bit}
 use Rattle.areanode.specs.Trees.{leaves_of, visited_of}
-use Rattle.areanode.proofs.Nodes.{node_is_in_range, touched_node_is_visited}
+use Rattle.areanode.proofs.Nodes.{touched_node_is_visited}
 use Rattle.core_steps.specs.Views.{Fixed, Point, Idle, Owning, Taking, Checking, Entering, Entered, Loading, Leaving, Sensing, Resolving, Claiming, Storing, Releasing, Returning, Yielding, View, stage_of, is_settled, is_read_again, is_whole, has, is_leaf, inner_nodes, leaf_nodes, inner_visited, plan_of, home, region_in, record_read, write_nodes, effect_loaded}
 use Rattle.core_steps.specs.Steps.{first, next_node_at}
 use Rattle.core_steps.specs.Stands.{IsAt}
 use Rattle.core_steps.specs.Machine.{Next}
-use Rattle.core_steps.specs.Calls.{node_taken}
 use Rattle.core_steps.proofs.Lists.{has_append, has_filter, filter_has, range_has, has_range}
 use Rattle.core_steps.proofs.Exclusion.{now_world, settled_seat, inside_touches}
 use Rattle.core_steps.proofs.Runs.{is_call, live_ordered}

@@ -8,9 +8,9 @@ use Rattle.entity_recs.specs.declared.effect.Effect.{Effect}
 use Rattle.core_steps.specs.Views.{Fixed, Point, Idle, Owning, Taking, Checking, Entering, Entered, Loading, Leaving, Sensing, Resolving, Claiming, Storing, Releasing, Returning, Yielding, View, record_read, write_nodes, effect_loaded}
 use Rattle.core_steps.specs.Steps.{first_yield}
 use Rattle.core_steps.specs.Machine.{Next, resolving, quitting, next_at}
-use Rattle.region_locks.specs.Sights.{SightView}
+use Rattle.region_locks.specs.Sights.{SightView, Tally, tally_after}
 use Rattle.region_locks.specs.Going.{next_asked, MayGo}
-use Rattle.core_machine.specs.Going.{view_found}
+use Rattle.core_machine.specs.Going.{view_found, word_left}
 use Rattle.region_locks.specs.Holders.{IsFoundHeld, AreReached}
 use Rattle.region_locks.specs.Plays.{IsSoundSight, SeatWent}
 use Rattle.entity_recs.specs.Commands.{command_of}
@@ -67,11 +67,12 @@ may_go F passes table p own comes = record {
   at_take = own.may_quit;
 }
 
-pub sight_is : (sight : SightView) (number : ℕ) (view : View) → sight.number ≡ number → sight.view ≡ view → sight ≡ record { number = number; view = view }
-sight_is sight number view e f i = record { number = e i; view = f i }
+pub sight_is : (sight : SightView) (number : ℕ) (view : View) (tally : Tally) → sight.number ≡ number → sight.view ≡ view → sight.tally ≡ tally
+    → sight ≡ record { number = number; view = view; tally = tally }
+sight_is sight number view tally e f g i = record { number = e i; view = f i; tally = g i }
 
 pub sound_sight_ready : (F : Fixed) (passes : ℕ) (table : TableId) (p : PassView) (seat : Seat (Unit {0}) SightView) (word : ℕ) → IsReady F passes table p seat word → IsSoundSight F passes seat.me.0
-sound_sight_ready F passes table p seat word is = subst (IsSoundSight F passes) (sym (sight_is seat.me.0 p.number p.view is.same_number is.same_view)) is.own.sound_sight
+sound_sight_ready F passes table p seat word is = subst (IsSoundSight F passes) (sym (sight_is seat.me.0 p.number p.view p.tally is.same_number is.same_view is.same_tally)) is.own.sound_sight
 
 pub may_ready : (F : Fixed) (passes : ℕ) (table : TableId) (p : PassView) (seat : Seat (Unit {0}) SightView) (word : ℕ) → IsReady F passes table p seat word
     → MayGo F passes seat.me.0.number seat.me.0.view p.given p.quits (the_next (next_of_pass F p))
@@ -84,11 +85,16 @@ pub has_gone : (F : Fixed) (passes : ℕ) (table : TableId) (p : PassView) (old 
 has_gone F passes table p old new word found is same went =
     let number = went.0.number ∙ is.same_number in
     let view = went.0.view ∙ ap (λ (v : View). view_found F v (the_next (next_of_pass F p)) found) is.same_view in
+    let tally : new.me.0.tally ≡ (pass_after F (the_next (next_of_pass F p)) found p).tally = went.0.tally
+    ∙ ap (λ (n : ℕ). tally_after (the_next (next_of_pass F p)) found (word_left F n old.me.0.view (the_next (next_of_pass F p)) found) old.me.0.tally) is.same_number
+    ∙ ap (λ (v : View). tally_after (the_next (next_of_pass F p)) found (word_left F p.number v (the_next (next_of_pass F p)) found) old.me.0.tally) is.same_view
+    ∙ ap (tally_after (the_next (next_of_pass F p)) found (word_left F p.number p.view (the_next (next_of_pass F p)) found)) is.same_tally in
     record {
+      tally = tally;
       same_table = same ∙ is.same_table;
       same_number = number;
       went = view;
-      sound_sight = subst (IsSoundSight F passes) (sight_is new.me.0 p.number _ number view) went.0.sound_sight;
+      sound_sight = subst (IsSoundSight F passes) (sight_is new.me.0 p.number _ _ number view tally) went.0.sound_sight;
       small = went.0.small;
       taken = went.0.taken;
       counted = λ counts. subst (λ (v : View). v.seen ≤ found) is.same_view (went.0.counted counts);
@@ -140,6 +146,7 @@ module _ (F G : Fixed) (passes : ℕ) (table : TableId) (p : PassView) (found : 
         quits = quits i;
         effect = effect_is i;
         view = followed i;
+        tally = gone.tally i;
       } in
       record {
         hand = record {
@@ -164,3 +171,7 @@ reached_ready F passes table p seat word is next reached = subst (λ (v : View).
 pub seen_ready : (F : Fixed) (passes : ℕ) (table : TableId) (p : PassView) (seat : Seat (Unit {0}) SightView) (word found : ℕ) → IsReady F passes table p seat word
     → seat.me.0.view.seen ≤ found → p.view.seen ≤ found
 seen_ready F passes table p seat word found is seen = subst (λ (v : View). v.seen ≤ found) is.same_view seen
+
+pub reached_as : (F G : Fixed) (p q : PassView) → F ≡ G → p ≡ q → AreReached F p.view (the_next (next_of_pass F p)) → AreReached G q.view (the_next (next_of_pass G q))
+reached_as F G p q same is reached =
+    subst (λ (H : Fixed). AreReached H q.view (the_next (next_of_pass H q))) same (subst (λ (r : PassView). AreReached F r.view (the_next (next_of_pass F r))) is reached)

@@ -20,13 +20,13 @@ looked_here : (F : Fixed) (rooms : List ℕ) (slots i : ℕ) (me : Me (Unit {0})
     → Allows (IsRuled F rooms) slots i me 0 (λ n. n) (λ found after. SeatLooked F (length rooms) me found after)
 looked_here F rooms slots i me rests s r _ at small =
     let found = slice_index s.words 0 in
-    let new : SightView = record { number = me.0.number; view = view_looked found me.0.view } in
+    let new : SightView = record { number = me.0.number; view = view_looked found me.0.view; tally = me.0.tally } in
     let ruled = looks F rooms s r i me.0 at rests in (
       new,
       keeps,
       tt,
       ruled,
-      (record { number = refl; view = refl; seen = seen_is_below F rooms s r i me.0 at; sound_sight = sound_sight F rooms _ ruled i new (set_here s.views i new (place_below s.views i me.0 at)) }, refl),
+      (record { number = refl; view = refl; tally = refl; seen = seen_is_below F rooms s r i me.0 at; sound_sight = sound_sight F rooms _ ruled i new (set_here s.views i new (place_below s.views i me.0 at)) }, refl),
     )
 
 -- a seat that rests may look at the count

@@ -1,5 +1,5 @@
 -- The table at the start meets the rule.
-use Rattle.std.proofs.Common.{◌≡◌, ℕ, zero, suc, ◌%◌, ◌^◌, ◌<◌, ◌≤◌, true, List, [], ◌∷◌, length, refl, sym, ap, subst, inl, inr, arith, slice_index}
+use Rattle.std.proofs.Common.{◌≡◌, ℕ, zero, suc, ◌%◌, ◌^◌, ◌<◌, ◌≤◌, true, false, List, [], ◌∷◌, length, refl, sym, ap, subst, inl, inr, arith, slice_index}
 use Rattle.std.specs.Prelude.{◌==◌}
 use mathlib.Core.Option as maybe
 use mathlib.Core.Option.{some-injective, some-ne-none}
@@ -11,8 +11,8 @@ use Rattle.core_steps.specs.Views.{Fixed, Ended, View, new_view, spent, stage_of
 use Rattle.core_steps.specs.Steps.{Core}
 use Rattle.core_steps.specs.Stands.{IsLawful, IsStart, start_core}
 use Rattle.core_steps.proofs.Reached.{machine_start_stands}
-use Rattle.region_locks.specs.Sights.{SightView}
-use Rattle.region_locks.specs.Rule.{HasWords, IsRuled, first_sight}
+use Rattle.region_locks.specs.Sights.{HeldWord, IsOneOf, no_tally, SightView}
+use Rattle.region_locks.specs.Rule.{WasTaken, HasWords, IsRuled, first_sight}
 
 module _ (F : Fixed) (rooms words : List ℕ) (lawful : IsLawful F) (start : IsStart F) (depth : F.tree.depth ≡ 4) (some : 0 < length rooms) (few : length rooms ≤ 16) (small : slice_index rooms 0 < 2 ^ 32)
     (laid : HasWords words (start_core F (slice_index rooms 0))) where
@@ -39,6 +39,14 @@ module _ (F : Fixed) (rooms words : List ℕ) (lawful : IsLawful F) (start : IsS
   number_at zero sight e live = sym (ap (λ (x : SightView). x.number) (some-injective (first_sight room) sight e))
   number_at (suc k) sight e live = absurd (some-ne-none sight (sym e))
 
+  ended_at : (k : ℕ) (sight : SightView) → get_elem? (first_sight room ∷ []) k ≡ maybe.some sight → sight.view.live ≡ false → sight.tally ≡ no_tally
+  ended_at zero sight e gone = ap (λ (x : SightView). x.tally) (sym (some-injective (first_sight room) sight e))
+  ended_at (suc k) sight e gone = absurd (some-ne-none sight (sym e))
+
+  refused_at : (k : ℕ) (sight : SightView) → get_elem? (first_sight room ∷ []) k ≡ maybe.some sight → (h : HeldWord) → IsOneOf h sight.tally.refused → WasTaken (first_sight room ∷ []) h
+  refused_at zero sight e h one = absurd (subst (λ (x : SightView). IsOneOf h x.tally.refused) (sym (some-injective (first_sight room) sight e)) one)
+  refused_at (suc k) sight e h one = absurd (some-ne-none sight (sym e))
+
   pub start_is_ruled : IsRuled F rooms (opening words [] (first_sight room))
   start_is_ruled = record {
     core = core;
@@ -56,5 +64,10 @@ module _ (F : Fixed) (rooms words : List ℕ) (lawful : IsLawful F) (start : IsS
       made = omega (arith, some);
       room = each_view (λ (k : ℕ) (v : View). v.room < 2 ^ 32) small (λ k. omega arith);
       ended = All-from_recursion (λ (e : Ended). e.room < 2 ^ 32) [] tt;
+    };
+    takes = record {
+      held = λ node busy. absurd (busy refl);
+      ended = ended_at;
+      refused = refused_at;
     };
   }

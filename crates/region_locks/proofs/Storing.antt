@@ -1,5 +1,5 @@
 -- A pass makes the next store that it owes: it clears its player's bit, puts a word of a record, or sets the bit.
-use Rattle.std.proofs.Common.{◌≡◌, ℕ, ◌+◌, Bool, true, false, if◌then◌else◌, List, [], ◌∷◌, refl, sym, ap, ◌∙◌, subst, Option, Some, None, is_some}
+use Rattle.std.proofs.Common.{◌≡◌, ℕ, ◌+◌, Bool, true, false, if◌then◌else◌, List, [], ◌∷◌, refl, sym, ap, subst, Option, Some, None, is_some}
 use Rattle.std.proofs.lemmas.Bool.{false≢true}
 use Rattle.entity_recs.specs.declared.effect.Effect.{Effect}
 use Rattle.entity_recs.specs.Commands.{Command}

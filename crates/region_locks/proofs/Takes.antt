@@ -1,18 +1,18 @@
 -- A pass takes its next node.
 use Rattle.std.proofs.Common.{◌≡◌, ◌⊎◌, ℕ, suc, ◌+◌, ◌-◌, ◌*◌, ◌^◌, ◌<◌, Bool, true, false, if◌then◌else◌, List, [], ◌∷◌, ◌++◌, refl, sym, ap, ◌∙◌, subst, inl, inr, Option, Some, None, is_some, All}
-use Rattle.std.specs.Prelude.{◌==◌, nat_le}
+use Rattle.std.specs.Prelude.{◌==◌}
 use Rattle.std.proofs.lemmas.List.Elements.{All-from_recursion}
 use Rattle.atomic_table.specs.Seated.{TableId}
 use Rattle.entity_recs.specs.declared.effect.Effect.{Effect}
 use Rattle.entity_recs.specs.Commands.{Command}
 use Rattle.core_steps.specs.Views.{Fixed, Point, Idle, Owning, Taking, Checking, Entering, Entered, Loading, Leaving, Sensing, Resolving, Claiming, Storing, Releasing, Returning, Yielding, Stage, AtClaiming, stage_of, is_whole, is_writing, is_without_effect, is_leaf, leaf_nodes, inner_nodes, record_read, write_nodes, leaf_word, region_in, held_word}
-use Rattle.core_steps.specs.Steps.{taking, point_after_take, first_yield, view_after_take, view_after_refusal, view_after_claim}
+use Rattle.core_steps.specs.Steps.{taking, point_after_take, first_yield}
 use Rattle.core_steps.specs.Machine.{Next, beginning, TakeNode, ClaimNode, resolving, quitting, committing, giving, index_of}
 use Rattle.core_steps.specs.Stands.{IsAt, IsClaimingAfter}
 use Rattle.core_steps.proofs.Waiting.{leaf_below}
 use Rattle.core_steps.proofs.Runs.{all_from_has}
 use Rattle.core_steps.specs.Calls.{node_taken}
-use Rattle.core_machine.specs.Going.{view_found, word_left}
+use Rattle.core_machine.specs.Going.{word_left}
 use Rattle.core_machine.specs.Ready.{is_resolving}
 use Rattle.region_locks.specs.Passes.{PassView, first_effect, effect_in_hand, next_of_pass, node_taken_next, IsPassOf}
 use Rattle.core_machine.specs.Nexts.{next_resolved, next_point, the_next}

@@ -1,5 +1,5 @@
 -- Which call makes a pass's next step.
-use Rattle.std.proofs.Common.{◌≡◌, ℕ, Bool, true, false, if◌then◌else◌, List, [], ◌∷◌, map, refl, sym, ap, ◌∙◌, subst, inl, inr, Option, Some, None, is_some}
+use Rattle.std.proofs.Common.{◌≡◌, ℕ, Bool, true, false, if◌then◌else◌, List, [], ◌∷◌, refl, sym, ap, ◌∙◌, inl, inr, Option, Some, None, is_some}
 use Rattle.std.specs.Prelude.{◌||◌, ◌&&◌, not}
 use Rattle.std.proofs.lemmas.Bool.{false≢true, cases_Bool}
 use Rattle.entity_recs.specs.declared.effect.Effect.{Effect}
@@ -13,7 +13,7 @@ use Rattle.core_machine.specs.Ready.{is_resolving}
 use Rattle.region_locks.specs.declared.turn.Turn.{Turn}
 use Rattle.atomic_table.specs.Seated.{TableId}
 use Rattle.region_locks.specs.Passes.{PassView, next_of_pass, IsPassOf}
-use Rattle.region_locks.specs.Turns.{turn_of_next, turn_for, turn_of, has_command_in_hand}
+use Rattle.region_locks.specs.Turns.{turn_for, turn_of, has_command_in_hand}
 use Rattle.region_locks.proofs.Quitting.{has_next}
 
 -- the call doesn't look at the view's point but where nothing comes next

@@ -17,7 +17,6 @@ use Rattle.world_tree.specs.Live.{record_at, live_in, ids_of}
 use Rattle.world_tree.specs.Worlds.{WorldView, record_of, IsLinked}
 use Rattle.core_steps.specs.Encoding.{words_of, nth_word}
 use Rattle.core_steps.specs.Views.{has, home}
-use Rattle.core_steps.specs.Stands.{is_player}
 use Rattle.std.proofs.lemmas.Option.{same_Some, none-some}
 use Rattle.region_locks.specs.Starts.{world_at_start, fixed_of_world, home_of, start_word_at, AreStartWords}
 

@@ -16,8 +16,8 @@ use Rattle.core_steps.specs.Encoding.{record_from}
 use Rattle.core_steps.specs.Views.{Fixed, View, Idle, has}
 use Rattle.core_steps.specs.Stands.{is_live_cell, value_in, ended_log, is_ended, items_below}
 use Rattle.core_machine.specs.Logs.{entries_of}
-use Rattle.region_locks.specs.Sights.{SightView, no_sight, with_one_ended}
-use Rattle.region_locks.specs.Passes.{PassView, sight_of}
+use Rattle.region_locks.specs.Sights.{Tally, no_tally, tally_of_both, SightView, no_sight, with_one_ended}
+use Rattle.region_locks.specs.Passes.{PassView, RefusalIsListed, sight_of}
 
 -- each other seat that was made was ended into this one
 abbrev pub AreOthersEnded : View → Type 0
@@ -51,6 +51,15 @@ with_passes_ended (p ∷ passes) sight = with_passes_ended passes (with_one_ende
 abbrev pub sight_at_end : List PassView → SightView
 sight_at_end [] = no_sight
 sight_at_end (p ∷ passes) = with_passes_ended passes (sight_of p)
+
+-- what all passes did
+abbrev pub tally_of_all : List PassView → Tally
+tally_of_all [] = no_tally
+tally_of_all (p ∷ passes) = tally_of_both p.tally (tally_of_all passes)
+
+-- the word that each pass keeps of its last refused take is one with which a pass took that node
+abbrev pub AreRefusalsHeld : List PassView → Type 0
+AreRefusalsHeld passes = All (λ (p : PassView). RefusalIsListed p.view.refused (tally_of_all passes).served) passes
 
 -- the entries of a pass's log, with the pass's room
 abbrev pub log_from : PassView → LogView

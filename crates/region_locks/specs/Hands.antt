@@ -24,6 +24,7 @@ pass_view place number mirror effect = record {
   quits = mirror.quits;
   effect = effect;
   view = view_of mirror;
+  tally = place.me.0.tally;
 }
 
 -- the place has the pass's number and carries nothing, and the seat in plain values has its view

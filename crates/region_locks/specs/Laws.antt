@@ -8,10 +8,11 @@ use Rattle.entity_recs.specs.Commands.{Command}
 use Rattle.core_steps.specs.Views.{Fixed}
 use Rattle.core_steps.specs.Stands.{IsLawful, IsStart, start_core}
 use Rattle.core_steps.specs.Machine.{Next, index_of}
-use Rattle.region_locks.specs.Sights.{SightView, no_sight, with_one_made, sight_made, with_one_ended}
+use Rattle.region_locks.specs.Sights.{HeldWord, IsOneOf, AreRefusalsServed, SightView, sight_found, no_sight}
+use Rattle.region_locks.specs.Sights.{with_one_made, sight_made, with_one_ended}
 use Rattle.region_locks.specs.Going.{view_looked, IsAtRest, MayGo}
-use Rattle.core_machine.specs.Going.{view_found, word_left}
-use Rattle.region_locks.specs.Rule.{HasWords, IsRuled, first_sight}
+use Rattle.core_machine.specs.Going.{word_left}
+use Rattle.region_locks.specs.Rule.{HasWords, WasTaken, IsRuled, first_sight}
 use Rattle.region_locks.specs.Closing.{AreOthersEnded, Closes}
 
 -- the table at the start, with the words of the world and seat 0, meets the rule
@@ -28,17 +29,15 @@ StepsKeepTheRule = (F : Fixed) (rooms : List ℕ) (s : State (Unit {0}) SightVie
     → MayGo F (length rooms) sight.number sight.view given quits next
     → (left : ℕ)
     → left ≡ word_left F sight.number sight.view next (slice_index s.words (index_of 31 sight.view next))
-    → IsRuled F rooms (stepped s (index_of 31 sight.view next) left i [] (record {
-      number = sight.number;
-      view = view_found F sight.view next (slice_index s.words (index_of 31 sight.view next));
-    }) keeps)
+    → IsRuled F rooms (stepped s (index_of 31 sight.view next) left i []
+    (sight_found F sight next (slice_index s.words (index_of 31 sight.view next))) keeps)
 
 -- a seat that rests and looks at the count keeps the rule
 abbrev pub LooksKeepTheRule : Type 0
 LooksKeepTheRule = (F : Fixed) (rooms : List ℕ) (s : State (Unit {0}) SightView) → IsRuled F rooms s
     → (i : ℕ) (sight : SightView) → get_elem? s.views i ≡ maybe.some sight → IsAtRest sight.view
     → IsRuled F rooms (stepped s 0 (slice_index s.words 0) i []
-    (record { number = sight.number; view = view_looked (slice_index s.words 0) sight.view }) keeps)
+    (record sight { view = view_looked (slice_index s.words 0) sight.view }) keeps)
 
 -- a seat that is made from seat 0 keeps the rule
 abbrev pub MadeSeatsKeepTheRule : Type 0
@@ -62,8 +61,16 @@ EndedSeatsKeepTheRule = (F : Fixed) (rooms : List ℕ) (s : State (Unit {0}) Sig
       views = slice_set (slice_set s.views 0 (with_one_ended sight ended)) i no_sight;
     })
 
--- once all other seats are ended into seat 0: its logs are those of a legal history, and the words are those of its run
+-- between any two steps: each word that a seat found where its take was refused was written by a seat whose take of that
+-- node was served
+abbrev pub RefusedTakesWereServed : Type 0
+RefusedTakesWereServed = (F : Fixed) (rooms : List ℕ) (s : State (Unit {0}) SightView) → IsRuled F rooms s
+    → (i : ℕ) (sight : SightView) → get_elem? s.views i ≡ maybe.some sight
+    → (h : HeldWord) → IsOneOf h sight.tally.refused → WasTaken s.views h
+
+-- once all other seats are ended into seat 0: its logs are those of a legal history, the words are those of its run, and
+-- each word that was found where a take was refused was written where one was served
 abbrev pub ClosedTableIsItsRun : Type 0
 ClosedTableIsItsRun = (F : Fixed) (rooms : List ℕ) (s : State (Unit {0}) SightView) → IsRuled F rooms s
     → (sight : SightView) → get_elem? s.views 0 ≡ maybe.some sight → IsAtRest sight.view → AreOthersEnded sight.view
-    → Closes F s.words sight.view
+    → Closes F s.words sight.view × AreRefusalsServed sight.tally

@@ -11,13 +11,13 @@ use Rattle.entity_recs.specs.declared.effect.Effect.{Effect}
 use Rattle.entity_recs.specs.Commands.{Command}
 use Rattle.world_tree.specs.Worlds.{WorldView}
 use Rattle.core_steps.specs.Cells.{cell_index}
-use Rattle.core_steps.specs.Views.{Fixed, Store, Clear, Put, Link, View, new_view, record_read, effect_loaded}
+use Rattle.core_steps.specs.Views.{Fixed, Store, Clear, Put, Link, Refused, View, new_view, record_read, effect_loaded}
 use Rattle.core_steps.specs.Steps.{is_taking}
 use Rattle.core_steps.specs.Machine.{Next, ReadList, ReadPlayer}
 use Rattle.core_steps.specs.Machine.{ReadState, CommitMove, StoreWord, GiveNode, YieldNode, YieldCount, index_of}
 use Rattle.core_steps.specs.Machine.{kind_of, IsPending}
 use Rattle.core_steps.specs.declared.step.StepKind.TheVariants.{Commit}
-use Rattle.region_locks.specs.Sights.{SightView}
+use Rattle.region_locks.specs.Sights.{HeldWord, IsOneOf, SightView, Tally, no_tally, tally_after}
 use Rattle.region_locks.specs.Starts.{fixed_by}
 use Rattle.core_steps.specs.Calls.{node_taken}
 use Rattle.core_machine.specs.Going.{view_found, word_left}
@@ -26,7 +26,7 @@ use Rattle.core_machine.specs.Ready.{is_resolving}
 use Rattle.region_locks.specs.Plays.{IsSoundSight}
 
 -- which table it is, the pass's number, the command that is given and not begun, whether the pass is to give up, the
--- effect that it keeps, and its view in the core
+-- effect that it keeps, its view in the core, and what it did
 pub record PassView : Type 0 where
   pub table : TableId
   pub number : ℕ
@@ -34,6 +34,7 @@ pub record PassView : Type 0 where
   pub quits : Bool
   pub effect : Option Effect
   pub view : View
+  pub tally : Tally
 
 -- which table it is, the action, the world at the start, and the room of each pass
 pub record TableView (A : Type 0) : Type 0 where
@@ -57,6 +58,7 @@ pass_after F next found p = record p {
   quits = false;
   effect = effect_kept (view_found F p.view next found) p.effect;
   view = view_found F p.view next found;
+  tally = tally_after next found (word_left F p.number p.view next found) p.tally;
 }
 
 -- the first of two effects that is there
@@ -70,7 +72,12 @@ effect_in_hand p = first_effect p.effect p.view.effect
 
 -- the sight of the pass's seat
 abbrev pub sight_of : PassView → SightView
-sight_of p = record { number = p.number; view = p.view }
+sight_of p = record { number = p.number; view = p.view; tally = p.tally }
+
+-- the last refused take is one of these
+abbrev pub RefusalIsListed : Option Refused → List HeldWord → Type 0
+RefusalIsListed None refused = Unit {0}
+RefusalIsListed (Some r) refused = IsOneOf (record { node = r.node; word = r.word }) refused
 
 -- the pass belongs to the table, and what it keeps beside its view is what the view says
 pub record IsPassOf (F : Fixed) (passes : ℕ) (table : TableId) (p : PassView) : Type 0 where
@@ -82,6 +89,7 @@ pub record IsPassOf (F : Fixed) (passes : ℕ) (table : TableId) (p : PassView) 
   pub may_quit : p.quits ≡ true → is_taking p.view.point ≡ true
   pub has_effect : is_resolving p.view.point ≡ true → (e : Effect) → p.effect ≡ Some e → e ≡ effect_loaded F p.view
   pub only_resolving : is_resolving p.view.point ≡ false → p.effect ≡ None
+  pub refusal : RefusalIsListed p.view.refused p.tally.refused
 
 -- what doesn't change of a table, by its action
 abbrev pub fixed_in : {A : Type 0} → (A → Rec → Bool) → (A → Rec → Command → List Bounds)
@@ -106,6 +114,7 @@ pub record IsReady (F : Fixed) (passes : ℕ) (table : TableId) (p : PassView) (
   pub same_table : seat.table_id ≡ p.table
   pub same_number : seat.me.0.number ≡ p.number
   pub same_view : seat.me.0.view ≡ p.view
+  pub same_tally : seat.me.0.tally ≡ p.tally
   pub comes : is_some (next_of_pass F p) ≡ true
   pub index : word ≡ index_of 31 p.view (the_next (next_of_pass F p))
 
@@ -119,15 +128,13 @@ pub record HasGone (F : Fixed) (passes : ℕ) (p : PassView) (found : ℕ) (seat
   pub same_table : seat.table_id ≡ p.table
   pub same_number : seat.me.0.number ≡ p.number
   pub went : seat.me.0.view ≡ view_found F p.view (the_next (next_of_pass F p)) found
+  pub tally : seat.me.0.tally ≡ (pass_after F (the_next (next_of_pass F p)) found p).tally
   pub small : kind_of (the_next (next_of_pass F p)) ≡ Commit → found + 1 < 2 ^ 64
   pub taken : (node slot : ℕ) (part players plan : List ℕ)
       → the_next (next_of_pass F p) ≡ ReadPlayer node part slot players plan → length part ≡ 5
       → F.takes (record_read slot (part ++ found ∷ [])) ≡ true
   pub counted : the_next (next_of_pass F p) ≡ YieldCount → p.view.seen ≤ found
-  pub sound_sight : IsSoundSight F passes (record {
-    number = p.number;
-    view = view_found F p.view (the_next (next_of_pass F p)) found;
-  })
+  pub sound_sight : IsSoundSight F passes (sight_of (pass_after F (the_next (next_of_pass F p)) found p))
   pub carries : seat.me.1 ≡ carried
 
 -- the node that a step gives back
@@ -236,6 +243,7 @@ new_pass table number view = record {
   quits = false;
   effect = None;
   view = view;
+  tally = no_tally;
 }
 
 -- the view of a new seat that has made so many seats

@@ -5,9 +5,9 @@ use Rattle.entity_recs.specs.Commands.{Command}
 use Rattle.core_steps.specs.Views.{Fixed, record_read}
 use Rattle.core_steps.specs.declared.step.StepKind.TheVariants.{Commit}
 use Rattle.core_steps.specs.Machine.{Next, ReadPlayer, YieldCount, index_of, kind_of}
-use Rattle.core_machine.specs.Going.{view_found}
+use Rattle.core_machine.specs.Going.{view_found, word_left}
 use Rattle.core_machine.specs.Sound.{IsSound}
-use Rattle.region_locks.specs.Sights.{SightView}
+use Rattle.region_locks.specs.Sights.{SightView, tally_after}
 use Rattle.region_locks.specs.Going.{view_looked, MayGo}
 use Rattle.region_locks.specs.Holders.{IsFoundHeld, AreReached}
 
@@ -24,6 +24,8 @@ pub record Went (F : Fixed) (passes : ℕ) (next : Next) (before : SightView) (f
   where
     pub number : after.number ≡ before.number
     pub view : after.view ≡ view_found F before.view next found
+    pub tally : after.tally ≡ tally_after next found (word_left F before.number before.view next found)
+        before.tally
     pub sound_sight : IsSoundSight F passes after
     pub small : kind_of next ≡ Commit → found + 1 < 2 ^ 64
     pub taken : (node slot : ℕ) (part players plan : List ℕ) → next ≡ ReadPlayer node part slot players plan
@@ -53,6 +55,7 @@ pub record SeatCounted (F : Fixed) (passes : ℕ) (next : Next) (before : Me (Un
 pub record Looked (F : Fixed) (passes : ℕ) (before : SightView) (found : ℕ) (after : SightView) : Type 0 where
   pub number : after.number ≡ before.number
   pub view : after.view ≡ view_looked found before.view
+  pub tally : after.tally ≡ before.tally
   pub seen : before.view.seen ≤ found
   pub sound_sight : IsSoundSight F passes after
 

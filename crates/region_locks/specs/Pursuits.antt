@@ -22,6 +22,10 @@ use Rattle.region_locks.specs.Turns.{IsBetweenRecords}
 abbrev pub command_pursued : PassView → List Command
 command_pursued p = pursued_of p.given p.quits p.view
 
+-- how many commands the pass was given: those that it began, and the one that isn't begun
+abbrev pub commands_given : PassView → ℕ
+commands_given p = p.tally.begun + (if is_some p.given then 1 else 0)
+
 -- the item of a command and its entry
 abbrev pub item_of : Command → Entry → Item
 item_of c e = record { command = c; entry = e }
@@ -39,16 +43,18 @@ pub record IsSamePass (old new : PassView) : Type 0 where
   pub seen : new.view.seen ≡ old.view.seen
   pub log : new.view.log ≡ old.view.log
 
--- the same pass with the same command, and no take was refused: neither the count of refused takes nor the last one
--- has changed
+-- the same pass with the same command, and no other was given; no take was refused: neither the count of refused takes
+-- nor the last one has changed, and none is listed more
 pub record IsSameMove (old new : PassView) : Type 0 where
   pub same : IsSamePass old new
   pub command : command_pursued new ≡ command_pursued old
+  pub given : commands_given new ≡ commands_given old
   pub refusals : new.view.refusals ≡ old.view.refusals
   pub refused : new.view.refused ≡ old.view.refused
+  pub listed : new.tally.refused ≡ old.tally.refused
 
 -- the command in hand is committed with this entry: it is the log's last item, its place isn't below the count that was
--- seen, the pass has seen the place plus 1, and no take was refused
+-- seen, the pass has seen the place plus 1, no other command was given, and no take was refused
 pub record HasCommitted (old new : PassView) (e : Entry) : Type 0 where
   pub number : new.number ≡ old.number
   pub room : new.view.room ≡ old.view.room
@@ -58,8 +64,10 @@ pub record HasCommitted (old new : PassView) (e : Entry) : Type 0 where
   pub log : new.view.log ≡ old.view.log ++ item_of cmd e ∷ []
   pub place : old.view.seen ≤ e.place
   pub seen : new.view.seen ≡ e.place + 1
+  pub given : commands_given new ≡ commands_given old
   pub refusals : new.view.refusals ≡ old.view.refusals
   pub refused : new.view.refused ≡ old.view.refused
+  pub listed : new.tally.refused ≡ old.tally.refused
 
 -- the kept refused take, by a pass with this number: another pass with that number held the node, by the word that was
 -- found; the leaves wanted are those of the command by the own record as loaded, and the node is one of them or an
@@ -71,8 +79,8 @@ pub record IsRefusedBy (F : Fixed) (passes own : ℕ) (c : Command) (r : Refused
   pub is_wanted : nat_le 15 r.node ≡ true → has r.wanted r.node ≡ true
   pub is_visited : nat_le 15 r.node ≡ false → has (inner_visited F (region_in F c r.own)) r.node ≡ true
 
--- the take of this node was refused: the same pass with the same command keeps it as its last refused take, and one
--- more is counted
+-- the take of this node was refused: the same pass with the same command keeps it as its last refused take, one more
+-- is counted, and this one is listed
 pub record WasRefused (F : Fixed) (passes : ℕ) (table : TableId) (old new : PassView) (node number leaves : ℕ) : Type 0
   where
     pub going : IsGoingOn F passes table new
@@ -86,18 +94,22 @@ pub record WasRefused (F : Fixed) (passes : ℕ) (table : TableId) (old new : Pa
     pub is_node : r.node ≡ node
     pub cause : IsRefusedBy F passes new.number cmd r number leaves
     pub counted : new.view.refusals ≡ min (old.view.refusals + 1) (2 ^ 64 - 1)
+    pub given : commands_given new ≡ commands_given old
+    pub listed : new.tally.refused ≡ record { node = r.node; word = r.word } ∷ old.tally.refused
 
--- the command in hand was given up: the same number, room, log and refused takes, no smaller count seen, and no command
--- in hand
+-- the command in hand was given up: the same number, room, log and refused takes, no smaller count seen, no command in
+-- hand, and no other was given
 pub record HasGivenUp (old new : PassView) : Type 0 where
   pub number : new.number ≡ old.number
   pub room : new.view.room ≡ old.view.room
   pub log : new.view.log ≡ old.view.log
   pub refused : new.view.refused ≡ old.view.refused
   pub refusals : new.view.refusals ≡ old.view.refusals
+  pub listed : new.tally.refused ≡ old.tally.refused
   pub seen : old.view.seen ≤ new.view.seen
   pub none : new.given ≡ None
   pub idle : new.view.point ≡ Idle
+  pub given : commands_given new ≡ commands_given old
 
 -- ---- how many calls are left
 

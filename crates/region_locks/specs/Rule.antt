@@ -1,5 +1,5 @@
 -- The rule of the table: what holds between any two steps of any threads.
-use Rattle.std.specs.Prelude.{◌≡◌, ℕ, ◌%◌, ◌^◌, ◌<◌, ◌≤◌, true, false, List, length, slice_index, None, All}
+use Rattle.std.specs.Prelude.{◌≡◌, ◌≢◌, ℕ, ◌%◌, ◌^◌, ◌<◌, ◌≤◌, true, false, List, length, slice_index, None, All}
 use mathlib.Core.Option as maybe
 use lib.ListN.{get_elem?}
 use Rattle.atomic_table.specs.Table.{State}
@@ -10,7 +10,7 @@ use Rattle.core_steps.specs.Views.{Fixed, Ended, new_view, stage_of, is_busy}
 use Rattle.core_steps.specs.Steps.{Core}
 use Rattle.core_steps.specs.Stands.{IsLawful, IsStart}
 use Rattle.core_steps.specs.Machine.{Machine, MachineStands}
-use Rattle.region_locks.specs.Sights.{SightView}
+use Rattle.region_locks.specs.Sights.{HeldWord, IsOneOf, no_tally, SightView}
 
 -- the core as a machine of which no seat has a command that isn't begun or is asked to give up
 abbrev pub at_rest : Core → Machine
@@ -45,6 +45,21 @@ pub record HasSomeRooms (rooms : List ℕ) : Type 0 where
   pub some : 0 < length rooms
   pub few : length rooms ≤ 16
 
+-- some seat took this node and wrote this word
+pub record WasTaken (sights : List SightView) (h : HeldWord) : Type 0 where
+  pub seat : ℕ
+  pub sight : SightView
+  pub at : get_elem? sights seat ≡ maybe.some sight
+  pub listed : IsOneOf h sight.tally.served
+
+-- each node that isn't free was taken so by some seat, and so was each at which a take was refused
+pub record AreTakesListed (sights : List SightView) (node_word : ℕ → ℕ) : Type 0 where
+  pub held : (node : ℕ) → node_word node ≢ 0 → WasTaken sights (record { node = node; word = node_word node })
+  pub ended : (k : ℕ) (sight : SightView) → get_elem? sights k ≡ maybe.some sight → sight.view.live ≡ false
+      → sight.tally ≡ no_tally
+  pub refused : (k : ℕ) (sight : SightView) → get_elem? sights k ≡ maybe.some sight → (h : HeldWord)
+      → IsOneOf h sight.tally.refused → WasTaken sights h
+
 -- some core with the words and the seats of the table stands, with some history
 pub record IsRuled (F : Fixed) (rooms : List ℕ) (s : State (Unit {0}) SightView) : Type 0 where
   pub core : Core
@@ -58,7 +73,8 @@ pub record IsRuled (F : Fixed) (rooms : List ℕ) (s : State (Unit {0}) SightVie
   pub seats : HasSeats s.views core
   pub serves : ServesItsSlots (length rooms) core
   pub fits : HasRooms rooms core
+  pub takes : AreTakesListed s.views core.words.node
 
 -- the sight of the first seat, with this room
 abbrev pub first_sight : ℕ → SightView
-first_sight room = record { number = 0; view = record (new_view room) { made = 1 } }
+first_sight room = record { number = 0; view = record (new_view room) { made = 1 }; tally = no_tally }

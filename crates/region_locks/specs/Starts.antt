@@ -5,7 +5,7 @@ use Rattle.arena_geo.specs.Bounds.{Bounds}
 use Rattle.entity_recs.specs.declared.rec.Rec.{Rec}
 use Rattle.entity_recs.specs.declared.effect.Effect.{Effect}
 use Rattle.entity_recs.specs.Commands.{Command}
-use Rattle.entity_recs.specs.Worlds.{World, record_or_nobody, zero_vector, world_of}
+use Rattle.entity_recs.specs.Worlds.{World, zero_vector, world_of}
 use Rattle.world_tree.specs.Live.{live_in}
 use Rattle.world_tree.specs.Worlds.{WorldView}
 use Rattle.core_steps.specs.Cells.{word_at}

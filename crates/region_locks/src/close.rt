@@ -8,7 +8,8 @@ ghost use Rattle.core_steps.specs.Stands.{IsStart};
 ghost use Rattle.region_locks.specs.Starts.{fixed_by};
 ghost use Rattle.region_locks.specs.Going.{IsAtRest};
 ghost use Rattle.region_locks.specs.Passes.{fixed_in, IsPassOf};
-ghost use Rattle.region_locks.specs.Closing.{AreEndedBelow, Closes, HasNoCommand, sight_at_end, log_from, IsClosed};
+ghost use Rattle.region_locks.specs.Sights.{AreRefusalsServed};
+ghost use Rattle.region_locks.specs.Closing.{tally_of_all, AreRefusalsHeld, AreEndedBelow, Closes, HasNoCommand, sight_at_end, log_from, IsClosed};
 
 use crate::key::{Place, Words};
 use crate::pass::Pass;
@@ -69,6 +70,7 @@ fn close_words<A: Action>(table: WordTable<A>, seat: Place) -> [u64; TABLE_WORDS
     requires ended { AreEndedBelow (length table.shared.key.rooms.items) seat.me.0.view }
     ensures closes { let key = table.shared.key in
         Closes (fixed_by A.takes A.region_of A.effect_of key.action.value key.world.value) result seat.me.0.view }
+    ensures refusals { AreRefusalsServed seat.me.0.tally }
     ensures made { seat.me.0.view.made ≡ length table.shared.key.rooms.items }
     ensures start { let key = table.shared.key in
         IsStart (fixed_by A.takes A.region_of A.effect_of key.action.value key.world.value) }
@@ -88,6 +90,8 @@ impl<'a, A: Action> NodeTable<'a, A> {
         requires logs { logs.old ≡ [] }
         ensures closed { let F = fixed_in A.takes A.region_of A.effect_of self.entry in
             IsClosed F (map (λ p. p.view.log) passes.items) world.new }
+        ensures refusals { AreRefusalsServed (tally_of_all passes.items) }
+        ensures held { AreRefusalsHeld passes.items }
         ensures logs { logs.new ≡ map log_from passes.items }
         ensures tree { world.new.tree ≡ world.old.tree }
         ensures linked { IsLinked world.new }

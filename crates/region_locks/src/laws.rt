@@ -1,5 +1,5 @@
 ghost use Rattle.region_locks.specs.Laws.{StartIsRuled, StepsKeepTheRule, LooksKeepTheRule, MadeSeatsKeepTheRule};
-ghost use Rattle.region_locks.specs.Laws.{EndedSeatsKeepTheRule, ClosedTableIsItsRun};
+ghost use Rattle.region_locks.specs.Laws.{EndedSeatsKeepTheRule, RefusedTakesWereServed, ClosedTableIsItsRun};
 
 /// The table at the start, with the words of the world and seat 0, meets the rule.
 pub fn start_is_ruled()
@@ -26,8 +26,15 @@ pub fn ended_seats_keep_the_rule()
     ensures { EndedSeatsKeepTheRule }
 {}
 
-/// Once all other seats are ended into seat 0, the items of all logs are those of a legal history, and the words of
-/// each live record are those of its run.
+/// Between any two steps, each word that a seat found where its take was refused was written by a seat whose take of
+/// that node was served.
+pub fn refused_takes_were_served()
+    ensures { RefusedTakesWereServed }
+{}
+
+/// Once all other seats are ended into seat 0, the items of all logs are those of a legal history, the words of each
+/// live record are those of its run, and each word that was found where a take was refused was written where one was
+/// served.
 pub fn closed_table_is_its_run()
     ensures { ClosedTableIsItsRun }
 {}

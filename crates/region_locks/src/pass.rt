@@ -1,6 +1,7 @@
 ghost use Rattle.std.specs.Prelude.{◌≡◌, false, [], None};
 ghost use Rattle.core_machine.specs.Seats.{view_of};
 ghost use Rattle.region_locks.specs.Passes.{new_pass, sight_of};
+ghost use Rattle.region_locks.specs.Sights.{no_tally};
 ghost use Rattle.region_locks.specs.Closing.{log_from};
 
 use crate::key::Place;
@@ -39,6 +40,7 @@ impl<A> Pass<A> {
     pub(crate) fn resting(place: Place, number: u8, mirror: Seat) -> Pass<A>
         requires number { place.me.0.number ≡ number }
         requires carries { place.me.1 ≡ [] }
+        requires tally { place.me.0.tally ≡ no_tally }
         requires mirrors { view_of mirror ≡ place.me.0.view }
         requires rests { (mirror.given ≡ None) × (mirror.quits ≡ false) }
         ensures { result ≡ new_pass place.table_id number place.me.0.view }

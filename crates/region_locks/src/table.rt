@@ -1,6 +1,7 @@
 ghost use Rattle.std.specs.Prelude.{◌≡◌, ◌-◌, ◌<◌, ◌≤◌, true, [], map, length, slice_index, All, IfOk, OnOk};
 ghost use Rattle.std.specs.List.{range_with_len};
 ghost use Rattle.region_locks.specs.Rule.{first_sight, HasSomeRooms};
+ghost use Rattle.region_locks.specs.Sights.{no_tally};
 ghost use Rattle.world_tree.specs.Live.{live_in};
 ghost use Rattle.region_locks.specs.Passes.{fixed_in, IsPassOf, other_pass, new_passes, view_with_made};
 
@@ -63,7 +64,14 @@ fn make_others<A: Action>(
     ensures passes { IfOk result (λ v. v.items ≡ map (other_pass words.now.table_id room.now)
         (range_with_len 1 (length room.now - 1))) }
     ensures first { OnOk result
-        (first.new.me ≡ (record { number = 0; view = view_with_made (slice_index room.now 0) (length room.now) }, [])) }
+        (first.new.me ≡ (
+          record {
+            number = 0;
+            view = view_with_made (slice_index room.now 0) (length room.now);
+            tally = no_tally;
+          },
+          [],
+        )) }
     ensures table { first.new.table_id ≡ first.old.table_id }
 {
     let mut passes = Vec::with_capacity(alloc, room.len())?;

@@ -1,5 +1,5 @@
 -- A pass that runs a command, call after call, and how it ends.
-use Rattle.std.proofs.Common.{◌≡◌, ℕ, ◌+◌, ◌-◌, ◌^◌, ◌<◌, ◌≤◌, Bool, true, false, if◌then◌else◌, List, [], ◌∷◌, ◌++◌, refl, sym, ap, ◌∙◌, subst, Option, Some, None, is_some, arith}
+use Rattle.std.proofs.Common.{◌≡◌, ℕ, ◌+◌, ◌-◌, ◌^◌, ◌<◌, ◌≤◌, Bool, true, false, if◌then◌else◌, List, [], ◌∷◌, ◌++◌, refl, sym, ap, ◌∙◌, subst, inr, Option, Some, None, is_some, arith}
 use Rattle.std.specs.Prelude.{◌||◌, nat_le, min}
 use Rattle.std.proofs.lemmas.Bool.{false≢true, true≢false, le-leb, cond-false, or_parts}
 use Rattle.atomic_table.specs.Seated.{TableId}
@@ -10,6 +10,7 @@ use Rattle.core_steps.specs.Views.{Fixed, Refused, Point, Idle, Owning, Taking, 
 use Rattle.core_steps.specs.Calls.{is_pursued, pursued_of}
 use Rattle.region_locks.specs.declared.went.Went.{Went}
 use Rattle.region_locks.specs.declared.went.Went.TheVariants.{On, Resolved, Committed}
+use Rattle.region_locks.specs.Sights.{HeldWord, IsOneOf}
 use Rattle.region_locks.specs.Passes.{PassView, IsPassOf}
 use Rattle.region_locks.specs.declared.turn.Turn.{Turn}
 use Rattle.region_locks.specs.Turns.{has_command_in_hand}
@@ -49,6 +50,7 @@ module _ (F : Fixed) (passes : ℕ) (table : TableId) (start : PassView) (c : Co
         going = gone.going;
         number = move.same.number ∙ r.number;
         room = move.same.room ∙ r.room;
+        listed = λ h one. subst (IsOneOf h) (sym move.listed) (r.listed h one);
         uncommitted = λ none. let was = r.uncommitted none in record { command = move.command ∙ was.command; log = move.same.log ∙ was.log; seen = move.same.seen ∙ was.seen };
         done = λ e some. let was = r.done e some in record { done = move.command ∙ was.done; log = move.same.log ∙ was.log; place = was.place; seen = move.same.seen ∙ was.seen };
       }
@@ -70,6 +72,7 @@ module _ (F : Fixed) (passes : ℕ) (table : TableId) (start : PassView) (c : Co
         going = gone.going;
         number = commit.number ∙ r.number;
         room = commit.room ∙ r.room;
+        listed = λ h one. subst (IsOneOf h) (sym commit.listed) (r.listed h one);
         uncommitted = λ none. cc;
         done = λ f some.
             subst (IsDone start c new) (entry_is e f some) (record {
@@ -92,6 +95,7 @@ module _ (F : Fixed) (passes : ℕ) (table : TableId) (start : PassView) (c : Co
         going = refused.going;
         number = refused.same.number ∙ r.number;
         room = refused.same.room ∙ r.room;
+        listed = λ h one. subst (IsOneOf h) (sym refused.listed) (inr (r.listed h one));
         uncommitted = λ _. record { command = refused.still ∙ ap (λ (d : Command). d ∷ []) same; log = refused.same.log ∙ was.log; seen = refused.same.seen ∙ was.seen };
         done = λ e some. has_one (command_pursued old) refused.cmd refused.command (r.done e some).done;
       }
@@ -132,11 +136,11 @@ pub none_refused : (F : Fixed) (passes : ℕ) (table : TableId) (old new : PassV
 none_refused F passes table old new went gone = by_entry (entry_committed went) refl
   where
     by_entry : (o : Option Entry) → entry_committed went ≡ o → NoTakeWasRefused old new
-    by_entry None is = let move = gone.same is in record { refusals = move.refusals; refused = move.refused }
-    by_entry (Some e) is = let commit = gone.committed e is in record { refusals = commit.refusals; refused = commit.refused }
+    by_entry None is = let move = gone.same is in record { refusals = move.refusals; refused = move.refused; listed = move.listed }
+    by_entry (Some e) is = let commit = gone.committed e is in record { refusals = commit.refusals; refused = commit.refused; listed = commit.listed }
 
 pub none_refused_since : (start old new : PassView) → NoTakeWasRefused start old → NoTakeWasRefused old new → NoTakeWasRefused start new
-none_refused_since start old new before now = record { refusals = now.refusals ∙ before.refusals; refused = now.refused ∙ before.refused }
+none_refused_since start old new before now = record { refusals = now.refusals ∙ before.refusals; refused = now.refused ∙ before.refused; listed = now.listed ∙ before.listed }
 
 -- a call leaves the pass its number
 pub keeps_number : (F : Fixed) (passes : ℕ) (table : TableId) (old new : PassView) (went : Went) → HasGoneOn F passes table old new went → new.number ≡ old.number
@@ -174,6 +178,7 @@ module _ (F : Fixed) (passes : ℕ) (table : TableId) (start : PassView) (c : Co
         log = was.log;
         place = was.place;
         seen = was.seen;
+        listed = r.listed;
       }
 
 -- the leaf was held
@@ -206,6 +211,7 @@ was_not_run F passes table start c old mid new o node number leaves a r before r
       counted = gave.refusals ∙ refused.counted ∙ ap (λ (n : ℕ). min (n + 1) (2 ^ 64 - 1)) before.refusals;
       r = refused.r;
       kept = gave.refused ∙ refused.kept;
+      listed = gave.listed ∙ refused.listed ∙ ap (λ (hs : List HeldWord). (record { node = refused.r.node; word = refused.r.word }) ∷ hs) before.listed;
       cause = subst (λ (n : ℕ). IsCause F passes n c refused.r a) mine (subst (λ (d : Command). IsCause F passes mid.number d refused.r a) same (cause F passes mid.number refused.cmd refused.r refused.is_node refused.cause));
     }
 

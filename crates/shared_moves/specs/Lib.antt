@@ -1,4 +1,5 @@
 -- Moves on threads.
+pub use Rattle.region_locks.specs.Sights
 pub use Rattle.region_locks.specs.Passes
 pub use Rattle.region_locks.specs.Holders
 pub use Rattle.region_locks.specs.Quitting

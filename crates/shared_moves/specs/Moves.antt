@@ -5,6 +5,7 @@ use Rattle.entity_recs.specs.declared.effect.Entry.{Entry}
 use Rattle.entity_recs.specs.Commands.{Command}
 use Rattle.areanode.specs.Words.{has_bit}
 use Rattle.core_steps.specs.Views.{Fixed, Refused, has, leaf_nodes, inner_visited, region_in}
+use Rattle.region_locks.specs.Sights.{HeldWord, IsOneOf}
 use Rattle.region_locks.specs.Passes.{PassView, IsPassOf, IsHolderIn}
 use Rattle.region_locks.specs.Holders.{IsOtherHolder}
 use Rattle.region_locks.specs.Closing.{HasNoCommand}
@@ -12,8 +13,13 @@ use Rattle.region_locks.specs.Pursuits.{IsGoingOn, command_pursued, item_of}
 use Rattle.shared_moves.specs.declared.again.Again.{Again}
 use Rattle.shared_moves.specs.declared.again.Again.TheVariants.{Held, Busy}
 
+-- what is listed in the first is listed in the second
+abbrev pub AreListedStill : List HeldWord → List HeldWord → Type 0
+AreListedStill old new = (h : HeldWord) → IsOneOf h old → IsOneOf h new
+
 -- the command was run with this entry: the pass's log is the old one and the command with its entry; the entry's place
--- isn't below the count that the pass had seen, and it has now seen the place plus 1; it has no command in hand
+-- isn't below the count that the pass had seen, and it has now seen the place plus 1; it has no command in hand, and the
+-- refused takes that were listed are listed still
 pub record HasRun (F : Fixed) (passes : ℕ) (table : TableId) (old new : PassView) (c : Command) (e : Entry) : Type 0
   where
     pub own : IsPassOf F passes table new
@@ -23,11 +29,13 @@ pub record HasRun (F : Fixed) (passes : ℕ) (table : TableId) (old new : PassVi
     pub log : new.view.log ≡ old.view.log ++ item_of c e ∷ []
     pub place : old.view.seen ≤ e.place
     pub seen : new.view.seen ≡ e.place + 1
+    pub listed : AreListedStill old.tally.refused new.tally.refused
 
--- no take was refused: neither the pass's count of refused takes nor its last one has changed
+-- no take was refused: neither the pass's count of refused takes nor its last one has changed, and none is listed more
 pub record NoTakeWasRefused (old new : PassView) : Type 0 where
   pub refusals : new.view.refusals ≡ old.view.refusals
   pub refused : new.view.refused ≡ old.view.refused
+  pub listed : new.tally.refused ≡ old.tally.refused
 
 -- the refused take was of a leaf that the command wants, by the own record as loaded, and its word names the holder,
 -- which isn't this pass, with its leaves, which have that leaf
@@ -55,7 +63,8 @@ IsCause F passes own c r (Held leaf holder leaves) = IsLeafHeld F passes own c r
 IsCause F passes own c r (Busy node holder) = IsNodeBusy F passes own c r node holder
 
 -- the command wasn't run, for this cause, which the pass keeps as its last refused take: nothing is committed, the pass
--- holds no node and has no command in hand, and it hasn't seen a smaller count than before; one take was refused
+-- holds no node and has no command in hand, and it hasn't seen a smaller count than before; one take was refused, and it
+-- is listed
 pub record WasNotRun (F : Fixed) (passes : ℕ) (table : TableId) (old new : PassView) (c : Command) (a : Again) : Type 0
   where
     pub own : IsPassOf F passes table new
@@ -67,6 +76,7 @@ pub record WasNotRun (F : Fixed) (passes : ℕ) (table : TableId) (old new : Pas
     pub counted : new.view.refusals ≡ min (old.view.refusals + 1) (2 ^ 64 - 1)
     pub r : Refused
     pub kept : new.view.refused ≡ Some r
+    pub listed : new.tally.refused ≡ record { node = r.node; word = r.word } ∷ old.tally.refused
     pub cause : IsCause F passes new.number c r a
 
 -- ---- while a move is run
@@ -90,5 +100,6 @@ pub record IsRunning (F : Fixed) (passes : ℕ) (table : TableId) (start : PassV
   pub going : IsGoingOn F passes table now
   pub number : now.number ≡ start.number
   pub room : now.view.room ≡ start.view.room
+  pub listed : AreListedStill start.tally.refused now.tally.refused
   pub uncommitted : o ≡ None → IsOpen start c now
   pub done : (e : Entry) → o ≡ Some e → IsDone start c now e

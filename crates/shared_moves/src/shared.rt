@@ -3,7 +3,8 @@ ghost use Rattle.std.specs.List.{range_with_len};
 ghost use Rattle.world_tree.specs.Live.{live_in};
 ghost use Rattle.world_tree.specs.Worlds.{IsLinked};
 ghost use Rattle.region_locks.specs.Passes.{fixed_in, IsPassOf, new_passes};
-ghost use Rattle.region_locks.specs.Closing.{HasNoCommand, log_from, IsClosed};
+ghost use Rattle.region_locks.specs.Sights.{AreRefusalsServed};
+ghost use Rattle.region_locks.specs.Closing.{tally_of_all, AreRefusalsHeld, HasNoCommand, log_from, IsClosed};
 
 use entity_recs::Action;
 use move_journal::LogList;
@@ -58,6 +59,8 @@ impl<'a, A: Action> Shared<'a, A> {
         requires logs { logs.old ≡ [] }
         ensures closed { let F = fixed_in A.takes A.region_of A.effect_of self.entry in
             IsClosed F (map (λ p. p.view.log) passes.items) world.new }
+        ensures refusals { AreRefusalsServed (tally_of_all passes.items) }
+        ensures held { AreRefusalsHeld passes.items }
         ensures logs { logs.new ≡ map log_from passes.items }
         ensures tree { world.new.tree ≡ world.old.tree }
         ensures linked { IsLinked world.new }

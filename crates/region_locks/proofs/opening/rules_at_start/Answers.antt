@@ -1,6 +1,4 @@
-use Rattle.std.proofs.Common.{refl, subst, sym, List}
-use Rattle.entity_recs.specs.declared.rec.Rec.{Rec}
-use Rattle.core_machine.specs.Shown.{fixed_of}
+use Rattle.std.proofs.Common.{refl}
 use Rattle.region_locks.specs.Starts.{fixed_by}
 use Rattle.region_locks.proofs.Openings.{world_starts}
 use Rattle.region_locks.proofs.opening.rules_at_start.Goals as goal

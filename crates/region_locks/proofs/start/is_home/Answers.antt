@@ -1,4 +1,4 @@
-use Rattle.std.proofs.Common.{sym, ◌∙◌, ap, ℕ, Some}
+use Rattle.std.proofs.Common.{sym, ◌∙◌}
 use Rattle.region_locks.proofs.Worlds.{is_found, is_missing}
 use Rattle.region_locks.proofs.start.is_home.Goals as goal
 

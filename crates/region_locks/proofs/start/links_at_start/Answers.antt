@@ -1,4 +1,4 @@
-use Rattle.std.proofs.Common.{arith, sym, ◌∙◌, ap, subst, ℕ, Bool, ◌<◌, ◌^◌, ◌+◌, ◌&&◌, ◌==◌, if◌then◌else◌}
+use Rattle.std.proofs.Common.{sym, ◌∙◌, ap, subst, ℕ, Bool, ◌<◌, ◌^◌, ◌+◌, ◌&&◌, ◌==◌, if◌then◌else◌}
 use Rattle.areanode.proofs.Words.{word_of-below}
 use Rattle.core_steps.specs.Views.{home}
 use Rattle.core_steps.specs.Stands.{is_player}

@@ -2,7 +2,7 @@ use Rattle.std.proofs.Common.{◌≡◌, ℕ, suc, ◌+◌, ◌-◌, List, [], �
 use Rattle.std.specs.List.{range_with_len}
 use Rattle.atomic_table.specs.Table.{Me}
 use Rattle.atomic_table.specs.Seated.{TableId}
-use Rattle.region_locks.specs.Sights.{SightView, with_one_made}
+use Rattle.region_locks.specs.Sights.{SightView, no_tally, with_one_made}
 use Rattle.region_locks.specs.Passes.{PassView, new_pass, other_pass, view_with_made}
 use Rattle.region_locks.proofs.NewPasses.{others_more}
 use Rattle.region_locks.proofs.table.make_others.Goals as goal
@@ -23,7 +23,7 @@ loop-i-preserved g c =
           ∙ sym (others_more table c.args.room.now c.loop-i.i inv.3),
       seat.seat
           ∙ ap (λ (me : Me (Unit {0}) SightView). (with_one_made me.0, me.1)) inv.1
-          ∙ ap (λ (n : ℕ). (record { number = 0; view = view_with_made (slice_index c.args.room.now 0) n }, [])) more,
+          ∙ ap (λ (n : ℕ). (record { number = 0; view = view_with_made (slice_index c.args.room.now 0) n; tally = no_tally }, [])) more,
       seat.table.0 ∙ inv.2,
       omega (arith, inv.3),
     )

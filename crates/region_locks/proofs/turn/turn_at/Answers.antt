@@ -1,4 +1,4 @@
-use Rattle.std.proofs.Common.{◌≡◌, ap, map, ◌∙◌, sym}
+use Rattle.std.proofs.Common.{ap, map, sym}
 use Rattle.core_steps.specs.Views as views
 use Rattle.core_machine.specs.Points.{point_of, store_of}
 use Rattle.core_machine.specs.Seats.{view_of, given_of}

@@ -4,6 +4,7 @@ use Rattle.core_steps.specs.Stands.{IsStart}
 use Rattle.region_locks.specs.Starts.{world_at_start, fixed_by}
 use Rattle.region_locks.specs.Closing.{Closes}
 use Rattle.region_locks.proofs.EndedLogs.{left_here, passes_count, is_closed}
+use Rattle.region_locks.proofs.EndedPasses.{takes_at_close, refusals_held}
 use Rattle.region_locks.proofs.RunWorlds.{entry_in_place, world_now}
 use Rattle.region_locks.proofs.table.NodeTable.close.Goals as goal
 
@@ -54,3 +55,10 @@ returns-clause-closed g c =
     let made = c.close_words-words.ensures.made in
     is_closed G c.close_words-words.result passes c.end_all-seat.result.me.0 left closes (omega (arith, made, rooms, count)) c.relink_all.new.world
     (world_now G c.close_words-words.result closes.now c.args.world.now (ap world_at_start (sym c.requires.world)) start closes.ids closes.entry closes.read c.relink_all.new.world c.relink_all.ensures.records)
+
+pub returns-clause-refusals : goal.returns-clause-refusals
+returns-clause-refusals g c = takes_at_close c.args.passes.items c.end_all-seat.result.me c.end_all-seat.ensures.seat c.close_words-words.ensures.refusals
+
+pub returns-clause-held : goal.returns-clause-held
+returns-clause-held g c =
+    refusals_held _ _ _ c.args.passes.items c.requires.own (takes_at_close c.args.passes.items c.end_all-seat.result.me c.end_all-seat.ensures.seat c.close_words-words.ensures.refusals)

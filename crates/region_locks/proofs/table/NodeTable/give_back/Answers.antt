@@ -1,6 +1,5 @@
 use Rattle.std.proofs.Common.{sym, ◌∙◌, length}
-use Rattle.region_locks.specs.Passes.{fixed_in, next_of_pass}
-use Rattle.core_machine.specs.Nexts.{the_next}
+use Rattle.region_locks.specs.Passes.{fixed_in}
 use Rattle.region_locks.proofs.Gives.{gives_next, given_there}
 use Rattle.region_locks.proofs.table.NodeTable.give_back.Goals as goal
 

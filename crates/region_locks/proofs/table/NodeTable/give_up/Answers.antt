@@ -5,7 +5,7 @@ use Rattle.region_locks.proofs.table.NodeTable.give_up.Goals as goal
 
 pub loop-node-init : goal.loop-node-init
 loop-node-init g c =
-    begins_giving (fixed_in g.A.Action.takes g.A.Action.region_of g.A.Action.effect_of c.args.self.now) (length c.args.self.now.rooms) c.args.self.now.table c.args.pass.now c.quit.new.pass c.quit.ensures.own c.quit.ensures.pass
+    begins_giving (fixed_in g.A.Action.takes g.A.Action.region_of g.A.Action.effect_of c.args.self.now) (length c.args.self.now.rooms) c.args.self.now.table c.args.pass.now c.quit.new.pass c.requires.own c.requires.at_take c.quit.ensures.own c.quit.ensures.pass
 
 pub give_back-requires-clause-next : goal.give_back-requires-clause-next
 give_back-requires-clause-next g c κs within =

@@ -1,6 +1,5 @@
 use Rattle.std.proofs.Common.{sym, ap, ◌∙◌, ◌+◌, length, ℕ}
-use Rattle.region_locks.specs.Passes.{fixed_in, next_of_pass}
-use Rattle.core_machine.specs.Nexts.{the_next}
+use Rattle.region_locks.specs.Passes.{fixed_in}
 use Rattle.region_locks.proofs.Gives.{states_next, state_there}
 use Rattle.region_locks.proofs.table.NodeTable.load_state.Goals as goal
 

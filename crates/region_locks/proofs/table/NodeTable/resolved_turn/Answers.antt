@@ -1,4 +1,4 @@
-use Rattle.std.proofs.Common.{◌≡◌, ap, ◌∙◌, refl, length}
+use Rattle.std.proofs.Common.{ap, ◌∙◌, refl, length}
 use Rattle.core_steps.specs.Views as views
 use Rattle.core_machine.specs.Seats.{view_of}
 use Rattle.core_machine.specs.Shown.{fixed_of}

@@ -1,4 +1,4 @@
-use Rattle.std.proofs.Common.{sym, ap, subst, ◌∙◌, ◌+◌, ◌<◌, ◌==◌, length, ℕ, if◌then◌else◌, All}
+use Rattle.std.proofs.Common.{sym, ap, subst, ◌∙◌, ◌<◌, ◌==◌, length, ℕ, if◌then◌else◌, All}
 use Rattle.core_machine.specs.Shown.{fixed_of}
 use Rattle.region_locks.specs.Hands.{pass_view}
 use Rattle.region_locks.specs.Passes.{PassView, fixed_in}

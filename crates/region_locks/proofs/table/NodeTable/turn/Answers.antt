@@ -1,5 +1,4 @@
-use Rattle.std.proofs.Common.{◌≡◌, ap, ◌∙◌, sym, length, true, Option, is_some}
-use Rattle.core_machine.specs.Ready.{is_resolving}
+use Rattle.std.proofs.Common.{ap, ◌∙◌, sym, length, Option, is_some}
 use Rattle.region_locks.specs.declared.turn.Turn.{Turn}
 use Rattle.region_locks.specs.Passes.{PassView, fixed_in}
 use Rattle.region_locks.proofs.Turns.{resolving_is, turn_found, turn_exists}
