@@ -13,3 +13,4 @@ pub mod Slows
 pub mod Farther
 pub mod Standings
 pub mod Climbing
+pub mod FreeMoves

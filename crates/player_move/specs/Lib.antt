@@ -10,3 +10,4 @@ pub mod Ranges
 pub mod Walks
 pub mod Moves
 pub mod Laws
+pub mod FreeMoves

@@ -1,6 +1,8 @@
 ghost use Rattle.player_move.specs.Laws.{LimitsAreKnown, MoveEndsFree, MoveGoesNoLessFar, MoveReach};
 ghost use Rattle.player_move.specs.Laws.{MoveLooksWithin, MoveStaysInside, MoveStaysSlow, StairsAreTaken};
 ghost use Rattle.player_move.specs.Laws.{GroundIsTested, OnGroundIsStanding, StairsGoUpAndDown};
+ghost use Rattle.player_move.specs.FreeMoves.{FreeMovesGoByTheRules, FreePlayersFall, FreePlayersJump};
+ghost use Rattle.player_move.specs.FreeMoves.{FreePlayersSlowDown};
 
 /// The farthest from 0 that a move ends on an axis is 1,074,176, and a stair is 4,608 high, in sub-units.
 pub fn limits_are_known()
@@ -62,4 +64,28 @@ pub fn move_stays_inside()
 /// After a move no part of the velocity is more than 512,000 sub-units a second from 0.
 pub fn move_stays_slow()
     ensures { MoveStaysSlow }
+{}
+
+/// A move of which the whole way is free goes on each axis by velocity * time / 1000, cut toward 0, at the velocity that
+/// the rules of speed give, which it keeps.
+pub fn free_moves_go_by_the_rules()
+    ensures { FreeMovesGoByTheRules }
+{}
+
+/// A player in the air that wishes nothing, and whose way is free, keeps its velocity on x and y, and falls: 204,800 *
+/// time / 1000 is taken from z, down to -512,000.
+pub fn free_players_fall()
+    ensures { FreePlayersFall }
+{}
+
+/// A player on the ground that jumps and wishes nothing, and whose way is free, keeps its velocity on x and y, and 69,120
+/// is added to z, less that fall, up to 512,000.
+pub fn free_players_jump()
+    ensures { FreePlayersJump }
+{}
+
+/// A player on the ground that neither jumps nor wishes anything, and whose way is free, goes on at what friction leaves
+/// of its velocity.
+pub fn free_players_slow_down()
+    ensures { FreePlayersSlowDown }
 {}
