@@ -9,6 +9,7 @@ pub mod ReadBack
 pub mod Reporting
 pub mod Growing
 pub mod Saying
+pub mod Digits
 pub mod EachLine
 pub mod Agreement
 pub mod FrameEvents

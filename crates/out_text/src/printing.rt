@@ -1,6 +1,6 @@
-ghost use Rattle.std.specs.Prelude.{◌≡◌, ◌+◌, ◌*◌, ◌≤◌, [], ◌++◌, codes, decimal, length};
+ghost use Rattle.std.specs.Prelude.{◌≡◌, ◌+◌, ◌*◌, ◌/◌, ◌%◌, ◌<◌, ◌≤◌, [], ◌++◌, codes, decimal, length, slice_index, take};
 ghost use Rattle.std.specs.Fmt.{signed_decimal};
-ghost use Rattle.hex.specs.Hex.{encode_lower};
+ghost use Rattle.hex.specs.Hex.{encode_lower, lower_digits};
 ghost use Rattle.out_text.specs.OutLines as lines;
 ghost use Rattle.out_text.specs.OutLines.{FrameLine, NoLine, JoinedLine, DidLine, ToLine, EndLine};
 ghost use Rattle.out_text.specs.Ranges.{HasRoom};
@@ -12,10 +12,6 @@ use arena_geo::Vec3;
 use client_ports::Refusal;
 use edge_io::{LineBuf, ROOM};
 use itoa::Buffer;
-use snapshot_write::REPLY_ROOM;
-
-/// How many digits the longest snapshot takes.
-pub const MOST_DIGITS: usize = 2 * REPLY_ROOM;
 
 /// Puts a number last.
 fn push_number(out: &mut LineBuf, n: u32)
@@ -65,17 +61,74 @@ fn push_ids(out: &mut LineBuf, ids: &[u16])
     }
 }
 
-/// Puts the digits of a snapshot last.
-fn push_digits(out: &mut LineBuf, bytes: &[u8])
-    requires some { length bytes.now ≤ 4123 }
-    requires room { length out.old + 8246 ≤ ROOM }
+/// The digit of a number below 16.
+fn digit(n: u8) -> u8
+    requires { n < 16 }
+    ensures { result ≡ slice_index lower_digits n }
+{
+    if n < 10 { b'0' + n } else { b'a' + (n - 10) }
+}
+
+/// The first digit of a byte.
+fn high(b: u8) -> u8
+    ensures { result ≡ slice_index lower_digits (b / 16) }
+{
+    digit(b / 16)
+}
+
+/// The second digit of a byte.
+fn low(b: u8) -> u8
+    ensures { result ≡ slice_index lower_digits (b % 16) }
+{
+    digit(b % 16)
+}
+
+/// The digits of the first eight bytes.
+fn digits_of(bytes: &[u8]) -> [u8; 16]
+    requires { 8 ≤ length bytes.now }
+    ensures { result ≡ encode_lower (take 8 bytes.now) }
+{
+    [
+        high(bytes[0]),
+        low(bytes[0]),
+        high(bytes[1]),
+        low(bytes[1]),
+        high(bytes[2]),
+        low(bytes[2]),
+        high(bytes[3]),
+        low(bytes[3]),
+        high(bytes[4]),
+        low(bytes[4]),
+        high(bytes[5]),
+        low(bytes[5]),
+        high(bytes[6]),
+        low(bytes[6]),
+        high(bytes[7]),
+        low(bytes[7]),
+    ]
+}
+
+/// Puts the digits of a few bytes last, one byte after another.
+fn push_each(out: &mut LineBuf, bytes: &[u8])
+    requires { length out.old + 2 * length bytes.now ≤ ROOM }
     ensures { out.new ≡ out.old ++ encode_lower bytes.now }
 {
-    let mut room = [0u8; MOST_DIGITS];
-    let digits = &mut room[..2 * bytes.len()];
-    // There are two digits for each byte, so this cannot fail.
-    let _ = hex::encode_to_slice(bytes, digits);
-    out.extend(digits);
+    for b in bytes {
+        out.extend(&[high(*b), low(*b)]);
+    }
+}
+
+/// Puts the digits of a snapshot last, those of eight bytes at a time.
+fn push_digits(out: &mut LineBuf, bytes: &[u8])
+    requires { length out.old + 2 * length bytes.now ≤ ROOM }
+    ensures { out.new ≡ out.old ++ encode_lower bytes.now }
+{
+    let mut rest = bytes;
+    while rest.len() >= 8 {
+        out.extend(&digits_of(rest));
+        rest = &rest[8..];
+    }
+    push_each(out, rest);
 }
 
 /// Prints the line that opens a frame.

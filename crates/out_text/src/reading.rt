@@ -11,13 +11,15 @@ ghost use Rattle.out_text.specs.Printing.{line_of};
 use crate::names::refusal_name;
 use crate::number::{MOST, coordinate_at, natural, number_at};
 use crate::out_line::OutLine;
-use crate::printing::MOST_DIGITS;
 use arena_geo::Vec3;
 use client_ports::Refusal;
 use edge_io::{cut, field_at};
 use entity_recs::IdList;
 use packet_read::PacketFault;
 use snapshot_write::{REPLY_ROOM, ReplyBuf};
+
+/// How many digits the longest snapshot takes.
+const MOST_DIGITS: usize = 2 * REPLY_ROOM;
 
 /// The refusals, each once.
 const REFUSALS: [Refusal; 14] = [
