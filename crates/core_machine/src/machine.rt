@@ -195,6 +195,7 @@ impl<'a, A: Action> Core<'a, A> {
         ensures { let F = fixed_of A.takes A.region_of A.effect_of self.now.rules in
             StandsSomehow F (machine_of F self.now) }
     {
+        // To read a part of the core is to know what its type keeps.
         let _seats = &self.seats;
     }
 
@@ -205,6 +206,7 @@ impl<'a, A: Action> Core<'a, A> {
             → has_command (machine_of F self.now) seat ≡ true
             → SomeGoesOn F (machine_of F self.now) }
     {
+        // To read a part of the core is to know what its type keeps.
         let _seats = &self.seats;
     }
 }

@@ -78,6 +78,7 @@ impl<'a, A: Action> Rules<'a, A> {
     pub fn is_ruled(&self)
         ensures { IsRuled (fixed_of A.takes A.region_of A.effect_of self.now) }
     {
+        // To read a part of the rules is to know what their type keeps.
         let _start = &self.start;
     }
 
@@ -85,6 +86,7 @@ impl<'a, A: Action> Rules<'a, A> {
     pub fn is_lawful(&self)
         ensures { IsLawful (fixed_of A.takes A.region_of A.effect_of self.now) }
     {
+        // To read a part of the rules is to know what their type keeps.
         let _action = &self.action;
     }
 
@@ -99,6 +101,7 @@ impl<'a, A: Action> Rules<'a, A> {
     pub fn is_leaf(&self, node: u8) -> bool
         ensures { result ≡ is_leaf (fixed_of A.takes A.region_of A.effect_of self.now) node }
     {
+        // To read a part of the rules is to know what their type keeps.
         let _tree = &self.tree;
         usize::from(node) >= FIRST_LEAF
     }
@@ -141,6 +144,7 @@ impl<'a, A: Action> Rules<'a, A> {
     pub fn inner_of_two(&self, a: u8, b: u8) -> NodeList
         ensures { result.items ≡ inner_of_two (fixed_of A.takes A.region_of A.effect_of self.now) a b }
     {
+        // To read a part of the rules is to know what their type keeps.
         let _tree = &self.tree;
         inner_among(a, b)
     }
@@ -185,6 +189,7 @@ impl<'a, A: Action> Rules<'a, A> {
             if is_leaf F node then leaf_word F wanted.now else (if writing then 1 else 0)) }
         ensures small { result < 2 ^ 21 }
     {
+        // To read a part of the rules is to know what their type keeps.
         let _tree = &self.tree;
         if self.is_leaf(node) {
             leaf_word(wanted)

@@ -19,6 +19,7 @@ pub(crate) fn look_at_all(world: &World)
     ensures small { HaveSmallNumbers world.now.records }
     ensures linked { IsLinked world.now }
 {
+    // To ask for the tree is to know that the world is linked, and so that it has 256 places.
     let _linked = world.tree();
     for id in 0..IDS as u16 {
         let _read = read(world, id);

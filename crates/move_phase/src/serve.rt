@@ -34,6 +34,7 @@ fn serve<R: Wait, A: Action, G: Gate>(
         (served_by (length shared.now.rooms) pass.old.number (command_of cmd ∷ [])) }
 {
     if cmd.slot % workers == pass.number() {
+        // The entry is the last item of the log of the pass.
         let _in_its_log = shared.run(rt, pass, cmd, gate);
     }
 }

@@ -94,6 +94,7 @@ fn copied(ids: &IdList) -> IdList
 {
     let mut copy = IdList::new();
     for id in ids.as_slice() {
+        // The copy has as much room as the list itself.
         let _fits = copy.push(*id);
     }
     copy

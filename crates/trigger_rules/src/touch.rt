@@ -67,6 +67,7 @@ fn touch_item(
         return;
     }
     if let Some(state) = take_item(me, item, delay, frame) {
+        // Both lists are of one length, which is below the greatest.
         let _has_room = out.push(NewState { id: item.id, state });
         let _has_room = got.push(item.id);
     }

@@ -32,6 +32,7 @@ fn meets_others(world: &World, step: &LiftStep, body: &Aabb) -> bool
     requires { IsStep step.now }
     ensures { result ≡ list_any (is_in_the_way step.now body.now) (live_in world.now.records) }
 {
+    // To ask for the tree is to know that the world is linked, and so that it has 256 places.
     let _linked = world.tree();
     for id in 0..IDS as u16 {
         if is_met(step, world.get(id), body) {
@@ -70,6 +71,7 @@ pub fn is_stopped(map: &ArenaMap, world: &World, step: &LiftStep) -> bool
     requires { IsStep step.now }
     ensures { result ≡ steps.is_stopped map.now step.now world.now.records }
 {
+    // To ask for the tree is to know that the world is linked, and so that it has 256 places.
     let _linked = world.tree();
     for slot in 0..SLOTS {
         if presses(map, world, step, world.get(slot)) {

@@ -51,6 +51,7 @@ pub fn return_items(world: &mut World, frame: u32)
     ensures tree { world.new.tree ≡ world.old.tree }
     ensures still { world.new.records ≡ world.old.records → world.new ≡ world.old }
 {
+    // To ask for the tree is to know that the world is linked, and so that it has 256 places.
     let _linked = world.tree();
     for id in 0..IDS as u16 {
         return_item(world, id, frame);

@@ -22,6 +22,7 @@ fn move_lift(map: &ArenaMap, world: &mut World, id: u16, lift: &Lift)
     ensures valid { IsValidWorld map.now world.new.records }
     ensures still { world.new.records ≡ world.old.records → world.new ≡ world.old }
 {
+    // To ask for the bounds is to know that the map keeps its rules.
     let _rules = map.bounds();
     let r = world.get(id).unwrap();
     let step = LiftStep::of(lift, &r);
@@ -61,6 +62,7 @@ pub fn tick(map: &ArenaMap, world: &mut World, frame: u32)
     ensures valid { IsValidWorld map.now world.new.records }
     ensures still { world.new.records ≡ world.old.records → world.new ≡ world.old }
 {
+    // To ask for the bounds is to know that the map keeps its rules.
     let _rules = map.bounds();
     return_items(world, frame);
     for thing in map.entities() {
