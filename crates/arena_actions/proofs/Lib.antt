@@ -3,3 +3,4 @@ pub mod Keeping
 pub mod Rising
 pub mod Effects
 pub mod Nearness
+pub mod Flags

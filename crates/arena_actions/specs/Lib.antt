@@ -15,3 +15,4 @@ pub mod Takes
 pub mod Worlds
 pub mod Lawful
 pub mod Laws
+pub mod Flags

@@ -3,6 +3,7 @@ ghost use Rattle.arena_actions.specs.Laws.{PlayersStayOnMaps, MovesKeepWhoMoves,
 ghost use Rattle.arena_actions.specs.Laws.{MovesTakeWhatIsThere, NewStatesAreApart, RepliedIdsRise};
 ghost use Rattle.arena_actions.specs.Laws.{RepliesHaveTheOrigin, MovesAreMade, PlayersAreWhereTheyMoved};
 ghost use Rattle.arena_actions.specs.Laws.{TouchingFollowsMoves, RegionsAreNear};
+ghost use Rattle.arena_actions.specs.Flags.{FlagsAreKnown};
 
 /// A player's record stays within its bounds, and its body inside the arena.
 pub fn players_stay_on_maps()
@@ -29,6 +30,12 @@ pub fn players_are_where_they_moved()
 /// what it got.
 pub fn touching_follows_moves()
     ensures { TouchingFollowsMoves }
+{}
+
+/// Bit 0 of a player's flags after its move says that a wall, a block or another solid was under it before the move, bit 1
+/// that it touched a teleporter with a free destination where it moved to; no other bit is set, whatever was set before.
+pub fn flags_are_known()
+    ensures { FlagsAreKnown }
 {}
 
 /// A player whose body overlaps no wall, no block and no body of another solid overlaps none after its move.

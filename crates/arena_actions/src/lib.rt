@@ -3,10 +3,10 @@
 
 pub use arena_action::ArenaAction;
 pub use laws::{
-    moves_are_made, moves_keep_who_moves, moves_take_what_is_there, new_states_are_apart,
-    players_are_where_they_moved, players_stay_free, players_stay_on_maps, regions_are_near,
-    replied_ids_rise, replies_have_the_origin, taken_records_are_valid, touching_follows_moves,
-    valid_records_are_taken,
+    flags_are_known, moves_are_made, moves_keep_who_moves, moves_take_what_is_there,
+    new_states_are_apart, players_are_where_they_moved, players_stay_free, players_stay_on_maps,
+    regions_are_near, replied_ids_rise, replies_have_the_origin, taken_records_are_valid,
+    touching_follows_moves, valid_records_are_taken,
 };
 
 mod arena_action;

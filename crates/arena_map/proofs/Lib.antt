@@ -15,3 +15,4 @@ pub mod FieldForms
 pub mod Causes
 pub mod Opening
 pub mod ThingData
+pub mod LineThings

@@ -19,3 +19,4 @@ pub mod Rules
 pub mod KeptRules
 pub mod Validity
 pub mod Laws
+pub mod LineThings

@@ -1,6 +1,7 @@
 ghost use Rattle.arena_map.specs.Laws.{LinesKeepTheRules, BrokenRulesAreTheFirst, SolidsHaveWalls, MapLinesReadBack};
 ghost use Rattle.arena_map.specs.Laws.{FieldsAreSpaced, DataFollowKinds, LiveRecordsHaveData, OpeningWorldIsValid};
 ghost use Rattle.arena_map.specs.Laws.{LiftsStayInside};
+ghost use Rattle.arena_map.specs.LineThings.{LinesGiveTheirThings};
 
 /// A map that lines begin and lengthen without breaking a rule keeps all of them, and lines that give a map which keeps
 /// them break none.
@@ -46,4 +47,11 @@ pub fn opening_world_is_valid()
 /// A lift between its lowest place and its highest is within the bounds of records and inside the arena.
 pub fn lifts_stay_inside()
     ensures { LiftsStayInside }
+{}
+
+/// Each line of an item, a teleporter, a goal or a lift gives a thing of its kind in its box, at rest, with nothing and in
+/// state 0, with the ids from 64 in the order of the lines; and its id has the delay, the destination or the lift's
+/// lowest place, rise and speed that the line says, and no other data. No other id has data.
+pub fn lines_give_their_things()
+    ensures { LinesGiveTheirThings }
 {}

@@ -1,5 +1,6 @@
 pub mod Slots
 pub mod Live
+pub mod Newcomers
 pub mod Valid
 pub mod Arrivals
 pub mod Rooms

@@ -24,4 +24,5 @@ pub mod Finishing
 pub mod Linking
 pub mod Reasons
 pub mod Laws
+pub mod Newcomers
 pub mod Frames

@@ -23,6 +23,7 @@ ghost use Rattle.client_ports.specs.Frames.{
   OpeningIsClear,
   BodiesStayClear,
 };
+ghost use Rattle.client_ports.specs.Newcomers.{JoinsAddNewcomers};
 
 /// No two live slots share a port.
 pub fn ports_are_apart()
@@ -42,6 +43,13 @@ pub fn nobody_is_added_into_a_solid()
 /// A player that joins is put at a spawn with room, and no spawn before it in line order has room.
 pub fn joins_are_at_the_first_room()
     ensures { JoinsAreAtTheFirstRoom }
+{}
+
+/// A join that gets a place adds a player there, in a slot that was free: at rest, without ammunition, gems and score, with
+/// no command done, no flag set and in state 0; and a client of its port, of which no number was accepted and no move
+/// came. No other record and no other client changes.
+pub fn joins_add_newcomers()
+    ensures { JoinsAddNewcomers }
 {}
 
 /// A move is accepted only where its number is above the last accepted one, which it becomes, and where fewer than 8

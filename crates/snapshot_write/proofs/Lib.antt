@@ -8,3 +8,4 @@ pub mod Fields
 pub mod Again
 pub mod Rules
 pub mod Sights
+pub mod InSight

@@ -15,3 +15,4 @@ pub mod Reading
 pub mod Spelling
 pub mod Shown
 pub mod Laws
+pub mod InSight

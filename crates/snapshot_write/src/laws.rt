@@ -1,4 +1,5 @@
 ghost use Rattle.snapshot_write.specs.Laws as laws;
+ghost use Rattle.snapshot_write.specs.InSight.{ShowWhatIsWithinSight};
 
 /// Bytes break no rule of the format exactly where they spell some snapshot.
 pub fn no_cause_where_spelled()
@@ -23,6 +24,13 @@ pub fn written_snapshots_are_read()
 /// The snapshot of a player shows exactly who is in its sight, and nothing else.
 pub fn snapshots_show_who_is_in_sight()
     ensures { laws.ShowWhoIsInSight }
+{}
+
+/// The snapshot of a player shows exactly the live records whose bodies come within 262,400 sub-units of its origin on x
+/// and y and within 131,328 on z, and the items whose bodies come within 265,984 on x and y and within 131,072 on z. All
+/// are there but the items whose state isn't 0.
+pub fn snapshots_show_what_is_within_sight()
+    ensures { ShowWhatIsWithinSight }
 {}
 
 /// Two players of a world see a third in one place, and each other where they see themselves.

@@ -20,3 +20,4 @@ pub mod Riders
 pub mod Holding
 pub mod Stillness
 pub mod Given
+pub mod Standing

@@ -14,3 +14,4 @@ pub mod Returns
 pub mod LiftSteps
 pub mod Ticks
 pub mod Laws
+pub mod Standing

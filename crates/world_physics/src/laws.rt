@@ -2,6 +2,7 @@ ghost use Rattle.world_physics.specs.Laws.{ValidWorldsStayValid, IdsStay, Player
 ghost use Rattle.world_physics.specs.Laws.{OnlyPlacesAndStatesChange, ItemsReturnAtTheirFrame};
 ghost use Rattle.world_physics.specs.Laws.{LiftsMakeTheirStep, StepsAreWhole, PlayersGoAlong, OnlyPlayersHoldLifts};
 ghost use Rattle.world_physics.specs.Laws.{LiftsStepInTurn};
+ghost use Rattle.world_physics.specs.Standing.{StandingIsKnown};
 
 /// A valid world of a map that keeps its rules is valid after a tick.
 pub fn worlds_stay_valid()
@@ -59,4 +60,11 @@ pub fn only_players_hold_lifts()
 /// along, unless a player that goes with it would have no room: then nothing changes.
 pub fn lifts_step_in_turn()
     ensures { LiftsStepInTurn }
+{}
+
+/// A player that doesn't overlap a lift stands on it exactly where its origin is 6,144 sub-units above the lift's top and
+/// less than 4,096 from the lift's inside on x and y. Any player does exactly where it is there, or as far across but
+/// lower, with more than 1 of its body above the lift's bottom.
+pub fn standing_is_known()
+    ensures { StandingIsKnown }
 {}
