@@ -508,6 +508,8 @@ module _ (F : Fixed) (passes : ℕ) (table : TableId) (p new : PassView) (going 
               command = command_in_view F passes table p going busy ∙ cond-true (is_pursued (stage_of p.view.point)) _ _ of.pursued;
               done = ap (λ (o : Option Command). pursued_of o new.quits new.view) none ∙ ap (λ (b : Bool). pursued_of None b new.view) pursues ∙ ap (λ (v : View). pursued_of None false v) view;
               log = ap (λ (v : View). v.log) view ∙ ap (λ (f : Entry). p.view.log ++ (record { command = p.view.cmd; entry = f }) ∷ []) (sym is_entry);
+              slot = ap (λ (f : Entry). f.slot) is_entry;
+              seq = ap (λ (f : Entry). f.seq) is_entry;
               place = seen;
               seen = ap (λ (v : View). v.seen) view ∙ one_more e.place;
               given = ap commands_given is ∙ ap (λ (n : Next). begun_after n p.tally.begun + 0) of.is ∙ sym (ap (λ (o : Option Command). p.tally.begun + (if is_some o then 1 else 0)) (none_given F passes table p going busy));

@@ -53,8 +53,9 @@ pub record IsSameMove (old new : PassView) : Type 0 where
   pub refused : new.view.refused ≡ old.view.refused
   pub listed : new.tally.refused ≡ old.tally.refused
 
--- the command in hand is committed with this entry: it is the log's last item, its place isn't below the count that was
--- seen, the pass has seen the place plus 1, no other command was given, and no take was refused
+-- the command in hand is committed with this entry, which has its slot and its number: it is the log's last item, its
+-- place isn't below the count that was seen, the pass has seen the place plus 1, no other command was given, and no take
+-- was refused
 pub record HasCommitted (old new : PassView) (e : Entry) : Type 0 where
   pub number : new.number ≡ old.number
   pub room : new.view.room ≡ old.view.room
@@ -62,6 +63,8 @@ pub record HasCommitted (old new : PassView) (e : Entry) : Type 0 where
   pub command : command_pursued old ≡ cmd ∷ []
   pub done : command_pursued new ≡ []
   pub log : new.view.log ≡ old.view.log ++ item_of cmd e ∷ []
+  pub slot : e.slot ≡ cmd.slot
+  pub seq : e.seq ≡ cmd.seq
   pub place : old.view.seen ≤ e.place
   pub seen : new.view.seen ≡ e.place + 1
   pub given : commands_given new ≡ commands_given old
@@ -140,11 +143,11 @@ abbrev pub is_written : Point → Bool
 is_written (Releasing nodes) = is_none nodes
 is_written _ = false
 
--- the pass holds all leaves that its command wants, no inner node, and owes no store
-pub record HoldsLeavesAlone (F : Fixed) (p : PassView) : Type 0 where
+-- the pass holds all leaves that its command wants and no inner node, whatever the tree is, and owes no store
+pub record HoldsLeavesAlone (p : PassView) : Type 0 where
   pub busy : is_busy (stage_of p.view.point) ≡ true
   pub leaves : leaves_held p.view.point p.view.wanted ≡ p.view.wanted
-  pub inner : inner_held F p.view.point ≡ []
+  pub inner : (F : Fixed) → inner_held F p.view.point ≡ []
   pub stores : stores_owed p.view.point ≡ []
 
 -- ---- one call

@@ -1,7 +1,7 @@
 -- A pass that runs a command, call after call, and how it ends.
 use Rattle.std.proofs.Common.{◌≡◌, ℕ, ◌+◌, ◌-◌, ◌^◌, ◌<◌, ◌≤◌, Bool, true, false, if◌then◌else◌, List, [], ◌∷◌, ◌++◌, refl, sym, ap, ◌∙◌, subst, inr, Option, Some, None, is_some, arith}
 use Rattle.std.specs.Prelude.{◌||◌, nat_le, min}
-use Rattle.std.proofs.lemmas.Bool.{false≢true, true≢false, le-leb, cond-false, or_parts}
+use Rattle.std.proofs.lemmas.Bool.{false≢true, true≢false, le-leb, cond-true, cond-false, or_parts}
 use Rattle.atomic_table.specs.Seated.{TableId}
 use Rattle.entity_recs.specs.declared.effect.Entry.{Entry}
 use Rattle.entity_recs.specs.Commands.{Command}
@@ -15,11 +15,11 @@ use Rattle.region_locks.specs.Passes.{PassView, IsPassOf}
 use Rattle.region_locks.specs.declared.turn.Turn.{Turn}
 use Rattle.region_locks.specs.Turns.{has_command_in_hand}
 use Rattle.region_locks.specs.Closing.{HasNoCommand}
-use Rattle.region_locks.specs.Pursuits.{command_pursued, item_of, IsGoingOn, entry_committed, is_resolved, HasGoneOn, HasCommitted, IsSameMove, WasRefused, HasGivenUp, IsRefusedBy, HoldsLeavesAlone}
+use Rattle.region_locks.specs.Pursuits.{command_pursued, commands_given, item_of, IsGoingOn, entry_committed, is_resolved, HasGoneOn, HasCommitted, IsSameMove, WasRefused, HasGivenUp, IsRefusedBy, HoldsLeavesAlone}
 use Rattle.shared_moves.specs.declared.again.Again.{Again}
 use Rattle.shared_moves.specs.declared.point.Point.TheVariants as points
 use Rattle.shared_moves.specs.Moves.{HasRun, NoTakeWasRefused, IsLeafHeld, IsCause, WasNotRun, IsOpen, IsDone, IsRunning}
-use Rattle.shared_moves.specs.Moments.{IsAtPoint}
+use Rattle.shared_moves.specs.Moments.{IsAtPoint, HasLogged, RunsCommand}
 
 -- a list with a command isn't empty
 has_one : {R : Type 0} (xs : List Command) (c : Command) → xs ≡ c ∷ [] → xs ≡ [] → R
@@ -30,14 +30,14 @@ same_one : (xs : List Command) (c d : Command) → xs ≡ c ∷ [] → xs ≡ d 
 same_one xs c d x y = cc
 
 -- where the effect became known, the pass holds its leaves alone
-pub at_computed : (F : Fixed) (passes : ℕ) (table : TableId) (old new : PassView) (went : Went) → went ≡ Resolved → HasGoneOn F passes table old new went → IsAtPoint F new points.Computed
+pub at_computed : (F : Fixed) (passes : ℕ) (table : TableId) (old new : PassView) (went : Went) → went ≡ Resolved → HasGoneOn F passes table old new went → IsAtPoint new points.Computed
 at_computed F passes table old new went is gone =
     let at : new.view.point ≡ Resolving = gone.reading (ap is_resolved is) in record {
       come = gone.known (ap is_resolved is);
       alone = record {
         busy = ap (λ (q : Point). is_busy (stage_of q)) at;
         leaves = ap (λ (q : Point). leaves_held q new.view.wanted) at;
-        inner = ap (inner_held F) at;
+        inner = λ G. ap (inner_held G) at;
         stores = ap stores_owed at;
       };
     }
@@ -50,9 +50,10 @@ module _ (F : Fixed) (passes : ℕ) (table : TableId) (start : PassView) (c : Co
         going = gone.going;
         number = move.same.number ∙ r.number;
         room = move.same.room ∙ r.room;
+        given = move.given ∙ r.given;
         listed = λ h one. subst (IsOneOf h) (sym move.listed) (r.listed h one);
         uncommitted = λ none. let was = r.uncommitted none in record { command = move.command ∙ was.command; log = move.same.log ∙ was.log; seen = move.same.seen ∙ was.seen };
-        done = λ e some. let was = r.done e some in record { done = move.command ∙ was.done; log = move.same.log ∙ was.log; place = was.place; seen = move.same.seen ∙ was.seen };
+        done = λ e some. let was = r.done e some in record { done = move.command ∙ was.done; log = move.same.log ∙ was.log; slot = was.slot; seq = was.seq; place = was.place; seen = move.same.seen ∙ was.seen };
       }
 
   -- a pass with a command that isn't committed
@@ -72,12 +73,15 @@ module _ (F : Fixed) (passes : ℕ) (table : TableId) (start : PassView) (c : Co
         going = gone.going;
         number = commit.number ∙ r.number;
         room = commit.room ∙ r.room;
+        given = commit.given ∙ r.given;
         listed = λ h one. subst (IsOneOf h) (sym commit.listed) (r.listed h one);
         uncommitted = λ none. cc;
         done = λ f some.
             subst (IsDone start c new) (entry_is e f some) (record {
               done = commit.done;
               log = commit.log ∙ ap (λ xs. xs ++ item_of commit.cmd e ∷ []) was.log ∙ ap (λ (d : Command). start.view.log ++ item_of d e ∷ []) same;
+              slot = commit.slot ∙ ap (λ (d : Command). d.slot) same;
+              seq = commit.seq ∙ ap (λ (d : Command). d.seq) same;
               place = subst (λ (n : ℕ). n ≤ e.place) was.seen commit.place;
               seen = commit.seen;
             });
@@ -95,10 +99,44 @@ module _ (F : Fixed) (passes : ℕ) (table : TableId) (start : PassView) (c : Co
         going = refused.going;
         number = refused.same.number ∙ r.number;
         room = refused.same.room ∙ r.room;
+        given = refused.given ∙ r.given;
         listed = λ h one. subst (IsOneOf h) (sym refused.listed) (inr (r.listed h one));
         uncommitted = λ _. record { command = refused.still ∙ ap (λ (d : Command). d ∷ []) same; log = refused.same.log ∙ was.log; seen = refused.same.seen ∙ was.seen };
         done = λ e some. has_one (command_pursued old) refused.cmd refused.command (r.done e some).done;
       }
+
+-- ---- at the moments of a move
+
+-- which command the pass runs
+pub runs_command : (F : Fixed) (passes : ℕ) (table : TableId) (start : PassView) (c : Command) (now : PassView) (o : Option Entry) → IsRunning F passes table start c now o → RunsCommand now c o
+runs_command F passes table start c now o r = record {
+  in_hand = λ none. (r.uncommitted none).command;
+  none_left = λ e some. (r.done e some).done;
+  logged = λ e some. let was = r.done e some in record { earlier = start.view.log; log = was.log; slot = was.slot; seq = was.seq };
+}
+
+-- where a command is pursued at this point, it is in hand
+in_hand_at : (p : PassView) (c : Command) (o : Option Entry) → RunsCommand p c o → p.quits ≡ false → is_pursued (stage_of p.view.point) ≡ true → command_pursued p ≡ c ∷ []
+in_hand_at p c o runs pursues is_open = by_entry o refl
+  where
+    some_pursued : (given : Option Command) → pursued_of given p.quits p.view ≡ [] → command_pursued p ≡ c ∷ []
+    some_pursued (Some d) none = cc
+    some_pursued None none =
+        has_one (p.view.cmd ∷ []) p.view.cmd refl (sym (ap (λ (b : Bool). pursued_of None b p.view) pursues ∙ cond-true (is_pursued (stage_of p.view.point)) _ _ is_open) ∙ none)
+
+    by_entry : (x : Option Entry) → o ≡ x → command_pursued p ≡ c ∷ []
+    by_entry None e = runs.in_hand e
+    by_entry (Some entry) e = some_pursued p.given (runs.none_left entry e)
+
+-- where the effect became known, the pass has the command in hand
+pub in_hand_computed : (F : Fixed) (passes : ℕ) (table : TableId) (old new : PassView) (went : Went) (c : Command) (o : Option Entry) → went ≡ Resolved → HasGoneOn F passes table old new went → RunsCommand old c o → command_pursued new ≡ c ∷ []
+in_hand_computed F passes table old new went c o is gone runs =
+    let move = gone.same (ap entry_committed is) in
+    in_hand_at new c o (record {
+      in_hand = λ none. move.command ∙ runs.in_hand none;
+      none_left = λ e some. move.command ∙ runs.none_left e some;
+      logged = λ e some. let was = runs.logged e some in record { earlier = was.earlier; log = move.same.log ∙ was.log; slot = was.slot; seq = was.seq };
+    }) gone.going.pursues (ap (λ (q : Point). is_pursued (stage_of q)) (gone.reading (ap is_resolved is)))
 
 -- ---- at the end
 
@@ -176,8 +214,11 @@ module _ (F : Fixed) (passes : ℕ) (table : TableId) (start : PassView) (c : Co
         number = r.number;
         room = r.room;
         log = was.log;
+        slot = was.slot;
+        seq = was.seq;
         place = was.place;
         seen = was.seen;
+        given = r.given;
         listed = r.listed;
       }
 
@@ -208,6 +249,7 @@ was_not_run F passes table start c old mid new o node number leaves a r before r
       room = gave.room ∙ refused.same.room ∙ r.room;
       log = gave.log ∙ refused.same.log ∙ was.log;
       seen = subst (λ (n : ℕ). n ≤ new.view.seen) (refused.same.seen ∙ was.seen) gave.seen;
+      given = gave.given ∙ refused.given ∙ r.given;
       counted = gave.refusals ∙ refused.counted ∙ ap (λ (n : ℕ). min (n + 1) (2 ^ 64 - 1)) before.refusals;
       r = refused.r;
       kept = gave.refused ∙ refused.kept;

@@ -9,7 +9,7 @@ use Rattle.region_locks.specs.Sights.{HeldWord, IsOneOf}
 use Rattle.region_locks.specs.Passes.{PassView, IsPassOf, IsHolderIn}
 use Rattle.region_locks.specs.Holders.{IsOtherHolder}
 use Rattle.region_locks.specs.Closing.{HasNoCommand}
-use Rattle.region_locks.specs.Pursuits.{IsGoingOn, command_pursued, item_of}
+use Rattle.region_locks.specs.Pursuits.{IsGoingOn, command_pursued, commands_given, item_of}
 use Rattle.shared_moves.specs.declared.again.Again.{Again}
 use Rattle.shared_moves.specs.declared.again.Again.TheVariants.{Held, Busy}
 
@@ -17,9 +17,9 @@ use Rattle.shared_moves.specs.declared.again.Again.TheVariants.{Held, Busy}
 abbrev pub AreListedStill : List HeldWord → List HeldWord → Type 0
 AreListedStill old new = (h : HeldWord) → IsOneOf h old → IsOneOf h new
 
--- the command was run with this entry: the pass's log is the old one and the command with its entry; the entry's place
--- isn't below the count that the pass had seen, and it has now seen the place plus 1; it has no command in hand, and the
--- refused takes that were listed are listed still
+-- the command was run with this entry, which has its slot and its number: the pass's log is the old one and the command
+-- with its entry; the entry's place isn't below the count that the pass had seen, and it has now seen the place plus 1; it
+-- was given one command, has none in hand, and the refused takes that were listed are listed still
 pub record HasRun (F : Fixed) (passes : ℕ) (table : TableId) (old new : PassView) (c : Command) (e : Entry) : Type 0
   where
     pub own : IsPassOf F passes table new
@@ -27,8 +27,11 @@ pub record HasRun (F : Fixed) (passes : ℕ) (table : TableId) (old new : PassVi
     pub number : new.number ≡ old.number
     pub room : new.view.room ≡ old.view.room
     pub log : new.view.log ≡ old.view.log ++ item_of c e ∷ []
+    pub slot : e.slot ≡ c.slot
+    pub seq : e.seq ≡ c.seq
     pub place : old.view.seen ≤ e.place
     pub seen : new.view.seen ≡ e.place + 1
+    pub given : commands_given new ≡ commands_given old + 1
     pub listed : AreListedStill old.tally.refused new.tally.refused
 
 -- no take was refused: neither the pass's count of refused takes nor its last one has changed, and none is listed more
@@ -63,8 +66,8 @@ IsCause F passes own c r (Held leaf holder leaves) = IsLeafHeld F passes own c r
 IsCause F passes own c r (Busy node holder) = IsNodeBusy F passes own c r node holder
 
 -- the command wasn't run, for this cause, which the pass keeps as its last refused take: nothing is committed, the pass
--- holds no node and has no command in hand, and it hasn't seen a smaller count than before; one take was refused, and it
--- is listed
+-- holds no node, was given one command and has none in hand, and it hasn't seen a smaller count than before; one take was
+-- refused, and it is listed
 pub record WasNotRun (F : Fixed) (passes : ℕ) (table : TableId) (old new : PassView) (c : Command) (a : Again) : Type 0
   where
     pub own : IsPassOf F passes table new
@@ -73,6 +76,7 @@ pub record WasNotRun (F : Fixed) (passes : ℕ) (table : TableId) (old new : Pas
     pub room : new.view.room ≡ old.view.room
     pub log : new.view.log ≡ old.view.log
     pub seen : old.view.seen ≤ new.view.seen
+    pub given : commands_given new ≡ commands_given old + 1
     pub counted : new.view.refusals ≡ min (old.view.refusals + 1) (2 ^ 64 - 1)
     pub r : Refused
     pub kept : new.view.refused ≡ Some r
@@ -91,15 +95,18 @@ pub record IsOpen (start : PassView) (c : Command) (now : PassView) : Type 0 whe
 pub record IsDone (start : PassView) (c : Command) (now : PassView) (e : Entry) : Type 0 where
   pub done : command_pursued now ≡ []
   pub log : now.view.log ≡ start.view.log ++ item_of c e ∷ []
+  pub slot : e.slot ≡ c.slot
+  pub seq : e.seq ≡ c.seq
   pub place : start.view.seen ≤ e.place
   pub seen : now.view.seen ≡ e.place + 1
 
--- a pass that began so runs the command, which is committed where there is an entry
+-- a pass that began so runs the command, which is committed where there is an entry, and was given no other
 pub record IsRunning (F : Fixed) (passes : ℕ) (table : TableId) (start : PassView) (c : Command) (now : PassView)
     (o : Option Entry) : Type 0 where
   pub going : IsGoingOn F passes table now
   pub number : now.number ≡ start.number
   pub room : now.view.room ≡ start.view.room
+  pub given : commands_given now ≡ commands_given start + 1
   pub listed : AreListedStill start.tally.refused now.tally.refused
   pub uncommitted : o ≡ None → IsOpen start c now
   pub done : (e : Entry) → o ≡ Some e → IsDone start c now e

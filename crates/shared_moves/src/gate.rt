@@ -1,8 +1,12 @@
-ghost use Rattle.std.specs.Prelude.{◌≡◌, false, Some, None, is_some, option_copied};
+ghost use Rattle.std.specs.Prelude.{◌≡◌, ◌∷◌, [], false, Some, None, is_some, option_copied};
+ghost use Rattle.entity_recs.specs.Commands.{command_of};
+ghost use Rattle.region_locks.specs.Pursuits.{command_pursued};
 ghost use Rattle.shared_moves.specs.Points.{has_entry};
+ghost use Rattle.shared_moves.specs.Moments.{IsAtPoint, HasLogged};
 
 use crate::point::Point;
-use entity_recs::Entry;
+use entity_recs::{Cmd, Entry};
+use region_locks::Pass;
 use std::marker::Model;
 
 /// A moment of a move, which is lent to the gate. Only the calls that run moves make one: it has no public constructor
@@ -28,36 +32,45 @@ impl Model for Moment {
 }
 
 impl Moment {
-    /// A moment before the commit.
-    pub(crate) fn before(worker: u8, point: Point, slot: u8, seq: u32) -> Moment
+    /// A moment before the commit of the command that the pass has in hand.
+    pub(crate) fn before<A>(pass: &Pass<A>, cmd: Cmd, point: Point) -> Moment
+        requires at { IsAtPoint pass.now point }
         requires before { has_entry point ≡ false }
-        ensures { result ≡ record { worker = worker; point = point; slot = slot; seq = seq; entry = None } }
+        requires in_hand { command_pursued pass.now ≡ command_of cmd ∷ [] }
+        ensures { result ≡ record {
+          worker = pass.now.number;
+          point = point;
+          slot = cmd.slot;
+          seq = cmd.seq;
+          entry = None;
+        } }
     {
         Moment {
-            worker,
+            worker: pass.number(),
             point,
-            slot,
-            seq,
+            slot: cmd.slot,
+            seq: cmd.seq,
             entry: None,
         }
     }
 
-    /// The moment after the commit, of the entry that was committed.
-    pub(crate) fn committed(worker: u8, entry: Entry) -> Moment
+    /// The moment after the commit of the command with this entry, which are the last item of the pass's log.
+    pub(crate) fn committed<A>(pass: &Pass<A>, cmd: Cmd, entry: Entry) -> Moment
+        requires at { IsAtPoint pass.now Point.Committed }
+        requires logged { HasLogged pass.now (command_of cmd) entry }
         ensures { result ≡ record {
-          worker = worker;
+          worker = pass.now.number;
           point = Point.Committed;
-          slot = entry.slot;
-          seq = entry.seq;
-          entry
-              = Some entry;
+          slot = cmd.slot;
+          seq = cmd.seq;
+          entry = Some entry;
         } }
     {
         Moment {
-            worker,
+            worker: pass.number(),
             point: Point::Committed,
-            slot: entry.slot,
-            seq: entry.seq,
+            slot: cmd.slot,
+            seq: cmd.seq,
             entry: Some(entry),
         }
     }

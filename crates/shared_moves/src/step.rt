@@ -1,11 +1,11 @@
-ghost use Rattle.std.specs.Prelude.{◌≡◌, ◌<◌, false, length, Some, OnOk, IfErr};
-ghost use Rattle.entity_recs.specs.Commands.{Command};
+ghost use Rattle.std.specs.Prelude.{◌≡◌, ◌<◌, ◌∷◌, [], false, length, Some, IfSome, OnOk, IfErr};
+ghost use Rattle.entity_recs.specs.Commands.{Command, command_of};
 ghost use Rattle.region_locks.specs.Passes.{PassView, fixed_in};
 ghost use Rattle.region_locks.specs.Turns.{turn_of};
-ghost use Rattle.region_locks.specs.Pursuits.{IsGoingOn, WasRefused, calls_left};
+ghost use Rattle.region_locks.specs.Pursuits.{IsGoingOn, WasRefused, calls_left, command_pursued};
 ghost use Rattle.shared_moves.specs.Moves.{IsRunning, NoTakeWasRefused};
 ghost use Rattle.shared_moves.specs.Points.{has_entry};
-ghost use Rattle.shared_moves.specs.Moments.{IsAtPoint};
+ghost use Rattle.shared_moves.specs.Moments.{IsAtPoint, HasLogged, RunsCommand};
 
 use crate::gate::{Gate, Moment};
 use crate::point::Point;
@@ -16,31 +16,41 @@ use region_locks::{Pass, Refusal, Turn, Went};
 impl<'a, A: Action> Shared<'a, A> {
     /// Calls the gate before the commit.
     fn show<G: Gate>(&self, pass: &Pass<A>, cmd: Cmd, point: Point, gate: &G)
-        requires at { IsAtPoint (fixed_in A.takes A.region_of A.effect_of self.now) pass.now point }
+        requires at { IsAtPoint pass.now point }
         requires before { has_entry point ≡ false }
+        requires in_hand { command_pursued pass.now ≡ command_of cmd ∷ [] }
     {
-        gate.at(&Moment::before(pass.number(), point, cmd.slot, cmd.seq));
+        gate.at(&Moment::before(pass, cmd, point));
     }
 
     /// Calls the gate after the commit, and gives the entry back.
-    fn show_entry<G: Gate>(&self, pass: &Pass<A>, entry: Option<Entry>, gate: &G) -> Option<Entry>
-        requires at { IsAtPoint (fixed_in A.takes A.region_of A.effect_of self.now) pass.now Point.Committed }
+    fn show_entry<G: Gate>(
+        &self,
+        pass: &Pass<A>,
+        cmd: Cmd,
+        entry: Option<Entry>,
+        gate: &G,
+    ) -> Option<Entry>
+        requires at { IsAtPoint pass.now Point.Committed }
+        requires logged { IfSome entry (λ e. HasLogged pass.now (command_of cmd) e) }
         ensures { result ≡ entry }
     {
         let Some(entry) = entry else {
             return None;
         };
-        let moment = Moment::committed(pass.number(), entry);
+        let moment = Moment::committed(pass, cmd, entry);
         gate.at(&moment);
         moment.into_entry()
     }
 
     /// Calls the gate where the pass holds all leaves and nothing is read yet, or where all is written.
     fn show_held<G: Gate>(&self, pass: &Pass<A>, cmd: Cmd, entry: &mut Option<Entry>, gate: &G)
+        requires pursues { pass.now.quits ≡ false }
+        requires runs { RunsCommand pass.now (command_of cmd) entry.old }
         ensures { entry.new ≡ entry.old }
     {
         if pass.has_written() {
-            *entry = self.show_entry(pass, entry.take(), gate);
+            *entry = self.show_entry(pass, cmd, entry.take(), gate);
         } else if pass.has_its_leaves() {
             self.show(pass, cmd, Point::Leaves, gate);
         }
@@ -59,6 +69,7 @@ impl<'a, A: Action> Shared<'a, A> {
         requires going { IsGoingOn (fixed_in A.takes A.region_of A.effect_of self.now) (length self.now.rooms)
             self.now.table pass.old }
         requires turn { turn_of (fixed_in A.takes A.region_of A.effect_of self.now) pass.old ≡ Some turn }
+        requires runs { RunsCommand pass.old (command_of cmd) entry.old }
         ensures running { let F = fixed_in A.takes A.region_of A.effect_of self.now in let n = length self.now.rooms in
             (start : PassView) (c : Command) → IsRunning F n self.now.table start c pass.old entry.old
             → IsRunning F n self.now.table start c pass.new entry.new }

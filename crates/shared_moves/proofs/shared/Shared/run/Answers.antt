@@ -2,8 +2,12 @@ use Rattle.std.proofs.Common.{length, ◌∙◌, sym}
 use Rattle.entity_recs.specs.Commands.{command_of}
 use Rattle.region_locks.specs.Passes.{fixed_in}
 use Rattle.region_locks.specs.Turns.{has_command_in_hand}
-use Rattle.shared_moves.proofs.Running.{is_done, has_run, at_rest}
+use Rattle.shared_moves.proofs.Running.{runs_command, is_done, has_run, at_rest}
 use Rattle.shared_moves.proofs.shared.Shared.run.Goals as goal
+
+pub step-requires-clause-runs : goal.step-requires-clause-runs
+step-requires-clause-runs g c κs within =
+    runs_command (fixed_in g.A.Action.takes g.A.Action.region_of g.A.Action.effect_of c.args.self.now) (length c.args.self.now.rooms) c.args.self.now.table c.args.pass.now (command_of c.args.cmd) c.loop.pass c.loop.entry c.loop.invariant.2
 
 pub unwrap-requires : goal.unwrap-requires
 unwrap-requires g c = (is_done (fixed_in g.A.Action.takes g.A.Action.region_of g.A.Action.effect_of c.args.self.now) (length c.args.self.now.rooms) c.args.self.now.table c.args.pass.now (command_of c.args.cmd) c.loop.pass c.loop.entry c.loop.invariant.2 (at_rest c.turn.result (has_command_in_hand c.loop.pass) c.in_default.not-Some c.turn.ensures.some))

@@ -1,9 +1,10 @@
 use Rattle.std.proofs.Common.{length, ap, sym, ◌∙◌, subst, Option}
 use Rattle.entity_recs.specs.declared.effect.Entry.{Entry}
+use Rattle.entity_recs.specs.Commands.{command_of}
 use Rattle.region_locks.specs.Passes.{fixed_in}
 use Rattle.region_locks.specs.Pursuits.{HasGoneOn, WasRefused, entry_committed}
 use Rattle.shared_moves.specs.Moves.{IsRunning}
-use Rattle.shared_moves.proofs.Running.{at_computed, runs_on, runs_done, runs_refused, none_refused}
+use Rattle.shared_moves.proofs.Running.{at_computed, in_hand_computed, runs_on, runs_done, runs_refused, none_refused}
 use Rattle.shared_moves.proofs.shared.Shared.step.Goals as goal
 
 pub returns-in_err-go_on-clause-running : goal.returns-in_err-go_on-clause-running
@@ -16,6 +17,11 @@ pub show-requires-clause-at : goal.show-requires-clause-at
 show-requires-clause-at g c κs within =
     let gone : HasGoneOn (fixed_in g.A.Action.takes g.A.Action.region_of g.A.Action.effect_of c.args.self.now) (length c.args.self.now.rooms) c.args.self.now.table c.args.pass.now c.go_on.new.pass c.in_ok-go_on.field-0 = rw (← c.self.view_is) c.in_ok-go_on.ensures.ok in
     at_computed (fixed_in g.A.Action.takes g.A.Action.region_of g.A.Action.effect_of c.args.self.now) (length c.args.self.now.rooms) c.args.self.now.table c.args.pass.now c.go_on.new.pass c.in_ok-go_on.field-0 c.in-Resolved.is gone
+
+pub show-requires-clause-in_hand : goal.show-requires-clause-in_hand
+show-requires-clause-in_hand g c κs within =
+    let gone : HasGoneOn (fixed_in g.A.Action.takes g.A.Action.region_of g.A.Action.effect_of c.args.self.now) (length c.args.self.now.rooms) c.args.self.now.table c.args.pass.now c.go_on.new.pass c.in_ok-go_on.field-0 = rw (← c.self.view_is) c.in_ok-go_on.ensures.ok in
+    in_hand_computed (fixed_in g.A.Action.takes g.A.Action.region_of g.A.Action.effect_of c.args.self.now) (length c.args.self.now.rooms) c.args.self.now.table c.args.pass.now c.go_on.new.pass c.in_ok-go_on.field-0 (command_of c.args.cmd) c.args.entry.now c.in-Resolved.is gone c.requires.runs
 
 pub returns-in-On-clause-running : goal.returns-in-On-clause-running
 returns-in-On-clause-running g c start d running =

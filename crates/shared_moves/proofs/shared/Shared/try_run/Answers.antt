@@ -3,7 +3,7 @@ use Rattle.entity_recs.specs.Commands.{command_of}
 use Rattle.region_locks.specs.Passes.{fixed_in, IsPassOf}
 use Rattle.region_locks.specs.Turns.{has_command_in_hand}
 use Rattle.shared_moves.specs.Moves.{NoTakeWasRefused}
-use Rattle.shared_moves.proofs.Running.{is_done, has_run, was_not_run, none_refused_since, at_rest}
+use Rattle.shared_moves.proofs.Running.{runs_command, is_done, has_run, was_not_run, none_refused_since, at_rest}
 use Rattle.shared_moves.proofs.shared.Shared.try_run.Goals as goal
 
 pub returns-in-Err-clause-err : goal.returns-in-Err-clause-err
@@ -17,6 +17,10 @@ loop-turn-preserved g c =
       c.step.ensures.running c.args.pass.now (command_of c.args.cmd) c.loop-turn.invariant.0,
       none_refused_since c.args.pass.now c.loop-turn.pass c.step.new.pass c.loop-turn.invariant.1 now,
     )
+
+pub step-requires-clause-runs : goal.step-requires-clause-runs
+step-requires-clause-runs g c κs within =
+    runs_command (fixed_in g.A.Action.takes g.A.Action.region_of g.A.Action.effect_of c.args.self.now) (length c.args.self.now.rooms) c.args.self.now.table c.args.pass.now (command_of c.args.cmd) c.loop-turn.pass c.loop-turn.entry c.loop-turn.invariant.0
 
 pub unwrap-requires : goal.unwrap-requires
 unwrap-requires g c = (is_done (fixed_in g.A.Action.takes g.A.Action.region_of g.A.Action.effect_of c.args.self.now) (length c.args.self.now.rooms) c.args.self.now.table c.args.pass.now (command_of c.args.cmd) c.loop-turn.pass c.loop-turn.entry c.loop-turn.invariant.0 (at_rest c.turn.result (has_command_in_hand c.loop-turn.pass) c.in_default.not-Some c.turn.ensures.some))
