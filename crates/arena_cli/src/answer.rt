@@ -1,15 +1,18 @@
-ghost use Rattle.std.specs.Prelude.{◌≡◌, ◌⊎◌, Err, IsErr, IfOk, OnErr, IsOkAnd, map, string_bytes};
+ghost use Rattle.std.specs.Prelude.{◌≡◌, ◌⊎◌, IsErr, IsErrAnd, IfOk, OnErr, IsOkAnd, map, string_bytes};
+ghost use Rattle.std.specs.IoError.{error_kind};
 ghost use Rattle.arena_engine.specs.declared.command.Command.{Command};
 ghost use Rattle.arena_engine.specs.Endings.{Ends};
 ghost use Rattle.arena_engine.specs.Served.{IsServed};
-ghost use Rattle.arena_cli.specs.declared.arguments.NoArguments.TheVariants.{NotUnicode, Memory};
-ghost use Rattle.arena_cli.specs.Asked.{AsksFor, AskForNothing};
+ghost use Rattle.arena_cli.specs.declared.arguments.TheConstants.{NO_MEMORY};
+ghost use Rattle.arena_cli.specs.Asked.{AsksFor, AskForNothing, texts_in};
 
-use crate::arguments::{NoArguments, words_of};
+use crate::arguments::{NoArguments, arguments_of, words_of};
 use arena_engine::{Report, serve};
 use edge_io::{Sink, Source};
 use shared_moves::Gate;
 use std::alloc::{AllocError, Global};
+use std::env::Args;
+use std::io;
 use std::sync::Wait;
 use std::thread::Threads;
 
@@ -34,27 +37,29 @@ fn serve_arguments<R: Threads + Wait + Sync, S: Source, K: Sink, G: Gate>(
     Ok(serve(rt, alloc, &words, source, sink, gate))
 }
 
-/// Serves what the program's arguments ask for, and reports how that ended. Where the arguments can't be had, nothing
-/// is read or written, and the status is 2 where one isn't UTF-8, and 5 where there was not enough memory for them.
+/// Serves what the program's arguments ask for, and reports how that ended.
+///
+/// Where the system gives no arguments, nothing is read or written: the status is 5 where it had not enough memory for
+/// them, and else 2, since one isn't UTF-8.
 pub fn answer<R: Threads + Wait + Sync, S: Source, K: Sink, G: Gate>(
     rt: &R,
     alloc: Global,
-    arguments: Result<Vec<String>, NoArguments>,
+    arguments: io::Result<Args>,
     source: &mut S,
     sink: &mut K,
     gate: &G,
 ) -> Report
-    ensures asked { IfOk arguments (λ all. AskForNothing (map string_bytes all.items)) → (result.status ≡ 2)
+    ensures asked { IfOk arguments (λ given. AskForNothing (texts_in given)) → (result.status ≡ 2)
         ⊎ (result.status ≡ 5) }
-    ensures refused { result.status ≡ 2 → IfOk arguments (λ all. AskForNothing (map string_bytes all.items)) }
-    ensures not_unicode { arguments ≡ Err NotUnicode → result.status ≡ 2 }
-    ensures no_arguments { arguments ≡ Err Memory → result.status ≡ 5 }
+    ensures refused { result.status ≡ 2 → IfOk arguments (λ given. AskForNothing (texts_in given)) }
+    ensures not_unicode { IsErrAnd arguments (λ error. error_kind error ≡ NO_MEMORY → ⊥) → result.status ≡ 2 }
+    ensures no_arguments { IsErrAnd arguments (λ error. error_kind error ≡ NO_MEMORY) → result.status ≡ 5 }
     ensures unserved { IsErr arguments → (source.new ≡ source.old) × (sink.new ≡ sink.old) }
-    ensures served { (command : Command) → IsOkAnd arguments (λ all. AsksFor (map string_bytes all.items) command)
+    ensures served { (command : Command) → IsOkAnd arguments (λ given. AsksFor (texts_in given) command)
         → IsServed S.Source K.Sink source.old source.new sink.old sink.new result command }
     ensures ends { Ends S.Source K.Sink source.old source.new sink.old sink.new result }
 {
-    match arguments {
+    match arguments_of(alloc, arguments) {
         Ok(all) => match serve_arguments(rt, alloc, all.as_slice(), source, sink, gate) {
             Ok(report) => report,
             Err(_) => Report::unserved(alloc, 5),
