@@ -1,5 +1,5 @@
 -- Where nothing was written nobody took anything, and no frame is there.
-use Rattle.std.proofs.Common.{◌≡◌, ℕ, List, [], Option, Some, None, IfSome, ap, sym, subst}
+use Rattle.std.proofs.Common.{rules, ◌≡◌, ℕ, List, [], Option, Some, None, IfSome, ap, sym, subst}
 use Rattle.std.specs.Io.KnownBytes.{Appends}
 use Rattle.std.proofs.KnownBytes.{Appends-nil}
 use Rattle.demo_lines.specs.Bytes.{map_of}
@@ -12,6 +12,13 @@ use Rattle.arena_engine.specs.declared.report.Report.{Report}
 use Rattle.arena_engine.specs.Output.{Writes}
 use Rattle.arena_engine.specs.LastFrames.{entries_of}
 use Rattle.arena_engine.specs.Reports.{last_in}
+use Rattle.edge_io.specs.declared.source.Source as sources
+use Rattle.edge_io.specs.declared.sink.Sink as sinks
+use Rattle.arena_engine.specs.declared.command.Command.{Command}
+use Rattle.arena_engine.specs.declared.command.Command.TheVariants.{Play, Make, Match}
+use Rattle.arena_engine.specs.Making.{IsMade, IsMatched}
+use Rattle.arena_engine.specs.Played.{IsPlayed}
+use Rattle.arena_engine.specs.Served.{Unread, IsServed}
 
 pub taken_in_nothing : (a before after : Option (List ℕ)) → after ≡ before → IfSome a (λ bytes. Writes before after (λ text. HasOneTakerEach (map_of bytes) (dids text)))
 taken_in_nothing None before after same = tt
@@ -29,3 +36,18 @@ no_frames (Some bytes) before after n r same none = record {
   written = subst (λ (t : Option (List ℕ)). Appends before t []) (sym same) (Appends-nil before);
   holds = record { holds = record { k = 0; front = no_front n bytes }; last_is = ap entries_of none };
 }
+
+-- where memory for the arguments was refused, what was asked for is served as far as that
+module _ {S K : Type 0} (s : sources.Ghosts S) (k : sinks.Ghosts K) (source source' : S) (sink sink' : K) (r : Report) (unread : source' ≡ source) (same : sink' ≡ sink)
+    (five : r.status ≡ 5) (place : (r.line ≡ 0) × (r.fault ≡ 0) × (r.rule ≡ 0)) (last : r.last ≡ None) (all : r.all ≡ []) where
+  pub not_served : (command : Command) → IsServed s k source source' sink sink' r command
+  not_served (Play n) =
+      let memory : IfSome (s.left source) (λ bytes. Writes (k.taken sink) (k.taken sink') (HasLast (IsSomeFrames n bytes) (last_in r))) =
+      no_frames _ _ _ n r (ap k.taken same) last in
+      let once : IfSome (s.left source) (λ bytes. Writes (k.taken sink) (k.taken sink') (λ text. HasOneTakerEach (map_of bytes) (dids text))) =
+      taken_in_nothing _ _ _ (ap k.taken same) in
+      let is : IsPlayed s k n source source' sink sink' r = search (rules, memory, once, five, all) in is
+  not_served (Make seed players frames) =
+      let is : Unread source source' (IsMade k seed players frames sink sink' r) = search (rules, unread, same, five, place, last, all) in is
+  not_served (Match seed players frames workers) =
+      let is : Unread source source' (IsMatched k seed players frames workers sink sink' r) = search (rules, unread, same, five, place, last, all) in is

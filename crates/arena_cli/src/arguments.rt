@@ -1,6 +1,8 @@
-ghost use Rattle.std.specs.Prelude.{◌≡◌, Err, IsErr, IfOk, IsOkAnd, drop, map, string_bytes};
+ghost use Rattle.std.specs.Prelude.{◌≡◌, ◌↔◌, Err, IfErr, IfOk, IsErrAnd, IsOkAnd, drop, map, string_bytes};
+ghost use Rattle.std.specs.IoError.{error_kind};
 ghost use Rattle.std.specs.Vec.Iter.{into_iter_items};
-ghost use Rattle.arena_cli.specs.declared.arguments.NoArguments.TheVariants.{NotUnicode};
+ghost use Rattle.arena_cli.specs.declared.arguments.TheConstants.{NO_MEMORY};
+ghost use Rattle.arena_cli.specs.declared.arguments.NoArguments.TheVariants.{NotUnicode, Memory};
 
 use std::alloc::{AllocError, Global};
 use std::env::Args;
@@ -50,7 +52,8 @@ impl From<AllocError> for NoArguments {
 /// All arguments of the program, the first of which is its name.
 pub fn arguments_of(alloc: Global, arguments: io::Result<Args>) -> Result<Vec<String>, NoArguments>
     ensures all { IfOk result (λ all. IsOkAnd arguments (λ given. all.items ≡ into_iter_items given)) }
-    ensures not_unicode { result ≡ Err NotUnicode → IsErr arguments }
+    ensures not_unicode { (result ≡ Err NotUnicode) ↔ IsErrAnd arguments (λ error. error_kind error ≡ NO_MEMORY → ⊥) }
+    ensures no_memory { IfErr arguments (λ error. (result ≡ Err Memory) ↔ (error_kind error ≡ NO_MEMORY)) }
 {
     Ok(arguments?.collect(alloc)?)
 }

@@ -25,8 +25,8 @@ pub use Rattle.match_play.specs.Matches
 pub mod Numbers
 pub mod Commands
 pub mod Summaries
+pub mod Endings
 pub mod Making
-pub mod Performing
 pub mod LastFrames
 pub mod Games
 pub mod Dues
@@ -35,3 +35,5 @@ pub mod Stops
 pub mod Output
 pub mod Reports
 pub mod Serving
+pub mod Played
+pub mod Served

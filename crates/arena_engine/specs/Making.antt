@@ -1,13 +1,19 @@
 -- What the commands that need no source answer and write.
-use Rattle.std.specs.Prelude.{◌≡◌, ℕ, ◌≤◌, ◌⊎◌, List, length, None}
+use Rattle.std.specs.Prelude.{◌≡◌, ℕ, ◌≤◌, ◌⊎◌, List, [], length, None}
+use Rattle.std.specs.Io.KnownBytes.{Appends}
+use Rattle.edge_io.specs.declared.sink.Sink as sinks
+use Rattle.edge_io.specs.Counts.{HasRisen}
+use Rattle.edge_io.specs.Writes.{AppendsPart}
+use Rattle.demo_make.specs.GeneratedFrames.{generated_text}
 use Rattle.move_journal.specs.Logs.{JournalView}
 use Rattle.match_play.specs.Matches.{AreRightSoFar, AreInOrderSoFar, match_totals, entries_of}
 use Rattle.arena_engine.specs.declared.report.Report.{Report}
+use Rattle.arena_engine.specs.Endings.{IsOrMemory}
 use Rattle.arena_engine.specs.Summaries.{summary_text}
 
 -- the status is done, a write fault or lack of memory
 abbrev pub IsOfWriting : ℕ → Type 0
-IsOfWriting status = (status ≡ 0) ⊎ (status ≡ 4) ⊎ (status ≡ 5)
+IsOfWriting status = (status ≡ 0) ⊎ (status ≡ 5) ⊎ (status ≡ 4)
 
 -- the report names no line of a recording, and no last frame of one
 pub record IsBare (r : Report) : Type 0 where
@@ -27,3 +33,41 @@ pub record ArePlayed (seed players frames workers status : ℕ) (all : List Jour
 -- the line of the match whose frames have these journals
 abbrev pub line_of_match : ℕ → ℕ → List JournalView → List ℕ
 line_of_match seed players all = summary_text (match_totals seed players (entries_of all))
+
+-- the recording of this seed was made
+pub record IsMade {K : Type 0} (k : sinks.Ghosts K) (seed players frames : ℕ) (old new : K) (r : Report) : Type 0 where
+  -- the whole recording was written
+  pub done : r.status ≡ 0 → Appends (k.taken old) (k.taken new) (generated_text seed players frames)
+  -- a proper front of it was
+  pub cut : r.status ≡ 4 → AppendsPart (k.taken old) (k.taken new) (generated_text seed players frames)
+  -- nothing was
+  pub nothing : r.status ≡ 5 → new ≡ old
+  -- no other status comes
+  pub status : IsOfWriting r.status
+  -- the report names nothing of a recording that was read
+  pub bare : IsBare r
+  -- journals of all frames are kept for `match` alone
+  pub no_journals : r.all ≡ []
+  -- no write fails where there is room
+  pub sure : length (generated_text seed players frames) ≤ k.room old → r.status ≡ 4 → ⊥
+  -- where no write failed it was made, unless memory was refused
+  pub complete : (HasRisen (k.faults old) (k.faults new) → ⊥) → IsOrMemory r.status 0
+
+-- the match of this seed was played on these workers, and the line of its totals was written
+pub record IsMatched {K : Type 0} (k : sinks.Ghosts K) (seed players frames workers : ℕ) (old new : K) (r : Report) : Type 0 where
+  -- the line was written whole
+  pub done : r.status ≡ 0 → Appends (k.taken old) (k.taken new) (line_of_match seed players r.all)
+  -- a proper front of it was
+  pub cut : r.status ≡ 4 → AppendsPart (k.taken old) (k.taken new) (line_of_match seed players r.all)
+  -- nothing was
+  pub nothing : r.status ≡ 5 → new ≡ old
+  -- the report has the journal of each frame that was run
+  pub frames_are : ArePlayed seed players frames workers r.status r.all
+  -- no other status comes
+  pub status : IsOfWriting r.status
+  -- the report names nothing of a recording that was read
+  pub bare : IsBare r
+  -- no write fails where there is room for the longest line
+  pub sure : 300 ≤ k.room old → r.status ≡ 4 → ⊥
+  -- where no write failed it was played, unless memory was refused
+  pub complete : (HasRisen (k.faults old) (k.faults new) → ⊥) → IsOrMemory r.status 0

@@ -1,10 +1,7 @@
-ghost use Rattle.std.specs.Prelude.{◌≡◌, ◌≤◌, None};
-ghost use Rattle.std.specs.Io.KnownBytes.{Appends};
-ghost use Rattle.edge_io.specs.Counts.{HasRisen};
-ghost use Rattle.edge_io.specs.Writes.{AppendsPart};
 ghost use Rattle.move_phase.specs.Serving.{AreWorkers};
 ghost use Rattle.match_play.specs.Matches.{IsMatch};
-ghost use Rattle.arena_engine.specs.Making.{IsOfWriting, ArePlayed, line_of_match, IsBare};
+ghost use Rattle.arena_engine.specs.Endings.{Counts};
+ghost use Rattle.arena_engine.specs.Making.{IsMatched};
 
 use crate::report::Report;
 use crate::summary::push_summary;
@@ -29,19 +26,8 @@ pub fn play_and_sum<R: Threads + Wait + Sync, K: Sink, G: Gate>(
 ) -> Report
     requires range { IsMatch players frames }
     requires workers { AreWorkers workers }
-    ensures status { IsOfWriting result.status }
-    ensures done { result.status ≡ 0 → Appends (K.taken sink.old) (K.taken sink.new)
-        (line_of_match seed players result.all) }
-    ensures write_fault { result.status ≡ 4
-        → AppendsPart (K.taken sink.old) (K.taken sink.new) (line_of_match seed players result.all) }
-    ensures memory { result.status ≡ 5 → sink.new ≡ sink.old }
-    ensures frames { ArePlayed seed players frames workers result.status result.all }
-    ensures bare { IsBare result }
-
-    ensures later { K.faults sink.old ≤ K.faults sink.new }
-    ensures cause { result.status ≡ 4 → HasRisen (K.faults sink.old) (K.faults sink.new) }
-    ensures uncounted { (result.status ≡ 4 → ⊥) → K.faults sink.new ≡ K.faults sink.old }
-    ensures sure { 300 ≤ K.room sink.old → result.status ≡ 4 → ⊥ }
+    ensures matched { IsMatched K.Sink seed players frames workers sink.old sink.new result }
+    ensures counts { Counts 4 (K.faults sink.old) (K.faults sink.new) result.status }
 {
     let Ok(mut line) = LineBuf::new(alloc) else {
         return Report::unserved(alloc, 5);

@@ -1,7 +1,7 @@
 ghost use Rattle.std.specs.Prelude.{◌≡◌, IfOk, None};
 ghost use Rattle.demo_lines.specs.Bytes.{fault};
 ghost use Rattle.arena_engine.specs.Output.{HasRoom};
-ghost use Rattle.arena_engine.specs.Serving.{IsOrMemory};
+ghost use Rattle.arena_engine.specs.Endings.{IsOrMemory};
 
 use arena_engine::{Report, serve};
 use edge_io::{MemSink, MemSource};

@@ -1,6 +1,7 @@
 use Rattle.std.proofs.Common.{◌≡◌, ℕ, ◌-◌, ◌<◌, List, [], length, ap, arith, refl, subst, sym}
 use Rattle.std.specs.Prelude.{None, All}
 use Rattle.demo_lines.specs.Bytes.{fault}
+use Rattle.arena_engine.specs.declared.command.Command.TheVariants.{Play}
 use Rattle.arena_engine.specs.Output.{HasRoom}
 use Rattle.arena_engine.proofs.Words.{is_play}
 use Rattle.serve_trials.proofs.from_memory.played.Goals as goal
@@ -19,6 +20,6 @@ carried bytes left room more same_bytes same_room whole fits =
 pub returns : goal.returns
 returns g c =
     let P : List ℕ → Type 0 = All (λ call. call < c.new-source.result.calls) in
-    c.serve.ensures.surely_complete 1 (is_play _ refl) (subst P (sym c.new-source.ensures.fails) (no_call c.new-source.result.calls))
+    (c.serve.ensures.served (Play 1) (is_play _ refl)).surely_complete (subst P (sym c.new-source.ensures.fails) (no_call c.new-source.result.calls))
     (carried c.args.recording.now c.new-source.result.left c.args.room (c.in_ok-sink.sink.room - length c.in_ok-sink.sink.taken) c.new-source.ensures.left
     (omega (arith, c.in_ok-sink.ensures.room, ap length c.in_ok-sink.ensures.taken)) c.requires.whole c.requires.room)

@@ -1,0 +1,21 @@
+-- What is done for each command.
+use Rattle.std.specs.Prelude.{◌≡◌}
+use Rattle.edge_io.specs.declared.source.Source as sources
+use Rattle.edge_io.specs.declared.sink.Sink as sinks
+use Rattle.arena_engine.specs.declared.command.Command.{Command}
+use Rattle.arena_engine.specs.declared.command.Command.TheVariants.{Play, Make, Match}
+use Rattle.arena_engine.specs.declared.report.Report.{Report}
+use Rattle.arena_engine.specs.Making.{IsMade, IsMatched}
+use Rattle.arena_engine.specs.Played.{IsPlayed}
+
+-- P, and nothing was read
+pub record Unread {S : Type 0} (source source' : S) (P : Type 0) : Type 0 where
+  pub reads_nothing : source' ≡ source
+  pub is : P
+
+-- this command was served
+abbrev pub IsServed : {S K : Type 0} → sources.Ghosts S → sinks.Ghosts K → S → S → K → K → Report → Command → Type 0
+IsServed s k source source' sink sink' r (Play workers) = IsPlayed s k workers source source' sink sink' r
+IsServed s k source source' sink sink' r (Make seed players frames) = Unread source source' (IsMade k seed players frames sink sink' r)
+IsServed s k source source' sink sink' r (Match seed players frames workers) =
+    Unread source source' (IsMatched k seed players frames workers sink sink' r)
