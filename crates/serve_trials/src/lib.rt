@@ -2,7 +2,9 @@
 #![tactic(auto)]
 
 pub use from_memory::played;
+pub use known::{ONE_JOIN, one_join_played, two_players_made};
 
 mod from_memory;
+mod known;
 #[cfg(test)]
 mod tests;

@@ -1,3 +1,4 @@
+use crate::ONE_JOIN;
 use arena_engine::{Report, serve};
 use edge_io::{MemSink, MemSource};
 use shared_moves::NoGate;
@@ -9,10 +10,12 @@ use std::thread::Threads;
 
 mod cut;
 mod cut_input;
+mod every_worker;
 mod failing_reads;
 mod far;
 mod full;
 mod generated;
+mod known;
 mod lines;
 mod made;
 mod maps;
@@ -26,9 +29,6 @@ mod totals;
 mod workers;
 
 const ARENA: &str = "arena -131072 -131072 0 131072 131072 65536\n";
-
-const ONE_JOIN: &str =
-    "arena -131072 -131072 0 131072 131072 65536\nspawn 0 0 6144\nframe\nfrom 7 0101\nend\n";
 
 const ONE_JOIN_OUTPUT: &str =
     "frame 0\njoined 7 0\nto 0 01000000000000000000000000000018000000000000000000000000000000000000000000000000000000\nend 1\n";

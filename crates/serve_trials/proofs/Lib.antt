@@ -1,0 +1,3 @@
+-- Lemmas on the recordings whose ends are known.
+pub mod OneJoin
+pub mod Making
