@@ -18,6 +18,6 @@ pub is_make : (texts : List (List ℕ)) → texts ≡ codes "make" ∷ codes "7"
 is_make texts are = record { words_are = are ∙ sym spelled; ranges = (omega arith, in_range) }
 
 pub ended_well : (status : ℕ) → IsOfWriting status → (status ≡ 4 → ⊥) → IsOrMemory status 0
-ended_well status (inl done) sure = inl done
-ended_well status (inr (inl cut)) sure = absurd (sure cut)
-ended_well status (inr (inr memory)) sure = inr memory
+ended_well status (inl done) sure = inr done
+ended_well status (inr (inl memory)) sure = inl memory
+ended_well status (inr (inr cut)) sure = absurd (sure cut)
