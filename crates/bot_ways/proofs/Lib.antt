@@ -1,0 +1,5 @@
+pub mod EdgeParts
+pub mod Lengths
+pub mod Certificates
+pub mod Searching
+pub mod WaysBack
