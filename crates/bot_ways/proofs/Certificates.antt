@@ -1,9 +1,8 @@
 -- Lengths with a certificate are the least ones.
-use Rattle.std.proofs.Common.{◌≡◌, ◌≢◌, ◌↔◌, ℕ, zero, suc, ◌+◌, ◌<◌, ◌≤◌, List, [], ◌∷◌, length, Option, Some, None, refl, sym, ◌∙◌, subst, ap, arith}
+use Rattle.std.proofs.Common.{◌≡◌, ◌↔◌, ℕ, zero, suc, ◌+◌, ◌<◌, ◌≤◌, List, [], ◌∷◌, length, Option, Some, None, refl, subst, arith}
 use Rattle.arena_map.specs.Maps.{MapView}
-use Rattle.bot_ways.specs.Edges.{edge}
 use Rattle.bot_ways.specs.Walks.{IsWalk, alone, longer, IsUnreached, IsLeast, length_to, HasLeast}
-use Rattle.bot_ways.specs.Ways.{IsBefore, HasBefore, IsAtMost, IsCertificate}
+use Rattle.bot_ways.specs.Ways.{IsAtMost, IsCertificate}
 use Rattle.bot_ways.proofs.EdgeParts.{edge_least, from_within}
 use Rattle.bot_ways.proofs.Lengths.{within_of, at_most_of, at_most_more, length_within, same_length}
 

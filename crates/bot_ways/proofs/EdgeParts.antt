@@ -1,5 +1,5 @@
 -- What an edge is made of.
-use Rattle.std.proofs.Common.{◌≡◌, ℕ, ℤ, ◌+ℤ◌, ◌-ℤ◌, unsigned_abs, lit≤, ◌<◌, ◌≤◌, Bool, true, false, ◌&&◌, nat_lt, nat_le, cond, List, length, Option, Some, None, slice_get, refl, sym, ◌∙◌, subst, ap, arith}
+use Rattle.std.proofs.Common.{◌≡◌, ℕ, ℤ, ◌+ℤ◌, ◌-ℤ◌, unsigned_abs, lit≤, ◌<◌, ◌≤◌, Bool, true, false, ◌&&◌, nat_lt, nat_le, cond, List, length, Option, Some, None, slice_get, refl, sym, arith}
 use Rattle.std.specs.Ordering.{int_eq}
 use Rattle.std.specs.Option.{option_and_then}
 use Rattle.std.proofs.lemmas.Bool.{leb-true, ltb-true}
@@ -12,7 +12,7 @@ use Rattle.arena_geo.specs.Boxes.{moved}
 use Rattle.entity_recs.specs.declared.bodies.TheConstants.{PLAYER_MINS, PLAYER_MAXS}
 use Rattle.entity_recs.specs.Bodies.{player_body}
 use Rattle.arena_map.specs.Maps.{MapView, solids_of}
-use Rattle.bot_ways.specs.Edges.{distance, are_near, is_free, edge_between, edge}
+use Rattle.bot_ways.specs.Edges.{distance, is_free, edge_between, edge}
 
 -- the points between which an edge leads
 pub record HasEnds (map : MapView) (u v step : ℕ) : Type 0 where

@@ -1,5 +1,5 @@
 -- Lengths that are there, and lengths at most others.
-use Rattle.std.proofs.Common.{◌≡◌, ℕ, ◌+◌, ◌<◌, ◌≤◌, ◌⊎◌, List, length, get_or, Option, Some, None, refl, sym, ◌∙◌, subst, ap, inl, inr, arith}
+use Rattle.std.proofs.Common.{◌≡◌, ◌≢◌, ℕ, ◌<◌, ◌≤◌, List, length, Option, Some, None, refl, sym, ◌∙◌, subst, inl, inr, arith}
 use Rattle.std.proofs.lemmas.Bool.{cases_lt}
 use Rattle.std.proofs.lemmas.List.{get_or_past}
 use Rattle.std.proofs.lemmas.Option.{none-some, same_Some}
@@ -34,3 +34,12 @@ length_within least v n h = elim (cases_lt v (length least)) [
 
 pub same_length : (o : Option ℕ) (n m : ℕ) → o ≡ Some n → o ≡ Some m → n ≡ m
 same_length o n m p q = same_Some n m (sym p ∙ q)
+
+-- there is a length
+pub record HasLength (o : Option ℕ) : Type 0 where
+  pub number : ℕ
+  pub is : o ≡ Some number
+
+pub has_length : (o : Option ℕ) → o ≢ None → HasLength o
+has_length None apart = absurd (apart refl)
+has_length (Some n) apart = record { number = n; is = refl }

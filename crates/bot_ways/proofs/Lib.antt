@@ -3,3 +3,5 @@ pub mod Lengths
 pub mod Certificates
 pub mod Searching
 pub mod WaysBack
+pub mod EdgesKnown
+pub mod OneWay

@@ -1,5 +1,5 @@
 -- What the search for the least lengths keeps, and what it comes to.
-use Rattle.std.proofs.Common.{◌≡◌, ◌≢◌, ℕ, zero, suc, ◌+◌, ◌*◌, ◌<◌, ◌≤◌, ◌⊎◌, Bool, true, false, cond, min, List, [], ◌∷◌, length, set, get_or, replicate, count_by, Option, Some, None, option_map, refl, sym, ◌∙◌, subst, ap, inl, inr, arith, length-set, get_or-set_same, get_or-set_other}
+use Rattle.std.proofs.Common.{◌≡◌, ◌≢◌, ℕ, ◌+◌, ◌*◌, ◌<◌, ◌≤◌, ◌⊎◌, Bool, true, false, cond, min, List, length, set, get_or, replicate, count_by, Option, Some, None, option_map, refl, sym, ◌∙◌, subst, ap, inl, inr, arith, length-set, get_or-set_same, get_or-set_other}
 use Rattle.std.proofs.lemmas.Bool.{cases_eq, cases_lt}
 use Rattle.std.proofs.lemmas.List.{get_or_past, get_or-replicate, length-replicate}
 use Rattle.std.proofs.lemmas.List.Sums.{sum_by-set, count_by-le-length}
@@ -11,7 +11,7 @@ use Rattle.bot_ways.specs.Walks.{length_to}
 use Rattle.bot_ways.specs.Ways.{IsBefore, IsAtMost, IsCertificate}
 use Rattle.bot_ways.specs.Search.{lesser, through, AreTried, is_settled, IsNearestOpen, AreSettled}
 use Rattle.bot_ways.proofs.EdgeParts.{edge_most, to_within}
-use Rattle.bot_ways.proofs.Lengths.{within_of, at_most_of, at_most_more, length_within, same_length}
+use Rattle.bot_ways.proofs.Lengths.{within_of, at_most_more, length_within, same_length, HasLength}
 
 -- how many waypoints have been tried
 abbrev pub tried : List Bool → ℕ
@@ -22,11 +22,6 @@ pub record HasTriedBefore (map : MapView) (least : List (Option ℕ)) (settled :
   pub waypoint : ℕ
   pub is_tried : is_settled settled waypoint ≡ true
   pub before : IsBefore map least waypoint v
-
--- there is a length
-pub record HasLength (o : Option ℕ) : Type 0 where
-  pub number : ℕ
-  pub is : o ≡ Some number
 
 -- the lengths so far are lengths of walks, and those of the waypoints whose edges have been tried are at most the others
 -- and don't change any more

@@ -1,12 +1,12 @@
 -- The way back from a waypoint to waypoint 0.
-use Rattle.std.proofs.Common.{◌≡◌, ◌≢◌, ℕ, zero, suc, ◌+◌, ◌<◌, ◌≤◌, Bool, true, false, cond, nat_lt, List, [], ◌∷◌, ◌++◌, length, get_or, count_by, Option, Some, None, IfSome, refl, sym, ◌∙◌, subst, ap, inl, inr, arith, append_assoc}
+use Rattle.std.proofs.Common.{◌≡◌, ℕ, zero, suc, ◌+◌, ◌<◌, ◌≤◌, Bool, true, false, cond, nat_lt, List, [], ◌∷◌, ◌++◌, length, get_or, count_by, Option, Some, None, IfSome, refl, sym, ◌∙◌, subst, ap, inl, inr, arith, append_assoc}
 use Rattle.std.proofs.lemmas.Bool.{ltb-true, ltb-false, cases_eq}
 use Rattle.std.proofs.lemmas.List.Sums.{sum_by-cons}
 use Rattle.arena_map.specs.Maps.{MapView}
 use Rattle.bot_ways.specs.Edges.{edge}
-use Rattle.bot_ways.specs.Walks.{IsWalk, alone, longer, IsUnreached, length_to}
+use Rattle.bot_ways.specs.Walks.{IsWalk, alone, longer, length_to}
 use Rattle.bot_ways.specs.Ways.{IsBefore, IsLeastBefore, IsWay, start, next, HasBefore, IsCertificate}
-use Rattle.bot_ways.proofs.EdgeParts.{edge_least, from_within}
+use Rattle.bot_ways.proofs.EdgeParts.{edge_least}
 use Rattle.bot_ways.proofs.Lengths.{length_within, same_length}
 
 -- ---- what is before
@@ -221,15 +221,7 @@ module _ (map : MapView) (least : List (Option ℕ)) (cert : IsCertificate map l
       let w = subst (λ (x : ℕ). IsWalk map x target way back.walked) zero_first back.walk in
       subst (IsWalk map 0 target way) same w
 
--- ---- lengths that are there
-
-pub record HasLength (o : Option ℕ) : Type 0 where
-  pub number : ℕ
-  pub is : o ≡ Some number
-
-pub has_length : (o : Option ℕ) → o ≢ None → HasLength o
-has_length None apart = absurd (apart refl)
-has_length (Some n) apart = record { number = n; is = refl }
+-- ---- the target's length
 
 pub if_some : (o : Option ℕ) (P : ℕ → Type 0) → ((n : ℕ) → o ≡ Some n → P n) → IfSome o P
 if_some None P each = tt

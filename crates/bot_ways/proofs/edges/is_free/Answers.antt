@@ -1,4 +1,3 @@
-use Rattle.std.proofs.Common.{subst, sym}
 use Rattle.bot_ways.proofs.EdgeParts.{end_in_range}
 use Rattle.bot_ways.proofs.edges.is_free.Goals as goal
 

@@ -1,4 +1,3 @@
-use Rattle.std.proofs.Common.{◌≡◌}
 use Rattle.bot_ways.proofs.Certificates.{certified, unreached}
 use Rattle.bot_ways.proofs.plan.plan_way.Goals as goal
 

@@ -1,6 +1,7 @@
-use Rattle.std.proofs.Common.{◌≡◌, ℕ, ◌<◌, List, [], ◌∷◌, length, ap, ◌∙◌, arith}
+use Rattle.std.proofs.Common.{ℕ, List, ◌∷◌, ap, ◌∙◌, arith}
 use Rattle.bot_ways.specs.Walks.{IsWalk, length_to}
-use Rattle.bot_ways.proofs.WaysBack.{has_length, if_some, back_first, back_room, back_next, back_start, back_way, back_walk}
+use Rattle.bot_ways.proofs.Lengths.{has_length}
+use Rattle.bot_ways.proofs.WaysBack.{if_some, back_first, back_room, back_next, back_start, back_way, back_walk}
 use Rattle.bot_ways.proofs.plan.way_back.Goals as goal
 
 pub loop-before-init : goal.loop-before-init

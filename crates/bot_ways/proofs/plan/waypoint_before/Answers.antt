@@ -1,7 +1,7 @@
-use Rattle.std.proofs.Common.{◌≡◌, ℕ, length, List, IsTrue, true, sym, ap, subst, inl, inr, arith}
+use Rattle.std.proofs.Common.{◌≡◌, ℕ, length, List, IsTrue, sym, ap, subst, inl, inr, arith}
 use Rattle.std.proofs.lemmas.Bool.{cases_lt}
 use Rattle.arena_geo.specs.declared.vec3.Vec3.{Vec3}
-use Rattle.bot_ways.specs.Ways.{IsBefore, IsLeastBefore}
+use Rattle.bot_ways.specs.Ways.{IsBefore}
 use Rattle.bot_ways.proofs.EdgeParts.{from_within}
 use Rattle.bot_ways.proofs.Searching.{not_both}
 use Rattle.bot_ways.proofs.plan.waypoint_before.Goals as goal

@@ -1,4 +1,4 @@
-use Rattle.std.proofs.Common.{◌≡◌, ◌<◌, List, length, set, ap, refl, arith}
+use Rattle.std.proofs.Common.{◌≡◌, List, length, set, ap, refl, arith}
 use Rattle.arena_geo.specs.declared.vec3.Vec3.{Vec3}
 use Rattle.bot_ways.specs.Walks.{length_to}
 use Rattle.bot_ways.specs.Search.{lesser, through}
