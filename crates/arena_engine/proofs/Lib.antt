@@ -8,3 +8,4 @@ pub mod Taken
 pub mod Exits
 pub mod Playing
 mod Running
+pub mod Summing

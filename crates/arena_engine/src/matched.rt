@@ -1,16 +1,53 @@
+ghost use Rattle.std.specs.Prelude.{◌≡◌, ◌≤◌, [], IsOk, IsOkAnd};
+ghost use Rattle.std.specs.Io.KnownBytes.{Appends};
+ghost use Rattle.edge_io.specs.Writes.{AppendsPart};
 ghost use Rattle.move_phase.specs.Serving.{AreWorkers};
 ghost use Rattle.match_play.specs.Matches.{IsMatch};
 ghost use Rattle.arena_engine.specs.Endings.{Counts};
-ghost use Rattle.arena_engine.specs.Making.{IsMatched};
+ghost use Rattle.arena_engine.specs.Making.{IsOfWriting, IsBare, IsMatched};
+ghost use Rattle.arena_engine.specs.Summaries.{summary_text};
 
 use crate::report::Report;
 use crate::summary::push_summary;
 use edge_io::{LineBuf, Sink, write_whole};
-use match_play::{MatchPlayed, play_match};
+use match_play::{Game, Totals, play_match};
 use shared_moves::Gate;
-use std::alloc::Global;
+use std::alloc::{AllocError, Global};
 use std::sync::Wait;
 use std::thread::Threads;
+
+/// Writes the line of the totals of a match, if it was played to its end. Whatever the status, the report has all
+/// journals of the match.
+fn sum_up<K: Sink>(
+    ended: Result<Totals, AllocError>,
+    game: Game,
+    line: &mut LineBuf,
+    sink: &mut K,
+) -> Report
+    requires { line.old ≡ [] }
+    ensures all { result.all ≡ game.journals }
+    ensures status { IsOfWriting result.status }
+    ensures bare { IsBare result }
+    ensures done { result.status ≡ 0 → IsOkAnd ended (λ totals. Appends (K.taken sink.old) (K.taken sink.new)
+        (summary_text totals)) }
+    ensures write_fault { result.status ≡ 4 → IsOkAnd ended (λ totals. AppendsPart (K.taken sink.old)
+        (K.taken sink.new)
+        (summary_text totals)) }
+    ensures memory { result.status ≡ 5 → sink.new ≡ sink.old }
+    ensures whole { (result.status ≡ 5 → ⊥) → IsOk ended }
+    ensures counts { Counts 4 (K.faults sink.old) (K.faults sink.new) result.status }
+    ensures sure { 300 ≤ K.room sink.old → result.status ≡ 4 → ⊥ }
+{
+    let all = game.into_journals();
+    let Ok(totals) = ended else {
+        return Report::of_status(5, None, all);
+    };
+    push_summary(&totals, line);
+    match write_whole(sink, line.as_slice()) {
+        Ok(()) => Report::of_status(0, None, all),
+        Err(_) => Report::of_status(4, None, all),
+    }
+}
 
 /// Plays the recording of this seed on these workers without writing it, and writes the line of its totals. The report
 /// has the journals of the frames that were run.
@@ -32,13 +69,9 @@ pub fn play_and_sum<R: Threads + Wait + Sync, K: Sink, G: Gate>(
     let Ok(mut line) = LineBuf::new(alloc) else {
         return Report::unserved(alloc, 5);
     };
-    let MatchPlayed { ended, all } = play_match(rt, alloc, seed, players, frames, workers, gate);
-    let Ok(totals) = ended else {
-        return Report::of_status(5, None, all);
+    let Ok(mut game) = Game::new(alloc) else {
+        return Report::unserved(alloc, 5);
     };
-    push_summary(&totals, &mut line);
-    match write_whole(sink, line.as_slice()) {
-        Ok(()) => Report::of_status(0, None, all),
-        Err(_) => Report::of_status(4, None, all),
-    }
+    let ended = play_match(rt, alloc, seed, players, frames, workers, gate, &mut game);
+    sum_up(ended, game, &mut line, sink)
 }

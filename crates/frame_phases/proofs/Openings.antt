@@ -4,7 +4,7 @@ use Rattle.arena_geo.specs.Bounds.{Bounds}
 use Rattle.entity_recs.specs.declared.rec.Rec.{Rec}
 use Rattle.arena_map.specs.Maps.{MapView, IsMap, entities_of}
 use Rattle.client_ports.specs.Clients.{no_clients}
-use Rattle.client_ports.specs.States.{state_of, IsServerState}
+use Rattle.client_ports.specs.States.{State, state_of, IsServerState}
 use Rattle.client_ports.specs.declared.client.Client.{Client}
 use Rattle.world_tree.specs.Worlds.{WorldView, empty_world, with_record, with_records}
 use Rattle.plain_server.specs.RecordsById.{with_record_at, opening}
@@ -35,14 +35,9 @@ nobody-joined map = refl
 pub opened-is : (map : MapView) (records : List (Option Rec)) (clients : List (Option Client)) → records ≡ (opening map).records → clients ≡ no_clients → state_of clients records ≡ opening map
 opened-is map records clients records_are nobody = λ i. state_of ((nobody ∙ sym (nobody-joined map)) i) (records_are i)
 
--- a server whose state is the opening one, and whose two worlds are the opening one
-pub first_server : (map one other : MapView) (clients : List (Option Client)) (w v : WorldView) → one ≡ map → other ≡ map → IsMap map → state_of clients w.records ≡ opening one
-    → w ≡ with_records (empty_world one.bounds) (entities_of one) → v ≡ with_records (empty_world other.bounds) (entities_of other)
-    → IsServer map (state_of clients w.records) × (v.tree ≡ w.tree)
-first_server map one other clients w v one_is other_is is_map state world next = (
-  record {
-    is_map = is_map;
-    fits = subst (IsServerState map) (sym (state ∙ ap opening one_is)) (opening_is map is_map);
-  },
-  ap (λ (u : WorldView). u.tree) (next ∙ ap (λ (m : MapView). with_records (empty_world m.bounds) (entities_of m)) (other_is ∙ sym one_is) ∙ sym world),
-)
+-- a server whose state is the opening one
+pub first_server : (map one : MapView) (state : State) → one ≡ map → IsMap map → state ≡ opening one → IsServer map state
+first_server map one state one_is is_map is = record {
+  is_map = is_map;
+  fits = subst (IsServerState map) (sym (is ∙ ap opening one_is)) (opening_is map is_map);
+}

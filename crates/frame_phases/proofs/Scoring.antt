@@ -1,11 +1,10 @@
 -- The scores of the live players, slot after slot.
-use Rattle.std.proofs.Common.{◌≡◌, ℕ, suc, ◌+◌, List, [], ◌++◌, take, Option, Some, None, add-one, refl, sym, ap, ◌∙◌, arith}
+use Rattle.std.proofs.Common.{◌≡◌, ℕ, ◌+◌, List, take, Option, Some, None, add-one, refl, sym, ap, ◌∙◌, arith}
 use Rattle.std.specs.Prelude.{sum_by}
 use Rattle.std.specs.Option.{option_to_list}
 use Rattle.std.proofs.lemmas.List.Sums.{sum_by-append}
 use Rattle.entity_recs.specs.declared.rec.Rec.{Rec}
 use Rattle.world_tree.specs.Live.{record_at, live_in, AreEntries}
-use Rattle.plain_server.specs.Replies.{players_in}
 use Rattle.plain_server.proofs.SlotPlayers.{players_are_first, live-suc}
 use Rattle.frame_phases.specs.Scores.{score_at, score_in}
 

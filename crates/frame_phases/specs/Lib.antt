@@ -15,7 +15,9 @@ pub use Rattle.arena_map.specs.Validity
 pub use Rattle.move_journal.specs.Merges
 pub use Rattle.move_journal.specs.Logs
 pub use Rattle.move_phase.specs.Serving
+pub use Rattle.move_phase.specs.Starting
 pub mod Servers
+pub mod Finishes
 pub mod Scores
 pub mod FrameOuts
 pub mod ReplyLoans

@@ -11,6 +11,7 @@ pub use slots::{MOST_SLOTS, SlotList};
 mod frame_out;
 mod laws;
 mod limits;
+mod phases;
 mod replies;
 mod scores;
 mod server;

@@ -9,17 +9,14 @@ ghost use Rattle.frame_phases.specs.Servers.{server_after};
 ghost use Rattle.frame_phases.specs.FrameOuts.{IsEmpty};
 
 use crate::frame_out::FrameOut;
+use crate::phases::{States, begin_frame, finish_frame};
 use crate::scores::score_of;
-use crate::shows::show_players;
-use crate::state::State;
 use arena_actions::ArenaAction;
 use arena_map::ArenaMap;
 use client_ports::Arrival;
-use move_phase::run_moves;
 use shared_moves::Gate;
 use std::alloc::{AllocError, Global};
 use std::marker::Model;
-use std::mem;
 use std::sync::Wait;
 use std::thread::Threads;
 
@@ -27,10 +24,7 @@ use std::thread::Threads;
 #[derive(Drop)]
 pub struct Server {
     action: ArenaAction,
-    state: State,
-    /// What a frame works on, before it becomes the state. Between two frames it has the state before the last one.
-    next: State,
-    frames: u32,
+    states: States,
 }
 
 // Clauses see the map, the clients by slot beside the records by id, and the number of frames.
@@ -41,10 +35,11 @@ impl Model for Server {
 
     ghost Value = { ServerView };
 
-    ghost view = { λ s. server_view s.action.map (state_of s.state.ports s.state.world.records) s.frames };
+    ghost view = { λ s. server_view s.action.map (state_of s.states.state.ports s.states.state.world.records)
+        s.states.frames };
 
-    ghost invariant = { λ s. IsServer s.action.map (state_of s.state.ports s.state.world.records)
-        × (s.next.world.tree ≡ s.state.world.tree) };
+    ghost invariant = { λ s. IsServer s.action.map (state_of s.states.state.ports s.states.state.world.records)
+        × (s.states.next.world.tree ≡ s.states.state.world.tree) };
 }
 
 impl Server {
@@ -59,28 +54,22 @@ impl Server {
         ensures rules { OnOk result (IsMap map) }
     {
         let action = ArenaAction::new(map);
-        let state = State::opening(alloc, action.map())?;
-        let next = State::opening(alloc, action.map())?;
-        Ok(Server {
-            action,
-            state,
-            next,
-            frames: 0,
-        })
+        let states = States::opening(alloc, action.map())?;
+        Ok(Server { action, states })
     }
 
     /// How many frames were run.
     pub fn frames(&self) -> u32
         ensures { result ≡ self.now.frames }
     {
-        self.frames
+        self.states.frames()
     }
 
     /// The sum of the scores of the live players.
     pub fn score(&self) -> u64
         ensures { result ≡ score_in self.now.state.records }
     {
-        score_of(&self.state.world)
+        score_of(&self.states.state().world)
     }
 }
 
@@ -121,36 +110,21 @@ pub fn run_frame<R: Threads + Wait + Sync, G: Gate>(
     ensures emptied { OnErr result (IsEmpty out.new) }
 {
     out.clear();
-    server.next.copy_from(&server.state);
-    server.next.receive(
-        server.action.map(),
-        server.frames,
-        arrivals,
-        &mut out.received,
-    );
-    if let Err(error) = run_moves(
-        rt,
+    match begin_frame(
         alloc,
         &server.action,
-        &mut server.next.world,
-        out.received.moves(),
+        &mut server.states,
+        arrivals,
         workers,
-        gate,
-        &mut out.journal,
+        &mut out.received,
     ) {
-        out.clear();
-        return Err(error);
+        Ok(started) => {
+            finish_frame(rt, &mut server.states, started, gate, out);
+            Ok(())
+        }
+        Err(error) => {
+            out.clear();
+            Err(error)
+        }
     }
-    show_players(
-        rt,
-        &server.next.world,
-        server.frames,
-        &mut out.slots,
-        &mut out.replies,
-    );
-    server.next.ports.finish(&mut server.next.world);
-    mem::swap(&mut server.state, &mut server.next);
-    out.frame = server.frames;
-    server.frames += 1;
-    Ok(())
 }

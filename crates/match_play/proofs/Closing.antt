@@ -13,9 +13,9 @@ use Rattle.match_play.specs.Totals.{totals_with}
 use Rattle.match_play.specs.Games.{GameView, RunsFrame, Closes, ClosesFrame}
 
 -- the game with these parts
-abbrev pub game_with : ServerView → Bool → List Arrival → Totals → GameView
-game_with server is_open arrivals totals =
-    record { server = server; opened = if is_open then Some arrivals else None; totals = totals }
+abbrev pub game_with : ServerView → Bool → List Arrival → Totals → List JournalView → GameView
+game_with server is_open arrivals totals journals =
+    record { server = server; opened = if is_open then Some arrivals else None; totals = totals; journals = journals }
 
 -- what the calls of a frame ensure
 pub record IsRun (workers : ℕ) (old new : ServerView) (arrivals : List Arrival) (lists : Lists) (journal : List Entry) : Type 0 where
@@ -29,14 +29,14 @@ opened-is true arrivals opens = refl
 opened-is false arrivals opens = cc
 
 -- the frame that was open was run
-pub closes-frame : (workers : ℕ) (old g : GameView) (server new : ServerView) (is_open : Bool) (arrivals : List Arrival) (totals : Totals) (lists : Lists) (journal : JournalView) (score : ℕ)
-    (before after : List JournalView) → game_with server is_open arrivals totals ≡ old → is_open ≡ true → IsRun workers server new arrivals lists journal.entries → score ≡ score_in new.state.records
-    → after ≡ before ++ journal ∷ [] → g.server ≡ new → g.totals ≡ totals_with totals lists journal.entries score
-    → ClosesFrame workers old g before after
-closes-frame workers old g server new is_open arrivals totals lists journal score before after view opens run scored kept is_new counted =
-    let P : Option (List Arrival) → Type 0 = λ o. Closes workers o (game_with server is_open arrivals totals) g before after in
-    let Q : GameView → Type 0 = λ h. ClosesFrame workers h g before after in
-    let runs : RunsFrame workers (game_with server is_open arrivals totals) g arrivals before after =
+pub closes-frame : (workers : ℕ) (old g : GameView) (server new : ServerView) (is_open : Bool) (arrivals : List Arrival) (totals : Totals) (before : List JournalView) (lists : Lists) (journal : JournalView)
+    (score : ℕ) → game_with server is_open arrivals totals before ≡ old → is_open ≡ true → IsRun workers server new arrivals lists journal.entries → score ≡ score_in new.state.records
+    → g.journals ≡ before ++ journal ∷ [] → g.server ≡ new → g.totals ≡ totals_with totals lists journal.entries score
+    → ClosesFrame workers old g
+closes-frame workers old g server new is_open arrivals totals before lists journal score view opens run scored kept is_new counted =
+    let P : Option (List Arrival) → Type 0 = λ o. Closes workers o (game_with server is_open arrivals totals before) g in
+    let Q : GameView → Type 0 = λ h. ClosesFrame workers h g in
+    let runs : RunsFrame workers (game_with server is_open arrivals totals before) g arrivals =
     record {
       journal = journal;
       kept = kept;
@@ -51,8 +51,8 @@ closes-frame workers old g server new is_open arrivals totals lists journal scor
     subst Q view (subst P (sym (opened-is is_open arrivals opens)) runs)
 
 -- it has few packets
-pub few-opened : (old : GameView) (server : ServerView) (is_open : Bool) (arrivals : List Arrival) (totals : Totals) → game_with server is_open arrivals totals ≡ old → is_open ≡ true
-    → IfSome old.opened (λ arrivals. length arrivals ≤ 512) → length arrivals ≤ 512
-few-opened old server is_open arrivals totals view opens few =
+pub few-opened : (old : GameView) (server : ServerView) (is_open : Bool) (arrivals : List Arrival) (totals : Totals) (journals : List JournalView) → game_with server is_open arrivals totals journals ≡ old
+    → is_open ≡ true → IfSome old.opened (λ arrivals. length arrivals ≤ 512) → length arrivals ≤ 512
+few-opened old server is_open arrivals totals journals view opens few =
     let P : Option (List Arrival) → Type 0 = λ o. IfSome o (λ arrivals. length arrivals ≤ 512) in
     subst P (opened-is is_open arrivals opens) (subst P (sym (ap (λ (g : GameView). g.opened) view)) few)

@@ -8,7 +8,6 @@ use Rattle.client_ports.specs.declared.arrival.Arrival.{Arrival}
 use Rattle.demo_lines.specs.declared.event.Event.{Event}
 use Rattle.demo_lines.specs.declared.event.Event.TheVariants.{Frame, From, End}
 use Rattle.demo_lines.specs.Spelling.{frame_events, recording_events}
-use Rattle.arena_map.specs.Maps.{MapView}
 use Rattle.move_journal.specs.Logs.{JournalView}
 use Rattle.frame_phases.specs.Servers.{ServerView}
 use Rattle.demo_make.specs.GeneratedMap.{generated_map}
@@ -16,7 +15,7 @@ use Rattle.demo_make.specs.GeneratedFrames.{arrivals_in, generated_frames, gener
 use Rattle.match_play.specs.declared.totals.Totals.{Totals}
 use Rattle.out_text.specs.Collecting.{closing}
 use Rattle.match_play.specs.Games.{GameView, GoesOn, IsReady, new_game}
-use Rattle.match_play.specs.Matches.{entries_of}
+use Rattle.match_play.specs.Matches.{HasEachJournal, entries_of}
 use Rattle.match_play.proofs.Playing.{IsUnderWay, under_way-start, under_way-closed, may_close}
 
 -- one packet more of the frame that is open
@@ -55,46 +54,50 @@ unfolding generated_events
 generated-closes seed players frames = recording-closes (generated_frames seed players frames)
 
 module _ (seed players workers frames : ℕ) where
+  -- the game of a match, in which events with these frames are left
+  abbrev pub IsGameUnderWay : GameView → List Event → Type 0
+  IsGameUnderWay g events = IsUnderWay seed players workers frames g.server g.totals (entries_of g.journals) (closed_by g.opened events)
+
   -- a match begins
-  pub under_way-first : (m : MapView) (g : GameView) (kept : List JournalView) (events : List Event) → m ≡ generated_map → g ≡ new_game m → kept ≡ [] → events ≡ generated_events seed players frames
-      → IsUnderWay seed players workers frames g.server g.totals (entries_of kept) (closed_by g.opened events)
-  under_way-first m g kept events map_is game_is none events_are =
-      let fresh : g ≡ new_game generated_map = game_is ∙ ap new_game map_is in
-      subst (λ (h : GameView). IsUnderWay seed players workers frames h.server h.totals (entries_of kept) (closed_by h.opened events)) (sym fresh)
-      (subst (λ (js : List JournalView). IsUnderWay seed players workers frames (new_game generated_map).server (new_game generated_map).totals (entries_of js) (closed_by None events)) (sym none)
+  pub under_way-first : (g : GameView) (events : List Event) → g ≡ new_game generated_map → events ≡ generated_events seed players frames → IsGameUnderWay g events
+  under_way-first g events fresh events_are =
+      subst (λ (h : GameView). IsGameUnderWay h events) (sym fresh)
       (subst (λ (fs : List (List Arrival)). IsUnderWay seed players workers frames (new_game generated_map).server (new_game generated_map).totals [] fs) (sym (ap (closed_by None) events_are ∙ generated-closes seed players frames))
-      (under_way-start seed players workers frames)))
+      (under_way-start seed players workers frames))
 
   -- a match goes on by an event
-  pub under_way-next : (old new : GameView) (e : Event) (before after : List JournalView) (more : List Event)
-      → IsUnderWay seed players workers frames old.server old.totals (entries_of before) (closed_by old.opened (e ∷ more)) → GoesOn workers old new e before after
-      → IsUnderWay seed players workers frames new.server new.totals (entries_of after) (closed_by new.opened more)
-  under_way-next old new Frame before after more under goes =
-      subst (λ (o : Option (List Arrival)). IsUnderWay seed players workers frames new.server new.totals (entries_of after) (closed_by o more)) (sym goes.1)
-      (under_way-closed seed players workers frames old new old.opened before after (closed_by (Some []) more) under goes.0)
-  under_way-next old new (From a) before after more under goes =
-      subst (λ (o : Option (List Arrival)). IsUnderWay seed players workers frames new.server new.totals (entries_of after) (closed_by o more)) (sym goes.0.opened_is)
-      (subst (λ (js : List JournalView). IsUnderWay seed players workers frames new.server new.totals (entries_of js) (closed_by (with_packet a old.opened) more)) (sym goes.1)
-      (subst (λ (t : Totals). IsUnderWay seed players workers frames new.server t (entries_of before) (closed_by (with_packet a old.opened) more)) (sym goes.0.totals)
-      (subst (λ (t : ServerView). IsUnderWay seed players workers frames t old.totals (entries_of before) (closed_by (with_packet a old.opened) more)) (sym goes.0.server) under)))
-  under_way-next old new End before after more under goes =
-      subst (λ (o : Option (List Arrival)). IsUnderWay seed players workers frames new.server new.totals (entries_of after) (closed_by o more)) (sym goes.1)
-      (under_way-closed seed players workers frames old new old.opened before after (closed_by None more) under goes.0)
+  pub under_way-next : (old new : GameView) (e : Event) (more : List Event) → IsGameUnderWay old (e ∷ more) → GoesOn workers old new e → IsGameUnderWay new more
+  under_way-next old new Frame more under goes =
+      subst (λ (o : Option (List Arrival)). IsUnderWay seed players workers frames new.server new.totals (entries_of new.journals) (closed_by o more)) (sym goes.1)
+      (under_way-closed seed players workers frames old new old.opened (closed_by (Some []) more) under goes.0)
+  under_way-next old new (From a) more under goes =
+      subst (λ (o : Option (List Arrival)). IsUnderWay seed players workers frames new.server new.totals (entries_of new.journals) (closed_by o more)) (sym goes.opened_is)
+      (subst (λ (js : List JournalView). IsUnderWay seed players workers frames new.server new.totals (entries_of js) (closed_by (with_packet a old.opened) more)) (sym goes.journals)
+      (subst (λ (t : Totals). IsUnderWay seed players workers frames new.server t (entries_of old.journals) (closed_by (with_packet a old.opened) more)) (sym goes.totals)
+      (subst (λ (t : ServerView). IsUnderWay seed players workers frames t old.totals (entries_of old.journals) (closed_by (with_packet a old.opened) more)) (sym goes.server) under)))
+  under_way-next old new End more under goes =
+      subst (λ (o : Option (List Arrival)). IsUnderWay seed players workers frames new.server new.totals (entries_of new.journals) (closed_by o more)) (sym goes.1)
+      (under_way-closed seed players workers frames old new old.opened (closed_by None more) under goes.0)
 
   -- the event may come
-  pub is_ready : (room : ℕ) (g : GameView) (e : Event) (kept : List JournalView) (more : List Event) → players ≤ 64 → frames ≤ 100000 → frames ≤ room
-      → IsUnderWay seed players workers frames g.server g.totals (entries_of kept) (closed_by g.opened (e ∷ more)) → IsReady g e (length kept) room
-  is_ready room g Frame kept more few_players few_frames fits under =
-      may_close seed players workers frames room g g.opened kept (closed_by (Some []) more) refl few_players few_frames fits under
-  is_ready room g (From a) kept more few_players few_frames fits under = tt
-  is_ready room g End kept more few_players few_frames fits under =
-      may_close seed players workers frames room g g.opened kept (closed_by None more) refl few_players few_frames fits under
+  pub is_ready : (g : GameView) (e : Event) (more : List Event) → players ≤ 64 → frames ≤ 100000 → IsGameUnderWay g (e ∷ more) → IsReady g e
+  is_ready g Frame more few_players few_frames under = may_close seed players workers frames g g.opened (closed_by (Some []) more) refl few_players few_frames under
+  is_ready g (From a) more few_players few_frames under = tt
+  is_ready g End more few_players few_frames under = may_close seed players workers frames g g.opened (closed_by None more) refl few_players few_frames under
 
   -- where no event is left, all frames were run
-  pub all_run : (g : GameView) (kept : List JournalView) (events : List Event) → events ≡ []
-      → IsUnderWay seed players workers frames g.server g.totals (entries_of kept) (closed_by g.opened events) → length kept ≡ frames
-  all_run g kept events none under =
-      let left : [] ≡ map_list (arrivals_in seed players) (range_with_len (length (entries_of kept)) (frames - length (entries_of kept))) =
+  pub all_run : (g : GameView) (events : List Event) → events ≡ [] → IsGameUnderWay g events → length g.journals ≡ frames
+  all_run g events none under =
+      let left : [] ≡ map_list (arrivals_in seed players) (range_with_len (length (entries_of g.journals)) (frames - length (entries_of g.journals))) =
       sym (ap (closed_by g.opened) none) ∙ under.left_are in
-      let count = ap length left ∙ length-map-range_with_len (arrivals_in seed players) (length (entries_of kept)) (frames - length (entries_of kept)) in
-      omega (arith, count, under.within, length-map kept (λ (j : JournalView). j.entries))
+      let count = ap length left ∙ length-map-range_with_len (arrivals_in seed players) (length (entries_of g.journals)) (frames - length (entries_of g.journals)) in
+      omega (arith, count, under.within, length-map g.journals (λ (j : JournalView). j.entries))
+
+  -- the game has the journal of each frame that was run
+  pub each_kept : (g : GameView) (events : List Event) → IsGameUnderWay g events → HasEachJournal seed players workers g
+  each_kept g events under = record {
+    count = sym (ap (λ (t : ServerView). t.frames) under.server_is ∙ length-map g.journals (λ (j : JournalView). j.entries));
+    server_is = under.server_is;
+    right = under.right;
+    order = under.order;
+  }

@@ -163,11 +163,11 @@ module _ (seed players : ℕ) where
   entries-more before journal = map-append (λ (j : JournalView). j.entries) before (journal ∷ [])
 
   -- a frame was run
-  under_way-frame : (workers frames : ℕ) (old new : GameView) (a : List Arrival) (before after : List JournalView) (left : List (List Arrival))
-      → IsUnderWay workers frames old.server old.totals (entries_of before) (a ∷ left) → RunsFrame workers old new a before after
-      → IsUnderWay workers frames new.server new.totals (entries_of after) left
-  under_way-frame workers frames old new a before after left under runs =
-      let js = entries_of before in
+  under_way-frame : (workers frames : ℕ) (old new : GameView) (a : List Arrival) (left : List (List Arrival))
+      → IsUnderWay workers frames old.server old.totals (entries_of old.journals) (a ∷ left) → RunsFrame workers old new a
+      → IsUnderWay workers frames new.server new.totals (entries_of new.journals) left
+  under_way-frame workers frames old new a left under runs =
+      let js = entries_of old.journals in
       let j = runs.journal.entries in
       let next = next-left workers frames old.server old.totals js a left under in
       let r = received_next js in
@@ -185,7 +185,7 @@ module _ (seed players : ℕ) where
       ∙ ap (λ (s : State). totals_with (match_totals seed players js) r.lists j (score_in s.records)) (state-more js j)
       ∙ sym (totals-more js j) in
       let P : List (List Entry) → Type 0 = λ ks. IsUnderWay workers frames new.server new.totals ks left in
-      subst P (sym (ap entries_of runs.kept ∙ entries-more before runs.journal))
+      subst P (sym (ap entries_of runs.kept ∙ entries-more old.journals runs.journal))
       (record {
         server_is = new_is;
         right = right-more js j under.right right;
@@ -196,14 +196,14 @@ module _ (seed players : ℕ) where
       })
 
   -- the frame that was open was run, where one was
-  pub under_way-closed : (workers frames : ℕ) (old new : GameView) (o : Option (List Arrival)) (before after : List JournalView) (left : List (List Arrival))
-      → IsUnderWay workers frames old.server old.totals (entries_of before) (closing o ++ left) → Closes workers o old new before after
-      → IsUnderWay workers frames new.server new.totals (entries_of after) left
-  under_way-closed workers frames old new None before after left under runs =
+  pub under_way-closed : (workers frames : ℕ) (old new : GameView) (o : Option (List Arrival)) (left : List (List Arrival))
+      → IsUnderWay workers frames old.server old.totals (entries_of old.journals) (closing o ++ left) → Closes workers o old new
+      → IsUnderWay workers frames new.server new.totals (entries_of new.journals) left
+  under_way-closed workers frames old new None left under runs =
       subst (λ (js : List JournalView). IsUnderWay workers frames new.server new.totals (entries_of js) left) (sym runs.kept)
-      (subst (λ (t : Totals). IsUnderWay workers frames new.server t (entries_of before) left) (sym runs.totals)
-      (subst (λ (t : ServerView). IsUnderWay workers frames t old.totals (entries_of before) left) (sym runs.server) under))
-  under_way-closed workers frames old new (Some a) before after left under runs = under_way-frame workers frames old new a before after left under runs
+      (subst (λ (t : Totals). IsUnderWay workers frames new.server t (entries_of old.journals) left) (sym runs.totals)
+      (subst (λ (t : ServerView). IsUnderWay workers frames t old.totals (entries_of old.journals) left) (sym runs.server) under))
+  under_way-closed workers frames old new (Some a) left under runs = under_way-frame workers frames old new a left under runs
 
   arrivals-few : (frame : ℕ) → players ≤ 64 → length (arrivals_in seed players frame) ≤ 512
   arrivals-few frame few =
@@ -216,23 +216,19 @@ module _ (seed players : ℕ) where
       joins_few true = let e = length-map (ports players) join_from ∙ length-range_with_len 1 players in omega (arith, e)
       joins_few false = omega arith
 
-  -- a frame that is open may be closed, where there is room for the journals of all frames
-  pub may_close : (workers frames room : ℕ) (g : GameView) (o : Option (List Arrival)) (kept : List JournalView) (left : List (List Arrival)) → g.opened ≡ o → players ≤ 64 → frames ≤ 100000 → frames ≤ room
-      → IsUnderWay workers frames g.server g.totals (entries_of kept) (closing o ++ left) → MayClose g (length kept) room
-  may_close workers frames room g None kept left is few_players few_frames fits under = record {
+  -- a frame that is open may be closed
+  pub may_close : (workers frames : ℕ) (g : GameView) (o : Option (List Arrival)) (left : List (List Arrival)) → g.opened ≡ o → players ≤ 64 → frames ≤ 100000
+      → IsUnderWay workers frames g.server g.totals (entries_of g.journals) (closing o ++ left) → MayClose g
+  may_close workers frames g None left is few_players few_frames under = record {
     few = subst (λ (o : Option (List Arrival)). IfSome o (λ arrivals. length arrivals ≤ 512)) (sym is) tt;
     frames = subst (λ (o : Option (List Arrival)). IfSome o (λ _. g.server.frames < 100000)) (sym is) tt;
-    room_is = subst (λ (o : Option (List Arrival)). IfSome o (λ _. length kept < room)) (sym is) tt;
   }
-  may_close workers frames room g (Some a) kept left is few_players few_frames fits under =
-      let next = next-left workers frames g.server g.totals (entries_of kept) a left under in
-      let count = length-map kept (λ (j : JournalView). j.entries) in
+  may_close workers frames g (Some a) left is few_players few_frames under =
+      let next = next-left workers frames g.server g.totals (entries_of g.journals) a left under in
       let number = ap (λ (t : ServerView). t.frames) under.server_is in
-      let short : length a ≤ 512 = subst (λ (xs : List Arrival). length xs ≤ 512) (sym next.first) (arrivals-few (length (entries_of kept)) few_players) in
+      let short : length a ≤ 512 = subst (λ (xs : List Arrival). length xs ≤ 512) (sym next.first) (arrivals-few (length (entries_of g.journals)) few_players) in
       let early : g.server.frames < 100000 = omega (arith, number, next.some, few_frames) in
-      let place : length kept < room = omega (arith, next.some, count, fits) in
       record {
         few = subst (λ (o : Option (List Arrival)). IfSome o (λ arrivals. length arrivals ≤ 512)) (sym is) short;
         frames = subst (λ (o : Option (List Arrival)). IfSome o (λ _. g.server.frames < 100000)) (sym is) early;
-        room_is = subst (λ (o : Option (List Arrival)). IfSome o (λ _. length kept < room)) (sym is) place;
       }

@@ -1,12 +1,13 @@
 //! Matches: the recording that a number gives is played without being written.
 #![tactic(auto)]
 
+pub use game::Game;
 pub use laws::{
     counts_are_known, limits_are_known, matches_are_played_as_written, order_leaves_one_match,
     scores_are_of_the_clients, totals_are_of_the_output,
 };
 pub use limits::MOST_MATCH_FRAMES;
-pub use played::{MatchPlayed, play_match};
+pub use played::play_match;
 pub use totals::Totals;
 
 mod game;

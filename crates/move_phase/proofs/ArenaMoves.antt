@@ -1,5 +1,5 @@
 -- The moves of an arena on workers, against the plain server's worlds.
-use Rattle.std.proofs.Common.{◌≡◌, ℕ, ◌<◌, ◌==◌, true, List, [], ◌∷◌, ◌++◌, length, map, Option, refl, sym, ap, ◌∙◌, subst, arith}
+use Rattle.std.proofs.Common.{◌≡◌, ℕ, ◌<◌, ◌==◌, true, List, [], ◌∷◌, ◌++◌, length, map, Option, Some, Vec, Global, refl, sym, ap, ◌∙◌, subst, arith}
 use Rattle.std.specs.Prelude.{All}
 use Rattle.std.proofs.lemmas.Bool.{eqb-true}
 use Rattle.std.proofs.lemmas.List.Elements.{All-from_recursion, All-weaker}
@@ -16,13 +16,11 @@ use Rattle.arena_map.specs.Maps.{MapView, IsMap}
 use Rattle.arena_map.specs.Validity.{IsValidWorld}
 use Rattle.arena_actions.specs.declared.arena_action.ArenaAction.{ArenaAction}
 use Rattle.arena_actions.specs.Outcomes.{outcome_on}
-use Rattle.arena_actions.specs.Regions.{region_in}
 use Rattle.arena_actions.specs.Takes.{takes}
 use Rattle.arena_actions.specs.Lawful.Worlds.{valid_is_taken}
 use Rattle.world_tree.specs.Live.{live_in, ids_of}
 use Rattle.world_tree.specs.Worlds.{WorldView, IsLinked}
-use Rattle.core_steps.specs.Views.{Fixed, has}
-use Rattle.region_locks.specs.Starts.{fixed_by}
+use Rattle.core_steps.specs.Views.{has}
 use Rattle.plain_server.specs.RecordsById.{world_of, records_in}
 use Rattle.plain_server.specs.Moving.{HasLivePlayer}
 use Rattle.plain_server.proofs.ById.{records_in-world_of}
@@ -30,13 +28,10 @@ use Rattle.plain_server.proofs.Others.{each_live}
 use Rattle.plain_server.proofs.Players.{live_record}
 use Rattle.move_phase.specs.Numbers.{HaveSmallNumbers}
 use Rattle.move_phase.specs.Running.{HaveRun}
+use Rattle.region_locks.specs.Passes.{PassView, TableView}
+use Rattle.move_phase.specs.Starting.{StartedView, fixed_of_arena, IsSharedFor, IsSharedForAny, AreStarted}
 use Rattle.move_phase.proofs.StartWorlds.{start_world_is, live_is_listed, records_are}
 use Rattle.move_phase.proofs.Journals.{history_is_run, journal_right}
-
--- what doesn't change, of an arena's action and a world
-abbrev pub fixed_of_arena : ArenaAction → WorldView → Fixed
-fixed_of_arena action world =
-    fixed_by (λ (a : ArenaAction). takes a.map) (λ (a : ArenaAction). region_in a.map) (λ (a : ArenaAction). outcome_on a.map) action world
 
 -- ---- what is asked
 
@@ -91,10 +86,20 @@ none_asked moves none = ap (map command_of) (no_items moves none)
 
 -- ---- where there are some
 
--- the same logs, as they are lent
-pub ran_as_lent : (F : Fixed) (workers : ℕ) (commands : List Command) (logs lent : List LogView) (world : WorldView) → lent ≡ logs
-    → HaveRun F workers commands logs world → HaveRun F workers commands lent world
-ran_as_lent F workers commands logs lent world same ran = subst (λ (views : List LogView). HaveRun F workers commands views world) (sym same) ran
+-- what the shared world of started moves is, where there is one
+pub shared_of : (world : WorldView) (commands : List Command) (s : StartedView) (table : TableView ArenaAction) (passes : Vec PassView Global) → s.shared ≡ Some (table, passes) → AreStarted world commands s
+    → IsSharedFor s.action s.workers world commands table passes.items
+shared_of world commands s table passes is started = subst (IsSharedForAny s.action s.workers world commands) is started.shared_for
+
+-- what was run on it was run in the world and by the workers that the moves were started for
+pub ran_as_started : (world new : WorldView) (commands : List Command) (s : StartedView) (table : TableView ArenaAction) (passes : List PassView) (workers : ℕ) (logs lent : List LogView)
+    → IsSharedFor s.action s.workers world commands table passes → workers ≡ s.workers → lent ≡ logs
+    → HaveRun (fixed_of_arena table.action table.world) workers commands logs new → HaveRun (fixed_of_arena s.action world) s.workers commands lent new
+ran_as_started world new commands s table passes workers logs lent shared workers_are lent_is ran =
+    subst (λ (views : List LogView). HaveRun (fixed_of_arena s.action world) s.workers commands views new) (sym lent_is)
+    (subst (λ (n : ℕ). HaveRun (fixed_of_arena s.action world) n commands logs new) workers_are
+    (subst (λ (w : WorldView). HaveRun (fixed_of_arena s.action w) workers commands logs new) shared.world_is
+    (subst (λ (a : ArenaAction). HaveRun (fixed_of_arena a table.world) workers commands logs new) shared.action_is ran)))
 
 module _ (action : ArenaAction) (old new : WorldView) (workers : ℕ) (commands : List Command) (logs : List LogView)
     (ran : HaveRun (fixed_of_arena action old) workers commands logs new) (some : 0 < workers) (apart : HasNumbersApart commands)

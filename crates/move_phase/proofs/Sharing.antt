@@ -1,5 +1,5 @@
--- What all passes have done once they have served their shares.
-use Rattle.std.proofs.Common.{◌≡◌, ℕ, ◌+◌, ◌<◌, List, [], ◌∷◌, ◌++◌, length, map, slice_index_or, refl, sym, ap, ◌∙◌, subst, arith}
+-- What new passes may serve, and what all have done once they have served their shares.
+use Rattle.std.proofs.Common.{◌≡◌, ℕ, ◌+◌, ◌<◌, List, [], ◌∷◌, ◌++◌, length, map, slice_index_or, take, Vec, Global, Result, Ok, Err, IfOk, refl, sym, ap, ◌∙◌, subst, arith}
 use Rattle.std.specs.Prelude.{All, Bool}
 use Rattle.std.specs.List.{range_with_len}
 use Rattle.std.proofs.lemmas.List.{length-map, get_or-map, ext_get_or}
@@ -17,8 +17,9 @@ use Rattle.region_locks.specs.Starts.{fixed_by}
 use Rattle.region_locks.specs.Passes.{PassView, TableView, IsPassOf, fixed_in, new_passes, first_pass}
 use Rattle.region_locks.specs.Closing.{HasNoCommand, IsClosed, log_from}
 use Rattle.move_phase.specs.Serving.{served_by, entries_from}
-use Rattle.move_phase.specs.Running.{HasServed, HaveRun}
-use Rattle.move_phase.proofs.NewPasses.{IsNew, new_at, new_count}
+use Rattle.move_phase.specs.Running.{AreOfLive, HasServed, HaveRoom, HaveRun}
+use Rattle.move_phase.specs.Sharing.{IsReadyFor}
+use Rattle.move_phase.proofs.NewPasses.{IsNew, new_at, new_count, rooms_are}
 
 -- what doesn't change of a table is what its action and its world give
 pub fixed_is : {A : Type 0} (takes : A → Rec → Bool) (region : A → Rec → Command → List Bounds) (effect : A → Rec → List Rec → Command → Effect)
@@ -98,3 +99,24 @@ module _ (F : Fixed) (table : TableId) (commands : List Command) (rooms : List �
         ap commands_of (get_or-map (λ (p : PassView). p.view.log) new i first d within_new) ∙ log_at i first within;
     closed = closed;
   }
+
+-- what a new table and its passes are ready for
+pub ready_for : (F : Fixed) (table : TableId) (workers k : ℕ) (commands : List Command) (all rooms : List ℕ) (passes : List PassView) → k ≡ workers → HaveRoom workers commands all → rooms ≡ take k all
+    → passes ≡ new_passes table (take k all) → All (IsPassOf F (length rooms) table) passes → AreOfLive F commands → IsReadyFor F workers commands table rooms passes
+ready_for F table workers k commands all rooms passes k_is room rooms_is begun own live =
+    let are = rooms_are workers k commands all rooms k_is room rooms_is in
+    record { count = are.count; room = are.room; begun = begun ∙ ap (new_passes table) (sym rooms_is); own = own; live = live }
+
+-- so they are, where the memory for them was taken
+pub ready_if_taken : {A E : Type 0} (takes : A → Rec → Bool) (region : A → Rec → Command → List Bounds) (effect : A → Rec → List Rec → Command → Effect) (action : A) (world : WorldView)
+    (workers k : ℕ) (commands : List Command) (all : List ℕ) (r : Result (TableView A × Vec PassView Global) E) → k ≡ workers → HaveRoom workers commands all
+    → AreOfLive (fixed_by takes region effect action world) commands
+    → IfOk r (λ s. (s.0.action ≡ action) × (s.0.world ≡ world) × (s.0.rooms ≡ take k all))
+    → IfOk r (λ s. s.1.items ≡ new_passes s.0.table (take k all))
+    → IfOk r (λ s. All (IsPassOf (fixed_in takes region effect s.0) (length s.0.rooms) s.0.table) s.1.items)
+    → IfOk r (λ s. IsReadyFor (fixed_in takes region effect s.0) workers commands s.0.table s.0.rooms s.1.items)
+ready_if_taken takes region effect action world workers k commands all (Ok s) k_is room live shared begun own =
+    let same = fixed_is takes region effect s.0 action world shared.0 shared.1 in
+    ready_for (fixed_in takes region effect s.0) s.0.table workers k commands all s.0.rooms s.1.items k_is room shared.2 begun own
+    (subst (λ (F : Fixed). AreOfLive F commands) (sym same) live)
+ready_if_taken takes region effect action world workers k commands all (Err e) k_is room live shared begun own = tt

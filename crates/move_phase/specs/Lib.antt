@@ -5,4 +5,6 @@ pub use Rattle.plain_server.specs.RecordsById
 pub use Rattle.plain_server.specs.Moving
 pub mod Serving
 pub mod Running
+pub mod Sharing
+pub mod Starting
 pub mod Numbers

@@ -8,7 +8,7 @@ ghost use Rattle.plain_server.specs.Moving.{HasLivePlayer};
 ghost use Rattle.world_tree.specs.Worlds.{IsLinked};
 ghost use Rattle.move_phase.specs.Serving.{AreWorkers};
 
-use crate::run_moves;
+use crate::StartedMoves;
 use arena_actions::ArenaAction;
 use arena_geo::Vec3;
 use arena_map::{ArenaMap, MapLine, MapRefusal};
@@ -142,16 +142,10 @@ fn reach(
     let mut received = Received::new(rt.alloc(), 4)?;
     receive(&map, &mut world, &mut received);
     let mut journal = Journal::new(rt.alloc(), 512)?;
-    run_moves(
-        rt,
-        rt.alloc(),
-        &ArenaAction::new(map),
-        &mut world,
-        received.moves(),
-        workers,
-        &NoGate,
-        &mut journal,
-    )?;
+    let action = ArenaAction::new(map);
+    let moves = received.moves();
+    let started = StartedMoves::start(rt.alloc(), &action, &world, moves, workers)?;
+    started.run(rt, &mut world, moves, &NoGate, &mut journal);
     Ok(journal)
 }
 

@@ -1,47 +1,67 @@
-ghost use Rattle.std.specs.Prelude.{◌≡◌, ◌<◌, ◌≤◌, ◌^◌, true, [], map, length, All, OnOk, OnErr};
+ghost use Rattle.std.specs.Prelude.{◌≡◌, ◌<◌, ◌≤◌, ◌^◌, true, [], map, length, All, IfOk};
 ghost use Rattle.entity_recs.specs.Commands.{command_of};
 ghost use Rattle.world_tree.specs.Live.{live_in};
 ghost use Rattle.world_tree.specs.Worlds.{IsLinked};
+ghost use Rattle.region_locks.specs.Passes.{fixed_in};
 ghost use Rattle.region_locks.specs.Starts.{fixed_by};
 ghost use Rattle.move_phase.specs.Running.{AreOfLive, HaveRun};
+ghost use Rattle.move_phase.specs.Sharing.{IsReadyFor};
 
 use crate::rooms::rooms;
 use crate::serve::run_passes;
 use entity_recs::{Action, Cmd};
 use move_journal::LogList;
+use region_locks::PassList;
 use shared_moves::{Gate, Shared};
 use std::alloc::{AllocError, Global};
 use std::sync::Wait;
 use std::thread::Threads;
 use world_tree::World;
 
-/// Shares the world among the workers, runs the moves, and gives what was done to the world and to the empty list of
-/// logs. The only error is that memory is refused, and then no move was run.
+/// Shares the world among so many workers, each with a pass that has room for just the moves that it serves. The only
+/// error is that memory is refused.
+pub(crate) fn share<'a, A: Action>(
+    alloc: Global,
+    action: &'a A,
+    world: &World,
+    moves: &[Cmd],
+    workers: u8,
+) -> Result<(Shared<'a, A>, PassList<A>), AllocError>
+    requires workers { (0 < workers) × (workers ≤ 16) }
+    requires few { length moves.now < 2 ^ 32 }
+    requires taken { All (λ r. A.takes action.now r ≡ true) (live_in world.now.records) }
+    requires live { AreOfLive (fixed_by A.takes A.region_of A.effect_of action.now world.now)
+        (map command_of moves.now) }
+    ensures shared { IfOk result (λ s. (s.0.action ≡ action.now) × (s.0.world ≡ world.now)) }
+    ensures ready { IfOk result (λ s. IsReadyFor (fixed_in A.takes A.region_of A.effect_of s.0) workers
+        (map command_of moves.now) s.0.table s.0.rooms s.1.items) }
+{
+    let room = rooms(moves, workers);
+    Shared::start(alloc, action, world, &room[..usize::from(workers)])
+}
+
+/// Runs the moves on a world that was shared for them, and gives what was done to the world and to the empty list of
+/// logs. It takes no memory.
 pub(crate) fn run_on_workers<R: Threads + Wait + Sync, A: Action, G: Gate>(
     rt: &R,
-    alloc: Global,
-    action: &A,
+    shared: Shared<A>,
+    mut passes: PassList<A>,
     world: &mut World,
     moves: &[Cmd],
     workers: u8,
     gate: &G,
     logs: &mut LogList,
-) -> Result<(), AllocError>
-    requires workers { (0 < workers) × (workers ≤ 16) }
-    requires few { length moves.now < 2 ^ 32 }
-    requires taken { All (λ r. A.takes action.now r ≡ true) (live_in world.old.records) }
-    requires live { AreOfLive (fixed_by A.takes A.region_of A.effect_of action.now world.old)
-        (map command_of moves.now) }
+)
+    requires workers { 0 < workers }
+    requires ready { IsReadyFor (fixed_in A.takes A.region_of A.effect_of shared) workers (map command_of moves.now)
+        shared.table shared.rooms passes.items }
+    requires world { world.old ≡ shared.world }
     requires logs { logs.old ≡ [] }
-    ensures ran { OnOk result (HaveRun (fixed_by A.takes A.region_of A.effect_of action.now world.old) workers
-        (map command_of moves.now) logs.new world.new) }
-    ensures unchanged { OnErr result (world.new ≡ world.old) }
+    ensures ran { HaveRun (fixed_in A.takes A.region_of A.effect_of shared.entry) workers (map command_of moves.now)
+        logs.new world.new }
     ensures tree { world.new.tree ≡ world.old.tree }
-    ensures linked { OnOk result (IsLinked world.new) }
+    ensures linked { IsLinked world.new }
 {
-    let room = rooms(moves, workers);
-    let (shared, mut passes) = Shared::start(alloc, action, world, &room[..usize::from(workers)])?;
     run_passes(rt, &shared, &mut passes, moves, workers, gate);
     shared.close(passes, world, logs);
-    Ok(())
 }

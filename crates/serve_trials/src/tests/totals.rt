@@ -1,4 +1,4 @@
-use match_play::{Totals, play_match};
+use match_play::{Game, Totals, play_match};
 use move_journal::Journal;
 use shared_moves::NoGate;
 use std::process::Abort;
@@ -25,8 +25,9 @@ fn expect_journals(rt: &impl Abort, journals: &[Journal]) {
 /// Each of two players joins and moves once, and neither comes near an item or the goal in so short a time.
 #[test]
 fn two_players_and_one_frame(rt: HostRuntime) -> Result<(), Fail> {
-    let played = play_match(&rt, rt.alloc(), 7, 2, 1, 1, &NoGate);
-    expect_totals(&rt, &played.ended?);
-    expect_journals(&rt, played.all.as_slice());
+    let mut game = Game::new(rt.alloc())?;
+    let totals = play_match(&rt, rt.alloc(), 7, 2, 1, 1, &NoGate, &mut game)?;
+    expect_totals(&rt, &totals);
+    expect_journals(&rt, game.into_journals().as_slice());
     Ok(())
 }

@@ -1,5 +1,4 @@
 use Rattle.std.proofs.Common.{◌≡◌, length, sym, subst, ap, ◌∙◌}
-use Rattle.plain_server.specs.Replies.{slots_of}
 use Rattle.reply_fan.specs.Replies.{AreLive, replies_to}
 use Rattle.frame_phases.proofs.Replying.{slots_live, replies_shown, rewritten-all}
 use Rattle.frame_phases.proofs.shows.show_players.Goals as goal

@@ -1,0 +1,59 @@
+use Rattle.std.proofs.Common.{ap, arith}
+use Rattle.client_ports.specs.States.{state_of}
+use Rattle.client_ports.specs.Receiving.{receiving_of}
+use Rattle.frame_phases.specs.declared.state.State.{State}
+use Rattle.frame_phases.proofs.Frames.{is_received, received_from, live_moves, few_moves, begun_if_started}
+use Rattle.frame_phases.proofs.phases.begin_frame.Goals as goal
+
+pub start-requires-clause-valid : goal.start-requires-clause-valid
+start-requires-clause-valid c =
+    let states = c.args.states.now in
+    let state = state_of states.state.ports states.state.world.records in
+    let copied = state_of c.copy_from.new.self.ports c.copy_from.new.self.world.records in
+    let r = receiving_of (state_of c.receive.new.self.ports c.receive.new.self.world.records) c.receive.new.out.lists in
+    let r_is = received_from c.args.action.now.map c.map.result.now states.frames state copied c.args.arrivals.now r c.map.ensures.value (ap (λ (s : State). state_of s.ports s.world.records) c.copy_from.ensures)
+    c.receive.ensures.received in
+    let got = is_received c.args.action.now.map states.frames state c.args.arrivals.now r c.requires.server.is_map c.requires.server.fits r_is in
+    got.pass.state.fits.valid
+
+pub start-requires-clause-live : goal.start-requires-clause-live
+start-requires-clause-live c =
+    let states = c.args.states.now in
+    let state = state_of states.state.ports states.state.world.records in
+    let copied = state_of c.copy_from.new.self.ports c.copy_from.new.self.world.records in
+    let r = receiving_of (state_of c.receive.new.self.ports c.receive.new.self.world.records) c.receive.new.out.lists in
+    let r_is = received_from c.args.action.now.map c.map.result.now states.frames state copied c.args.arrivals.now r c.map.ensures.value (ap (λ (s : State). state_of s.ports s.world.records) c.copy_from.ensures)
+    c.receive.ensures.received in
+    let got = is_received c.args.action.now.map states.frames state c.args.arrivals.now r c.requires.server.is_map c.requires.server.fits r_is in
+    live_moves c.args.action.now.map r c.moves.result.now c.moves.ensures got
+
+pub start-requires-clause-few : goal.start-requires-clause-few
+start-requires-clause-few c =
+    let states = c.args.states.now in
+    let state = state_of states.state.ports states.state.world.records in
+    let copied = state_of c.copy_from.new.self.ports c.copy_from.new.self.world.records in
+    let r = receiving_of (state_of c.receive.new.self.ports c.receive.new.self.world.records) c.receive.new.out.lists in
+    let r_is = received_from c.args.action.now.map c.map.result.now states.frames state copied c.args.arrivals.now r c.map.ensures.value (ap (λ (s : State). state_of s.ports s.world.records) c.copy_from.ensures)
+    c.receive.ensures.received in
+    let got = is_received c.args.action.now.map states.frames state c.args.arrivals.now r c.requires.server.is_map c.requires.server.fits r_is in
+    omega (arith, few_moves c.args.action.now.map r c.moves.result.now c.moves.ensures got)
+
+pub returns-clause-begun : goal.returns-clause-begun
+returns-clause-begun c =
+    let states = c.args.states.now in
+    let state = state_of states.state.ports states.state.world.records in
+    let copied = state_of c.copy_from.new.self.ports c.copy_from.new.self.world.records in
+    let r = receiving_of (state_of c.receive.new.self.ports c.receive.new.self.world.records) c.receive.new.out.lists in
+    let r_is = received_from c.args.action.now.map c.map.result.now states.frames state copied c.args.arrivals.now r c.map.ensures.value (ap (λ (s : State). state_of s.ports s.world.records) c.copy_from.ensures)
+    c.receive.ensures.received in
+    let got = is_received c.args.action.now.map states.frames state c.args.arrivals.now r c.requires.server.is_map c.requires.server.fits r_is in
+    begun_if_started c.start.result c.args.action.now c.receive.new.self.world r c.moves.result.now c.requires.server.is_map got c.moves.ensures c.start.ensures.action c.start.ensures.started
+
+pub returns-clause-received : goal.returns-clause-received
+returns-clause-received c =
+    let states = c.args.states.now in
+    let state = state_of states.state.ports states.state.world.records in
+    let copied = state_of c.copy_from.new.self.ports c.copy_from.new.self.world.records in
+    let r = receiving_of (state_of c.receive.new.self.ports c.receive.new.self.world.records) c.receive.new.out.lists in
+    received_from c.args.action.now.map c.map.result.now states.frames state copied c.args.arrivals.now r c.map.ensures.value (ap (λ (s : State). state_of s.ports s.world.records) c.copy_from.ensures)
+    c.receive.ensures.received

@@ -1,0 +1,48 @@
+-- Moves of an arena that are started.
+use Rattle.std.specs.Prelude.{◌≡◌, ℕ, List, [], Option, Some, None}
+use Rattle.std.specs.Global.{Vec}
+use Rattle.entity_recs.specs.Commands.{Command}
+use Rattle.arena_map.specs.Validity.{IsValidWorld}
+use Rattle.arena_actions.specs.declared.arena_action.ArenaAction.{ArenaAction}
+use Rattle.arena_actions.specs.Outcomes.{outcome_on}
+use Rattle.arena_actions.specs.Regions.{region_in}
+use Rattle.arena_actions.specs.Takes.{takes}
+use Rattle.world_tree.specs.Worlds.{WorldView, IsLinked}
+use Rattle.core_steps.specs.Views.{Fixed}
+use Rattle.region_locks.specs.Starts.{fixed_by}
+use Rattle.region_locks.specs.Passes.{PassView, TableView}
+use Rattle.move_phase.specs.Serving.{AreWorkers}
+use Rattle.move_phase.specs.Sharing.{IsReadyFor}
+
+-- the action, how many workers there are, and the table and its passes, where there are moves
+pub record StartedView : Type 0 where
+  pub action : ArenaAction
+  pub workers : ℕ
+  pub shared : Option (TableView ArenaAction × Vec PassView)
+
+-- what doesn't change, of an arena's action and a world
+abbrev pub fixed_of_arena : ArenaAction → WorldView → Fixed
+fixed_of_arena action world =
+    fixed_by (λ (a : ArenaAction). takes a.map) (λ (a : ArenaAction). region_in a.map) (λ (a : ArenaAction). outcome_on a.map)
+    action world
+
+-- the world is shared for these commands, on a table of this action
+pub record IsSharedFor (action : ArenaAction) (workers : ℕ) (world : WorldView) (commands : List Command)
+    (table : TableView ArenaAction) (passes : List PassView) : Type 0 where
+  pub action_is : table.action ≡ action
+  pub world_is : table.world ≡ world
+  pub linked : IsLinked world
+  pub ready : IsReadyFor (fixed_of_arena table.action table.world) workers commands table.table table.rooms passes
+
+-- it is, where there are commands
+abbrev pub IsSharedForAny : ArenaAction → ℕ → WorldView → List Command
+    → Option (TableView ArenaAction × Vec PassView) → Type 0
+IsSharedForAny action workers world commands None = commands ≡ []
+IsSharedForAny action workers world commands (Some shared) =
+    IsSharedFor action workers world commands shared.0 shared.1.items
+
+-- the moves of these commands are started in this world, which is valid
+pub record AreStarted (world : WorldView) (commands : List Command) (s : StartedView) : Type 0 where
+  pub workers : AreWorkers s.workers
+  pub valid : IsValidWorld s.action.map world.records
+  pub shared_for : IsSharedForAny s.action s.workers world commands s.shared
