@@ -1,4 +1,6 @@
 -- Lemmas on the action of an arena.
+pub mod Marking
+pub mod Indexing
 pub mod Keeping
 pub mod Rising
 pub mod Effects

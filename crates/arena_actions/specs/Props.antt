@@ -1,9 +1,13 @@
--- That the rules of a map have one proof at most, so that a type can keep them.
+-- That the rules of a map, and that an index misses none, have one proof at most, so that a type can keep them.
+use Rattle.std.specs.Prelude.{List}
 use Rattle.std.proofs.Props.{props}
 use Rattle.arena_map.specs.declared.map_line.MapLine.{MapLine}
 use Rattle.arena_map.specs.declared.map_line.MapLine.TheVariants.{Arena, Block, Spawn, Item, Teleport, Goal, Lift}
 use Rattle.arena_map.specs.MapLines.{IsWithinLimits}
+use Rattle.arena_geo.specs.Bounds.{Bounds}
 use Rattle.arena_map.specs.Maps.{MapView, IsMap}
+use Rattle.arena_actions.specs.declared.solid_index.SolidIndex.{SolidIndex}
+use Rattle.arena_actions.specs.Indexes.{IsIndexOf}
 
 pub IsWithinLimits-prop : (line : MapLine) → IsProp (IsWithinLimits line)
 IsWithinLimits-prop (Arena lo hi) = hlevel props
@@ -16,3 +20,6 @@ IsWithinLimits-prop (Lift lo hi rise speed) = hlevel props
 
 pub IsMap-prop : (map : MapView) → IsProp (IsMap map)
 IsMap-prop map = hlevel (props, IsWithinLimits-prop)
+
+pub IsIndexOf-prop : (index : SolidIndex) (solids : List Bounds) → IsProp (IsIndexOf index solids)
+IsIndexOf-prop index solids = hlevel props

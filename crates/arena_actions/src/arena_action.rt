@@ -1,7 +1,9 @@
-ghost use Rattle.arena_map.specs.Maps.{IsMap};
-ghost use Rattle.arena_actions.specs.Props.{IsMap-prop};
+ghost use Rattle.arena_map.specs.Maps.{IsMap, solids_of};
+ghost use Rattle.arena_actions.specs.Indexes.{IsIndexOf};
+ghost use Rattle.arena_actions.specs.Props.{IsMap-prop, IsIndexOf-prop};
 
 use crate::moving::moved_player;
+use crate::solid_index::SolidIndex;
 use arena_map::ArenaMap;
 use entity_recs::{Cmd, Effect, IdList, Rec, Reply, StateList};
 use trigger_rules::touch_all;
@@ -12,7 +14,9 @@ use trigger_rules::touch_all;
 pub struct ArenaAction {
     /// The map of the arena.
     pub map: ArenaMap,
+    index: SolidIndex,
     pub ghost is_map: { IsMap map } by { IsMap-prop map },
+    ghost misses_none: { IsIndexOf index (solids_of map) } by { IsIndexOf-prop index (solids_of map) },
 }
 
 impl ArenaAction {
@@ -27,9 +31,8 @@ impl ArenaAction {
     pub fn new(map: ArenaMap) -> ArenaAction
         ensures { result.map ≡ map }
     {
-        // To read the bounds is to know that the map keeps its rules.
-        let _bounds = map.bounds();
-        ArenaAction { map }
+        let index = SolidIndex::new(map.bounds(), map.solids());
+        ArenaAction { map, index }
     }
 
     /// The map of the arena, which keeps its rules.
@@ -47,7 +50,7 @@ impl ArenaAction {
         requires rising { IsStrictlyIncreasing (map (λ r. r.id) near.now) }
         ensures { result ≡ outcome_in self.now.map me.now near.now (command_of cmd.now) }
     {
-        let mut after = moved_player(&self.map, me, near, cmd);
+        let mut after = moved_player(&self.map, &self.index, me, near, cmd);
         let mut states = StateList::new();
         let mut got = IdList::new();
         touch_all(

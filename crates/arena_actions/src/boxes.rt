@@ -1,3 +1,4 @@
+use crate::solid_index::SolidIndex;
 use arena_geo::{Aabb, Vec3};
 use entity_recs::{Rec, body_box};
 use std::marker::Model;
@@ -26,6 +27,7 @@ impl<const N: usize> Boxes<N> {
     ghost use Rattle.arena_geo.specs.Boxes.{overlaps};
     ghost use Rattle.entity_recs.specs.Records.{IsRecord};
     ghost use Rattle.trigger_rules.specs.Touching.{bodies_of_solids};
+    ghost use Rattle.arena_actions.specs.Indexes.{IsIndexOf};
 
     /// No boxes.
     pub fn new() -> Self
@@ -70,15 +72,20 @@ impl<const N: usize> Boxes<N> {
     }
 
     /// Puts those of the solids last that overlap `place`, in their order. `false` only where there is no room for all
-    /// of them.
-    pub fn push_overlapping(&mut self, place: &Aabb, solids: &[Aabb]) -> bool
+    /// of them. Only those are tested that the index finds.
+    pub fn push_overlapping(&mut self, place: &Aabb, solids: &[Aabb], index: &SolidIndex) -> bool
+        requires few { length solids.now ≤ 1088 }
+        requires index { IsIndexOf index.now solids.now }
         ensures boxes { OnTrue result (self.new ≡ self.old ++ filter (overlaps place.now) solids.now) }
         ensures room { length self.old + length solids.now ≤ N → IsTrue result }
     {
-        for solid in solids {
-            if !self.push_if_overlapping(place, *solid) {
+        let look = index.look(place);
+        let mut at = index.next(&look, 0, solids.len());
+        while at < solids.len() {
+            if !self.push_if_overlapping(place, solids[at]) {
                 return false;
             }
+            at = index.next(&look, at + 1, solids.len());
         }
         true
     }

@@ -14,8 +14,11 @@ mod boxes;
 mod lawful;
 mod laws;
 mod looking;
+mod marks;
 mod moving;
 mod reaching;
 mod region;
+mod solid_index;
+mod strips;
 #[cfg(test)]
 mod tests;

@@ -6,11 +6,14 @@ ghost use Rattle.entity_recs.specs.Commands.{command_of};
 ghost use Rattle.player_move.specs.Intents.{intent_of};
 ghost use Rattle.player_move.specs.Moves.{move_of};
 ghost use Rattle.player_move.specs.Laws as moves;
+ghost use Rattle.arena_map.specs.Maps.{solids_of};
 ghost use Rattle.trigger_rules.specs.Touching.{solids_among};
+ghost use Rattle.arena_actions.specs.Indexes.{IsIndexOf};
 ghost use Rattle.arena_actions.specs.Outcomes as outcomes;
 
 use crate::boxes::Boxes;
 use crate::looking::looked_at;
+use crate::solid_index::SolidIndex;
 use arena_geo::Aabb;
 use arena_map::ArenaMap;
 use entity_recs::{Cmd, Rec};
@@ -45,11 +48,13 @@ fn after_move(me: &Rec, moved: &Moved, seq: u32) -> Rec
 /// The player's move, if at most `N` solids are where it looks, `place`: no others can change it.
 fn move_within<const N: usize>(
     map: &ArenaMap,
+    index: &SolidIndex,
     me: &Rec,
     near: &[Rec],
     cmd: &Cmd,
     place: &Aabb,
 ) -> Option<Moved>
+    requires index { IsIndexOf index.now (solids_of map.now) }
     requires record { IsRecord me.now }
     requires records { All IsRecord near.now }
     requires few { N ≤ MOST_SOLIDS }
@@ -59,7 +64,7 @@ fn move_within<const N: usize>(
     ensures room { 1030 + length near.now ≤ N → IsSome result }
 {
     let mut solids = Boxes::<N>::new();
-    if solids.push_overlapping(place, map.solids()) && solids.push_bodies(place, near) {
+    if solids.push_overlapping(place, map.solids(), index) && solids.push_bodies(place, near) {
         Some(move_player(me, cmd, solids.as_slice(), &[]))
     } else {
         None
@@ -67,25 +72,27 @@ fn move_within<const N: usize>(
 }
 
 /// The player's move among the solids of the map and the bodies of the other live solids.
-fn move_among(map: &ArenaMap, me: &Rec, near: &[Rec], cmd: &Cmd) -> Moved
+fn move_among(map: &ArenaMap, index: &SolidIndex, me: &Rec, near: &[Rec], cmd: &Cmd) -> Moved
+    requires index { IsIndexOf index.now (solids_of map.now) }
     requires record { IsRecord me.now }
     requires records { All IsRecord near.now }
     requires few { length near.now ≤ 256 }
     ensures { result ≡ move_of me.now (intent_of cmd.now) (solids_among map.now near.now) }
 {
     let place = looked_at(me, cmd.ms);
-    match move_within::<FEW_SOLIDS>(map, me, near, cmd, &place) {
+    match move_within::<FEW_SOLIDS>(map, index, me, near, cmd, &place) {
         Some(moved) => moved,
-        None => move_within::<MOST_SOLIDS>(map, me, near, cmd, &place).unwrap(),
+        None => move_within::<MOST_SOLIDS>(map, index, me, near, cmd, &place).unwrap(),
     }
 }
 
 /// The player after its move, before it touches anything.
-pub fn moved_player(map: &ArenaMap, me: &Rec, near: &[Rec], cmd: &Cmd) -> Rec
+pub fn moved_player(map: &ArenaMap, index: &SolidIndex, me: &Rec, near: &[Rec], cmd: &Cmd) -> Rec
+    requires index { IsIndexOf index.now (solids_of map.now) }
     requires record { IsRecord me.now }
     requires records { All IsRecord near.now }
     requires rising { IsStrictlyIncreasing (map_list (λ r. r.id) near.now) }
     ensures { result ≡ outcomes.moved_among map.now me.now near.now (command_of cmd.now) }
 {
-    after_move(me, &move_among(map, me, near, cmd), cmd.seq)
+    after_move(me, &move_among(map, index, me, near, cmd), cmd.seq)
 }

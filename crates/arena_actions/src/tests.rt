@@ -1,4 +1,4 @@
-ghost use Rattle.std.specs.Prelude.{◌≡◌, ◌<◌, ◌≤◌, [], true};
+ghost use Rattle.std.specs.Prelude.{◌≡◌, ◌<◌, ◌≤◌, [], true, unsigned_abs};
 ghost use Rattle.arena_geo.specs.Vectors.{IsNear};
 ghost use Rattle.entity_recs.specs.declared.kind.Kind.TheVariants.{Player};
 ghost use Rattle.entity_recs.specs.Records.{IsRecord};
@@ -322,8 +322,8 @@ fn a_reached_teleporter_adds_its_destination(rt: HostRuntime) -> Result<(), Fail
 }
 
 /// A thin block above the head of a player on the floor, one of many.
-fn overhead(place: u8) -> MapLine
-    requires { place < 80 }
+fn overhead(place: u16) -> MapLine
+    requires { place < 1024 }
     ensures added { is_added result ≡ true }
     ensures limits { IsWithinLimits result }
 {
@@ -334,19 +334,91 @@ fn overhead(place: u8) -> MapLine
     }
 }
 
-/// The action of the arena with 80 blocks where a player in the middle looks.
-fn crowded(alloc: Global) -> Result<ArenaAction, MapRefusal> {
+/// The action of the arena with so many blocks where a player in the middle looks, and then one line more.
+fn crowded(alloc: Global, blocks: u16, last: &MapLine) -> Result<ArenaAction, MapRefusal>
+    requires blocks { blocks < 1024 }
+    requires added { is_added last.now ≡ true }
+    requires limits { IsWithinLimits last.now }
+{
     let mut map = ArenaMap::new(alloc, &arena())?;
-    for place in 0..80 {
+    for place in 0..blocks {
         map.add(&overhead(place))?;
     }
+    map.add(last)?;
     Ok(ArenaAction::new(map))
 }
 
 #[test]
 fn a_crowded_place_changes_no_free_move(rt: HostRuntime) -> Result<(), Fail> {
-    let action = crowded(rt.alloc()).map_err(|_| "a map")?;
-    let (_region, effect) = in_the_middle(&action, 320)?;
-    assert_eq!(rt; effect.reply.origin, at(2_048, 0, 6_144));
+    for blocks in [0, 1, 79, 1_023] {
+        let action = crowded(rt.alloc(), blocks, &overhead(1_023)).map_err(|_| "a map")?;
+        let (_region, effect) = in_the_middle(&action, 320)?;
+        assert_eq!(rt; effect.reply.origin, at(2_048, 0, 6_144), "{blocks}");
+    }
+    Ok(())
+}
+
+/// A wall of the least thickness, from here on on x, that no player steps over.
+fn thin_wall(from: i32) -> MapLine
+    requires { unsigned_abs from ≤ 131072 }
+    ensures added { is_added result ≡ true }
+    ensures limits { IsWithinLimits result }
+{
+    MapLine::Block {
+        lo: at(from, -20_000, 0),
+        hi: at(from + 1, 20_000, 60_000),
+    }
+}
+
+#[test]
+fn the_last_of_many_blocks_stops_a_move(rt: HostRuntime) -> Result<(), Fail> {
+    for blocks in [0, 57, 58, 1_023] {
+        let action = crowded(rt.alloc(), blocks, &thin_wall(4_096)).map_err(|_| "a map")?;
+        let (_region, effect) = in_the_middle(&action, 320)?;
+        assert_eq!(rt; effect.reply.origin, at(0, 0, 6_144), "{blocks}");
+    }
+    Ok(())
+}
+
+/// Where a player on the floor ends that moves along x, beside a thin wall.
+fn end_beside_wall(alloc: Global, from: i32, x: i32, wish_x: i16) -> Result<Vec3, Fail> {
+    if from.unsigned_abs() > 131_072 || x.unsigned_abs() > 131_072 {
+        return Err("too far".into());
+    }
+    let action = action_with(alloc, &thin_wall(from)).map_err(|_| "a map")?;
+    let me = player(3, at(x, 0, 6_144));
+    let (_region, effect) = alone(&action, &me, &wish(3, wish_x, 0)).ok_or("inside")?;
+    Ok(effect.reply.origin)
+}
+
+/// Whether a thin wall from here on stops a player beside it, on both sides.
+fn stops_both_sides(alloc: Global, from: i32) -> Result<bool, Fail> {
+    if from.unsigned_abs() > 100_000 {
+        return Err("too far".into());
+    }
+    let left = end_beside_wall(alloc, from, from - 4_096, 320)?;
+    let right = end_beside_wall(alloc, from, from + 4_097, -320)?;
+    Ok(left == at(from - 4_096, 0, 6_144) && right == at(from + 4_097, 0, 6_144))
+}
+
+#[test]
+fn thin_walls_stop_moves_in_all_places(rt: HostRuntime) -> Result<(), Fail> {
+    // where the wall begins: in the middle of the arena, near its border, and round a border of strips
+    for from in [
+        -100_000, -8_193, -8_192, -8_191, -1, 0, 1, 8_190, 8_191, 8_192, 100_000,
+    ] {
+        assert!(rt; stops_both_sides(rt.alloc(), from)?, "{from}");
+    }
+    Ok(())
+}
+
+#[test]
+fn thin_walls_at_the_border_stop_moves(rt: HostRuntime) -> Result<(), Fail> {
+    let low = end_beside_wall(rt.alloc(), -131_072, -126_975, -320)?;
+    assert_eq!(rt; low, at(-126_975, 0, 6_144));
+    let high = end_beside_wall(rt.alloc(), 131_071, 126_975, 320)?;
+    assert_eq!(rt; high, at(126_975, 0, 6_144));
+    let away = end_beside_wall(rt.alloc(), 0, 4_097, 320)?;
+    assert_eq!(rt; away, at(6_145, 0, 6_144));
     Ok(())
 }
