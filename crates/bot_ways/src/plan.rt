@@ -1,4 +1,4 @@
-ghost use Rattle.std.specs.Prelude.{◌≡◌, ◌≢◌, ◌↔◌, ◌+◌, ◌<◌, ◌≤◌, [], length, Option, None, IsTrue, IfOk, IfSome};
+ghost use Rattle.std.specs.Prelude.{◌≡◌, ◌≢◌, ◌↔◌, ◌+◌, ◌<◌, ◌≤◌, [], length, None, IsTrue, IfOk, IfSome};
 ghost use Rattle.bot_ways.specs.Walks.{IsWalk, IsUnreached, HasLeast, length_to};
 ghost use Rattle.bot_ways.specs.Ways.{IsWay, IsBefore, IsCertificate, IsFirstBefore};
 
@@ -89,8 +89,8 @@ fn way_to(map: &ArenaMap, least: &LeastList, target: u8) -> WayList
 
 /// Plans the shortest way from the first spawn of a map to another. The waypoints are the spawns, numbered from 0 in line
 /// order. An edge leads from one to another that has the same height, isn't at the same place, and is at most 65,536 away
-/// on each axis, where no wall or block overlaps a player's body at the one or on its trace to the other. Lifts are no part
-/// of this.
+/// on each axis, where no wall or block overlaps a player's body at the one or on its trace to the other. Lifts don't
+/// matter.
 pub fn plan_way(alloc: Global, map: &ArenaMap, target: u8) -> Result<Plan, AllocError>
     ensures least { IfOk result (λ plan. HasLeast map.now plan.least) }
     ensures certificate { IfOk result (λ plan. IsCertificate map.now plan.least) }

@@ -1,5 +1,4 @@
-ghost use Rattle.std.specs.Prelude.{◌≡◌, ◌<◌, ◌≤◌, length, slice_set, IfOk};
-ghost use Rattle.bot_ways.specs.Walks.{length_to};
+ghost use Rattle.std.specs.Prelude.{◌≡◌, ◌<◌, ◌≤◌, length, IfOk};
 ghost use Rattle.bot_ways.specs.Ways.{IsCertificate};
 ghost use Rattle.bot_ways.specs.Search.{AreTried, IsNearest};
 ghost use Rattle.bot_ways.specs.Search as search;
