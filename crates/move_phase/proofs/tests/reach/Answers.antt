@@ -8,11 +8,11 @@ use Rattle.plain_server.specs.Moving.{HasLivePlayer}
 use Rattle.move_phase.proofs.tests.reach.Goals as goal
 
 pub start-requires-clause-live : goal.start-requires-clause-live
-start-requires-clause-live g c κs within =
+start-requires-clause-live g c =
     subst (All (HasLivePlayer c.receive.new.world.records)) (sym c.moves-moves.ensures) c.receive.ensures.live
 
 pub start-requires-clause-few : goal.start-requires-clause-few
-start-requires-clause-few g c κs within = omega (arith, c.receive.ensures.few, ap length c.moves-moves.ensures, length-map c.moves-moves.result.now command_of)
+start-requires-clause-few g c = omega (arith, c.receive.ensures.few, ap length c.moves-moves.ensures, length-map c.moves-moves.result.now command_of)
 
 pub run-requires-clause-apart : goal.run-requires-clause-apart
 run-requires-clause-apart g c κs within = subst HasNumbersApart (sym c.moves-moves.ensures) c.receive.ensures.apart
