@@ -41,6 +41,11 @@ events-init g c =
     runs_first g.S.Source.last g.S.Source.ended g.S.Source.never_fails c.args.workers c.next.new.self c.take_map.new.self c.unwrap-map.result _ _ _ c.in-Ok-new.game c.in-Ok-next.event _ _ _ _ _ _
     c.take_map.ensures.rest begun c.in-Ok-next.ensures.ok c.in-Ok-next.ensures.uncounted unread
 
+pub events-smaller : goal.events-smaller
+events-smaller g c =
+    let going = sym c.is_end-is_last.ensures ∙ c.if-is_last.false in
+    c.in-Ok-next-2.ensures.fewer (reader_is_open _ _ _ _ _ _ _ _ _ _ _ _ _ _ c.events.invariant.0 going)
+
 pub take-requires-clause-ready : goal.take-requires-clause-ready
 take-requires-clause-ready g c κs within = game_is_ready _ _ _ _ _ _ _ _ _ _ _ _ _ _ c.events.invariant.0
 
