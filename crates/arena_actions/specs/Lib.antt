@@ -11,6 +11,7 @@ pub use Rattle.trigger_rules.specs.Touching
 pub mod Outcomes
 pub mod Props
 pub mod Regions
+pub mod Leaps
 pub mod Indexes
 pub mod Takes
 pub mod Worlds

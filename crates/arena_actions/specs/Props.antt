@@ -1,5 +1,5 @@
 -- That the rules of a map, and that an index misses none, have one proof at most, so that a type can keep them.
-use Rattle.std.specs.Prelude.{List}
+use Rattle.std.specs.Prelude.{◌≡◌, List}
 use Rattle.std.proofs.Props.{props}
 use Rattle.arena_map.specs.declared.map_line.MapLine.{MapLine}
 use Rattle.arena_map.specs.declared.map_line.MapLine.TheVariants.{Arena, Block, Spawn, Item, Teleport, Goal, Lift}
@@ -8,6 +8,8 @@ use Rattle.arena_geo.specs.Bounds.{Bounds}
 use Rattle.arena_map.specs.Maps.{MapView, IsMap}
 use Rattle.arena_actions.specs.declared.solid_index.SolidIndex.{SolidIndex}
 use Rattle.arena_actions.specs.Indexes.{IsIndexOf}
+use Rattle.arena_actions.specs.declared.leaps.Leap.{Leap}
+use Rattle.arena_actions.specs.Leaps.{leaps_of}
 
 pub IsWithinLimits-prop : (line : MapLine) → IsProp (IsWithinLimits line)
 IsWithinLimits-prop (Arena lo hi) = hlevel props
@@ -23,3 +25,6 @@ IsMap-prop map = hlevel (props, IsWithinLimits-prop)
 
 pub IsIndexOf-prop : (index : SolidIndex) (solids : List Bounds) → IsProp (IsIndexOf index solids)
 IsIndexOf-prop index solids = hlevel props
+
+pub AreLeaps-prop : (leaps : List Leap) (map : MapView) → IsProp (leaps ≡ leaps_of map)
+AreLeaps-prop leaps map = hlevel props

@@ -1,7 +1,10 @@
 ghost use Rattle.arena_map.specs.Maps.{IsMap, solids_of};
 ghost use Rattle.arena_actions.specs.Indexes.{IsIndexOf};
-ghost use Rattle.arena_actions.specs.Props.{IsMap-prop, IsIndexOf-prop};
+ghost use Rattle.std.specs.Prelude.{◌≡◌};
+ghost use Rattle.arena_actions.specs.Leaps.{leaps_of};
+ghost use Rattle.arena_actions.specs.Props.{IsMap-prop, IsIndexOf-prop, AreLeaps-prop};
 
+use crate::leaps::Leaps;
 use crate::moving::moved_player;
 use crate::solid_index::SolidIndex;
 use arena_map::ArenaMap;
@@ -15,7 +18,9 @@ pub struct ArenaAction {
     /// The map of the arena.
     pub map: ArenaMap,
     index: SolidIndex,
+    pub(crate) leaps: Leaps,
     pub ghost is_map: { IsMap map } by { IsMap-prop map },
+    ghost are_leaps: { leaps ≡ leaps_of map } by { AreLeaps-prop leaps map },
     ghost misses_none: { IsIndexOf index (solids_of map) } by { IsIndexOf-prop index (solids_of map) },
 }
 
@@ -32,7 +37,8 @@ impl ArenaAction {
         ensures { result.map ≡ map }
     {
         let index = SolidIndex::new(map.bounds(), map.solids());
-        ArenaAction { map, index }
+        let leaps = Leaps::of(&map);
+        ArenaAction { map, index, leaps }
     }
 
     /// The map of the arena, which keeps its rules.

@@ -16,7 +16,7 @@ impl Action for ArenaAction {
     ghost effect_of = { λ a. outcome_in a.map };
 
     fn region(&self, me: &Rec, cmd: &Cmd) -> Region {
-        region_of(&self.map, me, cmd)
+        region_of(&self.leaps, me, cmd)
     }
 
     fn act(&self, me: &Rec, near: &[Rec], cmd: &Cmd) -> Effect {

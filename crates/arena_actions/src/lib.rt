@@ -13,6 +13,7 @@ mod arena_action;
 mod boxes;
 mod lawful;
 mod laws;
+mod leaps;
 mod looking;
 mod marks;
 mod moving;

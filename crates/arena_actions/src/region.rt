@@ -4,13 +4,14 @@ ghost use Rattle.arena_geo.specs.Vectors.{IsNear};
 ghost use Rattle.entity_recs.specs.declared.kind.Kind.TheVariants.{Player};
 ghost use Rattle.entity_recs.specs.Records.{IsRecord};
 ghost use Rattle.entity_recs.specs.Commands.{command_of};
-ghost use Rattle.trigger_rules.specs.Laws.{IsPlayerOn};
+ghost use Rattle.arena_map.specs.Maps.{MapView};
 ghost use Rattle.arena_actions.specs.Regions as regions;
 ghost use Rattle.arena_actions.specs.Regions.{region_in};
+ghost use Rattle.arena_actions.specs.Leaps.{IsNearLeap, leaps_of, landing_by};
 
+use crate::leaps::{Leap, Leaps};
 use crate::reaching::{amount, reach_on};
 use arena_geo::{Aabb, Region, Vec3};
-use arena_map::ArenaMap;
 use entity_recs::{Cmd, Rec, abs_box};
 use player_move::STAIR_HEIGHT;
 
@@ -58,15 +59,15 @@ fn landing_at(me: &Rec, dest: Vec3) -> Aabb
     abs_box(&there).grow(amount(ROOM, ROOM, ROOM)).unwrap()
 }
 
-/// The room at the destination of a thing of the map, if it is a teleporter whose absolute box touches the reach.
-fn landing_of(map: &ArenaMap, me: &Rec, reach: &Aabb, thing: &Rec) -> Option<Aabb>
+/// The room where a leap of the player ends, if its teleporter touches the reach.
+fn landing_of(me: &Rec, reach: &Aabb, leap: &Leap) -> Option<Aabb>
     requires player { me.now.kind ≡ Player }
     requires record { IsRecord me.now }
-    requires thing { IsRecord thing.now }
-    ensures { result ≡ regions.landing_of map.now me.now reach.now thing.now }
+    requires near { IsNearLeap leap.now }
+    ensures { result ≡ landing_by me.now reach.now leap.now }
 {
-    if abs_box(thing).touches(reach) {
-        map.dest_of(thing.id).map(|dest| landing_at(me, dest))
+    if leap.from.touches(reach) {
+        Some(landing_at(me, leap.to))
     } else {
         None
     }
@@ -84,14 +85,15 @@ fn push_landing(region: &mut Region, landing: Option<Aabb>)
 
 /// The region of a player's move: the reach with room around it, and the room at the destination of each teleporter
 /// that touches the reach, in rising id.
-pub fn region_of(map: &ArenaMap, me: &Rec, cmd: &Cmd) -> Region
-    requires { IsPlayerOn map.now me.now }
-    ensures { result ≡ region_in map.now me.now (command_of cmd.now) }
+pub fn region_of(leaps: &Leaps, me: &Rec, cmd: &Cmd) -> Region
+    requires player { me.now.kind ≡ Player }
+    requires record { IsRecord me.now }
+    ensures { (map : MapView) → leaps.now ≡ leaps_of map → result ≡ region_in map me.now (command_of cmd.now) }
 {
     let reach = reach_of(me, cmd.ms);
     let mut region = Region::one(reach_with_room(me, cmd.ms));
-    for thing in map.entities() {
-        push_landing(&mut region, landing_of(map, me, &reach, thing));
+    for leap in leaps.as_slice() {
+        push_landing(&mut region, landing_of(me, &reach, leap));
     }
     region
 }

@@ -1,4 +1,4 @@
--- The boxes of a region at the destinations of teleporters: they are few, and each is there.
+-- The leaps of a map, and the boxes of a region at the destinations of teleporters: they are few, and each is there.
 use Rattle.std.proofs.Common.{◌≡◌, ℕ, suc, ◌+◌, ◌-◌, ◌<◌, ◌≤◌, nat_le, Bool, true, false, ◌||◌, cond, if◌then◌else◌, List, [], ◌∷◌, ◌++◌, length, take, drop, get_or, Option, Some, None, IsSome, option_and_then, slice_get, refl, sym, ap, ◌∙◌, subst, arith}
 use Rattle.std.specs.Prelude.{filter_map, count_by}
 use Rattle.std.specs.List.{find, list_any, cons_option, AllByRecursion}
@@ -6,7 +6,7 @@ use Rattle.std.specs.Option.{option_map}
 use Rattle.std.proofs.Math.Seq.{take-suc}
 use Rattle.std.proofs.lemmas.Bool.Decides.{nat_tests}
 use Rattle.std.proofs.lemmas.Option.{none-some, same_Some}
-use Rattle.std.proofs.lemmas.List.{length-append, take-append-drop, take_all}
+use Rattle.std.proofs.lemmas.List.{length-append, length-take-le, take-append-drop, take_all}
 use Rattle.std.proofs.lemmas.List.Elements.{filter_map-append}
 use Rattle.arena_geo.specs.declared.vec3.Vec3.{Vec3}
 use Rattle.arena_geo.specs.Bounds.{Bounds}
@@ -21,7 +21,9 @@ use Rattle.arena_map.specs.Maps.{MapView, IsMap, IsThingInside, entities_of, des
 use Rattle.arena_map.proofs.Counting.{count-cons}
 use Rattle.arena_map.proofs.Kept.{each-of}
 use Rattle.arena_map.proofs.ThingRecords.{own-id}
+use Rattle.arena_actions.specs.declared.leaps.Leap.{Leap}
 use Rattle.arena_actions.specs.Regions.{landing_at, landing_of}
+use Rattle.arena_actions.specs.Leaps.{leap_of, landing_by}
 
 -- ---- one thing more
 
@@ -82,24 +84,24 @@ at-most-one : {Y : Type 0} (o : Option Y) → length (cons_option o []) ≤ 1
 at-most-one None = omega arith
 at-most-one (Some y) = omega arith
 
-module _ (map : MapView) (me : Rec) (reach : Bounds) where
-  -- where there is no destination there is no box
-  none-without : (touching : Bool) (dest : Option Vec3) → dest ≡ None
-      → length (cons_option (if touching then option_map (landing_at me) dest else None) []) ≤ 0
-  none-without true None e = omega arith
-  none-without true (Some dest) e = absurd (none-some dest (sym e))
-  none-without false dest e = omega arith
+-- what is given of the things of a map, and of none but teleporters
+module _ {Y : Type 0} (map : MapView) (h : Rec → Option Y) (of_leaps : (thing : Rec) → dest_of map thing.id ≡ None → h thing ≡ None) where
+  -- where there is no destination nothing is given
+  none-without : (thing : Rec) → dest_of map thing.id ≡ None → length (cons_option (h thing) []) ≤ 0
+  none-without thing e =
+      let none : length (cons_option (h thing) []) ≡ 0 = ap (λ (o : Option Y). length (cons_option o [])) (of_leaps thing e) in
+      omega (arith, none)
 
-  -- a line that is no teleporter's gives no box, and one that is gives at most one
+  -- of a line that is no teleporter's nothing is given, and of one that is one at most
   few_at : (line : MapLine) (thing : Rec) → dest_of map thing.id ≡ dest_in line
-      → length (cons_option (landing_of map me reach thing) []) ≤ cond (is_teleport_line line) 1 0
-  few_at (Arena lo hi) thing is = none-without (touches (abs_of thing) reach) (dest_of map thing.id) is
-  few_at (Block lo hi) thing is = none-without (touches (abs_of thing) reach) (dest_of map thing.id) is
-  few_at (Spawn at) thing is = none-without (touches (abs_of thing) reach) (dest_of map thing.id) is
-  few_at (Item at kind delay) thing is = none-without (touches (abs_of thing) reach) (dest_of map thing.id) is
-  few_at (Teleport lo hi dest) thing is = at-most-one (landing_of map me reach thing)
-  few_at (Goal lo hi) thing is = none-without (touches (abs_of thing) reach) (dest_of map thing.id) is
-  few_at (Lift lo hi rise speed) thing is = none-without (touches (abs_of thing) reach) (dest_of map thing.id) is
+      → length (cons_option (h thing) []) ≤ cond (is_teleport_line line) 1 0
+  few_at (Arena lo hi) thing is = none-without thing is
+  few_at (Block lo hi) thing is = none-without thing is
+  few_at (Spawn at) thing is = none-without thing is
+  few_at (Item at kind delay) thing is = none-without thing is
+  few_at (Teleport lo hi dest) thing is = at-most-one (h thing)
+  few_at (Goal lo hi) thing is = none-without thing is
+  few_at (Lift lo hi rise speed) thing is = none-without thing is
 
   -- the destination of a thing is that of its line
   dest_at : (first id : ℕ) (line : MapLine) → 64 ≤ first → id ≡ first → Some line ≡ slice_get map.things (first - 64)
@@ -112,7 +114,7 @@ module _ (map : MapView) (me : Rec) (reach : Bounds) where
 
   few_from : (first : ℕ) (lines : List MapLine) → 64 ≤ first → AllByRecursion (λ line. is_thing_line line ≡ true) lines
       → ((k : ℕ) → slice_get lines k ≡ slice_get map.things ((first + k) - 64))
-      → length (filter_map (landing_of map me reach) (records_from first lines)) ≤ count_by is_teleport_line lines
+      → length (filter_map h (records_from first lines)) ≤ count_by is_teleport_line lines
   few_from first [] low each place = omega arith
   few_from first (line ∷ lines) low each place =
       let thing = record_of first line in
@@ -123,11 +125,11 @@ module _ (map : MapView) (me : Rec) (reach : Bounds) where
       let rest =
       few_from (first + 1) lines (omega (arith, low)) each.1 (λ k. let later : (first + suc k) - 64
       ≡ ((first + 1) + k) - 64 = omega arith in place (suc k) ∙ ap (slice_get map.things) later) in
-      omega (arith, here, rest, cons-length (landing_of map me reach thing) (filter_map (landing_of map me reach) (records_from (first + 1) lines)), count-cons is_teleport_line line lines)
+      omega (arith, here, rest, cons-length (h thing) (filter_map h (records_from (first + 1) lines)), count-cons is_teleport_line line lines)
 
-  -- a region has at most 16 of them
-  pub few_landings : IsMap map → length (filter_map (landing_of map me reach) (entities_of map)) ≤ 16
-  few_landings is =
+  -- so there are at most 16 of them
+  pub few_given : IsMap map → length (filter_map h (entities_of map)) ≤ 16
+  few_given is =
       let each =
       each-of (IsThingInside map.bounds) (λ line. is_thing_line line
       ≡ true) map.things (λ line inside. inside.thing) is.things in
@@ -136,24 +138,60 @@ module _ (map : MapView) (me : Rec) (reach : Bounds) where
       ≡ (64 + k) - 64 = omega arith in ap (slice_get map.things) same) in
       omega (arith, few, is.few_teleporters)
 
-  -- so there is room for one more while things are gone through
-  pub room_for_one : (things : List Rec) (i : ℕ) (thing : Rec) (landing : Option Bounds) (first : Bounds) (region : List Bounds) → IsMap map → things ≡ entities_of map → i < length things
-      → landing ≡ landing_of map me reach (get_or things i thing)
-      → region ≡ first ∷ filter_map (landing_of map me reach) (take i things) → IsSome landing → length region < 17
-  room_for_one things i thing landing first region is things_are below landing_is region_is some =
-      let h = landing_of map me reach in
-      let few : length (filter_map h things) ≤ 16 =
-      subst (λ (l : List Rec). length (filter_map h l) ≤ 16) (sym things_are) (few_landings is) in
-      let more = ap (λ (l : List Bounds). length l) (filter_map-more h things i thing below) in
-      let sum = length-append (filter_map h (take i things)) (cons_option (h (get_or things i thing)) []) in
-      let long : length region ≡ suc (length (filter_map h (take i things))) =
-      ap (λ (l : List Bounds). length l) region_is in
-      omega (arith, few, no_more h things (i + 1), more, sum, by landing some landing_is, long)
-    where
-      by : (o : Option Bounds) → IsSome o → o ≡ landing_of map me reach (get_or things i thing)
-          → length (cons_option (landing_of map me reach (get_or things i thing)) []) ≡ 1
-      by None s e = cc
-      by (Some b) s e = ap (λ (o : Option Bounds). length (cons_option o [])) (sym e)
+-- a region has at most 16 landings
+pub few_landings : (map : MapView) (me : Rec) (reach : Bounds) → IsMap map → length (filter_map (landing_of map me reach) (entities_of map)) ≤ 16
+few_landings map me reach is = few_given map (landing_of map me reach) none is
+  where
+    by : (touching : Bool) (dest : Option Vec3) → dest ≡ None → (if touching then option_map (landing_at me) dest else None) ≡ None
+    by true None e = refl
+    by true (Some dest) e = absurd (none-some dest (sym e))
+    by false dest e = refl
+
+    none : (thing : Rec) → dest_of map thing.id ≡ None → landing_of map me reach thing ≡ None
+    none thing e = by (touches (abs_of thing) reach) (dest_of map thing.id) e
+
+-- a map has at most 16 leaps, so there is room for one more while its things are gone through
+pub room_for_leap : (map : MapView) (things : List Rec) (i : ℕ) (thing : Rec) (leap : Option Leap) (leaps : List Leap) → IsMap map → things ≡ entities_of map → i < length things
+    → leap ≡ leap_of map (get_or things i thing) → leaps ≡ filter_map (leap_of map) (take i things) → IsSome leap → length leaps < 16
+room_for_leap map things i thing leap leaps is things_are below leap_is leaps_are some =
+    let h = leap_of map in
+    let few : length (filter_map h things) ≤ 16 =
+    subst (λ (l : List Rec). length (filter_map h l) ≤ 16) (sym things_are) (few_given map h (λ t e. ap (option_map (λ (dest : Vec3). record { from = abs_of t; to = dest })) e) is) in
+    let more = ap (λ (l : List Leap). length l) (filter_map-more h things i thing below) in
+    let sum = length-append (filter_map h (take i things)) (cons_option (h (get_or things i thing)) []) in
+    let long : length leaps ≡ length (filter_map h (take i things)) = ap (λ (l : List Leap). length l) leaps_are in
+    omega (arith, few, no_more h things (i + 1), more, sum, by leap some leap_is, long)
+  where
+    by : (o : Option Leap) → IsSome o → o ≡ leap_of map (get_or things i thing)
+        → length (cons_option (leap_of map (get_or things i thing)) []) ≡ 1
+    by None s e = cc
+    by (Some b) s e = ap (λ (o : Option Leap). length (cons_option o [])) (sym e)
+
+-- of the items up to a place no more are given than there are
+few_of : {X Y : Type 0} (h : X → Option Y) (xs : List X) → length (filter_map h xs) ≤ length xs
+few_of h [] = omega arith
+few_of h (x ∷ xs) = omega (arith, few_of h xs, cons-length (h x) (filter_map h xs), at-most-one (h x))
+
+-- so in the region of a move there is room for one landing more
+pub room_for_landing : {X Y : Type 0} (h : X → Option Y) (xs : List X) (i : ℕ) (first : Y) (region : List Y) → length xs ≤ 16 → i < length xs
+    → region ≡ first ∷ filter_map h (take i xs) → length region < 17
+room_for_landing {X} {Y} h xs i first region few below region_is =
+    let long : length region ≡ suc (length (filter_map h (take i xs))) = ap (λ (l : List Y). length l) region_is in
+    omega (arith, long, few_of h (take i xs), length-take-le i xs (omega (arith, below)), few, below)
+
+-- the landings by the leaps of things are the landings of the things
+pub landings_by : (map : MapView) (me : Rec) (reach : Bounds) (things : List Rec)
+    → filter_map (landing_by me reach) (filter_map (leap_of map) things) ≡ filter_map (landing_of map me reach) things
+landings_by map me reach [] = refl
+landings_by map me reach (thing ∷ things) = by (dest_of map thing.id) (touches (abs_of thing) reach) refl refl (landings_by map me reach things)
+  where
+    by : (dest : Option Vec3) (touching : Bool) → dest_of map thing.id ≡ dest → touches (abs_of thing) reach ≡ touching
+        → filter_map (landing_by me reach) (filter_map (leap_of map) things) ≡ filter_map (landing_of map me reach) things
+        → filter_map (landing_by me reach) (cons_option (option_map (λ (d : Vec3). record { from = abs_of thing; to = d }) dest) (filter_map (leap_of map) things))
+        ≡ cons_option (if touches (abs_of thing) reach then option_map (landing_at me) dest else None) (filter_map (landing_of map me reach) things)
+    by None true d t rest = rest ∙ ap (λ (b : Bool). cons_option (if b then None else None) (filter_map (landing_of map me reach) things)) (sym t)
+    by None false d t rest = rest ∙ ap (λ (b : Bool). cons_option (if b then None else None) (filter_map (landing_of map me reach) things)) (sym t)
+    by (Some dest) touching d t rest = ap (cons_option (if touches (abs_of thing) reach then Some (landing_at me dest) else None)) rest
 
 -- what is put last for a thing is what h gives of it
 pub landing_put : {X Y : Type 0} (h : X
@@ -166,6 +204,18 @@ landing_put {X} {Y} h xs i d first before after landing below landing_is before_
     ∙ ap (λ (l : List Y). l ++ cons_option landing []) before_is
     ∙ ap (λ (o : Option Y). first ∷ (filter_map h (take i xs) ++ cons_option o [])) landing_is
     ∙ ap (λ (l : List Y). first ∷ l) (sym (filter_map-more h xs i d below))
+
+-- and so it is where nothing comes first
+pub leap_put : {X Y : Type 0} (h : X
+    → Option Y) (xs : List X) (i : ℕ) (d : X) (before after : List Y) (leap : Option Y) → i < length xs
+    → leap ≡ h (get_or xs i d)
+    → before ≡ filter_map h (take i xs) → after ≡ before ++ cons_option leap []
+    → after ≡ filter_map h (take (i + 1) xs)
+leap_put {X} {Y} h xs i d before after leap below leap_is before_is after_is =
+    after_is
+    ∙ ap (λ (l : List Y). l ++ cons_option leap []) before_is
+    ∙ ap (λ (o : Option Y). filter_map h (take i xs) ++ cons_option o []) leap_is
+    ∙ sym (filter_map-more h xs i d below)
 
 -- all of them, in the region of a move
 pub all_landings : {X Y : Type 0} (h : X → Option Y) (xs : List X) (i : ℕ) (first : Y) (before : List Y) → length xs ≤ i
