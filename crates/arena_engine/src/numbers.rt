@@ -17,8 +17,6 @@ pub fn number_up_to(word: &str, most: u32) -> Option<u32>
     ensures some { IfSome result (SpellsUpTo most word.now) }
     ensures only { (n : ℕ) → SpellsUpTo most word.now n → result ≡ Some n }
 {
-    match natural(word.as_bytes(), u64::from(most))? {
-        0 => None,
-        value => Some(value as u32),
-    }
+    let value = natural(word.as_bytes(), u64::from(most))?;
+    if value == 0 { None } else { Some(value as u32) }
 }
