@@ -2,7 +2,7 @@
 #![tactic(auto)]
 
 pub use laws::served_steps_leave_fewer;
-pub use log::Log;
+pub use log::SeatLog;
 pub use machine::Core;
 pub use point::{Cell, IdList, NodeList, Point, Queues, SlotList, Store, StoreList, WordList};
 pub use queue::Queue;

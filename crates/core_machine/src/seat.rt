@@ -1,4 +1,4 @@
-use crate::log::Log;
+use crate::log::SeatLog;
 use crate::point::{NodeList, Point, Queues, WordList};
 use crate::queue::Queue;
 use arrayvec::ArrayVec;
@@ -43,7 +43,7 @@ pub struct Seat {
     /// The count of commits that was seen last.
     pub seen: u64,
     /// What the seat has committed.
-    pub log: Log,
+    pub log: SeatLog,
     /// How many takes were refused, at most 2^64 - 1.
     pub refusals: u64,
     /// The last refused take.
@@ -88,7 +88,7 @@ impl Seat {
     {
         Ok(Seat {
             seen: 0,
-            log: Log::new(alloc, room)?,
+            log: SeatLog::new(alloc, room)?,
             refusals: 0,
             refused: None,
             made,
