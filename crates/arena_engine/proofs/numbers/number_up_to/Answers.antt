@@ -1,4 +1,4 @@
-use Rattle.std.proofs.Common.{◌≡◌, ℕ, Some, sym, ◌∙◌, arith}
+use Rattle.std.proofs.Common.{◌≡◌, Some, sym, ◌∙◌, arith}
 use Rattle.arena_engine.proofs.Spelled.{spelled-read, read-spelled}
 use Rattle.arena_engine.proofs.numbers.number_up_to.Goals as goal
 
