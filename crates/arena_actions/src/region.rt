@@ -79,6 +79,7 @@ fn push_landing(region: &mut Region, landing: Option<Aabb>)
     ensures { region.new ≡ region.old ++ cons_option landing [] }
 {
     if let Some(landing) = landing {
+        // The answer says whether there was room, and there is.
         let _has_room = region.push(landing);
     }
 }
