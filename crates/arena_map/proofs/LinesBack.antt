@@ -10,11 +10,12 @@ use Rattle.edge_io.specs.Numbers.{natural_up_to, integer_up_to}
 use Rattle.edge_io.specs.Fields.{◌>>=◌, field_text}
 use Rattle.edge_io.proofs.Decimals.{natural-decimal, integer-decimal}
 use Rattle.edge_io.proofs.FieldTexts.{AreAbove, IsEnd, decimal_above, signed_above, cut-field, field_at-field}
+use Rattle.entity_recs.specs.Kinds.{is_item}
 use Rattle.arena_map.specs.declared.map_line.MapLine.{MapLine}
 use Rattle.arena_map.specs.declared.map_line.MapLine.TheVariants.{Arena, Block, Spawn, Item, Teleport, Goal, Lift}
 use Rattle.arena_map.specs.declared.map_word.MapWord.{MapWord}
 use Rattle.arena_map.specs.declared.map_word.MapWord.TheVariants as words
-use Rattle.arena_map.specs.MapLines.{IsWithinLimits, is_item}
+use Rattle.arena_map.specs.MapLines.{IsWithinLimits}
 use Rattle.arena_map.specs.Words.{word_text, map_word, kind_text, item_kind}
 use Rattle.arena_map.specs.Reading.{coordinate_at, point_at, above_zero, count_at, kind_at, alone, corners_at, line_within, line_of_word, line_of_first, map_line_of}
 use Rattle.arena_map.specs.Spelling.{word_of, point_text, fields_text, map_line_text}

@@ -11,13 +11,14 @@ use Rattle.edge_io.specs.Numbers.{natural_up_to, integer_up_to, is_integer}
 use Rattle.edge_io.specs.Fields.{◌>>=◌, cut, field_at, field_text}
 use Rattle.edge_io.proofs.Decimals.{natural-spelled, integer-spelled, integer-form, natural-integer}
 use Rattle.edge_io.proofs.FieldTexts.{cut-whole, field_at-whole}
+use Rattle.entity_recs.specs.Kinds.{is_item}
 use Rattle.arena_map.specs.declared.map_line.MapLine.{MapLine}
 use Rattle.arena_map.specs.declared.map_line.MapLine.TheVariants.{Arena, Block, Spawn, Item, Teleport, Goal, Lift}
 use Rattle.arena_map.specs.declared.map_word.MapWord.{MapWord}
 use Rattle.arena_map.specs.declared.map_word.MapWord.TheVariants as words
 use Rattle.arena_map.specs.declared.map_word.MapField.{MapField}
 use Rattle.arena_map.specs.declared.map_word.MapField.TheVariants.{Number, ItemKind}
-use Rattle.arena_map.specs.MapLines.{IsWithinLimits, is_item}
+use Rattle.arena_map.specs.MapLines.{IsWithinLimits}
 use Rattle.arena_map.specs.Words.{word_text, map_word, kind_text, item_kind, numbers, fields_of}
 use Rattle.arena_map.specs.Reading.{is_field_first, has_fields, coordinate_at, point_at, above_zero, count_at, kind_at, alone, corners_at, arena_in, block_in, spawn_in, item_in, teleport_in, goal_in, lift_in, line_within, line_of_word, line_of_first, map_line_of}
 use Rattle.arena_map.specs.Spelling.{word_of, point_text, fields_text, map_line_text}

@@ -9,10 +9,10 @@ use Rattle.entity_recs.specs.declared.kind.Kind.{Kind}
 use Rattle.entity_recs.specs.declared.kind.Kind.TheVariants as kinds
 use Rattle.entity_recs.specs.declared.rec.Rec.{Rec}
 use Rattle.entity_recs.specs.Records.{IsMapId}
+use Rattle.entity_recs.specs.Kinds.{is_item}
 use Rattle.arena_map.specs.declared.lift.Lift as lifts
 use Rattle.arena_map.specs.declared.map_line.MapLine.{MapLine}
 use Rattle.arena_map.specs.declared.map_line.MapLine.TheVariants.{Arena, Block, Spawn, Item, Teleport, Goal, Lift}
-use Rattle.arena_map.specs.MapLines.{is_item}
 use Rattle.arena_map.specs.Things.{record_of, records_from, lift_data}
 use Rattle.arena_map.specs.Maps.{MapView, entities_of, lift_of, IsThingInside, IsMap}
 use Rattle.arena_map.specs.Validity.{IsAsItsLine, IsThing, IsStateOn, IsValidRecord}

@@ -10,10 +10,11 @@ use Rattle.entity_recs.specs.declared.kind.Kind.{Kind}
 use Rattle.entity_recs.specs.declared.kind.Kind.TheVariants as kinds
 use Rattle.entity_recs.specs.declared.rec.Rec.{Rec}
 use Rattle.entity_recs.specs.Records.{IsIdOf}
+use Rattle.entity_recs.specs.Kinds.{is_item}
 use Rattle.arena_map.specs.declared.lift.Lift as lifts
 use Rattle.arena_map.specs.declared.map_line.MapLine.{MapLine}
 use Rattle.arena_map.specs.declared.map_line.MapLine.TheVariants.{Arena, Block, Spawn, Item, Teleport, Goal, Lift}
-use Rattle.arena_map.specs.MapLines.{is_thing_line, is_item, is_teleporter, is_lift}
+use Rattle.arena_map.specs.MapLines.{is_thing_line, is_teleporter, is_lift}
 use Rattle.arena_map.specs.Things.{record_of, records_from, dest_in, delay_in, lift_data}
 use Rattle.arena_map.specs.Maps.{MapView, entities_of, thing_of, dest_of, delay_of, lift_of, has_thing, IsThingInside, IsMap}
 use Rattle.arena_map.specs.Validity.{IsAsItsLine, IsThing}

@@ -13,9 +13,10 @@ use Rattle.entity_recs.specs.declared.kind.Kind.{Kind}
 use Rattle.entity_recs.specs.declared.kind.Kind.TheVariants as kinds
 use Rattle.entity_recs.specs.declared.rec.Rec.{Rec}
 use Rattle.entity_recs.specs.Records.{IsMapId, IsAboveZero, IsMapBox, IsRecord}
+use Rattle.entity_recs.specs.Kinds.{is_item}
 use Rattle.arena_map.specs.declared.map_line.MapLine.{MapLine}
 use Rattle.arena_map.specs.declared.map_line.MapLine.TheVariants.{Arena, Block, Spawn, Item, Teleport, Goal, Lift}
-use Rattle.arena_map.specs.MapLines.{is_item, is_thing_line}
+use Rattle.arena_map.specs.MapLines.{is_thing_line}
 use Rattle.arena_map.specs.Places.{is_thick}
 use Rattle.arena_map.specs.Things.{record_of, records_from}
 use Rattle.arena_map.specs.Maps.{MapView, entities_of, IsThingInside, IsMap}

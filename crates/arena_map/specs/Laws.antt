@@ -9,11 +9,12 @@ use Rattle.entity_recs.specs.declared.kind.Kind.{Kind}
 use Rattle.entity_recs.specs.declared.rec.Rec.{Rec}
 use Rattle.entity_recs.specs.Records.{IsShapeOf}
 use Rattle.entity_recs.specs.Bodies.{body_of}
+use Rattle.entity_recs.specs.Kinds.{is_item}
 use Rattle.arena_map.specs.declared.lift.Lift.{Lift}
 use Rattle.arena_map.specs.declared.map_fault.MapFault.{MapFault}
 use Rattle.arena_map.specs.declared.map_line.MapLine.{MapLine}
 use Rattle.arena_map.specs.declared.map_word.MapField.{MapField}
-use Rattle.arena_map.specs.MapLines.{IsWithinLimits, is_item, is_teleporter, is_lift}
+use Rattle.arena_map.specs.MapLines.{IsWithinLimits, is_teleporter, is_lift}
 use Rattle.arena_map.specs.Reading.{has_fields, map_line_of}
 use Rattle.arena_map.specs.Causes.{IsOfFields}
 use Rattle.arena_map.specs.Spelling.{map_line_text}

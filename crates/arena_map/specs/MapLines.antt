@@ -3,14 +3,9 @@ use Rattle.std.specs.Prelude.{◌≡◌, ◌≤◌, Bool, true, false, not, pos,
 use Rattle.arena_geo.specs.Vectors.{IsNear}
 use Rattle.entity_recs.specs.declared.kind.Kind.{Kind}
 use Rattle.entity_recs.specs.declared.kind.Kind.TheVariants as kinds
+use Rattle.entity_recs.specs.Kinds.{is_item}
 use Rattle.arena_map.specs.declared.map_line.MapLine.{MapLine}
 use Rattle.arena_map.specs.declared.map_line.MapLine.TheVariants.{Arena, Block, Spawn, Item, Teleport, Goal, Lift}
-
--- the kind is an item's
-abbrev pub is_item : Kind → Bool
-is_item kinds.Ammo = true
-is_item kinds.Gem = true
-is_item _ = false
 
 -- the kind is a teleporter's
 abbrev pub is_teleporter : Kind → Bool

@@ -4,6 +4,7 @@ ghost use Rattle.std.specs.List.{IsDistinct};
 ghost use Rattle.arena_geo.specs.Vectors.{IsNear};
 ghost use Rattle.arena_geo.specs.Bounds.{bounds};
 ghost use Rattle.entity_recs.specs.Records.{IsRecord};
+ghost use Rattle.entity_recs.specs.Kinds.{is_item};
 ghost use Rattle.arena_map.specs.declared.map_fault.MapFault.{MapFault};
 ghost use Rattle.arena_map.specs.declared.map_fault.MapRefusal.TheVariants.{Rule};
 ghost use Rattle.arena_map.specs.declared.map_line.MapLine.TheVariants.{Block, Spawn};
@@ -12,7 +13,7 @@ ghost use Rattle.arena_map.specs.Maps as maps;
 ghost use Rattle.arena_map.specs.Maps.{IsMap, IsSpawn, IsDelay, IsLift, solids_of, entities_of, has_thing};
 ghost use Rattle.arena_map.specs.MapLines as lines;
 ghost use Rattle.arena_map.specs.MapLines.{IsWithinLimits, is_arena, is_added, is_thing_line};
-ghost use Rattle.arena_map.specs.MapLines.{is_item, is_teleporter, is_lift};
+ghost use Rattle.arena_map.specs.MapLines.{is_teleporter, is_lift};
 ghost use Rattle.arena_map.specs.Rules as rules;
 ghost use Rattle.arena_map.specs.Rules.{broken_at_first, begun_map, broken_rule, with_line, with_thing};
 

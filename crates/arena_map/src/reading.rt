@@ -1,7 +1,8 @@
 ghost use Rattle.std.specs.Prelude.{◌≡◌, ◌↔◌, ◌≤◌, ◌^◌, true, false, option_map, Ok, Err, IfOk, IfSome, unsigned_abs};
 ghost use Rattle.arena_geo.specs.Vectors.{IsNear};
 ghost use Rattle.edge_io.specs.Fields as fields;
-ghost use Rattle.arena_map.specs.MapLines.{IsWithinLimits, is_item};
+ghost use Rattle.entity_recs.specs.Kinds.{is_item};
+ghost use Rattle.arena_map.specs.MapLines.{IsWithinLimits};
 ghost use Rattle.arena_map.specs.Reading as reading;
 ghost use Rattle.arena_map.specs.Spelling.{map_line_text};
 ghost use Rattle.arena_map.specs.Causes.{HasNoWord, HasNoForm, IsOutOfLimit};

@@ -21,15 +21,15 @@ is_placed r =
     (r.id == 64) && is_same r.origin ITEM.origin && is_same r.mins ITEM_MINS && is_same r.maxs ITEM_MAXS
 
 -- the item, at its place and with its shape, whatever its state
-abbrev pub is_item : Rec → Bool
-is_item r =
+abbrev pub is_the_item : Rec → Bool
+is_the_item r =
     is_placed r && is_near 512000 r.vel && nat_le r.flags 3 && nat_le r.ammo 100 && nat_le r.carry 8
     && nat_lt r.score 4294967296
 
 -- a record of this kind is taken: players within their bounds and the one item are
 abbrev pub is_taken : Kind → Rec → Bool
 is_taken Player r = is_player r && nat_lt r.seq 4294967296
-is_taken Gem r = is_item r && nat_lt r.seq 4294967296
+is_taken Gem r = is_the_item r && nat_lt r.seq 4294967296
 is_taken _ _ = false
 
 -- which records are taken

@@ -16,7 +16,7 @@ use Rattle.entity_recs.specs.Actions.{HasPlayer, IsKeepable}
 use Rattle.core_machine.specs.Staying as staying
 use Rattle.core_machine.specs.Staying.{is_near, is_same, is_player}
 use Rattle.core_trials.specs.declared.places.TheConstants.{ARRIVAL, ITEM}
-use Rattle.core_trials.specs.Errand.{is_placed, is_item, is_taken, takes, arrived, moved_where}
+use Rattle.core_trials.specs.Errand.{is_placed, is_the_item, is_taken, takes, arrived, moved_where}
 
 -- ---- numbers and tests
 
@@ -59,7 +59,7 @@ record IsItem (r : Rec) : Type 0 where
   carry : r.carry ≤ 8
   score : r.score < 2 ^ 32
 
-item_is : (r : Rec) → is_item r ≡ true → IsItem r
+item_is : (r : Rec) → is_the_item r ≡ true → IsItem r
 item_is r h =
     let score = both _ (nat_lt r.score 4294967296) h in
     let carry = both _ (nat_le r.carry 8) score.0 in
@@ -86,7 +86,7 @@ item_is_near = record { x = omega arith; y = omega arith; z = omega arith }
 
 item_is_keepable : (r : Rec) → r.kind ≡ Gem → is_taken Gem r ≡ true → IsKeepable r
 item_is_keepable r kind h =
-    let seq = both (is_item r) (nat_lt r.seq 4294967296) h in
+    let seq = both (is_the_item r) (nat_lt r.seq 4294967296) h in
     let is = item_is r seq.0 in
     record {
       bounds = record {
@@ -117,7 +117,7 @@ not_64 n less e = omega (arith, less, e)
 pub item_box : (r : Rec) (kind : Kind) → r.kind ≡ kind → is_taken kind r ≡ true → r.id ≡ 64 → abs_of r ≡ abs_of ITEM
 item_box r Player e h id = absurd (not_64 r.id (player_id r e h) id)
 item_box r Gem e h id =
-    let is = item_is r (both (is_item r) (nat_lt r.seq 4294967296) h).0 in
+    let is = item_is r (both (is_the_item r) (nat_lt r.seq 4294967296) h).0 in
     rw (e, is.origin, is.mins, is.maxs) refl
 item_box _ _ _ h _ = absurd (false≢true h)
 
@@ -159,7 +159,7 @@ arrived_is_taken r h =
 pub slot_is_player : (r : Rec) (kind : Kind) → r.kind ≡ kind → is_taken kind r ≡ true → r.id < 64 → kind ≡ Player
 slot_is_player r Player e h small = refl
 slot_is_player r Gem e h small =
-    absurd (not_64 r.id small (item_is r (both (is_item r) (nat_lt r.seq 4294967296) h).0).id)
+    absurd (not_64 r.id small (item_is r (both (is_the_item r) (nat_lt r.seq 4294967296) h).0).id)
 slot_is_player _ _ _ h _ = absurd (false≢true h)
 
 -- the player of a command

@@ -43,8 +43,8 @@ fn is_placed(r: &Rec) -> bool
 }
 
 /// Whether the record is that of the item, in whatever state.
-fn is_item(r: &Rec) -> bool
-    ensures { result ≡ errands.is_item r.now }
+fn is_the_item(r: &Rec) -> bool
+    ensures { result ≡ errands.is_the_item r.now }
 {
     is_placed(r)
         && is_near(&r.vel, 512_000)
@@ -60,7 +60,7 @@ pub fn is_taken(r: &Rec) -> bool
 {
     match r.kind {
         Kind::Player => is_player(r) && is_word(r.seq),
-        Kind::Gem => is_item(r) && is_word(r.seq),
+        Kind::Gem => is_the_item(r) && is_word(r.seq),
         Kind::Ammo | Kind::Teleporter | Kind::Goal | Kind::Lift => false,
     }
 }

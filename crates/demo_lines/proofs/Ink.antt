@@ -18,11 +18,12 @@ use Rattle.arena_geo.specs.declared.vec3.Vec3.{Vec3}
 use Rattle.arena_geo.specs.Vectors.{IsNear}
 use Rattle.entity_recs.specs.declared.kind.Kind.{Kind}
 use Rattle.entity_recs.specs.declared.kind.Kind.TheVariants as kinds
+use Rattle.entity_recs.specs.Kinds.{is_item}
 use Rattle.arena_map.specs.declared.map_line.MapLine.{MapLine}
 use Rattle.arena_map.specs.declared.map_line.MapLine.TheVariants.{Arena, Block, Spawn, Item, Teleport, Goal, Lift}
 use Rattle.arena_map.specs.declared.map_word.MapWord.{MapWord}
 use Rattle.arena_map.specs.declared.map_word.MapWord.TheVariants as map_words
-use Rattle.arena_map.specs.MapLines.{IsWithinLimits, is_item}
+use Rattle.arena_map.specs.MapLines.{IsWithinLimits}
 use Rattle.arena_map.specs.Words.{word_text, kind_text}
 use Rattle.arena_map.specs.Spelling.{word_of, point_text, fields_text, map_line_text}
 use Rattle.demo_lines.specs.Lines.{is_printable, are_printable, ends_in_return, text_of}

@@ -19,7 +19,8 @@ use Rattle.arena_map.specs.declared.map_word.MapWord.{MapWord}
 use Rattle.arena_map.specs.declared.map_word.MapWord.TheVariants as map_words
 use Rattle.entity_recs.specs.declared.kind.Kind.{Kind}
 use Rattle.entity_recs.specs.declared.kind.Kind.TheVariants as kinds
-use Rattle.arena_map.specs.MapLines.{IsWithinLimits, is_item, is_arena}
+use Rattle.entity_recs.specs.Kinds.{is_item}
+use Rattle.arena_map.specs.MapLines.{IsWithinLimits, is_arena}
 use Rattle.arena_map.specs.Words.{map_word, fields_of, word_text, kind_text}
 use Rattle.arena_map.specs.Reading.{has_fields, line_within, line_of_first}
 use Rattle.arena_map.specs.Spelling.{word_of, point_text, fields_text, map_line_text}

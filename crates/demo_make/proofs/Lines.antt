@@ -9,10 +9,11 @@ use Rattle.arena_geo.specs.Vectors.{IsNear}
 use Rattle.edge_io.specs.WholeLines.{unlines}
 use Rattle.arena_map.specs.declared.map_line.MapLine.{MapLine}
 use Rattle.entity_recs.specs.declared.kind.Kind.TheVariants.{Ammo, Gem}
-use Rattle.arena_map.specs.MapLines.{IsWithinLimits, is_item}
+use Rattle.arena_map.specs.MapLines.{IsWithinLimits}
 use Rattle.arena_map.specs.Spelling.{map_line_text}
 use Rattle.hex.specs.Hex.{lower_digits}
 use Rattle.hex.proofs.HexLemmas.{length-encode_with}
+use Rattle.entity_recs.specs.Kinds.{is_item}
 use Rattle.demo_lines.specs.Spelling.{packet_text}
 use Rattle.demo_make.specs.GeneratedMap.{in_row, spawn_at, block_corner, spawn_line, block_line, item_line, things, generated_lines, low_teleport, high_teleport, goal_line, lift_line}
 

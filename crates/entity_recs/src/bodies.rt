@@ -1,6 +1,7 @@
 ghost use Rattle.std.specs.Prelude.{◌≡◌, pos};
 ghost use Rattle.arena_geo.specs.Vectors.{IsNear};
 ghost use Rattle.entity_recs.specs.Records.{IsRecord};
+ghost use Rattle.entity_recs.specs.Bodies as bodies;
 ghost use Rattle.entity_recs.specs.Bodies.{growth_of, body_of, abs_of, player_body};
 
 use crate::kind::Kind;
@@ -81,6 +82,15 @@ pub fn abs_box(r: &Rec) -> Aabb
     ensures { result ≡ abs_of r.now }
 {
     body_box(r).grow(growth(r.kind)).unwrap()
+}
+
+/// Whether the record is a trigger, and its absolute box touches this box: where `abs` is a player's absolute box, the
+/// player touches the trigger.
+pub fn is_touched(abs: &Aabb, r: &Rec) -> bool
+    requires { IsRecord r.now }
+    ensures { result ≡ bodies.is_touched abs.now r.now }
+{
+    !r.kind.is_solid() && abs_box(r).touches(abs)
 }
 
 #[cfg(test)]

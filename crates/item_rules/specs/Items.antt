@@ -5,12 +5,6 @@ use Rattle.entity_recs.specs.declared.kind.Kind.{Kind}
 use Rattle.entity_recs.specs.declared.kind.Kind.TheVariants.{Ammo, Gem}
 use Rattle.entity_recs.specs.declared.rec.Rec.{Rec}
 
--- ammunition and gems are items
-abbrev pub is_item : Kind → Bool
-is_item Ammo = true
-is_item Gem = true
-is_item _ = false
-
 -- the player has room for what an item of this kind gives
 abbrev pub has_room_for : Rec → Kind → Bool
 has_room_for me Ammo = nat_lt me.ammo 100

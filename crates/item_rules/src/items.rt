@@ -1,7 +1,8 @@
 ghost use Rattle.std.specs.Prelude.{◌≡◌, ◌↔◌, None, true};
 ghost use Rattle.entity_recs.specs.Records.{IsRecord};
+ghost use Rattle.entity_recs.specs.Kinds.{is_item};
 ghost use Rattle.item_rules.specs.Items as items;
-ghost use Rattle.item_rules.specs.Items.{is_item, after_item, taken_state, IsLeft};
+ghost use Rattle.item_rules.specs.Items.{after_item, taken_state, IsLeft};
 
 use entity_recs::{Kind, Rec};
 

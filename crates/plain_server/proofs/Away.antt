@@ -14,7 +14,7 @@ use Rattle.entity_recs.specs.declared.rec.Rec.{Rec}
 use Rattle.entity_recs.specs.Commands.{Command}
 use Rattle.entity_recs.specs.Records.{IsIdOf, with_state}
 use Rattle.entity_recs.specs.Histories.{Item, with_new_state, commands_of}
-use Rattle.item_rules.specs.Items.{is_item}
+use Rattle.entity_recs.specs.Kinds.{is_item}
 use Rattle.arena_map.specs.declared.map_line.MapLine.{MapLine}
 use Rattle.arena_map.specs.declared.map_line.MapLine.TheVariants as lines
 use Rattle.arena_map.specs.Things.{delay_in}

@@ -13,7 +13,7 @@ use Rattle.entity_recs.specs.declared.effect.NewState.{NewState}
 use Rattle.entity_recs.specs.Commands.{Command}
 use Rattle.entity_recs.specs.Worlds.{others_of, record_or_nobody}
 use Rattle.entity_recs.specs.Histories.{Item, entry_of, commands_of, with_new_state}
-use Rattle.item_rules.specs.Items.{is_item}
+use Rattle.entity_recs.specs.Kinds.{is_item}
 use Rattle.move_journal.specs.Merges.{history_of}
 use Rattle.arena_map.specs.Maps.{MapView, IsMap}
 use Rattle.arena_map.specs.Validity.{IsValidWorld}

@@ -14,11 +14,10 @@ use Rattle.entity_recs.specs.declared.kind.Kind.{Kind}
 use Rattle.entity_recs.specs.declared.kind.Kind.TheVariants.{Player, Ammo, Gem}
 use Rattle.entity_recs.specs.declared.rec.Rec.{Rec}
 use Rattle.entity_recs.specs.Bodies.{body_of}
-use Rattle.entity_recs.specs.Kinds.{is_solid}
+use Rattle.entity_recs.specs.Kinds.{is_solid, is_item}
 use Rattle.entity_recs.specs.Records.{with_state}
 use Rattle.entity_recs.specs.Worlds.{World}
 use Rattle.entity_recs.specs.Histories.{with_new_state}
-use Rattle.item_rules.specs.Items.{is_item}
 use Rattle.arena_map.specs.declared.lift.Lift as lifts
 use Rattle.arena_map.specs.Maps.{MapView, entities_of, lift_of, solids_of}
 use Rattle.arena_map.specs.Validity.{IsAsItsLine, IsThing, IsStateOn, IsValidRecord, IsValidWorld, AreClear}

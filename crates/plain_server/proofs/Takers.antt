@@ -1,14 +1,10 @@
 -- Who took an item in frames with right journals.
-use Rattle.std.proofs.Common.{◌≡◌, ℕ, zero, suc, ◌+◌, ◌<◌, ◌≤◌, true, List, [], ◌∷◌, Option, Some, is_some, slice_get, refl, sym, ap, ◌∙◌, subst, arith}
+use Rattle.std.proofs.Common.{◌≡◌, ℕ, zero, suc, ◌+◌, ◌<◌, ◌≤◌, List, [], ◌∷◌, Option, Some, is_some, slice_get, refl, sym, ap, ◌∙◌, subst, arith}
 use Rattle.std.proofs.lemmas.Option.{none-some, same_Some}
 use Rattle.entity_recs.specs.declared.rec.Rec.{Rec}
 use Rattle.entity_recs.specs.declared.effect.Entry.{Entry}
-use Rattle.entity_recs.specs.declared.kind.Kind.{Kind}
-use Rattle.entity_recs.specs.declared.kind.Kind.TheVariants.{Ammo, Gem}
 use Rattle.entity_recs.specs.Histories.{Item, commands_of}
 use Rattle.move_journal.specs.Merges.{history_of}
-use Rattle.item_rules.specs.Items.{is_item}
-use Rattle.arena_map.specs.MapLines as lines
 use Rattle.arena_map.specs.Maps.{MapView, IsMap, delay_of}
 use Rattle.world_tree.specs.Live.{record_at}
 use Rattle.client_ports.specs.declared.arrival.Arrival.{Arrival}
@@ -26,11 +22,6 @@ use Rattle.plain_server.proofs.ThingsStay.{things_received, things_finished}
 use Rattle.plain_server.proofs.Ticking.{server_ticked, waits}
 use Rattle.plain_server.proofs.Frames.{moved_by_is, received_is, state_after_is}
 use Rattle.plain_server.proofs.Away.{IsAway, IsAwayThen, away_is_thing, away_through, nobody_got, got_are_items, got_through, one_got}
-
-item_line : (kind : Kind) → is_item kind ≡ true → lines.is_item kind ≡ true
-item_line Ammo item = refl
-item_line Gem item = refl
-item_line kind item = cc
 
 -- the record of one place instead of another, where they are the same
 away_there : (records other : List (Option Rec)) (id until : ℕ) → record_at other id ≡ record_at records id → IsAway records id until → IsAway other id until
@@ -68,7 +59,7 @@ module _ (map : MapView) (frame : ℕ) (state : State) (arrivals : List Arrival)
   away_then id until before away =
       let valid = is.fits.valid in
       let from = away_is_thing map state.records id until valid away in
-      let there = waits map frame id away.item state.records is_map valid away.at (item_line away.item.kind away.kind) (omega (arith, before, away.state)) in
+      let there = waits map frame id away.item state.records is_map valid away.at away.kind (omega (arith, before, away.state)) in
       record {
         item = away.item;
         at = things_received map frame id (state_after_tick map frame state) arrivals from (server_ticked map frame state is_map is) ∙ there;

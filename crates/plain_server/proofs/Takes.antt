@@ -7,7 +7,7 @@ use Rattle.entity_recs.specs.declared.effect.NewState.{NewState}
 use Rattle.entity_recs.specs.declared.rec.Rec.{Rec}
 use Rattle.entity_recs.specs.Commands.{Command}
 use Rattle.entity_recs.specs.Worlds.{others_of, record_or_nobody}
-use Rattle.item_rules.specs.Items.{is_item}
+use Rattle.entity_recs.specs.Kinds.{is_item}
 use Rattle.arena_map.specs.Maps.{MapView, delay_of}
 use Rattle.trigger_rules.specs.Laws.{IsTaken}
 use Rattle.arena_actions.specs.Outcomes.{moved_among}

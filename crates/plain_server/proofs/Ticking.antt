@@ -1,7 +1,7 @@
 -- What the tick of a frame keeps: the state stays a server's, bodies stay clear, and items that return later stay away.
 use Rattle.std.proofs.Common.{◌≡◌, ℕ, ◌<◌, true, List, Option, Some, is_some, sym, ap, ◌∙◌}
 use Rattle.entity_recs.specs.declared.rec.Rec.{Rec}
-use Rattle.arena_map.specs.MapLines.{is_item}
+use Rattle.entity_recs.specs.Kinds.{is_item}
 use Rattle.arena_map.specs.Maps.{MapView, IsMap}
 use Rattle.arena_map.specs.Validity.{IsValidWorld, AreClear}
 use Rattle.world_tree.specs.Live.{record_at}

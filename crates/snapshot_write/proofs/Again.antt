@@ -11,12 +11,12 @@ use Rattle.entity_recs.specs.declared.kind.Kind.{Kind}
 use Rattle.entity_recs.specs.declared.kind.Kind.TheVariants.{Player, Ammo, Gem, Teleporter, Goal, Lift}
 use Rattle.entity_recs.specs.declared.rec.Rec.{Rec}
 use Rattle.entity_recs.specs.declared.bodies.TheConstants.{PLAYER_MINS, PLAYER_MAXS}
-use Rattle.entity_recs.specs.Kinds.{number_of}
+use Rattle.entity_recs.specs.Kinds.{number_of, is_item}
 use Rattle.snapshot_write.specs.declared.seen.Seen.{Seen}
 use Rattle.snapshot_write.specs.declared.snapshot.Snapshot.{Snapshot}
 use Rattle.snapshot_write.specs.declared.snap_fault.SnapFault.TheVariants.{Short, Version, Order, Count, Long}
 use Rattle.snapshot_write.specs.Fields.{count_in, length_with, blocks_in, id_in}
-use Rattle.snapshot_write.specs.Cause.{are_rising, have_id, is_kind, is_item_kind, has_wrong_own, has_wrong_field, has_wrong_blocks, breaks, cause_of}
+use Rattle.snapshot_write.specs.Cause.{are_rising, have_id, is_kind, has_wrong_own, has_wrong_field, has_wrong_blocks, breaks, cause_of}
 use Rattle.snapshot_write.specs.Reading.{own_in, seen_in, snapshot_in, answer, reading}
 use Rattle.snapshot_write.specs.Spelling.{status_of, block_of, spelling, IsOwn, IsSeen, AreSeen, ids_of, is_rising, IsSnapshot}
 use Rattle.snapshot_write.proofs.Fields.{vector_again, kind_again, status_again}
@@ -78,8 +78,9 @@ none_wrong (s ∷ seen) are =
       from_le_bytes-to_le_bytes_2 s.id (omega (arith, (are.0).id)),
       le-ltb 255 s.id (are.0).id,
       kind_is s.kind,
+      kind_again s.kind,
       status_is s.here,
-      item_is s.here (is_item_kind (number_of s.kind)) (are.0).here,
+      item_is s.here (is_item s.kind) (are.0).here,
       none_wrong seen are.1,
     )
     refl

@@ -8,13 +8,13 @@ use Rattle.std.proofs.lemmas.Bool.{ltb-false, eqb-true, not-false, or_parts}
 use Rattle.std.proofs.lemmas.Bool.Decides.{nat_tests}
 use Rattle.std.proofs.lemmas.List.{length-map, nil_from_length, take-append-drop, get_or-take, get_or-drop, get_or_default}
 use Rattle.arena_geo.specs.Vectors.{Fits}
-use Rattle.entity_recs.specs.Kinds.{number_of}
+use Rattle.entity_recs.specs.Kinds.{number_of, is_item}
 use Rattle.snapshot_write.specs.declared.snapshot.Snapshot.{Snapshot}
 use Rattle.snapshot_write.specs.declared.snap_fault.SnapFault.{SnapFault}
 use Rattle.snapshot_write.specs.declared.snap_fault.SnapFault.TheVariants.{Short, Version, Order, Count, Long}
 use Rattle.snapshot_write.specs.Snapshots.{vector_bytes, own_bytes}
 use Rattle.snapshot_write.specs.Fields.{byte, number_at, vector_at, count_in, length_with, blocks_in, id_in, kind_of}
-use Rattle.snapshot_write.specs.Cause.{are_rising, have_id, is_kind, is_item_kind, has_wrong_own, has_wrong_field, has_wrong_blocks, breaks, cause_of}
+use Rattle.snapshot_write.specs.Cause.{are_rising, have_id, is_kind, has_wrong_own, has_wrong_field, has_wrong_blocks, breaks, cause_of}
 use Rattle.snapshot_write.specs.Reading.{own_in, seen_in, snapshot_in, answer, reading}
 use Rattle.snapshot_write.specs.Spelling.{status_of, block_of, spelling, IsOwn, IsSeen, AreSeen, ids_of, is_rising, IsSnapshot, Spells}
 use Rattle.snapshot_write.specs.Laws.{AreBytes}
@@ -53,11 +53,11 @@ record IsRightBlock (block : List ℕ) : Type 0 where
   id : id_in block ≤ 255
   kind : byte block 2 ≤ 5
   status : byte block 3 ≤ 1
-  here : ((byte block 3 == 0) && not (is_item_kind (byte block 2))) ≡ false
+  here : ((byte block 3 == 0) && not (is_item (kind_of (byte block 2)))) ≡ false
 
 right_block : (block : List ℕ) → has_wrong_field block ≡ false → IsRightBlock block
 right_block block right =
-    let last = or_parts _ ((byte block 3 == 0) && not (is_item_kind (byte block 2))) right in
+    let last = or_parts _ ((byte block 3 == 0) && not (is_item (kind_of (byte block 2)))) right in
     let third = or_parts _ (nat_lt 1 (byte block 3)) last.0 in
     let second = or_parts (nat_lt 255 (id_in block)) (not (is_kind (byte block 2))) third.0 in
     record {
@@ -87,16 +87,11 @@ block_spelled block sixteen below right =
     numbers a b k s l e f = cc
 
 -- what isn't there is an item
-item_of : (kind status : ℕ) → kind ≤ 5 → status ≤ 1 → ((status == 0) && not (is_item_kind kind)) ≡ false
-    → ((status == 1) || is_item_kind (number_of (kind_of kind))) ≡ true
-item_of kind status small one e =
-    ap (λ n. (status == 1) || is_item_kind n) (kind_cell kind small) ∙ by_status status (is_item_kind kind) one e
-  where
-    by_status : (status : ℕ) (item : Bool) → status ≤ 1 → ((status == 0) && not item) ≡ false → ((status == 1) || item) ≡ true
-    by_status zero true one e = refl
-    by_status zero false one e = absurd cc
-    by_status (suc zero) item one e = refl
-    by_status (suc (suc n)) item one e = absurd (omega arith)
+item_of : (status : ℕ) (item : Bool) → status ≤ 1 → ((status == 0) && not item) ≡ false → ((status == 1) || item) ≡ true
+item_of zero true one e = refl
+item_of zero false one e = absurd cc
+item_of (suc zero) item one e = refl
+item_of (suc (suc n)) item one e = absurd (omega arith)
 
 -- three numbers that are read with a sign are of 32 bits
 vector_fits : (bytes : List ℕ) (i : ℕ) → i + 12 ≤ length bytes → AreBytesBelow bytes (length bytes) → Fits (vector_at bytes i)
@@ -109,7 +104,7 @@ block_seen block sixteen below right =
     record {
       id = is.id;
       origin = vector_fits block 4 (omega (arith, sixteen)) below;
-      here = item_of (byte block 2) (byte block 3) is.kind is.status is.here;
+      here = item_of (byte block 3) (is_item (kind_of (byte block 2))) is.status is.here;
     }
 
 -- ---- all blocks

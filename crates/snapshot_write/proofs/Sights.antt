@@ -14,14 +14,13 @@ use Rattle.entity_recs.specs.declared.kind.Kind.{Kind}
 use Rattle.entity_recs.specs.declared.kind.Kind.TheVariants.{Player, Ammo, Gem, Teleporter, Goal, Lift}
 use Rattle.entity_recs.specs.declared.rec.Rec.{Rec}
 use Rattle.entity_recs.specs.declared.bodies.TheConstants.{PLAYER_MINS, PLAYER_MAXS}
-use Rattle.entity_recs.specs.Kinds.{number_of}
+use Rattle.entity_recs.specs.Kinds.{is_item}
 use Rattle.entity_recs.specs.Records.{IsIdOf, IsShapeOf, HasCorners, IsRecord, with_state}
 use Rattle.entity_recs.specs.Bodies.{abs_of}
 use Rattle.world_tree.specs.Live.{record_at, live_in, IsEntry, AreEntries}
 use Rattle.snapshot_write.specs.declared.seen.Seen.{Seen}
 use Rattle.snapshot_write.specs.declared.snapshot.Snapshot.{Snapshot}
 use Rattle.snapshot_write.specs.Snapshots.{view_of, is_seen, seen_by, status_at, entity_bytes, own_bytes, snapshot}
-use Rattle.snapshot_write.specs.Cause.{is_item_kind}
 use Rattle.snapshot_write.specs.Reading.{reading}
 use Rattle.snapshot_write.specs.Spelling.{status_of, block_of, spelling, IsOwn, IsSeen, AreSeen, ids_of, is_rising, IsSnapshot}
 use Rattle.snapshot_write.specs.Shown.{is_here, shown_as, shown, IsInSight, IsShownTo}
@@ -100,7 +99,7 @@ or_true : (b : Bool) → (b || true) ≡ true
 or_true true = refl
 or_true false = refl
 
-item_is : (kind : Kind) (state : ℕ) → (is_here kind state || is_item_kind (number_of kind)) ≡ true
+item_is : (kind : Kind) (state : ℕ) → (is_here kind state || is_item kind) ≡ true
 item_is Player state = refl
 item_is Ammo state = or_true (state == 0)
 item_is Gem state = or_true (state == 0)

@@ -1,9 +1,10 @@
 -- Why bytes are no snapshot: the first rule that they break.
 use Rattle.std.specs.Prelude.{ℕ, ◌==◌, nat_lt, nat_le, Bool, not, ◌&&◌, ◌||◌, List, [], ◌∷◌, length, drop, find, Option}
 use Rattle.std.specs.List.{list_all, list_any, zip}
+use Rattle.entity_recs.specs.Kinds.{is_item}
 use Rattle.snapshot_write.specs.declared.snap_fault.SnapFault.{SnapFault}
 use Rattle.snapshot_write.specs.declared.snap_fault.SnapFault.TheVariants.{Short, Version, Order, Count, Long}
-use Rattle.snapshot_write.specs.Fields.{byte, count_in, length_with, blocks_in, id_in}
+use Rattle.snapshot_write.specs.Fields.{byte, count_in, length_with, blocks_in, id_in, kind_of}
 
 -- the id of each block is below that of the next one
 abbrev pub are_rising : List (List ℕ) → Bool
@@ -17,10 +18,6 @@ have_id id blocks = list_any (λ block. id_in block == id) blocks
 abbrev pub is_kind : ℕ → Bool
 is_kind kind = nat_le kind 5
 
--- the number of an item's kind: ammunition or a gem
-abbrev pub is_item_kind : ℕ → Bool
-is_item_kind kind = (kind == 1) || (kind == 2)
-
 -- the slot is above 63, the flags above 3, the ammunition above 100 or the gems above 8
 abbrev pub has_wrong_own : List ℕ → Bool
 has_wrong_own bytes =
@@ -30,7 +27,7 @@ has_wrong_own bytes =
 abbrev pub has_wrong_field : List ℕ → Bool
 has_wrong_field block =
     nat_lt 255 (id_in block) || not (is_kind (byte block 2)) || nat_lt 1 (byte block 3)
-    || ((byte block 3 == 0) && not (is_item_kind (byte block 2)))
+    || ((byte block 3 == 0) && not (is_item (kind_of (byte block 2))))
 
 -- there are more than 255 blocks, or one has a wrong field
 abbrev pub has_wrong_blocks : List (List ℕ) → Bool

@@ -7,12 +7,11 @@ use Rattle.arena_geo.specs.Vectors.{Fits}
 use Rattle.entity_recs.specs.declared.kind.Kind.TheVariants.{Player}
 use Rattle.entity_recs.specs.declared.rec.Rec.{Rec}
 use Rattle.entity_recs.specs.declared.bodies.TheConstants.{PLAYER_MINS, PLAYER_MAXS}
-use Rattle.entity_recs.specs.Kinds.{number_of}
+use Rattle.entity_recs.specs.Kinds.{number_of, is_item}
 use Rattle.entity_recs.specs.Records.{HasCorners}
 use Rattle.snapshot_write.specs.declared.seen.Seen.{Seen}
 use Rattle.snapshot_write.specs.declared.snapshot.Snapshot.{Snapshot}
 use Rattle.snapshot_write.specs.Snapshots.{vector_bytes, own_bytes}
-use Rattle.snapshot_write.specs.Cause.{is_item_kind}
 
 -- 1 for what is there, and 0 for an item that was taken
 abbrev pub status_of : Bool → ℕ
@@ -49,7 +48,7 @@ pub record IsOwn (me : Rec) : Type 0 where
 pub record IsSeen (s : Seen) : Type 0 where
   pub id : s.id ≤ 255
   pub origin : Fits s.origin
-  pub here : (s.here || is_item_kind (number_of s.kind)) ≡ true
+  pub here : (s.here || is_item s.kind) ≡ true
 
 -- each entity is as snapshots show it
 abbrev pub AreSeen : List Seen → Type 0

@@ -136,8 +136,7 @@ fn read_block(block: &[u8; BLOCK]) -> Option<Seen>
     let id = id_of(block);
     let kind = kind_of(block[2])?;
     let status = block[3];
-    let may_be_taken = matches!(kind, Kind::Ammo | Kind::Gem);
-    if id > 255 || status > 1 || (status == 0 && !may_be_taken) {
+    if id > 255 || status > 1 || (status == 0 && !kind.is_item()) {
         return None;
     }
     Some(Seen {

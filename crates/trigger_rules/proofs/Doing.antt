@@ -11,8 +11,9 @@ use Rattle.entity_recs.specs.declared.kind.Kind.{Kind}
 use Rattle.entity_recs.specs.declared.kind.Kind.TheVariants.{Player, Ammo, Gem, Teleporter, Goal, Lift}
 use Rattle.entity_recs.specs.declared.rec.Rec.{Rec}
 use Rattle.entity_recs.specs.Bodies.{player_body}
+use Rattle.entity_recs.specs.Kinds.{is_item}
 use Rattle.arena_map.specs.Maps.{MapView, dest_of, delay_of}
-use Rattle.item_rules.specs.Items.{is_item, has_room_for, may_take, with_item, after_item}
+use Rattle.item_rules.specs.Items.{has_room_for, may_take, with_item, after_item}
 use Rattle.trigger_rules.specs.Touching.{touched_by, solids_among, Walk, walk_of, first_walk, after_taking, after_touched_item, after_teleporter, after_kind, leapt, after_trigger, touched}
 use Rattle.trigger_rules.specs.Laws.{HasFewThings, IsLeftFor, IsAway, AreEnough, IsArmed, IsLaden, AreTakenOrLeft, TouchedItemsAreTaken, PassedTeleportersAreBlocked}
 use Rattle.trigger_rules.proofs.Steps.{Step, step, item-change, few-with, true-false}

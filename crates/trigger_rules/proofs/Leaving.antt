@@ -10,9 +10,9 @@ use Rattle.arena_geo.specs.Bounds.{Bounds}
 use Rattle.entity_recs.specs.declared.kind.Kind.{Kind}
 use Rattle.entity_recs.specs.declared.kind.Kind.TheVariants.{Player, Ammo, Gem, Teleporter, Goal, Lift}
 use Rattle.entity_recs.specs.declared.rec.Rec.{Rec}
-use Rattle.entity_recs.specs.Kinds.{number_of}
+use Rattle.entity_recs.specs.Kinds.{number_of, is_item}
 use Rattle.arena_map.specs.Maps.{MapView, delay_of}
-use Rattle.item_rules.specs.Items.{is_item, has_room_for, may_take}
+use Rattle.item_rules.specs.Items.{has_room_for, may_take}
 use Rattle.trigger_rules.specs.Touching.{touched_by, solids_among, Walk, first_walk, after_taking, after_touched_item, after_kind, after_trigger, touched}
 use Rattle.trigger_rules.specs.Laws.{HasFewThings, is_got, count_got, AreCarried, HadNoRoom, WereEnough, WasArmed, WasLaden, AreLeftWithoutRoom, ItemsAreLeftWithoutRoom}
 use Rattle.trigger_rules.proofs.Steps.{Step, step, true-false, walk-keeps}

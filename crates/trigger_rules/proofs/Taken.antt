@@ -15,10 +15,10 @@ use Rattle.entity_recs.specs.declared.kind.Kind.{Kind}
 use Rattle.entity_recs.specs.declared.kind.Kind.TheVariants.{Player, Ammo, Gem, Teleporter, Goal, Lift}
 use Rattle.entity_recs.specs.declared.rec.Rec.{Rec}
 use Rattle.entity_recs.specs.Records.{HasCorners}
-use Rattle.entity_recs.specs.Bodies.{abs_of, player_body, standing}
+use Rattle.entity_recs.specs.Bodies.{abs_of, player_body, standing, is_touched}
 use Rattle.arena_map.specs.Maps.{MapView, dest_of}
 use Rattle.item_rules.specs.Items.{after_item}
-use Rattle.trigger_rules.specs.Touching.{is_touched, touched_by, solids_among, Walk, walk_of, first_walk, new_state, scored, leapt, after_teleporter, after_kind, after_trigger, touched}
+use Rattle.trigger_rules.specs.Touching.{touched_by, solids_among, Walk, walk_of, first_walk, new_state, scored, leapt, after_teleporter, after_kind, after_trigger, touched}
 use Rattle.trigger_rules.specs.Laws.{HasFewThings, ThingsStayFew, IsTaken, AreTaken, ItemsWereThere, GotIdsRise, ScoresNeverFall, HasLeapt, LeapsAreFree, IsInPlace, OnlyLeapsMove, IsSamePlayer, PlayersStayThemselves, OnlyTouchedMatters}
 use Rattle.trigger_rules.proofs.Steps.{Step, step, item-change, true-false, was-there, few-with, walk-keeps, walk-keeps-in}
 

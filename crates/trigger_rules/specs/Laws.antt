@@ -11,12 +11,11 @@ use Rattle.entity_recs.specs.declared.effect.NewState.{NewState}
 use Rattle.entity_recs.specs.declared.kind.Kind.{Kind}
 use Rattle.entity_recs.specs.declared.kind.Kind.TheVariants.{Player, Ammo, Gem, Teleporter, Goal}
 use Rattle.entity_recs.specs.declared.rec.Rec.{Rec}
-use Rattle.entity_recs.specs.Kinds.{number_of}
+use Rattle.entity_recs.specs.Kinds.{number_of, is_item}
 use Rattle.entity_recs.specs.Records.{IsRecord, HasCorners}
-use Rattle.entity_recs.specs.Bodies.{body_of, abs_of, player_body}
+use Rattle.entity_recs.specs.Bodies.{body_of, abs_of, player_body, is_touched}
 use Rattle.arena_map.specs.Maps.{MapView, IsMap, dest_of, delay_of}
-use Rattle.item_rules.specs.Items.{is_item}
-use Rattle.trigger_rules.specs.Touching.{is_touched, touched_by, solids_among, Walk, touched}
+use Rattle.trigger_rules.specs.Touching.{touched_by, solids_among, Walk, touched}
 
 -- the player has at most 100 of ammunition and carries at most 8 gems
 pub record HasFewThings (me : Rec) : Type 0 where

@@ -1,25 +1,21 @@
 -- Touching: what the triggers that a player touches after a move do, one after another.
-use Rattle.std.specs.Prelude.{ℕ, ◌+◌, min, bit_or, Bool, true, false, not, ◌&&◌, nat_lt, if◌then◌else◌, List, [], ◌∷◌}
+use Rattle.std.specs.Prelude.{ℕ, ◌+◌, min, bit_or, Bool, true, false, nat_lt, if◌then◌else◌, List, [], ◌∷◌}
 use Rattle.std.specs.Prelude.{◌++◌, length, filter, fold, Option, Some, None}
 use Rattle.std.specs.Prelude.{map as map_list}
 use Rattle.arena_geo.specs.declared.vec3.Vec3.{Vec3}
 use Rattle.arena_geo.specs.Vectors.{zero_vector}
 use Rattle.arena_geo.specs.Bounds.{Bounds}
-use Rattle.arena_geo.specs.Boxes.{touches, is_blocked}
+use Rattle.arena_geo.specs.Boxes.{is_blocked}
 use Rattle.entity_recs.specs.declared.effect.NewState.{NewState}
 use Rattle.entity_recs.specs.declared.kind.Kind.{Kind}
 use Rattle.entity_recs.specs.declared.kind.Kind.TheVariants.{Player, Ammo, Gem, Teleporter, Goal, Lift}
 use Rattle.entity_recs.specs.declared.rec.Rec.{Rec}
 use Rattle.entity_recs.specs.Kinds.{is_solid}
-use Rattle.entity_recs.specs.Bodies.{body_of, abs_of, player_body}
+use Rattle.entity_recs.specs.Bodies.{body_of, abs_of, player_body, is_touched}
 use Rattle.arena_map.specs.Maps.{MapView, solids_of, dest_of, delay_of}
 use Rattle.item_rules.specs.Items.{after_item, taken_state}
 
 -- ---- what is touched
-
--- the record is a trigger, and its absolute box touches this box
-abbrev pub is_touched : Bounds → Rec → Bool
-is_touched abs r = not (is_solid r.kind) && touches (abs_of r) abs
 
 -- the triggers that a player touches, in the order of the records
 abbrev pub touched_by : Rec → List Rec → List Rec

@@ -4,10 +4,9 @@ ghost use Rattle.arena_geo.specs.Vectors.{IsNear};
 ghost use Rattle.arena_geo.specs.Boxes.{overlaps, is_blocked, contains};
 ghost use Rattle.entity_recs.specs.declared.effect.NewState.{NewState};
 ghost use Rattle.entity_recs.specs.declared.kind.Kind.TheVariants.{Player};
-ghost use Rattle.entity_recs.specs.Kinds.{is_solid};
+ghost use Rattle.entity_recs.specs.Kinds.{is_solid, is_item};
 ghost use Rattle.entity_recs.specs.Records.{IsRecord};
 ghost use Rattle.entity_recs.specs.Bodies.{body_of, player_body};
-ghost use Rattle.item_rules.specs.Items.{is_item};
 ghost use Rattle.arena_map.specs.Maps as maps;
 ghost use Rattle.arena_map.specs.Maps.{IsSpawn};
 ghost use Rattle.trigger_rules.specs.Touching as touching;
@@ -17,20 +16,12 @@ ghost use Rattle.trigger_rules.specs.Touching.{after_trigger};
 use arena_geo::{Aabb, Vec3};
 use arena_map::ArenaMap;
 use entity_recs::{
-    IdList, Kind, LIST_LEN, NewState, Rec, StateList, abs_box, body_box, player_box,
+    IdList, Kind, LIST_LEN, NewState, Rec, StateList, abs_box, body_box, is_touched, player_box,
 };
 use item_rules::take_item;
 
 /// Bit 1 of a player's flags: its last move ended in a teleporter.
 const LEAPT: u8 = 2;
-
-/// Whether the record is a trigger, and its absolute box touches this box.
-fn is_touched(abs: &Aabb, r: &Rec) -> bool
-    requires { IsRecord r.now }
-    ensures { result ≡ touching.is_touched abs.now r.now }
-{
-    !r.kind.is_solid() && abs_box(r).touches(abs)
-}
 
 /// Whether the body overlaps that of a solid among these records.
 fn is_blocked_by_solids(body: &Aabb, near: &[Rec]) -> bool

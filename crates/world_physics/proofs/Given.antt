@@ -12,8 +12,8 @@ use Rattle.entity_recs.specs.declared.rec.Rec.{Rec}
 use Rattle.entity_recs.specs.declared.bodies.TheConstants.{PLAYER_MINS, PLAYER_MAXS}
 use Rattle.entity_recs.specs.Records.{IsRecord, with_state}
 use Rattle.entity_recs.specs.Bodies.{player_body}
+use Rattle.entity_recs.specs.Kinds.{is_item}
 use Rattle.arena_map.specs.Things.{thing_at_rest}
-use Rattle.arena_map.specs.MapLines.{is_item}
 use Rattle.arena_map.specs.Maps.{MapView, IsMap, entities_of, lift_of}
 use Rattle.arena_map.specs.Validity.{IsThing, IsValidRecord, IsValidWorld}
 use Rattle.arena_map.proofs.Opening.{opening-is_valid}

@@ -6,10 +6,10 @@ use Rattle.std.proofs.lemmas.Option.{same_Some}
 use Rattle.entity_recs.specs.declared.kind.Kind.{Kind}
 use Rattle.entity_recs.specs.declared.kind.Kind.TheVariants as kinds
 use Rattle.entity_recs.specs.declared.rec.Rec.{Rec}
-use Rattle.entity_recs.specs.Kinds.{is_solid}
+use Rattle.entity_recs.specs.Kinds.{is_solid, is_item}
 use Rattle.entity_recs.specs.Records.{with_state}
 use Rattle.arena_map.specs.declared.lift.Lift.{Lift}
-use Rattle.arena_map.specs.MapLines.{is_item, is_lift}
+use Rattle.arena_map.specs.MapLines.{is_lift}
 use Rattle.arena_map.specs.Maps.{MapView, IsMap, entities_of, lift_of}
 use Rattle.arena_map.specs.Validity.{IsValidWorld}
 use Rattle.world_tree.specs.Live.{record_at}

@@ -10,9 +10,10 @@ use Rattle.entity_recs.specs.declared.kind.Kind.{Kind}
 use Rattle.entity_recs.specs.declared.kind.Kind.TheVariants as kinds
 use Rattle.entity_recs.specs.declared.rec.Rec.{Rec}
 use Rattle.entity_recs.specs.Bodies.{body_of}
+use Rattle.entity_recs.specs.Kinds.{is_item}
 use Rattle.arena_map.specs.declared.lift.Lift.{Lift}
 use Rattle.arena_map.specs.declared.map_line.MapLine.{MapLine}
-use Rattle.arena_map.specs.MapLines.{is_item, is_thing_line}
+use Rattle.arena_map.specs.MapLines.{is_thing_line}
 use Rattle.arena_map.specs.Places.{upwards}
 use Rattle.arena_map.specs.Things.{records_from, record_of}
 use Rattle.arena_map.specs.Maps.{MapView, IsMap, IsThingInside, lift_of}

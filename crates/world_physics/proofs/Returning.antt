@@ -6,7 +6,7 @@ use Rattle.std.proofs.lemmas.List.{get_or_past}
 use Rattle.std.proofs.lemmas.Option.{none-some, same_Some}
 use Rattle.entity_recs.specs.declared.rec.Rec.{Rec}
 use Rattle.entity_recs.specs.Records.{IsRecord, with_state}
-use Rattle.arena_map.specs.MapLines.{is_item}
+use Rattle.entity_recs.specs.Kinds.{is_item}
 use Rattle.arena_map.proofs.Boxes.{three_parts}
 use Rattle.world_tree.specs.Live.{record_at}
 use Rattle.world_tree.specs.Worlds.{WorldView}

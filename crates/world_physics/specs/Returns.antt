@@ -3,7 +3,7 @@ use Rattle.std.specs.Prelude.{ℕ, ◌==◌, Bool, not, ◌&&◌, nat_le, List, 
 use Rattle.std.specs.Option.{option_map}
 use Rattle.entity_recs.specs.declared.rec.Rec.{Rec}
 use Rattle.entity_recs.specs.Records.{with_state}
-use Rattle.arena_map.specs.MapLines.{is_item}
+use Rattle.entity_recs.specs.Kinds.{is_item}
 use Rattle.world_tree.specs.Live.{record_at}
 
 -- the records by id, each live one changed so

@@ -1,27 +1,16 @@
 ghost use Rattle.std.specs.Prelude.{◌≡◌, ◌<◌};
 ghost use Rattle.entity_recs.specs.Records.{with_state};
-ghost use Rattle.arena_map.specs.MapLines as lines;
 ghost use Rattle.world_physics.specs.Returns as spec;
 ghost use Rattle.world_physics.specs.Returns.{after_returns, changed_at, returned};
 
-use entity_recs::{Kind, Rec};
+use entity_recs::Rec;
 use world_tree::{IDS, World};
-
-/// Whether the kind is an item's.
-pub fn is_item(kind: Kind) -> bool
-    ensures { result ≡ lines.is_item kind }
-{
-    match kind {
-        Kind::Ammo | Kind::Gem => true,
-        Kind::Player | Kind::Teleporter | Kind::Goal | Kind::Lift => false,
-    }
-}
 
 /// Whether the record is that of a taken item, and the frame in which it returns has come.
 fn is_due(r: &Rec, frame: u32) -> bool
     ensures { result ≡ spec.is_due frame r.now }
 {
-    is_item(r.kind) && r.state != 0 && r.state <= u64::from(frame)
+    r.kind.is_item() && r.state != 0 && r.state <= u64::from(frame)
 }
 
 /// The record of an item that is there again.

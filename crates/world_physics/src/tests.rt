@@ -6,7 +6,6 @@ ghost use Rattle.entity_recs.specs.Records.{with_state};
 ghost use Rattle.arena_map.specs.Things.{thing_at_rest};
 ghost use Rattle.entity_recs.specs.declared.kind.Kind.TheVariants.{Player};
 
-use crate::returns::is_item;
 use crate::tick;
 use arena_geo::Vec3;
 use arena_map::{ArenaMap, MapLine, MapRefusal};
@@ -290,7 +289,7 @@ fn take(map: &ArenaMap, world: &mut World, id: u16, frame: u64)
     ensures { IsValidWorld map.now world.new.records }
 {
     if let Some(r) = world.get(id) {
-        if is_item(r.kind) {
+        if r.kind.is_item() {
             world.relink(in_state(&r, frame));
         }
     }

@@ -14,13 +14,13 @@ use Rattle.areanode.specs.Trees.{node_of, leaves_of, visited_of}
 use Rattle.areanode.proofs.Nodes.{touched_node_is_visited, node_is_in_range}
 use Rattle.entity_recs.specs.declared.rec.Rec.{Rec}
 use Rattle.entity_recs.specs.Kinds.{is_solid}
-use Rattle.entity_recs.specs.Bodies.{body_of, abs_of}
+use Rattle.entity_recs.specs.Bodies.{body_of, abs_of, is_touched}
 use Rattle.entity_recs.proofs.Standing.{records_have_boxes}
 use Rattle.link_lists.specs.Pool.{ListsView, has, list_of}
 use Rattle.link_lists.proofs.Pools.{has-where_of, where_of-has}
 use Rattle.world_tree.specs.Live.{record_at, live_in}
 use Rattle.world_tree.specs.Worlds.{WorldView, record_of, list_for, IsLinked}
-use Rattle.world_tree.specs.Queries.{is_near, near_in, is_touched, touching_in, solids_in, is_free, nodes_for, looks_for}
+use Rattle.world_tree.specs.Queries.{is_near, near_in, touching_in, solids_in, is_free, nodes_for, looks_for}
 use Rattle.world_tree.specs.Walks.{touches_at, marked, ids_at, triggers_at, marked_record, picked, is_in_the_way}
 use Rattle.world_tree.proofs.Rounds.{looks_at, passing-has, passing-below}
 

@@ -5,10 +5,11 @@ use Rattle.std.specs.List.Sorted.{IsStrictlyIncreasing}
 use Rattle.std.proofs.lemmas.Bool.{eq-eqb, ne_eqb, or_from, or_left}
 use Rattle.entity_recs.specs.declared.rec.Rec.{Rec}
 use Rattle.link_lists.specs.Pool.{has}
+use Rattle.entity_recs.specs.Bodies.{is_touched}
 use Rattle.world_tree.specs.Live.{record_at, live_in, ids_of}
 use Rattle.world_tree.specs.Worlds.{WorldView, record_of, IsLinked}
 use Rattle.world_tree.specs.Laws.{LiveIdsRise, LiveIdsHaveRecords, LiveRecordsById, HaveRisingIds, NearIdsRise, TouchingIdsRise}
-use Rattle.world_tree.specs.Queries.{is_near, is_touched}
+use Rattle.world_tree.specs.Queries.{is_near}
 
 -- the first number is at least this, and each later one is above the one before it
 abbrev RisesFrom : ℕ → List ℕ → Type 0

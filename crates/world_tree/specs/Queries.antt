@@ -2,13 +2,13 @@
 use Rattle.std.specs.Prelude.{ℕ, ◌+◌, ◌==◌, Bool, ◌&&◌, not, List, [], ◌∷◌, map, filter, length, sum_by, Option}
 use Rattle.std.specs.List.{range_with_len}
 use Rattle.arena_geo.specs.Bounds.{Bounds}
-use Rattle.arena_geo.specs.Boxes.{touches, is_blocked}
+use Rattle.arena_geo.specs.Boxes.{is_blocked}
 use Rattle.arena_geo.specs.Regions.{touches_region}
 use Rattle.areanode.specs.Words.{has_bit}
 use Rattle.areanode.specs.Trees.{TreeView, leaves_of, visited_of}
 use Rattle.entity_recs.specs.declared.rec.Rec.{Rec}
 use Rattle.entity_recs.specs.Kinds.{is_solid}
-use Rattle.entity_recs.specs.Bodies.{body_of, abs_of}
+use Rattle.entity_recs.specs.Bodies.{body_of, abs_of, is_touched}
 use Rattle.link_lists.specs.Pool.{list_of}
 use Rattle.world_tree.specs.Live.{live_in}
 use Rattle.world_tree.specs.Worlds.{WorldView}
@@ -20,10 +20,6 @@ is_near region except r = touches_region (abs_of r) region && not (r.id == excep
 -- the live records but one whose absolute boxes touch the region, in rising id
 abbrev pub near_in : List (Option Rec) → List Bounds → ℕ → List Rec
 near_in records region except = filter (is_near region except) (live_in records)
-
--- the record is a trigger, and its absolute box touches this box
-abbrev pub is_touched : Bounds → Rec → Bool
-is_touched abs r = not (is_solid r.kind) && touches (abs_of r) abs
 
 -- the live triggers whose absolute boxes touch this box, in rising id
 abbrev pub touching_in : List (Option Rec) → Bounds → List Rec

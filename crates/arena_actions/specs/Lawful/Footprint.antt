@@ -18,14 +18,13 @@ use Rattle.entity_recs.specs.declared.effect.NewState.{NewState}
 use Rattle.entity_recs.specs.declared.kind.Kind.{Kind}
 use Rattle.entity_recs.specs.declared.kind.Kind.TheVariants.{Player, Ammo, Gem, Teleporter, Goal, Lift}
 use Rattle.entity_recs.specs.declared.rec.Rec.{Rec}
-use Rattle.entity_recs.specs.Kinds.{is_solid}
+use Rattle.entity_recs.specs.Kinds.{is_solid, is_item}
 use Rattle.entity_recs.specs.Records.{IsShapeOf, IsRecord, with_state}
 use Rattle.entity_recs.specs.Bodies.{standing, growth_of, body_of, abs_of}
 use Rattle.entity_recs.specs.Commands.{Command}
 use Rattle.entity_recs.specs.Actions.{IsCall, HasFootprint, StaysWithin, is_of_one_inside}
 use Rattle.entity_recs.proofs.Standing.{contains-grown}
 use Rattle.arena_map.specs.Maps.{MapView, IsMap, entities_of, dest_of}
-use Rattle.item_rules.specs.Items.{is_item}
 use Rattle.trigger_rules.specs.Touching.{touched_by, solids_among, Walk, first_walk, after_trigger, touched}
 use Rattle.trigger_rules.specs.Laws.{IsTaken, IsPlayerOn}
 use Rattle.trigger_rules.proofs.Bounds.{dest-stands}

@@ -9,7 +9,7 @@ use Rattle.arena_geo.specs.Boxes.{overlaps, touches, is_blocked}
 use Rattle.arena_geo.specs.Regions.{touches_region}
 use Rattle.entity_recs.specs.declared.rec.Rec.{Rec}
 use Rattle.entity_recs.specs.Kinds.{is_solid}
-use Rattle.entity_recs.specs.Bodies.{player_body, body_of, abs_of}
+use Rattle.entity_recs.specs.Bodies.{player_body, body_of, abs_of, is_touched}
 use Rattle.entity_recs.specs.Commands.{Command}
 use Rattle.entity_recs.specs.Actions.{IsCall, HasLocality, touching}
 use Rattle.entity_recs.proofs.Standing.{abs_contains_body}
@@ -17,7 +17,7 @@ use Rattle.player_move.specs.declared.moved.Moved.{Moved}
 use Rattle.player_move.specs.Laws.{looked_at}
 use Rattle.player_move.proofs.Looking.{move_looks_within}
 use Rattle.arena_map.specs.Maps.{MapView, IsMap, solids_of}
-use Rattle.trigger_rules.specs.Touching.{is_touched, bodies_of_solids, solids_among, touched}
+use Rattle.trigger_rules.specs.Touching.{bodies_of_solids, solids_among, touched}
 use Rattle.trigger_rules.specs.Laws.{HaveSameWays}
 use Rattle.trigger_rules.proofs.Steps.{both}
 use Rattle.trigger_rules.proofs.Taken.{only_touched}

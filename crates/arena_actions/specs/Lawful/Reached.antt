@@ -17,7 +17,7 @@ use Rattle.entity_recs.specs.declared.kind.Kind.TheVariants.{Teleporter}
 use Rattle.entity_recs.specs.declared.rec.Rec.{Rec}
 use Rattle.entity_recs.specs.Records.{HasCorners}
 use Rattle.entity_recs.specs.Kinds.{is_solid}
-use Rattle.entity_recs.specs.Bodies.{standing, player_body, body_of, growth_of, abs_of}
+use Rattle.entity_recs.specs.Bodies.{standing, player_body, body_of, growth_of, abs_of, is_touched}
 use Rattle.entity_recs.specs.Commands.{Command}
 use Rattle.entity_recs.proofs.Standing.{growth_is_small, contains-grown, abs_contains_body}
 use Rattle.player_move.specs.Moves.{move_of}
@@ -25,7 +25,7 @@ use Rattle.player_move.specs.Laws.{reach_on, looked_at}
 use Rattle.player_move.proofs.WholeMoves.{move_reach}
 use Rattle.arena_map.specs.Maps.{MapView, IsMap, entities_of, dest_of}
 use Rattle.arena_map.specs.Validity.{IsSameThing}
-use Rattle.trigger_rules.specs.Touching.{is_touched, touched_by, solids_among}
+use Rattle.trigger_rules.specs.Touching.{touched_by, solids_among}
 use Rattle.trigger_rules.proofs.Steps.{both}
 use Rattle.arena_actions.specs.Outcomes.{asked, moved_among}
 use Rattle.arena_actions.specs.Regions.{reach_of, first_box, room, elsewhere, landing_at, landing_of, region_in}

@@ -1,6 +1,6 @@
 ghost use Rattle.std.specs.Prelude.{◌≡◌, ◌≤◌, true, pos};
 ghost use Rattle.entity_recs.specs.Records.{IsRecord};
-ghost use Rattle.item_rules.specs.Items.{is_item};
+ghost use Rattle.entity_recs.specs.Kinds.{is_item};
 
 use super::*;
 use arena_geo::Vec3;

@@ -2,7 +2,8 @@ ghost use Rattle.std.specs.Prelude.{◌≡◌, ◌<◌, All, IfOk, true};
 ghost use Rattle.entity_recs.specs.declared.kind.Kind.TheVariants.{Player};
 ghost use Rattle.arena_geo.specs.Vectors.{IsNear};
 ghost use Rattle.entity_recs.specs.Records.{IsRecord};
-ghost use Rattle.arena_map.specs.MapLines.{IsWithinLimits, is_arena, is_added, is_item};
+ghost use Rattle.entity_recs.specs.Kinds.{is_item};
+ghost use Rattle.arena_map.specs.MapLines.{IsWithinLimits, is_arena, is_added};
 
 use super::*;
 use arena_map::{MapLine, MapRefusal};

@@ -1,9 +1,9 @@
 use Rattle.std.proofs.Common.{◌≡◌, true, false, Bool, ℕ, List, [], length, fold, get_or, sym, ap, ◌∙◌}
 use Rattle.arena_geo.specs.Bounds.{Bounds}
 use Rattle.entity_recs.specs.declared.effect.NewState.{NewState}
-use Rattle.entity_recs.specs.Bodies.{abs_of}
+use Rattle.entity_recs.specs.Bodies.{abs_of, is_touched}
 use Rattle.entity_recs.specs.Worlds.{nobody}
-use Rattle.trigger_rules.specs.Touching.{is_touched, solids_among, Walk, walk_of, after_trigger, touched_by, touched}
+use Rattle.trigger_rules.specs.Touching.{solids_among, Walk, walk_of, after_trigger, touched_by, touched}
 use Rattle.trigger_rules.proofs.Walks.{ends-here}
 use Rattle.trigger_rules.proofs.touch.touch_all.Goals as goal
 

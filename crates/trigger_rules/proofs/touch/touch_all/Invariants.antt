@@ -2,8 +2,8 @@ use Rattle.std.proofs.Common.{◌≡◌, true, false, length, filter, drop, fold
 use Rattle.arena_geo.specs.Boxes.{contains}
 use Rattle.entity_recs.specs.declared.kind.Kind.TheVariants.{Player}
 use Rattle.entity_recs.specs.Records.{IsRecord}
-use Rattle.entity_recs.specs.Bodies.{body_of, abs_of}
-use Rattle.trigger_rules.specs.Touching.{is_touched, solids_among, walk_of, after_trigger, touched}
+use Rattle.entity_recs.specs.Bodies.{body_of, abs_of, is_touched}
+use Rattle.trigger_rules.specs.Touching.{solids_among, walk_of, after_trigger, touched}
 use Rattle.trigger_rules.proofs.touch.touch_all.Given as goal
 
 -- the walk so far and the records that are left come to the whole walk
