@@ -77,6 +77,15 @@ impl Aabb {
         }
     }
 
+    /// The box between two corners of which it is known that they make one. [`Aabb::new`] is for corners of
+    /// which it isn't.
+    pub fn between(lo: Vec3, hi: Vec3) -> Aabb
+        requires { IsBox (bounds lo hi) }
+        ensures { result ≡ bounds lo hi }
+    {
+        Aabb { lo, hi }
+    }
+
     /// The low corner.
     pub fn lo(&self) -> Vec3
         ensures value { result ≡ self.now.lo }
@@ -136,12 +145,36 @@ impl Aabb {
         Aabb::new(self.lo - by, self.hi + by)
     }
 
+    /// The box, larger by `by` on both sides of each axis, where it is known that it stays in range.
+    /// [`Aabb::grow`] is for where it isn't.
+    pub fn grown(&self, by: Vec3) -> Aabb
+        requires not_negative { IsNotNegative by }
+        requires in_range { IsInRange (boxes.grown self.now by) }
+        ensures { result ≡ boxes.grown self.now by }
+    {
+        Aabb {
+            lo: self.lo - by,
+            hi: self.hi + by,
+        }
+    }
+
     /// The box, moved by `by`. `None` exactly where a coordinate leaves the range.
     pub fn moved(&self, by: Vec3) -> Option<Aabb>
         requires { IsNear LIMIT by }
         ensures { SomeIff result (IsInRange (boxes.moved self.now by)) (boxes.moved self.now by) }
     {
         Aabb::new(self.lo + by, self.hi + by)
+    }
+
+    /// The box, moved by `by`, where it is known that it stays in range. [`Aabb::moved`] is for where it isn't.
+    pub fn shifted(&self, by: Vec3) -> Aabb
+        requires { IsInRange (boxes.moved self.now by) }
+        ensures { result ≡ boxes.moved self.now by }
+    {
+        Aabb {
+            lo: self.lo + by,
+            hi: self.hi + by,
+        }
     }
 
     /// The least box that contains both.

@@ -26,7 +26,7 @@ fn view(origin: Vec3) -> Aabb
     requires { IsNear 1048576 origin }
     ensures { result ≡ spec.view_of origin }
 {
-    Aabb::new(origin - SIGHT, origin + SIGHT).unwrap()
+    Aabb::between(origin - SIGHT, origin + SIGHT)
 }
 
 /// 0 for an item that was taken, and else 1.
