@@ -1,5 +1,5 @@
 -- Lemmas on the words, and on how a recording is played.
-pub mod SameBytes
+pub mod Spelled
 pub mod Words
 pub mod Closing
 pub mod Printed

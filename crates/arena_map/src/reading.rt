@@ -1,4 +1,4 @@
-ghost use Rattle.std.specs.Prelude.{◌≡◌, ◌↔◌, ◌≤◌, ◌^◌, true, false, option_map, Ok, Err, IfOk, IfSome, unsigned_abs};
+ghost use Rattle.std.specs.Prelude.{◌≡◌, ◌↔◌, ◌≤◌, true, false, option_map, Ok, Err, IfOk, IfSome, unsigned_abs};
 ghost use Rattle.arena_geo.specs.Vectors.{IsNear};
 ghost use Rattle.edge_io.specs.Fields as fields;
 ghost use Rattle.entity_recs.specs.Kinds.{is_item};
@@ -67,7 +67,7 @@ fn coordinate_at(rest: &[u8]) -> Option<(i32, &[u8])>
     ensures bound { IfSome result (λ c. unsigned_abs c.0 ≤ FARTHEST) }
 {
     let (field, rest) = field_at(rest)?;
-    Some((integer(field, FARTHEST)?, rest))
+    Some((integer(field, FARTHEST)? as i32, rest))
 }
 
 /// Three coordinates, and the rest.
@@ -83,15 +83,14 @@ fn point_at(rest: &[u8]) -> Option<(Vec3, &[u8])>
 
 /// A number from 1 to `limit`, and the rest.
 fn count_at(rest: &[u8], limit: u32) -> Option<(u32, &[u8])>
-    requires { limit ≤ 2 ^ 24 }
     ensures value { option_map (λ c. (c.0, c.1.now)) result ≡ reading.count_at limit rest.now }
     ensures least { IfSome result (λ c. 1 ≤ c.0) }
     ensures most { IfSome result (λ c. c.0 ≤ limit) }
 {
     let (field, rest) = field_at(rest)?;
-    match natural(field, limit)? {
+    match natural(field, u64::from(limit))? {
         0 => None,
-        count => Some((count, rest)),
+        count => Some((count as u32, rest)),
     }
 }
 

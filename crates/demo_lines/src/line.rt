@@ -113,7 +113,7 @@ fn from_fields(rest: &[u8]) -> Option<(&[u8], &[u8])>
 fn port_of(text: &[u8]) -> Option<u16>
     ensures { result ≡ natural_up_to u16.MAX text.now }
 {
-    Some(natural(text, u32::from(u16::MAX))? as u16)
+    Some(natural(text, u64::from(u16::MAX))? as u16)
 }
 
 /// A packet with its port.

@@ -1,18 +1,19 @@
-ghost use Rattle.std.specs.Prelude.{◌≡◌, ◌≤◌, ◌^◌, IfSome, unsigned_abs};
+ghost use Rattle.std.specs.Prelude.{◌≡◌, ◌≤◌, ◌<◌, ◌^◌, Some, IfSome, unsigned_abs};
 ghost use Rattle.edge_io.specs.Numbers as numbers;
 
 /// The number of the digits, where each byte is one and no number on the way is above `limit`.
-fn digits(field: &[u8], limit: u32) -> Option<u32>
-    requires { limit ≤ 2 ^ 24 }
+fn digits(field: &[u8], limit: u64) -> Option<u64>
     ensures value { result ≡ numbers.digits_up_to limit 0 field.now }
     ensures bound { IfSome result (λ n. n ≤ limit) }
 {
-    let mut value = 0;
+    let mut value = 0_u64;
     for digit in field {
         if !digit.is_ascii_digit() {
             return None;
         }
-        value = 10 * value + u32::from(*digit - b'0');
+        value = value
+            .checked_mul(10)?
+            .checked_add(u64::from(*digit - b'0'))?;
         if value > limit {
             return None;
         }
@@ -21,8 +22,7 @@ fn digits(field: &[u8], limit: u32) -> Option<u32>
 }
 
 /// The number of at most `limit` that a field spells in decimal digits, without a leading zero.
-pub fn natural(field: &[u8], limit: u32) -> Option<u32>
-    requires { limit ≤ 2 ^ 24 }
+pub fn natural(field: &[u8], limit: u64) -> Option<u64>
     ensures value { result ≡ numbers.natural_up_to limit field.now }
     ensures bound { IfSome result (λ n. n ≤ limit) }
 {
@@ -33,27 +33,26 @@ pub fn natural(field: &[u8], limit: u32) -> Option<u32>
 }
 
 /// The number of at most `limit` from 0 that a field spells: as [`natural`], or below 0 with a minus in front.
-pub fn integer(field: &[u8], limit: u32) -> Option<i32>
-    requires { limit ≤ 2 ^ 24 }
+pub fn integer(field: &[u8], limit: u32) -> Option<i64>
     ensures value { result ≡ numbers.integer_up_to limit field.now }
     ensures bound { IfSome result (λ z. unsigned_abs z ≤ limit) }
 {
     match field {
-        [b'-', digits @ ..] => below_zero(natural(digits, limit)?),
-        _ => Some(natural(field, limit)? as i32),
+        [b'-', digits @ ..] => below_zero(natural(digits, u64::from(limit))?),
+        _ => Some(natural(field, u64::from(limit))? as i64),
     }
 }
 
 /// The number as far below 0. There is none for 0, which has no sign.
-fn below_zero(value: u32) -> Option<i32>
-    requires { value ≤ 2 ^ 24 }
+fn below_zero(value: u64) -> Option<i64>
+    requires { value < 2 ^ 32 }
     ensures value { result ≡ numbers.negated (Some value) }
     ensures bound { IfSome result (λ z. unsigned_abs z ≡ value) }
 {
     if value == 0 {
         None
     } else {
-        Some(-(value as i32))
+        Some(-(value as i64))
     }
 }
 

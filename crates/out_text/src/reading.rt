@@ -9,11 +9,11 @@ ghost use Rattle.out_text.specs.Reading as reading;
 ghost use Rattle.out_text.specs.Printing.{line_of};
 
 use crate::names::refusal_name;
-use crate::number::{MOST, coordinate_at, natural, number_at};
+use crate::number::{MOST, coordinate_at, number_at};
 use crate::out_line::OutLine;
 use arena_geo::Vec3;
 use client_ports::Refusal;
-use edge_io::{cut, field_at};
+use edge_io::{cut, field_at, natural};
 use entity_recs::IdList;
 use packet_read::PacketFault;
 use snapshot_write::{REPLY_ROOM, ReplyBuf};

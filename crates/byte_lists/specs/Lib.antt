@@ -1,0 +1,1 @@
+-- No definitions: contracts see both types as lists of numbers.
