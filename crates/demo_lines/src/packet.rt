@@ -1,19 +1,7 @@
-ghost use Rattle.std.specs.Prelude.{◌≡◌, ◌+◌, ◌*◌, ◌<◌, ◌≤◌, length};
+ghost use Rattle.std.specs.Prelude.{◌≡◌, ◌+◌, ◌*◌, ◌<◌, length};
 ghost use Rattle.demo_lines.specs.Packets.{packet_bytes};
 
 use client_ports::{ArrivalBytes, MOST_BYTES};
-
-/// The same bytes as a packet.
-fn arrival_bytes(bytes: &[u8]) -> ArrivalBytes
-    requires { length bytes.now ≤ MOST_BYTES }
-    ensures { result ≡ bytes.now }
-{
-    let mut packet = ArrivalBytes::new();
-    for byte in bytes {
-        let _ = packet.push(*byte);
-    }
-    packet
-}
 
 /// The packet that hexadecimal digits of either case spell, two a byte, or `-` for no byte. `None` exactly where the
 /// text spells none.
@@ -30,5 +18,7 @@ pub fn packet_of(text: &[u8]) -> Option<ArrivalBytes>
     let len = text.len() / 2;
     let mut bytes = [0; MOST_BYTES];
     hex::decode_to_slice(text, &mut bytes[..len]).ok()?;
-    Some(arrival_bytes(&bytes[..len]))
+    let mut packet = ArrivalBytes::new();
+    packet.extend(&bytes[..len]);
+    Some(packet)
 }

@@ -1,6 +1,6 @@
-ghost use Rattle.std.specs.Prelude.{◌≡◌, ◌≤◌, length};
+ghost use Rattle.std.specs.Prelude.{◌≡◌};
 
-use client_ports::{Arrival, ArrivalBytes, MOST_BYTES};
+use client_ports::{Arrival, ArrivalBytes};
 use demo_lines::Event;
 use packet_read::PacketBytes;
 
@@ -21,16 +21,16 @@ pub enum GeneratedEvent {
     End,
 }
 
-/// The same bytes as those of an arrival.
-fn arrival_bytes(bytes: &[u8]) -> ArrivalBytes
-    requires { length bytes.now ≤ MOST_BYTES }
-    ensures { result ≡ bytes.now }
+/// The same packet as one that reached the server.
+fn arrival(port: u16, bytes: &PacketBytes) -> Arrival
+    ensures { result ≡ record { port = port; bytes = bytes.now } }
 {
-    let mut packet = ArrivalBytes::new();
-    for byte in bytes {
-        let _ = packet.push(*byte);
+    let mut arrived = ArrivalBytes::new();
+    arrived.extend(bytes.as_slice());
+    Arrival {
+        port,
+        bytes: arrived,
     }
-    packet
 }
 
 impl GeneratedEvent {
@@ -42,10 +42,7 @@ impl GeneratedEvent {
     {
         match self {
             GeneratedEvent::Frame => Event::Frame,
-            GeneratedEvent::From { port, bytes } => Event::From(Arrival {
-                port: *port,
-                bytes: arrival_bytes(bytes.as_slice()),
-            }),
+            GeneratedEvent::From { port, bytes } => Event::From(arrival(*port, bytes)),
             GeneratedEvent::End => Event::End,
         }
     }

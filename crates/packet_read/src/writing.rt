@@ -16,9 +16,9 @@ pub fn write_packet(p: &Packet) -> PacketBytes
 {
     let mut bytes = PacketBytes::new();
     match p {
-        Packet::Join => bytes.append(&[VERSION, JOIN]),
+        Packet::Join => bytes.extend(&[VERSION, JOIN]),
         Packet::Step(packet) => append_move(&mut bytes, *packet),
-        Packet::Leave => bytes.append(&[VERSION, LEAVE]),
+        Packet::Leave => bytes.extend(&[VERSION, LEAVE]),
     }
     bytes
 }
@@ -29,10 +29,10 @@ fn append_move(bytes: &mut PacketBytes, packet: MovePacket)
     ensures appended { bytes.new ≡ bytes.old ++ spelling (Step packet) }
     ensures fits { MoveFits packet }
 {
-    bytes.append(&[VERSION, MOVE]);
-    bytes.append(&packet.seq.to_le_bytes());
-    bytes.append(&[packet.ms]);
-    bytes.append(&packet.wish_x.to_le_bytes());
-    bytes.append(&packet.wish_y.to_le_bytes());
-    bytes.append(&[packet.buttons]);
+    bytes.extend(&[VERSION, MOVE]);
+    bytes.extend(&packet.seq.to_le_bytes());
+    bytes.extend(&[packet.ms]);
+    bytes.extend(&packet.wish_x.to_le_bytes());
+    bytes.extend(&packet.wish_y.to_le_bytes());
+    bytes.extend(&[packet.buttons]);
 }

@@ -5,7 +5,7 @@ use Rattle.demo_make.proofs.text.push_event.Goals as goal
 
 pub extend-requires-in-From-4 : goal.extend-requires-in-From-4
 extend-requires-in-From-4 c =
-    let long = packet-long c.as_slice.result.now c.as_slice.ensures.bound in
+    let long = packet-long c.as_slice.result.now (omega (arith, c.as_slice.ensures.within, ap length c.as_slice.ensures.value)) in
     omega (
       arith,
       c.requires,

@@ -19,9 +19,9 @@ returns-clause-appended c =
     let wish_x : c.to_le_bytes-2.result ≡ to_le_bytes w16 (cast_unsigned w16 packet.wish_x) = search rules in
     let wish_y : c.to_le_bytes-3.result ≡ to_le_bytes w16 (cast_unsigned w16 packet.wish_y) = search rules in
     in_turn _ _ _ _ _ _ _ _ _ _ _ _ _
-    c.append.ensures
-    (rw c.to_le_bytes.ensures at c.append-2.ensures)
-    c.append-3.ensures
-    (rw wish_x at c.append-4.ensures)
-    (rw wish_y at c.append-5.ensures)
-    c.append-6.ensures
+    c.extend.ensures
+    (rw c.to_le_bytes.ensures at c.extend-2.ensures)
+    c.extend-3.ensures
+    (rw wish_x at c.extend-4.ensures)
+    (rw wish_y at c.extend-5.ensures)
+    c.extend-6.ensures
