@@ -1,11 +1,13 @@
--- The boxes of records.
+-- The boxes of records, and which records a box touches.
+use Rattle.std.specs.Prelude.{Bool, not, ◌&&◌}
 use Rattle.arena_geo.specs.declared.vec3.Vec3.{Vec3}
 use Rattle.arena_geo.specs.Vectors.{plus}
 use Rattle.arena_geo.specs.Bounds.{Bounds, bounds}
-use Rattle.arena_geo.specs.Boxes.{grown}
+use Rattle.arena_geo.specs.Boxes.{grown, touches}
 use Rattle.entity_recs.specs.declared.kind.Kind.{Kind}
 use Rattle.entity_recs.specs.declared.kind.Kind.TheVariants.{Ammo, Gem}
 use Rattle.entity_recs.specs.declared.rec.Rec.{Rec}
+use Rattle.entity_recs.specs.Kinds.{is_solid}
 use Rattle.entity_recs.specs.declared.bodies.TheConstants.{PLAYER_MINS, PLAYER_MAXS, ITEM_GROWTH, GROWTH}
 
 -- from the origin plus the one corner to the origin plus the other
@@ -29,3 +31,7 @@ growth_of _ = GROWTH
 -- the absolute box of a record, which doesn't look at its state
 abbrev pub abs_of : Rec → Bounds
 abs_of r = grown (body_of r) (growth_of r.kind)
+
+-- the record is a trigger, and its absolute box touches this box
+abbrev pub is_touched : Bounds → Rec → Bool
+is_touched abs r = not (is_solid r.kind) && touches (abs_of r) abs

@@ -1,4 +1,4 @@
--- The numbers of the kinds.
+-- The numbers of the kinds, and which of them are solids or items.
 use Rattle.std.specs.Prelude.{ℕ, Bool, true, false}
 use Rattle.entity_recs.specs.declared.kind.Kind.{Kind}
 use Rattle.entity_recs.specs.declared.kind.Kind.TheVariants.{Player, Ammo, Gem, Teleporter, Goal, Lift}
@@ -17,3 +17,9 @@ abbrev pub is_solid : Kind → Bool
 is_solid Player = true
 is_solid Lift = true
 is_solid _ = false
+
+-- ammunition or a gem
+abbrev pub is_item : Kind → Bool
+is_item Ammo = true
+is_item Gem = true
+is_item _ = false

@@ -1,6 +1,7 @@
 ghost use Rattle.std.specs.Prelude.{◌≡◌, pos};
 ghost use Rattle.arena_geo.specs.Vectors.{IsNear};
 ghost use Rattle.entity_recs.specs.Records.{IsRecord};
+ghost use Rattle.entity_recs.specs.Bodies as bodies;
 ghost use Rattle.entity_recs.specs.Bodies.{growth_of, body_of, abs_of, player_body};
 
 use crate::kind::Kind;
@@ -62,7 +63,7 @@ pub fn player_box(origin: Vec3) -> Aabb
     requires { IsNear 1048576 origin }
     ensures { result ≡ player_body origin }
 {
-    Aabb::new(origin + PLAYER_MINS, origin + PLAYER_MAXS).unwrap()
+    Aabb::between(origin + PLAYER_MINS, origin + PLAYER_MAXS)
 }
 
 /// The body of a record: its origin plus `mins` to its origin plus `maxs`.
@@ -70,7 +71,7 @@ pub fn body_box(r: &Rec) -> Aabb
     requires { IsRecord r.now }
     ensures { result ≡ body_of r.now }
 {
-    Aabb::new(r.origin + r.mins, r.origin + r.maxs).unwrap()
+    Aabb::between(r.origin + r.mins, r.origin + r.maxs)
 }
 
 /// The absolute box of a record, by which it is linked and touched: it plays the part of `absmin` and `absmax` in
@@ -80,7 +81,16 @@ pub fn abs_box(r: &Rec) -> Aabb
     requires { IsRecord r.now }
     ensures { result ≡ abs_of r.now }
 {
-    body_box(r).grow(growth(r.kind)).unwrap()
+    body_box(r).grown(growth(r.kind))
+}
+
+/// Whether the record is a trigger, and its absolute box touches this box: where `abs` is a player's absolute box, the
+/// player touches the trigger.
+pub fn is_touched(abs: &Aabb, r: &Rec) -> bool
+    requires { IsRecord r.now }
+    ensures { result ≡ bodies.is_touched abs.now r.now }
+{
+    !r.kind.is_solid() && abs_box(r).touches(abs)
 }
 
 #[cfg(test)]

@@ -30,4 +30,14 @@ impl Kind {
             Kind::Ammo | Kind::Gem | Kind::Teleporter | Kind::Goal => false,
         }
     }
+
+    /// Whether it is an item, which a player takes by touching it: ammunition or a gem.
+    pub fn is_item(self) -> bool
+        ensures { result ≡ kinds.is_item self }
+    {
+        match self {
+            Kind::Ammo | Kind::Gem => true,
+            Kind::Player | Kind::Teleporter | Kind::Goal | Kind::Lift => false,
+        }
+    }
 }

@@ -3,7 +3,8 @@
 
 pub use action::Action;
 pub use bodies::{
-    ITEM_MAXS, ITEM_MINS, PLAYER_MAXS, PLAYER_MINS, abs_box, body_box, growth, player_box,
+    ITEM_MAXS, ITEM_MINS, PLAYER_MAXS, PLAYER_MINS, abs_box, body_box, growth, is_touched,
+    player_box,
 };
 pub use cmd::Cmd;
 pub use effect::{Effect, Entry, NewState, Reply};
