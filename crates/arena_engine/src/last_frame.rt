@@ -1,8 +1,8 @@
-use client_ports::Arrival;
 use edge_io::{Failed, Sink};
 use frame_phases::{FrameOut, MOST_ARRIVALS, Server, run_frame};
 use move_journal::Journal;
 use out_text::Printer;
+use packet_read::Arrival;
 use shared_moves::Gate;
 use std::alloc::{AllocError, Global};
 use std::marker::Model;

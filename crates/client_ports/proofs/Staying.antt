@@ -12,7 +12,7 @@ use Rattle.entity_recs.specs.Bodies.{body_of}
 use Rattle.entity_slots.specs.Places.{place_for}
 use Rattle.arena_map.specs.Maps.{MapView, IsMap, IsSpawn, solids_of}
 use Rattle.world_tree.specs.Live.{record_at}
-use Rattle.client_ports.specs.declared.arrival.Arrival.{Arrival}
+use Rattle.packet_read.specs.declared.arrival.Arrival.{Arrival}
 use Rattle.client_ports.specs.declared.client.Client.{Client}
 use Rattle.client_ports.specs.declared.client.LiveSlot.{LiveSlot}
 use Rattle.client_ports.specs.declared.spawns.Place.{Place}

@@ -8,7 +8,7 @@ use Rattle.packet_read.specs.declared.packet.Packet.TheVariants.{Join}
 use Rattle.packet_read.specs.Reading.{reading}
 use Rattle.arena_map.specs.Maps.{MapView}
 use Rattle.world_tree.specs.Live.{record_at}
-use Rattle.client_ports.specs.declared.arrival.Arrival.{Arrival}
+use Rattle.packet_read.specs.declared.arrival.Arrival.{Arrival}
 use Rattle.client_ports.specs.declared.client.Client.{Client}
 use Rattle.client_ports.specs.declared.spawns.Place.{Place}
 use Rattle.client_ports.specs.Clients.{client_at}

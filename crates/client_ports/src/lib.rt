@@ -1,7 +1,6 @@
 //! The receive pass: which clients are joined in which slots, and what the packets of a frame change.
 #![tactic(auto)]
 
-pub use arrival::{Arrival, ArrivalBytes, MOST_BYTES};
 pub use client::{Client, LiveSlot};
 pub use laws::{
     accepted_numbers_rise, bodies_stay_clear, clients_stay_apart, each_frame_is_answered,
@@ -17,7 +16,6 @@ pub use received::{Joined, Received, Refused};
 pub use refusal::Refusal;
 pub use spawns::Place;
 
-mod arrival;
 mod client;
 mod finish;
 mod laws;

@@ -13,7 +13,6 @@ ghost use Rattle.client_ports.specs.Linking.{IsWorldAfter, players_of};
 ghost use Rattle.client_ports.specs.Receiving as receiving;
 ghost use Rattle.client_ports.specs.Receiving.{receiving_of};
 
-use crate::arrival::Arrival;
 use crate::ports::{Ports, refusal_of};
 use crate::received::Received;
 use crate::refusal::Refusal;
@@ -21,7 +20,7 @@ use crate::spawns::{Place, free_spawn};
 use arena_geo::Vec3;
 use arena_map::ArenaMap;
 use entity_recs::{Cmd, Kind, PLAYER_MAXS, PLAYER_MINS, Rec};
-use packet_read::{MovePacket, Packet, read_packet};
+use packet_read::{Arrival, MovePacket, Packet, read_packet};
 use world_tree::World;
 
 /// A player that has just joined.

@@ -3,9 +3,10 @@ ghost use Rattle.arena_map.specs.MapLines.{IsWithinLimits, is_arena, is_added};
 ghost use Rattle.client_ports.specs.Clients.{no_clients};
 ghost use Rattle.client_ports.specs.States.{state_of, IsState};
 
-use crate::{Arrival, ArrivalBytes, Joined, Ports, Received, Refusal, Refused};
+use crate::{Joined, Ports, Received, Refusal, Refused};
 use arena_geo::Vec3;
 use arena_map::{ArenaMap, MapLine, MapRefusal};
+use packet_read::{Arrival, ArrivalBytes};
 use std::alloc::{AllocError, Global};
 use std::process::Abort;
 use std::test::Fail;

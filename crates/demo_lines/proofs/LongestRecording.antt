@@ -17,7 +17,7 @@ use Rattle.arena_map.specs.declared.map_line.MapLine.TheVariants.{Item, Teleport
 use Rattle.arena_map.specs.MapLines.{is_item_line, is_teleport_line, is_goal_line, is_lift_line}
 use Rattle.arena_map.specs.Places.{shaft, shaft_of}
 use Rattle.arena_map.specs.Maps.{MapView, IsSpawn, IsBlock, IsThingInside, IsMap, map_of}
-use Rattle.client_ports.specs.declared.arrival.Arrival.{Arrival}
+use Rattle.packet_read.specs.declared.arrival.Arrival.{Arrival}
 use Rattle.demo_lines.specs.declared.line.Line.TheVariants.{OfMap, From, End}
 use Rattle.demo_lines.specs.Spelling.{IsArrival, IsFrame, IsRecording, frame_lines, map_lines, recording_lines, block_line, spawn_line, small_map}
 use Rattle.demo_lines.specs.Laws.{LinesAreBounded}

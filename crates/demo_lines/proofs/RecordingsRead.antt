@@ -27,7 +27,7 @@ use Rattle.arena_map.specs.MapLines.{is_thing_line, is_arena, is_item_line, is_t
 use Rattle.arena_map.specs.Maps.{MapView, map_of, IsMap, IsBlock, IsSpawn, IsThingInside, is_ready}
 use Rattle.arena_map.specs.Rules.{with_line, broken_rule, keeps_count, keeps_shafts, meets_shaft}
 use Rattle.arena_map.proofs.Keeping.{KeepsAll}
-use Rattle.client_ports.specs.declared.arrival.Arrival.{Arrival}
+use Rattle.packet_read.specs.declared.arrival.Arrival.{Arrival}
 use Rattle.demo_lines.specs.declared.stage.Stage.TheVariants.{Map, Playing, Ended}
 use Rattle.demo_lines.specs.declared.line.Line.{Line}
 use Rattle.demo_lines.specs.declared.line.Line.TheVariants.{OfMap, Frame, From, End}

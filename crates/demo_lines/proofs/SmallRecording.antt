@@ -8,7 +8,7 @@ use Rattle.arena_geo.specs.Vectors.{IsNear}
 use Rattle.arena_geo.specs.Bounds.{Bounds, bounds, IsBox}
 use Rattle.hex.specs.Hex.{encode_with}
 use Rattle.edge_io.specs.Lines.{AreBytes}
-use Rattle.client_ports.specs.declared.arrival.Arrival.{Arrival}
+use Rattle.packet_read.specs.declared.arrival.Arrival.{Arrival}
 use Rattle.arena_map.specs.Maps.{IsSpawn, IsBlock, IsThingInside, IsMap}
 use Rattle.arena_geo.specs.Boxes.{is_blocked}
 use Rattle.demo_lines.specs.Spelling.{IsArrival, IsRecording, small_map, small_lines, small_frames}

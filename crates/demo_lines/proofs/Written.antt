@@ -25,7 +25,7 @@ use Rattle.arena_map.specs.Words.{map_word, fields_of, word_text, kind_text}
 use Rattle.arena_map.specs.Reading.{has_fields, line_within, line_of_first}
 use Rattle.arena_map.specs.Spelling.{word_of, point_text, fields_text, map_line_text}
 use Rattle.arena_map.proofs.LinesBack.{line-back}
-use Rattle.client_ports.specs.declared.arrival.Arrival.{Arrival}
+use Rattle.packet_read.specs.declared.arrival.Arrival.{Arrival}
 use Rattle.demo_lines.specs.declared.stage.Stage.{Stage}
 use Rattle.demo_lines.specs.declared.stage.Stage.TheVariants.{Start, Map, Playing, Ended, Refused}
 use Rattle.demo_lines.specs.declared.word.Word.{Word}

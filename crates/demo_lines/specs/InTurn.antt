@@ -9,7 +9,7 @@ use Rattle.arena_map.specs.MapLines.{IsWithinLimits, is_added}
 use Rattle.arena_map.specs.Maps.{MapView, map_of, is_ready}
 use Rattle.arena_map.specs.Places.{is_wide}
 use Rattle.arena_map.specs.Rules.{with_line, broken_rule}
-use Rattle.client_ports.specs.declared.arrival.Arrival.{Arrival}
+use Rattle.packet_read.specs.declared.arrival.Arrival.{Arrival}
 use Rattle.demo_lines.specs.declared.line.Line.{Line}
 use Rattle.demo_lines.specs.declared.line.Line.TheVariants.{OfMap, End}
 use Rattle.demo_lines.specs.Spelling.{arena_line, frame_lines, line_text, IsFrame}

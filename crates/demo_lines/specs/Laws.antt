@@ -8,8 +8,8 @@ use Rattle.demo_lines.specs.Packets.{packet_bytes}
 use Rattle.arena_geo.specs.Bounds.{Bounds}
 use Rattle.arena_map.specs.declared.map_line.MapLine.{MapLine}
 use Rattle.arena_map.specs.Maps.{MapView}
-use Rattle.client_ports.specs.declared.arrival.Arrival.{Arrival}
-use Rattle.client_ports.specs.declared.arrival.TheConstants.{MOST_BYTES}
+use Rattle.packet_read.specs.declared.arrival.Arrival.{Arrival}
+use Rattle.packet_read.specs.declared.arrival.TheConstants.{MOST_BYTES}
 use Rattle.demo_lines.specs.declared.reading.TheConstants.{MOST_FRAMES, MOST_ARRIVALS}
 use Rattle.demo_lines.specs.declared.line.Line.{Line}
 use Rattle.demo_lines.specs.declared.line.Line.TheVariants.{From}

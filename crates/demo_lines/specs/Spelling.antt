@@ -13,7 +13,7 @@ use Rattle.arena_map.specs.Maps.{MapView, IsMap, is_ready, map_of}
 use Rattle.arena_map.specs.MapLines.{IsWithinLimits}
 use Rattle.arena_map.specs.Spelling.{map_line_text}
 use Rattle.edge_io.specs.Fields.{field_text}
-use Rattle.client_ports.specs.declared.arrival.Arrival.{Arrival}
+use Rattle.packet_read.specs.declared.arrival.Arrival.{Arrival}
 use Rattle.demo_lines.specs.declared.line.Line.{Line}
 use Rattle.demo_lines.specs.declared.line.Line.TheVariants.{OfMap, Frame, From, End}
 use Rattle.demo_lines.specs.declared.event.Event.{Event}

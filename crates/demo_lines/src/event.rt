@@ -1,4 +1,4 @@
-use client_ports::Arrival;
+use packet_read::Arrival;
 
 /// What a line of a recording gives the server.
 #[derive(Drop)]

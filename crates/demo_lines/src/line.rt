@@ -15,8 +15,8 @@ use crate::packet::packet_of;
 use crate::stage::Stage;
 use crate::word::Word;
 use arena_map::{MapLine, MapWord, read_map_line};
-use client_ports::Arrival;
 use edge_io::{LONGEST, cut, field_at, is_integer, natural};
+use packet_read::Arrival;
 
 /// The number that [`read_map_line`] answers where the fields of a line have no form.
 const NO_FORM: u8 = 4;

@@ -1,7 +1,7 @@
 ghost use Rattle.std.specs.Prelude.{◌≡◌, ◌+◌, ◌*◌, ◌<◌, length};
 ghost use Rattle.demo_lines.specs.Packets.{packet_bytes};
 
-use client_ports::{ArrivalBytes, MOST_BYTES};
+use packet_read::{ArrivalBytes, MOST_BYTES};
 
 /// The packet that hexadecimal digits of either case spell, two a byte, or `-` for no byte. `None` exactly where the
 /// text spells none.

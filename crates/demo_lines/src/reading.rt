@@ -3,7 +3,7 @@ ghost use Rattle.std.specs.Prelude.{option_to_list};
 ghost use Rattle.arena_map.specs.declared.map_fault.MapFault.{MapFault};
 ghost use Rattle.arena_map.specs.declared.map_fault.MapRefusal.TheVariants as refusal;
 ghost use Rattle.arena_map.specs.MapLines as map_lines;
-ghost use Rattle.client_ports.specs.declared.arrival.Arrival.{Arrival};
+ghost use Rattle.packet_read.specs.declared.arrival.Arrival.{Arrival};
 ghost use Rattle.arena_map.specs.MapLines.{IsWithinLimits};
 ghost use Rattle.demo_lines.specs.Known as known;
 ghost use Rattle.demo_lines.specs.Faults as faults;

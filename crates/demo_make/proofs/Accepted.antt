@@ -8,7 +8,7 @@ use Rattle.entity_recs.specs.declared.rec.Rec.{Rec}
 use Rattle.entity_slots.specs.Ports.{AreSlots, port_at}
 use Rattle.entity_slots.proofs.Found.{found-only}
 use Rattle.arena_map.specs.Maps.{MapView}
-use Rattle.client_ports.specs.declared.arrival.Arrival.{Arrival}
+use Rattle.packet_read.specs.declared.arrival.Arrival.{Arrival}
 use Rattle.client_ports.specs.declared.client.Client.{Client}
 use Rattle.client_ports.specs.declared.client.LiveSlot.{LiveSlot}
 use Rattle.client_ports.specs.Clients.{client, client_at, port_of, ports_of, live_slot, with_client}

@@ -9,7 +9,7 @@ use Rattle.hex.proofs.HexLemmas.{length-encode_with}
 use Rattle.edge_io.specs.WholeLines.{unlines}
 use Rattle.edge_io.specs.Fields.{field_text}
 use Rattle.arena_map.specs.Spelling.{map_line_text}
-use Rattle.client_ports.specs.declared.arrival.Arrival.{Arrival}
+use Rattle.packet_read.specs.declared.arrival.Arrival.{Arrival}
 use Rattle.demo_lines.specs.declared.event.Event.{Event}
 use Rattle.demo_lines.specs.declared.event.Event.TheVariants as events
 use Rattle.demo_lines.specs.Spelling.{frame_events}

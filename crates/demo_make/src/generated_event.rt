@@ -1,8 +1,7 @@
 ghost use Rattle.std.specs.Prelude.{◌≡◌};
 
-use client_ports::{Arrival, ArrivalBytes};
 use demo_lines::Event;
-use packet_read::PacketBytes;
+use packet_read::{Arrival, ArrivalBytes, PacketBytes};
 
 /// An event of a generated recording, with its packet as it is written: smaller than an [`Event`], which has room for
 /// any packet of a line.

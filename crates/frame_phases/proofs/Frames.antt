@@ -9,7 +9,7 @@ use Rattle.entity_recs.specs.Commands.{Command, command_of}
 use Rattle.entity_recs.specs.Histories.{run}
 use Rattle.move_journal.specs.Merges.{IsInOrder, IsRight, HasNumbersApart, history_of}
 use Rattle.arena_map.specs.Maps.{MapView, IsMap}
-use Rattle.client_ports.specs.declared.arrival.Arrival.{Arrival}
+use Rattle.packet_read.specs.declared.arrival.Arrival.{Arrival}
 use Rattle.client_ports.specs.declared.client.Client.{Client}
 use Rattle.client_ports.specs.States.{State, state_of, HaveSameLive, IsServerState}
 use Rattle.client_ports.specs.Receiving.{Receiving}

@@ -13,7 +13,7 @@ use crate::phases::{States, begin_frame, finish_frame};
 use crate::scores::score_of;
 use arena_actions::ArenaAction;
 use arena_map::ArenaMap;
-use client_ports::Arrival;
+use packet_read::Arrival;
 use shared_moves::Gate;
 use std::alloc::{AllocError, Global};
 use std::marker::Model;

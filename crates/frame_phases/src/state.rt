@@ -8,7 +8,8 @@ ghost use Rattle.plain_server.specs.RecordsById.{opening};
 ghost use Rattle.plain_server.specs.Frames.{received_in};
 
 use arena_map::ArenaMap;
-use client_ports::{Arrival, Ports, Received};
+use client_ports::{Ports, Received};
+use packet_read::Arrival;
 use std::alloc::{AllocError, Global};
 use world_physics::tick;
 use world_tree::World;

@@ -1,7 +1,7 @@
 -- A frame that a game closes.
 use Rattle.std.proofs.Common.{◌≡◌, ℕ, Bool, true, false, List, [], ◌∷◌, ◌++◌, length, Option, Some, None, IfSome, ◌≤◌, if◌then◌else◌, refl, sym, ap, ◌∙◌, subst}
 use Rattle.entity_recs.specs.declared.effect.Entry.{Entry}
-use Rattle.client_ports.specs.declared.arrival.Arrival.{Arrival}
+use Rattle.packet_read.specs.declared.arrival.Arrival.{Arrival}
 use Rattle.client_ports.specs.Lists.{Lists}
 use Rattle.move_journal.specs.Logs.{JournalView}
 use Rattle.move_journal.specs.Merges.{IsInOrder}

@@ -13,7 +13,7 @@ use Rattle.packet_read.specs.Reading.{reading}
 use Rattle.move_journal.specs.Merges.{HasNumbersApart, IsMerge, history_of}
 use Rattle.move_journal.proofs.JournalLaws.{merges_have_whole_histories}
 use Rattle.arena_map.specs.Maps.{MapView}
-use Rattle.client_ports.specs.declared.arrival.Arrival.{Arrival}
+use Rattle.packet_read.specs.declared.arrival.Arrival.{Arrival}
 use Rattle.client_ports.specs.declared.client.LiveSlot.{LiveSlot}
 use Rattle.client_ports.specs.declared.received.Joined.{Joined}
 use Rattle.client_ports.specs.declared.received.Refused.{Refused}

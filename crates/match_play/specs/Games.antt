@@ -3,7 +3,7 @@ use Rattle.std.specs.Prelude.{◌≡◌, ℕ, ◌<◌, ◌≤◌, List, [], ◌�
 use Rattle.move_journal.specs.Logs.{JournalView}
 use Rattle.move_journal.specs.Merges.{IsInOrder}
 use Rattle.arena_map.specs.Maps.{MapView}
-use Rattle.client_ports.specs.declared.arrival.Arrival.{Arrival}
+use Rattle.packet_read.specs.declared.arrival.Arrival.{Arrival}
 use Rattle.plain_server.specs.Frames.{received_in, IsRightAfter}
 use Rattle.frame_phases.specs.Servers.{ServerView, new_server, server_after}
 use Rattle.frame_phases.specs.Scores.{score_in}

@@ -2,7 +2,7 @@
 use Rattle.std.specs.Prelude.{ℕ, ◌+◌, ◌*◌, ◌≤◌, List, [], ◌∷◌, length, sum_by}
 use Rattle.entity_recs.specs.declared.effect.Entry.{Entry}
 use Rattle.arena_map.specs.Maps.{MapView}
-use Rattle.client_ports.specs.declared.arrival.Arrival.{Arrival}
+use Rattle.packet_read.specs.declared.arrival.Arrival.{Arrival}
 use Rattle.client_ports.specs.States.{State}
 use Rattle.client_ports.specs.Lists.{Lists}
 use Rattle.client_ports.specs.Receiving.{Receiving}

@@ -1,9 +1,9 @@
 use crate::totals::Totals;
-use client_ports::Arrival;
 use demo_lines::Event;
 use demo_make::generated_map;
 use frame_phases::{FrameOut, MOST_ARRIVALS, Server, run_frame};
 use move_journal::{Journal, JournalList};
+use packet_read::Arrival;
 use shared_moves::Gate;
 use std::alloc::{AllocError, Global};
 use std::marker::Model;

@@ -7,7 +7,7 @@ use Rattle.entity_recs.specs.Commands.{Command}
 use Rattle.move_journal.specs.Merges.{HasNumbersApart}
 use Rattle.arena_map.specs.Maps.{MapView, IsMap}
 use Rattle.arena_map.specs.Validity.{IsOpeningWorld}
-use Rattle.client_ports.specs.declared.arrival.Arrival.{Arrival}
+use Rattle.packet_read.specs.declared.arrival.Arrival.{Arrival}
 use Rattle.client_ports.specs.declared.client.Client.{Client}
 use Rattle.client_ports.specs.Clients.{client_at, no_clients}
 use Rattle.client_ports.specs.States.{State, state_of, IsServerState}

@@ -13,7 +13,7 @@ use Rattle.arena_map.specs.Maps.{MapView, IsMap}
 use Rattle.arena_map.specs.Validity.{IsValidWorld}
 use Rattle.world_tree.specs.Live.{record_at, live_in, AreEntries}
 use Rattle.world_tree.proofs.Links.{id-below}
-use Rattle.client_ports.specs.declared.arrival.Arrival.{Arrival}
+use Rattle.packet_read.specs.declared.arrival.Arrival.{Arrival}
 use Rattle.client_ports.specs.Clients.{new_client}
 use Rattle.client_ports.specs.Lists.{Lists, no_lists}
 use Rattle.client_ports.specs.States.{State, IsServerState}

@@ -3,7 +3,7 @@ use Rattle.std.proofs.Common.{◌≡◌, ℕ, ◌+◌, ◌-◌, ◌<◌, ◌≤�
 use lib.Seq.{take-append-add, take-append_seam, length-take-le}
 use Rattle.entity_recs.specs.declared.effect.Entry.{Entry}
 use Rattle.arena_map.specs.Maps.{MapView, IsMap}
-use Rattle.client_ports.specs.declared.arrival.Arrival.{Arrival}
+use Rattle.packet_read.specs.declared.arrival.Arrival.{Arrival}
 use Rattle.plain_server.specs.RecordsById.{opening}
 use Rattle.plain_server.specs.Frames.{received_in, state_played, AreRight, AreInOrder}
 use Rattle.plain_server.proofs.Frames.{opening_is}

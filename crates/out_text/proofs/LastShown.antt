@@ -11,7 +11,7 @@ use Rattle.entity_recs.specs.declared.rec.Rec.{Rec}
 use Rattle.entity_recs.specs.declared.effect.Entry.{Entry}
 use Rattle.arena_map.specs.Maps.{MapView, IsMap}
 use Rattle.world_tree.specs.Live.{record_at, live_in, AreEntries}
-use Rattle.client_ports.specs.declared.arrival.Arrival.{Arrival}
+use Rattle.packet_read.specs.declared.arrival.Arrival.{Arrival}
 use Rattle.client_ports.specs.declared.received.Refused.{Refused}
 use Rattle.client_ports.specs.declared.received.Joined.{Joined}
 use Rattle.client_ports.specs.Clients.{client_at}

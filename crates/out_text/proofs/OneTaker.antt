@@ -3,7 +3,7 @@ use Rattle.std.proofs.Common.{◌≡◌, List, [], Option, Some, None, refl, sym
 use Rattle.std.proofs.lemmas.Option.{none-some}
 use Rattle.entity_recs.specs.declared.effect.Entry.{Entry}
 use Rattle.arena_map.specs.Maps.{MapView, IsMap}
-use Rattle.client_ports.specs.declared.arrival.Arrival.{Arrival}
+use Rattle.packet_read.specs.declared.arrival.Arrival.{Arrival}
 use Rattle.demo_lines.specs.Bytes.{map_of}
 use Rattle.plain_server.specs.RecordsById.{opening}
 use Rattle.plain_server.specs.Takers.{HasTakenIn}

@@ -8,7 +8,7 @@ use Rattle.hex.specs.declared.error.FromHexError.TheVariants.{OddLength}
 use Rattle.hex.specs.Hex.{decode_of, decode_pairs}
 use Rattle.hex.proofs.HexLemmas.{decode_pairs-ok}
 use Rattle.packet_read.specs.Laws.{AreBytes}
-use Rattle.client_ports.specs.declared.arrival.Arrival.{Arrival}
+use Rattle.packet_read.specs.declared.arrival.Arrival.{Arrival}
 use Rattle.edge_io.specs.Fields.{◌>>=◌}
 use Rattle.edge_io.specs.Numbers.{natural_up_to}
 use Rattle.edge_io.proofs.Decimals.{natural-spelled}

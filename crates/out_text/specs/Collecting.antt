@@ -1,6 +1,6 @@
 -- The frames that the events of a recording make, each with its packets.
 use Rattle.std.specs.Prelude.{ℕ, List, [], ◌∷◌, ◌++◌, Option, Some, None, option_map}
-use Rattle.client_ports.specs.declared.arrival.Arrival.{Arrival}
+use Rattle.packet_read.specs.declared.arrival.Arrival.{Arrival}
 use Rattle.demo_lines.specs.declared.event.Event.{Event}
 use Rattle.demo_lines.specs.declared.event.Event.TheVariants.{Frame, From, End}
 use Rattle.demo_lines.specs.Machines.{run_of}

@@ -4,7 +4,7 @@ use Rattle.std.specs.Prelude.{Option, None, Some, IsSome}
 use Rattle.entity_recs.specs.declared.effect.Entry.{Entry}
 use Rattle.move_journal.specs.Merges.{IsInOrder}
 use Rattle.arena_map.specs.Maps.{MapView, IsMap}
-use Rattle.client_ports.specs.declared.arrival.Arrival.{Arrival}
+use Rattle.packet_read.specs.declared.arrival.Arrival.{Arrival}
 use Rattle.client_ports.specs.Clients.{client_at}
 use Rattle.client_ports.specs.States.{State, IsServerState}
 use Rattle.client_ports.specs.Finishing.{is_leaver}

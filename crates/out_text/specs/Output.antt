@@ -2,7 +2,7 @@
 use Rattle.std.specs.Prelude.{◌≡◌, ℕ, ◌-◌, ◌<◌, ◌≤◌, ◌⊎◌, List, [], ◌∷◌, ◌++◌, length, take, Option, Some, None}
 use Rattle.entity_recs.specs.declared.effect.Entry.{Entry}
 use Rattle.arena_map.specs.Maps.{MapView}
-use Rattle.client_ports.specs.declared.arrival.Arrival.{Arrival}
+use Rattle.packet_read.specs.declared.arrival.Arrival.{Arrival}
 use Rattle.plain_server.specs.RecordsById.{opening}
 use Rattle.plain_server.specs.Frames.{AreRight, AreInOrder}
 use Rattle.demo_lines.specs.Bytes.{Refusal, fault, map_of}

@@ -1,6 +1,7 @@
 //! Client packets, read from bytes and written to bytes.
 #![tactic(auto)]
 
+mod arrival;
 mod laws;
 mod move_packet;
 mod packet;
@@ -10,6 +11,7 @@ mod reading;
 mod wire;
 mod writing;
 
+pub use arrival::{Arrival, ArrivalBytes, MOST_BYTES};
 pub use laws::{limit_is_known, no_cause_where_spelled, one_spelling, read_where_spelled};
 pub use move_packet::MovePacket;
 pub use packet::Packet;

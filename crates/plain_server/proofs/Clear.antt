@@ -27,7 +27,7 @@ use Rattle.arena_map.specs.Validity.{IsValidRecord, IsValidWorld}
 use Rattle.arena_map.proofs.Opening.{IsFound, found-in}
 use Rattle.trigger_rules.specs.Touching.{bodies_of_solids, solids_among}
 use Rattle.world_tree.specs.Live.{record_at, live_in}
-use Rattle.client_ports.specs.declared.arrival.Arrival.{Arrival}
+use Rattle.packet_read.specs.declared.arrival.Arrival.{Arrival}
 use Rattle.client_ports.specs.States.{State, IsServerState}
 use Rattle.client_ports.specs.Receiving.{Receiving}
 use Rattle.arena_map.specs.Validity.{AreClear}

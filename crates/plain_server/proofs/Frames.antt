@@ -16,7 +16,7 @@ use Rattle.arena_map.proofs.Kept.{each-of}
 use Rattle.arena_map.proofs.ThingRecords.{entities-are, entities-apart}
 use Rattle.arena_actions.specs.Outcomes.{outcome_on}
 use Rattle.world_tree.proofs.Links.{id-below, record_at-empty}
-use Rattle.client_ports.specs.declared.arrival.Arrival.{Arrival}
+use Rattle.packet_read.specs.declared.arrival.Arrival.{Arrival}
 use Rattle.client_ports.specs.declared.client.Client.{Client}
 use Rattle.client_ports.specs.Clients.{client_at, AreClients}
 use Rattle.client_ports.proofs.Slots.{client_count, no_clients-are_ports}

@@ -6,7 +6,7 @@ use Rattle.arena_geo.specs.Vectors.{IsNear}
 use Rattle.entity_recs.specs.declared.effect.Entry.{Entry}
 use Rattle.move_journal.specs.Merges.{HasNumbersApart}
 use Rattle.arena_map.specs.Maps.{MapView}
-use Rattle.client_ports.specs.declared.arrival.Arrival.{Arrival}
+use Rattle.packet_read.specs.declared.arrival.Arrival.{Arrival}
 use Rattle.client_ports.specs.States.{IsServerState}
 use Rattle.client_ports.specs.Receiving.{Receiving}
 use Rattle.plain_server.specs.Moving.{HasLivePlayer}

@@ -6,7 +6,7 @@ use Rattle.move_journal.specs.Merges.{history_of, IsRight, IsInOrder, journal_in
 use Rattle.arena_map.specs.Maps.{MapView}
 use Rattle.arena_actions.specs.Outcomes.{outcome_on}
 use Rattle.world_physics.specs.Ticks.{after_tick}
-use Rattle.client_ports.specs.declared.arrival.Arrival.{Arrival}
+use Rattle.packet_read.specs.declared.arrival.Arrival.{Arrival}
 use Rattle.client_ports.specs.States.{State, state_of}
 use Rattle.client_ports.specs.Receiving.{Receiving, received}
 use Rattle.client_ports.specs.Finishing.{finished}

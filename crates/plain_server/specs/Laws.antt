@@ -10,7 +10,7 @@ use Rattle.arena_map.specs.Maps.{MapView, IsMap, delay_of}
 use Rattle.arena_map.specs.Validity.{IsValidWorld, IsOpeningWorld, AreClear}
 use Rattle.arena_actions.specs.Outcomes.{outcome_on}
 use Rattle.world_tree.specs.Live.{record_at}
-use Rattle.client_ports.specs.declared.arrival.Arrival.{Arrival}
+use Rattle.packet_read.specs.declared.arrival.Arrival.{Arrival}
 use Rattle.client_ports.specs.Clients.{client_at, AreClients}
 use Rattle.client_ports.specs.States.{State, IsServerState}
 use Rattle.client_ports.specs.Receiving.{Receiving}

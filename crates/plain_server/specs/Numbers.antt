@@ -2,7 +2,7 @@
 use Rattle.std.specs.Prelude.{◌≡◌, ℕ, ◌<◌, ◌≤◌, false, List, Some, Contains, slice_get}
 use Rattle.entity_recs.specs.declared.effect.Entry.{Entry}
 use Rattle.arena_map.specs.Maps.{MapView, IsMap}
-use Rattle.client_ports.specs.declared.arrival.Arrival.{Arrival}
+use Rattle.packet_read.specs.declared.arrival.Arrival.{Arrival}
 use Rattle.client_ports.specs.declared.client.Client.{Client}
 use Rattle.client_ports.specs.Clients.{client_at}
 use Rattle.client_ports.specs.Frames.{numbers_of}

@@ -8,7 +8,7 @@ use Rattle.arena_geo.specs.declared.vec3.Vec3.{Vec3}
 use Rattle.arena_geo.specs.Bounds.{bounds}
 use Rattle.arena_geo.specs.Boxes.{is_blocked}
 use Rattle.hex.specs.Hex.{encode_with}
-use Rattle.client_ports.specs.declared.arrival.Arrival.{Arrival}
+use Rattle.packet_read.specs.declared.arrival.Arrival.{Arrival}
 use Rattle.arena_map.specs.Maps.{MapView, map_of, IsSpawn, IsBlock, IsThingInside, IsMap}
 use Rattle.demo_lines.specs.Bytes.{fault, events}
 use Rattle.demo_lines.specs.Spelling.{IsArrival, IsRecording, recording_text, recording_events}

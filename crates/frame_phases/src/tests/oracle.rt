@@ -2,8 +2,8 @@ ghost use Rattle.move_phase.specs.Serving.{AreWorkers};
 
 use super::{JOIN, arrival};
 use crate::{FrameOut, MOST_ARRIVALS, MOST_FRAMES, Server, run_frame};
-use client_ports::Arrival;
 use entity_recs::Entry;
+use packet_read::Arrival;
 use shared_moves::NoGate;
 use std::alloc::{AllocError, AllocGlobal, Global};
 use std::process::Abort;

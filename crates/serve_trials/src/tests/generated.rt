@@ -1,9 +1,9 @@
 ghost use Rattle.demo_make.specs.GeneratedFrames.{IsInRange};
 
-use client_ports::Arrival;
 use demo_lines::Event;
 use demo_make::{Generator, MakeStop, generated_map, make};
 use edge_io::MemSink;
+use packet_read::Arrival;
 use std::alloc::Global;
 use std::test::Fail;
 

@@ -1,5 +1,5 @@
 use Rattle.std.proofs.Common.{List, ap, ◌∙◌}
-use Rattle.client_ports.specs.declared.arrival.Arrival.{Arrival}
+use Rattle.packet_read.specs.declared.arrival.Arrival.{Arrival}
 use Rattle.arena_engine.proofs.Closing.{game_with, lines_of-closed}
 use Rattle.arena_engine.proofs.game.Game.close.Goals as goal
 

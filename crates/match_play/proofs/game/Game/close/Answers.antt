@@ -1,5 +1,5 @@
 use Rattle.std.proofs.Common.{List, ◌++◌, ◌∷◌, [], refl, ap, ◌∙◌}
-use Rattle.client_ports.specs.declared.arrival.Arrival.{Arrival}
+use Rattle.packet_read.specs.declared.arrival.Arrival.{Arrival}
 use Rattle.move_journal.specs.Logs.{JournalView}
 use Rattle.match_play.proofs.Few.{few_in_frame}
 use Rattle.match_play.proofs.Closing.{game_with, closes-frame, few-opened}
