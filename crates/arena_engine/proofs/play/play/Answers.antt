@@ -51,7 +51,7 @@ take-requires-clause-ready g c κs within = game_is_ready _ _ _ _ _ _ _ _ _ _ _ 
 
 pub returns-in-Err-take-clause-write_fault : goal.returns-in-Err-take-clause-write_fault
 returns-in-Err-take-clause-write_fault g c =
-    rw c.with_game.ensures.ended (write_failed _ _ _ _ _ _ _ _ _ _ _ _ _ _ c.events.invariant.0 _ c.take.new.self _ _ c.with_game.ensures.last c.in-Err-take.ensures.cut c.in-Err-take.ensures.write_fault)
+    rw c.with_game.ensures.ended (write_failed _ _ _ _ _ _ _ _ _ _ _ _ _ _ c.events.invariant.0 g.K.Sink.taken g.K.Sink.faults _ _ _ c.take.new.self _ refl c.with_game.ensures.last c.in-Err-take.ensures.write_fault)
 
 pub returns-in-Err-take-clause-memory : goal.returns-in-Err-take-clause-memory
 returns-in-Err-take-clause-memory g c =
@@ -59,11 +59,11 @@ returns-in-Err-take-clause-memory g c =
 
 pub returns-in-Err-take-clause-sure_writes : goal.returns-in-Err-take-clause-sure_writes
 returns-in-Err-take-clause-sure_writes g c =
-    λ roomy. rw c.with_game.ensures.ended (not_cut _ _ _ _ _ _ _ _ _ _ _ _ _ _ c.events.invariant.0 _ c.take.new.self c.in-Err-take.ensures.cut c.in-Err-take.ensures.sure roomy)
+    λ roomy. rw c.with_game.ensures.ended (not_cut _ _ _ _ _ _ _ _ _ _ _ _ _ _ c.events.invariant.0 _ c.take.new.self c.in-Err-take.ensures.sure roomy)
 
 pub returns-then-is_last-clause-done : goal.returns-then-is_last-clause-done
 returns-then-is_last-clause-done g c =
-    rw c.with_game-then-is_last.ensures.ended (all_done _ _ _ _ _ _ _ _ _ _ _ _ _ _ c.events.invariant.0 c.take.new.self _ c.in_default.ensures.next c.in_default.ensures.written _ c.with_game-then-is_last.ensures.last (sym c.is_end-is_last.ensures ∙ c.if-is_last.true))
+    rw c.with_game-then-is_last.ensures.ended (all_done _ _ _ _ _ _ _ _ _ _ _ _ _ _ c.events.invariant.0 c.take.new.self _ _ c.in_default.ensures.next.advances (written g c.take.new.sink _) _ c.with_game-then-is_last.ensures.last (sym c.is_end-is_last.ensures ∙ c.if-is_last.true))
 
 pub returns-then-is_last-clause-read : goal.returns-then-is_last-clause-read
 returns-then-is_last-clause-read g c =
@@ -72,22 +72,22 @@ returns-then-is_last-clause-read g c =
 pub returns-in-Err-next-2-clause-refused : goal.returns-in-Err-next-2-clause-refused
 returns-in-Err-next-2-clause-refused g c =
     let going = sym c.is_end-is_last.ensures ∙ c.if-is_last.false in
-    rw (c.with_game-in-Err-next-2.ensures.ended, c.into-in-Err-next-2.ensures) (next_refused _ _ _ _ _ _ _ _ _ _ _ _ _ _ c.events.invariant.0 c.take.new.self _ c.in_default.ensures.next c.in_default.ensures.written _ c.with_game-in-Err-next-2.ensures.last _ going c.in-Err-next-2.ensures.refused)
+    rw (c.with_game-in-Err-next-2.ensures.ended, c.into-in-Err-next-2.ensures) (next_refused _ _ _ _ _ _ _ _ _ _ _ _ _ _ c.events.invariant.0 c.take.new.self _ _ c.in_default.ensures.next.advances (written g c.take.new.sink _) _ c.with_game-in-Err-next-2.ensures.last _ going c.in-Err-next-2.ensures.refused)
 
 pub returns-in-Err-next-2-clause-read_fault : goal.returns-in-Err-next-2-clause-read_fault
 returns-in-Err-next-2-clause-read_fault g c =
     let going = sym c.is_end-is_last.ensures ∙ c.if-is_last.false in
-    rw (c.with_game-in-Err-next-2.ensures.ended, c.into-in-Err-next-2.ensures) (next_fault _ _ _ _ _ _ _ _ _ _ _ _ _ _ c.events.invariant.0 c.take.new.self _ c.in_default.ensures.next c.in_default.ensures.written _ c.with_game-in-Err-next-2.ensures.last _ _ going c.in-Err-next-2.ensures.read_fault)
+    rw (c.with_game-in-Err-next-2.ensures.ended, c.into-in-Err-next-2.ensures) (next_fault _ _ _ _ _ _ _ _ _ _ _ _ _ _ c.events.invariant.0 c.take.new.self _ _ c.in_default.ensures.next.advances (written g c.take.new.sink _) _ c.with_game-in-Err-next-2.ensures.last _ _ going c.in-Err-next-2.ensures.read_fault)
 
 pub returns-in-Err-next-2-clause-front : goal.returns-in-Err-next-2-clause-front
 returns-in-Err-next-2-clause-front g c =
     let going = sym c.is_end-is_last.ensures ∙ c.if-is_last.false in
-    rw (c.with_game-in-Err-next-2.ensures.ended, c.into-in-Err-next-2.ensures) (next_front _ _ _ _ _ _ _ _ _ _ _ _ _ _ c.events.invariant.0 c.take.new.self _ c.in_default.ensures.next c.in_default.ensures.written _ c.with_game-in-Err-next-2.ensures.last _ going)
+    rw (c.with_game-in-Err-next-2.ensures.ended, c.into-in-Err-next-2.ensures) (next_front _ _ _ _ _ _ _ _ _ _ _ _ _ _ c.events.invariant.0 c.take.new.self _ _ c.in_default.ensures.next.advances (written g c.take.new.sink _) _ c.with_game-in-Err-next-2.ensures.last _ going)
 
 pub returns-in-Err-next-2-clause-memory : goal.returns-in-Err-next-2-clause-memory
 returns-in-Err-next-2-clause-memory g c =
     let going = sym c.is_end-is_last.ensures ∙ c.if-is_last.false in
-    rw (c.with_game-in-Err-next-2.ensures.ended, c.into-in-Err-next-2.ensures) (next_no_memory _ _ _ _ _ _ _ _ _ _ _ _ _ _ c.events.invariant.0 c.take.new.self _ c.in_default.ensures.next c.in_default.ensures.written _ c.with_game-in-Err-next-2.ensures.last _ going)
+    rw (c.with_game-in-Err-next-2.ensures.ended, c.into-in-Err-next-2.ensures) (next_no_memory _ _ _ _ _ _ _ _ _ _ _ _ _ _ c.events.invariant.0 c.take.new.self _ _ c.in_default.ensures.next.advances (written g c.take.new.sink _) _ c.with_game-in-Err-next-2.ensures.last _ going)
 
 pub returns-in-Err-next-2-clause-refused_read : goal.returns-in-Err-next-2-clause-refused_read
 returns-in-Err-next-2-clause-refused_read g c =
@@ -132,7 +132,7 @@ returns-in-Err-next-2-clause-sure_writes g c =
 pub events-preserved : goal.events-preserved
 events-preserved g c =
     let going = sym c.is_end-is_last.ensures ∙ c.if-is_last.false in (
-      runs_on _ _ _ _ _ _ _ _ _ _ _ _ _ _ c.events.invariant.0 c.take.new.self _ c.in_default.ensures.next c.in_default.ensures.written c.next-in-events.new.self _ c.in-Ok-next-2.event _ _ _ going
+      runs_on _ _ _ _ _ _ _ _ _ _ _ _ _ _ c.events.invariant.0 c.take.new.self _ _ c.in_default.ensures.next.advances (written g c.take.new.sink _) c.next-in-events.new.self _ c.in-Ok-next-2.event _ _ _ going
           c.in-Ok-next-2.ensures.event c.in-Ok-next-2.ensures.stage c.in-Ok-next-2.ensures.holds c.in-Ok-next-2.ensures.ok c.in-Ok-next-2.ensures.uncounted
           c.in_default.ensures.uncounted c.in_default.ensures.room,
       unread_on _ _ _ _ _ _ _ _ _ _ _ _ _ _ c.events.invariant.0 g.S.Source.last g.S.Source.ended g.S.Source.never_fails _ _ _ _ _ c.in-Ok-next-2.event going c.events.invariant.1
