@@ -1,5 +1,5 @@
 -- The loop that plays a recording, and its exits.
-use Rattle.std.proofs.Common.{◌≡◌, ℕ, ◌+◌, ◌≤◌, Bool, true, false, List, [], ◌∷◌, ◌++◌, length, Option, Some, None, IfSome, IsSomeAnd, ◌⊎◌, inl, inr, refl, sym, ap, ◌∙◌, subst, arith, length-append, append-nil, ⊥}
+use Rattle.std.proofs.Common.{◌≡◌, ℕ, ◌+◌, ◌≤◌, Bool, true, false, List, [], ◌∷◌, ◌++◌, length, Option, Some, None, IfSome, IsSomeAnd, ◌⊎◌, inl, inr, refl, sym, ap, ◌∙◌, subst, arith, length-append, append-nil}
 use Rattle.std.specs.Io.KnownBytes.{Appends}
 use Rattle.std.proofs.KnownBytes.{prepend_known-nil}
 use Rattle.edge_io.specs.Counts.{HasRisen}
@@ -52,14 +52,14 @@ pub record Runs (workers : ℕ) (demo : DemoReaderView) (before ahead : Option (
 
 -- how the source was read: no more than was needed, and without its end, but for an end without a line feed; and it is as sure
 -- as before
-pub record Unread {S : Type 0} (last : S → ℕ) (ended : S → Bool) (sure : S → Type 0) (a b : Option (List ℕ)) (old new : S) (pending : List ℕ) (e : Event) : Type 0 where
+pub record ReadsAsNeeded {S : Type 0} (last : S → ℕ) (ended : S → Bool) (sure : S → Type 0) (a b : Option (List ℕ)) (old new : S) (pending : List ℕ) (e : Event) : Type 0 where
   pub needed : (HasNotReadAhead old new (last new) [] pending × (ended new ≡ ended old)) ⊎ ((e ≡ End) × TakesCutEnd a b × (ended new ≡ true))
   pub keeps : sure old → sure new
 
 -- before the end no more was read than was needed, and the input's end wasn't given
-pub unread_going : (e : Event) (P Q R : Type 0) → is_end e ≡ false → P ⊎ ((e ≡ End) × Q × R) → P
-unread_going e P Q R going (inl h) = h
-unread_going e P Q R going (inr (is, q, r)) = let last : is_end e ≡ true = ap is_end is in cc
+pub needed_going : (e : Event) (P Q R : Type 0) → is_end e ≡ false → P ⊎ ((e ≡ End) × Q × R) → P
+needed_going e P Q R going (inl h) = h
+needed_going e P Q R going (inr (is, q, r)) = let last : is_end e ≡ true = ap is_end is in cc
 
 -- ---- the reader is fresh
 
@@ -187,7 +187,7 @@ module _ (workers : ℕ) (demo : DemoReaderView) (a b t0 t1 : Option (List ℕ))
   write_cause s n2 risen = on_write_fault s (HasRisen n1 n2) (HasRisen n0 n2) (λ h. subst (λ n. HasRisen n n2) runs.write_same h) risen
 
   pub all_read : {S : Type 0} (last : S → ℕ) (ended : S → Bool) (sure : S → Type 0) (s0 s1 : S) (pending : List ℕ) (l : Option (List ℕ)) → is_end e ≡ true → b ≡ ahead pending l
-      → Unread last ended sure a b s0 s1 pending e → ReadsToEnd s0 s1 (last s1) (ended s1 ≡ ended s0) (ended s1 ≡ true) a l
+      → ReadsAsNeeded last ended sure a b s0 s1 pending e → ReadsToEnd s0 s1 (last s1) (ended s1 ≡ ended s0) (ended s1 ≡ true) a l
   all_read last ended sure s0 s1 pending l is_last is unread =
       whole_on workers runs.arena runs.full a b t0 t1 g e runs.progress s0 s1 (last s1) (ended s1 ≡ ended s0) (ended s1 ≡ true) pending l (end_is_end e is_last) is (by_end unread.needed)
     where
@@ -196,14 +196,14 @@ module _ (workers : ℕ) (demo : DemoReaderView) (a b t0 t1 : Option (List ℕ))
       by_end (inr (end, q, r)) = inr (q, r)
 
   pub next_refusal : {S : Type 0} (last : S → ℕ) (ended : S → Bool) (sure : S → Type 0) (s0 s1 s2 : S) (d : DemoStop) (pending : List ℕ) (l : Option (List ℕ)) → is_end e ≡ false
-      → Unread last ended sure a b s0 s1 demo.pending e
+      → ReadsAsNeeded last ended sure a b s0 s1 demo.pending e
       → (IsOpen demo → reads_of.OnRefused d (λ why. Refuses demo.reading b (ahead pending l) why.line
       (HasNotReadAhead s1 s2 (last s2) demo.pending pending × (ended s2 ≡ ended s1)) (ended s2 ≡ true)))
       → OnRefused (stop_of d) (λ _. ReadsToRefusal s0 s2 (last s2) (ended s2 ≡ ended s0) (ended s2 ≡ true) a l)
   next_refusal last ended sure s0 s1 s2 d pending l going unread h =
       let P = HasNotReadAhead s1 s2 (last s2) demo.pending pending × (ended s2 ≡ ended s1) in
       let R : Reading → Refusal → Type 0 = λ r why. Refuses r b (ahead pending l) why.line P (ended s2 ≡ true) in
-      let so_far = unread_going e (HasNotReadAhead s0 s1 (last s1) [] demo.pending × (ended s1 ≡ ended s0)) (TakesCutEnd a b) (ended s1 ≡ true) going unread.needed in
+      let so_far = needed_going e (HasNotReadAhead s0 s1 (last s1) [] demo.pending × (ended s1 ≡ ended s0)) (TakesCutEnd a b) (ended s1 ≡ true) going unread.needed in
       refused_of d (R demo.reading) (λ _. ReadsToRefusal s0 s2 (last s2) (ended s2 ≡ ended s0) (ended s2 ≡ true) a l)
       (λ why refuses. refusal_on last s0 s1 s2 runs.full a b l (runs.progress.events ++ e ∷ []) why.line demo.pending pending (ended s2 ≡ ended s1) (ended s2 ≡ ended s0) (ended s2 ≡ true)
       runs.progress.reads so_far.0 (λ same. same ∙ so_far.1)
@@ -309,12 +309,12 @@ module _ (workers : ℕ) (demo : DemoReaderView) (a b t0 t1 : Option (List ℕ))
         }
 
   -- more was read, for one event more
-  pub unread_on : {S : Type 0} (last : S → ℕ) (ended : S → Bool) (sure : S → Type 0) (s0 s1 s2 : S) (pending' : List ℕ) (c : Option (List ℕ)) (e' : Event) → is_end e ≡ false
-      → Unread last ended sure a b s0 s1 demo.pending e
+  pub needed_on : {S : Type 0} (last : S → ℕ) (ended : S → Bool) (sure : S → Type 0) (s0 s1 s2 : S) (pending' : List ℕ) (c : Option (List ℕ)) (e' : Event) → is_end e ≡ false
+      → ReadsAsNeeded last ended sure a b s0 s1 demo.pending e
       → (IsOpen demo → (HasNotReadAhead s1 s2 (last s2) demo.pending pending' × (ended s2 ≡ ended s1)) ⊎ ((e' ≡ End) × TakesCutEnd b c × (ended s2 ≡ true)))
-      → (sure s1 → sure s2) → Unread last ended sure a c s0 s2 pending' e'
-  unread_on last ended sure s0 s1 s2 pending' c e' going unread more keeps =
-      let so_far = unread_going e (HasNotReadAhead s0 s1 (last s1) [] demo.pending × (ended s1 ≡ ended s0)) (TakesCutEnd a b) (ended s1 ≡ true) going unread.needed in
+      → (sure s1 → sure s2) → ReadsAsNeeded last ended sure a c s0 s2 pending' e'
+  needed_on last ended sure s0 s1 s2 pending' c e' going unread more keeps =
+      let so_far = needed_going e (HasNotReadAhead s0 s1 (last s1) [] demo.pending × (ended s1 ≡ ended s0)) (TakesCutEnd a b) (ended s1 ≡ true) going unread.needed in
       let open_still = ap is_over runs.progress.stage ∙ not_over e going in
       record { needed = by_end so_far open_still (more (reader_is_open going)); keeps = λ h. keeps (unread.keeps h) }
     where
@@ -327,10 +327,10 @@ module _ (workers : ℕ) (demo : DemoReaderView) (a b t0 t1 : Option (List ℕ))
 
 module _ {S : Type 0} (last : S → ℕ) (ended : S → Bool) (sure : S → Type 0) where
   -- the first reads
-  pub unread_first : (s0 s1 : S) (demo demo' : DemoReaderView) (l b : Option (List ℕ)) (e : Event) → demo ≡ fresh_reader
+  pub needed_first : (s0 s1 : S) (demo demo' : DemoReaderView) (l b : Option (List ℕ)) (e : Event) → demo ≡ fresh_reader
       → (IsOpen demo → (HasNotReadAhead s0 s1 (last s1) demo.pending demo'.pending × (ended s1 ≡ ended s0)) ⊎ ((e ≡ End) × TakesCutEnd (ahead demo.pending l) b × (ended s1 ≡ true)))
-      → (sure s0 → sure s1) → Unread last ended sure l b s0 s1 demo'.pending e
-  unread_first s0 s1 demo demo' l b e is needed keeps =
+      → (sure s0 → sure s1) → ReadsAsNeeded last ended sure l b s0 s1 demo'.pending e
+  needed_first s0 s1 demo demo' l b e is needed keeps =
       let P : DemoReaderView → Type 0 = λ d.
       IsOpen d → (HasNotReadAhead s0 s1 (last s1) d.pending demo'.pending × (ended s1 ≡ ended s0)) ⊎ ((e ≡ End) × TakesCutEnd (ahead d.pending l) b × (ended s1 ≡ true)) in
       let Q : Option (List ℕ) → Type 0 = λ o. (HasNotReadAhead s0 s1 (last s1) [] demo'.pending × (ended s1 ≡ ended s0)) ⊎ ((e ≡ End) × TakesCutEnd o b × (ended s1 ≡ true)) in
@@ -338,10 +338,10 @@ module _ {S : Type 0} (last : S → ℕ) (ended : S → Bool) (sure : S → Type
 
   -- the first event was read, and then the map was given out
   pub runs_first : (workers : ℕ) (demo' taken : DemoReaderView) (arena : MapView) (a l t : Option (List ℕ)) (g : GameView) (e : Event) (m0 m1 n k : ℕ) (s0 s1 : S) → taken ≡ map_taken demo'
-      → Progress workers arena demo'.reading a (ahead demo'.pending l) t t g e → demo'.stop ≡ None → m1 ≡ m0 → Unread last ended sure a (ahead demo'.pending l) s0 s1 demo'.pending e
-      → Runs workers taken a (ahead taken.pending l) t t g e m0 m1 n n k k × Unread last ended sure a (ahead taken.pending l) s0 s1 taken.pending e
+      → Progress workers arena demo'.reading a (ahead demo'.pending l) t t g e → demo'.stop ≡ None → m1 ≡ m0 → ReadsAsNeeded last ended sure a (ahead demo'.pending l) s0 s1 demo'.pending e
+      → Runs workers taken a (ahead taken.pending l) t t g e m0 m1 n n k k × ReadsAsNeeded last ended sure a (ahead taken.pending l) s0 s1 taken.pending e
   runs_first workers demo' taken arena a l t g e m0 m1 n k s0 s1 is progress no_stop same unread =
-      let P : DemoReaderView → Type 0 = λ d. Runs workers d a (ahead d.pending l) t t g e m0 m1 n n k k × Unread last ended sure a (ahead d.pending l) s0 s1 d.pending e in
+      let P : DemoReaderView → Type 0 = λ d. Runs workers d a (ahead d.pending l) t t g e m0 m1 n n k k × ReadsAsNeeded last ended sure a (ahead d.pending l) s0 s1 d.pending e in
       subst P (sym is) (record { arena = arena; full = demo'.reading; given = refl; progress = progress; no_stop = no_stop; read_same = same; write_same = refl; roomy = omega arith }, unread)
 
   -- the recording was refused before it gave an event

@@ -2,7 +2,7 @@ ghost use Rattle.std.specs.Prelude.{◌≡◌};
 ghost use Rattle.playback.specs.Playbacks.{entries_if};
 ghost use Rattle.arena_engine.specs.Games as games;
 
-use crate::printed::print_event;
+use crate::printing::print_event;
 use crate::stop::Stop;
 use arena_map::ArenaMap;
 use demo_lines::Event;
@@ -57,7 +57,7 @@ fn newest(closed: Option<Journal>, before: Option<Journal>) -> Option<Journal>
 }
 
 impl Game {
-    ghost use Rattle.std.specs.Prelude.{◌≡◌, ◌≤◌, [], length, IfOk, OnOk, IfErr, ⊥};
+    ghost use Rattle.std.specs.Prelude.{◌≡◌, ◌≤◌, [], length, IfOk, OnOk, IfErr};
     ghost use Rattle.arena_map.specs.Maps.{IsMap};
     ghost use Rattle.out_text.specs.OutLines.{text_of};
     ghost use Rattle.out_text.specs.Printers.{Prints, FailsIn};

@@ -24,7 +24,7 @@ mod numbers;
 mod perform;
 mod play;
 mod played;
-mod printed;
+mod printing;
 mod recording;
 mod report;
 mod stop;
