@@ -1,6 +1,7 @@
 use packet_read::Arrival;
 
-/// What a line of a recording gives the server.
+/// What a line of a recording gives the server. It is a type beside [`Line`](crate::Line), since a line of the map gives
+/// no event: who plays the events has no arm for it, and gets the map once.
 #[derive(Drop)]
 pub enum Event {
     /// A frame begins, and the one before it is closed.

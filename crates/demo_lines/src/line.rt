@@ -21,7 +21,8 @@ use packet_read::Arrival;
 /// The number that [`read_map_line`] answers where the fields of a line have no form.
 const NO_FORM: u8 = 4;
 
-/// What one line of a recording says.
+/// What one line of a recording says. It is a type beside [`Event`](crate::Event), since it has the lines of the map too,
+/// which the reader keeps for itself: it tests them against the map so far, and adds them to it.
 #[derive(Drop)]
 pub enum Line {
     /// A line of the map.
