@@ -1,5 +1,5 @@
 -- The parts of an area are boxes.
-use Rattle.std.proofs.Common.{◌≡◌, ℤ, pos, negsuc, ◌+ℤ◌, ◌≤ℤ◌, ◌≤◌, unsigned_abs, Option, Some, None, SomeIff, IsSome, FitsSigned, to_z, of_z, refl, ap, ◌∙◌, arith}
+use Rattle.std.proofs.Common.{◌≡◌, ℤ, pos, negsuc, ◌+ℤ◌, ◌≤ℤ◌, ◌≤◌, unsigned_abs, FitsSigned, to_z, of_z, refl, ◌∙◌, arith}
 use Rattle.std.specs.Int.{int_div_euclid, w32}
 use Rattle.std.proofs.lemmas.Int.{ints, to_z-of_z}
 use Rattle.arena_geo.specs.declared.vec3.Vec3.{Vec3}

@@ -3,7 +3,7 @@ use Rattle.std.proofs.Common.{◌≡◌, ℤ, pos, ◌+ℤ◌, ◌-ℤ◌, true,
 use Rattle.std.proofs.lemmas.Int.{ints}
 use Rattle.arena_geo.specs.declared.vec3.Vec3.{Vec3}
 use Rattle.arena_geo.specs.Vectors.{IsNear, IsNotNegative, plus}
-use Rattle.arena_geo.specs.Bounds.{Bounds, bounds, IsOrdered, IsInRange, IsBox}
+use Rattle.arena_geo.specs.Bounds.{Bounds, IsOrdered, IsBox}
 use Rattle.arena_geo.specs.Boxes.{contains_on, contains, grown}
 use Rattle.arena_geo.proofs.Ranges.{IsOrdered-grown}
 use Rattle.arena_geo.proofs.Containment.{all_three}
@@ -88,11 +88,6 @@ growth_is_small Gem = item_growth_is_small
 growth_is_small Teleporter = body_growth_is_small
 growth_is_small Goal = body_growth_is_small
 growth_is_small Lift = body_growth_is_small
-
-pub growth_is_near : (kind : Kind) → IsNear 2097152 (growth_of kind)
-growth_is_near kind =
-    let small = growth_is_small kind in
-    record { x = omega (arith, small.near.x); y = omega (arith, small.near.y); z = omega (arith, small.near.z) }
 
 grown_is_box : (b : Bounds) (by : Vec3) → IsRoomy b → IsSmallGrowth by → IsBox (grown b by)
 grown_is_box b by roomy small = record {
