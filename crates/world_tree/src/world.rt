@@ -152,10 +152,11 @@ impl World {
         ensures linked { IsLinked self.new }
     {
         let place = usize::from(r.id);
-        let abs = abs_box(&r);
+        let moved = abs_box(&r);
         self.lists.remove(r.id);
-        self.lists.insert(list_for(&self.tree, r.kind, &abs), r.id);
-        self.boxes[place] = Some(abs);
+        self.lists
+            .insert(list_for(&self.tree, r.kind, &moved), r.id);
+        self.boxes[place] = Some(moved);
         self.records[place] = Some(r);
     }
 
