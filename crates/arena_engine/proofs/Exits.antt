@@ -12,7 +12,7 @@ use Rattle.demo_lines.specs.Recording.{next, events_of_line, after, events_of}
 use Rattle.edge_io.specs.Lines.{HasNoLineFeed, HasNotReadAhead, ahead}
 use Rattle.edge_io.proofs.ReadingAhead.{HasNotReadAhead-trans}
 use Rattle.edge_io.specs.WholeLines.{unlines}
-use Rattle.demo_lines.specs.Bytes.{Refusal, lines_of, events}
+use Rattle.demo_lines.specs.Bytes.{LineRefusal, lines_of, events}
 use Rattle.demo_lines.specs.Reads.{Reads, ReadsFront, Refuses, IsRefusedLine, IsLongFront, IsLastPart, EndsAt}
 use Rattle.demo_lines.proofs.Machines.{run_of-append, outputs_of-append}
 use Rattle.demo_lines.proofs.Parts.{lines_of-unlines}
@@ -51,7 +51,7 @@ all_of_none workers bytes none =
     let P : ℕ → Type 0 = λ k. IsFront workers bytes k [] in subst P (ap length (sym (frames_of-none bytes none))) (no_front workers bytes)
 
 -- the recording was refused before it gave an event
-pub refused_at_first : (workers : ℕ) (a : Option (List ℕ)) (t : Option (List ℕ)) (why : Refusal) (last : Option (List Entry)) → last ≡ None → IfSome a (EndsAt start why)
+pub refused_at_first : (workers : ℕ) (a : Option (List ℕ)) (t : Option (List ℕ)) (why : LineRefusal) (last : Option (List Entry)) → last ≡ None → IfSome a (EndsAt start why)
     → IfSome a (λ bytes. Writes t t (HasLast (IsRefused workers bytes why) last))
 refused_at_first workers None t why last none ends = tt
 refused_at_first workers (Some bytes) t why last none ends = record {
@@ -120,7 +120,7 @@ module _ (workers : ℕ) (arena : MapView) (r : Reading) (a b : Option (List ℕ
       })
 
   -- the recording was refused
-  pub refused_on : (why : Refusal) → Played → IfSome b (EndsAt r why) → IfSome a (λ bytes. Writes t0 t1 (HasLast (IsRefused workers bytes why) last))
+  pub refused_on : (why : LineRefusal) → Played → IfSome b (EndsAt r why) → IfSome a (λ bytes. Writes t0 t1 (HasLast (IsRefused workers bytes why) last))
   refused_on why played ends =
       continues r a b es (λ bytes. Writes t0 t1 (HasLast (IsRefused workers bytes why) last)) played.reads (λ bytes rest is so.
       let here : EndsAt r why rest = let P : Option (List ℕ) → Type 0 = λ o. IfSome o (EndsAt r why) in subst P is ends in

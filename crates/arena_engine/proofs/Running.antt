@@ -13,7 +13,7 @@ use Rattle.demo_lines.specs.declared.event.Event.TheVariants.{Frame, From, End}
 use Rattle.demo_lines.specs.declared.demo_stop.DemoStop.{DemoStop}
 use Rattle.demo_lines.specs.declared.demo_stop.DemoStop.TheVariants as demo_stop
 use Rattle.demo_lines.specs.Known.{Reading, start, is_over, is_map_whole, without_map, having_map}
-use Rattle.demo_lines.specs.Bytes.{Refusal}
+use Rattle.demo_lines.specs.Bytes.{LineRefusal}
 use Rattle.demo_lines.specs.Readings.{IsReading}
 use Rattle.demo_lines.specs.Reads.{DemoReaderView, fresh_reader, map_taken, IsOpen, Reads, ReadsFront, TakesCutEnd, Refuses, EndsAt, stage_after}
 use Rattle.demo_lines.specs.Reads as reads_of
@@ -71,7 +71,7 @@ read_fault_of (demo_stop.Refused line fault rule) P Q f p = tt
 read_fault_of demo_stop.ReadFault P Q f p = f p
 read_fault_of demo_stop.NoMemory P Q f p = tt
 
-refused_of : (d : DemoStop) (P Q : Refusal → Type 0) → ((why : Refusal) → P why → Q why) → reads_of.OnRefused d P → OnRefused (stop_of d) Q
+refused_of : (d : DemoStop) (P Q : LineRefusal → Type 0) → ((why : LineRefusal) → P why → Q why) → reads_of.OnRefused d P → OnRefused (stop_of d) Q
 refused_of (demo_stop.Refused line fault rule) P Q f p = f _ p
 refused_of demo_stop.ReadFault P Q f p = tt
 refused_of demo_stop.NoMemory P Q f p = tt
@@ -100,7 +100,7 @@ pub first_refused : (workers : ℕ) (demo : DemoReaderView) (d : DemoStop) (l t 
 first_refused workers demo d l t last none is h =
     let P : DemoReaderView → Type 0 = λ x. IsOpen x → reads_of.OnRefused d (λ why. IfSome (ahead x.pending l) (EndsAt x.reading why)) in
     let at_first = subst P is h fresh_is_open in
-    let Q : Refusal → Option (List ℕ) → Type 0 = λ why o. IfSome o (EndsAt start why) in
+    let Q : LineRefusal → Option (List ℕ) → Type 0 = λ why o. IfSome o (EndsAt start why) in
     refused_of d (λ why. IfSome (ahead [] l) (EndsAt start why)) (λ why. IfSome l (λ bytes. Writes t t (HasLast (IsRefused workers bytes why) last)))
     (λ why ends. refused_at_first workers l t why last none (subst (Q why) (prepend_known-nil l) ends)) at_first
 
@@ -138,7 +138,7 @@ no_write_fault demo_stop.ReadFault P = tt
 no_write_fault demo_stop.NoMemory P = tt
 
 -- a game stops for no other reason
-pub no_refusal : (s : Stop) (P : Refusal → Type 0) → IsGameStop s → OnRefused s P
+pub no_refusal : (s : Stop) (P : LineRefusal → Type 0) → IsGameStop s → OnRefused s P
 no_refusal (Refused line fault rule) P stop = absurd stop
 no_refusal ReadFault P stop = tt
 no_refusal WriteFault P stop = tt
@@ -202,7 +202,7 @@ module _ (workers : ℕ) (demo : DemoReaderView) (a b t0 t1 : Option (List ℕ))
       → OnRefused (stop_of d) (λ _. ReadsToRefusal s0 s2 (last s2) (ended s2 ≡ ended s0) (ended s2 ≡ true) a l)
   next_refusal last ended sure s0 s1 s2 d pending l going unread h =
       let P = HasNotReadAhead s1 s2 (last s2) demo.pending pending × (ended s2 ≡ ended s1) in
-      let R : Reading → Refusal → Type 0 = λ r why. Refuses r b (ahead pending l) why.line P (ended s2 ≡ true) in
+      let R : Reading → LineRefusal → Type 0 = λ r why. Refuses r b (ahead pending l) why.line P (ended s2 ≡ true) in
       let so_far = needed_going e (HasNotReadAhead s0 s1 (last s1) [] demo.pending × (ended s1 ≡ ended s0)) (TakesCutEnd a b) (ended s1 ≡ true) going unread.needed in
       refused_of d (R demo.reading) (λ _. ReadsToRefusal s0 s2 (last s2) (ended s2 ≡ ended s0) (ended s2 ≡ true) a l)
       (λ why refuses. refusal_on last s0 s1 s2 runs.full a b l (runs.progress.events ++ e ∷ []) why.line demo.pending pending (ended s2 ≡ ended s1) (ended s2 ≡ ended s0) (ended s2 ≡ true)
@@ -253,14 +253,14 @@ module _ (workers : ℕ) (demo : DemoReaderView) (a b t0 t1 : Option (List ℕ))
       pub next_refused : (d : DemoStop) → is_end e ≡ false → (IsOpen demo → reads_of.OnRefused d (λ why. IfSome b (EndsAt demo.reading why)))
           → OnRefused (stop_of d) (λ why. IfSome a (λ bytes. Writes t0 t2 (HasLast (IsRefused workers bytes why) last)))
       next_refused d going h =
-          let R : Reading → Refusal → Type 0 = λ r why. IfSome b (EndsAt r why) in
+          let R : Reading → LineRefusal → Type 0 = λ r why. IfSome b (EndsAt r why) in
           with_last (λ l. OnRefused (stop_of d) (λ why. IfSome a (λ bytes. Writes t0 t2 (HasLast (IsRefused workers bytes why) l))))
           (refused_of d (R demo.reading) (λ why. IfSome a (λ bytes. Writes t0 t2 (HasLast (IsRefused workers bytes why) g2.last)))
           (λ why at_end. refused_on workers runs.arena runs.full a b t0 t2 (runs.progress.events ++ e ∷ []) _ _ why (played_on workers runs.arena runs.full a b t0 t1 g e runs.progress g2 closed goes t2 going written)
           (ends_given why b (subst (λ (r : Reading). R r why) runs.given at_end)))
           (h (reader_is_open going)))
         where
-          ends_given : (why : Refusal) (o : Option (List ℕ)) → IfSome o (EndsAt (without_map runs.full) why) → IfSome o (EndsAt runs.full why)
+          ends_given : (why : LineRefusal) (o : Option (List ℕ)) → IfSome o (EndsAt (without_map runs.full) why) → IfSome o (EndsAt runs.full why)
           ends_given why None at_end = tt
           ends_given why (Some bytes) at_end = EndsAt-given runs.full map_is_whole why bytes at_end
 
@@ -352,7 +352,7 @@ module _ {S : Type 0} (last : S → ℕ) (ended : S → Bool) (sure : S → Type
   first_refusal s0 s1 demo pending d a l is h =
       let P : DemoReaderView → Type 0 = λ x. IsOpen x → reads_of.OnRefused d (λ why. Refuses x.reading (ahead x.pending a) (ahead pending l) why.line
       (HasNotReadAhead s0 s1 (last s1) x.pending pending × (ended s1 ≡ ended s0)) (ended s1 ≡ true)) in
-      let Q : Option (List ℕ) → Refusal → Type 0 = λ o why. Refuses start o (ahead pending l) why.line (HasNotReadAhead s0 s1 (last s1) [] pending × (ended s1 ≡ ended s0)) (ended s1 ≡ true) in
+      let Q : Option (List ℕ) → LineRefusal → Type 0 = λ o why. Refuses start o (ahead pending l) why.line (HasNotReadAhead s0 s1 (last s1) [] pending × (ended s1 ≡ ended s0)) (ended s1 ≡ true) in
       refused_of d (Q (ahead [] a)) (λ _. ReadsToRefusal s0 s1 (last s1) (ended s1 ≡ ended s0) (ended s1 ≡ true) a l)
       (λ why refuses. first_of_all why.line (let R : Option (List ℕ) → Type 0 = λ o. Q o why in subst R (prepend_known-nil a) refuses))
       (subst P is h fresh_is_open)

@@ -1,7 +1,7 @@
 -- In what was written each item has one taker, until its delay is over.
 use Rattle.std.proofs.Common.{◌≡◌, ℕ, List, Option, Some, None, IfSome, subst}
 use Rattle.entity_recs.specs.declared.effect.Entry.{Entry}
-use Rattle.demo_lines.specs.Bytes.{Refusal, map_of}
+use Rattle.demo_lines.specs.Bytes.{LineRefusal, map_of}
 use Rattle.out_text.specs.Journals.{dids}
 use Rattle.out_text.specs.Output.{HasLast, IsOutput, IsRefused, IsSomeFrames}
 use Rattle.out_text.specs.OneTaker.{HasOneTakerEach}
@@ -26,12 +26,12 @@ module _ (workers : ℕ) (a t0 t1 : Option (List ℕ)) (last : Option (List Entr
   pub taken_in_some : IfSome a (λ bytes. Writes t0 t1 (HasLast (IsSomeFrames workers bytes) last)) → IfSome a (λ bytes. Writes t0 t1 (IsTakenOnce bytes))
   taken_in_some = on_each (λ bytes. HasLast (IsSomeFrames workers bytes) last) IsTakenOnce a t0 t1 (λ bytes text is. taken_in_front workers bytes text is.holds.k is.holds.front)
 
-  pub taken_before_refusal : (why : Refusal) → IfSome a (λ bytes. Writes t0 t1 (HasLast (IsRefused workers bytes why) last)) → IfSome a (λ bytes. Writes t0 t1 (IsTakenOnce bytes))
+  pub taken_before_refusal : (why : LineRefusal) → IfSome a (λ bytes. Writes t0 t1 (HasLast (IsRefused workers bytes why) last)) → IfSome a (λ bytes. Writes t0 t1 (IsTakenOnce bytes))
   taken_before_refusal why = on_each (λ bytes. HasLast (IsRefused workers bytes why) last) IsTakenOnce a t0 t1 (λ bytes text is. taken_in_front workers bytes text _ is.holds.frames)
 
 -- ---- what is said of a stop that is known
 
-pub at_refusal : (s : Stop) (line fault rule : ℕ) (P : Refusal → Type 0) → s ≡ Refused line fault rule → OnRefused s P → P (record { line = line; fault = fault; rule = rule })
+pub at_refusal : (s : Stop) (line fault rule : ℕ) (P : LineRefusal → Type 0) → s ≡ Refused line fault rule → OnRefused s P → P (record { line = line; fault = fault; rule = rule })
 at_refusal s line fault rule P is h = subst (λ (t : Stop). OnRefused t P) is h
 
 pub at_read_fault : (s : Stop) (P : Type 0) → s ≡ ReadFault → OnReadFault s P → P

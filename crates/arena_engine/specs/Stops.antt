@@ -1,11 +1,11 @@
 -- Why a recording isn't played on.
 use Rattle.std.specs.Prelude.{⊤}
-use Rattle.demo_lines.specs.Bytes.{Refusal}
+use Rattle.demo_lines.specs.Bytes.{LineRefusal}
 use Rattle.arena_engine.specs.declared.stop.Stop.{Stop}
 use Rattle.arena_engine.specs.declared.stop.Stop.TheVariants.{Refused, ReadFault, WriteFault, Memory}
 
 -- P of the refusal, where a line of the recording was refused
-abbrev pub OnRefused : Stop → (Refusal → Type 0) → Type 0
+abbrev pub OnRefused : Stop → (LineRefusal → Type 0) → Type 0
 OnRefused (Refused line fault rule) P = P (record { line = line; fault = fault; rule = rule })
 OnRefused _ _ = ⊤
 

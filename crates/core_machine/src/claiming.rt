@@ -3,14 +3,14 @@ ghost use Rattle.core_steps.specs.Steps.{first};
 
 use crate::committing::same_effect;
 use crate::lists::one;
-use crate::point::{NodeList, Point};
+use crate::point::{NodeQueue, Point};
 use crate::queue::Queue;
 use crate::rules::Rules;
 use crate::seat::Seat;
 use entity_recs::{Action, Effect};
 
 /// The first of these nodes, if any.
-fn first_of(nodes: &NodeList) -> Option<u8>
+fn first_of(nodes: &NodeQueue) -> Option<u8>
     ensures { result ≡ first nodes.now.items }
 {
     let &[node, ..] = nodes.as_slice() else {
@@ -122,7 +122,7 @@ impl Seat {
     }
 
     /// The write nodes of an effect on the own record as it was loaded again.
-    pub(crate) fn write_nodes<A: Action>(&self, rules: &Rules<A>, effect: &Effect) -> NodeList
+    pub(crate) fn write_nodes<A: Action>(&self, rules: &Rules<A>, effect: &Effect) -> NodeQueue
         requires command { IsCommand (hand_of self.now.cmd) }
         requires before { IsRecord (record_read (hand_of self.now.cmd).slot self.now.again.items) }
         requires after { IsRecord effect.now.me }

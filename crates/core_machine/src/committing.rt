@@ -6,7 +6,7 @@ ghost use Rattle.core_steps.specs.Views as views;
 ghost use Rattle.core_steps.specs.Views.{body_stores};
 ghost use Rattle.core_machine.specs.Points.{store_of};
 
-use crate::point::{Cell, Point, Store, StoreList};
+use crate::point::{Cell, Point, Store, StoreQueue};
 use crate::queue::Queue;
 use crate::reading::read_record;
 use crate::rules::Rules;
@@ -34,7 +34,7 @@ pub fn same_effect(effect: &Effect) -> Effect
 /// The stores of an effect of the player in this slot, which was linked at the node `old` and is to be linked at `new`:
 /// the own bit is cleared, the five words and the state word of the own record are stored, then the listed states in
 /// the list's order, and the own bit is set.
-fn stores_of(slot: u8, old: u8, new: u8, effect: &Effect) -> StoreList
+fn stores_of(slot: u8, old: u8, new: u8, effect: &Effect) -> StoreQueue
     ensures { map store_of result.items ≡ views.Clear old ∷ (body_stores slot 0 (words_of effect.now.me)
         ++ (views.Put (State slot) effect.now.me.state
         ∷ (map (λ (s : NewState). views.Put (State s.id) s.state) effect.now.states ++ (views.Link new ∷ [])))) }
@@ -49,7 +49,7 @@ fn stores_of(slot: u8, old: u8, new: u8, effect: &Effect) -> StoreList
 }
 
 /// The first of these stores: of the own bit and the own words.
-fn own_stores(slot: u8, old: u8, words: &PlayerWords, state: u64) -> StoreList
+fn own_stores(slot: u8, old: u8, words: &PlayerWords, state: u64) -> StoreQueue
     ensures stores { map store_of result.items
         ≡ views.Clear old ∷ (body_stores slot 0 words.now ++ (views.Put (State slot) state ∷ [])) }
     ensures few { length result.items ≡ 7 }

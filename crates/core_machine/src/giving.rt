@@ -3,14 +3,14 @@ ghost use Rattle.core_steps.specs.Views.{visited_node};
 ghost use Rattle.core_machine.specs.Shown.{fixed_of};
 
 use crate::lists::one;
-use crate::point::{NodeList, Point};
+use crate::point::{NodeQueue, Point};
 use crate::queue::Queue;
 use crate::rules::Rules;
 use crate::seat::Seat;
 use entity_recs::Action;
 
 /// The inner node of the present visit, where it is one.
-fn visited_node<A: Action>(rules: &Rules<A>, node: u8) -> NodeList
+fn visited_node<A: Action>(rules: &Rules<A>, node: u8) -> NodeQueue
     ensures { result.items ≡ visited_node (fixed_of A.takes A.region_of A.effect_of rules.now) node }
 {
     if rules.is_leaf(node) {
@@ -80,7 +80,7 @@ impl Seat {
 
     /// The seat begins to give up: the first of these inner nodes, or of these leaves where there is none, was given
     /// back.
-    pub(crate) fn yield_from(&mut self, nodes: NodeList, leaves: NodeList)
+    pub(crate) fn yield_from(&mut self, nodes: NodeQueue, leaves: NodeQueue)
         ensures { view_of self.new ≡ steps.yielded (view_of self.old) nodes.items leaves.items }
     {
         self.queues.got = nodes;
@@ -111,7 +111,7 @@ impl Seat {
     }
 
     /// The inner nodes that are held.
-    pub fn inner_held<A: Action>(&self, rules: &Rules<A>) -> NodeList
+    pub fn inner_held<A: Action>(&self, rules: &Rules<A>) -> NodeQueue
         ensures { result.items
             ≡ views.inner_held (fixed_of A.takes A.region_of A.effect_of rules.now) (view_of self.now).point }
     {
@@ -134,7 +134,7 @@ impl Seat {
     }
 
     /// The leaves that are held, of those wanted.
-    pub fn leaves_held(&self) -> NodeList
+    pub fn leaves_held(&self) -> NodeQueue
         ensures { result.items ≡ views.leaves_held (view_of self.now).point self.now.wanted.items }
     {
         match self.point {

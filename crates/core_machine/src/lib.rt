@@ -2,9 +2,9 @@
 #![tactic(auto)]
 
 pub use laws::served_steps_leave_fewer;
-pub use log::Log;
+pub use log::SeatLog;
 pub use machine::Core;
-pub use point::{Cell, IdList, NodeList, Point, Queues, SlotList, Store, StoreList, WordList};
+pub use point::{Cell, IdQueue, NodeQueue, Point, Queues, SlotQueue, Store, StoreQueue, WordList};
 pub use queue::Queue;
 pub use reading::read_record;
 pub use rules::Rules;

@@ -6,7 +6,7 @@ ghost use Rattle.areanode.specs.Words.{has_bit};
 ghost use Rattle.areanode.specs.Trees.{leaf_node};
 ghost use Rattle.core_steps.specs.Views.{players_in, bits_of_leaves};
 
-use crate::point::{NodeList, SlotList, WordList};
+use crate::point::{NodeQueue, SlotQueue, WordList};
 use crate::queue::Queue;
 use arrayvec::ArrayVec;
 
@@ -34,7 +34,7 @@ fn is_either(node: u8, a: u8, b: u8) -> bool
 }
 
 /// The numbers below `n` whose bit is set, rising.
-pub fn bits_below(word: u64, n: u8) -> NodeList
+pub fn bits_below(word: u64, n: u8) -> NodeQueue
     requires { n ≤ 31 }
     ensures numbers { result.items ≡ filter (has_bit word) (range_with_len 0 n) }
     ensures few { length result.items ≤ n }
@@ -49,7 +49,7 @@ pub fn bits_below(word: u64, n: u8) -> NodeList
 }
 
 /// The nodes of these leaves, bit i for leaf i, rising.
-pub fn leaf_nodes(leaves: u64) -> NodeList
+pub fn leaf_nodes(leaves: u64) -> NodeQueue
     ensures nodes { result.items ≡ map (leaf_node 4) (filter (has_bit leaves) (range_with_len 0 16)) }
     ensures few { length result.items ≤ 16 }
 {
@@ -63,7 +63,7 @@ pub fn leaf_nodes(leaves: u64) -> NodeList
 }
 
 /// The inner ones among two nodes, rising, without repeats.
-pub fn inner_among(a: u8, b: u8) -> NodeList
+pub fn inner_among(a: u8, b: u8) -> NodeQueue
     ensures { result.items ≡ filter (λ node. (node == a) || (node == b)) (range_with_len 0 15) }
 {
     let mut nodes = Queue::new();
@@ -76,7 +76,7 @@ pub fn inner_among(a: u8, b: u8) -> NodeList
 }
 
 /// The players of a list word but one, in rising slot.
-pub fn players_of(word: u64, own: u8) -> SlotList
+pub fn players_of(word: u64, own: u8) -> SlotQueue
     ensures { result.items ≡ players_in word own }
 {
     let mut players = Queue::new();
@@ -92,7 +92,7 @@ pub fn players_of(word: u64, own: u8) -> SlotList
 }
 
 /// One list of nodes after another.
-pub fn joined(front: NodeList, back: &NodeList) -> NodeList
+pub fn joined(front: NodeQueue, back: &NodeQueue) -> NodeQueue
     requires { length front.items + length back.now.items ≤ 31 }
     ensures { result.items ≡ front.items ++ back.now.items }
 {
@@ -118,7 +118,7 @@ pub fn leaf_word(nodes: &[u8]) -> u64
 }
 
 /// The list of one node.
-pub fn one(node: u8) -> NodeList
+pub fn one(node: u8) -> NodeQueue
     ensures { result.items ≡ node ∷ [] }
 {
     let mut nodes = Queue::new();

@@ -5,12 +5,12 @@ use std::marker::Model;
 
 /// The commands that a seat has committed, with their entries, and the room for as many as it may commit.
 #[derive(Drop)]
-pub struct Log {
+pub struct SeatLog {
     commands: Vec<Cmd>,
     entries: EntryLog,
 }
 
-impl Model for Log {
+impl Model for SeatLog {
     ghost use Rattle.core_machine.specs.Logs.{LogView};
 
     ghost Value = { LogView };
@@ -23,17 +23,17 @@ impl Model for Log {
     ghost invariant = { λ l. IsLog l.entries.room (vec_capacity l.commands) l.commands.items l.entries.entries };
 }
 
-impl Log {
+impl SeatLog {
     ghost use Rattle.std.specs.Prelude.{◌≡◌, ◌<◌, [], ◌∷◌, ◌++◌, map, length, IfOk, vec_capacity};
     ghost use Rattle.entity_recs.specs.Commands.{command_of};
-    ghost use Rattle.move_journal.specs.Logs.{log_view};
+    ghost use Rattle.move_journal.specs.Logs.{journal_view};
     ghost use Rattle.core_machine.specs.Logs.{entries_of};
 
     /// No command, with room for this many.
-    pub fn new(alloc: Global, room: u32) -> Result<Log, AllocError>
+    pub fn new(alloc: Global, room: u32) -> Result<SeatLog, AllocError>
         ensures { IfOk result (λ l. l ≡ record { room = room; items = [] }) }
     {
-        Ok(Log {
+        Ok(SeatLog {
             commands: Vec::with_capacity(alloc, room as usize)?,
             entries: EntryLog::new(alloc, room)?,
         })
@@ -64,7 +64,7 @@ impl Log {
     /// The entries as a list of their own, in the order in which the commands were committed, with the same room. It
     /// takes no memory.
     pub fn into_entries(self) -> EntryLog
-        ensures { result ≡ log_view (entries_of self.items) self.room }
+        ensures { result ≡ journal_view (entries_of self.items) self.room }
     {
         self.entries
     }

@@ -8,7 +8,7 @@ ghost use Rattle.core_machine.specs.Seats.{player_read_of};
 ghost use Rattle.core_machine.specs.NearRecords as near;
 
 use crate::boxes::touches_region;
-use crate::point::IdList;
+use crate::point::IdQueue;
 use crate::queue::Queue;
 use crate::reading::read_record;
 use crate::reads::{player_words, thing_state};
@@ -33,7 +33,7 @@ fn is_touched_thing(r: &Rec, region: &Region) -> bool
 
 /// The ids of the things of the map among these records whose absolute box touches a region, in the order of the
 /// records.
-pub fn things_of(start: &[Rec], region: &Region) -> IdList
+pub fn things_of(start: &[Rec], region: &Region) -> IdQueue
     requires { length start.now ≤ 256 }
     ensures { result.items ≡ map (λ (r : Rec). r.id) (filter (near.is_touched_thing region.now) start.now) }
 {

@@ -1,4 +1,4 @@
-use crate::point::{IdList, Point};
+use crate::point::{IdQueue, Point};
 use crate::rules::Rules;
 use crate::seat::Seat;
 use entity_recs::{Action, Cmd};
@@ -21,7 +21,7 @@ impl Seat {
     }
 
     /// The things of the map that touch the region of the command in hand.
-    fn things<A: Action>(&self, rules: &Rules<A>) -> IdList
+    fn things<A: Action>(&self, rules: &Rules<A>) -> IdQueue
         requires { HasPlayer (A.takes rules.now.action) (record_read (hand_of self.now.cmd).slot self.now.own.items)
             (hand_of self.now.cmd) }
         ensures { let F = fixed_of A.takes A.region_of A.effect_of rules.now in

@@ -2,19 +2,19 @@ use crate::queue::Queue;
 use arrayvec::ArrayVec;
 
 /// A list of nodes, each at most once.
-pub type NodeList = Queue<u8, 31>;
+pub type NodeQueue = Queue<u8, 31>;
 
 /// A list of players' slots, each at most once.
-pub type SlotList = Queue<u8, 64>;
+pub type SlotQueue = Queue<u8, 64>;
 
 /// A list of ids, each at most once.
-pub type IdList = Queue<u16, 256>;
+pub type IdQueue = Queue<u16, 256>;
 
 /// The words of a record that were loaded: a player's five, then the state word.
 pub type WordList = ArrayVec<u64, 6>;
 
 /// A list of stores that are owed.
-pub type StoreList = Queue<Store, 16>;
+pub type StoreQueue = Queue<Store, 16>;
 
 /// The word of a record that is stored.
 #[derive(Clone, Copy, Debug, PartialEq, Eq)]
@@ -48,19 +48,19 @@ impl Default for Store {
 #[derive(Drop)]
 pub struct Queues {
     /// The nodes that are held: leaves while leaves are taken, and else inner nodes.
-    pub got: NodeList,
+    pub got: NodeQueue,
     /// The nodes that are to be taken, or the leaves that are to be given back.
-    pub rest: NodeList,
+    pub rest: NodeQueue,
     /// The nodes that are visited after the present one.
-    pub plan: NodeList,
+    pub plan: NodeQueue,
     /// The words that were loaded of the first of the players.
     pub part: WordList,
     /// The players that are loaded under the present node.
-    pub players: SlotList,
+    pub players: SlotQueue,
     /// The things of the map whose states are to be loaded.
-    pub ids: IdList,
+    pub ids: IdQueue,
     /// The stores that are owed.
-    pub stores: StoreList,
+    pub stores: StoreQueue,
 }
 
 impl Queues {

@@ -2,7 +2,7 @@ ghost use Rattle.std.specs.Prelude.{◌≡◌};
 
 use crate::lists::{bits_below, inner_among, joined, leaf_nodes, leaf_word};
 use crate::near::{put_near, things_of};
-use crate::point::{IdList, NodeList};
+use crate::point::{IdQueue, NodeQueue};
 use crate::reading::read_record;
 use crate::seat::PlayerRead;
 use crate::start::find_record;
@@ -115,14 +115,14 @@ impl<'a, A: Action> Rules<'a, A> {
     }
 
     /// The nodes of a region's leaves, rising.
-    pub fn leaves(&self, region: &Region) -> NodeList
+    pub fn leaves(&self, region: &Region) -> NodeQueue
         ensures { result.items ≡ leaf_nodes (fixed_of A.takes A.region_of A.effect_of self.now) region.now }
     {
         leaf_nodes(u64::from(self.tree.leaves_of(region)))
     }
 
     /// The nodes that are read for a region: its leaves, then the inner nodes that are visited, each rising.
-    pub fn plan(&self, region: &Region) -> NodeList
+    pub fn plan(&self, region: &Region) -> NodeQueue
         ensures { result.items ≡ plan_of (fixed_of A.takes A.region_of A.effect_of self.now) region.now }
     {
         let leaves = self.tree.leaves_of(region);
@@ -141,7 +141,7 @@ impl<'a, A: Action> Rules<'a, A> {
     }
 
     /// The inner ones among two nodes, rising, without repeats.
-    pub fn inner_of_two(&self, a: u8, b: u8) -> NodeList
+    pub fn inner_of_two(&self, a: u8, b: u8) -> NodeQueue
         ensures { result.items ≡ inner_of_two (fixed_of A.takes A.region_of A.effect_of self.now) a b }
     {
         // To read a part of the rules is to know what their type keeps.
@@ -150,7 +150,7 @@ impl<'a, A: Action> Rules<'a, A> {
     }
 
     /// The ids of the things of the map whose absolute box touches a region, rising.
-    pub fn things(&self, region: &Region) -> IdList
+    pub fn things(&self, region: &Region) -> IdQueue
         ensures { result.items ≡ things_in (fixed_of A.takes A.region_of A.effect_of self.now) region.now }
     {
         things_of(self.start.as_slice(), region)

@@ -1,5 +1,5 @@
-use crate::log::Log;
-use crate::point::{NodeList, Point, Queues, WordList};
+use crate::log::SeatLog;
+use crate::point::{NodeQueue, Point, Queues, WordList};
 use crate::queue::Queue;
 use arrayvec::ArrayVec;
 use entity_recs::{Cmd, Effect, NewState};
@@ -33,7 +33,7 @@ pub struct Refused {
     /// The words of the own record, as they were loaded at that step.
     pub own: WordList,
     /// The leaves that the command wanted at that step.
-    pub wanted: NodeList,
+    pub wanted: NodeQueue,
 }
 
 /// What a seat has in view, with what no view has yet: the command that was given and isn't begun, and whether the seat
@@ -43,7 +43,7 @@ pub struct Seat {
     /// The count of commits that was seen last.
     pub seen: u64,
     /// What the seat has committed.
-    pub log: Log,
+    pub log: SeatLog,
     /// How many takes were refused, at most 2^64 - 1.
     pub refusals: u64,
     /// The last refused take.
@@ -59,7 +59,7 @@ pub struct Seat {
     /// The words of the own record that are loaded.
     pub own: WordList,
     /// The leaves that the command wants.
-    pub wanted: NodeList,
+    pub wanted: NodeQueue,
     /// The words of the own record that are loaded again, once all leaves are held.
     pub again: WordList,
     /// The list words that are loaded.
@@ -88,7 +88,7 @@ impl Seat {
     {
         Ok(Seat {
             seen: 0,
-            log: Log::new(alloc, room)?,
+            log: SeatLog::new(alloc, room)?,
             refusals: 0,
             refused: None,
             made,

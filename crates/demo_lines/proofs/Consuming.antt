@@ -13,7 +13,7 @@ use Rattle.demo_lines.specs.declared.event.Event.{Event}
 use Rattle.demo_lines.specs.Known.{Reading, is_over, is_refused}
 use Rattle.demo_lines.specs.Lines.{is_end}
 use Rattle.demo_lines.specs.Recording.{next, events_of_line, after, events_of}
-use Rattle.demo_lines.specs.Bytes.{Refusal, refusal, lines_of}
+use Rattle.demo_lines.specs.Bytes.{LineRefusal, refusal, lines_of}
 use Rattle.demo_lines.specs.Reads.{Reads, ReadsFront, ReadsQuietly, TakesCutEnd, EndsWithoutFeed, Refuses, IsRefusedLine, IsLongFront, IsLastPart, EndsAt}
 use Rattle.demo_lines.proofs.Machines.{run_of-append, outputs_of-append}
 use Rattle.demo_lines.proofs.Parts.{lines_of-unlines, lines_of-none}
@@ -181,7 +181,7 @@ of_known_bytes None b bytes P consumed h = tt
 of_known_bytes (Some x) None bytes P consumed h = absurd consumed
 of_known_bytes (Some x) (Some y) bytes P consumed h = subst P (sym consumed) (h y refl)
 
-ends_all : (r s : Reading) (a c : Option (List ℕ)) (lines : List (List ℕ)) (part : List ℕ) (why : Refusal) → AllByRecursion HasNoLineFeed lines
+ends_all : (r s : Reading) (a c : Option (List ℕ)) (lines : List (List ℕ)) (part : List ℕ) (why : LineRefusal) → AllByRecursion HasNoLineFeed lines
     → events_of r lines ≡ [] → s ≡ after r lines → Consumes a c (unlines lines ++ part)
     → ((rest : List ℕ) → c ≡ Some rest → EndsAt s why (part ++ rest)) → IfSome a (EndsAt r why)
 ends_all r s a c lines part why each quiet reached consumed ends =

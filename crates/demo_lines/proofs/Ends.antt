@@ -14,7 +14,7 @@ use Rattle.demo_lines.specs.Known.{Reading, is_over, is_refused, at_stage}
 use Rattle.demo_lines.specs.Lines.{text_of, first_word, rest_of, is_end, line_in}
 use Rattle.demo_lines.specs.Faults.{is_long, is_cut, has_strange_byte, fault_of_words, fault_of}
 use Rattle.demo_lines.specs.Recording.{next, after_test, events_of_test, events_of_line, after, events_of}
-use Rattle.demo_lines.specs.Bytes.{Refusal, refusal, refused_at, refused_where, last_part, cut_end, lines_of, events_in}
+use Rattle.demo_lines.specs.Bytes.{LineRefusal, refusal, refused_at, refused_where, last_part, cut_end, lines_of, events_in}
 use Rattle.demo_lines.specs.Reads.{EndsAt}
 use Rattle.demo_lines.proofs.Machines.{run_of-append, outputs_of-append, run_of-fixed, outputs_of-fixed}
 use Rattle.demo_lines.proofs.Parts.{last_part-unlines, last_part-none, lines_of-unlines, lines_of-none, long_is_no_end, front-parts, BeginsLine, BeginsPart}
@@ -159,7 +159,7 @@ ends_cut r part going none fits no_end =
     ends_without r part part faults.NoEnd going (lines_of-none part none ∙ cut_end-no part no_end) (last_part-none part none) (fault_of-cut r part fits no_end)
 
 -- whole lines before change nothing but the reading
-pub ends_after : (r : Reading) (lines : List (List ℕ)) (why : Refusal) (bytes : List ℕ) → AllByRecursion HasNoLineFeed lines → events_of r lines ≡ []
+pub ends_after : (r : Reading) (lines : List (List ℕ)) (why : LineRefusal) (bytes : List ℕ) → AllByRecursion HasNoLineFeed lines → events_of r lines ≡ []
     → EndsAt (after r lines) why bytes → EndsAt r why (unlines lines ++ bytes)
 ends_after r lines why bytes each quiet ends =
     let cut = lines_of-unlines lines bytes each in

@@ -14,7 +14,7 @@ use Rattle.demo_lines.specs.Lines.{text_of, first_word, rest_of, is_end, line_in
 use Rattle.demo_lines.specs.Faults.{is_long, has_strange_byte, fault_of_words, fault_of}
 use Rattle.demo_lines.specs.Recording.{next, after_test, events_of_line, after}
 use Rattle.demo_lines.specs.Said.{line_said}
-use Rattle.demo_lines.specs.Bytes.{Refusal, refusal, refused_where, last_of, cut_end, fault}
+use Rattle.demo_lines.specs.Bytes.{LineRefusal, refusal, refused_where, last_of, cut_end, fault}
 use Rattle.demo_lines.specs.Laws.{are_none, IsFirstFault, FaultsAreTheFirst}
 use Rattle.demo_lines.proofs.Machines.{run_of-append}
 use Rattle.demo_lines.proofs.OnePass.{fault_said, fault-said, line-said}
@@ -38,12 +38,12 @@ faultless_says r raw false is none = read_says r raw (line_said r.stage raw) ref
 -- ---- a line that the recording is over after
 
 -- the refusal is that of this fault
-record IsRefusalOf (found : Option LineFault) (line : ℕ) (why : Refusal) : Type 0 where
+record IsRefusalOf (found : Option LineFault) (line : ℕ) (why : LineRefusal) : Type 0 where
   fault : LineFault
   holds : found ≡ Some fault
   is : why ≡ refusal line fault
 
-refusal_of : (r : Reading) (over : Bool) (found : Option LineFault) (line : Option Line) (part : List ℕ) (why : Refusal) → over ≡ false
+refusal_of : (r : Reading) (over : Bool) (found : Option LineFault) (line : Option Line) (part : List ℕ) (why : LineRefusal) → over ≡ false
     → (found ≡ None → IsSome line) → is_over (cond over r (after_test r found line)).stage ≡ true
     → refused_where (cond over r (after_test r found line)) part ≡ Some why → IsRefusalOf found (r.lines + 1) why
 refusal_of r true found line part why going says over refused = cc
@@ -54,13 +54,13 @@ refusal_of r false None (Some Frame) part why going says over refused = cc
 refusal_of r false None (Some (From a)) part why going says over refused = cc
 refusal_of r false None (Some End) part why going says over refused = cc
 
-line_refused : (r : Reading) (raw part : List ℕ) (why : Refusal) → is_over r.stage ≡ false → is_over (next r raw).stage ≡ true
+line_refused : (r : Reading) (raw part : List ℕ) (why : LineRefusal) → is_over r.stage ≡ false → is_over (next r raw).stage ≡ true
     → refused_where (next r raw) part ≡ Some why → IsRefusalOf (fault_of r false raw) (r.lines + 1) why
 line_refused r raw part why going over refused =
     refusal_of r (is_over r.stage) (fault_of r false raw) (line_in raw) part why going (faultless_says r raw (is_long raw) refl) over refused
 
 -- what the input ended with, where it is no line
-part_refused : (r : Reading) (part : List ℕ) (why : Refusal) (found : Option LineFault) → option_map (refusal (r.lines + 1)) found ≡ Some why
+part_refused : (r : Reading) (part : List ℕ) (why : LineRefusal) (found : Option LineFault) → option_map (refusal (r.lines + 1)) found ≡ Some why
     → IsRefusalOf found (r.lines + 1) why
 part_refused r part why None refused = cc
 part_refused r part why (Some fault) refused = record { fault = fault; holds = refl; is = cc }
@@ -78,7 +78,7 @@ abbrev lines_in : List (List ℕ) → List (List ℕ)
 lines_in parts = all_but_last parts ++ cut_end (last_of parts)
 
 -- the first of them that has a fault, from what was read before
-record IsFirstIn (r : Reading) (parts : List (List ℕ)) (why : Refusal) : Type 0 where
+record IsFirstIn (r : Reading) (parts : List (List ℕ)) (why : LineRefusal) : Type 0 where
   before : List (List ℕ)
   raw : List ℕ
   later : List (List ℕ)
@@ -88,7 +88,7 @@ record IsFirstIn (r : Reading) (parts : List (List ℕ)) (why : Refusal) : Type 
   holds : fault_of (after r before) (are_none later) raw ≡ Some fault
   is : why ≡ refusal (r.lines + length before + 1) fault
 
-here_first : (r : Reading) (raw : List ℕ) (later : List (List ℕ)) (why : Refusal) → is_over r.stage ≡ false
+here_first : (r : Reading) (raw : List ℕ) (later : List (List ℕ)) (why : LineRefusal) → is_over r.stage ≡ false
     → IsRefusalOf (fault_of r (are_none later) raw) (r.lines + 1) why → IsFirstIn r (raw ∷ later) why
 here_first r raw later why going of =
     let number : r.lines + 1 ≡ r.lines + length {A = List ℕ} [] + 1 = omega arith in
@@ -103,7 +103,7 @@ here_first r raw later why going of =
       is = of.is ∙ ap (λ n. refusal n of.fault) number;
     }
 
-later_first : (r : Reading) (part : List ℕ) (parts : List (List ℕ)) (why : Refusal) → is_over r.stage ≡ false → IsFirstIn (next r part) parts why → IsFirstIn r (part ∷ parts) why
+later_first : (r : Reading) (part : List ℕ) (parts : List (List ℕ)) (why : LineRefusal) → is_over r.stage ≡ false → IsFirstIn (next r part) parts why → IsFirstIn r (part ∷ parts) why
 later_first r part parts why going first =
     let number : (next r part).lines + length first.before + 1 ≡ r.lines + length (part ∷ first.before) + 1 = omega (arith, next-counts r part going) in
     record {
@@ -117,7 +117,7 @@ later_first r part parts why going first =
       is = first.is ∙ ap (λ n. refusal n first.fault) number;
     }
 
-last_first : (r : Reading) (part : List ℕ) (why : Refusal) (end : Bool) → is_end part ≡ end → is_over r.stage ≡ false
+last_first : (r : Reading) (part : List ℕ) (why : LineRefusal) (end : Bool) → is_end part ≡ end → is_over r.stage ≡ false
     → refused_where (after r (cond end (part ∷ []) [])) part ≡ Some why → IsFirstIn r (part ∷ []) why
 last_first r part why true is going refused =
     let of = line_refused r part part why going (after_end r part is) refused in
@@ -125,7 +125,7 @@ last_first r part why true is going refused =
 last_first r part why false is going refused =
     here_first r part [] why going (part_refused r part why (fault_of r true part) (sym (refused_at-open r.stage r part going) ∙ refused))
 
-first_in : (r : Reading) (parts : List (List ℕ)) (why : Refusal) → BeginsWith parts → is_over r.stage ≡ false
+first_in : (r : Reading) (parts : List (List ℕ)) (why : LineRefusal) → BeginsWith parts → is_over r.stage ≡ false
     → refused_where (after r (lines_in parts)) (last_of parts) ≡ Some why → IsFirstIn r parts why
 first_in r [] why begins going refused = cc (begins.is)
 first_in r (part ∷ []) why begins going refused = last_first r part why (is_end part) refl going refused
@@ -187,7 +187,7 @@ refuses_here r raw (other ∷ later) why going has =
     refused_where-after (next r raw) (lines_in (other ∷ later)) (last_of (other ∷ later)) why (ap (λ (t : Reading). t.stage) stops)
     ∙ ap (λ (t : Reading). Some (refusal t.lines why)) stops
 
-is_refused_first : (bytes : List ℕ) (why : Refusal) → IsFirstFault bytes why → fault bytes ≡ Some why
+is_refused_first : (bytes : List ℕ) (why : LineRefusal) → IsFirstFault bytes why → fault bytes ≡ Some why
 is_refused_first bytes why first =
     let t = after start first.before in
     let parts = first.raw ∷ first.later in
@@ -200,7 +200,7 @@ is_refused_first bytes why first =
     ∙ ap (λ n. Some (refusal n first.fault)) number
     ∙ ap Some (sym first.is)
 
-is_first : (bytes : List ℕ) (why : Refusal) → fault bytes ≡ Some why → IsFirstFault bytes why
+is_first : (bytes : List ℕ) (why : LineRefusal) → fault bytes ≡ Some why → IsFirstFault bytes why
 is_first bytes why refused =
     let first = first_in start (slice_split is_line_feed bytes) why (parts_begin bytes) refl refused in
     let number : 0 + length first.before + 1 ≡ length first.before + 1 = omega arith in

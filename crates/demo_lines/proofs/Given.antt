@@ -10,7 +10,7 @@ use Rattle.demo_lines.specs.Lines.{text_of, first_word, rest_of}
 use Rattle.demo_lines.specs.Faults.{is_long, is_cut, has_strange_byte, fault_of_words}
 use Rattle.demo_lines.specs.Known.{Reading, without_map, having_map, is_map_whole, is_over, is_refused}
 use Rattle.demo_lines.specs.Recording.{after}
-use Rattle.demo_lines.specs.Bytes.{Refusal, refusal, refused_at, refused_where, lines_of, last_part}
+use Rattle.demo_lines.specs.Bytes.{LineRefusal, refusal, refused_at, refused_where, lines_of, last_part}
 use Rattle.demo_lines.specs.Reads.{Reads, ReadsFront, Refuses, IsRefusedLine, IsLongFront, IsLastPart, EndsAt}
 use Rattle.demo_lines.proofs.MapGiven.{nothing_needs_the_map, same_without, after-whole, after-kept, next-without}
 
@@ -75,7 +75,7 @@ module _ (r : Reading) (whole : is_map_whole r.stage ≡ true) where
   refused-given : (t : Reading) (part : List ℕ) → is_map_whole t.stage ≡ true → refused_where t part ≡ refused_where (without_map t) part
   refused-given t part there = refused_at-given t.stage t part refl there
 
-  pub EndsAt-given : (why : Refusal) (bytes : List ℕ) → EndsAt (without_map r) why bytes → EndsAt r why bytes
+  pub EndsAt-given : (why : LineRefusal) (bytes : List ℕ) → EndsAt (without_map r) why bytes → EndsAt r why bytes
   EndsAt-given why bytes ends =
       let lines = lines_of bytes in
       record {

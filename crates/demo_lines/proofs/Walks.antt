@@ -13,7 +13,7 @@ use Rattle.demo_lines.specs.Lines.{is_end, line_in}
 use Rattle.demo_lines.specs.Faults.{fault_of}
 use Rattle.demo_lines.specs.Recording.{next, after_test, event_of, events_of_test, events_of_line, lines_left}
 use Rattle.demo_lines.specs.Said.{line_said}
-use Rattle.demo_lines.specs.Bytes.{Refusal, refusal}
+use Rattle.demo_lines.specs.Bytes.{LineRefusal, refusal}
 use Rattle.demo_lines.specs.Readings.{IsReading}
 use Rattle.demo_lines.specs.Reads.{Reads, ReadsQuietly, Refuses, EndsAt, IsQuiet, IsRefusedAt, IsRefusedLast, TakesCutEnd, OnRefused, OnNoMemory, stage_after}
 use Rattle.demo_lines.proofs.Consuming.{ReadsWhole, whole-line, quiet-line, reads-whole, Reads-cut, takes_cut_end, Refuses-line, Refuses-end, refused_by_line, refused_by_end, refused_by_cut_end}
@@ -64,7 +64,7 @@ walk_on r s t a b c line walks gives is quiet holds going fewer =
 
 -- ---- at a stop
 
-pub on_refused : (stop : DemoStop) (P Q : Refusal → Type 0) → ((why : Refusal) → P why → Q why) → OnRefused stop P → OnRefused stop Q
+pub on_refused : (stop : DemoStop) (P Q : LineRefusal → Type 0) → ((why : LineRefusal) → P why → Q why) → OnRefused stop P → OnRefused stop Q
 on_refused (stops.Refused line fault rule) P Q f p = f _ p
 on_refused stops.ReadFault P Q f p = tt
 on_refused stops.NoMemory P Q f p = tt
@@ -80,32 +80,32 @@ never stops.ReadFault P none = tt
 never stops.NoMemory P none = absurd none
 
 -- a line that is refused: what is ahead ends there, and it was taken last
-pub walk_refused_at : (r s t : Reading) (a b c : Option (List ℕ)) (line : List ℕ) (why : Refusal) → Walks r s a b → GivesLine b c line → IsRefusedAt s t line why
+pub walk_refused_at : (r s t : Reading) (a b c : Option (List ℕ)) (line : List ℕ) (why : LineRefusal) → Walks r s a b → GivesLine b c line → IsRefusedAt s t line why
     → IfSome a (EndsAt r why)
 walk_refused_at r s t a b c line why walks gives at =
     let here = refused_by_line r s a b c line at.fault walks.reads gives (ap (λ (u : Reading). u.stage) (sym at.is_next) ∙ at.stage) in
     let same : refusal (next s line).lines at.fault ≡ why = ap (λ (u : Reading). refusal u.lines at.fault) (sym at.is_next) ∙ sym at.counted in
     subst (λ w. IfSome a (EndsAt r w)) same here
 
-pub walk_taken_at : (r s t : Reading) (a b c : Option (List ℕ)) (line : List ℕ) (why : Refusal) (P Q : Type 0) → Walks r s a b → GivesLine b c line → IsRefusedAt s t line why
+pub walk_taken_at : (r s t : Reading) (a b c : Option (List ℕ)) (line : List ℕ) (why : LineRefusal) (P Q : Type 0) → Walks r s a b → GivesLine b c line → IsRefusedAt s t line why
     → P → Refuses r a c why.line P Q
 walk_taken_at r s t a b c line why P Q walks gives at p =
     let stops = ap (λ (u : Reading). is_refused u.stage) (sym at.is_next) ∙ ap is_refused at.stage in
-    let same : (next s line).lines ≡ why.line = ap (λ (u : Reading). u.lines) (sym at.is_next) ∙ ap (λ (w : Refusal). w.line) (sym at.counted) in
+    let same : (next s line).lines ≡ why.line = ap (λ (u : Reading). u.lines) (sym at.is_next) ∙ ap (λ (w : LineRefusal). w.line) (sym at.counted) in
     subst (λ k. Refuses r a c k P Q) same (Refuses-line r s a b c line P Q walks.reads walks.going gives stops p)
 
 -- the same of an end without a line feed
-pub walk_cut_refused_at : (r s t : Reading) (a b c : Option (List ℕ)) (line pending : List ℕ) (why : Refusal) → Walks r s a b → GivesLastPart b c line pending
+pub walk_cut_refused_at : (r s t : Reading) (a b c : Option (List ℕ)) (line pending : List ℕ) (why : LineRefusal) → Walks r s a b → GivesLastPart b c line pending
     → is_end line ≡ true → IsRefusedAt s t line why → IfSome a (EndsAt r why)
 walk_cut_refused_at r s t a b c line pending why walks gives end at =
     let here = refused_by_cut_end r s a b c line pending at.fault walks.reads gives end (ap (λ (u : Reading). u.stage) (sym at.is_next) ∙ at.stage) in
     let same : refusal (next s line).lines at.fault ≡ why = ap (λ (u : Reading). refusal u.lines at.fault) (sym at.is_next) ∙ sym at.counted in
     subst (λ w. IfSome a (EndsAt r w)) same here
 
-pub walk_cut_taken_at : (r s t : Reading) (a b c : Option (List ℕ)) (line pending : List ℕ) (why : Refusal) (P Q : Type 0) → Walks r s a b → GivesLastPart b c line pending
+pub walk_cut_taken_at : (r s t : Reading) (a b c : Option (List ℕ)) (line pending : List ℕ) (why : LineRefusal) (P Q : Type 0) → Walks r s a b → GivesLastPart b c line pending
     → IsRefusedAt s t line why → Q → Refuses r a c why.line P Q
 walk_cut_taken_at r s t a b c line pending why P Q walks gives at q =
-    let counted = ap (λ (w : Refusal). w.line) at.counted ∙ ap (λ (u : Reading). u.lines) at.is_next ∙ next-counts s line walks.going in
+    let counted = ap (λ (w : LineRefusal). w.line) at.counted ∙ ap (λ (u : Reading). u.lines) at.is_next ∙ next-counts s line walks.going in
     subst (λ k. Refuses r a c k P Q) (sym counted) (Refuses-end r s a b c line pending P Q walks.reads walks.going gives q)
 
 -- a line that gives no event, where memory is refused
@@ -181,17 +181,17 @@ pub last_needed : (result : Result Event DemoStop) (r s : Reading) (a b c : Opti
 last_needed (Ok e) r s a b c line pending P Q walks gives end given q = inr (end_event s line e end given, walk_takes_cut r s a b c line pending walks gives end, q)
 last_needed (Err stop) r s a b c line pending P Q walks gives end given q = tt
 
-refused_last : (r s t : Reading) (a b c : Option (List ℕ)) (line pending : List ℕ) (why : Refusal) → Walks r s a b → GivesLastPart b c line pending
+refused_last : (r s t : Reading) (a b c : Option (List ℕ)) (line pending : List ℕ) (why : LineRefusal) → Walks r s a b → GivesLastPart b c line pending
     → IsRefusedLast s t line why → IfSome a (EndsAt r why)
 refused_last r s t a b c line pending why walks gives (inl at) = walk_cut_refused_at r s t a b c line pending why walks gives at.0 at.1
 refused_last r s t a b c line pending why walks gives (inr at) =
     subst (λ w. IfSome a (EndsAt r w)) (sym at.1) (refused_by_end r s a b c line pending walks.reads gives walks.going at.0)
 
-taken_last : (r s t : Reading) (a b c : Option (List ℕ)) (line pending : List ℕ) (why : Refusal) (P Q : Type 0) → Walks r s a b → GivesLastPart b c line pending
+taken_last : (r s t : Reading) (a b c : Option (List ℕ)) (line pending : List ℕ) (why : LineRefusal) (P Q : Type 0) → Walks r s a b → GivesLastPart b c line pending
     → IsRefusedLast s t line why → Q → Refuses r a c why.line P Q
 taken_last r s t a b c line pending why P Q walks gives (inl at) q = walk_cut_taken_at r s t a b c line pending why P Q walks gives at.1 q
 taken_last r s t a b c line pending why P Q walks gives (inr at) q =
-    subst (λ k. Refuses r a c k P Q) (ap (λ (w : Refusal). w.line) (sym at.1)) (Refuses-end r s a b c line pending P Q walks.reads walks.going gives q)
+    subst (λ k. Refuses r a c k P Q) (ap (λ (w : LineRefusal). w.line) (sym at.1)) (Refuses-end r s a b c line pending P Q walks.reads walks.going gives q)
 
 pub last_refused : (result : Result Event DemoStop) (r s t : Reading) (a b c : Option (List ℕ)) (line pending : List ℕ) → Walks r s a b → GivesLastPart b c line pending
     → IfErr result (λ stop. OnRefused stop (IsRefusedLast s t line)) → IfErr result (λ stop. OnRefused stop (λ why. IfSome a (EndsAt r why)))

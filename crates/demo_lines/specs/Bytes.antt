@@ -31,17 +31,17 @@ abbrev pub lines_of : List ℕ → List (List ℕ)
 lines_of bytes = whole_lines bytes ++ cut_end (last_part bytes)
 
 -- a line, counted from 1, its fault, and the rule of the map that it breaks, 0 where it breaks none
-pub record Refusal : Type 0 where
+pub record LineRefusal : Type 0 where
   pub line : ℕ
   pub fault : ℕ
   pub rule : ℕ
 
 -- the refusal of this line for this fault
-abbrev pub refusal : ℕ → LineFault → Refusal
+abbrev pub refusal : ℕ → LineFault → LineRefusal
 refusal line why = record { line = line; fault = fault_number why; rule = rule_number why }
 
 -- the refusal of what is known, where the bytes end here, after this part without a line feed
-abbrev pub refused_at : Stage → Reading → List ℕ → Option Refusal
+abbrev pub refused_at : Stage → Reading → List ℕ → Option LineRefusal
 refused_at Start r part = option_map (refusal (r.lines + 1)) (fault_of r true part)
 refused_at Map r part = option_map (refusal (r.lines + 1)) (fault_of r true part)
 refused_at Playing r part = option_map (refusal (r.lines + 1)) (fault_of r true part)
@@ -49,7 +49,7 @@ refused_at Ended r part = None
 refused_at (Refused why) r part = Some (refusal r.lines why)
 
 -- the same, by the stage that it is at
-abbrev pub refused_where : Reading → List ℕ → Option Refusal
+abbrev pub refused_where : Reading → List ℕ → Option LineRefusal
 refused_where r part = refused_at r.stage r part
 
 -- the events of bytes, from what was read before
@@ -57,7 +57,7 @@ abbrev pub events_in : Reading → List ℕ → List Event
 events_in r bytes = events_of r (lines_of bytes)
 
 -- the first faulty line, from what was read before
-abbrev pub fault_in : Reading → List ℕ → Option Refusal
+abbrev pub fault_in : Reading → List ℕ → Option LineRefusal
 fault_in r bytes = refused_where (after r (lines_of bytes)) (last_part bytes)
 
 -- the events of a recording: up to its end, or up to the line before the faulty one
@@ -65,7 +65,7 @@ abbrev pub events : List ℕ → List Event
 events bytes = events_in start bytes
 
 -- the first faulty line, before or at the first `end`, and its fault
-abbrev pub fault : List ℕ → Option Refusal
+abbrev pub fault : List ℕ → Option LineRefusal
 fault bytes = fault_in start bytes
 
 -- the map of a recording

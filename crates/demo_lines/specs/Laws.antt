@@ -26,7 +26,7 @@ use Rattle.demo_lines.specs.Spelling.{line_text, IsLine, recording_lines, record
 use Rattle.demo_lines.specs.Spelling.{small_map, small_lines, small_frames, small_text}
 use Rattle.demo_lines.specs.InTurn.{IsBuilt, map_in_turn, text_in_turn}
 use Rattle.edge_io.specs.WholeLines.{is_line_feed, whole_lines}
-use Rattle.demo_lines.specs.Bytes.{Refusal, refusal, events, fault, map_of}
+use Rattle.demo_lines.specs.Bytes.{LineRefusal, refusal, events, fault, map_of}
 
 -- the numbers of this crate, and how many bytes a packet has at the most
 pub record LimitsAreKnown : Type 0 where
@@ -47,7 +47,7 @@ are_none (part ∷ parts) = false
 
 -- of the parts that line feeds separate this one has a fault, and none before it has one or ends the recording; its
 -- number is 1 more than how many are before it, and where none is later the input ended in it
-pub record IsFirstFault (bytes : List ℕ) (why : Refusal) : Type 0 where
+pub record IsFirstFault (bytes : List ℕ) (why : LineRefusal) : Type 0 where
   pub before : List (List ℕ)
   pub raw : List ℕ
   pub later : List (List ℕ)
@@ -59,7 +59,7 @@ pub record IsFirstFault (bytes : List ℕ) (why : Refusal) : Type 0 where
 
 -- a recording is refused exactly for the first of its lines that has a fault, with that line's number and first fault
 abbrev pub FaultsAreTheFirst : Type 0
-FaultsAreTheFirst = (bytes : List ℕ) (why : Refusal) → (fault bytes ≡ Some why) ↔ IsFirstFault bytes why
+FaultsAreTheFirst = (bytes : List ℕ) (why : LineRefusal) → (fault bytes ≡ Some why) ↔ IsFirstFault bytes why
 
 -- more bytes after these give no event, and change neither the fault nor the map
 pub record AddsNothing (bytes more : List ℕ) : Type 0 where

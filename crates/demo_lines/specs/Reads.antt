@@ -21,7 +21,7 @@ use Rattle.demo_lines.specs.Lines.{is_end}
 use Rattle.demo_lines.specs.Recording.{next, after, events_of, event_of}
 use Rattle.demo_lines.specs.Said.{after_said}
 use Rattle.demo_lines.specs.Readings.{IsReading}
-use Rattle.demo_lines.specs.Bytes.{Refusal, refusal, events_in, fault_in}
+use Rattle.demo_lines.specs.Bytes.{LineRefusal, refusal, events_in, fault_in}
 
 -- a reader: what it has buffered, what is known of the recording so far, and the stop that it keeps
 pub record DemoReaderView : Type 0 where
@@ -88,14 +88,14 @@ pub record IsQuiet (r : Reading) (said : Result Line LineFault) : Type 0 where
   pub stage : (after_said r said).stage ≡ stages.Map
 
 -- the line is refused, and counted
-pub record IsRefusedAt (old new : Reading) (line : List ℕ) (why : Refusal) : Type 0 where
+pub record IsRefusedAt (old new : Reading) (line : List ℕ) (why : LineRefusal) : Type 0 where
   pub is_next : new ≡ next old line
   pub fault : LineFault
   pub stage : new.stage ≡ stages.Refused fault
   pub counted : why ≡ refusal new.lines fault
 
 -- what the input ended with is refused: an end as a line, and anything else since the input ended
-abbrev pub IsRefusedLast : Reading → Reading → List ℕ → Refusal → Type 0
+abbrev pub IsRefusedLast : Reading → Reading → List ℕ → LineRefusal → Type 0
 IsRefusedLast old new line why =
     ((is_end line ≡ true) × IsRefusedAt old new line why)
     ⊎ ((is_end line ≡ false) × (why ≡ refusal (old.lines + 1) faults.NoEnd))
@@ -136,7 +136,7 @@ pub record Refuses (old : Reading) (before later : Option (List ℕ)) (number : 
   pub refused : ((IsRefusedLine (after old lines) last ⊎ IsLongFront last) × P) ⊎ (IsLastPart last later × Q)
 
 -- what is ahead gives no more events, and this line of it is the first faulty one, for this fault
-pub record EndsAt (r : Reading) (why : Refusal) (bytes : List ℕ) : Type 0 where
+pub record EndsAt (r : Reading) (why : LineRefusal) (bytes : List ℕ) : Type 0 where
   pub events : events_in r bytes ≡ []
   pub fault : fault_in r bytes ≡ Some why
 
@@ -159,11 +159,11 @@ pub record IsOpen (demo : DemoReaderView) : Type 0 where
   pub not_over : is_over demo.reading.stage ≡ false
 
 -- the stop of a refusal
-abbrev pub stop_at : Refusal → DemoStop
+abbrev pub stop_at : LineRefusal → DemoStop
 stop_at why = Refused why.line why.fault why.rule
 
 -- P of the line and its fault, where the recording was refused
-abbrev pub OnRefused : DemoStop → (Refusal → Type 0) → Type 0
+abbrev pub OnRefused : DemoStop → (LineRefusal → Type 0) → Type 0
 OnRefused (Refused line fault rule) P = P (record { line = line; fault = fault; rule = rule })
 OnRefused ReadFault P = ⊤
 OnRefused NoMemory P = ⊤

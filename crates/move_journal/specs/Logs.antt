@@ -1,23 +1,6 @@
--- The entries of a log and of a journal, with the room for them.
+-- The entries of a journal, with the room for them. A log is the journal of one worker.
 use Rattle.std.specs.Prelude.{ℕ, ◌<◌, List, ◌∷◌, [], ◌++◌, length}
 use Rattle.entity_recs.specs.declared.effect.Entry.{Entry}
-
--- the entries of a log, and for how many it has room in all
-pub record LogView : Type 0 where
-  pub entries : List Entry
-  pub room : ℕ
-
--- the log with these entries and this room
-abbrev pub log_view : List Entry → ℕ → LogView
-log_view entries room = record { entries = entries; room = room }
-
--- the log has room for one entry more
-abbrev pub LogHasRoom : LogView → Type 0
-LogHasRoom log = length log.entries < log.room
-
--- the log with one entry more
-abbrev pub log_with : LogView → Entry → LogView
-log_with log e = log_view (log.entries ++ e ∷ []) log.room
 
 -- the entries of a journal, and for how many it has room in all
 pub record JournalView : Type 0 where

@@ -1,14 +1,18 @@
 use entity_recs::Entry;
 use std::alloc::{AllocError, Global};
+use std::default::MadeWith;
 use std::marker::Model;
 
-/// The entries of a frame's moves, in the order in which they ran, with room for a number that was given when it was
-/// made.
+/// The entries of moves, in the order in which they ran, with room for a number that was given when it was made: the
+/// moves of a frame, or those of one worker.
 #[derive(Drop)]
 pub struct Journal {
     entries: Vec<Entry>,
     most: u32,
 }
+
+/// The journal of the moves that one worker ran.
+pub type Log = Journal;
 
 // Clauses see the entries, and for how many there is room.
 impl Model for Journal {
@@ -73,5 +77,15 @@ impl Journal {
         ensures { self.new ≡ journal_with self.old entry }
     {
         self.entries.push_reserved(entry);
+    }
+}
+
+// What a list of logs has in the places that aren't used: a log without room, which takes no memory.
+impl MadeWith<Global> for Journal {
+    fn made_with(alloc: Global) -> Journal {
+        Journal {
+            entries: Vec::new(alloc),
+            most: 0,
+        }
     }
 }

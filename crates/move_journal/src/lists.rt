@@ -1,5 +1,4 @@
-use crate::journal::Journal;
-use crate::log::Log;
+use crate::journal::{Journal, Log};
 use arrayvec::ArrayVec;
 use std::alloc::{AllocError, Global};
 use std::marker::Model;
@@ -15,9 +14,9 @@ pub struct LogList {
 
 impl Model for LogList {
     ghost use Rattle.std.specs.Prelude.{List};
-    ghost use Rattle.move_journal.specs.Logs.{LogView};
+    ghost use Rattle.move_journal.specs.Logs.{JournalView};
 
-    ghost Value = { List LogView };
+    ghost Value = { List JournalView };
 
     ghost view = { λ l. l.logs.items };
 }

@@ -3,8 +3,7 @@ ghost use Rattle.move_journal.specs.Logs.{journal_view};
 ghost use Rattle.move_journal.specs.ByPlace.{HaveNumberedPlaces, IsByPlace, entries_in};
 
 use crate::copies::same_entry;
-use crate::journal::Journal;
-use crate::log::Log;
+use crate::journal::{Journal, Log};
 
 /// Puts the entries of a log last.
 fn append(log: &Log, out: &mut Journal)

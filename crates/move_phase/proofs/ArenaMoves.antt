@@ -9,7 +9,7 @@ use Rattle.entity_recs.specs.declared.cmd.Cmd.{Cmd}
 use Rattle.entity_recs.specs.Commands.{Command, command_of}
 use Rattle.entity_recs.specs.Worlds.{World}
 use Rattle.entity_recs.specs.Histories.{Action, Item, IsLegal, run}
-use Rattle.move_journal.specs.Logs.{LogView}
+use Rattle.move_journal.specs.Logs.{JournalView}
 use Rattle.move_journal.specs.ByPlace.{IsByPlace}
 use Rattle.move_journal.specs.Merges.{IsRight, HasNumbersApart, history_of}
 use Rattle.arena_map.specs.Maps.{MapView, IsMap}
@@ -92,16 +92,16 @@ pub shared_of : (world : WorldView) (commands : List Command) (s : StartedView) 
 shared_of world commands s table passes is started = subst (IsSharedForAny s.action s.workers world commands) is started.shared_for
 
 -- what was run on it was run in the world and by the workers that the moves were started for
-pub ran_as_started : (world new : WorldView) (commands : List Command) (s : StartedView) (table : TableView ArenaAction) (passes : List PassView) (workers : ℕ) (logs lent : List LogView)
+pub ran_as_started : (world new : WorldView) (commands : List Command) (s : StartedView) (table : TableView ArenaAction) (passes : List PassView) (workers : ℕ) (logs lent : List JournalView)
     → IsSharedFor s.action s.workers world commands table passes → workers ≡ s.workers → lent ≡ logs
     → HaveRun (fixed_of_arena table.action table.world) workers commands logs new → HaveRun (fixed_of_arena s.action world) s.workers commands lent new
 ran_as_started world new commands s table passes workers logs lent shared workers_are lent_is ran =
-    subst (λ (views : List LogView). HaveRun (fixed_of_arena s.action world) s.workers commands views new) (sym lent_is)
+    subst (λ (views : List JournalView). HaveRun (fixed_of_arena s.action world) s.workers commands views new) (sym lent_is)
     (subst (λ (n : ℕ). HaveRun (fixed_of_arena s.action world) n commands logs new) workers_are
     (subst (λ (w : WorldView). HaveRun (fixed_of_arena s.action w) workers commands logs new) shared.world_is
     (subst (λ (a : ArenaAction). HaveRun (fixed_of_arena a table.world) workers commands logs new) shared.action_is ran)))
 
-module _ (action : ArenaAction) (old new : WorldView) (workers : ℕ) (commands : List Command) (logs : List LogView)
+module _ (action : ArenaAction) (old new : WorldView) (workers : ℕ) (commands : List Command) (logs : List JournalView)
     (ran : HaveRun (fixed_of_arena action old) workers commands logs new) (some : 0 < workers) (apart : HasNumbersApart commands)
     (linked_old : IsLinked old) (linked_new : IsLinked new) (journal : List Entry) (by_place : IsByPlace journal logs) where
   pub arena_right : IsRight (outcome_on action.map) (world_of old.records) commands journal

@@ -8,7 +8,7 @@ use Rattle.std.proofs.lemmas.List.Kept.{AllPairs-from_increasing}
 use Rattle.entity_recs.specs.declared.effect.Entry.{Entry}
 use Rattle.entity_recs.specs.Commands.{Command}
 use Rattle.entity_recs.specs.Histories.{Item}
-use Rattle.move_journal.specs.Logs.{LogView}
+use Rattle.move_journal.specs.Logs.{JournalView}
 use Rattle.move_journal.specs.ByPlace.{places_of, entries_in, HaveNumberedPlaces, IsByPlace}
 use Rattle.move_journal.specs.Merges.{IsRight, IsInOrder, HasNumbersApart, history_of}
 use Rattle.world_tree.specs.Worlds.{WorldView}
@@ -39,7 +39,7 @@ places_same : (items : List Item) → places_of (entries_from items) ≡ map (λ
 places_same [] = refl
 places_same (item ∷ items) = ap (λ (ns : List ℕ). item.entry.place ∷ ns) (places_same items)
 
-module _ (F : Fixed) (passes : ℕ) (commands : List Command) (views : List LogView) (world : WorldView)
+module _ (F : Fixed) (passes : ℕ) (commands : List Command) (views : List JournalView) (world : WorldView)
     (ran : HaveRun F passes commands views world) where
   -- the passes served the commands
   have_served : HaveServed F.effect_of F.start passes commands ran.logs ran.closed.history
@@ -55,7 +55,7 @@ module _ (F : Fixed) (passes : ℕ) (commands : List Command) (views : List LogV
 
   entries_are : entries_in views ≡ entries_from (all_of ran.logs)
   entries_are =
-      sym (flat_map-map (λ (es : List Entry). es) (λ (view : LogView). view.entries) views)
+      sym (flat_map-map (λ (es : List Entry). es) (λ (view : JournalView). view.entries) views)
       ∙ ap (flat_map (λ (es : List Entry). es)) ran.views_are
       ∙ all_entries ran.logs
 

@@ -10,7 +10,7 @@ use Rattle.entity_recs.specs.declared.rec.Rec.{Rec}
 use Rattle.entity_recs.specs.declared.effect.Effect.{Effect}
 use Rattle.entity_recs.specs.Commands.{Command}
 use Rattle.entity_recs.specs.Histories.{Item, commands_of}
-use Rattle.move_journal.specs.Logs.{LogView}
+use Rattle.move_journal.specs.Logs.{JournalView}
 use Rattle.world_tree.specs.Worlds.{WorldView}
 use Rattle.core_steps.specs.Views.{Fixed}
 use Rattle.region_locks.specs.Starts.{fixed_by}
@@ -28,7 +28,7 @@ pub fixed_is : {A : Type 0} (takes : A → Rec → Bool) (region : A → Rec →
 fixed_is takes region effect t action world of_action of_world = λ i. fixed_by takes region effect (of_action i) (of_world i)
 
 -- the entries of the logs are those of the passes' items
-entries_same : (passes : List PassView) → map (λ (view : LogView). view.entries) (map log_from passes) ≡ map entries_from (map (λ (p : PassView). p.view.log) passes)
+entries_same : (passes : List PassView) → map (λ (view : JournalView). view.entries) (map log_from passes) ≡ map entries_from (map (λ (p : PassView). p.view.log) passes)
 entries_same [] = refl
 entries_same (p ∷ passes) = ap (λ (es : List (List _)). entries_from p.view.log ∷ es) (entries_same passes)
 

@@ -3,7 +3,7 @@ use Rattle.std.specs.Prelude.{◌≡◌, ℕ, ◌<◌, ◌≤◌, true, List, []
 use Rattle.atomic_table.specs.Seated.{TableId}
 use Rattle.entity_recs.specs.Commands.{Command}
 use Rattle.entity_recs.specs.Histories.{Item, commands_of}
-use Rattle.move_journal.specs.Logs.{LogView}
+use Rattle.move_journal.specs.Logs.{JournalView}
 use Rattle.world_tree.specs.Worlds.{WorldView}
 use Rattle.core_steps.specs.Views.{Fixed, has}
 use Rattle.region_locks.specs.Passes.{PassView, IsPassOf}
@@ -37,7 +37,7 @@ pub record HaveRoom (passes : ℕ) (commands : List Command) (rooms : List ℕ) 
 
 -- the commands were run on a table with these passes, and these are its logs: each log has the commands of its pass,
 -- and the table was closed
-pub record HaveRun (F : Fixed) (passes : ℕ) (commands : List Command) (views : List LogView) (world : WorldView)
+pub record HaveRun (F : Fixed) (passes : ℕ) (commands : List Command) (views : List JournalView) (world : WorldView)
     : Type 0
   where
     pub logs : List (List Item)

@@ -14,7 +14,7 @@ use Rattle.demo_lines.specs.Machines.{run_of}
 use Rattle.demo_lines.specs.Known.{Reading, start, is_over}
 use Rattle.demo_lines.specs.Recording.{next, after_line, event_of, events_of_line, after, events_of}
 use Rattle.demo_lines.specs.Spelling.{frame_events, recording_events}
-use Rattle.demo_lines.specs.Bytes.{Refusal, refused_at, last_part, lines_of, fault}
+use Rattle.demo_lines.specs.Bytes.{LineRefusal, refused_at, last_part, lines_of, fault}
 use Rattle.demo_lines.proofs.Machines.{run_of-append}
 use Rattle.demo_lines.proofs.Ends.{after-over, events_of-over}
 use Rattle.demo_lines.proofs.Prefixes.{faultless_is_over}
@@ -151,7 +151,7 @@ whole_made Playing r part f es made over none = cc
 whole_made Ended r part f es made over none = made
 whole_made (Refused why) r part f es made over none = cc
 
-faulty_made : (stage : Stage) (r : Reading) (part : List ℕ) (f : Frames) (es : List Event) (why : Refusal) → IsMadeAt stage f es → refused_at stage r part ≡ Some why
+faulty_made : (stage : Stage) (r : Reading) (part : List ℕ) (f : Frames) (es : List Event) (why : LineRefusal) → IsMadeAt stage f es → refused_at stage r part ≡ Some why
     → IsNone f es ⊎ IsOpen f es
 faulty_made Start r part f es why made refused = inl made
 faulty_made Map r part f es why made refused = inl made

@@ -10,7 +10,7 @@ use Rattle.client_ports.specs.States.{State, IsServerState}
 use Rattle.client_ports.specs.Finishing.{is_leaver}
 use Rattle.plain_server.specs.Frames.{received_in, moved_by, state_after, state_played, IsRightAfter, AreRight}
 use Rattle.plain_server.specs.Frames.{AreInOrder}
-use Rattle.demo_lines.specs.Bytes.{Refusal, events, fault, map_of}
+use Rattle.demo_lines.specs.Bytes.{LineRefusal, events, fault, map_of}
 use Rattle.demo_lines.specs.Spelling.{IsRecording, recording_text, frame_events, recording_events}
 use Rattle.out_text.specs.Dids.{Did}
 use Rattle.out_text.specs.OutLines.{OutLine, FrameLine, DidLine, spelled}
@@ -54,7 +54,7 @@ pub record HasOpenFrame (bytes : List ℕ) : Type 0 where
 -- end; those of a faulty one are those of its closed frames and of the one that is open, where any was opened
 pub record FramesHaveTheEvents : Type 0 where
   pub whole : (bytes : List ℕ) → fault bytes ≡ None → events bytes ≡ recording_events (frames_of bytes)
-  pub faulty : (bytes : List ℕ) (why : Refusal) → fault bytes ≡ Some why → HasNoFrame bytes ⊎ HasOpenFrame bytes
+  pub faulty : (bytes : List ℕ) (why : LineRefusal) → fault bytes ≡ Some why → HasNoFrame bytes ⊎ HasOpenFrame bytes
 
 -- an output of a recording that is played by so many workers
 pub record HasOutput (workers : ℕ) (bytes : List ℕ) : Type 0 where

@@ -5,7 +5,7 @@ use Rattle.arena_map.specs.Maps.{MapView}
 use Rattle.packet_read.specs.declared.arrival.Arrival.{Arrival}
 use Rattle.plain_server.specs.RecordsById.{opening}
 use Rattle.plain_server.specs.Frames.{AreRight, AreInOrder}
-use Rattle.demo_lines.specs.Bytes.{Refusal, fault, map_of}
+use Rattle.demo_lines.specs.Bytes.{LineRefusal, fault, map_of}
 use Rattle.out_text.specs.OutLines.{OutLine, EndLine, text_of}
 use Rattle.out_text.specs.FrameLines.{run_lines}
 use Rattle.out_text.specs.Journals.{dids}
@@ -99,7 +99,7 @@ abbrev pub IsCut : ℕ → List ℕ → Option (List Entry) → List ℕ → Typ
 IsCut workers bytes last text = IsCutFrame workers bytes last text ⊎ IsCutEnd workers bytes last text
 
 -- the text is that of all closed frames of a recording whose first faulty line is this one, for this reason
-pub record IsRefused (workers : ℕ) (bytes : List ℕ) (why : Refusal) (text : List ℕ) : Type 0 where
+pub record IsRefused (workers : ℕ) (bytes : List ℕ) (why : LineRefusal) (text : List ℕ) : Type 0 where
   pub faulty : fault bytes ≡ Some why
   pub frames : IsAllFrames workers bytes text
 

@@ -7,7 +7,7 @@ use Rattle.std.specs.Bool.{OnTrue}
 use Rattle.std.specs.List.{AllByRecursion}
 use Rattle.atomic_table.specs.Table.{Me}
 use Rattle.atomic_table.specs.Seated.{TableId}
-use Rattle.move_journal.specs.Logs.{LogView}
+use Rattle.move_journal.specs.Logs.{JournalView}
 use Rattle.core_steps.specs.Views.{Fixed, Refused}
 use Rattle.region_locks.specs.Sights.{HeldWord, IsOneOf, Tally, tally_of_both, AreRefusalsServed, SightView, with_one_ended}
 use Rattle.region_locks.specs.Going.{IsAtRest}
@@ -26,7 +26,7 @@ AllCanEnd table [] = Unit {0}
 AllCanEnd table (p ∷ passes) = CanEnd table p × AllCanEnd table passes
 
 -- of these passes some are ended into the first one's seat, and the others are left
-pub record IsEndedBut (table : TableId) (all left : List PassView) (at : TableId) (me : Me (Unit {0}) SightView) (given : List LogView) : Type 0 where
+pub record IsEndedBut (table : TableId) (all left : List PassView) (at : TableId) (me : Me (Unit {0}) SightView) (given : List JournalView) : Type 0 where
   pub at_table : at ≡ table
   pub carries : me.1 ≡ []
   pub sight : with_passes_ended left me.0 ≡ sight_at_end all
@@ -42,7 +42,7 @@ all_can_end F count table (p ∷ passes) own none =
     (record { at_table = own.0.at_table; rests = record { lives = own.0.lives; idle = none.0.idle } }, all_can_end F count table passes own.1 none.1)
 
 -- a log that there was room for is put last
-put_last : (fits : Bool) (old new : List LogView) (log : LogView) → (IsTrue fits ↔ (length old < 16)) → length old < 16 → OnTrue fits (new ≡ old ++ log ∷ []) → new ≡ old ++ log ∷ []
+put_last : (fits : Bool) (old new : List JournalView) (log : JournalView) → (IsTrue fits ↔ (length old < 16)) → length old < 16 → OnTrue fits (new ≡ old ++ log ∷ []) → new ≡ old ++ log ∷ []
 put_last true old new log fit short put = put
 put_last false old new log fit short put = let no : IsTrue false = fit.1 short in cc
 
@@ -62,7 +62,7 @@ first_number all left p (suc n) numbers is =
 
 module _ (table : TableId) (all : List PassView) where
   -- the first one is at hand
-  begins : (p : PassView) (left : List PassView) (at : TableId) (me : Me (Unit {0}) SightView) (given : List LogView) → all ≡ p ∷ left → AllCanEnd table all → p.number ≡ 0
+  begins : (p : PassView) (left : List PassView) (at : TableId) (me : Me (Unit {0}) SightView) (given : List JournalView) → all ≡ p ∷ left → AllCanEnd table all → p.number ≡ 0
       → at ≡ p.table → me ≡ (sight_of p, []) → given ≡ log_from p ∷ [] → IsEndedBut table all left at me given
   begins p left at me given is can first here seat logs =
       let each = subst (AllCanEnd table) is can in
@@ -77,17 +77,17 @@ module _ (table : TableId) (all : List PassView) where
       })
 
   -- there is room for the log of one that is left
-  has_room : (p : PassView) (left : List PassView) (at : TableId) (me : Me (Unit {0}) SightView) (given : List LogView) → IsEndedBut table all (p ∷ left) at me given → length all ≤ 16
+  has_room : (p : PassView) (left : List PassView) (at : TableId) (me : Me (Unit {0}) SightView) (given : List JournalView) → IsEndedBut table all (p ∷ left) at me given → length all ≤ 16
       → length given < 16
   has_room p left at me given is few =
-      let whole = ap (λ (logs : List LogView). length logs) is.logs in
+      let whole = ap (λ (logs : List JournalView). length logs) is.logs in
       let parts = length-append given (map log_from (p ∷ left)) in
       let more : 0 < length (map log_from (p ∷ left)) = omega arith in
       let count = length-map all log_from in
       omega (arith, whole, parts, more, count, few)
 
   -- one more is ended
-  goes_on : (p : PassView) (left : List PassView) (at : TableId) (me me' : Me (Unit {0}) SightView) (given : List LogView) → IsEndedBut table all (p ∷ left) at me given
+  goes_on : (p : PassView) (left : List PassView) (at : TableId) (me me' : Me (Unit {0}) SightView) (given : List JournalView) → IsEndedBut table all (p ∷ left) at me given
       → me' ≡ (with_one_ended me.0 (sight_of p), me.1) → IsEndedBut table all left at me' (given ++ log_from p ∷ [])
   goes_on p left at me me' given is ended = rw ended (record {
     at_table = is.at_table;
@@ -100,19 +100,19 @@ module _ (table : TableId) (all : List PassView) where
   })
 
 -- the first of the passes, taken out of the list, with its log put into the empty list
-pub first_taken : (F : Fixed) (table : TableId) (all left : List PassView) (p : PassView) (count : ℕ) (at : TableId) (me : Me (Unit {0}) SightView) (old given : List LogView) (log : LogView) (fits : Bool)
+pub first_taken : (F : Fixed) (table : TableId) (all left : List PassView) (p : PassView) (count : ℕ) (at : TableId) (me : Me (Unit {0}) SightView) (old given : List JournalView) (log : JournalView) (fits : Bool)
     → All (IsPassOf F count table) all → All HasNoCommand all → map (λ (x : PassView). x.number) all ≡ range_with_len 0 count → 0 < length all
     → p ≡ slice_index_or all 0 p → left ≡ drop 1 all → at ≡ p.table → me ≡ (sight_of p, []) → log ≡ log_from p → old ≡ []
     → (IsTrue fits ↔ (length old < 16)) → OnTrue fits (given ≡ old ++ log ∷ []) → IsEndedBut table all left at me given
 first_taken F table all left p count at me old given log fits own none numbers some first rest here seat is empty fit put =
     let split = first_and_rest all left p some first rest in
     let can = all_can_end F count table all (recursion_from_All (IsPassOf F count table) all own) (recursion_from_All HasNoCommand all none) in
-    let short : length old < 16 = subst (λ (xs : List LogView). length xs < 16) (sym empty) (omega arith) in
-    let whole : given ≡ log_from p ∷ [] = put_last fits old given log fit short put ∙ ap (λ (xs : List LogView). xs ++ log ∷ []) empty ∙ ap (λ (x : LogView). x ∷ []) is in
+    let short : length old < 16 = subst (λ (xs : List JournalView). length xs < 16) (sym empty) (omega arith) in
+    let whole : given ≡ log_from p ∷ [] = put_last fits old given log fit short put ∙ ap (λ (xs : List JournalView). xs ++ log ∷ []) empty ∙ ap (λ (x : JournalView). x ∷ []) is in
     begins table all p left at me given split can (first_number all left p count numbers split) here seat whole
 
 -- the next of the passes that are left is ended, with its log put last
-pub next_ended : (table : TableId) (all items left : List PassView) (p : PassView) (at at' : TableId) (me me' other : Me (Unit {0}) SightView) (given given' : List LogView) (log : LogView) (fits : Bool)
+pub next_ended : (table : TableId) (all items left : List PassView) (p : PassView) (at at' : TableId) (me me' other : Me (Unit {0}) SightView) (given given' : List JournalView) (log : JournalView) (fits : Bool)
     → IsEndedBut table all items at me given → length all ≤ 16 → items ≡ p ∷ left → other ≡ (sight_of p, []) → log ≡ log_from p → at' ≡ at → me' ≡ (with_one_ended me.0 other.0, me.1)
     → (IsTrue fits ↔ (length given < 16)) → OnTrue fits (given' ≡ given ++ log ∷ []) → IsEndedBut table all left at' me' given'
 next_ended table all items left p at at' me me' other given given' log fits is few next seat own here ended fit put =

@@ -8,7 +8,7 @@ use Rattle.entity_recs.specs.Records.{with_state}
 use Rattle.entity_recs.specs.Worlds.{World}
 use Rattle.entity_recs.specs.Histories.{Item, run, IsLegal, places_of}
 use Rattle.move_journal.specs.Lists.{IsWorldOf}
-use Rattle.move_journal.specs.Logs.{LogView, log_view}
+use Rattle.move_journal.specs.Logs.{JournalView, journal_view}
 use Rattle.world_tree.specs.Live.{live_in, IsEntry}
 use Rattle.world_tree.specs.Worlds.{WorldView}
 use Rattle.core_steps.specs.Cells.{Body, State, cell_index}
@@ -62,8 +62,8 @@ abbrev pub AreRefusalsHeld : List PassView → Type 0
 AreRefusalsHeld passes = All (λ (p : PassView). RefusalIsListed p.view.refused (tally_of_all passes).served) passes
 
 -- the entries of a pass's log, with the pass's room
-abbrev pub log_from : PassView → LogView
-log_from p = log_view (entries_of p.view.log) p.view.room
+abbrev pub log_from : PassView → JournalView
+log_from p = journal_view (entries_of p.view.log) p.view.room
 
 -- ---- the world
 

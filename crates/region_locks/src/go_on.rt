@@ -6,7 +6,7 @@ ghost use Rattle.region_locks.specs.Pursuits.{IsGoingOn, HasGoneOn, WasRefused, 
 use crate::pass::Pass;
 use crate::table::NodeTable;
 use crate::turn::Turn;
-use crate::went::{Refusal, Went};
+use crate::went::{RefusedTake, Went};
 use entity_recs::{Action, Effect};
 
 /// An effect lists at most eight states.
@@ -19,7 +19,7 @@ fn few_states(effect: &Effect)
 
 impl<'a, A: Action> NodeTable<'a, A> {
     /// Takes the node, which is the pass's next step, or reports who holds it.
-    fn take_or_refuse(&self, pass: &mut Pass<A>, node: u8) -> Result<Went, Refusal>
+    fn take_or_refuse(&self, pass: &mut Pass<A>, node: u8) -> Result<Went, RefusedTake>
         requires going { IsGoingOn (fixed_in A.takes A.region_of A.effect_of self.now) (length self.now.rooms)
             self.now.table pass.old }
         requires turn { turn_of (fixed_in A.takes A.region_of A.effect_of self.now) pass.old ≡ Some (Turn.Take node) }
@@ -30,7 +30,7 @@ impl<'a, A: Action> NodeTable<'a, A> {
     {
         match self.take(pass, node) {
             Ok(()) => Ok(Went::On),
-            Err(holder) => Err(Refusal { node, holder }),
+            Err(holder) => Err(RefusedTake { node, holder }),
         }
     }
 
@@ -51,7 +51,7 @@ impl<'a, A: Action> NodeTable<'a, A> {
 
     /// Makes the call that comes next of the pass, and reports what it was. `Err` exactly where it is a take that is
     /// refused; the pass may then try it again or give up.
-    pub fn go_on(&self, pass: &mut Pass<A>, turn: Turn) -> Result<Went, Refusal>
+    pub fn go_on(&self, pass: &mut Pass<A>, turn: Turn) -> Result<Went, RefusedTake>
         requires going { IsGoingOn (fixed_in A.takes A.region_of A.effect_of self.now) (length self.now.rooms)
             self.now.table pass.old }
         requires turn { turn_of (fixed_in A.takes A.region_of A.effect_of self.now) pass.old ≡ Some turn }

@@ -9,7 +9,7 @@ pub use laws::{
 pub use pass::Pass;
 pub use table::{NodeTable, PassList};
 pub use turn::Turn;
-pub use went::{Refusal, Went};
+pub use went::{RefusedTake, Went};
 
 mod begin;
 mod close;

@@ -14,7 +14,7 @@ pub enum Went {
 
 /// A take that was refused.
 #[derive(Clone, Copy, Debug, PartialEq, Eq)]
-pub struct Refusal {
+pub struct RefusedTake {
     /// The node that was to be taken, 0 to 30.
     pub node: u8,
     /// Who held it.

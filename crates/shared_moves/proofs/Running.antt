@@ -17,7 +17,7 @@ use Rattle.region_locks.specs.Turns.{has_command_in_hand}
 use Rattle.region_locks.specs.Closing.{HasNoCommand}
 use Rattle.region_locks.specs.Pursuits.{command_pursued, commands_given, item_of, IsGoingOn, entry_committed, is_resolved, HasGoneOn, HasCommitted, IsSameMove, WasRefused, HasGivenUp, IsRefusedBy, HoldsLeavesAlone}
 use Rattle.shared_moves.specs.declared.again.Again.{Again}
-use Rattle.shared_moves.specs.declared.point.Point.TheVariants as points
+use Rattle.shared_moves.specs.declared.point.GatePoint.TheVariants as points
 use Rattle.shared_moves.specs.Moves.{HasRun, NoTakeWasRefused, IsLeafHeld, IsCause, WasNotRun, IsOpen, IsDone, IsRunning}
 use Rattle.shared_moves.specs.Moments.{IsAtPoint, HasLogged, RunsCommand}
 

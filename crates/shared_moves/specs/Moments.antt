@@ -6,17 +6,17 @@ use Rattle.entity_recs.specs.Histories.{Item}
 use Rattle.core_steps.specs.Views.{stage_of, is_committed}
 use Rattle.region_locks.specs.Passes.{PassView}
 use Rattle.region_locks.specs.Pursuits.{command_pursued, item_of, is_checking, HoldsLeavesAlone}
-use Rattle.shared_moves.specs.declared.point.Point.{Point}
-use Rattle.shared_moves.specs.declared.point.Point.TheVariants.{Leaves, Computed, Committed}
+use Rattle.shared_moves.specs.declared.point.GatePoint.{GatePoint}
+use Rattle.shared_moves.specs.declared.point.GatePoint.TheVariants.{Leaves, Computed, Committed}
 
 -- the move is as far as the point says
-abbrev pub has_come : PassView → Point → Bool
+abbrev pub has_come : PassView → GatePoint → Bool
 has_come p Leaves = is_checking p.view.point
 has_come p Computed = is_some p.effect
 has_come p Committed = is_committed (stage_of p.view.point)
 
 -- the pass is at the point: it holds all leaves of its command and no inner node, and owes no store
-pub record IsAtPoint (p : PassView) (point : Point) : Type 0 where
+pub record IsAtPoint (p : PassView) (point : GatePoint) : Type 0 where
   pub come : has_come p point ≡ true
   pub alone : HoldsLeavesAlone p
 

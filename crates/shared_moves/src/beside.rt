@@ -5,7 +5,7 @@ ghost use Rattle.shared_moves.specs.Trials.{IsFree};
 
 use crate::again::Again;
 use crate::gate::{Gate, Moment, NoGate};
-use crate::point::Point;
+use crate::point::GatePoint;
 use crate::shared::Shared;
 use crate::staying::Staying;
 use crate::trial::plain;
@@ -98,7 +98,7 @@ impl<'a, A: Action> Beside<'a, A> {
 impl Gate for Beside<'_, Staying> {
     fn at(&self, moment: &Moment) {
         let whose = (moment.worker(), moment.slot(), moment.seq());
-        if moment.point() != Point::Leaves || whose != (0, 0, 1) || moment.entry().is_some() {
+        if moment.point() != GatePoint::Leaves || whose != (0, 0, 1) || moment.entry().is_some() {
             return;
         }
         if let Some(mut second) = self.second.try_lock() {

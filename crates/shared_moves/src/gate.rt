@@ -4,7 +4,7 @@ ghost use Rattle.region_locks.specs.Pursuits.{command_pursued};
 ghost use Rattle.shared_moves.specs.Points.{has_entry};
 ghost use Rattle.shared_moves.specs.Moments.{IsAtPoint, HasLogged};
 
-use crate::point::Point;
+use crate::point::GatePoint;
 use entity_recs::{Cmd, Entry};
 use region_locks::Pass;
 use std::marker::Model;
@@ -14,7 +14,7 @@ use std::marker::Model;
 #[derive(Debug, Drop)]
 pub struct Moment {
     worker: u8,
-    point: Point,
+    point: GatePoint,
     slot: u8,
     seq: u32,
     entry: Option<Entry>,
@@ -33,7 +33,7 @@ impl Model for Moment {
 
 impl Moment {
     /// A moment before the commit of the command that the pass has in hand.
-    pub(crate) fn before<A>(pass: &Pass<A>, cmd: Cmd, point: Point) -> Moment
+    pub(crate) fn before<A>(pass: &Pass<A>, cmd: Cmd, point: GatePoint) -> Moment
         requires at { IsAtPoint pass.now point }
         requires before { has_entry point ≡ false }
         requires in_hand { command_pursued pass.now ≡ command_of cmd ∷ [] }
@@ -56,11 +56,11 @@ impl Moment {
 
     /// The moment after the commit of the command with this entry, which are the last item of the pass's log.
     pub(crate) fn committed<A>(pass: &Pass<A>, cmd: Cmd, entry: Entry) -> Moment
-        requires at { IsAtPoint pass.now Point.Committed }
+        requires at { IsAtPoint pass.now GatePoint.Committed }
         requires logged { HasLogged pass.now (command_of cmd) entry }
         ensures { result ≡ record {
           worker = pass.now.number;
-          point = Point.Committed;
+          point = GatePoint.Committed;
           slot = cmd.slot;
           seq = cmd.seq;
           entry = Some entry;
@@ -68,7 +68,7 @@ impl Moment {
     {
         Moment {
             worker: pass.number(),
-            point: Point::Committed,
+            point: GatePoint::Committed,
             slot: cmd.slot,
             seq: cmd.seq,
             entry: Some(entry),
@@ -90,7 +90,7 @@ impl Moment {
     }
 
     /// Where the move is.
-    pub fn point(&self) -> Point
+    pub fn point(&self) -> GatePoint
         ensures { result ≡ self.now.point }
     {
         self.point

@@ -3,7 +3,7 @@
 
 pub use again::Again;
 pub use gate::{Gate, Moment, NoGate};
-pub use point::Point;
+pub use point::GatePoint;
 pub use shared::Shared;
 
 mod again;

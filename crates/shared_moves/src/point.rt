@@ -1,6 +1,6 @@
 /// Where a move calls its gate.
 #[derive(Clone, Copy, Debug, PartialEq, Eq)]
-pub enum Point {
+pub enum GatePoint {
     /// All leaves of the move are held, and no inner node is.
     Leaves,
     /// The effect is known; the leaves are held, and no inner node is.

@@ -10,12 +10,12 @@ use crate::again::Again;
 use crate::gate::Gate;
 use crate::shared::Shared;
 use entity_recs::{Action, Cmd, Entry};
-use region_locks::{Pass, Refusal};
+use region_locks::{Pass, RefusedTake};
 use std::sync::Wait;
 use std::thread;
 
 /// Why a move wasn't run, by the take that was refused.
-fn again_after(refusal: Refusal) -> Again
+fn again_after(refusal: RefusedTake) -> Again
     ensures { (F : Fixed) (passes own : ℕ) (c : Command) (r : Refused) → r.node ≡ refusal.node
         → IsRefusedBy F passes own c r refusal.holder.number refusal.holder.leaves → IsCause F passes own c r result }
 {

@@ -8,14 +8,14 @@ ghost use Rattle.shared_moves.specs.Points.{has_entry};
 ghost use Rattle.shared_moves.specs.Moments.{IsAtPoint, HasLogged, RunsCommand};
 
 use crate::gate::{Gate, Moment};
-use crate::point::Point;
+use crate::point::GatePoint;
 use crate::shared::Shared;
 use entity_recs::{Action, Cmd, Entry};
-use region_locks::{Pass, Refusal, Turn, Went};
+use region_locks::{Pass, RefusedTake, Turn, Went};
 
 impl<'a, A: Action> Shared<'a, A> {
     /// Calls the gate before the commit.
-    fn show<G: Gate>(&self, pass: &Pass<A>, cmd: Cmd, point: Point, gate: &G)
+    fn show<G: Gate>(&self, pass: &Pass<A>, cmd: Cmd, point: GatePoint, gate: &G)
         requires at { IsAtPoint pass.now point }
         requires before { has_entry point ≡ false }
         requires in_hand { command_pursued pass.now ≡ command_of cmd ∷ [] }
@@ -31,7 +31,7 @@ impl<'a, A: Action> Shared<'a, A> {
         entry: Option<Entry>,
         gate: &G,
     ) -> Option<Entry>
-        requires at { IsAtPoint pass.now Point.Committed }
+        requires at { IsAtPoint pass.now GatePoint.Committed }
         requires logged { IfSome entry (λ e. HasLogged pass.now (command_of cmd) e) }
         ensures { result ≡ entry }
     {
@@ -52,7 +52,7 @@ impl<'a, A: Action> Shared<'a, A> {
         if pass.has_written() {
             *entry = self.show_entry(pass, cmd, entry.take(), gate);
         } else if pass.has_its_leaves() {
-            self.show(pass, cmd, Point::Leaves, gate);
+            self.show(pass, cmd, GatePoint::Leaves, gate);
         }
     }
 
@@ -65,7 +65,7 @@ impl<'a, A: Action> Shared<'a, A> {
         turn: Turn,
         entry: &mut Option<Entry>,
         gate: &G,
-    ) -> Result<(), Refusal>
+    ) -> Result<(), RefusedTake>
         requires going { IsGoingOn (fixed_in A.takes A.region_of A.effect_of self.now) (length self.now.rooms)
             self.now.table pass.old }
         requires turn { turn_of (fixed_in A.takes A.region_of A.effect_of self.now) pass.old ≡ Some turn }
@@ -83,7 +83,7 @@ impl<'a, A: Action> Shared<'a, A> {
         self.show_held(pass, cmd, entry, gate);
         match self.table.go_on(pass, turn)? {
             Went::On => {}
-            Went::Resolved => self.show(pass, cmd, Point::Computed, gate),
+            Went::Resolved => self.show(pass, cmd, GatePoint::Computed, gate),
             Went::Committed(e) => *entry = Some(e),
         }
         Ok(())

@@ -4,7 +4,7 @@ use super::report_of;
 use arena_engine::{Report, serve};
 use edge_io::{MemSink, MemSource};
 use entity_recs::Entry;
-use shared_moves::{Gate, Moment, Point};
+use shared_moves::{Gate, GatePoint, Moment};
 use std::alloc::{AllocError, AllocGlobal};
 use std::process::Abort;
 use std::sync::Wait;
@@ -35,11 +35,11 @@ impl NotingGate {
     }
 
     /// The workers that have called at this point.
-    fn seen_at(&self, point: Point) -> &AtomicU32 {
+    fn seen_at(&self, point: GatePoint) -> &AtomicU32 {
         match point {
-            Point::Leaves => &self.leaves,
-            Point::Computed => &self.computed,
-            Point::Committed => &self.committed,
+            GatePoint::Leaves => &self.leaves,
+            GatePoint::Computed => &self.computed,
+            GatePoint::Committed => &self.committed,
         }
     }
 }

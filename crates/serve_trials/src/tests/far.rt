@@ -1,7 +1,7 @@
 use arena_engine::{Report, serve};
 use edge_io::{MemSink, MemSource};
 use entity_recs::Entry;
-use shared_moves::{Gate, Moment, Point};
+use shared_moves::{Gate, GatePoint, Moment};
 use std::alloc::{AllocError, AllocGlobal};
 use std::process::Abort;
 use std::sync::Wait;
@@ -105,15 +105,15 @@ impl Gate for HoldingGate {
         }
         let (mine, other) = self.seen_of(worker);
         match (moment.point(), moment.entry()) {
-            (Point::Leaves, _) => {
+            (GatePoint::Leaves, _) => {
                 mine.leaves.store(true, Ordering::SeqCst);
                 if worker == self.held && !other.has_committed() {
                     self.fail();
                 }
             }
-            (Point::Computed, _) => {}
-            (Point::Committed, Some(entry)) => mine.keep(entry),
-            (Point::Committed, None) => self.fail(),
+            (GatePoint::Computed, _) => {}
+            (GatePoint::Committed, Some(entry)) => mine.keep(entry),
+            (GatePoint::Committed, None) => self.fail(),
         }
     }
 }

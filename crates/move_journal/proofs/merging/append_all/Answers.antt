@@ -1,5 +1,5 @@
 use Rattle.std.proofs.Common.{◌≡◌, ◌≤◌, ◌+◌, take, length, arith, ap, length-append}
-use Rattle.move_journal.specs.Logs.{LogView, JournalView}
+use Rattle.move_journal.specs.Logs.{JournalView}
 use Rattle.move_journal.specs.ByPlace.{entries_in}
 use Rattle.move_journal.proofs.LogEntries.{log_fits}
 use Rattle.move_journal.proofs.merging.append_all.Goals as goal
@@ -10,5 +10,5 @@ append-requires c =
     let count = ap (λ (out : JournalView). length out.entries) c.loop-log.invariant in
     let room = ap (λ (out : JournalView). out.room) c.loop-log.invariant in
     let before = length-append c.args.out.now.entries (entries_in (take c.loop-log.log-index c.args.logs.now)) in
-    let here = ap (λ (log : LogView). length log.entries) c.log-item.is in
+    let here = ap (λ (log : JournalView). length log.entries) c.log-item.is in
     record { room = omega (arith, fits, count, room, before, here, c.requires.room) }

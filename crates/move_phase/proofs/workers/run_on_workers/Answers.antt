@@ -1,6 +1,6 @@
 use Rattle.std.proofs.Common.{ℕ, List, length, map, sym, subst, arith}
 use Rattle.entity_recs.specs.Commands.{command_of}
-use Rattle.move_journal.specs.Logs.{LogView}
+use Rattle.move_journal.specs.Logs.{JournalView}
 use Rattle.region_locks.specs.Passes.{fixed_in}
 use Rattle.region_locks.specs.Closing.{log_from}
 use Rattle.move_phase.specs.Running.{HaveRun}
@@ -39,5 +39,5 @@ returns-clause-ran g c =
       count = c.run_passes.ensures.count;
       each = c.run_passes.ensures.served;
     }) c.close.new.world c.close.ensures.closed in
-    subst (λ (views : List LogView). HaveRun F c.args.workers commands views c.close.new.world) (sym c.close.ensures.logs)
+    subst (λ (views : List JournalView). HaveRun F c.args.workers commands views c.close.new.world) (sym c.close.ensures.logs)
     (subst (λ (n : ℕ). HaveRun F n commands (map log_from c.run_passes.new.passes.items) c.close.new.world) ready.count ran)

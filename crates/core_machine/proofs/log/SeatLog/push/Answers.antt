@@ -1,7 +1,7 @@
 use Rattle.std.proofs.Common.{length, ap, refl, arith}
 use Rattle.core_machine.specs.Logs.{LogView}
 use Rattle.core_machine.proofs.Logs.{items_of-length, items_of-append}
-use Rattle.core_machine.proofs.log.Log.push.Goals as goal
+use Rattle.core_machine.proofs.log.SeatLog.push.Goals as goal
 
 pub push_reserved-requires : goal.push_reserved-requires
 push_reserved-requires c =

@@ -1,7 +1,7 @@
 use Rattle.std.proofs.Common.{sym, ap, ◌∙◌}
 use Rattle.core_machine.specs.Logs.{LogView, entries_of}
 use Rattle.core_machine.proofs.Logs.{entries_of-items}
-use Rattle.core_machine.proofs.log.Log.entries.Goals as goal
+use Rattle.core_machine.proofs.log.SeatLog.entries.Goals as goal
 
 pub returns : goal.returns
 returns c =
