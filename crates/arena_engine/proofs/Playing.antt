@@ -35,6 +35,7 @@ use Rattle.out_text.proofs.Runs.{length-right, run_lines-append, run_lines-push,
 use Rattle.out_text.proofs.Fronts.{AreRun, IsPlayed, lines_of, text_with, whole_text, none_are_run, last_of-push, front_has_last, out_has_last, out_text-is, is_front, is_output, frame_cut, end_cut, last_cut}
 use Rattle.playback.specs.Playbacks.{RunsFrame, Closes, MayClose, IsReady}
 use Rattle.arena_engine.specs.Games.{GameView, new_game, newest, Advances, closing_lines, event_lines, is_end}
+use Rattle.arena_engine.specs.Progress.{IsServerAt, Progress}
 use Rattle.arena_engine.specs.Output.{HasRoom, Writes, ReadsToEnd}
 use Rattle.arena_engine.proofs.Continuing.{Continues, continues, map_of-whole, frames_of-all, goes_on_frames, goes_on_events}
 use Rattle.arena_engine.proofs.Exits.{Played}
@@ -43,12 +44,6 @@ collected-push : (es : List Event) (e : Event) → collected (es ++ e ∷ []) �
 collected-push es e = collected-append es (e ∷ [])
 
 -- ---- a server that has run frames
-
--- the server is that of an arena after these frames, with these journals
-pub record IsServerAt (arena : MapView) (closed : List (List Arrival)) (js : List (List Entry)) (server : ServerView) : Type 0 where
-  pub map : server.map ≡ arena
-  pub state : server.state ≡ state_played arena 0 (opening arena) closed js
-  pub frames : server.frames ≡ length closed
 
 -- what a frame more comes to: its journal is right, and the server is that of the frames with it
 pub record OneMore (workers : ℕ) (arena : MapView) (closed : List (List Arrival)) (js : List (List Entry)) (arrivals : List Arrival) (new : ServerView) (j : List Entry) (lines : List OutLine) : Type 0 where
@@ -324,23 +319,6 @@ stage_of : (e : Event) → (stage_after e ≡ Playing) ⊎ (stage_after e ≡ En
 stage_of Frame = inl refl
 stage_of (From a) = inl refl
 stage_of End = inr refl
-
--- how far a recording was played: these events were, with these journals, and this one comes next
-pub record Progress (workers : ℕ) (arena : MapView) (reading : Reading) (before later : Option (List ℕ)) (taken_before taken : Option (List ℕ)) (game : GameView) (event : Event) : Type 0 where
-  pub events : List Event
-  pub reads : Reads start reading before later (events ++ event ∷ [])
-  pub stage : reading.stage ≡ stage_after event
-  pub frames : reading.frames ≤ 100000
-  pub arrivals : reading.arrivals ≤ 512
-  pub map : reading.map ≡ Some arena
-  pub is_map : IsMap arena
-  pub few : IfSome (collected events).opened (λ arrivals. length arrivals ≤ 512)
-  pub journals : List (List Entry)
-  pub run : AreRun workers arena (collected events).closed journals
-  pub at : IsServerAt arena (collected events).closed journals game.course.server
-  pub opened : game.course.opened ≡ (collected events).opened
-  pub last_is : game.last ≡ last_of journals
-  pub written : Appends taken_before taken (text_with arena (collected events).closed journals)
 
 -- the first event comes
 pub begins : (workers : ℕ) (arena : MapView) (r : Reading) (a b : Option (List ℕ)) (t : Option (List ℕ)) (g : GameView) (e : Event) → Reads start r a b (e ∷ []) → r.stage ≡ stage_after e → r.frames ≤ 100000

@@ -31,30 +31,12 @@ use Rattle.out_text.specs.OutLines.{OutLine}
 use Rattle.out_text.specs.Printers.{Prints, FailsIn}
 use Rattle.playback.specs.Playbacks.{IsReady}
 use Rattle.arena_engine.specs.Games.{GameView, new_game, Advances, Plays, event_lines, is_end}
+use Rattle.arena_engine.specs.Progress.{Progress, Runs, ReadsAsNeeded}
 use Rattle.arena_engine.specs.Output.{Writes, ReadsSome, ReadsToEnd, ReadsToRefusal, HasRoom}
 use Rattle.arena_engine.proofs.Exits.{memory_at_first, refused_at_first, fault_at_first, refused_on, fault_on, refusal_on}
 use Rattle.arena_engine.proofs.Exits as exits
 use Rattle.arena_engine.proofs.Continuing.{cut_end_after}
-use Rattle.arena_engine.proofs.Playing.{Progress, not_over, is_ready, memory_on, cut_on, done_on, whole_on, played_on, text_so_far, fits_on, goes_on, begins}
-
--- how far the recording was played, by a reader whose map was given out; neither count of faults has changed, and what room the sink was sure to have is that
--- which it has and the text so far
-pub record Runs (workers : ℕ) (demo : DemoReaderView) (before ahead : Option (List ℕ)) (taken_before taken : Option (List ℕ)) (game : GameView) (event : Event)
-    (reads_before reads writes_before writes room_before room : ℕ) : Type 0 where
-  pub arena : MapView
-  pub full : Reading
-  pub given : demo.reading ≡ without_map full
-  pub progress : Progress workers arena full before ahead taken_before taken game event
-  pub no_stop : demo.stop ≡ None
-  pub read_same : reads ≡ reads_before
-  pub write_same : writes ≡ writes_before
-  pub roomy : room_before ≤ room + length (text_with arena (collected progress.events).closed progress.journals)
-
--- how the source was read: no more than was needed, and without its end, but for an end without a line feed; and it is as sure
--- as before
-pub record ReadsAsNeeded {S : Type 0} (last : S → ℕ) (ended : S → Bool) (sure : S → Type 0) (a b : Option (List ℕ)) (old new : S) (pending : List ℕ) (e : Event) : Type 0 where
-  pub needed : (HasNotReadAhead old new (last new) [] pending × (ended new ≡ ended old)) ⊎ ((e ≡ End) × TakesCutEnd a b × (ended new ≡ true))
-  pub keeps : sure old → sure new
+use Rattle.arena_engine.proofs.Playing.{not_over, is_ready, memory_on, cut_on, done_on, whole_on, played_on, text_so_far, fits_on, goes_on, begins}
 
 -- before the end no more was read than was needed, and the input's end wasn't given
 pub needed_going : (e : Event) (P Q R : Type 0) → is_end e ≡ false → P ⊎ ((e ≡ End) × Q × R) → P
@@ -63,7 +45,7 @@ needed_going e P Q R going (inr (is, q, r)) = let last : is_end e ≡ true = ap 
 
 -- ---- the reader is fresh
 
-fresh_is_open : IsOpen fresh_reader
+pub fresh_is_open : IsOpen fresh_reader
 fresh_is_open = record { no_stop = refl; not_over = refl }
 
 read_fault_of : (d : DemoStop) (P Q : Type 0) → (P → Q) → reads_of.OnReadFault d P → OnReadFault (stop_of d) Q

@@ -32,6 +32,8 @@ pub mod Games
 pub mod StopOf
 pub mod Stops
 pub mod Output
+pub mod PlayEnds
+pub mod Progress
 pub mod Reports
 pub mod Serving
 pub mod Played

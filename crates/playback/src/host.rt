@@ -6,6 +6,7 @@ use std::sync::Wait;
 use std::thread::Threads;
 
 /// What frames are run with.
+#[derive(Drop)]
 pub struct Host<'a, R: Threads + Wait + Sync, G: Gate> {
     /// Starts the threads of a frame, and waits for them.
     pub rt: &'a R,
