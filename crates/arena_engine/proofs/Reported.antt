@@ -4,7 +4,7 @@ use Rattle.edge_io.specs.declared.source.Source as sources
 use Rattle.edge_io.specs.declared.sink.Sink as sinks
 use Rattle.edge_io.specs.Counts.{HasRisen}
 use Rattle.entity_recs.specs.declared.effect.Entry.{Entry}
-use Rattle.demo_lines.specs.Bytes.{Refusal, fault}
+use Rattle.demo_lines.specs.Bytes.{LineRefusal, fault}
 use Rattle.out_text.specs.Output.{HasLast, IsOutput, IsRefused}
 use Rattle.arena_engine.specs.declared.report.Report.{Report}
 use Rattle.arena_engine.specs.Endings.{Counts, Ends}
@@ -15,7 +15,7 @@ use Rattle.arena_engine.specs.Reports.{refusal_of, last_in}
 use Rattle.arena_engine.proofs.Taken.{taken_in_all, taken_in_some, taken_before_refusal}
 
 -- a recording that was refused isn't without a fault
-not_faultless : (workers : ℕ) (a t0 t1 : Option (List ℕ)) (last : Option (List Entry)) (why : Refusal) → IfSome a (λ bytes. Writes t0 t1 (HasLast (IsRefused workers bytes why) last))
+not_faultless : (workers : ℕ) (a t0 t1 : Option (List ℕ)) (last : Option (List Entry)) (why : LineRefusal) → IfSome a (λ bytes. Writes t0 t1 (HasLast (IsRefused workers bytes why) last))
     → IsSomeAnd a (λ bytes. fault bytes ≡ None) → ⊥
 not_faultless workers None t0 t1 last why written none = absurd none
 not_faultless workers (Some bytes) t0 t1 last why written none = let is = written.holds.holds.faulty in cc

@@ -4,7 +4,7 @@ use Rattle.entity_recs.specs.declared.effect.Entry.{Entry}
 use Rattle.edge_io.specs.declared.source.Source as sources
 use Rattle.edge_io.specs.declared.sink.Sink as sinks
 use Rattle.edge_io.specs.Counts.{HasRisen}
-use Rattle.demo_lines.specs.Bytes.{Refusal}
+use Rattle.demo_lines.specs.Bytes.{LineRefusal}
 use Rattle.out_text.specs.Output.{HasLast, IsOutput, IsRefused, IsCut, IsSomeFrames}
 use Rattle.arena_engine.specs.declared.stop.Stop.{Stop}
 use Rattle.arena_engine.specs.declared.stop.Stop.TheVariants.{Refused, ReadFault, WriteFault, Memory}
@@ -22,7 +22,7 @@ module _ {S K : Type 0} (s : sources.Ghosts S) (k : sinks.Ghosts K) (workers : �
     pub writes : k.faults sink' ≡ k.faults sink
 
   -- a line was refused: the frames before it were written, and it was read to this line
-  pub record StopsAtRefusal (why : Refusal) : Type 0 where
+  pub record StopsAtRefusal (why : LineRefusal) : Type 0 where
     pub output : IfSome (s.left source) (λ bytes.
         Writes (k.taken sink) (k.taken sink') (HasLast (IsRefused workers bytes why) last))
     pub read : ReadsToRefusal source source' (s.last source') (s.ended source' ≡ s.ended source)
