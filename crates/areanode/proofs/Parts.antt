@@ -1,5 +1,5 @@
 -- The parts of an area are boxes.
-use Rattle.std.proofs.Common.{◌≡◌, ℤ, pos, negsuc, ◌+ℤ◌, ◌≤ℤ◌, ◌≤◌, unsigned_abs, Option, Some, None, SomeIff, IsSome, FitsSigned, to_z, of_z, refl, ap, ◌∙◌, arith}
+use Rattle.std.proofs.Common.{◌≡◌, ℤ, pos, negsuc, ◌+ℤ◌, ◌≤ℤ◌, ◌≤◌, unsigned_abs, FitsSigned, to_z, of_z, refl, ◌∙◌, arith}
 use Rattle.std.specs.Int.{int_div_euclid, w32}
 use Rattle.std.proofs.lemmas.Int.{ints, to_z-of_z}
 use Rattle.arena_geo.specs.declared.vec3.Vec3.{Vec3}
@@ -68,15 +68,6 @@ part_above_is_box area box = raised_is_box _ _ area box (cut_is_between area box
 
 pub part_below_is_box : (area : Bounds) → IsBox area → IsBox (part_below area)
 part_below_is_box area box = lowered_is_box _ _ area box (cut_is_between area box.ordered)
-
--- a box out of the corners of a box is there
-pub made : (r : Option Bounds) (lo hi : Vec3) (b : Bounds) → lo ≡ b.lo → hi ≡ b.hi → IsBox b
-    → SomeIff r (IsBox (bounds lo hi)) (bounds lo hi) → r ≡ Some b
-made None lo hi b e f box none = absurd (none (rw (e, f) box))
-made (Some x) lo hi b e f box some = ap Some (rw (e, f) at some.1)
-
-pub is_there : (r : Option Bounds) (b : Bounds) → r ≡ Some b → IsSome r
-is_there r b e = rw e
 
 -- what the code set at the cut is what is set there
 pub set_at : (r corner lo : Vec3) (cut at : Cut) → FitsSigned w32 cut.dist

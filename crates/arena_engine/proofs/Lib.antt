@@ -7,5 +7,7 @@ pub mod Continuing
 pub mod Taken
 pub mod Exits
 pub mod Playing
-mod Running
+pub mod Running
+pub mod Ended
+pub mod Reported
 pub mod Summing

@@ -33,8 +33,9 @@ use Rattle.out_text.proofs.Growing.{GoesOnWith, collected-append}
 use Rattle.out_text.proofs.Agreement.{Agrees, AgreesAt, NoneYet, OneOpen, AllClosed, agrees_lines}
 use Rattle.out_text.proofs.Runs.{length-right, run_lines-append, run_lines-push, state_played-push, right-append, right-push, in_order-append, in_order-push, text_of-append}
 use Rattle.out_text.proofs.Fronts.{AreRun, IsPlayed, lines_of, text_with, whole_text, none_are_run, last_of-push, front_has_last, out_has_last, out_text-is, is_front, is_output, frame_cut, end_cut, last_cut}
-use Rattle.arena_engine.specs.Games.{GameView, new_game, RunsFrame, ClosesFrame, last_after, GoesOn, closing_lines, event_lines, IsReady, is_end}
-use Rattle.arena_engine.specs.LastFrames.{entries_in}
+use Rattle.playback.specs.Playbacks.{RunsFrame, Closes, MayClose, IsReady}
+use Rattle.arena_engine.specs.Games.{GameView, new_game, newest, Advances, closing_lines, event_lines, is_end}
+use Rattle.arena_engine.specs.Progress.{IsServerAt, Progress}
 use Rattle.arena_engine.specs.Output.{HasRoom, Writes, ReadsToEnd}
 use Rattle.arena_engine.proofs.Continuing.{Continues, continues, map_of-whole, frames_of-all, goes_on_frames, goes_on_events}
 use Rattle.arena_engine.proofs.Exits.{Played}
@@ -43,12 +44,6 @@ collected-push : (es : List Event) (e : Event) → collected (es ++ e ∷ []) �
 collected-push es e = collected-append es (e ∷ [])
 
 -- ---- a server that has run frames
-
--- the server is that of an arena after these frames, with these journals
-pub record IsServerAt (arena : MapView) (closed : List (List Arrival)) (js : List (List Entry)) (server : ServerView) : Type 0 where
-  pub map : server.map ≡ arena
-  pub state : server.state ≡ state_played arena 0 (opening arena) closed js
-  pub frames : server.frames ≡ length closed
 
 -- what a frame more comes to: its journal is right, and the server is that of the frames with it
 pub record OneMore (workers : ℕ) (arena : MapView) (closed : List (List Arrival)) (js : List (List Entry)) (arrivals : List Arrival) (new : ServerView) (j : List Entry) (lines : List OutLine) : Type 0 where
@@ -88,16 +83,16 @@ one_more workers arena closed js arrivals old new j run at runs =
     }
 
 -- what a frame that is closed, if one was open, comes to
-pub record Closed (workers : ℕ) (arena : MapView) (closed : List (List Arrival)) (js : List (List Entry)) (opened : Option (List Arrival)) (new : ServerView) (j : List Entry) (lines : List OutLine) : Type 0 where
+pub record Closed (workers : ℕ) (arena : MapView) (closed : List (List Arrival)) (js : List (List Entry)) (opened : Option (List Arrival)) (new : ServerView) (j : Option (List Entry)) (lines : List OutLine) : Type 0 where
   pub more : List (List Entry)
   pub run : AreRun workers arena (closed ++ closing opened) (js ++ more)
   pub at : IsServerAt arena (closed ++ closing opened) (js ++ more) new
-  pub last_is : (before : Option (List Entry)) → before ≡ last_of js → last_after opened before j ≡ last_of (js ++ more)
+  pub last_is : (before : Option (List Entry)) → before ≡ last_of js → newest j before ≡ last_of (js ++ more)
   pub whole : lines_of arena closed js ++ lines ≡ lines_of arena (closed ++ closing opened) (js ++ more)
 
-closed_by : (workers : ℕ) (arena : MapView) (closed : List (List Arrival)) (js : List (List Entry)) (opened : Option (List Arrival)) (old new : ServerView) (j : List Entry) → AreRun workers arena closed js
-    → IsServerAt arena closed js old → ClosesFrame workers old new opened j → Closed workers arena closed js opened new j (closing_lines old opened j)
-closed_by workers arena closed js None old new j run at is = record {
+closed_by : (workers : ℕ) (arena : MapView) (closed : List (List Arrival)) (js : List (List Entry)) (opened : Option (List Arrival)) (old new : ServerView) (j : Option (List Entry)) → AreRun workers arena closed js
+    → IsServerAt arena closed js old → Closes workers old new opened j → Closed workers arena closed js opened new j (closing_lines old opened j)
+closed_by workers arena closed js None old new None run at is = record {
   more = [];
   run = subst (λ (fs : List (List Arrival)). AreRun workers arena fs (js ++ [])) (sym (append-nil closed)) (subst (AreRun workers arena closed) (sym (append-nil js)) run);
   at = subst (λ (fs : List (List Arrival)). IsServerAt arena fs (js ++ []) new) (sym (append-nil closed))
@@ -105,7 +100,9 @@ closed_by workers arena closed js None old new j run at is = record {
   last_is = λ before same. same ∙ ap last_of (sym (append-nil js));
   whole = append-nil (lines_of arena closed js) ∙ sym (λ i. lines_of arena (append-nil closed i) (append-nil js i));
 }
-closed_by workers arena closed js (Some arrivals) old new j run at runs =
+closed_by workers arena closed js None old new (Some j) run at never = absurd never
+closed_by workers arena closed js (Some arrivals) old new None run at never = absurd never
+closed_by workers arena closed js (Some arrivals) old new (Some j) run at runs =
     let more = one_more workers arena closed js arrivals old new j run at runs in
     record { more = j ∷ []; run = more.run; at = more.at; last_is = λ before same. sym (last_of-push js j); whole = more.whole }
 
@@ -121,94 +118,98 @@ last_lines End closed = EndLine (length closed) ∷ []
 pub record Advanced (workers : ℕ) (arena : MapView) (f : Frames) (js : List (List Entry)) (e : Event) (new : GameView) (lines : List OutLine) : Type 0 where
   pub more : List (List Entry)
   pub run : AreRun workers arena (collect f e).closed (js ++ more)
-  pub at : IsServerAt arena (collect f e).closed (js ++ more) new.server
-  pub opened : new.opened ≡ (collect f e).opened
+  pub at : IsServerAt arena (collect f e).closed (js ++ more) new.course.server
+  pub opened : new.course.opened ≡ (collect f e).opened
   pub last_is : new.last ≡ last_of (js ++ more)
   pub whole : lines_of arena f.closed js ++ lines ≡ lines_of arena (collect f e).closed (js ++ more) ++ last_lines e (collect f e).closed
 
-module _ (workers : ℕ) (arena : MapView) (f : Frames) (js : List (List Entry)) (old new : GameView) (run : AreRun workers arena f.closed js) (at : IsServerAt arena f.closed js old.server)
-    (same : old.opened ≡ f.opened) (last_is : old.last ≡ last_of js) where
-  closes : ClosesFrame workers old.server new.server old.opened (entries_in new.last) → Closed workers arena f.closed js f.opened new.server (entries_in new.last) (closing_lines old.server f.opened (entries_in new.last))
+module _ (workers : ℕ) (arena : MapView) (f : Frames) (js : List (List Entry)) (old new : GameView) (closed : Option (List Entry)) (run : AreRun workers arena f.closed js) (at : IsServerAt arena f.closed js old.course.server)
+    (same : old.course.opened ≡ f.opened) (last_is : old.last ≡ last_of js) where
+  closes : Closes workers old.course.server new.course.server old.course.opened closed → Closed workers arena f.closed js f.opened new.course.server closed (closing_lines old.course.server f.opened closed)
   closes is =
-      closed_by workers arena f.closed js f.opened old.server new.server (entries_in new.last) run at
-      (subst (λ (o : Option (List Arrival)). ClosesFrame workers old.server new.server o (entries_in new.last)) same is)
+      closed_by workers arena f.closed js f.opened old.course.server new.course.server closed run at
+      (subst (λ (o : Option (List Arrival)). Closes workers old.course.server new.course.server o closed) same is)
 
-  lines-same : closing_lines old.server old.opened (entries_in new.last) ≡ closing_lines old.server f.opened (entries_in new.last)
-  lines-same = ap (λ o. closing_lines old.server o (entries_in new.last)) same
+  lines-same : closing_lines old.course.server old.course.opened closed ≡ closing_lines old.course.server f.opened closed
+  lines-same = ap (λ o. closing_lines old.course.server o closed) same
 
-  last-same : last_after old.opened old.last (entries_in new.last) ≡ last_after f.opened old.last (entries_in new.last)
-  last-same = ap (λ o. last_after o old.last (entries_in new.last)) same
-
-  pub advanced : (e : Event) → GoesOn workers old new e → Advanced workers arena f js e new (event_lines old new e)
-  advanced Frame goes =
-      let c = closes goes.closed in
+  pub advanced : (e : Event) → Advances workers old new e closed → Advanced workers arena f js e new (event_lines old.course new.course e closed)
+  advanced Frame advances =
+      let goes = advances.goes in
+      let c = closes goes.closes in
       record {
         more = c.more;
         run = c.run;
         at = c.at;
         opened = goes.opened_is;
-        last_is = goes.last_is ∙ last-same ∙ c.last_is old.last last_is;
+        last_is = advances.last_is ∙ c.last_is old.last last_is;
         whole = ap (λ ls. lines_of arena f.closed js ++ ls) lines-same ∙ c.whole ∙ sym (append-nil (lines_of arena (f.closed ++ closing f.opened) (js ++ c.more)));
       }
-  advanced (From a) goes = record {
-    more = [];
-    run = subst (AreRun workers arena f.closed) (sym (append-nil js)) run;
-    at = subst (λ (ks : List (List Entry)). IsServerAt arena f.closed ks new.server) (sym (append-nil js)) (subst (IsServerAt arena f.closed js) (sym goes.server) at);
-    opened = goes.opened_is ∙ ap (option_map (λ arrivals. arrivals ++ a ∷ [])) same;
-    last_is = goes.last_is ∙ last_is ∙ ap last_of (sym (append-nil js));
-    whole = ap (λ ks. lines_of arena f.closed ks ++ []) (sym (append-nil js));
-  }
-  advanced End goes =
-      let c = closes goes.closed in
+  advanced (From a) advances =
+      let goes = advances.goes in
+      record {
+        more = [];
+        run = subst (AreRun workers arena f.closed) (sym (append-nil js)) run;
+        at = subst (λ (ks : List (List Entry)). IsServerAt arena f.closed ks new.course.server) (sym (append-nil js)) (subst (IsServerAt arena f.closed js) (sym goes.server) at);
+        opened = goes.opened_is ∙ ap (option_map (λ arrivals. arrivals ++ a ∷ [])) same;
+        last_is = advances.last_is ∙ ap (λ (j : Option (List Entry)). newest j old.last) goes.none_closed ∙ last_is ∙ ap last_of (sym (append-nil js));
+        whole = ap (λ ks. lines_of arena f.closed ks ++ []) (sym (append-nil js));
+      }
+  advanced End advances =
+      let goes = advances.goes in
+      let c = closes goes.closes in
       let here = lines_of arena f.closed js in
       record {
         more = c.more;
         run = c.run;
         at = c.at;
         opened = goes.opened_is;
-        last_is = goes.last_is ∙ last-same ∙ c.last_is old.last last_is;
-        whole = ap (λ ls. here ++ (ls ++ EndLine new.server.frames ∷ [])) lines-same
-            ∙ sym (append_assoc here (closing_lines old.server f.opened (entries_in new.last)) (EndLine new.server.frames ∷ []))
-            ∙ ap (λ ls. ls ++ EndLine new.server.frames ∷ []) c.whole
+        last_is = advances.last_is ∙ c.last_is old.last last_is;
+        whole = ap (λ ls. here ++ (ls ++ EndLine new.course.server.frames ∷ [])) lines-same
+            ∙ sym (append_assoc here (closing_lines old.course.server f.opened closed) (EndLine new.course.server.frames ∷ []))
+            ∙ ap (λ ls. ls ++ EndLine new.course.server.frames ∷ []) c.whole
             ∙ ap (λ n. lines_of arena (f.closed ++ closing f.opened) (js ++ c.more) ++ EndLine n ∷ []) c.at.frames;
       }
 
   -- the text of an event, after that of the frames before it
-  text-advanced : (e : Event) (goes : GoesOn workers old new e)
-      → text_with arena f.closed js ++ text_of (event_lines old new e)
-      ≡ text_of (lines_of arena (collect f e).closed (js ++ (advanced e goes).more) ++ last_lines e (collect f e).closed)
-  text-advanced e goes = sym (text_of-append (lines_of arena f.closed js) (event_lines old new e)) ∙ ap text_of (advanced e goes).whole
+  text-advanced : (e : Event) (advances : Advances workers old new e closed)
+      → text_with arena f.closed js ++ text_of (event_lines old.course new.course e closed)
+      ≡ text_of (lines_of arena (collect f e).closed (js ++ (advanced e advances).more) ++ last_lines e (collect f e).closed)
+  text-advanced e advances = sym (text_of-append (lines_of arena f.closed js) (event_lines old.course new.course e closed)) ∙ ap text_of (advanced e advances).whole
 
 -- ---- a write that fails in the text of an event
 
 module _ (workers : ℕ) (bytes : List ℕ) (arena : MapView) (played : IsPlayed bytes arena) where
   module _ (before last : Option (List Entry)) (closed : List (List Arrival)) (js : List (List Entry)) (so_far : before ≡ last_of js) where
-    cut_frame : (opened : Option (List Arrival)) (old new : ServerView) (j : List Entry) (count : ℕ) → last ≡ last_after opened before j → AreRun workers arena closed js
-        → IsServerAt arena closed js old → ClosesFrame workers old new opened j → GoesOnWith (closed ++ closing opened) (frames_of bytes)
+    cut_frame : (opened : Option (List Arrival)) (old new : ServerView) (j : Option (List Entry)) (count : ℕ) → last ≡ newest j before → AreRun workers arena closed js
+        → IsServerAt arena closed js old → Closes workers old new opened j → GoesOnWith (closed ++ closing opened) (frames_of bytes)
         → count < length (text_of (closing_lines old opened j)) → IsCut workers bytes last (text_with arena closed js ++ take count (text_of (closing_lines old opened j)))
-    cut_frame None old new j count is run at same on short = absurd (omega arith)
-    cut_frame (Some arrivals) old new j count is run at runs on short =
+    cut_frame None old new j count is run at closes on short = absurd (omega arith)
+    cut_frame (Some arrivals) old new None count is run at never on short = absurd never
+    cut_frame (Some arrivals) old new (Some j) count is run at runs on short =
         let more = one_more workers arena closed js arrivals old new j run at runs in
-        let P : Option (List Entry) → Type 0 = λ l. IsCut workers bytes l (text_with arena closed js ++ take count (text_of (closing_lines old (Some arrivals) j))) in
+        let P : Option (List Entry) → Type 0 = λ l. IsCut workers bytes l (text_with arena closed js ++ take count (text_of (closing_lines old (Some arrivals) (Some j)))) in
         subst P (last_of-push js j ∙ sym is)
-        (inl (frame_cut workers bytes arena played closed arrivals js j (closing_lines old (Some arrivals) j) count (length-right arena 0 (opening arena) closed js run.right) on more.run more.lines_are short))
+        (inl (frame_cut workers bytes arena played closed arrivals js j (closing_lines old (Some arrivals) (Some j)) count (length-right arena 0 (opening arena) closed js run.right) on more.run more.lines_are short))
 
-    cut_end : (opened : Option (List Arrival)) (old new : ServerView) (j : List Entry) (count : ℕ) → last ≡ last_after opened before j → AreRun workers arena closed js
-        → IsServerAt arena closed js old → ClosesFrame workers old new opened j → fault bytes ≡ None → frames_of bytes ≡ closed ++ closing opened
+    cut_end : (opened : Option (List Arrival)) (old new : ServerView) (j : Option (List Entry)) (count : ℕ) → last ≡ newest j before → AreRun workers arena closed js
+        → IsServerAt arena closed js old → Closes workers old new opened j → fault bytes ≡ None → frames_of bytes ≡ closed ++ closing opened
         → count < length (text_of (closing_lines old opened j ++ EndLine new.frames ∷ []))
         → IsCut workers bytes last (text_with arena closed js ++ take count (text_of (closing_lines old opened j ++ EndLine new.frames ∷ [])))
-    cut_end None old new j count is run at same accepted all short =
+    cut_end None old new None count is run at same accepted all short =
         let frames : new.frames ≡ length closed = ap (λ (t : ServerView). t.frames) same ∙ at.frames in
         let P : ℕ → Type 0 = λ n. count < length (text_of (EndLine n ∷ [])) in
         let Q : ℕ → Type 0 = λ n. IsCut workers bytes last (text_with arena closed js ++ take count (text_of (EndLine n ∷ []))) in
         let R : Option (List Entry) → Type 0 = λ l. IsCut workers bytes l (text_with arena closed js ++ take count (text_of (EndLine (length closed) ∷ []))) in
         subst Q (sym frames)
         (subst R (sym so_far ∙ sym is) (inr (end_cut workers bytes arena played closed js count accepted (all ∙ append-nil closed) run (subst P frames short))))
-    cut_end (Some arrivals) old new j count is run at runs accepted all short =
+    cut_end None old new (Some j) count is run at never accepted all short = absurd never
+    cut_end (Some arrivals) old new None count is run at never accepted all short = absurd never
+    cut_end (Some arrivals) old new (Some j) count is run at runs accepted all short =
         let more = one_more workers arena closed js arrivals old new j run at runs in
-        let P : Option (List Entry) → Type 0 = λ l. IsCut workers bytes l (text_with arena closed js ++ take count (text_of (closing_lines old (Some arrivals) j ++ EndLine new.frames ∷ []))) in
+        let P : Option (List Entry) → Type 0 = λ l. IsCut workers bytes l (text_with arena closed js ++ take count (text_of (closing_lines old (Some arrivals) (Some j) ++ EndLine new.frames ∷ []))) in
         subst P (last_of-push js j ∙ sym is)
-        (inr (last_cut workers bytes arena played closed arrivals js j (closing_lines old (Some arrivals) j ++ EndLine new.frames ∷ []) count (length-right arena 0 (opening arena) closed js run.right) accepted all
+        (inr (last_cut workers bytes arena played closed arrivals js j (closing_lines old (Some arrivals) (Some j) ++ EndLine new.frames ∷ []) count (length-right arena 0 (opening arena) closed js run.right) accepted all
         more.run (λ i. more.lines_are i ++ EndLine (more.at.frames i) ∷ []) short))
 
   -- ---- what fits
@@ -319,23 +320,6 @@ stage_of Frame = inl refl
 stage_of (From a) = inl refl
 stage_of End = inr refl
 
--- how far a recording was played: these events were, with these journals, and this one comes next
-pub record Progress (workers : ℕ) (arena : MapView) (reading : Reading) (before later : Option (List ℕ)) (taken_before taken : Option (List ℕ)) (game : GameView) (event : Event) : Type 0 where
-  pub events : List Event
-  pub reads : Reads start reading before later (events ++ event ∷ [])
-  pub stage : reading.stage ≡ stage_after event
-  pub frames : reading.frames ≤ 100000
-  pub arrivals : reading.arrivals ≤ 512
-  pub map : reading.map ≡ Some arena
-  pub is_map : IsMap arena
-  pub few : IfSome (collected events).opened (λ arrivals. length arrivals ≤ 512)
-  pub journals : List (List Entry)
-  pub run : AreRun workers arena (collected events).closed journals
-  pub at : IsServerAt arena (collected events).closed journals game.server
-  pub opened : game.opened ≡ (collected events).opened
-  pub last_is : game.last ≡ last_of journals
-  pub written : Appends taken_before taken (text_with arena (collected events).closed journals)
-
 -- the first event comes
 pub begins : (workers : ℕ) (arena : MapView) (r : Reading) (a b : Option (List ℕ)) (t : Option (List ℕ)) (g : GameView) (e : Event) → Reads start r a b (e ∷ []) → r.stage ≡ stage_after e → r.frames ≤ 100000
     → r.arrivals ≤ 512 → r.map ≡ Some arena → IsMap arena → g ≡ new_game arena → Progress workers arena r a b t t g e
@@ -350,8 +334,8 @@ begins workers arena r a b t g e reads stage frames arrivals has is_map is = rec
   few = tt;
   journals = [];
   run = none_are_run workers arena;
-  at = record { map = ap (λ (h : GameView). h.server.map) is; state = ap (λ (h : GameView). h.server.state) is; frames = ap (λ (h : GameView). h.server.frames) is };
-  opened = ap (λ (h : GameView). h.opened) is;
+  at = record { map = ap (λ (h : GameView). h.course.server.map) is; state = ap (λ (h : GameView). h.course.server.state) is; frames = ap (λ (h : GameView). h.course.server.frames) is };
+  opened = ap (λ (h : GameView). h.course.opened) is;
   last_is = ap (λ (h : GameView). h.last) is;
   written = Appends-nil t;
 }
@@ -370,15 +354,24 @@ module _ (workers : ℕ) (arena : MapView) (r : Reading) (a b : Option (List ℕ
   agrees : Agrees r (collect f e)
   agrees = let P : Frames → Type 0 = λ h. Agrees r h in subst P (collected-push p.events e) (agrees_from_start r a b (p.events ++ e ∷ []) p.reads)
 
-  -- the event may come
-  pub is_ready : IsReady g
-  is_ready =
+  -- a frame that is open may be closed
+  may_close : MayClose g.course
+  may_close =
       let P : Option (List Arrival) → Type 0 = λ o. IfSome o (λ arrivals. length arrivals ≤ 512) in
       let Q : Option (List Arrival) → ℕ → Type 0 = λ o n. IfSome o (λ _. n < 100000) in
       record {
         few = subst P (sym p.opened) p.few;
-        frames = subst (Q g.opened) (sym p.at.frames) (subst (λ (o : Option (List Arrival)). Q o (length f.closed)) (sym p.opened) (room_before r f e p.frames p.stage agrees));
+        frames = subst (Q g.course.opened) (sym p.at.frames) (subst (λ (o : Option (List Arrival)). Q o (length f.closed)) (sym p.opened) (room_before r f e p.frames p.stage agrees));
       }
+
+  -- the event may come
+  pub is_ready : IsReady g.course e
+  is_ready = ready e
+    where
+      ready : (x : Event) → IsReady g.course x
+      ready Frame = may_close
+      ready (From a) = tt
+      ready End = may_close
 
   -- the recording has this arena
   is_played : (bytes rest : List ℕ) → Continues r (p.events ++ e ∷ []) bytes rest → IsPlayed bytes arena
@@ -400,9 +393,9 @@ module _ (workers : ℕ) (arena : MapView) (r : Reading) (a b : Option (List ℕ
 
   -- ---- with the game after the event
 
-  module _ (new : GameView) (goes : GoesOn workers g new e) where
-    abbrev pub next : Advanced workers arena f p.journals e new (event_lines g new e)
-    next = advanced workers arena f p.journals g new p.run p.at p.opened p.last_is e goes
+  module _ (new : GameView) (closed : Option (List Entry)) (goes : Advances workers g new e closed) where
+    abbrev pub next : Advanced workers arena f p.journals e new (event_lines g.course new.course e closed)
+    next = advanced workers arena f p.journals g new closed p.run p.at p.opened p.last_is e goes
 
     -- the frames that are closed then are the first of all
     closed_go_on : (bytes rest : List ℕ) → Continues r (p.events ++ e ∷ []) bytes rest → GoesOnWith (collect f e).closed (frames_of bytes)
@@ -410,38 +403,36 @@ module _ (workers : ℕ) (arena : MapView) (r : Reading) (a b : Option (List ℕ
         let P : Frames → Type 0 = λ h. GoesOnWith h.closed (frames_of bytes) in
         subst P (collected-push p.events e) (goes_on_frames r (p.events ++ e ∷ []) bytes rest so)
 
-    cut_at : (bytes rest : List ℕ) (count : ℕ) → Continues r (p.events ++ e ∷ []) bytes rest → count < length (text_of (event_lines g new e))
-        → IsCut workers bytes new.last (text_with arena f.closed p.journals ++ take count (text_of (event_lines g new e)))
+    cut_at : (bytes rest : List ℕ) (count : ℕ) → Continues r (p.events ++ e ∷ []) bytes rest → count < length (text_of (event_lines g.course new.course e closed))
+        → IsCut workers bytes new.last (text_with arena f.closed p.journals ++ take count (text_of (event_lines g.course new.course e closed)))
     cut_at bytes rest count so = by e refl goes
       where
         played : IsPlayed bytes arena
         played = is_played bytes rest so
 
-        by : (x : Event) → e ≡ x → GoesOn workers g new x → count < length (text_of (event_lines g new x)) → IsCut workers bytes new.last (text_with arena f.closed p.journals ++ take count (text_of (event_lines g new x)))
+        by : (x : Event) → e ≡ x → Advances workers g new x closed → count < length (text_of (event_lines g.course new.course x closed)) → IsCut workers bytes new.last (text_with arena f.closed p.journals ++ take count (text_of (event_lines g.course new.course x closed)))
         by Frame is goes_on short =
             let on = subst (λ (x : Event). GoesOnWith (collect f x).closed (frames_of bytes)) is (closed_go_on bytes rest so) in
-            let run = subst (λ (o : Option (List Arrival)). ClosesFrame workers g.server new.server o (entries_in new.last)) p.opened goes_on.closed in
-            let last = goes_on.last_is ∙ ap (λ (o : Option (List Arrival)). last_after o g.last (entries_in new.last)) p.opened in
-            let P : Option (List Arrival) → Type 0 = λ o. count < length (text_of (closing_lines g.server o (entries_in new.last))) in
-            let Q : Option (List Arrival) → Type 0 = λ o. IsCut workers bytes new.last (text_with arena f.closed p.journals ++ take count (text_of (closing_lines g.server o (entries_in new.last)))) in
-            subst Q (sym p.opened) (cut_frame workers bytes arena played g.last new.last f.closed p.journals p.last_is f.opened g.server new.server (entries_in new.last) count last p.run p.at run on (subst P p.opened short))
+            let run = subst (λ (o : Option (List Arrival)). Closes workers g.course.server new.course.server o closed) p.opened goes_on.goes.closes in
+            let P : Option (List Arrival) → Type 0 = λ o. count < length (text_of (closing_lines g.course.server o closed)) in
+            let Q : Option (List Arrival) → Type 0 = λ o. IsCut workers bytes new.last (text_with arena f.closed p.journals ++ take count (text_of (closing_lines g.course.server o closed))) in
+            subst Q (sym p.opened) (cut_frame workers bytes arena played g.last new.last f.closed p.journals p.last_is f.opened g.course.server new.course.server closed count goes_on.last_is p.run p.at run on (subst P p.opened short))
         by (From x) is goes_on short = absurd (omega arith)
         by End is goes_on short =
             let ended : r.stage ≡ Ended = p.stage ∙ ap stage_after is in
             let so_end = subst (λ (x : Event). Continues r (p.events ++ x ∷ []) bytes rest) is so in
-            let run = subst (λ (o : Option (List Arrival)). ClosesFrame workers g.server new.server o (entries_in new.last)) p.opened goes_on.closed in
-            let last = goes_on.last_is ∙ ap (λ (o : Option (List Arrival)). last_after o g.last (entries_in new.last)) p.opened in
-            let P : Option (List Arrival) → Type 0 = λ o. count < length (text_of (closing_lines g.server o (entries_in new.last) ++ EndLine new.server.frames ∷ [])) in
-            let Q : Option (List Arrival) → Type 0 = λ o. IsCut workers bytes new.last (text_with arena f.closed p.journals ++ take count (text_of (closing_lines g.server o (entries_in new.last) ++ EndLine new.server.frames ∷ []))) in
+            let run = subst (λ (o : Option (List Arrival)). Closes workers g.course.server new.course.server o closed) p.opened goes_on.goes.closes in
+            let P : Option (List Arrival) → Type 0 = λ o. count < length (text_of (closing_lines g.course.server o closed ++ EndLine new.course.server.frames ∷ [])) in
+            let Q : Option (List Arrival) → Type 0 = λ o. IsCut workers bytes new.last (text_with arena f.closed p.journals ++ take count (text_of (closing_lines g.course.server o closed ++ EndLine new.course.server.frames ∷ []))) in
             subst Q (sym p.opened)
-            (cut_end workers bytes arena played g.last new.last f.closed p.journals p.last_is f.opened g.server new.server (entries_in new.last) count last p.run p.at run (fault-at_end r (p.events ++ End ∷ []) bytes rest so_end ended)
+            (cut_end workers bytes arena played g.last new.last f.closed p.journals p.last_is f.opened g.course.server new.course.server closed count goes_on.last_is p.run p.at run (fault-at_end r (p.events ++ End ∷ []) bytes rest so_end ended)
             (frames-at_end r p.events bytes rest so_end ended) (subst P p.opened short))
 
     -- a write failed at this event
-    pub cut_on : (t2 : Option (List ℕ)) → AppendsPart t1 t2 (text_of (event_lines g new e)) → IfSome a (λ bytes. Writes t0 t2 (IsCut workers bytes new.last))
+    pub cut_on : (t2 : Option (List ℕ)) → AppendsPart t1 t2 (text_of (event_lines g.course new.course e closed)) → IfSome a (λ bytes. Writes t0 t2 (IsCut workers bytes new.last))
     cut_on t2 part =
         let front = text_with arena f.closed p.journals in
-        let piece = text_of (event_lines g new e) in
+        let piece = text_of (event_lines g.course new.course e closed) in
         continues r a b (p.events ++ e ∷ []) (λ bytes. Writes t0 t2 (IsCut workers bytes new.last)) p.reads (λ bytes rest is so. record {
           text = front ++ take part.count piece;
           written = Appends-trans t0 t1 t2 front (take part.count piece) p.written part.appended;
@@ -452,14 +443,14 @@ module _ (workers : ℕ) (arena : MapView) (r : Reading) (a b : Option (List ℕ
     abbrev pub text_so_far : List ℕ
     text_so_far = text_with arena f.closed p.journals
 
-    written_then : (t2 : Option (List ℕ)) → Appends t1 t2 (text_of (event_lines g new e))
+    written_then : (t2 : Option (List ℕ)) → Appends t1 t2 (text_of (event_lines g.course new.course e closed))
         → Appends t0 t2 (text_of (lines_of arena (collect f e).closed (p.journals ++ next.more) ++ last_lines e (collect f e).closed))
     written_then t2 written =
-        subst (Appends t0 t2) (text-advanced workers arena f p.journals g new p.run p.at p.opened p.last_is e goes)
-        (Appends-trans t0 t1 t2 text_so_far (text_of (event_lines g new e)) p.written written)
+        subst (Appends t0 t2) (text-advanced workers arena f p.journals g new closed p.run p.at p.opened p.last_is e goes)
+        (Appends-trans t0 t1 t2 text_so_far (text_of (event_lines g.course new.course e closed)) p.written written)
 
     -- it was the end, and all was written
-    pub done_on : (t2 : Option (List ℕ)) → e ≡ End → Appends t1 t2 (text_of (event_lines g new e)) → IfSome a (λ bytes. Writes t0 t2 (HasLast (IsOutput workers bytes) new.last))
+    pub done_on : (t2 : Option (List ℕ)) → e ≡ End → Appends t1 t2 (text_of (event_lines g.course new.course e closed)) → IfSome a (λ bytes. Writes t0 t2 (HasLast (IsOutput workers bytes) new.last))
     done_on t2 is written =
         let ended : r.stage ≡ Ended = p.stage ∙ ap stage_after is in
         continues r a b (p.events ++ e ∷ []) (λ bytes. Writes t0 t2 (HasLast (IsOutput workers bytes) new.last)) p.reads (λ bytes rest same so.
@@ -488,7 +479,7 @@ module _ (workers : ℕ) (arena : MapView) (r : Reading) (a b : Option (List ℕ
         no_last End h = cc
 
     -- it wasn't the end, and was played
-    pub played_on : (t2 : Option (List ℕ)) → is_end e ≡ false → Appends t1 t2 (text_of (event_lines g new e))
+    pub played_on : (t2 : Option (List ℕ)) → is_end e ≡ false → Appends t1 t2 (text_of (event_lines g.course new.course e closed))
         → Played workers arena r a b t0 t2 (p.events ++ e ∷ []) (p.journals ++ next.more) new.last
     played_on t2 going written = record {
       reads = p.reads;
@@ -501,13 +492,13 @@ module _ (workers : ℕ) (arena : MapView) (r : Reading) (a b : Option (List ℕ
     }
 
     -- a sink with room for every right output has room for the text of this event
-    pub fits_on : (room0 room1 : ℕ) → IsSomeAnd a (λ bytes. HasRoom workers bytes room0) → room0 ≤ room1 + length text_so_far → length (text_of (event_lines g new e)) ≤ room1
+    pub fits_on : (room0 room1 : ℕ) → IsSomeAnd a (λ bytes. HasRoom workers bytes room0) → room0 ≤ room1 + length text_so_far → length (text_of (event_lines g.course new.course e closed)) ≤ room1
     fits_on room0 room1 roomy left =
-        let X = length (text_of (event_lines g new e)) ≤ room1 in
+        let X = length (text_of (event_lines g.course new.course e closed)) ≤ room1 in
         let js = p.journals ++ next.more in
         let longer = (collect f e).closed in
-        let joined = ap length (text-advanced workers arena f p.journals g new p.run p.at p.opened p.last_is e goes) in
-        let both = length-append text_so_far (text_of (event_lines g new e)) in
+        let joined = ap length (text-advanced workers arena f p.journals g new closed p.run p.at p.opened p.last_is e goes) in
+        let both = length-append text_so_far (text_of (event_lines g.course new.course e closed)) in
         let each = continues r a b (p.events ++ e ∷ []) (λ bytes. HasRoom workers bytes room0 → X) p.reads (λ bytes rest is so roomy_one.
         let fits : length (text_of (lines_of arena longer js ++ last_lines e longer)) ≤ room0 = last_fits bytes rest room0 so roomy_one in
         omega (arith, fits, joined, both, left)) in
@@ -534,9 +525,9 @@ module _ (workers : ℕ) (arena : MapView) (r : Reading) (a b : Option (List ℕ
     -- how far the recording was played then, with the text of one event more
     pub record Next (r' : Reading) (b' t2 : Option (List ℕ)) (e' : Event) : Type 0 where
       pub progress : Progress workers arena r' a b' t0 t2 new e'
-      pub text : text_with arena (collected progress.events).closed progress.journals ≡ text_so_far ++ text_of (event_lines g new e)
+      pub text : text_with arena (collected progress.events).closed progress.journals ≡ text_so_far ++ text_of (event_lines g.course new.course e closed)
 
-    pub goes_on : (r' : Reading) (b' t2 : Option (List ℕ)) (e' : Event) → is_end e ≡ false → Appends t1 t2 (text_of (event_lines g new e)) → Reads r r' b b' (e' ∷ [])
+    pub goes_on : (r' : Reading) (b' t2 : Option (List ℕ)) (e' : Event) → is_end e ≡ false → Appends t1 t2 (text_of (event_lines g.course new.course e closed)) → Reads r r' b b' (e' ∷ [])
         → r'.stage ≡ stage_after e' → r'.frames ≤ 100000 → r'.arrivals ≤ 512 → Next r' b' t2 e'
     goes_on r' b' t2 e' going written reads stage frames arrivals =
         let played = played_on t2 going written in
@@ -554,12 +545,12 @@ module _ (workers : ℕ) (arena : MapView) (r : Reading) (a b : Option (List ℕ
             few = subst F (sym pushed) (few_after r (collect f e) r.stage p.arrivals agrees (stage_here (stage_of e)));
             journals = p.journals ++ next.more;
             run = played.run;
-            at = let P : Frames → Type 0 = λ h. IsServerAt arena h.closed (p.journals ++ next.more) new.server in subst P (sym pushed) next.at;
+            at = let P : Frames → Type 0 = λ h. IsServerAt arena h.closed (p.journals ++ next.more) new.course.server in subst P (sym pushed) next.at;
             opened = next.opened ∙ ap (λ (h : Frames). h.opened) (sym pushed);
             last_is = next.last_is;
             written = played.written;
           };
-          text = sym (text-advanced workers arena f p.journals g new p.run p.at p.opened p.last_is e goes ∙ going_text going);
+          text = sym (text-advanced workers arena f p.journals g new closed p.run p.at p.opened p.last_is e goes ∙ going_text going);
         }
       where
         stage_here : (stage_after e ≡ Playing) ⊎ (stage_after e ≡ Ended) → (r.stage ≡ Playing) ⊎ (r.stage ≡ Ended)

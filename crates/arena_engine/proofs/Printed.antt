@@ -1,29 +1,36 @@
--- A write that fails in what is due.
-use Rattle.std.specs.Result.{OnErr}
-use Rattle.std.proofs.Common.{Result, Ok, Err, ◌≡◌, ℕ, List, [], ◌++◌, Option, sym, ap, ◌∙◌, subst, append-nil}
-use Rattle.edge_io.specs.Writes.{AppendsPart}
+-- What is due is printed, or a write fails in it.
+use Rattle.std.proofs.Common.{◌≡◌, ℕ, List, [], ◌++◌, Option, sym, ap, ◌∙◌, subst, append_assoc, append-nil}
 use Rattle.out_text.specs.OutLines.{OutLine, text_of}
 use Rattle.out_text.specs.Printers.{Prints, FailsIn}
-use Rattle.out_text.proofs.Buffering.{prints_both, fails_then}
+use Rattle.out_text.proofs.Buffering.{prints_both, fails_longer, fails_then}
 use Rattle.out_text.proofs.Runs.{text_of-append}
 
-module _ {S : Type 0} (taken : S → Option (List ℕ)) (faults room : S → ℕ) (lines xs ys : List OutLine) (is : lines ≡ xs ++ ys) where
-  -- where nothing was pending before, a part of the lines was written
-  part_of : (a b : S) (p : List ℕ) → p ≡ [] → FailsIn taken faults a b (p ++ (text_of xs ++ text_of ys)) → AppendsPart (taken a) (taken b) (text_of lines)
-  part_of a b p none fails =
-      let whole : p ++ (text_of xs ++ text_of ys) ≡ text_of lines = ap (λ l. l ++ (text_of xs ++ text_of ys)) none ∙ sym (text_of-append xs ys) ∙ ap text_of (sym is) in
-      subst (AppendsPart (taken a) (taken b)) whole fails.part
+module _ {S : Type 0} (taken : S → Option (List ℕ)) (faults room : S → ℕ) (xs ys : List OutLine) where
+  -- all was printed, and then what was pending was written
+  pub all_printed : (a b c d : S) (p q r : List ℕ) → Prints taken faults room a b p q (text_of xs) → Prints taken faults room b c q r (text_of ys) → Prints taken faults room c d r [] []
+      → Prints taken faults room a d p [] (text_of (xs ++ ys))
+  all_printed a b c d p q r first second last =
+      let both = prints_both taken faults room a b c p q r (text_of xs) (text_of ys) first second in
+      let all = prints_both taken faults room a c d p r [] (text_of xs ++ text_of ys) [] both last in
+      subst (Prints taken faults room a d p []) (append-nil (text_of xs ++ text_of ys) ∙ sym (text_of-append xs ys)) all
 
-  -- a write failed in the second part of them
-  pub fails_in_second : (a b c : S) (p q : List ℕ) → p ≡ [] → Prints taken faults room a b p q (text_of xs) → FailsIn taken faults b c (q ++ text_of ys)
-      → AppendsPart (taken a) (taken c) (text_of lines)
-  fails_in_second a b c p q none first fails = part_of a c p none (fails_then taken faults room a b c p q (text_of xs) (text_of ys) first fails)
+  -- a write failed in the first part
+  pub fails_in_first : (a b : S) (p : List ℕ) → FailsIn taken faults a b (p ++ text_of xs) → FailsIn taken faults a b (p ++ text_of (xs ++ ys))
+  fails_in_first a b p fails =
+      let longer = fails_longer taken faults room a b (p ++ text_of xs) (text_of ys) fails in
+      let whole : (p ++ text_of xs) ++ text_of ys ≡ p ++ text_of (xs ++ ys) = append_assoc p (text_of xs) (text_of ys) ∙ ap (λ t. p ++ t) (sym (text_of-append xs ys)) in
+      subst (FailsIn taken faults a b) whole longer
 
-  -- a write failed when both were printed
-  pub fails_at_last : {X E : Type 0} (res : Result X E) (a b c d : S) (p q r : List ℕ) → p ≡ [] → Prints taken faults room a b p q (text_of xs) → Prints taken faults room b c q r (text_of ys)
-      → OnErr res (FailsIn taken faults c d r) → OnErr res (AppendsPart (taken a) (taken d) (text_of lines))
-  fails_at_last (Ok x) a b c d p q r none first second fails = tt
-  fails_at_last (Err e) a b c d p q r none first second fails =
+  -- in the second part
+  pub fails_in_second : (a b c : S) (p q : List ℕ) → Prints taken faults room a b p q (text_of xs) → FailsIn taken faults b c (q ++ text_of ys)
+      → FailsIn taken faults a c (p ++ text_of (xs ++ ys))
+  fails_in_second a b c p q first fails =
+      subst (λ t. FailsIn taken faults a c (p ++ t)) (sym (text_of-append xs ys)) (fails_then taken faults room a b c p q (text_of xs) (text_of ys) first fails)
+
+  -- when both were printed
+  pub fails_at_last : (a b c d : S) (p q r : List ℕ) → Prints taken faults room a b p q (text_of xs) → Prints taken faults room b c q r (text_of ys) → FailsIn taken faults c d r
+      → FailsIn taken faults a d (p ++ text_of (xs ++ ys))
+  fails_at_last a b c d p q r first second fails =
       let both = prints_both taken faults room a b c p q r (text_of xs) (text_of ys) first second in
       let last = fails_then taken faults room a c d p r (text_of xs ++ text_of ys) [] both (subst (FailsIn taken faults c d) (sym (append-nil r)) fails) in
-      part_of a d p none (subst (λ l. FailsIn taken faults a d (p ++ l)) (append-nil (text_of xs ++ text_of ys)) last)
+      subst (λ t. FailsIn taken faults a d (p ++ t)) (append-nil (text_of xs ++ text_of ys) ∙ sym (text_of-append xs ys)) last

@@ -1,5 +1,5 @@
 -- The loop that plays a recording, and its exits.
-use Rattle.std.proofs.Common.{◌≡◌, ℕ, ◌+◌, ◌≤◌, Bool, true, false, List, [], ◌∷◌, ◌++◌, length, Option, Some, None, IfSome, IsSomeAnd, ◌⊎◌, inl, inr, refl, sym, ap, ◌∙◌, subst, arith, length-append}
+use Rattle.std.proofs.Common.{◌≡◌, ℕ, ◌+◌, ◌≤◌, Bool, true, false, List, [], ◌∷◌, ◌++◌, length, Option, Some, None, IfSome, IsSomeAnd, ◌⊎◌, inl, inr, refl, sym, ap, ◌∙◌, subst, arith, length-append, append-nil}
 use Rattle.std.specs.Io.KnownBytes.{Appends}
 use Rattle.std.proofs.KnownBytes.{prepend_known-nil}
 use Rattle.edge_io.specs.Counts.{HasRisen}
@@ -27,40 +27,25 @@ use Rattle.arena_engine.specs.declared.stop.Stop.{Stop}
 use Rattle.arena_engine.specs.declared.stop.Stop.TheVariants.{Refused, ReadFault, WriteFault, Memory}
 use Rattle.arena_engine.specs.StopOf.{stop_of}
 use Rattle.arena_engine.specs.Stops.{OnRefused, OnReadFault, OnWriteFault, OnMemory, ButOnReadFault, ButOnWriteFault, IsGameStop}
-use Rattle.arena_engine.specs.Games.{GameView, new_game, GoesOn, event_lines, IsReady, is_end}
+use Rattle.out_text.specs.OutLines.{OutLine}
+use Rattle.out_text.specs.Printers.{Prints, FailsIn}
+use Rattle.playback.specs.Playbacks.{IsReady}
+use Rattle.arena_engine.specs.Games.{GameView, new_game, Advances, Plays, event_lines, is_end}
+use Rattle.arena_engine.specs.Progress.{Progress, Runs, ReadsAsNeeded}
 use Rattle.arena_engine.specs.Output.{Writes, ReadsSome, ReadsToEnd, ReadsToRefusal, HasRoom}
 use Rattle.arena_engine.proofs.Exits.{memory_at_first, refused_at_first, fault_at_first, refused_on, fault_on, refusal_on}
 use Rattle.arena_engine.proofs.Exits as exits
 use Rattle.arena_engine.proofs.Continuing.{cut_end_after}
-use Rattle.arena_engine.proofs.Playing.{Progress, not_over, is_ready, memory_on, cut_on, done_on, whole_on, played_on, text_so_far, fits_on, goes_on, begins}
-
--- how far the recording was played, by a reader whose map was given out; neither count of faults has changed, and what room the sink was sure to have is that
--- which it has and the text so far
-pub record Runs (workers : ℕ) (demo : DemoReaderView) (before ahead : Option (List ℕ)) (taken_before taken : Option (List ℕ)) (game : GameView) (event : Event)
-    (reads_before reads writes_before writes room_before room : ℕ) : Type 0 where
-  pub arena : MapView
-  pub full : Reading
-  pub given : demo.reading ≡ without_map full
-  pub progress : Progress workers arena full before ahead taken_before taken game event
-  pub no_stop : demo.stop ≡ None
-  pub read_same : reads ≡ reads_before
-  pub write_same : writes ≡ writes_before
-  pub roomy : room_before ≤ room + length (text_with arena (collected progress.events).closed progress.journals)
-
--- how the source was read: no more than was needed, and without its end, but for an end without a line feed; and it is as sure
--- as before
-pub record Unread {S : Type 0} (last : S → ℕ) (ended : S → Bool) (sure : S → Type 0) (a b : Option (List ℕ)) (old new : S) (pending : List ℕ) (e : Event) : Type 0 where
-  pub needed : (HasNotReadAhead old new (last new) [] pending × (ended new ≡ ended old)) ⊎ ((e ≡ End) × TakesCutEnd a b × (ended new ≡ true))
-  pub keeps : sure old → sure new
+use Rattle.arena_engine.proofs.Playing.{not_over, is_ready, memory_on, cut_on, done_on, whole_on, played_on, text_so_far, fits_on, goes_on, begins}
 
 -- before the end no more was read than was needed, and the input's end wasn't given
-pub unread_going : (e : Event) (P Q R : Type 0) → is_end e ≡ false → P ⊎ ((e ≡ End) × Q × R) → P
-unread_going e P Q R going (inl h) = h
-unread_going e P Q R going (inr (is, q, r)) = let last : is_end e ≡ true = ap is_end is in cc
+pub needed_going : (e : Event) (P Q R : Type 0) → is_end e ≡ false → P ⊎ ((e ≡ End) × Q × R) → P
+needed_going e P Q R going (inl h) = h
+needed_going e P Q R going (inr (is, q, r)) = let last : is_end e ≡ true = ap is_end is in cc
 
 -- ---- the reader is fresh
 
-fresh_is_open : IsOpen fresh_reader
+pub fresh_is_open : IsOpen fresh_reader
 fresh_is_open = record { no_stop = refl; not_over = refl }
 
 read_fault_of : (d : DemoStop) (P Q : Type 0) → (P → Q) → reads_of.OnReadFault d P → OnReadFault (stop_of d) Q
@@ -152,8 +137,16 @@ end_is_end Frame h = cc
 end_is_end (From a) h = cc
 end_is_end End h = refl
 
+-- what was printed with nothing pending before and after was written
+pub appends_all : {K : Type 0} (taken : K → Option (List ℕ)) (faults room : K → ℕ) (k1 k2 : K) (text : List ℕ) → Prints taken faults room k1 k2 [] [] text → Appends (taken k1) (taken k2) text
+appends_all taken faults room k1 k2 text prints = subst (Appends (taken k1) (taken k2)) (sym (prints.whole ∙ append-nil prints.written)) prints.appended
+
+-- and the room that is left is less by as much
+pub room_after : {K : Type 0} (taken : K → Option (List ℕ)) (faults room : K → ℕ) (k1 k2 : K) (text : List ℕ) → Prints taken faults room k1 k2 [] [] text → room k1 ≤ room k2 + length text
+room_after taken faults room k1 k2 text prints = let is = ap length (prints.whole ∙ append-nil prints.written) in omega (arith, is, prints.roomy)
+
 module _ (workers : ℕ) (demo : DemoReaderView) (a b t0 t1 : Option (List ℕ)) (g : GameView) (e : Event) (m0 m1 n0 n1 k0 k1 : ℕ) (runs : Runs workers demo a b t0 t1 g e m0 m1 n0 n1 k0 k1) where
-  pub game_is_ready : IsReady g
+  pub game_is_ready : IsReady g.course e
   game_is_ready = is_ready workers runs.arena runs.full a b t0 t1 g e runs.progress
 
   map_is_whole : is_map_whole runs.full.stage ≡ true
@@ -176,7 +169,7 @@ module _ (workers : ℕ) (demo : DemoReaderView) (a b t0 t1 : Option (List ℕ))
   write_cause s n2 risen = on_write_fault s (HasRisen n1 n2) (HasRisen n0 n2) (λ h. subst (λ n. HasRisen n n2) runs.write_same h) risen
 
   pub all_read : {S : Type 0} (last : S → ℕ) (ended : S → Bool) (sure : S → Type 0) (s0 s1 : S) (pending : List ℕ) (l : Option (List ℕ)) → is_end e ≡ true → b ≡ ahead pending l
-      → Unread last ended sure a b s0 s1 pending e → ReadsToEnd s0 s1 (last s1) (ended s1 ≡ ended s0) (ended s1 ≡ true) a l
+      → ReadsAsNeeded last ended sure a b s0 s1 pending e → ReadsToEnd s0 s1 (last s1) (ended s1 ≡ ended s0) (ended s1 ≡ true) a l
   all_read last ended sure s0 s1 pending l is_last is unread =
       whole_on workers runs.arena runs.full a b t0 t1 g e runs.progress s0 s1 (last s1) (ended s1 ≡ ended s0) (ended s1 ≡ true) pending l (end_is_end e is_last) is (by_end unread.needed)
     where
@@ -185,14 +178,14 @@ module _ (workers : ℕ) (demo : DemoReaderView) (a b t0 t1 : Option (List ℕ))
       by_end (inr (end, q, r)) = inr (q, r)
 
   pub next_refusal : {S : Type 0} (last : S → ℕ) (ended : S → Bool) (sure : S → Type 0) (s0 s1 s2 : S) (d : DemoStop) (pending : List ℕ) (l : Option (List ℕ)) → is_end e ≡ false
-      → Unread last ended sure a b s0 s1 demo.pending e
+      → ReadsAsNeeded last ended sure a b s0 s1 demo.pending e
       → (IsOpen demo → reads_of.OnRefused d (λ why. Refuses demo.reading b (ahead pending l) why.line
       (HasNotReadAhead s1 s2 (last s2) demo.pending pending × (ended s2 ≡ ended s1)) (ended s2 ≡ true)))
       → OnRefused (stop_of d) (λ _. ReadsToRefusal s0 s2 (last s2) (ended s2 ≡ ended s0) (ended s2 ≡ true) a l)
   next_refusal last ended sure s0 s1 s2 d pending l going unread h =
       let P = HasNotReadAhead s1 s2 (last s2) demo.pending pending × (ended s2 ≡ ended s1) in
       let R : Reading → LineRefusal → Type 0 = λ r why. Refuses r b (ahead pending l) why.line P (ended s2 ≡ true) in
-      let so_far = unread_going e (HasNotReadAhead s0 s1 (last s1) [] demo.pending × (ended s1 ≡ ended s0)) (TakesCutEnd a b) (ended s1 ≡ true) going unread.needed in
+      let so_far = needed_going e (HasNotReadAhead s0 s1 (last s1) [] demo.pending × (ended s1 ≡ ended s0)) (TakesCutEnd a b) (ended s1 ≡ true) going unread.needed in
       refused_of d (R demo.reading) (λ _. ReadsToRefusal s0 s2 (last s2) (ended s2 ≡ ended s0) (ended s2 ≡ true) a l)
       (λ why refuses. refusal_on last s0 s1 s2 runs.full a b l (runs.progress.events ++ e ∷ []) why.line demo.pending pending (ended s2 ≡ ended s1) (ended s2 ≡ ended s0) (ended s2 ≡ true)
       runs.progress.reads so_far.0 (λ same. same ∙ so_far.1)
@@ -203,32 +196,41 @@ module _ (workers : ℕ) (demo : DemoReaderView) (a b t0 t1 : Option (List ℕ))
   next_cause d m2 going h =
       read_fault_of d (HasRisen m1 m2) (HasRisen m0 m2) (λ risen. subst (λ m. HasRisen m m2) runs.read_same risen) (h (reader_is_open going))
 
-  pub write_failed : (s : Stop) (g2 : GameView) (t2 : Option (List ℕ)) (last : Option (List Entry)) → last ≡ g2.last → OnWriteFault s (GoesOn workers g g2 e)
-      → OnWriteFault s (AppendsPart t1 t2 (text_of (event_lines g g2 e))) → OnWriteFault s (IfSome a (λ bytes. Writes t0 t2 (IsCut workers bytes last)))
-  write_failed (Refused line fault rule) g2 t2 last is goes failed = tt
-  write_failed ReadFault g2 t2 last is goes failed = tt
-  write_failed WriteFault g2 t2 last is goes failed =
-      let P : Option (List Entry) → Type 0 = λ l. IfSome a (λ bytes. Writes t0 t2 (IsCut workers bytes l)) in
-      subst P (sym is) (cut_on workers runs.arena runs.full a b t0 t1 g e runs.progress g2 goes t2 failed)
-  write_failed Memory g2 t2 last is goes failed = tt
+  pub write_failed : {K : Type 0} (taken : K → Option (List ℕ)) (faults : K → ℕ) (k1 k2 : K) (s : Stop) (g2 : GameView) (last : Option (List Entry)) → taken k1 ≡ t1 → last ≡ g2.last
+      → OnWriteFault s (Plays workers g g2 e (λ lines. FailsIn taken faults k1 k2 (text_of lines))) → OnWriteFault s (IfSome a (λ bytes. Writes t0 (taken k2) (IsCut workers bytes last)))
+  write_failed taken faults k1 k2 (Refused line fault rule) g2 last here is failed = tt
+  write_failed taken faults k1 k2 ReadFault g2 last here is failed = tt
+  write_failed taken faults k1 k2 WriteFault g2 last here is failed =
+      let P : Option (List Entry) → Type 0 = λ l. IfSome a (λ bytes. Writes t0 (taken k2) (IsCut workers bytes l)) in
+      let part = subst (λ (t : Option (List ℕ)). AppendsPart t (taken k2) (text_of (event_lines g.course g2.course e failed.closed))) here failed.lines.part in
+      subst P (sym is) (cut_on workers runs.arena runs.full a b t0 t1 g e runs.progress g2 failed.closed failed.advances (taken k2) part)
+  write_failed taken faults k1 k2 Memory g2 last here is failed = tt
+
+  -- a write that failed was counted
+  pub write_counted : {K : Type 0} (taken : K → Option (List ℕ)) (faults : K → ℕ) (k1 k2 : K) (s : Stop) (g2 : GameView) → faults k1 ≡ n1
+      → OnWriteFault s (Plays workers g g2 e (λ lines. FailsIn taken faults k1 k2 (text_of lines))) → OnWriteFault s (HasRisen n0 (faults k2))
+  write_counted taken faults k1 k2 (Refused line fault rule) g2 here failed = tt
+  write_counted taken faults k1 k2 ReadFault g2 here failed = tt
+  write_counted taken faults k1 k2 WriteFault g2 here failed = subst (λ (n : ℕ). HasRisen n (faults k2)) (here ∙ runs.write_same) failed.lines.risen
+  write_counted taken faults k1 k2 Memory g2 here failed = tt
 
   -- where the sink has room for every right output, this text fits
-  pub not_cut : (s : Stop) (g2 : GameView) → OnWriteFault s (GoesOn workers g g2 e) → (length (text_of (event_lines g g2 e)) ≤ k1 → OnWriteFault s ⊥) → IsSomeAnd a (λ bytes. HasRoom workers bytes k0) → OnWriteFault s ⊥
-  not_cut (Refused line fault rule) g2 goes sure roomy = tt
-  not_cut ReadFault g2 goes sure roomy = tt
-  not_cut WriteFault g2 goes sure roomy = sure (fits_on workers runs.arena runs.full a b t0 t1 g e runs.progress g2 goes k0 k1 roomy runs.roomy)
-  not_cut Memory g2 goes sure roomy = tt
+  pub not_cut : (s : Stop) (g2 : GameView) → OnWriteFault s (Plays workers g g2 e (λ lines. length (text_of lines) ≤ k1 → ⊥)) → IsSomeAnd a (λ bytes. HasRoom workers bytes k0) → OnWriteFault s ⊥
+  not_cut (Refused line fault rule) g2 sure roomy = tt
+  not_cut ReadFault g2 sure roomy = tt
+  not_cut WriteFault g2 sure roomy = sure.lines (fits_on workers runs.arena runs.full a b t0 t1 g e runs.progress g2 sure.closed sure.advances k0 k1 roomy runs.roomy)
+  not_cut Memory g2 sure roomy = tt
 
   -- ---- the event was played
 
-  module _ (g2 : GameView) (t2 : Option (List ℕ)) (goes : GoesOn workers g g2 e) (written : Appends t1 t2 (text_of (event_lines g g2 e))) where
+  module _ (g2 : GameView) (t2 : Option (List ℕ)) (closed : Option (List Entry)) (goes : Advances workers g g2 e closed) (written : Appends t1 t2 (text_of (event_lines g.course g2.course e closed))) where
     module _ (last : Option (List Entry)) (ends : last ≡ g2.last) where
       with_last : (P : Option (List Entry) → Type 0) → P g2.last → P last
       with_last P p = subst P (sym ends) p
 
       pub all_done : is_end e ≡ true → IfSome a (λ bytes. Writes t0 t2 (HasLast (IsOutput workers bytes) last))
       all_done is_last =
-          with_last (λ l. IfSome a (λ bytes. Writes t0 t2 (HasLast (IsOutput workers bytes) l))) (done_on workers runs.arena runs.full a b t0 t1 g e runs.progress g2 goes t2 (end_is_end e is_last) written)
+          with_last (λ l. IfSome a (λ bytes. Writes t0 t2 (HasLast (IsOutput workers bytes) l))) (done_on workers runs.arena runs.full a b t0 t1 g e runs.progress g2 closed goes t2 (end_is_end e is_last) written)
 
       pub next_refused : (d : DemoStop) → is_end e ≡ false → (IsOpen demo → reads_of.OnRefused d (λ why. IfSome b (EndsAt demo.reading why)))
           → OnRefused (stop_of d) (λ why. IfSome a (λ bytes. Writes t0 t2 (HasLast (IsRefused workers bytes why) last)))
@@ -236,7 +238,7 @@ module _ (workers : ℕ) (demo : DemoReaderView) (a b t0 t1 : Option (List ℕ))
           let R : Reading → LineRefusal → Type 0 = λ r why. IfSome b (EndsAt r why) in
           with_last (λ l. OnRefused (stop_of d) (λ why. IfSome a (λ bytes. Writes t0 t2 (HasLast (IsRefused workers bytes why) l))))
           (refused_of d (R demo.reading) (λ why. IfSome a (λ bytes. Writes t0 t2 (HasLast (IsRefused workers bytes why) g2.last)))
-          (λ why at_end. refused_on workers runs.arena runs.full a b t0 t2 (runs.progress.events ++ e ∷ []) _ _ why (played_on workers runs.arena runs.full a b t0 t1 g e runs.progress g2 goes t2 going written)
+          (λ why at_end. refused_on workers runs.arena runs.full a b t0 t2 (runs.progress.events ++ e ∷ []) _ _ why (played_on workers runs.arena runs.full a b t0 t1 g e runs.progress g2 closed goes t2 going written)
           (ends_given why b (subst (λ (r : Reading). R r why) runs.given at_end)))
           (h (reader_is_open going)))
         where
@@ -250,7 +252,7 @@ module _ (workers : ℕ) (demo : DemoReaderView) (a b t0 t1 : Option (List ℕ))
           let R : Reading → Type 0 = λ r. ReadsFront r b l [] in
           with_last (λ j. OnReadFault (stop_of d) (ReadsSome workers a l t0 t2 j))
           (read_fault_of d (R demo.reading) (ReadsSome workers a l t0 t2 g2.last)
-          (λ reads. fault_on workers runs.arena runs.full a b t0 t2 (runs.progress.events ++ e ∷ []) _ _ l (played_on workers runs.arena runs.full a b t0 t1 g e runs.progress g2 goes t2 going written)
+          (λ reads. fault_on workers runs.arena runs.full a b t0 t2 (runs.progress.events ++ e ∷ []) _ _ l (played_on workers runs.arena runs.full a b t0 t1 g e runs.progress g2 closed goes t2 going written)
           (ReadsFront-given runs.full map_is_whole b l [] (subst R runs.given reads)))
           (h (reader_is_open going)))
 
@@ -258,7 +260,7 @@ module _ (workers : ℕ) (demo : DemoReaderView) (a b t0 t1 : Option (List ℕ))
       front_on : is_end e ≡ false → IfSome a (λ bytes. Writes t0 t2 (HasLast (IsSomeFrames workers bytes) last))
       front_on going =
           with_last (λ l. IfSome a (λ bytes. Writes t0 t2 (HasLast (IsSomeFrames workers bytes) l)))
-          (exits.memory_on workers runs.arena runs.full a b t0 t2 (runs.progress.events ++ e ∷ []) _ _ (played_on workers runs.arena runs.full a b t0 t1 g e runs.progress g2 goes t2 going written))
+          (exits.memory_on workers runs.arena runs.full a b t0 t2 (runs.progress.events ++ e ∷ []) _ _ (played_on workers runs.arena runs.full a b t0 t1 g e runs.progress g2 closed goes t2 going written))
 
       pub next_front : (d : DemoStop) → is_end e ≡ false → OnReadFault (stop_of d) (IfSome a (λ bytes. Writes t0 t2 (HasLast (IsSomeFrames workers bytes) last)))
       next_front d going = any_read_fault d (IfSome a (λ bytes. Writes t0 t2 (HasLast (IsSomeFrames workers bytes) last))) (front_on going)
@@ -268,15 +270,15 @@ module _ (workers : ℕ) (demo : DemoReaderView) (a b t0 t1 : Option (List ℕ))
 
     pub runs_on : (demo' : DemoReaderView) (b' : Option (List ℕ)) (e' : Event) (m2 n2 k2 : ℕ) → is_end e ≡ false
         → (IsOpen demo → Reads demo.reading demo'.reading b b' (e' ∷ [])) → demo'.reading.stage ≡ stage_after e' → IsReading demo'.reading → demo'.stop ≡ None → m2 ≡ m1 → n2 ≡ n1
-        → k1 ≤ k2 + length (text_of (event_lines g g2 e)) → Runs workers demo' a b' t0 t2 g2 e' m0 m2 n0 n2 k0 k2
+        → k1 ≤ k2 + length (text_of (event_lines g.course g2.course e closed)) → Runs workers demo' a b' t0 t2 g2 e' m0 m2 n0 n2 k0 k2
     runs_on demo' b' e' m2 n2 k2 going reads stage holds no_stop read_on write_on room_on =
-        let so_far = text_so_far workers runs.arena runs.full a b t0 t1 g e runs.progress g2 goes in
+        let so_far = text_so_far workers runs.arena runs.full a b t0 t1 g e runs.progress g2 closed goes in
         let left = runs.roomy in
         let here : Reads (without_map runs.full) demo'.reading b b' (e' ∷ []) =
         let R : Reading → Type 0 = λ r. Reads r demo'.reading b b' (e' ∷ []) in subst R runs.given (reads (reader_is_open going)) in
-        let next = goes_on workers runs.arena runs.full a b t0 t1 g e runs.progress g2 goes (having_map runs.full.map demo'.reading) b' t2 e' going written
+        let next = goes_on workers runs.arena runs.full a b t0 t1 g e runs.progress g2 closed goes (having_map runs.full.map demo'.reading) b' t2 e' going written
         (Reads-given runs.full map_is_whole demo'.reading b b' (e' ∷ []) here) stage holds.frames holds.arrivals in
-        let text = ap length next.text ∙ length-append so_far (text_of (event_lines g g2 e)) in
+        let text = ap length next.text ∙ length-append so_far (text_of (event_lines g.course g2.course e closed)) in
         record {
           arena = runs.arena;
           full = having_map runs.full.map demo'.reading;
@@ -289,12 +291,12 @@ module _ (workers : ℕ) (demo : DemoReaderView) (a b t0 t1 : Option (List ℕ))
         }
 
   -- more was read, for one event more
-  pub unread_on : {S : Type 0} (last : S → ℕ) (ended : S → Bool) (sure : S → Type 0) (s0 s1 s2 : S) (pending' : List ℕ) (c : Option (List ℕ)) (e' : Event) → is_end e ≡ false
-      → Unread last ended sure a b s0 s1 demo.pending e
+  pub needed_on : {S : Type 0} (last : S → ℕ) (ended : S → Bool) (sure : S → Type 0) (s0 s1 s2 : S) (pending' : List ℕ) (c : Option (List ℕ)) (e' : Event) → is_end e ≡ false
+      → ReadsAsNeeded last ended sure a b s0 s1 demo.pending e
       → (IsOpen demo → (HasNotReadAhead s1 s2 (last s2) demo.pending pending' × (ended s2 ≡ ended s1)) ⊎ ((e' ≡ End) × TakesCutEnd b c × (ended s2 ≡ true)))
-      → (sure s1 → sure s2) → Unread last ended sure a c s0 s2 pending' e'
-  unread_on last ended sure s0 s1 s2 pending' c e' going unread more keeps =
-      let so_far = unread_going e (HasNotReadAhead s0 s1 (last s1) [] demo.pending × (ended s1 ≡ ended s0)) (TakesCutEnd a b) (ended s1 ≡ true) going unread.needed in
+      → (sure s1 → sure s2) → ReadsAsNeeded last ended sure a c s0 s2 pending' e'
+  needed_on last ended sure s0 s1 s2 pending' c e' going unread more keeps =
+      let so_far = needed_going e (HasNotReadAhead s0 s1 (last s1) [] demo.pending × (ended s1 ≡ ended s0)) (TakesCutEnd a b) (ended s1 ≡ true) going unread.needed in
       let open_still = ap is_over runs.progress.stage ∙ not_over e going in
       record { needed = by_end so_far open_still (more (reader_is_open going)); keeps = λ h. keeps (unread.keeps h) }
     where
@@ -307,10 +309,10 @@ module _ (workers : ℕ) (demo : DemoReaderView) (a b t0 t1 : Option (List ℕ))
 
 module _ {S : Type 0} (last : S → ℕ) (ended : S → Bool) (sure : S → Type 0) where
   -- the first reads
-  pub unread_first : (s0 s1 : S) (demo demo' : DemoReaderView) (l b : Option (List ℕ)) (e : Event) → demo ≡ fresh_reader
+  pub needed_first : (s0 s1 : S) (demo demo' : DemoReaderView) (l b : Option (List ℕ)) (e : Event) → demo ≡ fresh_reader
       → (IsOpen demo → (HasNotReadAhead s0 s1 (last s1) demo.pending demo'.pending × (ended s1 ≡ ended s0)) ⊎ ((e ≡ End) × TakesCutEnd (ahead demo.pending l) b × (ended s1 ≡ true)))
-      → (sure s0 → sure s1) → Unread last ended sure l b s0 s1 demo'.pending e
-  unread_first s0 s1 demo demo' l b e is needed keeps =
+      → (sure s0 → sure s1) → ReadsAsNeeded last ended sure l b s0 s1 demo'.pending e
+  needed_first s0 s1 demo demo' l b e is needed keeps =
       let P : DemoReaderView → Type 0 = λ d.
       IsOpen d → (HasNotReadAhead s0 s1 (last s1) d.pending demo'.pending × (ended s1 ≡ ended s0)) ⊎ ((e ≡ End) × TakesCutEnd (ahead d.pending l) b × (ended s1 ≡ true)) in
       let Q : Option (List ℕ) → Type 0 = λ o. (HasNotReadAhead s0 s1 (last s1) [] demo'.pending × (ended s1 ≡ ended s0)) ⊎ ((e ≡ End) × TakesCutEnd o b × (ended s1 ≡ true)) in
@@ -318,10 +320,10 @@ module _ {S : Type 0} (last : S → ℕ) (ended : S → Bool) (sure : S → Type
 
   -- the first event was read, and then the map was given out
   pub runs_first : (workers : ℕ) (demo' taken : DemoReaderView) (arena : MapView) (a l t : Option (List ℕ)) (g : GameView) (e : Event) (m0 m1 n k : ℕ) (s0 s1 : S) → taken ≡ map_taken demo'
-      → Progress workers arena demo'.reading a (ahead demo'.pending l) t t g e → demo'.stop ≡ None → m1 ≡ m0 → Unread last ended sure a (ahead demo'.pending l) s0 s1 demo'.pending e
-      → Runs workers taken a (ahead taken.pending l) t t g e m0 m1 n n k k × Unread last ended sure a (ahead taken.pending l) s0 s1 taken.pending e
+      → Progress workers arena demo'.reading a (ahead demo'.pending l) t t g e → demo'.stop ≡ None → m1 ≡ m0 → ReadsAsNeeded last ended sure a (ahead demo'.pending l) s0 s1 demo'.pending e
+      → Runs workers taken a (ahead taken.pending l) t t g e m0 m1 n n k k × ReadsAsNeeded last ended sure a (ahead taken.pending l) s0 s1 taken.pending e
   runs_first workers demo' taken arena a l t g e m0 m1 n k s0 s1 is progress no_stop same unread =
-      let P : DemoReaderView → Type 0 = λ d. Runs workers d a (ahead d.pending l) t t g e m0 m1 n n k k × Unread last ended sure a (ahead d.pending l) s0 s1 d.pending e in
+      let P : DemoReaderView → Type 0 = λ d. Runs workers d a (ahead d.pending l) t t g e m0 m1 n n k k × ReadsAsNeeded last ended sure a (ahead d.pending l) s0 s1 d.pending e in
       subst P (sym is) (record { arena = arena; full = demo'.reading; given = refl; progress = progress; no_stop = no_stop; read_same = same; write_same = refl; roomy = omega arith }, unread)
 
   -- the recording was refused before it gave an event

@@ -13,6 +13,7 @@ pub use Rattle.plain_server.specs.Frames
 pub use Rattle.plain_server.specs.Replies
 pub use Rattle.frame_phases.specs.Servers
 pub use Rattle.move_phase.specs.Serving as ServingMoves
+pub use Rattle.playback.specs.Playbacks
 pub use Rattle.out_text.specs.OutLines
 pub use Rattle.out_text.specs.FrameLines
 pub use Rattle.out_text.specs.Journals
@@ -27,12 +28,12 @@ pub mod Commands
 pub mod Summaries
 pub mod Endings
 pub mod Making
-pub mod LastFrames
 pub mod Games
-pub mod Dues
 pub mod StopOf
 pub mod Stops
 pub mod Output
+pub mod PlayEnds
+pub mod Progress
 pub mod Reports
 pub mod Serving
 pub mod Played

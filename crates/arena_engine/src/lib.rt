@@ -17,15 +17,14 @@ use std::sync::Wait;
 use std::thread::Threads;
 
 mod command;
-mod due;
 mod game;
-mod last_frame;
 mod made;
 mod matched;
 mod numbers;
 mod perform;
 mod play;
 mod played;
+mod printing;
 mod recording;
 mod report;
 mod stop;

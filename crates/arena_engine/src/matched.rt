@@ -1,7 +1,6 @@
 ghost use Rattle.std.specs.Prelude.{◌≡◌, ◌≤◌, [], IsOk, IsOkAnd};
 ghost use Rattle.std.specs.Io.KnownBytes.{Appends};
 ghost use Rattle.edge_io.specs.Writes.{AppendsPart};
-ghost use Rattle.move_phase.specs.Serving.{AreWorkers};
 ghost use Rattle.match_play.specs.Matches.{IsMatch};
 ghost use Rattle.arena_engine.specs.Endings.{Counts};
 ghost use Rattle.arena_engine.specs.Making.{IsOfWriting, IsBare, IsMatched};
@@ -11,8 +10,9 @@ use crate::report::Report;
 use crate::summary::push_summary;
 use edge_io::{LineBuf, Sink, write_whole};
 use match_play::{Game, Totals, play_match};
+use playback::Host;
 use shared_moves::Gate;
-use std::alloc::{AllocError, Global};
+use std::alloc::AllocError;
 use std::sync::Wait;
 use std::thread::Threads;
 
@@ -52,26 +52,22 @@ fn sum_up<K: Sink>(
 /// Plays the recording of this seed on these workers without writing it, and writes the line of its totals. The report
 /// has the journals of the frames that were run.
 pub fn play_and_sum<R: Threads + Wait + Sync, K: Sink, G: Gate>(
-    rt: &R,
-    alloc: Global,
+    host: &Host<R, G>,
     seed: u64,
     players: u8,
     frames: u32,
-    workers: u8,
-    gate: &G,
     sink: &mut K,
 ) -> Report
-    requires range { IsMatch players frames }
-    requires workers { AreWorkers workers }
-    ensures matched { IsMatched K.Sink seed players frames workers sink.old sink.new result }
+    requires { IsMatch players frames }
+    ensures matched { IsMatched K.Sink seed players frames host.now.workers sink.old sink.new result }
     ensures counts { Counts 4 (K.faults sink.old) (K.faults sink.new) result.status }
 {
-    let Ok(mut line) = LineBuf::new(alloc) else {
-        return Report::unserved(alloc, 5);
+    let Ok(mut line) = LineBuf::new(host.alloc) else {
+        return Report::unserved(host.alloc, 5);
     };
-    let Ok(mut game) = Game::new(alloc) else {
-        return Report::unserved(alloc, 5);
+    let Ok(mut game) = Game::new(host.alloc) else {
+        return Report::unserved(host.alloc, 5);
     };
-    let ended = play_match(rt, alloc, seed, players, frames, workers, gate, &mut game);
+    let ended = play_match(host, seed, players, frames, &mut game);
     sum_up(ended, game, &mut line, sink)
 }

@@ -9,6 +9,7 @@ use crate::matched::play_and_sum;
 use crate::recording::play_recording;
 use crate::report::Report;
 use edge_io::{Sink, Source};
+use playback::Host;
 use shared_moves::Gate;
 use std::alloc::Global;
 use std::sync::Wait;
@@ -30,7 +31,15 @@ pub fn perform<R: Threads + Wait + Sync, S: Source, K: Sink, G: Gate>(
 {
     match command {
         None => Report::unserved(alloc, 2),
-        Some(Command::Play { workers }) => play_recording(rt, alloc, workers, source, sink, gate),
+        Some(Command::Play { workers }) => {
+            let host = Host {
+                rt,
+                alloc,
+                workers,
+                gate,
+            };
+            play_recording(&host, source, sink)
+        }
         Some(
             Command::Make {
                 seed,
@@ -45,6 +54,14 @@ pub fn perform<R: Threads + Wait + Sync, S: Source, K: Sink, G: Gate>(
                 frames,
                 workers,
             },
-        ) => play_and_sum(rt, alloc, seed, players, frames, workers, gate, sink),
+        ) => {
+            let host = Host {
+                rt,
+                alloc,
+                workers,
+                gate,
+            };
+            play_and_sum(&host, seed, players, frames, sink)
+        }
     }
 }

@@ -1,5 +1,5 @@
 ghost use Rattle.std.specs.Prelude.{◌≡◌, None};
-ghost use Rattle.arena_engine.specs.LastFrames.{entries_of};
+ghost use Rattle.playback.specs.Playbacks.{entries_if};
 
 use crate::game::Game;
 use crate::stop::Stop;
@@ -18,7 +18,7 @@ impl Played {
     /// It stopped before there was a game.
     pub fn before_frames(stop: Stop) -> Played
         ensures ended { result.ended ≡ Err stop }
-        ensures last { entries_of result.last ≡ None }
+        ensures last { entries_if result.last ≡ None }
     {
         Played {
             ended: Err(stop),
@@ -29,7 +29,7 @@ impl Played {
     /// It ended so, with this game.
     pub fn with_game(game: Game, ended: Result<(), Stop>) -> Played
         ensures ended { result.ended ≡ ended }
-        ensures last { entries_of result.last ≡ game.last }
+        ensures last { entries_if result.last ≡ game.last }
     {
         Played {
             ended,

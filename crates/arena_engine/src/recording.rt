@@ -1,5 +1,4 @@
 ghost use Rattle.std.specs.Prelude.{◌≡◌};
-ghost use Rattle.move_phase.specs.Serving.{AreWorkers};
 ghost use Rattle.arena_engine.specs.Endings.{Ends};
 ghost use Rattle.arena_engine.specs.Played.{IsPlayed};
 
@@ -9,28 +8,24 @@ use crate::report::Report;
 use crate::stop::Stop;
 use edge_io::{Sink, Source};
 use move_journal::JournalList;
+use playback::Host;
 use shared_moves::Gate;
-use std::alloc::Global;
 use std::sync::Wait;
 use std::thread::Threads;
 
 /// Plays a recording from the source on these workers, and writes its output to the sink. The report has how that
 /// ended.
 pub fn play_recording<R: Threads + Wait + Sync, S: Source, K: Sink, G: Gate>(
-    rt: &R,
-    alloc: Global,
-    workers: u8,
+    host: &Host<R, G>,
     source: &mut S,
     sink: &mut K,
-    gate: &G,
 ) -> Report
-    requires { AreWorkers workers }
-    ensures played { IsPlayed S.Source K.Sink workers source.old source.new sink.old sink.new result }
+    ensures played { IsPlayed S.Source K.Sink host.now.workers source.old source.new sink.old sink.new result }
     ensures ends { Ends S.Source K.Sink source.old source.new sink.old sink.new result }
     ensures served { result.status ≡ 2 → ⊥ }
 {
-    let all = JournalList::new(alloc);
-    let Played { ended, last } = play(rt, alloc, workers, source, sink, gate);
+    let all = JournalList::new(host.alloc);
+    let Played { ended, last } = play(host, source, sink);
     match ended {
         Ok(()) => Report::of_status(0, last, all),
         Err(Stop::Refused { line, fault, rule }) => {

@@ -1,5 +1,5 @@
 ghost use Rattle.std.specs.Prelude.{◌≡◌, ◌↔◌, IsTrue, SomeIff};
-ghost use Rattle.arena_geo.specs.Vectors.{IsNear, IsNotNegative};
+ghost use Rattle.arena_geo.specs.Vectors.{IsNear, IsNotNegative, vector};
 ghost use Rattle.arena_geo.specs.Bounds.{bounds, IsInRange, IsOrdered, IsBox};
 ghost use Rattle.arena_geo.specs.Boxes as boxes;
 
@@ -77,6 +77,15 @@ impl Aabb {
         }
     }
 
+    /// The box between two corners of which it is known that they make one. [`Aabb::new`] is for corners of
+    /// which it isn't.
+    pub fn between(lo: Vec3, hi: Vec3) -> Aabb
+        requires { IsBox (bounds lo hi) }
+        ensures { result ≡ bounds lo hi }
+    {
+        Aabb { lo, hi }
+    }
+
     /// The low corner.
     pub fn lo(&self) -> Vec3
         ensures value { result ≡ self.now.lo }
@@ -136,12 +145,36 @@ impl Aabb {
         Aabb::new(self.lo - by, self.hi + by)
     }
 
+    /// The box, larger by `by` on both sides of each axis, where it is known that it stays in range.
+    /// [`Aabb::grow`] is for where it isn't.
+    pub fn grown(&self, by: Vec3) -> Aabb
+        requires not_negative { IsNotNegative by }
+        requires in_range { IsInRange (boxes.grown self.now by) }
+        ensures { result ≡ boxes.grown self.now by }
+    {
+        Aabb {
+            lo: self.lo - by,
+            hi: self.hi + by,
+        }
+    }
+
     /// The box, moved by `by`. `None` exactly where a coordinate leaves the range.
     pub fn moved(&self, by: Vec3) -> Option<Aabb>
         requires { IsNear LIMIT by }
         ensures { SomeIff result (IsInRange (boxes.moved self.now by)) (boxes.moved self.now by) }
     {
         Aabb::new(self.lo + by, self.hi + by)
+    }
+
+    /// The box, moved by `by`, where it is known that it stays in range. [`Aabb::moved`] is for where it isn't.
+    pub fn shifted(&self, by: Vec3) -> Aabb
+        requires { IsInRange (boxes.moved self.now by) }
+        ensures { result ≡ boxes.moved self.now by }
+    {
+        Aabb {
+            lo: self.lo + by,
+            hi: self.hi + by,
+        }
     }
 
     /// The least box that contains both.
@@ -220,6 +253,40 @@ mod tests {
         assert_eq!(rt; most.moved(one), None);
         assert_eq!(rt; least.hull(&most), most);
         assert_eq!(rt; least.hi() - one + one, most.lo().max(least.lo()));
+        Ok(())
+    }
+
+    fn at(x: i32, y: i32, z: i32) -> Vec3
+        ensures { result ≡ vector x y z }
+    {
+        Vec3 { x, y, z }
+    }
+
+    #[test]
+    fn a_box_between_known_corners_reaches_the_limit(rt: HostRuntime) -> Result<(), Fail> {
+        let lo = at(-2_097_152, -2_097_152, -2_097_152);
+        let hi = at(2_097_152, 2_097_152, 2_097_152);
+        assert_eq!(rt; Some(Aabb::between(lo, hi)), cube(-2_097_152, 2_097_152));
+        assert_eq!(rt; Some(Aabb::between(hi, hi)), cube(2_097_152, 2_097_152));
+        Ok(())
+    }
+
+    #[test]
+    fn a_box_grows_to_the_limit(rt: HostRuntime) -> Result<(), Fail> {
+        let inner = Aabb::between(at(-2_097_151, 5, -2_097_152), at(5, 2_097_150, 2_097_152));
+        let outer = Aabb::between(at(-2_097_152, 3, -2_097_152), at(6, 2_097_152, 2_097_152));
+        assert_eq!(rt; inner.grown(at(1, 2, 0)), outer);
+        Ok(())
+    }
+
+    #[test]
+    fn a_box_is_shifted_to_the_limit(rt: HostRuntime) -> Result<(), Fail> {
+        let here = Aabb::between(at(2_097_142, -2_097_145, 0), at(2_097_151, -2_097_143, 9));
+        let there = Aabb::between(
+            at(2_097_143, -2_097_152, -2_097_152),
+            at(2_097_152, -2_097_150, -2_097_143),
+        );
+        assert_eq!(rt; here.shifted(at(1, -7, -2_097_152)), there);
         Ok(())
     }
 }

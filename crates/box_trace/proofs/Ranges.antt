@@ -10,18 +10,6 @@ use Rattle.box_trace.specs.Steps.{step_count, part_at, shift_at, body_at}
 use Rattle.box_trace.specs.Laws.{StepsStayInRange}
 use Rattle.box_trace.proofs.Parts.{share_le, part_at-neg, unsigned_abs-part_at_le}
 
--- an option that holds a value exactly where this holds has one
-pub some_where_it_holds : {T : Type 0} (r : Option T) (P : Type 0) (v : T) → SomeIff r P v → P → IsSome r
-some_where_it_holds None P v iff holds = absurd (iff holds)
-some_where_it_holds (Some x) P v iff holds = search rules
-
-pub IsNear-shift_at : (d : Vec3) (k : ℕ) → IsNear 65536 d → k ≤ step_count d → IsNear 2097152 (shift_at d k)
-IsNear-shift_at d k near within = record {
-  x = omega (arith, unsigned_abs-part_at_le (step_count d) k d.x within);
-  y = omega (arith, unsigned_abs-part_at_le (step_count d) k d.y within);
-  z = omega (arith, unsigned_abs-part_at_le (step_count d) k d.z within);
-}
-
 -- what is in range at both ends is in range between them
 part_in_range : (l d : ℤ) (n k far : ℕ) → k ≤ n → unsigned_abs l ≤ far → unsigned_abs (l +ℤ d) ≤ far
     → unsigned_abs (l +ℤ part_at n k d) ≤ far

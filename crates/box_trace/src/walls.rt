@@ -47,7 +47,7 @@ fn wall(lo: Vec3, hi: Vec3) -> Aabb
     requires { IsBox (bounds lo hi) }
     ensures { result ≡ bounds lo hi }
 {
-    Aabb::new(lo, hi).unwrap()
+    Aabb::between(lo, hi)
 }
 
 /// The walls outside an arena with these corners.

@@ -88,7 +88,7 @@ impl Way {
         requires { k ≤ self.now.count }
         ensures { result ≡ steps.body_at self.now.body self.now.d k }
     {
-        self.body.moved(shift_at(self.d, k)).unwrap()
+        self.body.shifted(shift_at(self.d, k))
     }
 
     /// The first step from 1 on at which the body overlaps the solid: the first that lies in the windows of all

@@ -64,6 +64,7 @@ impl Seat {
         ensures point { self.new.point ≡ self.old.point }
     {
         self.queues.got.push(node);
+        // It is the node that was taken now.
         let _ = self.queues.rest.pop_first();
     }
 

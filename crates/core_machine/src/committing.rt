@@ -21,6 +21,7 @@ pub fn same_effect(effect: &Effect) -> Effect
 {
     let mut states = StateList::new();
     for state in effect.states.as_slice() {
+        // The copy has as much room as the list itself.
         let _ = states.push(*state);
     }
     Effect {
@@ -124,6 +125,7 @@ impl Seat {
             → view_of self.new ≡ record (view_of self.old) { point = steps.storing nodes stores } }
     {
         if matches!(self.point, Point::Storing) {
+            // It is the store that was made now.
             let _ = self.queues.stores.pop_first();
             self.storing();
         }

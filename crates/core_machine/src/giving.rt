@@ -59,6 +59,7 @@ impl Seat {
         if self.queues.got.pop_first().is_some() {
             self.point = Point::Releasing;
         } else {
+            // The first leaf was given back now.
             self.queues.rest = self.wanted.copied();
             let _ = self.queues.rest.pop_first();
             self.returning();
@@ -70,6 +71,7 @@ impl Seat {
         ensures { view_of self.new
             ≡ steps.yielded (view_of self.old) self.old.queues.got.items self.old.queues.rest.items }
     {
+        // Inner nodes are given back before leaves.
         if self.queues.got.pop_first().is_none() {
             let _ = self.queues.rest.pop_first();
         }
@@ -99,6 +101,7 @@ impl Seat {
             Point::Leaving { .. } => self.visit_next(rules),
             Point::Releasing => self.released(),
             Point::Returning => {
+                // It is the leaf that was given back now.
                 let _ = self.queues.rest.pop_first();
                 self.returning();
             }

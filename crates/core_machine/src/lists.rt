@@ -132,6 +132,7 @@ pub fn same_words(words: &[u64]) -> WordList
     ensures { result.items ≡ words.now }
 {
     let mut copy = ArrayVec::new();
+    // The copy has as much room as the list itself.
     let _ = copy.try_extend_from_slice(words);
     copy
 }

@@ -141,6 +141,7 @@ pub fn put_near(
     let slots = slots_read(others);
     for r in start {
         if let Some(one) = near_read(r, region, slot, others, states, &slots) {
+            // The list has room for as many as there are records.
             let _ = list.push(one);
         }
     }

@@ -1,9 +1,9 @@
 -- That records have boxes.
-use Rattle.std.proofs.Common.{◌≡◌, ℤ, pos, ◌+ℤ◌, ◌-ℤ◌, true, ◌≤ℤ◌, Option, Some, None, SomeIff, IsSome, ap, arith}
+use Rattle.std.proofs.Common.{◌≡◌, ℤ, pos, ◌+ℤ◌, ◌-ℤ◌, true, ◌≤ℤ◌, arith}
 use Rattle.std.proofs.lemmas.Int.{ints}
 use Rattle.arena_geo.specs.declared.vec3.Vec3.{Vec3}
 use Rattle.arena_geo.specs.Vectors.{IsNear, IsNotNegative, plus}
-use Rattle.arena_geo.specs.Bounds.{Bounds, bounds, IsOrdered, IsInRange, IsBox}
+use Rattle.arena_geo.specs.Bounds.{Bounds, IsOrdered, IsBox}
 use Rattle.arena_geo.specs.Boxes.{contains_on, contains, grown}
 use Rattle.arena_geo.proofs.Ranges.{IsOrdered-grown}
 use Rattle.arena_geo.proofs.Containment.{all_three}
@@ -89,11 +89,6 @@ growth_is_small Teleporter = body_growth_is_small
 growth_is_small Goal = body_growth_is_small
 growth_is_small Lift = body_growth_is_small
 
-pub growth_is_near : (kind : Kind) → IsNear 2097152 (growth_of kind)
-growth_is_near kind =
-    let small = growth_is_small kind in
-    record { x = omega (arith, small.near.x); y = omega (arith, small.near.y); z = omega (arith, small.near.z) }
-
 grown_is_box : (b : Bounds) (by : Vec3) → IsRoomy b → IsSmallGrowth by → IsBox (grown b by)
 grown_is_box b by roomy small = record {
   ordered = IsOrdered-grown b by roomy.ordered small.positive;
@@ -110,19 +105,6 @@ pub records_have_boxes : RecordsHaveBoxes
 records_have_boxes r within =
     let roomy = shape_is_roomy r.kind r.origin r.mins r.maxs within.origin within.shape in
     record { body = roomy_is_box _ roomy; abs = grown_is_box _ _ roomy (growth_is_small r.kind) }
-
--- what is made of two corners is their box
-pub made : (r : Option Bounds) (lo hi low high : Vec3) → lo ≡ low → hi ≡ high → IsBox (bounds low high) → SomeIff r (IsBox (bounds lo hi)) (bounds lo hi) → r ≡ Some (bounds low high)
-made None lo hi low high e f box none = absurd (none (rw (e, f) box))
-made (Some b) lo hi low high e f box some = ap Some (rw (e, f) at some.1)
-
--- what is grown within the range is there
-pub grown_there : (r : Option Bounds) (b low : Bounds) (by growth : Vec3) → b ≡ low → by ≡ growth → IsBox (grown low growth) → SomeIff r (IsInRange (grown b by)) (grown b by) → r ≡ Some (grown low growth)
-grown_there None b low by growth e f box none = absurd (none (rw (e, f) box.in_range))
-grown_there (Some x) b low by growth e f box some = ap Some (rw (e, f) at some.1)
-
-pub is_there : (r : Option Bounds) (b : Bounds) → r ≡ Some b → IsSome r
-is_there r b e = rw e
 
 contains_on-grown : (lo hi by : ℤ) → pos 0 ≤ℤ by → contains_on (lo -ℤ by) (hi +ℤ by) lo hi ≡ true
 contains_on-grown lo hi by positive = grind (arith, ints)

@@ -63,7 +63,7 @@ pub fn player_box(origin: Vec3) -> Aabb
     requires { IsNear 1048576 origin }
     ensures { result ≡ player_body origin }
 {
-    Aabb::new(origin + PLAYER_MINS, origin + PLAYER_MAXS).unwrap()
+    Aabb::between(origin + PLAYER_MINS, origin + PLAYER_MAXS)
 }
 
 /// The body of a record: its origin plus `mins` to its origin plus `maxs`.
@@ -71,7 +71,7 @@ pub fn body_box(r: &Rec) -> Aabb
     requires { IsRecord r.now }
     ensures { result ≡ body_of r.now }
 {
-    Aabb::new(r.origin + r.mins, r.origin + r.maxs).unwrap()
+    Aabb::between(r.origin + r.mins, r.origin + r.maxs)
 }
 
 /// The absolute box of a record, by which it is linked and touched: it plays the part of `absmin` and `absmax` in
@@ -81,7 +81,7 @@ pub fn abs_box(r: &Rec) -> Aabb
     requires { IsRecord r.now }
     ensures { result ≡ abs_of r.now }
 {
-    body_box(r).grow(growth(r.kind)).unwrap()
+    body_box(r).grown(growth(r.kind))
 }
 
 /// Whether the record is a trigger, and its absolute box touches this box: where `abs` is a player's absolute box, the

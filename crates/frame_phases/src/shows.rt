@@ -18,6 +18,7 @@ fn list_slot(world: &World, slot: u8, slots: &mut SlotList)
     let Some(_player) = world.get(u16::from(slot)) else {
         return;
     };
+    // There are fewer slots in the list than there are slots, so it has room.
     let _fits = slots.push(slot);
 }
 

@@ -14,7 +14,9 @@ use Rattle.demo_make.specs.GeneratedMap.{generated_map}
 use Rattle.demo_make.specs.GeneratedFrames.{arrivals_in, generated_frames, generated_events}
 use Rattle.match_play.specs.declared.totals.Totals.{Totals}
 use Rattle.out_text.specs.Collecting.{closing}
-use Rattle.match_play.specs.Games.{GameView, GoesOn, IsReady, new_game}
+use Rattle.entity_recs.specs.declared.effect.Entry.{Entry}
+use Rattle.playback.specs.Playbacks.{Course, GoesOn, IsReady, entries_if}
+use Rattle.match_play.specs.Games.{GameView, Plays, new_game, journals_after, totals_after}
 use Rattle.match_play.specs.Matches.{HasEachJournal, entries_of}
 use Rattle.match_play.proofs.Playing.{IsUnderWay, under_way-start, under_way-closed, may_close}
 
@@ -56,40 +58,48 @@ generated-closes seed players frames = recording-closes (generated_frames seed p
 module _ (seed players workers frames : ℕ) where
   -- the game of a match, in which events with these frames are left
   abbrev pub IsGameUnderWay : GameView → List Event → Type 0
-  IsGameUnderWay g events = IsUnderWay seed players workers frames g.server g.totals (entries_of g.journals) (closed_by g.opened events)
+  IsGameUnderWay g events = IsUnderWay seed players workers frames g.course.server g.totals (entries_of g.journals) (closed_by g.course.opened events)
 
   -- a match begins
   pub under_way-first : (g : GameView) (events : List Event) → g ≡ new_game generated_map → events ≡ generated_events seed players frames → IsGameUnderWay g events
   under_way-first g events fresh events_are =
       subst (λ (h : GameView). IsGameUnderWay h events) (sym fresh)
-      (subst (λ (fs : List (List Arrival)). IsUnderWay seed players workers frames (new_game generated_map).server (new_game generated_map).totals [] fs) (sym (ap (closed_by None) events_are ∙ generated-closes seed players frames))
+      (subst (λ (fs : List (List Arrival)). IsUnderWay seed players workers frames (new_game generated_map).course.server (new_game generated_map).totals [] fs) (sym (ap (closed_by None) events_are ∙ generated-closes seed players frames))
       (under_way-start seed players workers frames))
 
   -- a match goes on by an event
-  pub under_way-next : (old new : GameView) (e : Event) (more : List Event) → IsGameUnderWay old (e ∷ more) → GoesOn workers old new e → IsGameUnderWay new more
-  under_way-next old new Frame more under goes =
-      subst (λ (o : Option (List Arrival)). IsUnderWay seed players workers frames new.server new.totals (entries_of new.journals) (closed_by o more)) (sym goes.1)
-      (under_way-closed seed players workers frames old new old.opened (closed_by (Some []) more) under goes.0)
-  under_way-next old new (From a) more under goes =
-      subst (λ (o : Option (List Arrival)). IsUnderWay seed players workers frames new.server new.totals (entries_of new.journals) (closed_by o more)) (sym goes.opened_is)
-      (subst (λ (js : List JournalView). IsUnderWay seed players workers frames new.server new.totals (entries_of js) (closed_by (with_packet a old.opened) more)) (sym goes.journals)
-      (subst (λ (t : Totals). IsUnderWay seed players workers frames new.server t (entries_of old.journals) (closed_by (with_packet a old.opened) more)) (sym goes.totals)
-      (subst (λ (t : ServerView). IsUnderWay seed players workers frames t old.totals (entries_of old.journals) (closed_by (with_packet a old.opened) more)) (sym goes.server) under)))
-  under_way-next old new End more under goes =
-      subst (λ (o : Option (List Arrival)). IsUnderWay seed players workers frames new.server new.totals (entries_of new.journals) (closed_by o more)) (sym goes.1)
-      (under_way-closed seed players workers frames old new old.opened (closed_by None more) under goes.0)
+  under_way-event : (old : GameView) (new : Course) (e : Event) (closed : Option JournalView) (more : List Event) → IsGameUnderWay old (e ∷ more) → GoesOn workers old.course new e (entries_if closed)
+      → IsUnderWay seed players workers frames new.server (totals_after old.totals old.course.server new.server old.course.opened closed) (entries_of (journals_after old.journals closed)) (closed_by new.opened more)
+  under_way-event old new Frame closed more under goes =
+      let t = totals_after old.totals old.course.server new.server old.course.opened closed in
+      subst (λ (o : Option (List Arrival)). IsUnderWay seed players workers frames new.server t (entries_of (journals_after old.journals closed)) (closed_by o more)) (sym goes.opened_is)
+      (under_way-closed seed players workers frames old.course.server new.server old.totals old.journals old.course.opened closed (closed_by (Some []) more) under goes.closes)
+  under_way-event old new (From a) None more under goes =
+      subst (λ (o : Option (List Arrival)). IsUnderWay seed players workers frames new.server old.totals (entries_of old.journals) (closed_by o more)) (sym goes.opened_is)
+      (subst (λ (t : ServerView). IsUnderWay seed players workers frames t old.totals (entries_of old.journals) (closed_by (with_packet a old.course.opened) more)) (sym goes.server) under)
+  under_way-event old new (From a) (Some journal) more under goes = let is = goes.none_closed in cc
+  under_way-event old new End closed more under goes =
+      let t = totals_after old.totals old.course.server new.server old.course.opened closed in
+      subst (λ (o : Option (List Arrival)). IsUnderWay seed players workers frames new.server t (entries_of (journals_after old.journals closed)) (closed_by o more)) (sym goes.opened_is)
+      (under_way-closed seed players workers frames old.course.server new.server old.totals old.journals old.course.opened closed (closed_by None more) under goes.closes)
+
+  pub under_way-next : (old new : GameView) (e : Event) (more : List Event) → IsGameUnderWay old (e ∷ more) → Plays workers old new e → IsGameUnderWay new more
+  under_way-next old new e more under plays =
+      subst (λ (t : Totals). IsUnderWay seed players workers frames new.course.server t (entries_of new.journals) (closed_by new.course.opened more)) (sym plays.totals)
+      (subst (λ (js : List JournalView). IsUnderWay seed players workers frames new.course.server (totals_after old.totals old.course.server new.course.server old.course.opened plays.closed) (entries_of js) (closed_by new.course.opened more)) (sym plays.kept)
+      (under_way-event old new.course e plays.closed more under plays.goes))
 
   -- the event may come
-  pub is_ready : (g : GameView) (e : Event) (more : List Event) → players ≤ 64 → frames ≤ 100000 → IsGameUnderWay g (e ∷ more) → IsReady g e
-  is_ready g Frame more few_players few_frames under = may_close seed players workers frames g g.opened (closed_by (Some []) more) refl few_players few_frames under
+  pub is_ready : (g : GameView) (e : Event) (more : List Event) → players ≤ 64 → frames ≤ 100000 → IsGameUnderWay g (e ∷ more) → IsReady g.course e
+  is_ready g Frame more few_players few_frames under = may_close seed players workers frames g g.course.opened (closed_by (Some []) more) refl few_players few_frames under
   is_ready g (From a) more few_players few_frames under = tt
-  is_ready g End more few_players few_frames under = may_close seed players workers frames g g.opened (closed_by None more) refl few_players few_frames under
+  is_ready g End more few_players few_frames under = may_close seed players workers frames g g.course.opened (closed_by None more) refl few_players few_frames under
 
   -- where no event is left, all frames were run
   pub all_run : (g : GameView) (events : List Event) → events ≡ [] → IsGameUnderWay g events → length g.journals ≡ frames
   all_run g events none under =
       let left : [] ≡ map_list (arrivals_in seed players) (range_with_len (length (entries_of g.journals)) (frames - length (entries_of g.journals))) =
-      sym (ap (closed_by g.opened) none) ∙ under.left_are in
+      sym (ap (closed_by g.course.opened) none) ∙ under.left_are in
       let count = ap length left ∙ length-map-range_with_len (arrivals_in seed players) (length (entries_of g.journals)) (frames - length (entries_of g.journals)) in
       omega (arith, count, under.within, length-map g.journals (λ (j : JournalView). j.entries))
 

@@ -24,7 +24,8 @@ use Rattle.demo_make.specs.Words.{word_at}
 use Rattle.match_play.specs.declared.totals.Totals.{Totals}
 use Rattle.match_play.specs.Totals.{no_totals, totals_with, receptions, joins_in, refused_in, items_in}
 use Rattle.match_play.specs.Matches.{AreRightSoFar, AreInOrderSoFar, match_totals, entries_of}
-use Rattle.match_play.specs.Games.{GameView, RunsFrame, Closes, MayClose}
+use Rattle.playback.specs.Playbacks.{RunsFrame, Closes, MayClose, entries_if}
+use Rattle.match_play.specs.Games.{GameView, journals_after, totals_with_frame, totals_after}
 
 -- ---- one frame more
 
@@ -163,29 +164,28 @@ module _ (seed players : ℕ) where
   entries-more before journal = map-append (λ (j : JournalView). j.entries) before (journal ∷ [])
 
   -- a frame was run
-  under_way-frame : (workers frames : ℕ) (old new : GameView) (a : List Arrival) (left : List (List Arrival))
-      → IsUnderWay workers frames old.server old.totals (entries_of old.journals) (a ∷ left) → RunsFrame workers old new a
-      → IsUnderWay workers frames new.server new.totals (entries_of new.journals) left
-  under_way-frame workers frames old new a left under runs =
-      let js = entries_of old.journals in
-      let j = runs.journal.entries in
-      let next = next-left workers frames old.server old.totals js a left under in
+  under_way-frame : (workers frames : ℕ) (old new : ServerView) (before : Totals) (journals : List JournalView) (journal : JournalView) (a : List Arrival) (left : List (List Arrival))
+      → IsUnderWay workers frames old before (entries_of journals) (a ∷ left) → RunsFrame workers old new a journal.entries
+      → IsUnderWay workers frames new (totals_with_frame before old new a journal) (entries_of (journals ++ journal ∷ [])) left
+  under_way-frame workers frames old new before journals journal a left under runs =
+      let js = entries_of journals in
+      let j = journal.entries in
+      let next = next-left workers frames old before js a left under in
       let r = received_next js in
-      let here : received_in old.server.map old.server.frames old.server.state a ≡ r =
+      let here : received_in old.map old.frames old.state a ≡ r =
       (λ i. received_in (under.server_is i).map (under.server_is i).frames (under.server_is i).state (next.first i)) in
-      let right = subst (λ (q : Receiving). IsRightAfter generated_map q j) here (subst (λ (m : MapView). IsRightAfter m (received_in old.server.map old.server.frames old.server.state a) j) (ap (λ (t : ServerView). t.map) under.server_is) runs.right) in
+      let right = subst (λ (q : Receiving). IsRightAfter generated_map q j) here (subst (λ (m : MapView). IsRightAfter m (received_in old.map old.frames old.state a) j) (ap (λ (t : ServerView). t.map) under.server_is) runs.right) in
       let order = λ (one : workers ≡ 1). subst (λ (q : Receiving). IsInOrder j q.lists.moves) here (runs.order one) in
       let count = length_push js j in
-      let state : server_after old.server a j ≡ server_view generated_map (state_now (js ++ j ∷ [])) (length (js ++ j ∷ [])) =
+      let state : server_after old a j ≡ server_view generated_map (state_now (js ++ j ∷ [])) (length (js ++ j ∷ [])) =
       (λ i. server_after (under.server_is i) (next.first i) j) ∙ (λ i. server_view generated_map (sym (state-more js j) i) (sym count i)) in
-      let new_is = runs.server ∙ state in
-      let totals : new.totals ≡ match_totals seed players (js ++ j ∷ []) =
-      runs.totals
-      ∙ (λ i. totals_with (under.totals_are i) (here i).lists j (score_in (new_is i).state.records))
+      let new_is = runs.next ∙ state in
+      let totals : totals_with_frame before old new a journal ≡ match_totals seed players (js ++ j ∷ []) =
+      (λ i. totals_with (under.totals_are i) (here i).lists j (score_in (new_is i).state.records))
       ∙ ap (λ (s : State). totals_with (match_totals seed players js) r.lists j (score_in s.records)) (state-more js j)
       ∙ sym (totals-more js j) in
-      let P : List (List Entry) → Type 0 = λ ks. IsUnderWay workers frames new.server new.totals ks left in
-      subst P (sym (ap entries_of runs.kept ∙ entries-more old.journals runs.journal))
+      let P : List (List Entry) → Type 0 = λ ks. IsUnderWay workers frames new (totals_with_frame before old new a journal) ks left in
+      subst P (sym (entries-more journals journal))
       (record {
         server_is = new_is;
         right = right-more js j under.right right;
@@ -196,14 +196,14 @@ module _ (seed players : ℕ) where
       })
 
   -- the frame that was open was run, where one was
-  pub under_way-closed : (workers frames : ℕ) (old new : GameView) (o : Option (List Arrival)) (left : List (List Arrival))
-      → IsUnderWay workers frames old.server old.totals (entries_of old.journals) (closing o ++ left) → Closes workers o old new
-      → IsUnderWay workers frames new.server new.totals (entries_of new.journals) left
-  under_way-closed workers frames old new None left under runs =
-      subst (λ (js : List JournalView). IsUnderWay workers frames new.server new.totals (entries_of js) left) (sym runs.kept)
-      (subst (λ (t : Totals). IsUnderWay workers frames new.server t (entries_of old.journals) left) (sym runs.totals)
-      (subst (λ (t : ServerView). IsUnderWay workers frames t old.totals (entries_of old.journals) left) (sym runs.server) under))
-  under_way-closed workers frames old new (Some a) left under runs = under_way-frame workers frames old new a left under runs
+  pub under_way-closed : (workers frames : ℕ) (old new : ServerView) (before : Totals) (journals : List JournalView) (o : Option (List Arrival)) (closed : Option JournalView) (left : List (List Arrival))
+      → IsUnderWay workers frames old before (entries_of journals) (closing o ++ left) → Closes workers old new o (entries_if closed)
+      → IsUnderWay workers frames new (totals_after before old new o closed) (entries_of (journals_after journals closed)) left
+  under_way-closed workers frames old new before journals None None left under same =
+      subst (λ (t : ServerView). IsUnderWay workers frames t before (entries_of journals) left) (sym same) under
+  under_way-closed workers frames old new before journals None (Some journal) left under never = absurd never
+  under_way-closed workers frames old new before journals (Some a) None left under never = absurd never
+  under_way-closed workers frames old new before journals (Some a) (Some journal) left under runs = under_way-frame workers frames old new before journals journal a left under runs
 
   arrivals-few : (frame : ℕ) → players ≤ 64 → length (arrivals_in seed players frame) ≤ 512
   arrivals-few frame few =
@@ -217,18 +217,18 @@ module _ (seed players : ℕ) where
       joins_few false = omega arith
 
   -- a frame that is open may be closed
-  pub may_close : (workers frames : ℕ) (g : GameView) (o : Option (List Arrival)) (left : List (List Arrival)) → g.opened ≡ o → players ≤ 64 → frames ≤ 100000
-      → IsUnderWay workers frames g.server g.totals (entries_of g.journals) (closing o ++ left) → MayClose g
+  pub may_close : (workers frames : ℕ) (g : GameView) (o : Option (List Arrival)) (left : List (List Arrival)) → g.course.opened ≡ o → players ≤ 64 → frames ≤ 100000
+      → IsUnderWay workers frames g.course.server g.totals (entries_of g.journals) (closing o ++ left) → MayClose g.course
   may_close workers frames g None left is few_players few_frames under = record {
     few = subst (λ (o : Option (List Arrival)). IfSome o (λ arrivals. length arrivals ≤ 512)) (sym is) tt;
-    frames = subst (λ (o : Option (List Arrival)). IfSome o (λ _. g.server.frames < 100000)) (sym is) tt;
+    frames = subst (λ (o : Option (List Arrival)). IfSome o (λ _. g.course.server.frames < 100000)) (sym is) tt;
   }
   may_close workers frames g (Some a) left is few_players few_frames under =
-      let next = next-left workers frames g.server g.totals (entries_of g.journals) a left under in
+      let next = next-left workers frames g.course.server g.totals (entries_of g.journals) a left under in
       let number = ap (λ (t : ServerView). t.frames) under.server_is in
       let short : length a ≤ 512 = subst (λ (xs : List Arrival). length xs ≤ 512) (sym next.first) (arrivals-few (length (entries_of g.journals)) few_players) in
-      let early : g.server.frames < 100000 = omega (arith, number, next.some, few_frames) in
+      let early : g.course.server.frames < 100000 = omega (arith, number, next.some, few_frames) in
       record {
         few = subst (λ (o : Option (List Arrival)). IfSome o (λ arrivals. length arrivals ≤ 512)) (sym is) short;
-        frames = subst (λ (o : Option (List Arrival)). IfSome o (λ _. g.server.frames < 100000)) (sym is) early;
+        frames = subst (λ (o : Option (List Arrival)). IfSome o (λ _. g.course.server.frames < 100000)) (sym is) early;
       }

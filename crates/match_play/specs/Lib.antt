@@ -5,6 +5,7 @@ pub use Rattle.demo_make.specs.GeneratedFrames
 pub use Rattle.frame_phases.specs.Scores
 pub use Rattle.frame_phases.specs.Servers
 pub use Rattle.move_phase.specs.Serving
+pub use Rattle.playback.specs.Playbacks
 pub use Rattle.plain_server.specs.RecordsById
 pub use Rattle.plain_server.specs.Frames
 pub use Rattle.move_journal.specs.Logs

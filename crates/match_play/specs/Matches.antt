@@ -45,7 +45,7 @@ match_server seed players journals =
 -- the game has the journal of each frame that its server has run, and no other: they are right, and with one worker in
 -- the order of arrival
 pub record HasEachJournal (seed players workers : ℕ) (g : GameView) : Type 0 where
-  pub count : length g.journals ≡ g.server.frames
-  pub server_is : g.server ≡ match_server seed players (entries_of g.journals)
+  pub count : length g.journals ≡ g.course.server.frames
+  pub server_is : g.course.server ≡ match_server seed players (entries_of g.journals)
   pub right : AreRightSoFar seed players (entries_of g.journals)
   pub order : workers ≡ 1 → AreInOrderSoFar seed players (entries_of g.journals)

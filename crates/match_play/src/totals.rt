@@ -1,5 +1,6 @@
 use crate::items::items_in;
-use frame_phases::FrameOut;
+use client_ports::Received;
+use entity_recs::Entry;
 
 /// What the frames of a match come to.
 #[derive(Clone, Copy, Debug, PartialEq, Eq)]
@@ -37,20 +38,21 @@ impl Totals {
         }
     }
 
-    /// The totals with one frame more, after which the live players' scores have this sum.
-    pub(crate) fn with_frame(&self, frame: &FrameOut, score: u64) -> Totals
+    /// The totals with one frame more, of what its packets came to and its journal, after which the live players'
+    /// scores have this sum.
+    pub(crate) fn with_frame(&self, received: &Received, journal: &[Entry], score: u64) -> Totals
         requires room { self.now.frames < 100000 }
         requires bounded { AreBounded self.now }
-        requires few { HasFew frame.now.received.lists frame.now.journal.entries }
-        ensures totals { result ≡ totals_with self.now frame.now.received.lists frame.now.journal.entries score }
+        requires few { HasFew received.now.lists journal.now }
+        ensures totals { result ≡ totals_with self.now received.now.lists journal.now score }
         ensures bounded { AreBounded result }
     {
         Totals {
             frames: self.frames + 1,
-            joins: self.joins + frame.received.joined().len() as u32,
-            moves: self.moves + frame.journal.as_slice().len() as u32,
-            refused: self.refused + frame.received.refused().len() as u32,
-            items: self.items + items_in(frame.journal.as_slice()),
+            joins: self.joins + received.joined().len() as u32,
+            moves: self.moves + journal.len() as u32,
+            refused: self.refused + received.refused().len() as u32,
+            items: self.items + items_in(journal),
             score,
         }
     }

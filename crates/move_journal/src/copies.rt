@@ -8,6 +8,7 @@ pub fn same_reply(reply: &Reply) -> Reply
 {
     let mut got = IdList::new();
     for id in reply.got.as_slice() {
+        // The copy has as much room as the list itself.
         let _ = got.push(*id);
     }
     Reply {

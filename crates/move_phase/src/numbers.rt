@@ -22,6 +22,7 @@ pub(crate) fn look_at_all(world: &World)
     // To ask for the tree is to know that the world is linked, and so that it has 256 places.
     let _linked = world.tree();
     for id in 0..IDS as u16 {
+        // What is read is known to have the form that its kind has.
         let _read = read(world, id);
     }
 }

@@ -38,10 +38,12 @@ fn end_all<A: Action>(words: &Words<A>, mut passes: PassList<A>, logs: &mut LogL
     ensures logs { logs.new ≡ map log_from passes.items }
 {
     let (mut first, log) = passes.remove(0).into_parts();
+    // The list has room for 16 logs, and there are at most 16 passes.
     let _ = logs.push(log);
     for pass in passes {
         let (seat, log) = pass.into_parts();
         end(words, &mut first, seat);
+        // As above.
         let _ = logs.push(log);
     }
     first

@@ -13,6 +13,7 @@ use entity_recs::{Action, Effect};
 fn few_states(effect: &Effect)
     ensures { length effect.now.states ≤ 8 }
 {
+    // To read the list is to know its bound.
     let _ = effect.states.as_slice();
 }
 

@@ -20,6 +20,7 @@ fn rooms_of(room: &[u32]) -> ArrayVec<u32, 16>
     ensures { result.items ≡ room.now }
 {
     let mut rooms = ArrayVec::new();
+    // There are at most 16, so they fit.
     let _ = rooms.try_extend_from_slice(room);
     rooms
 }
@@ -76,6 +77,8 @@ pub(crate) fn lay_table<A: Action>(
         × (t.1.me ≡ (first_sight (slice_index room.now 0), []))) }
 {
     let words = words_at_start(alloc, world)?;
+    // To ask for the tree is to know that the world is linked, and for the first room that there is one: what the rule
+    // says of the words at the start stands on both.
     let _tree = world.tree();
     let _first = first_room(room);
     let rooms = rooms_of(room);

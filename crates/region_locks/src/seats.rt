@@ -44,6 +44,7 @@ fn make_as<A: Action, N: Roomed>(words: &Words<A>, seat: &mut Place, room: u32) 
     ensures seat { seat.new.me ≡ (with_one_made seat.old.me.0, seat.old.me.1) }
     ensures made { result.me ≡ (sight_made N.room seat.old.me.0, []) }
 {
+    // The play gives the new seat this room; here it is read by the clauses alone.
     let _ = room;
     words.split_seat::<Makes<N>>(seat)
 }

@@ -54,6 +54,7 @@ fn links_at_start(world: &World, homes: &[Option<u8>; SLOTS], node: u8) -> u64
     ensures { result ≡ word_of 64 (λ slot. is_player (fixed_of_world world.now) slot &&
         (node == home (fixed_of_world world.now) ((world_at_start world.now).record_of slot))) }
 {
+    // The clauses speak of the world alone: what the word says is known from the nodes of its players.
     let _ = world;
     let mut word = 0;
     for slot in 0..SLOTS {

@@ -30,6 +30,7 @@ pub(crate) fn load_as<A: Action, N: Planned>(
     ensures table { seat.new.table_id ≡ seat.old.table_id }
     ensures went { SeatWent N.fixed N.passes N.next seat.old.me result seat.new.me }
 {
+    // The pick of the play is made from this value, in the proof.
     let _ = about;
     words.load::<Goes<N>>(seat, word)
 }
@@ -55,6 +56,7 @@ pub(crate) fn store_as<A: Action, N: Planned>(
     ensures table { seat.new.table_id ≡ seat.old.table_id }
     ensures went { SeatWent N.fixed N.passes N.next seat.old.me new seat.new.me }
 {
+    // The pick of the play is made from this value, in the proof.
     let _ = about;
     words.store::<Goes<N>>(seat, word, new);
 }
@@ -79,6 +81,7 @@ pub(crate) fn exchange_as<A: Action, N: Planned>(
     ensures table { seat.new.table_id ≡ seat.old.table_id }
     ensures took { SeatTook N.fixed N.passes N.next seat.old.me result seat.new.me }
 {
+    // The pick of the play is made from this value, in the proof.
     let _ = about;
     words.compare_exchange::<Takes<N>>(seat, word, 0, new)
 }
@@ -102,6 +105,7 @@ pub(crate) fn count_as<A: Action, N: Planned>(
     ensures table { seat.new.table_id ≡ seat.old.table_id }
     ensures counted { SeatCounted N.fixed N.passes N.next seat.old.me result seat.new.me }
 {
+    // The pick of the play is made from this value, in the proof.
     let _ = about;
     words.fetch_add::<Counts<N>>(seat, word, 1)
 }
@@ -127,6 +131,7 @@ pub(crate) fn clear_as<A: Action, N: Planned>(
     ensures table { seat.new.table_id ≡ seat.old.table_id }
     ensures went { SeatWent N.fixed N.passes N.next seat.old.me result seat.new.me }
 {
+    // The pick of the play is made from this value, in the proof.
     let _ = about;
     words.fetch_and::<Goes<N>>(seat, word, !(1 << slot))
 }
@@ -152,6 +157,7 @@ pub(crate) fn set_as<A: Action, N: Planned>(
     ensures table { seat.new.table_id ≡ seat.old.table_id }
     ensures went { SeatWent N.fixed N.passes N.next seat.old.me result seat.new.me }
 {
+    // The pick of the play is made from this value, in the proof.
     let _ = about;
     words.fetch_or::<Goes<N>>(seat, word, 1 << slot)
 }

@@ -1,7 +1,6 @@
 -- A slide on its way: the turns so far and the slide of what is left are the slide of all.
-use Rattle.std.proofs.Common.{◌≡◌, ℕ, suc, arith, Bool, true, false, ◌||◌, List, Option, Some, None, IfSome, SomeIff, refl, sym, ap, ◌∙◌, subst}
+use Rattle.std.proofs.Common.{◌≡◌, ℕ, suc, arith, Bool, true, false, ◌||◌, List, Option, Some, None, IfSome, refl, sym, ap, ◌∙◌, subst}
 use Rattle.std.specs.Option.{option_map_or}
-use Rattle.std.proofs.lemmas.Option.{same_Some}
 use Rattle.arena_geo.specs.declared.vec3.Vec3.{Vec3}
 use Rattle.arena_geo.specs.Vectors.{IsNear, Fits, plus, minus}
 use Rattle.arena_geo.specs.Bounds.{Bounds, IsInRange}
@@ -159,8 +158,3 @@ module _ (body : Bounds) (vel way : Vec3) (solids : List Bounds) (traces : ℕ) 
     ends_early fewer next count none next_is =
         let P : Turn → Type 0 = λ t. t.rest ≡ None → joined slid t.slid ≡ slide_along 4 body vel way solids in
         next_is ∙ subst P is_next (next_ends fewer count) none
-
--- an option that holds a value exactly where this holds has that value
-pub value_in_some : {T : Type 0} (r : Option T) (P : Type 0) (v x : T) → SomeIff r P v → r ≡ Some x → x ≡ v
-value_in_some None P v x iff some = cc
-value_in_some (Some y) P v x iff some = sym (same_Some y x some) ∙ iff.1

@@ -57,7 +57,7 @@ fn slide_along(body: &Aabb, vel: Vec3, way: Vec3, fixed: &[Aabb], moving: &[Aabb
     let mut slid = Slid::still(vel);
     let mut left = way;
     for _ in 0..TRACES {
-        let here = body.moved(slid.shift).unwrap();
+        let here = body.shifted(slid.shift);
         let turn = Turn::of(&here, slid.vel, left, fixed, moving);
         slid = slid.then(turn.slid);
         let Some(rest) = turn.rest else {

@@ -1,11 +1,10 @@
 -- How the parts of a snapshot come together.
-use Rattle.std.proofs.Common.{◌≡◌, ℕ, ◌+◌, ◌*◌, ◌≤◌, List, [], ◌∷◌, ◌++◌, length, Option, Some, IfSome, sym, ap, ◌∙◌, subst, arith}
+use Rattle.std.proofs.Common.{◌≡◌, ℕ, ◌+◌, ◌*◌, ◌≤◌, List, [], ◌++◌, length, Option, Some, IfSome, sym, ap, ◌∙◌, subst, arith}
 use Rattle.arena_geo.specs.Bounds.{Bounds}
 use Rattle.entity_recs.specs.declared.rec.Rec.{Rec}
 use Rattle.world_tree.specs.Live.{record_at, live_in, IsEntry, AreEntries}
-use Rattle.world_tree.specs.Queries.{near_in}
-use Rattle.snapshot_write.specs.Snapshots.{view_of, snapshot, own_bytes, seen_by, seen_bytes}
-use Rattle.snapshot_write.proofs.InView.{near_view, few_are_seen}
+use Rattle.snapshot_write.specs.Snapshots.{view_of, in_view, snapshot, own_bytes, seen_by, seen_bytes}
+use Rattle.snapshot_write.proofs.InView.{few_are_seen}
 
 -- what holds of a record holds of the one at its place
 if_at : (place : Option Rec) (me : Rec) (P : Rec → Type 0) → place ≡ Some me → P me → IfSome place P
@@ -25,12 +24,12 @@ at_place records slot id place me up = ap (record_at records) (sym up.same) ∙ 
 pub entry_at : (records : List (Option Rec)) (slot id : ℕ) (place : Option Rec) (me : Rec) → IsLookedUp records slot id place me → AreEntries records → IsEntry slot me
 entry_at records slot id place me up entries = entries slot me (at_place records slot id place me up)
 
--- what was found near the view is what the player sees
-pub seen_is : (records : List (Option Rec)) (slot id : ℕ) (place : Option Rec) (me : Rec) (view : Bounds) (region : List Bounds) (found seen : List Rec) → IsLookedUp records slot id place me
-    → AreEntries records → view ≡ view_of me.origin → region ≡ view ∷ [] → found ≡ near_in records region id → seen ≡ found → seen ≡ seen_by me (live_in records)
-seen_is records slot id place me view region found seen up entries is_view is_region near same =
-    same ∙ near ∙ ap (λ boxes. near_in records boxes id) (is_region ∙ ap (λ box. box ∷ []) is_view)
-    ∙ near_view me records id (up.same ∙ sym (entry_at records slot id place me up entries).own_id)
+-- what is in the view is what the player sees
+pub seen_is : (records : List (Option Rec)) (slot id : ℕ) (place : Option Rec) (me : Rec) (view : Bounds) → IsLookedUp records slot id place me
+    → AreEntries records → view ≡ view_of me.origin → in_view view id (live_in records) ≡ seen_by me (live_in records)
+seen_is records slot id place me view up entries is_view =
+    ap (λ box. in_view box id (live_in records)) is_view
+    ∙ ap (λ n. in_view (view_of me.origin) n (live_in records)) (up.same ∙ sym (entry_at records slot id place me up entries).own_id)
 
 -- there is room for it
 pub room_for : (records : List (Option Rec)) (slot id : ℕ) (place : Option Rec) (me : Rec) (seen : List Rec) (own : ℕ) → IsLookedUp records slot id place me → length records ≡ 256

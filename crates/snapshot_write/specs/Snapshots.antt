@@ -1,5 +1,5 @@
 -- What a player sees at the end of a frame, and the bytes of its snapshot.
-use Rattle.std.specs.Prelude.{ℕ, Bool, ◌&&◌, not, ◌==◌, List, [], ◌∷◌, ◌++◌, length, filter, flat_map, ℤ, pos}
+use Rattle.std.specs.Prelude.{ℕ, Bool, ◌&&◌, not, ◌==◌, List, [], ◌∷◌, ◌++◌, length, filter, flat_map, Option, Some, None, ℤ, pos}
 use Rattle.std.specs.Prelude.{if◌then◌else◌}
 use Rattle.std.specs.Int.{to_le_bytes, cast_unsigned, w16, w32}
 use Rattle.arena_geo.specs.declared.vec3.Vec3.{Vec3}
@@ -23,6 +23,19 @@ view_of origin = bounds (minus origin sight) (plus origin sight)
 -- the absolute box of the record touches the view, and the record is another's
 abbrev pub is_seen : Rec → Rec → Bool
 is_seen me r = touches (abs_of r) (view_of me.origin) && not (r.id == me.id)
+
+-- the absolute box of the record touches this view, and the record isn't that of this id
+abbrev pub is_in_view : Bounds → ℕ → Rec → Bool
+is_in_view view me r = touches (abs_of r) view && not (r.id == me)
+
+-- the record of a place, if there is one and it is in the view
+abbrev pub in_view_at : Bounds → ℕ → Option Rec → Option Rec
+in_view_at view me None = None
+in_view_at view me (Some r) = if is_in_view view me r then Some r else None
+
+-- the records in the view: what the player with this id sees, where the view is its own
+abbrev pub in_view : Bounds → ℕ → List Rec → List Rec
+in_view view me records = filter (is_in_view view me) records
 
 -- what a player sees, of all live records in rising id
 abbrev pub seen_by : Rec → List Rec → List Rec

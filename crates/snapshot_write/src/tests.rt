@@ -22,6 +22,11 @@ const ALONE_AND_A_BYTE: &[u8] =
 const MOVED: &[u8] =
     b"\x01\x01\0\0\0\0\x66\x26\0\0\0\0\0\0\0\x18\0\0\0\x40\x01\0\0\0\0\0\0\0\0\0\x01\0\0\0\0\0\0\x03\0\0\0\0\0";
 
+/// The player of `ALONE`, and the one in slot 1 as far from it on x as it sees a player, 266,496 away.
+const AT_THE_EDGE: &[u8; 59] =
+    b"\x01\0\0\0\0\0\0\0\0\0\0\0\0\0\0\x18\0\0\0\0\0\0\0\0\0\0\0\0\0\0\0\0\0\0\0\0\0\0\0\0\0\x01\0\
+\x01\0\0\x01\0\x11\x04\0\0\0\0\0\0\x18\0\0";
+
 /// A player on a lift that has risen, beside an item that was taken and a gem at the edge of its view.
 const AMONG_THINGS: &[u8; 91] =
     b"\x01\0\0\0\0\0\0\0\0\0\0\0\0\0\0\x2c\0\0\0\0\0\0\0\0\0\0\0\0\0\0\0\0\0\0\0\0\0\0\0\0\0\x03\0\
@@ -205,6 +210,28 @@ fn a_snapshot_has_what_its_player_sees(rt: HostRuntime) -> Result<(), Fail> {
     put(&mut world, player(0, at(0, 0, 11_264)));
     put_things(&mut world);
     expect(&rt, &world, 0, AMONG_THINGS.as_slice())
+}
+
+/// Takes out the record with a live id.
+fn take_out(rt: &impl Abort, world: &mut World, id: u16) {
+    assert!(rt; world.get(id).is_some());
+    world.remove(id);
+}
+
+#[test]
+fn a_snapshot_follows_a_player_that_moves_leaves_and_comes_back(
+    rt: HostRuntime,
+) -> Result<(), Fail> {
+    let mut world = empty_world(&rt)?;
+    put(&mut world, player(0, at(0, 0, 6_144)));
+    put(&mut world, player(1, at(266_497, 0, 6_144)));
+    expect(&rt, &world, 0, ALONE)?;
+    put(&mut world, player(1, at(266_496, 0, 6_144)));
+    expect(&rt, &world, 0, AT_THE_EDGE.as_slice())?;
+    take_out(&rt, &mut world, 1);
+    expect(&rt, &world, 0, ALONE)?;
+    put(&mut world, player(1, at(266_496, 0, 6_144)));
+    expect(&rt, &world, 0, AT_THE_EDGE.as_slice())
 }
 
 /// A world with 64 players at one place and 192 items at another.

@@ -1,4 +1,4 @@
-ghost use Rattle.std.specs.Prelude.{◌≡◌, ◌+◌, ◌*◌, ◌≤◌, ◌<◌, ◌++◌, [], length, IsSome, IfSome};
+ghost use Rattle.std.specs.Prelude.{◌≡◌, ◌+◌, ◌*◌, ◌≤◌, ◌<◌, ◌++◌, [], length, is_some, IsSome, IfSome};
 ghost use Rattle.arena_geo.specs.Vectors.{IsNear};
 ghost use Rattle.world_tree.specs.Live.{live_in};
 ghost use Rattle.world_tree.specs.Worlds.{record_of};
@@ -7,9 +7,9 @@ ghost use Rattle.snapshot_write.specs.Shown.{shown};
 ghost use Rattle.snapshot_write.specs.Reading.{reading};
 
 use crate::reply_buf::ReplyBuf;
-use arena_geo::{Aabb, Region, Vec3};
+use arena_geo::{Aabb, Vec3};
 use entity_recs::{Kind, Rec};
-use world_tree::{NearList, World};
+use world_tree::World;
 
 /// The version of the snapshots.
 const VERSION: u8 = 1;
@@ -26,7 +26,7 @@ fn view(origin: Vec3) -> Aabb
     requires { IsNear 1048576 origin }
     ensures { result ≡ spec.view_of origin }
 {
-    Aabb::new(origin - SIGHT, origin + SIGHT).unwrap()
+    Aabb::between(origin - SIGHT, origin + SIGHT)
 }
 
 /// 0 for an item that was taken, and else 1.
@@ -102,16 +102,49 @@ fn push_own(out: &mut ReplyBuf, frame: u32, slot: u8, me: &Rec)
     push_counts(out, me);
 }
 
-/// The number of the things that are seen, and the bytes of each.
-fn push_seen(out: &mut ReplyBuf, seen: &[Rec])
-    requires room { length out.old + 2 + 16 * length seen.now ≤ 4123 }
-    requires few { length seen.now < 65536 }
-    ensures { out.new ≡ out.old ++ spec.seen_bytes seen.now }
+/// Whether the id is live, not `me`, and its absolute box touches the view.
+fn sees(world: &World, view: &Aabb, me: u16, id: u16) -> bool
+    ensures { result ≡ is_some (spec.in_view_at view.now me (record_of world.now id)) }
 {
-    let count = seen.len() as u16;
+    match world.abs_box(id) {
+        Some(abs) => abs.touches(view) && id != me,
+        None => false,
+    }
+}
+
+/// The record with this id, if it is live, not `me`, and its absolute box touches the view. No other record is read.
+fn seen_at(world: &World, view: &Aabb, me: u16, id: u16) -> Option<Rec>
+    ensures { result ≡ spec.in_view_at view.now me (record_of world.now id) }
+{
+    if sees(world, view, me, id) {
+        world.get(id)
+    } else {
+        None
+    }
+}
+
+/// How many things the player with the id `me` sees, whose view this is.
+fn count_seen(world: &World, view: &Aabb, me: u16) -> u16
+    ensures { result ≡ length (spec.in_view view.now me (live_in world.now.records)) }
+{
+    let mut count = 0;
+    for id in world.live_ids() {
+        count += u16::from(sees(world, view, me, *id));
+    }
+    count
+}
+
+/// The number of the things that the player with the id `me` sees, whose view this is, and the bytes of each.
+fn push_seen(out: &mut ReplyBuf, world: &World, view: &Aabb, me: u16)
+    requires room { length out.old + 2 + 16 * length (spec.in_view view.now me (live_in world.now.records)) ≤ 4123 }
+    ensures { out.new ≡ out.old ++ spec.seen_bytes (spec.in_view view.now me (live_in world.now.records)) }
+{
+    let count = count_seen(world, view, me);
     out.extend(&count.to_le_bytes());
-    for r in seen {
-        push_entity(out, r);
+    for id in world.live_ids() {
+        if let Some(r) = seen_at(world, view, me, *id) {
+            push_entity(out, &r);
+        }
     }
 }
 
@@ -128,8 +161,7 @@ pub fn write_snapshot(world: &World, frame: u32, slot: u8, out: &mut ReplyBuf)
 {
     let id = u16::from(slot);
     let me = world.get(id).unwrap();
-    let mut seen = NearList::new();
-    world.near(&Region::one(view(me.origin)), id, &mut seen);
+    let view = view(me.origin);
     push_own(out, frame, slot, &me);
-    push_seen(out, seen.as_slice());
+    push_seen(out, world, &view, id);
 }

@@ -1,5 +1,5 @@
 -- That what is found along the lists is what a test of all records finds.
-use Rattle.std.proofs.Common.{◌≡◌, ℕ, suc, ◌+◌, ◌^◌, ◌<◌, ◌==◌, Bool, true, false, ◌&&◌, ◌||◌, not, if◌then◌else◌, nat_eq, List, [], ◌∷◌, ◌++◌, filter, map, length, replicate, All, Option, Some, None, slice_index_or, slice_set, sym, refl, ap, ◌∙◌, subst, inl, inr, arith, get_or-set_same, get_or-set_other}
+use Rattle.std.proofs.Common.{◌≡◌, ℕ, zero, suc, ◌+◌, ◌^◌, ◌<◌, ◌==◌, Bool, true, false, ◌&&◌, ◌||◌, not, if◌then◌else◌, nat_eq, List, [], ◌∷◌, ◌++◌, filter, map, length, replicate, All, Option, Some, None, slice_index_or, slice_set, sym, refl, ap, ◌∙◌, subst, inl, inr, arith, get_or-set_same, get_or-set_other}
 use Rattle.std.specs.List.{cons_option, list_any, range_with_len}
 use Rattle.std.specs.Option.{option_map, option_map_or}
 use Rattle.std.proofs.lemmas.Bool.{cases_Bool, cases_eq, cases_lt, eq-eqb, ne_eqb, or_left, or_right}
@@ -18,44 +18,50 @@ use Rattle.entity_recs.specs.Bodies.{body_of, abs_of, is_touched}
 use Rattle.entity_recs.proofs.Standing.{records_have_boxes}
 use Rattle.link_lists.specs.Pool.{ListsView, has, list_of}
 use Rattle.link_lists.proofs.Pools.{has-where_of, where_of-has}
-use Rattle.world_tree.specs.Live.{record_at, live_in}
+use Rattle.world_tree.specs.Live.{record_at, live_in, boxes_of}
 use Rattle.world_tree.specs.Worlds.{WorldView, record_of, list_for, IsLinked}
 use Rattle.world_tree.specs.Queries.{is_near, near_in, touching_in, solids_in, is_free, nodes_for, looks_for}
 use Rattle.world_tree.specs.Walks.{touches_at, marked, ids_at, triggers_at, marked_record, picked, is_in_the_way}
 use Rattle.world_tree.proofs.Rounds.{looks_at, passing-has, passing-below}
 
 -- marking keeps the number of marks
-pub length-marked : (records : List (Option Rec)) (region : List Bounds) (ids : List ℕ) (marks : List Bool) → length (marked records region ids marks) ≡ length marks
+pub length-marked : (boxes : List (Option Bounds)) (region : List Bounds) (ids : List ℕ) (marks : List Bool) → length (marked boxes region ids marks) ≡ length marks
 unfolding marked
-length-marked records region [] marks = refl
-length-marked records region (id ∷ ids) marks =
-    length-marked records region ids (slice_set marks id (touches_at records region id)) ∙ length-set marks id (touches_at records region id)
+length-marked boxes region [] marks = refl
+length-marked boxes region (id ∷ ids) marks =
+    length-marked boxes region ids (slice_set marks id (touches_at boxes region id)) ∙ length-set marks id (touches_at boxes region id)
 
 -- the mark of an id: whether it touches the region where it was among the ids, and else what it was
-pub marked-at : (records : List (Option Rec)) (region : List Bounds) (ids : List ℕ) (marks : List Bool) (i : ℕ) → i < length marks
-    → slice_index_or (marked records region ids marks) i false ≡ (if has ids i then touches_at records region i else slice_index_or marks i false)
+pub marked-at : (boxes : List (Option Bounds)) (region : List Bounds) (ids : List ℕ) (marks : List Bool) (i : ℕ) → i < length marks
+    → slice_index_or (marked boxes region ids marks) i false ≡ (if has ids i then touches_at boxes region i else slice_index_or marks i false)
 unfolding marked
-marked-at records region [] marks i below = refl
-marked-at records region (id ∷ ids) marks i below =
-    let mark = touches_at records region id in
+marked-at boxes region [] marks i below = refl
+marked-at boxes region (id ∷ ids) marks i below =
+    let mark = touches_at boxes region id in
     let next = slice_set marks id mark in
     let longer : i < length next = omega (arith, length-set marks id mark) in
-    marked-at records region ids next i longer
+    marked-at boxes region ids next i longer
     ∙ elim (cases_eq i id) [
       | inl same ↦
           let t = eq-eqb i id same in
-          let here : slice_index_or next i false ≡ touches_at records region i =
-          ap (λ j. slice_index_or next j false) same ∙ get_or-set_same marks id mark false (omega arith) ∙ ap (touches_at records region) (sym same) in
+          let here : slice_index_or next i false ≡ touches_at boxes region i =
+          ap (λ j. slice_index_or next j false) same ∙ get_or-set_same marks id mark false (omega arith) ∙ ap (touches_at boxes region) (sym same) in
           rw t (both (has ids i) _ _ here)
       | inr apart ↦
           let t = ne_eqb i id apart in
           let here = get_or-set_other marks id i mark false apart in
-          rw t (ap (λ (b : Bool). if has ids i then touches_at records region i else b) here)
+          rw t (ap (λ (b : Bool). if has ids i then touches_at boxes region i else b) here)
     ]
   where
     both : (b : Bool) (x y : Bool) → y ≡ x → (if b then x else y) ≡ x
     both true x y e = refl
     both false x y e = e
+
+-- the box of an id is that of its record
+pub box-at : (records : List (Option Rec)) (id : ℕ) → slice_index_or (boxes_of records) id None ≡ option_map abs_of (record_at records id)
+box-at [] id = refl
+box-at (place ∷ records) zero = refl
+box-at (place ∷ records) (suc id) = box-at records id
 
 -- what is gathered is what passes a test, where the marks are that test
 pub picked-is : (test : Rec → Bool) (marks : List Bool) (records : List (Option Rec)) → length marks ≡ length records
@@ -161,18 +167,19 @@ module _ (w : WorldView) (linked : IsLinked w) (region : List Bounds) (ordered :
     | inr past ↦ absurd (none-some r (sym (get_or_past w.records i None past) ∙ is))
   ]
 
-  touches_at-live : (i : ℕ) (r : Rec) → record_of w i ≡ Some r → touches_at w.records region i ≡ touches_region (abs_of r) region
-  touches_at-live i r is = ap (λ o. option_map_or (λ x. touches_region (abs_of x) region) o false) is
+  -- its box is that of its record
+  touches_at-live : (i : ℕ) (r : Rec) → record_of w i ≡ Some r → touches_at (boxes_of w.records) region i ≡ touches_region (abs_of r) region
+  touches_at-live i r is = ap (λ o. option_map_or (λ b. touches_region b region) o false) (box-at w.records i ∙ ap (option_map abs_of) is)
 
   abbrev none : List Bool
   none = replicate 256 false
 
   -- the marks of what is found
-  marks-near : (i : ℕ) (r : Rec) → record_of w i ≡ Some r → slice_index_or (marked w.records region (ids_at w.lists nodes) none) i false ≡ touches_region (abs_of r) region
+  marks-near : (i : ℕ) (r : Rec) → record_of w i ≡ Some r → slice_index_or (marked (boxes_of w.records) region (ids_at w.lists nodes) none) i false ≡ touches_region (abs_of r) region
   marks-near i r is =
       let below = live-below i r is in
-      marked-at w.records region (ids_at w.lists nodes) none i (omega (arith, length-replicate 256 false))
-      ∙ ap (λ (b : Bool). if has (ids_at w.lists nodes) i then touches_at w.records region i else b) (get_or-replicate 256 i false false below)
+      marked-at (boxes_of w.records) region (ids_at w.lists nodes) none i (omega (arith, length-replicate 256 false))
+      ∙ ap (λ (b : Bool). if has (ids_at w.lists nodes) i then touches_at (boxes_of w.records) region i else b) (get_or-replicate 256 i false false below)
       ∙ ap (λ (b : Bool). if has (ids_at w.lists nodes) i then b else false) (touches_at-live i r is)
       ∙ elim (cases_Bool (touches_region (abs_of r) region)) [
         | inl touched ↦ rw (touched-found i r is touched) refl
@@ -184,11 +191,11 @@ module _ (w : WorldView) (linked : IsLinked w) (region : List Bounds) (ordered :
       either false = refl
 
   marks-triggers : (i : ℕ) (r : Rec) → record_of w i ≡ Some r
-      → slice_index_or (marked w.records region (triggers_at w.lists nodes) none) i false ≡ (not (is_solid r.kind) && touches_region (abs_of r) region)
+      → slice_index_or (marked (boxes_of w.records) region (triggers_at w.lists nodes) none) i false ≡ (not (is_solid r.kind) && touches_region (abs_of r) region)
   marks-triggers i r is =
       let below = live-below i r is in
-      marked-at w.records region (triggers_at w.lists nodes) none i (omega (arith, length-replicate 256 false))
-      ∙ ap (λ (b : Bool). if has (triggers_at w.lists nodes) i then touches_at w.records region i else b) (get_or-replicate 256 i false false below)
+      marked-at (boxes_of w.records) region (triggers_at w.lists nodes) none i (omega (arith, length-replicate 256 false))
+      ∙ ap (λ (b : Bool). if has (triggers_at w.lists nodes) i then touches_at (boxes_of w.records) region i else b) (get_or-replicate 256 i false false below)
       ∙ ap (λ (b : Bool). if has (triggers_at w.lists nodes) i then b else false) (touches_at-live i r is)
       ∙ elim (cases_Bool (is_solid r.kind)) [
         | inl solid ↦ rw (solid-not_found i r is solid, solid) refl
@@ -204,10 +211,10 @@ module _ (w : WorldView) (linked : IsLinked w) (region : List Bounds) (ordered :
 
   -- what `near` gathers
   pub near-found : (except : ℕ)
-      → picked (slice_set (marked w.records region (ids_at w.lists nodes) (replicate 256 false)) except false) w.records ≡ near_in w.records region except
+      → picked (slice_set (marked (boxes_of w.records) region (ids_at w.lists nodes) (replicate 256 false)) except false) w.records ≡ near_in w.records region except
   near-found except =
-      let all = marked w.records region (ids_at w.lists nodes) none in
-      let long : length all ≡ 256 = length-marked w.records region (ids_at w.lists nodes) none ∙ length-replicate 256 false in
+      let all = marked (boxes_of w.records) region (ids_at w.lists nodes) none in
+      let long : length all ≡ 256 = length-marked (boxes_of w.records) region (ids_at w.lists nodes) none ∙ length-replicate 256 false in
       picked-is (is_near region except) (slice_set all except false) w.records
       (length-set all except false ∙ long ∙ sym linked.places)
       (λ i r is. elim (cases_eq i except) [
@@ -230,10 +237,10 @@ module _ (w : WorldView) (linked : IsLinked w) (region : List Bounds) (ordered :
 
 -- what `touching` gathers
 pub triggers-found : (w : WorldView) → IsLinked w → (abs : Bounds) → All IsOrdered (abs ∷ [])
-    → picked (marked w.records (abs ∷ []) (triggers_at w.lists (nodes_for w.tree (abs ∷ []))) (replicate 256 false)) w.records ≡ touching_in w.records abs
+    → picked (marked (boxes_of w.records) (abs ∷ []) (triggers_at w.lists (nodes_for w.tree (abs ∷ []))) (replicate 256 false)) w.records ≡ touching_in w.records abs
 triggers-found w linked abs ordered =
-    let all = marked w.records (abs ∷ []) (triggers_at w.lists (nodes_for w.tree (abs ∷ []))) (replicate 256 false) in
-    let long : length all ≡ 256 = length-marked w.records (abs ∷ []) (triggers_at w.lists (nodes_for w.tree (abs ∷ []))) (replicate 256 false) ∙ length-replicate 256 false in
+    let all = marked (boxes_of w.records) (abs ∷ []) (triggers_at w.lists (nodes_for w.tree (abs ∷ []))) (replicate 256 false) in
+    let long : length all ≡ 256 = length-marked (boxes_of w.records) (abs ∷ []) (triggers_at w.lists (nodes_for w.tree (abs ∷ []))) (replicate 256 false) ∙ length-replicate 256 false in
     picked-is (is_touched abs) all w.records (long ∙ sym linked.places)
     (λ i r is. marks-triggers w linked (abs ∷ []) ordered i r is ∙ ap (λ (b : Bool). not (is_solid r.kind) && b) (or_false (touches (abs_of r) abs)))
   where
@@ -256,8 +263,8 @@ in_the_way-is body except (Some r ∷ records) =
 
 -- what the steps of `near` come to
 pub near-is : (w : WorldView) → IsLinked w → (region : List Bounds) → IsRegion region → (except leaves nodes : ℕ)
-    → (walked places : List (Option Rec)) (marks unmarked : List Bool) (out : List Rec)
-    → leaves ≡ leaves_of w.tree region → nodes ≡ visited_of 4 leaves → walked ≡ w.records
+    → (walked : List (Option Bounds)) (places : List (Option Rec)) (marks unmarked : List Bool) (out : List Rec)
+    → leaves ≡ leaves_of w.tree region → nodes ≡ visited_of 4 leaves → walked ≡ boxes_of w.records
     → marks ≡ marked walked region (ids_at w.lists (filter (has_bit nodes) (range_with_len 0 31))) (replicate 256 false)
     → unmarked ≡ slice_set marks except false → places ≡ w.records → out ≡ picked unmarked places
     → out ≡ near_in w.records region except
@@ -267,13 +274,13 @@ near-is w linked region is_region except leaves nodes walked places marks unmark
     out_is ∙ ap (picked unmarked) places_is ∙ ap (λ ms. picked ms w.records) unmarked_is
     ∙ ap (λ ms. picked (slice_set ms except false) w.records) marks_is
     ∙ ap (λ rs. picked (slice_set (marked rs region (ids_at w.lists (filter (has_bit nodes) (range_with_len 0 31))) (replicate 256 false)) except false) w.records) walked_is
-    ∙ ap (λ n. picked (slice_set (marked w.records region (ids_at w.lists (filter (has_bit n) (range_with_len 0 31))) (replicate 256 false)) except false) w.records) visited
+    ∙ ap (λ n. picked (slice_set (marked (boxes_of w.records) region (ids_at w.lists (filter (has_bit n) (range_with_len 0 31))) (replicate 256 false)) except false) w.records) visited
     ∙ near-found w linked region (λ k d below. (is_region.boxes k d below).ordered) except
 
 -- what the steps of `touching` come to
 pub touching-is : (w : WorldView) → IsLinked w → (abs : Bounds) → (region : List Bounds) → region ≡ abs ∷ [] → IsRegion region → (leaves nodes : ℕ)
-    → (walked places : List (Option Rec)) (marks : List Bool) (out : List Rec)
-    → leaves ≡ leaves_of w.tree region → nodes ≡ visited_of 4 leaves → walked ≡ w.records
+    → (walked : List (Option Bounds)) (places : List (Option Rec)) (marks : List Bool) (out : List Rec)
+    → leaves ≡ leaves_of w.tree region → nodes ≡ visited_of 4 leaves → walked ≡ boxes_of w.records
     → marks ≡ marked walked region (triggers_at w.lists (filter (has_bit nodes) (range_with_len 0 31))) (replicate 256 false)
     → places ≡ w.records → out ≡ picked marks places
     → out ≡ touching_in w.records abs
@@ -285,7 +292,7 @@ touching-is w linked abs region one is_region leaves nodes walked places marks o
     ∙ ap (λ ms. picked ms w.records) marks_is
     ∙ ap (λ r. picked (marked walked r (triggers_at w.lists (filter (has_bit nodes) (range_with_len 0 31))) (replicate 256 false)) w.records) one
     ∙ ap (λ rs. picked (marked rs (abs ∷ []) (triggers_at w.lists (filter (has_bit nodes) (range_with_len 0 31))) (replicate 256 false)) w.records) walked_is
-    ∙ ap (λ n. picked (marked w.records (abs ∷ []) (triggers_at w.lists (filter (has_bit n) (range_with_len 0 31))) (replicate 256 false)) w.records) visited
+    ∙ ap (λ n. picked (marked (boxes_of w.records) (abs ∷ []) (triggers_at w.lists (filter (has_bit n) (range_with_len 0 31))) (replicate 256 false)) w.records) visited
     ∙ triggers-found w linked abs ordered
 
 -- how many looks that is

@@ -6,4 +6,5 @@ pub mod Picks
 pub mod Rounds
 pub mod Found
 pub mod Rising
+pub mod Kept
 pub mod Starts

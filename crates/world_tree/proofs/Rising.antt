@@ -12,7 +12,7 @@ use Rattle.world_tree.specs.Laws.{LiveIdsRise, LiveIdsHaveRecords, LiveRecordsBy
 use Rattle.world_tree.specs.Queries.{is_near}
 
 -- the first number is at least this, and each later one is above the one before it
-abbrev RisesFrom : ℕ → List ℕ → Type 0
+abbrev pub RisesFrom : ℕ → List ℕ → Type 0
 RisesFrom low [] = Unit {0}
 RisesFrom low (x ∷ xs) = (low ≤ x) × RisesFrom (x + 1) xs
 
@@ -28,7 +28,7 @@ increasing low (x ∷ (y ∷ ys)) rises (suc k) within =
     let later : suc (k + 1) ≡ suc k + 1 = omega arith in
     subst (λ j. slice_index (y ∷ ys) k < slice_index (x ∷ (y ∷ ys)) j) later (increasing (x + 1) (y ∷ ys) rises.1 k (omega arith))
 
-ids-rise : (start : ℕ) (records : List (Option Rec)) → ((i : ℕ) (r : Rec) → record_at records i ≡ Some r → r.id ≡ start + i) → RisesFrom start (ids_of records)
+pub ids-rise : (start : ℕ) (records : List (Option Rec)) → ((i : ℕ) (r : Rec) → record_at records i ≡ Some r → r.id ≡ start + i) → RisesFrom start (ids_of records)
 ids-rise start [] own = tt
 ids-rise start (None ∷ records) own =
     lower (start + 1) start (ids_of records) (omega arith) (ids-rise (start + 1) records (λ i r e. own (suc i) r e ∙ omega arith))

@@ -9,7 +9,6 @@ use Rattle.std.proofs.lemmas.List.Sums.{sum_by-append}
 use Rattle.std.proofs.lemmas.Grind.{flat_map-append}
 use Rattle.arena_geo.specs.Bounds.{Bounds}
 use Rattle.areanode.specs.Laws.{SomeBelow}
-use Rattle.entity_recs.specs.declared.rec.Rec.{Rec}
 use Rattle.link_lists.specs.Pool.{ListsView, list_of}
 use Rattle.world_tree.specs.Walks.{marked, ids_at, triggers_at}
 
@@ -38,11 +37,11 @@ passing-skips test n isnt =
     passing-more test n ∙ ap (λ (b : Bool). passing test n ++ (if b then n ∷ [] else [])) isnt ∙ append-nil (passing test n)
 
 -- marks one after another
-marked-append : (records : List (Option Rec)) (region : List Bounds) (xs ys : List ℕ) (marks : List Bool)
-    → marked records region (xs ++ ys) marks ≡ marked records region ys (marked records region xs marks)
+marked-append : (boxes : List (Option Bounds)) (region : List Bounds) (xs ys : List ℕ) (marks : List Bool)
+    → marked boxes region (xs ++ ys) marks ≡ marked boxes region ys (marked boxes region xs marks)
 unfolding marked
-marked-append records region [] ys marks = refl
-marked-append records region (x ∷ xs) ys marks = marked-append records region xs ys _
+marked-append boxes region [] ys marks = refl
+marked-append boxes region (x ∷ xs) ys marks = marked-append boxes region xs ys _
 
 ids_at-last : (lists : ListsView) (nodes : List ℕ) (node : ℕ) → ids_at lists (nodes ++ node ∷ []) ≡ ids_at lists nodes ++ (list_of lists node ++ list_of lists (31 + node))
 unfolding ids_at
@@ -56,28 +55,28 @@ triggers_at-last lists nodes node =
     flat_map-append (λ n. list_of lists (31 + n)) nodes (node ∷ [])
     ∙ ap (λ (xs : List ℕ). triggers_at lists nodes ++ xs) (append-nil (list_of lists (31 + node)))
 
-module _ (lists : ListsView) (records : List (Option Rec)) (region : List Bounds) (start : List Bool) (test : ℕ → Bool) where
-  pub round-begins : start ≡ marked records region (ids_at lists (passing test 0)) start
+module _ (lists : ListsView) (boxes : List (Option Bounds)) (region : List Bounds) (start : List Bool) (test : ℕ → Bool) where
+  pub round-begins : start ≡ marked boxes region (ids_at lists (passing test 0)) start
   unfolding marked ids_at
   round-begins = refl
 
   pub round-takes : (node : ℕ) (marks half more : List Bool) → test node ≡ true
-      → marks ≡ marked records region (ids_at lists (passing test node)) start
-      → half ≡ marked records region (list_of lists node) marks
-      → more ≡ marked records region (list_of lists (31 + node)) half
-      → more ≡ marked records region (ids_at lists (passing test (node + 1))) start
+      → marks ≡ marked boxes region (ids_at lists (passing test node)) start
+      → half ≡ marked boxes region (list_of lists node) marks
+      → more ≡ marked boxes region (list_of lists (31 + node)) half
+      → more ≡ marked boxes region (ids_at lists (passing test (node + 1))) start
   round-takes node marks half more is before first second =
-      second ∙ ap (marked records region (list_of lists (31 + node))) first
-      ∙ sym (marked-append records region (list_of lists node) (list_of lists (31 + node)) marks)
-      ∙ ap (marked records region (list_of lists node ++ list_of lists (31 + node))) before
-      ∙ sym (marked-append records region (ids_at lists (passing test node)) (list_of lists node ++ list_of lists (31 + node)) start)
-      ∙ ap (λ ids. marked records region ids start) (sym (ids_at-last lists (passing test node) node))
-      ∙ ap (λ nodes. marked records region (ids_at lists nodes) start) (sym (passing-takes test node is))
+      second ∙ ap (marked boxes region (list_of lists (31 + node))) first
+      ∙ sym (marked-append boxes region (list_of lists node) (list_of lists (31 + node)) marks)
+      ∙ ap (marked boxes region (list_of lists node ++ list_of lists (31 + node))) before
+      ∙ sym (marked-append boxes region (ids_at lists (passing test node)) (list_of lists node ++ list_of lists (31 + node)) start)
+      ∙ ap (λ ids. marked boxes region ids start) (sym (ids_at-last lists (passing test node) node))
+      ∙ ap (λ nodes. marked boxes region (ids_at lists nodes) start) (sym (passing-takes test node is))
 
   pub round-skips : (node : ℕ) (marks : List Bool) → test node ≡ false
-      → marks ≡ marked records region (ids_at lists (passing test node)) start
-      → marks ≡ marked records region (ids_at lists (passing test (node + 1))) start
-  round-skips node marks isnt before = before ∙ ap (λ nodes. marked records region (ids_at lists nodes) start) (sym (passing-skips test node isnt))
+      → marks ≡ marked boxes region (ids_at lists (passing test node)) start
+      → marks ≡ marked boxes region (ids_at lists (passing test (node + 1))) start
+  round-skips node marks isnt before = before ∙ ap (λ nodes. marked boxes region (ids_at lists nodes) start) (sym (passing-skips test node isnt))
 
 -- how many looks there are at the triggers of these nodes
 abbrev pub looks_at : ListsView → List ℕ → ℕ
@@ -90,39 +89,39 @@ looks_at-last lists nodes node =
     omega arith
 
 -- the round over the triggers keeps the marks and the count
-pub record KeepsRound (lists : ListsView) (records : List (Option Rec)) (region : List Bounds) (start : List Bool) (before : ℕ) (nodes : List ℕ) (marks : List Bool) (steps : ℕ) : Type 0 where
-  pub marking : marks ≡ marked records region (triggers_at lists nodes) start
+pub record KeepsRound (lists : ListsView) (boxes : List (Option Bounds)) (region : List Bounds) (start : List Bool) (before : ℕ) (nodes : List ℕ) (marks : List Bool) (steps : ℕ) : Type 0 where
+  pub marking : marks ≡ marked boxes region (triggers_at lists nodes) start
   pub counted : steps ≡ before + looks_at lists nodes
 
-module _ (lists : ListsView) (records : List (Option Rec)) (region : List Bounds) (start : List Bool) (before : ℕ) (test : ℕ → Bool) where
-  pub counted_round-begins : KeepsRound lists records region start before (passing test 0) start before
+module _ (lists : ListsView) (boxes : List (Option Bounds)) (region : List Bounds) (start : List Bool) (before : ℕ) (test : ℕ → Bool) where
+  pub counted_round-begins : KeepsRound lists boxes region start before (passing test 0) start before
   unfolding marked triggers_at
   counted_round-begins = record { marking = refl; counted = omega arith }
 
   pub counted_round-takes : (node : ℕ) (marks more : List Bool) (steps later : ℕ) → test node ≡ true
-      → KeepsRound lists records region start before (passing test node) marks steps
-      → more ≡ marked records region (list_of lists (31 + node)) marks
+      → KeepsRound lists boxes region start before (passing test node) marks steps
+      → more ≡ marked boxes region (list_of lists (31 + node)) marks
       → later ≡ steps + (1 + length (list_of lists (31 + node)))
-      → KeepsRound lists records region start before (passing test (node + 1)) more later
+      → KeepsRound lists boxes region start before (passing test (node + 1)) more later
   counted_round-takes node marks more steps later is keeps does counts = record {
     marking =
-        does ∙ ap (marked records region (list_of lists (31 + node))) keeps.marking
-        ∙ sym (marked-append records region (triggers_at lists (passing test node)) (list_of lists (31 + node)) start)
-        ∙ ap (λ ids. marked records region ids start) (sym (triggers_at-last lists (passing test node) node))
-        ∙ ap (λ nodes. marked records region (triggers_at lists nodes) start) (sym (passing-takes test node is));
+        does ∙ ap (marked boxes region (list_of lists (31 + node))) keeps.marking
+        ∙ sym (marked-append boxes region (triggers_at lists (passing test node)) (list_of lists (31 + node)) start)
+        ∙ ap (λ ids. marked boxes region ids start) (sym (triggers_at-last lists (passing test node) node))
+        ∙ ap (λ nodes. marked boxes region (triggers_at lists nodes) start) (sym (passing-takes test node is));
     counted =
         let last = ap (looks_at lists) (passing-takes test node is) ∙ looks_at-last lists (passing test node) node in
         omega (arith, keeps.counted);
   }
 
   pub counted_round-skips : (node : ℕ) (marks more : List Bool) (steps later : ℕ) → test node ≡ false
-      → KeepsRound lists records region start before (passing test node) marks steps
+      → KeepsRound lists boxes region start before (passing test node) marks steps
       → more ≡ marks → later ≡ steps
-      → KeepsRound lists records region start before (passing test (node + 1)) more later
+      → KeepsRound lists boxes region start before (passing test (node + 1)) more later
   counted_round-skips node marks more steps later isnt keeps same_marks same_steps = record {
     marking =
         same_marks ∙ keeps.marking
-        ∙ ap (λ nodes. marked records region (triggers_at lists nodes) start) (sym (passing-skips test node isnt));
+        ∙ ap (λ nodes. marked boxes region (triggers_at lists nodes) start) (sym (passing-skips test node isnt));
     counted = same_steps ∙ keeps.counted ∙ ap (λ nodes. before + looks_at lists nodes) (sym (passing-skips test node isnt));
   }
 

@@ -58,7 +58,7 @@ find-before (x ∷ xs) (suc i) d apart below =
     rw differs (find-before xs i d (rest_is_distinct x.id (map (λ r. r.id) xs) apart) within)
 
 -- a world is its parts
-world-is : (w v : WorldView) → w.tree ≡ v.tree → w.records ≡ v.records → w.lists ≡ v.lists → w ≡ v
+pub world-is : (w v : WorldView) → w.tree ≡ v.tree → w.records ≡ v.records → w.lists ≡ v.lists → w ≡ v
 world-is w v tree records lists =
     ap (λ t. world_of t w.records w.lists) tree ∙ ap (λ rs. world_of v.tree rs w.lists) records ∙ ap (λ p. world_of v.tree v.records p) lists
 

@@ -1,6 +1,6 @@
 -- How the queries walk the lists: which ids they pass, which they mark, and which records they gather.
 use Rattle.std.specs.Prelude.{ℕ, ◌+◌, ◌==◌, Bool, false, ◌&&◌, not, if◌then◌else◌, List, [], ◌∷◌, ◌++◌, Option, None}
-use Rattle.std.specs.Prelude.{slice_set}
+use Rattle.std.specs.Prelude.{slice_index_or, slice_set}
 use Rattle.std.specs.List.{cons_option, flat_map}
 use Rattle.std.specs.Option.{option_map_or}
 use Rattle.arena_geo.specs.Bounds.{Bounds}
@@ -8,19 +8,17 @@ use Rattle.arena_geo.specs.Boxes.{overlaps}
 use Rattle.arena_geo.specs.Regions.{touches_region}
 use Rattle.entity_recs.specs.declared.rec.Rec.{Rec}
 use Rattle.entity_recs.specs.Kinds.{is_solid}
-use Rattle.entity_recs.specs.Bodies.{body_of, abs_of}
+use Rattle.entity_recs.specs.Bodies.{body_of}
 use Rattle.link_lists.specs.Pool.{ListsView, list_of}
-use Rattle.world_tree.specs.Live.{record_at}
 
--- the id is live, and its absolute box touches the region
-abbrev pub touches_at : List (Option Rec) → List Bounds → ℕ → Bool
-touches_at records region id = option_map_or (λ r. touches_region (abs_of r) region) (record_at records id) false
+-- there is a box at the id, and it touches the region
+abbrev pub touches_at : List (Option Bounds) → List Bounds → ℕ → Bool
+touches_at boxes region id = option_map_or (λ b. touches_region b region) (slice_index_or boxes id None) false
 
 -- the marks, after each of these ids is marked where it touches the region
-unfoldable pub marked : List (Option Rec) → List Bounds → List ℕ → List Bool → List Bool
-marked records region [] marks = marks
-marked records region (id ∷ ids) marks =
-    marked records region ids (slice_set marks id (touches_at records region id))
+unfoldable pub marked : List (Option Bounds) → List Bounds → List ℕ → List Bool → List Bool
+marked boxes region [] marks = marks
+marked boxes region (id ∷ ids) marks = marked boxes region ids (slice_set marks id (touches_at boxes region id))
 
 -- the ids at these nodes, the solids of each before its triggers
 unfoldable pub ids_at : ListsView → List ℕ → List ℕ

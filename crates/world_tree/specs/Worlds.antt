@@ -7,7 +7,7 @@ use Rattle.entity_recs.specs.declared.rec.Rec.{Rec}
 use Rattle.entity_recs.specs.Kinds.{is_solid}
 use Rattle.entity_recs.specs.Bodies.{abs_of}
 use Rattle.link_lists.specs.Pool.{ListsView, IsProper, where_of, empty_pool, inserted, removed}
-use Rattle.world_tree.specs.Live.{record_at, AreEntries}
+use Rattle.world_tree.specs.Live.{record_at, ids_of, boxes_of, AreEntries}
 
 -- the tree, the record at the place of each id, and the ids of each list
 pub record WorldView : Type 0 where
@@ -38,6 +38,13 @@ pub record IsLinked (w : WorldView) : Type 0 where
   pub entries : AreEntries w.records
   pub proper : IsProper w.lists
   pub linked : (id : ℕ) → where_of w.lists id ≡ option_map (list_for w.tree) (record_of w id)
+
+-- what a world keeps beside its records and lists, so that no query computes it anew: the absolute box of each record,
+-- and the live ids in rising order
+pub record IsKept (w : WorldView) (boxes : List (Option Bounds)) (live : List ℕ) : Type 0 where
+  pub linked : IsLinked w
+  pub boxes_are : boxes ≡ boxes_of w.records
+  pub live_are : live ≡ ids_of w.records
 
 -- the world over these bounds in which no id is live
 abbrev pub empty_world : Bounds → WorldView

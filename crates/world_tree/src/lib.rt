@@ -7,6 +7,7 @@ pub use steps::Steps;
 pub use world::{IDS, World};
 
 mod laws;
+mod live_ids;
 mod near_list;
 mod steps;
 mod walk;

@@ -1,4 +1,4 @@
-ghost use Rattle.std.specs.Prelude.{◌≡◌, ◌+◌, ◌<◌, false, [], filter, length, replicate, slice_set, sum_by};
+ghost use Rattle.std.specs.Prelude.{◌≡◌, ◌+◌, ◌<◌, false, [], filter, length, replicate, slice_index_or, slice_set, sum_by, None};
 ghost use Rattle.std.specs.List.{list_any, range_with_len};
 ghost use Rattle.areanode.specs.Words.{has_bit};
 ghost use Rattle.entity_recs.specs.declared.rec.Rec.{Rec};
@@ -12,7 +12,7 @@ use crate::near_list::NearList;
 use crate::steps::Steps;
 use crate::world::{IDS, NODE_LISTS};
 use arena_geo::{Aabb, Region};
-use entity_recs::{Rec, abs_box, body_box};
+use entity_recs::{Rec, body_box};
 use link_lists::Lists;
 use std::sync::ledger::Ledger;
 
@@ -31,77 +31,75 @@ pub fn record_at(records: &[Option<Rec>], id: u16) -> Option<Rec>
     records.get(usize::from(id)).copied().flatten()
 }
 
-/// Whether the id is live and its absolute box touches the region.
-fn is_touched(records: &[Option<Rec>], region: &Region, id: u16) -> bool
-    requires { AreEntries records.now }
-    ensures { result ≡ walks.touches_at records.now region.now id }
+/// The box at this id, if there is one.
+pub fn box_at(boxes: &[Option<Aabb>], id: u16) -> Option<Aabb>
+    ensures { result ≡ slice_index_or boxes.now id None }
 {
-    match record_at(records, id) {
-        Some(r) => region.touched(&abs_box(&r)),
+    boxes.get(usize::from(id)).copied().flatten()
+}
+
+/// Whether there is a box at the id and it touches the region.
+fn is_touched(boxes: &[Option<Aabb>], region: &Region, id: u16) -> bool
+    ensures { result ≡ walks.touches_at boxes.now region.now id }
+{
+    match box_at(boxes, id) {
+        Some(abs) => region.touched(&abs),
         None => false,
     }
 }
 
-/// Marks the ids of a list whose absolute boxes touch the region.
+/// Marks the ids of a list whose boxes touch the region.
 fn mark_list(
     lists: &Lists,
     list: u8,
-    records: &[Option<Rec>],
+    boxes: &[Option<Aabb>],
     region: &Region,
     marks: &mut [bool; IDS],
 )
     requires ids { lists.now.ids ≡ IDS }
-    requires entries { AreEntries records.now }
-    ensures { marks.new ≡ walks.marked records.now region.now (list_of lists.now list) marks.old }
+    ensures { marks.new ≡ walks.marked boxes.now region.now (list_of lists.now list) marks.old }
 {
     let mut at = lists.first(list);
     while let Some(id) = at {
         let place = usize::from(id);
-        marks[place] = is_touched(records, region, id);
+        marks[place] = is_touched(boxes, region, id);
         at = lists.next(id);
     }
 }
 
-/// Marks the ids of a list whose absolute boxes touch the region, and counts a look at each link that it follows.
+/// Marks the ids of a list whose boxes touch the region, and counts a look at each link that it follows.
 fn mark_counted<L: Ledger>(
     lists: &Lists,
     list: u8,
-    records: &[Option<Rec>],
+    boxes: &[Option<Aabb>],
     region: &Region,
     marks: &mut [bool; IDS],
     steps: &mut Steps<L>,
 )
     requires ids { lists.now.ids ≡ IDS }
-    requires entries { AreEntries records.now }
-    ensures marks { marks.new ≡ walks.marked records.now region.now (list_of lists.now list) marks.old }
+    ensures marks { marks.new ≡ walks.marked boxes.now region.now (list_of lists.now list) marks.old }
     ensures looks { steps.new ≡ steps.old + length (list_of lists.now list) }
 {
     let mut at = lists.first(list);
     while let Some(id) = at {
         steps.tick();
         let place = usize::from(id);
-        marks[place] = is_touched(records, region, id);
+        marks[place] = is_touched(boxes, region, id);
         at = lists.next(id);
     }
 }
 
 /// The marks of the live ids that are linked at these nodes and touch the region, bit i of the word for node i.
-pub fn touched_at(
-    lists: &Lists,
-    records: &[Option<Rec>],
-    region: &Region,
-    nodes: u32,
-) -> [bool; IDS]
+pub fn touched_at(lists: &Lists, boxes: &[Option<Aabb>], region: &Region, nodes: u32) -> [bool; IDS]
     requires ids { lists.now.ids ≡ IDS }
-    requires entries { AreEntries records.now }
-    ensures { result ≡ walks.marked records.now region.now
+    ensures { result ≡ walks.marked boxes.now region.now
         (walks.ids_at lists.now (filter (has_bit nodes) (range_with_len 0 31))) (replicate 256 false) }
 {
     let mut marks = [false; IDS];
     for node in 0..NODE_LISTS {
         if is_among(nodes, node) {
-            mark_list(lists, node, records, region, &mut marks);
-            mark_list(lists, NODE_LISTS + node, records, region, &mut marks);
+            mark_list(lists, node, boxes, region, &mut marks);
+            mark_list(lists, NODE_LISTS + node, boxes, region, &mut marks);
         }
     }
     marks
@@ -111,14 +109,13 @@ pub fn touched_at(
 /// enters and at each link that it follows.
 pub fn touched_triggers<L: Ledger>(
     lists: &Lists,
-    records: &[Option<Rec>],
+    boxes: &[Option<Aabb>],
     region: &Region,
     nodes: u32,
     steps: &mut Steps<L>,
 ) -> [bool; IDS]
     requires ids { lists.now.ids ≡ IDS }
-    requires entries { AreEntries records.now }
-    ensures marks { result ≡ walks.marked records.now region.now
+    ensures marks { result ≡ walks.marked boxes.now region.now
         (walks.triggers_at lists.now (filter (has_bit nodes) (range_with_len 0 31))) (replicate 256 false) }
     ensures looks { steps.new ≡ steps.old + (length (filter (has_bit nodes) (range_with_len 0 31))
         + sum_by (λ node. length (list_of lists.now (31 + node))) (filter (has_bit nodes) (range_with_len 0 31))) }
@@ -127,7 +124,7 @@ pub fn touched_triggers<L: Ledger>(
     for node in 0..NODE_LISTS {
         if is_among(nodes, node) {
             steps.tick();
-            mark_counted(lists, NODE_LISTS + node, records, region, &mut marks, steps);
+            mark_counted(lists, NODE_LISTS + node, boxes, region, &mut marks, steps);
         }
     }
     marks

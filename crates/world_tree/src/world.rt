@@ -1,18 +1,25 @@
-ghost use Rattle.std.specs.Prelude.{◌≡◌, ℕ, ◌+◌, ◌<◌, ◌==◌, [], map, nat_eq, replicate, All, IfOk, IsSome, None};
+ghost use Rattle.std.specs.Prelude.{◌≡◌, ℕ, ◌+◌, ◌<◌, ◌==◌, if◌then◌else◌, [], map, nat_eq, replicate, All, IfOk, IsSome, None};
 ghost use Rattle.std.specs.List.{find, IsDistinct};
 ghost use Rattle.std.specs.Option.{option_map};
+ghost use Rattle.areanode.specs.Trees.{node_of};
+ghost use Rattle.entity_recs.specs.Kinds.{is_solid};
 ghost use Rattle.entity_recs.specs.Records.{IsRecord};
+ghost use Rattle.entity_recs.specs.Bodies.{abs_of};
 ghost use Rattle.link_lists.specs.Pool.{where_of};
+ghost use Rattle.world_tree.specs.Live.{ids_of};
 ghost use Rattle.world_tree.specs.Worlds as worlds;
 ghost use Rattle.world_tree.specs.Worlds.{record_of, IsLinked};
 ghost use Rattle.world_tree.specs.Queries.{near_in, touching_in, is_free, looks_for};
 
+use crate::live_ids::LiveIds;
 use crate::near_list::NearList;
 use crate::steps::Steps;
-use crate::walk::{gather, is_blocked_by_solids, record_at, touched_at, touched_triggers, unmark};
+use crate::walk::{
+    box_at, gather, is_blocked_by_solids, record_at, touched_at, touched_triggers, unmark,
+};
 use areanode::{NODES, Tree, visited};
 use arena_geo::{Aabb, Region};
-use entity_recs::{Rec, abs_box};
+use entity_recs::{Kind, Rec, abs_box};
 use link_lists::Lists;
 use std::alloc::{AllocError, Global};
 use std::marker::Model;
@@ -27,33 +34,35 @@ pub const NODE_LISTS: u8 = NODES as u8;
 /// The live records, each linked in a list of the node of the areanode tree that its absolute box demands, as Quake's
 /// `SV_LinkEdict` does: list i has the solids of node i, list 31 + i its triggers. Each live id is in one list.
 ///
-/// Records are found by id. Only `new` takes memory.
+/// Records are found by id. Beside each record it keeps the absolute box, and of all records the ids in rising order, so
+/// that no query computes them anew. Only `new` takes memory.
 #[derive(Drop)]
 pub struct World {
     tree: Tree,
     records: Vec<Option<Rec>>,
+    boxes: Vec<Option<Aabb>>,
+    live: LiveIds,
     lists: Lists,
 }
 
 // Clauses see the tree, the record at the place of each id, and the ids of each list in order.
 impl Model for World {
-    ghost use Rattle.world_tree.specs.Worlds.{WorldView, IsLinked, world_of};
+    ghost use Rattle.world_tree.specs.Worlds.{WorldView, IsKept, world_of};
 
     ghost Value = { WorldView };
 
     ghost view = { λ w. world_of w.tree w.records.items w.lists };
 
-    ghost invariant = { λ w. IsLinked (world_of w.tree w.records.items w.lists) };
+    ghost invariant = { λ w. IsKept (world_of w.tree w.records.items w.lists) w.boxes.items w.live };
 }
 
-/// The list in which a record is linked.
-fn list_for(tree: &Tree, r: &Rec) -> u8
-    requires { IsRecord r.now }
-    ensures list { result ≡ worlds.list_for tree.now r.now }
+/// The list in which a record of this kind with this absolute box is linked.
+fn list_for(tree: &Tree, kind: Kind, abs: &Aabb) -> u8
+    ensures list { result ≡ (if is_solid kind then node_of tree.now abs.now else 31 + node_of tree.now abs.now) }
     ensures in_range { result < 62 }
 {
-    let node = tree.node_of(&abs_box(r));
-    if r.kind.is_solid() {
+    let node = tree.node_of(abs);
+    if kind.is_solid() {
         node
     } else {
         NODE_LISTS + node
@@ -67,6 +76,13 @@ fn no_records(alloc: Global, places: usize) -> Result<Vec<Option<Rec>>, AllocErr
     vec![in alloc; None; places]
 }
 
+/// So many places without a box.
+fn no_boxes(alloc: Global, places: usize) -> Result<Vec<Option<Aabb>>, AllocError>
+    ensures { IfOk result (λ boxes. boxes.items ≡ replicate places None) }
+{
+    vec![in alloc; None; places]
+}
+
 impl World {
     /// The world over these bounds in which no id is live. It takes all memory that the world ever needs.
     fn empty(alloc: Global, bounds: &Aabb) -> Result<World, AllocError>
@@ -76,6 +92,8 @@ impl World {
         Ok(World {
             tree: Tree::new(bounds),
             records: no_records(alloc, IDS)?,
+            boxes: no_boxes(alloc, IDS)?,
+            live: LiveIds::new(alloc)?,
             lists: Lists::new(alloc, IDS as u16, 2 * NODE_LISTS)?,
         })
     }
@@ -106,7 +124,10 @@ impl World {
         ensures linked { IsLinked self.new }
     {
         let place = usize::from(r.id);
-        self.lists.insert(list_for(&self.tree, &r), r.id);
+        let abs = abs_box(&r);
+        self.live.put(r.id);
+        self.lists.insert(list_for(&self.tree, r.kind, &abs), r.id);
+        self.boxes[place] = Some(abs);
         self.records[place] = Some(r);
     }
 
@@ -117,7 +138,9 @@ impl World {
         ensures linked { IsLinked self.new }
     {
         let place = usize::from(id);
+        self.live.take_out(id);
         self.lists.remove(id);
+        self.boxes[place] = None;
         self.records[place] = None;
     }
 
@@ -128,8 +151,13 @@ impl World {
         ensures world { self.new ≡ worlds.with_record (worlds.without_id self.old r.id) r }
         ensures linked { IsLinked self.new }
     {
-        self.remove(r.id);
-        self.add(r);
+        let place = usize::from(r.id);
+        let moved = abs_box(&r);
+        self.lists.remove(r.id);
+        self.lists
+            .insert(list_for(&self.tree, r.kind, &moved), r.id);
+        self.boxes[place] = Some(moved);
+        self.records[place] = Some(r);
     }
 
     /// The record with this id, and `None` exactly where the id isn't live.
@@ -138,6 +166,22 @@ impl World {
         ensures linked { IsLinked self.now }
     {
         record_at(&self.records, id)
+    }
+
+    /// The absolute box of the record with this id, and `None` exactly where the id isn't live.
+    pub fn abs_box(&self, id: u16) -> Option<Aabb>
+        ensures value { result ≡ option_map abs_of (record_of self.now id) }
+        ensures linked { IsLinked self.now }
+    {
+        box_at(&self.boxes, id)
+    }
+
+    /// The live ids in rising order.
+    pub fn live_ids(&self) -> &[u16]
+        ensures ids { result.now ≡ ids_of self.now.records }
+        ensures linked { IsLinked self.now }
+    {
+        self.live.as_slice()
     }
 
     /// The list that the id is linked in: the number of its node for a solid, and 31 more for a trigger. `None` exactly
@@ -165,6 +209,8 @@ impl World {
         ensures linked { IsLinked self.new }
     {
         self.records.copy_from_slice(&o.records);
+        self.boxes.copy_from_slice(&o.boxes);
+        self.live.copy_from(&o.live);
         self.lists.copy_from(&o.lists);
     }
 
@@ -176,7 +222,7 @@ impl World {
         ensures linked { IsLinked self.now }
     {
         let nodes = visited(self.tree.leaves_of(r));
-        let mut marks = touched_at(&self.lists, &self.records, r, nodes);
+        let mut marks = touched_at(&self.lists, &self.boxes, r, nodes);
         unmark(&mut marks, except);
         gather(&self.records, &marks, out);
     }
@@ -192,7 +238,7 @@ impl World {
     {
         let region = Region::one(*abs);
         let nodes = visited(self.tree.leaves_of(&region));
-        let marks = touched_triggers(&self.lists, &self.records, &region, nodes, steps);
+        let marks = touched_triggers(&self.lists, &self.boxes, &region, nodes, steps);
         gather(&self.records, &marks, out);
     }
 

@@ -1,5 +1,6 @@
 use match_play::{Game, Totals, play_match};
 use move_journal::Journal;
+use playback::Host;
 use shared_moves::NoGate;
 use std::process::Abort;
 use std::test::Fail;
@@ -26,7 +27,13 @@ fn expect_journals(rt: &impl Abort, journals: &[Journal]) {
 #[test]
 fn two_players_and_one_frame(rt: HostRuntime) -> Result<(), Fail> {
     let mut game = Game::new(rt.alloc())?;
-    let totals = play_match(&rt, rt.alloc(), 7, 2, 1, 1, &NoGate, &mut game)?;
+    let host = Host {
+        rt: &rt,
+        alloc: rt.alloc(),
+        workers: 1,
+        gate: &NoGate,
+    };
+    let totals = play_match(&host, 7, 2, 1, &mut game)?;
     expect_totals(&rt, &totals);
     expect_journals(&rt, game.into_journals().as_slice());
     Ok(())

@@ -180,6 +180,55 @@ fn a_player_on_the_plane_is_linked_at_the_root(rt: HostRuntime) -> Result<(), Fa
     Ok(())
 }
 
+/// The ids that are live, of which there are at most two, and 0 where there are fewer.
+fn live_pair(world: &World) -> [u16; 2] {
+    let ids = world.live_ids();
+    [
+        ids.first().copied().unwrap_or(0),
+        ids.get(1).copied().unwrap_or(0),
+    ]
+}
+
+/// Expects the player with id 7 at (50,000, 20,000, 6,144), beside ammunition with id 64 in the middle of the arena.
+fn expect_moved(rt: &impl Abort, world: &World) -> Result<(), &'static str> {
+    let middle = Aabb::new(at(0, 0, 0), at(1, 1, 1)).ok_or("a box")?;
+    let east = Aabb::new(at(50_000, 20_000, 0), at(50_001, 20_001, 1)).ok_or("a box")?;
+    let abs = Aabb::new(at(45_648, 15_648, -256), at(54_352, 24_352, 14_592)).ok_or("a box")?;
+    assert_eq!(rt; world.abs_box(7), Some(abs));
+    assert_eq!(rt; live_pair(world), [7, 64]);
+    assert_eq!(rt; near_ids(world, middle, 256), [64, 0, 0, 0]);
+    assert_eq!(rt; near_ids(world, east, 256), [7, 0, 0, 0]);
+    Ok(())
+}
+
+/// Expects that the player with id 7 isn't live, and that ammunition with id 64 is in the middle of the arena.
+fn expect_gone(rt: &impl Abort, world: &World) -> Result<(), &'static str> {
+    let middle = Aabb::new(at(0, 0, 0), at(1, 1, 1)).ok_or("a box")?;
+    let east = Aabb::new(at(50_000, 20_000, 0), at(50_001, 20_001, 1)).ok_or("a box")?;
+    assert_eq!(rt; world.abs_box(7), None);
+    assert_eq!(rt; live_pair(world), [64, 0]);
+    assert_eq!(rt; near_ids(world, middle, 256), [64, 0, 0, 0]);
+    assert_eq!(rt; near_ids(world, east, 256), [0, 0, 0, 0]);
+    Ok(())
+}
+
+#[test]
+fn queries_follow_a_player_that_moves_leaves_and_comes_back(rt: HostRuntime) -> Result<(), Fail> {
+    let mut world = World::new(rt.alloc(), &arena()?, &[])?;
+    put(&rt, &mut world, ammo(64, at(0, 0, 0)));
+    put(&rt, &mut world, player(7, at(0, 0, 6_144)));
+    assert_eq!(rt; live_pair(&world), [7, 64]);
+    expect_linked(&rt, &world, 7, 0);
+    world.relink(player(7, at(50_000, 20_000, 6_144)));
+    expect_moved(&rt, &world)?;
+    expect_linked(&rt, &world, 7, 18);
+    world.remove(7);
+    expect_gone(&rt, &world)?;
+    put(&rt, &mut world, player(7, at(50_000, 20_000, 6_144)));
+    expect_moved(&rt, &world)?;
+    Ok(())
+}
+
 #[test]
 fn a_copy_is_linked_as_its_original(rt: HostRuntime) -> Result<(), Fail> {
     let bounds = arena()?;

@@ -1,8 +1,7 @@
 use Rattle.std.proofs.Common.{◌+◌, ◌-◌, ◌++◌, arith, sym, subst}
-use Rattle.box_trace.proofs.Ranges.{some_where_it_holds}
 use Rattle.slide_move.specs.declared.slid.Slid.{Slid}
 use Rattle.slide_move.proofs.Ways.{IsInRange-part}
-use Rattle.slide_move.proofs.Underway.{IsUnderway, begins, goes_on, ends_early, ends, turn_fits, turn_in_range, near_left, left_in_range, value_in_some}
+use Rattle.slide_move.proofs.Underway.{IsUnderway, begins, goes_on, ends_early, ends, turn_fits, turn_in_range, near_left, left_in_range}
 use Rattle.slide_move.proofs.sliding.slide_along.Goals as goal
 
 pub loop-init : goal.loop-init
@@ -10,32 +9,32 @@ loop-init c =
     let P : Slid → Type 0 = λ slid. IsUnderway c.args.body.now c.args.vel c.args.way (c.args.fixed.now ++ c.args.moving.now) 4 slid c.args.way in
     subst P (sym c.still-slid.ensures) (begins c.args.body.now c.args.vel c.args.way (c.args.fixed.now ++ c.args.moving.now))
 
-pub unwrap-here-requires : goal.unwrap-here-requires
-unwrap-here-requires c =
-    some_where_it_holds _ _ _ c.moved.ensures (IsInRange-part c.args.body.now c.args.way c.loop.slid.shift c.loop.invariant.gone c.lo-corner.ensures.is_box.in_range c.requires.in_range)
+pub shifted-here-requires : goal.shifted-here-requires
+shifted-here-requires c =
+    IsInRange-part c.args.body.now c.args.way c.loop.slid.shift c.loop.invariant.gone c.lo-corner.ensures.is_box.in_range c.requires.in_range
 
 pub of-turn-requires-clause-near : goal.of-turn-requires-clause-near
 of-turn-requires-clause-near c = near_left _ _ _ _ _ _ _ c.loop.invariant c.requires.near
 
 pub of-turn-requires-clause-in_range : goal.of-turn-requires-clause-in_range
 of-turn-requires-clause-in_range c =
-    left_in_range _ _ _ _ _ _ _ c.loop.invariant _ (value_in_some _ _ _ _ c.moved.ensures c.unwrap-here.ensures) c.lo-corner.ensures.is_box.in_range c.requires.in_range
+    left_in_range _ _ _ _ _ _ _ c.loop.invariant _ c.shifted-here.ensures c.lo-corner.ensures.is_box.in_range c.requires.in_range
 
 pub then-slid-requires : goal.then-slid-requires
 then-slid-requires c =
-    turn_fits _ _ _ _ _ _ _ c.loop.invariant _ _ (value_in_some _ _ _ _ c.moved.ensures c.unwrap-here.ensures) c.of-turn.ensures c.requires.near
+    turn_fits _ _ _ _ _ _ _ c.loop.invariant _ _ c.shifted-here.ensures c.of-turn.ensures c.requires.near
 
 pub returns-in_default-clause-value : goal.returns-in_default-clause-value
 returns-in_default-clause-value c =
-    ends_early _ _ _ _ _ _ _ c.loop.invariant _ _ (value_in_some _ _ _ _ c.moved.ensures c.unwrap-here.ensures) c.of-turn.ensures (3 - c.loop.counter) _ (omega arith) c.in_default.is c.then-slid.ensures
+    ends_early _ _ _ _ _ _ _ c.loop.invariant _ _ c.shifted-here.ensures c.of-turn.ensures (3 - c.loop.counter) _ (omega arith) c.in_default.is c.then-slid.ensures
 
 pub returns-in_default-clause-in_range : goal.returns-in_default-clause-in_range
 returns-in_default-clause-in_range c =
-    turn_in_range _ _ _ _ _ _ _ c.loop.invariant _ _ (value_in_some _ _ _ _ c.moved.ensures c.unwrap-here.ensures) c.of-turn.ensures _ c.then-slid.ensures c.lo-corner.ensures.is_box.in_range c.requires.in_range
+    turn_in_range _ _ _ _ _ _ _ c.loop.invariant _ _ c.shifted-here.ensures c.of-turn.ensures _ c.then-slid.ensures c.lo-corner.ensures.is_box.in_range c.requires.in_range
 
 pub loop-preserved : goal.loop-preserved
 loop-preserved c =
-    goes_on _ _ _ _ _ _ _ c.loop.invariant _ _ (value_in_some _ _ _ _ c.moved.ensures c.unwrap-here.ensures) c.of-turn.ensures (4 - (c.loop.counter + 1)) _ _ (omega arith) c.in-Some.is c.then-slid.ensures
+    goes_on _ _ _ _ _ _ _ c.loop.invariant _ _ c.shifted-here.ensures c.of-turn.ensures (4 - (c.loop.counter + 1)) _ _ (omega arith) c.in-Some.is c.then-slid.ensures
 
 pub returns-clause-value : goal.returns-clause-value
 returns-clause-value c = ends _ _ _ _ _ _ _ (omega arith) c.loop.invariant

@@ -1,11 +1,13 @@
 use Rattle.std.proofs.Common.{ℕ, ◌+◌, List, length, ap, ◌∙◌, rules}
 use Rattle.snapshot_write.proofs.Written.{IsLookedUp, at_place, entry_at, seen_is, room_for, snapshot_is}
 use Rattle.snapshot_write.specs.Laws.{HasCounts}
+use Rattle.world_tree.specs.Live.{live_in}
+use Rattle.snapshot_write.specs.Snapshots.{in_view}
 use Rattle.snapshot_write.proofs.Sights.{written_out}
 use Rattle.snapshot_write.proofs.writing.write_snapshot.Goals as goal
 
-pub view-requires : goal.view-requires
-view-requires c =
+pub view-view-requires : goal.view-view-requires
+view-view-requires c =
     let up : IsLookedUp c.args.world.now.records c.args.slot c.from-id.result c.get.result c.unwrap-me.result =
     record { same = c.from-id.ensures; looked_up = c.get.ensures.record; is = c.unwrap-me.ensures } in
     (entry_at c.args.world.now.records c.args.slot c.from-id.result c.get.result c.unwrap-me.result up c.get.ensures.linked.entries).is_record.origin
@@ -16,16 +18,18 @@ push_own-requires-clause-slot c =
     record { same = c.from-id.ensures; looked_up = c.get.ensures.record; is = c.unwrap-me.ensures } in
     (entry_at c.args.world.now.records c.args.slot c.from-id.result c.get.result c.unwrap-me.result up c.get.ensures.linked.entries).own_id
 
-pub push_seen-requires-clause-room : goal.push_seen-requires-clause-room
-push_seen-requires-clause-room c =
+pub push_seen-requires : goal.push_seen-requires
+push_seen-requires c =
     let records = c.args.world.now.records in
     let me = c.unwrap-me.result in
     let up : IsLookedUp records c.args.slot c.from-id.result c.get.result me =
     record { same = c.from-id.ensures; looked_up = c.get.ensures.record; is = c.unwrap-me.ensures } in
-    let is = seen_is records c.args.slot c.from-id.result c.get.result me c.view.result c.one.result c.near.new.out c.as_slice.result.now up
-    c.get.ensures.linked.entries c.view.ensures c.one.ensures c.near.ensures.records c.as_slice.ensures.value in
-    room_for records c.args.slot c.from-id.result c.get.result me c.as_slice.result.now (length c.push_own.new.out) up c.get.ensures.linked.places is
-    (c.push_own.ensures.len ∙ ap (λ (l : List ℕ). length l + 41) c.requires.empty)
+    let seen = in_view c.view-view.result c.from-id.result (live_in records) in
+    let is = seen_is records c.args.slot c.from-id.result c.get.result me c.view-view.result up c.get.ensures.linked.entries c.view-view.ensures in
+    record {
+      room = room_for records c.args.slot c.from-id.result c.get.result me seen (length c.push_own.new.out) up c.get.ensures.linked.places is
+          (c.push_own.ensures.len ∙ ap (λ (l : List ℕ). length l + 41) c.requires.empty);
+    }
 
 pub returns-clause-bytes : goal.returns-clause-bytes
 returns-clause-bytes c =
@@ -33,9 +37,9 @@ returns-clause-bytes c =
     let me = c.unwrap-me.result in
     let up : IsLookedUp records c.args.slot c.from-id.result c.get.result me =
     record { same = c.from-id.ensures; looked_up = c.get.ensures.record; is = c.unwrap-me.ensures } in
-    let is = seen_is records c.args.slot c.from-id.result c.get.result me c.view.result c.one.result c.near.new.out c.as_slice.result.now up
-    c.get.ensures.linked.entries c.view.ensures c.one.ensures c.near.ensures.records c.as_slice.ensures.value in
-    snapshot_is records c.args.slot c.from-id.result c.get.result me c.args.frame c.as_slice.result.now c.args.out.now c.push_own.new.out _ up is
+    let seen = in_view c.view-view.result c.from-id.result (live_in records) in
+    let is = seen_is records c.args.slot c.from-id.result c.get.result me c.view-view.result up c.get.ensures.linked.entries c.view-view.ensures in
+    snapshot_is records c.args.slot c.from-id.result c.get.result me c.args.frame seen c.args.out.now c.push_own.new.out _ up is
     c.requires.empty c.push_own.ensures.bytes c.push_seen.ensures
 
 pub returns-clause-read_again : goal.returns-clause-read_again

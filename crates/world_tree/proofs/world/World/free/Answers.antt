@@ -4,7 +4,7 @@ use Rattle.world_tree.proofs.Found.{free-is}
 use Rattle.world_tree.proofs.world.World.free.Goals as goal
 
 pub is_blocked_by_solids-requires : goal.is_blocked_by_solids-requires
-is_blocked_by_solids-requires c = subst AreEntries (sym c.deref.ensures.value) c.self.invariant.entries
+is_blocked_by_solids-requires c = subst AreEntries (sym c.deref.ensures.value) c.self.invariant.linked.entries
 
 pub returns-then-not-is_blocked-clause-free : goal.returns-then-not-is_blocked-clause-free
 returns-then-not-is_blocked-clause-free c =

@@ -5,5 +5,5 @@ use Rattle.world_tree.proofs.world.World.list_of.Goals as goal
 
 pub returns-clause-own : goal.returns-clause-own
 returns-clause-own c =
-    c.where_is.ensures.place ∙ c.self.invariant.linked c.args.id
+    c.where_is.ensures.place ∙ c.self.invariant.linked.linked c.args.id
     ∙ ap (λ w. option_map (list_for w.tree) (record_of w c.args.id)) c.self.view_is

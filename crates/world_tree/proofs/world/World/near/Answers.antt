@@ -1,15 +1,11 @@
-use Rattle.std.proofs.Common.{ap, sym, subst, ◌∙◌}
-use Rattle.world_tree.specs.Live.{AreEntries}
+use Rattle.std.proofs.Common.{ap, ◌∙◌}
 use Rattle.world_tree.specs.Worlds.{world_of}
 use Rattle.world_tree.specs.Queries.{near_in}
 use Rattle.world_tree.proofs.Found.{near-is}
 use Rattle.world_tree.proofs.world.World.near.Goals as goal
 
-pub touched_at-marks-requires-clause-entries : goal.touched_at-marks-requires-clause-entries
-touched_at-marks-requires-clause-entries c = subst AreEntries (sym c.deref.ensures.value) c.self.invariant.entries
-
 pub returns-clause-records : goal.returns-clause-records
 returns-clause-records c =
-    near-is (world_of c.self.inside.tree c.self.inside.records.items c.self.inside.lists) c.self.invariant c.args.r.now c.leaves_of.ensures.region c.args.except
-    _ _ _ _ _ _ _ c.leaves_of.ensures.leaves c.visited-nodes.ensures c.deref.ensures.value c.touched_at-marks.ensures c.unmark.ensures c.deref-2.ensures.value c.gather.ensures
+    near-is (world_of c.self.inside.tree c.self.inside.records.items c.self.inside.lists) c.self.invariant.linked c.args.r.now c.leaves_of.ensures.region c.args.except
+    _ _ _ _ _ _ _ c.leaves_of.ensures.leaves c.visited-nodes.ensures (c.deref.ensures.value ∙ c.self.invariant.boxes_are) c.touched_at-marks.ensures c.unmark.ensures c.deref-2.ensures.value c.gather.ensures
     ∙ ap (λ w. near_in w.records c.args.r.now c.args.except) c.self.view_is

@@ -1,0 +1,189 @@
+-- How the playing of a recording ends, and how it goes on, seen from any start.
+use Rattle.std.proofs.Common.{◌≡◌, ℕ, ◌≤◌, true, false, List, [], ◌∷◌, length, Option, Some, None, Result, Ok, Err, ◌⊎◌, IfSome, refl, sym, ap, ◌∙◌, subst}
+use Rattle.edge_io.specs.declared.source.Source as sources
+use Rattle.edge_io.specs.declared.sink.Sink as sinks
+use Rattle.edge_io.specs.Counts.{HasRisen}
+use Rattle.edge_io.specs.Lines.{ahead, HasNotReadAhead}
+use Rattle.entity_recs.specs.declared.effect.Entry.{Entry}
+use Rattle.demo_lines.specs.declared.event.Event.{Event}
+use Rattle.demo_lines.specs.declared.event.Event.TheVariants.{End}
+use Rattle.demo_lines.specs.declared.demo_stop.DemoStop.{DemoStop}
+use Rattle.demo_lines.specs.declared.demo_stop.DemoStop.TheVariants as demo_stop
+use Rattle.demo_lines.specs.Readings.{IsReading}
+use Rattle.demo_lines.specs.Reads.{DemoReaderView, fresh_reader, IsOpen, Reads, ReadsFront, Refuses, TakesCutEnd, EndsAt, stage_after}
+use Rattle.demo_lines.specs.Reads as reads_of
+use Rattle.out_text.specs.OutLines.{text_of}
+use Rattle.out_text.specs.Printers.{Prints, FailsIn}
+use Rattle.arena_engine.specs.declared.stop.Stop.{Stop}
+use Rattle.arena_engine.specs.declared.stop.Stop.TheVariants.{Refused, ReadFault, WriteFault, Memory}
+use Rattle.arena_engine.specs.StopOf.{stop_of}
+use Rattle.arena_engine.specs.Stops.{OnWriteFault, OnMemory, IsGameStop}
+use Rattle.playback.specs.Playbacks.{IsReady}
+use Rattle.arena_engine.specs.Games.{GameView, Plays, is_end}
+use Rattle.arena_engine.specs.PlayEnds.{PlaysTo}
+use Rattle.arena_engine.specs.Progress.{IsNext, MayGoOn}
+use Rattle.arena_engine.proofs.Exits.{memory_at_first}
+use Rattle.arena_engine.proofs.Running as running
+
+-- what a call of a reader says where it stops
+pub record ReaderStops {S : Type 0} (s : sources.Ghosts S) (old new : DemoReaderView) (source source' : S) (d : DemoStop) : Type 0 where
+  pub refused : IsOpen old → reads_of.OnRefused d (λ why. IfSome (ahead old.pending (s.left source)) (EndsAt old.reading why))
+  pub taken : IsOpen old → reads_of.OnRefused d (λ why. Refuses old.reading (ahead old.pending (s.left source)) (ahead new.pending (s.left source')) why.line
+      (HasNotReadAhead source source' (s.last source') old.pending new.pending × (s.ended source' ≡ s.ended source)) (s.ended source' ≡ true))
+  pub read_fault : IsOpen old → reads_of.OnReadFault d (ReadsFront old.reading (ahead old.pending (s.left source)) (s.left source') [])
+  pub no_end : reads_of.OnReadFault d (s.ended source' ≡ s.ended source)
+  pub cause : IsOpen old → reads_of.OnReadFault d (HasRisen (s.faults source) (s.faults source'))
+  pub sure : IsOpen old → s.never_fails source → reads_of.OnReadFault d ⊥
+  pub later : s.faults source ≤ s.faults source'
+  pub uncounted_refusal : reads_of.OnRefused d (λ _. s.faults source' ≡ s.faults source)
+  pub uncounted_memory : reads_of.OnNoMemory d (s.faults source' ≡ s.faults source)
+
+-- and where it gives an event
+pub record ReaderGives {S : Type 0} (s : sources.Ghosts S) (old new : DemoReaderView) (source source' : S) (e : Event) : Type 0 where
+  pub event : IsOpen old → Reads old.reading new.reading (ahead old.pending (s.left source)) (ahead new.pending (s.left source')) (e ∷ [])
+  pub stage : new.reading.stage ≡ stage_after e
+  pub needed : IsOpen old → (HasNotReadAhead source source' (s.last source') old.pending new.pending × (s.ended source' ≡ s.ended source))
+      ⊎ ((e ≡ End) × TakesCutEnd (ahead old.pending (s.left source)) (ahead new.pending (s.left source')) × (s.ended source' ≡ true))
+  pub uncounted : s.faults source' ≡ s.faults source
+  pub keeps : s.never_fails source → s.never_fails source'
+  pub ok : new.stop ≡ None
+  pub holds : IsReading new.reading
+
+-- ---- before the first event
+
+module _ {S K : Type 0} (s : sources.Ghosts S) (k : sinks.Ghosts K) (workers : ℕ) (source source' : S) (sink : K) (last : Option (List Entry)) (none : last ≡ None) where
+  -- memory was refused
+  pub no_memory_at_first : s.faults source' ≡ s.faults source → PlaysTo s k workers source source' sink sink last (Err Memory)
+  no_memory_at_first same = record { output = memory_at_first workers (s.left source) (k.taken sink) last none; reads = same; writes = refl }
+
+  -- the reader stopped
+  pub stopped_at_first : (old new : DemoReaderView) (d : DemoStop) → old ≡ fresh_reader → ReaderStops s old new source source' d → PlaysTo s k workers source source' sink sink last (Err (stop_of d))
+  stopped_at_first old new (demo_stop.Refused line fault rule) fresh stops = record {
+    output = running.first_refused workers old (demo_stop.Refused line fault rule) (s.left source) (k.taken sink) last none fresh stops.refused;
+    read = running.first_refusal s.last s.ended s.never_fails source source' old new.pending (demo_stop.Refused line fault rule) (s.left source) (s.left source') fresh stops.taken;
+    reads = stops.uncounted_refusal;
+    writes = refl;
+  }
+  stopped_at_first old new demo_stop.ReadFault fresh stops = record {
+    output = running.first_fault workers old demo_stop.ReadFault (s.left source) (s.left source') (k.taken sink) last none fresh stops.read_fault;
+    front = memory_at_first workers (s.left source) (k.taken sink) last none;
+    same_end = stops.no_end;
+    cause = subst (λ (x : DemoReaderView). IsOpen x → HasRisen (s.faults source) (s.faults source')) fresh stops.cause running.fresh_is_open;
+    later = stops.later;
+    fails = λ sure. subst (λ (x : DemoReaderView). IsOpen x → s.never_fails source → ⊥) fresh stops.sure running.fresh_is_open sure;
+    writes = refl;
+  }
+  stopped_at_first old new demo_stop.NoMemory fresh stops = record {
+    output = memory_at_first workers (s.left source) (k.taken sink) last none;
+    reads = stops.uncounted_memory;
+    writes = refl;
+  }
+
+-- ---- at an event
+
+module _ {S K : Type 0} (s : sources.Ghosts S) (k : sinks.Ghosts K) (workers : ℕ) (source0 source : S) (sink0 sink : K) (demo : DemoReaderView) (g : GameView) (e : Event) (at : IsNext s k workers source0 source sink0 sink demo g e) where
+  abbrev before : Option (List ℕ)
+  before = s.left source0
+
+  abbrev left : Option (List ℕ)
+  left = ahead demo.pending (s.left source)
+
+  -- the game stopped
+  pub game_stopped : (sink' : K) (g2 : GameView) (stop : Stop) → IsGameStop stop
+      → OnWriteFault stop (Plays workers g g2 e (λ lines. FailsIn k.taken k.faults sink sink' (text_of lines)))
+      → OnWriteFault stop (Plays workers g g2 e (λ lines. length (text_of lines) ≤ k.room sink → ⊥))
+      → OnMemory stop (sink' ≡ sink) → OnMemory stop (g2.last ≡ g.last) → k.faults sink ≤ k.faults sink'
+      → PlaysTo s k workers source0 source sink0 sink' g2.last (Err stop)
+  game_stopped sink' g2 (Refused line fault rule) never failed short same kept later = absurd never
+  game_stopped sink' g2 ReadFault never failed short same kept later = absurd never
+  game_stopped sink' g2 WriteFault stops failed short same kept later = record {
+    output = running.write_failed workers demo before left (k.taken sink0) (k.taken sink) g e (s.faults source0) (s.faults source) (k.faults sink0) (k.faults sink) (k.room sink0) (k.room sink) at.runs k.taken k.faults sink sink' WriteFault g2 g2.last refl refl failed;
+    cause = running.write_counted workers demo before left (k.taken sink0) (k.taken sink) g e (s.faults source0) (s.faults source) (k.faults sink0) (k.faults sink) (k.room sink0) (k.room sink) at.runs k.taken k.faults sink sink' WriteFault g2 refl failed;
+    later = subst (λ (n : ℕ). n ≤ k.faults sink') at.runs.write_same later;
+    no_room = running.not_cut workers demo before left (k.taken sink0) (k.taken sink) g e (s.faults source0) (s.faults source) (k.faults sink0) (k.faults sink) (k.room sink0) (k.room sink) at.runs WriteFault g2 short;
+    reads = at.runs.read_same;
+  }
+  game_stopped sink' g2 Memory stops failed short same kept later = record {
+    output = running.memory_failed workers demo before left (k.taken sink0) (k.taken sink) g e (s.faults source0) (s.faults source) (k.faults sink0) (k.faults sink) (k.room sink0) (k.room sink) at.runs Memory g2 (k.taken sink') g2.last refl kept (ap k.taken same);
+    reads = at.runs.read_same;
+    writes = ap k.faults same ∙ at.runs.write_same;
+  }
+
+  -- the event was played, and its lines were written
+  module _ (sink' : K) (g2 : GameView) (plays : Plays workers g g2 e (λ lines. Prints k.taken k.faults k.room sink sink' [] [] (text_of lines))) where
+    -- it was the end
+    pub all_played : is_end e ≡ true → PlaysTo s k workers source0 source sink0 sink' g2.last (Ok tt)
+    all_played is_last = record {
+      output = running.all_done workers demo before left (k.taken sink0) (k.taken sink) g e (s.faults source0) (s.faults source) (k.faults sink0) (k.faults sink) (k.room sink0) (k.room sink) at.runs g2 (k.taken sink') plays.closed plays.advances
+          (running.appends_all k.taken k.faults k.room sink sink' _ plays.lines) g2.last refl is_last;
+      read = running.all_read workers demo before left (k.taken sink0) (k.taken sink) g e (s.faults source0) (s.faults source) (k.faults sink0) (k.faults sink) (k.room sink0) (k.room sink) at.runs s.last s.ended s.never_fails source0 source demo.pending (s.left source) is_last refl at.needed;
+      reads = at.runs.read_same;
+      writes = plays.lines.uncounted ∙ at.runs.write_same;
+    }
+
+    -- the reader stopped then
+    pub reader_stopped : (demo' : DemoReaderView) (source' : S) (d : DemoStop) → is_end e ≡ false → ReaderStops s demo demo' source source' d
+        → PlaysTo s k workers source0 source' sink0 sink' g2.last (Err (stop_of d))
+    reader_stopped demo' source' (demo_stop.Refused line fault rule) going stops = record {
+      output = running.next_refused workers demo before left (k.taken sink0) (k.taken sink) g e (s.faults source0) (s.faults source) (k.faults sink0) (k.faults sink) (k.room sink0) (k.room sink) at.runs g2 (k.taken sink') plays.closed plays.advances
+          (running.appends_all k.taken k.faults k.room sink sink' _ plays.lines) g2.last refl (demo_stop.Refused line fault rule) going stops.refused;
+      read = running.next_refusal workers demo before left (k.taken sink0) (k.taken sink) g e (s.faults source0) (s.faults source) (k.faults sink0) (k.faults sink) (k.room sink0) (k.room sink) at.runs s.last s.ended s.never_fails source0 source source' (demo_stop.Refused line fault rule) demo'.pending (s.left source') going at.needed stops.taken;
+      reads = stops.uncounted_refusal ∙ at.runs.read_same;
+      writes = plays.lines.uncounted ∙ at.runs.write_same;
+    }
+    reader_stopped demo' source' demo_stop.ReadFault going stops = record {
+      output = running.next_fault workers demo before left (k.taken sink0) (k.taken sink) g e (s.faults source0) (s.faults source) (k.faults sink0) (k.faults sink) (k.room sink0) (k.room sink) at.runs g2 (k.taken sink') plays.closed plays.advances
+          (running.appends_all k.taken k.faults k.room sink sink' _ plays.lines) g2.last refl demo_stop.ReadFault (s.left source') going stops.read_fault;
+      front = running.next_front workers demo before left (k.taken sink0) (k.taken sink) g e (s.faults source0) (s.faults source) (k.faults sink0) (k.faults sink) (k.room sink0) (k.room sink) at.runs g2 (k.taken sink') plays.closed plays.advances
+          (running.appends_all k.taken k.faults k.room sink sink' _ plays.lines) g2.last refl demo_stop.ReadFault going;
+      same_end = stops.no_end ∙ (running.needed_going e _ _ _ going at.needed.needed).1;
+      cause = running.next_cause workers demo before left (k.taken sink0) (k.taken sink) g e (s.faults source0) (s.faults source) (k.faults sink0) (k.faults sink) (k.room sink0) (k.room sink) at.runs demo_stop.ReadFault (s.faults source') going stops.cause;
+      later = subst (λ (m : ℕ). m ≤ s.faults source') at.runs.read_same stops.later;
+      fails = λ sure. stops.sure (running.reader_is_open workers demo before left (k.taken sink0) (k.taken sink) g e (s.faults source0) (s.faults source) (k.faults sink0) (k.faults sink) (k.room sink0) (k.room sink) at.runs going) (at.needed.keeps sure);
+      writes = plays.lines.uncounted ∙ at.runs.write_same;
+    }
+    reader_stopped demo' source' demo_stop.NoMemory going stops = record {
+      output = running.next_no_memory workers demo before left (k.taken sink0) (k.taken sink) g e (s.faults source0) (s.faults source) (k.faults sink0) (k.faults sink) (k.room sink0) (k.room sink) at.runs g2 (k.taken sink') plays.closed plays.advances
+          (running.appends_all k.taken k.faults k.room sink sink' _ plays.lines) g2.last refl demo_stop.NoMemory going;
+      reads = stops.uncounted_memory ∙ at.runs.read_same;
+      writes = plays.lines.uncounted ∙ at.runs.write_same;
+    }
+
+    -- or it gave the next one
+    pub next_given : (demo' : DemoReaderView) (source' : S) (e' : Event) → is_end e ≡ false → ReaderGives s demo demo' source source' e' → IsNext s k workers source0 source' sink0 sink' demo' g2 e'
+    next_given demo' source' e' going gives = record {
+      runs = running.runs_on workers demo before left (k.taken sink0) (k.taken sink) g e (s.faults source0) (s.faults source) (k.faults sink0) (k.faults sink) (k.room sink0) (k.room sink) at.runs g2 (k.taken sink') plays.closed plays.advances
+          (running.appends_all k.taken k.faults k.room sink sink' _ plays.lines) demo' (ahead demo'.pending (s.left source')) e' (s.faults source') (k.faults sink') (k.room sink') going gives.event gives.stage gives.holds gives.ok gives.uncounted plays.lines.uncounted
+          (running.room_after k.taken k.faults k.room sink sink' _ plays.lines);
+      needed = running.needed_on workers demo before left (k.taken sink0) (k.taken sink) g e (s.faults source0) (s.faults source) (k.faults sink0) (k.faults sink) (k.room sink0) (k.room sink) at.runs s.last s.ended s.never_fails source0 source source' demo'.pending (ahead demo'.pending (s.left source')) e' going at.needed gives.needed gives.keeps;
+    }
+
+-- the event is to be played, and is the next one after each start after which the first was
+pub record GoesFrom {S K : Type 0} (s : sources.Ghosts S) (k : sinks.Ghosts K) (workers : ℕ) (source source' : S) (sink sink' : K) (demo demo' : DemoReaderView) (g g' : GameView) (e e' : Event) : Type 0 where
+  pub may : MayGoOn s k workers source' sink' demo' g' e'
+  pub each : (first_source : S) (first_sink : K) → IsNext s k workers first_source source first_sink sink demo g e → IsNext s k workers first_source source' first_sink sink' demo' g' e'
+
+-- one event more was played, and the reader gave the next
+pub goes_further : {S K : Type 0} (s : sources.Ghosts S) (k : sinks.Ghosts K) (workers : ℕ) (source0 source source' : S) (sink0 sink sink' : K) (demo0 demo demo' : DemoReaderView) (g0 g g' : GameView) (e0 e e' : Event)
+    → GoesFrom s k workers source0 source sink0 sink demo0 demo g0 g e0 e → Plays workers g g' e (λ lines. Prints k.taken k.faults k.room sink sink' [] [] (text_of lines)) → is_end e ≡ false
+    → ReaderGives s demo demo' source source' e' → GoesFrom s k workers source0 source' sink0 sink' demo0 demo' g0 g' e0 e'
+goes_further s k workers source0 source source' sink0 sink sink' demo0 demo demo' g0 g g' e0 e e' so_far plays going gives =
+    let may = so_far.may in
+    record {
+      may = record {
+        first_source = may.first_source;
+        first_sink = may.first_sink;
+        is_next = next_given s k workers may.first_source source may.first_sink sink demo g e may.is_next sink' g' plays demo' source' e' going gives;
+      };
+      each = λ first_source first_sink begun. next_given s k workers first_source source first_sink sink demo g e (so_far.each first_source first_sink begun) sink' g' plays demo' source' e' going gives;
+    }
+
+-- the event may come
+pub ready_next : {S K : Type 0} (s : sources.Ghosts S) (k : sinks.Ghosts K) (workers : ℕ) (source : S) (sink : K) (demo : DemoReaderView) (g : GameView) (e : Event) → MayGoOn s k workers source sink demo g e → IsReady g.course e
+ready_next s k workers source sink demo g e may =
+    running.game_is_ready workers demo _ _ _ _ g e _ _ _ _ _ _ may.is_next.runs
+
+-- before the end the reader is open
+pub open_reader : {S K : Type 0} (s : sources.Ghosts S) (k : sinks.Ghosts K) (workers : ℕ) (source : S) (sink : K) (demo : DemoReaderView) (g : GameView) (e : Event) → MayGoOn s k workers source sink demo g e → is_end e ≡ false → IsOpen demo
+open_reader s k workers source sink demo g e may going =
+    running.reader_is_open workers demo _ _ _ _ g e _ _ _ _ _ _ may.is_next.runs going

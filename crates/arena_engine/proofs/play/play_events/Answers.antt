@@ -1,0 +1,14 @@
+use Rattle.std.proofs.Common.{refl, sym, ◌∙◌}
+use Rattle.arena_engine.proofs.Ended.{game_stopped, all_played, reader_stopped, goes_further, ready_next, open_reader}
+use Rattle.arena_engine.proofs.play.play_events.Goals as goal
+
+pub events-init : goal.events-init
+events-init g c = record { may = c.requires; each = λ first_source first_sink begun. begun }
+
+pub take-requires : goal.take-requires
+take-requires g c κs within = ready_next _ _ _ _ _ _ _ _ c.events.invariant.may
+
+pub events-smaller : goal.events-smaller
+events-smaller g c =
+    let going = sym c.is_end-is_last.ensures ∙ c.if-is_last.false in
+    c.in_ok-next.ensures.fewer (open_reader _ _ _ _ _ _ _ _ c.events.invariant.may going)

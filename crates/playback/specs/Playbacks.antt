@@ -1,0 +1,101 @@
+-- A server over events: what an event closes, and how the server goes on.
+use Rattle.std.specs.Prelude.{◌≡◌, ℕ, ◌<◌, ◌≤◌, List, [], ◌∷◌, ◌++◌, length, All, Option, Some, None, option_map, IfSome, ⊤}
+use Rattle.entity_recs.specs.declared.rec.Rec.{Rec}
+use Rattle.entity_recs.specs.declared.effect.Entry.{Entry}
+use Rattle.move_journal.specs.Logs.{JournalView}
+use Rattle.move_journal.specs.Merges.{IsInOrder}
+use Rattle.arena_map.specs.Maps.{MapView}
+use Rattle.packet_read.specs.declared.arrival.Arrival.{Arrival}
+use Rattle.plain_server.specs.Frames.{received_in, moved_by, IsRightAfter}
+use Rattle.plain_server.specs.Replies.{slots_of, replies_of}
+use Rattle.frame_phases.specs.declared.frame_out.FrameOut.{FrameOut}
+use Rattle.frame_phases.specs.Servers.{ServerView, new_server, server_after}
+use Rattle.demo_lines.specs.declared.event.Event.{Event}
+use Rattle.demo_lines.specs.declared.event.Event.TheVariants.{Frame, From, End}
+
+-- how far events were played: the server, and the packets of the frame that is open, if one is
+pub record Course : Type 0 where
+  pub server : ServerView
+  pub opened : Option (List Arrival)
+
+-- before the first event
+abbrev pub new_course : MapView → Course
+new_course map = record { server = new_server map; opened = None }
+
+-- the course, and what the last frame that was closed gave out but for its journal
+pub record PlaybackView : Type 0 where
+  pub course : Course
+  pub out : FrameOut
+
+-- the entries of a journal, if there is one
+abbrev pub entries_if : Option JournalView → Option (List Entry)
+entries_if journal = option_map (λ (j : JournalView). j.entries) journal
+
+-- there are as many replies as slots, and each has at least one byte
+pub record ArePrintable (out : FrameOut) : Type 0 where
+  pub one_each : length out.slots ≡ length out.replies
+  pub some : All (λ (bytes : List ℕ). 1 ≤ length bytes) out.replies
+
+-- ---- a frame
+
+-- a frame with these packets was run: its journal is right, and with one worker has the moves in the order of arrival
+pub record RunsFrame (workers : ℕ) (old new : ServerView) (arrivals : List Arrival) (journal : List Entry) : Type 0
+  where
+    pub right : IsRightAfter old.map (received_in old.map old.frames old.state arrivals) journal
+    pub order : workers ≡ 1 → IsInOrder journal (received_in old.map old.frames old.state arrivals).lists.moves
+    pub next : new ≡ server_after old arrivals journal
+
+-- the records that the replies to a frame with this journal show
+abbrev pub shown_by : ServerView → List Arrival → List Entry → List (Option Rec)
+shown_by t arrivals journal = (moved_by t.map (received_in t.map t.frames t.state arrivals) journal).records
+
+-- this is what a frame with these packets and this journal gave out beside the journal
+pub record IsGiven (t : ServerView) (arrivals : List Arrival) (journal : List Entry) (out : FrameOut) : Type 0 where
+  pub frame_is : out.frame ≡ t.frames
+  pub lists_are : out.received.lists ≡ (received_in t.map t.frames t.state arrivals).lists
+  pub slots_are : out.slots ≡ slots_of (shown_by t arrivals journal)
+  pub replies_are : out.replies ≡ replies_of t.frames (shown_by t arrivals journal)
+
+-- this was given out where a frame with these packets was closed with this journal
+abbrev pub IsGivenIf : ServerView → Option (List Arrival) → Option (List Entry) → FrameOut → Type 0
+IsGivenIf t None closed out = ⊤
+IsGivenIf t (Some arrivals) None out = ⊤
+IsGivenIf t (Some arrivals) (Some journal) out = IsGiven t arrivals journal out
+
+-- ---- an event
+
+-- the frame that was open, if one was, was run, and this is its journal
+abbrev pub Closes : ℕ → ServerView → ServerView → Option (List Arrival) → Option (List Entry) → Type 0
+Closes workers old new None None = new ≡ old
+Closes workers old new None (Some journal) = ⊥
+Closes workers old new (Some arrivals) None = ⊥
+Closes workers old new (Some arrivals) (Some journal) = RunsFrame workers old new arrivals journal
+
+-- the frame that was open was closed, and these packets are those of the one that is open then
+pub record ClosesFrame (workers : ℕ) (old new : Course) (closed : Option (List Entry)) (opened : Option (List Arrival))
+    : Type 0 where
+  pub closes : Closes workers old.server new.server old.opened closed
+  pub opened_is : new.opened ≡ opened
+
+-- the frame that is open has one packet more, and none was closed
+pub record KeepsPacket (old new : Course) (a : Arrival) (closed : Option (List Entry)) : Type 0 where
+  pub none_closed : closed ≡ None
+  pub server : new.server ≡ old.server
+  pub opened_is : new.opened ≡ option_map (λ arrivals. arrivals ++ a ∷ []) old.opened
+
+-- how an event leaves the course, with the journal of the frame that it closed, if it closed one
+abbrev pub GoesOn : ℕ → Course → Course → Event → Option (List Entry) → Type 0
+GoesOn workers old new Frame closed = ClosesFrame workers old new closed (Some [])
+GoesOn workers old new (From a) closed = KeepsPacket old new a closed
+GoesOn workers old new End closed = ClosesFrame workers old new closed None
+
+-- a frame that is open may be closed: it has few packets, and there are few frames
+pub record MayClose (course : Course) : Type 0 where
+  pub few : IfSome course.opened (λ arrivals. length arrivals ≤ 512)
+  pub frames : IfSome course.opened (λ _. course.server.frames < 100000)
+
+-- this event may come
+abbrev pub IsReady : Course → Event → Type 0
+IsReady course Frame = MayClose course
+IsReady course (From a) = ⊤
+IsReady course End = MayClose course

@@ -1,0 +1,165 @@
+use crate::host::Host;
+use arena_map::ArenaMap;
+use demo_lines::Event;
+use frame_phases::{FrameOut, MOST_ARRIVALS, Server, run_frame};
+use move_journal::Journal;
+use packet_read::Arrival;
+use shared_moves::Gate;
+use std::alloc::{AllocError, Global};
+use std::marker::Model;
+use std::mem;
+use std::sync::Wait;
+use std::thread::Threads;
+
+/// A server, what its last frame gave out but for the journal, and the packets of the frame that is open.
+#[derive(Drop)]
+pub struct Playback {
+    server: Server,
+    out: FrameOut,
+    is_open: bool,
+    arrivals: Vec<Arrival>,
+}
+
+impl Model for Playback {
+    ghost use Rattle.std.specs.Prelude.{Some, None, if◌then◌else◌};
+    ghost use Rattle.playback.specs.Playbacks.{PlaybackView, ArePrintable};
+
+    ghost Value = { PlaybackView };
+
+    ghost view = { λ p. record {
+      course = record { server = p.server; opened = if p.is_open then Some p.arrivals.items else None };
+      out = p.out;
+    } };
+
+    ghost invariant = { λ p. ArePrintable p.out };
+}
+
+impl Playback {
+    ghost use Rattle.std.specs.Prelude.{◌≡◌, ◌∷◌, ◌++◌, [], Some, None, option_map, IfOk, OnOk, OnErr};
+    ghost use Rattle.arena_map.specs.Maps.{IsMap};
+    ghost use Rattle.frame_phases.specs.Scores.{score_in};
+    ghost use Rattle.playback.specs.Playbacks.{entries_if, ArePrintable, new_course};
+    ghost use Rattle.playback.specs.Playbacks.{Closes, KeepsPacket, IsGivenIf, GoesOn, MayClose, IsReady};
+
+    /// A server in this arena, before the first event. It takes all memory but that for the packets, the moves and the
+    /// journals of frames. The only error is that memory is refused; the map is then gone.
+    pub fn new(alloc: Global, map: ArenaMap) -> Result<Playback, AllocError>
+        ensures server { IfOk result (λ playback. playback.course ≡ new_course map) }
+        ensures rules { OnOk result (IsMap map) }
+    {
+        Ok(Playback {
+            server: Server::new(alloc, map)?,
+            out: FrameOut::new(alloc)?,
+            is_open: false,
+            arrivals: Vec::new(alloc),
+        })
+    }
+
+    /// How many frames were run.
+    pub fn frames(&self) -> u32
+        ensures { result ≡ self.now.course.server.frames }
+    {
+        self.server.frames()
+    }
+
+    /// The sum of the scores of the live players.
+    pub fn score(&self) -> u64
+        ensures { result ≡ score_in self.now.course.server.state.records }
+    {
+        self.server.score()
+    }
+
+    /// What the last frame that was closed gave out, but for its journal, which `take` has given. There are as many
+    /// replies as slots, and each has at least one byte.
+    pub fn out(&self) -> &FrameOut
+        ensures out { result.now ≡ self.now.out }
+        ensures printable { ArePrintable result.now }
+    {
+        &self.out
+    }
+
+    /// Runs the frame that is open, and gives its journal. The memory for the next one is taken before it is run.
+    fn close<R: Threads + Wait + Sync, G: Gate>(
+        &mut self,
+        host: &Host<R, G>,
+    ) -> Result<Option<Journal>, AllocError>
+        requires { MayClose self.old.course }
+        ensures closed { IfOk result (λ journal.
+            Closes host.now.workers self.old.course.server self.new.course.server self.old.course.opened
+            (entries_if journal)) }
+        ensures opened { OnOk result (self.new.course.opened ≡ None) }
+        ensures given { IfOk result (λ journal.
+            IsGivenIf self.old.course.server self.old.course.opened (entries_if journal) self.new.out) }
+        ensures same { OnErr result (self.new.course ≡ self.old.course) }
+    {
+        if !self.is_open {
+            return Ok(None);
+        }
+        let next = Journal::new(host.alloc, MOST_ARRIVALS)?;
+        run_frame(
+            host.rt,
+            host.alloc,
+            &mut self.server,
+            self.arrivals.as_slice(),
+            host.workers,
+            host.gate,
+            &mut self.out,
+        )?;
+        self.is_open = false;
+        Ok(Some(mem::replace(&mut self.out.journal, next)))
+    }
+
+    /// Opens a frame, after the one before it is closed.
+    fn open<R: Threads + Wait + Sync, G: Gate>(
+        &mut self,
+        host: &Host<R, G>,
+    ) -> Result<Option<Journal>, AllocError>
+        requires { MayClose self.old.course }
+        ensures next { IfOk result (λ journal.
+            GoesOn host.now.workers self.old.course self.new.course Event.Frame (entries_if journal)) }
+        ensures given { IfOk result (λ journal.
+            IsGivenIf self.old.course.server self.old.course.opened (entries_if journal) self.new.out) }
+        ensures same { OnErr result (self.new.course ≡ self.old.course) }
+    {
+        let journal = self.close(host)?;
+        self.arrivals.clear();
+        self.is_open = true;
+        Ok(journal)
+    }
+
+    /// Keeps a packet of the frame that is open.
+    fn keep(&mut self, arrival: Arrival) -> Result<Option<Journal>, AllocError>
+        ensures next { IfOk result (λ journal. KeepsPacket self.old.course self.new.course arrival (entries_if journal)) }
+        ensures given { IfOk result (λ journal.
+            IsGivenIf self.old.course.server self.old.course.opened (entries_if journal) self.new.out) }
+        ensures same { OnErr result (self.new.course ≡ self.old.course) }
+    {
+        if self.is_open {
+            self.arrivals.push(arrival)?;
+        }
+        Ok(None)
+    }
+
+    /// Takes an event. The answer is the journal of the frame that it closed, if it closed one: the rest of what that
+    /// frame gave out is in `out`. A frame that is opened and the end close the one that is open.
+    ///
+    /// The only error is that memory is refused; no frame was run then.
+    pub fn take<R: Threads + Wait + Sync, G: Gate>(
+        &mut self,
+        host: &Host<R, G>,
+        event: Event,
+    ) -> Result<Option<Journal>, AllocError>
+        requires { IsReady self.old.course event }
+        ensures next { IfOk result (λ journal.
+            GoesOn host.now.workers self.old.course self.new.course event (entries_if journal)) }
+        ensures given { IfOk result (λ journal.
+            IsGivenIf self.old.course.server self.old.course.opened (entries_if journal) self.new.out) }
+        ensures same { OnErr result (self.new.course ≡ self.old.course) }
+    {
+        match event {
+            Event::Frame => self.open(host),
+            Event::From(arrival) => self.keep(arrival),
+            Event::End => self.close(host),
+        }
+    }
+}
