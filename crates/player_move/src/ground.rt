@@ -14,6 +14,6 @@ pub fn on_ground(body: &Aabb, fixed: &[Aabb], moving: &[Aabb]) -> bool
     requires { IsInRange (moved body.now (downwards 1)) }
     ensures { result ≡ ground_of body.now (fixed.now ++ moving.now) }
 {
-    let below = body.moved(BELOW).unwrap();
+    let below = body.shifted(BELOW);
     below.is_blocked(fixed) || below.is_blocked(moving)
 }

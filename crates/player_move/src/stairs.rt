@@ -59,10 +59,10 @@ pub fn stairs(body: &Aabb, vel: Vec3, ms: u8, fixed: &[Aabb], moving: &[Aabb]) -
     let rise = upwards(STAIR_HEIGHT);
     let steps = trace(body, rise, fixed, moving).steps;
     let up = shift_at(rise, steps);
-    let above = body.moved(up).unwrap();
+    let above = body.shifted(up);
     let along = slide(&above, level(vel), ms, fixed, moving);
     let shift = up + along.shift;
-    let there = body.moved(shift).unwrap();
+    let there = body.shifted(shift);
     let fall = downwards(steps);
     let down = shift_at(fall, trace(&there, fall, fixed, moving).steps);
     Walked {

@@ -41,7 +41,7 @@ fn are_taken(body: &Aabb, stairs: Vec3, plain: Vec3, fixed: &[Aabb], moving: &[A
     if flat_square(stairs) <= flat_square(plain) {
         return false;
     }
-    let there = body.moved(stairs).unwrap();
+    let there = body.shifted(stairs);
     on_ground(&there, fixed, moving)
 }
 

@@ -1,26 +1,24 @@
 use Rattle.std.proofs.Common.{arith}
-use Rattle.box_trace.proofs.Ranges.{some_where_it_holds}
-use Rattle.slide_move.proofs.Underway.{value_in_some}
 use Rattle.player_move.proofs.Rooms.{IsNear-plus, IsInRange-moved, Fits-near}
 use Rattle.player_move.proofs.Reaching.{near_up, near_fall, near_down, near_along, room_above, room_there, IsNear-stairs}
 use Rattle.player_move.proofs.Walking.{stairs_by_steps}
 use Rattle.player_move.proofs.stairs.stairs.Goals as goal
 
-pub unwrap-above-requires : goal.unwrap-above-requires
-unwrap-above-requires c =
-    some_where_it_holds _ _ _ c.moved.ensures (IsInRange-moved 2000000 4608 _ _ (omega arith) c.requires.room (near_up _ _ _ c.upwards-rise.ensures c.trace-steps.ensures.is_trace.within c.shift_at-up.ensures))
+pub shifted-above-requires : goal.shifted-above-requires
+shifted-above-requires c =
+    IsInRange-moved 2000000 4608 _ _ (omega arith) c.requires.room (near_up _ _ _ c.upwards-rise.ensures c.trace-steps.ensures.is_trace.within c.shift_at-up.ensures)
 
 pub slide-along-requires-clause-in_range : goal.slide-along-requires-clause-in_range
 slide-along-requires-clause-in_range c =
-    room_above _ _ _ _ _ _ (value_in_some _ _ _ _ c.moved.ensures c.unwrap-above.ensures) (near_up _ _ _ c.upwards-rise.ensures c.trace-steps.ensures.is_trace.within c.shift_at-up.ensures) c.level.ensures c.requires.near c.requires.most c.requires.room
+    room_above _ _ _ _ _ _ c.shifted-above.ensures (near_up _ _ _ c.upwards-rise.ensures c.trace-steps.ensures.is_trace.within c.shift_at-up.ensures) c.level.ensures c.requires.near c.requires.most c.requires.room
 
-pub unwrap-there-requires : goal.unwrap-there-requires
-unwrap-there-requires c =
-    some_where_it_holds _ _ _ c.moved-2.ensures (IsInRange-moved 2000000 34608 _ _ (omega arith) c.requires.room (near_along _ _ _ _ _ c.upwards-rise.ensures c.trace-steps.ensures.is_trace.within c.shift_at-up.ensures c.add-shift.ensures c.slide-along.ensures.near))
+pub shifted-there-requires : goal.shifted-there-requires
+shifted-there-requires c =
+    IsInRange-moved 2000000 34608 _ _ (omega arith) c.requires.room (near_along _ _ _ _ _ c.upwards-rise.ensures c.trace-steps.ensures.is_trace.within c.shift_at-up.ensures c.add-shift.ensures c.slide-along.ensures.near)
 
 pub trace-requires-clause-in_range : goal.trace-requires-clause-in_range
 trace-requires-clause-in_range c =
-    room_there _ _ _ _ (value_in_some _ _ _ _ c.moved-2.ensures c.unwrap-there.ensures) (near_along _ _ _ _ _ c.upwards-rise.ensures c.trace-steps.ensures.is_trace.within c.shift_at-up.ensures c.add-shift.ensures c.slide-along.ensures.near) (near_fall _ _ _ c.upwards-rise.ensures c.trace-steps.ensures.is_trace.within c.downwards-fall.ensures) c.requires.room
+    room_there _ _ _ _ c.shifted-there.ensures (near_along _ _ _ _ _ c.upwards-rise.ensures c.trace-steps.ensures.is_trace.within c.shift_at-up.ensures c.add-shift.ensures c.slide-along.ensures.near) (near_fall _ _ _ c.upwards-rise.ensures c.trace-steps.ensures.is_trace.within c.downwards-fall.ensures) c.requires.room
 
 pub add-requires : goal.add-requires
 add-requires c =
@@ -29,7 +27,7 @@ add-requires c =
 
 pub returns-clause-value : goal.returns-clause-value
 returns-clause-value c =
-    stairs_by_steps _ _ _ _ _ _ _ _ _ _ _ _ _ _ _ _ _ c.upwards-rise.ensures c.trace-steps.ensures.value c.shift_at-up.ensures (value_in_some _ _ _ _ c.moved.ensures c.unwrap-above.ensures) c.level.ensures c.slide-along.ensures.value c.add-shift.ensures (value_in_some _ _ _ _ c.moved-2.ensures c.unwrap-there.ensures) c.downwards-fall.ensures c.trace.ensures.value c.shift_at-down.ensures c.add.ensures c.level-2.ensures
+    stairs_by_steps _ _ _ _ _ _ _ _ _ _ _ _ _ _ _ _ _ c.upwards-rise.ensures c.trace-steps.ensures.value c.shift_at-up.ensures c.shifted-above.ensures c.level.ensures c.slide-along.ensures.value c.add-shift.ensures c.shifted-there.ensures c.downwards-fall.ensures c.trace.ensures.value c.shift_at-down.ensures c.add.ensures c.level-2.ensures
 
 pub returns-clause-shift : goal.returns-clause-shift
 returns-clause-shift c =
