@@ -78,7 +78,7 @@ impl ArenaMap {
         if !is_wide(lo, hi) {
             return Err(MapRefusal::Rule(MapFault::Arena));
         }
-        let bounds = Aabb::new(lo, hi).unwrap();
+        let bounds = Aabb::between(lo, hi);
         let mut solids = Vec::with_capacity(alloc, WALLS)?;
         solids.extend_from_slice(&arena_walls(&bounds))?;
         Ok(ArenaMap {

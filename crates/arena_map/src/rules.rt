@@ -55,7 +55,7 @@ pub fn box_between(lo: Vec3, hi: Vec3) -> Aabb
     requires thick { places.is_thick lo hi ≡ true }
     ensures { result ≡ bounds lo hi }
 {
-    Aabb::new(lo, hi).unwrap()
+    Aabb::between(lo, hi)
 }
 
 /// Whether the box between the corners has an inside and is inside the arena.
@@ -80,7 +80,7 @@ fn item_box(at: Vec3) -> Aabb
     requires { IsNear 1048576 at }
     ensures { result ≡ places.item_body at }
 {
-    Aabb::new(at + ITEM_MINS, at + ITEM_MAXS).unwrap()
+    Aabb::between(at + ITEM_MINS, at + ITEM_MAXS)
 }
 
 /// So far up, in sub-units.
@@ -102,7 +102,7 @@ fn raised(lo: Vec3, hi: Vec3, rise: i32) -> Aabb
     requires rise { unsigned_abs rise ≤ 1048576 }
     ensures { result ≡ places.raised lo hi rise }
 {
-    box_between(lo, hi).moved(upwards(rise)).unwrap()
+    box_between(lo, hi).shifted(upwards(rise))
 }
 
 /// A lift's shaft: its box from the lowest place to the highest.
@@ -114,7 +114,7 @@ pub fn shaft(lo: Vec3, hi: Vec3, rise: i32) -> Aabb
     requires most { rise ≤ℤ pos 1048576 }
     ensures { result ≡ places.shaft lo hi rise }
 {
-    Aabb::new(lo, hi + upwards(rise)).unwrap()
+    Aabb::between(lo, hi + upwards(rise))
 }
 
 /// Rule 2: a block, teleporter, goal or lift has an inside, and is inside the arena.
