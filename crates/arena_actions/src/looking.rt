@@ -21,5 +21,5 @@ pub fn looked_at(me: &Rec, ms: u8) -> Aabb
         reach_on(me.vel.y, ms),
         reach_on(me.vel.z, ms) + STAIR_LOOK,
     );
-    body_box(me).grow(by).unwrap()
+    body_box(me).grown(by)
 }

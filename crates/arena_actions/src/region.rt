@@ -33,7 +33,7 @@ fn reach_of(me: &Rec, ms: u8) -> Aabb
         reach_on(me.vel.y, ms) + SPARE,
         reach_on(me.vel.z, ms) + (STAIR_HEIGHT + SPARE),
     );
-    abs_box(me).grow(by).unwrap()
+    abs_box(me).grown(by)
 }
 
 /// The reach, with room around it.
@@ -42,7 +42,7 @@ fn reach_with_room(me: &Rec, ms: u8) -> Aabb
     requires short { ms ≤ 50 }
     ensures { result ≡ regions.first_box me.now ms }
 {
-    reach_of(me, ms).grow(amount(ROOM, ROOM, ROOM)).unwrap()
+    reach_of(me, ms).grown(amount(ROOM, ROOM, ROOM))
 }
 
 /// The room around the player's absolute box at this place.
@@ -56,7 +56,7 @@ fn landing_at(me: &Rec, dest: Vec3) -> Aabb
         origin: dest,
         ..*me
     };
-    abs_box(&there).grow(amount(ROOM, ROOM, ROOM)).unwrap()
+    abs_box(&there).grown(amount(ROOM, ROOM, ROOM))
 }
 
 /// The room where a leap of the player ends, if its teleporter touches the reach.

@@ -1,5 +1,5 @@
 -- Boxes that grow have room for it.
-use Rattle.std.proofs.Common.{◌≡◌, ℕ, ◌+◌, ◌*◌, ◌≤◌, min, ℤ, unsigned_abs, pos, Option, Some, SomeIff, ap, ◌∙◌, arith}
+use Rattle.std.proofs.Common.{◌≡◌, ℕ, ◌+◌, ◌*◌, ◌≤◌, min, ℤ, unsigned_abs, pos, ap, ◌∙◌, arith}
 use Rattle.std.specs.Int.{w32}
 use Rattle.std.proofs.lemmas.Nat.{mul-le}
 use mir.Val.{to_z, of_z}
@@ -12,7 +12,7 @@ use Rattle.arena_geo.proofs.Ranges.{IsOrdered-grown}
 use Rattle.entity_recs.specs.declared.rec.Rec.{Rec}
 use Rattle.entity_recs.specs.Records.{IsRecord}
 use Rattle.entity_recs.specs.Bodies.{body_of, growth_of, abs_of}
-use Rattle.entity_recs.proofs.Standing.{shape_is_roomy, growth_is_small, grown_there}
+use Rattle.entity_recs.proofs.Standing.{shape_is_roomy, growth_is_small}
 use Rattle.player_move.specs.Laws.{reach_on}
 use Rattle.arena_actions.specs.Regions.{reach_of}
 
@@ -75,15 +75,19 @@ abs_within r is =
     let small = growth_is_small r.kind in
     within-grown 1062912 3840 1066752 (body_of r) (growth_of r.kind) (omega arith) small.positive small.near (body_within r is)
 
--- a box that grows within the range is there
-pub grows_there : (there : Option Bounds) (b low : Bounds) (by : Vec3) (x y z far : ℕ) → b ≡ low → by ≡ amount x y z
-    → x ≤ 100000 → y ≤ 100000 → z ≤ 100000 → far ≤ 1900000 → IsBoxWithin far low
-    → SomeIff there (IsInRange (grown b by)) (grown b by) → there ≡ Some (grown low (amount x y z))
-grows_there there b low by x y z far b_is by_is x_near y_near z_near less is some =
+-- a box that grows stays in range
+pub grown_in_range : (b low : Bounds) (by : Vec3) (x y z far : ℕ) → b ≡ low → by ≡ amount x y z
+    → x ≤ 100000 → y ≤ 100000 → z ≤ 100000 → far ≤ 1900000 → IsBoxWithin far low → IsInRange (grown b by)
+grown_in_range b low by x y z far b_is by_is x_near y_near z_near less is =
     let box =
     box_within (far + 100000) (grown low (amount x y z)) (omega arith) (within-grown_by far 100000 (far
     + 100000) low x y z (omega arith) x_near y_near z_near is) in
-    grown_there there b low by (amount x y z) b_is by_is box some
+    rw (b_is, by_is) box.in_range
+
+-- what is grown by so much, where the box and the amount are known
+pub grown_is : (result b low : Bounds) (by : Vec3) (x y z : ℕ) → result ≡ grown b by → b ≡ low → by ≡ amount x y z
+    → result ≡ grown low (amount x y z)
+grown_is result b low by x y z is b_is by_is = rw (b_is, by_is) at is
 
 -- a speed that is read is that speed
 pub read-reach : (n ms : ℕ) (speed : ℤ) → unsigned_abs speed ≤ 512000 → n ≡ reach_on (to_z w32 (of_z w32 speed)) ms

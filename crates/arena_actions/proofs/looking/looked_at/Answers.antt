@@ -1,12 +1,10 @@
-use Rattle.std.proofs.Common.{◌≡◌, ℕ, ◌+◌, sym, ap, ◌∙◌, arith}
-use Rattle.std.proofs.lemmas.Option.{same_Some}
+use Rattle.std.proofs.Common.{◌≡◌, ℕ, ◌+◌, ap, ◌∙◌, arith}
 use Rattle.arena_geo.specs.Vectors.{IsNear}
 use Rattle.arena_geo.specs.Boxes.{grown}
 use Rattle.entity_recs.specs.declared.rec.Rec.{Rec}
 use Rattle.entity_recs.specs.Bodies.{body_of}
-use Rattle.entity_recs.proofs.Standing.{is_there}
 use Rattle.player_move.specs.Laws.{reach_on, looked_at}
-use Rattle.arena_actions.specs.Lawful.Growing.{amount, body_within, grows_there, read-reach}
+use Rattle.arena_actions.specs.Lawful.Growing.{amount, body_within, grown_in_range, grown_is, read-reach}
 use Rattle.arena_actions.proofs.looking.looked_at.Goals as goal
 
 -- the body, larger by the reach and the stairs, is where the move looks
@@ -16,16 +14,14 @@ looked me ms x y z x_is y_is z_is =
     ∙ ap (λ (n : ℕ). grown (body_of me) (amount (reach_on me.vel.x ms) n (z + 4609))) y_is
     ∙ ap (λ (n : ℕ). grown (body_of me) (amount (reach_on me.vel.x ms) (reach_on me.vel.y ms) (n + 4609))) z_is
 
-pub unwrap-requires : goal.unwrap-requires
-unwrap-requires c =
-    is_there _ _ (grows_there c.grow.result _ (body_of c.args.me.now) _ c.reach_on.result c.reach_on-2.result (c.reach_on-3.result + 4609) 1062912 c.body_box.ensures c.amount-by.ensures.value
-    (omega (arith, c.reach_on.ensures.near)) (omega (arith, c.reach_on-2.ensures.near)) (omega (arith, c.reach_on-3.ensures.near)) (omega arith) (body_within c.args.me.now c.requires.record) c.grow.ensures)
+pub grown-requires-clause-in_range : goal.grown-requires-clause-in_range
+grown-requires-clause-in_range c =
+    grown_in_range _ (body_of c.args.me.now) _ c.reach_on.result c.reach_on-2.result (c.reach_on-3.result + 4609) 1062912 c.body_box.ensures c.amount-by.ensures.value
+    (omega (arith, c.reach_on.ensures.near)) (omega (arith, c.reach_on-2.ensures.near)) (omega (arith, c.reach_on-3.ensures.near)) (omega arith) (body_within c.args.me.now c.requires.record)
 
 pub returns : goal.returns
 returns c =
-    let there = grows_there c.grow.result _ (body_of c.args.me.now) _ c.reach_on.result c.reach_on-2.result (c.reach_on-3.result + 4609) 1062912 c.body_box.ensures c.amount-by.ensures.value
-    (omega (arith, c.reach_on.ensures.near)) (omega (arith, c.reach_on-2.ensures.near)) (omega (arith, c.reach_on-3.ensures.near)) (omega arith) (body_within c.args.me.now c.requires.record) c.grow.ensures in
-    same_Some _ _ (sym c.unwrap.ensures ∙ there)
+    grown_is _ _ (body_of c.args.me.now) _ c.reach_on.result c.reach_on-2.result (c.reach_on-3.result + 4609) c.grown.ensures c.body_box.ensures c.amount-by.ensures.value
     ∙ looked c.args.me.now c.args.ms _ _ _
     (read-reach c.reach_on.result c.args.ms c.args.me.now.vel.x near.x c.reach_on.ensures.value)
     (read-reach c.reach_on-2.result c.args.ms c.args.me.now.vel.y near.y c.reach_on-2.ensures.value)

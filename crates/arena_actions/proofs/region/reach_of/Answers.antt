@@ -1,13 +1,11 @@
-use Rattle.std.proofs.Common.{◌≡◌, ℕ, ◌+◌, sym, ap, ◌∙◌, arith}
-use Rattle.std.proofs.lemmas.Option.{same_Some}
+use Rattle.std.proofs.Common.{◌≡◌, ℕ, ◌+◌, ap, ◌∙◌, arith}
 use Rattle.arena_geo.specs.Vectors.{IsNear}
 use Rattle.arena_geo.specs.Boxes.{grown}
 use Rattle.entity_recs.specs.declared.rec.Rec.{Rec}
 use Rattle.entity_recs.specs.Bodies.{abs_of}
-use Rattle.entity_recs.proofs.Standing.{is_there}
 use Rattle.player_move.specs.Laws.{reach_on}
 use Rattle.arena_actions.specs.Regions.{reach_of}
-use Rattle.arena_actions.specs.Lawful.Growing.{amount, abs_within, grows_there, read-reach}
+use Rattle.arena_actions.specs.Lawful.Growing.{amount, abs_within, grown_in_range, grown_is, read-reach}
 use Rattle.arena_actions.proofs.region.reach_of.Goals as goal
 
 -- the absolute box, larger by what the move goes and what there is to spare, is the reach
@@ -18,16 +16,14 @@ reached me ms x y z x_is y_is z_is =
     ∙ ap (λ (n : ℕ). grown (abs_of me) (amount (reach_on me.vel.x ms + 256) (n + 256) (z + 4864))) y_is
     ∙ ap (λ (n : ℕ). grown (abs_of me) (amount (reach_on me.vel.x ms + 256) (reach_on me.vel.y ms + 256) (n + 4864))) z_is
 
-pub unwrap-requires : goal.unwrap-requires
-unwrap-requires c =
-    is_there _ _ (grows_there c.grow.result _ (abs_of c.args.me.now) _ (c.reach_on.result + 256) (c.reach_on-2.result + 256) (c.reach_on-3.result + 4864) 1066752 c.abs_box.ensures c.amount-by.ensures.value
-    (omega (arith, c.reach_on.ensures.near)) (omega (arith, c.reach_on-2.ensures.near)) (omega (arith, c.reach_on-3.ensures.near)) (omega arith) (abs_within c.args.me.now c.requires.record) c.grow.ensures)
+pub grown-requires-clause-in_range : goal.grown-requires-clause-in_range
+grown-requires-clause-in_range c =
+    grown_in_range _ (abs_of c.args.me.now) _ (c.reach_on.result + 256) (c.reach_on-2.result + 256) (c.reach_on-3.result + 4864) 1066752 c.abs_box.ensures c.amount-by.ensures.value
+    (omega (arith, c.reach_on.ensures.near)) (omega (arith, c.reach_on-2.ensures.near)) (omega (arith, c.reach_on-3.ensures.near)) (omega arith) (abs_within c.args.me.now c.requires.record)
 
 pub returns : goal.returns
 returns c =
-    let there = grows_there c.grow.result _ (abs_of c.args.me.now) _ (c.reach_on.result + 256) (c.reach_on-2.result + 256) (c.reach_on-3.result + 4864) 1066752 c.abs_box.ensures c.amount-by.ensures.value
-    (omega (arith, c.reach_on.ensures.near)) (omega (arith, c.reach_on-2.ensures.near)) (omega (arith, c.reach_on-3.ensures.near)) (omega arith) (abs_within c.args.me.now c.requires.record) c.grow.ensures in
-    same_Some _ _ (sym c.unwrap.ensures ∙ there)
+    grown_is _ _ (abs_of c.args.me.now) _ (c.reach_on.result + 256) (c.reach_on-2.result + 256) (c.reach_on-3.result + 4864) c.grown.ensures c.abs_box.ensures c.amount-by.ensures.value
     ∙ reached c.args.me.now c.args.ms _ _ _
     (read-reach c.reach_on.result c.args.ms c.args.me.now.vel.x near.x c.reach_on.ensures.value)
     (read-reach c.reach_on-2.result c.args.ms c.args.me.now.vel.y near.y c.reach_on-2.ensures.value)
