@@ -1,13 +1,12 @@
 -- Records and their bodies, higher by a little.
-use Rattle.std.proofs.Common.{◌≡◌, ◌≤◌, ℤ, Option, Some, None, SomeIff, IsSome, unsigned_abs, refl, arith}
+use Rattle.std.proofs.Common.{◌≤◌, ℤ, unsigned_abs, arith}
 use Rattle.std.proofs.lemmas.Int.{ints}
-use Rattle.arena_geo.specs.declared.vec3.Vec3.{Vec3}
 use Rattle.arena_geo.specs.Bounds.{Bounds, IsInRange}
 use Rattle.arena_geo.specs.Boxes.{moved}
 use Rattle.entity_recs.specs.declared.rec.Rec.{Rec}
 use Rattle.entity_recs.specs.Records.{IsRecord}
 use Rattle.entity_recs.specs.Bodies.{body_of}
-use Rattle.entity_recs.proofs.Standing.{IsRoomy, shape_is_roomy, is_there}
+use Rattle.entity_recs.proofs.Standing.{IsRoomy, shape_is_roomy}
 use Rattle.arena_map.specs.Places.{upwards}
 
 roomy_in_range : (b : Bounds) (up : ℤ) → IsRoomy b → unsigned_abs up ≤ 2560 → IsInRange (moved b (upwards up))
@@ -22,14 +21,3 @@ roomy_in_range b up roomy far =
 -- the body of a record is in range after a step
 pub body_in_range : (r : Rec) (up : ℤ) → IsRecord r → unsigned_abs up ≤ 2560 → IsInRange (moved (body_of r) (upwards up))
 body_in_range r up is far = roomy_in_range (body_of r) up (shape_is_roomy r.kind r.origin r.mins r.maxs is.origin is.shape) far
-
--- what is moved within the range is there
-moved_there : (result : Option Bounds) (b body : Bounds) (by step : Vec3) → b ≡ body → by ≡ step → IsInRange (moved body step)
-    → SomeIff result (IsInRange (moved b by)) (moved b by) → IsSome result
-moved_there None b body by step e f range none = absurd (none (rw (e, f) range))
-moved_there (Some x) b body by step e f range some = is_there (Some x) x refl
-
--- the body of a record, moved by a step, is there
-pub raised_there : (result : Option Bounds) (r : Rec) (b : Bounds) (by : Vec3) (up : ℤ) → IsRecord r → unsigned_abs up ≤ 2560 → b ≡ body_of r → by ≡ upwards up
-    → SomeIff result (IsInRange (moved b by)) (moved b by) → IsSome result
-raised_there result r b by up is far body_is by_is some = moved_there result b (body_of r) by (upwards up) body_is by_is (body_in_range r up is far) some

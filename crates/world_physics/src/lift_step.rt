@@ -101,7 +101,7 @@ pub fn raised_body(r: &Rec, up: i32) -> Aabb
     requires far { unsigned_abs up ≤ 2560 }
     ensures { result ≡ moved (body_of r.now) (upwards up) }
 {
-    body_box(r).moved(Vec3 { x: 0, y: 0, z: up }).unwrap()
+    body_box(r).shifted(Vec3 { x: 0, y: 0, z: up })
 }
 
 /// Whether the kind is a player's.
