@@ -301,7 +301,7 @@ fn a_line_buffer_is_full_at_its_room(rt: HostRuntime) -> Result<(), Fail> {
 }
 
 /// A field, the number of at most 512 from 0 that it spells, and whether it has the form of a number.
-const NUMBERS: &[(&[u8], Option<i32>, bool)] = &[
+const NUMBERS: &[(&[u8], Option<i64>, bool)] = &[
     (b"0", Some(0), true),
     (b"512", Some(512), true),
     (b"-512", Some(-512), true),
