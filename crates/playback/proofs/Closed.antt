@@ -1,6 +1,6 @@
 -- An event that closed a frame, and what the frame gave out.
 use Rattle.std.specs.List.{All}
-use Rattle.std.proofs.Common.{◌≡◌, ℕ, ◌<◌, ◌≤◌, List, length, get_or, Option, Some, None, IfSome, refl, sym, ap, ◌∙◌, subst, arith}
+use Rattle.std.proofs.Common.{◌≡◌, ℕ, ◌<◌, ◌≤◌, Bool, true, false, List, length, get_or, Option, Some, None, IfSome, if◌then◌else◌, refl, sym, ap, ◌∙◌, subst, arith}
 use Rattle.std.proofs.lemmas.List.Elements.{All-map}
 use Rattle.std.proofs.lemmas.List.{length-map}
 use Rattle.entity_recs.specs.declared.rec.Rec.{Rec}
@@ -13,7 +13,7 @@ use Rattle.frame_phases.specs.declared.frame_out.FrameOut.{FrameOut}
 use Rattle.frame_phases.specs.Servers.{ServerView}
 use Rattle.demo_lines.specs.declared.event.Event.{Event}
 use Rattle.demo_lines.specs.declared.event.Event.TheVariants.{Frame, From, End}
-use Rattle.playback.specs.Playbacks.{Course, RunsFrame, ArePrintable, IsGiven, IsGivenIf, Closes, GoesOn, MayClose, IsReady, shown_by}
+use Rattle.playback.specs.Playbacks.{Course, PlaybackView, RunsFrame, ArePrintable, IsGiven, IsGivenIf, Closes, GoesOn, MayClose, IsReady, shown_by}
 
 -- ---- the frame that was closed
 
@@ -84,3 +84,32 @@ are_printable t arrivals journal out given =
       one_each = one_reply_each t arrivals journal out given;
       some = subst (All (λ (bytes : List ℕ). 1 ≤ length bytes)) (sym given.replies_are) some;
     }
+
+-- ---- the frame that is open is run
+
+-- a playback with these parts
+abbrev pub playback_with : ServerView → Bool → List Arrival → FrameOut → PlaybackView
+playback_with server is_open arrivals out = record {
+  course = record { server = server; opened = if is_open then Some arrivals else None };
+  out = out;
+}
+
+opened-is : (is_open : Bool) (arrivals : List Arrival) → is_open ≡ true → (if is_open then Some arrivals else None) ≡ Some arrivals
+opened-is true arrivals opens = refl
+opened-is false arrivals opens = cc
+
+-- it is closed, where the journal that is given is the one of the run
+pub closes_by : (workers : ℕ) (p : PlaybackView) (server new : ServerView) (is_open : Bool) (arrivals : List Arrival) (before : FrameOut) (journal given : List Entry)
+    → playback_with server is_open arrivals before ≡ p → is_open ≡ true → given ≡ journal → RunsFrame workers server new arrivals journal → Closes workers p.course.server new p.course.opened (Some given)
+closes_by workers p server new is_open arrivals before journal given view opens same runs =
+    let P : PlaybackView → Type 0 = λ q. Closes workers q.course.server new q.course.opened (Some given) in
+    let Q : Option (List Arrival) → Type 0 = λ o. Closes workers server new o (Some given) in
+    subst P view (subst Q (sym (opened-is is_open arrivals opens)) (subst (RunsFrame workers server new arrivals) (sym same) runs))
+
+-- and what it gave out is known
+pub given_if : (p : PlaybackView) (server : ServerView) (is_open : Bool) (arrivals : List Arrival) (before out : FrameOut) (journal given : List Entry)
+    → playback_with server is_open arrivals before ≡ p → is_open ≡ true → given ≡ journal → IsGiven server arrivals journal out → IsGivenIf p.course.server p.course.opened (Some given) out
+given_if p server is_open arrivals before out journal given view opens same is =
+    let P : PlaybackView → Type 0 = λ q. IsGivenIf q.course.server q.course.opened (Some given) out in
+    let Q : Option (List Arrival) → Type 0 = λ o. IsGivenIf server o (Some given) out in
+    subst P view (subst Q (sym (opened-is is_open arrivals opens)) (subst (λ (j : List Entry). IsGiven server arrivals j out) (sym same) is))

@@ -62,9 +62,15 @@ fn push_entity(out: &mut ReplyBuf, r: &Rec)
     ensures bytes { out.new ≡ out.old ++ spec.entity_bytes r.now }
     ensures len { length out.new ≡ length out.old + 16 }
 {
-    out.extend(&r.id.to_le_bytes());
-    out.extend(&[r.kind.number(), status(r.kind, r.state)]);
-    push_vector(out, r.origin);
+    let [id0, id1] = r.id.to_le_bytes();
+    let [x0, x1, x2, x3] = r.origin.x.to_le_bytes();
+    let [y0, y1, y2, y3] = r.origin.y.to_le_bytes();
+    let [z0, z1, z2, z3] = r.origin.z.to_le_bytes();
+    let kind = r.kind.number();
+    let status = status(r.kind, r.state);
+    out.extend(&[
+        id0, id1, kind, status, x0, x1, x2, x3, y0, y1, y2, y3, z0, z1, z2, z3,
+    ]);
 }
 
 /// The version, the frame and the slot.
