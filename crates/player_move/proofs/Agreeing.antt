@@ -15,12 +15,12 @@ use Rattle.box_trace.specs.Steps.{step_count, shift_at, body_at}
 use Rattle.box_trace.specs.Traces.{IsFree, apart_axis, axis_after, trace_of}
 use Rattle.box_trace.proofs.Traces.{IsTrace-trace_of}
 use Rattle.slide_move.specs.declared.slid.Slid.{Slid}
-use Rattle.slide_move.specs.declared.turn.Turn.{Turn}
+use Rattle.slide_move.specs.declared.leg.Leg.{Leg}
 use Rattle.slide_move.specs.Displacements.{displacement}
-use Rattle.slide_move.specs.Slides.{still, joined, last_turn, stopped_turn, turn_of, slide_along, slide_of}
+use Rattle.slide_move.specs.Slides.{still, joined, last_leg, stopped_leg, leg_of, slide_along, slide_of}
 use Rattle.slide_move.specs.Changes.{IsPartOfWay}
 use Rattle.slide_move.proofs.Ways.{moved-moved, IsPartOfWay-shift_at, IsPartOfWay-trans, IsPartOfWay-plus}
-use Rattle.slide_move.proofs.Turns.{IsTurn-turn_of}
+use Rattle.slide_move.proofs.Legs.{IsLeg-leg_of}
 
 -- ---- solids that overlap a region
 overlaps_on-contained : (lo hi l h from to : ℤ) → contains_on lo hi l h ≡ true → overlaps_on l h from to ≡ true → overlaps_on lo hi from to ≡ true
@@ -100,15 +100,15 @@ same_axis region body way solids others agree stays true k is within = refl
 same_axis region body way solids others agree stays false k is within =
     ap (option_and_then (apart_axis (body_at body way k))) (agree.first (body_at body way (k + 1)) (stays_at region body way (k + 1) stays (next_within k (step_count way) is within)))
 
--- the turn of a trace, without the place of the solid that stops it
-turn_by : Vec3 → Vec3 → ℕ → Bool → Option ℕ → Turn
-turn_by vel way steps whole axis =
+-- the leg of a trace, without the place of the solid that stops it
+leg_by : Vec3 → Vec3 → ℕ → Bool → Option ℕ → Leg
+leg_by vel way steps whole axis =
     let shift = shift_at way steps in
-    if whole then last_turn shift vel else stopped_turn shift vel (minus way shift) axis
+    if whole then last_leg shift vel else stopped_leg shift vel (minus way shift) axis
 
-same_turn : (region body : Bounds) (vel way : Vec3) (solids others : List Bounds) → Agree region solids others → Stays region body way → turn_of body vel way solids ≡ turn_of body vel way others
-unfolding turn_of turn_by
-same_turn region body vel way solids others agree stays =
+same_leg : (region body : Bounds) (vel way : Vec3) (solids others : List Bounds) → Agree region solids others → Stays region body way → leg_of body vel way solids ≡ leg_of body vel way others
+unfolding leg_of leg_by
+same_leg region body vel way solids others agree stays =
     let hit = trace_of body way solids in
     let other = trace_of body way others in
     let is = IsTrace-trace_of body way solids in
@@ -124,7 +124,7 @@ same_turn region body vel way solids others agree stays =
     ∙ ap (λ (w : Bool). if w then None else axis_after body way others other.steps) whole
     ∙ sym other_is.axis
     in
-    λ i. turn_by vel way (steps i) (whole i) (axis i)
+    λ i. leg_by vel way (steps i) (whole i) (axis i)
 
 -- ---- slides
 then_same : (f g : Vec3 → Slid) (rest : Option Vec3) (none : Slid) {Q : Vec3 → Type 0} → IfSome rest Q → ((r : Vec3) → Q r → f r ≡ g r) → option_map_or f rest none ≡ option_map_or g rest none
@@ -142,12 +142,12 @@ same_slide_along : (traces : ℕ) (region body : Bounds) (vel way : Vec3) (solid
 unfolding slide_along
 same_slide_along zero region body vel way solids others agree stays = refl
 same_slide_along (suc traces) region body vel way solids others agree stays =
-    let turn = turn_of body vel way solids in
-    let there = moved body turn.slid.shift in
-    let is = IsTurn-turn_of body vel way solids in
-    ap (joined turn.slid)
-    (then_same (λ r. slide_along traces there turn.slid.vel r solids) (λ r. slide_along traces there turn.slid.vel r others) turn.rest (still turn.slid.vel) is.leaves (λ r leaves. same_slide_along traces region there turn.slid.vel r solids others agree (stays_on region body way turn.slid.shift r stays is.goes leaves)))
-    ∙ ap (λ (t : Turn). joined t.slid (option_map_or (λ r. slide_along traces (moved body t.slid.shift) t.slid.vel r others) t.rest (still t.slid.vel))) (same_turn region body vel way solids others agree stays)
+    let leg = leg_of body vel way solids in
+    let there = moved body leg.slid.shift in
+    let is = IsLeg-leg_of body vel way solids in
+    ap (joined leg.slid)
+    (then_same (λ r. slide_along traces there leg.slid.vel r solids) (λ r. slide_along traces there leg.slid.vel r others) leg.rest (still leg.slid.vel) is.leaves (λ r leaves. same_slide_along traces region there leg.slid.vel r solids others agree (stays_on region body way leg.slid.shift r stays is.goes leaves)))
+    ∙ ap (λ (t : Leg). joined t.slid (option_map_or (λ r. slide_along traces (moved body t.slid.shift) t.slid.vel r others) t.rest (still t.slid.vel))) (same_leg region body vel way solids others agree stays)
 
 pub same_slide : (region body : Bounds) (vel : Vec3) (ms : ℕ) (solids others : List Bounds) → Agree region solids others → Stays region body (displacement vel ms) → slide_of body vel ms solids ≡ slide_of body vel ms others
 unfolding slide_of

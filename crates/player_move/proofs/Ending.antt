@@ -12,7 +12,7 @@ use Rattle.slide_move.specs.Slides.{slide_of}
 use Rattle.slide_move.specs.Changes.{EndsFree}
 use Rattle.slide_move.specs.Displacements.{displacement}
 use Rattle.slide_move.proofs.Slides.{ends_free_along}
-use Rattle.slide_move.proofs.Turns.{EndsFree-plus}
+use Rattle.slide_move.proofs.Legs.{EndsFree-plus}
 use Rattle.slide_move.proofs.Ways.{moved-zero_vector, shift_at-zero}
 use Rattle.player_move.specs.declared.walk.Walked.{Walked}
 use Rattle.player_move.specs.Velocities.{walks, velocity_after}

@@ -1,4 +1,4 @@
--- What a trace of a slide finds, and the turn that it makes.
+-- What a trace of a slide finds, and the leg that it makes.
 use Rattle.std.proofs.Common.{◌≡◌, ◌≢◌, ℕ, suc, Bool, true, false, ◌⊎◌, inl, inr, List, [], ◌∷◌, Option, Some, None, if◌then◌else◌, pos, refl, sym, ap, ◌∙◌}
 use Rattle.std.specs.Option.{option_map_or}
 use Rattle.std.proofs.lemmas.Bool.{eqb-true}
@@ -15,8 +15,8 @@ use Rattle.box_trace.specs.Traces.{axis_after, trace_of}
 use Rattle.box_trace.proofs.Ranges.{shift_at-last}
 use Rattle.box_trace.proofs.HitAxes.{axis_is_moved_along}
 use Rattle.box_trace.proofs.Traces.{IsTrace-trace_of}
-use Rattle.slide_move.specs.declared.turn.Turn.{Turn}
-use Rattle.slide_move.specs.Slides.{last_turn, turn_on, stopped_turn, turn_of}
+use Rattle.slide_move.specs.declared.leg.Leg.{Leg}
+use Rattle.slide_move.specs.Slides.{last_leg, leg_on, stopped_leg, leg_of}
 use Rattle.slide_move.specs.Hits.{traces_along}
 
 -- the trace goes the whole way
@@ -62,7 +62,7 @@ by_whole body way solids false is = by_axis body way solids (trace_of body way s
 pub finding : (body : Bounds) (way : Vec3) (solids : List Bounds) → Finding way (trace_of body way solids)
 finding body way solids = by_whole body way solids (trace_of body way solids).whole refl
 
--- ---- the turn
+-- ---- the leg
 -- at the end of a whole trace it has come the whole way
 shift-whole : (body : Bounds) (way : Vec3) (solids : List Bounds) → (trace_of body way solids).whole ≡ true
     → shift_at way (trace_of body way solids).steps ≡ way
@@ -73,65 +73,65 @@ shift-whole body way solids whole =
     in
     ap (shift_at way) all ∙ shift_at-last way
 
-pub turn-whole : (body : Bounds) (vel way : Vec3) (solids : List Bounds) → (trace_of body way solids).whole ≡ true
-    → turn_of body vel way solids ≡ last_turn way vel
-unfolding turn_of
-turn-whole body vel way solids whole =
+pub leg-whole : (body : Bounds) (vel way : Vec3) (solids : List Bounds) → (trace_of body way solids).whole ≡ true
+    → leg_of body vel way solids ≡ last_leg way vel
+unfolding leg_of
+leg-whole body vel way solids whole =
     let hit = trace_of body way solids in
     let shift = shift_at way hit.steps in
-    let turn : Bool → Turn = λ w. if w then last_turn shift vel else stopped_turn shift vel (minus way shift) hit.axis in
-    ap turn whole ∙ ap (λ (s : Vec3). last_turn s vel) (shift-whole body way solids whole)
+    let leg : Bool → Leg = λ w. if w then last_leg shift vel else stopped_leg shift vel (minus way shift) hit.axis in
+    ap leg whole ∙ ap (λ (s : Vec3). last_leg s vel) (shift-whole body way solids whole)
 
--- the turn of a trace that isn't whole
-turn-partly : (body : Bounds) (vel way : Vec3) (solids : List Bounds) (axis : Option ℕ)
+-- the leg of a trace that isn't whole
+leg-partly : (body : Bounds) (vel way : Vec3) (solids : List Bounds) (axis : Option ℕ)
     → (trace_of body way solids).whole ≡ false → (trace_of body way solids).axis ≡ axis
     → let shift = shift_at way (trace_of body way solids).steps in
-    turn_of body vel way solids ≡ stopped_turn shift vel (minus way shift) axis
-unfolding turn_of
-turn-partly body vel way solids axis partly on =
+    leg_of body vel way solids ≡ stopped_leg shift vel (minus way shift) axis
+unfolding leg_of
+leg-partly body vel way solids axis partly on =
     let hit = trace_of body way solids in
     let shift = shift_at way hit.steps in
-    let turn : Bool → Turn = λ w. if w then last_turn shift vel else stopped_turn shift vel (minus way shift) hit.axis in
-    ap turn partly ∙ ap (stopped_turn shift vel (minus way shift)) on
+    let leg : Bool → Leg = λ w. if w then last_leg shift vel else stopped_leg shift vel (minus way shift) hit.axis in
+    ap leg partly ∙ ap (stopped_leg shift vel (minus way shift)) on
 
-pub turn-stuck : (body : Bounds) (vel way : Vec3) (solids : List Bounds) → IsStuck (trace_of body way solids)
-    → turn_of body vel way solids ≡ last_turn (shift_at way (trace_of body way solids).steps) zero_vector
-turn-stuck body vel way solids stuck = turn-partly body vel way solids None stuck.partly stuck.none
+pub leg-stuck : (body : Bounds) (vel way : Vec3) (solids : List Bounds) → IsStuck (trace_of body way solids)
+    → leg_of body vel way solids ≡ last_leg (shift_at way (trace_of body way solids).steps) zero_vector
+leg-stuck body vel way solids stuck = leg-partly body vel way solids None stuck.partly stuck.none
 
 axis_with-number_of : (axis : Axis) → axis_with (number_of axis) ≡ Some axis
 axis_with-number_of X = refl
 axis_with-number_of Y = refl
 axis_with-number_of Z = refl
 
-pub turn-runs : (body : Bounds) (vel way : Vec3) (solids : List Bounds) (axis : Axis)
+pub leg-runs : (body : Bounds) (vel way : Vec3) (solids : List Bounds) (axis : Axis)
     → RunsInto axis way (trace_of body way solids)
     → let shift = shift_at way (trace_of body way solids).steps in
-    turn_of body vel way solids ≡ turn_on shift vel (minus way shift) axis
-turn-runs body vel way solids axis runs =
+    leg_of body vel way solids ≡ leg_on shift vel (minus way shift) axis
+leg-runs body vel way solids axis runs =
     let shift = shift_at way (trace_of body way solids).steps in
-    let turn : Option Axis → Turn =
-    λ a. option_map_or (turn_on shift vel (minus way shift)) a (last_turn shift zero_vector)
+    let leg : Option Axis → Leg =
+    λ a. option_map_or (leg_on shift vel (minus way shift)) a (last_leg shift zero_vector)
     in
-    turn-partly body vel way solids (Some (number_of axis)) runs.partly runs.on ∙ ap turn (axis_with-number_of axis)
+    leg-partly body vel way solids (Some (number_of axis)) runs.partly runs.on ∙ ap leg (axis_with-number_of axis)
 
 -- ---- the traces
 pub traces-last : (traces : ℕ) (body : Bounds) (vel way : Vec3) (solids : List Bounds)
-    → (turn_of body vel way solids).rest ≡ None
+    → (leg_of body vel way solids).rest ≡ None
     → traces_along (suc traces) body vel way solids ≡ trace_of body way solids ∷ []
 unfolding traces_along
 traces-last traces body vel way solids none =
-    let turn = turn_of body vel way solids in
-    let there = moved body turn.slid.shift in
+    let leg = leg_of body vel way solids in
+    let there = moved body leg.slid.shift in
     ap (λ (rest : Option Vec3). trace_of body way solids
-    ∷ option_map_or (λ r. traces_along traces there turn.slid.vel r solids) rest []) none
+    ∷ option_map_or (λ r. traces_along traces there leg.slid.vel r solids) rest []) none
 
 pub traces-next : (traces : ℕ) (body : Bounds) (vel way : Vec3) (solids : List Bounds) (rest : Vec3)
-    → (turn_of body vel way solids).rest ≡ Some rest
+    → (leg_of body vel way solids).rest ≡ Some rest
     → traces_along (suc traces) body vel way solids
-    ≡ trace_of body way solids ∷ traces_along traces (moved body (turn_of body vel way solids).slid.shift) (turn_of body vel way solids).slid.vel rest solids
+    ≡ trace_of body way solids ∷ traces_along traces (moved body (leg_of body vel way solids).slid.shift) (leg_of body vel way solids).slid.vel rest solids
 unfolding traces_along
 traces-next traces body vel way solids rest some =
-    let turn = turn_of body vel way solids in
-    let there = moved body turn.slid.shift in
+    let leg = leg_of body vel way solids in
+    let there = moved body leg.slid.shift in
     ap (λ (rest : Option Vec3). trace_of body way solids
-    ∷ option_map_or (λ r. traces_along traces there turn.slid.vel r solids) rest []) some
+    ∷ option_map_or (λ r. traces_along traces there leg.slid.vel r solids) rest []) some

@@ -18,16 +18,16 @@ use Rattle.box_trace.specs.Steps.{shift_at}
 use Rattle.box_trace.specs.Traces.{trace_of}
 use Rattle.box_trace.proofs.Traces.{IsTrace-trace_of}
 use Rattle.slide_move.specs.declared.slid.Slid.{Slid}
-use Rattle.slide_move.specs.declared.turn.Turn.{Turn}
+use Rattle.slide_move.specs.declared.leg.Leg.{Leg}
 use Rattle.slide_move.specs.Displacements.{displacement, without, is_zero_vector, some_way}
-use Rattle.slide_move.specs.Slides.{joined, turn_of, slide_along, slide_of}
+use Rattle.slide_move.specs.Slides.{joined, leg_of, slide_along, slide_of}
 use Rattle.slide_move.specs.Hits.{traces_along, traces_of, is_number_of, stops_on}
 use Rattle.slide_move.specs.Changes.{IsPart, IsPartOfWay, KeepsOrStops}
 use Rattle.slide_move.specs.Laws.{GoesOnAlong, GoesOnWhereNotStopped, EndsStillWhereStopped}
 use Rattle.slide_move.proofs.Ways.{IsPartOfWay-shift_at}
 use Rattle.slide_move.proofs.Underway.{along-last, along-next}
 use Rattle.slide_move.proofs.Slides.{vel_kept_along}
-use Rattle.slide_move.proofs.Findings.{IsWhole, IsStuck, RunsInto, Finding, finding, turn-stuck, turn-runs, traces-last, traces-next}
+use Rattle.slide_move.proofs.Findings.{IsWhole, IsStuck, RunsInto, Finding, finding, leg-stuck, leg-runs, traces-last, traces-next}
 use Rattle.slide_move.proofs.Hits.{along-whole}
 
 -- ---- parts
@@ -193,7 +193,7 @@ gone_and_left axis other way shift apart =
     back : (a b : ℤ) → a +ℤ (b -ℤ a) ≡ b
     back a b = omega (arith, ints)
 
--- a turn after which nothing is left
+-- a leg after which nothing is left
 goes_on_last : (axis other : Axis) (vel way shift : Vec3) (slid : Slid) → (number_of other == number_of axis) ≡ false
     → is_zero_vector (without other (minus way shift)) ≡ true → slid.shift ≡ shift → slid.vel ≡ without other vel
     → GoesOnAlong axis way vel slid
@@ -207,7 +207,7 @@ goes_on_last axis other vel way shift slid apart none shift_is vel_is = record {
   plus_none : (a b : ℤ) → b ≡ pos 0 → a +ℤ b ≡ a
   plus_none a b is = omega (arith, ints)
 
--- a turn, and then a slide along what is left
+-- a leg, and then a slide along what is left
 goes_on_next : (axis other : Axis) (vel way shift rest : Vec3) (slid later : Slid)
     → (number_of other == number_of axis) ≡ false → without other (minus way shift) ≡ rest → slid.shift ≡ shift
     → slid.vel ≡ without other vel → GoesOnAlong axis rest slid.vel later → GoesOnAlong axis way vel (joined slid later)
@@ -221,9 +221,9 @@ goes_on_next axis other vel way shift rest slid later apart left shift_is vel_is
 
 -- the traces that come after the first one
 later_fails : (traces : ℕ) (axis : Axis) (body : Bounds) (vel way : Vec3) (solids : List Bounds) (rest : Vec3)
-    → (turn_of body vel way solids).rest ≡ Some rest
+    → (leg_of body vel way solids).rest ≡ Some rest
     → list_any (stops_on axis) (traces_along (suc traces) body vel way solids) ≡ false
-    → list_any (stops_on axis) (traces_along traces (moved body (turn_of body vel way solids).slid.shift) (turn_of body vel way solids).slid.vel rest solids) ≡ false
+    → list_any (stops_on axis) (traces_along traces (moved body (leg_of body vel way solids).slid.shift) (leg_of body vel way solids).slid.vel rest solids) ≡ false
 later_fails traces axis body vel way solids rest some none =
     rest_fails _ _ (sym (ap (list_any (stops_on axis)) (traces-next traces body vel way solids rest some)) ∙ none)
 
@@ -243,26 +243,26 @@ GoesOnLater traces axis there vel solids =
 goes_on_after_hit : (traces : ℕ) (axis other : Axis) (body : Bounds) (vel way : Vec3) (solids : List Bounds)
     → moving way ≤ suc traces → list_any (stops_on axis) (traces_along (suc (suc traces)) body vel way solids) ≡ false
     → RunsInto other way (trace_of body way solids)
-    → GoesOnLater traces axis (moved body (turn_of body vel way solids).slid.shift) (turn_of body vel way solids).slid.vel solids
-    → (rest : Option Vec3) → (turn_of body vel way solids).rest ≡ rest
+    → GoesOnLater traces axis (moved body (leg_of body vel way solids).slid.shift) (leg_of body vel way solids).slid.vel solids
+    → (rest : Option Vec3) → (leg_of body vel way solids).rest ≡ rest
     → GoesOnAlong axis way vel (slide_along (suc (suc traces)) body vel way solids)
 goes_on_after_hit traces axis other body vel way solids few none runs later None end =
     let shift = shift_at way (trace_of body way solids).steps in
-    let is = turn-runs body vel way solids other runs in
+    let is = leg-runs body vel way solids other runs in
     let apart = sym (runs_stops axis other way (trace_of body way solids) runs) ∙ first_trace_fails (suc traces) axis body vel way solids none in
-    let left = some_way-None (without other (minus way shift)) (sym (ap (λ (t : Turn). t.rest) is) ∙ end) in
+    let left = some_way-None (without other (minus way shift)) (sym (ap (λ (t : Leg). t.rest) is) ∙ end) in
     let P : Slid → Type 0 = λ slid. GoesOnAlong axis way vel slid in
-    subst P (sym (along-last (suc traces) body vel way solids end)) (goes_on_last axis other vel way shift (turn_of body vel way solids).slid apart left (ap (λ (t : Turn). t.slid.shift) is) (ap (λ (t : Turn). t.slid.vel) is))
+    subst P (sym (along-last (suc traces) body vel way solids end)) (goes_on_last axis other vel way shift (leg_of body vel way solids).slid apart left (ap (λ (t : Leg). t.slid.shift) is) (ap (λ (t : Leg). t.slid.vel) is))
 goes_on_after_hit traces axis other body vel way solids few none runs later (Some rest) end =
     let shift = shift_at way (trace_of body way solids).steps in
-    let is = turn-runs body vel way solids other runs in
+    let is = leg-runs body vel way solids other runs in
     let apart = sym (runs_stops axis other way (trace_of body way solids) runs) ∙ first_trace_fails (suc traces) axis body vel way solids none in
-    let left = some_way-Some (without other (minus way shift)) rest (sym (ap (λ (t : Turn). t.rest) is) ∙ end) in
+    let left = some_way-Some (without other (minus way shift)) rest (sym (ap (λ (t : Leg). t.rest) is) ∙ end) in
     let goes = IsPartOfWay-shift_at way (trace_of body way solids).steps (IsTrace-trace_of body way solids).within in
     let less = fewer_left other way shift goes runs.moves in
     let fewer : moving rest ≤ traces = omega (arith, few, rw left at less) in
     let P : Slid → Type 0 = λ slid. GoesOnAlong axis way vel slid in
-    subst P (sym (along-next (suc traces) body vel way solids rest end)) (goes_on_next axis other vel way shift rest (turn_of body vel way solids).slid _ apart left (ap (λ (t : Turn). t.slid.shift) is) (ap (λ (t : Turn). t.slid.vel) is) (later rest fewer (later_fails (suc traces) axis body vel way solids rest end none)))
+    subst P (sym (along-next (suc traces) body vel way solids rest end)) (goes_on_next axis other vel way shift rest (leg_of body vel way solids).slid _ apart left (ap (λ (t : Leg). t.slid.shift) is) (ap (λ (t : Leg). t.slid.vel) is) (later rest fewer (later_fails (suc traces) axis body vel way solids rest end none)))
 
 goes_on_along : (traces : ℕ) (axis : Axis) (body : Bounds) (vel way : Vec3) (solids : List Bounds) → moving way ≤ traces
     → list_any (stops_on axis) (traces_along (suc traces) body vel way solids) ≡ false
@@ -275,9 +275,9 @@ goes_on_along traces axis body vel way solids few none (inr (inl stuck)) =
 goes_on_along zero axis body vel way solids few none (inr (inr into)) =
     absurd (omega (arith, few, moving_along into.axis way into.runs.moves))
 goes_on_along (suc traces) axis body vel way solids few none (inr (inr into)) =
-    let turn = turn_of body vel way solids in
-    let there = moved body turn.slid.shift in
-    goes_on_after_hit traces axis into.axis body vel way solids few none into.runs (λ rest fewer fails. goes_on_along traces axis there turn.slid.vel rest solids fewer fails (finding there rest solids)) turn.rest refl
+    let leg = leg_of body vel way solids in
+    let there = moved body leg.slid.shift in
+    goes_on_after_hit traces axis into.axis body vel way solids few none into.runs (λ rest fewer fails. goes_on_along traces axis there leg.slid.vel rest solids fewer fails (finding there rest solids)) leg.rest refl
 
 pub goes_on_where_not_stopped : GoesOnWhereNotStopped
 unfolding slide_of traces_of
@@ -296,23 +296,23 @@ stays_still X old new keeps still = still_stays keeps.x still
 stays_still Y old new keeps still = still_stays keeps.y still
 stays_still Z old new keeps still = still_stays keeps.z still
 
--- the velocity at the end of a slide whose first turn leaves none on the axis
+-- the velocity at the end of a slide whose first leg leaves none on the axis
 still_to_the_end : (traces : ℕ) (axis : Axis) (body : Bounds) (vel way : Vec3) (solids : List Bounds)
-    → part axis (turn_of body vel way solids).slid.vel ≡ pos 0 → (rest : Option Vec3)
-    → (turn_of body vel way solids).rest ≡ rest → part axis (slide_along (suc traces) body vel way solids).vel ≡ pos 0
+    → part axis (leg_of body vel way solids).slid.vel ≡ pos 0 → (rest : Option Vec3)
+    → (leg_of body vel way solids).rest ≡ rest → part axis (slide_along (suc traces) body vel way solids).vel ≡ pos 0
 still_to_the_end traces axis body vel way solids still None end =
     ap (λ (slid : Slid). part axis slid.vel) (along-last traces body vel way solids end) ∙ still
 still_to_the_end traces axis body vel way solids still (Some rest) end =
-    let turn = turn_of body vel way solids in
+    let leg = leg_of body vel way solids in
     ap (λ (slid : Slid). part axis slid.vel) (along-next traces body vel way solids rest end)
-    ∙ stays_still axis turn.slid.vel _ (vel_kept_along traces (moved body turn.slid.shift) turn.slid.vel rest solids) still
+    ∙ stays_still axis leg.slid.vel _ (vel_kept_along traces (moved body leg.slid.shift) leg.slid.vel rest solids) still
 
 -- a slide that a later trace stops on the axis
 still_later : (traces : ℕ) (axis : Axis) (body : Bounds) (vel way : Vec3) (solids : List Bounds)
     → list_any (stops_on axis) (traces_along (suc traces) body vel way solids) ≡ true
     → stops_on axis (trace_of body way solids) ≡ false
-    → ((rest : Vec3) → list_any (stops_on axis) (traces_along traces (moved body (turn_of body vel way solids).slid.shift) (turn_of body vel way solids).slid.vel rest solids) ≡ true → part axis (slide_along traces (moved body (turn_of body vel way solids).slid.shift) (turn_of body vel way solids).slid.vel rest solids).vel ≡ pos 0)
-    → (rest : Option Vec3) → (turn_of body vel way solids).rest ≡ rest
+    → ((rest : Vec3) → list_any (stops_on axis) (traces_along traces (moved body (leg_of body vel way solids).slid.shift) (leg_of body vel way solids).slid.vel rest solids) ≡ true → part axis (slide_along traces (moved body (leg_of body vel way solids).slid.shift) (leg_of body vel way solids).slid.vel rest solids).vel ≡ pos 0)
+    → (rest : Option Vec3) → (leg_of body vel way solids).rest ≡ rest
     → part axis (slide_along (suc traces) body vel way solids).vel ≡ pos 0
 still_later traces axis body vel way solids some first later None end =
     let none : false ≡ true =
@@ -326,14 +326,14 @@ still_later traces axis body vel way solids some first later (Some rest) end =
 ends_still_after_hit : (traces : ℕ) (axis other : Axis) (body : Bounds) (vel way : Vec3) (solids : List Bounds)
     → list_any (stops_on axis) (traces_along (suc traces) body vel way solids) ≡ true
     → RunsInto other way (trace_of body way solids)
-    → ((rest : Vec3) → list_any (stops_on axis) (traces_along traces (moved body (turn_of body vel way solids).slid.shift) (turn_of body vel way solids).slid.vel rest solids) ≡ true → part axis (slide_along traces (moved body (turn_of body vel way solids).slid.shift) (turn_of body vel way solids).slid.vel rest solids).vel ≡ pos 0)
+    → ((rest : Vec3) → list_any (stops_on axis) (traces_along traces (moved body (leg_of body vel way solids).slid.shift) (leg_of body vel way solids).slid.vel rest solids) ≡ true → part axis (slide_along traces (moved body (leg_of body vel way solids).slid.shift) (leg_of body vel way solids).slid.vel rest solids).vel ≡ pos 0)
     → (t : Bool) → (number_of other == number_of axis) ≡ t
     → part axis (slide_along (suc traces) body vel way solids).vel ≡ pos 0
 ends_still_after_hit traces axis other body vel way solids some runs later true same =
-    let vel_is = ap (λ (t : Turn). part axis t.slid.vel) (turn-runs body vel way solids other runs) in
-    still_to_the_end traces axis body vel way solids (vel_is ∙ part-without_same other axis vel same) (turn_of body vel way solids).rest refl
+    let vel_is = ap (λ (t : Leg). part axis t.slid.vel) (leg-runs body vel way solids other runs) in
+    still_to_the_end traces axis body vel way solids (vel_is ∙ part-without_same other axis vel same) (leg_of body vel way solids).rest refl
 ends_still_after_hit traces axis other body vel way solids some runs later false apart =
-    still_later traces axis body vel way solids some (runs_stops axis other way (trace_of body way solids) runs ∙ apart) later (turn_of body vel way solids).rest refl
+    still_later traces axis body vel way solids some (runs_stops axis other way (trace_of body way solids) runs ∙ apart) later (leg_of body vel way solids).rest refl
 
 no_trace_stops : (axis : Axis) (body : Bounds) (vel way : Vec3) (solids : List Bounds)
     → list_any (stops_on axis) (traces_along 0 body vel way solids) ≡ true → ⊥
@@ -345,14 +345,14 @@ ends_still_along : (traces : ℕ) (axis : Axis) (body : Bounds) (vel way : Vec3)
     → part axis (slide_along traces body vel way solids).vel ≡ pos 0
 ends_still_along zero axis body vel way solids some found = absurd (no_trace_stops axis body vel way solids some)
 ends_still_along (suc traces) axis body vel way solids some (inl is) =
-    let turn = turn_of body vel way solids in
-    still_later traces axis body vel way solids some (whole_never_stops axis (trace_of body way solids) is) (λ rest more. ends_still_along traces axis (moved body turn.slid.shift) turn.slid.vel rest solids more (finding (moved body turn.slid.shift) rest solids)) turn.rest refl
+    let leg = leg_of body vel way solids in
+    still_later traces axis body vel way solids some (whole_never_stops axis (trace_of body way solids) is) (λ rest more. ends_still_along traces axis (moved body leg.slid.shift) leg.slid.vel rest solids more (finding (moved body leg.slid.shift) rest solids)) leg.rest refl
 ends_still_along (suc traces) axis body vel way solids some (inr (inl stuck)) =
-    let vel_is = ap (λ (t : Turn). part axis t.slid.vel) (turn-stuck body vel way solids stuck) in
-    still_to_the_end traces axis body vel way solids (vel_is ∙ part-zero_vector axis) (turn_of body vel way solids).rest refl
+    let vel_is = ap (λ (t : Leg). part axis t.slid.vel) (leg-stuck body vel way solids stuck) in
+    still_to_the_end traces axis body vel way solids (vel_is ∙ part-zero_vector axis) (leg_of body vel way solids).rest refl
 ends_still_along (suc traces) axis body vel way solids some (inr (inr into)) =
-    let turn = turn_of body vel way solids in
-    ends_still_after_hit traces axis into.axis body vel way solids some into.runs (λ rest more. ends_still_along traces axis (moved body turn.slid.shift) turn.slid.vel rest solids more (finding (moved body turn.slid.shift) rest solids)) (number_of into.axis == number_of axis) refl
+    let leg = leg_of body vel way solids in
+    ends_still_after_hit traces axis into.axis body vel way solids some into.runs (λ rest more. ends_still_along traces axis (moved body leg.slid.shift) leg.slid.vel rest solids more (finding (moved body leg.slid.shift) rest solids)) (number_of into.axis == number_of axis) refl
 
 pub ends_still_where_stopped : EndsStillWhereStopped
 unfolding slide_of traces_of

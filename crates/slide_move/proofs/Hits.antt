@@ -12,21 +12,21 @@ use Rattle.box_trace.specs.Axes.{number_of}
 use Rattle.box_trace.specs.Traces.{trace_of}
 use Rattle.box_trace.proofs.Stops.{free_way_is_gone}
 use Rattle.slide_move.specs.declared.slid.Slid.{Slid}
-use Rattle.slide_move.specs.declared.turn.Turn.{Turn}
+use Rattle.slide_move.specs.declared.leg.Leg.{Leg}
 use Rattle.slide_move.specs.Displacements.{displacement}
-use Rattle.slide_move.specs.Slides.{still, is_sideways, turn_of, slide_along, slide_of}
+use Rattle.slide_move.specs.Slides.{still, is_sideways, leg_of, slide_along, slide_of}
 use Rattle.slide_move.specs.Hits.{traces_along, traces_of, is_number_of, hits_sideways}
 use Rattle.slide_move.specs.Laws.{GoesFreely, FreeSlideGoesAll, SideIsSidewaysHit}
 use Rattle.slide_move.proofs.Underway.{along-last}
-use Rattle.slide_move.proofs.Findings.{Finding, finding, turn-whole, turn-stuck, turn-runs}
+use Rattle.slide_move.proofs.Findings.{Finding, finding, leg-whole, leg-stuck, leg-runs}
 
 -- the slide of a whole trace is that trace
 pub along-whole : (traces : ℕ) (body : Bounds) (vel way : Vec3) (solids : List Bounds)
     → (trace_of body way solids).whole ≡ true
     → slide_along (suc traces) body vel way solids ≡ record { shift = way; vel = vel; side = false }
 along-whole traces body vel way solids whole =
-    let is = turn-whole body vel way solids whole in
-    along-last traces body vel way solids (ap (λ (t : Turn). t.rest) is) ∙ ap (λ (t : Turn). t.slid) is
+    let is = leg-whole body vel way solids whole in
+    along-last traces body vel way solids (ap (λ (t : Leg). t.rest) is) ∙ ap (λ (t : Leg). t.slid) is
 
 pub free_slide_goes_all : FreeSlideGoesAll
 unfolding slide_of
@@ -43,16 +43,16 @@ sideways_number X = refl
 sideways_number Y = refl
 sideways_number Z = refl
 
-side-turn_of : (body : Bounds) (vel way : Vec3) (solids : List Bounds) → Finding way (trace_of body way solids)
-    → (turn_of body vel way solids).slid.side ≡ hits_sideways (trace_of body way solids)
-side-turn_of body vel way solids (inl is) =
-    ap (λ (t : Turn). t.slid.side) (turn-whole body vel way solids is.whole)
+side-leg_of : (body : Bounds) (vel way : Vec3) (solids : List Bounds) → Finding way (trace_of body way solids)
+    → (leg_of body vel way solids).slid.side ≡ hits_sideways (trace_of body way solids)
+side-leg_of body vel way solids (inl is) =
+    ap (λ (t : Leg). t.slid.side) (leg-whole body vel way solids is.whole)
     ∙ sym (ap (λ (axis : Option ℕ). is_number_of X axis || is_number_of Y axis) is.none)
-side-turn_of body vel way solids (inr (inl stuck)) =
-    ap (λ (t : Turn). t.slid.side) (turn-stuck body vel way solids stuck)
+side-leg_of body vel way solids (inr (inl stuck)) =
+    ap (λ (t : Leg). t.slid.side) (leg-stuck body vel way solids stuck)
     ∙ sym (ap (λ (axis : Option ℕ). is_number_of X axis || is_number_of Y axis) stuck.none)
-side-turn_of body vel way solids (inr (inr into)) =
-    ap (λ (t : Turn). t.slid.side) (turn-runs body vel way solids into.axis into.runs)
+side-leg_of body vel way solids (inr (inr into)) =
+    ap (λ (t : Leg). t.slid.side) (leg-runs body vel way solids into.axis into.runs)
     ∙ sideways_number into.axis
     ∙ sym (ap (λ (axis : Option ℕ). is_number_of X axis || is_number_of Y axis) into.runs.on)
 
@@ -67,12 +67,12 @@ side_along : (traces : ℕ) (body : Bounds) (vel way : Vec3) (solids : List Boun
 unfolding slide_along traces_along
 side_along zero body vel way solids = refl
 side_along (suc traces) body vel way solids =
-    let turn = turn_of body vel way solids in
-    let there = moved body turn.slid.shift in
-    let first = side-turn_of body vel way solids (finding body way solids) in
-    let later = side_then turn.slid.vel (λ r. slide_along traces there turn.slid.vel r solids)
-    (λ r. traces_along traces there turn.slid.vel r solids) turn.rest
-    (λ r. side_along traces there turn.slid.vel r solids) in
+    let leg = leg_of body vel way solids in
+    let there = moved body leg.slid.shift in
+    let first = side-leg_of body vel way solids (finding body way solids) in
+    let later = side_then leg.slid.vel (λ r. slide_along traces there leg.slid.vel r solids)
+    (λ r. traces_along traces there leg.slid.vel r solids) leg.rest
+    (λ r. side_along traces there leg.slid.vel r solids) in
     λ i. first i || later i
 
 pub side_is_sideways_hit : SideIsSidewaysHit

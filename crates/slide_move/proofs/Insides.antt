@@ -10,20 +10,20 @@ use Rattle.box_trace.specs.Traces.{trace_of}
 use Rattle.box_trace.specs.Walls.{HaveWalls}
 use Rattle.box_trace.proofs.Insides.{trace_stays_inside}
 use Rattle.slide_move.specs.Displacements.{displacement}
-use Rattle.slide_move.specs.Slides.{turn_of}
+use Rattle.slide_move.specs.Slides.{leg_of}
 use Rattle.slide_move.specs.Places.{steps_to, places_along, places_of, last_place}
 use Rattle.slide_move.specs.Laws.{SlideStaysInside}
-use Rattle.slide_move.proofs.Turns.{shift-turn_of}
+use Rattle.slide_move.proofs.Legs.{shift-leg_of}
 use Rattle.slide_move.proofs.Places.{All-none, All-steps_to, All-then, anywhere, ends_at_last_place}
 
--- a turn ends inside
-turn_ends_inside : (arena body : Bounds) (vel way : Vec3) (solids : List Bounds) → IsOrdered body
+-- a leg ends inside
+leg_ends_inside : (arena body : Bounds) (vel way : Vec3) (solids : List Bounds) → IsOrdered body
     → HaveWalls arena solids → contains arena body ≡ true
-    → contains arena (moved body (turn_of body vel way solids).slid.shift) ≡ true
-turn_ends_inside arena body vel way solids ordered have inside =
+    → contains arena (moved body (leg_of body vel way solids).slid.shift) ≡ true
+leg_ends_inside arena body vel way solids ordered have inside =
     let k = (trace_of body way solids).steps in
     let P : Vec3 → Type 0 = λ shift. contains arena (moved body shift) ≡ true in
-    subst P (sym (shift-turn_of body vel way solids)) (trace_stays_inside arena body way solids ordered have inside k (omega arith))
+    subst P (sym (shift-leg_of body vel way solids)) (trace_stays_inside arena body way solids ordered have inside k (omega arith))
 
 places_inside_along : (traces : ℕ) (arena body : Bounds) (vel way : Vec3) (solids : List Bounds) → IsOrdered body
     → HaveWalls arena solids → contains arena body ≡ true
@@ -31,13 +31,13 @@ places_inside_along : (traces : ℕ) (arena body : Bounds) (vel way : Vec3) (sol
 unfolding places_along
 places_inside_along zero arena body vel way solids ordered have inside = All-none _
 places_inside_along (suc traces) arena body vel way solids ordered have inside =
-    let turn = turn_of body vel way solids in
-    let there = moved body turn.slid.shift in
+    let leg = leg_of body vel way solids in
+    let there = moved body leg.slid.shift in
     let k = (trace_of body way solids).steps in
     let P : Bounds → Type 0 = λ place. contains arena place ≡ true in
     All-append P (steps_to k body way) _
     (All-steps_to P k body way (λ i from within. trace_stays_inside arena body way solids ordered have inside i within))
-    (All-then P (λ r. places_along traces there turn.slid.vel r solids) turn.rest (anywhere turn.rest) (λ r _. places_inside_along traces arena there turn.slid.vel r solids (IsOrdered-moved body turn.slid.shift ordered) have (turn_ends_inside arena body vel way solids ordered have inside)))
+    (All-then P (λ r. places_along traces there leg.slid.vel r solids) leg.rest (anywhere leg.rest) (λ r _. places_inside_along traces arena there leg.slid.vel r solids (IsOrdered-moved body leg.slid.shift ordered) have (leg_ends_inside arena body vel way solids ordered have inside)))
 
 -- the last place is inside where the start and all places are
 last_place_inside : (arena start : Bounds) (places : List Bounds) → contains arena start ≡ true

@@ -1,7 +1,7 @@
 -- Lemmas on slides.
 pub mod Parts
 pub mod Ways
-pub mod Turns
+pub mod Legs
 pub mod Slides
 pub mod Places
 pub mod Underway

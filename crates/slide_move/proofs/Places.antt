@@ -13,12 +13,12 @@ use Rattle.box_trace.proofs.Traces.{IsTrace-trace_of}
 use Rattle.box_trace.proofs.Ranges.{IsInRange-body_at}
 use Rattle.slide_move.specs.declared.slid.Slid.{Slid}
 use Rattle.slide_move.specs.Displacements.{displacement}
-use Rattle.slide_move.specs.Slides.{still, turn_of, slide_along, slide_of}
+use Rattle.slide_move.specs.Slides.{still, leg_of, slide_along, slide_of}
 use Rattle.slide_move.specs.Places.{steps_to, places_along, places_of, last_place}
 use Rattle.slide_move.specs.Changes.{IsPartOfWay}
 use Rattle.slide_move.specs.Laws.{PlacesAreFree, EndsAtLastPlace, PlacesAreInRange}
 use Rattle.slide_move.proofs.Ways.{moved-zero_vector, moved-moved, shift_at-zero, IsInRange-part, IsPartOfWay-plus}
-use Rattle.slide_move.proofs.Turns.{IsTurn-turn_of, shift-turn_of}
+use Rattle.slide_move.proofs.Legs.{IsLeg-leg_of, shift-leg_of}
 
 pub All-none : (P : Bounds → Type 0) → All P []
 All-none P = λ k d h. absurd (omega arith)
@@ -53,13 +53,13 @@ places_free_along : (traces : ℕ) (body : Bounds) (vel way : Vec3) (solids : Li
 unfolding places_along
 places_free_along zero body vel way solids = All-none _
 places_free_along (suc traces) body vel way solids =
-    let turn = turn_of body vel way solids in
-    let there = moved body turn.slid.shift in
+    let leg = leg_of body vel way solids in
+    let there = moved body leg.slid.shift in
     let k = (trace_of body way solids).steps in
     let P : Bounds → Type 0 = λ place. is_blocked place solids ≡ false in
     All-append P (steps_to k body way) _
     (All-steps_to P k body way (λ i from within. (IsTrace-trace_of body way solids).free.free i from within))
-    (All-then P (λ r. places_along traces there turn.slid.vel r solids) turn.rest (anywhere turn.rest) (λ r _. places_free_along traces there turn.slid.vel r solids))
+    (All-then P (λ r. places_along traces there leg.slid.vel r solids) leg.rest (anywhere leg.rest) (λ r _. places_free_along traces there leg.slid.vel r solids))
 
 pub places_are_free : PlacesAreFree
 unfolding places_of
@@ -71,15 +71,15 @@ places_in_range_along : (traces : ℕ) (body : Bounds) (vel way : Vec3) (solids 
 unfolding places_along
 places_in_range_along zero body vel way solids first last = All-none _
 places_in_range_along (suc traces) body vel way solids first last =
-    let turn = turn_of body vel way solids in
-    let is = IsTurn-turn_of body vel way solids in
-    let there = moved body turn.slid.shift in
+    let leg = leg_of body vel way solids in
+    let is = IsLeg-leg_of body vel way solids in
+    let there = moved body leg.slid.shift in
     let k = (trace_of body way solids).steps in
     let most : k ≤ step_count way = (IsTrace-trace_of body way solids).within in
-    let here : IsInRange there = IsInRange-part body way turn.slid.shift is.goes first last in
+    let here : IsInRange there = IsInRange-part body way leg.slid.shift is.goes first last in
     All-append IsInRange (steps_to k body way) _
     (All-steps_to IsInRange k body way (λ i from within. IsInRange-body_at body way i first last (omega arith)))
-    (All-then IsInRange (λ r. places_along traces there turn.slid.vel r solids) turn.rest is.leaves (λ r part. places_in_range_along traces there turn.slid.vel r solids here (end_of_rest body way turn.slid.shift r is.goes part first last)))
+    (All-then IsInRange (λ r. places_along traces there leg.slid.vel r solids) leg.rest is.leaves (λ r part. places_in_range_along traces there leg.slid.vel r solids here (end_of_rest body way leg.slid.shift r is.goes part first last)))
   where
     end_of_rest : (b : Bounds) (w shift r : Vec3) → IsPartOfWay w shift → IsPartOfWay (minus w shift) r → IsInRange b
         → IsInRange (moved b w) → IsInRange (moved (moved b shift) r)
@@ -112,16 +112,16 @@ last_place_along : (traces : ℕ) (body : Bounds) (vel way : Vec3) (solids : Lis
 unfolding slide_along places_along
 last_place_along zero body vel way solids = moved-zero_vector body
 last_place_along (suc traces) body vel way solids =
-    let turn = turn_of body vel way solids in
-    let there = moved body turn.slid.shift in
+    let leg = leg_of body vel way solids in
+    let there = moved body leg.slid.shift in
     let k = (trace_of body way solids).steps in
-    let next : Vec3 → Slid = λ r. slide_along traces there turn.slid.vel r solids in
-    let places : Vec3 → List Bounds = λ r. places_along traces there turn.slid.vel r solids in
-    let at : there ≡ last_place body (steps_to k body way) = ap (moved body) (shift-turn_of body vel way solids) ∙ sym (last_place-steps_to k body way) in
-    sym (moved-moved body turn.slid.shift (option_map_or next turn.rest (still turn.slid.vel)).shift)
-    ∙ last_then there turn.slid.vel next places turn.rest (λ r. last_place_along traces there turn.slid.vel r solids)
-    ∙ ap (λ (start : Bounds). last_place start (option_map_or places turn.rest [])) at
-    ∙ sym (last_place-append body (steps_to k body way) (option_map_or places turn.rest []))
+    let next : Vec3 → Slid = λ r. slide_along traces there leg.slid.vel r solids in
+    let places : Vec3 → List Bounds = λ r. places_along traces there leg.slid.vel r solids in
+    let at : there ≡ last_place body (steps_to k body way) = ap (moved body) (shift-leg_of body vel way solids) ∙ sym (last_place-steps_to k body way) in
+    sym (moved-moved body leg.slid.shift (option_map_or next leg.rest (still leg.slid.vel)).shift)
+    ∙ last_then there leg.slid.vel next places leg.rest (λ r. last_place_along traces there leg.slid.vel r solids)
+    ∙ ap (λ (start : Bounds). last_place start (option_map_or places leg.rest [])) at
+    ∙ sym (last_place-append body (steps_to k body way) (option_map_or places leg.rest []))
 
 pub ends_at_last_place : EndsAtLastPlace
 unfolding slide_of places_of

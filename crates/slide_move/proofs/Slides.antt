@@ -7,11 +7,11 @@ use Rattle.arena_geo.specs.Bounds.{Bounds}
 use Rattle.arena_geo.specs.Boxes.{moved}
 use Rattle.slide_move.specs.declared.slid.Slid.{Slid}
 use Rattle.slide_move.specs.Displacements.{displacement}
-use Rattle.slide_move.specs.Slides.{still, turn_of, slide_along, slide_of}
+use Rattle.slide_move.specs.Slides.{still, leg_of, slide_along, slide_of}
 use Rattle.slide_move.specs.Changes.{IsPartOfWay, KeepsOrStops, EndsFree}
 use Rattle.slide_move.specs.Laws.{ShiftIsPart, VelocityIsKeptOrStopped}
 use Rattle.slide_move.proofs.Ways.{IsPartOfWay-zero_vector, IsPartOfWay-trans, IsPartOfWay-plus, KeepsOrStops-refl, KeepsOrStops-trans}
-use Rattle.slide_move.proofs.Turns.{IsTurn-turn_of, EndsFree-turn_of, EndsFree-plus}
+use Rattle.slide_move.proofs.Legs.{IsLeg-leg_of, EndsFree-leg_of, EndsFree-plus}
 
 part_then : (way vel : Vec3) (f : Vec3 → Slid) (rest : Option Vec3) → IfSome rest (λ r. IsPartOfWay way r)
     → ((r : Vec3) → IsPartOfWay r (f r).shift) → IsPartOfWay way (option_map_or f rest (still vel)).shift
@@ -23,11 +23,11 @@ pub shift_is_part_along : (traces : ℕ) (body : Bounds) (vel way : Vec3) (solid
 unfolding slide_along
 shift_is_part_along zero body vel way solids = IsPartOfWay-zero_vector way
 shift_is_part_along (suc traces) body vel way solids =
-    let turn = turn_of body vel way solids in
-    let there = moved body turn.slid.shift in
-    let is = IsTurn-turn_of body vel way solids in
-    IsPartOfWay-plus way turn.slid.shift _ is.goes
-    (part_then (minus way turn.slid.shift) turn.slid.vel (λ r. slide_along traces there turn.slid.vel r solids) turn.rest is.leaves (λ r. shift_is_part_along traces there turn.slid.vel r solids))
+    let leg = leg_of body vel way solids in
+    let there = moved body leg.slid.shift in
+    let is = IsLeg-leg_of body vel way solids in
+    IsPartOfWay-plus way leg.slid.shift _ is.goes
+    (part_then (minus way leg.slid.shift) leg.slid.vel (λ r. slide_along traces there leg.slid.vel r solids) leg.rest is.leaves (λ r. shift_is_part_along traces there leg.slid.vel r solids))
 
 vel_then : (vel : Vec3) (f : Vec3 → Slid) (rest : Option Vec3) → ((r : Vec3) → KeepsOrStops vel (f r).vel)
     → KeepsOrStops vel (option_map_or f rest (still vel)).vel
@@ -39,10 +39,10 @@ pub vel_kept_along : (traces : ℕ) (body : Bounds) (vel way : Vec3) (solids : L
 unfolding slide_along
 vel_kept_along zero body vel way solids = KeepsOrStops-refl vel
 vel_kept_along (suc traces) body vel way solids =
-    let turn = turn_of body vel way solids in
-    let there = moved body turn.slid.shift in
-    KeepsOrStops-trans vel turn.slid.vel _ (IsTurn-turn_of body vel way solids).keeps
-    (vel_then turn.slid.vel (λ r. slide_along traces there turn.slid.vel r solids) turn.rest (λ r. vel_kept_along traces there turn.slid.vel r solids))
+    let leg = leg_of body vel way solids in
+    let there = moved body leg.slid.shift in
+    KeepsOrStops-trans vel leg.slid.vel _ (IsLeg-leg_of body vel way solids).keeps
+    (vel_then leg.slid.vel (λ r. slide_along traces there leg.slid.vel r solids) leg.rest (λ r. vel_kept_along traces there leg.slid.vel r solids))
 
 free_then : (body : Bounds) (vel : Vec3) (solids : List Bounds) (f : Vec3 → Slid) (rest : Option Vec3)
     → ((r : Vec3) → EndsFree body (f r).shift solids) → EndsFree body (option_map_or f rest (still vel)).shift solids
@@ -54,10 +54,10 @@ pub ends_free_along : (traces : ℕ) (body : Bounds) (vel way : Vec3) (solids : 
 unfolding slide_along
 ends_free_along zero body vel way solids = inl refl
 ends_free_along (suc traces) body vel way solids =
-    let turn = turn_of body vel way solids in
-    let there = moved body turn.slid.shift in
-    EndsFree-plus body turn.slid.shift _ solids (EndsFree-turn_of body vel way solids)
-    (free_then there turn.slid.vel solids (λ r. slide_along traces there turn.slid.vel r solids) turn.rest (λ r. ends_free_along traces there turn.slid.vel r solids))
+    let leg = leg_of body vel way solids in
+    let there = moved body leg.slid.shift in
+    EndsFree-plus body leg.slid.shift _ solids (EndsFree-leg_of body vel way solids)
+    (free_then there leg.slid.vel solids (λ r. slide_along traces there leg.slid.vel r solids) leg.rest (λ r. ends_free_along traces there leg.slid.vel r solids))
 
 pub shift_is_part : ShiftIsPart
 unfolding slide_of

@@ -11,13 +11,13 @@ use Rattle.box_trace.specs.declared.hit.Hit.{Hit}
 use Rattle.box_trace.specs.Steps.{shift_at}
 use Rattle.box_trace.specs.Traces.{trace_of}
 use Rattle.box_trace.proofs.Traces.{IsTrace-trace_of}
-use Rattle.slide_move.specs.declared.turn.Turn.{Turn}
+use Rattle.slide_move.specs.declared.leg.Leg.{Leg}
 use Rattle.slide_move.specs.Displacements.{displacement, without, is_zero_vector, some_way}
-use Rattle.slide_move.specs.Slides.{turn_of}
+use Rattle.slide_move.specs.Slides.{leg_of}
 use Rattle.slide_move.specs.Hits.{traces_along, traces_of}
 use Rattle.slide_move.specs.Laws.{AtMostThreeTraces}
 use Rattle.slide_move.proofs.Ways.{IsPartOfWay-shift_at}
-use Rattle.slide_move.proofs.Findings.{RunsInto, Finding, finding, turn-whole, turn-stuck, turn-runs, traces-last, traces-next}
+use Rattle.slide_move.proofs.Findings.{RunsInto, Finding, finding, leg-whole, leg-stuck, leg-runs, traces-last, traces-next}
 use Rattle.slide_move.proofs.GoingOn.{moves, moving, three_at_most, fewer_left, some_way-Some}
 
 -- a way that leads nowhere is 0
@@ -44,7 +44,7 @@ left_moves v rest some zero none = absurd (not_some v rest (is_zero_vector v) (z
 left_moves v rest some (suc n) is = omega arith
 
 one_trace : (traces : ℕ) (body : Bounds) (vel way : Vec3) (solids : List Bounds)
-    → (turn_of body vel way solids).rest ≡ None
+    → (leg_of body vel way solids).rest ≡ None
     → length (traces_along (suc traces) body vel way solids) ≤ max 1 (moving way)
 one_trace traces body vel way solids end =
     let one = ap (length {A = Hit}) (traces-last traces body vel way solids end) in
@@ -53,14 +53,14 @@ one_trace traces body vel way solids end =
 -- a trace that runs into a solid, and those of what it leaves
 one_more_trace : (traces : ℕ) (axis : Axis) (body : Bounds) (vel way : Vec3) (solids : List Bounds)
     → RunsInto axis way (trace_of body way solids)
-    → ((rest : Vec3) → length (traces_along traces (moved body (turn_of body vel way solids).slid.shift) (turn_of body vel way solids).slid.vel rest solids) ≤ max 1 (moving rest))
-    → (rest : Option Vec3) → (turn_of body vel way solids).rest ≡ rest
+    → ((rest : Vec3) → length (traces_along traces (moved body (leg_of body vel way solids).slid.shift) (leg_of body vel way solids).slid.vel rest solids) ≤ max 1 (moving rest))
+    → (rest : Option Vec3) → (leg_of body vel way solids).rest ≡ rest
     → length (traces_along (suc traces) body vel way solids) ≤ max 1 (moving way)
 one_more_trace traces axis body vel way solids runs later None end = one_trace traces body vel way solids end
 one_more_trace traces axis body vel way solids runs later (Some rest) end =
     let shift = shift_at way (trace_of body way solids).steps in
     let goes = IsPartOfWay-shift_at way (trace_of body way solids).steps (IsTrace-trace_of body way solids).within in
-    let some = sym (ap (λ (t : Turn). t.rest) (turn-runs body vel way solids axis runs)) ∙ end in
+    let some = sym (ap (λ (t : Leg). t.rest) (leg-runs body vel way solids axis runs)) ∙ end in
     let left = some_way-Some (without axis (minus way shift)) rest some in
     let less = fewer_left axis way shift goes runs.moves in
     let fewer : moving rest + 1 ≤ moving way = rw left at less in
@@ -74,13 +74,13 @@ count_along : (traces : ℕ) (body : Bounds) (vel way : Vec3) (solids : List Bou
 unfolding traces_along
 count_along zero body vel way solids found = omega arith
 count_along (suc traces) body vel way solids (inl is) =
-    one_trace traces body vel way solids (ap (λ (t : Turn). t.rest) (turn-whole body vel way solids is.whole))
+    one_trace traces body vel way solids (ap (λ (t : Leg). t.rest) (leg-whole body vel way solids is.whole))
 count_along (suc traces) body vel way solids (inr (inl stuck)) =
-    one_trace traces body vel way solids (ap (λ (t : Turn). t.rest) (turn-stuck body vel way solids stuck))
+    one_trace traces body vel way solids (ap (λ (t : Leg). t.rest) (leg-stuck body vel way solids stuck))
 count_along (suc traces) body vel way solids (inr (inr into)) =
-    let turn = turn_of body vel way solids in
-    let there = moved body turn.slid.shift in
-    one_more_trace traces into.axis body vel way solids into.runs (λ rest. count_along traces there turn.slid.vel rest solids (finding there rest solids)) turn.rest refl
+    let leg = leg_of body vel way solids in
+    let there = moved body leg.slid.shift in
+    one_more_trace traces into.axis body vel way solids into.runs (λ rest. count_along traces there leg.slid.vel rest solids (finding there rest solids)) leg.rest refl
 
 pub at_most_three_traces : AtMostThreeTraces
 unfolding traces_of

@@ -1,4 +1,4 @@
--- A slide on its way: the turns so far and the slide of what is left are the slide of all.
+-- A slide on its way: the legs so far and the slide of what is left are the slide of all.
 use Rattle.std.proofs.Common.{◌≡◌, ℕ, suc, arith, Bool, true, false, ◌||◌, List, Option, Some, None, IfSome, refl, sym, ap, ◌∙◌, subst}
 use Rattle.std.specs.Option.{option_map_or}
 use Rattle.arena_geo.specs.declared.vec3.Vec3.{Vec3}
@@ -6,13 +6,13 @@ use Rattle.arena_geo.specs.Vectors.{IsNear, Fits, plus, minus}
 use Rattle.arena_geo.specs.Bounds.{Bounds, IsInRange}
 use Rattle.arena_geo.specs.Boxes.{moved}
 use Rattle.slide_move.specs.declared.slid.Slid.{Slid}
-use Rattle.slide_move.specs.declared.turn.Turn.{Turn}
-use Rattle.slide_move.specs.Slides.{still, joined, turn_of, slide_along}
+use Rattle.slide_move.specs.declared.leg.Leg.{Leg}
+use Rattle.slide_move.specs.Slides.{still, joined, leg_of, slide_along}
 use Rattle.slide_move.specs.Changes.{IsPartOfWay}
 use Rattle.slide_move.proofs.Ways.{plus-zero_vector, zero_vector-plus, plus-assoc, minus-plus, minus-zero_vector, moved-zero_vector, moved-moved, IsPartOfWay-zero_vector, IsPartOfWay-refl, IsPartOfWay-trans, IsPartOfWay-minus, IsPartOfWay-left, IsPartOfWay-plus, IsNear-part, IsNear-more, Fits-near, IsInRange-part}
-use Rattle.slide_move.proofs.Turns.{IsTurn, IsTurn-turn_of}
+use Rattle.slide_move.proofs.Legs.{IsLeg, IsLeg-leg_of}
 
--- the turns so far and the slide of what is left are the slide of all; what is left is a part of what isn't gone yet
+-- the legs so far and the slide of what is left are the slide of all; what is left is a part of what isn't gone yet
 pub record IsUnderway (body : Bounds) (vel way : Vec3) (solids : List Bounds) (traces : ℕ) (slid : Slid) (left : Vec3) : Type 0 where
   pub same : joined slid (slide_along traces (moved body slid.shift) slid.vel left solids) ≡ slide_along 4 body vel way solids
   pub gone : IsPartOfWay way slid.shift
@@ -47,25 +47,25 @@ begins body vel way solids = record {
   rest = let P : Vec3 → Type 0 = λ v. IsPartOfWay v way in subst P (sym (minus-zero_vector way)) (IsPartOfWay-refl way);
 }
 
--- a turn that ends the slide, and one that doesn't
+-- a leg that ends the slide, and one that doesn't
 pub along-last : (traces : ℕ) (body : Bounds) (vel way : Vec3) (solids : List Bounds)
-    → (turn_of body vel way solids).rest ≡ None
-    → slide_along (suc traces) body vel way solids ≡ (turn_of body vel way solids).slid
+    → (leg_of body vel way solids).rest ≡ None
+    → slide_along (suc traces) body vel way solids ≡ (leg_of body vel way solids).slid
 unfolding slide_along
 along-last traces body vel way solids none =
-    let turn = turn_of body vel way solids in
-    let there = moved body turn.slid.shift in
-    ap (λ (rest : Option Vec3). joined turn.slid (option_map_or (λ r. slide_along traces there turn.slid.vel r solids) rest (still turn.slid.vel))) none
-    ∙ joined_still turn.slid
+    let leg = leg_of body vel way solids in
+    let there = moved body leg.slid.shift in
+    ap (λ (rest : Option Vec3). joined leg.slid (option_map_or (λ r. slide_along traces there leg.slid.vel r solids) rest (still leg.slid.vel))) none
+    ∙ joined_still leg.slid
 
 pub along-next : (traces : ℕ) (body : Bounds) (vel way : Vec3) (solids : List Bounds) (rest : Vec3)
-    → (turn_of body vel way solids).rest ≡ Some rest
-    → slide_along (suc traces) body vel way solids ≡ joined (turn_of body vel way solids).slid (slide_along traces (moved body (turn_of body vel way solids).slid.shift) (turn_of body vel way solids).slid.vel rest solids)
+    → (leg_of body vel way solids).rest ≡ Some rest
+    → slide_along (suc traces) body vel way solids ≡ joined (leg_of body vel way solids).slid (slide_along traces (moved body (leg_of body vel way solids).slid.shift) (leg_of body vel way solids).slid.vel rest solids)
 unfolding slide_along
 along-next traces body vel way solids rest some =
-    let turn = turn_of body vel way solids in
-    let there = moved body turn.slid.shift in
-    ap (λ (rest : Option Vec3). joined turn.slid (option_map_or (λ r. slide_along traces there turn.slid.vel r solids) rest (still turn.slid.vel))) some
+    let leg = leg_of body vel way solids in
+    let there = moved body leg.slid.shift in
+    ap (λ (rest : Option Vec3). joined leg.slid (option_map_or (λ r. slide_along traces there leg.slid.vel r solids) rest (still leg.slid.vel))) some
 
 pub ends : (body : Bounds) (vel way : Vec3) (solids : List Bounds) (traces : ℕ) (slid : Slid) (left : Vec3) → traces ≡ 0
     → IsUnderway body vel way solids traces slid left → slid ≡ slide_along 4 body vel way solids
@@ -76,44 +76,44 @@ ends body vel way solids traces slid left none underway =
     ∙ underway.same
 
 module _ (body : Bounds) (vel way : Vec3) (solids : List Bounds) (traces : ℕ) (slid : Slid) (left : Vec3) (underway : IsUnderway body vel way solids traces slid left) where
-  -- the turn that comes next
-  next_turn : Turn
-  next_turn = turn_of (moved body slid.shift) slid.vel left solids
+  -- the leg that comes next
+  next_leg : Leg
+  next_leg = leg_of (moved body slid.shift) slid.vel left solids
 
-  is_turn : IsTurn (slid.vel) left next_turn
-  unfolding next_turn
-  is_turn = IsTurn-turn_of (moved body slid.shift) slid.vel left solids
+  is_leg : IsLeg (slid.vel) left next_leg
+  unfolding next_leg
+  is_leg = IsLeg-leg_of (moved body slid.shift) slid.vel left solids
 
-  goes_through : IsPartOfWay way (plus slid.shift next_turn.slid.shift)
+  goes_through : IsPartOfWay way (plus slid.shift next_leg.slid.shift)
   goes_through =
-      IsPartOfWay-plus way slid.shift next_turn.slid.shift underway.gone (IsPartOfWay-trans (minus way slid.shift) left next_turn.slid.shift underway.rest is_turn.goes)
+      IsPartOfWay-plus way slid.shift next_leg.slid.shift underway.gone (IsPartOfWay-trans (minus way slid.shift) left next_leg.slid.shift underway.rest is_leg.goes)
 
-  next_remains : (rest : Vec3) → next_turn.rest ≡ Some rest → IsPartOfWay (minus left next_turn.slid.shift) rest
+  next_remains : (rest : Vec3) → next_leg.rest ≡ Some rest → IsPartOfWay (minus left next_leg.slid.shift) rest
   next_remains rest some =
-      let P : Option Vec3 → Type 0 = λ o. IfSome o (λ r. IsPartOfWay (minus left next_turn.slid.shift) r) in
-      subst P some is_turn.leaves
+      let P : Option Vec3 → Type 0 = λ o. IfSome o (λ r. IsPartOfWay (minus left next_leg.slid.shift) r) in
+      subst P some is_leg.leaves
 
-  next_underway : (fewer : ℕ) (rest : Vec3) → traces ≡ suc fewer → next_turn.rest ≡ Some rest
-      → IsUnderway body vel way solids fewer (joined slid next_turn.slid) rest
-  unfolding next_turn
+  next_underway : (fewer : ℕ) (rest : Vec3) → traces ≡ suc fewer → next_leg.rest ≡ Some rest
+      → IsUnderway body vel way solids fewer (joined slid next_leg.slid) rest
+  unfolding next_leg
   next_underway fewer rest count some =
-      let shift = next_turn.slid.shift in
+      let shift = next_leg.slid.shift in
       record {
         same =
-            joined-assoc slid next_turn.slid _
-            ∙ ap (λ (b : Bounds). joined slid (joined next_turn.slid (slide_along fewer b next_turn.slid.vel rest solids))) (sym (moved-moved body slid.shift shift))
+            joined-assoc slid next_leg.slid _
+            ∙ ap (λ (b : Bounds). joined slid (joined next_leg.slid (slide_along fewer b next_leg.slid.vel rest solids))) (sym (moved-moved body slid.shift shift))
             ∙ ap (joined slid) (sym (along-next fewer (moved body slid.shift) slid.vel left solids rest some))
             ∙ ap (λ (n : ℕ). joined slid (slide_along n (moved body slid.shift) slid.vel left solids)) (sym count)
             ∙ underway.same;
         gone = goes_through;
         rest =
             let P : Vec3 → Type 0 = λ v. IsPartOfWay v rest in
-            subst P (minus-plus way slid.shift shift) (IsPartOfWay-trans _ (minus left shift) rest (IsPartOfWay-minus (minus way slid.shift) left shift underway.rest is_turn.goes) (next_remains rest some));
+            subst P (minus-plus way slid.shift shift) (IsPartOfWay-trans _ (minus left shift) rest (IsPartOfWay-minus (minus way slid.shift) left shift underway.rest is_leg.goes) (next_remains rest some));
       }
 
-  next_ends : (fewer : ℕ) → traces ≡ suc fewer → next_turn.rest ≡ None
-      → joined slid next_turn.slid ≡ slide_along 4 body vel way solids
-  unfolding next_turn
+  next_ends : (fewer : ℕ) → traces ≡ suc fewer → next_leg.rest ≡ None
+      → joined slid next_leg.slid ≡ slide_along 4 body vel way solids
+  unfolding next_leg
   next_ends fewer count none =
       ap (joined slid) (sym (along-last fewer (moved body slid.shift) slid.vel left solids none))
       ∙ ap (λ (n : ℕ). joined slid (slide_along n (moved body slid.shift) slid.vel left solids)) (sym count)
@@ -129,32 +129,32 @@ module _ (body : Bounds) (vel way : Vec3) (solids : List Bounds) (traces : ℕ) 
   left_in_range here at first last =
       subst IsInRange (sym (ap (λ (b : Bounds). moved b left) at ∙ moved-moved body slid.shift left)) (IsInRange-part body way (plus slid.shift left) (IsPartOfWay-plus way slid.shift left underway.gone underway.rest) first last)
 
-  module _ (here : Bounds) (turn : Turn) (at : here ≡ moved body slid.shift) (is : turn ≡ turn_of here slid.vel left solids) where
-    is_next : next_turn ≡ turn
-    unfolding next_turn
-    is_next = sym (is ∙ ap (λ (b : Bounds). turn_of b slid.vel left solids) at)
+  module _ (here : Bounds) (leg : Leg) (at : here ≡ moved body slid.shift) (is : leg ≡ leg_of here slid.vel left solids) where
+    is_next : next_leg ≡ leg
+    unfolding next_leg
+    is_next = sym (is ∙ ap (λ (b : Bounds). leg_of b slid.vel left solids) at)
 
-    pub turn_fits : IsNear 30000 way → Fits (plus slid.shift turn.slid.shift)
-    turn_fits near =
-        let P : Turn → Type 0 = λ t. Fits (plus slid.shift t.slid.shift) in
+    pub leg_fits : IsNear 30000 way → Fits (plus slid.shift leg.slid.shift)
+    leg_fits near =
+        let P : Leg → Type 0 = λ t. Fits (plus slid.shift t.slid.shift) in
         subst P is_next (Fits-near _ (IsNear-more _ 30000 65536 (omega arith) (IsNear-part way _ 30000 goes_through near)))
 
-    pub turn_in_range : (next : Slid) → next ≡ joined slid turn.slid → IsInRange body → IsInRange (moved body way)
+    pub leg_in_range : (next : Slid) → next ≡ joined slid leg.slid → IsInRange body → IsInRange (moved body way)
         → IsInRange (moved body next.shift)
-    turn_in_range next next_is first last =
-        let P : Turn → Type 0 = λ t. IsInRange (moved body (plus slid.shift t.slid.shift)) in
+    leg_in_range next next_is first last =
+        let P : Leg → Type 0 = λ t. IsInRange (moved body (plus slid.shift t.slid.shift)) in
         let Q : Slid → Type 0 = λ s. IsInRange (moved body s.shift) in
         subst Q (sym next_is) (subst P is_next (IsInRange-part body way _ goes_through first last))
 
-    pub goes_on : (fewer : ℕ) (rest : Vec3) (next : Slid) → traces ≡ suc fewer → turn.rest ≡ Some rest
-        → next ≡ joined slid turn.slid → IsUnderway body vel way solids fewer next rest
+    pub goes_on : (fewer : ℕ) (rest : Vec3) (next : Slid) → traces ≡ suc fewer → leg.rest ≡ Some rest
+        → next ≡ joined slid leg.slid → IsUnderway body vel way solids fewer next rest
     goes_on fewer rest next count some next_is =
-        let P : Turn → Type 0 = λ t. t.rest ≡ Some rest → IsUnderway body vel way solids fewer (joined slid t.slid) rest in
+        let P : Leg → Type 0 = λ t. t.rest ≡ Some rest → IsUnderway body vel way solids fewer (joined slid t.slid) rest in
         let Q : Slid → Type 0 = λ s. IsUnderway body vel way solids fewer s rest in
         subst Q (sym next_is) (subst P is_next (next_underway fewer rest count) some)
 
-    pub ends_early : (fewer : ℕ) (next : Slid) → traces ≡ suc fewer → turn.rest ≡ None → next ≡ joined slid turn.slid
+    pub ends_early : (fewer : ℕ) (next : Slid) → traces ≡ suc fewer → leg.rest ≡ None → next ≡ joined slid leg.slid
         → next ≡ slide_along 4 body vel way solids
     ends_early fewer next count none next_is =
-        let P : Turn → Type 0 = λ t. t.rest ≡ None → joined slid t.slid ≡ slide_along 4 body vel way solids in
+        let P : Leg → Type 0 = λ t. t.rest ≡ None → joined slid t.slid ≡ slide_along 4 body vel way solids in
         next_is ∙ subst P is_next (next_ends fewer count) none

@@ -11,16 +11,16 @@ use Rattle.box_trace.specs.declared.hit.Hit.{Hit}
 use Rattle.box_trace.specs.Axes.{number_of}
 use Rattle.box_trace.specs.Traces.{trace_of}
 use Rattle.slide_move.specs.Displacements.{displacement}
-use Rattle.slide_move.specs.Slides.{turn_of}
+use Rattle.slide_move.specs.Slides.{leg_of}
 
 -- what the traces of a slide find that goes this way, with so many traces left
 unfoldable pub traces_along : ℕ → Bounds → Vec3 → Vec3 → List Bounds → List Hit
 traces_along zero body vel way solids = []
 traces_along (suc traces) body vel way solids =
-    let turn = turn_of body vel way solids in
-    let there = moved body turn.slid.shift in
+    let leg = leg_of body vel way solids in
+    let there = moved body leg.slid.shift in
     trace_of body way solids
-    ∷ option_map_or (λ rest. traces_along traces there turn.slid.vel rest solids) turn.rest []
+    ∷ option_map_or (λ rest. traces_along traces there leg.slid.vel rest solids) leg.rest []
 
 -- what the traces of a slide find, in order
 unfoldable pub traces_of : Bounds → Vec3 → ℕ → List Bounds → List Hit

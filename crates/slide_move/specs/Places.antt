@@ -7,7 +7,7 @@ use Rattle.arena_geo.specs.Boxes.{moved}
 use Rattle.box_trace.specs.Steps.{body_at}
 use Rattle.box_trace.specs.Traces.{trace_of}
 use Rattle.slide_move.specs.Displacements.{displacement}
-use Rattle.slide_move.specs.Slides.{turn_of}
+use Rattle.slide_move.specs.Slides.{leg_of}
 
 -- the body at each of the steps 1 to k of a way
 abbrev pub steps_to : ℕ → Bounds → Vec3 → List Bounds
@@ -18,10 +18,10 @@ steps_to (suc k) body way = steps_to k body way ++ body_at body way (suc k) ∷ 
 unfoldable pub places_along : ℕ → Bounds → Vec3 → Vec3 → List Bounds → List Bounds
 places_along zero body vel way solids = []
 places_along (suc traces) body vel way solids =
-    let turn = turn_of body vel way solids in
-    let there = moved body turn.slid.shift in
+    let leg = leg_of body vel way solids in
+    let there = moved body leg.slid.shift in
     steps_to (trace_of body way solids).steps body way
-    ++ option_map_or (λ rest. places_along traces there turn.slid.vel rest solids) turn.rest []
+    ++ option_map_or (λ rest. places_along traces there leg.slid.vel rest solids) leg.rest []
 
 -- the body at each step of its slide after the start
 unfoldable pub places_of : Bounds → Vec3 → ℕ → List Bounds → List Bounds

@@ -12,7 +12,7 @@ use Rattle.box_trace.specs.Axes.{axis_with}
 use Rattle.box_trace.specs.Steps.{shift_at}
 use Rattle.box_trace.specs.Traces.{trace_of}
 use Rattle.slide_move.specs.declared.slid.Slid.{Slid}
-use Rattle.slide_move.specs.declared.turn.Turn.{Turn}
+use Rattle.slide_move.specs.declared.leg.Leg.{Leg}
 use Rattle.slide_move.specs.Displacements.{displacement, without, some_way}
 
 -- a slide that doesn't move
@@ -27,9 +27,9 @@ joined first next = record {
   side = first.side || next.side;
 }
 
--- a turn that ends the slide
-abbrev pub last_turn : Vec3 → Vec3 → Turn
-last_turn shift vel =
+-- a leg that ends the slide
+abbrev pub last_leg : Vec3 → Vec3 → Leg
+last_leg shift vel =
     record { slid = record { shift = shift; vel = vel; side = false }; rest = None }
 
 -- the axis is x or y
@@ -38,36 +38,36 @@ is_sideways X = true
 is_sideways Y = true
 is_sideways Z = false
 
--- a turn that runs into a solid on this axis: it loses that part of the velocity and of the way that is left
-abbrev pub turn_on : Vec3 → Vec3 → Vec3 → Axis → Turn
-turn_on shift vel left axis = record {
+-- a leg that runs into a solid on this axis: it loses that part of the velocity and of the way that is left
+abbrev pub leg_on : Vec3 → Vec3 → Vec3 → Axis → Leg
+leg_on shift vel left axis = record {
   slid = record { shift = shift; vel = without axis vel; side = is_sideways axis };
   rest = some_way (without axis left);
 }
 
--- a turn that runs into a solid, on the axis with this number; without an axis it loses all velocity and ends the slide
-abbrev pub stopped_turn : Vec3 → Vec3 → Vec3 → Option ℕ → Turn
-stopped_turn shift vel left number =
-    option_map_or (turn_on shift vel left) (option_and_then axis_with number) (last_turn shift zero_vector)
+-- a leg that runs into a solid, on the axis with this number; without an axis it loses all velocity and ends the slide
+abbrev pub stopped_leg : Vec3 → Vec3 → Vec3 → Option ℕ → Leg
+stopped_leg shift vel left number =
+    option_map_or (leg_on shift vel left) (option_and_then axis_with number) (last_leg shift zero_vector)
 
--- the turn whose trace of this way finds this
-abbrev pub turn_after : Hit → Vec3 → Vec3 → Turn
-turn_after hit vel way =
+-- the leg whose trace of this way finds this
+abbrev pub leg_after : Hit → Vec3 → Vec3 → Leg
+leg_after hit vel way =
     let shift = shift_at way hit.steps in
-    if hit.whole then last_turn shift vel else stopped_turn shift vel (minus way shift) hit.axis
+    if hit.whole then last_leg shift vel else stopped_leg shift vel (minus way shift) hit.axis
 
--- the turn of a body that goes this way at this velocity
-unfoldable pub turn_of : Bounds → Vec3 → Vec3 → List Bounds → Turn
-turn_of body vel way solids = turn_after (trace_of body way solids) vel way
+-- the leg of a body that goes this way at this velocity
+unfoldable pub leg_of : Bounds → Vec3 → Vec3 → List Bounds → Leg
+leg_of body vel way solids = leg_after (trace_of body way solids) vel way
 
--- the slide of a body that goes this way, with so many traces left: a turn, and then the slide of what it leaves
+-- the slide of a body that goes this way, with so many traces left: a leg, and then the slide of what it leaves
 unfoldable pub slide_along : ℕ → Bounds → Vec3 → Vec3 → List Bounds → Slid
 slide_along zero body vel way solids = still vel
 slide_along (suc traces) body vel way solids =
-    let turn = turn_of body vel way solids in
-    let there = moved body turn.slid.shift in
-    joined turn.slid
-    (option_map_or (λ rest. slide_along traces there turn.slid.vel rest solids) turn.rest (still turn.slid.vel))
+    let leg = leg_of body vel way solids in
+    let there = moved body leg.slid.shift in
+    joined leg.slid
+    (option_map_or (λ rest. slide_along traces there leg.slid.vel rest solids) leg.rest (still leg.slid.vel))
 
 -- the slide of a body at this velocity in so many milliseconds
 unfoldable pub slide_of : Bounds → Vec3 → ℕ → List Bounds → Slid

@@ -11,9 +11,9 @@ pub use slid::Slid;
 pub use sliding::{GREATEST_SPEED, slide};
 
 mod laws;
+mod leg;
 mod slid;
 mod sliding;
 #[cfg(test)]
 mod tests;
-mod turn;
 mod vector;

@@ -6,8 +6,8 @@ ghost use Rattle.slide_move.specs.Displacements.{displacement};
 ghost use Rattle.slide_move.specs.Slides.{slide_along, slide_of};
 ghost use Rattle.slide_move.specs.Changes.{IsPartOfWay, KeepsOrStops, EndsFree};
 
+use crate::leg::Leg;
 use crate::slid::Slid;
-use crate::turn::Turn;
 use crate::vector::displacement;
 use arena_geo::{Aabb, Vec3};
 use box_trace::MOST_SOLIDS;
@@ -58,9 +58,9 @@ fn slide_along(body: &Aabb, vel: Vec3, way: Vec3, fixed: &[Aabb], moving: &[Aabb
     let mut left = way;
     for _ in 0..TRACES {
         let here = body.shifted(slid.shift);
-        let turn = Turn::of(&here, slid.vel, left, fixed, moving);
-        slid = slid.then(turn.slid);
-        let Some(rest) = turn.rest else {
+        let leg = Leg::of(&here, slid.vel, left, fixed, moving);
+        slid = slid.then(leg.slid);
+        let Some(rest) = leg.rest else {
             return slid;
         };
         left = rest;

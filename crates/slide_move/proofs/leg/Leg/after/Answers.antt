@@ -2,7 +2,7 @@ use Rattle.std.proofs.Common.{sym, subst}
 use Rattle.arena_geo.specs.declared.vec3.Vec3.{Vec3}
 use Rattle.arena_geo.specs.Vectors.{Fits, minus}
 use Rattle.slide_move.proofs.Ways.{Fits-left}
-use Rattle.slide_move.proofs.turn.Turn.after.Goals as goal
+use Rattle.slide_move.proofs.leg.Leg.after.Goals as goal
 
 pub sub-requires : goal.sub-requires
 sub-requires c =

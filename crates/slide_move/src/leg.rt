@@ -4,7 +4,7 @@ ghost use Rattle.arena_geo.specs.Bounds.{IsInRange};
 ghost use Rattle.arena_geo.specs.Boxes.{moved};
 ghost use Rattle.box_trace.specs.Steps as steps;
 ghost use Rattle.slide_move.specs.Slides as slides;
-ghost use Rattle.slide_move.specs.Slides.{last_turn, turn_after, turn_of};
+ghost use Rattle.slide_move.specs.Slides.{last_leg, leg_after, leg_of};
 
 use crate::slid::Slid;
 use crate::vector::{some_way, without};
@@ -23,38 +23,38 @@ fn is_sideways(axis: Axis) -> bool
 
 /// One trace of a slide, and what follows from it.
 #[derive(Clone, Copy)]
-pub struct Turn {
+pub struct Leg {
     pub slid: Slid,
     /// What is left of the way, in sub-units. `None` where the slide ends.
     pub rest: Option<Vec3>,
 }
 
-impl Turn {
-    /// The turn of a body that goes this way at this velocity.
-    pub fn of(body: &Aabb, vel: Vec3, way: Vec3, fixed: &[Aabb], moving: &[Aabb]) -> Turn
+impl Leg {
+    /// The leg of a body that goes this way at this velocity.
+    pub fn of(body: &Aabb, vel: Vec3, way: Vec3, fixed: &[Aabb], moving: &[Aabb]) -> Leg
         requires near { IsNear REACH way }
         requires in_range { IsInRange (moved body.now way) }
         requires few { length fixed.now + length moving.now ≤ MOST_SOLIDS }
-        ensures { result ≡ turn_of body.now vel way (fixed.now ++ moving.now) }
+        ensures { result ≡ leg_of body.now vel way (fixed.now ++ moving.now) }
     {
-        Turn::after(trace(body, way, fixed, moving), vel, way)
+        Leg::after(trace(body, way, fixed, moving), vel, way)
     }
 
-    /// The turn whose trace finds this: as Quake's `SV_FlyMove`, whose `ClipVelocity` takes from the velocity all of
+    /// The leg whose trace finds this: as Quake's `SV_FlyMove`, whose `ClipVelocity` takes from the velocity all of
     /// its part on the axis that was hit.
-    fn after(hit: Hit, vel: Vec3, way: Vec3) -> Turn
+    fn after(hit: Hit, vel: Vec3, way: Vec3) -> Leg
         requires near { IsNear REACH way }
         requires within { hit.steps ≤ steps.step_count way }
-        ensures { result ≡ turn_after hit vel way }
+        ensures { result ≡ leg_after hit vel way }
     {
         let shift = shift_at(way, hit.steps);
         if hit.whole {
-            return Turn::last(shift, vel);
+            return Leg::last(shift, vel);
         }
         let Some(axis) = hit.axis.and_then(Axis::with_number) else {
-            return Turn::last(shift, Vec3::ZERO);
+            return Leg::last(shift, Vec3::ZERO);
         };
-        Turn {
+        Leg {
             slid: Slid {
                 shift,
                 vel: without(vel, axis),
@@ -64,11 +64,11 @@ impl Turn {
         }
     }
 
-    /// A turn that ends the slide.
-    fn last(shift: Vec3, vel: Vec3) -> Turn
-        ensures { result ≡ last_turn shift vel }
+    /// A leg that ends the slide.
+    fn last(shift: Vec3, vel: Vec3) -> Leg
+        ensures { result ≡ last_leg shift vel }
     {
-        Turn {
+        Leg {
             slid: Slid {
                 shift,
                 vel,
