@@ -8,7 +8,7 @@ ghost use Rattle.packet_read.specs.Reading.{reading};
 use crate::move_packet::MovePacket;
 use crate::packet::Packet;
 use crate::packet_fault::PacketFault;
-use crate::reading_steps::read_steps;
+use crate::reading_steps::read_kind_2;
 use crate::wire::{JOIN, KNOWN_BUTTONS, LEAVE, MAX_MS, MOVE, MOVE_FIELDS, VERSION, VERSION_2};
 
 /// The packet that the bytes spell, or the first fault in the order of `PacketFault`.
@@ -35,22 +35,11 @@ fn read_kind(bytes: &[u8]) -> Result<Packet, PacketFault>
 {
     match bytes {
         [] => Err(PacketFault::Short),
+        [MOVE, fields @ ..] => read_move(fields),
         [JOIN] => Ok(Packet::Join),
         [LEAVE] => Ok(Packet::Leave),
         [JOIN, ..] => Err(PacketFault::Long),
         [LEAVE, ..] => Err(PacketFault::Long),
-        [MOVE, fields @ ..] => read_move(fields),
-        [_, ..] => Err(PacketFault::Kind),
-    }
-}
-
-// Reads what follows version 2.
-fn read_kind_2(bytes: &[u8]) -> Result<Packet, PacketFault>
-    ensures { result ≡ reading (2 ∷ bytes.now) }
-{
-    match bytes {
-        [] => Err(PacketFault::Short),
-        [MOVE, fields @ ..] => read_steps(fields),
         [_, ..] => Err(PacketFault::Kind),
     }
 }
