@@ -279,5 +279,5 @@ fn lists_at_most_3_commands(rt: HostRuntime) {
     assert!(rt; cmds.push(NEWEST));
     assert!(rt; cmds.push(EARLIER));
     assert!(rt; !cmds.push(NEWEST));
-    assert_eq!(rt; cmds.as_slice(), &[EARLIER, NEWEST, EARLIER]);
+    assert_eq!(rt; cmds.as_slice(), [EARLIER, NEWEST, EARLIER].as_slice());
 }
