@@ -268,7 +268,7 @@ fn reads_packets_of_version_2_and_writes_them_again(rt: HostRuntime) {
     assert_eq!(rt; EARLIER.numbered(257).seq, 257);
     assert_eq!(rt;
         write_packet(&Packet::Steps(steps)).as_slice(),
-        &TWO_COMMANDS
+        TWO_COMMANDS.as_slice()
     );
 }
 
