@@ -1,15 +1,13 @@
 -- The fields of a move as bytes, and read back.
 use Rattle.std.proofs.Common.{◌≡◌, ℕ, ◌+◌, ◌*◌, ◌/◌, ◌%◌, ◌^◌, ◌<◌, [], ◌∷◌, refl, arith}
-use Rattle.std.specs.Prelude.{ℤ, FitsSigned, Ok}
+use Rattle.std.specs.Prelude.{ℤ, FitsSigned}
 use Rattle.std.specs.Int.{w16, w32, cast_signed, cast_unsigned, from_le_bytes, to_le_bytes}
-use Rattle.std.proofs.lemmas.Bool.{le-ltb}
 use Rattle.std.proofs.lemmas.Int.{ints, to_z-of_z, of_z-to_z}
 use Rattle.std.proofs.lemmas.Nat.{from_le_bytes-to_le_bytes_2, from_le_bytes-to_le_bytes_4}
 use Rattle.packet_read.specs.declared.move_packet.MovePacket.{MovePacket}
-use Rattle.packet_read.specs.declared.packet.Packet.{Packet}
-use Rattle.packet_read.specs.declared.packet.Packet.TheVariants.{Join, Step, Leave}
-use Rattle.packet_read.specs.Spelling.{spelling, MoveFits, Fits, IsAllowed}
-use Rattle.packet_read.specs.Reading.{move_in, reading}
+use Rattle.packet_read.specs.declared.packet.Packet.TheVariants.{Step}
+use Rattle.packet_read.specs.Spelling.{spelling, MoveFits}
+use Rattle.packet_read.specs.Reading.{move_in}
 
 -- a wish is read as it was written
 pub wish_again : (z : ℤ) → FitsSigned w16 z → cast_signed w16 (from_le_bytes w16 (to_le_bytes w16 (cast_unsigned w16 z))) ≡ z

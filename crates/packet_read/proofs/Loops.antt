@@ -1,5 +1,5 @@
 -- What the loops over the commands of a packet of version 2 keep.
-use Rattle.std.proofs.Common.{◌≡◌, ◌∙◌, ℕ, suc, ◌+◌, ◌*◌, ◌<◌, ◌≤◌, List, [], ◌∷◌, ◌++◌, length, take, get_or, refl, sym, ap, subst, append_assoc, append-nil, arith, rules}
+use Rattle.std.proofs.Common.{◌≡◌, ◌∙◌, ℕ, suc, ◌+◌, ◌*◌, ◌<◌, ◌≤◌, List, [], ◌∷◌, ◌++◌, length, take, get_or, refl, sym, ap, subst, append_assoc, append-nil, arith}
 use Rattle.std.specs.Prelude.{zero, ℤ, ◌-◌, All, flat_map, drop}
 use Rattle.std.proofs.lemmas.List.{length-drop, length-append, length-take-le, take_all, take_more}
 use Rattle.std.proofs.lemmas.List.Concat.{flat_map-append}

@@ -6,7 +6,7 @@ use Rattle.std.specs.Prelude.{zero, take, drop, ◌+◌, ◌-◌, ◌*◌, ◌||
 use Rattle.std.proofs.lemmas.List.{get_or_default, nil_from_length, take_all}
 use Rattle.std.proofs.lemmas.Slice.Eq.{text_from_reads}
 use Rattle.std.proofs.lemmas.Bool.Decides.{nat_tests}
-use Rattle.std.proofs.lemmas.Bool.{false≢true, ltb-false, eqb-true, not-false, or_parts, cases_eq}
+use Rattle.std.proofs.lemmas.Bool.{false≢true, ltb-false, or_parts, cases_eq}
 use Rattle.packet_read.specs.declared.packet.Packet.{Packet}
 use Rattle.packet_read.specs.declared.packet.Packet.TheVariants.{Join, Step, Leave, Steps}
 use Rattle.packet_read.specs.declared.packet_fault.PacketFault.{PacketFault}

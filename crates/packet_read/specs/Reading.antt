@@ -1,6 +1,6 @@
 -- What bytes are read as.
 use Rattle.std.specs.Prelude.{ℕ, List, [], ◌∷◌, Option, Some, None, Result, Ok, Err}
-use Rattle.std.specs.Int.{w16, w32, cast_signed, from_le_bytes}
+use Rattle.std.specs.Int.{w16, cast_signed, from_le_bytes}
 use Rattle.packet_read.specs.declared.move_packet.MovePacket.{MovePacket}
 use Rattle.packet_read.specs.declared.steps_packet.StepsPacket.{StepsPacket}
 use Rattle.packet_read.specs.declared.packet.Packet.{Packet}

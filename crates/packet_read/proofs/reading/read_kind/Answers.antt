@@ -2,14 +2,8 @@ use Rattle.std.proofs.Common.{◌≡◌, ◌∙◌, rules, arith, get_or, List, 
 use Rattle.packet_read.specs.Reading.{reading}
 use Rattle.packet_read.proofs.Rules.{headed}
 use Rattle.packet_read.proofs.reading.read_kind.Goals as goal
-use Rattle.packet_read.proofs.reading.read_kind.Goals.{then-bytes-lt2+in-2-1, else-bytes-lt2+in-2-1}
 
 pub returns-in-2 : goal.returns-in-2
-returns-in-2 c = elim c.in-2-1.branch [
-  | then-bytes-lt2+in-2-1 w ↦
-      let kind : get_or c.args.bytes.now 0 0 ≡ 2 = search rules in
-      c.read_move.ensures ∙ ap (λ (xs : List ℕ). reading (1 ∷ xs)) (sym (headed 2 c.args.bytes.now (omega arith) kind))
-  | else-bytes-lt2+in-2-1 w ↦
-      let kind : get_or c.args.bytes.now 0 0 ≡ 2 = search rules in
-      c.read_move.ensures ∙ ap (λ (xs : List ℕ). reading (1 ∷ xs)) (sym (headed 2 c.args.bytes.now (omega arith) kind))
-]
+returns-in-2 c =
+    let kind : get_or c.args.bytes.now 0 0 ≡ 2 = search rules in
+    c.read_move.ensures ∙ ap (λ (xs : List ℕ). reading (1 ∷ xs)) (sym (headed 2 c.args.bytes.now (omega arith) kind))
