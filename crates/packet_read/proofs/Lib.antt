@@ -4,3 +4,4 @@ pub mod Loops
 pub mod Steps
 pub mod Again
 pub mod Rules
+pub mod Numbers

@@ -14,7 +14,10 @@ mod wire;
 mod writing;
 
 pub use block_list::{BlockList, CmdBlock, MOST_BLOCKS};
-pub use laws::{limits_are_known, no_cause_where_spelled, one_spelling, read_where_spelled};
+pub use laws::{
+    commands_are_numbered, limits_are_known, no_cause_where_spelled, one_spelling,
+    read_where_spelled,
+};
 pub use move_packet::MovePacket;
 pub use packet::Packet;
 pub use packet_bytes::{MAX_PACKET_BYTES, PacketBytes};
