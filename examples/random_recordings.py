@@ -103,6 +103,20 @@ class Maker:
         packet += b"".join(wish.to_bytes(2, "little", signed=True) for wish in self.wishes[port])
         return (packet + bytes([rng.choice([0] * 20 + [1] * 8 + [2])])).hex().encode()
 
+    def steps(self, port):
+        """A packet of version 2, mostly with the port's next number and the commands before it."""
+        rng = self.rng
+        number = self.numbers.get(port, 0) + rng.choice([1, 1, 1, 1, 2, 3, 3, 4, 0, -1])
+        number = max(0, min(number, 2**32 - 1))
+        self.numbers[port] = max(number, self.numbers.get(port, 0))
+        count = rng.choice([3] * 20 + [1, 2] * 4 + [0, 4, 255])
+        packet = b"\x02\x02" + number.to_bytes(4, "little") + bytes([count])
+        for _ in range(min(count, 3)):
+            packet += bytes([rng.choice([50] * 40 + [1, 17, 0, 51])])
+            packet += b"".join(rng.choice([0, 320, -320, rng.randrange(-32768, 32768)]).to_bytes(2, "little", signed=True) for _ in range(2))
+            packet += bytes([rng.choice([0] * 20 + [1] * 8 + [2, 3, 4])])
+        return packet.hex().encode()
+
     def garbage(self):
         rng = self.rng
         length = rng.choice([0, 1, 2, 12, 13, rng.randrange(40), 240])
@@ -120,7 +134,7 @@ class Maker:
     def arrival(self):
         rng = self.rng
         port = rng.choice(self.ports)
-        packet = rng.choice([JOIN] * 4 + [LEAVE] + [self.step(port)] * 150)
+        packet = rng.choice([JOIN] * 4 + [LEAVE] + [self.step(port)] * 100 + [self.steps(port)] * 50)
         way = rng.randrange(80)
         if way == 0:
             packet = self.garbage()

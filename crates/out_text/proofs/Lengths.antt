@@ -8,7 +8,7 @@ use Rattle.hex.proofs.HexLemmas.{length-encode_with}
 use Rattle.entity_recs.specs.declared.rec.Rec.{Rec}
 use Rattle.entity_recs.specs.declared.effect.Entry.{Entry}
 use Rattle.packet_read.specs.declared.packet_fault.PacketFault.{PacketFault}
-use Rattle.packet_read.specs.declared.packet_fault.PacketFault.TheVariants.{Empty, Version, Kind, Short, Long, Time, Buttons}
+use Rattle.packet_read.specs.declared.packet_fault.PacketFault.TheVariants.{Empty, Version, Kind, Short, Long, Time, Buttons, Count}
 use Rattle.client_ports.specs.declared.refusal.Refusal.{Refusal}
 use Rattle.client_ports.specs.declared.refusal.Refusal.TheVariants.{Packet, Already, Full, Crowded, NotJoined, Leaving, Old, Many}
 use Rattle.snapshot_write.specs.Snapshots.{is_seen, entity_bytes, own_bytes, seen_by, seen_bytes, snapshot}
@@ -49,6 +49,7 @@ fault-long Short = omega arith
 fault-long Long = omega arith
 fault-long Time = omega arith
 fault-long Buttons = omega arith
+fault-long Count = omega arith
 
 name-long : (why : Refusal) → length (name_of why) ≤ 9
 name-long (Packet fault) = fault-long fault

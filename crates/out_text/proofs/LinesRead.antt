@@ -18,7 +18,7 @@ use Rattle.edge_io.proofs.FieldTexts.{AreAbove, IsEnd, decimal_above, signed_abo
 use Rattle.client_ports.specs.declared.refusal.Refusal.{Refusal}
 use Rattle.client_ports.specs.declared.refusal.Refusal.TheVariants.{Packet, Already, Full, Crowded, NotJoined, Leaving, Old, Many}
 use Rattle.packet_read.specs.declared.packet_fault.PacketFault.{PacketFault}
-use Rattle.packet_read.specs.declared.packet_fault.PacketFault.TheVariants.{Empty, Version, Kind, Short, Long, Time, Buttons}
+use Rattle.packet_read.specs.declared.packet_fault.PacketFault.TheVariants.{Empty, Version, Kind, Short, Long, Time, Buttons, Count}
 use Rattle.hex.specs.Hex.{encode_lower}
 use Rattle.out_text.specs.Dids.{Did}
 use Rattle.out_text.specs.OutLines.{OutLine, FrameLine, NoLine, JoinedLine, DidLine, ToLine, EndLine, name_of, ids_text, spelled}
@@ -94,6 +94,7 @@ fault_above Short = refl
 fault_above Long = refl
 fault_above Time = refl
 fault_above Buttons = refl
+fault_above Count = refl
 
 name_above : (why : Refusal) → list_all (λ b. nat_lt 32 b) (name_of why) ≡ true
 name_above (Packet fault) = fault_above fault
@@ -113,6 +114,7 @@ fault-back Short = refl
 fault-back Long = refl
 fault-back Time = refl
 fault-back Buttons = refl
+fault-back Count = refl
 
 name-back : (why : Refusal) → refusal_of (name_of why) ≡ Some why
 name-back (Packet fault) = fault-back fault

@@ -14,7 +14,7 @@ use Rattle.edge_io.proofs.Feeds.{whole_lines-unlines}
 use Rattle.client_ports.specs.declared.refusal.Refusal.{Refusal}
 use Rattle.client_ports.specs.declared.refusal.Refusal.TheVariants.{Packet, Already, Full, Crowded, NotJoined, Leaving, Old, Many}
 use Rattle.packet_read.specs.declared.packet_fault.PacketFault.{PacketFault}
-use Rattle.packet_read.specs.declared.packet_fault.PacketFault.TheVariants.{Empty, Version, Kind, Short, Long, Time, Buttons}
+use Rattle.packet_read.specs.declared.packet_fault.PacketFault.TheVariants.{Empty, Version, Kind, Short, Long, Time, Buttons, Count}
 use Rattle.out_text.specs.Dids.{Did, journal_from}
 use Rattle.out_text.specs.OutLines.{OutLine, FrameLine, NoLine, JoinedLine, DidLine, ToLine, EndLine, fault_name_of, name_of, ids_text, spelled, text_of}
 use Rattle.out_text.specs.Journals.{Mark, Other, frame_mark, did_mark, number_at, did_in, mark_of, Split, onto, split_at_frames, dids}
@@ -97,6 +97,7 @@ Unbroken-fault Short = none_where is_line_feed (codes "Short") refl
 Unbroken-fault Long = none_where is_line_feed (codes "Long") refl
 Unbroken-fault Time = none_where is_line_feed (codes "Time") refl
 Unbroken-fault Buttons = none_where is_line_feed (codes "Buttons") refl
+Unbroken-fault Count = none_where is_line_feed (codes "Count") refl
 
 Unbroken-name : (why : Refusal) → Unbroken (name_of why)
 Unbroken-name (Packet fault) = Unbroken-fault fault

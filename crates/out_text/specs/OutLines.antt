@@ -8,7 +8,7 @@ use Rattle.client_ports.specs.declared.refusal.Refusal.TheVariants.{Packet, Alre
 use Rattle.client_ports.specs.declared.refusal.Refusal.TheVariants.{Old, Many}
 use Rattle.packet_read.specs.declared.packet_fault.PacketFault.{PacketFault}
 use Rattle.packet_read.specs.declared.packet_fault.PacketFault.TheVariants.{Empty, Version, Kind, Short, Long, Time}
-use Rattle.packet_read.specs.declared.packet_fault.PacketFault.TheVariants.{Buttons}
+use Rattle.packet_read.specs.declared.packet_fault.PacketFault.TheVariants.{Buttons, Count}
 use Rattle.out_text.specs.Dids.{Did}
 
 -- one line of the output
@@ -29,6 +29,7 @@ fault_name_of Short = codes "Short"
 fault_name_of Long = codes "Long"
 fault_name_of Time = codes "Time"
 fault_name_of Buttons = codes "Buttons"
+fault_name_of Count = codes "Count"
 
 -- a refusal's name
 abbrev pub name_of : Refusal → List ℕ

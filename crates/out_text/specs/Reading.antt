@@ -10,7 +10,7 @@ use Rattle.client_ports.specs.declared.refusal.Refusal.{Refusal}
 use Rattle.client_ports.specs.declared.refusal.Refusal.TheVariants.{Packet, Already, Full, Crowded, NotJoined, Leaving}
 use Rattle.client_ports.specs.declared.refusal.Refusal.TheVariants.{Old, Many}
 use Rattle.packet_read.specs.declared.packet_fault.PacketFault.TheVariants.{Empty, Version, Kind, Short, Long, Time}
-use Rattle.packet_read.specs.declared.packet_fault.PacketFault.TheVariants.{Buttons}
+use Rattle.packet_read.specs.declared.packet_fault.PacketFault.TheVariants.{Buttons, Count}
 use Rattle.out_text.specs.OutLines.{OutLine, FrameLine, NoLine, JoinedLine, DidLine, ToLine, EndLine, name_of}
 use Rattle.out_text.specs.Journals.{number_at, all_there, ids_in, alone, is_coordinate}
 
@@ -54,7 +54,7 @@ few_ids ids = passing (λ ids. nat_le (length ids) 8) ids
 abbrev pub refusals : List Refusal
 refusals =
     Packet Empty ∷ Packet Version ∷ Packet Kind ∷ Packet Short ∷ Packet Long ∷ Packet Time ∷ Packet Buttons
-    ∷ Already ∷ Full ∷ Crowded ∷ NotJoined ∷ Leaving ∷ Old ∷ Many ∷ []
+    ∷ Packet Count ∷ Already ∷ Full ∷ Crowded ∷ NotJoined ∷ Leaving ∷ Old ∷ Many ∷ []
 
 -- the refusal with this name
 abbrev pub refusal_of : List ℕ → Option Refusal

@@ -16,6 +16,7 @@ fn fault_name(fault: PacketFault) -> &'static str
         PacketFault::Long => "Long",
         PacketFault::Time => "Time",
         PacketFault::Buttons => "Buttons",
+        PacketFault::Count => "Count",
     }
 }
 

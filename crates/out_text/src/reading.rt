@@ -22,7 +22,7 @@ use snapshot_write::{REPLY_ROOM, ReplyBuf};
 const MOST_DIGITS: usize = 2 * REPLY_ROOM;
 
 /// The refusals, each once.
-const REFUSALS: [Refusal; 14] = [
+const REFUSALS: [Refusal; 15] = [
     Refusal::Packet(PacketFault::Empty),
     Refusal::Packet(PacketFault::Version),
     Refusal::Packet(PacketFault::Kind),
@@ -30,6 +30,7 @@ const REFUSALS: [Refusal; 14] = [
     Refusal::Packet(PacketFault::Long),
     Refusal::Packet(PacketFault::Time),
     Refusal::Packet(PacketFault::Buttons),
+    Refusal::Packet(PacketFault::Count),
     Refusal::Already,
     Refusal::Full,
     Refusal::Crowded,

@@ -1,31 +1,22 @@
 -- The fields of a move as bytes, and read back.
 use Rattle.std.proofs.Common.{◌≡◌, ℕ, ◌+◌, ◌*◌, ◌/◌, ◌%◌, ◌^◌, ◌<◌, [], ◌∷◌, refl, arith}
-use Rattle.std.specs.Prelude.{ℤ, FitsSigned, Ok}
+use Rattle.std.specs.Prelude.{ℤ, FitsSigned}
 use Rattle.std.specs.Int.{w16, w32, cast_signed, cast_unsigned, from_le_bytes, to_le_bytes}
-use Rattle.std.proofs.lemmas.Bool.{le-ltb}
 use Rattle.std.proofs.lemmas.Int.{ints, to_z-of_z, of_z-to_z}
 use Rattle.std.proofs.lemmas.Nat.{from_le_bytes-to_le_bytes_2, from_le_bytes-to_le_bytes_4}
 use Rattle.packet_read.specs.declared.move_packet.MovePacket.{MovePacket}
-use Rattle.packet_read.specs.declared.packet.Packet.{Packet}
-use Rattle.packet_read.specs.declared.packet.Packet.TheVariants.{Join, Step, Leave}
-use Rattle.packet_read.specs.Spelling.{spelling, MoveFits, Fits, IsAllowed}
-use Rattle.packet_read.specs.Reading.{move_in, reading}
+use Rattle.packet_read.specs.declared.packet.Packet.TheVariants.{Step}
+use Rattle.packet_read.specs.Spelling.{spelling, MoveFits}
+use Rattle.packet_read.specs.Reading.{move_in}
 
 -- a wish is read as it was written
-wish_again : (z : ℤ) → FitsSigned w16 z → cast_signed w16 (from_le_bytes w16 (to_le_bytes w16 (cast_unsigned w16 z))) ≡ z
+pub wish_again : (z : ℤ) → FitsSigned w16 z → cast_signed w16 (from_le_bytes w16 (to_le_bytes w16 (cast_unsigned w16 z))) ≡ z
 wish_again z fits = rw (from_le_bytes-to_le_bytes_2 (cast_unsigned w16 z) (omega (arith, ints))) (to_z-of_z w16 z fits)
 
 -- a move is read as it was written
 pub move_again : (m : MovePacket) → MoveFits m → move_in (spelling (Step m)) ≡ m
 move_again m fits =
     rw (from_le_bytes-to_le_bytes_4 m.seq fits.seq, wish_again m.wish_x fits.wish_x, wish_again m.wish_y fits.wish_y) refl
-
--- a packet is read as it was written
-pub packet_again : (p : Packet) → Fits p → IsAllowed p → reading (spelling p) ≡ Ok p
-packet_again Join fits allowed = refl
-packet_again (Step m) fits allowed =
-    rw (le-ltb m.ms 1 allowed.least, le-ltb 50 m.ms allowed.most, le-ltb 1 m.buttons allowed.buttons, move_again m fits) refl
-packet_again Leave fits allowed = refl
 
 -- four bytes are those of the number that they are read as
 pub number_cells : (a b c d : ℕ) → a < 256 → b < 256 → c < 256 → d < 256 → to_le_bytes w32 (from_le_bytes w32 (a ∷ b ∷ c ∷ d ∷ [])) ≡ a ∷ b ∷ c ∷ d ∷ []

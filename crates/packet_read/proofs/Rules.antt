@@ -1,19 +1,24 @@
 -- Bytes that break no rule spell the packet that is in them.
 use Rattle.std.proofs.Common.{get_or, rules, lit<, ◌∙◌, ◌++◌, ◌≡◌, ℕ, suc, ◌<◌, ◌≤◌, Bool, true, false, cond, List, [], ◌∷◌, length, refl, sym, ap, subst, arith, inl, inr}
-use Rattle.std.specs.Prelude.{nat_lt, nat_le, ◌==◌, not, ◌&&◌, Option, Some, None, Result, Ok, Err, IfOk}
-use Rattle.std.proofs.lemmas.List.{get_or_default, nil_from_length}
+use Rattle.std.specs.Int.{w32, from_le_bytes}
+use Rattle.packet_read.specs.declared.block_list.CmdBlock.{CmdBlock}
+use Rattle.std.specs.Prelude.{zero, take, drop, ◌+◌, ◌-◌, ◌*◌, ◌||◌, min, All, nat_lt, nat_le, ◌==◌, not, ◌&&◌, Option, Some, None, Result, Ok, Err, IfOk}
+use Rattle.std.proofs.lemmas.List.{get_or_default, nil_from_length, take_all}
 use Rattle.std.proofs.lemmas.Slice.Eq.{text_from_reads}
 use Rattle.std.proofs.lemmas.Bool.Decides.{nat_tests}
-use Rattle.std.proofs.lemmas.Bool.{false≢true, ltb-false, eqb-true, not-false, or_parts, cases_eq}
+use Rattle.std.proofs.lemmas.Bool.{false≢true, ltb-false, or_parts, cases_eq}
 use Rattle.packet_read.specs.declared.packet.Packet.{Packet}
-use Rattle.packet_read.specs.declared.packet.Packet.TheVariants.{Join, Step, Leave}
+use Rattle.packet_read.specs.declared.packet.Packet.TheVariants.{Join, Step, Leave, Steps}
 use Rattle.packet_read.specs.declared.packet_fault.PacketFault.{PacketFault}
-use Rattle.packet_read.specs.declared.packet_fault.PacketFault.TheVariants.{Empty, Version, Kind, Short, Long, Time, Buttons}
-use Rattle.packet_read.specs.Spelling.{move_fields, MoveFits, Spells}
-use Rattle.packet_read.specs.Cause.{byte, form_in, breaks, cause_of}
-use Rattle.packet_read.specs.Reading.{move_in, packet_of, answer, reading}
+use Rattle.packet_read.specs.declared.packet_fault.PacketFault.TheVariants.{Empty, Version, Kind, Short, Long, Time, Buttons, Count}
+use Rattle.packet_read.specs.Spelling.{move_fields, IsAllowedBlock, IsAllowedSteps, MoveFits, Spells}
+use Rattle.packet_read.specs.Cause.{byte, form_in, blocks_from, breaks, cause_of}
+use Rattle.packet_read.specs.Reading.{move_in, steps_in, packet_of, answer, reading}
 use Rattle.packet_read.specs.Laws.{AreBytes}
-use Rattle.packet_read.proofs.Fields.{packet_again, number_cells, wish_cells}
+use Rattle.packet_read.proofs.Fields.{number_cells, wish_cells}
+use Rattle.packet_read.proofs.Blocks.{blocks_spelled, blocks_fit, blocks_allowed, length_blocks}
+use Rattle.packet_read.proofs.Steps.{min_is}
+use Rattle.packet_read.proofs.Again.{packet_again}
 
 -- the bytes break no rule
 pub record Keeps (bytes : List ℕ) : Type 0 where
@@ -24,6 +29,7 @@ pub record Keeps (bytes : List ℕ) : Type 0 where
   pub long : breaks bytes Long ≡ false
   pub time : breaks bytes Time ≡ false
   pub buttons : breaks bytes Buttons ≡ false
+  pub count : breaks bytes Count ≡ false
 
 -- a rule that is not broken, and those after it
 not_broken : (b : Bool) (fault : PacketFault) (others : Option PacketFault) → cond b (Some fault) others ≡ None → (b ≡ false) × (others ≡ None)
@@ -40,7 +46,8 @@ keeps bytes none =
     let e = not_broken (breaks bytes Long) Long _ d.1 in
     let f = not_broken (breaks bytes Time) Time _ e.1 in
     let g = not_broken (breaks bytes Buttons) Buttons _ f.1 in
-    record { empty = a.0; version = b.0; kind = c.0; short = d.0; long = e.0; time = f.0; buttons = g.0 }
+    let h = not_broken (breaks bytes Count) Count _ g.1 in
+    record { empty = a.0; version = b.0; kind = c.0; short = d.0; long = e.0; time = f.0; buttons = g.0; count = h.0 }
 
 -- ten bytes, one by one
 ten : (xs : List ℕ) → length xs ≡ 10 → xs ≡ byte xs 0 ∷ byte xs 1 ∷ byte xs 2 ∷ byte xs 3 ∷ byte xs 4 ∷ byte xs 5 ∷ byte xs 6 ∷ byte xs 7 ∷ byte xs 8 ∷ byte xs 9 ∷ []
@@ -100,9 +107,64 @@ move_form_spelled xs all kept =
       spelled = ap (λ (ys : List ℕ). 1 ∷ 2 ∷ ys) (move_spelled xs ten_bytes below);
     }
 
--- after version 1 a kind is 1, 2 or 3
+-- the fields of a packet of version 2
+steps_joined : (q q' xs xs' : List ℕ) (n n' : ℕ) → q ≡ q' → n ≡ n' → xs ≡ xs' → 2 ∷ 2 ∷ (q ++ n ∷ xs) ≡ 2 ∷ 2 ∷ (q' ++ n' ∷ xs')
+steps_joined q q' xs xs' n n' e f g = cc
+
+-- a number that isn't 0
+some_of : (n : ℕ) → (n == 0) ≡ false → 1 ≤ n
+some_of zero e = absurd (false≢true (sym e))
+some_of (suc n) e = omega arith
+
+-- the limits of a packet of version 2 that announces n commands
+steps_allowed : (n seq : ℕ) (bs : List CmdBlock) → length bs ≡ n → 1 ≤ n → n ≤ 3 → n - 1 ≤ seq → All IsAllowedBlock bs
+    → IsAllowedSteps (record { seq = seq; cmds = bs })
+steps_allowed n seq bs e some few numbers blocks = record {
+  some = omega (arith, e, some);
+  few = omega (arith, e, few);
+  numbers = omega (arith, e, numbers);
+  blocks = blocks;
+}
+
+steps_form_spelled : (xs : List ℕ) → AreBytes (2 ∷ 2 ∷ xs) → Keeps (2 ∷ 2 ∷ xs) → Spells (2 ∷ 2 ∷ xs) (Steps (steps_in (2 ∷ 2 ∷ xs)))
+steps_form_spelled [] all kept = absurd (false≢true (sym kept.short))
+steps_form_spelled (a ∷ []) all kept = absurd (false≢true (sym kept.short))
+steps_form_spelled (a ∷ b ∷ []) all kept = absurd (false≢true (sym kept.short))
+steps_form_spelled (a ∷ b ∷ c ∷ []) all kept = absurd (false≢true (sym kept.short))
+steps_form_spelled (a ∷ b ∷ c ∷ d ∷ []) all kept = absurd (false≢true (sym kept.short))
+steps_form_spelled (a ∷ b ∷ c ∷ d ∷ n ∷ xs) all kept =
+    let bytes = 2 ∷ 2 ∷ a ∷ b ∷ c ∷ d ∷ n ∷ xs in
+    let seq = from_le_bytes w32 (a ∷ b ∷ c ∷ d ∷ []) in
+    let short = or_parts (length bytes == 1) (nat_lt (length bytes) (7 + 6 * min n 3)) kept.short in
+    let least : 7 + 6 * min n 3 ≤ length bytes = ltb-false (length bytes) (7 + 6 * min n 3) short.1 in
+    let most : length bytes ≤ 7 + 6 * min n 3 = ltb-false (7 + 6 * min n 3) (length bytes) kept.long in
+    let whole : length xs ≡ 6 * min n 3 = omega (arith, least, most) in
+    let count = or_parts (n == 0) (nat_lt 3 n || nat_lt seq (n - 1)) kept.count in
+    let above = or_parts (nat_lt 3 n) (nat_lt seq (n - 1)) count.1 in
+    let few : n ≤ 3 = ltb-false 3 n above.0 in
+    let many : length (blocks_from (min n 3) xs) ≡ n = length_blocks (min n 3) xs ∙ min_is n few in
+    let is_a : a < 256 = all 2 0 (omega arith) in
+    let is_b : b < 256 = all 3 0 (omega arith) in
+    let is_c : c < 256 = all 4 0 (omega arith) in
+    let is_d : d < 256 = all 5 0 (omega arith) in
+    let bytes_after : AreBytes xs = λ k z lt. all (suc (suc (suc (suc (suc (suc (suc k))))))) z (omega (arith, lt)) in
+    record {
+      fits = record {
+        seq = omega (arith, is_a, is_b, is_c, is_d);
+        blocks = blocks_fit (min n 3) xs whole bytes_after;
+      };
+      allowed = steps_allowed n seq (blocks_from (min n 3) xs) many (some_of n count.0) few (ltb-false seq (n - 1) above.1)
+          (blocks_allowed (blocks_from (min n 3) xs) kept.time kept.buttons);
+      spelled = sym (steps_joined _ _ _ _ _ _
+          (number_cells a b c d is_a is_b is_c is_d) many (blocks_spelled (min n 3) xs whole bytes_after));
+    }
+
+-- after version 1 a kind is 1, 2 or 3, after version 2 it is 2
 kind_is : (k n : ℕ) → nat_le 2 n && not (nat_le 1 k && nat_le k 3) ≡ false → 2 ≤ n → (1 ≤ k) × (k ≤ 3)
 kind_is k n e two = grind (arith, nat_tests)
+
+kind_2_is : (k n : ℕ) → nat_le 2 n && not (k == 2) ≡ false → 2 ≤ n → k ≡ 2
+kind_2_is k n e two = grind (arith, nat_tests)
 
 -- what is said of one number holds of an equal one
 abbrev IsSpelledAfter : List ℕ → ℕ → ℕ → Type 0
@@ -121,13 +183,32 @@ kind_spelled k xs all kept =
       ]
     ]
 
+kind_2_spelled : (k : ℕ) (xs : List ℕ) → IsSpelledAfter xs 2 k
+kind_2_spelled k xs all kept =
+    let e : k ≡ 2 = kind_2_is k (length (2 ∷ k ∷ xs)) kept.kind (omega arith) in
+    subst (IsSpelledAfter xs 2) (sym e) (steps_form_spelled xs) all kept
+
+-- a version is 1 or 2
+version_is : (v : ℕ) → not ((v == 1) || (v == 2)) ≡ false → (v ≡ 2 → ⊥) → v ≡ 1
+version_is v e other = grind (arith, nat_tests)
+
 -- bytes that break no rule spell the packet that is in them
 pub kept_spelled : (bytes : List ℕ) → AreBytes bytes → Keeps bytes → Spells bytes (packet_of (form_in bytes) bytes)
 kept_spelled [] all kept = absurd (false≢true (sym kept.empty))
 kept_spelled (v ∷ []) all kept = absurd (false≢true (sym kept.short))
-kept_spelled (v ∷ k ∷ xs) all kept =
-    let e : v ≡ 1 = eqb-true v 1 (not-false (v == 1) kept.version) in
-    subst (λ (w : ℕ). IsSpelledAfter xs w k) (sym e) (kind_spelled k xs) all kept
+kept_spelled (v ∷ k ∷ xs) all kept = elim (cases_eq v 2) [
+  | inl e ↦ subst (λ (w : ℕ). IsSpelledAfter xs w k) (sym e) (kind_2_spelled k xs) all kept
+  | inr other ↦
+      let e : v ≡ 1 = version_is v kept.version other in
+      subst (λ (w : ℕ). IsSpelledAfter xs w k) (sym e) (kind_spelled k xs) all kept
+]
+
+-- bytes that begin with a number, and those after it
+pub headed : (k : ℕ) (bytes : List ℕ) → 1 ≤ k → get_or bytes 0 0 ≡ k → bytes ≡ k ∷ take (length bytes - 1) (drop 1 bytes)
+headed k [] some e = absurd (omega (arith, some, e))
+headed k (x ∷ xs) some e =
+    let all : take (length (x ∷ xs) - 1) xs ≡ xs = take_all (length (x ∷ xs) - 1) xs (omega arith) in
+    rw (all, e) refl
 
 -- numbers that are below 256 at each index are bytes
 pub bytes_are : (bytes : List ℕ) → ((i : ℕ) → get_or bytes i 0 < 256) → AreBytes bytes

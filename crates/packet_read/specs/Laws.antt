@@ -1,9 +1,14 @@
 -- What holds of spellings and causes.
-use Rattle.std.specs.Prelude.{◌≡◌, ◌↔◌, ℕ, ◌^◌, ◌<◌, List, All, Some, None, Ok, Err}
+use Rattle.std.specs.Prelude.{◌≡◌, ◌↔◌, ℕ, ◌+◌, ◌^◌, ◌<◌, List, length, All, Some, None, option_map, Ok, Err}
+use Rattle.std.specs.List.{slice_get}
+use Rattle.packet_read.specs.declared.steps_packet.StepsPacket.{StepsPacket}
 use Rattle.packet_read.specs.declared.packet.Packet.{Packet}
+use Rattle.packet_read.specs.declared.packet.Packet.TheVariants.{Steps}
 use Rattle.packet_read.specs.declared.packet_fault.PacketFault.{PacketFault}
+use Rattle.packet_read.specs.declared.block_list.TheConstants.{MOST_BLOCKS}
 use Rattle.packet_read.specs.declared.packet_bytes.TheConstants.{MAX_PACKET_BYTES}
-use Rattle.packet_read.specs.Spelling.{spelling, Fits, Spells}
+use Rattle.packet_read.specs.Spelling.{spelling, IsAllowedSteps, Fits, Spells}
+use Rattle.packet_read.specs.Commands.{numbered, first_seq, commands_of}
 use Rattle.packet_read.specs.Cause.{cause_of}
 use Rattle.packet_read.specs.Reading.{reading}
 
@@ -30,6 +35,15 @@ pub record ReadWhereSpelled : Type 0 where
   pub packet : (bytes : List ℕ) → AreBytes bytes → (p : Packet) → (reading bytes ≡ Ok p) ↔ Spells bytes p
   pub cause : (bytes : List ℕ) (fault : PacketFault) → (reading bytes ≡ Err fault) ↔ (cause_of bytes ≡ Some fault)
 
--- the number that the list of bytes cites
-pub record LimitIsKnown : Type 0 where
+-- the numbers that the lists cite
+pub record LimitsAreKnown : Type 0 where
   pub most_bytes : MAX_PACKET_BYTES ≡ 64
+  pub most_commands : MOST_BLOCKS ≡ 3
+
+-- a packet of version 2 has as many commands as blocks: command i, from 0, has the fields of block i, and a number i above
+-- the first; within the limits the newest has the packet's number
+pub record CommandsAreNumbered : Type 0 where
+  pub many : (s : StepsPacket) → length (commands_of (Steps s)) ≡ length s.cmds
+  pub each : (s : StepsPacket) (i : ℕ)
+      → slice_get (commands_of (Steps s)) i ≡ option_map (numbered (first_seq s + i)) (slice_get s.cmds i)
+  pub newest : (s : StepsPacket) → IsAllowedSteps s → first_seq s + length s.cmds ≡ s.seq + 1

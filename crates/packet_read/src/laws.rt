@@ -1,4 +1,5 @@
-ghost use Rattle.packet_read.specs.Laws.{NoCauseWhereSpelled, OneSpelling, ReadWhereSpelled, LimitIsKnown};
+ghost use Rattle.packet_read.specs.Laws.{NoCauseWhereSpelled, OneSpelling, ReadWhereSpelled, LimitsAreKnown};
+ghost use Rattle.packet_read.specs.Laws.{CommandsAreNumbered};
 
 /// Bytes break no rule of the format exactly where they spell some packet.
 pub fn no_cause_where_spelled()
@@ -15,7 +16,12 @@ pub fn read_where_spelled()
     ensures { ReadWhereSpelled }
 {}
 
-/// A list of bytes has room for 64.
-pub fn limit_is_known()
-    ensures { LimitIsKnown }
+/// A list of bytes has room for 64, one of commands for 3.
+pub fn limits_are_known()
+    ensures { LimitsAreKnown }
+{}
+
+/// The commands of a packet of version 2 have numbers that rise by one, up to that of the packet, and keep their fields.
+pub fn commands_are_numbered()
+    ensures { CommandsAreNumbered }
 {}

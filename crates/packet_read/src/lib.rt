@@ -2,22 +2,30 @@
 #![tactic(auto)]
 
 mod arrival;
+mod block_list;
 mod laws;
 mod move_packet;
 mod packet;
 mod packet_bytes;
 mod packet_fault;
 mod reading;
+mod reading_steps;
+mod steps_packet;
 mod wire;
 mod writing;
 
 pub use arrival::{Arrival, ArrivalBytes, MOST_BYTES};
-pub use laws::{limit_is_known, no_cause_where_spelled, one_spelling, read_where_spelled};
+pub use block_list::{BlockList, CmdBlock, MOST_BLOCKS};
+pub use laws::{
+    commands_are_numbered, limits_are_known, no_cause_where_spelled, one_spelling,
+    read_where_spelled,
+};
 pub use move_packet::MovePacket;
 pub use packet::Packet;
 pub use packet_bytes::{MAX_PACKET_BYTES, PacketBytes};
 pub use packet_fault::PacketFault;
 pub use reading::read_packet;
+pub use steps_packet::StepsPacket;
 pub use writing::write_packet;
 
 #[cfg(test)]

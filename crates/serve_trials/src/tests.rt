@@ -139,7 +139,7 @@ const FAULTY: &str =
     "arena -131072 -131072 0 131072 131072 65536\nspawn 0 0 6144\nframe\nfrom 7 -\nfrom 7 02\nfrom 7 0109\nfrom 7 01\nfrom 7 010100\nfrom 7 010201000000004001000000\nfrom 7 010201000000324001000080\nfrom 7 0103\nfrom 7 010201000000320000000000\nend\n";
 
 const FAULTY_OUTPUT: &str =
-    "frame 0\nno 0 Empty\nno 1 Version\nno 2 Kind\nno 3 Short\nno 4 Long\nno 5 Time\nno 6 Buttons\nno 7 NotJoined\nno 8 NotJoined\nend 1\n";
+    "frame 0\nno 0 Empty\nno 1 Short\nno 2 Kind\nno 3 Short\nno 4 Long\nno 5 Time\nno 6 Buttons\nno 7 NotJoined\nno 8 NotJoined\nend 1\n";
 
 const BLOCKED: &str =
     "arena -131072 -131072 0 131072 131072 65536\nspawn 0 0 6144\nblock 4095 -12800 0 12800 12800 4608\nframe\nfrom 7 0101\nend\n";
@@ -150,6 +150,13 @@ const THREE_MOVES: &str =
 
 const THREE_MOVES_OUTPUT: &str =
     "frame 0\njoined 7 0\nto 0 01000000000000000000000000000018000000000000000000000000000000000000000000000000000000\nframe 1\ndid 0 1 2048 0 6144 -\ndid 0 2 5734 0 6144 -\ndid 0 3 9830 0 6144 -\nto 0 01010000000066260000000000000018000000400100000000000000000001000000000000030000000000\nend 2\n";
+
+/// A join, then the commands 1 and 2 in a packet, then 1 to 3 in another, which comes twice.
+const REPEATED: &str =
+    "arena -131072 -131072 0 131072 131072 65536\nspawn 0 0 6144\nframe\nfrom 7 0101\nfrom 7 02020200000002320000000000320000000000\nfrom 7 02020300000003320000000000320000000000320000000000\nfrom 7 02020300000003320000000000320000000000320000000000\nend\n";
+
+const REPEATED_OUTPUT: &str =
+    "frame 0\nno 3 Old\njoined 7 0\ndid 0 1 0 0 6144 -\ndid 0 2 0 0 6144 -\ndid 0 3 0 0 6144 -\nto 0 01000000000000000000000000000018000000000000000000000000000001000000000000030000000000\nend 1\n";
 
 #[test]
 fn frames_are_printed_in_order(rt: HostRuntime) -> Result<(), Fail> {
@@ -171,6 +178,7 @@ fn frames_are_printed_in_order(rt: HostRuntime) -> Result<(), Fail> {
 fn players_move(rt: HostRuntime) -> Result<(), Fail> {
     let rows = [
         (THREE_MOVES, THREE_MOVES_OUTPUT),
+        (REPEATED, REPEATED_OUTPUT),
         (STEP, STEP_OUTPUT),
         (WALL, WALL_OUTPUT),
         (JUMP, JUMP_OUTPUT),

@@ -114,7 +114,7 @@ fn lines_of_a_frame_and_the_end_are_printed(rt: HostRuntime) -> Result<(), Fail>
 }
 
 /// The refusals, and how the line of each is printed.
-const REFUSALS: [(Refusal, &str); 14] = [
+const REFUSALS: [(Refusal, &str); 15] = [
     (Refusal::Packet(PacketFault::Empty), "no 0 Empty\n"),
     (Refusal::Packet(PacketFault::Version), "no 0 Version\n"),
     (Refusal::Packet(PacketFault::Kind), "no 0 Kind\n"),
@@ -122,6 +122,7 @@ const REFUSALS: [(Refusal, &str); 14] = [
     (Refusal::Packet(PacketFault::Long), "no 0 Long\n"),
     (Refusal::Packet(PacketFault::Time), "no 0 Time\n"),
     (Refusal::Packet(PacketFault::Buttons), "no 0 Buttons\n"),
+    (Refusal::Packet(PacketFault::Count), "no 0 Count\n"),
     (Refusal::Already, "no 0 Already\n"),
     (Refusal::Full, "no 0 Full\n"),
     (Refusal::Crowded, "no 0 Crowded\n"),

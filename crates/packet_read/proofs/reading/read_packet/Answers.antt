@@ -1,6 +1,6 @@
-use Rattle.std.proofs.Common.{◌∙◌, arith}
+use Rattle.std.proofs.Common.{◌∙◌, sym, arith}
 use Rattle.std.proofs.lemmas.Grind.{common_steps}
-use Rattle.packet_read.proofs.Rules.{bytes_are, found_spells, spelled_read}
+use Rattle.packet_read.proofs.Rules.{bytes_are, found_spells, spelled_read, read_cause, cause_read}
 use Rattle.packet_read.proofs.reading.read_packet.Goals as goal
 
 pub returns-in-1-clause-answer : goal.returns-in-1-clause-answer
@@ -13,3 +13,20 @@ returns-in-1-clause-found c =
 
 pub returns-in-1-clause-only : goal.returns-in-1-clause-only
 returns-in-1-clause-only c = λ p s. returns-in-1-clause-answer c ∙ spelled_read c.args.bytes.now p s
+
+pub returns-in-2-clause-answer : goal.returns-in-2-clause-answer
+returns-in-2-clause-answer c = grind (arith, common_steps)
+
+pub returns-in-2-clause-found : goal.returns-in-2-clause-found
+returns-in-2-clause-found c =
+    let bytes = bytes_are c.args.bytes.now (λ i. omega (arith, c.type_inv.bytes i)) in
+    found_spells c.args.bytes.now c.read_kind_2.result bytes (returns-in-2-clause-answer c)
+
+pub returns-in-2-clause-only : goal.returns-in-2-clause-only
+returns-in-2-clause-only c = λ p s. returns-in-2-clause-answer c ∙ spelled_read c.args.bytes.now p s
+
+pub returns-in-2-clause-cause : goal.returns-in-2-clause-cause
+returns-in-2-clause-cause c = λ fault. (
+  λ e. read_cause c.args.bytes.now fault (sym (returns-in-2-clause-answer c) ∙ e),
+  λ e. returns-in-2-clause-answer c ∙ cause_read c.args.bytes.now fault e,
+)

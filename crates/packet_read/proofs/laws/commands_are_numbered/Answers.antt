@@ -1,0 +1,11 @@
+use Rattle.std.proofs.Common.{arith}
+use Rattle.packet_read.specs.Commands.{first_seq}
+use Rattle.packet_read.proofs.Numbers.{length-numbered, numbered-at}
+use Rattle.packet_read.proofs.laws.commands_are_numbered.Goals as goal
+
+pub returns : goal.returns
+returns c = record {
+  many = λ s. length-numbered (first_seq s) s.cmds;
+  each = λ s i. numbered-at (first_seq s) s.cmds i;
+  newest = λ s allowed. omega (arith, allowed.some, allowed.numbers);
+}
