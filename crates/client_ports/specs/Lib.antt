@@ -18,6 +18,7 @@ pub mod Clients
 pub mod States
 pub mod Rooms
 pub mod Lists
+pub mod NewMoves
 pub mod Answers
 pub mod Receiving
 pub mod Finishing

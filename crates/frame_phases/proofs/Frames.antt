@@ -26,7 +26,7 @@ use Rattle.plain_server.specs.Moving.{HasLivePlayer}
 use Rattle.plain_server.specs.Frames.{state_after_tick, received_in, moved_by}
 use Rattle.world_physics.specs.Ticks.{after_tick}
 use Rattle.plain_server.proofs.Ticking.{server_ticked}
-use Rattle.plain_server.proofs.Short.{moves_are_few}
+use Rattle.client_ports.proofs.Short.{moves_are_few}
 use Rattle.plain_server.proofs.Frames.{received_is, moved_by_is, state_after_is}
 use Rattle.plain_server.specs.Takers.{HasOneTaker, HasItemsAway, IsInState}
 use Rattle.plain_server.proofs.Takers.{one_taker, returns_later}

@@ -17,7 +17,7 @@ use Rattle.client_ports.proofs.Slots.{client_count}
 use Rattle.client_ports.proofs.Staying.{server_received}
 use Rattle.client_ports.proofs.Valid.{opening-is_server}
 use Rattle.plain_server.specs.Moving.{HasLivePlayer}
-use Rattle.plain_server.proofs.Short.{moves_are_few}
+use Rattle.client_ports.proofs.Short.{moves_are_few}
 
 within : (clients : List (Option Client)) (slot : ℕ) → IsSome (client_at clients slot) → slot < length clients
 within [] slot some = cc
