@@ -2,6 +2,7 @@
 use Rattle.std.specs.Prelude.{◌≡◌, ◌↔◌, ℕ, ◌^◌, ◌<◌, List, All, Some, None, Ok, Err}
 use Rattle.packet_read.specs.declared.packet.Packet.{Packet}
 use Rattle.packet_read.specs.declared.packet_fault.PacketFault.{PacketFault}
+use Rattle.packet_read.specs.declared.block_list.TheConstants.{MOST_BLOCKS}
 use Rattle.packet_read.specs.declared.packet_bytes.TheConstants.{MAX_PACKET_BYTES}
 use Rattle.packet_read.specs.Spelling.{spelling, Fits, Spells}
 use Rattle.packet_read.specs.Cause.{cause_of}
@@ -30,6 +31,7 @@ pub record ReadWhereSpelled : Type 0 where
   pub packet : (bytes : List ℕ) → AreBytes bytes → (p : Packet) → (reading bytes ≡ Ok p) ↔ Spells bytes p
   pub cause : (bytes : List ℕ) (fault : PacketFault) → (reading bytes ≡ Err fault) ↔ (cause_of bytes ≡ Some fault)
 
--- the number that the list of bytes cites
-pub record LimitIsKnown : Type 0 where
+-- the numbers that the lists cite
+pub record LimitsAreKnown : Type 0 where
   pub most_bytes : MAX_PACKET_BYTES ≡ 64
+  pub most_commands : MOST_BLOCKS ≡ 3

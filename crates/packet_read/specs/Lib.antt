@@ -1,5 +1,6 @@
 -- The definitions of packets, and what holds of them.
 pub mod Spelling
+pub mod Commands
 pub mod Cause
 pub mod Reading
 pub mod Laws

@@ -2,26 +2,32 @@
 use Rattle.std.specs.Prelude.{ℕ, List, [], ◌∷◌, Option, Some, None, Result, Ok, Err}
 use Rattle.std.specs.Int.{w16, w32, cast_signed, from_le_bytes}
 use Rattle.packet_read.specs.declared.move_packet.MovePacket.{MovePacket}
+use Rattle.packet_read.specs.declared.steps_packet.StepsPacket.{StepsPacket}
 use Rattle.packet_read.specs.declared.packet.Packet.{Packet}
-use Rattle.packet_read.specs.declared.packet.Packet.TheVariants.{Join, Step, Leave}
+use Rattle.packet_read.specs.declared.packet.Packet.TheVariants.{Join, Step, Leave, Steps}
 use Rattle.packet_read.specs.declared.packet_fault.PacketFault.{PacketFault}
-use Rattle.packet_read.specs.Cause.{Form, join, move, leave, byte, form_in, cause_of}
+use Rattle.packet_read.specs.Cause.{Form, join, move, leave, steps, byte, form_in, seq_in, blocks_in, cause_of}
 
 -- the move whose fields are in the bytes at their places
 abbrev pub move_in : List ℕ → MovePacket
 move_in bytes = record {
-  seq = from_le_bytes w32 (byte bytes 2 ∷ byte bytes 3 ∷ byte bytes 4 ∷ byte bytes 5 ∷ []);
+  seq = seq_in bytes;
   ms = byte bytes 6;
   wish_x = cast_signed w16 (from_le_bytes w16 (byte bytes 7 ∷ byte bytes 8 ∷ []));
   wish_y = cast_signed w16 (from_le_bytes w16 (byte bytes 9 ∷ byte bytes 10 ∷ []));
   buttons = byte bytes 11;
 }
 
+-- the packet of version 2 whose fields are in the bytes at their places
+abbrev pub steps_in : List ℕ → StepsPacket
+steps_in bytes = record { seq = seq_in bytes; cmds = blocks_in bytes }
+
 -- the packet of that form, with the fields that are in the bytes
 abbrev pub packet_of : Form → List ℕ → Packet
 packet_of join bytes = Join
 packet_of move bytes = Step (move_in bytes)
 packet_of leave bytes = Leave
+packet_of steps bytes = Steps (steps_in bytes)
 
 -- the cause where there is one, and else the packet
 abbrev pub answer : Option PacketFault → Packet → Result Packet PacketFault

@@ -1,4 +1,4 @@
-ghost use Rattle.packet_read.specs.Laws.{NoCauseWhereSpelled, OneSpelling, ReadWhereSpelled, LimitIsKnown};
+ghost use Rattle.packet_read.specs.Laws.{NoCauseWhereSpelled, OneSpelling, ReadWhereSpelled, LimitsAreKnown};
 
 /// Bytes break no rule of the format exactly where they spell some packet.
 pub fn no_cause_where_spelled()
@@ -16,6 +16,6 @@ pub fn read_where_spelled()
 {}
 
 /// A list of bytes has room for 64.
-pub fn limit_is_known()
-    ensures { LimitIsKnown }
+pub fn limits_are_known()
+    ensures { LimitsAreKnown }
 {}

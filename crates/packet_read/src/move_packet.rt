@@ -1,4 +1,5 @@
-/// A client's wish for one move of its player, as in a QuakeWorld client's `usercmd_t`.
+/// A client's wish for one move of its player, as in a QuakeWorld client's `usercmd_t`: a packet of version 1, or a
+/// command of a packet of version 2 with its number.
 #[derive(Clone, Copy, Debug, PartialEq, Eq)]
 pub struct MovePacket {
     /// The number that the client gave the move.
@@ -9,6 +10,7 @@ pub struct MovePacket {
     pub wish_x: i16,
     /// The wished speed along y, in Quake units per second.
     pub wish_y: i16,
-    /// The buttons held down: bit 0 is the jump, and no other bit is set on the wire.
+    /// The buttons held down: bit 0 is the jump. No other bit is set on the wire in version 1; in version 2 bit 1, the
+    /// shot, may be.
     pub buttons: u8,
 }

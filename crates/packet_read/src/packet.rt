@@ -1,4 +1,5 @@
 use crate::move_packet::MovePacket;
+use crate::steps_packet::StepsPacket;
 
 /// What a client says in one packet.
 #[derive(Debug, PartialEq, Eq, Drop)]
@@ -9,4 +10,6 @@ pub enum Packet {
     Step(MovePacket),
     /// It stops playing.
     Leave,
+    /// It wants its player to move, and repeats commands that may have been lost.
+    Steps(StepsPacket),
 }

@@ -8,7 +8,8 @@ ghost use Rattle.packet_read.specs.Reading.{reading};
 use crate::move_packet::MovePacket;
 use crate::packet::Packet;
 use crate::packet_fault::PacketFault;
-use crate::wire::{JOIN, KNOWN_BUTTONS, LEAVE, MAX_MS, MOVE, MOVE_FIELDS, VERSION};
+use crate::reading_steps::read_steps;
+use crate::wire::{JOIN, KNOWN_BUTTONS, LEAVE, MAX_MS, MOVE, MOVE_FIELDS, VERSION, VERSION_2};
 
 /// The packet that the bytes spell, or the first fault in the order of `PacketFault`.
 pub fn read_packet(bytes: &[u8]) -> Result<Packet, PacketFault>
@@ -23,11 +24,12 @@ pub fn read_packet(bytes: &[u8]) -> Result<Packet, PacketFault>
     match bytes {
         [] => Err(PacketFault::Empty),
         [VERSION, rest @ ..] => read_kind(rest),
+        [VERSION_2, rest @ ..] => read_kind_2(rest),
         [_, ..] => Err(PacketFault::Version),
     }
 }
 
-// Reads what follows the version.
+// Reads what follows version 1.
 fn read_kind(bytes: &[u8]) -> Result<Packet, PacketFault>
     ensures { result ≡ reading (1 ∷ bytes.now) }
 {
@@ -38,6 +40,17 @@ fn read_kind(bytes: &[u8]) -> Result<Packet, PacketFault>
         [JOIN, ..] => Err(PacketFault::Long),
         [LEAVE, ..] => Err(PacketFault::Long),
         [MOVE, fields @ ..] => read_move(fields),
+        [_, ..] => Err(PacketFault::Kind),
+    }
+}
+
+// Reads what follows version 2.
+fn read_kind_2(bytes: &[u8]) -> Result<Packet, PacketFault>
+    ensures { result ≡ reading (2 ∷ bytes.now) }
+{
+    match bytes {
+        [] => Err(PacketFault::Short),
+        [MOVE, fields @ ..] => read_steps(fields),
         [_, ..] => Err(PacketFault::Kind),
     }
 }

@@ -1,11 +1,12 @@
 use super::*;
 
 /// Bytes, and what they are read as, computed by a plain implementation written apart from this one.
-const ROWS: [(&[u8], Result<Packet, PacketFault>); 26] = [
+const ROWS: [(&[u8], Result<Packet, PacketFault>); 27] = [
     (&[], Err(PacketFault::Empty)),
-    (&[2], Err(PacketFault::Version)),
+    (&[2], Err(PacketFault::Short)),
+    (&[3], Err(PacketFault::Version)),
     (
-        &[2, 2, 0x8d, 0x0e, 0x78, 0x0c, 0],
+        &[3, 2, 0x8d, 0x0e, 0x78, 0x0c, 0],
         Err(PacketFault::Version),
     ),
     (&[1, 9], Err(PacketFault::Kind)),
@@ -133,4 +134,29 @@ fn lists_at_most_64_bytes(rt: HostRuntime) {
     }
     assert!(rt; !bytes.push(64));
     assert_eq!(rt; bytes.as_slice().len(), 64);
+}
+
+/// Three commands of 50 milliseconds that wish nothing; the last has these buttons.
+fn three_commands(buttons: u8) -> BlockList {
+    let mut cmds = BlockList::new();
+    for last in [0, 0, buttons] {
+        let _ = cmds.push(CmdBlock {
+            ms: 50,
+            wish_x: 0,
+            wish_y: 0,
+            buttons: last,
+        });
+    }
+    cmds
+}
+
+#[test]
+fn reads_packets_of_version_2(rt: HostRuntime) {
+    let packet = Packet::Steps(StepsPacket {
+        seq: 3,
+        cmds: three_commands(3),
+    });
+    let bytes = write_packet(&packet);
+    assert_eq!(rt; bytes.as_slice().len(), 25);
+    assert_eq!(rt; read_packet(bytes.as_slice()), Ok(packet));
 }

@@ -1,12 +1,15 @@
 ghost use Rattle.std.specs.Prelude.{◌≡◌, ◌+◌, ◌≤◌, ◌++◌, length};
-ghost use Rattle.packet_read.specs.declared.packet.Packet.TheVariants.{Step};
-ghost use Rattle.packet_read.specs.Spelling.{spelling, MoveFits, IsAllowed};
+ghost use Rattle.packet_read.specs.declared.packet.Packet.TheVariants.{Step, Steps};
+ghost use Rattle.packet_read.specs.Spelling.{spelling, block_fields, MoveFits, StepsFit, BlockFits, IsAllowed};
+ghost use Rattle.packet_read.specs.Spelling.{IsAllowedSteps};
 ghost use Rattle.packet_read.specs.Reading.{reading};
 
+use crate::block_list::CmdBlock;
 use crate::move_packet::MovePacket;
 use crate::packet::Packet;
 use crate::packet_bytes::{MAX_PACKET_BYTES, PacketBytes};
-use crate::wire::{JOIN, LEAVE, MOVE, VERSION};
+use crate::steps_packet::StepsPacket;
+use crate::wire::{JOIN, LEAVE, MOVE, VERSION, VERSION_2};
 
 /// The one spelling of a packet, which is read as that packet again.
 pub fn write_packet(p: &Packet) -> PacketBytes
@@ -19,6 +22,7 @@ pub fn write_packet(p: &Packet) -> PacketBytes
         Packet::Join => bytes.append(&[VERSION, JOIN]),
         Packet::Step(packet) => append_move(&mut bytes, *packet),
         Packet::Leave => bytes.append(&[VERSION, LEAVE]),
+        Packet::Steps(packet) => append_steps(&mut bytes, packet),
     }
     bytes
 }
@@ -35,4 +39,32 @@ fn append_move(bytes: &mut PacketBytes, packet: MovePacket)
     bytes.append(&packet.wish_x.to_le_bytes());
     bytes.append(&packet.wish_y.to_le_bytes());
     bytes.append(&[packet.buttons]);
+}
+
+// Puts the bytes of a packet of version 2 last.
+fn append_steps(bytes: &mut PacketBytes, packet: &StepsPacket)
+    requires allowed { IsAllowedSteps packet.now }
+    requires room { length bytes.old + 25 ≤ MAX_PACKET_BYTES }
+    ensures appended { bytes.new ≡ bytes.old ++ spelling (Steps packet.now) }
+    ensures fits { StepsFit packet.now }
+{
+    let cmds = packet.cmds.as_slice();
+    bytes.append(&[VERSION_2, MOVE]);
+    bytes.append(&packet.seq.to_le_bytes());
+    bytes.append(&[cmds.len() as u8]);
+    for block in cmds {
+        append_block(bytes, *block);
+    }
+}
+
+// Puts the bytes of a command of version 2 last.
+fn append_block(bytes: &mut PacketBytes, block: CmdBlock)
+    requires { length bytes.old + 6 ≤ MAX_PACKET_BYTES }
+    ensures appended { bytes.new ≡ bytes.old ++ block_fields block }
+    ensures fits { BlockFits block }
+{
+    bytes.append(&[block.ms]);
+    bytes.append(&block.wish_x.to_le_bytes());
+    bytes.append(&block.wish_y.to_le_bytes());
+    bytes.append(&[block.buttons]);
 }
