@@ -13,7 +13,8 @@ use Rattle.client_ports.specs.declared.arrival.Arrival.{Arrival}
 use Rattle.client_ports.specs.declared.client.Client.{Client}
 use Rattle.client_ports.specs.declared.client.LiveSlot.{LiveSlot}
 use Rattle.packet_read.specs.declared.move_packet.MovePacket.{MovePacket}
-use Rattle.client_ports.specs.NewMoves.{commands_of, numbers_in, last_in, RiseFrom}
+use Rattle.packet_read.specs.Commands.{commands_of}
+use Rattle.client_ports.specs.NewMoves.{numbers_in, last_in, RiseFrom}
 use Rattle.client_ports.specs.Clients.{client, client_at, live_slot, new_client, with_client, AreClients}
 use Rattle.client_ports.specs.States.{State}
 use Rattle.client_ports.specs.Lists.{Lists}

@@ -12,7 +12,7 @@ use Rattle.entity_recs.specs.declared.rec.Rec.{Rec}
 use Rattle.entity_recs.specs.Bodies.{body_of, player_body}
 use Rattle.entity_recs.specs.Kinds.{is_solid}
 use Rattle.packet_read.specs.declared.packet.Packet.{Packet}
-use Rattle.packet_read.specs.declared.packet.Packet.TheVariants.{Join, Step, Leave}
+use Rattle.packet_read.specs.declared.packet.Packet.TheVariants.{Join, Step, Leave, Steps}
 use Rattle.packet_read.specs.declared.packet_fault.PacketFault.{PacketFault}
 use Rattle.packet_read.specs.declared.move_packet.MovePacket.{MovePacket}
 use Rattle.packet_read.specs.Reading.{reading}
@@ -31,7 +31,8 @@ use Rattle.client_ports.specs.declared.refusal.Refusal.TheVariants as refusal
 use Rattle.client_ports.specs.declared.spawns.Place.{Place}
 use Rattle.client_ports.specs.Clients.{client, client_at, port_of, ports_of, live_slot, live_at, live_with, AreClients}
 use Rattle.client_ports.specs.States.{State, IsState}
-use Rattle.client_ports.specs.NewMoves.{commands_of, new_among, numbers_in, last_in}
+use Rattle.packet_read.specs.Commands.{commands_of}
+use Rattle.client_ports.specs.NewMoves.{new_among, numbers_in, last_in}
 use Rattle.client_ports.specs.Answers.{free_spawn, place_at, place_in, join_answer, leaving, leave_by, leave_answer, moved, move_by, move_answer}
 use Rattle.client_ports.specs.Receiving.{Receiving, after_join, after_leave, after_move, after_packet, after_arrival, command_in}
 use Rattle.client_ports.specs.Laws.{IsClear, AreAccepted, AcceptedNumbersRise, IsAcceptedLeave, IsRefused, IsJoined, IsLeave, AreCommandsOf, IsMove}
@@ -245,7 +246,8 @@ module _ (map : MapView) (frame : ℕ) (r : Receiving) (place : ℕ) (a : Arriva
   packet-one (Err why) e = inl (inl (record { why = refusal.Packet why; state = refl; lists = refl }))
   packet-one (Ok Join) e = join-one e (join_answer map r.state a.port) refl
   packet-one (Ok Leave) e = leave-one e (leave_answer r.state.clients a.port) refl
-  packet-one (Ok (Step m)) e = move-one (Step m) e (move_answer r.state.clients a.port (m ∷ [])) refl
+  packet-one (Ok (Step m)) e = move-one (Step m) e (move_answer r.state.clients a.port (commands_of (Step m))) refl
+  packet-one (Ok (Steps s)) e = move-one (Steps s) e (move_answer r.state.clients a.port (commands_of (Steps s))) refl
 
   pub one_answer : let next = after_arrival map frame r place a in (IsRefused r next place ⊎ IsJoined map r next a) ⊎ (IsLeave r next a ⊎ IsMove frame r next a)
   one_answer = packet-one (reading a.bytes) refl

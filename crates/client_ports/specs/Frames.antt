@@ -14,7 +14,8 @@ use Rattle.arena_map.specs.Validity.{IsOpeningWorld, AreClear}
 use Rattle.client_ports.specs.declared.arrival.Arrival.{Arrival}
 use Rattle.client_ports.specs.declared.client.Client.{Client}
 use Rattle.client_ports.specs.declared.received.Refused.{Refused}
-use Rattle.client_ports.specs.NewMoves.{commands_of, last_in}
+use Rattle.packet_read.specs.Commands.{commands_of}
+use Rattle.client_ports.specs.NewMoves.{last_in}
 use Rattle.client_ports.specs.Clients.{no_clients, client_at, port_of, AreClients}
 use Rattle.client_ports.specs.States.{State, state_of, IsServerState}
 use Rattle.client_ports.specs.Finishing.{is_leaver, finished}

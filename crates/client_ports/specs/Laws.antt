@@ -21,7 +21,8 @@ use Rattle.client_ports.specs.declared.spawns.Place.{Place}
 use Rattle.client_ports.specs.Clients.{client, client_at, ports_of, AreClients}
 use Rattle.client_ports.specs.States.{State, IsState, with_newcomer, with_update}
 use Rattle.client_ports.specs.Lists.{with_join, with_moves, with_refusal}
-use Rattle.client_ports.specs.NewMoves.{commands_of, new_among, numbers_in, last_in, RiseFrom}
+use Rattle.packet_read.specs.Commands.{commands_of}
+use Rattle.client_ports.specs.NewMoves.{new_among, numbers_in, last_in, RiseFrom}
 use Rattle.client_ports.specs.Answers.{join_answer, leave_answer, moved, move_answer}
 use Rattle.client_ports.specs.Receiving.{Receiving, after_refusal, after_arrival}
 use Rattle.client_ports.specs.Reasons.{HasNoRoom, HasReason}

@@ -1,14 +1,11 @@
 -- Which commands of a move packet are new: those whose number is above the last accepted one.
-use Rattle.std.specs.Prelude.{ℕ, ◌+◌, ◌<◌, nat_lt, List, [], ◌∷◌, map, filter}
+use Rattle.std.specs.Prelude.{ℕ, ◌+◌, ◌<◌, ◌≤◌, nat_lt, List, [], ◌∷◌, map, filter}
 use Rattle.packet_read.specs.declared.move_packet.MovePacket.{MovePacket}
-use Rattle.packet_read.specs.declared.packet.Packet.{Packet}
-use Rattle.packet_read.specs.declared.packet.Packet.TheVariants.{Join, Step, Leave}
 
--- TEMPORARY
-abbrev pub commands_of : Packet → List MovePacket
-commands_of Join = []
-commands_of (Step m) = m ∷ []
-commands_of Leave = []
+-- a command takes 1 to 50 milliseconds
+pub record TakesItsTime (m : MovePacket) : Type 0 where
+  pub least : 1 ≤ m.ms
+  pub most : m.ms ≤ 50
 
 -- the commands among these whose number is above this one
 abbrev pub new_among : ℕ → List MovePacket → List MovePacket

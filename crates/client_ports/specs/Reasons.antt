@@ -7,7 +7,7 @@ use Rattle.entity_recs.specs.declared.rec.Rec.{Rec}
 use Rattle.entity_recs.specs.Bodies.{body_of, player_body}
 use Rattle.entity_recs.specs.Kinds.{is_solid}
 use Rattle.packet_read.specs.declared.packet.Packet.{Packet}
-use Rattle.packet_read.specs.declared.packet.Packet.TheVariants.{Join, Step, Leave}
+use Rattle.packet_read.specs.declared.packet.Packet.TheVariants.{Join, Step, Leave, Steps}
 use Rattle.packet_read.specs.declared.packet_fault.PacketFault.{PacketFault}
 use Rattle.entity_slots.specs.Ports.{is_joined, is_full}
 use Rattle.arena_map.specs.Maps.{MapView, solids_of}
@@ -15,7 +15,8 @@ use Rattle.world_tree.specs.Live.{record_at}
 use Rattle.client_ports.specs.declared.client.Client.{Client}
 use Rattle.client_ports.specs.declared.refusal.Refusal.{Refusal}
 use Rattle.client_ports.specs.declared.refusal.Refusal.TheVariants as refusal
-use Rattle.client_ports.specs.NewMoves.{commands_of, new_among}
+use Rattle.packet_read.specs.Commands.{commands_of}
+use Rattle.client_ports.specs.NewMoves.{new_among}
 use Rattle.client_ports.specs.Clients.{client_at, ports_of}
 use Rattle.client_ports.specs.States.{State}
 
@@ -57,6 +58,7 @@ pub record FindsNoRoom (map : MapView) (state : State) (read : Result Packet Pac
 -- the packet is a move packet
 abbrev pub is_move : Packet → Bool
 is_move (Step packet) = true
+is_move (Steps packet) = true
 is_move _ = false
 
 -- the packet is a leave or a move packet

@@ -3,8 +3,9 @@ use Rattle.std.specs.Prelude.{ℕ, ◌+◌, List, [], ◌∷◌, map as map_list
 use Rattle.entity_recs.specs.Commands.{Command}
 use Rattle.packet_read.specs.declared.move_packet.MovePacket.{MovePacket}
 use Rattle.packet_read.specs.declared.packet.Packet.{Packet}
-use Rattle.packet_read.specs.declared.packet.Packet.TheVariants.{Join, Step, Leave}
+use Rattle.packet_read.specs.declared.packet.Packet.TheVariants.{Join, Step, Leave, Steps}
 use Rattle.packet_read.specs.declared.packet_fault.PacketFault.{PacketFault}
+use Rattle.packet_read.specs.Commands.{commands_of}
 use Rattle.packet_read.specs.Reading.{reading}
 use Rattle.arena_map.specs.Maps.{MapView}
 use Rattle.client_ports.specs.declared.arrival.Arrival.{Arrival}
@@ -62,13 +63,17 @@ after_move (Ok live) frame steps r place =
     receiving_of (with_update r.state (moved live new))
     (with_moves r.lists (map_list (command_in frame live.slot) new))
 
+-- after a move packet of a port with these commands
+abbrev pub after_commands : ℕ → List MovePacket → Receiving → ℕ → ℕ → Receiving
+after_commands frame steps r place port = after_move (move_answer r.state.clients port steps) frame steps r place
+
 -- after a packet
 abbrev pub after_packet : MapView → ℕ → Result Packet PacketFault → Receiving → ℕ → ℕ → Receiving
 after_packet map frame (Err why) r place port = after_refusal r place (refusal.Packet why)
 after_packet map frame (Ok Join) r place port = after_join (join_answer map r.state port) r place port
 after_packet map frame (Ok Leave) r place port = after_leave (leave_answer r.state.clients port) r place
-after_packet map frame (Ok (Step m)) r place port =
-    after_move (move_answer r.state.clients port (m ∷ [])) frame (m ∷ []) r place
+after_packet map frame (Ok (Step m)) r place port = after_commands frame (commands_of (Step m)) r place port
+after_packet map frame (Ok (Steps s)) r place port = after_commands frame (commands_of (Steps s)) r place port
 
 -- after an arrival at this place of the frame
 abbrev pub after_arrival : MapView → ℕ → Receiving → ℕ → Arrival → Receiving
