@@ -1,9 +1,10 @@
 -- The moves of each slot in a frame: their numbers, and how many they are.
 use Rattle.std.proofs.Common.{◌≡◌, ◌≢◌, ◌⊎◌, ℕ, suc, ◌+◌, ◌<◌, ◌≤◌, ◌==◌, Bool, true, false, cond, List, [], ◌∷◌, ◌++◌, length, filter, All, Option, Some, None, is_some, IsSome, slice_index, sym, refl, ap, ◌∙◌, subst, inl, inr, arith}
 use Rattle.std.specs.Prelude.{map as map_list}
-use Rattle.std.specs.List.{IsDistinct, AllByRecursion}
+use Rattle.std.specs.List.{count_by, IsDistinct, AllByRecursion}
+use Rattle.std.proofs.lemmas.List.Sums.{sum_by-cons}
 use Rattle.std.specs.List.Sorted.{IsStrictlyIncreasing}
-use Rattle.std.proofs.lemmas.Bool.{cases_eq, eq-eqb, ne_eqb, and_left, and_right}
+use Rattle.std.proofs.lemmas.Bool.{cases_eq, eqb-true, eq-eqb, ne_eqb, and_left, and_right}
 use Rattle.std.proofs.lemmas.List.{append-nil, append_assoc, get_or_append_left, get_or_push, get_or-set_same, length_push, length-map, map-append}
 use Rattle.std.proofs.lemmas.List.Elements.{All-append, All-cons, All-get_or, All-head, All-nil, All-push, All-same, All-tail, All-weaker, filter-append}
 use Rattle.std.proofs.lemmas.List.Kept.{AllPairs-from_increasing}
@@ -20,7 +21,7 @@ use Rattle.client_ports.specs.States.{State}
 use Rattle.client_ports.specs.Lists.{Lists}
 use Rattle.client_ports.specs.Receiving.{Receiving, after_arrival, after_arrivals, received}
 use Rattle.client_ports.specs.Laws.{AreAccepted, IsAcceptedLeave, IsRefused, IsJoined, IsLeave, AreCommandsOf, IsMove}
-use Rattle.client_ports.specs.Frames.{last_of, move_count, numbers_of, IsAdvance}
+use Rattle.client_ports.specs.Frames.{last_of, move_count, numbers_of, IsAdvance, NumbersAreAcceptedOnce}
 use Rattle.client_ports.proofs.Facts.{one_answer}
 use Rattle.client_ports.proofs.Slots.{read-set}
 use Rattle.client_ports.proofs.Changes.{live-inside, IsNewcomer, join-newcomer}
@@ -335,6 +336,37 @@ pub numbers_apart : (arena : MapView) (frame : ℕ) (state : State) (arrivals : 
 numbers_apart arena frame state arrivals =
     let moves = (received arena frame state arrivals).lists.moves in
     apart-where_rising moves (λ slot. rising-tail (last_of (client_at state.clients slot)) (numbers_of slot moves) (numbers_rise arena frame state arrivals slot).rise)
+
+-- ---- a number is accepted once
+
+-- one number more, which is below the others
+once-more : (last m : ℕ) (numbers : List ℕ) (n : ℕ) → last < m → (count_by (λ k. k == n) numbers ≤ 1) × (n ≤ m → count_by (λ k. k == n) numbers ≡ 0)
+    → (count_by (λ k. k == n) (m ∷ numbers) ≤ 1) × (n ≤ last → count_by (λ k. k == n) (m ∷ numbers) ≡ 0)
+once-more last m numbers n above rest = by (m == n) refl
+  where
+    count : (b : Bool) → (m == n) ≡ b → count_by (λ k. k == n) (m ∷ numbers) ≡ cond b 1 0 + count_by (λ k. k == n) numbers
+    count b e = sum_by-cons (λ (k : ℕ). cond (k == n) 1 0) m numbers ∙ ap (λ (c : Bool). cond c 1 0 + count_by (λ k. k == n) numbers) e
+
+    by : (b : Bool) → (m == n) ≡ b → (count_by (λ k. k == n) (m ∷ numbers) ≤ 1) × (n ≤ last → count_by (λ k. k == n) (m ∷ numbers) ≡ 0)
+    by true e =
+        let same = eqb-true m n e in
+        let none : count_by (λ k. k == n) numbers ≡ 0 = rest.1 (omega (arith, same)) in
+        let all = count true e in
+        (omega (arith, all, none), λ low. absurd (omega (arith, same, above, low)))
+    by false e =
+        let few : count_by (λ k. k == n) numbers ≤ 1 = rest.0 in
+        let all = count false e in
+        (omega (arith, all, few), λ low. let none : count_by (λ k. k == n) numbers ≡ 0 = rest.1 (omega (arith, low, above)) in omega (arith, all, none))
+
+-- a number comes once at the most among those that rise, and not at all where it isn't above what is before them
+once : (last : ℕ) (numbers : List ℕ) (n : ℕ) → IsStrictlyIncreasing (last ∷ numbers) → (count_by (λ m. m == n) numbers ≤ 1) × (n ≤ last → count_by (λ m. m == n) numbers ≡ 0)
+once last [] n rise = (omega arith, λ low. refl)
+once last (m ∷ numbers) n rise = once-more last m numbers n (All-head (λ k. last < k) m numbers (rising-head last (m ∷ numbers) rise)) (once m numbers n (rising-tail last (m ∷ numbers) rise))
+
+-- a number that comes again is accepted once
+pub accepted_once : NumbersAreAcceptedOnce
+accepted_once arena frame state arrivals slot n =
+    once (last_of (client_at state.clients slot)) (numbers_of slot (received arena frame state arrivals).lists.moves) n (numbers_rise arena frame state arrivals slot).rise
 
 -- ---- movers are live
 

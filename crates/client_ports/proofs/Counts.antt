@@ -1,6 +1,7 @@
 -- The packets of a frame, counted by their answers.
 use Rattle.std.proofs.Common.{◌≡◌, ◌⊎◌, ℕ, ◌+◌, ◌<◌, ◌≤◌, Bool, true, false, cond, List, [], ◌∷◌, ◌++◌, length, drop, Option, Some, None, slice_set, sym, refl, ap, subst, ◌∙◌, inl, inr, arith}
-use Rattle.std.specs.Prelude.{flat_map, count_by}
+use Rattle.std.specs.Prelude.{nat_lt, flat_map, count_by}
+use Rattle.std.proofs.lemmas.Bool.Decides.{nat_tests}
 use Rattle.std.proofs.Math.Seq.{drop-append_seam}
 use Rattle.std.proofs.lemmas.List.{append-nil, append_assoc, length_push}
 use Rattle.std.proofs.lemmas.List.Sums.{sum_by-cons, sum_by-set}
@@ -149,6 +150,9 @@ given-count : (r next : Receiving) (moves : List Command) → next.lists.moves �
 unfolding given_count
 given-count r next moves e = ap (λ (l : List Command). cond (is_some_move l) 1 0) (ap (drop (length r.lists.moves)) e ∙ drop-append_seam r.lists.moves moves)
 
+true-lt : (n : ℕ) → 1 ≤ n → nat_lt 0 n ≡ true
+true-lt n h = grind (arith, nat_tests)
+
 count-step : (map : MapView) (frame : ℕ) (r : Receiving) (place : ℕ) (a : Arrival)
     → let next = after_arrival map frame r place a in answer_count next + given_count r next ≡ answer_count r + 1
 unfolding answer_count lists_count
@@ -161,8 +165,7 @@ count-step map frame r place a = by (one_answer map frame r place a)
     none l e same = given-count r next [] (ap (λ (m : Lists). m.moves) e ∙ same ∙ sym (append-nil r.lists.moves))
 
     some : (moves : List Command) → 1 ≤ length moves → ◌≡◌ {A = ℕ} (cond (is_some_move moves) 1 0) 1
-    some [] h = absurd (omega (arith, h))
-    some (c ∷ moves) h = refl
+    some moves h = ap (λ (b : Bool). cond b 1 0) (true-lt (length moves) h)
 
     by : (IsRefused r next place ⊎ IsJoined map r next a) ⊎ (IsLeave r next a ⊎ IsMove frame r next a) → answer_count next + given_count r next ≡ answer_count r + 1
     by (inl (inl f)) = omega (arith, none _ f.lists refl, count-of next r.state _ f.state f.lists, length_push r.lists.refused (record { place = place; why = f.why }))

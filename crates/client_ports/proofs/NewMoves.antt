@@ -10,7 +10,8 @@ use Rattle.packet_read.specs.declared.packet.Packet.TheVariants.{Join, Step, Lea
 use Rattle.packet_read.specs.declared.block_list.CmdBlock.{CmdBlock}
 use Rattle.packet_read.specs.declared.packet_fault.PacketFault.{PacketFault}
 use Rattle.packet_read.specs.Commands.{commands_of, numbered_from, first_seq}
-use Rattle.packet_read.specs.Cause.{Form, join, move, leave, steps, form_in, blocks_from, blocks_in, cause_of, count_in, seq_in}
+use Rattle.packet_read.specs.Cause as cause
+use Rattle.packet_read.specs.Cause.{Form, form_in, blocks_from, blocks_in, cause_of, count_in, seq_in}
 use Rattle.packet_read.specs.Reading.{reading, packet_of, answer}
 use Rattle.client_ports.specs.NewMoves.{new_among, numbers_in, RiseFrom}
 
@@ -41,11 +42,11 @@ new-from last n (m ∷ steps) low rise = by (nat_lt last m.seq) refl (new-from l
 -- the new numbers rise from the last accepted one
 pub new-rise : (last : ℕ) (steps : List MovePacket) → Rise (numbers_in steps) → RiseFrom last (numbers_in (new_among last steps))
 new-rise last [] rise = tt
-new-rise last (m ∷ steps) rise = by (nat_lt last m.seq) refl
+new-rise last (m ∷ steps) rise = by (nat_lt last m.seq) refl (new-rise last steps (rise-tail m.seq (numbers_in steps) rise))
   where
-    by : (b : Bool) → nat_lt last m.seq ≡ b → RiseFrom last (numbers_in (cond b (m ∷ new_among last steps) (new_among last steps)))
-    by true e = let h = lt-true last m.seq e in (h, new-from last m.seq steps (omega (arith, h)) rise)
-    by false e = new-rise last steps (rise-tail m.seq (numbers_in steps) rise)
+    by : (b : Bool) → nat_lt last m.seq ≡ b → RiseFrom last (numbers_in (new_among last steps)) → RiseFrom last (numbers_in (cond b (m ∷ new_among last steps) (new_among last steps)))
+    by true e more = let h = lt-true last m.seq e in (h, new-from last m.seq steps (omega (arith, h)) rise)
+    by false e more = more
 
 -- numbered commands have numbers that rise
 numbered-above : (n : ℕ) (blocks : List CmdBlock) → RiseFrom n (numbers_in (numbered_from (n + 1) blocks))
@@ -82,10 +83,10 @@ length-blocks (suc n) bytes = let rest = length-blocks n (drop 6 bytes) in omega
 
 -- a packet of any form has at most 3 commands
 form-few : (form : Form) (bytes : List ℕ) → length (commands_of (packet_of form bytes)) ≤ 3
-form-few join bytes = omega arith
-form-few move bytes = omega arith
-form-few leave bytes = omega arith
-form-few steps bytes =
+form-few cause.join bytes = omega arith
+form-few cause.move bytes = omega arith
+form-few cause.leave bytes = omega arith
+form-few cause.steps bytes =
     let blocks = blocks_in bytes in
     let count = length-blocks (min (count_in bytes) 3) (drop 7 bytes) in
     let all = length-numbered (first_seq (record { seq = seq_in bytes; cmds = blocks })) blocks in

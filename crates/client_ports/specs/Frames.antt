@@ -22,7 +22,7 @@ use Rattle.client_ports.specs.Finishing.{is_leaver, finished}
 use Rattle.client_ports.specs.Lists.{no_lists}
 use Rattle.client_ports.specs.Laws.{IsCommandOf}
 use Rattle.client_ports.specs.Reasons.{HasReason}
-use Rattle.client_ports.specs.Receiving.{receiving_of, after_arrival, received}
+use Rattle.client_ports.specs.Receiving.{Receiving, receiving_of, after_arrival, received}
 
 -- ---- the packets of a frame, in turn
 

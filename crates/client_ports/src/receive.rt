@@ -75,8 +75,8 @@ fn numbered(packet: &StepsPacket) -> ArrayVec<MovePacket, MOST_BLOCKS>
 {
     let first = packet.first_seq();
     let mut steps = ArrayVec::new();
-    for (i, block) in packet.cmds.as_slice().iter().enumerate() {
-        steps.push(block.numbered(first + i as u32));
+    for block in packet.cmds.as_slice() {
+        steps.push(block.numbered(first + steps.len() as u32));
     }
     steps
 }

@@ -2,7 +2,7 @@ ghost use Rattle.std.specs.Prelude.{◌≡◌, ◌≤◌, length, true, All, IfO
 ghost use Rattle.arena_map.specs.MapLines.{IsWithinLimits, is_arena, is_added};
 ghost use Rattle.arena_map.specs.Maps.{IsMap};
 ghost use Rattle.arena_map.specs.Validity.{IsOpeningWorld, IsValidWorld};
-ghost use Rattle.client_ports.specs.Lists.{no_lists};
+ghost use Rattle.client_ports.specs.Lists.{no_lists, IsRoomFor};
 ghost use Rattle.move_journal.specs.Merges.{HasNumbersApart};
 ghost use Rattle.plain_server.specs.Moving.{HasLivePlayer};
 ghost use Rattle.world_tree.specs.Worlds.{IsLinked};
@@ -114,7 +114,7 @@ fn receive(map: &ArenaMap, world: &mut World, out: &mut Received)
     requires linked { IsLinked world.old }
     requires rules { IsMap map.now }
     requires empty { out.old.lists ≡ no_lists }
-    requires room { 4 ≤ out.old.room }
+    requires room { IsRoomFor 4 out.old.room }
     ensures valid { IsValidWorld map.now world.new.records }
     ensures live { All (HasLivePlayer world.new.records) out.new.lists.moves }
     ensures apart { HasNumbersApart out.new.lists.moves }
