@@ -1,7 +1,8 @@
 -- The loops over the commands of a packet.
 use Rattle.std.proofs.Common.{◌≡◌, ℕ, zero, suc, ◌+◌, ◌<◌, ◌≤◌, Bool, true, false, cond, List, [], ◌∷◌, ◌++◌, length, map as map_list, drop, sym, refl, ap, ◌∙◌, arith, drop-cons, get_or, length-append}
 use Rattle.std.specs.Prelude.{nat_lt}
-use Rattle.std.proofs.lemmas.List.{append-nil, append_assoc, length-map}
+use Rattle.std.proofs.lemmas.Bool.Decides.{nat_tests}
+use Rattle.std.proofs.lemmas.List.{append-nil, append_assoc, get_or_default, length-map}
 use Rattle.packet_read.specs.declared.block_list.CmdBlock.{CmdBlock}
 use Rattle.packet_read.specs.declared.move_packet.MovePacket.{MovePacket}
 use Rattle.packet_read.specs.Commands.{numbered, numbered_from}
@@ -119,3 +120,41 @@ last-no last now i step steps all below is test h =
 
 pub last-end : (last now i : ℕ) (steps : List MovePacket) (all : ℕ) → length steps ≤ i → last_in now (numbers_in (new_among last (drop i steps))) ≡ all → now ≡ all
 last-end last now i steps all past h = sym (ap (λ (s : List MovePacket). last_in now (numbers_in (new_among last s))) (drop-past i steps past)) ∙ h
+
+-- ---- the same, in the words of the code's tests
+
+true-lt : (m n : ℕ) → m < n → nat_lt m n ≡ true
+true-lt m n h = grind (arith, nat_tests)
+
+false-lt : (m n : ℕ) → n ≤ m → nat_lt m n ≡ false
+false-lt m n h = grind (arith, nat_tests)
+
+pub room-at : (last frame slot i most : ℕ) (d : MovePacket) (steps : List MovePacket) (l start : Lists) → i < length steps → last < (get_or steps i d).seq
+    → IsAccepting last frame slot i steps l start → length start.moves + length (new_among last steps) ≤ most → length l.moves < most
+room-at last frame slot i most d steps l start below above so_far fits =
+    let step = get_or steps i d in
+    accept-room last frame slot i most step steps l start below (get_or_default steps i d step below) (true-lt last step.seq above) so_far fits
+
+pub yes-at : (last frame slot i : ℕ) (d : MovePacket) (steps : List MovePacket) (l next start : Lists) (c : Command) → i < length steps → last < (get_or steps i d).seq
+    → c ≡ command_in frame slot (get_or steps i d) → next ≡ with_moves l (c ∷ []) → IsAccepting last frame slot i steps l start → IsAccepting last frame slot (i + 1) steps next start
+yes-at last frame slot i d steps l next start c below above command e so_far =
+    let step = get_or steps i d in
+    accept-yes last frame slot i step steps l next start c below (get_or_default steps i d step below) (true-lt last step.seq above) command e so_far
+
+pub no-at : (last frame slot i : ℕ) (d : MovePacket) (steps : List MovePacket) (l start : Lists) → i < length steps → (get_or steps i d).seq ≤ last
+    → IsAccepting last frame slot i steps l start → IsAccepting last frame slot (i + 1) steps l start
+no-at last frame slot i d steps l start below low so_far =
+    let step = get_or steps i d in
+    accept-no last frame slot i step steps l start below (get_or_default steps i d step below) (false-lt last step.seq low) so_far
+
+pub last-yes-at : (last now i : ℕ) (d : MovePacket) (steps : List MovePacket) (all : ℕ) → i < length steps → last < (get_or steps i d).seq
+    → last_in now (numbers_in (new_among last (drop i steps))) ≡ all → last_in (get_or steps i d).seq (numbers_in (new_among last (drop (i + 1) steps))) ≡ all
+last-yes-at last now i d steps all below above h =
+    let step = get_or steps i d in
+    last-yes last now i step steps all below (get_or_default steps i d step below) (true-lt last step.seq above) h
+
+pub last-no-at : (last now i : ℕ) (d : MovePacket) (steps : List MovePacket) (all : ℕ) → i < length steps → (get_or steps i d).seq ≤ last
+    → last_in now (numbers_in (new_among last (drop i steps))) ≡ all → last_in now (numbers_in (new_among last (drop (i + 1) steps))) ≡ all
+last-no-at last now i d steps all below low h =
+    let step = get_or steps i d in
+    last-no last now i step steps all below (get_or_default steps i d step below) (false-lt last step.seq low) h

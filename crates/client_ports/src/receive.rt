@@ -1,6 +1,6 @@
 ghost use Rattle.std.specs.Prelude.{◌≡◌, ◌+◌, ◌<◌, ◌≤◌, List, [], Option, length, map, All, IfOk};
 ghost use Rattle.packet_read.specs.declared.packet.Packet.TheVariants.{Steps};
-ghost use Rattle.packet_read.specs.Spelling.{IsAllowedSteps};
+ghost use Rattle.packet_read.specs.Spelling.{IsAllowedSteps, StepsFit};
 ghost use Rattle.packet_read.specs.Commands.{commands_of};
 ghost use Rattle.entity_recs.specs.declared.rec.Rec.{Rec};
 ghost use Rattle.arena_map.specs.Maps.{IsSpawn};
@@ -70,7 +70,8 @@ fn command(frame: u32, slot: u8, step: &MovePacket) -> Cmd
 
 /// The commands of a packet of version 2 as moves with their numbers, the oldest first.
 fn numbered(packet: &StepsPacket) -> ArrayVec<MovePacket, MOST_BLOCKS>
-    requires { IsAllowedSteps packet.now }
+    requires allowed { IsAllowedSteps packet.now }
+    requires fits { StepsFit packet.now }
     ensures { result.items ≡ commands_of (Steps packet.now) }
 {
     let first = packet.first_seq();

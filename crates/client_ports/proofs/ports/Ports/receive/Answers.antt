@@ -30,7 +30,7 @@ receive_one-requires-clause-moves c =
     let state = state_of c.args.self.now c.args.world.now.records in
     let whole = after_arrivals c.args.map.now c.args.frame (receiving_of state c.args.out.now.lists) 0 c.args.arrivals.now in
     let rest = arrivals-next c.args.map.now c.args.frame before next whole c.loop-arrival.place i a c.args.arrivals.now c.loop-arrival-test.true c.arrival-item.is refl c.loop-arrival.invariant.rest in
-    let few = whole_few c.args.map.now c.args.frame state c.args.out.now.lists c.args.arrivals.now c.clients.ensures.apart c.requires.empty in
+    let few = whole_few c.args.map.now c.args.frame state c.args.out.now.lists c.args.arrivals.now c.clients-clients.ensures.apart c.requires.empty in
     moves_fit i all c.args.map.now c.args.frame before c.loop-arrival.place a (drop (i + 1) c.args.arrivals.now) c.loop-arrival.out.room whole c.loop-arrival.invariant.left c.loop-arrival-test.true fits rest few
 
 pub loop-arrival-preserved : goal.loop-arrival-preserved
