@@ -115,8 +115,7 @@ moves-joined map frame r place (a ∷ more) =
 moves-few : (map : MapView) (frame : ℕ) (r : Receiving) (place : ℕ) (arrivals : List Arrival) → HaveFewMoves (moves_from map frame r place arrivals) arrivals
 moves-few map frame r place [] = tt
 moves-few map frame r place (a ∷ more) =
-    let g = gives map frame r place a in
-    (
+    let g = gives map frame r place a in (
       subst (λ (l : List Command). length l ≤ command_count (reading a.bytes)) (sym (given-is map frame r place a)) g.few,
       moves-few map frame (after_arrival map frame r place a) (place + 1) more,
     )

@@ -356,13 +356,20 @@ fn lost_commands_come_with_the_next_packet(rt: HostRuntime) -> Result<(), Fail> 
 
 #[test]
 fn a_command_keeps_its_own_fields(rt: HostRuntime) -> Result<(), Fail> {
-    let packets = [packet(7, Sent::Join), packet(7, Sent::Move(5)), steps(7, 7, 3)];
+    let packets = [
+        packet(7, Sent::Join),
+        packet(7, Sent::Move(5)),
+        steps(7, 7, 3),
+    ];
     let out = in_first_frame(rt.alloc(), &packets)?;
     let moves: Vec<(u32, u8, i16)> = out
         .moves()
         .iter()
         .map(|m| (m.seq, m.ms, m.wish_x))
         .collect(rt.alloc())?;
-    assert_eq!(rt; moves.as_slice(), [(5, 16, 0), (6, 50, 1), (7, 50, 2)].as_slice());
+    assert_eq!(rt;
+        moves.as_slice(),
+        [(5, 16, 0), (6, 50, 1), (7, 50, 2)].as_slice()
+    );
     Ok(())
 }
