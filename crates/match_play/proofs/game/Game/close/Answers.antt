@@ -12,7 +12,7 @@ with_frame-self-inside-requires-clause-few g c =
     let view = ap (λ (xs : List Arrival). game_with t old.is_open xs old.totals old.journals.items) c.as_slice.ensures.value ∙ c.self.view_is in
     let few = few-opened c.args.self.now t old.is_open c.as_slice.result.now old.totals old.journals.items view c.if-not-self.false c.requires.ready.few in
     few_in_frame t.map t.frames t.state c.as_slice.result.now c.run_frame.new.out.received.lists c.run_frame.new.out.journal.entries few
-    c.in_ok-run_frame.ensures.received c.in_ok-run_frame.ensures.right
+    c.in_ok-run_frame.ensures.received c.in_ok-run_frame.ensures.few
 
 pub returns-clause-closed : goal.returns-clause-closed
 returns-clause-closed g c =
