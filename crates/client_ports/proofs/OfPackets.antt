@@ -1,5 +1,5 @@
 -- Each accepted move of a frame is a command of one of its packets, from the port of the client in its slot.
-use Rattle.std.proofs.Common.{◌≡◌, ◌⊎◌, ℕ, suc, ◌+◌, List, [], ◌∷◌, ◌++◌, length, All, Option, Some, None, Ok, sym, refl, ap, ◌∙◌, subst, inl, inr}
+use Rattle.std.proofs.Common.{◌≡◌, ◌⊎◌, ℕ, ◌+◌, List, [], ◌∷◌, ◌++◌, length, All, Option, Some, None, Ok, sym, refl, ap, ◌∙◌, subst, inl, inr}
 use Rattle.std.specs.Prelude.{nat_lt, slice_get}
 use Rattle.std.specs.List.{Contains}
 use Rattle.std.proofs.lemmas.List.{append_assoc}
@@ -16,7 +16,7 @@ use Rattle.client_ports.specs.declared.client.Client.{Client}
 use Rattle.client_ports.specs.declared.client.LiveSlot.{LiveSlot}
 use Rattle.client_ports.specs.NewMoves.{new_among}
 use Rattle.client_ports.specs.Clients.{client_at, port_of, live_slot, new_client, with_client}
-use Rattle.client_ports.specs.States.{State, state_of}
+use Rattle.client_ports.specs.States.{State}
 use Rattle.client_ports.specs.Lists.{Lists, no_lists}
 use Rattle.client_ports.specs.Receiving.{Receiving, receiving_of, after_arrival, after_arrivals, received}
 use Rattle.client_ports.specs.Laws.{IsRefused, IsJoined, IsLeave, IsCommandOf, AreCommandsOf, IsMove}

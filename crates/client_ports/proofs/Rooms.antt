@@ -1,6 +1,5 @@
 -- The room of the lists: an arrival gives one join or one refusal or at most 3 moves, and a frame at most 512 moves.
-use Rattle.std.proofs.Common.{◌≡◌, ◌⊎◌, inl, inr, ℕ, ◌+◌, ◌*◌, ◌<◌, ◌≤◌, List, [], ◌∷◌, ◌++◌, length, map as map_list, drop, Result, Ok, Err, IfOk, refl, sym, ap, ◌∙◌, subst, arith, length-append}
-use Rattle.std.specs.Prelude.{min}
+use Rattle.std.proofs.Common.{◌≡◌, ◌⊎◌, inl, inr, ℕ, ◌+◌, ◌*◌, ◌<◌, ◌≤◌, List, [], ◌∷◌, length, map as map_list, Result, Ok, Err, IfOk, refl, sym, ap, subst, arith, length-append}
 use Rattle.std.proofs.Math.Nat.{le-min}
 use Rattle.std.proofs.lemmas.List.{length-map, length_push}
 use Rattle.packet_read.specs.declared.move_packet.MovePacket.{MovePacket}
@@ -12,15 +11,12 @@ use Rattle.arena_map.specs.Maps.{MapView}
 use Rattle.entity_recs.specs.Commands.{Command}
 use Rattle.client_ports.specs.declared.arrival.Arrival.{Arrival}
 use Rattle.client_ports.specs.declared.client.LiveSlot.{LiveSlot}
-use Rattle.client_ports.specs.declared.received.Joined.{Joined}
-use Rattle.client_ports.specs.declared.received.Refused.{Refused}
 use Rattle.client_ports.specs.declared.refusal.Refusal.{Refusal}
 use Rattle.client_ports.specs.Clients.{AreClients}
 use Rattle.client_ports.specs.NewMoves.{new_among}
-use Rattle.client_ports.specs.Answers.{move_answer}
 use Rattle.client_ports.specs.States.{State}
 use Rattle.client_ports.specs.Lists.{Lists, no_lists, Room, ReceivedView, most_moves, HasRoom, IsRoomFor}
-use Rattle.client_ports.specs.Receiving.{Receiving, receiving_of, command_in, after_move, after_commands, after_arrival, after_arrivals, received}
+use Rattle.client_ports.specs.Receiving.{Receiving, receiving_of, command_in, after_move, after_arrival, after_arrivals, received}
 use Rattle.client_ports.specs.Frames.{command_count}
 use Rattle.client_ports.specs.Laws.{IsRefused, IsJoined, IsLeave, IsMove}
 use Rattle.client_ports.proofs.Facts.{one_answer}

@@ -8,7 +8,7 @@ pub use Rattle.entity_recs.specs.Bodies
 pub use Rattle.entity_recs.specs.Commands
 pub use Rattle.entity_slots.specs.Ports
 pub use Rattle.entity_slots.specs.Places
-pub use Rattle.packet_read.specs.Commands
+pub use Rattle.packet_read.specs.Commands as PacketCommands
 pub use Rattle.packet_read.specs.Reading
 pub use Rattle.arena_map.specs.Maps
 pub use Rattle.arena_map.specs.Validity

@@ -1,5 +1,5 @@
 -- Which commands of a move packet are new: those whose number is above the last accepted one.
-use Rattle.std.specs.Prelude.{ℕ, ◌+◌, ◌<◌, ◌≤◌, nat_lt, List, [], ◌∷◌, map, filter}
+use Rattle.std.specs.Prelude.{ℕ, ◌<◌, ◌≤◌, nat_lt, List, [], ◌∷◌, map, filter}
 use Rattle.packet_read.specs.declared.move_packet.MovePacket.{MovePacket}
 
 -- a command takes 1 to 50 milliseconds

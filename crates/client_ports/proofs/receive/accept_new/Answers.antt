@@ -1,5 +1,5 @@
-use Rattle.std.proofs.Common.{ap, ◌∙◌, arith}
-use Rattle.client_ports.specs.Lists.{Room, ReceivedView}
+use Rattle.std.proofs.Common.{ap, arith}
+use Rattle.client_ports.specs.Lists.{Room}
 use Rattle.client_ports.proofs.Loops.{room-at}
 use Rattle.client_ports.proofs.receive.accept_new.Goals as goal
 
