@@ -1,6 +1,7 @@
 -- The room of the lists: an arrival gives one join or one refusal or at most 3 moves, and a frame at most 512 moves.
 use Rattle.std.proofs.Common.{◌≡◌, ◌⊎◌, inl, inr, ℕ, ◌+◌, ◌*◌, ◌<◌, ◌≤◌, List, [], ◌∷◌, length, map as map_list, Result, Ok, Err, IfOk, refl, sym, ap, subst, arith, length-append}
-use Rattle.std.proofs.Math.Nat.{le-min}
+use Rattle.std.specs.Prelude.{min}
+use Rattle.std.proofs.Math.Nat.{le-min, min-le_left, min-le_right}
 use Rattle.std.proofs.lemmas.List.{length-map, length_push}
 use Rattle.packet_read.specs.declared.move_packet.MovePacket.{MovePacket}
 use Rattle.packet_read.specs.declared.packet.Packet.{Packet}
@@ -15,7 +16,7 @@ use Rattle.client_ports.specs.declared.refusal.Refusal.{Refusal}
 use Rattle.client_ports.specs.Clients.{AreClients}
 use Rattle.client_ports.specs.NewMoves.{new_among}
 use Rattle.client_ports.specs.States.{State}
-use Rattle.client_ports.specs.Lists.{Lists, no_lists, Room, ReceivedView, most_moves, HasRoom, IsRoomFor}
+use Rattle.client_ports.specs.Lists.{Lists, no_lists, Room, ReceivedView, most_moves, HasRoom, IsRoomFor, room_for}
 use Rattle.client_ports.specs.Receiving.{Receiving, receiving_of, command_in, after_move, after_arrival, after_arrivals, received}
 use Rattle.client_ports.specs.Frames.{command_count}
 use Rattle.client_ports.specs.Laws.{IsRefused, IsJoined, IsLeave, IsMove}
@@ -35,6 +36,14 @@ pub room_left : (n all : ℕ) (r : ReceivedView) → HasRoomLeft n r.lists → n
 room_left n all r left below fits = record {
   joined = omega (arith, left.joined, below, fits.joined);
   refused = omega (arith, left.refused, below, fits.refused);
+}
+
+-- the room for some packets is enough for fewer
+pub room_enough : (n most : ℕ) → n ≤ most → IsRoomFor n (room_for most)
+room_enough n most few = record {
+  moves = let three : min (3 * n) 512 ≤ 3 * most = omega (arith, min-le_left (3 * n) 512, few) in le-min three (min-le_right (3 * n) 512);
+  joined = few;
+  refused = few;
 }
 
 -- an arrival has at most 3 commands

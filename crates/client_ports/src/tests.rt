@@ -116,6 +116,7 @@ fn joins(alloc: Global) -> Result<Vec<Arrival>, AllocError>
 }
 
 /// What the joins of ports 1 to 65 come to in the first frame of a map.
+#[tactic(auto, using(crate::proofs::Rooms::room_enough))]
 fn first_frame(alloc: Global, map: &ArenaMap) -> Result<Received, AllocError> {
     let joins = joins(alloc)?;
     let mut world = opening(alloc, map)?;
@@ -270,6 +271,7 @@ const ROWS: [Row; 7] = [
 ];
 
 /// What these packets come to in a frame of their own.
+#[tactic(auto, using(crate::proofs::Rooms::room_enough))]
 fn play(
     rt: &impl Abort,
     alloc: Global,
@@ -326,6 +328,7 @@ fn a_player_joins_moves_leaves_and_joins_again(rt: HostRuntime) -> Result<(), Fa
 }
 
 /// What these packets come to in the first frame of the map with one spawn.
+#[tactic(auto, using(crate::proofs::Rooms::room_enough))]
 fn in_first_frame(alloc: Global, packets: &[Arrival]) -> Result<Received, Fail>
     requires { length packets.now ≤ 16 }
 {
