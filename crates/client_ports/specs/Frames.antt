@@ -144,7 +144,7 @@ NumbersAreApart =
     (map : MapView) (frame : ℕ) (state : State) (arrivals : List Arrival)
     → IsDistinct is_same_move (received map frame state arrivals).lists.moves
 
--- a number that comes again is accepted once: no number stands twice among those of a slot's moves in a frame, and none
+-- a number that comes again is accepted once: no number comes twice among those of a slot's moves in a frame, and none
 -- that was accepted before the frame
 abbrev pub NumbersAreAcceptedOnce : Type 0
 NumbersAreAcceptedOnce =
