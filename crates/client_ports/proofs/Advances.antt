@@ -1,23 +1,27 @@
 -- The moves of each slot in a frame: their numbers, and how many they are.
 use Rattle.std.proofs.Common.{◌≡◌, ◌≢◌, ◌⊎◌, ℕ, suc, ◌+◌, ◌<◌, ◌≤◌, ◌==◌, Bool, true, false, cond, List, [], ◌∷◌, ◌++◌, length, filter, All, Option, Some, None, is_some, IsSome, slice_index, sym, refl, ap, ◌∙◌, subst, inl, inr, arith}
 use Rattle.std.specs.Prelude.{map as map_list}
-use Rattle.std.specs.List.{IsDistinct, AllByRecursion}
+use Rattle.std.specs.List.{count_by, IsDistinct, AllByRecursion}
+use Rattle.std.proofs.lemmas.List.Sums.{sum_by-cons}
 use Rattle.std.specs.List.Sorted.{IsStrictlyIncreasing}
-use Rattle.std.proofs.lemmas.Bool.{cases_eq, eq-eqb, ne_eqb, and_left, and_right}
-use Rattle.std.proofs.lemmas.List.{append-nil, get_or_append_left, get_or_push, get_or-set_same, length_push, map-append}
-use Rattle.std.proofs.lemmas.List.Elements.{All-cons, All-get_or, All-head, All-nil, All-push, All-same, All-tail, All-weaker, filter-append}
+use Rattle.std.proofs.lemmas.Bool.{cases_eq, eqb-true, eq-eqb, ne_eqb, and_left, and_right}
+use Rattle.std.proofs.lemmas.List.{append-nil, append_assoc, get_or_append_left, get_or_push, get_or-set_same, length_push, length-map, map-append}
+use Rattle.std.proofs.lemmas.List.Elements.{All-append, All-cons, All-get_or, All-head, All-nil, All-push, All-same, All-tail, All-weaker, filter-append}
 use Rattle.std.proofs.lemmas.List.Kept.{AllPairs-from_increasing}
 use Rattle.entity_recs.specs.Commands.{Command, is_same_move}
 use Rattle.arena_map.specs.Maps.{MapView}
 use Rattle.packet_read.specs.declared.arrival.Arrival.{Arrival}
 use Rattle.client_ports.specs.declared.client.Client.{Client}
 use Rattle.client_ports.specs.declared.client.LiveSlot.{LiveSlot}
+use Rattle.packet_read.specs.declared.move_packet.MovePacket.{MovePacket}
+use Rattle.packet_read.specs.Commands.{commands_of}
+use Rattle.client_ports.specs.NewMoves.{numbers_in, last_in, RiseFrom}
 use Rattle.client_ports.specs.Clients.{client, client_at, live_slot, new_client, with_client, AreClients}
 use Rattle.client_ports.specs.States.{State}
 use Rattle.client_ports.specs.Lists.{Lists}
 use Rattle.client_ports.specs.Receiving.{Receiving, after_arrival, after_arrivals, received}
-use Rattle.client_ports.specs.Laws.{IsAcceptedLeave, IsAcceptedMove, IsRefused, IsJoined, IsLeave, IsMove}
-use Rattle.client_ports.specs.Frames.{last_of, move_count, numbers_of, last_in, IsAdvance}
+use Rattle.client_ports.specs.Laws.{AreAccepted, IsAcceptedLeave, IsRefused, IsJoined, IsLeave, AreCommandsOf, IsMove}
+use Rattle.client_ports.specs.Frames.{last_of, move_count, numbers_of, IsAdvance, NumbersAreAcceptedOnce}
 use Rattle.client_ports.proofs.Facts.{one_answer}
 use Rattle.client_ports.proofs.Slots.{read-set}
 use Rattle.client_ports.proofs.Changes.{live-inside, IsNewcomer, join-newcomer}
@@ -30,12 +34,12 @@ record IsKept (before after : Option Client) : Type 0 where
   last : last_of after ≡ last_of before
   count : move_count after ≡ move_count before
 
--- it has one move more, which has this number
-record IsRaised (before after : Option Client) (seq : ℕ) : Type 0 where
+-- it has as many moves more as there are numbers, which rise from its last number to the new one
+record IsRaised (before after : Option Client) (numbers : List ℕ) : Type 0 where
   live : IsSome after
-  above : last_of before < seq
-  last : last_of after ≡ seq
-  count : move_count after ≡ move_count before + 1
+  rise : RiseFrom (last_of before) numbers
+  last : last_of after ≡ last_in (last_of before) numbers
+  count : move_count after ≡ move_count before + length numbers
 
 kept-same : (before after : Option Client) → after ≡ before → IsKept before after
 kept-same before after e = record { live = λ h. ap is_some e ∙ h; last = ap last_of e; count = ap move_count e }
@@ -63,12 +67,18 @@ kept-other clients live k other = elim (read-set clients live.slot k (Some live.
   | inr same ↦ kept-same (client_at clients k) (client_at (with_client clients live) k) same
 ]
 
-raised-move : (clients : List (Option Client)) (live : LiveSlot) (seq : ℕ) → IsAcceptedMove clients seq live → IsRaised (client_at clients live.slot) (client_at (with_client clients live) live.slot) seq
-raised-move clients live seq by =
+raised-move : (clients : List (Option Client)) (steps new : List MovePacket) (live : LiveSlot) → AreAccepted clients steps new live
+    → IsRaised (client_at clients live.slot) (client_at (with_client clients live) live.slot) (numbers_in new)
+raised-move clients steps new live by =
     let inside = live-inside clients live.slot by.was by.in_slot in
-    let now : client_at (with_client clients live) live.slot ≡ Some (client by.was.port seq false (by.was.moves + 1)) = written inside ∙ ap Some by.is in
-    let above : last_of (client_at clients live.slot) < seq = let e = ap last_of by.in_slot in let h = by.above in omega (arith, e, h) in
-    record { live = ap is_some now; above = above; last = ap last_of now; count = ap move_count now ∙ sym (ap (λ (c : Option Client). move_count c + 1) by.in_slot) }
+    let now : client_at (with_client clients live) live.slot ≡ Some (client by.was.port (last_in by.was.last (numbers_in new)) false (by.was.moves + length new)) = written inside ∙ ap Some by.is in
+    let was : last_of (client_at clients live.slot) ≡ by.was.last = ap last_of by.in_slot in
+    record {
+      live = ap is_some now;
+      rise = subst (λ (n : ℕ). RiseFrom n (numbers_in new)) (sym was) by.rise;
+      last = ap last_of now ∙ ap (λ (n : ℕ). last_in n (numbers_in new)) (sym was);
+      count = let e = ap move_count by.in_slot in let f = ap move_count now in let n = length-map new (λ (m : MovePacket). m.seq) in omega (arith, e, f, n);
+    }
   where
     written : live.slot < length clients → client_at (with_client clients live) live.slot ≡ Some live.client
     written inside = elim (read-set clients live.slot live.slot (Some live.client)) [
@@ -78,30 +88,37 @@ raised-move clients live seq by =
 
 -- ---- the numbers
 
-numbers-push : (slot : ℕ) (moves : List Command) (c : Command) → numbers_of slot (moves ++ c ∷ []) ≡ numbers_of slot moves ++ cond (c.slot == slot) (c.seq ∷ []) []
-numbers-push slot moves c =
-    ap (map_list (λ d. d.seq)) (filter-append own moves (c ∷ [])) ∙ map-append (λ d. d.seq) (filter own moves) (filter own (c ∷ [])) ∙ ap (λ (l : List ℕ). numbers_of slot moves ++ l) (by (own c))
+numbers-append : (slot : ℕ) (moves more : List Command) → numbers_of slot (moves ++ more) ≡ numbers_of slot moves ++ numbers_of slot more
+numbers-append slot moves more =
+    ap (map_list (λ d. d.seq)) (filter-append own moves more) ∙ map-append (λ d. d.seq) (filter own moves) (filter own more)
   where
     own : Command → Bool
     own d = d.slot == slot
 
-    by : (b : Bool) → map_list (λ d. d.seq) (cond b (c ∷ []) []) ≡ cond b (c.seq ∷ []) []
-    by true = refl
-    by false = refl
+-- the numbers of commands that are all of this slot
+numbers-own : (frame slot : ℕ) (steps : List MovePacket) (commands : List Command) → AreCommandsOf frame slot steps commands → numbers_of slot commands ≡ numbers_in steps
+numbers-own frame slot [] [] are = refl
+numbers-own frame slot [] (c ∷ commands) are = absurd are
+numbers-own frame slot (m ∷ steps) [] are = absurd are
+numbers-own frame slot (m ∷ steps) (c ∷ commands) are =
+    ap (λ (b : Bool). map_list (λ d. d.seq) (cond b (c ∷ filter (λ d. d.slot == slot) commands) (filter (λ d. d.slot == slot) commands))) (eq-eqb c.slot slot are.0.in_slot)
+    ∙ ap (λ (n : ℕ). n ∷ numbers_of slot commands) are.0.seq
+    ∙ ap (λ (l : List ℕ). m.seq ∷ l) (numbers-own frame slot steps commands are.1)
 
-numbers-own : (slot : ℕ) (moves : List Command) (c : Command) → c.slot ≡ slot → numbers_of slot (moves ++ c ∷ []) ≡ numbers_of slot moves ++ c.seq ∷ []
-numbers-own slot moves c own =
-    numbers-push slot moves c ∙ ap (λ (b : Bool). numbers_of slot moves ++ cond b (c.seq ∷ []) []) (eq-eqb c.slot slot own)
-
-numbers-other : (slot : ℕ) (moves : List Command) (c : Command) → c.slot ≢ slot → numbers_of slot (moves ++ c ∷ []) ≡ numbers_of slot moves
-numbers-other slot moves c other =
-    numbers-push slot moves c ∙ ap (λ (b : Bool). numbers_of slot moves ++ cond b (c.seq ∷ []) []) (ne_eqb c.slot slot other) ∙ append-nil (numbers_of slot moves)
+-- and of those that are of another
+numbers-other : (frame slot other : ℕ) (steps : List MovePacket) (commands : List Command) → AreCommandsOf frame other steps commands → slot ≢ other → numbers_of slot commands ≡ []
+numbers-other frame slot other [] [] are apart = refl
+numbers-other frame slot other [] (c ∷ commands) are apart = absurd are
+numbers-other frame slot other (m ∷ steps) [] are apart = absurd are
+numbers-other frame slot other (m ∷ steps) (c ∷ commands) are apart =
+    ap (λ (b : Bool). map_list (λ d. d.seq) (cond b (c ∷ filter (λ d. d.slot == slot) commands) (filter (λ d. d.slot == slot) commands))) (ne_eqb c.slot slot (λ e. apart (sym e ∙ are.0.in_slot)))
+    ∙ numbers-other frame slot other steps commands are.1 apart
 
 -- ---- a packet at a slot
 
--- nothing is accepted there, or one move
+-- nothing is accepted there, or some moves
 abbrev Step : Option Client → Option Client → List ℕ → List ℕ → Type 0
-Step before after old new = (IsKept before after × (new ≡ old)) ⊎ ((seq : ℕ) × IsRaised before after seq × (new ≡ old ++ seq ∷ []))
+Step before after old new = (IsKept before after × (new ≡ old)) ⊎ ((numbers : List ℕ) × IsRaised before after numbers × (new ≡ old ++ numbers))
 
 step : (map : MapView) (frame : ℕ) (r : Receiving) (place : ℕ) (a : Arrival) (k : ℕ) → let next = after_arrival map frame r place a in
     Step (client_at r.state.clients k) (client_at next.state.clients k) (numbers_of k r.lists.moves) (numbers_of k next.lists.moves)
@@ -122,19 +139,20 @@ step map frame r place a k = by (one_answer map frame r place a)
     moved : IsMove frame r next a → Goal
     moved m = at (cases_eq k m.live.slot)
       where
-        is : IsAcceptedMove r.state.clients m.command.seq m.live
-        is = m.accepted
+        all : numbers_of k next.lists.moves ≡ numbers_of k r.lists.moves ++ numbers_of k m.commands
+        all = ap (λ (l : Lists). numbers_of k l.moves) m.lists ∙ numbers-append k r.lists.moves m.commands
 
         at : (k ≡ m.live.slot) ⊎ (k ≢ m.live.slot) → Goal
         at (inl same) = inr (
-          m.command.seq,
-          subst (λ (s : State). IsRaised (client_at r.state.clients k) (client_at s.clients k) m.command.seq) (sym m.state)
-              (subst (λ (j : ℕ). IsRaised (client_at r.state.clients j) (client_at (with_client r.state.clients m.live) j) m.command.seq) (sym same) (raised-move r.state.clients m.live m.command.seq is)),
-          ap (λ (l : Lists). numbers_of k l.moves) m.lists ∙ numbers-own k r.lists.moves m.command (m.of_packet.in_slot ∙ sym same),
+          numbers_in m.new,
+          subst (λ (s : State). IsRaised (client_at r.state.clients k) (client_at s.clients k) (numbers_in m.new)) (sym m.state)
+              (subst (λ (j : ℕ). IsRaised (client_at r.state.clients j) (client_at (with_client r.state.clients m.live) j) (numbers_in m.new)) (sym same)
+              (raised-move r.state.clients (commands_of m.packet) m.new m.live m.accepted)),
+          all ∙ ap (λ (l : List ℕ). numbers_of k r.lists.moves ++ l) (numbers-own frame k m.new m.commands (subst (λ (j : ℕ). AreCommandsOf frame j m.new m.commands) (sym same) m.of_packet)),
         )
         at (inr other) = inl (
           clients-are _ m.state (kept-other r.state.clients m.live k other),
-          ap (λ (l : Lists). numbers_of k l.moves) m.lists ∙ numbers-other k r.lists.moves m.command (λ e. other (sym e ∙ m.of_packet.in_slot)),
+          all ∙ ap (λ (l : List ℕ). numbers_of k r.lists.moves ++ l) (numbers-other frame k m.live.slot m.new m.commands m.of_packet other) ∙ append-nil (numbers_of k r.lists.moves),
         )
 
     by : (IsRefused r next place ⊎ IsJoined map r next a) ⊎ (IsLeave r next a ⊎ IsMove frame r next a) → Goal
@@ -179,41 +197,60 @@ last-push : (n : ℕ) (xs : List ℕ) (m : ℕ) → last_in n (xs ++ m ∷ []) �
 last-push n [] m = refl
 last-push n (x ∷ xs) m = last-push x xs m
 
+-- from a start on numbers came, the last of which this is, and so many moves
+record IsReached (start : Option Client) (last count : ℕ) (numbers : List ℕ) : Type 0 where
+  rise : IsStrictlyIncreasing (last_of start ∷ numbers)
+  last_is : last ≡ last_in (last_of start) numbers
+  count_is : count ≡ move_count start + length numbers
+  most : All (λ n. n ≤ last) (last_of start ∷ numbers)
+
+reached-one : (start : Option Client) (last count : ℕ) (numbers : List ℕ) (n : ℕ) → IsReached start last count numbers → last < n → IsReached start n (count + 1) (numbers ++ n ∷ [])
+reached-one start last count numbers n so_far above =
+    let all = last_of start ∷ numbers in
+    record {
+      rise = rising-push all last n so_far.rise so_far.most above;
+      last_is = sym (last-push (last_of start) numbers n);
+      count_is = omega (arith, so_far.count_is, length_push numbers n);
+      most = All-push (λ m. m ≤ n) all n (All-weaker (λ m. m ≤ last) (λ m. m ≤ n) (λ m h. omega (arith, h, above)) all so_far.most) (omega arith);
+    }
+
+reached-all : (start : Option Client) (last count : ℕ) (numbers more : List ℕ) → IsReached start last count numbers → RiseFrom last more
+    → IsReached start (last_in last more) (count + length more) (numbers ++ more)
+reached-all start last count numbers [] so_far rise =
+    let same : count ≡ count + 0 = omega arith in
+    subst (λ (l : List ℕ). IsReached start last (count + 0) l) (sym (append-nil numbers)) (subst (λ (k : ℕ). IsReached start last k numbers) same so_far)
+reached-all start last count numbers (n ∷ more) so_far rise =
+    let next = reached-all start n (count + 1) (numbers ++ n ∷ []) more (reached-one start last count numbers n so_far rise.0) rise.1 in
+    let same : count + 1 + length more ≡ count + length (n ∷ more) = omega arith in
+    subst (λ (l : List ℕ). IsReached start (last_in n more) (count + length (n ∷ more)) l) (append_assoc numbers (n ∷ []) more)
+    (subst (λ (k : ℕ). IsReached start (last_in n more) k ((numbers ++ n ∷ []) ++ more)) same next)
+
 -- a slot through the packets so far: it advances, and no number is above the last one
-record IsFollowed (start now : Option Client) (numbers : List ℕ) : Type 0 where
-  advance : IsAdvance start now numbers
-  most : All (λ n. n ≤ last_of now) (last_of start ∷ numbers)
+IsFollowed : Option Client → Option Client → List ℕ → Type 0
+IsFollowed start now numbers = IsReached start (last_of now) (move_count now) numbers
 
 followed-start : (start : Option Client) → IsFollowed start start []
+unfolding IsFollowed
 followed-start start = record {
-  advance = record { rise = rising-one (last_of start); last = refl; count = omega arith };
+  rise = rising-one (last_of start);
+  last_is = refl;
+  count_is = omega arith;
   most = All-cons (λ n. n ≤ last_of start) (last_of start) [] (omega arith) (All-nil (λ n. n ≤ last_of start));
 }
 
 followed-step : (start before after : Option Client) (old new : List ℕ) → IsFollowed start before old → Step before after old new → IsFollowed start after new
+unfolding IsFollowed
 followed-step start before after old new so_far (inl same) =
     let kept = same.0 in
-    let P : List ℕ → Type 0 = λ l. IsFollowed start after l in
-    subst P (sym same.1) (record {
-      advance = record { rise = so_far.advance.rise; last = kept.last ∙ so_far.advance.last; count = kept.count ∙ so_far.advance.count };
-      most = subst (λ (m : ℕ). All (λ n. n ≤ m) (last_of start ∷ old)) (sym kept.last) so_far.most;
-    })
-followed-step start before after old new so_far (inr one) =
-    let seq = one.0 in
-    let raised = one.1 in
-    let numbers = last_of start ∷ old in
-    let P : List ℕ → Type 0 = λ l. IsFollowed start after l in
-    let above : last_of before < seq = raised.above in
-    let last : last_of after ≡ seq = raised.last in
-    let weaker : (n : ℕ) → n ≤ last_of before → n ≤ last_of after = λ n h. omega (arith, h, above, last) in
-    subst P (sym one.2) (record {
-      advance = record {
-        rise = rising-push numbers (last_of before) seq so_far.advance.rise so_far.most above;
-        last = last ∙ sym (last-push (last_of start) old seq);
-        count = omega (arith, raised.count, so_far.advance.count, length_push old seq);
-      };
-      most = All-push (λ n. n ≤ last_of after) numbers seq (All-weaker (λ n. n ≤ last_of before) (λ n. n ≤ last_of after) weaker numbers so_far.most) (omega (arith, last));
-    })
+    subst (λ (l : List ℕ). IsReached start (last_of after) (move_count after) l) (sym same.1)
+    (subst (λ (n : ℕ). IsReached start n (move_count after) old) (sym kept.last) (subst (λ (k : ℕ). IsReached start (last_of before) k old) (sym kept.count) so_far))
+followed-step start before after old new so_far (inr more) =
+    let numbers = more.0 in
+    let raised = more.1 in
+    let next = reached-all start (last_of before) (move_count before) old numbers so_far raised.rise in
+    subst (λ (l : List ℕ). IsReached start (last_of after) (move_count after) l) (sym more.2)
+    (subst (λ (n : ℕ). IsReached start n (move_count after) (old ++ numbers)) (sym raised.last)
+    (subst (λ (k : ℕ). IsReached start (last_in (last_of before) numbers) k (old ++ numbers)) (sym raised.count) next))
 
 followed : (arena : MapView) (frame slot : ℕ) (start : Option Client) (r : Receiving) (place : ℕ) (arrivals : List Arrival)
     → IsFollowed start (client_at r.state.clients slot) (numbers_of slot r.lists.moves)
@@ -228,14 +265,16 @@ followed arena frame slot start r place (a ∷ more) so_far =
 pub numbers_most : (arena : MapView) (frame : ℕ) (state : State) (arrivals : List Arrival) (slot : ℕ)
     → let next = received arena frame state arrivals in
     All (λ n. n ≤ last_of (client_at next.state.clients slot)) (last_of (client_at state.clients slot) ∷ numbers_of slot next.lists.moves)
-unfolding received
+unfolding received IsFollowed
 numbers_most arena frame state arrivals slot = (followed arena frame slot (client_at state.clients slot) _ 0 arrivals (followed-start (client_at state.clients slot))).most
 
 -- the accepted numbers of each slot rise in a frame
 pub numbers_rise : (arena : MapView) (frame : ℕ) (state : State) (arrivals : List Arrival) (slot : ℕ)
     → let next = received arena frame state arrivals in IsAdvance (client_at state.clients slot) (client_at next.state.clients slot) (numbers_of slot next.lists.moves)
-unfolding received
-numbers_rise arena frame state arrivals slot = (followed arena frame slot (client_at state.clients slot) _ 0 arrivals (followed-start (client_at state.clients slot))).advance
+unfolding received IsFollowed
+numbers_rise arena frame state arrivals slot =
+    let all = followed arena frame slot (client_at state.clients slot) _ 0 arrivals (followed-start (client_at state.clients slot)) in
+    record { rise = all.rise; last = all.last_is; count = all.count_is }
 
 -- ---- numbers are apart
 
@@ -298,6 +337,37 @@ numbers_apart arena frame state arrivals =
     let moves = (received arena frame state arrivals).lists.moves in
     apart-where_rising moves (λ slot. rising-tail (last_of (client_at state.clients slot)) (numbers_of slot moves) (numbers_rise arena frame state arrivals slot).rise)
 
+-- ---- a number is accepted once
+
+-- one number more, which is below the others
+once-more : (last m : ℕ) (numbers : List ℕ) (n : ℕ) → last < m → (count_by (λ k. k == n) numbers ≤ 1) × (n ≤ m → count_by (λ k. k == n) numbers ≡ 0)
+    → (count_by (λ k. k == n) (m ∷ numbers) ≤ 1) × (n ≤ last → count_by (λ k. k == n) (m ∷ numbers) ≡ 0)
+once-more last m numbers n above rest = by (m == n) refl
+  where
+    count : (b : Bool) → (m == n) ≡ b → count_by (λ k. k == n) (m ∷ numbers) ≡ cond b 1 0 + count_by (λ k. k == n) numbers
+    count b e = sum_by-cons (λ (k : ℕ). cond (k == n) 1 0) m numbers ∙ ap (λ (c : Bool). cond c 1 0 + count_by (λ k. k == n) numbers) e
+
+    by : (b : Bool) → (m == n) ≡ b → (count_by (λ k. k == n) (m ∷ numbers) ≤ 1) × (n ≤ last → count_by (λ k. k == n) (m ∷ numbers) ≡ 0)
+    by true e =
+        let same = eqb-true m n e in
+        let none : count_by (λ k. k == n) numbers ≡ 0 = rest.1 (omega (arith, same)) in
+        let all = count true e in
+        (omega (arith, all, none), λ low. absurd (omega (arith, same, above, low)))
+    by false e =
+        let few : count_by (λ k. k == n) numbers ≤ 1 = rest.0 in
+        let all = count false e in
+        (omega (arith, all, few), λ low. let none : count_by (λ k. k == n) numbers ≡ 0 = rest.1 (omega (arith, low, above)) in omega (arith, all, none))
+
+-- a number comes once at the most among those that rise, and not at all where it isn't above what is before them
+once : (last : ℕ) (numbers : List ℕ) (n : ℕ) → IsStrictlyIncreasing (last ∷ numbers) → (count_by (λ m. m == n) numbers ≤ 1) × (n ≤ last → count_by (λ m. m == n) numbers ≡ 0)
+once last [] n rise = (omega arith, λ low. refl)
+once last (m ∷ numbers) n rise = once-more last m numbers n (All-head (λ k. last < k) m numbers (rising-head last (m ∷ numbers) rise)) (once m numbers n (rising-tail last (m ∷ numbers) rise))
+
+-- a number that comes again is accepted once
+pub accepted_once : NumbersAreAcceptedOnce
+accepted_once arena frame state arrivals slot n =
+    once (last_of (client_at state.clients slot)) (numbers_of slot (received arena frame state arrivals).lists.moves) n (numbers_rise arena frame state arrivals slot).rise
+
 -- ---- movers are live
 
 -- a live slot stays live
@@ -334,9 +404,16 @@ live-step arena frame r place a live = by (one_answer arena frame r place a)
     by (inl (inr j)) = kept _ j.lists refl
     by (inr (inl l)) = kept _ l.lists refl
     by (inr (inr m)) =
-        let is = m.accepted in
-        let here : IsMoverOf next m.command = subst (λ (j : ℕ). IsSome (client_at next.state.clients j)) (sym m.of_packet.in_slot) (stays-live arena frame r place a m.live.slot (ap is_some is.in_slot)) in
-        All-same (IsMoverOf next) next.lists.moves (r.lists.moves ++ m.command ∷ []) (ap (λ (l : Lists). l.moves) m.lists) (All-push (IsMoverOf next) r.lists.moves m.command same here)
+        let here : IsSome (client_at next.state.clients m.live.slot) = stays-live arena frame r place a m.live.slot (ap is_some m.accepted.in_slot) in
+        All-same (IsMoverOf next) next.lists.moves (r.lists.moves ++ m.commands) (ap (λ (l : Lists). l.moves) m.lists)
+        (All-append (IsMoverOf next) r.lists.moves m.commands same (movers-are m.new m.commands m.of_packet here))
+      where
+        movers-are : (steps : List MovePacket) (commands : List Command) → AreCommandsOf frame m.live.slot steps commands → IsSome (client_at next.state.clients m.live.slot) → All (IsMoverOf next) commands
+        movers-are [] [] are here = All-nil (IsMoverOf next)
+        movers-are [] (c ∷ commands) are here = absurd are
+        movers-are (p ∷ steps) [] are here = absurd are
+        movers-are (p ∷ steps) (c ∷ commands) are here =
+            All-cons (IsMoverOf next) c commands (subst (λ (j : ℕ). IsSome (client_at next.state.clients j)) (sym are.0.in_slot) here) (movers-are steps commands are.1 here)
 
 live-through : (arena : MapView) (frame : ℕ) (r : Receiving) (place : ℕ) (arrivals : List Arrival) → AreLive r → AreLive (after_arrivals arena frame r place arrivals)
 live-through arena frame r place [] live = live

@@ -1,5 +1,5 @@
 -- The laws of the receive pass.
-use Rattle.std.proofs.Common.{◌≡◌, ◌⊎◌, ℕ, zero, suc, ◌+◌, ◌<◌, ◌==◌, Bool, true, false, ◌&&◌, ◌||◌, not, nat_le, if◌then◌else◌, List, [], ◌∷◌, Option, Some, None, option_map, Result, Ok, Err, ok_or, IfOk, sym, refl, ap, ◌∙◌, subst, inl, inr, arith}
+use Rattle.std.proofs.Common.{◌≡◌, ◌⊎◌, ℕ, zero, suc, ◌+◌, ◌≤◌, ◌==◌, Bool, true, false, ◌&&◌, ◌||◌, not, nat_lt, if◌then◌else◌, List, [], ◌∷◌, length, Option, Some, None, option_map, Result, Ok, Err, ok_or, IfOk, sym, refl, ap, ◌∙◌, subst, inl, inr, arith}
 use Rattle.std.specs.Prelude.{map as map_list}
 use Rattle.std.specs.List.{find}
 use Rattle.std.proofs.lemmas.Bool.{ne_eqb}
@@ -12,7 +12,7 @@ use Rattle.entity_recs.specs.declared.rec.Rec.{Rec}
 use Rattle.entity_recs.specs.Bodies.{body_of, player_body}
 use Rattle.entity_recs.specs.Kinds.{is_solid}
 use Rattle.packet_read.specs.declared.packet.Packet.{Packet}
-use Rattle.packet_read.specs.declared.packet.Packet.TheVariants.{Join, Step, Leave}
+use Rattle.packet_read.specs.declared.packet.Packet.TheVariants.{Join, Step, Leave, Steps}
 use Rattle.packet_read.specs.declared.packet_fault.PacketFault.{PacketFault}
 use Rattle.packet_read.specs.declared.move_packet.MovePacket.{MovePacket}
 use Rattle.packet_read.specs.Reading.{reading}
@@ -31,9 +31,12 @@ use Rattle.client_ports.specs.declared.refusal.Refusal.TheVariants as refusal
 use Rattle.client_ports.specs.declared.spawns.Place.{Place}
 use Rattle.client_ports.specs.Clients.{client, client_at, port_of, ports_of, live_slot, live_at, live_with, AreClients}
 use Rattle.client_ports.specs.States.{State, IsState}
+use Rattle.packet_read.specs.Commands.{commands_of}
+use Rattle.client_ports.specs.NewMoves.{new_among, numbers_in, last_in}
 use Rattle.client_ports.specs.Answers.{free_spawn, place_at, place_in, join_answer, leaving, leave_by, leave_answer, moved, move_by, move_answer}
 use Rattle.client_ports.specs.Receiving.{Receiving, after_join, after_leave, after_move, after_packet, after_arrival, command_in}
-use Rattle.client_ports.specs.Laws.{IsClear, IsAcceptedLeave, IsAcceptedMove, IsRefused, IsJoined, IsLeave, IsMove}
+use Rattle.client_ports.specs.Laws.{IsClear, AreAccepted, AcceptedNumbersRise, IsAcceptedLeave, IsRefused, IsJoined, IsLeave, AreCommandsOf, IsMove}
+use Rattle.client_ports.proofs.NewMoves.{Rise, new-rise, commands-rise}
 use Rattle.client_ports.proofs.Slots.{port_at-client, port_of-none}
 use Rattle.client_ports.proofs.Live.{free-record}
 
@@ -89,33 +92,48 @@ live_at-found clients (Some slot) live e = by (client_at clients slot) refl e
         let P : LiveSlot → Type 0 = λ l. client_at clients l.slot ≡ Some l.client in
         subst P same f
 
--- an accepted move has a number above the last one, and is one of few
-pub move_accepted : (clients : List (Option Client)) (port seq : ℕ) (live : LiveSlot) → move_answer clients port seq ≡ Ok live → IsAcceptedMove clients seq live
-move_accepted clients port seq live e = by (live_with clients port) refl e
+-- the commands of an accepted move packet have numbers above the last one, and are few
+pub steps_accepted : (clients : List (Option Client)) (port : ℕ) (steps : List MovePacket) (live : LiveSlot) → Rise (numbers_in steps) → move_answer clients port steps ≡ Ok live
+    → AreAccepted clients steps (new_among live.client.last steps) (moved live (new_among live.client.last steps))
+steps_accepted clients port steps live rise e = by (live_with clients port) refl e
   where
-    le-false : (m n : ℕ) → nat_le m n ≡ false → n < m
-    le-false m n h = grind (arith, nat_tests)
+    some-false : (n : ℕ) → (n == 0) ≡ false → 1 ≤ n
+    some-false n h = grind (arith, nat_tests)
 
-    at : (l : LiveSlot) → client_at clients l.slot ≡ Some l.client → (leaves old many : Bool) → l.client.leaves ≡ leaves → nat_le seq l.client.last ≡ old → nat_le 8 l.client.moves ≡ many
-        → (if leaves then Err refusal.Leaving else if old then Err refusal.Old else if many then Err refusal.Many else Ok (moved l seq)) ≡ Ok live → IsAcceptedMove clients seq live
-    at l in_slot true old many a b c h = cc
+    few-false : (n : ℕ) → nat_lt 8 n ≡ false → n ≤ 8
+    few-false n h = grind (arith, nat_tests)
+
+    at : (l : LiveSlot) → client_at clients l.slot ≡ Some l.client → (leaves none many : Bool) → l.client.leaves ≡ leaves
+        → (length (new_among l.client.last steps) == 0) ≡ none → nat_lt 8 (l.client.moves + length (new_among l.client.last steps)) ≡ many
+        → (if leaves then Err refusal.Leaving else if none then Err refusal.Old else if many then Err refusal.Many else Ok l) ≡ Ok live
+        → AreAccepted clients steps (new_among live.client.last steps) (moved live (new_among live.client.last steps))
+    at l in_slot true none many a b c h = cc
     at l in_slot false true many a b c h = cc
     at l in_slot false false true a b c h = cc
     at l in_slot false false false a b c h =
-        let same = same_Ok (moved l seq) live h in
-        let P : LiveSlot → Type 0 = λ m. IsAcceptedMove clients seq m in
+        let same = same_Ok l live h in
+        let P : LiveSlot → Type 0 = λ k. AreAccepted clients steps (new_among k.client.last steps) (moved k (new_among k.client.last steps)) in
         subst P same (record {
           was = l.client;
           in_slot = in_slot;
           stays = a;
-          above = le-false seq l.client.last b;
-          few = le-false 8 l.client.moves c;
-          is = ap (λ (leaves : Bool). client l.client.port seq leaves (l.client.moves + 1)) a;
+          are_new = refl;
+          some = some-false (length (new_among l.client.last steps)) b;
+          rise = new-rise l.client.last steps rise;
+          few = few-false (l.client.moves + length (new_among l.client.last steps)) c;
+          is = ap (λ (leaves : Bool). client l.client.port (last_in l.client.last (numbers_in (new_among l.client.last steps))) leaves (l.client.moves + length (new_among l.client.last steps))) a;
         })
 
-    by : (o : Option LiveSlot) → live_with clients port ≡ o → move_by o seq ≡ Ok live → IsAcceptedMove clients seq live
+    by : (o : Option LiveSlot) → live_with clients port ≡ o → move_by o steps ≡ Ok live
+        → AreAccepted clients steps (new_among live.client.last steps) (moved live (new_among live.client.last steps))
     by None f h = cc
-    by (Some l) f h = at l (live_at-found clients (slots.slot_of (ports_of clients) port) l f) l.client.leaves (nat_le seq l.client.last) (nat_le 8 l.client.moves) refl refl refl h
+    by (Some l) f h =
+        at l (live_at-found clients (slots.slot_of (ports_of clients) port) l f) l.client.leaves (length (new_among l.client.last steps) == 0)
+        (nat_lt 8 (l.client.moves + length (new_among l.client.last steps))) refl refl refl h
+
+-- so are those of a packet
+pub move_accepted : AcceptedNumbersRise
+move_accepted clients port packet live e = steps_accepted clients port (commands_of packet) live (commands-rise packet) e
 
 -- an accepted leave
 pub leave_accepted : (clients : List (Option Client)) (port : ℕ) (live : LiveSlot) → leave_answer clients port ≡ Ok live → IsAcceptedLeave clients live
@@ -162,19 +180,21 @@ leave-own clients port live e = by (live_with clients port) refl e
     by (Some l) f h = at l (live_with-own clients port l f) l.client.leaves h
 
 -- and one that moves
-move-own : (clients : List (Option Client)) (port seq : ℕ) (live : LiveSlot) → move_answer clients port seq ≡ Ok live → live.client.port ≡ port
-move-own clients port seq live e = by (live_with clients port) refl e
+move-own : (clients : List (Option Client)) (port : ℕ) (steps : List MovePacket) (live : LiveSlot) → move_answer clients port steps ≡ Ok live → live.client.port ≡ port
+move-own clients port steps live e = by (live_with clients port) refl e
   where
-    at : (l : LiveSlot) → l.client.port ≡ port → (leaves old many : Bool)
-        → (if leaves then Err refusal.Leaving else if old then Err refusal.Old else if many then Err refusal.Many else Ok (moved l seq)) ≡ Ok live → live.client.port ≡ port
-    at l own true old many h = cc
+    at : (l : LiveSlot) → l.client.port ≡ port → (leaves none many : Bool)
+        → (if leaves then Err refusal.Leaving else if none then Err refusal.Old else if many then Err refusal.Many else Ok l) ≡ Ok live → live.client.port ≡ port
+    at l own true none many h = cc
     at l own false true many h = cc
     at l own false false true h = cc
-    at l own false false false h = sym (ap (λ (m : LiveSlot). m.client.port) (same_Ok (moved l seq) live h)) ∙ own
+    at l own false false false h = sym (ap (λ (m : LiveSlot). m.client.port) (same_Ok l live h)) ∙ own
 
-    by : (o : Option LiveSlot) → live_with clients port ≡ o → move_by o seq ≡ Ok live → live.client.port ≡ port
+    by : (o : Option LiveSlot) → live_with clients port ≡ o → move_by o steps ≡ Ok live → live.client.port ≡ port
     by None f h = cc
-    by (Some l) f h = at l (live_with-own clients port l f) l.client.leaves (nat_le seq l.client.last) (nat_le 8 l.client.moves) h
+    by (Some l) f h =
+        at l (live_with-own clients port l f) l.client.leaves (length (new_among l.client.last steps) == 0)
+        (nat_lt 8 (l.client.moves + length (new_among l.client.last steps))) h
 
 -- ---- one answer
 
@@ -199,26 +219,35 @@ module _ (map : MapView) (frame : ℕ) (r : Receiving) (place : ℕ) (a : Arriva
     lists = refl;
   }))
 
-  move-one : (m : MovePacket) → reading a.bytes ≡ Ok (Step m) → (to : Result LiveSlot Refusal) → move_answer r.state.clients a.port m.seq ≡ to → IsAnswer (after_move to frame m r place)
-  move-one m read (Err why) e = inl (inl (record { why = why; state = refl; lists = refl }))
-  move-one m read (Ok live) e = inr (inr (record {
-    live = live;
-    packet = m;
-    command = command_in frame live.slot m;
-    read = read;
-    of_packet = record { in_frame = refl; in_slot = refl; seq = refl; ms = refl; wish_x = refl; wish_y = refl; buttons = refl };
-    answer = e;
-    own_port = move-own r.state.clients a.port m.seq live e;
-    accepted = move_accepted r.state.clients a.port m.seq live e;
-    state = refl;
-    lists = refl;
-  }))
+  -- each command is that of its move
+  commands-are : (slot : ℕ) (steps : List MovePacket) → AreCommandsOf frame slot steps (map_list (command_in frame slot) steps)
+  commands-are slot [] = tt
+  commands-are slot (m ∷ steps) = (record { in_frame = refl; in_slot = refl; seq = refl; ms = refl; wish_x = refl; wish_y = refl; buttons = refl }, commands-are slot steps)
+
+  move-one : (packet : Packet) → reading a.bytes ≡ Ok packet → (to : Result LiveSlot Refusal) → move_answer r.state.clients a.port (commands_of packet) ≡ to
+      → IsAnswer (after_move to frame (commands_of packet) r place)
+  move-one packet read (Err why) e = inl (inl (record { why = why; state = refl; lists = refl }))
+  move-one packet read (Ok live) e =
+      let new = new_among live.client.last (commands_of packet) in
+      inr (inr (record {
+        live = moved live new;
+        packet = packet;
+        new = new;
+        commands = map_list (command_in frame live.slot) new;
+        read = read;
+        of_packet = commands-are live.slot new;
+        own_port = move-own r.state.clients a.port (commands_of packet) live e;
+        accepted = move_accepted r.state.clients a.port packet live e;
+        state = refl;
+        lists = refl;
+      }))
 
   packet-one : (read : Result Packet PacketFault) → reading a.bytes ≡ read → IsAnswer (after_packet map frame read r place a.port)
   packet-one (Err why) e = inl (inl (record { why = refusal.Packet why; state = refl; lists = refl }))
   packet-one (Ok Join) e = join-one e (join_answer map r.state a.port) refl
   packet-one (Ok Leave) e = leave-one e (leave_answer r.state.clients a.port) refl
-  packet-one (Ok (Step m)) e = move-one m e (move_answer r.state.clients a.port m.seq) refl
+  packet-one (Ok (Step m)) e = move-one (Step m) e (move_answer r.state.clients a.port (commands_of (Step m))) refl
+  packet-one (Ok (Steps s)) e = move-one (Steps s) e (move_answer r.state.clients a.port (commands_of (Steps s))) refl
 
   pub one_answer : let next = after_arrival map frame r place a in (IsRefused r next place ⊎ IsJoined map r next a) ⊎ (IsLeave r next a ⊎ IsMove frame r next a)
   one_answer = packet-one (reading a.bytes) refl

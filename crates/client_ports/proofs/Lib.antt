@@ -3,7 +3,7 @@ pub mod Live
 pub mod Newcomers
 pub mod Valid
 pub mod Arrivals
-pub mod Rooms
+pub mod NewMoves
 pub mod Facts
 pub mod Reasons
 pub mod Linking
@@ -11,6 +11,10 @@ pub mod Leavers
 pub mod Changes
 pub mod Advances
 pub mod Counts
+pub mod Short
+pub mod Rooms
 pub mod Staying
 pub mod Turns
 pub mod Things
+pub mod OfPackets
+pub mod Loops

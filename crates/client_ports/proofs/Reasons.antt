@@ -1,8 +1,8 @@
 -- That a packet is refused exactly where the reason of the refusal holds.
-use Rattle.std.proofs.Common.{◌≡◌, ◌↔◌, ℕ, suc, ◌<◌, ◌≤◌, ◌==◌, Bool, true, false, ◌&&◌, ◌||◌, not, nat_le, if◌then◌else◌, List, [], ◌∷◌, ◌++◌, length, take, All, slice_get, Option, Some, None, is_some, is_none, option_map, Result, Ok, Err, ok_or, sym, refl, ap, ◌∙◌, subst, inl, inr, arith}
+use Rattle.std.proofs.Common.{◌≡◌, ◌↔◌, ℕ, suc, ◌+◌, ◌<◌, ◌≤◌, ◌==◌, Bool, true, false, ◌&&◌, ◌||◌, not, nat_lt, cond, if◌then◌else◌, List, [], ◌∷◌, ◌++◌, length, take, All, slice_get, Option, Some, None, is_some, is_none, option_map, Result, Ok, Err, ok_or, sym, refl, ap, ◌∙◌, subst, inl, inr, arith}
 use Rattle.std.specs.Prelude.{map as map_list}
 use Rattle.std.specs.List.{find}
-use Rattle.std.proofs.lemmas.Bool.{ne_eqb}
+use Rattle.std.proofs.lemmas.Bool.{eqb-true, ne_eqb}
 use Rattle.std.proofs.lemmas.Bool.Decides.{nat_tests}
 use Rattle.std.proofs.lemmas.List.{length_push}
 use Rattle.std.proofs.lemmas.List.Elements.{All-cons, All-head, All-nil, All-tail, All-weaker}
@@ -14,8 +14,9 @@ use Rattle.entity_recs.specs.Bodies.{body_of, player_body}
 use Rattle.entity_recs.specs.Kinds.{is_solid}
 use Rattle.packet_read.specs.declared.move_packet.MovePacket.{MovePacket}
 use Rattle.packet_read.specs.declared.packet.Packet.{Packet}
-use Rattle.packet_read.specs.declared.packet.Packet.TheVariants.{Join, Step, Leave}
+use Rattle.packet_read.specs.declared.packet.Packet.TheVariants.{Join, Step, Leave, Steps}
 use Rattle.packet_read.specs.declared.packet_fault.PacketFault.{PacketFault}
+use Rattle.packet_read.specs.Commands.{commands_of}
 use Rattle.packet_read.specs.Reading.{reading}
 use Rattle.entity_slots.specs.declared.join_fault.JoinFault.{JoinFault}
 use Rattle.entity_slots.specs.declared.join_fault.JoinFault.TheVariants as fault
@@ -34,9 +35,10 @@ use Rattle.client_ports.specs.declared.refusal.Refusal.TheVariants as refusal
 use Rattle.client_ports.specs.declared.spawns.Place.{Place}
 use Rattle.client_ports.specs.Clients.{client_at, port_of, ports_of, live_slot, live_at, live_with, AreClients}
 use Rattle.client_ports.specs.States.{State, IsState}
-use Rattle.client_ports.specs.Answers.{free_spawn, place_at, place_in, join_answer, leaving, leave_by, leave_answer, moved, move_by, move_answer}
+use Rattle.client_ports.specs.Answers.{free_spawn, place_at, place_in, join_answer, leaving, leave_by, leave_answer, move_by, move_answer}
+use Rattle.client_ports.specs.NewMoves.{new_among}
 use Rattle.client_ports.specs.Receiving.{Receiving, after_refusal, after_join, after_leave, after_move, after_packet, after_arrival}
-use Rattle.client_ports.specs.Reasons.{OverlapsALiveSolid, HasNoRoom, is_leave_or_move, IsClientOf, FindsNoRoom, IsMoveOf, HasReason}
+use Rattle.client_ports.specs.Reasons.{OverlapsALiveSolid, HasNoRoom, is_move, is_leave_or_move, IsClientOf, FindsNoRoom, IsMoveOf, HasReason}
 use Rattle.client_ports.specs.Laws.{IsAtFirstRoom}
 use Rattle.client_ports.proofs.Facts.{got, clear-live, join_clear, live_at-found, live_with-own}
 use Rattle.client_ports.proofs.Live.{free-record}
@@ -57,7 +59,8 @@ abbrev cause : MapView → State → Result Packet PacketFault → ℕ → Optio
 cause map state (Err why) port = Some (refusal.Packet why)
 cause map state (Ok Join) port = refusal_in (join_answer map state port)
 cause map state (Ok Leave) port = refusal_in (leave_answer state.clients port)
-cause map state (Ok (Step m)) port = refusal_in (move_answer state.clients port m.seq)
+cause map state (Ok (Step m)) port = refusal_in (move_answer state.clients port (commands_of (Step m)))
+cause map state (Ok (Steps s)) port = refusal_in (move_answer state.clients port (commands_of (Steps s)))
 
 -- a refusal is told from another by the last one of the list
 same-refusal : (r : Receiving) (place : ℕ) (why other : Refusal) → after_refusal r place why ≡ after_refusal r place other → why ≡ other
@@ -93,6 +96,12 @@ not-refused r next place why kept e =
     let one : Refused = record { place = place; why = why } in
     absurd (omega (arith, longer, same, length_push r.lists.refused one))
 
+-- a move packet is refused where its answer is a refusal
+move-refused : (frame : ℕ) (steps : List MovePacket) (r : Receiving) (place : ℕ) (why : Refusal) (to : Result LiveSlot Refusal)
+    → (after_move to frame steps r place ≡ after_refusal r place why) ↔ (refusal_in to ≡ Some why)
+move-refused frame steps r place why (Err w) = (λ e. ap Some (same-refusal r place w why e), λ e. ap (after_refusal r place) (same_Some w why e))
+move-refused frame steps r place why (Ok live) = (λ e. absurd (not-refused r (after_move (Ok live) frame steps r place) place why refl e), λ e. absurd (none-some why e))
+
 -- a packet is refused where it has a cause, for that cause
 refused-is : (arena : MapView) (frame : ℕ) (read : Result Packet PacketFault) (r : Receiving) (place port : ℕ) (why : Refusal)
     → (after_packet arena frame read r place port ≡ after_refusal r place why) ↔ (cause arena r.state read port ≡ Some why)
@@ -108,11 +117,8 @@ refused-is arena frame (Ok Leave) r place port why = by (leave_answer r.state.cl
     by : (to : Result LiveSlot Refusal) → (after_leave to r place ≡ after_refusal r place why) ↔ (refusal_in to ≡ Some why)
     by (Err w) = (λ e. ap Some (same-refusal r place w why e), λ e. ap (after_refusal r place) (same_Some w why e))
     by (Ok live) = (λ e. absurd (not-refused r (after_leave (Ok live) r place) place why refl e), λ e. absurd (none-some why e))
-refused-is arena frame (Ok (Step m)) r place port why = by (move_answer r.state.clients port m.seq)
-  where
-    by : (to : Result LiveSlot Refusal) → (after_move to frame m r place ≡ after_refusal r place why) ↔ (refusal_in to ≡ Some why)
-    by (Err w) = (λ e. ap Some (same-refusal r place w why e), λ e. ap (after_refusal r place) (same_Some w why e))
-    by (Ok live) = (λ e. absurd (not-refused r (after_move (Ok live) frame m r place) place why refl e), λ e. absurd (none-some why e))
+refused-is arena frame (Ok (Step m)) r place port why = move-refused frame (commands_of (Step m)) r place why (move_answer r.state.clients port (commands_of (Step m)))
+refused-is arena frame (Ok (Steps s)) r place port why = move-refused frame (commands_of (Steps s)) r place why (move_answer r.state.clients port (commands_of (Steps s)))
 
 -- ---- what is found first
 
@@ -291,21 +297,54 @@ module _ (arena : MapView) (state : State) (port : ℕ) (are : AreClients state.
 
 -- ---- leaves and moves
 
--- a move by what decides it
-abbrev move_by_tests : LiveSlot → ℕ → Bool → Bool → Bool → Result LiveSlot Refusal
-move_by_tests l seq leaves old many = if leaves then Err refusal.Leaving else if old then Err refusal.Old else if many then Err refusal.Many else Ok (moved l seq)
+-- a move packet by what decides it
+abbrev move_by_tests : LiveSlot → Bool → Bool → Bool → Result LiveSlot Refusal
+move_by_tests l leaves none many = if leaves then Err refusal.Leaving else if none then Err refusal.Old else if many then Err refusal.Many else Ok l
 
-le-false : (m n : ℕ) → nat_le m n ≡ false → n < m
-le-false m n h = grind (arith, nat_tests)
+-- a move packet is a leave or a move packet
+leave-or : (packet : Packet) → is_move packet ≡ true → is_leave_or_move (Ok packet) ≡ true
+leave-or Join kind = kind
+leave-or Leave kind = refl
+leave-or (Step m) kind = refl
+leave-or (Steps s) kind = refl
 
-le-true : (m n : ℕ) → nat_le m n ≡ true → m ≤ n
-le-true m n h = grind (arith, nat_tests)
+-- how many commands are new
+abbrev new_in : LiveSlot → List MovePacket → ℕ
+new_in l steps = length (new_among l.client.last steps)
 
-true-le : (m n : ℕ) → m ≤ n → nat_le m n ≡ true
-true-le m n h = grind (arith, nat_tests)
+lt-true : (m n : ℕ) → nat_lt m n ≡ true → m < n
+lt-true m n h = grind (arith, nat_tests)
 
-false-le : (m n : ℕ) → n < m → nat_le m n ≡ false
-false-le m n h = grind (arith, nat_tests)
+true-lt : (m n : ℕ) → m < n → nat_lt m n ≡ true
+true-lt m n h = grind (arith, nat_tests)
+
+lt-false : (m n : ℕ) → nat_lt m n ≡ false → n ≤ m
+lt-false m n h = grind (arith, nat_tests)
+
+some-false : (n : ℕ) → (n == 0) ≡ false → 1 ≤ n
+some-false n h = grind (arith, nat_tests)
+
+false-some : (n : ℕ) → 1 ≤ n → (n == 0) ≡ false
+false-some n h = grind (arith, nat_tests)
+
+-- no command is new exactly where no number is above the last one
+none-above : (last : ℕ) (steps : List MovePacket) → (length (new_among last steps) == 0) ≡ true → All (λ m. m.seq ≤ last) steps
+none-above last [] e = All-nil (λ m. m.seq ≤ last)
+none-above last (m ∷ steps) e = by (nat_lt last m.seq) refl e (none-above last steps)
+  where
+    by : (b : Bool) → nat_lt last m.seq ≡ b → (length (cond b (m ∷ new_among last steps) (new_among last steps)) == 0) ≡ true
+        → ((length (new_among last steps) == 0) ≡ true → All (λ p. p.seq ≤ last) steps) → All (λ p. p.seq ≤ last) (m ∷ steps)
+    by true f h more = let none = eqb-true (length (m ∷ new_among last steps)) 0 h in absurd (omega (arith, none))
+    by false f h more = All-cons (λ p. p.seq ≤ last) m steps (lt-false last m.seq f) (more h)
+
+above-none : (last : ℕ) (steps : List MovePacket) → All (λ m. m.seq ≤ last) steps → (length (new_among last steps) == 0) ≡ true
+above-none last [] all = refl
+above-none last (m ∷ steps) all =
+    by (nat_lt last m.seq) refl (All-head (λ p. p.seq ≤ last) m steps all) (above-none last steps (All-tail (λ p. p.seq ≤ last) m steps all))
+  where
+    by : (b : Bool) → nat_lt last m.seq ≡ b → m.seq ≤ last → (length (new_among last steps) == 0) ≡ true → (length (cond b (m ∷ new_among last steps) (new_among last steps)) == 0) ≡ true
+    by true f low rest = let h = lt-true last m.seq f in absurd (omega (arith, h, low))
+    by false f low rest = rest
 
 module _ (arena : MapView) (state : State) (port : ℕ) (are : AreClients state.clients) where
   -- a client that is found is that of the port
@@ -353,34 +392,52 @@ module _ (arena : MapView) (state : State) (port : ℕ) (are : AreClients state.
       by None f h = subst (HasReason arena state (Ok Leave) port) (same_Some refusal.NotJoined why h) (record { kind = refl; not_joined = none-joined f })
       by (Some l) f h = at l f l.client.leaves refl h
 
-  -- a move that is refused has the reason
-  move-reason : (m : MovePacket) (why : Refusal) → refusal_in (move_answer state.clients port m.seq) ≡ Some why → HasReason arena state (Ok (Step m)) port why
-  move-reason m why e = by (live_with state.clients port) refl e
+  -- a move packet that is refused has the reason
+  move-reason : (packet : Packet) (why : Refusal) → is_move packet ≡ true → refusal_in (move_answer state.clients port (commands_of packet)) ≡ Some why
+      → HasReason arena state (Ok packet) port why
+  move-reason packet why kind e = by (live_with state.clients port) refl e
     where
-      stays : (l : LiveSlot) → live_with state.clients port ≡ Some l → l.client.leaves ≡ false → IsMoveOf state.clients (Ok (Step m)) port m l.client
-      stays l f g = record { slot = l.slot; is_move = refl; is_client = client-of l f; stays = g }
+      either : is_leave_or_move (Ok packet) ≡ true
+      either = leave-or packet kind
 
-      at : (l : LiveSlot) → live_with state.clients port ≡ Some l → (leaves old many : Bool) → l.client.leaves ≡ leaves → nat_le m.seq l.client.last ≡ old → nat_le 8 l.client.moves ≡ many
-          → refusal_in (move_by_tests l m.seq leaves old many) ≡ Some why → HasReason arena state (Ok (Step m)) port why
-      at l f true old many a b c h =
-          subst (HasReason arena state (Ok (Step m)) port) (same_Some refusal.Leaving why h) (record { slot = l.slot; sender = l.client; kind = refl; is_client = client-of l f; leaves = a })
+      stays : (l : LiveSlot) → live_with state.clients port ≡ Some l → l.client.leaves ≡ false → IsMoveOf state.clients (Ok packet) port packet l.client
+      stays l f g = record { slot = l.slot; is_read = refl; kind = kind; is_client = client-of l f; stays = g }
+
+      at : (l : LiveSlot) → live_with state.clients port ≡ Some l → (leaves none many : Bool) → l.client.leaves ≡ leaves → (new_in l (commands_of packet) == 0) ≡ none
+          → nat_lt 8 (l.client.moves + new_in l (commands_of packet)) ≡ many → refusal_in (move_by_tests l leaves none many) ≡ Some why → HasReason arena state (Ok packet) port why
+      at l f true none many a b c h =
+          subst (HasReason arena state (Ok packet) port) (same_Some refusal.Leaving why h) (record { slot = l.slot; sender = l.client; kind = either; is_client = client-of l f; leaves = a })
       at l f false true many a b c h =
-          subst (HasReason arena state (Ok (Step m)) port) (same_Some refusal.Old why h) (record { packet = m; sender = l.client; move = stays l f a; not_above = le-true m.seq l.client.last b })
+          subst (HasReason arena state (Ok packet) port) (same_Some refusal.Old why h)
+          (record { packet = packet; sender = l.client; move = stays l f a; not_above = none-above l.client.last (commands_of packet) b })
       at l f false false true a b c h =
-          subst (HasReason arena state (Ok (Step m)) port) (same_Some refusal.Many why h)
-          (record { packet = m; sender = l.client; move = stays l f a; above = le-false m.seq l.client.last b; many = le-true 8 l.client.moves c })
+          subst (HasReason arena state (Ok packet) port) (same_Some refusal.Many why h)
+          (record {
+            packet = packet;
+            sender = l.client;
+            move = stays l f a;
+            above = some-false (new_in l (commands_of packet)) b;
+            many = lt-true 8 (l.client.moves + new_in l (commands_of packet)) c;
+          })
       at l f false false false a b c h = absurd (none-some why h)
 
-      by : (o : Option LiveSlot) → live_with state.clients port ≡ o → refusal_in (move_by o m.seq) ≡ Some why → HasReason arena state (Ok (Step m)) port why
-      by None f h = subst (HasReason arena state (Ok (Step m)) port) (same_Some refusal.NotJoined why h) (record { kind = refl; not_joined = none-joined f })
-      by (Some l) f h = at l f l.client.leaves (nat_le m.seq l.client.last) (nat_le 8 l.client.moves) refl refl refl h
+      by : (o : Option LiveSlot) → live_with state.clients port ≡ o → refusal_in (move_by o (commands_of packet)) ≡ Some why → HasReason arena state (Ok packet) port why
+      by None f h = subst (HasReason arena state (Ok packet) port) (same_Some refusal.NotJoined why h) (record { kind = either; not_joined = none-joined f })
+      by (Some l) f h = at l f l.client.leaves (new_in l (commands_of packet) == 0) (nat_lt 8 (l.client.moves + new_in l (commands_of packet))) refl refl refl h
 
   -- and one with the reason is refused
   nobody-cause : (read : Result Packet PacketFault) → is_leave_or_move read ≡ true → live_with state.clients port ≡ None → cause arena state read port ≡ Some refusal.NotJoined
   nobody-cause (Err f) kind none = absurd (true-false (sym kind))
   nobody-cause (Ok Join) kind none = absurd (true-false (sym kind))
   nobody-cause (Ok Leave) kind none = ap (λ (o : Option LiveSlot). refusal_in (leave_by o)) none
-  nobody-cause (Ok (Step m)) kind none = ap (λ (o : Option LiveSlot). refusal_in (move_by o m.seq)) none
+  nobody-cause (Ok (Step m)) kind none = ap (λ (o : Option LiveSlot). refusal_in (move_by o (commands_of (Step m)))) none
+  nobody-cause (Ok (Steps s)) kind none = ap (λ (o : Option LiveSlot). refusal_in (move_by o (commands_of (Steps s)))) none
+
+  leaver-moves : (steps : List MovePacket) (l : LiveSlot) → live_with state.clients port ≡ Some l → l.client.leaves ≡ true
+      → refusal_in (move_answer state.clients port steps) ≡ Some refusal.Leaving
+  leaver-moves steps l found leaves =
+      ap (λ (o : Option LiveSlot). refusal_in (move_by o steps)) found
+      ∙ ap (λ (b : Bool). refusal_in (move_by_tests l b (new_in l steps == 0) (nat_lt 8 (l.client.moves + new_in l steps)))) leaves
 
   leaver-cause : (read : Result Packet PacketFault) (l : LiveSlot) → is_leave_or_move read ≡ true → live_with state.clients port ≡ Some l → l.client.leaves ≡ true
       → cause arena state read port ≡ Some refusal.Leaving
@@ -388,17 +445,25 @@ module _ (arena : MapView) (state : State) (port : ℕ) (are : AreClients state.
   leaver-cause (Ok Join) l kind found leaves = absurd (true-false (sym kind))
   leaver-cause (Ok Leave) l kind found leaves =
       ap (λ (o : Option LiveSlot). refusal_in (leave_by o)) found ∙ ap (λ (b : Bool). refusal_in {X = LiveSlot} (if b then Err refusal.Leaving else Ok (leaving l))) leaves
-  leaver-cause (Ok (Step m)) l kind found leaves =
-      ap (λ (o : Option LiveSlot). refusal_in (move_by o m.seq)) found
-      ∙ ap (λ (b : Bool). refusal_in (move_by_tests l m.seq b (nat_le m.seq l.client.last) (nat_le 8 l.client.moves))) leaves
+  leaver-cause (Ok (Step m)) l kind found leaves = leaver-moves (commands_of (Step m)) l found leaves
+  leaver-cause (Ok (Steps s)) l kind found leaves = leaver-moves (commands_of (Steps s)) l found leaves
 
-  move-cause : (m : MovePacket) (l : LiveSlot) (old many : Bool) → live_with state.clients port ≡ Some l → l.client.leaves ≡ false → nat_le m.seq l.client.last ≡ old → nat_le 8 l.client.moves ≡ many
-      → cause arena state (Ok (Step m)) port ≡ refusal_in (move_by_tests l m.seq false old many)
-  move-cause m l old many found stays a b =
-      ap (λ (o : Option LiveSlot). refusal_in (move_by o m.seq)) found
-      ∙ ap (λ (t : Bool). refusal_in (move_by_tests l m.seq t (nat_le m.seq l.client.last) (nat_le 8 l.client.moves))) stays
-      ∙ ap (λ (t : Bool). refusal_in (move_by_tests l m.seq false t (nat_le 8 l.client.moves))) a
-      ∙ ap (λ (t : Bool). refusal_in (move_by_tests l m.seq false old t)) b
+  -- the cause of a move packet is that of its answer
+  move-cause : (packet : Packet) (l : LiveSlot) (none many : Bool) → is_move packet ≡ true → live_with state.clients port ≡ Some l → l.client.leaves ≡ false
+      → (new_in l (commands_of packet) == 0) ≡ none → nat_lt 8 (l.client.moves + new_in l (commands_of packet)) ≡ many
+      → cause arena state (Ok packet) port ≡ refusal_in (move_by_tests l false none many)
+  move-cause packet l none many kind found stays a b =
+      cause-of packet kind
+      ∙ ap (λ (o : Option LiveSlot). refusal_in (move_by o (commands_of packet))) found
+      ∙ ap (λ (t : Bool). refusal_in (move_by_tests l t (new_in l (commands_of packet) == 0) (nat_lt 8 (l.client.moves + new_in l (commands_of packet))))) stays
+      ∙ ap (λ (t : Bool). refusal_in (move_by_tests l false t (nat_lt 8 (l.client.moves + new_in l (commands_of packet))))) a
+      ∙ ap (λ (t : Bool). refusal_in (move_by_tests l false none t)) b
+    where
+      cause-of : (p : Packet) → is_move p ≡ true → cause arena state (Ok p) port ≡ refusal_in (move_answer state.clients port (commands_of p))
+      cause-of Join kind = absurd (true-false (sym kind))
+      cause-of Leave kind = absurd (true-false (sym kind))
+      cause-of (Step m) kind = refl
+      cause-of (Steps s) kind = refl
 
 -- ---- reasons
 
@@ -408,7 +473,8 @@ module _ (arena : MapView) (state : State) (port : ℕ) (are : AreClients state.
   cause-reason (Err f) why e = subst (HasReason arena state (Err f) port) (same_Some (refusal.Packet f) why e) refl
   cause-reason (Ok Join) why e = join-reason arena state port are is why e
   cause-reason (Ok Leave) why e = leave-reason arena state port are why e
-  cause-reason (Ok (Step m)) why e = move-reason arena state port are m why e
+  cause-reason (Ok (Step m)) why e = move-reason arena state port are (Step m) why refl e
+  cause-reason (Ok (Steps s)) why e = move-reason arena state port are (Steps s) why refl e
 
   -- and one with the reason is refused
   reason-cause : (read : Result Packet PacketFault) (why : Refusal) → HasReason arena state read port why → cause arena state read port ≡ Some why
@@ -422,14 +488,14 @@ module _ (arena : MapView) (state : State) (port : ℕ) (are : AreClients state.
       leaver-cause arena state port are read (live_slot h.slot h.sender) h.kind (client-found arena state port are h.slot h.sender h.is_client) h.leaves
   reason-cause read refusal.Old h =
       let l = live_slot h.move.slot h.sender in
-      ap (λ (p : Result Packet PacketFault). cause arena state p port) h.move.is_move
-      ∙ move-cause arena state port are h.packet l true (nat_le 8 h.sender.moves) (client-found arena state port are h.move.slot h.sender h.move.is_client) h.move.stays
-      (true-le h.packet.seq h.sender.last h.not_above) refl
+      ap (λ (p : Result Packet PacketFault). cause arena state p port) h.move.is_read
+      ∙ move-cause arena state port are h.packet l true (nat_lt 8 (h.sender.moves + new_in l (commands_of h.packet))) h.move.kind
+      (client-found arena state port are h.move.slot h.sender h.move.is_client) h.move.stays (above-none h.sender.last (commands_of h.packet) h.not_above) refl
   reason-cause read refusal.Many h =
       let l = live_slot h.move.slot h.sender in
-      ap (λ (p : Result Packet PacketFault). cause arena state p port) h.move.is_move
-      ∙ move-cause arena state port are h.packet l false true (client-found arena state port are h.move.slot h.sender h.move.is_client) h.move.stays
-      (false-le h.packet.seq h.sender.last h.above) (true-le 8 h.sender.moves h.many)
+      ap (λ (p : Result Packet PacketFault). cause arena state p port) h.move.is_read
+      ∙ move-cause arena state port are h.packet l false true h.move.kind (client-found arena state port are h.move.slot h.sender h.move.is_client) h.move.stays
+      (false-some (new_in l (commands_of h.packet)) h.above) (true-lt 8 (h.sender.moves + new_in l (commands_of h.packet)) h.many)
 
 -- a packet is refused exactly where the reason holds
 pub refused_with_reason : (arena : MapView) (frame : ℕ) (r : Receiving) (place : ℕ) (a : Arrival) (why : Refusal) → AreClients r.state.clients → IsState arena r.state

@@ -9,6 +9,8 @@ use Rattle.arena_geo.specs.Bounds.{Bounds}
 use Rattle.arena_geo.specs.Boxes.{overlaps, is_blocked}
 use Rattle.entity_recs.specs.declared.rec.Rec.{Rec}
 use Rattle.entity_recs.specs.Bodies.{body_of}
+use Rattle.packet_read.specs.declared.move_packet.MovePacket.{MovePacket}
+use Rattle.packet_read.specs.Commands.{commands_of}
 use Rattle.entity_slots.specs.Places.{place_for}
 use Rattle.arena_map.specs.Maps.{MapView, IsMap, IsSpawn, solids_of}
 use Rattle.world_tree.specs.Live.{record_at}
@@ -21,7 +23,7 @@ use Rattle.client_ports.specs.States.{State, state_of, with_newcomer, with_updat
 use Rattle.client_ports.specs.Answers.{join_answer}
 use Rattle.client_ports.specs.Finishing.{finished_client, records_after, finished_at, finished_up_to, finished}
 use Rattle.client_ports.specs.Receiving.{Receiving, after_arrival, after_arrivals, received}
-use Rattle.client_ports.specs.Laws.{IsClear, IsAcceptedLeave, IsAcceptedMove, IsRefused, IsJoined, IsLeave, IsMove}
+use Rattle.client_ports.specs.Laws.{IsClear, AreAccepted, IsAcceptedLeave, IsRefused, IsJoined, IsLeave, IsMove}
 use Rattle.arena_map.specs.Validity.{AreClear}
 use Rattle.client_ports.proofs.Changes.{live-inside, IsNewcomer, join-newcomer}
 use Rattle.client_ports.proofs.Facts.{got, join_clear, one_answer}
@@ -54,8 +56,8 @@ update-leave clients live are by = record {
 }
 
 -- and so one that has moved
-update-move : (clients : List (Option Client)) (seq : ℕ) (live : LiveSlot) → AreClients clients → IsAcceptedMove clients seq live → IsUpdate clients live
-update-move clients seq live are by = record {
+update-move : (clients : List (Option Client)) (steps new : List MovePacket) (live : LiveSlot) → AreClients clients → AreAccepted clients steps new live → IsUpdate clients live
+update-move clients steps new live are by = record {
   in_range = omega (arith, live-inside clients live.slot by.was by.in_slot, client_count clients are.slots);
   same_port = ap port_of by.in_slot ∙ ap Some (sym (ap (λ (c : Client). c.port) by.is));
   few_moves = omega (arith, ap (λ (c : Client). c.moves) by.is, by.few);
@@ -86,7 +88,7 @@ state-step map frame r place a = by (one_answer map frame r place a)
     by (inr (inl l)) = inr (inr (record { live = l.live; may = λ are. update-leave r.state.clients l.live are l.accepted; is = l.state }))
     by (inr (inr m)) = inr (inr (record {
       live = m.live;
-      may = λ are. update-move r.state.clients m.command.seq m.live are m.accepted;
+      may = λ are. update-move r.state.clients (commands_of m.packet) m.new m.live are m.accepted;
       is = m.state;
     }))
 

@@ -1,11 +1,12 @@
 -- What a packet is answered: what it changes, or why it is refused, the first reason that holds.
-use Rattle.std.specs.Prelude.{ℕ, ◌+◌, true, nat_le, List, Option, Some, None, option_map, Result, Ok, Err, ok_or}
-use Rattle.std.specs.Prelude.{if◌then◌else◌}
+use Rattle.std.specs.Prelude.{ℕ, ◌+◌, ◌==◌, true, nat_lt, List, length, Option, Some, None, option_map, Result, Ok, Err}
+use Rattle.std.specs.Prelude.{ok_or, if◌then◌else◌}
 use Rattle.std.specs.List.{find}
 use Rattle.arena_geo.specs.declared.vec3.Vec3.{Vec3}
 use Rattle.arena_geo.specs.Bounds.{Bounds}
 use Rattle.entity_recs.specs.declared.rec.Rec.{Rec}
 use Rattle.entity_recs.specs.Bodies.{player_body}
+use Rattle.packet_read.specs.declared.move_packet.MovePacket.{MovePacket}
 use Rattle.entity_slots.specs.declared.join_fault.JoinFault.{JoinFault}
 use Rattle.entity_slots.specs.declared.join_fault.JoinFault.TheVariants as fault
 use Rattle.entity_slots.specs.Places.{place_for}
@@ -17,6 +18,7 @@ use Rattle.client_ports.specs.declared.refusal.Refusal.{Refusal}
 use Rattle.client_ports.specs.declared.refusal.Refusal.TheVariants.{Already, Full, Crowded, NotJoined, Leaving, Old}
 use Rattle.client_ports.specs.declared.refusal.Refusal.TheVariants.{Many}
 use Rattle.client_ports.specs.declared.spawns.Place.{Place}
+use Rattle.client_ports.specs.NewMoves.{new_among, numbers_in, last_in}
 use Rattle.client_ports.specs.Clients.{client, ports_of, live_slot, live_with}
 use Rattle.client_ports.specs.States.{State}
 
@@ -48,9 +50,11 @@ join_answer map state port = place_in map state.records (place_for (ports_of sta
 abbrev pub leaving : LiveSlot → LiveSlot
 leaving live = live_slot live.slot (client live.client.port live.client.last true live.client.moves)
 
--- the client, with one more move, which has this number
-abbrev pub moved : LiveSlot → ℕ → LiveSlot
-moved live seq = live_slot live.slot (client live.client.port seq live.client.leaves (live.client.moves + 1))
+-- the client after these new moves: the number of the last of them is the last accepted one
+abbrev pub moved : LiveSlot → List MovePacket → LiveSlot
+moved live new =
+    live_slot live.slot (client live.client.port (last_in live.client.last (numbers_in new)) live.client.leaves
+    (live.client.moves + length new))
 
 -- the answer to a leave: the client, leaving
 abbrev pub leave_by : Option LiveSlot → Result LiveSlot Refusal
@@ -61,15 +65,20 @@ leave_by (Some live) = if live.client.leaves then Err Leaving else Ok (leaving l
 abbrev pub leave_answer : List (Option Client) → ℕ → Result LiveSlot Refusal
 leave_answer clients port = leave_by (live_with clients port)
 
--- the answer to a move with this number: the client after it
-abbrev pub move_by : Option LiveSlot → ℕ → Result LiveSlot Refusal
-move_by None seq = Err NotJoined
-move_by (Some live) seq =
+-- the answer to a move packet with these commands, where so many of them are new: the client before it, of which the
+-- new ones are accepted
+abbrev pub new_answer : LiveSlot → ℕ → Result LiveSlot Refusal
+new_answer live new =
     if live.client.leaves then Err Leaving
-    else if nat_le seq live.client.last then Err Old
-    else if nat_le 8 live.client.moves then Err Many
-    else Ok (moved live seq)
+    else if new == 0 then Err Old
+    else if nat_lt 8 (live.client.moves + new) then Err Many
+    else Ok live
 
--- the answer to a move of a port with this number
-abbrev pub move_answer : List (Option Client) → ℕ → ℕ → Result LiveSlot Refusal
-move_answer clients port seq = move_by (live_with clients port) seq
+-- the answer to a move packet with these commands
+abbrev pub move_by : Option LiveSlot → List MovePacket → Result LiveSlot Refusal
+move_by None steps = Err NotJoined
+move_by (Some live) steps = new_answer live (length (new_among live.client.last steps))
+
+-- the answer to a move packet of a port with these commands
+abbrev pub move_answer : List (Option Client) → ℕ → List MovePacket → Result LiveSlot Refusal
+move_answer clients port steps = move_by (live_with clients port) steps

@@ -1,22 +1,28 @@
 -- What holds of all packets of a frame together, and of the end of a frame.
-use Rattle.std.specs.Prelude.{◌≡◌, ◌↔◌, ℕ, ◌+◌, ◌≤◌, ◌==◌, List, [], ◌∷◌, ◌++◌, length, take, slice_get, map, filter}
-use Rattle.std.specs.Prelude.{count_by, All, Option, Some, None, IsSome}
+use Rattle.std.specs.Prelude.{◌≡◌, ◌↔◌, ℕ, ◌+◌, ◌≤◌, ◌==◌, nat_lt, Bool, List, [], ◌∷◌, ◌++◌, length, take, drop, slice_get}
+use Rattle.std.specs.Prelude.{map, filter, flat_map, count_by, All, Option, Some, None, IsSome, Result, Ok, Err}
 use Rattle.std.specs.List.{IsDistinct, Contains}
 use Rattle.std.specs.List.Sorted.{IsStrictlyIncreasing}
 use Rattle.entity_recs.specs.declared.rec.Rec.{Rec}
 use Rattle.entity_recs.specs.Commands.{Command, is_same_move}
+use Rattle.packet_read.specs.declared.move_packet.MovePacket.{MovePacket}
+use Rattle.packet_read.specs.declared.packet.Packet.{Packet}
+use Rattle.packet_read.specs.declared.packet_fault.PacketFault.{PacketFault}
 use Rattle.packet_read.specs.Reading.{reading}
 use Rattle.arena_map.specs.Maps.{MapView, IsMap}
 use Rattle.arena_map.specs.Validity.{IsOpeningWorld, AreClear}
 use Rattle.packet_read.specs.declared.arrival.Arrival.{Arrival}
 use Rattle.client_ports.specs.declared.client.Client.{Client}
 use Rattle.client_ports.specs.declared.received.Refused.{Refused}
-use Rattle.client_ports.specs.Clients.{no_clients, client_at, AreClients}
+use Rattle.packet_read.specs.Commands.{commands_of}
+use Rattle.client_ports.specs.NewMoves.{last_in}
+use Rattle.client_ports.specs.Clients.{no_clients, client_at, port_of, AreClients}
 use Rattle.client_ports.specs.States.{State, state_of, IsServerState}
 use Rattle.client_ports.specs.Finishing.{is_leaver, finished}
 use Rattle.client_ports.specs.Lists.{no_lists}
+use Rattle.client_ports.specs.Laws.{IsCommandOf}
 use Rattle.client_ports.specs.Reasons.{HasReason}
-use Rattle.client_ports.specs.Receiving.{receiving_of, after_arrival, received}
+use Rattle.client_ports.specs.Receiving.{Receiving, receiving_of, after_arrival, received}
 
 -- ---- the packets of a frame, in turn
 
@@ -53,12 +59,48 @@ pub record RefusalsHaveTheirPlaces : Type 0 where
 abbrev pub leaver_count : List (Option Client) → ℕ
 leaver_count clients = count_by is_leaver clients
 
--- as many refusals, joins, accepted moves and new leavers come of a frame as packets came
-abbrev pub EachFrameIsAnswered : Type 0
-EachFrameIsAnswered = (map : MapView) (frame : ℕ) (state : State) (arrivals : List Arrival)
+-- the moves that come of each of the packets, the first of which has this place: none where it is refused, a join or a
+-- leave
+abbrev pub moves_from : MapView → ℕ → Receiving → ℕ → List Arrival → List (List Command)
+moves_from map frame r place [] = []
+moves_from map frame r place (a ∷ more) =
+    let next = after_arrival map frame r place a in
+    drop (length r.lists.moves) next.lists.moves ∷ moves_from map frame next (place + 1) more
+
+-- the moves that come of each of the packets of a frame
+abbrev pub moves_by_packet : MapView → ℕ → State → List Arrival → List (List Command)
+moves_by_packet map frame state arrivals = moves_from map frame (receiving_of state no_lists) 0 arrivals
+
+-- there is a move
+abbrev pub is_some_move : List Command → Bool
+is_some_move moves = nat_lt 0 (length moves)
+
+-- as many refusals, joins, packets that give moves and new leavers come of a frame as packets came
+abbrev pub EachPacketIsAnswered : Type 0
+EachPacketIsAnswered = (map : MapView) (frame : ℕ) (state : State) (arrivals : List Arrival)
     → let next = received map frame state arrivals in
-    length next.lists.refused + length next.lists.joined + length next.lists.moves + leaver_count next.state.clients
+    length next.lists.refused + length next.lists.joined + count_by is_some_move (moves_by_packet map frame state arrivals)
+    + leaver_count next.state.clients
     ≡ length arrivals + leaver_count state.clients
+
+-- how many commands a packet has: none where it can't be read
+abbrev pub command_count : Result Packet PacketFault → ℕ
+command_count (Ok packet) = length (commands_of packet)
+command_count (Err why) = 0
+
+-- each packet gives at most as many moves as it has commands
+abbrev pub HaveFewMoves : List (List Command) → List Arrival → Type 0
+HaveFewMoves [] [] = Unit {0}
+HaveFewMoves (moves ∷ others) (a ∷ more) = (length moves ≤ command_count (reading a.bytes)) × HaveFewMoves others more
+HaveFewMoves _ _ = ⊥
+
+-- the accepted moves of a frame are those that its packets give, in the order of arrival, and no packet gives more than
+-- it has commands: so one of version 1 gives one at the most, and one of version 2 at most three
+pub record MovesComeOfCommands : Type 0 where
+  pub all : (map : MapView) (frame : ℕ) (state : State) (arrivals : List Arrival)
+      → flat_map (λ moves. moves) (moves_by_packet map frame state arrivals) ≡ (received map frame state arrivals).lists.moves
+  pub each : (map : MapView) (frame : ℕ) (state : State) (arrivals : List Arrival)
+      → HaveFewMoves (moves_by_packet map frame state arrivals) arrivals
 
 -- ---- the moves of a slot
 
@@ -75,11 +117,6 @@ move_count (Some c) = c.moves
 -- the numbers of a slot's moves, in their order
 abbrev pub numbers_of : ℕ → List Command → List ℕ
 numbers_of slot moves = map (λ c. c.seq) (filter (λ c. c.slot == slot) moves)
-
--- the last of these numbers, and the first argument where there is none
-abbrev pub last_in : ℕ → List ℕ → ℕ
-last_in last [] = last
-last_in last (n ∷ more) = last_in n more
 
 -- a slot before and after a frame: the numbers of its moves rise strictly from the last one before the frame to the
 -- last one after it, and each is counted
@@ -106,6 +143,34 @@ abbrev pub NumbersAreApart : Type 0
 NumbersAreApart =
     (map : MapView) (frame : ℕ) (state : State) (arrivals : List Arrival)
     → IsDistinct is_same_move (received map frame state arrivals).lists.moves
+
+-- a number that comes again is accepted once: no number comes twice among those of a slot's moves in a frame, and none
+-- that was accepted before the frame
+abbrev pub NumbersAreAcceptedOnce : Type 0
+NumbersAreAcceptedOnce =
+    (map : MapView) (frame : ℕ) (state : State) (arrivals : List Arrival) (slot n : ℕ)
+    → let numbers = numbers_of slot (received map frame state arrivals).lists.moves in
+    (count_by (λ m. m == n) numbers ≤ 1)
+    × (n ≤ last_of (client_at state.clients slot) → count_by (λ m. m == n) numbers ≡ 0)
+
+-- a move of a frame is a command of one of its packets: of one from the port of the client in its slot, with all that the
+-- packet says of the command
+pub record IsOfAPacket (frame : ℕ) (clients : List (Option Client)) (arrivals : List Arrival) (c : Command) : Type 0 where
+  pub number : ℕ
+  pub a : Arrival
+  pub packet : Packet
+  pub step : MovePacket
+  pub at : slice_get arrivals number ≡ Some a
+  pub read : reading a.bytes ≡ Ok packet
+  pub said : Contains (commands_of packet) step
+  pub fields : IsCommandOf frame c.slot step c
+  pub own_port : port_of (client_at clients c.slot) ≡ Some a.port
+
+-- each accepted move of a frame is one
+abbrev pub MovesAreOfPackets : Type 0
+MovesAreOfPackets = (map : MapView) (frame : ℕ) (state : State) (arrivals : List Arrival)
+    → let next = received map frame state arrivals in
+    All (IsOfAPacket frame next.state.clients arrivals) next.lists.moves
 
 -- the slot of each accepted move is live after the packets
 abbrev pub MoversAreLive : Type 0

@@ -1,13 +1,14 @@
 -- What holds of the receive pass and of the end of a frame, in the words of the subject.
-use Rattle.std.specs.Prelude.{◌≡◌, ◌⊎◌, ◌↔◌, ℕ, ◌+◌, ◌<◌, true, false, List, All, length, take, slice_get, Option, Some}
-use Rattle.std.specs.Prelude.{None, Ok, if◌then◌else◌}
+use Rattle.std.specs.Prelude.{◌≡◌, ◌⊎◌, ◌↔◌, ℕ, ◌+◌, ◌≤◌, true, false, List, [], ◌∷◌, All, length, take, slice_get}
+use Rattle.std.specs.Prelude.{Option, Some, None, Ok, if◌then◌else◌}
 use Rattle.arena_geo.specs.Boxes.{overlaps, is_blocked}
 use Rattle.entity_recs.specs.declared.rec.Rec.{Rec}
 use Rattle.entity_recs.specs.Bodies.{body_of, player_body}
 use Rattle.entity_recs.specs.Kinds.{is_solid}
 use Rattle.entity_recs.specs.Commands.{Command}
 use Rattle.packet_read.specs.declared.move_packet.MovePacket.{MovePacket}
-use Rattle.packet_read.specs.declared.packet.Packet.TheVariants.{Join, Step, Leave}
+use Rattle.packet_read.specs.declared.packet.Packet.{Packet}
+use Rattle.packet_read.specs.declared.packet.Packet.TheVariants.{Join, Leave}
 use Rattle.packet_read.specs.Reading.{reading}
 use Rattle.entity_slots.specs.Places.{IsLeastFree}
 use Rattle.arena_map.specs.Maps.{MapView, solids_of}
@@ -19,8 +20,10 @@ use Rattle.client_ports.specs.declared.refusal.Refusal.{Refusal}
 use Rattle.client_ports.specs.declared.spawns.Place.{Place}
 use Rattle.client_ports.specs.Clients.{client, client_at, ports_of, AreClients}
 use Rattle.client_ports.specs.States.{State, IsState, with_newcomer, with_update}
-use Rattle.client_ports.specs.Lists.{with_join, with_move, with_refusal}
-use Rattle.client_ports.specs.Answers.{join_answer, leave_answer, move_answer}
+use Rattle.client_ports.specs.Lists.{with_join, with_moves, with_refusal}
+use Rattle.packet_read.specs.Commands.{commands_of}
+use Rattle.client_ports.specs.NewMoves.{new_among, numbers_in, last_in, RiseFrom}
+use Rattle.client_ports.specs.Answers.{join_answer, leave_answer, moved, move_answer}
 use Rattle.client_ports.specs.Receiving.{Receiving, after_refusal, after_arrival}
 use Rattle.client_ports.specs.Reasons.{HasNoRoom, HasReason}
 use Rattle.client_ports.specs.Finishing.{is_leaver, finished_client, finished}
@@ -60,20 +63,25 @@ JoinsAreAtTheFirstRoom =
     (map : MapView) (state : State) (port : ℕ) (to : Place) → AreClients state.clients → IsState map state
     → join_answer map state port ≡ Ok to → IsAtFirstRoom map state to
 
--- a move is accepted: its number is above the last one, which it becomes, and fewer than 8 moves of the client were
--- accepted in the frame
-pub record IsAcceptedMove (clients : List (Option Client)) (seq : ℕ) (live : LiveSlot) : Type 0 where
+-- commands of a move packet are accepted: those whose number is above the last accepted one of the client. Their
+-- numbers rise, and the last of them becomes the last accepted one; and with the moves of the client that were accepted in
+-- the frame before they are at most 8
+pub record AreAccepted (clients : List (Option Client)) (steps new : List MovePacket) (live : LiveSlot) : Type 0 where
   pub was : Client
   pub in_slot : client_at clients live.slot ≡ Some was
   pub stays : was.leaves ≡ false
-  pub above : was.last < seq
-  pub few : was.moves < 8
-  pub is : live.client ≡ client was.port seq false (was.moves + 1)
+  pub are_new : new ≡ new_among was.last steps
+  pub some : 1 ≤ length new
+  pub rise : RiseFrom was.last (numbers_in new)
+  pub few : was.moves + length new ≤ 8
+  pub is : live.client ≡ client was.port (last_in was.last (numbers_in new)) false (was.moves + length new)
 
 -- numbers that are accepted since a join rise strictly, and a player has at most 8 moves in a frame
 abbrev pub AcceptedNumbersRise : Type 0
-AcceptedNumbersRise = (clients : List (Option Client)) (port seq : ℕ) (live : LiveSlot)
-    → move_answer clients port seq ≡ Ok live → IsAcceptedMove clients seq live
+AcceptedNumbersRise = (clients : List (Option Client)) (port : ℕ) (packet : Packet) (live : LiveSlot)
+    → move_answer clients port (commands_of packet) ≡ Ok live
+    → let new = new_among live.client.last (commands_of packet) in
+    AreAccepted clients (commands_of packet) new (moved live new)
 
 -- a leave is accepted: the client didn't leave before, and nothing else of it changes
 pub record IsAcceptedLeave (clients : List (Option Client)) (live : LiveSlot) : Type 0 where
@@ -106,7 +114,7 @@ pub record IsLeave (r next : Receiving) (a : Arrival) : Type 0 where
   pub state : next.state ≡ with_update r.state live
   pub lists : next.lists ≡ r.lists
 
--- a command is that of a move packet: it has this frame and slot, and all else from the packet
+-- a command is that of a move: it has this frame and slot, and all else from the move
 pub record IsCommandOf (frame slot : ℕ) (packet : MovePacket) (command : Command) : Type 0 where
   pub in_frame : command.frame ≡ frame
   pub in_slot : command.slot ≡ slot
@@ -116,18 +124,25 @@ pub record IsCommandOf (frame slot : ℕ) (packet : MovePacket) (command : Comma
   pub wish_y : command.wish_y ≡ packet.wish_y
   pub buttons : command.buttons ≡ packet.buttons
 
--- a packet is a move of the client of its port, and is accepted
+-- commands are those of moves, one each and in their order
+abbrev pub AreCommandsOf : ℕ → ℕ → List MovePacket → List Command → Type 0
+AreCommandsOf frame slot [] [] = Unit {0}
+AreCommandsOf frame slot (m ∷ steps) (c ∷ commands) =
+    IsCommandOf frame slot m c × AreCommandsOf frame slot steps commands
+AreCommandsOf frame slot _ _ = ⊥
+
+-- a packet is a move packet of the client of its port, and its new commands are accepted: one at least
 pub record IsMove (frame : ℕ) (r next : Receiving) (a : Arrival) : Type 0 where
   pub live : LiveSlot
-  pub packet : MovePacket
-  pub command : Command
-  pub read : reading a.bytes ≡ Ok (Step packet)
-  pub of_packet : IsCommandOf frame live.slot packet command
-  pub answer : move_answer r.state.clients a.port command.seq ≡ Ok live
+  pub packet : Packet
+  pub new : List MovePacket
+  pub commands : List Command
+  pub read : reading a.bytes ≡ Ok packet
+  pub of_packet : AreCommandsOf frame live.slot new commands
   pub own_port : live.client.port ≡ a.port
-  pub accepted : IsAcceptedMove r.state.clients command.seq live
+  pub accepted : AreAccepted r.state.clients (commands_of packet) new live
   pub state : next.state ≡ with_update r.state live
-  pub lists : next.lists ≡ with_move r.lists command
+  pub lists : next.lists ≡ with_moves r.lists commands
 
 -- each packet has one answer: a refusal, which changes nothing else, a join, a leave or a move
 abbrev pub EachPacketHasOneAnswer : Type 0

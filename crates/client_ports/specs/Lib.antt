@@ -8,6 +8,7 @@ pub use Rattle.entity_recs.specs.Bodies
 pub use Rattle.entity_recs.specs.Commands
 pub use Rattle.entity_slots.specs.Ports
 pub use Rattle.entity_slots.specs.Places
+pub use Rattle.packet_read.specs.Commands as PacketCommands
 pub use Rattle.packet_read.specs.Reading
 pub use Rattle.arena_map.specs.Maps
 pub use Rattle.arena_map.specs.Validity
@@ -18,6 +19,7 @@ pub mod Clients
 pub mod States
 pub mod Rooms
 pub mod Lists
+pub mod NewMoves
 pub mod Answers
 pub mod Receiving
 pub mod Finishing

@@ -1,5 +1,5 @@
 -- What the packets of a frame have come to, as lists.
-use Rattle.std.specs.Prelude.{ℕ, ◌+◌, ◌≤◌, List, [], ◌∷◌, ◌++◌, length}
+use Rattle.std.specs.Prelude.{ℕ, ◌*◌, ◌<◌, ◌≤◌, min, List, [], ◌∷◌, ◌++◌, length}
 use Rattle.entity_recs.specs.Commands.{Command}
 use Rattle.client_ports.specs.declared.received.Joined.{Joined}
 use Rattle.client_ports.specs.declared.received.Refused.{Refused}
@@ -19,9 +19,9 @@ lists_of moves joined refused = record { moves = moves; joined = joined; refused
 abbrev pub no_lists : Lists
 no_lists = lists_of [] [] []
 
--- the lists with one move more
-abbrev pub with_move : Lists → Command → Lists
-with_move l m = lists_of (l.moves ++ m ∷ []) l.joined l.refused
+-- the lists with these moves more
+abbrev pub with_moves : Lists → List Command → Lists
+with_moves l moves = lists_of (l.moves ++ moves) l.joined l.refused
 
 -- the lists with one join more
 abbrev pub with_join : Lists → ℕ → ℕ → Lists
@@ -31,17 +31,36 @@ with_join l port slot = lists_of l.moves (l.joined ++ record { port = port; slot
 abbrev pub with_refusal : Lists → ℕ → Refusal → Lists
 with_refusal l place why = lists_of l.moves l.joined (l.refused ++ record { place = place; why = why } ∷ [])
 
+-- how many moves, joins and refusals there is room for
+pub record Room : Type 0 where
+  pub moves : ℕ
+  pub joined : ℕ
+  pub refused : ℕ
+
+-- how many moves so many packets of a frame can give: 3 each, and 8 for each of 64 slots
+abbrev pub most_moves : ℕ → ℕ
+most_moves packets = min (3 * packets) 512
+
+-- the room for all that so many packets of a frame can give
+abbrev pub room_for : ℕ → Room
+room_for packets = record { moves = most_moves packets; joined = packets; refused = packets }
+
 -- the lists, and the room of each
 pub record ReceivedView : Type 0 where
   pub lists : Lists
-  pub room : ℕ
+  pub room : Room
 
 -- the lists with this room
-abbrev pub received_view : Lists → ℕ → ReceivedView
+abbrev pub received_view : Lists → Room → ReceivedView
 received_view lists room = record { lists = lists; room = room }
 
--- each list has room for so many more
-pub record HasRoom (more : ℕ) (r : ReceivedView) : Type 0 where
-  pub moves : length r.lists.moves + more ≤ r.room
-  pub joined : length r.lists.joined + more ≤ r.room
-  pub refused : length r.lists.refused + more ≤ r.room
+-- the room is enough for so many packets of a frame
+pub record IsRoomFor (packets : ℕ) (room : Room) : Type 0 where
+  pub moves : most_moves packets ≤ room.moves
+  pub joined : packets ≤ room.joined
+  pub refused : packets ≤ room.refused
+
+-- there is room for one join and one refusal more
+pub record HasRoom (r : ReceivedView) : Type 0 where
+  pub joined : length r.lists.joined < r.room.joined
+  pub refused : length r.lists.refused < r.room.refused

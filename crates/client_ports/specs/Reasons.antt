@@ -1,13 +1,13 @@
 -- Why a packet is refused: the reason of each refusal, in the words of the subject.
-use Rattle.std.specs.Prelude.{◌≡◌, ◌⊎◌, ℕ, ◌<◌, ◌≤◌, Bool, true, false, List, All, Option, Some, Result, Ok, Err}
+use Rattle.std.specs.Prelude.{◌≡◌, ◌⊎◌, ℕ, ◌+◌, ◌<◌, ◌≤◌, Bool, true, false, List, length, All, Option, Some, Result, Ok}
+use Rattle.std.specs.Prelude.{Err}
 use Rattle.arena_geo.specs.declared.vec3.Vec3.{Vec3}
 use Rattle.arena_geo.specs.Boxes.{overlaps, is_blocked}
 use Rattle.entity_recs.specs.declared.rec.Rec.{Rec}
 use Rattle.entity_recs.specs.Bodies.{body_of, player_body}
 use Rattle.entity_recs.specs.Kinds.{is_solid}
-use Rattle.packet_read.specs.declared.move_packet.MovePacket.{MovePacket}
 use Rattle.packet_read.specs.declared.packet.Packet.{Packet}
-use Rattle.packet_read.specs.declared.packet.Packet.TheVariants.{Join, Step, Leave}
+use Rattle.packet_read.specs.declared.packet.Packet.TheVariants.{Join, Step, Leave, Steps}
 use Rattle.packet_read.specs.declared.packet_fault.PacketFault.{PacketFault}
 use Rattle.entity_slots.specs.Ports.{is_joined, is_full}
 use Rattle.arena_map.specs.Maps.{MapView, solids_of}
@@ -15,6 +15,8 @@ use Rattle.world_tree.specs.Live.{record_at}
 use Rattle.client_ports.specs.declared.client.Client.{Client}
 use Rattle.client_ports.specs.declared.refusal.Refusal.{Refusal}
 use Rattle.client_ports.specs.declared.refusal.Refusal.TheVariants as refusal
+use Rattle.packet_read.specs.Commands.{commands_of}
+use Rattle.client_ports.specs.NewMoves.{new_among}
 use Rattle.client_ports.specs.Clients.{client_at, ports_of}
 use Rattle.client_ports.specs.States.{State}
 
@@ -53,11 +55,17 @@ pub record FindsNoRoom (map : MapView) (state : State) (read : Result Packet Pac
 
 -- ---- leaves and moves
 
--- the packet is a leave or a move
+-- the packet is a move packet
+abbrev pub is_move : Packet → Bool
+is_move (Step packet) = true
+is_move (Steps packet) = true
+is_move _ = false
+
+-- the packet is a leave or a move packet
 abbrev pub is_leave_or_move : Result Packet PacketFault → Bool
 is_leave_or_move (Ok Leave) = true
-is_leave_or_move (Ok (Step packet)) = true
-is_leave_or_move _ = false
+is_leave_or_move (Ok packet) = is_move packet
+is_leave_or_move (Err why) = false
 
 -- this client is joined in this slot with this port
 pub record IsClientOf (clients : List (Option Client)) (port slot : ℕ) (sender : Client) : Type 0 where
@@ -77,29 +85,31 @@ pub record IsOfALeaver (clients : List (Option Client)) (read : Result Packet Pa
   pub is_client : IsClientOf clients port slot sender
   pub leaves : sender.leaves ≡ true
 
--- a move of a client that stays
-pub record IsMoveOf (clients : List (Option Client)) (read : Result Packet PacketFault) (port : ℕ)
-    (packet : MovePacket) (sender : Client) : Type 0 where
+-- a move packet of a client that stays
+pub record IsMoveOf (clients : List (Option Client)) (read : Result Packet PacketFault) (port : ℕ) (packet : Packet)
+    (sender : Client) : Type 0 where
   pub slot : ℕ
-  pub is_move : read ≡ Ok (Step packet)
+  pub is_read : read ≡ Ok packet
+  pub kind : is_move packet ≡ true
   pub is_client : IsClientOf clients port slot sender
   pub stays : sender.leaves ≡ false
 
--- a move whose number isn't above the last accepted one of its client
+-- a move packet without a command whose number is above the last accepted one of its client
 pub record IsOldMove (clients : List (Option Client)) (read : Result Packet PacketFault) (port : ℕ) : Type 0 where
-  pub packet : MovePacket
+  pub packet : Packet
   pub sender : Client
   pub move : IsMoveOf clients read port packet sender
-  pub not_above : packet.seq ≤ sender.last
+  pub not_above : All (λ m. m.seq ≤ sender.last) (commands_of packet)
 
--- a move whose number is above it, after 8 moves of its client were accepted in the frame
+-- a move packet with commands whose number is above it, which are more than 8 together with the moves of its client that
+-- were accepted in the frame
 pub record IsMoveTooMany (clients : List (Option Client)) (read : Result Packet PacketFault) (port : ℕ)
     : Type 0 where
-  pub packet : MovePacket
+  pub packet : Packet
   pub sender : Client
   pub move : IsMoveOf clients read port packet sender
-  pub above : sender.last < packet.seq
-  pub many : 8 ≤ sender.moves
+  pub above : 1 ≤ length (new_among sender.last (commands_of packet))
+  pub many : 8 < sender.moves + length (new_among sender.last (commands_of packet))
 
 -- ---- reasons
 

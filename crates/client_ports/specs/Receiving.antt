@@ -1,10 +1,11 @@
 -- The receive pass: what the packets of a frame change, one after another.
-use Rattle.std.specs.Prelude.{ℕ, ◌+◌, List, [], ◌∷◌, Result, Ok, Err}
+use Rattle.std.specs.Prelude.{ℕ, ◌+◌, List, [], ◌∷◌, map as map_list, Result, Ok, Err}
 use Rattle.entity_recs.specs.Commands.{Command}
 use Rattle.packet_read.specs.declared.move_packet.MovePacket.{MovePacket}
 use Rattle.packet_read.specs.declared.packet.Packet.{Packet}
-use Rattle.packet_read.specs.declared.packet.Packet.TheVariants.{Join, Step, Leave}
+use Rattle.packet_read.specs.declared.packet.Packet.TheVariants.{Join, Step, Leave, Steps}
 use Rattle.packet_read.specs.declared.packet_fault.PacketFault.{PacketFault}
+use Rattle.packet_read.specs.Commands.{commands_of}
 use Rattle.packet_read.specs.Reading.{reading}
 use Rattle.arena_map.specs.Maps.{MapView}
 use Rattle.packet_read.specs.declared.arrival.Arrival.{Arrival}
@@ -13,8 +14,9 @@ use Rattle.client_ports.specs.declared.refusal.Refusal.{Refusal}
 use Rattle.client_ports.specs.declared.refusal.Refusal.TheVariants as refusal
 use Rattle.client_ports.specs.declared.spawns.Place.{Place}
 use Rattle.client_ports.specs.States.{State, with_newcomer, with_update}
-use Rattle.client_ports.specs.Lists.{Lists, no_lists, with_move, with_join, with_refusal}
-use Rattle.client_ports.specs.Answers.{join_answer, leave_answer, move_answer}
+use Rattle.client_ports.specs.Lists.{Lists, no_lists, with_moves, with_join, with_refusal}
+use Rattle.client_ports.specs.NewMoves.{new_among}
+use Rattle.client_ports.specs.Answers.{join_answer, leave_answer, moved, move_answer}
 
 -- what the packets have come to so far: the state, and the lists
 pub record Receiving : Type 0 where
@@ -53,18 +55,25 @@ command_in frame slot m =
       buttons = m.buttons;
     }
 
--- after a move
-abbrev pub after_move : Result LiveSlot Refusal → ℕ → MovePacket → Receiving → ℕ → Receiving
-after_move (Err why) frame m r place = after_refusal r place why
-after_move (Ok live) frame m r place =
-    receiving_of (with_update r.state live) (with_move r.lists (command_in frame live.slot m))
+-- after a move packet with these commands: the new ones are accepted, in their order
+abbrev pub after_move : Result LiveSlot Refusal → ℕ → List MovePacket → Receiving → ℕ → Receiving
+after_move (Err why) frame steps r place = after_refusal r place why
+after_move (Ok live) frame steps r place =
+    let new = new_among live.client.last steps in
+    receiving_of (with_update r.state (moved live new))
+    (with_moves r.lists (map_list (command_in frame live.slot) new))
+
+-- after a move packet of a port with these commands
+abbrev pub after_commands : ℕ → List MovePacket → Receiving → ℕ → ℕ → Receiving
+after_commands frame steps r place port = after_move (move_answer r.state.clients port steps) frame steps r place
 
 -- after a packet
 abbrev pub after_packet : MapView → ℕ → Result Packet PacketFault → Receiving → ℕ → ℕ → Receiving
 after_packet map frame (Err why) r place port = after_refusal r place (refusal.Packet why)
 after_packet map frame (Ok Join) r place port = after_join (join_answer map r.state port) r place port
 after_packet map frame (Ok Leave) r place port = after_leave (leave_answer r.state.clients port) r place
-after_packet map frame (Ok (Step m)) r place port = after_move (move_answer r.state.clients port m.seq) frame m r place
+after_packet map frame (Ok (Step m)) r place port = after_commands frame (commands_of (Step m)) r place port
+after_packet map frame (Ok (Steps s)) r place port = after_commands frame (commands_of (Steps s)) r place port
 
 -- after an arrival at this place of the frame
 abbrev pub after_arrival : MapView → ℕ → Receiving → ℕ → Arrival → Receiving

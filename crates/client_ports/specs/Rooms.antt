@@ -1,8 +1,9 @@
 -- The room of the lists of what was received.
 use Rattle.std.specs.Prelude.{ℕ, ◌≤◌}
+use Rattle.client_ports.specs.Lists.{most_moves}
 
--- each list has room for so many
+-- the lists have room for what so many packets can give
 pub record IsRoomy (most moves joined refused : ℕ) : Type 0 where
-  pub moves_fit : most ≤ moves
+  pub moves_fit : most_moves most ≤ moves
   pub joined_fit : most ≤ joined
   pub refused_fit : most ≤ refused

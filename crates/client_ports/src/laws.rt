@@ -12,10 +12,13 @@ ghost use Rattle.client_ports.specs.Laws.{
 ghost use Rattle.client_ports.specs.Frames.{
   PacketsAreTakenInTurn,
   RefusalsHaveTheirPlaces,
-  EachFrameIsAnswered,
+  EachPacketIsAnswered,
+  MovesComeOfCommands,
   NumbersRiseInAFrame,
   PlayersHaveFewMoves,
   NumbersAreApart,
+  NumbersAreAcceptedOnce,
+  MovesAreOfPackets,
   MoversAreLive,
   OpeningIsAServerState,
   ClientsStayApart,
@@ -52,15 +55,16 @@ pub fn joins_add_newcomers()
     ensures { JoinsAddNewcomers }
 {}
 
-/// A move is accepted only where its number is above the last accepted one, which it becomes, and where fewer than 8
-/// moves of its client were accepted in the frame. So numbers rise, and a player has at most 8 moves in a frame.
+/// Of a move packet the commands are accepted whose number is above the last accepted one, all or none: there is one at
+/// least, their numbers rise, the last of them becomes the last accepted one, and with the moves of the client that were
+/// accepted in the frame before they are at most 8. So numbers rise, and a player has at most 8 moves in a frame.
 pub fn accepted_numbers_rise()
     ensures { AcceptedNumbersRise }
 {}
 
-/// Each packet has one answer: a refusal, which changes neither clients nor records, a join, a leave or a move. The
-/// last three come only of packets of their kind, a leave and a move change the client of the packet's port, and the
-/// command of a move has the fields of its packet.
+/// Each packet has one answer: a refusal, which changes neither clients nor records, a join, a leave, or moves. The
+/// last three come only of packets of their kind, a leave and moves change the client of the packet's port, and each
+/// accepted command has the fields that the packet says of it.
 pub fn each_packet_has_one_answer()
     ensures { EachPacketHasOneAnswer }
 {}
@@ -93,9 +97,27 @@ pub fn refusals_have_their_places()
     ensures { RefusalsHaveTheirPlaces }
 {}
 
-/// As many refusals, joins, accepted moves and new leavers come of a frame as packets came.
-pub fn each_frame_is_answered()
-    ensures { EachFrameIsAnswered }
+/// As many refusals, joins, packets that give moves and new leavers come of a frame as packets came.
+pub fn each_packet_is_answered()
+    ensures { EachPacketIsAnswered }
+{}
+
+/// The accepted moves of a frame are those that its packets give, in the order of arrival, and no packet gives more moves
+/// than it has commands: one of version 1 at most one, and one of version 2 at most three.
+pub fn moves_come_of_commands()
+    ensures { MovesComeOfCommands }
+{}
+
+/// Each accepted move of a frame is a command of one of its packets, from the port of the client in its slot, and has what
+/// the packet says of the command.
+pub fn moves_are_of_packets()
+    ensures { MovesAreOfPackets }
+{}
+
+/// A number that comes again is accepted once: no number comes twice among the accepted moves of a slot in a frame, and
+/// none of them was accepted before the frame, since its client joined.
+pub fn numbers_are_accepted_once()
+    ensures { NumbersAreAcceptedOnce }
 {}
 
 /// The accepted numbers of each slot rise strictly in a frame, from the last one before it to the last one after it,

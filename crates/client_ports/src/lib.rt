@@ -3,13 +3,13 @@
 
 pub use client::{Client, LiveSlot};
 pub use laws::{
-    accepted_numbers_rise, bodies_stay_clear, clients_stay_apart, each_frame_is_answered,
-    each_packet_has_one_answer, finish_keeps_who_stays, finish_takes_leavers_out,
-    joins_add_newcomers, joins_are_at_the_first_room, movers_are_live,
-    nobody_is_added_into_a_solid, numbers_are_apart, numbers_rise_in_a_frame,
-    opening_is_a_server_state, opening_is_clear, packets_are_taken_in_turn, players_have_few_moves,
-    ports_are_apart, refusals_have_reasons, refusals_have_their_places, slot_is_least_free,
-    states_stay_valid,
+    accepted_numbers_rise, bodies_stay_clear, clients_stay_apart, each_packet_has_one_answer,
+    each_packet_is_answered, finish_keeps_who_stays, finish_takes_leavers_out, joins_add_newcomers,
+    joins_are_at_the_first_room, movers_are_live, moves_are_of_packets, moves_come_of_commands,
+    nobody_is_added_into_a_solid, numbers_are_accepted_once, numbers_are_apart,
+    numbers_rise_in_a_frame, opening_is_a_server_state, opening_is_clear,
+    packets_are_taken_in_turn, players_have_few_moves, ports_are_apart, refusals_have_reasons,
+    refusals_have_their_places, slot_is_least_free, states_stay_valid,
 };
 pub use ports::{MOST_MOVES, Ports};
 pub use received::{Joined, Received, Refused};

@@ -2,12 +2,14 @@ ghost use Rattle.std.specs.Prelude.{◌≡◌, ◌<◌, ◌≤◌, IfOk, IfSome,
 ghost use Rattle.client_ports.specs.Clients as clients;
 ghost use Rattle.client_ports.specs.Clients.{no_clients, client_at, ports_of, live_slot, new_client, with_client};
 ghost use Rattle.client_ports.specs.Clients.{AreClients, IsUpdate, IsPlaceFor};
+ghost use Rattle.client_ports.specs.NewMoves.{new_among};
 ghost use Rattle.client_ports.specs.Answers as answers;
 ghost use Rattle.entity_slots.specs.Places as places;
 
 use crate::client::{Client, LiveSlot};
 use crate::refusal::Refusal;
 use entity_slots::{JoinFault, SLOTS, Slots};
+use packet_read::MovePacket;
 use std::marker::Model;
 
 /// The most moves of a client that are accepted in a frame.
@@ -61,29 +63,32 @@ fn leave_by(live: Option<LiveSlot>) -> Result<LiveSlot, Refusal>
     }
 }
 
-/// The answer to a move of this client with this number.
-fn move_by(live: Option<LiveSlot>, seq: u32) -> Result<LiveSlot, Refusal>
-    requires { IfSome live (λ l. l.client.moves ≤ 8) }
-    ensures { result ≡ answers.move_by live seq }
+/// How many of these commands have a number above this one.
+pub(crate) fn new_count(last: u32, steps: &[MovePacket]) -> usize
+    ensures { result ≡ length (new_among last steps.now) }
 {
-    let Some(LiveSlot { slot, client }) = live else {
+    steps.iter().filter(|step| step.seq > last).count()
+}
+
+/// The answer to a move packet of this client with these commands: the client, whose new ones may be accepted.
+fn move_by(live: Option<LiveSlot>, steps: &[MovePacket]) -> Result<LiveSlot, Refusal>
+    requires { IfSome live (λ l. l.client.moves ≤ 8) }
+    ensures { result ≡ answers.move_by live steps.now }
+{
+    let Some(live) = live else {
         return Err(Refusal::NotJoined);
     };
-    if client.leaves {
+    if live.client.leaves {
         return Err(Refusal::Leaving);
     }
-    if seq <= client.last {
+    let new = new_count(live.client.last, steps);
+    if new == 0 {
         return Err(Refusal::Old);
     }
-    if client.moves >= MOST_MOVES {
+    if new > usize::from(MOST_MOVES - live.client.moves) {
         return Err(Refusal::Many);
     }
-    let client = Client {
-        last: seq,
-        moves: client.moves + 1,
-        ..client
-    };
-    Ok(LiveSlot { slot, client })
+    Ok(live)
 }
 
 impl Ports {
@@ -172,12 +177,12 @@ impl Ports {
         leave_by(self.live_with(port))
     }
 
-    /// The client of this port after a move with this number, or why the move is refused.
-    pub(crate) fn move_answer(&self, port: u16, seq: u32) -> Result<LiveSlot, Refusal>
-        ensures value { result ≡ answers.move_answer self.now port seq }
-        ensures live { IfOk result (IsUpdate self.now) }
+    /// The client of this port, where the new ones of these commands may be accepted, or why the packet is refused.
+    pub(crate) fn move_answer(&self, port: u16, steps: &[MovePacket]) -> Result<LiveSlot, Refusal>
+        ensures value { result ≡ answers.move_answer self.now port steps.now }
+        ensures live { IfOk result (λ l. IsUpdate self.now (answers.moved l (new_among l.client.last steps.now))) }
     {
-        move_by(self.live_with(port), seq)
+        move_by(self.live_with(port), steps)
     }
 
     /// Frees a live slot.

@@ -1,4 +1,7 @@
-ghost use Rattle.std.specs.Prelude.{◌≡◌, ◌<◌, ◌≤◌, List, [], Option, length, IfOk};
+ghost use Rattle.std.specs.Prelude.{◌≡◌, ◌+◌, ◌<◌, ◌≤◌, List, [], Option, length, map, All, IfOk};
+ghost use Rattle.packet_read.specs.declared.packet.Packet.TheVariants.{Steps};
+ghost use Rattle.packet_read.specs.Spelling.{IsAllowedSteps, StepsFit};
+ghost use Rattle.packet_read.specs.Commands.{commands_of};
 ghost use Rattle.entity_recs.specs.declared.rec.Rec.{Rec};
 ghost use Rattle.arena_map.specs.Maps.{IsSpawn};
 ghost use Rattle.entity_recs.specs.Commands.{command_of};
@@ -6,21 +9,24 @@ ghost use Rattle.arena_map.specs.Validity.{IsValidWorld};
 ghost use Rattle.world_tree.specs.Worlds.{with_records};
 ghost use Rattle.client_ports.specs.States as states;
 ghost use Rattle.client_ports.specs.States.{state_of, HaveSameLive, IsState};
-ghost use Rattle.client_ports.specs.Lists.{no_lists, HasRoom};
+ghost use Rattle.client_ports.specs.Lists.{no_lists, with_moves, received_view, HasRoom, IsRoomFor};
+ghost use Rattle.client_ports.specs.NewMoves.{new_among, TakesItsTime};
 ghost use Rattle.client_ports.specs.Answers as answers;
 ghost use Rattle.client_ports.specs.Clients.{IsPlaceFor};
 ghost use Rattle.client_ports.specs.Linking.{IsWorldAfter, players_of};
 ghost use Rattle.client_ports.specs.Receiving as receiving;
 ghost use Rattle.client_ports.specs.Receiving.{receiving_of};
 
-use crate::ports::{Ports, refusal_of};
+use crate::client::{Client, LiveSlot};
+use crate::ports::{Ports, new_count, refusal_of};
 use crate::received::Received;
 use crate::refusal::Refusal;
 use crate::spawns::{Place, free_spawn};
 use arena_geo::Vec3;
 use arena_map::ArenaMap;
+use arrayvec::ArrayVec;
 use entity_recs::{Cmd, Kind, PLAYER_MAXS, PLAYER_MINS, Rec};
-use packet_read::{Arrival, MovePacket, Packet, read_packet};
+use packet_read::{Arrival, MOST_BLOCKS, MovePacket, Packet, StepsPacket, read_packet};
 use world_tree::World;
 
 /// A player that has just joined.
@@ -61,6 +67,58 @@ fn command(frame: u32, slot: u8, step: &MovePacket) -> Cmd
     }
 }
 
+/// The commands of a packet of version 2 as moves with their numbers, the oldest first.
+fn numbered(packet: &StepsPacket) -> ArrayVec<MovePacket, MOST_BLOCKS>
+    requires allowed { IsAllowedSteps packet.now }
+    requires fits { StepsFit packet.now }
+    ensures { result.items ≡ commands_of (Steps packet.now) }
+{
+    let first = packet.first_seq();
+    let mut steps = ArrayVec::new();
+    for block in packet.cmds.as_slice() {
+        steps.push(block.numbered(first + steps.len() as u32));
+    }
+    steps
+}
+
+/// The client after its new ones of these commands.
+fn moved(live: LiveSlot, steps: &[MovePacket]) -> LiveSlot
+    requires { live.client.moves + length (new_among live.client.last steps.now) ≤ 8 }
+    ensures { result ≡ answers.moved live (new_among live.client.last steps.now) }
+{
+    let LiveSlot { slot, client } = live;
+    let moves = client.moves + new_count(client.last, steps) as u8;
+    let mut last = client.last;
+    for step in steps {
+        if step.seq > client.last {
+            last = step.seq;
+        }
+    }
+    LiveSlot {
+        slot,
+        client: Client {
+            last,
+            moves,
+            ..client
+        },
+    }
+}
+
+/// Accepts the new ones of these commands, in their order.
+fn accept_new(frame: u32, live: LiveSlot, steps: &[MovePacket], out: &mut Received)
+    requires slot { live.slot < 64 }
+    requires steps { All TakesItsTime steps.now }
+    requires room { length out.old.lists.moves + length (new_among live.client.last steps.now) ≤ out.old.room.moves }
+    ensures { out.new ≡ received_view (with_moves out.old.lists (map (receiving.command_in frame live.slot)
+        (new_among live.client.last steps.now))) out.old.room }
+{
+    for step in steps {
+        if step.seq > live.client.last {
+            out.accept(command(frame, live.slot, step));
+        }
+    }
+}
+
 impl Ports {
     /// Where a join of this port goes, or why it is refused.
     fn join_answer(&self, map: &ArenaMap, world: &World, port: u16) -> Result<Place, Refusal>
@@ -85,7 +143,7 @@ impl Ports {
         port: u16,
         out: &mut Received,
     )
-        requires room { HasRoom 1 out.old }
+        requires room { HasRoom out.old }
         requires state { IsState map.now (state_of self.old world.old.records) }
         ensures received { receiving_of (state_of self.new world.new.records) out.new.lists
             ≡ receiving.after_join (answers.join_answer map.now (state_of self.old world.old.records) port)
@@ -107,7 +165,7 @@ impl Ports {
 
     /// What a leave changes, at this place of the frame.
     fn receive_leave(&mut self, place: u32, port: u16, out: &mut Received)
-        requires { HasRoom 1 out.old }
+        requires { HasRoom out.old }
         ensures received { (records : List (Option Rec)) → receiving_of (state_of self.new records) out.new.lists
             ≡ receiving.after_leave (answers.leave_answer self.old port) (receiving_of (state_of self.old records)
             out.old.lists) place }
@@ -121,29 +179,31 @@ impl Ports {
         }
     }
 
-    /// What a move changes, at this place of the frame.
-    fn receive_move(
+    /// What a move packet with these commands changes, at this place of the frame: its new commands are accepted, all or
+    /// none.
+    fn receive_moves(
         &mut self,
         frame: u32,
         place: u32,
         port: u16,
-        step: &MovePacket,
+        steps: &[MovePacket],
         out: &mut Received,
     )
-        requires least { 1 ≤ step.now.ms }
-        requires most { step.now.ms ≤ 50 }
-        requires room { HasRoom 1 out.old }
+        requires steps { All TakesItsTime steps.now }
+        requires room { HasRoom out.old }
+        requires moves { IfOk (answers.move_answer self.old port steps.now) (λ l. length out.old.lists.moves
+            + length (new_among l.client.last steps.now) ≤ out.old.room.moves) }
         ensures received { (records : List (Option Rec)) → receiving_of (state_of self.new records) out.new.lists
-            ≡ receiving.after_move (answers.move_answer self.old port step.now.seq) frame step.now
-            (receiving_of (state_of self.old records) out.old.lists) place }
+            ≡ receiving.after_commands frame steps.now (receiving_of (state_of self.old records) out.old.lists) place
+            port }
         ensures room { out.new.room ≡ out.old.room }
         ensures joined { out.new.lists.joined ≡ out.old.lists.joined }
         ensures live { (records : List (Option Rec)) → HaveSameLive self.old records → HaveSameLive self.new records }
     {
-        match self.move_answer(port, step.seq) {
+        match self.move_answer(port, steps) {
             Ok(live) => {
-                self.update(live);
-                out.accept(command(frame, live.slot, step));
+                self.update(moved(live, steps));
+                accept_new(frame, live, steps, out);
             }
             Err(why) => out.refuse(place, why),
         }
@@ -159,7 +219,9 @@ impl Ports {
         arrival: &Arrival,
         out: &mut Received,
     )
-        requires room { HasRoom 1 out.old }
+        requires room { HasRoom out.old }
+        requires moves { length (receiving.after_arrival map.now frame (receiving_of
+            (state_of self.old world.old.records) out.old.lists) place arrival.now).lists.moves ≤ out.old.room.moves }
         requires state { IsState map.now (state_of self.old world.old.records) }
         ensures received { receiving_of (state_of self.new world.new.records) out.new.lists
             ≡ receiving.after_arrival map.now frame (receiving_of (state_of self.old world.old.records) out.old.lists)
@@ -171,7 +233,11 @@ impl Ports {
     {
         match read_packet(arrival.bytes.as_slice()) {
             Ok(Packet::Join) => self.receive_join(map, world, place, arrival.port, out),
-            Ok(Packet::Step(m)) => self.receive_move(frame, place, arrival.port, &m, out),
+            Ok(Packet::Step(m)) => self.receive_moves(frame, place, arrival.port, &[m], out),
+            Ok(Packet::Steps(s)) => {
+                let steps = numbered(&s);
+                self.receive_moves(frame, place, arrival.port, steps.as_slice(), out);
+            }
             Ok(Packet::Leave) => self.receive_leave(place, arrival.port, out),
             Err(fault) => out.refuse(place, Refusal::Packet(fault)),
         }
@@ -188,7 +254,7 @@ impl Ports {
         out: &mut Received,
     )
         requires empty { out.old.lists ≡ no_lists }
-        requires room { length arrivals.now ≤ out.old.room }
+        requires room { IsRoomFor (length arrivals.now) out.old.room }
         requires live { HaveSameLive self.old world.old.records }
         requires valid { IsValidWorld map.now world.old.records }
         ensures received { receiving_of (state_of self.new world.new.records) out.new.lists
@@ -200,8 +266,9 @@ impl Ports {
         ensures live { HaveSameLive self.new world.new.records }
         ensures valid { IsValidWorld map.now world.new.records }
     {
-        // A place is below the room, and so is a u32.
+        // A place is below the room, and so is a u32; and no client has more than 8 moves, so 512 are enough for all.
         let _room = out.room();
+        let _clients = self.clients();
         let mut place = 0;
         for arrival in arrivals {
             self.receive_one(map, world, frame, place, arrival, out);

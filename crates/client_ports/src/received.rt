@@ -1,11 +1,14 @@
-ghost use Rattle.std.specs.Prelude.{◌≡◌, ◌+◌, ◌≤◌, ℕ, length, map, IfOk};
+ghost use Rattle.std.specs.Prelude.{◌≡◌, ◌+◌, ◌<◌, ◌≤◌, ℕ, [], ◌∷◌, length, map, IfOk};
 ghost use Rattle.entity_recs.specs.Commands.{command_of};
-ghost use Rattle.client_ports.specs.Lists.{no_lists, with_move, with_join, with_refusal, received_view, HasRoom};
+ghost use Rattle.client_ports.specs.Lists.{no_lists, with_moves, with_join, with_refusal, received_view, room_for};
 
 use crate::refusal::Refusal;
 use entity_recs::Cmd;
 use std::alloc::{AllocError, Global};
 use std::marker::Model;
+
+/// The most moves that a frame can have: 8 for each of 64 slots.
+const MOST_FRAME_MOVES: usize = 512;
 
 /// A packet that was refused.
 #[derive(Clone, Copy, Debug, PartialEq, Eq)]
@@ -26,7 +29,7 @@ pub struct Joined {
 }
 
 /// What the packets of a frame came to: the accepted moves, the joins and the refusals, each in the order of arrival,
-/// with room for a number that was given when it was made.
+/// with room for what as many packets can give as was said when it was made.
 #[derive(Drop)]
 pub struct Received {
     moves: Vec<Cmd>,
@@ -39,24 +42,26 @@ pub struct Received {
 impl Model for Received {
     ghost use Rattle.std.specs.Prelude.{map, vec_capacity};
     ghost use Rattle.entity_recs.specs.Commands.{command_of};
-    ghost use Rattle.client_ports.specs.Lists.{ReceivedView, lists_of, received_view};
+    ghost use Rattle.client_ports.specs.Lists.{ReceivedView, lists_of, received_view, room_for};
     ghost use Rattle.client_ports.specs.Rooms.{IsRoomy};
 
     ghost Value = { ReceivedView };
 
-    ghost view = { λ r. received_view (lists_of (map command_of r.moves.items) r.joined.items r.refused.items) r.most };
+    ghost view = { λ r. received_view (lists_of (map command_of r.moves.items) r.joined.items r.refused.items)
+        (room_for r.most) };
 
     ghost invariant = { λ r. IsRoomy r.most (vec_capacity r.moves) (vec_capacity r.joined) (vec_capacity r.refused) };
 }
 
 impl Received {
-    /// Three empty lists, each with room for `most`. The only error is that memory is refused.
+    /// Three empty lists, with room for `most` joins, `most` refusals and the lesser of `3 * most` and 512 moves: a packet
+    /// has at most 3 commands, and each of 64 players at most 8 moves. The only error is that memory is refused.
     pub fn new(alloc: Global, most: u32) -> Result<Received, AllocError>
-        ensures { IfOk result (λ r. r ≡ received_view no_lists most) }
+        ensures { IfOk result (λ r. r ≡ received_view no_lists (room_for most)) }
     {
         let room = most as usize;
         Ok(Received {
-            moves: Vec::with_capacity(alloc, room)?,
+            moves: Vec::with_capacity(alloc, (3 * room).min(MOST_FRAME_MOVES))?,
             joined: Vec::with_capacity(alloc, room)?,
             refused: Vec::with_capacity(alloc, room)?,
             most,
@@ -74,7 +79,7 @@ impl Received {
 
     /// How many arrivals it has room for where its lists are empty.
     pub fn room(&self) -> u32
-        ensures { result ≡ self.now.room }
+        ensures { room_for result ≡ self.now.room }
     {
         self.most
     }
@@ -102,15 +107,15 @@ impl Received {
 
     /// Puts a move last.
     pub(crate) fn accept(&mut self, command: Cmd)
-        requires { HasRoom 1 self.old }
-        ensures { self.new ≡ received_view (with_move self.old.lists (command_of command)) self.old.room }
+        requires { length self.old.lists.moves < self.old.room.moves }
+        ensures { self.new ≡ received_view (with_moves self.old.lists (command_of command ∷ [])) self.old.room }
     {
         self.moves.push_reserved(command);
     }
 
     /// Puts a join last.
     pub(crate) fn join(&mut self, port: u16, slot: u8)
-        requires { HasRoom 1 self.old }
+        requires { length self.old.lists.joined < self.old.room.joined }
         ensures { self.new ≡ received_view (with_join self.old.lists port slot) self.old.room }
     {
         self.joined.push_reserved(Joined { port, slot });
@@ -118,7 +123,7 @@ impl Received {
 
     /// Puts a refusal last.
     pub(crate) fn refuse(&mut self, place: u32, why: Refusal)
-        requires { HasRoom 1 self.old }
+        requires { length self.old.lists.refused < self.old.room.refused }
         ensures { self.new ≡ received_view (with_refusal self.old.lists place why) self.old.room }
     {
         self.refused.push_reserved(Refused { place, why });

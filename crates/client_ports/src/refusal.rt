@@ -22,10 +22,10 @@ pub enum Refusal {
     /// A leave or a move: a leave of this port was accepted in this frame.
     #[error("the port leaves in this frame")]
     Leaving,
-    /// A move: its number isn't above that of the last accepted one.
+    /// A move packet: no command of it has a number above that of the last accepted one.
     #[error("the move is old")]
     Old,
-    /// A move: as many of this player's moves as a frame may have were accepted in it.
+    /// A move packet: with its new commands this player would have more moves than a frame may have. None is accepted.
     #[error("there are too many moves in this frame")]
     Many,
 }

@@ -19,6 +19,8 @@ enum Sent {
     Leave,
     /// A move with this number.
     Move(u8),
+    /// Commands of which the newest has this number: so many, in a packet of version 2.
+    Steps(u8, u8),
 }
 
 /// A packet with these bytes.
@@ -39,7 +41,20 @@ fn packet(port: u16, sent: Sent) -> Arrival {
         Sent::Join => arrival(port, &[1, 1]),
         Sent::Leave => arrival(port, &[1, 3]),
         Sent::Move(number) => arrival(port, &[1, 2, number, 0, 0, 0, 16, 0, 0, 0, 0, 0]),
+        Sent::Steps(number, count) => steps(port, number, count),
     }
+}
+
+/// A packet of version 2 with so many commands of 50 milliseconds, the newest of which has this number. The wish on x of
+/// each is 1 more than that of the one before it.
+fn steps(port: u16, number: u8, count: u8) -> Arrival {
+    let mut a = arrival(port, &[2, 2, number, 0, 0, 0, count]);
+    for wish in 0..count {
+        for byte in [50, wish, 0, 0, 0, 0] {
+            let _fits = a.bytes.push(byte);
+        }
+    }
+    a
 }
 
 /// The arena from (-131072, -131072, 0) to (131072, 131072, 65536).
@@ -102,6 +117,7 @@ fn joins(alloc: Global) -> Result<Vec<Arrival>, AllocError>
 }
 
 /// What the joins of ports 1 to 65 come to in the first frame of a map.
+#[tactic(auto, using(crate::proofs::Rooms::room_enough))]
 fn first_frame(alloc: Global, map: &ArenaMap) -> Result<Received, AllocError> {
     let joins = joins(alloc)?;
     let mut world = opening(alloc, map)?;
@@ -139,7 +155,7 @@ struct Row {
 }
 
 /// Frames in a row, with one spawn.
-const ROWS: [Row; 4] = [
+const ROWS: [Row; 7] = [
     Row {
         sent: &[
             (7, Sent::Leave),
@@ -202,9 +218,61 @@ const ROWS: [Row; 4] = [
         numbers: &[9],
         refused: &[],
     },
+    // Commands that come again are left out, and a packet without a new one is old.
+    Row {
+        sent: &[
+            (8, Sent::Steps(3, 3)),
+            (7, Sent::Steps(11, 3)),
+            (7, Sent::Steps(12, 3)),
+            (7, Sent::Steps(12, 3)),
+            (7, Sent::Steps(11, 1)),
+            (7, Sent::Steps(15, 1)),
+            (7, Sent::Steps(15, 2)),
+            (7, Sent::Move(14)),
+        ],
+        numbers: &[10, 11, 12, 15],
+        refused: &[
+            (0, Refusal::NotJoined),
+            (3, Refusal::Old),
+            (4, Refusal::Old),
+            (6, Refusal::Old),
+            (7, Refusal::Old),
+        ],
+    },
+    // Too many refuses the whole packet, and the last number stays.
+    Row {
+        sent: &[
+            (7, Sent::Steps(18, 3)),
+            (7, Sent::Steps(21, 3)),
+            (7, Sent::Steps(24, 3)),
+            (7, Sent::Steps(23, 2)),
+            (7, Sent::Steps(24, 3)),
+            (7, Sent::Steps(24, 1)),
+            (7, Sent::Steps(23, 3)),
+        ],
+        numbers: &[16, 17, 18, 19, 20, 21, 22, 23],
+        refused: &[
+            (2, Refusal::Many),
+            (4, Refusal::Many),
+            (5, Refusal::Many),
+            (6, Refusal::Old),
+        ],
+    },
+    // A leave comes before all that the commands say.
+    Row {
+        sent: &[
+            (7, Sent::Steps(24, 3)),
+            (7, Sent::Leave),
+            (7, Sent::Steps(27, 3)),
+            (7, Sent::Steps(24, 1)),
+        ],
+        numbers: &[24],
+        refused: &[(2, Refusal::Leaving), (3, Refusal::Leaving)],
+    },
 ];
 
 /// What these packets come to in a frame of their own.
+#[tactic(auto, using(crate::proofs::Rooms::room_enough))]
 fn play(
     rt: &impl Abort,
     alloc: Global,
@@ -257,5 +325,55 @@ fn right_rows(
 fn a_player_joins_moves_leaves_and_joins_again(rt: HostRuntime) -> Result<(), Fail> {
     let map = map_with(rt.alloc(), 1).map_err(|_| "a map")?;
     assert_eq!(rt; right_rows(&rt, rt.alloc(), &map, &ROWS)?, ROWS.len());
+    Ok(())
+}
+
+/// What these packets come to in the first frame of the map with one spawn.
+#[tactic(auto, using(crate::proofs::Rooms::room_enough))]
+fn in_first_frame(alloc: Global, packets: &[Arrival]) -> Result<Received, Fail>
+    requires { length packets.now ≤ 16 }
+{
+    let map = map_with(alloc, 1).map_err(|_| "a map")?;
+    let mut world = opening(alloc, &map)?;
+    let mut ports = Ports::new();
+    let mut out = Received::new(alloc, 16)?;
+    ports.receive(&map, &mut world, 0, packets, &mut out);
+    Ok(out)
+}
+
+#[test]
+fn lost_commands_come_with_the_next_packet(rt: HostRuntime) -> Result<(), Fail> {
+    let packets = [
+        packet(7, Sent::Join),
+        arrival(7, b"\x02\x02\x02\0\0\0\x02\x32\0\0\0\0\0\x32\0\0\0\0\0"),
+        steps(7, 3, 3),
+        steps(7, 3, 3),
+    ];
+    let out = in_first_frame(rt.alloc(), &packets)?;
+    let (place, why) = (3, Refusal::Old);
+    assert_eq!(rt; out.refused(), [Refused { place, why }].as_slice());
+    assert_eq!(rt; out.joined(), [Joined { port: 7, slot: 0 }].as_slice());
+    let numbers: Vec<u32> = out.moves().iter().map(|m| m.seq).collect(rt.alloc())?;
+    assert_eq!(rt; numbers.as_slice(), [1, 2, 3].as_slice());
+    Ok(())
+}
+
+#[test]
+fn a_command_keeps_its_own_fields(rt: HostRuntime) -> Result<(), Fail> {
+    let packets = [
+        packet(7, Sent::Join),
+        packet(7, Sent::Move(5)),
+        steps(7, 7, 3),
+    ];
+    let out = in_first_frame(rt.alloc(), &packets)?;
+    let moves: Vec<(u32, u8, i16)> = out
+        .moves()
+        .iter()
+        .map(|m| (m.seq, m.ms, m.wish_x))
+        .collect(rt.alloc())?;
+    assert_eq!(rt;
+        moves.as_slice(),
+        [(5, 16, 0), (6, 50, 1), (7, 50, 2)].as_slice()
+    );
     Ok(())
 }

@@ -2,12 +2,14 @@
 use Rattle.std.proofs.Common.{◌≡◌, ℕ, ◌+◌, ◌*◌, ◌≤◌, List, length, map, Option, Result, Ok, Err, IfOk, refl, sym, ap, ◌∙◌, subst, arith}
 use Rattle.std.specs.Prelude.{All}
 use Rattle.std.proofs.lemmas.List.{length-map}
+use Rattle.std.proofs.lemmas.List.Sorted.{length_permutation}
 use Rattle.entity_recs.specs.declared.rec.Rec.{Rec}
 use Rattle.entity_recs.specs.declared.cmd.Cmd.{Cmd}
 use Rattle.entity_recs.specs.declared.effect.Entry as reports
 use Rattle.entity_recs.specs.Commands.{Command, command_of}
-use Rattle.entity_recs.specs.Histories.{run}
-use Rattle.move_journal.specs.Merges.{IsInOrder, IsRight, HasNumbersApart, history_of}
+use Rattle.entity_recs.specs.Histories.{Item, run}
+use Rattle.move_journal.specs.Merges.{IsInOrder, IsRight, IsMerge, HasNumbersApart, history_of}
+use Rattle.move_journal.proofs.JournalLaws.{merges_have_whole_histories}
 use Rattle.arena_map.specs.Maps.{MapView, IsMap}
 use Rattle.packet_read.specs.declared.arrival.Arrival.{Arrival}
 use Rattle.client_ports.specs.declared.client.Client.{Client}
@@ -26,7 +28,7 @@ use Rattle.plain_server.specs.Moving.{HasLivePlayer}
 use Rattle.plain_server.specs.Frames.{state_after_tick, received_in, moved_by}
 use Rattle.world_physics.specs.Ticks.{after_tick}
 use Rattle.plain_server.proofs.Ticking.{server_ticked}
-use Rattle.plain_server.proofs.Short.{moves_are_few}
+use Rattle.client_ports.proofs.Short.{moves_are_few}
 use Rattle.plain_server.proofs.Frames.{received_is, moved_by_is, state_after_is}
 use Rattle.plain_server.specs.Takers.{HasOneTaker, HasItemsAway, IsInState}
 use Rattle.plain_server.proofs.Takers.{one_taker, returns_later}
@@ -99,6 +101,19 @@ pub record IsFrameOf (t : ServerView) (workers : ℕ) (arrivals : List Arrival) 
   pub fits : IsServerState t.map next
   pub once : HasOneTaker t.map journal
   pub away : HasItemsAway t.map t.frames journal next.records
+  pub few : length journal ≤ 512
+
+-- a merge of moves has an entry for each of them
+pub entries_of_merge : (journal : List reports.Entry) (moves : List Command) → HasNumbersApart moves → IsMerge journal moves → length journal ≡ length moves
+entries_of_merge journal moves apart merge =
+    let history = history_of moves journal in
+    let whole = merges_have_whole_histories moves journal apart merge in
+    let entry : Item → reports.Entry = λ item. item.entry in
+    let command : Item → Command = λ item. item.command in
+    sym (ap length whole.entries)
+    ∙ length-map history entry
+    ∙ sym (length-map history command)
+    ∙ sym (length_permutation (map command history) moves whole.each_once)
 
 frame_of : (t : ServerView) (workers : ℕ) (arrivals : List Arrival) (r : Receiving) (next : State) (journal : List reports.Entry) (slots : List ℕ) (replies : List (List ℕ)) → IsServer t.map t.state
     → r ≡ received_in t.map t.frames t.state arrivals → IsFinished t.map t.frames workers r next journal slots replies → IsFrameOf t workers arrivals next journal slots replies
@@ -113,6 +128,7 @@ frame_of t workers arrivals r next journal slots replies is r_is done =
       once = one_taker t.map t.frames t.state arrivals journal is.is_map is.fits frame.right;
       away = λ place id delay has delay_is.
           subst (λ (s : State). IsInState s.records id (t.frames + delay)) (sym frame.next_is) (returns_later t.map t.frames t.state arrivals journal is.is_map is.fits frame.right place id delay has delay_is);
+      few = omega (arith, got.few, entries_of_merge journal q.lists.moves got.pass.apart frame.right.merge);
     }
 
 -- from what the two halves of a frame ensure

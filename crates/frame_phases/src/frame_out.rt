@@ -1,4 +1,5 @@
 ghost use Rattle.std.specs.Prelude.{◌≡◌};
+ghost use Rattle.client_ports.specs.Lists.{room_for};
 ghost use Rattle.frame_phases.specs.declared.limits.TheConstants.{MOST_ARRIVALS};
 
 use crate::limits::MOST_ARRIVALS;
@@ -21,7 +22,7 @@ pub struct FrameOut {
     pub slots: SlotList,
     /// The snapshot of each of these slots' players, in the same order.
     pub replies: ReplyList,
-    ghost lists_fit: { received.room ≡ MOST_ARRIVALS },
+    ghost lists_fit: { received.room ≡ room_for MOST_ARRIVALS },
     ghost journal_fits: { journal.room ≡ MOST_ARRIVALS },
 }
 

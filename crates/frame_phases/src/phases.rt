@@ -2,7 +2,7 @@ ghost use Rattle.std.specs.Prelude.{◌≡◌, ◌+◌, ◌<◌, ◌≤◌, [], 
 ghost use Rattle.arena_map.specs.Maps.{IsMap, entities_of};
 ghost use Rattle.world_tree.specs.Worlds.{empty_world, with_records};
 ghost use Rattle.client_ports.specs.States.{state_of};
-ghost use Rattle.client_ports.specs.Lists.{no_lists};
+ghost use Rattle.client_ports.specs.Lists.{no_lists, room_for};
 ghost use Rattle.client_ports.specs.Receiving.{receiving_of};
 ghost use Rattle.plain_server.specs.RecordsById.{opening};
 ghost use Rattle.plain_server.specs.Frames.{received_in};
@@ -79,7 +79,7 @@ pub fn begin_frame<'a>(
     requires server { IsServer action.now.map (state_of states.old.state.ports states.old.state.world.records) }
     requires tree { states.old.next.world.tree ≡ states.old.state.world.tree }
     requires empty { received.old.lists ≡ no_lists }
-    requires room { received.old.room ≡ MOST_ARRIVALS }
+    requires room { received.old.room ≡ room_for MOST_ARRIVALS }
     ensures begun { IfOk result (λ started. IsBegun started states.new.next.world
         (receiving_of (state_of states.new.next.ports states.new.next.world.records) received.new.lists)) }
     ensures received { receiving_of (state_of states.new.next.ports states.new.next.world.records) received.new.lists

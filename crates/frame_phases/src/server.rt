@@ -98,6 +98,7 @@ pub fn run_frame<R: Threads + Wait + Sync, G: Gate>(
         (received_in server.old.map server.old.frames server.old.state arrivals.now) out.new.journal.entries) }
     ensures order { OnOk result (workers ≡ 1 → IsInOrder out.new.journal.entries
         (received_in server.old.map server.old.frames server.old.state arrivals.now).lists.moves) }
+    ensures few { OnOk result (length out.new.journal.entries ≤ 512) }
     ensures slots { OnOk result (out.new.slots ≡ slots_of (moved_by server.old.map
         (received_in server.old.map server.old.frames server.old.state arrivals.now) out.new.journal.entries).records) }
     ensures replies { OnOk result (out.new.replies ≡ replies_of server.old.frames (moved_by server.old.map

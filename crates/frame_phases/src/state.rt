@@ -2,7 +2,7 @@ ghost use Rattle.std.specs.Prelude.{◌≡◌, ◌≤◌, length, IfOk};
 ghost use Rattle.arena_map.specs.Maps.{IsMap, entities_of};
 ghost use Rattle.world_tree.specs.Worlds.{empty_world, with_records};
 ghost use Rattle.client_ports.specs.States.{state_of, IsServerState};
-ghost use Rattle.client_ports.specs.Lists.{no_lists};
+ghost use Rattle.client_ports.specs.Lists.{no_lists, IsRoomFor};
 ghost use Rattle.client_ports.specs.Receiving.{receiving_of};
 ghost use Rattle.plain_server.specs.RecordsById.{opening};
 ghost use Rattle.plain_server.specs.Frames.{received_in};
@@ -57,7 +57,7 @@ impl State {
     pub fn receive(&mut self, map: &ArenaMap, frame: u32, arrivals: &[Arrival], out: &mut Received)
         requires fits { IsServerState map.now (state_of self.old.ports self.old.world.records) }
         requires empty { out.old.lists ≡ no_lists }
-        requires room { length arrivals.now ≤ out.old.room }
+        requires room { IsRoomFor (length arrivals.now) out.old.room }
         ensures received { receiving_of (state_of self.new.ports self.new.world.records) out.new.lists
             ≡ received_in map.now frame (state_of self.old.ports self.old.world.records) arrivals.now }
         ensures room { out.new.room ≡ out.old.room }

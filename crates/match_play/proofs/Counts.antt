@@ -26,7 +26,7 @@ use Rattle.demo_make.proofs.Clear.{spawns_are_clear}
 use Rattle.demo_make.proofs.MapKept.{generated_is_map}
 use Rattle.match_play.specs.Totals.{receptions, joins_in, refused_in}
 use Rattle.match_play.specs.Laws.{CountsAreKnown}
-use Rattle.match_play.proofs.Few.{entries_of_merge}
+use Rattle.frame_phases.proofs.Frames.{entries_of_merge}
 
 -- a right journal has an entry for each move
 entries-right : (frame : ℕ) (state : State) (arrivals : List Arrival) (j : List Entry) → IsServerState generated_map state

@@ -1,17 +1,13 @@
--- A frame has no more joins, moves and refusals than packets.
-use Rattle.std.proofs.Common.{◌≡◌, ℕ, ◌+◌, ◌≤◌, List, [], ◌∷◌, ◌++◌, length, map as map_list, Result, Ok, Err, sym, ap, ◌∙◌, subst, arith}
-use Rattle.std.proofs.lemmas.List.{length_push, length-map}
-use Rattle.std.proofs.lemmas.List.Sorted.{length_permutation}
+-- A frame has no more joins and refusals than packets.
+use Rattle.std.proofs.Common.{◌≡◌, ℕ, ◌+◌, ◌≤◌, List, [], ◌∷◌, ◌++◌, length, Result, Ok, Err, sym, subst, arith}
+use Rattle.std.proofs.lemmas.List.{length_push}
 use Rattle.entity_recs.specs.declared.effect.Entry.{Entry}
-use Rattle.entity_recs.specs.Commands.{Command}
-use Rattle.entity_recs.specs.Histories.{Item}
 use Rattle.packet_read.specs.declared.move_packet.MovePacket.{MovePacket}
 use Rattle.packet_read.specs.declared.packet.Packet.{Packet}
-use Rattle.packet_read.specs.declared.packet.Packet.TheVariants.{Join, Step, Leave}
+use Rattle.packet_read.specs.declared.packet.Packet.TheVariants.{Join, Step, Leave, Steps}
 use Rattle.packet_read.specs.declared.packet_fault.PacketFault.{PacketFault}
+use Rattle.packet_read.specs.Commands.{commands_of}
 use Rattle.packet_read.specs.Reading.{reading}
-use Rattle.move_journal.specs.Merges.{HasNumbersApart, IsMerge, history_of}
-use Rattle.move_journal.proofs.JournalLaws.{merges_have_whole_histories}
 use Rattle.arena_map.specs.Maps.{MapView}
 use Rattle.packet_read.specs.declared.arrival.Arrival.{Arrival}
 use Rattle.client_ports.specs.declared.client.LiveSlot.{LiveSlot}
@@ -23,14 +19,13 @@ use Rattle.client_ports.specs.declared.spawns.Place.{Place}
 use Rattle.client_ports.specs.Answers.{join_answer, leave_answer, move_answer}
 use Rattle.client_ports.specs.States.{State}
 use Rattle.client_ports.specs.Lists.{Lists, no_lists}
-use Rattle.client_ports.specs.Receiving.{Receiving, receiving_of, command_in, after_join, after_leave, after_move, after_packet, after_arrival, after_arrivals, received}
-use Rattle.client_ports.proofs.Advances.{numbers_apart}
-use Rattle.plain_server.specs.Frames.{state_after_tick, received_in, IsRightAfter}
+use Rattle.client_ports.specs.Receiving.{Receiving, receiving_of, after_join, after_leave, after_move, after_packet, after_arrival, after_arrivals, received}
+use Rattle.plain_server.specs.Frames.{state_after_tick, received_in}
 use Rattle.match_play.specs.Totals.{HasFew}
 
--- how many packets the lists have
+-- how many joins and refusals the lists have
 abbrev size : Lists → ℕ
-size lists = length lists.moves + length lists.joined + length lists.refused
+size lists = length lists.joined + length lists.refused
 
 abbrev HasOneMore : Receiving → Receiving → Type 0
 HasOneMore r next = size next.lists ≤ size r.lists + 1
@@ -47,14 +42,15 @@ few_leave : (to : Result LiveSlot Refusal) (r : Receiving) (place : ℕ) → Has
 few_leave (Err why) r place = omega (arith, one_refused r place why)
 few_leave (Ok live) r place = omega arith
 
-few_move : (to : Result LiveSlot Refusal) (frame : ℕ) (m : MovePacket) (r : Receiving) (place : ℕ) → HasOneMore r (after_move to frame m r place)
-few_move (Err why) frame m r place = omega (arith, one_refused r place why)
-few_move (Ok live) frame m r place = omega (arith, length_push r.lists.moves (command_in frame live.slot m))
+few_move : (to : Result LiveSlot Refusal) (frame : ℕ) (steps : List MovePacket) (r : Receiving) (place : ℕ) → HasOneMore r (after_move to frame steps r place)
+few_move (Err why) frame steps r place = omega (arith, one_refused r place why)
+few_move (Ok live) frame steps r place = omega arith
 
 few_packet : (read : Result Packet PacketFault) (map_view : MapView) (frame : ℕ) (r : Receiving) (place port : ℕ) → HasOneMore r (after_packet map_view frame read r place port)
 few_packet (Err why) map_view frame r place port = omega (arith, one_refused r place (refusal.Packet why))
 few_packet (Ok Join) map_view frame r place port = few_join (join_answer map_view r.state port) r place port
-few_packet (Ok (Step m)) map_view frame r place port = few_move (move_answer r.state.clients port m.seq) frame m r place
+few_packet (Ok (Step m)) map_view frame r place port = few_move (move_answer r.state.clients port (commands_of (Step m))) frame (commands_of (Step m)) r place
+few_packet (Ok (Steps s)) map_view frame r place port = few_move (move_answer r.state.clients port (commands_of (Steps s))) frame (commands_of (Steps s)) r place
 few_packet (Ok Leave) map_view frame r place port = few_leave (leave_answer r.state.clients port) r place
 
 few_arrivals : (map_view : MapView) (frame : ℕ) (r : Receiving) (place : ℕ) (arrivals : List Arrival) → size (after_arrivals map_view frame r place arrivals).lists ≤ size r.lists + length arrivals
@@ -68,24 +64,9 @@ few_received : (map_view : MapView) (frame : ℕ) (state : State) (arrivals : Li
 unfolding received
 few_received map_view frame state arrivals = omega (arith, few_arrivals map_view frame (receiving_of state no_lists) 0 arrivals)
 
--- a merge of moves has an entry for each of them
-pub entries_of_merge : (journal : List Entry) (moves : List Command) → HasNumbersApart moves → IsMerge journal moves → length journal ≡ length moves
-entries_of_merge journal moves apart merge =
-    let history = history_of moves journal in
-    let whole = merges_have_whole_histories moves journal apart merge in
-    let entry : Item → Entry = λ item. item.entry in
-    let command : Item → Command = λ item. item.command in
-    sym (ap length whole.entries)
-    ∙ length-map history entry
-    ∙ sym (length-map history command)
-    ∙ sym (length_permutation (map_list command history) moves whole.each_once)
-
--- a frame of at most 512 packets has few of each
+-- a frame of at most 512 packets has few joins and refusals, and few moves where its journal is short
 pub few_in_frame : (map_view : MapView) (frame : ℕ) (state : State) (arrivals : List Arrival) (lists : Lists) (journal : List Entry) → length arrivals ≤ 512
-    → lists ≡ (received_in map_view frame state arrivals).lists → IsRightAfter map_view (received_in map_view frame state arrivals) journal → HasFew lists journal
-few_in_frame map_view frame state arrivals lists journal few is right =
-    let r = received_in map_view frame state arrivals in
+    → lists ≡ (received_in map_view frame state arrivals).lists → length journal ≤ 512 → HasFew lists journal
+few_in_frame map_view frame state arrivals lists journal few is short =
     let all = few_received map_view frame (state_after_tick map_view frame state) arrivals in
-    let same = entries_of_merge journal r.lists.moves (numbers_apart map_view frame (state_after_tick map_view frame state) arrivals) right.merge in
-    subst (λ (l : Lists). HasFew l journal) (sym is)
-    (record { joined = omega (arith, all, few); refused = omega (arith, all, few); moves = omega (arith, all, few, same) })
+    subst (λ (l : Lists). HasFew l journal) (sym is) (record { joined = omega (arith, all, few); refused = omega (arith, all, few); moves = short })

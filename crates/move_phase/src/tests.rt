@@ -2,7 +2,7 @@ ghost use Rattle.std.specs.Prelude.{◌≡◌, ◌≤◌, length, true, All, IfO
 ghost use Rattle.arena_map.specs.MapLines.{IsWithinLimits, is_arena, is_added};
 ghost use Rattle.arena_map.specs.Maps.{IsMap};
 ghost use Rattle.arena_map.specs.Validity.{IsOpeningWorld, IsValidWorld};
-ghost use Rattle.client_ports.specs.Lists.{no_lists};
+ghost use Rattle.client_ports.specs.Lists.{no_lists, IsRoomFor};
 ghost use Rattle.move_journal.specs.Merges.{HasNumbersApart};
 ghost use Rattle.plain_server.specs.Moving.{HasLivePlayer};
 ghost use Rattle.world_tree.specs.Worlds.{IsLinked};
@@ -115,7 +115,7 @@ fn receive(map: &ArenaMap, world: &mut World, out: &mut Received)
     requires linked { IsLinked world.old }
     requires rules { IsMap map.now }
     requires empty { out.old.lists ≡ no_lists }
-    requires room { 4 ≤ out.old.room }
+    requires room { IsRoomFor 4 out.old.room }
     ensures valid { IsValidWorld map.now world.new.records }
     ensures live { All (HasLivePlayer world.new.records) out.new.lists.moves }
     ensures apart { HasNumbersApart out.new.lists.moves }
@@ -132,6 +132,7 @@ fn receive(map: &ArenaMap, world: &mut World, out: &mut Received)
 }
 
 /// Runs the two moves on so many workers, and gives the journal.
+#[tactic(auto, using(crate::proofs::TestWorlds::room_of_four))]
 fn reach(
     rt: &(impl AllocGlobal + Abort + Threads + Wait + Sync),
     workers: u8,

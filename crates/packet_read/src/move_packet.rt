@@ -1,6 +1,6 @@
 /// A client's wish for one move of its player, as in a QuakeWorld client's `usercmd_t`: a packet of version 1, or a
 /// command of a packet of version 2 with its number.
-#[derive(Clone, Copy, Debug, PartialEq, Eq)]
+#[derive(Clone, Copy, Debug, Default, PartialEq, Eq)]
 pub struct MovePacket {
     /// The number that the client gave the move.
     pub seq: u32,

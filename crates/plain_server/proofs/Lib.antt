@@ -13,7 +13,6 @@ pub mod Moves
 pub mod Commands
 pub mod Runs
 pub mod Small
-pub mod Short
 pub mod OfFrame
 pub mod ThingsStay
 pub mod Reports

@@ -1,17 +1,19 @@
 -- The commands of the moves that are accepted in a frame have its number.
-use Rattle.std.proofs.Common.{◌≡◌, ℕ, ◌+◌, List, [], ◌∷◌, All, Result, Ok, Err, refl}
-use Rattle.std.proofs.lemmas.List.Elements.{All-nil, All-push}
+use Rattle.std.proofs.Common.{◌≡◌, ℕ, ◌+◌, List, [], ◌∷◌, map as map_list, All, Result, Ok, Err, refl}
+use Rattle.std.proofs.lemmas.List.Elements.{All-append, All-cons, All-nil}
 use Rattle.entity_recs.specs.Commands.{Command}
 use Rattle.packet_read.specs.declared.move_packet.MovePacket.{MovePacket}
 use Rattle.packet_read.specs.declared.packet.Packet.{Packet}
-use Rattle.packet_read.specs.declared.packet.Packet.TheVariants.{Join, Step, Leave}
+use Rattle.packet_read.specs.declared.packet.Packet.TheVariants.{Join, Step, Leave, Steps}
 use Rattle.packet_read.specs.declared.packet_fault.PacketFault.{PacketFault}
+use Rattle.packet_read.specs.Commands.{commands_of}
 use Rattle.packet_read.specs.Reading.{reading}
 use Rattle.arena_map.specs.Maps.{MapView}
 use Rattle.packet_read.specs.declared.arrival.Arrival.{Arrival}
 use Rattle.client_ports.specs.declared.client.LiveSlot.{LiveSlot}
 use Rattle.client_ports.specs.declared.refusal.Refusal.{Refusal}
 use Rattle.client_ports.specs.declared.spawns.Place.{Place}
+use Rattle.client_ports.specs.NewMoves.{new_among}
 use Rattle.client_ports.specs.Answers.{join_answer, leave_answer, move_answer}
 use Rattle.client_ports.specs.States.{State}
 use Rattle.client_ports.specs.Receiving.{Receiving, command_in, after_join, after_leave, after_move, after_packet, after_arrival, after_arrivals, received}
@@ -28,16 +30,23 @@ leave-of : (frame : ℕ) (to : Result LiveSlot Refusal) (r : Receiving) (place :
 leave-of frame (Err why) r place all = all
 leave-of frame (Ok live) r place all = all
 
-move-of : (to : Result LiveSlot Refusal) (frame : ℕ) (m : MovePacket) (r : Receiving) (place : ℕ) → All (IsOfFrame frame) r.lists.moves
-    → All (IsOfFrame frame) (after_move to frame m r place).lists.moves
-move-of (Err why) frame m r place all = all
-move-of (Ok live) frame m r place all = All-push (IsOfFrame frame) r.lists.moves (command_in frame live.slot m) all refl
+commands-of : (frame slot : ℕ) (steps : List MovePacket) → All (IsOfFrame frame) (map_list (command_in frame slot) steps)
+commands-of frame slot [] = All-nil (IsOfFrame frame)
+commands-of frame slot (m ∷ steps) = All-cons (IsOfFrame frame) (command_in frame slot m) (map_list (command_in frame slot) steps) refl (commands-of frame slot steps)
+
+move-of : (to : Result LiveSlot Refusal) (frame : ℕ) (steps : List MovePacket) (r : Receiving) (place : ℕ) → All (IsOfFrame frame) r.lists.moves
+    → All (IsOfFrame frame) (after_move to frame steps r place).lists.moves
+move-of (Err why) frame steps r place all = all
+move-of (Ok live) frame steps r place all =
+    let new = new_among live.client.last steps in
+    All-append (IsOfFrame frame) r.lists.moves (map_list (command_in frame live.slot) new) all (commands-of frame live.slot new)
 
 packet-of : (read : Result Packet PacketFault) (map : MapView) (frame : ℕ) (r : Receiving) (place port : ℕ) → All (IsOfFrame frame) r.lists.moves
     → All (IsOfFrame frame) (after_packet map frame read r place port).lists.moves
 packet-of (Err why) map frame r place port all = all
 packet-of (Ok Join) map frame r place port all = join-of frame (join_answer map r.state port) r place port all
-packet-of (Ok (Step m)) map frame r place port all = move-of (move_answer r.state.clients port m.seq) frame m r place all
+packet-of (Ok (Step m)) map frame r place port all = move-of (move_answer r.state.clients port (commands_of (Step m))) frame (commands_of (Step m)) r place all
+packet-of (Ok (Steps s)) map frame r place port all = move-of (move_answer r.state.clients port (commands_of (Steps s))) frame (commands_of (Steps s)) r place all
 packet-of (Ok Leave) map frame r place port all = leave-of frame (leave_answer r.state.clients port) r place all
 
 all-of : (map : MapView) (frame : ℕ) (r : Receiving) (place : ℕ) (arrivals : List Arrival) → All (IsOfFrame frame) r.lists.moves

@@ -1,10 +1,14 @@
 -- The numbers of accepted moves have 32 bits, as those of packets do.
-use Rattle.std.proofs.Common.{◌≡◌, ℕ, ◌+◌, ◌<◌, ◌^◌, List, [], ◌∷◌, All, Result, Ok, Err, refl}
-use Rattle.std.proofs.lemmas.List.Elements.{All-head, All-tail, All-nil, All-push}
+use Rattle.std.proofs.Common.{◌≡◌, ℕ, ◌+◌, ◌<◌, ◌≤◌, ◌^◌, List, [], ◌∷◌, length, map as map_list, All, Result, Ok, Err, refl, arith}
+use Rattle.std.specs.Prelude.{nat_lt}
+use Rattle.std.proofs.lemmas.List.Elements.{All-append, All-cons, All-filter, All-head, All-tail, All-nil}
 use Rattle.packet_read.specs.declared.move_packet.MovePacket.{MovePacket}
 use Rattle.packet_read.specs.declared.packet.Packet.{Packet}
-use Rattle.packet_read.specs.declared.packet.Packet.TheVariants.{Join, Step, Leave}
+use Rattle.packet_read.specs.declared.packet.Packet.TheVariants.{Join, Step, Leave, Steps}
 use Rattle.packet_read.specs.declared.packet_fault.PacketFault.{PacketFault}
+use Rattle.packet_read.specs.declared.block_list.CmdBlock.{CmdBlock}
+use Rattle.packet_read.specs.Commands.{commands_of, numbered, numbered_from, first_seq}
+use Rattle.packet_read.specs.Spelling.{Spells}
 use Rattle.packet_read.specs.Reading.{reading}
 use Rattle.packet_read.specs.Laws.{AreBytes}
 use Rattle.packet_read.proofs.Rules.{read_spells}
@@ -13,6 +17,7 @@ use Rattle.packet_read.specs.declared.arrival.Arrival.{Arrival}
 use Rattle.client_ports.specs.declared.client.LiveSlot.{LiveSlot}
 use Rattle.client_ports.specs.declared.refusal.Refusal.{Refusal}
 use Rattle.client_ports.specs.declared.spawns.Place.{Place}
+use Rattle.client_ports.specs.NewMoves.{new_among}
 use Rattle.client_ports.specs.Answers.{join_answer, leave_answer, move_answer}
 use Rattle.client_ports.specs.States.{State}
 use Rattle.client_ports.specs.Receiving.{Receiving, command_in, after_join, after_leave, after_move, after_packet, after_arrival, after_arrivals, received}
@@ -27,22 +32,49 @@ small_leave : (to : Result LiveSlot Refusal) (r : Receiving) (place : ℕ) → A
 small_leave (Err why) r place small = small
 small_leave (Ok live) r place small = small
 
-small_move : (to : Result LiveSlot Refusal) (frame : ℕ) (m : MovePacket) (r : Receiving) (place : ℕ) → m.seq < 2 ^ 32 → All HasSmallNumber r.lists.moves
-    → All HasSmallNumber (after_move to frame m r place).lists.moves
-small_move (Err why) frame m r place fits small = small
-small_move (Ok live) frame m r place fits small = All-push HasSmallNumber r.lists.moves (command_in frame live.slot m) small fits
+-- the number of a command has 32 bits
+abbrev IsSmall : MovePacket → Type 0
+IsSmall m = m.seq < 2 ^ 32
+
+small_commands : (frame slot : ℕ) (steps : List MovePacket) → All IsSmall steps → All HasSmallNumber (map_list (command_in frame slot) steps)
+small_commands frame slot [] small = All-nil HasSmallNumber
+small_commands frame slot (m ∷ steps) small =
+    All-cons HasSmallNumber (command_in frame slot m) (map_list (command_in frame slot) steps) (All-head IsSmall m steps small) (small_commands frame slot steps (All-tail IsSmall m steps small))
+
+small_move : (to : Result LiveSlot Refusal) (frame : ℕ) (steps : List MovePacket) (r : Receiving) (place : ℕ) → All IsSmall steps → All HasSmallNumber r.lists.moves
+    → All HasSmallNumber (after_move to frame steps r place).lists.moves
+small_move (Err why) frame steps r place fits small = small
+small_move (Ok live) frame steps r place fits small =
+    let new = new_among live.client.last steps in
+    All-append HasSmallNumber r.lists.moves (map_list (command_in frame live.slot) new) small
+    (small_commands frame live.slot new (All-filter (λ (m : MovePacket). nat_lt live.client.last m.seq) IsSmall steps fits))
 
 small_packet : (read : Result Packet PacketFault) (map : MapView) (frame : ℕ) (r : Receiving) (place port : ℕ)
-    → ((m : MovePacket) → read ≡ Ok (Step m) → m.seq < 2 ^ 32) → All HasSmallNumber r.lists.moves
+    → ((p : Packet) → read ≡ Ok p → All IsSmall (commands_of p)) → All HasSmallNumber r.lists.moves
     → All HasSmallNumber (after_packet map frame read r place port).lists.moves
 small_packet (Err why) map frame r place port fits small = small
 small_packet (Ok Join) map frame r place port fits small = small_join (join_answer map r.state port) r place port small
-small_packet (Ok (Step m)) map frame r place port fits small = small_move (move_answer r.state.clients port m.seq) frame m r place (fits m refl) small
+small_packet (Ok (Step m)) map frame r place port fits small =
+    small_move (move_answer r.state.clients port (commands_of (Step m))) frame (commands_of (Step m)) r place (fits (Step m) refl) small
+small_packet (Ok (Steps s)) map frame r place port fits small =
+    small_move (move_answer r.state.clients port (commands_of (Steps s))) frame (commands_of (Steps s)) r place (fits (Steps s) refl) small
 small_packet (Ok Leave) map frame r place port fits small = small_leave (leave_answer r.state.clients port) r place small
 
--- the number of a move that is read has 32 bits
-small_read : (bytes : List ℕ) → AreBytes bytes → (m : MovePacket) → reading bytes ≡ Ok (Step m) → m.seq < 2 ^ 32
-small_read bytes are m h = (read_spells bytes are (Step m) h).fits.seq
+-- commands from a number on have small numbers where the last has
+small_numbered : (first : ℕ) (blocks : List CmdBlock) → first + length blocks ≤ 2 ^ 32 → All IsSmall (numbered_from first blocks)
+small_numbered first [] most = All-nil IsSmall
+small_numbered first (b ∷ more) most =
+    All-cons IsSmall (numbered first b) (numbered_from (first + 1) more) (omega (arith, most)) (small_numbered (first + 1) more (omega (arith, most)))
+
+small_spelled : (bytes : List ℕ) (p : Packet) → Spells bytes p → All IsSmall (commands_of p)
+small_spelled bytes Join s = All-nil IsSmall
+small_spelled bytes (Step m) s = All-cons IsSmall m [] s.fits.seq (All-nil IsSmall)
+small_spelled bytes Leave s = All-nil IsSmall
+small_spelled bytes (Steps p) s = small_numbered (first_seq p) p.cmds (omega (arith, s.fits.seq, s.allowed.some, s.allowed.numbers))
+
+-- the numbers of a packet that is read have 32 bits
+small_read : (bytes : List ℕ) → AreBytes bytes → (p : Packet) → reading bytes ≡ Ok p → All IsSmall (commands_of p)
+small_read bytes are p h = small_spelled bytes p (read_spells bytes are p h)
 
 all_small : (map : MapView) (frame : ℕ) (r : Receiving) (place : ℕ) (arrivals : List Arrival) → All HasBytes arrivals
     → All HasSmallNumber r.lists.moves → All HasSmallNumber (after_arrivals map frame r place arrivals).lists.moves

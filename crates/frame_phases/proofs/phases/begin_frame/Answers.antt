@@ -1,9 +1,16 @@
-use Rattle.std.proofs.Common.{ap, arith}
+use Rattle.std.proofs.Common.{length, sym, subst, ap, arith}
+use Rattle.client_ports.specs.Lists.{IsRoomFor}
+use Rattle.client_ports.proofs.Rooms.{room_enough}
 use Rattle.client_ports.specs.States.{state_of}
 use Rattle.client_ports.specs.Receiving.{receiving_of}
 use Rattle.frame_phases.specs.declared.state.State.{State}
 use Rattle.frame_phases.proofs.Frames.{is_received, received_from, live_moves, few_moves, begun_if_started}
 use Rattle.frame_phases.proofs.phases.begin_frame.Goals as goal
+
+pub receive-requires-clause-room : goal.receive-requires-clause-room
+receive-requires-clause-room c =
+    let few = length c.args.arrivals.now in
+    subst (IsRoomFor few) (sym c.requires.room) (room_enough few _ c.requires.few)
 
 pub start-requires-clause-valid : goal.start-requires-clause-valid
 start-requires-clause-valid c =

@@ -11,7 +11,7 @@ abbrev pub invariant-loop-arrival : goal.invariant-loop-arrival
 invariant-loop-arrival l = record {
   place : l.place ≡ l.arrival-index;
   room : l.out.room ≡ l.fn.out.room;
-  left : HasRoomLeft l.arrival-index l.out;
+  left : HasRoomLeft l.arrival-index l.out.lists;
   linked : IsLinkedSince l.fn.world l.world l.out.lists.joined;
   tree : l.world.tree ≡ l.fn.world.tree;
   state : IsState l.map (state_of l.self l.world.records);

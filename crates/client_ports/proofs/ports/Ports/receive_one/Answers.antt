@@ -1,17 +1,30 @@
-use Rattle.std.proofs.Common.{◌≡◌, Result, Ok, ap, ◌∙◌, arith}
+use Rattle.std.proofs.Common.{◌≡◌, ◌≤◌, length, Result, Ok, sym, ap, ◌∙◌, subst, arith}
 use Rattle.packet_read.specs.declared.packet.Packet.{Packet}
 use Rattle.packet_read.specs.declared.packet.Packet.TheVariants.{Leave, Step}
 use Rattle.packet_read.specs.declared.packet_fault.PacketFault.{PacketFault}
 use Rattle.packet_read.specs.Reading.{reading}
 use Rattle.client_ports.specs.States.{state_of}
-use Rattle.client_ports.specs.Receiving.{receiving_of, after_packet}
+use Rattle.packet_read.specs.Commands.{commands_of}
+use Rattle.client_ports.specs.Answers.{move_answer}
+use Rattle.client_ports.specs.Receiving.{Receiving, receiving_of, after_packet}
+use Rattle.client_ports.proofs.Rooms.{new_fit}
 use Rattle.client_ports.proofs.ports.Ports.receive_one.Goals as goal
+
+-- what is read of the packet
+pub receive_moves-requires-clause-moves : goal.receive_moves-requires-clause-moves
+receive_moves-requires-clause-moves c =
+    let read : Ok (Step c.in-Ok-Step.m) ≡ reading c.args.arrival.now.bytes = grind (arith, c.in-Ok-Step.is, c.in-Ok-Step.field-0-is, c.read_packet.ensures.answer, c.as_slice.ensures.value) in
+    let r = receiving_of (state_of c.args.self.now c.args.world.now.records) c.args.out.now.lists in
+    let steps = commands_of (Step c.in-Ok-Step.m) in
+    let after : Result Packet PacketFault → Receiving = λ p. after_packet c.args.map.now c.args.frame p r c.args.place c.args.arrival.now.port in
+    let fits = subst (λ (s : Receiving). length s.lists.moves ≤ c.args.out.now.room.moves) (sym (ap after read)) c.requires.moves in
+    new_fit (move_answer c.args.self.now c.args.arrival.now.port steps) c.args.frame steps r c.args.place c.args.out.now.room.moves fits
 
 pub returns-in-Ok-Step-clause-received : goal.returns-in-Ok-Step-clause-received
 returns-in-Ok-Step-clause-received c =
     let read : Ok (Step c.in-Ok-Step.m) ≡ reading c.args.arrival.now.bytes = grind (arith, c.in-Ok-Step.is, c.in-Ok-Step.field-0-is, c.read_packet.ensures.answer, c.as_slice.ensures.value) in
     let r = receiving_of (state_of c.args.self.now c.args.world.now.records) c.args.out.now.lists in
-    c.receive_move.ensures.received c.args.world.now.records
+    c.receive_moves.ensures.received c.args.world.now.records
     ∙ ap (λ (p : Result Packet PacketFault). after_packet c.args.map.now c.args.frame p r c.args.place c.args.arrival.now.port) read
 
 pub returns-in-Ok-Leave-clause-received : goal.returns-in-Ok-Leave-clause-received
