@@ -1,7 +1,9 @@
 -- What holds of the new commands of a packet: they rise, and are some of its commands.
 use Rattle.std.proofs.Common.{◌≡◌, ℕ, zero, suc, ◌+◌, ◌<◌, ◌≤◌, Bool, true, false, cond, nat_lt, List, [], ◌∷◌, length, drop, Option, Some, None, Result, Ok, Err, refl, ap, subst, arith}
 use Rattle.std.specs.Prelude.{min}
+use Rattle.std.specs.List.{All}
 use Rattle.std.proofs.Math.Nat.{min-le_right}
+use Rattle.std.proofs.lemmas.List.Elements.{All-nil, All-head, All-tail, All-cons}
 use Rattle.std.proofs.lemmas.Bool.Decides.{nat_tests}
 use Rattle.std.proofs.lemmas.List.Sums.{length-filter, count_by-le-length}
 use Rattle.packet_read.specs.declared.move_packet.MovePacket.{MovePacket}
@@ -9,11 +11,13 @@ use Rattle.packet_read.specs.declared.packet.Packet.{Packet}
 use Rattle.packet_read.specs.declared.packet.Packet.TheVariants.{Join, Step, Leave, Steps}
 use Rattle.packet_read.specs.declared.block_list.CmdBlock.{CmdBlock}
 use Rattle.packet_read.specs.declared.packet_fault.PacketFault.{PacketFault}
-use Rattle.packet_read.specs.Commands.{commands_of, numbered_from, first_seq}
+use Rattle.packet_read.specs.declared.steps_packet.StepsPacket.{StepsPacket}
+use Rattle.packet_read.specs.Commands.{commands_of, numbered, numbered_from, first_seq}
+use Rattle.packet_read.specs.Spelling.{IsAllowedBlock, IsAllowedSteps}
 use Rattle.packet_read.specs.Cause as cause
 use Rattle.packet_read.specs.Cause.{Form, form_in, blocks_from, blocks_in, cause_of, count_in, seq_in}
 use Rattle.packet_read.specs.Reading.{reading, packet_of, answer}
-use Rattle.client_ports.specs.NewMoves.{new_among, numbers_in, RiseFrom}
+use Rattle.client_ports.specs.NewMoves.{new_among, numbers_in, RiseFrom, TakesItsTime}
 
 -- the numbers rise, whatever the first is
 abbrev pub Rise : List ℕ → Type 0
@@ -102,3 +106,15 @@ read-few bytes p e = by (cause_of bytes) e
     by : (o : Option PacketFault) → answer o (packet_of (form_in bytes) bytes) ≡ Ok p → length (commands_of p) ≤ 3
     by (Some fault) h = cc
     by None h = subst (λ (q : Packet). length (commands_of q) ≤ 3) (same (packet_of (form_in bytes) bytes) h) (form-few (form_in bytes) bytes)
+
+-- numbered commands take their time
+numbered-time : (first : ℕ) (blocks : List CmdBlock) → All IsAllowedBlock blocks → All TakesItsTime (numbered_from first blocks)
+numbered-time first [] allowed = All-nil TakesItsTime
+numbered-time first (b ∷ more) allowed =
+    let one = All-head IsAllowedBlock b more allowed in
+    All-cons TakesItsTime (numbered first b) (numbered_from (first + 1) more) (record { least = one.least; most = one.most })
+    (numbered-time (first + 1) more (All-tail IsAllowedBlock b more allowed))
+
+-- and so do the commands of a packet of version 2
+pub steps-time : (s : StepsPacket) → IsAllowedSteps s → All TakesItsTime (commands_of (Steps s))
+steps-time s allowed = numbered-time (first_seq s) s.cmds allowed.blocks

@@ -11,7 +11,7 @@ use Rattle.packet_read.specs.declared.packet.Packet.{Packet}
 use Rattle.packet_read.specs.Commands.{commands_of}
 use Rattle.packet_read.specs.Reading.{reading}
 use Rattle.arena_map.specs.Maps.{MapView}
-use Rattle.client_ports.specs.declared.arrival.Arrival.{Arrival}
+use Rattle.packet_read.specs.declared.arrival.Arrival.{Arrival}
 use Rattle.client_ports.specs.declared.client.Client.{Client}
 use Rattle.client_ports.specs.declared.client.LiveSlot.{LiveSlot}
 use Rattle.client_ports.specs.NewMoves.{new_among}
