@@ -32,7 +32,7 @@ module _ (workers : ℕ) (old new : Course) (e : Event) (journal : JournalView) 
         let run = run_of workers old new e journal.entries goes in
         let t = old.server in
         few_in_frame t.map t.frames t.state run.arrivals out.received.lists journal.entries (few_packets workers old new journal.entries run (ready_to_close workers old new e journal.entries goes ready))
-        (given_by workers old new journal.entries out run given).lists_are run.runs.right
+        (given_by workers old new journal.entries out run given).lists_are run.runs.few
 
     -- the totals are those with it
     pub counted : (before : Totals) (score : ℕ) → score ≡ score_in new.server.state.records
