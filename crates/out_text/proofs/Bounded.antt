@@ -1,5 +1,5 @@
 -- The output of a recording has at most 600,000 bytes a frame, and a last line of at most 16.
-use Rattle.std.proofs.Common.{◌≡◌, ◌⊎◌, ℕ, zero, suc, ◌+◌, ◌*◌, ◌<◌, ◌≤◌, Bool, true, false, cond, All, List, [], ◌∷◌, ◌++◌, length, map, filter, take, drop, Option, Some, None, refl, sym, ap, ◌∙◌, subst, inl, inr, arith, length-append, take-append-drop}
+use Rattle.std.proofs.Common.{◌≡◌, ◌⊎◌, ℕ, zero, suc, ◌+◌, ◌*◌, ◌<◌, ◌≤◌, Bool, true, false, cond, All, List, [], ◌∷◌, ◌++◌, length, map, filter, take, drop, Option, Some, None, refl, sym, ap, ◌∙◌, subst, inl, inr, arith, take-append-drop}
 use Rattle.std.specs.List.{AllByRecursion}
 use Rattle.std.proofs.lemmas.List.{length-map, length-set}
 use Rattle.std.proofs.lemmas.List.Elements.{All-head, All-tail}
@@ -22,6 +22,7 @@ use Rattle.client_ports.specs.Laws.{IsRefused, IsJoined, IsLeave, IsMove}
 use Rattle.client_ports.proofs.Facts.{one_answer}
 use Rattle.client_ports.proofs.Changes.{join-newcomer}
 use Rattle.client_ports.proofs.Slots.{client_count}
+use Rattle.client_ports.proofs.Short.{moves_are_few}
 use Rattle.demo_lines.specs.Bytes.{map_of}
 use Rattle.plain_server.specs.RecordsById.{opening}
 use Rattle.plain_server.specs.Entries.{HasBytes, IsReception}
@@ -52,19 +53,19 @@ push-long : {X : Type 0} (f : X → OutLine) (xs : List X) (x : X) → length (t
 push-long f [] x = omega (arith, length-line (f x) [])
 push-long f (y ∷ xs) x = omega (arith, length-line (f y) (map f (xs ++ x ∷ [])), length-line (f y) (map f xs), push-long f xs x)
 
--- the bytes of the lines of refusals and joins, and 128 for each move
+-- the bytes of the lines of refusals and joins
 lists_size : Lists → ℕ
-lists_size l = length (text_of (map no_line l.refused)) + length (text_of (map joined_line l.joined)) + 128 * length l.moves
+lists_size l = length (text_of (map no_line l.refused)) + length (text_of (map joined_line l.joined))
 
 -- after so many packets of a frame
 record IsCounted (n : ℕ) (r : Receiving) : Type 0 where
   slots : length r.state.clients ≡ 64
-  size : lists_size r.lists ≤ 128 * n
+  size : lists_size r.lists ≤ 17 * n
 
-counted : (n : ℕ) (r : Receiving) (s : State) (l : Lists) → r.state ≡ s → r.lists ≡ l → length s.clients ≡ 64 → lists_size l ≤ 128 * n → IsCounted n r
+counted : (n : ℕ) (r : Receiving) (s : State) (l : Lists) → r.state ≡ s → r.lists ≡ l → length s.clients ≡ 64 → lists_size l ≤ 17 * n → IsCounted n r
 counted n r s l state lists slots size = record {
   slots = ap (λ (t : State). length t.clients) state ∙ slots;
-  size = subst (λ (k : ℕ). k ≤ 128 * n) (sym (ap lists_size lists)) size;
+  size = subst (λ (k : ℕ). k ≤ 17 * n) (sym (ap lists_size lists)) size;
 }
 
 counted-step : (arena : MapView) (frame n : ℕ) (r : Receiving) (a : Arrival) → n < 512 → HasPort a → IsCounted n r → IsCounted (n + 1) (after_arrival arena frame r n a)
@@ -85,17 +86,17 @@ counted-step arena frame n r a below port is = by (one_answer arena frame r n a)
     by (inr (inl l)) = counted (n + 1) next _ _ l.state l.lists (length-set r.state.clients l.live.slot (Some l.live.client) ∙ is.slots) (omega (arith, is.size))
     by (inr (inr m)) =
         counted (n + 1) next _ _ m.state m.lists (length-set r.state.clients m.live.slot (Some m.live.client) ∙ is.slots)
-        (omega (arith, length-append r.lists.moves (m.command ∷ []), is.size))
+        (omega (arith, is.size))
 
 counted-through : (arena : MapView) (frame n : ℕ) (r : Receiving) (arrivals : List Arrival) → n + length arrivals ≤ 512 → All HasPort arrivals → IsCounted n r
-    → lists_size (after_arrivals arena frame r n arrivals).lists ≤ 128 * (n + length arrivals)
+    → lists_size (after_arrivals arena frame r n arrivals).lists ≤ 17 * (n + length arrivals)
 counted-through arena frame n r [] few ports is = omega (arith, is.size)
 counted-through arena frame n r (a ∷ more) few ports is =
     let next = counted-step arena frame n r a (omega (arith, few)) (All-head HasPort a more ports) is in
     omega (arith, counted-through arena frame (n + 1) (after_arrival arena frame r n a) more (omega (arith, few)) (All-tail HasPort a more ports) next)
 
 received-long : (arena : MapView) (frame : ℕ) (state : State) (arrivals : List Arrival) → length state.clients ≡ 64 → IsSmallFrame arrivals
-    → lists_size (received arena frame state arrivals).lists ≤ 128 * length arrivals
+    → lists_size (received arena frame state arrivals).lists ≤ 17 * length arrivals
 unfolding received lists_size
 received-long arena frame state arrivals slots small =
     let none : IsCounted 0 (receiving_of state no_lists) = record { slots = slots; size = omega arith } in
@@ -168,6 +169,7 @@ frame-long arena frame state arrivals journal is_map is below bytes small right 
       frame_line-long frame below,
       received-long arena frame before arrivals (client_count before.clients ticked.clients.slots) small,
       journal-count arena r journal pass right,
+      moves_are_few arena frame before arrivals ticked.clients,
       journal-long 0 journal reported,
       snapshots-long arena frame (moved_by arena r journal).records moved.places moved.fits.valid,
       small.few,

@@ -61,7 +61,7 @@ name-long Leaving = omega arith
 name-long Old = omega arith
 name-long Many = omega arith
 
-pub no_line-long : (place : ℕ) (why : Refusal) → place < 512 → length (printed (NoLine place why)) ≤ 128
+pub no_line-long : (place : ℕ) (why : Refusal) → place < 512 → length (printed (NoLine place why)) ≤ 17
 no_line-long place why below =
     let front = codes "no " ++ decimal place in
     omega (
@@ -73,7 +73,7 @@ no_line-long place why below =
       name-long why,
     )
 
-pub joined_line-long : (port slot : ℕ) → port < 65536 → slot < 64 → length (printed (JoinedLine port slot)) ≤ 128
+pub joined_line-long : (port slot : ℕ) → port < 65536 → slot < 64 → length (printed (JoinedLine port slot)) ≤ 17
 joined_line-long port slot small below =
     let front = codes "joined " ++ decimal port in
     omega (
@@ -103,7 +103,7 @@ ids-long : (ids : List ℕ) → AllByRecursion (λ id. id < 2 ^ 16) ids → leng
 ids-long [] are few = omega arith
 ids-long (id ∷ ids) are few = omega (arith, joined-long id ids are, few)
 
-did_line-long : (place : ℕ) (e : Entry) → IsReported place e → length (printed (did_line e)) ≤ 128
+did_line-long : (place : ℕ) (e : Entry) → IsReported place e → length (printed (did_line e)) ≤ 96
 did_line-long place e is =
     let low : e.slot < 64 = is.slot in
     let small : e.seq < 2 ^ 32 = is.seq in
@@ -131,7 +131,7 @@ did_line-long place e is =
       ids-long e.reply.got is.got.small is.got.few,
     )
 
-pub journal-long : (place : ℕ) (es : List Entry) → AreReported place es → length (text_of (map did_line es)) ≤ 128 * length es
+pub journal-long : (place : ℕ) (es : List Entry) → AreReported place es → length (text_of (map did_line es)) ≤ 96 * length es
 journal-long place [] are = omega arith
 journal-long place (e ∷ es) are = omega (arith, length-line (did_line e) (map did_line es), did_line-long place e are.0, journal-long (place + 1) es are.1)
 

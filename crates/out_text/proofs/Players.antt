@@ -7,7 +7,7 @@ use Rattle.client_ports.specs.Lists.{Lists}
 use Rattle.snapshot_write.specs.Snapshots.{snapshot}
 use Rattle.plain_server.specs.Replies.{players_in, slots_of, replies_of}
 use Rattle.out_text.specs.OutLines.{FrameLine}
-use Rattle.out_text.specs.FrameLines.{no_line, joined_line, did_line, to_line, reply_lines, to_lines, given_lines, frame_lines}
+use Rattle.out_text.specs.FrameLines.{no_line, joined_line, did_line, to_line, reply_lines, given_lines, frame_lines}
 
 -- the lines of the slots of players and of their snapshots
 lines_of_players : (frame : ℕ) (live players : List Rec) → reply_lines (map (λ (me : Rec). me.id) players) (map (λ (me : Rec). snapshot frame me live) players) ≡ map (to_line frame live) players

@@ -1,6 +1,6 @@
 -- Ids with commas between them.
 use Rattle.std.specs.Fmt.{decimal}
-use Rattle.std.proofs.Common.{[], ◌≡◌, ℕ, ◌+◌, List, ◌∷◌, ◌++◌, ap, sym, append-nil}
+use Rattle.std.proofs.Common.{[], ◌≡◌, ℕ, List, ◌∷◌, ◌++◌, ap, sym, append-nil}
 use Rattle.out_text.specs.OutLines.{ids_text}
 
 -- ids after the first, each after a comma

@@ -8,8 +8,9 @@ use Rattle.packet_read.specs.declared.arrival.Arrival.{Arrival}
 use Rattle.client_ports.specs.Clients.{client_at}
 use Rattle.client_ports.specs.States.{State, IsServerState}
 use Rattle.client_ports.specs.Finishing.{is_leaver}
+use Rattle.client_ports.specs.Frames.{moves_by_packet}
 use Rattle.plain_server.specs.Frames.{received_in, moved_by, state_after, state_played, IsRightAfter, AreRight}
-use Rattle.plain_server.specs.Frames.{AreInOrder}
+use Rattle.plain_server.specs.Frames.{AreInOrder, state_after_tick}
 use Rattle.demo_lines.specs.Bytes.{LineRefusal, events, fault, map_of}
 use Rattle.demo_lines.specs.Spelling.{IsRecording, recording_text, frame_events, recording_events}
 use Rattle.out_text.specs.Dids.{Did}
@@ -22,7 +23,7 @@ use Rattle.out_text.specs.Output.{AreRightIn, front_text, out_text, IsOutput, Is
 use Rattle.out_text.specs.OneTaker.{HasOneTakerEach}
 use Rattle.out_text.specs.FrameLines.{lines_with, run_lines}
 use Rattle.out_text.specs.ToLines.{HasOneReplyEach}
-use Rattle.out_text.specs.PacketLines.{HasOneAnswerEach}
+use Rattle.out_text.specs.PacketLines.{new_leavers, HasOneAnswerEach}
 use Rattle.out_text.specs.LastMoves.{IsLastMove, IsShownAt, IsLiveAt}
 
 -- a line reports a move exactly where it is the `did` line of one that is in range
@@ -131,12 +132,15 @@ FramesHaveOneReplyEach =
     HasOneReplyEach frame (moved_by map r journal).records (lines_with map frame r journal)
 
 -- the lines of a frame have one `no` line for each packet that was refused, with its place and the reason, and one
--- `joined` line for each that joined, in the order of arrival, and no other
+-- `joined` line for each that joined, in the order of arrival, and no other; the other packets leave, or give the moves
+-- of the frame: one at least, and at most as many as they have commands
 abbrev pub FramesAnswerTheirPackets : Type 0
 FramesAnswerTheirPackets =
     (map : MapView) (frame : ℕ) (state : State) (arrivals : List Arrival) (journal : List Entry)
-    → let r = received_in map frame state arrivals in
-    HasOneAnswerEach (length arrivals) r.lists (lines_with map frame r journal)
+    → let before = state_after_tick map frame state in
+    let r = received_in map frame state arrivals in
+    HasOneAnswerEach arrivals (moves_by_packet map frame before arrivals) (new_leavers before r) r.lists
+    (lines_with map frame r journal)
 
 -- no frames have no lines, and one frame more adds its own: it has the number that follows, and begins with the state
 -- that the frames before it left

@@ -8,10 +8,12 @@ pub use Rattle.entity_recs.specs.Histories
 pub use Rattle.move_journal.specs.Logs
 pub use Rattle.move_journal.specs.Merges
 pub use Rattle.arena_map.specs.Maps
+pub use Rattle.packet_read.specs.Reading as PacketReading
 pub use Rattle.world_tree.specs.Live
 pub use Rattle.client_ports.specs.States
 pub use Rattle.client_ports.specs.Lists
 pub use Rattle.client_ports.specs.Receiving
+pub use Rattle.client_ports.specs.Frames as PacketFrames
 pub use Rattle.plain_server.specs.RecordsById
 pub use Rattle.plain_server.specs.Frames
 pub use Rattle.plain_server.specs.Replies
