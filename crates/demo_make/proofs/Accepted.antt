@@ -1,5 +1,6 @@
 -- Every packet of a generated recording is accepted.
-use Rattle.std.proofs.Common.{◌≡◌, ℕ, zero, suc, ◌+◌, ◌-◌, ◌*◌, ◌^◌, ◌≤◌, ◌<◌, false, leb, List, [], ◌∷◌, ◌++◌, length, map, Option, Some, None, Ok, refl, sym, ap, ◌∙◌, subst, inl, inr, arith, get_or-set_same, length-set, length-append, lit<}
+use Rattle.std.proofs.Common.{◌≡◌, ℕ, zero, suc, ◌+◌, ◌-◌, ◌*◌, ◌^◌, ◌≤◌, ◌<◌, true, false, List, [], ◌∷◌, ◌++◌, length, map, Option, Some, None, Ok, refl, sym, ap, ◌∙◌, subst, inl, inr, arith, get_or-set_same, length-set, length-append, lit<}
+use Rattle.std.specs.Prelude.{nat_lt}
 use Rattle.std.specs.List.{range_with_len, slice_set}
 use Rattle.std.proofs.lemmas.Bool.{cases_lt}
 use Rattle.std.proofs.lemmas.Bool.Decides.{nat_tests}
@@ -8,13 +9,16 @@ use Rattle.entity_recs.specs.declared.rec.Rec.{Rec}
 use Rattle.entity_slots.specs.Ports.{AreSlots, port_at}
 use Rattle.entity_slots.proofs.Found.{found-only}
 use Rattle.arena_map.specs.Maps.{MapView}
+use Rattle.packet_read.specs.declared.move_packet.MovePacket.{MovePacket}
 use Rattle.packet_read.specs.declared.arrival.Arrival.{Arrival}
 use Rattle.client_ports.specs.declared.client.Client.{Client}
 use Rattle.client_ports.specs.declared.client.LiveSlot.{LiveSlot}
 use Rattle.client_ports.specs.Clients.{client, client_at, port_of, ports_of, live_slot, with_client}
 use Rattle.client_ports.specs.States.{State, state_of, with_newcomer, with_update}
-use Rattle.client_ports.specs.Lists.{no_lists, with_join, with_move}
+use Rattle.client_ports.specs.Lists.{no_lists, with_join, with_moves}
+use Rattle.client_ports.specs.NewMoves.{new_among}
 use Rattle.client_ports.specs.Answers.{move_answer}
+use Rattle.client_ports.specs.Answers as answers
 use Rattle.client_ports.specs.Receiving.{Receiving, receiving_of, after_join, after_move, after_packet, after_arrival, after_arrivals, command_in, received}
 use Rattle.client_ports.specs.Finishing.{finished_client, finished_up_to, finished}
 use Rattle.client_ports.proofs.Slots.{port_at-client, read-set}
@@ -116,13 +120,20 @@ are-slots players last seq moved clients are = record {
 abbrev mover : ℕ → ℕ → LiveSlot
 mover slot seq = live_slot slot (client (slot + 1) seq false 1)
 
-move-answered : (players last seq moved : ℕ) (clients : List (Option Client)) → AreMoved players last seq moved clients
-    → moved < players → last < seq → move_answer clients (moved + 1) seq ≡ Ok (mover moved seq)
-move-answered players last seq moved clients are below rises =
+-- the player before its move of the frame
+abbrev waiter : ℕ → ℕ → LiveSlot
+waiter slot last = live_slot slot (client (slot + 1) last false 0)
+
+-- a command with a higher number is new
+new-one : (last : ℕ) (m : MovePacket) → last < m.seq → new_among last (m ∷ []) ≡ m ∷ []
+new-one last m rises = let above : nat_lt last m.seq ≡ true = grind (arith, nat_tests) in rw above refl
+
+move-answered : (players last seq moved word : ℕ) (clients : List (Option Client)) → AreMoved players last seq moved clients
+    → moved < players → last < seq → move_answer clients (moved + 1) (move_of seq word ∷ []) ≡ Ok (waiter moved last)
+move-answered players last seq moved word clients are below rises =
     let slots = are-slots players last seq moved clients are in
     let there = found-only (ports_of clients) slots moved (moved + 1) (port-there players last seq moved clients are moved below) in
-    let above : leb seq last ≡ false = grind (arith, nat_tests) in
-    rw there (rw (are.waiting moved (omega arith) below) (rw above refl))
+    rw there (rw (are.waiting moved (omega arith) below) (rw (new-one last (move_of seq word) rises) refl))
 
 moved-next : (players last seq moved : ℕ) (clients : List (Option Client)) → AreMoved players last seq moved clients
     → moved < players → players ≤ 64 → AreMoved players last seq (moved + 1) (with_client clients (mover moved seq))
@@ -160,15 +171,17 @@ record AfterMoves (players last seq moved : ℕ) (more : ℕ) (r next : Receivin
 
 abbrev moved_in : ℕ → ℕ → ℕ → ℕ → Receiving → Receiving
 moved_in frame seq moved word r =
-    receiving_of (with_update r.state (mover moved seq)) (with_move r.lists (command_in frame moved (move_of seq word)))
+    receiving_of (with_update r.state (mover moved seq)) (with_moves r.lists (command_in frame moved (move_of seq word) ∷ []))
 
 move-accepted : (players last seq moved frame word : ℕ) (r : Receiving) (place : ℕ) → AreMoved players last seq moved r.state.clients
     → moved < players → last < seq → seq < 2 ^ 32
     → after_arrival generated_map frame r place (move_from seq (moved + 1) word) ≡ moved_in frame seq moved word r
 move-accepted players last seq moved frame word r place are below rises small =
     ap (λ packet. after_packet generated_map frame packet r place (moved + 1)) (packets_are_read.moves seq (moved + 1) word small)
-    ∙ ap (λ answer. after_move answer frame (move_of seq word) r place)
-    (move-answered players last seq moved r.state.clients are below rises)
+    ∙ ap (λ answer. after_move answer frame (move_of seq word ∷ []) r place)
+    (move-answered players last seq moved word r.state.clients are below rises)
+    ∙ ap (λ new. receiving_of (with_update r.state (answers.moved (waiter moved last) new)) (with_moves r.lists (map (command_in frame moved) new)))
+    (new-one last (move_of seq word) rises)
 
 moves-run : (seed players last frame moved n : ℕ) (r : Receiving) (place : ℕ) → AreMoved players last (frame + 1) moved r.state.clients
     → moved + n ≡ players → players ≤ 64 → last < frame + 1 → frame + 1 < 2 ^ 32

@@ -14,7 +14,7 @@ use Rattle.demo_lines.specs.declared.event.Event.{Event}
 use Rattle.demo_lines.specs.declared.event.Event.TheVariants as events
 use Rattle.demo_lines.specs.Spelling.{frame_events}
 use Rattle.demo_make.specs.GeneratedMap.{generated_lines}
-use Rattle.demo_make.specs.GeneratedFrames.{IsInRange, arrival, join_from, ports, moves_in, arrivals_in, generated_frames, generated_events, generated_text}
+use Rattle.demo_make.specs.GeneratedFrames.{arrival, join_from, ports, moves_in, arrivals_in, generated_frames, generated_events}
 use Rattle.demo_make.specs.Remaining.{event_text, events_text}
 use Rattle.demo_make.specs.Laws.{GeneratedTextsAreBounded}
 use Rattle.demo_make.proofs.Lines.{whole-fits}

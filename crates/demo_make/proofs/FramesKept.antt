@@ -11,7 +11,7 @@ use Rattle.edge_io.specs.Lines.{AreBytes}
 use Rattle.packet_read.specs.declared.move_packet.MovePacket.{MovePacket}
 use Rattle.packet_read.specs.declared.packet.Packet.TheVariants.{Join, Step}
 use Rattle.packet_read.specs.Spelling.{spelling, IsAllowedMove, MoveFits}
-use Rattle.packet_read.proofs.Fields.{packet_again}
+use Rattle.packet_read.proofs.Again.{packet_again}
 use Rattle.packet_read.specs.declared.arrival.Arrival.{Arrival}
 use Rattle.demo_lines.specs.declared.line.Line.TheVariants as lines
 use Rattle.demo_lines.specs.Spelling.{IsArrival, IsFrame, IsRecording, map_lines, frame_lines, recording_lines}

@@ -1,6 +1,5 @@
 -- A frame that a game closes: it has few packets, and is counted.
-use Rattle.std.proofs.Common.{◌≡◌, ℕ, ◌+◌, ◌<◌, List, length, Option, Some, None, refl, sym, ap, ◌∙◌, subst}
-use Rattle.entity_recs.specs.declared.effect.Entry.{Entry}
+use Rattle.std.proofs.Common.{◌≡◌, ℕ, ◌+◌, ◌<◌, List, Option, Some, sym, ap, ◌∙◌}
 use Rattle.packet_read.specs.declared.arrival.Arrival.{Arrival}
 use Rattle.client_ports.specs.Lists.{Lists}
 use Rattle.move_journal.specs.Logs.{JournalView}
@@ -13,7 +12,7 @@ use Rattle.playback.specs.Playbacks.{Course, IsGivenIf, GoesOn, IsReady}
 use Rattle.playback.proofs.Closed.{run_of, ready_to_close, few_packets, few_frames, given_by}
 use Rattle.match_play.specs.declared.totals.Totals.{Totals}
 use Rattle.match_play.specs.Totals.{totals_with, HasFew}
-use Rattle.match_play.specs.Games.{totals_with_frame, totals_after}
+use Rattle.match_play.specs.Games.{totals_after}
 use Rattle.match_play.proofs.Few.{few_in_frame}
 
 module _ (workers : ℕ) (old new : Course) (e : Event) (journal : JournalView) (goes : GoesOn workers old new e (Some journal.entries)) where
@@ -32,7 +31,7 @@ module _ (workers : ℕ) (old new : Course) (e : Event) (journal : JournalView) 
         let run = run_of workers old new e journal.entries goes in
         let t = old.server in
         few_in_frame t.map t.frames t.state run.arrivals out.received.lists journal.entries (few_packets workers old new journal.entries run (ready_to_close workers old new e journal.entries goes ready))
-        (given_by workers old new journal.entries out run given).lists_are run.runs.right
+        (given_by workers old new journal.entries out run given).lists_are run.runs.few
 
     -- the totals are those with it
     pub counted : (before : Totals) (score : ℕ) → score ≡ score_in new.server.state.records

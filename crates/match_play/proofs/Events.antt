@@ -14,7 +14,6 @@ use Rattle.demo_make.specs.GeneratedMap.{generated_map}
 use Rattle.demo_make.specs.GeneratedFrames.{arrivals_in, generated_frames, generated_events}
 use Rattle.match_play.specs.declared.totals.Totals.{Totals}
 use Rattle.out_text.specs.Collecting.{closing}
-use Rattle.entity_recs.specs.declared.effect.Entry.{Entry}
 use Rattle.playback.specs.Playbacks.{Course, GoesOn, IsReady, entries_if}
 use Rattle.match_play.specs.Games.{GameView, Plays, new_game, journals_after, totals_after}
 use Rattle.match_play.specs.Matches.{HasEachJournal, entries_of}

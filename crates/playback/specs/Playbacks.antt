@@ -38,11 +38,13 @@ pub record ArePrintable (out : FrameOut) : Type 0 where
 
 -- ---- a frame
 
--- a frame with these packets was run: its journal is right, and with one worker has the moves in the order of arrival
+-- a frame with these packets was run: its journal is right, has at most 512 entries, and with one worker has the
+-- moves in the order of arrival
 pub record RunsFrame (workers : ℕ) (old new : ServerView) (arrivals : List Arrival) (journal : List Entry) : Type 0
   where
     pub right : IsRightAfter old.map (received_in old.map old.frames old.state arrivals) journal
     pub order : workers ≡ 1 → IsInOrder journal (received_in old.map old.frames old.state arrivals).lists.moves
+    pub few : length journal ≤ 512
     pub next : new ≡ server_after old arrivals journal
 
 -- the records that the replies to a frame with this journal show
