@@ -1,4 +1,4 @@
-use Rattle.std.proofs.Common.{refl, sym, ap, ◌∙◌}
+use Rattle.std.proofs.Common.{refl, sym, ap, ◌∙◌, []}
 use Rattle.out_text.specs.OutLines.{OutLine, text_of}
 use Rattle.out_text.specs.Printers.{Prints}
 use Rattle.playback.specs.Playbacks.{entries_if}
