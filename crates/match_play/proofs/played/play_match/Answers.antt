@@ -11,8 +11,8 @@ loop-event-init g c =
     under_way-first c.args.seed c.args.players c.args.host.now.workers c.args.frames c.args.game.now (remaining_events c.into_iter-event-iterator.result)
     c.requires.fresh (ap remaining_events c.into_iter-event-iterator.ensures.into_iter_gives ∙ c.new-event-items.ensures)
 
-pub take-requires-clause-ready : goal.take-requires-clause-ready
-take-requires-clause-ready g c κs within =
+pub take-requires-after_bounds : goal.take-requires-after_bounds
+take-requires-after_bounds g c κs within =
     let old = c.loop-event.game in
     let event = event_of c.in-Some.event in
     let range = c.requires.range in
