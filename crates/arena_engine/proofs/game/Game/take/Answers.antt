@@ -1,4 +1,4 @@
-use Rattle.std.proofs.Common.{ℕ, ◌+◌, ◌≤◌, List, [], ◌++◌, length, Option, sym, ap, ◌∙◌, subst}
+use Rattle.std.proofs.Common.{◌≡◌, ℕ, ◌≤◌, List, [], ◌++◌, length, Option, ap, ◌∙◌, subst, arith}
 use Rattle.std.proofs.lemmas.Result.{err_from_is_err_and}
 use Rattle.move_journal.specs.Logs.{JournalView}
 use Rattle.out_text.specs.OutLines.{OutLine, text_of}
@@ -41,5 +41,6 @@ returns-in_err-printed-clause-sure g c =
     (plays c.args.host.now.workers c.args.self.now old.playback.course (entries_if old.last) c.take.new.self _ c.args.event closed c.is_end-ends.result
     (λ lines. length (text_of lines) ≤ g.K.Sink.room c.args.sink.now → ⊥)
     c.self.view_is c.is_end-ends.ensures c.in_ok-closed.ensures.next c.in_ok-closed.ensures.given last_is
-    (λ fits. not_failed (c.in_err-printed.ensures.sure
-    (subst (λ (q : List ℕ). length q + length (text_of (due_lines c.is_end-ends.result closed c.take.new.self)) ≤ g.K.Sink.room c.args.sink.now) (sym c.self.invariant) fits))))
+    (λ fits.
+    let none : length old.printer ≡ 0 = ap length c.self.invariant in
+    not_failed (c.in_err-printed.ensures.sure (omega (arith, fits, none)))))
