@@ -1,4 +1,4 @@
-use Rattle.std.proofs.Common.{◌≡◌, ℕ, ◌+◌, ◌≤◌, List, [], ◌∷◌, ◌++◌, length, sym, subst}
+use Rattle.std.proofs.Common.{◌≡◌, ◌+◌, ◌≤◌, List, [], ◌∷◌, ◌++◌, length, sym, subst}
 use Rattle.out_text.specs.OutLines.{OutLine, EndLine, text_of}
 use Rattle.out_text.specs.Printers.{Prints, FailsIn}
 use Rattle.out_text.proofs.Buffering.{on_err, not_failed}

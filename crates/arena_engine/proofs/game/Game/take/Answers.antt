@@ -1,7 +1,7 @@
 use Rattle.std.proofs.Common.{◌≡◌, ℕ, ◌≤◌, List, [], ◌++◌, length, Option, ap, ◌∙◌, subst, arith}
 use Rattle.std.proofs.lemmas.Result.{err_from_is_err_and}
 use Rattle.move_journal.specs.Logs.{JournalView}
-use Rattle.out_text.specs.OutLines.{OutLine, text_of}
+use Rattle.out_text.specs.OutLines.{text_of}
 use Rattle.out_text.specs.Printers.{Prints, FailsIn}
 use Rattle.out_text.proofs.Buffering.{not_failed}
 use Rattle.playback.specs.Playbacks.{entries_if}
