@@ -1,5 +1,5 @@
 -- A frame that an event closed: what it gave out prints its lines.
-use Rattle.std.proofs.Common.{◌≡◌, ℕ, Bool, true, false, List, [], ◌∷◌, ◌++◌, Option, Some, None, refl, sym, ap, ◌∙◌, subst, append-nil}
+use Rattle.std.proofs.Common.{◌≡◌, ℕ, Bool, List, [], ◌∷◌, ◌++◌, Option, Some, None, refl, ap, ◌∙◌, subst, append-nil}
 use Rattle.entity_recs.specs.declared.effect.Entry.{Entry}
 use Rattle.packet_read.specs.declared.arrival.Arrival.{Arrival}
 use Rattle.plain_server.specs.Frames.{received_in}
@@ -11,7 +11,7 @@ use Rattle.out_text.specs.OutLines.{OutLine, EndLine}
 use Rattle.out_text.specs.FrameLines.{given_lines, lines_with}
 use Rattle.out_text.proofs.Players.{given-is}
 use Rattle.playback.specs.Playbacks.{Course, PlaybackView, IsGiven, IsGivenIf, Closes, GoesOn, shown_by}
-use Rattle.arena_engine.specs.Games.{GameView, Plays, closed_lines, closing_lines, event_lines, lines_if, due_lines, is_end, newest}
+use Rattle.arena_engine.specs.Games.{GameView, Plays, closed_lines, closing_lines, event_lines, due_lines, is_end, newest}
 
 -- the lines that the code prints are those of the frame
 lines-are : (t : ServerView) (arrivals : List Arrival) (journal : List Entry) (out : FrameOut) → IsGiven t arrivals journal out

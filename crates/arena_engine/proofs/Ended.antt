@@ -5,12 +5,13 @@ use Rattle.edge_io.specs.declared.sink.Sink as sinks
 use Rattle.edge_io.specs.Counts.{HasRisen}
 use Rattle.edge_io.specs.Lines.{ahead, HasNotReadAhead}
 use Rattle.entity_recs.specs.declared.effect.Entry.{Entry}
+use Rattle.arena_map.specs.Maps.{MapView, IsMap}
 use Rattle.demo_lines.specs.declared.event.Event.{Event}
 use Rattle.demo_lines.specs.declared.event.Event.TheVariants.{End}
 use Rattle.demo_lines.specs.declared.demo_stop.DemoStop.{DemoStop}
 use Rattle.demo_lines.specs.declared.demo_stop.DemoStop.TheVariants as demo_stop
 use Rattle.demo_lines.specs.Readings.{IsReading}
-use Rattle.demo_lines.specs.Reads.{DemoReaderView, fresh_reader, IsOpen, Reads, ReadsFront, Refuses, TakesCutEnd, EndsAt, stage_after}
+use Rattle.demo_lines.specs.Reads.{DemoReaderView, fresh_reader, map_taken, IsOpen, Reads, ReadsFront, Refuses, TakesCutEnd, EndsAt, stage_after}
 use Rattle.demo_lines.specs.Reads as reads_of
 use Rattle.out_text.specs.OutLines.{text_of}
 use Rattle.out_text.specs.Printers.{Prints, FailsIn}
@@ -19,7 +20,7 @@ use Rattle.arena_engine.specs.declared.stop.Stop.TheVariants.{Refused, ReadFault
 use Rattle.arena_engine.specs.StopOf.{stop_of}
 use Rattle.arena_engine.specs.Stops.{OnWriteFault, OnMemory, IsGameStop}
 use Rattle.playback.specs.Playbacks.{IsReady}
-use Rattle.arena_engine.specs.Games.{GameView, Plays, is_end}
+use Rattle.arena_engine.specs.Games.{GameView, Plays, new_game, is_end}
 use Rattle.arena_engine.specs.PlayEnds.{PlaysTo}
 use Rattle.arena_engine.specs.Progress.{IsNext, MayGoOn}
 use Rattle.arena_engine.proofs.Exits.{memory_at_first}
@@ -78,6 +79,24 @@ module _ {S K : Type 0} (s : sources.Ghosts S) (k : sinks.Ghosts K) (workers : �
     reads = stops.uncounted_memory;
     writes = refl;
   }
+
+-- the event that the reader gave first is the next one, once the map was given out
+pub first_is_next : {S K : Type 0} (s : sources.Ghosts S) (k : sinks.Ghosts K) (workers : ℕ) (source source' : S) (sink : K) (old new taken : DemoReaderView) (arena : MapView) (g : GameView) (e : Event) → old ≡ fresh_reader
+    → taken ≡ map_taken new → ReaderGives s old new source source' e → new.reading.map ≡ Some arena → IsMap arena → g ≡ new_game arena → IsNext s k workers source source' sink sink taken g e
+first_is_next s k workers source source' sink old new taken arena g e fresh is gives has is_map begun =
+    let b = ahead new.pending (s.left source') in
+    let progress = running.first_event workers old new.reading (s.left source) b (k.taken sink) e arena g fresh gives.event gives.stage gives.holds has is_map begun in
+    let unread = running.needed_first s.last s.ended s.never_fails source source' old new (s.left source) b e fresh gives.needed gives.keeps in
+    let both = running.runs_first s.last s.ended s.never_fails workers new taken arena (s.left source) (s.left source') (k.taken sink) g e (s.faults source) (s.faults source') (k.faults sink) (k.room sink) source source' is progress gives.ok gives.uncounted unread in
+    record { runs = both.0; needed = both.1 }
+
+-- what is the same ended so too
+pub ends_same : {S K : Type 0} (s : sources.Ghosts S) (k : sinks.Ghosts K) (workers : ℕ) (source source' : S) (sink sink' : K) (last last' : Option (List Entry)) (ended ended' : Result Unit Stop) → last' ≡ last → ended' ≡ ended
+    → PlaysTo s k workers source source' sink sink' last ended → PlaysTo s k workers source source' sink sink' last' ended'
+ends_same s k workers source source' sink sink' last last' ended ended' same_last same_end plays =
+    let P : Result Unit Stop → Type 0 = λ r. PlaysTo s k workers source source' sink sink' last' r in
+    let Q : Option (List Entry) → Type 0 = λ l. PlaysTo s k workers source source' sink sink' l ended in
+    subst P (sym same_end) (subst Q (sym same_last) plays)
 
 -- ---- at an event
 

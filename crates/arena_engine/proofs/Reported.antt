@@ -1,5 +1,5 @@
 -- What a report says of a recording that was played, by how that ended.
-use Rattle.std.proofs.Common.{◌≡◌, ℕ, List, [], Option, Some, None, IfSome, IsSomeAnd, IsSome, ◌≤◌, ◌⊎◌, inl, inr, sym, ap, ◌∙◌, subst, arith}
+use Rattle.std.proofs.Common.{◌≡◌, ℕ, true, false, List, [], Option, Some, None, IfSome, IsSomeAnd, IsSome, ◌≤◌, inl, inr, subst, arith}
 use Rattle.edge_io.specs.declared.source.Source as sources
 use Rattle.edge_io.specs.declared.sink.Sink as sinks
 use Rattle.edge_io.specs.Counts.{HasRisen}
@@ -24,7 +24,7 @@ not_faultless workers (Some bytes) t0 t1 last why written none = let is = writte
 not_faulty : (workers : ℕ) (a t0 t1 : Option (List ℕ)) (last : Option (List Entry)) → IfSome a (λ bytes. Writes t0 t1 (HasLast (IsOutput workers bytes) last))
     → IsSomeAnd a (λ bytes. IsSome (fault bytes)) → ⊥
 not_faulty workers None t0 t1 last written some = absurd some
-not_faulty workers (Some bytes) t0 t1 last written some = absurd (subst IsSome written.holds.holds.accepted some)
+not_faulty workers (Some bytes) t0 t1 last written some = let never : false ≡ true = subst IsSome written.holds.holds.accepted some in cc
 
 -- the first of two facts, and the second
 first_of : (a : Option (List ℕ)) (P Q : List ℕ → Type 0) → IsSomeAnd a (λ bytes. P bytes × Q bytes) → IsSomeAnd a P

@@ -20,14 +20,11 @@ use Rattle.demo_lines.specs.Reads as reads_of
 use Rattle.demo_lines.proofs.Walks.{whole_after}
 use Rattle.demo_lines.proofs.Given.{Reads-given, Reads-no_map, ReadsFront-given, EndsAt-given, Refuses-given}
 use Rattle.out_text.specs.OutLines.{text_of}
-use Rattle.out_text.specs.Collecting.{collected}
 use Rattle.out_text.specs.Output.{HasLast, IsOutput, IsRefused, IsCut, IsSomeFrames}
-use Rattle.out_text.proofs.Fronts.{text_with}
 use Rattle.arena_engine.specs.declared.stop.Stop.{Stop}
 use Rattle.arena_engine.specs.declared.stop.Stop.TheVariants.{Refused, ReadFault, WriteFault, Memory}
 use Rattle.arena_engine.specs.StopOf.{stop_of}
 use Rattle.arena_engine.specs.Stops.{OnRefused, OnReadFault, OnWriteFault, OnMemory, ButOnReadFault, ButOnWriteFault, IsGameStop}
-use Rattle.out_text.specs.OutLines.{OutLine}
 use Rattle.out_text.specs.Printers.{Prints, FailsIn}
 use Rattle.playback.specs.Playbacks.{IsReady}
 use Rattle.arena_engine.specs.Games.{GameView, new_game, Advances, Plays, event_lines, is_end}

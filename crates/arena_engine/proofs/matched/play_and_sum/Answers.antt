@@ -1,4 +1,4 @@
-use Rattle.std.proofs.Common.{rules, ◌≡◌, List, ℕ}
+use Rattle.std.proofs.Common.{rules, ◌≡◌}
 use Rattle.std.specs.Io.KnownBytes.{Appends}
 use Rattle.edge_io.specs.Writes.{AppendsPart}
 use Rattle.arena_engine.specs.Making.{ArePlayed, line_of_match}
