@@ -10,7 +10,7 @@ use Rattle.out_text.proofs.Fronts.{no_front}
 use Rattle.out_text.proofs.OneTaker.{taken_in_front}
 use Rattle.arena_engine.specs.declared.report.Report.{Report}
 use Rattle.arena_engine.specs.Output.{Writes}
-use Rattle.arena_engine.specs.LastFrames.{entries_of}
+use Rattle.arena_engine.specs.Playbacks.{entries_if}
 use Rattle.arena_engine.specs.Reports.{last_in}
 use Rattle.edge_io.specs.declared.source.Source as sources
 use Rattle.edge_io.specs.declared.sink.Sink as sinks
@@ -34,7 +34,7 @@ no_frames None before after n r same none = tt
 no_frames (Some bytes) before after n r same none = record {
   text = [];
   written = subst (λ (t : Option (List ℕ)). Appends before t []) (sym same) (Appends-nil before);
-  holds = record { holds = record { k = 0; front = no_front n bytes }; last_is = ap entries_of none };
+  holds = record { holds = record { k = 0; front = no_front n bytes }; last_is = ap entries_if none };
 }
 
 -- where memory for the arguments was refused, what was asked for is served as far as that
