@@ -1,5 +1,5 @@
 -- The index of the solids misses none.
-use Rattle.std.proofs.Common.{◌≡◌, ℕ, zero, suc, cond, inl, inr, ◌+◌, ◌*◌, ◌/◌, ◌%◌, ◌^◌, ◌<◌, ◌≤◌, min, Bool, true, false, List, [], ◌∷◌, ◌++◌, length, take, filter, get_or, bit_and, ℤ, ◌≤ℤ◌, ◌-ℤ◌, unsigned_abs, int_lt, refl, sym, ap, ◌∙◌, subst, arith}
+use Rattle.std.proofs.Common.{◌≡◌, ℕ, zero, suc, cond, inl, inr, ◌+◌, ◌/◌, ◌%◌, ◌^◌, ◌<◌, ◌≤◌, min, Bool, true, false, List, [], ◌∷◌, ◌++◌, length, take, filter, get_or, bit_and, ℤ, ◌≤ℤ◌, ◌-ℤ◌, unsigned_abs, refl, sym, ap, ◌∙◌, subst, arith}
 use Rattle.std.proofs.Math.Nat.{div-mul-le_self}
 use Rattle.std.specs.Int.{bit_at, int_max, w32}
 use Rattle.std.proofs.lemmas.List.{append_assoc}
@@ -17,7 +17,7 @@ use Rattle.arena_actions.specs.declared.marks.Marks.{Marks}
 use Rattle.arena_actions.specs.declared.strips.Strips.{Strips}
 use Rattle.arena_actions.specs.declared.solid_index.Look.{Look}
 use Rattle.arena_actions.specs.declared.solid_index.SolidIndex.{SolidIndex}
-use Rattle.arena_actions.specs.Indexes.{strip_of, IsMarked, HasInterval, AddsSolids, IsIndexOf, IsLookAt}
+use Rattle.arena_actions.specs.Indexes.{strip_of, HasInterval, AddsSolids, IsLookAt}
 use Rattle.arena_actions.proofs.Marking.{both_set}
 
 shr-mono : (a b k : ℕ) → a ≤ b → a / 2 ^ k ≤ b / 2 ^ k

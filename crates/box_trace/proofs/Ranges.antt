@@ -1,5 +1,5 @@
 -- Where a body is in range on its way.
-use Rattle.std.proofs.Common.{◌≡◌, ℕ, zero, suc, ◌≤◌, ℤ, pos, negsuc, ◌+ℤ◌, neg_ℤ, unsigned_abs, Option, Some, None, SomeIff, IsSome, ap, ◌∙◌, arith, rules}
+use Rattle.std.proofs.Common.{◌≡◌, ℕ, zero, suc, ◌≤◌, ℤ, pos, negsuc, ◌+ℤ◌, neg_ℤ, unsigned_abs, ap, ◌∙◌, arith}
 use Rattle.std.proofs.Math.Nat.{zero-div, mul-div_left}
 use Rattle.std.proofs.lemmas.Int.{ints}
 use Rattle.arena_geo.specs.declared.vec3.Vec3.{Vec3}
@@ -8,7 +8,7 @@ use Rattle.arena_geo.specs.Bounds.{Bounds, IsInRange}
 use Rattle.arena_geo.specs.Boxes.{moved}
 use Rattle.box_trace.specs.Steps.{step_count, part_at, shift_at, body_at}
 use Rattle.box_trace.specs.Laws.{StepsStayInRange}
-use Rattle.box_trace.proofs.Parts.{share_le, part_at-neg, unsigned_abs-part_at_le}
+use Rattle.box_trace.proofs.Parts.{share_le, part_at-neg}
 
 -- what is in range at both ends is in range between them
 part_in_range : (l d : ℤ) (n k far : ℕ) → k ≤ n → unsigned_abs l ≤ far → unsigned_abs (l +ℤ d) ≤ far

@@ -1,5 +1,5 @@
 -- What the words `make`, `7`, `2` and `1` ask for, and how their call ends where the recording has room.
-use Rattle.std.proofs.Common.{◌≡◌, ◌⊎◌, inl, inr, ℕ, List, [], ◌∷◌, codes, refl, sym, ◌∙◌, arith}
+use Rattle.std.proofs.Common.{◌≡◌, inl, inr, ℕ, List, [], ◌∷◌, codes, refl, sym, ◌∙◌, arith}
 use Rattle.std.specs.Fmt.{digits}
 use Rattle.arena_engine.specs.declared.command.Command.TheVariants.{Make}
 use Rattle.arena_engine.specs.Commands.{Spells, words_of}

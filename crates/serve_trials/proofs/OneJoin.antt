@@ -1,5 +1,5 @@
 -- The example `one-join` is a recording without a fault, of one frame.
-use Rattle.std.proofs.Common.{◌≡◌, ◌+◌, ◌*◌, ◌≤◌, ◌<◌, ℕ, false, List, [], ◌∷◌, length, codes, pos, negsuc, refl, sym, ap, subst, arith}
+use Rattle.std.proofs.Common.{◌≡◌, ◌<◌, ℕ, false, List, [], ◌∷◌, length, codes, pos, negsuc, refl, sym, ap, subst, arith}
 use Rattle.std.specs.Fmt.{digits}
 use Rattle.std.specs.Prelude.{None}
 use Rattle.std.proofs.lemmas.Int.{ints}
@@ -10,8 +10,8 @@ use Rattle.arena_geo.specs.Boxes.{is_blocked}
 use Rattle.hex.specs.Hex.{encode_with}
 use Rattle.packet_read.specs.declared.arrival.Arrival.{Arrival}
 use Rattle.arena_map.specs.Maps.{MapView, map_of, IsSpawn, IsBlock, IsThingInside, IsMap}
-use Rattle.demo_lines.specs.Bytes.{fault, events}
-use Rattle.demo_lines.specs.Spelling.{IsArrival, IsRecording, recording_text, recording_events}
+use Rattle.demo_lines.specs.Bytes.{fault}
+use Rattle.demo_lines.specs.Spelling.{IsArrival, IsRecording, recording_text}
 use Rattle.demo_lines.specs.Laws.{IsTextOf, PacketsHaveRoom, RecordingsReadBack}
 use Rattle.out_text.specs.Collecting.{collected, frames_of}
 use Rattle.out_text.specs.Laws.{OutputsAreBounded}

@@ -1,7 +1,7 @@
 -- A pass that runs a command, call after call, and how it ends.
-use Rattle.std.proofs.Common.{◌≡◌, ℕ, ◌+◌, ◌-◌, ◌^◌, ◌<◌, ◌≤◌, Bool, true, false, if◌then◌else◌, List, [], ◌∷◌, ◌++◌, refl, sym, ap, ◌∙◌, subst, inr, Option, Some, None, is_some, arith}
-use Rattle.std.specs.Prelude.{◌||◌, nat_le, min}
-use Rattle.std.proofs.lemmas.Bool.{false≢true, true≢false, le-leb, cond-true, cond-false, or_parts}
+use Rattle.std.proofs.Common.{◌≡◌, ℕ, ◌+◌, ◌-◌, ◌^◌, ◌≤◌, Bool, true, false, if◌then◌else◌, List, [], ◌∷◌, ◌++◌, refl, sym, ap, ◌∙◌, subst, inr, Option, Some, None, is_some, arith}
+use Rattle.std.specs.Prelude.{nat_le, min}
+use Rattle.std.proofs.lemmas.Bool.{true≢false, le-leb, cond-true, or_parts}
 use Rattle.atomic_table.specs.Seated.{TableId}
 use Rattle.entity_recs.specs.declared.effect.Entry.{Entry}
 use Rattle.entity_recs.specs.Commands.{Command}
@@ -9,17 +9,17 @@ use Rattle.areanode.specs.Words.{has_bit}
 use Rattle.core_steps.specs.Views.{Fixed, Refused, Point, Idle, Owning, Taking, Checking, Entering, Entered, Loading, Leaving, Sensing, Resolving, Claiming, Storing, Releasing, Returning, Yielding, stage_of, is_busy, inner_held, leaves_held, stores_owed}
 use Rattle.core_steps.specs.Calls.{is_pursued, pursued_of}
 use Rattle.region_locks.specs.declared.went.Went.{Went}
-use Rattle.region_locks.specs.declared.went.Went.TheVariants.{On, Resolved, Committed}
+use Rattle.region_locks.specs.declared.went.Went.TheVariants.{Resolved}
 use Rattle.region_locks.specs.Sights.{HeldWord, IsOneOf}
 use Rattle.region_locks.specs.Passes.{PassView, IsPassOf}
 use Rattle.region_locks.specs.declared.turn.Turn.{Turn}
 use Rattle.region_locks.specs.Turns.{has_command_in_hand}
 use Rattle.region_locks.specs.Closing.{HasNoCommand}
-use Rattle.region_locks.specs.Pursuits.{command_pursued, commands_given, item_of, IsGoingOn, entry_committed, is_resolved, HasGoneOn, HasCommitted, IsSameMove, WasRefused, HasGivenUp, IsRefusedBy, HoldsLeavesAlone}
+use Rattle.region_locks.specs.Pursuits.{command_pursued, item_of, entry_committed, is_resolved, HasGoneOn, WasRefused, HasGivenUp, IsRefusedBy}
 use Rattle.shared_moves.specs.declared.again.Again.{Again}
 use Rattle.shared_moves.specs.declared.point.GatePoint.TheVariants as points
 use Rattle.shared_moves.specs.Moves.{HasRun, NoTakeWasRefused, IsLeafHeld, IsCause, WasNotRun, IsOpen, IsDone, IsRunning}
-use Rattle.shared_moves.specs.Moments.{IsAtPoint, HasLogged, RunsCommand}
+use Rattle.shared_moves.specs.Moments.{IsAtPoint, RunsCommand}
 
 -- a list with a command isn't empty
 has_one : {R : Type 0} (xs : List Command) (c : Command) → xs ≡ c ∷ [] → xs ≡ [] → R

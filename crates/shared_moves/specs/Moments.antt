@@ -1,5 +1,5 @@
 -- What a pass holds, and which move it runs, at the moments at which the move calls the gate.
-use Rattle.std.specs.Prelude.{◌≡◌, Bool, true, false, is_some, List, [], ◌∷◌, ◌++◌, Option, Some, None}
+use Rattle.std.specs.Prelude.{◌≡◌, Bool, true, is_some, List, [], ◌∷◌, ◌++◌, Option, Some, None}
 use Rattle.entity_recs.specs.declared.effect.Entry.{Entry}
 use Rattle.entity_recs.specs.Commands.{Command}
 use Rattle.entity_recs.specs.Histories.{Item}

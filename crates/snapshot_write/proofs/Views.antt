@@ -1,9 +1,9 @@
 -- The box that a player sees.
-use Rattle.std.proofs.Common.{◌≡◌, Option, Some, None, IsSome, SomeIff, refl, arith}
+use Rattle.std.proofs.Common.{◌≡◌, arith}
 use Rattle.std.proofs.lemmas.Int.{ints}
 use Rattle.arena_geo.specs.declared.vec3.Vec3.{Vec3}
 use Rattle.arena_geo.specs.Vectors.{IsNear, plus, minus}
-use Rattle.arena_geo.specs.Bounds.{Bounds, bounds, IsBox}
+use Rattle.arena_geo.specs.Bounds.{bounds, IsBox}
 use Rattle.snapshot_write.specs.Snapshots.{sight, view_of}
 
 IsBox-view : (origin : Vec3) → IsNear 1048576 origin → IsBox (view_of origin)

@@ -1,5 +1,5 @@
 -- Records and their bodies, higher by a little.
-use Rattle.std.proofs.Common.{◌≡◌, ◌≤◌, ℤ, Option, Some, None, SomeIff, IsSome, unsigned_abs, refl, arith}
+use Rattle.std.proofs.Common.{◌≡◌, ◌≤◌, ℤ, unsigned_abs, arith}
 use Rattle.std.proofs.lemmas.Int.{ints}
 use Rattle.arena_geo.specs.declared.vec3.Vec3.{Vec3}
 use Rattle.arena_geo.specs.Bounds.{Bounds, IsInRange}

@@ -1,5 +1,5 @@
 -- Boxes that grow have room for it.
-use Rattle.std.proofs.Common.{◌≡◌, ℕ, ◌+◌, ◌*◌, ◌≤◌, min, ℤ, unsigned_abs, pos, Option, Some, SomeIff, ap, ◌∙◌, arith}
+use Rattle.std.proofs.Common.{◌≡◌, ℕ, ◌+◌, ◌*◌, ◌≤◌, min, ℤ, unsigned_abs, pos, ap, ◌∙◌, arith}
 use Rattle.std.specs.Int.{w32}
 use Rattle.std.proofs.lemmas.Nat.{mul-le}
 use mir.Val.{to_z, of_z}

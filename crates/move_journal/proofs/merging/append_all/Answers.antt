@@ -1,4 +1,4 @@
-use Rattle.std.proofs.Common.{◌≡◌, ◌≤◌, ◌+◌, take, length, arith, ap, length-append}
+use Rattle.std.proofs.Common.{take, length, arith, ap, length-append}
 use Rattle.move_journal.specs.Logs.{JournalView}
 use Rattle.move_journal.specs.ByPlace.{entries_in}
 use Rattle.move_journal.proofs.LogEntries.{log_fits}

@@ -1,10 +1,9 @@
-use Rattle.std.proofs.Common.{rules, ◌≡◌, ap, sym, ◌∙◌, subst, List, ℕ, length}
-use Rattle.std.specs.Prelude.{map}
+use Rattle.std.proofs.Common.{rules, ◌≡◌, ap, sym, ◌∙◌, subst, List, length}
 use Rattle.std.specs.List.{range_with_len}
 use Rattle.std.specs.List.Sorted.{IsPermutation}
 use Rattle.std.proofs.lemmas.List.Sorted.{IsPermutation-map, IsPermutation-sym, IsPermutation-trans, length_permutation}
 use Rattle.entity_recs.specs.declared.effect.Entry.{Entry}
-use Rattle.move_journal.specs.ByPlace.{IsByPlace, entries_in, places_of}
+use Rattle.move_journal.specs.ByPlace.{entries_in, places_of}
 use Rattle.move_journal.proofs.SortedRanges.{sorted_range}
 use Rattle.move_journal.proofs.merging.merge.Goals as goal
 

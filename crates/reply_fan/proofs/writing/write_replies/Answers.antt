@@ -1,4 +1,4 @@
-use Rattle.std.proofs.Common.{◌≡◌, ◌<◌, length, ap, sym, ◌∙◌, arith}
+use Rattle.std.proofs.Common.{◌≡◌, length, sym, ◌∙◌, arith}
 use Rattle.reply_fan.specs.Replies.{reply_to}
 use Rattle.reply_fan.proofs.Places.{mapped_at_each}
 use Rattle.reply_fan.proofs.writing.write_replies.Goals as goal

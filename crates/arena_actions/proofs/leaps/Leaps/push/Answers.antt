@@ -1,5 +1,5 @@
-use Rattle.std.proofs.Common.{rules, ◌≡◌, ℕ, zero, suc, ◌<◌, ◌≤◌, ◌+◌, [], ◌∷◌, ◌++◌, length, take, slice_set, All, IfSome, Option, sym, subst, arith}
-use Rattle.std.proofs.lemmas.List.{take_more_set, length-set}
+use Rattle.std.proofs.Common.{rules, zero, suc, ◌<◌, [], ◌∷◌, length, take, All, IfSome, Option, sym, subst, arith}
+use Rattle.std.proofs.lemmas.List.{take_more_set}
 use Rattle.std.proofs.lemmas.List.Elements.{All-append}
 use Rattle.arena_actions.specs.declared.leaps.Leap.{Leap}
 use Rattle.arena_actions.specs.Leaps.{IsNearLeap}

@@ -1,4 +1,4 @@
-use Rattle.std.proofs.Common.{ℤ, ap, ◌∙◌}
+use Rattle.std.proofs.Common.{ap, ◌∙◌}
 use Rattle.arena_actions.specs.Indexes.{strip_of}
 use Rattle.arena_actions.proofs.Indexing.{read_x, read_y}
 use Rattle.arena_actions.proofs.solid_index.SolidIndex.look.Goals as goal

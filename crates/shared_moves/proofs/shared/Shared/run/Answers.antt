@@ -1,4 +1,4 @@
-use Rattle.std.proofs.Common.{length, ◌∙◌, sym}
+use Rattle.std.proofs.Common.{length}
 use Rattle.entity_recs.specs.Commands.{command_of}
 use Rattle.region_locks.specs.Passes.{fixed_in}
 use Rattle.region_locks.specs.Turns.{has_command_in_hand}

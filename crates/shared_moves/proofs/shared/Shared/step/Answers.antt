@@ -1,4 +1,4 @@
-use Rattle.std.proofs.Common.{length, ap, sym, ◌∙◌, subst, Option}
+use Rattle.std.proofs.Common.{length, ap, sym, subst, Option}
 use Rattle.entity_recs.specs.declared.effect.Entry.{Entry}
 use Rattle.entity_recs.specs.Commands.{command_of}
 use Rattle.region_locks.specs.Passes.{fixed_in}
