@@ -2,9 +2,11 @@
 use Rattle.std.specs.Prelude.{ℕ, ◌+◌, ◌-◌, ◌*◌, ◌/◌, ◌%◌, ◌^◌, ◌≤◌, ◌==◌, List, [], ◌++◌, map, ℤ, pos, ◌-ℤ◌}
 use Rattle.std.specs.Prelude.{if◌then◌else◌}
 use Rattle.std.specs.List.{range_with_len}
+use Rattle.packet_read.specs.declared.block_list.CmdBlock.{CmdBlock}
 use Rattle.packet_read.specs.declared.move_packet.MovePacket.{MovePacket}
 use Rattle.packet_read.specs.declared.packet.Packet.TheVariants.{Join, Step}
 use Rattle.packet_read.specs.Spelling.{spelling}
+use Rattle.packet_read.specs.Commands.{numbered}
 use Rattle.packet_read.specs.declared.arrival.Arrival.{Arrival}
 use Rattle.demo_lines.specs.declared.event.Event.{Event}
 use Rattle.demo_lines.specs.Spelling.{recording_text, recording_events}
@@ -24,15 +26,18 @@ pub record IsInRange (players frames : ℕ) : Type 0 where
 abbrev pub wish_of : ℕ → ℤ
 wish_of word = pos (word % 641) -ℤ pos 320
 
--- the move that a word gives, with this sequence number: 50 milliseconds, and a jump in one of 16
-abbrev pub move_of : ℕ → ℕ → MovePacket
-move_of seq word = record {
-  seq = seq;
+-- the command that a word gives: 50 milliseconds, and a jump in one of 16
+abbrev pub command_of : ℕ → CmdBlock
+command_of word = record {
   ms = 50;
   wish_x = wish_of word;
   wish_y = wish_of (word / 2 ^ 16);
   buttons = if word / 2 ^ 32 % 16 == 0 then 1 else 0;
 }
+
+-- the move that a word gives, with this sequence number
+abbrev pub move_of : ℕ → ℕ → MovePacket
+move_of seq word = numbered seq (command_of word)
 
 -- a packet with these bytes from a port
 abbrev pub arrival : ℕ → List ℕ → Arrival

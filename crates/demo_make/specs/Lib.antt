@@ -2,9 +2,11 @@
 pub use Rattle.demo_lines.specs.Spelling
 pub use Rattle.demo_lines.specs.Bytes
 pub use Rattle.packet_read.specs.Spelling as PacketSpelling
+pub use Rattle.packet_read.specs.Commands as PacketCommands
 pub mod Words
 pub mod GeneratedMap
 pub mod GeneratedFrames
+pub mod ResentFrames
 pub mod Remaining
 pub mod Passing
 pub mod Accepting
