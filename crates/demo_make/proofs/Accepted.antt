@@ -25,10 +25,10 @@ use Rattle.client_ports.proofs.Slots.{port_at-client, read-set}
 use Rattle.client_ports.proofs.Leavers.{leavers_out}
 use Rattle.demo_make.specs.Words.{word_at}
 use Rattle.demo_make.specs.GeneratedMap.{generated_map, spawn_at}
-use Rattle.demo_make.specs.GeneratedFrames.{move_of, join_from, move_from, ports, moves_in, arrivals_in}
+use Rattle.demo_make.specs.GeneratedFrames.{move_of, join_from, move_from, ports, move_in, moves_in, arrivals_in}
 use Rattle.demo_make.specs.Accepting.{ArePlaying, AreClearOfSpawns, IsPlayed, AllIsAccepted}
 use Rattle.demo_make.proofs.Joining.{AreJoined, join-next, joined-next}
-use Rattle.demo_make.proofs.FramesKept.{packets_are_read, later-is, move_at}
+use Rattle.demo_make.proofs.FramesKept.{packets_are_read, later-is}
 
 after_arrivals-append : (m : MapView) (frame : ℕ) (r : Receiving) (place : ℕ) (first more : List Arrival)
     → after_arrivals m frame r place (first ++ more)
@@ -186,7 +186,7 @@ move-accepted players last seq moved frame word r place are below rises small =
 moves-run : (seed players last frame moved n : ℕ) (r : Receiving) (place : ℕ) → AreMoved players last (frame + 1) moved r.state.clients
     → moved + n ≡ players → players ≤ 64 → last < frame + 1 → frame + 1 < 2 ^ 32
     → AfterMoves players last (frame + 1) moved n r
-    (after_arrivals generated_map frame r place (map (move_at seed players frame) (range_with_len (moved + 1) n)))
+    (after_arrivals generated_map frame r place (map (move_in seed players frame) (range_with_len (moved + 1) n)))
 moves-run seed players last frame moved zero r place are all few rises small =
     let e : moved + 0 ≡ moved = omega arith in
     record {
@@ -199,7 +199,7 @@ moves-run seed players last frame moved (suc n) r place are all few rises small 
     let first = move-accepted players last (frame + 1) moved frame word r place are (omega arith) rises small in
     let rest = moves-run seed players last frame (moved + 1) n next (place + 1)
     (moved-next players last (frame + 1) moved r.state.clients are (omega arith) few) (omega arith) few rises small in
-    let others = map (move_at seed players frame) (range_with_len (moved + 1 + 1) n) in
+    let others = map (move_in seed players frame) (range_with_len (moved + 1 + 1) n) in
     let e : moved + 1 + n ≡ moved + suc n = omega arith in
     subst (λ s. AfterMoves players last (frame + 1) moved (suc n) r (after_arrivals generated_map frame s (place + 1) others)) (sym first)
     (record {

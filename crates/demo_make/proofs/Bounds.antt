@@ -14,11 +14,11 @@ use Rattle.demo_lines.specs.declared.event.Event.{Event}
 use Rattle.demo_lines.specs.declared.event.Event.TheVariants as events
 use Rattle.demo_lines.specs.Spelling.{frame_events}
 use Rattle.demo_make.specs.GeneratedMap.{generated_lines}
-use Rattle.demo_make.specs.GeneratedFrames.{arrival, join_from, ports, moves_in, arrivals_in, generated_frames, generated_events}
+use Rattle.demo_make.specs.GeneratedFrames.{arrival, join_from, ports, move_in, moves_in, arrivals_in, generated_frames, generated_events}
 use Rattle.demo_make.specs.Remaining.{event_text, events_text}
 use Rattle.demo_make.specs.Laws.{GeneratedTextsAreBounded}
 use Rattle.demo_make.proofs.Lines.{whole-fits}
-use Rattle.demo_make.proofs.FramesKept.{move_at, later-is}
+use Rattle.demo_make.proofs.FramesKept.{later-is}
 use Rattle.demo_make.proofs.Texts.{generated_text-parts}
 
 -- the texts of events put together
@@ -45,7 +45,7 @@ from-long port b bytes few =
 join-long : (port : ℕ) → port ≤ 64 → length (event_text (events.From (join_from port))) ≤ 13
 join-long port few = from-long port 1 (1 ∷ []) few
 
-move-long : (seed players frame port : ℕ) → port ≤ 64 → length (event_text (events.From (move_at seed players frame port))) ≤ 33
+move-long : (seed players frame port : ℕ) → port ≤ 64 → length (event_text (events.From (move_in seed players frame port))) ≤ 33
 move-long seed players frame port few = from-long port _ _ few
 
 -- ---- a frame
@@ -62,13 +62,13 @@ joins-long first (suc more) few =
     )
 
 moves-long : (seed players frame first more : ℕ) → first + more ≤ 65
-    → length (events_text (map events.From (map (move_at seed players frame) (range_with_len first more)))) ≤ 33 * more
+    → length (events_text (map events.From (map (move_in seed players frame) (range_with_len first more)))) ≤ 33 * more
 moves-long seed players frame first zero few = omega arith
 moves-long seed players frame first (suc more) few =
-    let rest = map events.From (map (move_at seed players frame) (range_with_len (first + 1) more)) in
+    let rest = map events.From (map (move_in seed players frame) (range_with_len (first + 1) more)) in
     omega (
       arith,
-      length-append (event_text (events.From (move_at seed players frame first))) (events_text rest),
+      length-append (event_text (events.From (move_in seed players frame first))) (events_text rest),
       move-long seed players frame first (omega (arith, few)),
       moves-long seed players frame (first + 1) more (omega (arith, few)),
     )

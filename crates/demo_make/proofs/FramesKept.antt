@@ -19,7 +19,7 @@ use Rattle.demo_lines.proofs.Written.{packets_have_room}
 use Rattle.demo_lines.proofs.RecordingsRead.{recordings_read_back}
 use Rattle.demo_make.specs.Words.{word_at}
 use Rattle.demo_make.specs.GeneratedMap.{generated_map}
-use Rattle.demo_make.specs.GeneratedFrames.{IsInRange, wish_of, move_of, join_from, move_from, ports, joins_in, moves_in, arrivals_in, generated_frames, generated_events, generated_text}
+use Rattle.demo_make.specs.GeneratedFrames.{IsInRange, wish_of, move_of, join_from, move_from, ports, joins_in, move_in, moves_in, arrivals_in, generated_frames, generated_events, generated_text}
 use Rattle.demo_make.specs.Laws.{GeneratedRecordingsReadBack, FramesAreKnown, PacketsAreRead}
 use Rattle.demo_make.proofs.MapKept.{range-all, generated_is_map}
 
@@ -85,13 +85,10 @@ joins-few players frame = by_frame (eqb frame 0)
     by_frame true = omega (arith, length-map-range_with_len join_from 1 players)
     by_frame false = omega arith
 
-abbrev pub move_at : ℕ → ℕ → ℕ → ℕ → Arrival
-move_at seed players frame port = move_from (frame + 1) port (word_at seed (frame * players + (port - 1)))
-
 moves-are : (seed players frame : ℕ) → players ≤ 64 → All IsArrival (moves_in seed players frame)
 moves-are seed players frame few =
-    All-map IsArrival (move_at seed players frame) (ports players)
-    (range-all (λ port. IsArrival (move_at seed players frame port)) 1 players
+    All-map IsArrival (move_in seed players frame) (ports players)
+    (range-all (λ port. IsArrival (move_in seed players frame port)) 1 players
     (λ port _ below. move-arrival (frame + 1) port (word_at seed (frame * players + (port - 1))) (omega arith)))
 
 frame-is : (seed players frame : ℕ) → players ≤ 64 → IsFrame (arrivals_in seed players frame)
@@ -100,7 +97,7 @@ frame-is seed players frame few = record {
     arith,
     length-append (joins_in players frame) (moves_in seed players frame),
     joins-few players frame,
-    length-map-range_with_len (move_at seed players frame) 1 players,
+    length-map-range_with_len (move_in seed players frame) 1 players,
   );
   each = recursion_from_All IsArrival (arrivals_in seed players frame)
       (All-append IsArrival (joins_in players frame) (moves_in seed players frame) (joins-are players frame few) (moves-are seed players frame few));
@@ -131,7 +128,7 @@ pub later-is : (seed players frame : ℕ) → 0 < frame → arrivals_in seed pla
 later-is seed players frame later = ap (λ js. js ++ moves_in seed players frame) (no-joins players frame later)
 
 moves-length : (seed players frame : ℕ) → length (moves_in seed players frame) ≡ players
-moves-length seed players frame = length-map-range_with_len (move_at seed players frame) 1 players
+moves-length seed players frame = length-map-range_with_len (move_in seed players frame) 1 players
 
 frame-length : (arrivals : List Arrival) → length (frame_lines arrivals) ≡ length arrivals + 1
 frame-length arrivals = omega (arith, length-map arrivals lines.From)

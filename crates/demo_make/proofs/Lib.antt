@@ -1,8 +1,10 @@
 -- Lemmas on generated recordings.
 pub mod Steps
+pub mod Drawing
+pub mod Repeats
 pub mod Streams
 pub mod Lines
-pub mod Sending
+pub mod Passed
 pub mod Texts
 pub mod MapKept
 pub mod FramesKept

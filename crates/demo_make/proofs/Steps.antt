@@ -2,16 +2,20 @@
 use Rattle.std.proofs.Common.{◌≡◌, ℕ, zero, suc, ◌+◌, ◌-◌, ◌<◌, ◌≤◌, Bool, true, false, eqb, cond, List, [], ◌∷◌, ◌++◌, map, flat_map, refl, ap, ◌∙◌, arith, append_assoc}
 use Rattle.std.specs.List.{range_with_len}
 use Rattle.std.proofs.lemmas.List.{map-append}
+use Rattle.packet_read.specs.declared.arrival.Arrival.{Arrival}
+use Rattle.demo_lines.specs.declared.event.Event.{Event}
 use Rattle.demo_lines.specs.declared.event.Event.TheVariants as events
-use Rattle.demo_lines.specs.Spelling.{frame_events}
-use Rattle.rand_xoshiro.specs.SplitMix64.{mix_u64}
-use Rattle.demo_make.specs.Words.{word_of, next_state, state_after}
-use Rattle.demo_make.specs.GeneratedFrames.{join_from, move_from, joins_in, ports}
-use Rattle.demo_make.specs.Remaining.{moves_from, frames_from, Progress, end_unless, left_of}
+use Rattle.demo_lines.specs.Spelling.{frame_events, recording_events}
+use Rattle.demo_make.specs.declared.sending.Sending.{Sending}
+use Rattle.demo_make.specs.declared.sending.Sending.TheVariants.{Once, Repeated}
+use Rattle.demo_make.specs.GeneratedFrames.{join_from, move_in, joins_in, ports}
+use Rattle.demo_make.specs.ResentFrames.{repeat_from, arrives}
+use Rattle.demo_make.specs.Remaining.{packets_of, frame_of, Progress, end_unless, left_of}
 
-abbrev pub place : ℕ → ℕ → ℕ → ℕ → ℕ → ℕ → Bool → Progress
-place state players opened frames joins moves ended = record {
-  state = state;
+abbrev pub place : Sending → ℕ → ℕ → ℕ → ℕ → ℕ → ℕ → Bool → Progress
+place sending seed players opened frames joins moves ended = record {
+  sending = sending;
+  seed = seed;
   players = players;
   opened = opened;
   frames = frames;
@@ -29,92 +33,84 @@ range-first n (suc k) some few =
     let next : n - suc k + 1 + 1 ≡ n - k + 1 = omega arith in
     rw e (ap (λ first. (n - suc k + 1) ∷ range_with_len first k) next)
 
-moves_from-first : (seq state n k : ℕ) → 0 < k → k ≤ n
-    → moves_from seq state (n - k + 1) k
-    ≡ move_from seq (n - k + 1) (word_of state) ∷ moves_from seq (next_state state) (n - (k - 1) + 1) (k - 1)
-unfolding moves_from
-moves_from-first seq state n zero some few = absurd (omega arith)
-moves_from-first seq state n (suc k) some few =
-    let e : suc k - 1 ≡ k = omega arith in
-    let next : n - suc k + 1 + 1 ≡ n - k + 1 = omega arith in
-    rw e (ap (λ first. move_from seq (n - suc k + 1) (word_of state) ∷ moves_from seq (next_state state) first k) next)
-
-state_after-first : (state k : ℕ) → 0 < k → state_after state k ≡ state_after (next_state state) (k - 1)
-unfolding state_after
-state_after-first state zero some = absurd (omega arith)
-state_after-first state (suc k) some = let e : suc k - 1 ≡ k = omega arith in rw e refl
-
-frames_from-first : (players frame state k : ℕ) → 0 < k
-    → frames_from players frame state k
-    ≡ (joins_in players frame ++ moves_from (frame + 1) state 1 players)
-    ∷ frames_from players (frame + 1) (state_after state players) (k - 1)
-unfolding frames_from
-frames_from-first players frame state zero some = absurd (omega arith)
-frames_from-first players frame state (suc k) some = let e : suc k - 1 ≡ k = omega arith in rw e refl
+no_packets : (sending : Sending) (seed players frames frame : ℕ) → packets_of sending seed players frames frame [] ≡ []
+no_packets Once seed players frames frame = refl
+no_packets Repeated seed players frames frame = refl
 
 -- ---- a generator's steps
 
-pub left-join : (state players opened frames joins moves : ℕ) (ended : Bool) → 0 < joins → joins ≤ players
-    → left_of (place state players opened frames joins moves ended)
-    ≡ events.From (join_from (players - joins + 1)) ∷ left_of (place state players opened frames (joins - 1) moves ended)
+pub left-join : (sending : Sending) (seed players opened frames joins moves : ℕ) (ended : Bool) → 0 < joins → joins ≤ players
+    → left_of (place sending seed players opened frames joins moves ended)
+    ≡ events.From (join_from (players - joins + 1)) ∷ left_of (place sending seed players opened frames (joins - 1) moves ended)
 unfolding left_of
-left-join state players opened frames joins moves ended some few = rw (range-first players joins some few) refl
+left-join sending seed players opened frames joins moves ended some few = rw (range-first players joins some few) refl
 
-pub left-move : (state players opened frames joins moves : ℕ) (ended : Bool) → joins ≡ 0 → 0 < moves → moves ≤ players
-    → left_of (place state players opened frames joins moves ended)
-    ≡ events.From (move_from opened (players - moves + 1) (word_of state))
-    ∷ left_of (place (next_state state) players opened frames joins (moves - 1) ended)
+pub left-once : (seed players opened frames joins moves : ℕ) (ended : Bool) → joins ≡ 0 → 0 < moves → moves ≤ players
+    → left_of (place Once seed players opened frames joins moves ended)
+    ≡ events.From (move_in seed players (opened - 1) (players - moves + 1)) ∷ left_of (place Once seed players opened frames joins (moves - 1) ended)
 unfolding left_of
-left-move state players opened frames joins moves ended none some few =
-    rw none (rw (moves_from-first opened state players moves some few) (rw (state_after-first state moves some) refl))
+left-once seed players opened frames joins moves ended none some few = rw none (rw (range-first players moves some few) refl)
+
+pub left-again : (seed players opened frames joins moves : ℕ) (ended : Bool) → joins ≡ 0 → 0 < moves → moves ≤ players
+    → arrives (opened + frames) (opened - 1) (players - moves + 1) ≡ true
+    → left_of (place Repeated seed players opened frames joins moves ended)
+    ≡ events.From (repeat_from seed players (opened - 1) (players - moves + 1)) ∷ left_of (place Repeated seed players opened frames joins (moves - 1) ended)
+unfolding left_of
+left-again seed players opened frames joins moves ended none some few comes =
+    rw none (rw (range-first players moves some few) (rw comes refl))
+
+pub left-lost : (seed players opened frames joins moves : ℕ) (ended : Bool) → joins ≡ 0 → 0 < moves → moves ≤ players
+    → arrives (opened + frames) (opened - 1) (players - moves + 1) ≡ false
+    → left_of (place Repeated seed players opened frames joins moves ended) ≡ left_of (place Repeated seed players opened frames joins (moves - 1) ended)
+unfolding left_of
+left-lost seed players opened frames joins moves ended none some few lost =
+    rw none (rw (range-first players moves some few) (rw lost refl))
 
 -- how many joins are left in a frame that was just opened
 abbrev pub joins_of : ℕ → ℕ → ℕ
 joins_of players opened = cond (eqb opened 0) players 0
 
-joined : (ps : List ℕ) → map events.From (map join_from ps) ≡ map (λ port. events.From (join_from port)) ps
-joined [] = refl
-joined (p ∷ ps) = ap (λ more. events.From (join_from p) ∷ more) (joined ps)
-
 joins-range : (players : ℕ) (first : Bool)
-    → map events.From (cond first (map join_from (ports players)) [])
-    ≡ map (λ port. events.From (join_from port)) (range_with_len (players - cond first players 0 + 1) (cond first players 0))
-joins-range players true = let e : players - players + 1 ≡ 1 = omega arith in rw e (joined (range_with_len 1 players))
+    → cond first (map join_from (ports players)) []
+    ≡ map join_from (range_with_len (players - cond first players 0 + 1) (cond first players 0))
+joins-range players true = let e : players - players + 1 ≡ 1 = omega arith in rw e refl
 joins-range players false = refl
 
-pub left-open : (state players opened frames joins moves : ℕ) (ended : Bool) → joins ≡ 0 → moves ≡ 0 → 0 < frames
-    → left_of (place state players opened frames joins moves ended)
-    ≡ events.Frame ∷ left_of (place state players (opened + 1) (frames - 1) (joins_of players opened) players ended)
-unfolding left_of state_after moves_from
-left-open state players opened frames joins moves ended no_join no_move some =
+pub left-open : (sending : Sending) (seed players opened frames joins moves : ℕ) (ended : Bool) → joins ≡ 0 → moves ≡ 0 → 0 < frames
+    → left_of (place sending seed players opened frames joins moves ended)
+    ≡ events.Frame ∷ left_of (place sending seed players (opened + 1) (frames - 1) (joins_of players opened) players ended)
+unfolding left_of
+left-open sending seed players opened zero joins moves ended no_join no_move some = absurd (omega arith)
+left-open sending seed players opened (suc more) joins moves ended no_join no_move some =
+    let all = opened + suc more in
+    let same : opened + 1 + (suc more - 1) ≡ all = omega arith in
+    let less : suc more - 1 ≡ more = omega arith in
+    let now : opened + 1 - 1 ≡ opened = omega arith in
     let one : players - players + 1 ≡ 1 = omega arith in
-    let js = map events.From (joins_in players opened) in
-    let ms = map events.From (moves_from (opened + 1) state 1 players) in
-    let later = flat_map frame_events (frames_from players (opened + 1) (state_after state players) (frames - 1)) in
-    rw no_join (rw no_move (rw (frames_from-first players opened state frames some) (rw one
-    (ap (λ es. events.Frame ∷ es)
-    (ap (λ es. (es ++ later) ++ end_unless ended) (map-append events.From (joins_in players opened) (moves_from (opened + 1) state 1 players))
-    ∙ append_assoc (js ++ ms) later (end_unless ended)
-    ∙ append_assoc js ms (later ++ end_unless ended)
-    ∙ ap (λ es. es ++ (ms ++ (later ++ end_unless ended))) (joins-range players (eqb opened 0)))))))
+    let js = joins_in players opened in
+    let ps = packets_of sending seed players all opened (ports players) in
+    let later = flat_map frame_events (map (frame_of sending seed players all) (range_with_len (opened + 1) more)) in
+    rw no_join (rw no_move (rw (no_packets sending seed players all (opened - 1)) (rw same (rw less (rw now (rw one
+    (ap (λ (es : List Event). (events.Frame ∷ es ++ later) ++ end_unless ended) (map-append events.From js ps)
+    ∙ ap (λ (es : List Event). events.Frame ∷ es)
+    (append_assoc (map events.From js ++ map events.From ps) later (end_unless ended)
+    ∙ append_assoc (map events.From js) (map events.From ps) (later ++ end_unless ended)
+    ∙ ap (λ (arrivals : List Arrival). map events.From arrivals ++ (map events.From ps ++ (later ++ end_unless ended))) (joins-range players (eqb opened 0))))))))))
 
-pub left-end : (state players opened frames joins moves : ℕ) → joins ≡ 0 → moves ≡ 0 → frames ≡ 0
-    → left_of (place state players opened frames joins moves false) ≡ events.End ∷ left_of (place state players opened frames joins moves true)
-unfolding left_of frames_from moves_from
-left-end state players opened frames joins moves no_join no_move no_frame = rw no_join (rw no_move (rw no_frame refl))
+pub left-end : (sending : Sending) (seed players opened frames joins moves : ℕ) → joins ≡ 0 → moves ≡ 0 → frames ≡ 0
+    → left_of (place sending seed players opened frames joins moves false) ≡ events.End ∷ left_of (place sending seed players opened frames joins moves true)
+unfolding left_of
+left-end sending seed players opened frames joins moves no_join no_move no_frame =
+    rw no_join (rw no_move (rw no_frame (rw (no_packets sending seed players (opened + 0) (opened - 1)) refl)))
 
-pub left-done : (state players opened frames joins moves : ℕ) → joins ≡ 0 → moves ≡ 0 → frames ≡ 0
-    → left_of (place state players opened frames joins moves true) ≡ []
-unfolding left_of frames_from moves_from
-left-done state players opened frames joins moves no_join no_move no_frame = rw no_join (rw no_move (rw no_frame refl))
+pub left-done : (sending : Sending) (seed players opened frames joins moves : ℕ) → joins ≡ 0 → moves ≡ 0 → frames ≡ 0
+    → left_of (place sending seed players opened frames joins moves true) ≡ []
+unfolding left_of
+left-done sending seed players opened frames joins moves no_join no_move no_frame =
+    rw no_join (rw no_move (rw no_frame (rw (no_packets sending seed players (opened + 0) (opened - 1)) refl)))
 
--- ---- the word that is drawn
-
--- the word of a state, and the state after it
-pub record IsDrawn (state word next : ℕ) : Type 0 where
-  pub is_word : word ≡ word_of state
-  pub is_next : next ≡ next_state state
-
-pub drawn : (state word next : ℕ) → (word, next) ≡ mix_u64 state → IsDrawn state word next
-unfolding word_of next_state
-drawn state word next e = record { is_word = ap (λ p. p.0) e; is_next = ap (λ p. p.1) e }
+pub left-start : (sending : Sending) (seed players frames : ℕ)
+    → left_of (place sending seed players 0 frames 0 0 false) ≡ recording_events (map (frame_of sending seed players frames) (range_with_len 0 frames))
+unfolding left_of
+left-start sending seed players frames =
+    let all : 0 + frames ≡ frames = omega arith in rw all (rw (no_packets sending seed players frames (0 - 1)) refl)

@@ -11,7 +11,8 @@ use Rattle.demo_lines.specs.declared.event.Event.TheVariants as events
 use Rattle.demo_lines.specs.Spelling.{line_text, map_lines, frame_lines, frame_events, recording_text, recording_events}
 use Rattle.demo_make.specs.GeneratedMap.{generated_map, generated_lines}
 use Rattle.demo_make.specs.GeneratedFrames.{generated_frames, generated_events, generated_text}
-use Rattle.demo_make.specs.Remaining.{line_of, event_text, events_text}
+use Rattle.demo_make.specs.ResentFrames.{resent_frames, resent_events, resent_text}
+use Rattle.demo_make.specs.Remaining.{line_of, event_text, events_text, text_with}
 
 events_text-lines : (es : List Event) → events_text es ≡ unlines (map line_text (map line_of es))
 events_text-lines [] = refl
@@ -39,8 +40,7 @@ recording-events_text frames =
 map_lines-text : map line_text (map_lines generated_map) ≡ map map_line_text generated_lines
 map_lines-text = refl
 
-recording_text-map : (frames : List (List Arrival))
-    → recording_text generated_map frames ≡ unlines (map map_line_text generated_lines) ++ events_text (recording_events frames)
+recording_text-map : (frames : List (List Arrival)) → recording_text generated_map frames ≡ text_with (recording_events frames)
 recording_text-map frames =
     let more = flat_map frame_lines frames ++ lines.End ∷ [] in
     ap unlines (map-append line_text (map_lines generated_map) more)
@@ -48,8 +48,10 @@ recording_text-map frames =
     ∙ ap (λ ls. unlines ls ++ unlines (map line_text more)) map_lines-text
     ∙ ap (λ t. unlines (map map_line_text generated_lines) ++ t) (recording-events_text frames)
 
-pub generated_text-parts : (seed players frames : ℕ)
-    → unlines (map map_line_text generated_lines) ++ events_text (generated_events seed players frames)
-    ≡ generated_text seed players frames
+pub generated_text-parts : (seed players frames : ℕ) → text_with (generated_events seed players frames) ≡ generated_text seed players frames
 unfolding generated_text generated_events
 generated_text-parts seed players frames = sym (recording_text-map (generated_frames seed players frames))
+
+pub resent_text-parts : (seed players frames : ℕ) → text_with (resent_events seed players frames) ≡ resent_text seed players frames
+unfolding resent_text resent_events
+resent_text-parts seed players frames = sym (recording_text-map (resent_frames seed players frames))

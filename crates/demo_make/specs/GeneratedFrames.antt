@@ -60,11 +60,13 @@ ports players = range_with_len 1 players
 abbrev pub joins_in : ℕ → ℕ → List Arrival
 joins_in players frame = if frame == 0 then map join_from (ports players) else []
 
--- the moves of a frame: one of each player, in the order of their ports, by one more word each; the number of a move is
--- one more than that of its frame
+-- the move of a player in a frame, by the next word: its number is one more than that of its frame
+abbrev pub move_in : ℕ → ℕ → ℕ → ℕ → Arrival
+move_in seed players frame port = move_from (frame + 1) port (word_at seed (frame * players + (port - 1)))
+
+-- the moves of a frame: one of each player, in the order of their ports, by one more word each
 abbrev pub moves_in : ℕ → ℕ → ℕ → List Arrival
-moves_in seed players frame =
-    map (λ port. move_from (frame + 1) port (word_at seed (frame * players + (port - 1)))) (ports players)
+moves_in seed players frame = map (move_in seed players frame) (ports players)
 
 -- the packets of a frame
 abbrev pub arrivals_in : ℕ → ℕ → ℕ → List Arrival

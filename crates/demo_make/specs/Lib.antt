@@ -7,6 +7,7 @@ pub mod Words
 pub mod GeneratedMap
 pub mod GeneratedFrames
 pub mod ResentFrames
+pub mod LastWords
 pub mod Remaining
 pub mod Passing
 pub mod Accepting

@@ -1,7 +1,9 @@
 -- What a generator has still to give, from where it is.
-use Rattle.std.specs.Prelude.{ℕ, zero, suc, ◌+◌, ◌-◌, Bool, List, [], ◌∷◌, ◌++◌, map, flat_map, if◌then◌else◌}
+use Rattle.std.specs.Prelude.{ℕ, ◌+◌, ◌-◌, Bool, List, [], ◌∷◌, ◌++◌, map, filter, flat_map, if◌then◌else◌}
 use Rattle.std.specs.List.{range_with_len}
 use Rattle.packet_read.specs.declared.arrival.Arrival.{Arrival}
+use Rattle.edge_io.specs.WholeLines.{unlines}
+use Rattle.arena_map.specs.Spelling.{map_line_text}
 use Rattle.demo_lines.specs.declared.event.Event.{Event}
 use Rattle.demo_lines.specs.declared.event.Event.TheVariants as events
 use Rattle.demo_lines.specs.declared.line.Line.{Line}
@@ -10,8 +12,11 @@ use Rattle.demo_lines.specs.Spelling.{frame_events, line_text}
 use Rattle.demo_make.specs.declared.generated_event.GeneratedEvent.{GeneratedEvent}
 use Rattle.demo_make.specs.declared.generated_event.GeneratedEvent.TheVariants.{Frame, From, End}
 use Rattle.demo_make.specs.declared.generator.Generator.{Generator}
-use Rattle.demo_make.specs.Words.{word_of, next_state, state_after}
-use Rattle.demo_make.specs.GeneratedFrames.{arrival, join_from, move_from, joins_in}
+use Rattle.demo_make.specs.declared.sending.Sending.{Sending}
+use Rattle.demo_make.specs.declared.sending.Sending.TheVariants.{Once, Repeated}
+use Rattle.demo_make.specs.GeneratedMap.{generated_lines}
+use Rattle.demo_make.specs.GeneratedFrames.{arrival, join_from, ports, joins_in, move_in}
+use Rattle.demo_make.specs.ResentFrames.{repeat_from, arrives}
 
 -- ---- events
 
@@ -35,25 +40,30 @@ event_text event = line_text (line_of event) ++ 10 ∷ []
 abbrev pub events_text : List Event → List ℕ
 events_text es = flat_map event_text es
 
+-- the text of a recording with the generated map and these events
+abbrev pub text_with : List Event → List ℕ
+text_with es = unlines (map map_line_text generated_lines) ++ events_text es
+
+-- ---- the recording
+
+-- the packets with commands of these players in a frame, sent once or repeated
+abbrev pub packets_of : Sending → ℕ → ℕ → ℕ → ℕ → List ℕ → List Arrival
+packets_of Once seed players frames frame of_ports = map (move_in seed players frame) of_ports
+packets_of Repeated seed players frames frame of_ports =
+    map (repeat_from seed players frame) (filter (arrives frames frame) of_ports)
+
+-- the packets of a frame: the joins, and the packets with commands of all players
+abbrev pub frame_of : Sending → ℕ → ℕ → ℕ → ℕ → List Arrival
+frame_of sending seed players frames frame =
+    joins_in players frame ++ packets_of sending seed players frames frame (ports players)
+
 -- ---- what is left
 
--- the moves of so many players, from this port on, by the words from this state on
-unfoldable pub moves_from : ℕ → ℕ → ℕ → ℕ → List Arrival
-moves_from seq state port zero = []
-moves_from seq state port (suc more) =
-    move_from seq port (word_of state) ∷ moves_from seq (next_state state) (port + 1) more
-
--- the packets of so many frames, from this one on, by the words from this state on
-unfoldable pub frames_from : ℕ → ℕ → ℕ → ℕ → List (List Arrival)
-frames_from players frame state zero = []
-frames_from players frame state (suc more) =
-    (joins_in players frame ++ moves_from (frame + 1) state 1 players)
-    ∷ frames_from players (frame + 1) (state_after state players) more
-
--- where a generator is: the state of its words, how many players there are, how many frames were opened, how many are
--- left, how many joins and moves of the open one are left, and whether the end was given
+-- where a generator is: how it sends commands, the seed, how many players there are, how many frames were opened, how
+-- many are left, how many joins and moves of the open one are left, and whether the end was given
 pub record Progress : Type 0 where
-  pub state : ℕ
+  pub sending : Sending
+  pub seed : ℕ
   pub players : ℕ
   pub opened : ℕ
   pub frames : ℕ
@@ -61,22 +71,38 @@ pub record Progress : Type 0 where
   pub moves : ℕ
   pub ended : Bool
 
+-- how many frames the recording has
+abbrev pub frames_in : Progress → ℕ
+frames_in p = p.opened + p.frames
+
+-- the joins of the open frame that are left
+abbrev pub joins_left : Progress → List Arrival
+joins_left p = map join_from (range_with_len (p.players - p.joins + 1) p.joins)
+
+-- the packets with commands of the open frame that are left
+abbrev pub packets_left : Progress → List Arrival
+packets_left p =
+    packets_of p.sending p.seed p.players (frames_in p) (p.opened - 1) (range_with_len (p.players - p.moves + 1) p.moves)
+
+-- the frames that are left
+abbrev pub frames_left : Progress → List (List Arrival)
+frames_left p = map (frame_of p.sending p.seed p.players (frames_in p)) (range_with_len p.opened p.frames)
+
 -- the end, until it was given
 abbrev pub end_unless : Bool → List Event
 end_unless ended = if ended then [] else events.End ∷ []
 
--- the events that are left: the joins and the moves of the open frame, the frames after it, and the end
+-- the events that are left: the joins and the packets of the open frame, the frames after it, and the end
 unfoldable pub left_of : Progress → List Event
 left_of p =
-    map (λ port. events.From (join_from port)) (range_with_len (p.players - p.joins + 1) p.joins)
-    ++ (map events.From (moves_from p.opened p.state (p.players - p.moves + 1) p.moves)
-    ++ (flat_map frame_events (frames_from p.players p.opened (state_after p.state p.moves) p.frames)
-    ++ end_unless p.ended))
+    map events.From (joins_left p)
+    ++ (map events.From (packets_left p) ++ (flat_map frame_events (frames_left p) ++ end_unless p.ended))
 
 -- where this generator is
 abbrev pub progress_of : Generator → Progress
 progress_of g = record {
-  state = g.words;
+  sending = g.sending;
+  seed = g.seed;
   players = g.players;
   opened = g.opened;
   frames = g.frames_left;

@@ -1,4 +1,4 @@
-//! Recordings from a number: an arena, players that join in the first frame, and a move of each in each frame.
+//! Recordings from a number: an arena, players that join in the first frame, and a command of each in each frame.
 #![tactic(auto)]
 
 pub use arena::generated_map;
@@ -10,14 +10,16 @@ pub use laws::{
 };
 pub use make_stop::MakeStop;
 pub use map_lines::{MAP_LINES, map_line};
-pub use writing::make;
+pub use writing::{make, resend};
 
 mod arena;
 mod generated_event;
 mod generator;
+mod last_words;
 mod laws;
 mod make_stop;
 mod map_lines;
 mod moves;
+mod sending;
 mod text;
 mod writing;

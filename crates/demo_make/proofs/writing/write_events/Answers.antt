@@ -4,7 +4,7 @@ use Rattle.std.specs.Io.KnownBytes.{Appends}
 use Rattle.edge_io.specs.Writes.{AppendsPart}
 use Rattle.edge_io.proofs.Writing.{IsWritten}
 use Rattle.demo_make.specs.Remaining.{event_of, event_text, remaining_events, events_text}
-use Rattle.demo_make.proofs.Sending.{passed, gathered, passed-part, passed-all, on_ok, on_err}
+use Rattle.demo_make.proofs.Passed.{passed, gathered, passed-part, passed-all, on_ok, on_err}
 use Rattle.demo_make.proofs.writing.write_events.Goals as goal
 
 pub loop-event-preserved : goal.loop-event-preserved

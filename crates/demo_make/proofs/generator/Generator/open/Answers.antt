@@ -10,4 +10,4 @@ returns c =
     let joins : c.if-self-eq0.self ≡ joins_of g.players g.opened =
     elim c.if-self-eq0.branch [ then-self-eq0 w ↦ grind (arith, nat_tests, w.self-is, w.if-self-eq0.true) | else-self-eq0 w ↦ grind (arith, nat_tests, w.self-is, w.if-self-eq0.false) ] in
     rw joins
-    (left-open g.words g.players g.opened g.frames_left g.joins_left g.moves_left g.ended c.requires.no_join c.requires.no_move c.requires.some)
+    (left-open g.sending g.seed g.players g.opened g.frames_left g.joins_left g.moves_left g.ended c.requires.no_join c.requires.no_move c.requires.some)

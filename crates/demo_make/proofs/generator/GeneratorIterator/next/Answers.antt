@@ -1,19 +1,27 @@
-use Rattle.std.proofs.Common.{[], ◌≡◌, ap, arith, length}
-use Rattle.demo_make.specs.Remaining.{remaining_events}
-use Rattle.demo_make.proofs.Steps.{left-end, left-done}
+use Rattle.std.proofs.Common.{[], ◌∷◌, ◌≡◌, true, ap, ◌∙◌, arith, length}
+use Rattle.demo_lines.specs.declared.event.Event.TheVariants as events
+use Rattle.demo_make.specs.Remaining.{left_of, remaining_events}
+use Rattle.demo_make.proofs.Steps.{place, left-end, left-done}
 use Rattle.demo_make.proofs.generator.GeneratorIterator.next.Goals as goal
 
 pub returns-then-self-clause-steps : goal.returns-then-self-clause-steps
 returns-then-self-clause-steps c =
-    let g = c.args.self.now in
+    let g = c.packet.new.self in
     let done : remaining_events g ≡ [] =
-    rw c.if-self.true (left-done g.words g.players g.opened g.frames_left g.joins_left g.moves_left (omega arith) (omega arith) (omega arith)) in
-    (done, done)
+    rw c.if-self.true
+    (left-done g.sending g.seed g.players g.opened g.frames_left g.joins_left g.moves_left
+    c.in_default.ensures.no_join c.in_default.ensures.no_move (omega (arith, c.if-self-gt0-2.false))) in
+    (c.in_default.ensures.none ∙ done, done)
 
 pub returns-clause-steps : goal.returns-clause-steps
 returns-clause-steps c =
-    let g = c.args.self.now in
-    rw c.if-self.false (left-end g.words g.players g.opened g.frames_left g.joins_left g.moves_left (omega arith) (omega arith) (omega arith))
+    let g = c.packet.new.self in
+    let last : remaining_events g
+    ≡ events.End ∷ left_of (place g.sending g.seed g.players g.opened g.frames_left g.joins_left g.moves_left true) =
+    rw c.if-self.false
+    (left-end g.sending g.seed g.players g.opened g.frames_left g.joins_left g.moves_left
+    c.in_default.ensures.no_join c.in_default.ensures.no_move (omega (arith, c.if-self-gt0-2.false))) in
+    c.in_default.ensures.none ∙ last
 
 pub returns-clause-goes : goal.returns-clause-goes
 returns-clause-goes c =
