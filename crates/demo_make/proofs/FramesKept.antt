@@ -25,7 +25,7 @@ use Rattle.demo_make.proofs.MapKept.{range-all, generated_is_map}
 
 -- ---- a packet
 
-button-few : (jumps : Bool) → cond jumps 1 0 ≤ 1
+pub button-few : (jumps : Bool) → cond jumps 1 0 ≤ 1
 button-few true = omega arith
 button-few false = omega arith
 
@@ -71,14 +71,14 @@ move-arrival seq port word few = record {
 
 -- ---- a frame
 
-joins-are : (players frame : ℕ) → players ≤ 64 → All IsArrival (joins_in players frame)
+pub joins-are : (players frame : ℕ) → players ≤ 64 → All IsArrival (joins_in players frame)
 joins-are players frame few = by_frame (eqb frame 0)
   where
     by_frame : (first : Bool) → All IsArrival (cond first (map join_from (ports players)) [])
     by_frame true = All-map IsArrival join_from (ports players) (range-all (λ port. IsArrival (join_from port)) 1 players (λ port _ below. join-arrival port (omega arith)))
     by_frame false = All-nil IsArrival
 
-joins-few : (players frame : ℕ) → length (joins_in players frame) ≤ players
+pub joins-few : (players frame : ℕ) → length (joins_in players frame) ≤ players
 joins-few players frame = by_frame (eqb frame 0)
   where
     by_frame : (first : Bool) → length (cond first (map join_from (ports players)) []) ≤ players
@@ -124,7 +124,7 @@ generated_recordings_read_back seed players frames range =
 
 -- ---- how many lines
 
-no-joins : (players frame : ℕ) → 0 < frame → joins_in players frame ≡ []
+pub no-joins : (players frame : ℕ) → 0 < frame → joins_in players frame ≡ []
 no-joins players frame later = let e : eqb frame 0 ≡ false = grind (arith, nat_tests) in rw e refl
 
 pub later-is : (seed players frame : ℕ) → 0 < frame → arrivals_in seed players frame ≡ moves_in seed players frame

@@ -6,8 +6,12 @@ pub mod Sending
 pub mod Texts
 pub mod MapKept
 pub mod FramesKept
+pub mod Repeats
+pub mod ResentKept
 pub mod Joining
 pub mod Accepted
+pub mod LastNumbers
+pub mod Repeated
 pub mod Clear
 pub mod Building
 pub mod Bounds

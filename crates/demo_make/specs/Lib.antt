@@ -10,4 +10,5 @@ pub mod ResentFrames
 pub mod Remaining
 pub mod Passing
 pub mod Accepting
+pub mod Repeating
 pub mod Laws

@@ -1,6 +1,7 @@
 ghost use Rattle.demo_make.specs.Laws.{GeneratedRecordingsReadBack, MapIsKnown, FramesAreKnown, PacketsAreRead};
 ghost use Rattle.demo_make.specs.Laws.{WordsAreKnown, GeneratedTextsAreBounded};
 ghost use Rattle.demo_make.specs.Accepting.{AllIsAccepted, SpawnsAreClear};
+ghost use Rattle.demo_make.specs.Repeating.{CommandsArriveOnce};
 
 /// Each generated recording, of 1 to 64 players and 1 to 100,000 frames, has no fault, and is read as the map and the
 /// events that it is made of.
@@ -34,6 +35,13 @@ pub fn packets_are_read()
 /// the spawns, and in each later frame whatever the moves before it were.
 pub fn all_is_accepted()
     ensures { AllIsAccepted }
+{}
+
+/// Of a recording in which commands are resent no packet is refused, and each command is accepted once and in its order,
+/// although two packets of three are lost: a packet that arrives has the commands of those before it that were lost, of
+/// which the server leaves out what it has.
+pub fn commands_arrive_once()
+    ensures { CommandsArriveOnce }
 {}
 
 /// In a valid world without players no body of a live solid is at a spawn of a generated recording, wherever the lift
