@@ -1,5 +1,5 @@
 -- Which commands had come before a frame, and which are new in a packet.
-use Rattle.std.proofs.Common.{◌≡◌, ℕ, zero, suc, ◌+◌, ◌-◌, ◌*◌, ◌%◌, ◌≤◌, ◌<◌, Bool, true, false, eqb, cond, ◌||◌, List, [], ◌∷◌, length, map, filter, refl, sym, ap, ◌∙◌, inl, inr, arith}
+use Rattle.std.proofs.Common.{◌≡◌, ℕ, zero, suc, ◌+◌, ◌-◌, ◌%◌, ◌≤◌, ◌<◌, Bool, true, false, eqb, cond, ◌||◌, [], ◌∷◌, length, map, refl, sym, ap, ◌∙◌, inl, inr, arith}
 use Rattle.std.specs.Prelude.{nat_lt}
 use Rattle.std.specs.List.{range_with_len}
 use Rattle.std.proofs.Math.Nat.{le-min}
@@ -7,13 +7,12 @@ use Rattle.std.proofs.lemmas.Bool.{cases_lt, or_parts}
 use Rattle.std.proofs.lemmas.Bool.Decides.{nat_tests}
 use Rattle.std.proofs.lemmas.List.FromFn.{length-map-range_with_len}
 use Rattle.packet_read.specs.declared.block_list.CmdBlock.{CmdBlock}
-use Rattle.packet_read.specs.declared.move_packet.MovePacket.{MovePacket}
 use Rattle.packet_read.specs.declared.packet.Packet.TheVariants.{Steps}
 use Rattle.packet_read.specs.Commands.{numbered, numbered_from, commands_of, first_seq}
 use Rattle.client_ports.specs.NewMoves.{new_among, numbers_in, last_in}
 use Rattle.demo_make.specs.ResentFrames.{command_in, how_many_in, last_commands, arrives}
 use Rattle.demo_make.specs.Repeating.{last_before, commands_from, new_in}
-use Rattle.demo_make.proofs.Repeats.{many-some, many-few, many-there, commands-length, repeat_of}
+use Rattle.demo_make.proofs.Repeats.{many-some, many-there, commands-length, repeat_of}
 
 -- ---- the last number before a frame
 

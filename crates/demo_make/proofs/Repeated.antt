@@ -12,21 +12,20 @@ use Rattle.entity_slots.specs.Ports.{AreSlots, port_at}
 use Rattle.entity_slots.proofs.Found.{found-only}
 use Rattle.packet_read.specs.declared.move_packet.MovePacket.{MovePacket}
 use Rattle.packet_read.specs.declared.packet.Packet.TheVariants.{Steps}
-use Rattle.packet_read.specs.declared.arrival.Arrival.{Arrival}
 use Rattle.packet_read.specs.Commands.{commands_of}
 use Rattle.client_ports.specs.declared.client.Client.{Client}
 use Rattle.client_ports.specs.declared.client.LiveSlot.{LiveSlot}
 use Rattle.client_ports.specs.Clients.{client, client_at, port_of, ports_of, live_slot, with_client}
 use Rattle.client_ports.specs.States.{State, state_of, with_update}
 use Rattle.client_ports.specs.Lists.{no_lists, with_moves}
-use Rattle.client_ports.specs.NewMoves.{new_among, numbers_in, last_in}
+use Rattle.client_ports.specs.NewMoves.{new_among}
 use Rattle.client_ports.specs.Answers.{move_answer, new_answer, moved}
 use Rattle.client_ports.specs.Receiving.{Receiving, receiving_of, after_move, after_packet, after_arrival, after_arrivals, command_in, received}
 use Rattle.client_ports.specs.Finishing.{finished_client, finished}
 use Rattle.client_ports.proofs.Slots.{port_at-client, read-set}
 use Rattle.client_ports.proofs.Leavers.{leavers_out}
 use Rattle.demo_make.specs.GeneratedMap.{generated_map}
-use Rattle.demo_make.specs.GeneratedFrames.{join_from, ports, joins_in}
+use Rattle.demo_make.specs.GeneratedFrames.{join_from, ports}
 use Rattle.demo_make.specs.ResentFrames.{repeat_from, arrives, repeats_in, resent_in}
 use Rattle.demo_make.specs.Accepting.{ArePlaying, ArePlayingUpTo, AreClearOfSpawns}
 use Rattle.demo_make.specs.Repeating.{last_before, new_in, moves_of, joined_as, joined_in, ComeOnce, CommandsArriveOnce}

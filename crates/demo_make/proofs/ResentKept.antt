@@ -1,15 +1,14 @@
 -- The frames of recordings in which commands are resent can be written, and their text is read back.
 use Rattle.std.proofs.Common.{◌≡◌, ℕ, ◌+◌, ◌-◌, ◌/◌, ◌%◌, ◌^◌, ◌≤◌, ◌<◌, eqb, List, [], ◌∷◌, ◌++◌, length, filter, flat_map, All, None, Some, refl, arith, length-append}
 use Rattle.std.specs.List.{range_with_len}
-use Rattle.std.proofs.lemmas.List.Elements.{All-cons, All-nil, All-head, All-tail, All-map, All-append, All-filter, All-from_recursion, recursion_from_All}
+use Rattle.std.proofs.lemmas.List.Elements.{All-nil, All-head, All-tail, All-map, All-append, All-filter, All-from_recursion, recursion_from_All}
 use Rattle.std.proofs.lemmas.List.{length-map}
 use Rattle.std.proofs.lemmas.List.FromFn.{length-map-range_with_len, length-range_with_len}
 use Rattle.std.proofs.lemmas.List.Sums.{length-filter, count_by-le-length}
 use Rattle.std.specs.Int.{w32, to_le_bytes}
 use Rattle.edge_io.specs.Lines.{AreBytes}
 use Rattle.packet_read.specs.declared.block_list.CmdBlock.{CmdBlock}
-use Rattle.packet_read.specs.declared.packet.Packet.TheVariants.{Steps}
-use Rattle.packet_read.specs.Spelling.{spelling, block_fields, steps_fields}
+use Rattle.packet_read.specs.Spelling.{block_fields}
 use Rattle.packet_read.proofs.Blocks.{length_fields}
 use Rattle.demo_lines.specs.Bytes.{fault, events, map_of}
 use Rattle.demo_lines.specs.Spelling.{IsArrival, IsFrame, IsRecording}
@@ -20,7 +19,7 @@ use Rattle.demo_make.specs.GeneratedFrames.{IsInRange, command_of, ports, joins_
 use Rattle.demo_make.specs.ResentFrames.{command_in, how_many_in, last_commands, repeat_from, arrives, repeats_in, resent_in, resent_frames, resent_events, resent_text}
 use Rattle.demo_make.proofs.MapKept.{range-all, generated_is_map}
 use Rattle.demo_make.proofs.FramesKept.{button-few, joins-are, joins-few}
-use Rattle.demo_make.proofs.Repeats.{many-few, commands-length, repeat_of}
+use Rattle.demo_make.proofs.Repeats.{many-few, commands-length}
 
 -- ---- a packet
 
