@@ -1,10 +1,11 @@
 -- Every packet of a generated recording is accepted.
-use Rattle.std.proofs.Common.{◌≡◌, ℕ, zero, suc, ◌+◌, ◌-◌, ◌*◌, ◌^◌, ◌≤◌, ◌<◌, true, false, List, [], ◌∷◌, ◌++◌, length, map, Option, Some, None, Ok, refl, sym, ap, ◌∙◌, subst, inl, inr, arith, get_or-set_same, length-set, length-append, lit<}
+use Rattle.std.proofs.Common.{◌≡◌, ℕ, zero, suc, ◌+◌, ◌-◌, ◌*◌, ◌^◌, ◌≤◌, ◌<◌, true, false, List, [], ◌∷◌, ◌++◌, length, map, Option, Some, None, Ok, refl, sym, ap, ◌∙◌, subst, inl, inr, arith, append-nil, append_assoc, get_or-set_same, length-set, length-append, lit<}
 use Rattle.std.specs.Prelude.{nat_lt}
 use Rattle.std.specs.List.{range_with_len, slice_set}
 use Rattle.std.proofs.lemmas.Bool.{cases_lt}
 use Rattle.std.proofs.lemmas.Bool.Decides.{nat_tests}
 use Rattle.std.proofs.lemmas.List.{length-map}
+use Rattle.std.proofs.lemmas.List.FromFn.{length-map-range_with_len}
 use Rattle.entity_recs.specs.declared.rec.Rec.{Rec}
 use Rattle.entity_slots.specs.Ports.{AreSlots, port_at}
 use Rattle.entity_slots.proofs.Found.{found-only}
@@ -27,10 +28,11 @@ use Rattle.demo_make.specs.Words.{word_at}
 use Rattle.demo_make.specs.GeneratedMap.{generated_map, spawn_at}
 use Rattle.demo_make.specs.GeneratedFrames.{move_of, join_from, move_from, ports, move_in, moves_in, arrivals_in}
 use Rattle.demo_make.specs.Accepting.{ArePlaying, AreClearOfSpawns, IsPlayed, AllIsAccepted}
+use Rattle.demo_make.specs.Repeating.{joined_as}
 use Rattle.demo_make.proofs.Joining.{AreJoined, join-next, joined-next}
-use Rattle.demo_make.proofs.FramesKept.{packets_are_read, later-is}
+use Rattle.demo_make.proofs.FramesKept.{move-read, later-is}
 
-after_arrivals-append : (m : MapView) (frame : ℕ) (r : Receiving) (place : ℕ) (first more : List Arrival)
+pub after_arrivals-append : (m : MapView) (frame : ℕ) (r : Receiving) (place : ℕ) (first more : List Arrival)
     → after_arrivals m frame r place (first ++ more)
     ≡ after_arrivals m frame (after_arrivals m frame r place first) (place + length first) more
 after_arrivals-append m frame r place [] more = ap (λ p. after_arrivals m frame r p more) (omega arith)
@@ -41,11 +43,11 @@ after_arrivals-append m frame r place (a ∷ first) more =
 
 -- ---- the joins
 
--- so many more joins were accepted, and nothing else came
-record HasJoined (joins : ℕ) (r next : Receiving) : Type 0 where
-  refused : next.lists.refused ≡ r.lists.refused
-  moves : next.lists.moves ≡ r.lists.moves
-  joined : length next.lists.joined ≡ length r.lists.joined + joins
+-- so many more joins were accepted, from this slot on, and nothing else came
+pub record HasJoined (k joins : ℕ) (r next : Receiving) : Type 0 where
+  pub refused : next.lists.refused ≡ r.lists.refused
+  pub moves : next.lists.moves ≡ r.lists.moves
+  pub joined : next.lists.joined ≡ r.lists.joined ++ map joined_as (range_with_len k joins)
 
 abbrev joined_in : ℕ → Receiving → Receiving
 joined_in k r = receiving_of (with_newcomer r.state (k + 1) k (spawn_at k)) (with_join r.lists (k + 1) k)
@@ -54,17 +56,17 @@ join-accepted : (k : ℕ) (r : Receiving) (place : ℕ) → AreJoined k r.state 
     → after_arrival generated_map 0 r place (join_from (k + 1)) ≡ joined_in k r
 join-accepted k r place are few = ap (λ answer. after_join answer r place (k + 1)) (join-next k r.state are few)
 
-record AfterJoins (k joins : ℕ) (r next : Receiving) : Type 0 where
-  state : AreJoined (k + joins) next.state
-  lists : HasJoined joins r next
+pub record AfterJoins (k joins : ℕ) (r next : Receiving) : Type 0 where
+  pub state : AreJoined (k + joins) next.state
+  pub lists : HasJoined k joins r next
 
-joins-run : (k n : ℕ) (r : Receiving) (place : ℕ) → AreJoined k r.state → k + n ≤ 64
+pub joins-run : (k n : ℕ) (r : Receiving) (place : ℕ) → AreJoined k r.state → k + n ≤ 64
     → AfterJoins k n r (after_arrivals generated_map 0 r place (map join_from (range_with_len (k + 1) n)))
 joins-run k zero r place are few =
     let e : k + 0 ≡ k = omega arith in
     record {
       state = subst (λ j. AreJoined j r.state) (sym e) are;
-      lists = record { refused = refl; moves = refl; joined = omega arith };
+      lists = record { refused = refl; moves = refl; joined = sym (append-nil r.lists.joined) };
     }
 joins-run k (suc n) r place are few =
     let first = join-accepted k r place are (omega arith) in
@@ -76,7 +78,7 @@ joins-run k (suc n) r place are few =
       lists = record {
         refused = rest.lists.refused;
         moves = rest.lists.moves;
-        joined = omega (arith, rest.lists.joined, length-append r.lists.joined (record { port = k + 1; slot = k } ∷ []));
+        joined = rest.lists.joined ∙ append_assoc r.lists.joined (joined_as k ∷ []) (map joined_as (range_with_len (k + 1) n));
       };
     })
 
@@ -98,7 +100,7 @@ port-there players last seq moved clients are slot below =
       | inr more ↦ ap port_of (are.waiting slot more below)
     ]
 
-some-same : (a b : ℕ) → Some a ≡ Some b → a ≡ b
+pub some-same : (a b : ℕ) → Some a ≡ Some b → a ≡ b
 some-same a b e = cc
 
 are-slots : (players last seq moved : ℕ) (clients : List (Option Client)) → AreMoved players last seq moved clients
@@ -177,7 +179,7 @@ move-accepted : (players last seq moved frame word : ℕ) (r : Receiving) (place
     → moved < players → last < seq → seq < 2 ^ 32
     → after_arrival generated_map frame r place (move_from seq (moved + 1) word) ≡ moved_in frame seq moved word r
 move-accepted players last seq moved frame word r place are below rises small =
-    ap (λ packet. after_packet generated_map frame packet r place (moved + 1)) (packets_are_read.moves seq (moved + 1) word small)
+    ap (λ packet. after_packet generated_map frame packet r place (moved + 1)) (move-read seq (moved + 1) word small)
     ∙ ap (λ answer. after_move answer frame (move_of seq word ∷ []) r place)
     (move-answered players last seq moved word r.state.clients are below rises)
     ∙ ap (λ new. receiving_of (with_update r.state (answers.moved (waiter moved last) new)) (with_moves r.lists (map (command_in frame moved) new)))
@@ -219,7 +221,7 @@ length-finished state zero = refl
 length-finished state (suc n) =
     length-set (finished_up_to state n).clients n (finished_client (client_at (finished_up_to state n).clients n)) ∙ length-finished state n
 
-finished-length : (state : State) → length (finished state).clients ≡ length state.clients
+pub finished-length : (state : State) → length (finished state).clients ≡ length state.clients
 unfolding finished
 finished-length state = length-finished state 64
 
@@ -275,7 +277,8 @@ first-frame seed players state few nobody many clear =
       waiting = λ slot _ below. are.joined slot below;
       free = are.free;
     } in
-    let joined : length after.lists.joined ≡ players = omega (arith, run.lists.joined) in
+    let joined : length after.lists.joined ≡ players =
+    ap length run.lists.joined ∙ length-map-range_with_len joined_as 0 players in
     subst (IsPlayed players players 1) (sym (after_arrivals-append generated_map 0 start 0 joins (moves_in seed players 0)))
     (moves-played seed players 0 0 players after (0 + length joins) waiting few (omega arith) (lit< tt) run.lists.refused joined run.lists.moves)
 

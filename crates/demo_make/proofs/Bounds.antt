@@ -22,12 +22,12 @@ use Rattle.demo_make.proofs.FramesKept.{later-is}
 use Rattle.demo_make.proofs.Texts.{generated_text-parts}
 
 -- the texts of events put together
-text-append : (es more : List Event) → length (events_text (es ++ more)) ≡ length (events_text es) + length (events_text more)
+pub text-append : (es more : List Event) → length (events_text (es ++ more)) ≡ length (events_text es) + length (events_text more)
 text-append es more = ap length (flat_map-append event_text es more) ∙ length-append (events_text es) (events_text more)
 
 -- ---- a packet
 
-from-long : (port b : ℕ) (bytes : List ℕ) → port ≤ 64 → length (event_text (events.From (arrival port (b ∷ bytes)))) ≤ 11 + 2 * length bytes
+pub from-long : (port b : ℕ) (bytes : List ℕ) → port ≤ 64 → length (event_text (events.From (arrival port (b ∷ bytes)))) ≤ 11 + 2 * length bytes
 from-long port b bytes few =
     let front = codes "from" ++ field_text (decimal port) in
     let packet = encode_lower (b ∷ bytes) in
@@ -50,7 +50,7 @@ move-long seed players frame port few = from-long port _ _ few
 
 -- ---- a frame
 
-joins-long : (first more : ℕ) → first + more ≤ 65 → length (events_text (map events.From (map join_from (range_with_len first more)))) ≤ 13 * more
+pub joins-long : (first more : ℕ) → first + more ≤ 65 → length (events_text (map events.From (map join_from (range_with_len first more)))) ≤ 13 * more
 joins-long first zero few = omega arith
 joins-long first (suc more) few =
     let rest = map events.From (map join_from (range_with_len (first + 1) more)) in

@@ -1,5 +1,5 @@
 -- The frames of generated recordings can be written, and their packets are read.
-use Rattle.std.proofs.Common.{◌≡◌, ℕ, zero, suc, ◌+◌, ◌-◌, ◌*◌, ◌/◌, ◌%◌, ◌^◌, ◌≤◌, ◌<◌, Bool, true, false, cond, eqb, List, [], ◌∷◌, ◌++◌, length, map, flat_map, All, refl, ap, arith, length-append, FitsSigned}
+use Rattle.std.proofs.Common.{◌≡◌, ℕ, zero, suc, ◌+◌, ◌-◌, ◌*◌, ◌/◌, ◌%◌, ◌^◌, ◌≤◌, ◌<◌, Bool, true, false, cond, eqb, List, [], ◌∷◌, ◌++◌, length, map, flat_map, All, refl, ap, arith, length-append, FitsSigned, Ok}
 use Rattle.std.specs.List.{range_with_len}
 use Rattle.std.specs.Int.{w16}
 use Rattle.std.proofs.lemmas.Int.{ints}
@@ -10,6 +10,7 @@ use Rattle.std.proofs.lemmas.List.FromFn.{length-map-range_with_len}
 use Rattle.edge_io.specs.Lines.{AreBytes}
 use Rattle.packet_read.specs.declared.move_packet.MovePacket.{MovePacket}
 use Rattle.packet_read.specs.declared.packet.Packet.TheVariants.{Join, Step}
+use Rattle.packet_read.specs.Reading.{reading}
 use Rattle.packet_read.specs.Spelling.{spelling, IsAllowedMove, MoveFits}
 use Rattle.packet_read.proofs.Again.{packet_again}
 use Rattle.packet_read.specs.declared.arrival.Arrival.{Arrival}
@@ -20,12 +21,12 @@ use Rattle.demo_lines.proofs.RecordingsRead.{recordings_read_back}
 use Rattle.demo_make.specs.Words.{word_at}
 use Rattle.demo_make.specs.GeneratedMap.{generated_map}
 use Rattle.demo_make.specs.GeneratedFrames.{IsInRange, wish_of, move_of, join_from, move_from, ports, joins_in, move_in, moves_in, arrivals_in, generated_frames, generated_events, generated_text}
-use Rattle.demo_make.specs.Laws.{GeneratedRecordingsReadBack, FramesAreKnown, PacketsAreRead}
+use Rattle.demo_make.specs.Laws.{GeneratedRecordingsReadBack, FramesAreKnown}
 use Rattle.demo_make.proofs.MapKept.{range-all, generated_is_map}
 
 -- ---- a packet
 
-button-few : (jumps : Bool) → cond jumps 1 0 ≤ 1
+pub button-few : (jumps : Bool) → cond jumps 1 0 ≤ 1
 button-few true = omega arith
 button-few false = omega arith
 
@@ -44,11 +45,11 @@ move-fits seq word few = record {
   buttons = omega (arith, button-few (eqb (word / 2 ^ 32 % 16) 0));
 }
 
-pub packets_are_read : PacketsAreRead
-packets_are_read = record {
-  joins = λ port. packet_again Join tt tt;
-  moves = λ seq port word few. packet_again (Step (move_of seq word)) (move-fits seq word few) (move-allowed seq word);
-}
+pub join-read : (port : ℕ) → reading (join_from port).bytes ≡ Ok Join
+join-read port = packet_again Join tt tt
+
+pub move-read : (seq port word : ℕ) → seq < 2 ^ 32 → reading (move_from seq port word).bytes ≡ Ok (Step (move_of seq word))
+move-read seq port word few = packet_again (Step (move_of seq word)) (move-fits seq word few) (move-allowed seq word)
 
 move-bytes : (m : MovePacket) → m.ms < 256 → m.buttons < 256 → AreBytes (spelling (Step m))
 move-bytes m ms buttons =
@@ -71,14 +72,14 @@ move-arrival seq port word few = record {
 
 -- ---- a frame
 
-joins-are : (players frame : ℕ) → players ≤ 64 → All IsArrival (joins_in players frame)
+pub joins-are : (players frame : ℕ) → players ≤ 64 → All IsArrival (joins_in players frame)
 joins-are players frame few = by_frame (eqb frame 0)
   where
     by_frame : (first : Bool) → All IsArrival (cond first (map join_from (ports players)) [])
     by_frame true = All-map IsArrival join_from (ports players) (range-all (λ port. IsArrival (join_from port)) 1 players (λ port _ below. join-arrival port (omega arith)))
     by_frame false = All-nil IsArrival
 
-joins-few : (players frame : ℕ) → length (joins_in players frame) ≤ players
+pub joins-few : (players frame : ℕ) → length (joins_in players frame) ≤ players
 joins-few players frame = by_frame (eqb frame 0)
   where
     by_frame : (first : Bool) → length (cond first (map join_from (ports players)) []) ≤ players
@@ -121,7 +122,7 @@ generated_recordings_read_back seed players frames range =
 
 -- ---- how many lines
 
-no-joins : (players frame : ℕ) → 0 < frame → joins_in players frame ≡ []
+pub no-joins : (players frame : ℕ) → 0 < frame → joins_in players frame ≡ []
 no-joins players frame later = let e : eqb frame 0 ≡ false = grind (arith, nat_tests) in rw e refl
 
 pub later-is : (seed players frame : ℕ) → 0 < frame → arrivals_in seed players frame ≡ moves_in seed players frame

@@ -1,15 +1,19 @@
 -- Lemmas on generated recordings.
 pub mod Steps
 pub mod Drawing
-pub mod Repeats
 pub mod Streams
 pub mod Lines
 pub mod Passed
 pub mod Texts
 pub mod MapKept
 pub mod FramesKept
+pub mod Repeats
+pub mod ResentKept
 pub mod Joining
 pub mod Accepted
+pub mod LastNumbers
+pub mod Repeated
 pub mod Clear
 pub mod Building
 pub mod Bounds
+pub mod ResentBounds

@@ -14,12 +14,16 @@ use Rattle.client_ports.specs.Finishing.{finished}
 use Rattle.demo_make.specs.GeneratedMap.{generated_map, spawn_at}
 use Rattle.demo_make.specs.GeneratedFrames.{arrivals_in}
 
--- each of so many players is joined in the slot one below its port, and has this last number and no move in the frame;
--- nobody else is joined
-pub record ArePlaying (players last : ℕ) (clients : List (Option Client)) : Type 0 where
+-- each of so many players is joined in the slot one below its port, and has the last number that its slot has here and no
+-- move in the frame; nobody else is joined
+pub record ArePlayingUpTo (players : ℕ) (last : ℕ → ℕ) (clients : List (Option Client)) : Type 0 where
   pub slots : length clients ≡ 64
-  pub joined : (slot : ℕ) → slot < players → client_at clients slot ≡ Some (client (slot + 1) last false 0)
+  pub joined : (slot : ℕ) → slot < players → client_at clients slot ≡ Some (client (slot + 1) (last slot) false 0)
   pub free : (slot : ℕ) → players ≤ slot → client_at clients slot ≡ None
+
+-- so it is, with one last number for all
+abbrev pub ArePlaying : ℕ → ℕ → List (Option Client) → Type 0
+ArePlaying players last clients = ArePlayingUpTo players (λ slot. last) clients
 
 -- the record's body overlaps no player's at a spawn
 abbrev pub IsClearOfSpawns : Rec → Type 0

@@ -1,13 +1,14 @@
 -- What holds of all generated recordings.
-use Rattle.std.specs.Prelude.{◌≡◌, ℕ, ◌+◌, ◌*◌, ◌^◌, ◌≤◌, ◌<◌, [], ◌∷◌, ◌++◌, length, map, count_by, Some, None, Ok}
+use Rattle.std.specs.Prelude.{◌≡◌, ℕ, ◌+◌, ◌*◌, ◌^◌, ◌≤◌, ◌<◌, List, [], ◌∷◌, ◌++◌, length, map, count_by, Some, None, Ok}
 use Rattle.std.specs.List.{range_with_len}
 use Rattle.std.specs.Int.{w64, from_le_bytes, to_le_bytes}
 use Rattle.rand_core.specs.Steps.{first_words}
 use Rattle.rand_xoshiro.specs.SplitMix64.{mix_u64}
-use Rattle.packet_read.specs.declared.packet.Packet.TheVariants.{Join, Step}
+use Rattle.packet_read.specs.declared.packet.Packet.TheVariants.{Join, Step, Steps}
 use Rattle.packet_read.specs.Reading.{reading}
 use Rattle.arena_map.specs.Maps.{IsMap}
 use Rattle.arena_map.specs.MapLines.{is_item_line, is_teleport_line, is_goal_line, is_lift_line}
+use Rattle.demo_lines.specs.declared.event.Event.{Event}
 use Rattle.demo_lines.specs.Bytes.{fault, events, map_of}
 use Rattle.demo_lines.specs.Spelling.{recording_lines}
 use Rattle.demo_make.specs.declared.map_lines.TheConstants.{MAP_LINES}
@@ -15,16 +16,25 @@ use Rattle.demo_make.specs.Words.{word_at}
 use Rattle.demo_make.specs.GeneratedMap.{generated_map, generated_lines, things}
 use Rattle.demo_make.specs.GeneratedFrames.{IsInRange, join_from, move_from, move_of, ports, moves_in, arrivals_in}
 use Rattle.demo_make.specs.GeneratedFrames.{generated_frames, generated_events, generated_text}
+use Rattle.demo_make.specs.ResentFrames.{repeat_of, repeat_from, resent_events, resent_text}
 
--- the text of a recording has no fault, and gives the map and the events
-pub record IsReadBack (seed players frames : ℕ) : Type 0 where
-  pub fault : fault (generated_text seed players frames) ≡ None
-  pub map : map_of (generated_text seed players frames) ≡ Some generated_map
-  pub events : events (generated_text seed players frames) ≡ generated_events seed players frames
+-- the text of a recording has no fault, and gives the map and these events
+pub record IsReadAs (text : List ℕ) (es : List Event) : Type 0 where
+  pub fault : fault text ≡ None
+  pub map : map_of text ≡ Some generated_map
+  pub events : events text ≡ es
 
 -- each generated recording is in the grammar, and is read as what was written
 abbrev pub GeneratedRecordingsReadBack : Type 0
-GeneratedRecordingsReadBack = (seed players frames : ℕ) → IsInRange players frames → IsReadBack seed players frames
+GeneratedRecordingsReadBack =
+    (seed players frames : ℕ) → IsInRange players frames
+    → IsReadAs (generated_text seed players frames) (generated_events seed players frames)
+
+-- so is each in which commands are resent
+abbrev pub ResentRecordingsReadBack : Type 0
+ResentRecordingsReadBack =
+    (seed players frames : ℕ) → IsInRange players frames
+    → IsReadAs (resent_text seed players frames) (resent_events seed players frames)
 
 -- the map keeps the rules of maps, and has so many of each
 pub record MapIsKnown : Type 0 where
@@ -56,11 +66,20 @@ GeneratedTextsAreBounded =
     (seed players frames : ℕ) → IsInRange players frames
     → length (generated_text seed players frames) ≤ 8304 + 13 * players + frames * (6 + 33 * players)
 
--- the packets are read as joins and as moves with their numbers
+-- where commands are resent there are also 13 bytes for each join, and in each frame 6 and 59 for each player
+abbrev pub ResentTextsAreBounded : Type 0
+ResentTextsAreBounded =
+    (seed players frames : ℕ) → IsInRange players frames
+    → length (resent_text seed players frames) ≤ 8304 + 13 * players + frames * (6 + 59 * players)
+
+-- the packets are read as joins, as moves with their numbers, and as the commands that they repeat, of which the newest
+-- has a number one more than that of its frame
 pub record PacketsAreRead : Type 0 where
   pub joins : (port : ℕ) → reading (join_from port).bytes ≡ Ok Join
   pub moves : (seq port word : ℕ) → seq < 2 ^ 32
       → reading (move_from seq port word).bytes ≡ Ok (Step (move_of seq word))
+  pub repeats : (seed players frame port : ℕ) → frame + 1 < 2 ^ 32
+      → reading (repeat_from seed players frame port).bytes ≡ Ok (Steps (repeat_of seed players frame port))
 
 -- the words of a seed are those of SplitMix64 from the state that the seed's 8 bytes give, lowest first; two published
 -- ones are these

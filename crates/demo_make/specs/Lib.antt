@@ -11,4 +11,5 @@ pub mod LastWords
 pub mod Remaining
 pub mod Passing
 pub mod Accepting
+pub mod Repeating
 pub mod Laws

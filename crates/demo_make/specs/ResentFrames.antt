@@ -28,12 +28,12 @@ last_commands seed players frame port =
     map (command_in seed players port) (range_with_len (frame + 1 - how_many_in frame) (how_many_in frame))
 
 -- those commands, of which the newest has a number one more than that of the frame
-abbrev pub repeated : ℕ → ℕ → ℕ → ℕ → StepsPacket
-repeated seed players frame port = record { seq = frame + 1; cmds = last_commands seed players frame port }
+abbrev pub repeat_of : ℕ → ℕ → ℕ → ℕ → StepsPacket
+repeat_of seed players frame port = record { seq = frame + 1; cmds = last_commands seed players frame port }
 
 -- the packet of a player in a frame, which has them
 abbrev pub repeat_from : ℕ → ℕ → ℕ → ℕ → Arrival
-repeat_from seed players frame port = arrival port (spelling (Steps (repeated seed players frame port)))
+repeat_from seed players frame port = arrival port (spelling (Steps (repeat_of seed players frame port)))
 
 -- ---- the frames
 

@@ -5,8 +5,9 @@ pub use arena::generated_map;
 pub use generated_event::GeneratedEvent;
 pub use generator::Generator;
 pub use laws::{
-    all_is_accepted, frames_are_known, generated_recordings_read_back, generated_texts_are_bounded,
-    map_is_known, packets_are_read, spawns_are_clear, words_are_known,
+    all_is_accepted, commands_arrive_once, frames_are_known, generated_recordings_read_back,
+    generated_texts_are_bounded, map_is_known, packets_are_read, resent_recordings_read_back,
+    resent_texts_are_bounded, spawns_are_clear, words_are_known,
 };
 pub use make_stop::MakeStop;
 pub use map_lines::{MAP_LINES, map_line};

@@ -5,9 +5,9 @@ use Rattle.packet_read.specs.declared.packet.Packet.TheVariants.{Steps}
 use Rattle.packet_read.specs.Spelling.{spelling, IsAllowedSteps}
 use Rattle.demo_make.specs.declared.last_words.LastWords.{LastWords}
 use Rattle.demo_make.specs.Words.{word_of, next_state}
-use Rattle.demo_make.specs.ResentFrames.{arrives, last_commands, repeated}
+use Rattle.demo_make.specs.ResentFrames.{arrives, last_commands, repeat_of}
 use Rattle.demo_make.proofs.Drawing.{drawn, drawn-back, word-now, word-drawn, state-drawn, commands-are}
-use Rattle.demo_make.proofs.Repeats.{repeated-allowed}
+use Rattle.demo_make.proofs.Repeats.{steps-allowed}
 use Rattle.demo_make.proofs.Steps.{left-again, left-lost}
 use Rattle.demo_make.proofs.generator.Generator.send_again.Goals as goal
 
@@ -58,7 +58,7 @@ write_packet-requires c =
     let words = words_of c.next_word.result c.next_word_if-2.result c.next_word_if.result in
     let cmds : c.last_commands.result ≡ last_commands g.seed g.players frame port =
     c.last_commands.ensures ∙ commands-are g.seed g.players frame port words (record { newest = newest; one = one; two = two }) in
-    rw cmds (subst (λ seq. IsAllowedSteps (packet_of seq (last_commands g.seed g.players frame port))) number (repeated-allowed g.seed g.players frame port))
+    rw cmds (subst (λ seq. IsAllowedSteps (packet_of seq (last_commands g.seed g.players frame port))) number (steps-allowed g.seed g.players frame port))
 
 pub returns-clause-gives : goal.returns-clause-gives
 returns-clause-gives c =
@@ -76,7 +76,7 @@ returns-clause-gives c =
     let words = words_of c.next_word.result c.next_word_if-2.result c.next_word_if.result in
     let cmds : c.last_commands.result ≡ last_commands g.seed g.players frame port =
     c.last_commands.ensures ∙ commands-are g.seed g.players frame port words (record { newest = newest; one = one; two = two }) in
-    let bytes : c.write_packet.result ≡ spelling (Steps (repeated g.seed g.players frame port)) =
+    let bytes : c.write_packet.result ≡ spelling (Steps (repeat_of g.seed g.players frame port)) =
     c.write_packet.ensures.spelled
     ∙ ap (λ commands. spelling (Steps (packet_of g.opened commands))) cmds
     ∙ ap (λ seq. spelling (Steps (packet_of seq (last_commands g.seed g.players frame port)))) number in
