@@ -7,7 +7,7 @@ use Rattle.rand_xoshiro.specs.SplitMix64.{mix_u64}
 use Rattle.demo_make.specs.declared.last_words.LastWords.{LastWords}
 use Rattle.demo_make.specs.Words.{word_of, next_state, state_after, word_at, state_back}
 use Rattle.demo_make.specs.ResentFrames.{last_commands}
-use Rattle.demo_make.specs.LastWords.{word_if, state_if, word_back, commands_by}
+use Rattle.demo_make.specs.LastWords.{word_if, state_if, word_back, commands_by, AreLast}
 
 -- ---- a word
 
@@ -109,12 +109,6 @@ none-drawn seed players back =
     rw early (rw none refl)
 
 -- ---- the commands
-
--- the words are those of a player in a frame and in the two before it
-pub record AreLast (seed players frame port : ℕ) (words : LastWords) : Type 0 where
-  pub newest : words.newest ≡ word_at seed (frame * players + (port - 1))
-  pub one : words.one_back ≡ word_back seed players frame port 1
-  pub two : words.two_back ≡ word_back seed players frame port 2
 
 back-there : (seed players frame port back before : ℕ) → before + back ≡ frame
     → word_back seed players frame port back ≡ Some (word_at seed (before * players + (port - 1)))

@@ -9,8 +9,8 @@ use Rattle.demo_lines.specs.Spelling.{frame_events, recording_events}
 use Rattle.demo_make.specs.declared.sending.Sending.{Sending}
 use Rattle.demo_make.specs.declared.sending.Sending.TheVariants.{Once, Repeated}
 use Rattle.demo_make.specs.GeneratedFrames.{join_from, move_in, joins_in, ports}
-use Rattle.demo_make.specs.ResentFrames.{repeat_from, arrives}
-use Rattle.demo_make.specs.Remaining.{packets_of, frame_of, Progress, end_unless, left_of}
+use Rattle.demo_make.specs.ResentFrames.{repeat_from}
+use Rattle.demo_make.specs.Remaining.{packets_of, frame_of, Progress, sender_in, with_one_sent, comes_in, IsLost, end_unless, left_of}
 
 abbrev pub place : Sending → ℕ → ℕ → ℕ → ℕ → ℕ → ℕ → Bool → Progress
 place sending seed players opened frames joins moves ended = record {
@@ -51,20 +51,16 @@ pub left-once : (seed players opened frames joins moves : ℕ) (ended : Bool) �
 unfolding left_of
 left-once seed players opened frames joins moves ended none some few = rw none (rw (range-first players moves some few) refl)
 
-pub left-again : (seed players opened frames joins moves : ℕ) (ended : Bool) → joins ≡ 0 → 0 < moves → moves ≤ players
-    → arrives (opened + frames) (opened - 1) (players - moves + 1) ≡ true
-    → left_of (place Repeated seed players opened frames joins moves ended)
-    ≡ events.From (repeat_from seed players (opened - 1) (players - moves + 1)) ∷ left_of (place Repeated seed players opened frames joins (moves - 1) ended)
+pub left-again : (p : Progress) → p.sending ≡ Repeated → p.joins ≡ 0 → 0 < p.moves → p.moves ≤ p.players → comes_in p ≡ true
+    → left_of p ≡ events.From (repeat_from p.seed p.players (p.opened - 1) (sender_in p)) ∷ left_of (with_one_sent p)
 unfolding left_of
-left-again seed players opened frames joins moves ended none some few comes =
-    rw none (rw (range-first players moves some few) (rw comes refl))
+left-again p repeated none some few comes =
+    rw repeated (rw none (rw (range-first p.players p.moves some few) (rw comes refl)))
 
-pub left-lost : (seed players opened frames joins moves : ℕ) (ended : Bool) → joins ≡ 0 → 0 < moves → moves ≤ players
-    → arrives (opened + frames) (opened - 1) (players - moves + 1) ≡ false
-    → left_of (place Repeated seed players opened frames joins moves ended) ≡ left_of (place Repeated seed players opened frames joins (moves - 1) ended)
+pub left-lost : (p : Progress) → p.joins ≡ 0 → p.moves ≤ p.players → IsLost p → left_of p ≡ left_of (with_one_sent p)
 unfolding left_of
-left-lost seed players opened frames joins moves ended none some few lost =
-    rw none (rw (range-first players moves some few) (rw lost refl))
+left-lost p none few lost =
+    rw lost.repeated (rw none (rw (range-first p.players p.moves lost.some few) (rw lost.lost refl)))
 
 -- how many joins are left in a frame that was just opened
 abbrev pub joins_of : ℕ → ℕ → ℕ

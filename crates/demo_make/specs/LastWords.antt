@@ -1,5 +1,5 @@
 -- The words of a player's last commands.
-use Rattle.std.specs.Prelude.{ℕ, ◌+◌, ◌-◌, ◌*◌, List, [], ◌∷◌, ◌++◌, map, Option, Some, None, option_to_list}
+use Rattle.std.specs.Prelude.{◌≡◌, ℕ, ◌+◌, ◌-◌, ◌*◌, List, [], ◌∷◌, ◌++◌, map, Option, Some, None, option_to_list}
 use Rattle.std.specs.Prelude.{Bool, nat_le, if◌then◌else◌}
 use Rattle.packet_read.specs.declared.block_list.CmdBlock.{CmdBlock}
 use Rattle.demo_make.specs.declared.last_words.LastWords.{LastWords}
@@ -22,3 +22,9 @@ word_back seed players frame port back =
 abbrev pub commands_by : LastWords → List CmdBlock
 commands_by words =
     map command_of (option_to_list words.two_back ++ (option_to_list words.one_back ++ words.newest ∷ []))
+
+-- the words are those of a player in a frame and in the two before it
+pub record AreLast (seed players frame port : ℕ) (words : LastWords) : Type 0 where
+  pub newest : words.newest ≡ word_at seed (frame * players + (port - 1))
+  pub one : words.one_back ≡ word_back seed players frame port 1
+  pub two : words.two_back ≡ word_back seed players frame port 2

@@ -1,5 +1,5 @@
 -- What a generator has still to give, from where it is.
-use Rattle.std.specs.Prelude.{ℕ, ◌+◌, ◌-◌, Bool, List, [], ◌∷◌, ◌++◌, map, filter, flat_map, if◌then◌else◌}
+use Rattle.std.specs.Prelude.{◌≡◌, ◌<◌, false, ℕ, ◌+◌, ◌-◌, Bool, List, [], ◌∷◌, ◌++◌, map, filter, flat_map, if◌then◌else◌}
 use Rattle.std.specs.List.{range_with_len}
 use Rattle.packet_read.specs.declared.arrival.Arrival.{Arrival}
 use Rattle.edge_io.specs.WholeLines.{unlines}
@@ -71,9 +71,36 @@ pub record Progress : Type 0 where
   pub moves : ℕ
   pub ended : Bool
 
+-- the port whose packet is the next of the open frame
+abbrev pub sender_in : Progress → ℕ
+sender_in p = p.players - p.moves + 1
+
+-- one packet of the open frame less is left
+abbrev pub with_one_sent : Progress → Progress
+with_one_sent p = record {
+  sending = p.sending;
+  seed = p.seed;
+  players = p.players;
+  opened = p.opened;
+  frames = p.frames;
+  joins = p.joins;
+  moves = p.moves - 1;
+  ended = p.ended;
+}
+
 -- how many frames the recording has
 abbrev pub frames_in : Progress → ℕ
 frames_in p = p.opened + p.frames
+
+-- whether the next packet of the open frame arrives, where commands are repeated
+abbrev pub comes_in : Progress → Bool
+comes_in p = arrives (frames_in p) (p.opened - 1) (sender_in p)
+
+-- it is lost
+pub record IsLost (p : Progress) : Type 0 where
+  pub repeated : p.sending ≡ Repeated
+  pub some : 0 < p.moves
+  pub lost : comes_in p ≡ false
 
 -- the joins of the open frame that are left
 abbrev pub joins_left : Progress → List Arrival
@@ -82,7 +109,7 @@ joins_left p = map join_from (range_with_len (p.players - p.joins + 1) p.joins)
 -- the packets with commands of the open frame that are left
 abbrev pub packets_left : Progress → List Arrival
 packets_left p =
-    packets_of p.sending p.seed p.players (frames_in p) (p.opened - 1) (range_with_len (p.players - p.moves + 1) p.moves)
+    packets_of p.sending p.seed p.players (frames_in p) (p.opened - 1) (range_with_len (sender_in p) p.moves)
 
 -- the frames that are left
 abbrev pub frames_left : Progress → List (List Arrival)

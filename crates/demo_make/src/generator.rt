@@ -26,6 +26,7 @@ fn words_of(seed: u64) -> SplitMix64
 /// is kept.
 #[derive(Drop)]
 pub struct Generator {
+    // No code reads it: the facts below count the words that were drawn from it.
     seed: u64,
     sending: Sending,
     words: SplitMix64,
@@ -48,13 +49,16 @@ pub struct Generator {
 }
 
 impl Generator {
-    ghost use Rattle.std.specs.Prelude.{◌≡◌, ◌∷◌, ◌<◌, ◌-◌, map, IfSome, IfNone};
+    ghost use Rattle.std.specs.Prelude.{◌≡◌, ◌∷◌, ◌<◌, ◌-◌, true, map};
+    ghost use Rattle.std.specs.Bool.{OnTrue, OnFalse};
     ghost use Rattle.std.specs.List.{range_with_len};
     ghost use Rattle.demo_lines.specs.Spelling.{recording_events};
     ghost use Rattle.demo_make.specs.declared.sending.Sending.TheVariants.{Once};
     ghost use Rattle.demo_make.specs.GeneratedFrames.{IsInRange, generated_events};
     ghost use Rattle.demo_make.specs.ResentFrames.{resent_events};
-    ghost use Rattle.demo_make.specs.Remaining.{event_of, frame_of, remaining_events};
+    ghost use Rattle.demo_make.specs.LastWords.{AreLast};
+    ghost use Rattle.demo_make.specs.Remaining.{event_of, frame_of, remaining_events, progress_of};
+    ghost use Rattle.demo_make.specs.Remaining.{sender_in, comes_in, IsLost, with_one_sent};
 
     /// A generator before its first event, where each command is sent once. The recording has 1 to 64 players and 1 to
     /// 100,000 frames.
@@ -120,9 +124,7 @@ impl Generator {
         requires sending { self.old.sending ≡ Once }
         requires no_join { self.old.joins_left ≡ 0 }
         requires some { 0 < self.old.moves_left }
-        ensures gives { remaining_events self.old ≡ event_of result ∷ remaining_events self.new }
-        ensures no_join { self.new.joins_left ≡ 0 }
-        ensures fewer { self.new.moves_left < self.old.moves_left }
+        ensures { remaining_events self.old ≡ event_of result ∷ remaining_events self.new }
     {
         let port = self.sender();
         self.moves_left -= 1;
@@ -133,69 +135,69 @@ impl Generator {
         }
     }
 
-    /// The next packet of the frame that is open, which repeats commands, or `None` where it doesn't arrive. The words
-    /// of its commands are drawn whether it does or not.
-    fn send_again(&mut self) -> Option<GeneratedEvent>
+    /// Draws the word of the next command of the frame that is open, and again those of the two before it.
+    fn draw(&mut self) -> LastWords
         requires sending { self.old.sending ≡ Repeated }
-        requires no_join { self.old.joins_left ≡ 0 }
         requires some { 0 < self.old.moves_left }
-        ensures gives { IfSome result (λ event.
-            remaining_events self.old ≡ event_of event ∷ remaining_events self.new) }
-        ensures lost { IfNone result (remaining_events self.old ≡ remaining_events self.new) }
-        ensures no_join { self.new.joins_left ≡ 0 }
-        ensures fewer { self.new.moves_left < self.old.moves_left }
+        ensures words { AreLast self.old.seed self.old.players (self.old.opened - 1)
+            (sender_in (progress_of self.old)) result }
+        ensures moves { progress_of self.new ≡ with_one_sent (progress_of self.old) }
     {
-        let port = self.sender();
         self.moves_left -= 1;
-        let words = LastWords {
+        LastWords {
             two_back: next_word_if(&mut self.two_back, self.opened > 2),
             one_back: next_word_if(&mut self.one_back, self.opened > 1),
             newest: self.words.next_word(),
-        };
-        if !arrives(self.opened + self.frames_left, self.opened - 1, port) {
-            return None;
         }
-        let packet = StepsPacket {
-            seq: self.opened,
-            cmds: last_commands(&words),
-        };
-        Some(GeneratedEvent::From {
-            port,
-            bytes: write_packet(&Packet::Steps(packet)),
-        })
     }
 
-    /// The next packet with commands of the frame that is open, or `None` where it doesn't arrive.
-    fn send(&mut self) -> Option<GeneratedEvent>
+    /// The next packet of the frame that is open, which arrives and repeats commands.
+    #[inline(never)]
+    fn send_again(&mut self) -> GeneratedEvent
+        requires sending { self.old.sending ≡ Repeated }
         requires no_join { self.old.joins_left ≡ 0 }
         requires some { 0 < self.old.moves_left }
-        ensures gives { IfSome result (λ event.
-            remaining_events self.old ≡ event_of event ∷ remaining_events self.new) }
-        ensures lost { IfNone result (remaining_events self.old ≡ remaining_events self.new) }
-        ensures no_join { self.new.joins_left ≡ 0 }
-        ensures fewer { self.new.moves_left < self.old.moves_left }
+        requires comes { comes_in (progress_of self.old) ≡ true }
+        ensures { remaining_events self.old ≡ event_of result ∷ remaining_events self.new }
     {
-        match self.sending {
-            Sending::Once => Some(self.send_once()),
-            Sending::Repeated => self.send_again(),
+        let port = self.sender();
+        let packet = StepsPacket {
+            seq: self.opened,
+            cmds: last_commands(&self.draw()),
+        };
+        GeneratedEvent::From {
+            port,
+            bytes: write_packet(&Packet::Steps(packet)),
         }
     }
 
-    /// The next packet with commands that arrives in the frame that is open, or `None` where none is left.
-    fn packet(&mut self) -> Option<GeneratedEvent>
-        requires { self.old.joins_left ≡ 0 }
-        ensures gives { IfSome result (λ event.
-            remaining_events self.old ≡ event_of event ∷ remaining_events self.new) }
-        ensures none { IfNone result (remaining_events self.old ≡ remaining_events self.new) }
-        ensures no_join { self.new.joins_left ≡ 0 }
-        ensures no_move { IfNone result (self.new.moves_left ≡ 0) }
+    /// Whether the next packet of the frame that is open is lost.
+    fn is_lost(&self) -> bool
+        ensures lost { OnTrue result (IsLost (progress_of self.now)) }
+        ensures not_lost { OnFalse result (self.now.sending ≡ Repeated → 0 < self.now.moves_left
+            → comes_in (progress_of self.now) ≡ true) }
     {
-        while self.moves_left > 0 {
-            if let Some(event) = self.send() {
-                return Some(event);
-            }
+        self.sending == Sending::Repeated
+            && self.moves_left > 0
+            && !arrives(
+                self.opened + self.frames_left,
+                self.opened - 1,
+                self.sender(),
+            )
+    }
+
+    /// Passes over the packets of the frame that is open which are lost, up to the next one that arrives. The words of
+    /// their commands are drawn.
+    fn pass_lost(&mut self)
+        requires { self.old.joins_left ≡ 0 }
+        ensures same { remaining_events self.old ≡ remaining_events self.new }
+        ensures no_join { self.new.joins_left ≡ 0 }
+        ensures comes { self.new.sending ≡ Repeated → 0 < self.new.moves_left
+            → comes_in (progress_of self.new) ≡ true }
+    {
+        while self.is_lost() {
+            self.draw();
         }
-        None
     }
 
     /// Opens the next frame.
@@ -227,8 +229,12 @@ impl Iterator for Generator {
         if self.joins_left > 0 {
             return Some(self.join());
         }
-        if let Some(packet) = self.packet() {
-            return Some(packet);
+        self.pass_lost();
+        if self.moves_left > 0 {
+            if self.sending == Sending::Once {
+                return Some(self.send_once());
+            }
+            return Some(self.send_again());
         }
         if self.frames_left > 0 {
             return Some(self.open());

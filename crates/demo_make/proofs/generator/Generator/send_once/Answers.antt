@@ -10,8 +10,8 @@ use Rattle.demo_make.proofs.generator.Generator.send_once.Goals as goal
 once-again : (sending : Sending) → sending ≡ Once → sending ≡ Repeated → ⊥
 once-again sending once again = cc
 
-pub returns-clause-gives : goal.returns-clause-gives
-returns-clause-gives c =
+pub returns : goal.returns
+returns c =
     let g = c.args.self.now in
     let d = drawn g.words c.next_word-word.result c.next_word-word.new.self c.next_word-word.ensures in
     let number : g.opened ≡ g.opened - 1 + 1 = omega (arith, g.moves_of_open, c.requires.some) in
