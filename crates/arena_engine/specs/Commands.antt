@@ -5,7 +5,7 @@ use Rattle.move_phase.specs.Serving.{AreWorkers}
 use Rattle.demo_make.specs.GeneratedFrames.{IsInRange}
 use Rattle.match_play.specs.Matches.{IsMatch}
 use Rattle.arena_engine.specs.declared.command.Command.{Command}
-use Rattle.arena_engine.specs.declared.command.Command.TheVariants.{Play, Make, Match}
+use Rattle.arena_engine.specs.declared.command.Command.TheVariants.{Play, Make, Resend, Match}
 
 -- the texts of words
 abbrev pub contents : List (Bor (List ℕ)) → List (List ℕ)
@@ -16,6 +16,8 @@ abbrev pub words_of : Command → List (List ℕ)
 words_of (Play workers) = codes "play" ∷ decimal workers ∷ []
 words_of (Make seed players frames) =
     codes "make" ∷ decimal seed ∷ decimal players ∷ decimal frames ∷ []
+words_of (Resend seed players frames) =
+    codes "resend" ∷ decimal seed ∷ decimal players ∷ decimal frames ∷ []
 words_of (Match seed players frames workers) =
     codes "match" ∷ decimal seed ∷ decimal players ∷ decimal frames ∷ decimal workers ∷ []
 
@@ -27,6 +29,7 @@ IsSeed seed = seed < 2 ^ 64
 abbrev pub HasRanges : Command → Type 0
 HasRanges (Play workers) = AreWorkers workers
 HasRanges (Make seed players frames) = IsSeed seed × IsInRange players frames
+HasRanges (Resend seed players frames) = IsSeed seed × IsInRange players frames
 HasRanges (Match seed players frames workers) = IsSeed seed × IsMatch players frames × AreWorkers workers
 
 -- these words ask for this command

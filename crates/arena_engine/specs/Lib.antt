@@ -22,6 +22,7 @@ pub use Rattle.out_text.specs.Output as Outputs
 pub use Rattle.out_text.specs.OneTaker
 pub use Rattle.demo_make.specs.GeneratedMap
 pub use Rattle.demo_make.specs.GeneratedFrames
+pub use Rattle.demo_make.specs.ResentFrames
 pub use Rattle.match_play.specs.Matches
 pub mod Numbers
 pub mod Commands

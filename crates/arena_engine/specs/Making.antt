@@ -1,10 +1,13 @@
 -- What the commands that need no source answer and write.
-use Rattle.std.specs.Prelude.{◌≡◌, ℕ, ◌≤◌, ◌⊎◌, List, [], length, None}
+use Rattle.std.specs.Prelude.{◌≡◌, ℕ, ◌≤◌, ◌⊎◌, List, [], length, None, Result, Ok, Err}
 use Rattle.std.specs.Io.KnownBytes.{Appends}
 use Rattle.edge_io.specs.declared.sink.Sink as sinks
 use Rattle.edge_io.specs.Counts.{HasRisen}
 use Rattle.edge_io.specs.Writes.{AppendsPart}
+use Rattle.demo_make.specs.declared.make_stop.MakeStop.{MakeStop}
+use Rattle.demo_make.specs.declared.make_stop.MakeStop.TheVariants.{WriteFault, NoMemory}
 use Rattle.demo_make.specs.GeneratedFrames.{generated_text}
+use Rattle.demo_make.specs.ResentFrames.{resent_text}
 use Rattle.move_journal.specs.Logs.{JournalView}
 use Rattle.match_play.specs.Matches.{AreRightSoFar, AreInOrderSoFar, match_totals, entries_of}
 use Rattle.arena_engine.specs.declared.report.Report.{Report}
@@ -34,12 +37,18 @@ pub record ArePlayed (seed players frames workers status : ℕ) (all : List Jour
 abbrev pub line_of_match : ℕ → ℕ → List JournalView → List ℕ
 line_of_match seed players all = summary_text (match_totals seed players (entries_of all))
 
--- the recording of this seed was made
-pub record IsMade {K : Type 0} (k : sinks.Ghosts K) (seed players frames : ℕ) (old new : K) (r : Report) : Type 0 where
-  -- the whole recording was written
-  pub done : r.status ≡ 0 → Appends (k.taken old) (k.taken new) (generated_text seed players frames)
+-- the status of a recording that was written, or wasn't
+abbrev pub status_of : Result (Unit {0}) MakeStop → ℕ
+status_of (Ok _) = 0
+status_of (Err WriteFault) = 4
+status_of (Err NoMemory) = 5
+
+-- a recording with this text was written
+pub record IsTextWritten {K : Type 0} (k : sinks.Ghosts K) (text : List ℕ) (old new : K) (r : Report) : Type 0 where
+  -- the whole text was written
+  pub done : r.status ≡ 0 → Appends (k.taken old) (k.taken new) text
   -- a proper front of it was
-  pub cut : r.status ≡ 4 → AppendsPart (k.taken old) (k.taken new) (generated_text seed players frames)
+  pub cut : r.status ≡ 4 → AppendsPart (k.taken old) (k.taken new) text
   -- nothing was
   pub nothing : r.status ≡ 5 → new ≡ old
   -- no other status comes
@@ -49,9 +58,17 @@ pub record IsMade {K : Type 0} (k : sinks.Ghosts K) (seed players frames : ℕ) 
   -- journals of all frames are kept for `match` alone
   pub no_journals : r.all ≡ []
   -- no write fails where there is room
-  pub sure : length (generated_text seed players frames) ≤ k.room old → r.status ≡ 4 → ⊥
-  -- where no write failed it was made, unless memory was refused
+  pub sure : length text ≤ k.room old → r.status ≡ 4 → ⊥
+  -- where no write failed it was written, unless memory was refused
   pub complete : (HasRisen (k.faults old) (k.faults new) → ⊥) → IsOrMemory r.status 0
+
+-- the recording of this seed was made
+abbrev pub IsMade : {K : Type 0} → sinks.Ghosts K → ℕ → ℕ → ℕ → K → K → Report → Type 0
+IsMade k seed players frames old new r = IsTextWritten k (generated_text seed players frames) old new r
+
+-- the recording of this seed was made in which commands are resent
+abbrev pub IsResent : {K : Type 0} → sinks.Ghosts K → ℕ → ℕ → ℕ → K → K → Report → Type 0
+IsResent k seed players frames old new r = IsTextWritten k (resent_text seed players frames) old new r
 
 -- the match of this seed was played on these workers, and the line of its totals was written
 pub record IsMatched {K : Type 0} (k : sinks.Ghosts K) (seed players frames workers : ℕ) (old new : K) (r : Report) : Type 0 where

@@ -3,9 +3,9 @@ use Rattle.std.specs.Prelude.{◌≡◌}
 use Rattle.edge_io.specs.declared.source.Source as sources
 use Rattle.edge_io.specs.declared.sink.Sink as sinks
 use Rattle.arena_engine.specs.declared.command.Command.{Command}
-use Rattle.arena_engine.specs.declared.command.Command.TheVariants.{Play, Make, Match}
+use Rattle.arena_engine.specs.declared.command.Command.TheVariants.{Play, Make, Resend, Match}
 use Rattle.arena_engine.specs.declared.report.Report.{Report}
-use Rattle.arena_engine.specs.Making.{IsMade, IsMatched}
+use Rattle.arena_engine.specs.Making.{IsMade, IsResent, IsMatched}
 use Rattle.arena_engine.specs.Played.{IsPlayed}
 
 -- P, and nothing was read
@@ -17,5 +17,7 @@ pub record Unread {S : Type 0} (source source' : S) (P : Type 0) : Type 0 where
 abbrev pub IsServed : {S K : Type 0} → sources.Ghosts S → sinks.Ghosts K → S → S → K → K → Report → Command → Type 0
 IsServed s k source source' sink sink' r (Play workers) = IsPlayed s k workers source source' sink sink' r
 IsServed s k source source' sink sink' r (Make seed players frames) = Unread source source' (IsMade k seed players frames sink sink' r)
+IsServed s k source source' sink sink' r (Resend seed players frames) =
+    Unread source source' (IsResent k seed players frames sink sink' r)
 IsServed s k source source' sink sink' r (Match seed players frames workers) =
     Unread source source' (IsMatched k seed players frames workers sink sink' r)

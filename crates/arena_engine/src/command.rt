@@ -29,6 +29,15 @@ pub enum Command {
         /// How many frames it has, 1 to 100,000.
         frames: u32,
     },
+    /// Writes the recording of a seed in which commands are resent.
+    Resend {
+        /// The seed.
+        seed: u64,
+        /// How many players it has, 1 to 64.
+        players: u8,
+        /// How many frames it has, 1 to 100,000.
+        frames: u32,
+    },
     /// Plays the recording of a seed without writing it.
     Match {
         /// The seed.
@@ -65,6 +74,19 @@ fn make(seed: &str, players: &str, frames: &str) -> Option<Command>
     })
 }
 
+/// The command `resend` with these words.
+fn resend(seed: &str, players: &str, frames: &str) -> Option<Command>
+    ensures some { IfSome result (Spells (codes "resend" ∷ seed.now ∷ players.now ∷ frames.now ∷ [])) }
+    ensures only { (c : Command) → Spells (codes "resend" ∷ seed.now ∷ players.now ∷ frames.now ∷ []) c
+        → result ≡ Some c }
+{
+    Some(Command::Resend {
+        seed: number(seed)?,
+        players: number_up_to(players, MOST_PLAYERS)? as u8,
+        frames: number_up_to(frames, MOST_FRAMES)?,
+    })
+}
+
 /// The command `match` with these words.
 fn match_of(seed: &str, players: &str, frames: &str, workers: &str) -> Option<Command>
     ensures some { IfSome result
@@ -81,8 +103,8 @@ fn match_of(seed: &str, players: &str, frames: &str, workers: &str) -> Option<Co
 }
 
 /// The command that the words ask for, and `None` exactly where they are those of no command: `play N`,
-/// `make SEED PLAYERS FRAMES` or `match SEED PLAYERS FRAMES N`, where each number is in its range, in decimal digits
-/// without a sign and without a leading zero, 0 itself excepted.
+/// `make SEED PLAYERS FRAMES`, `resend SEED PLAYERS FRAMES` or `match SEED PLAYERS FRAMES N`, where each number is in
+/// its range, in decimal digits without a sign and without a leading zero, 0 itself excepted.
 pub fn command_of(words: &[&str]) -> Option<Command>
     ensures some { IfSome result (Spells (contents words.now)) }
     ensures only { (c : Command) → Spells (contents words.now) c → result ≡ Some c }
@@ -90,6 +112,7 @@ pub fn command_of(words: &[&str]) -> Option<Command>
     match *words {
         ["play", workers] => play(workers),
         ["make", seed, players, frames] => make(seed, players, frames),
+        ["resend", seed, players, frames] => resend(seed, players, frames),
         ["match", seed, players, frames, workers] => match_of(seed, players, frames, workers),
         _ => None,
     }

@@ -1,14 +1,29 @@
+ghost use Rattle.std.specs.Prelude.{◌≡◌, []};
 ghost use Rattle.demo_make.specs.GeneratedFrames.{IsInRange};
 ghost use Rattle.arena_engine.specs.Endings.{Counts};
-ghost use Rattle.arena_engine.specs.Making.{IsMade};
+ghost use Rattle.arena_engine.specs.Making.{IsMade, IsResent, IsBare, status_of};
 
 use crate::report::Report;
-use demo_make::{MakeStop, make};
+use demo_make::{MakeStop, make, resend};
 use edge_io::Sink;
 use std::alloc::Global;
 
+/// The report of a recording that was written, or wasn't.
+fn report_of(alloc: Global, written: Result<(), MakeStop>) -> Report
+    ensures status { result.status ≡ status_of written }
+    ensures bare { IsBare result }
+    ensures no_journals { result.all ≡ [] }
+{
+    let status = match written {
+        Ok(()) => 0,
+        Err(MakeStop::WriteFault) => 4,
+        Err(MakeStop::NoMemory) => 5,
+    };
+    Report::unserved(alloc, status)
+}
+
 /// Writes the recording of this seed.
-pub fn write_recording<K: Sink>(
+pub fn write_made<K: Sink>(
     alloc: Global,
     seed: u64,
     players: u8,
@@ -19,10 +34,20 @@ pub fn write_recording<K: Sink>(
     ensures made { IsMade K.Sink seed players frames sink.old sink.new result }
     ensures counts { Counts 4 (K.faults sink.old) (K.faults sink.new) result.status }
 {
-    let status = match make(alloc, seed, players, frames, sink) {
-        Ok(()) => 0,
-        Err(MakeStop::WriteFault) => 4,
-        Err(MakeStop::NoMemory) => 5,
-    };
-    Report::unserved(alloc, status)
+    report_of(alloc, make(alloc, seed, players, frames, sink))
+}
+
+/// Writes the recording of this seed in which commands are resent.
+pub fn write_resent<K: Sink>(
+    alloc: Global,
+    seed: u64,
+    players: u8,
+    frames: u32,
+    sink: &mut K,
+) -> Report
+    requires { IsInRange players frames }
+    ensures made { IsResent K.Sink seed players frames sink.old sink.new result }
+    ensures counts { Counts 4 (K.faults sink.old) (K.faults sink.new) result.status }
+{
+    report_of(alloc, resend(alloc, seed, players, frames, sink))
 }

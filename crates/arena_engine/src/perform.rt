@@ -4,7 +4,7 @@ ghost use Rattle.arena_engine.specs.Endings.{Ends};
 ghost use Rattle.arena_engine.specs.Served.{IsServed};
 
 use crate::command::Command;
-use crate::made::write_recording;
+use crate::made::{write_made, write_resent};
 use crate::matched::play_and_sum;
 use crate::recording::play_recording;
 use crate::report::Report;
@@ -46,7 +46,14 @@ pub fn perform<R: Threads + Wait + Sync, S: Source, K: Sink, G: Gate>(
                 players,
                 frames,
             },
-        ) => write_recording(alloc, seed, players, frames, sink),
+        ) => write_made(alloc, seed, players, frames, sink),
+        Some(
+            Command::Resend {
+                seed,
+                players,
+                frames,
+            },
+        ) => write_resent(alloc, seed, players, frames, sink),
         Some(
             Command::Match {
                 seed,
