@@ -15,8 +15,8 @@ use Rattle.arena_engine.specs.Reports.{last_in}
 use Rattle.edge_io.specs.declared.source.Source as sources
 use Rattle.edge_io.specs.declared.sink.Sink as sinks
 use Rattle.arena_engine.specs.declared.command.Command.{Command}
-use Rattle.arena_engine.specs.declared.command.Command.TheVariants.{Play, Make, Match}
-use Rattle.arena_engine.specs.Making.{IsMade, IsMatched}
+use Rattle.arena_engine.specs.declared.command.Command.TheVariants.{Play, Make, Resend, Match}
+use Rattle.arena_engine.specs.Making.{IsMade, IsResent, IsMatched}
 use Rattle.arena_engine.specs.Played.{IsPlayed}
 use Rattle.arena_engine.specs.Served.{Unread, IsServed}
 
@@ -49,5 +49,7 @@ module _ {S K : Type 0} (s : sources.Ghosts S) (k : sinks.Ghosts K) (source sour
       let is : IsPlayed s k n source source' sink sink' r = search (rules, memory, once, five, all) in is
   not_served (Make seed players frames) =
       let is : Unread source source' (IsMade k seed players frames sink sink' r) = search (rules, unread, same, five, place, last, all) in is
+  not_served (Resend seed players frames) =
+      let is : Unread source source' (IsResent k seed players frames sink sink' r) = search (rules, unread, same, five, place, last, all) in is
   not_served (Match seed players frames workers) =
       let is : Unread source source' (IsMatched k seed players frames workers sink sink' r) = search (rules, unread, same, five, place, last, all) in is

@@ -4,7 +4,7 @@ ghost use Rattle.arena_engine.specs.Endings.{IsOrMemory};
 use crate::from_memory::played;
 use arena_engine::{Report, serve};
 use demo_lines::{packets_have_room, recordings_read_back};
-use demo_make::generated_texts_are_bounded;
+use demo_make::{generated_texts_are_bounded, resent_texts_are_bounded};
 use edge_io::{MemSink, MemSource};
 use out_text::outputs_are_bounded;
 use shared_moves::NoGate;
@@ -47,6 +47,28 @@ pub fn two_players_made(
         rt,
         rt.alloc(),
         &["make", "7", "2", "1"],
+        &mut source,
+        &mut sink,
+        &NoGate,
+    ))
+}
+
+/// Writes the recording of the seed 7 in which commands are resent, with two players and one frame, into memory with the
+/// room that every such recording has.
+///
+/// The status is 0, or 5 where memory is short, since the length of such a recording is bounded.
+pub fn two_players_resent(
+    rt: &(impl AllocGlobal + Threads + Wait + Sync),
+) -> Result<Report, AllocError>
+    ensures { IfOk result (λ report. IsOrMemory report.status 0) }
+{
+    resent_texts_are_bounded();
+    let mut source = MemSource::new(&[], 1, &[]);
+    let mut sink = MemSink::new(rt.alloc(), 8_454, 8)?;
+    Ok(serve(
+        rt,
+        rt.alloc(),
+        &["resend", "7", "2", "1"],
         &mut source,
         &mut sink,
         &NoGate,

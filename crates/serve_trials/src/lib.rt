@@ -2,7 +2,7 @@
 #![tactic(auto)]
 
 pub use from_memory::played;
-pub use known::{ONE_JOIN, one_join_played, two_players_made};
+pub use known::{ONE_JOIN, one_join_played, two_players_made, two_players_resent};
 
 mod from_memory;
 mod known;

@@ -22,6 +22,7 @@ mod maps;
 mod pipe;
 mod recordings;
 mod refused;
+mod resent;
 mod rooms;
 mod statuses;
 mod things;

@@ -1,7 +1,7 @@
 ghost use Rattle.demo_make.specs.GeneratedFrames.{IsInRange};
 
 use demo_lines::Event;
-use demo_make::{Generator, MakeStop, generated_map, make};
+use demo_make::{Generator, MakeStop, generated_map, make, resend};
 use edge_io::MemSink;
 use packet_read::Arrival;
 use std::alloc::Global;
@@ -77,19 +77,40 @@ fn a_sink_without_room_has_a_front(rt: HostRuntime) -> Result<(), Fail> {
     Ok(())
 }
 
-#[test]
-fn a_generator_gives_the_events(rt: HostRuntime) {
+/// How many frames, packets and ends a generator gives.
+fn counts_of(events: Generator) -> (u32, u32, u32) {
     let mut frames = 0u32;
     let mut packets = 0u32;
     let mut ends = 0u32;
-    for event in Generator::new(7, 2, 1) {
+    for event in events {
         match event.to_event() {
             Event::Frame => frames = frames.saturating_add(1),
             Event::From(Arrival { port: _, bytes: _ }) => packets = packets.saturating_add(1),
             Event::End => ends = ends.saturating_add(1),
         }
     }
-    assert_eq!(rt; (frames, packets, ends), (1, 4, 1));
+    (frames, packets, ends)
+}
+
+#[test]
+fn a_generator_gives_the_events(rt: HostRuntime) {
+    assert_eq!(rt; counts_of(Generator::new(7, 2, 1)), (1, 4, 1));
+}
+
+/// In each of the first two frames one packet of a player arrives or none, and in the last one those of both.
+#[test]
+fn a_resending_generator_gives_the_events(rt: HostRuntime) {
+    assert_eq!(rt; counts_of(Generator::resending(7, 2, 3)), (3, 5, 1));
+}
+
+#[test]
+fn commands_are_resent(rt: HostRuntime) -> Result<(), Fail> {
+    let mut sink = MemSink::new(rt.alloc(), 4_096, 1_000)?;
+    assert_eq!(rt; resend(rt.alloc(), 7, 2, 1, &mut sink), Ok(()));
+    let back =
+        b"from 1 0101\nfrom 2 0101\nfrom 1 02020100000001320a000f0100\nfrom 2 02020100000001323000890000\nend\n";
+    assert!(rt; sink.bytes().ends_with(back.as_slice()));
+    Ok(())
 }
 
 #[test]

@@ -6,7 +6,7 @@ use std::test::Fail;
 use std::thread::Threads;
 
 /// What is written for words that need no source, and the status.
-fn written(
+pub fn written(
     rt: &(impl AllocGlobal + Threads + Wait + Sync),
     words: &[&str],
 ) -> Result<(MemSink, u8), Fail> {

@@ -47,13 +47,16 @@ fn the_first_faulty_line_is_reported(rt: HostRuntime) -> Result<(), Fail> {
 
 #[test]
 fn other_words_are_refused(rt: HostRuntime) -> Result<(), Fail> {
-    let rows: [&[&str]; 9] = [
+    let rows: [&[&str]; 12] = [
         &[],
         &["play"],
         &["play", "0"],
         &["play", "17"],
         &["play", "01"],
         &["make", "7", "65", "10"],
+        &["resend", "7", "65", "10"],
+        &["resend", "7", "32", "100001"],
+        &["resend", "7", "32"],
         &["match", "7", "32", "2001", "1"],
         &["match", "7", "32", "600", "0"],
         &["match", "7", "32", "600", "17"],
