@@ -33,7 +33,8 @@ use Rattle.demo_make.proofs.FramesKept.{no-joins}
 use Rattle.demo_make.proofs.Joining.{AreJoined}
 use Rattle.demo_make.proofs.Accepted.{after_arrivals-append, joins-run, some-same, finished-length}
 use Rattle.demo_make.proofs.Repeats.{repeat_of, repeat-read}
-use Rattle.demo_make.proofs.LastNumbers.{last-low, last-high, last-is, last-all, packet-new, none-new, new-length, new-last}
+use Rattle.demo_make.proofs.LastNumbers.{last-low, last-high, last-is}
+use Rattle.demo_make.proofs.NewCommands.{packet-new, none-new, new-length, new-last, each-once}
 
 -- ---- who was heard
 
@@ -341,4 +342,4 @@ later-frame seed players frames frame state few later small playing many =
     (come-once seed players frames frame few small start 0 waiting refl (sym joined) refl)
 
 pub commands_arrive_once : CommandsArriveOnce
-commands_arrive_once = record { first = first-frame; later = later-frame; waiting = last-is; all = last-all }
+commands_arrive_once = record { first = first-frame; later = later-frame; before = last-is; each_once = each-once }

@@ -1,6 +1,6 @@
 -- What a server makes of a recording in which commands are resent: each command is accepted once, in its order, although
 -- packets are lost.
-use Rattle.std.specs.Prelude.{◌≡◌, ℕ, zero, suc, ◌+◌, ◌-◌, ◌%◌, ◌^◌, ◌≤◌, ◌<◌, ◌==◌, List, [], map, filter, length}
+use Rattle.std.specs.Prelude.{◌≡◌, ℕ, zero, suc, ◌+◌, ◌-◌, ◌%◌, ◌^◌, ◌≤◌, ◌<◌, ◌==◌, List, [], map, filter, length, flat_map}
 use Rattle.std.specs.Prelude.{Option, if◌then◌else◌}
 use Rattle.std.specs.List.{range_with_len}
 use Rattle.entity_recs.specs.declared.rec.Rec.{Rec}
@@ -64,8 +64,8 @@ pub record ComeOnce (seed players frames frame : ℕ) (next : Receiving) : Type 
       (finished (state_of next.state.clients records)).clients
 
 -- each command of a resent recording is accepted once and in its order: so it is in frame 0, where nobody is joined and
--- nothing is at the spawns, and in each later frame, wherever the players and the things are. Before a frame at most two
--- commands of a player haven't come, and after the last one each has
+-- nothing is at the spawns, and in each later frame, wherever the players and the things are. Before a frame at most the
+-- newest two commands of a player haven't come, and over all frames each comes once
 pub record CommandsArriveOnce : Type 0 where
   pub first : (seed players frames : ℕ) (state : State) → players ≤ 64 → ArePlaying 0 0 state.clients
       → length state.records ≡ 256 → AreClearOfSpawns state.records
@@ -74,6 +74,8 @@ pub record CommandsArriveOnce : Type 0 where
       → ArePlayingUpTo players (λ slot. last_before frames (slot + 1) frame) state.clients
       → length state.records ≡ 256
       → ComeOnce seed players frames frame (received generated_map frame state (resent_in seed players frames frame))
-  pub waiting : (frames port frame : ℕ) → frame < frames
+  pub before : (frames port frame : ℕ) → frame < frames
       → last_before frames port frame ≡ frame - (frame + port + 2) % 3
-  pub all : (frames port : ℕ) → 1 ≤ frames → last_before frames port frames ≡ frames
+  pub each_once : (seed players frames port : ℕ) → 1 ≤ frames
+      → flat_map (λ frame. new_in seed players frames frame port) (range_with_len 0 frames)
+      ≡ commands_from seed players port 1 frames
