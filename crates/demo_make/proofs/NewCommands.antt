@@ -13,7 +13,7 @@ use Rattle.packet_read.specs.declared.packet.Packet.TheVariants.{Steps}
 use Rattle.packet_read.specs.Commands.{numbered, numbered_from, commands_of, first_seq}
 use Rattle.client_ports.specs.NewMoves.{new_among, numbers_in, last_in}
 use Rattle.demo_make.specs.ResentFrames.{command_in, how_many_in, last_commands, arrives}
-use Rattle.demo_make.specs.Repeating.{last_before, commands_from, new_in}
+use Rattle.demo_make.specs.Repeating.{last_before, commands_from, new_commands}
 use Rattle.demo_make.proofs.Repeats.{many-some, many-there, commands-length, repeat_of}
 use Rattle.demo_make.proofs.LastNumbers.{last-come, last-lost, last-low, last-high, last-all, last-grows-by}
 
@@ -70,7 +70,7 @@ some-new f last a (suc n) low high = elim (cases_lt last a) [
 -- those after the last that came before the frame
 pub packet-new : (seed players frames frame port : ℕ) → arrives frames frame port ≡ true
     → new_among (last_before frames port frame) (commands_of (Steps (repeat_of seed players frame port)))
-    ≡ new_in seed players frames frame port
+    ≡ new_commands seed players frames frame port
 packet-new seed players frames frame port come =
     let last = last_before frames port frame in
     let first = frame + 1 - how_many_in frame + 1 in
@@ -84,14 +84,14 @@ packet-new seed players frames frame port come =
     ∙ ap (commands_from seed players port (last + 1)) count
     ∙ ap (λ b. cond b (commands_from seed players port (last + 1) (frame + 1 - last)) []) (sym come)
 
-pub none-new : (seed players frames frame port : ℕ) → arrives frames frame port ≡ false → new_in seed players frames frame port ≡ []
+pub none-new : (seed players frames frame port : ℕ) → arrives frames frame port ≡ false → new_commands seed players frames frame port ≡ []
 none-new seed players frames frame port lost =
     let last = last_before frames port frame in
     ap (λ b. cond b (commands_from seed players port (last + 1) (frame + 1 - last)) []) lost
 
 -- there are one to three of them
 pub new-length : (seed players frames frame port : ℕ) → arrives frames frame port ≡ true
-    → length (new_in seed players frames frame port) ≡ frame + 1 - last_before frames port frame
+    → length (new_commands seed players frames frame port) ≡ frame + 1 - last_before frames port frame
 new-length seed players frames frame port come =
     let last = last_before frames port frame in
     ap (λ b. length (cond b (commands_from seed players port (last + 1) (frame + 1 - last)) [])) come
@@ -105,14 +105,14 @@ last-of-range f before a zero = omega arith
 last-of-range f before a (suc n) = last-of-range f a (a + 1) n ∙ (let e : a + 1 + n ≡ a + suc n = omega arith in e)
 
 pub new-last : (seed players frames frame port : ℕ)
-    → last_in (last_before frames port frame) (numbers_in (new_in seed players frames frame port)) ≡ last_before frames port (frame + 1)
+    → last_in (last_before frames port frame) (numbers_in (new_commands seed players frames frame port)) ≡ last_before frames port (frame + 1)
 new-last seed players frames frame port = by (arrives frames frame port) refl
   where
     last : ℕ
     last = last_before frames port frame
 
     by : (b : Bool) → arrives frames frame port ≡ b
-        → last_in (last_before frames port frame) (numbers_in (new_in seed players frames frame port)) ≡ last_before frames port (frame + 1)
+        → last_in (last_before frames port frame) (numbers_in (new_commands seed players frames frame port)) ≡ last_before frames port (frame + 1)
     by true come =
         let low = last-low frames port frame in
         let count : frame + 1 - last_before frames port frame ≡ suc (frame - last_before frames port frame) = omega (arith, low) in
@@ -128,11 +128,11 @@ new-last seed players frames frame port = by (arrives frames frame port) refl
 -- ---- all frames
 
 -- those of a frame are the ones from the last before it on, up to the last before the next one
-new-is : (seed players frames port frame : ℕ) → new_in seed players frames frame port
+new-is : (seed players frames port frame : ℕ) → new_commands seed players frames frame port
     ≡ commands_from seed players port (last_before frames port frame + 1) (last_before frames port (frame + 1) - last_before frames port frame)
 new-is seed players frames port frame = by (arrives frames frame port) refl
   where
-    by : (b : Bool) → arrives frames frame port ≡ b → new_in seed players frames frame port
+    by : (b : Bool) → arrives frames frame port ≡ b → new_commands seed players frames frame port
         ≡ commands_from seed players port (last_before frames port frame + 1) (last_before frames port (frame + 1) - last_before frames port frame)
     by true come =
         let last = last_before frames port frame in
@@ -156,7 +156,7 @@ commands-append seed players port a b (suc m) n at =
 
 -- the commands that come in these frames
 abbrev pub new_over : ℕ → ℕ → ℕ → ℕ → List ℕ → List MovePacket
-new_over seed players frames port numbers = flat_map (λ frame. new_in seed players frames frame port) numbers
+new_over seed players frames port numbers = flat_map (λ frame. new_commands seed players frames frame port) numbers
 
 some-frames : (seed players frames port a n : ℕ) → new_over seed players frames port (range_with_len a n)
     ≡ commands_from seed players port (last_before frames port a + 1) (last_before frames port (a + n) - last_before frames port a)
@@ -194,17 +194,17 @@ numbers-are : (f : ℕ → CmdBlock) (a n : ℕ) → numbers_in (map (λ m. numb
 numbers-are f a zero = refl
 numbers-are f a (suc n) = ap (λ ns. a ∷ ns) (numbers-are f (a + 1) n)
 
-numbers-over : (seed players frames port : ℕ) (numbers : List ℕ) → flat_map (λ frame. numbers_in (new_in seed players frames frame port)) numbers
+numbers-over : (seed players frames port : ℕ) (numbers : List ℕ) → flat_map (λ frame. numbers_in (new_commands seed players frames frame port)) numbers
     ≡ numbers_in (new_over seed players frames port numbers)
 numbers-over seed players frames port [] = refl
 numbers-over seed players frames port (frame ∷ numbers) =
-    let here = new_in seed players frames frame port in
+    let here = new_commands seed players frames frame port in
     ap (λ ns. numbers_in here ++ ns) (numbers-over seed players frames port numbers)
     ∙ sym (map-append (λ (m : MovePacket). m.seq) here (new_over seed players frames port numbers))
 
 -- each number comes once
 pub numbers-once : (seed players frames port : ℕ) → 1 ≤ frames
-    → flat_map (λ frame. numbers_in (new_in seed players frames frame port)) (range_with_len 0 frames) ≡ range_with_len 1 frames
+    → flat_map (λ frame. numbers_in (new_commands seed players frames frame port)) (range_with_len 0 frames) ≡ range_with_len 1 frames
 numbers-once seed players frames port some =
     numbers-over seed players frames port (range_with_len 0 frames) ∙ ap numbers_in (each-once seed players frames port some)
     ∙ numbers-are (command_in seed players port) 1 frames

@@ -28,7 +28,7 @@ use Rattle.demo_make.specs.GeneratedMap.{generated_map}
 use Rattle.demo_make.specs.GeneratedFrames.{join_from, ports}
 use Rattle.demo_make.specs.ResentFrames.{repeat_from, arrives, repeats_in, resent_in}
 use Rattle.demo_make.specs.Accepting.{ArePlaying, ArePlayingUpTo, AreClearOfSpawns}
-use Rattle.demo_make.specs.Repeating.{last_before, new_in, moves_of, joined_as, joined_in, ComeOnce, CommandsArriveOnce}
+use Rattle.demo_make.specs.Repeating.{last_before, new_commands, moves_of, joined_as, joined_in, OnlyNewAreAccepted, CommandsArriveOnce}
 use Rattle.demo_make.proofs.FramesKept.{no-joins}
 use Rattle.demo_make.proofs.Joining.{AreJoined}
 use Rattle.demo_make.proofs.Accepted.{after_arrivals-append, joins-run, some-same, finished-length}
@@ -135,7 +135,7 @@ module _ (seed players frames frame : ℕ) (few : players ≤ 64) (small : frame
   last slot = last_before frames (slot + 1) frame
 
   abbrev new : ℕ → List MovePacket
-  new slot = new_in seed players frames frame (slot + 1)
+  new slot = new_commands seed players frames frame (slot + 1)
 
   -- the commands of a slot
   abbrev given : ℕ → List Command
@@ -280,7 +280,7 @@ module _ (seed players frames frame : ℕ) (few : players ≤ 64) (small : frame
 
   come-once : (r : Receiving) (place : ℕ) → AreHeard players last new 0 r.state.clients → r.lists.refused ≡ [] → r.lists.joined ≡ joined_in players frame
       → r.lists.moves ≡ []
-      → ComeOnce seed players frames frame (after_arrivals generated_map frame r place (repeats_in seed players frames frame))
+      → OnlyNewAreAccepted seed players frames frame (after_arrivals generated_map frame r place (repeats_in seed players frames frame))
   come-once r place are none joined no_moves =
       let all : 0 + players ≡ players = omega arith in
       let run = heard-run 0 players r place are all in
@@ -296,7 +296,7 @@ module _ (seed players frames frame : ℕ) (few : players ≤ 64) (small : frame
       }
 
 first-frame : (seed players frames : ℕ) (state : State) → players ≤ 64 → ArePlaying 0 0 state.clients → length state.records ≡ 256
-    → AreClearOfSpawns state.records → ComeOnce seed players frames 0 (received generated_map 0 state (resent_in seed players frames 0))
+    → AreClearOfSpawns state.records → OnlyNewAreAccepted seed players frames 0 (received generated_map 0 state (resent_in seed players frames 0))
 unfolding received
 first-frame seed players frames state few nobody many clear =
     let start = receiving_of state no_lists in
@@ -320,12 +320,12 @@ first-frame seed players frames state few nobody many clear =
       waiting = λ slot _ below. are.joined slot below;
       free = are.free;
     } in
-    subst (ComeOnce seed players frames 0) (sym (after_arrivals-append generated_map 0 start 0 joins (repeats_in seed players frames 0)))
+    subst (OnlyNewAreAccepted seed players frames 0) (sym (after_arrivals-append generated_map 0 start 0 joins (repeats_in seed players frames 0)))
     (come-once seed players frames 0 few (lit< tt) after (0 + length joins) waiting run.lists.refused run.lists.joined run.lists.moves)
 
 later-frame : (seed players frames frame : ℕ) (state : State) → players ≤ 64 → 0 < frame → frame + 1 < 2 ^ 32
     → ArePlayingUpTo players (λ slot. last_before frames (slot + 1) frame) state.clients → length state.records ≡ 256
-    → ComeOnce seed players frames frame (received generated_map frame state (resent_in seed players frames frame))
+    → OnlyNewAreAccepted seed players frames frame (received generated_map frame state (resent_in seed players frames frame))
 unfolding received
 later-frame seed players frames frame state few later small playing many =
     let start = receiving_of state no_lists in
@@ -337,7 +337,7 @@ later-frame seed players frames frame state few later small playing many =
     } in
     let not_first : eqb frame 0 ≡ false = grind (arith, nat_tests) in
     let joined = ap (λ b. cond b (map joined_as (range_with_len 0 players)) []) not_first in
-    subst (λ js. ComeOnce seed players frames frame (after_arrivals generated_map frame start 0 (js ++ repeats_in seed players frames frame)))
+    subst (λ js. OnlyNewAreAccepted seed players frames frame (after_arrivals generated_map frame start 0 (js ++ repeats_in seed players frames frame)))
     (sym (no-joins players frame later))
     (come-once seed players frames frame few small start 0 waiting refl (sym joined) refl)
 

@@ -22,7 +22,7 @@ use Rattle.demo_make.specs.GeneratedMap.{generated_map}
 use Rattle.demo_make.specs.GeneratedFrames.{IsInRange}
 use Rattle.demo_make.specs.ResentFrames.{resent_in, resent_frames, resent_events, resent_text}
 use Rattle.demo_make.specs.Accepting.{ArePlayingUpTo}
-use Rattle.demo_make.specs.Repeating.{last_before, new_in, ComeOnce}
+use Rattle.demo_make.specs.Repeating.{last_before, new_commands, OnlyNewAreAccepted}
 use Rattle.demo_make.proofs.Clear.{spawns_are_clear}
 use Rattle.demo_make.proofs.NewCommands.{numbers-once}
 use Rattle.demo_make.proofs.MapKept.{generated_is_map}
@@ -52,7 +52,7 @@ record IsUpTo (players frames frame : ℕ) (state : State) : Type 0 where
 
 -- the numbers of a slot's commands that come in a frame
 abbrev numbers_at : ℕ → ℕ → ℕ → ℕ → ℕ → List ℕ
-numbers_at seed players frames slot frame = numbers_in (new_in seed players frames frame (slot + 1))
+numbers_at seed players frames slot frame = numbers_in (new_commands seed players frames frame (slot + 1))
 
 -- a frame of which nothing is refused, with a right journal
 record IsKept (seed players frames frame : ℕ) (r : Receiving) (j : List Entry) : Type 0 where
@@ -66,7 +66,7 @@ sent-are frame slot [] = refl
 sent-are frame slot (m ∷ ms) = ap (λ ns. m.seq ∷ ns) (sent-are frame slot ms)
 
 frame-kept : (seed players frames frame : ℕ) (state : State) (arrivals : List Arrival) (j : List Entry) → IsServerState generated_map state
-    → ComeOnce seed players frames frame (received_in generated_map frame state arrivals) → IsRightAfter generated_map (received_in generated_map frame state arrivals) j
+    → OnlyNewAreAccepted seed players frames frame (received_in generated_map frame state arrivals) → IsRightAfter generated_map (received_in generated_map frame state arrivals) j
     → IsKept seed players frames frame (received_in generated_map frame state arrivals) j
 frame-kept seed players frames frame state arrivals j is come right =
     let r = received_in generated_map frame state arrivals in
@@ -76,7 +76,7 @@ frame-kept seed players frames frame state arrivals j is come right =
     record {
       refused = come.refused;
       each = λ slot below.
-          right.merge.each slot ∙ ap seqs (come.moves slot below) ∙ sent-are frame slot (new_in seed players frames frame (slot + 1));
+          right.merge.each slot ∙ ap seqs (come.moves slot below) ∙ sent-are frame slot (new_commands seed players frames frame (slot + 1));
       others = λ slot above. right.merge.each slot ∙ ap seqs (come.others slot above);
       next = record {
         playing = come.plays_on (moved_by generated_map r j).records moved.places;

@@ -49,8 +49,8 @@ pub record LosesNoCommand (players frames : ℕ) (text : List ℕ) : Type 0 wher
   pub refused : HasNoRefusal text
   pub commands : HasEachCommandOnce players frames (dids text)
 
--- of a resent recording no command is lost, although two packets of three are: whichever right journals its frames have,
--- and in each output of its text, for every number of workers
+-- of a resent recording no command is lost, although two packets of three are: in whichever right journals its frames
+-- have, and in each output of its text, for every number of workers
 pub record LostPacketsLoseNoCommand : Type 0 where
   pub right : (seed players frames : ℕ) (journals : List (List Entry)) → IsInRange players frames
       → AreRight generated_map 0 (opening generated_map) (resent_frames seed players frames) journals
