@@ -157,6 +157,7 @@ module _ (seed players frames frame : ℕ) where
   abbrev heard_in : ℕ → Receiving → Receiving
   heard_in slot r = receiving_of (with_update r.state (mover slot (last slot) (new slot))) (with_moves r.lists (given slot))
 
+  -- a packet that arrives is answered: the next player is joined, and has new commands
   repeat-answered : (heard : ℕ) (clients : List (Option Client)) → Heard heard clients → heard < players
       → arrives frames frame (heard + 1) ≡ true
       → move_answer clients (heard + 1) (commands_of (Steps (repeat_of seed players frame (heard + 1)))) ≡ Ok (waiter heard (last heard))
@@ -170,6 +171,7 @@ module _ (seed players frames frame : ℕ) where
       rw there (rw (are.waiting heard (omega arith) below)
       (new-accepted heard (last heard) (length (new_among (last heard) (commands_of (Steps (repeat_of seed players frame (heard + 1)))))) (omega (arith, count, low)) (omega (arith, count, high))))
 
+  -- and its new commands are accepted
   repeat-accepted : (heard : ℕ) (r : Receiving) (place : ℕ) → Heard heard r.state.clients → heard < players → frame + 1 < 2 ^ 32
       → arrives frames frame (heard + 1) ≡ true
       → after_arrival generated_map frame r place (repeat_from seed players frame (heard + 1)) ≡ heard_in heard r
@@ -180,6 +182,7 @@ module _ (seed players frames frame : ℕ) where
       ∙ ap (λ ms. receiving_of (with_update r.state (moved (waiter heard (last heard)) ms)) (with_moves r.lists (map (command_in frame heard) ms)))
       (packet-new seed players frames frame (heard + 1) come)
 
+  -- so are those of the players after it, one after another; nothing comes of a packet that is lost
   heard-run : (heard n : ℕ) (r : Receiving) (place : ℕ) → Heard heard r.state.clients → heard + n ≡ players → players ≤ 64
       → frame + 1 < 2 ^ 32
       → AfterHeard heard n r
@@ -236,12 +239,14 @@ module _ (seed players frames frame : ℕ) where
 
   -- ---- the moves of each
 
+  -- all moves of a slot are its own
   own-moves : (slot : ℕ) (ms : List MovePacket) → moves_of slot (map (command_in frame slot) ms) ≡ map (command_in frame slot) ms
   own-moves slot [] = refl
   own-moves slot (m ∷ ms) =
       let same : eqb slot slot ≡ true = eq-eqb slot slot refl in
       rw same (ap (λ cs. command_in frame slot m ∷ cs) (own-moves slot ms))
 
+  -- and none of another
   other-moves : (slot other : ℕ) (ms : List MovePacket) → (other ≡ slot → ⊥) → moves_of slot (map (command_in frame other) ms) ≡ []
   other-moves slot other [] apart = refl
   other-moves slot other (m ∷ ms) apart = let differ : eqb other slot ≡ false = ne_eqb other slot apart in rw differ (other-moves slot other ms apart)
@@ -255,6 +260,7 @@ module _ (seed players frames frame : ℕ) where
       filter-append (λ c. eqb c.slot slot) (given a) (flat_map given (range_with_len (a + 1) n))
       ∙ ap (λ cs. cs ++ moves_of slot (flat_map given (range_with_len (a + 1) n))) first ∙ rest
 
+  -- so among those of all players a slot has its own
   slot-moves : (slot a n : ℕ) → a ≤ slot → slot < a + n → moves_of slot (flat_map given (range_with_len a n)) ≡ given slot
   slot-moves slot a zero low high = absurd (omega arith)
   slot-moves slot a (suc n) low high =
@@ -272,6 +278,7 @@ module _ (seed players frames frame : ℕ) where
 
   -- ---- a frame
 
+  -- the players go on, with the last number that came
   plays-on : (state : State) (records : List (Option Rec)) → Heard players state.clients → length records ≡ 256
       → ArePlayingUpTo players (λ slot. last_before frames (slot + 1) (frame + 1)) (finished (state_of state.clients records)).clients
   plays-on state records are many = record {
@@ -282,6 +289,7 @@ module _ (seed players frames frame : ℕ) where
     free = λ slot above. (leavers_out (state_of state.clients records) are.slots many slot).0 ∙ ap finished_client (are.free slot above);
   }
 
+  -- after the joins, if there are any
   come-once : (r : Receiving) (place : ℕ) → Heard 0 r.state.clients → players ≤ 64 → frame + 1 < 2 ^ 32 → r.lists.refused ≡ [] → r.lists.joined ≡ joined_in players frame
       → r.lists.moves ≡ []
       → OnlyNewAreAccepted seed players frames frame (after_arrivals generated_map frame r place (repeats_in seed players frames frame))
