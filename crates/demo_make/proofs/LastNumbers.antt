@@ -1,18 +1,9 @@
--- Which commands had come before a frame, and which are new in a packet.
-use Rattle.std.proofs.Common.{◌≡◌, ℕ, zero, suc, ◌+◌, ◌-◌, ◌%◌, ◌≤◌, ◌<◌, Bool, true, false, eqb, cond, ◌||◌, [], ◌∷◌, length, map, refl, sym, ap, ◌∙◌, inl, inr, arith}
-use Rattle.std.specs.Prelude.{nat_lt}
-use Rattle.std.specs.List.{range_with_len}
-use Rattle.std.proofs.Math.Nat.{le-min}
-use Rattle.std.proofs.lemmas.Bool.{cases_lt, or_parts}
+-- The number of the newest command that came before a frame.
+use Rattle.std.proofs.Common.{◌≡◌, ℕ, zero, suc, ◌+◌, ◌-◌, ◌%◌, ◌≤◌, ◌<◌, Bool, true, false, eqb, cond, ◌||◌, refl, ap, ◌∙◌, subst, arith}
+use Rattle.std.proofs.lemmas.Bool.{or_parts}
 use Rattle.std.proofs.lemmas.Bool.Decides.{nat_tests}
-use Rattle.std.proofs.lemmas.List.FromFn.{length-map-range_with_len}
-use Rattle.packet_read.specs.declared.block_list.CmdBlock.{CmdBlock}
-use Rattle.packet_read.specs.declared.packet.Packet.TheVariants.{Steps}
-use Rattle.packet_read.specs.Commands.{numbered, numbered_from, commands_of, first_seq}
-use Rattle.client_ports.specs.NewMoves.{new_among, numbers_in, last_in}
-use Rattle.demo_make.specs.ResentFrames.{command_in, how_many_in, last_commands, arrives}
-use Rattle.demo_make.specs.Repeating.{last_before, commands_from, new_in}
-use Rattle.demo_make.proofs.Repeats.{many-some, many-there, commands-length, repeat_of}
+use Rattle.demo_make.specs.ResentFrames.{arrives}
+use Rattle.demo_make.specs.Repeating.{last_before}
 
 -- ---- the last number before a frame
 
@@ -96,140 +87,10 @@ last-all (suc n) port some =
     let e : n + 1 ≡ suc n = omega arith in
     ap (λ b. cond b (n + 1) (last_before (suc n) port n)) come ∙ e
 
--- ---- the commands of a packet
-
--- commands of a range, with their numbers
-numbered-range : (f : ℕ → CmdBlock) (a n : ℕ)
-    → numbered_from (a + 1) (map f (range_with_len a n)) ≡ map (λ m. numbered m (f (m - 1))) (range_with_len (a + 1) n)
-numbered-range f a zero = refl
-numbered-range f a (suc n) =
-    let e : a ≡ a + 1 - 1 = omega arith in
-    ap (λ k. numbered (a + 1) (f k) ∷ numbered_from (a + 1 + 1) (map f (range_with_len (a + 1) n))) e
-    ∙ ap (λ ms. numbered (a + 1) (f (a + 1 - 1)) ∷ ms) (numbered-range f (a + 1) n)
-
-packet-commands : (seed players frame port : ℕ) → commands_of (Steps (repeat_of seed players frame port))
-    ≡ commands_from seed players port (frame + 1 - how_many_in frame + 1) (how_many_in frame)
-packet-commands seed players frame port =
-    let first = frame + 1 - how_many_in frame in
-    let cmds = last_commands seed players frame port in
-    let e : first_seq (repeat_of seed players frame port) ≡ first + 1 =
-    omega (arith, commands-length seed players frame port, many-some frame, many-there frame) in
-    ap (λ n. numbered_from n cmds) e ∙ numbered-range (command_in seed players port) first (how_many_in frame)
-
--- ---- which of them are new
-
-all-new : (f : ℕ → CmdBlock) (last a n : ℕ) → last < a
-    → let moves = map (λ m. numbered m (f (m - 1))) (range_with_len a n) in new_among last moves ≡ moves
-all-new f last a zero above = refl
-all-new f last a (suc n) above =
-    let new : nat_lt last a ≡ true = grind (arith, nat_tests) in
-    let rest = all-new f last (a + 1) n (omega arith) in
-    rw new (ap (λ ms. numbered a (f (a - 1)) ∷ ms) rest)
-
-some-new : (f : ℕ → CmdBlock) (last a n : ℕ) → a ≤ last + 1 → last + 1 ≤ a + n
-    → new_among last (map (λ m. numbered m (f (m - 1))) (range_with_len a n))
-    ≡ map (λ m. numbered m (f (m - 1))) (range_with_len (last + 1) (a + n - (last + 1)))
-some-new f last a zero low high =
-    let none : 0 ≡ a + 0 - (last + 1) = omega arith in
-    ap (λ k. map (λ m. numbered m (f (m - 1))) (range_with_len (last + 1) k)) none
-some-new f last a (suc n) low high = elim (cases_lt last a) [
-  | inl above ↦
-      let first : a ≡ last + 1 = omega arith in
-      let count : suc n ≡ a + suc n - (last + 1) = omega arith in
-      all-new f last a (suc n) above
-      ∙ ap (λ k. map (λ m. numbered m (f (m - 1))) (range_with_len k (suc n))) first
-      ∙ ap (λ k. map (λ m. numbered m (f (m - 1))) (range_with_len (last + 1) k)) count
-  | inr below ↦
-      let old : nat_lt last a ≡ false = grind (arith, nat_tests) in
-      let count : a + 1 + n - (last + 1) ≡ a + suc n - (last + 1) = omega arith in
-      rw old (some-new f last (a + 1) n (omega arith) (omega arith)
-      ∙ ap (λ k. map (λ m. numbered m (f (m - 1))) (range_with_len (last + 1) k)) count)
-]
-
--- those after the last that came before the frame
-pub packet-new : (seed players frames frame port : ℕ) → arrives frames frame port ≡ true
-    → new_among (last_before frames port frame) (commands_of (Steps (repeat_of seed players frame port)))
-    ≡ new_in seed players frames frame port
-packet-new seed players frames frame port come =
-    let last = last_before frames port frame in
-    let first = frame + 1 - how_many_in frame + 1 in
-    let low = last-low frames port frame in
-    let high = last-high frames port frame in
-    let there = many-there frame in
-    let wide : frame + 1 - last ≤ how_many_in frame = le-min (omega (arith, high)) (omega arith) in
-    let count : first + how_many_in frame - (last + 1) ≡ frame + 1 - last = omega (arith, there) in
-    ap (new_among last) (packet-commands seed players frame port)
-    ∙ some-new (command_in seed players port) last first (how_many_in frame) (omega (arith, wide)) (omega (arith, there, low))
-    ∙ ap (commands_from seed players port (last + 1)) count
-    ∙ ap (λ b. cond b (commands_from seed players port (last + 1) (frame + 1 - last)) []) (sym come)
-
-pub none-new : (seed players frames frame port : ℕ) → arrives frames frame port ≡ false → new_in seed players frames frame port ≡ []
-none-new seed players frames frame port lost =
-    let last = last_before frames port frame in
-    ap (λ b. cond b (commands_from seed players port (last + 1) (frame + 1 - last)) []) lost
-
--- there are one to three of them
-pub new-length : (seed players frames frame port : ℕ) → arrives frames frame port ≡ true
-    → length (new_in seed players frames frame port) ≡ frame + 1 - last_before frames port frame
-new-length seed players frames frame port come =
-    let last = last_before frames port frame in
-    ap (λ b. length (cond b (commands_from seed players port (last + 1) (frame + 1 - last)) [])) come
-    ∙ length-map-range_with_len (λ n. numbered n (command_in seed players port (n - 1))) (last + 1) (frame + 1 - last)
-
--- ---- the last of them
-
-last-of-range : (f : ℕ → CmdBlock) (before a n : ℕ)
-    → last_in before (numbers_in (map (λ m. numbered m (f (m - 1))) (range_with_len a (suc n)))) ≡ a + n
-last-of-range f before a zero = omega arith
-last-of-range f before a (suc n) = last-of-range f a (a + 1) n ∙ (let e : a + 1 + n ≡ a + suc n = omega arith in e)
-
-pub new-last : (seed players frames frame port : ℕ)
-    → last_in (last_before frames port frame) (numbers_in (new_in seed players frames frame port)) ≡ last_before frames port (frame + 1)
-new-last seed players frames frame port = by (arrives frames frame port) refl
-  where
-    last : ℕ
-    last = last_before frames port frame
-
-    by : (b : Bool) → arrives frames frame port ≡ b
-        → last_in (last_before frames port frame) (numbers_in (new_in seed players frames frame port)) ≡ last_before frames port (frame + 1)
-    by true come =
-        let low = last-low frames port frame in
-        let count : frame + 1 - last_before frames port frame ≡ suc (frame - last_before frames port frame) = omega (arith, low) in
-        let all : last_before frames port frame + 1 + (frame - last_before frames port frame) ≡ frame + 1 = omega (arith, low) in
-        ap (λ b. last_in (last_before frames port frame) (numbers_in (cond b (commands_from seed players port (last_before frames port frame + 1) (frame + 1 - last_before frames port frame)) []))) come
-        ∙ ap (λ n. last_in (last_before frames port frame) (numbers_in (commands_from seed players port (last_before frames port frame + 1) n))) count
-        ∙ last-of-range (command_in seed players port) (last_before frames port frame) (last_before frames port frame + 1) (frame - last_before frames port frame)
-        ∙ all ∙ sym (last-come frames port frame come)
-    by false lost =
-        ap (λ ms. last_in (last_before frames port frame) (numbers_in ms)) (none-new seed players frames frame port lost)
-        ∙ sym (last-lost frames port frame lost)
-
--- the numbers of those that come in a frame: from the last before it on, up to the last before the next one
-pub new-numbers : (seed players frames frame port : ℕ) → numbers_in (new_in seed players frames frame port)
-    ≡ range_with_len (last_before frames port frame + 1) (last_before frames port (frame + 1) - last_before frames port frame)
-new-numbers seed players frames frame port = by (arrives frames frame port) refl
-  where
-    of-range : (f : ℕ → CmdBlock) (a n : ℕ) → numbers_in (map (λ m. numbered m (f (m - 1))) (range_with_len a n)) ≡ range_with_len a n
-    of-range f a zero = refl
-    of-range f a (suc n) = ap (λ ns. a ∷ ns) (of-range f (a + 1) n)
-
-    by : (b : Bool) → arrives frames frame port ≡ b
-        → numbers_in (new_in seed players frames frame port)
-        ≡ range_with_len (last_before frames port frame + 1) (last_before frames port (frame + 1) - last_before frames port frame)
-    by true come =
-        let last = last_before frames port frame in
-        ap (λ b. numbers_in (cond b (commands_from seed players port (last + 1) (frame + 1 - last)) [])) come
-        ∙ of-range (command_in seed players port) (last + 1) (frame + 1 - last)
-        ∙ ap (λ n. range_with_len (last + 1) (n - last)) (sym (last-come frames port frame come))
-    by false lost =
-        let last = last_before frames port frame in
-        let none : 0 ≡ last_before frames port (frame + 1) - last = let same = last-lost frames port frame lost in omega (arith, same) in
-        ap numbers_in (none-new seed players frames frame port lost) ∙ ap (range_with_len (last + 1)) none
-
 -- ---- from frame to frame
 
 -- the last number never falls
-pub last-grows : (frames port frame : ℕ) → last_before frames port frame ≤ last_before frames port (frame + 1)
+last-grows : (frames port frame : ℕ) → last_before frames port frame ≤ last_before frames port (frame + 1)
 last-grows frames port frame = by (arrives frames frame port) refl
   where
     by : (b : Bool) → arrives frames frame port ≡ b → last_before frames port frame ≤ last_before frames port (frame + 1)
@@ -238,3 +99,13 @@ last-grows frames port frame = by (arrives frames frame port) refl
         let next = last-come frames port frame come in
         omega (arith, low, next)
     by false lost = let next = last-lost frames port frame lost in omega (arith, next)
+
+pub last-grows-by : (frames port frame n : ℕ) → last_before frames port frame ≤ last_before frames port (frame + n)
+last-grows-by frames port frame zero =
+    let e : frame ≡ frame + 0 = omega arith in
+    subst (λ k. last_before frames port frame ≤ last_before frames port k) e (omega arith)
+last-grows-by frames port frame (suc n) =
+    let e : frame + n + 1 ≡ frame + suc n = omega arith in
+    let more = last-grows-by frames port frame n in
+    let next = last-grows frames port (frame + n) in
+    subst (λ k. last_before frames port frame ≤ last_before frames port k) e (omega (arith, more, next))

@@ -12,6 +12,7 @@ pub mod ResentKept
 pub mod Joining
 pub mod Accepted
 pub mod LastNumbers
+pub mod NewCommands
 pub mod Repeated
 pub mod Clear
 pub mod Building

@@ -28,12 +28,13 @@ use Rattle.demo_make.specs.GeneratedMap.{generated_map}
 use Rattle.demo_make.specs.GeneratedFrames.{join_from, ports}
 use Rattle.demo_make.specs.ResentFrames.{repeat_from, arrives, repeats_in, resent_in}
 use Rattle.demo_make.specs.Accepting.{ArePlaying, ArePlayingUpTo, AreClearOfSpawns}
-use Rattle.demo_make.specs.Repeating.{last_before, new_in, moves_of, joined_as, joined_in, ComeOnce, CommandsArriveOnce}
+use Rattle.demo_make.specs.Repeating.{last_before, new_commands, moves_of, joined_as, joined_in, OnlyNewAreAccepted, CommandsArriveOnce}
 use Rattle.demo_make.proofs.FramesKept.{no-joins}
 use Rattle.demo_make.proofs.Joining.{AreJoined}
 use Rattle.demo_make.proofs.Accepted.{after_arrivals-append, joins-run, some-same, finished-length}
 use Rattle.demo_make.proofs.Repeats.{repeat_of, repeat-read}
-use Rattle.demo_make.proofs.LastNumbers.{last-low, last-high, last-is, last-all, packet-new, none-new, new-length, new-last}
+use Rattle.demo_make.proofs.LastNumbers.{last-low, last-high, last-is}
+use Rattle.demo_make.proofs.NewCommands.{packet-new, none-new, new-length, new-last, each-once}
 
 -- ---- who was heard
 
@@ -128,13 +129,16 @@ new-accepted slot last new some few =
 
 -- ---- the packets of a frame
 
-module _ (seed players frames frame : ℕ) (few : players ≤ 64) (small : frame + 1 < 2 ^ 32) where
+module _ (seed players frames frame : ℕ) where
   -- the last number of a slot before the frame, and its new commands
   abbrev last : ℕ → ℕ
   last slot = last_before frames (slot + 1) frame
 
   abbrev new : ℕ → List MovePacket
-  new slot = new_in seed players frames frame (slot + 1)
+  new slot = new_commands seed players frames frame (slot + 1)
+
+  abbrev Heard : ℕ → List (Option Client) → Type 0
+  Heard heard clients = AreHeard players last new heard clients
 
   -- the commands of a slot
   abbrev given : ℕ → List Command
@@ -147,13 +151,14 @@ module _ (seed players frames frame : ℕ) (few : players ≤ 64) (small : frame
     moves : next.lists.moves ≡ r.lists.moves ++ flat_map given (range_with_len heard more)
 
   record AfterHeard (heard more : ℕ) (r next : Receiving) : Type 0 where
-    clients : AreHeard players last new (heard + more) next.state.clients
+    clients : Heard (heard + more) next.state.clients
     lists : HasHeard heard more r next
 
   abbrev heard_in : ℕ → Receiving → Receiving
   heard_in slot r = receiving_of (with_update r.state (mover slot (last slot) (new slot))) (with_moves r.lists (given slot))
 
-  repeat-answered : (heard : ℕ) (clients : List (Option Client)) → AreHeard players last new heard clients → heard < players
+  -- a packet that arrives is answered: the next player is joined, and has new commands
+  repeat-answered : (heard : ℕ) (clients : List (Option Client)) → Heard heard clients → heard < players
       → arrives frames frame (heard + 1) ≡ true
       → move_answer clients (heard + 1) (commands_of (Steps (repeat_of seed players frame (heard + 1)))) ≡ Ok (waiter heard (last heard))
   repeat-answered heard clients are below come =
@@ -166,27 +171,30 @@ module _ (seed players frames frame : ℕ) (few : players ≤ 64) (small : frame
       rw there (rw (are.waiting heard (omega arith) below)
       (new-accepted heard (last heard) (length (new_among (last heard) (commands_of (Steps (repeat_of seed players frame (heard + 1)))))) (omega (arith, count, low)) (omega (arith, count, high))))
 
-  repeat-accepted : (heard : ℕ) (r : Receiving) (place : ℕ) → AreHeard players last new heard r.state.clients → heard < players
+  -- and its new commands are accepted
+  repeat-accepted : (heard : ℕ) (r : Receiving) (place : ℕ) → Heard heard r.state.clients → heard < players → frame + 1 < 2 ^ 32
       → arrives frames frame (heard + 1) ≡ true
       → after_arrival generated_map frame r place (repeat_from seed players frame (heard + 1)) ≡ heard_in heard r
-  repeat-accepted heard r place are below come =
+  repeat-accepted heard r place are below small come =
       let steps = commands_of (Steps (repeat_of seed players frame (heard + 1))) in
       ap (λ packet. after_packet generated_map frame packet r place (heard + 1)) (repeat-read seed players frame (heard + 1) small)
       ∙ ap (λ answer. after_move answer frame steps r place) (repeat-answered heard r.state.clients are below come)
       ∙ ap (λ ms. receiving_of (with_update r.state (moved (waiter heard (last heard)) ms)) (with_moves r.lists (map (command_in frame heard) ms)))
       (packet-new seed players frames frame (heard + 1) come)
 
-  heard-run : (heard n : ℕ) (r : Receiving) (place : ℕ) → AreHeard players last new heard r.state.clients → heard + n ≡ players
+  -- so are those of the players after it, one after another; nothing comes of a packet that is lost
+  heard-run : (heard n : ℕ) (r : Receiving) (place : ℕ) → Heard heard r.state.clients → heard + n ≡ players → players ≤ 64
+      → frame + 1 < 2 ^ 32
       → AfterHeard heard n r
       (after_arrivals generated_map frame r place (map (repeat_from seed players frame) (filter (arrives frames frame) (range_with_len (heard + 1) n))))
-  heard-run heard zero r place are all =
+  heard-run heard zero r place are all few small =
       let e : heard + 0 ≡ heard = omega arith in
       record {
-        clients = subst (λ j. AreHeard players last new j r.state.clients) (sym e) are;
+        clients = subst (λ j. Heard j r.state.clients) (sym e) are;
         lists = record { refused = refl; joined = refl; moves = sym (append-nil r.lists.moves) };
       }
-  heard-run heard (suc n) r place are all =
-      by (arrives frames frame (heard + 1)) refl (λ s at of. heard-run (heard + 1) n s at of (omega (arith, all)))
+  heard-run heard (suc n) r place are all few small =
+      by (arrives frames frame (heard + 1)) refl (λ s at of. heard-run (heard + 1) n s at of (omega (arith, all)) few small)
     where
       others : List ℕ
       others = filter (arrives frames frame) (range_with_len (heard + 1 + 1) n)
@@ -198,18 +206,18 @@ module _ (seed players frames frame : ℕ) (few : players ≤ 64) (small : frame
       e = omega arith
 
       by : (b : Bool) → arrives frames frame (heard + 1) ≡ b
-          → ((s : Receiving) (at : ℕ) → AreHeard players last new (heard + 1) s.state.clients
+          → ((s : Receiving) (at : ℕ) → Heard (heard + 1) s.state.clients
           → AfterHeard (heard + 1) n s (after_arrivals generated_map frame s at (map (repeat_from seed players frame) others)))
           → AfterHeard heard (suc n) r
           (after_arrivals generated_map frame r place (map (repeat_from seed players frame) (cond b ((heard + 1) ∷ others) others)))
       by true come run =
           let next = heard_in heard r in
-          let first = repeat-accepted heard r place are (omega (arith, all)) come in
+          let first = repeat-accepted heard r place are (omega (arith, all)) small come in
           let rest = run next (place + 1) (heard-next players last new heard r.state.clients are (omega (arith, all)) few) in
           let after = after_arrivals generated_map frame next (place + 1) (map (repeat_from seed players frame) others) in
           subst (λ s. AfterHeard heard (suc n) r (after_arrivals generated_map frame s (place + 1) (map (repeat_from seed players frame) others))) (sym first)
           (record {
-            clients = subst (λ j. AreHeard players last new j after.state.clients) e rest.clients;
+            clients = subst (λ j. Heard j after.state.clients) e rest.clients;
             lists = record {
               refused = rest.lists.refused;
               joined = rest.lists.joined;
@@ -221,7 +229,7 @@ module _ (seed players frames frame : ℕ) (few : players ≤ 64) (small : frame
           let rest = run r place (heard-none players last new heard r.state.clients are (omega (arith, all)) none) in
           let after = after_arrivals generated_map frame r place (map (repeat_from seed players frame) others) in
           record {
-            clients = subst (λ j. AreHeard players last new j after.state.clients) e rest.clients;
+            clients = subst (λ j. Heard j after.state.clients) e rest.clients;
             lists = record {
               refused = rest.lists.refused;
               joined = rest.lists.joined;
@@ -231,12 +239,14 @@ module _ (seed players frames frame : ℕ) (few : players ≤ 64) (small : frame
 
   -- ---- the moves of each
 
+  -- all moves of a slot are its own
   own-moves : (slot : ℕ) (ms : List MovePacket) → moves_of slot (map (command_in frame slot) ms) ≡ map (command_in frame slot) ms
   own-moves slot [] = refl
   own-moves slot (m ∷ ms) =
       let same : eqb slot slot ≡ true = eq-eqb slot slot refl in
       rw same (ap (λ cs. command_in frame slot m ∷ cs) (own-moves slot ms))
 
+  -- and none of another
   other-moves : (slot other : ℕ) (ms : List MovePacket) → (other ≡ slot → ⊥) → moves_of slot (map (command_in frame other) ms) ≡ []
   other-moves slot other [] apart = refl
   other-moves slot other (m ∷ ms) apart = let differ : eqb other slot ≡ false = ne_eqb other slot apart in rw differ (other-moves slot other ms apart)
@@ -250,6 +260,7 @@ module _ (seed players frames frame : ℕ) (few : players ≤ 64) (small : frame
       filter-append (λ c. eqb c.slot slot) (given a) (flat_map given (range_with_len (a + 1) n))
       ∙ ap (λ cs. cs ++ moves_of slot (flat_map given (range_with_len (a + 1) n))) first ∙ rest
 
+  -- so among those of all players a slot has its own
   slot-moves : (slot a n : ℕ) → a ≤ slot → slot < a + n → moves_of slot (flat_map given (range_with_len a n)) ≡ given slot
   slot-moves slot a zero low high = absurd (omega arith)
   slot-moves slot a (suc n) low high =
@@ -267,7 +278,8 @@ module _ (seed players frames frame : ℕ) (few : players ≤ 64) (small : frame
 
   -- ---- a frame
 
-  plays-on : (state : State) (records : List (Option Rec)) → AreHeard players last new players state.clients → length records ≡ 256
+  -- the players go on, with the last number that came
+  plays-on : (state : State) (records : List (Option Rec)) → Heard players state.clients → length records ≡ 256
       → ArePlayingUpTo players (λ slot. last_before frames (slot + 1) (frame + 1)) (finished (state_of state.clients records)).clients
   plays-on state records are many = record {
     slots = finished-length (state_of state.clients records) ∙ are.slots;
@@ -277,12 +289,13 @@ module _ (seed players frames frame : ℕ) (few : players ≤ 64) (small : frame
     free = λ slot above. (leavers_out (state_of state.clients records) are.slots many slot).0 ∙ ap finished_client (are.free slot above);
   }
 
-  come-once : (r : Receiving) (place : ℕ) → AreHeard players last new 0 r.state.clients → r.lists.refused ≡ [] → r.lists.joined ≡ joined_in players frame
+  -- after the joins, if there are any
+  come-once : (r : Receiving) (place : ℕ) → Heard 0 r.state.clients → players ≤ 64 → frame + 1 < 2 ^ 32 → r.lists.refused ≡ [] → r.lists.joined ≡ joined_in players frame
       → r.lists.moves ≡ []
-      → ComeOnce seed players frames frame (after_arrivals generated_map frame r place (repeats_in seed players frames frame))
-  come-once r place are none joined no_moves =
+      → OnlyNewAreAccepted seed players frames frame (after_arrivals generated_map frame r place (repeats_in seed players frames frame))
+  come-once r place are few small none joined no_moves =
       let all : 0 + players ≡ players = omega arith in
-      let run = heard-run 0 players r place are all in
+      let run = heard-run 0 players r place are all few small in
       let next = after_arrivals generated_map frame r place (repeats_in seed players frames frame) in
       let moves : next.lists.moves ≡ flat_map given (range_with_len 0 players) =
       run.lists.moves ∙ ap (λ ms. ms ++ flat_map given (range_with_len 0 players)) no_moves in
@@ -291,11 +304,11 @@ module _ (seed players frames frame : ℕ) (few : players ≤ 64) (small : frame
         joined = run.lists.joined ∙ joined;
         moves = λ slot below. ap (moves_of slot) moves ∙ slot-moves slot 0 players (omega arith) (omega (arith, below));
         others = λ slot above. ap (moves_of slot) moves ∙ no-moves slot 0 players (λ other _ high is. omega (arith, above, high, is));
-        plays_on = λ records many. plays-on next.state records (subst (λ j. AreHeard players last new j next.state.clients) all run.clients) many;
+        plays_on = λ records many. plays-on next.state records (subst (λ j. Heard j next.state.clients) all run.clients) many;
       }
 
 first-frame : (seed players frames : ℕ) (state : State) → players ≤ 64 → ArePlaying 0 0 state.clients → length state.records ≡ 256
-    → AreClearOfSpawns state.records → ComeOnce seed players frames 0 (received generated_map 0 state (resent_in seed players frames 0))
+    → AreClearOfSpawns state.records → OnlyNewAreAccepted seed players frames 0 (received generated_map 0 state (resent_in seed players frames 0))
 unfolding received
 first-frame seed players frames state few nobody many clear =
     let start = receiving_of state no_lists in
@@ -313,22 +326,22 @@ first-frame seed players frames state few nobody many clear =
     let after = after_arrivals generated_map 0 start 0 joins in
     let all : 0 + players ≡ players = omega arith in
     let are : AreJoined players after.state = subst (λ k. AreJoined k after.state) all run.state in
-    let waiting : AreHeard players (last seed players frames 0 few (lit< tt)) (new seed players frames 0 few (lit< tt)) 0 after.state.clients = record {
+    let waiting : Heard seed players frames 0 0 after.state.clients = record {
       slots = are.slots;
       done = λ slot below. absurd (omega arith);
       waiting = λ slot _ below. are.joined slot below;
       free = are.free;
     } in
-    subst (ComeOnce seed players frames 0) (sym (after_arrivals-append generated_map 0 start 0 joins (repeats_in seed players frames 0)))
-    (come-once seed players frames 0 few (lit< tt) after (0 + length joins) waiting run.lists.refused run.lists.joined run.lists.moves)
+    subst (OnlyNewAreAccepted seed players frames 0) (sym (after_arrivals-append generated_map 0 start 0 joins (repeats_in seed players frames 0)))
+    (come-once seed players frames 0 after (0 + length joins) waiting few (lit< tt) run.lists.refused run.lists.joined run.lists.moves)
 
 later-frame : (seed players frames frame : ℕ) (state : State) → players ≤ 64 → 0 < frame → frame + 1 < 2 ^ 32
     → ArePlayingUpTo players (λ slot. last_before frames (slot + 1) frame) state.clients → length state.records ≡ 256
-    → ComeOnce seed players frames frame (received generated_map frame state (resent_in seed players frames frame))
+    → OnlyNewAreAccepted seed players frames frame (received generated_map frame state (resent_in seed players frames frame))
 unfolding received
 later-frame seed players frames frame state few later small playing many =
     let start = receiving_of state no_lists in
-    let waiting : AreHeard players (last seed players frames frame few small) (new seed players frames frame few small) 0 state.clients = record {
+    let waiting : Heard seed players frames frame 0 state.clients = record {
       slots = playing.slots;
       done = λ slot below. absurd (omega arith);
       waiting = λ slot _ below. playing.joined slot below;
@@ -336,9 +349,9 @@ later-frame seed players frames frame state few later small playing many =
     } in
     let not_first : eqb frame 0 ≡ false = grind (arith, nat_tests) in
     let joined = ap (λ b. cond b (map joined_as (range_with_len 0 players)) []) not_first in
-    subst (λ js. ComeOnce seed players frames frame (after_arrivals generated_map frame start 0 (js ++ repeats_in seed players frames frame)))
+    subst (λ js. OnlyNewAreAccepted seed players frames frame (after_arrivals generated_map frame start 0 (js ++ repeats_in seed players frames frame)))
     (sym (no-joins players frame later))
-    (come-once seed players frames frame few small start 0 waiting refl (sym joined) refl)
+    (come-once seed players frames frame start 0 waiting few small refl (sym joined) refl)
 
 pub commands_arrive_once : CommandsArriveOnce
-commands_arrive_once = record { first = first-frame; later = later-frame; waiting = last-is; all = last-all }
+commands_arrive_once = record { first = first-frame; later = later-frame; before = last-is; each_once = each-once }

@@ -14,8 +14,8 @@ use Rattle.client_ports.specs.Finishing.{finished}
 use Rattle.demo_make.specs.GeneratedMap.{generated_map, spawn_at}
 use Rattle.demo_make.specs.GeneratedFrames.{arrivals_in}
 
--- each of so many players is joined in the slot one below its port, and has the last number that its slot has here and no
--- move in the frame; nobody else is joined
+-- each of so many players is joined in the slot one below its port, and has the last number that is given for its slot
+-- and no move in the frame; nobody else is joined
 pub record ArePlayingUpTo (players : ℕ) (last : ℕ → ℕ) (clients : List (Option Client)) : Type 0 where
   pub slots : length clients ≡ 64
   pub joined : (slot : ℕ) → slot < players → client_at clients slot ≡ Some (client (slot + 1) (last slot) false 0)

@@ -1,7 +1,7 @@
--- What a server makes of a recording in which commands are resent: each command is accepted once, in its order, although
--- packets are lost.
+-- What a server makes of a recording in which commands are resent: each command is accepted once, although packets are
+-- lost.
 use Rattle.std.specs.Prelude.{◌≡◌, ℕ, zero, suc, ◌+◌, ◌-◌, ◌%◌, ◌^◌, ◌≤◌, ◌<◌, ◌==◌, List, [], map, filter, length}
-use Rattle.std.specs.Prelude.{Option, if◌then◌else◌}
+use Rattle.std.specs.Prelude.{flat_map, Option, if◌then◌else◌}
 use Rattle.std.specs.List.{range_with_len}
 use Rattle.entity_recs.specs.declared.rec.Rec.{Rec}
 use Rattle.entity_recs.specs.Commands.{Command}
@@ -31,8 +31,8 @@ commands_from seed players port first count =
 
 -- the commands of a player that come in a frame: where its packet arrives all those that didn't come before, up to that
 -- of the frame, and else none
-abbrev pub new_in : ℕ → ℕ → ℕ → ℕ → ℕ → List MovePacket
-new_in seed players frames frame port =
+abbrev pub new_commands : ℕ → ℕ → ℕ → ℕ → ℕ → List MovePacket
+new_commands seed players frames frame port =
     let last = last_before frames port frame in
     if arrives frames frame port then commands_from seed players port (last + 1) (frame + 1 - last) else []
 
@@ -50,14 +50,14 @@ joined_in players frame = if frame == 0 then map joined_as (range_with_len 0 pla
 
 -- ---- a frame
 
--- no packet of a frame is refused, the players that join in it do so once each, and the moves of each player are its new
--- commands, in the order of their numbers, with all their fields; nobody else moves. Whatever the moves make of the
--- records, each player plays on, with the number of its newest command that came
-pub record ComeOnce (seed players frames frame : ℕ) (next : Receiving) : Type 0 where
+-- no packet of a frame is refused; the joins are those of the frame; the moves of each player are its new commands, in
+-- the order of their numbers, with all their fields, and nobody else moves. Whatever the moves make of the records, each
+-- player plays on, with the number of its newest command that came
+pub record OnlyNewAreAccepted (seed players frames frame : ℕ) (next : Receiving) : Type 0 where
   pub refused : next.lists.refused ≡ []
   pub joined : next.lists.joined ≡ joined_in players frame
   pub moves : (slot : ℕ) → slot < players → moves_of slot next.lists.moves
-      ≡ map (receiving.command_in frame slot) (new_in seed players frames frame (slot + 1))
+      ≡ map (receiving.command_in frame slot) (new_commands seed players frames frame (slot + 1))
   pub others : (slot : ℕ) → players ≤ slot → moves_of slot next.lists.moves ≡ []
   pub plays_on : (records : List (Option Rec)) → length records ≡ 256
       → ArePlayingUpTo players (λ slot. last_before frames (slot + 1) (frame + 1))
@@ -65,15 +65,18 @@ pub record ComeOnce (seed players frames frame : ℕ) (next : Receiving) : Type 
 
 -- each command of a resent recording is accepted once and in its order: so it is in frame 0, where nobody is joined and
 -- nothing is at the spawns, and in each later frame, wherever the players and the things are. Before a frame at most two
--- commands of a player haven't come, and after the last one each has
+-- commands of a player haven't come, and over all frames each comes once
 pub record CommandsArriveOnce : Type 0 where
   pub first : (seed players frames : ℕ) (state : State) → players ≤ 64 → ArePlaying 0 0 state.clients
       → length state.records ≡ 256 → AreClearOfSpawns state.records
-      → ComeOnce seed players frames 0 (received generated_map 0 state (resent_in seed players frames 0))
+      → OnlyNewAreAccepted seed players frames 0 (received generated_map 0 state (resent_in seed players frames 0))
   pub later : (seed players frames frame : ℕ) (state : State) → players ≤ 64 → 0 < frame → frame + 1 < 2 ^ 32
       → ArePlayingUpTo players (λ slot. last_before frames (slot + 1) frame) state.clients
       → length state.records ≡ 256
-      → ComeOnce seed players frames frame (received generated_map frame state (resent_in seed players frames frame))
-  pub waiting : (frames port frame : ℕ) → frame < frames
+      → OnlyNewAreAccepted seed players frames frame
+      (received generated_map frame state (resent_in seed players frames frame))
+  pub before : (frames port frame : ℕ) → frame < frames
       → last_before frames port frame ≡ frame - (frame + port + 2) % 3
-  pub all : (frames port : ℕ) → 1 ≤ frames → last_before frames port frames ≡ frames
+  pub each_once : (seed players frames port : ℕ) → 1 ≤ frames
+      → flat_map (λ frame. new_commands seed players frames frame port) (range_with_len 0 frames)
+      ≡ commands_from seed players port 1 frames

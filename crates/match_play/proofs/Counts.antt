@@ -108,7 +108,7 @@ opening-clients : (opening generated_map).clients ≡ no_clients
 unfolding opening
 opening-clients = refl
 
-nobody_plays : ArePlaying 0 0 (opening generated_map).clients
+pub nobody_plays : ArePlaying 0 0 (opening generated_map).clients
 nobody_plays =
     subst (ArePlaying 0 0) (sym opening-clients)
     (record {
@@ -121,7 +121,7 @@ not_live : (place : Option Rec) → is_some place ≡ false → place ≡ None
 not_live None is = refl
 not_live (Some r) is = cc
 
-no_player : (slot : ℕ) → slot < 64 → record_at (state_after_tick generated_map 0 (opening generated_map)).records slot ≡ None
+pub no_player : (slot : ℕ) → slot < 64 → record_at (state_after_tick generated_map 0 (opening generated_map)).records slot ≡ None
 no_player slot below =
     let ticked = server_ticked generated_map 0 (opening generated_map) generated_is_map (opening_is generated_map generated_is_map) in
     not_live (record_at (state_after_tick generated_map 0 (opening generated_map)).records slot)

@@ -6,5 +6,6 @@ pub mod Playing
 pub mod Events
 pub mod Counts
 pub mod Written
+pub mod LostPackets
 pub mod TotalsOfLines
 pub mod ScoresOfClients

@@ -20,7 +20,7 @@ use Rattle.match_play.specs.Laws.{AreOfMatch, MatchesArePlayedAsWritten}
 use Rattle.match_play.proofs.Events.{closed_by, recording-closes, generated-closes}
 
 -- the frames of a recording without a fault are those that its events close
-frames_of-events : (bytes : List ℕ) → fault bytes ≡ None → frames_of bytes ≡ closed_by None (events bytes)
+pub frames_of-events : (bytes : List ℕ) → fault bytes ≡ None → frames_of bytes ≡ closed_by None (events bytes)
 frames_of-events bytes none = sym (recording-closes (frames_of bytes)) ∙ ap (closed_by None) (sym (frames_have_the_events.whole bytes none))
 
 generated-frames : (seed players frames : ℕ) → IsInRange players frames → frames_of (generated_text seed players frames) ≡ generated_frames seed players frames

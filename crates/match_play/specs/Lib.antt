@@ -16,4 +16,5 @@ pub mod Totals
 pub mod TotalsOfLines
 pub mod Matches
 pub mod Games
+pub mod LostPackets
 pub mod Laws

@@ -1,5 +1,6 @@
 ghost use Rattle.match_play.specs.Laws.{CountsAreKnown, OrderLeavesOneMatch, MatchesArePlayedAsWritten, LimitsAreKnown};
 ghost use Rattle.match_play.specs.Laws.{TotalsAreOfTheOutput, ScoresAreOfTheClients};
+ghost use Rattle.match_play.specs.LostPackets.{LostPacketsLoseNoCommand};
 
 /// In a match of 1 to 64 players each player joins once and each of its moves is accepted, whichever right journals the
 /// frames have: so it has as many joins as players, as many moves as players in each frame, and no refusal.
@@ -33,4 +34,11 @@ pub fn totals_are_of_the_output()
 /// The score is the sum of the scores of the players whose clients are live after the last frame.
 pub fn scores_are_of_the_clients()
     ensures { ScoresAreOfTheClients }
+{}
+
+/// Of a recording in which commands are resent no command is lost, although two packets of three are: whatever the number
+/// of workers, each output has no `no` line, each player's `did` lines over all frames have the numbers 1 to that of the
+/// frames, each once and rising, and there are no others.
+pub fn lost_packets_lose_no_command()
+    ensures { LostPacketsLoseNoCommand }
 {}

@@ -3,8 +3,9 @@
 
 pub use game::Game;
 pub use laws::{
-    counts_are_known, limits_are_known, matches_are_played_as_written, order_leaves_one_match,
-    scores_are_of_the_clients, totals_are_of_the_output,
+    counts_are_known, limits_are_known, lost_packets_lose_no_command,
+    matches_are_played_as_written, order_leaves_one_match, scores_are_of_the_clients,
+    totals_are_of_the_output,
 };
 pub use limits::MOST_MATCH_FRAMES;
 pub use played::play_match;
