@@ -3,10 +3,11 @@ use Rattle.std.specs.Prelude.{◌≡◌}
 use Rattle.edge_io.specs.declared.source.Source as sources
 use Rattle.edge_io.specs.declared.sink.Sink as sinks
 use Rattle.arena_engine.specs.declared.command.Command.{Command}
-use Rattle.arena_engine.specs.declared.command.Command.TheVariants.{Play, Make, Match}
+use Rattle.arena_engine.specs.declared.command.Command.TheVariants.{Play, Make, Match, Bots}
 use Rattle.arena_engine.specs.declared.report.Report.{Report}
 use Rattle.arena_engine.specs.Making.{IsMade, IsMatched}
 use Rattle.arena_engine.specs.Played.{IsPlayed}
+use Rattle.arena_engine.specs.Planned.{IsPlanned}
 
 -- P, and nothing was read
 pub record Unread {S : Type 0} (source source' : S) (P : Type 0) : Type 0 where
@@ -19,3 +20,4 @@ IsServed s k source source' sink sink' r (Play workers) = IsPlayed s k workers s
 IsServed s k source source' sink sink' r (Make seed players frames) = Unread source source' (IsMade k seed players frames sink sink' r)
 IsServed s k source source' sink sink' r (Match seed players frames workers) =
     Unread source source' (IsMatched k seed players frames workers sink sink' r)
+IsServed s k source source' sink sink' r (Bots target) = IsPlanned s k target source source' sink sink' r
