@@ -1,5 +1,5 @@
 -- Reading a recording to its end, for its map alone.
-use Rattle.std.proofs.Common.{◌≡◌, ℕ, ◌≤◌, Bool, true, false, List, [], ◌∷◌, ◌++◌, ◌⊎◌, inl, inr, Option, Some, None, IfSome, IsSome, refl, sym, ap, ◌∙◌, subst}
+use Rattle.std.proofs.Common.{◌≡◌, ℕ, ◌≤◌, Bool, true, false, List, [], ◌∷◌, ◌++◌, ◌⊎◌, inl, inr, Some, None, IfSome, IsSome, refl, sym, ap, ◌∙◌, subst}
 use Rattle.std.proofs.KnownBytes.{Consumes-nil, prepend_known-nil}
 use Rattle.std.specs.Io.KnownBytes.{Consumes}
 use Rattle.edge_io.specs.declared.source.Source as sources
@@ -7,15 +7,13 @@ use Rattle.edge_io.specs.Counts.{HasRisen}
 use Rattle.edge_io.specs.Lines.{ahead, HasNotReadAhead}
 use Rattle.edge_io.proofs.ReadingAhead.{HasNotReadAhead-same, HasNotReadAhead-trans}
 use Rattle.arena_map.specs.Maps.{MapView}
-use Rattle.demo_lines.specs.declared.stage.Stage.{Stage}
 use Rattle.demo_lines.specs.declared.stage.Stage.TheVariants.{Ended}
 use Rattle.demo_lines.specs.declared.event.Event.{Event}
 use Rattle.demo_lines.specs.declared.event.Event.TheVariants.{Frame, From, End}
 use Rattle.demo_lines.specs.declared.demo_stop.DemoStop.{DemoStop}
 use Rattle.demo_lines.specs.declared.demo_stop.DemoStop.TheVariants as demo_stop
 use Rattle.demo_lines.specs.Known.{Reading, start, is_map_whole, is_over}
-use Rattle.demo_lines.specs.Bytes.{last_part, lines_of, refused_at, refused_where, fault_in, fault, map_of}
-use Rattle.demo_lines.specs.Recording.{after}
+use Rattle.demo_lines.specs.Bytes.{LineRefusal, last_part, lines_of, refused_at, refused_where, fault_in, fault, map_of}
 use Rattle.demo_lines.specs.Reads.{DemoReaderView, fresh_reader, IsOpen, Reads, EndsAt, KeepsMap, TakesCutEnd, stage_after}
 use Rattle.demo_lines.proofs.Ends.{after-over}
 use Rattle.demo_lines.proofs.Joins.{Reads-trans}
@@ -87,7 +85,7 @@ module _ {S : Type 0} (s : sources.Ghosts S) where
     };
     is_open = record { no_stop = refl; not_over = refl };
     same = refl;
-    needed = HasNotReadAhead-same source [];
+    needed = HasNotReadAhead-same s.last source [];
     same_end = refl;
     keeps = λ sure. sure;
     map = λ whole. cc;
@@ -153,7 +151,7 @@ module _ {S : Type 0} (s : sources.Ghosts S) where
     -- the reader stopped
     pub gives_stop : (d : DemoStop) → ReaderStops s demo demo' now next d → GivesStop s first next d
     gives_stop (demo_stop.Refused line rule_fault rule) stops =
-        let why = record { line = line; fault = rule_fault; rule = rule } in
+        let why : LineRefusal = record { line = line; fault = rule_fault; rule = rule } in
         let b = ahead demo.pending (s.left now) in
         record {
           faulty = continues demo.reading (s.left first) b on.events (λ bytes. fault bytes ≡ Some why) on.reads

@@ -1,16 +1,73 @@
 -- What a report says of ways that were planned, by how that ended.
-use Rattle.std.proofs.Common.{◌≡◌, ℕ, ◌≤◌, ◌⊎◌, inl, inr, true, false, List, [], Option, Some, None, IfSome, IsSome, IsSomeAnd, refl, sym, ap, ◌∙◌, subst, arith}
+use Rattle.std.proofs.Common.{◌≡◌, ◌≢◌, ℕ, ◌≤◌, length, Result, Err, ◌⊎◌, inl, inr, true, false, List, [], ◌∷◌, ◌==◌, Option, Some, None, IfSome, IsSome, IsSomeAnd, refl, sym, ap, ◌∙◌, subst, arith}
+use Rattle.std.proofs.lemmas.Bool.Decides.{nat_tests}
 use Rattle.edge_io.specs.declared.source.Source as sources
 use Rattle.edge_io.specs.declared.sink.Sink as sinks
 use Rattle.edge_io.specs.Counts.{HasRisen}
-use Rattle.arena_map.specs.Maps.{MapView}
+use Rattle.edge_io.specs.Writes.{AppendsPart}
+use Rattle.arena_map.specs.Maps.{MapView, IsMap}
+use Rattle.bot_ways.specs.declared.plan.Plan.{Plan}
+use Rattle.bot_ways.specs.declared.plan_stop.PlanStop.{PlanStop}
+use Rattle.bot_ways.specs.declared.plan_stop.PlanStop.TheVariants as plan_stop
+use Rattle.bot_ways.specs.Walks.{IsWalk, IsUnreached, IsLeast, HasLeast, length_to}
+use Rattle.bot_ways.specs.Ways.{IsWay, IsCertificate}
+use Rattle.bot_ways.specs.PlanTexts.{plan_text}
 use Rattle.demo_lines.specs.Bytes.{LineRefusal, fault, map_of}
 use Rattle.arena_engine.specs.declared.report.Report.{Report}
-use Rattle.arena_engine.specs.Endings.{Counts, Ends}
+use Rattle.arena_engine.specs.Endings.{Ends}
 use Rattle.arena_engine.specs.Reports.{refusal_of}
-use Rattle.arena_engine.specs.Planned.{IsPlanned, HasMap, ShowsWay, ShowsNoWay, ShowsWays, HasRoomForWays}
-use Rattle.arena_engine.specs.MapReads.{GivesMap, GivesRefusal, GivesReadFault, GivesNoMemory, WritesWay, WritesNothing, WritesLeast, WritesCut}
+use Rattle.arena_engine.specs.Planned.{IsPlanned, HasMap, ShowsWay, ShowsWays, HasRoomForWays}
+use Rattle.arena_engine.specs.MapReads.{GivesMap, GivesRefusal, GivesReadFault, WritesWay, WritesNothing, WritesLeast, WritesCut, WritesStop}
 use Rattle.arena_engine.proofs.Reported.{ends_by, uncounted_in, counted_in}
+
+-- ---- what was planned
+
+-- a plan with a way is that of the way to its target
+pub shows-way : (m : MapView) (plan : Plan) (target : ℕ) → IsMap m → HasLeast m plan.least → IsCertificate m plan.least → (IsUnreached m target → plan.way ≡ [])
+    → IfSome (length_to plan.least target) (λ n. IsWay m plan.least target plan.way) → IfSome (length_to plan.least target) (IsWalk m 0 target plan.way)
+    → length plan.way ≤ 64 → (plan.way ≡ [] → ⊥) → ShowsWay m target (plan_text m plan)
+shows-way m plan target is least certificate no_way way walk few some = by (length_to plan.least target) refl
+  where
+    by : (o : Option ℕ) → length_to plan.least target ≡ o → ShowsWay m target (plan_text m plan)
+    by None e = absurd (some (no_way (subst (IsLeast m target) e (least.each target))))
+    by (Some far) e = record {
+      plan = plan;
+      far = far;
+      is_map = is;
+      is = record {
+        certificate = certificate;
+        reached = e;
+        way = subst (λ o. IfSome o (λ n. IsWay m plan.least target plan.way)) e way;
+        walk = subst (λ o. IfSome o (IsWalk m 0 target plan.way)) e walk;
+        few = few;
+      };
+      text_is = refl;
+    }
+
+-- a way is empty where its length is 0, and only there
+pub empty-way : (way : List ℕ) → true ≡ (length way == 0) → way ≡ []
+empty-way way e = let none : length way ≡ 0 = grind (arith, nat_tests) in by way none
+  where
+    by : (way : List ℕ) → length way ≡ 0 → way ≡ []
+    by [] none = refl
+    by (u ∷ way) none = absurd (omega (arith, none))
+
+pub some-way : (way : List ℕ) → false ≡ (length way == 0) → way ≡ [] → ⊥
+some-way [] e is = let never : false ≡ true = e in cc
+some-way (u ∷ way) e is = cc
+
+-- the writing of this text stopped
+pub ways-cut : {K : Type 0} (k : sinks.Ghosts K) (m : MapView) (target : ℕ) (sink sink' : K) (text : List ℕ) (r : Result (Unit {0}) PlanStop) (stop : PlanStop) → r ≡ Err stop
+    → (r ≡ Err plan_stop.WriteFault → AppendsPart (k.taken sink) (k.taken sink') text) → (r ≡ Err plan_stop.NoMemory → sink' ≡ sink) → k.faults sink ≤ k.faults sink'
+    → (r ≡ Err plan_stop.WriteFault → HasRisen (k.faults sink) (k.faults sink')) → (length text ≤ k.room sink → r ≢ Err plan_stop.WriteFault) → ShowsWays m target text
+    → WritesStop k m target sink sink' stop
+ways-cut k m target sink sink' text r plan_stop.WriteFault is part nothing later risen sure shows = record {
+  written = record { text = text; written = part is; holds = shows };
+  cause = risen is;
+  later = later;
+  no_room = λ room. sure (room text shows) is;
+}
+ways-cut k m target sink sink' text r plan_stop.NoMemory is part nothing later risen sure shows = nothing is
 
 -- ---- recordings that were read
 

@@ -1,8 +1,7 @@
 -- A recording was read for its map, and the shortest way between two of its spawns was written.
-use Rattle.std.specs.Prelude.{◌≡◌, ◌≤◌, ◌<◌, ◌⊎◌, ℕ, true, List, [], length, Option, Some, None, IfSome, IsSome, IsSomeAnd, Result, Ok, Err}
+use Rattle.std.specs.Prelude.{◌≡◌, ◌≤◌, ◌<◌, ◌⊎◌, ℕ, true, List, [], length, Option, Some, None, IfSome, IsSome, IsSomeAnd}
 use Rattle.edge_io.specs.declared.source.Source as sources
 use Rattle.edge_io.specs.declared.sink.Sink as sinks
-use Rattle.edge_io.specs.Counts.{HasRisen}
 use Rattle.edge_io.specs.Writes.{AppendsPart}
 use Rattle.arena_map.specs.Maps.{MapView, IsMap}
 use Rattle.demo_lines.specs.Bytes.{fault, map_of}
