@@ -11,3 +11,5 @@ pub mod Running
 pub mod Ended
 pub mod Reported
 pub mod Summing
+pub mod MapRead
+pub mod WaysReported

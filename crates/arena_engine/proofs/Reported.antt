@@ -129,23 +129,25 @@ module _ {S K : Type 0} (s : sources.Ghosts S) (k : sinks.Ghosts K) (workers : �
 -- ---- what holds of every command
 
 -- a count that didn't change, where the status isn't that of its fault
-uncounted_in : (of_fault before after status : ℕ) → after ≡ before → (status ≡ of_fault → ⊥) → Counts of_fault before after status
+pub uncounted_in : (of_fault before after status : ℕ) → after ≡ before → (status ≡ of_fault → ⊥) → Counts of_fault before after status
 uncounted_in of_fault before after status same other = record { later = omega (arith, same); cause = λ is. absurd (other is); uncounted = λ no. same }
 
 -- a count that rose, where it is
-counted_in : (of_fault before after status : ℕ) → status ≡ of_fault → before ≤ after → HasRisen before after → Counts of_fault before after status
+pub counted_in : (of_fault before after status : ℕ) → status ≡ of_fault → before ≤ after → HasRisen before after → Counts of_fault before after status
 counted_in of_fault before after status is later risen = record { later = later; cause = λ same. risen; uncounted = λ no. absurd (no is) }
 
 module _ {S K : Type 0} (s : sources.Ghosts S) (k : sinks.Ghosts K) (workers : ℕ) (source source' : S) (sink sink' : K) (r : Report) where
-  abbrev IsPlaceless : Type 0
+  abbrev pub IsPlaceless : Type 0
   IsPlaceless = (r.line ≡ 0) × (r.fault ≡ 0) × (r.rule ≡ 0)
 
   -- a call whose words were those of a command ended
-  ends_by : r.status ≤ 5 → (r.status ≡ 2 → ⊥) → ((r.status ≡ 1 → ⊥) → IsPlaceless) → Counts 3 (s.faults source) (s.faults source') r.status → Counts 4 (k.faults sink) (k.faults sink') r.status
+  pub ends_by : r.status ≤ 5 → (r.status ≡ 2 → ⊥) → ((r.status ≡ 1 → ⊥) → IsPlaceless) → Counts 3 (s.faults source) (s.faults source') r.status → Counts 4 (k.faults sink) (k.faults sink') r.status
       → (r.status ≡ 3 → s.ended source' ≡ s.ended source) → (s.never_fails source → r.status ≡ 3 → ⊥) → Ends s k source source' sink sink' r
   ends_by known words place reads writes before_end sure = record {
-    known = known;
-    place = place;
+    known = inl known;
+    place = λ no. ((place no).0, (place no).2);
+    fault = λ no found. (place no).1;
+    no_way = λ is. absurd (omega (arith, is, known));
     untouched = λ is. absurd (words is);
     no_frame = λ is. absurd (words is);
     no_journals = λ is. absurd (words is);

@@ -1,11 +1,11 @@
 -- The commands that words ask for.
-use Rattle.std.specs.Prelude.{◌≡◌, ℕ, ◌<◌, ◌^◌, List, [], ◌∷◌, map, codes, decimal}
+use Rattle.std.specs.Prelude.{◌≡◌, ℕ, ◌<◌, ◌≤◌, ◌^◌, List, [], ◌∷◌, map, codes, decimal}
 use Rattle.std.specs.Borrow.{Bor}
 use Rattle.move_phase.specs.Serving.{AreWorkers}
 use Rattle.demo_make.specs.GeneratedFrames.{IsInRange}
 use Rattle.match_play.specs.Matches.{IsMatch}
 use Rattle.arena_engine.specs.declared.command.Command.{Command}
-use Rattle.arena_engine.specs.declared.command.Command.TheVariants.{Play, Make, Resend, Match}
+use Rattle.arena_engine.specs.declared.command.Command.TheVariants.{Play, Make, Resend, Match, Bots}
 
 -- the texts of words
 abbrev pub contents : List (Bor (List ℕ)) → List (List ℕ)
@@ -20,10 +20,15 @@ words_of (Resend seed players frames) =
     codes "resend" ∷ decimal seed ∷ decimal players ∷ decimal frames ∷ []
 words_of (Match seed players frames workers) =
     codes "match" ∷ decimal seed ∷ decimal players ∷ decimal frames ∷ decimal workers ∷ []
+words_of (Bots target) = codes "bots" ∷ decimal target ∷ []
 
 -- a seed of 64 bits
 abbrev pub IsSeed : ℕ → Type 0
 IsSeed seed = seed < 2 ^ 64
+
+-- the number of a spawn
+abbrev pub IsTarget : ℕ → Type 0
+IsTarget target = target ≤ 63
 
 -- the numbers of a command are in their ranges
 abbrev pub HasRanges : Command → Type 0
@@ -31,6 +36,7 @@ HasRanges (Play workers) = AreWorkers workers
 HasRanges (Make seed players frames) = IsSeed seed × IsInRange players frames
 HasRanges (Resend seed players frames) = IsSeed seed × IsInRange players frames
 HasRanges (Match seed players frames workers) = IsSeed seed × IsMatch players frames × AreWorkers workers
+HasRanges (Bots target) = IsTarget target
 
 -- these words ask for this command
 pub record Spells (words : List (List ℕ)) (c : Command) : Type 0 where

@@ -19,10 +19,14 @@ pub record Counts (of_fault before after status : ℕ) : Type 0 where
 -- a call with this source and this sink ended as the report says
 pub record Ends {S K : Type 0} (s : sources.Ghosts S) (k : sinks.Ghosts K) (source source' : S) (sink sink' : K) (r : Report)
     : Type 0 where
-  -- there are six statuses
-  pub known : r.status ≤ 5
+  -- there are seven statuses: one more, 6, has no use yet
+  pub known : (r.status ≤ 5) ⊎ (r.status ≡ 7)
   -- only a refusal names a line of a recording
-  pub place : (r.status ≡ 1 → ⊥) → (r.line ≡ 0) × (r.fault ≡ 0) × (r.rule ≡ 0)
+  pub place : (r.status ≡ 1 → ⊥) → (r.line ≡ 0) × (r.rule ≡ 0)
+  -- only a refusal and a way that isn't there have a fault
+  pub fault : (r.status ≡ 1 → ⊥) → (r.status ≡ 7 → ⊥) → r.fault ≡ 0
+  -- and that of a way is 1 or 2
+  pub no_way : r.status ≡ 7 → (r.fault ≡ 1) ⊎ (r.fault ≡ 2)
   -- words that ask for nothing leave both as they were
   pub untouched : r.status ≡ 2 → (source' ≡ source) × (sink' ≡ sink)
   -- and no frame was run for them

@@ -24,6 +24,9 @@ pub use Rattle.demo_make.specs.GeneratedMap
 pub use Rattle.demo_make.specs.GeneratedFrames
 pub use Rattle.demo_make.specs.ResentFrames
 pub use Rattle.match_play.specs.Matches
+pub use Rattle.bot_ways.specs.Walks as BotWalks
+pub use Rattle.bot_ways.specs.Ways as BotWays
+pub use Rattle.bot_ways.specs.PlanTexts
 pub mod Numbers
 pub mod Commands
 pub mod Summaries
@@ -38,4 +41,6 @@ pub mod Progress
 pub mod Reports
 pub mod Serving
 pub mod Played
+pub mod Planned
+pub mod MapReads
 pub mod Served

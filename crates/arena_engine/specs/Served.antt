@@ -3,10 +3,11 @@ use Rattle.std.specs.Prelude.{◌≡◌}
 use Rattle.edge_io.specs.declared.source.Source as sources
 use Rattle.edge_io.specs.declared.sink.Sink as sinks
 use Rattle.arena_engine.specs.declared.command.Command.{Command}
-use Rattle.arena_engine.specs.declared.command.Command.TheVariants.{Play, Make, Resend, Match}
+use Rattle.arena_engine.specs.declared.command.Command.TheVariants.{Play, Make, Resend, Match, Bots}
 use Rattle.arena_engine.specs.declared.report.Report.{Report}
 use Rattle.arena_engine.specs.Making.{IsMade, IsResent, IsMatched}
 use Rattle.arena_engine.specs.Played.{IsPlayed}
+use Rattle.arena_engine.specs.Planned.{IsPlanned}
 
 -- P, and nothing was read
 pub record Unread {S : Type 0} (source source' : S) (P : Type 0) : Type 0 where
@@ -21,3 +22,4 @@ IsServed s k source source' sink sink' r (Resend seed players frames) =
     Unread source source' (IsResent k seed players frames sink sink' r)
 IsServed s k source source' sink sink' r (Match seed players frames workers) =
     Unread source source' (IsMatched k seed players frames workers sink sink' r)
+IsServed s k source source' sink sink' r (Bots target) = IsPlanned s k target source source' sink sink' r

@@ -9,6 +9,9 @@ use match_play::MOST_MATCH_FRAMES;
 /// The most workers.
 const MOST_WORKERS: u32 = 16;
 
+/// The greatest number of a spawn.
+const LAST_SPAWN: u64 = 63;
+
 /// The most players of a recording that is made.
 const MOST_PLAYERS: u32 = 64;
 
@@ -48,6 +51,11 @@ pub enum Command {
         frames: u32,
         /// How many workers run its moves, 1 to 16.
         workers: u8,
+    },
+    /// Reads a recording from the source, and writes one in which a bot walks from its first spawn to another.
+    Bots {
+        /// The number of that spawn, 0 to 63.
+        target: u8,
     },
 }
 
@@ -102,9 +110,23 @@ fn match_of(seed: &str, players: &str, frames: &str, workers: &str) -> Option<Co
     })
 }
 
+/// The command `bots` with this word.
+fn bots(target: &str) -> Option<Command>
+    ensures some { IfSome result (Spells (codes "bots" ∷ target.now ∷ [])) }
+    ensures only { (c : Command) → Spells (codes "bots" ∷ target.now ∷ []) c → result ≡ Some c }
+{
+    let target = number(target)?;
+    if target > LAST_SPAWN {
+        return None;
+    }
+    Some(Command::Bots {
+        target: target as u8,
+    })
+}
+
 /// The command that the words ask for, and `None` exactly where they are those of no command: `play N`,
-/// `make SEED PLAYERS FRAMES`, `resend SEED PLAYERS FRAMES` or `match SEED PLAYERS FRAMES N`, where each number is in
-/// its range, in decimal digits without a sign and without a leading zero, 0 itself excepted.
+/// `make SEED PLAYERS FRAMES`, `resend SEED PLAYERS FRAMES`, `match SEED PLAYERS FRAMES N` or `bots TARGET`, where each
+/// number is in its range, in decimal digits without a sign and without a leading zero, 0 itself excepted.
 pub fn command_of(words: &[&str]) -> Option<Command>
     ensures some { IfSome result (Spells (contents words.now)) }
     ensures only { (c : Command) → Spells (contents words.now) c → result ≡ Some c }
@@ -114,6 +136,7 @@ pub fn command_of(words: &[&str]) -> Option<Command>
         ["make", seed, players, frames] => make(seed, players, frames),
         ["resend", seed, players, frames] => resend(seed, players, frames),
         ["match", seed, players, frames, workers] => match_of(seed, players, frames, workers),
+        ["bots", target] => bots(target),
         _ => None,
     }
 }

@@ -16,6 +16,7 @@ use std::alloc::Global;
 use std::sync::Wait;
 use std::thread::Threads;
 
+mod bots;
 mod command;
 mod game;
 mod made;
@@ -36,7 +37,9 @@ mod summary;
 /// each frame its text before the next line is read, and at last the line `end`. The rest of the input is ignored.
 /// `make SEED PLAYERS FRAMES` writes the recording of a seed, and `resend SEED PLAYERS FRAMES` that in which packets are
 /// lost and commands are resent. `match SEED PLAYERS FRAMES N` plays the recording of a seed on N workers without writing
-/// it, and writes one line of what its frames came to. None of the three reads.
+/// it, and writes one line of what its frames came to. None of the three reads. `bots TARGET` reads a recording from the
+/// source, and writes one of the same map in which a bot walks the shortest way from spawn 0 to spawn TARGET, with the
+/// way and the least lengths after its line `end`.
 ///
 /// The moves of a frame run at the same time, where there is more than one worker, and each frame's journal has them
 /// one after another: its entries are those of the moves run in this order. One worker runs them in the order of
@@ -45,14 +48,16 @@ mod summary;
 /// The report's status says how it ended:
 ///
 /// - 0: the recording was read to its line `end`, and its whole output was written; or the recording that was made or
-/// resent, or the line of the match, was written whole.
+/// resent, or the line of the match, was written whole; or what a way comes to was.
 /// - 1: a line of the recording has a fault; the report has the number of the first one, its first fault, and the rule
 /// of the map that it breaks. The frames that were closed before it are written.
 /// - 2: the words ask for nothing. Nothing is read or written.
 /// - 3: a read failed. The frames that the lines before it close are written.
 /// - 4: a write failed. A front of what was to be written is: of an output, all frames but the last are whole.
-/// - 5: there was not enough memory. Of an output, whole frames are written; of what is made, resent or summed,
+/// - 5: there was not enough memory. Of an output, whole frames are written; of what is made, resent, summed or planned,
 /// nothing.
+/// - 7: there is no way to the spawn. Where the map has no such spawn nothing is written, and where no walk leads there
+/// the least lengths, which show it.
 ///
 /// The report has the journal of the last frame that was run from a recording, which is the last frame that was
 /// written, or the one whose text a failed write has cut. For `match` it has the journals of all frames that were run.

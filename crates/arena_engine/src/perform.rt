@@ -3,6 +3,7 @@ ghost use Rattle.arena_engine.specs.Commands.{HasRanges};
 ghost use Rattle.arena_engine.specs.Endings.{Ends};
 ghost use Rattle.arena_engine.specs.Served.{IsServed};
 
+use crate::bots::plan_recording;
 use crate::command::Command;
 use crate::made::{write_made, write_resent};
 use crate::matched::play_and_sum;
@@ -70,5 +71,6 @@ pub fn perform<R: Threads + Wait + Sync, S: Source, K: Sink, G: Gate>(
             };
             play_and_sum(&host, seed, players, frames, sink)
         }
+        Some(Command::Bots { target }) => plan_recording(alloc, target, source, sink),
     }
 }

@@ -7,11 +7,12 @@ use std::alloc::Global;
 #[derive(Drop)]
 pub struct Report {
     /// The status, which the program ends with: 0 done, 1 recording refused, 2 words refused, 3 read fault, 4 write
-    /// fault, 5 lack of memory.
+    /// fault, 5 lack of memory, 7 no way.
     pub status: u8,
     /// The number of the refused line, from 1; 0 for every other status.
     pub line: u64,
-    /// The refused line's fault, 1 to 10; 0 for every other status.
+    /// The refused line's fault, 1 to 10; where there is no way 1 if the map has no such spawn, and 2 if no walk leads to
+    /// it; 0 for every other status.
     pub fault: u8,
     /// The rule of the map that the refused line breaks, 1 to 8; 0 where it breaks none, and for every other status.
     pub rule: u8,
@@ -48,6 +49,23 @@ impl Report {
             rule: 0,
             last,
             all,
+        }
+    }
+
+    /// A report that there is no way: no such spawn, fault 1, or no walk to it, fault 2.
+    pub(crate) fn of_no_way(alloc: Global, fault: u8) -> Report
+        ensures status { result.status ≡ 7 }
+        ensures place { (result.line ≡ 0) × (result.fault ≡ fault) × (result.rule ≡ 0) }
+        ensures last { result.last ≡ None }
+        ensures all { result.all ≡ [] }
+    {
+        Report {
+            status: 7,
+            line: 0,
+            fault,
+            rule: 0,
+            last: None,
+            all: JournalList::new(alloc),
         }
     }
 

@@ -1,3 +1,4 @@
+-- Lemmas on edges, least lengths, ways, and what is written of a plan.
 pub mod EdgeParts
 pub mod Lengths
 pub mod Certificates
@@ -5,3 +6,9 @@ pub mod Searching
 pub mod WaysBack
 pub mod EdgesKnown
 pub mod OneWay
+pub mod Wishes
+pub mod Gathering
+pub mod WalkSteps
+pub mod MapsBefore
+pub mod PlansRead
+pub mod ThingLines

@@ -1,14 +1,20 @@
 -- What holds of all maps, edges, lengths and ways.
-use Rattle.std.specs.Prelude.{◌≡◌, ◌≢◌, ◌↔◌, ℕ, ◌≤◌, max, false, List, Option, Some, slice_get, ◌-ℤ◌, unsigned_abs}
+use Rattle.std.specs.Prelude.{◌≡◌, ◌≢◌, ◌↔◌, ℕ, ◌*◌, ◌^◌, ◌<◌, ◌≤◌, max, false, List, Option, Some, slice_get, ℤ, ◌-ℤ◌, unsigned_abs, Ok}
 use Rattle.arena_geo.specs.declared.vec3.Vec3.{Vec3}
 use Rattle.arena_geo.specs.Vectors.{minus}
 use Rattle.arena_geo.specs.Boxes.{is_blocked}
 use Rattle.box_trace.specs.Traces.{IsFreeWay}
 use Rattle.entity_recs.specs.Bodies.{player_body}
-use Rattle.arena_map.specs.Maps.{MapView, solids_of}
-use Rattle.bot_ways.specs.Edges.{edge}
-use Rattle.bot_ways.specs.Walks.{HasLeast}
+use Rattle.arena_map.specs.Maps.{MapView, IsMap, solids_of}
+use Rattle.packet_read.specs.declared.packet.Packet.TheVariants.{Join, Step}
+use Rattle.packet_read.specs.Reading.{reading}
+use Rattle.demo_lines.specs.Laws.{IsTextOf}
+use Rattle.bot_ways.specs.declared.plan.Plan.{Plan}
+use Rattle.bot_ways.specs.Edges.{distance, edge}
+use Rattle.bot_ways.specs.Walks.{IsWalk, HasLeast}
 use Rattle.bot_ways.specs.Ways.{IsCertificate, IsWay}
+use Rattle.bot_ways.specs.Moves.{places_of, length_through, wish_along, move_towards, moves_between, sent, bot_frames}
+use Rattle.bot_ways.specs.PlanTexts.{IsPlan, plan_text}
 
 -- an edge of length n leads from u to v: they have one height, are apart, and at most 65,536 from each other on each axis,
 -- no wall or block overlaps a player's body at u or at a step of its way to v, and n is the greater of the distances on
@@ -39,3 +45,25 @@ abbrev pub WaysAreUnique : Type 0
 WaysAreUnique =
     (map : MapView) (least : List (Option ℕ)) (v : ℕ) (one other : List ℕ) → IsCertificate map least
     → IsWay map least v one → IsWay map least v other → one ≡ other
+
+-- what is written of a plan is, up to its line `end`, a recording of the map in which the bot joins and walks along the way:
+-- it has no fault, and gives this map and these frames
+abbrev pub PlansAreRecordings : Type 0
+PlansAreRecordings =
+    (map : MapView) (plan : Plan) → IsMap map → IsPlan map plan
+    → IsTextOf map (bot_frames map plan.way) (plan_text map plan)
+
+-- the length that is written of a way is that of its walk
+abbrev pub LengthsAreWritten : Type 0
+LengthsAreWritten =
+    (map : MapView) (u v n : ℕ) (way : List ℕ) → IsWalk map u v way n → length_through (places_of map way) ≡ n
+
+-- from one place to another there are as few moves as cover the distance by 4,096 each; and the packets are read as the
+-- join and as these moves, whose wishes are at most 320
+pub record MovesAreKnown : Type 0 where
+  pub enough : (a b : Vec3) → distance a b ≤ 4096 * moves_between a b
+  pub fewest : (a b : Vec3) (n : ℕ) → distance a b ≤ 4096 * n → moves_between a b ≤ n
+  pub join : reading (sent Join).bytes ≡ Ok Join
+  pub moves : (seq : ℕ) (a b : Vec3) → seq < 2 ^ 32 → 1 ≤ distance a b
+      → reading (sent (Step (move_towards seq a b))).bytes ≡ Ok (Step (move_towards seq a b))
+  pub wishes : (part : ℤ) (whole : ℕ) → 1 ≤ whole → unsigned_abs part ≤ whole → unsigned_abs (wish_along part whole) ≤ 320

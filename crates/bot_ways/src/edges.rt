@@ -18,7 +18,7 @@ fn apart(from: i32, to: i32) -> u32
 }
 
 /// How far two points are from each other on x or y, whichever is farther.
-fn distance(from: Vec3, to: Vec3) -> u32
+pub fn distance(from: Vec3, to: Vec3) -> u32
     requires from { IsNear 1048576 from }
     requires to { IsNear 1048576 to }
     ensures value { result ≡ edges.distance from to }
@@ -51,7 +51,7 @@ fn has_edge(solids: &[Aabb], from: Vec3, to: Vec3) -> bool
 }
 
 /// The place of a waypoint.
-fn place_of(map: &ArenaMap, waypoint: usize) -> Vec3
+pub fn place_of(map: &ArenaMap, waypoint: usize) -> Vec3
     requires { waypoint < length map.now.spawns }
     ensures value { slice_get map.now.spawns waypoint ≡ Some result }
     ensures near { IsNear 1048576 result }

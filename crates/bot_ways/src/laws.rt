@@ -1,4 +1,5 @@
 ghost use Rattle.bot_ways.specs.Laws.{EdgesAreKnown, CertificatesAreLeast, WaysAreUnique};
+ghost use Rattle.bot_ways.specs.Laws.{PlansAreRecordings, LengthsAreWritten, MovesAreKnown};
 
 /// An edge leads from one waypoint to another exactly where they have one height, are apart, but at most 65,536 from each
 /// other on each axis, and no wall or block overlaps a player's body at the one or at a step of its way to the other. Its
@@ -16,4 +17,21 @@ pub fn certificates_are_least()
 /// There is one way to each waypoint.
 pub fn ways_are_unique()
     ensures { WaysAreUnique }
+{}
+
+/// What is written of a plan is, up to its line `end`, a recording without a fault: it gives the map, and the frames in
+/// which the bot joins and walks along the way.
+pub fn plans_are_recordings()
+    ensures { PlansAreRecordings }
+{}
+
+/// The length that is written of a way is the sum of the lengths of its edges.
+pub fn lengths_are_written()
+    ensures { LengthsAreWritten }
+{}
+
+/// From one waypoint to the next a bot makes as few moves as cover the distance by 4,096 each, and its packets are read as
+/// those moves.
+pub fn moves_are_known()
+    ensures { MovesAreKnown }
 {}

@@ -1,14 +1,27 @@
-//! Shortest ways of a bot between the spawns of a map, with the least lengths that show that they are shortest.
+//! Shortest ways of a bot between the spawns of a map, with the least lengths that show that they are shortest, and the
+//! recordings in which a bot walks along them.
 #![tactic(auto)]
 
-pub use laws::{certificates_are_least, edges_are_known, ways_are_unique};
+pub use laws::{
+    certificates_are_least, edges_are_known, lengths_are_written, moves_are_known,
+    plans_are_recordings, ways_are_unique,
+};
 pub use lists::{LeastList, MOST_WAYPOINTS, WayList};
 pub use plan::{Plan, plan_way};
+pub use plan_stop::PlanStop;
+pub use writing::{write_least, write_plan};
 
+mod certificate;
 mod edges;
 mod laws;
 mod lists;
+mod map_text;
+mod moves;
 mod plan;
+mod plan_stop;
+mod plan_text;
 mod search;
 #[cfg(test)]
 mod tests;
+mod walk_text;
+mod writing;

@@ -27,6 +27,7 @@ mod rooms;
 mod statuses;
 mod things;
 mod totals;
+mod ways;
 mod workers;
 
 const ARENA: &str = "arena -131072 -131072 0 131072 131072 65536\n";

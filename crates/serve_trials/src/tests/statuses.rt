@@ -60,6 +60,9 @@ fn other_words_are_refused(rt: HostRuntime) -> Result<(), Fail> {
         &["match", "7", "32", "2001", "1"],
         &["match", "7", "32", "600", "0"],
         &["match", "7", "32", "600", "17"],
+        &["bots"],
+        &["bots", "64"],
+        &["bots", "00"],
     ];
     for words in rows {
         let mut source = MemSource::new(ONE_JOIN.as_bytes(), 100, &[]);

@@ -1,0 +1,255 @@
+-- What a report says of ways that were planned, by how that ended.
+use Rattle.std.proofs.Common.{◌≡◌, ◌≢◌, ℕ, ◌≤◌, length, Result, Err, ◌⊎◌, inl, inr, true, false, List, [], ◌∷◌, ◌==◌, Option, Some, None, IfSome, IsSome, IsSomeAnd, refl, sym, ap, ◌∙◌, subst, arith}
+use Rattle.std.proofs.lemmas.Bool.Decides.{nat_tests}
+use Rattle.edge_io.specs.declared.source.Source as sources
+use Rattle.edge_io.specs.declared.sink.Sink as sinks
+use Rattle.edge_io.specs.Counts.{HasRisen}
+use Rattle.edge_io.specs.Writes.{AppendsPart}
+use Rattle.arena_map.specs.Maps.{MapView, IsMap}
+use Rattle.bot_ways.specs.declared.plan.Plan.{Plan}
+use Rattle.bot_ways.specs.declared.plan_stop.PlanStop.{PlanStop}
+use Rattle.bot_ways.specs.declared.plan_stop.PlanStop.TheVariants as plan_stop
+use Rattle.bot_ways.specs.Walks.{IsWalk, IsUnreached, IsLeast, HasLeast, length_to}
+use Rattle.bot_ways.specs.Ways.{IsWay, IsCertificate}
+use Rattle.bot_ways.specs.PlanTexts.{plan_text}
+use Rattle.demo_lines.specs.Bytes.{LineRefusal, fault, map_of}
+use Rattle.arena_engine.specs.declared.report.Report.{Report}
+use Rattle.arena_engine.specs.Endings.{Ends}
+use Rattle.arena_engine.specs.Reports.{refusal_of}
+use Rattle.arena_engine.specs.Planned.{IsPlanned, HasMap, ShowsWay, ShowsWays, HasRoomForWays}
+use Rattle.arena_engine.specs.MapReads.{GivesMap, GivesRefusal, GivesReadFault, WritesWay, WritesNothing, WritesLeast, WritesCut, WritesStop}
+use Rattle.arena_engine.proofs.Reported.{ends_by, uncounted_in, counted_in}
+
+-- ---- what was planned
+
+-- a plan with a way is that of the way to its target
+pub shows-way : (m : MapView) (plan : Plan) (target : ℕ) → IsMap m → HasLeast m plan.least → IsCertificate m plan.least → (IsUnreached m target → plan.way ≡ [])
+    → IfSome (length_to plan.least target) (λ n. IsWay m plan.least target plan.way) → IfSome (length_to plan.least target) (IsWalk m 0 target plan.way)
+    → length plan.way ≤ 64 → (plan.way ≡ [] → ⊥) → ShowsWay m target (plan_text m plan)
+shows-way m plan target is least certificate no_way way walk few some = by (length_to plan.least target) refl
+  where
+    by : (o : Option ℕ) → length_to plan.least target ≡ o → ShowsWay m target (plan_text m plan)
+    by None e = absurd (some (no_way (subst (IsLeast m target) e (least.each target))))
+    by (Some far) e = record {
+      plan = plan;
+      far = far;
+      is_map = is;
+      is = record {
+        certificate = certificate;
+        reached = e;
+        way = subst (λ o. IfSome o (λ n. IsWay m plan.least target plan.way)) e way;
+        walk = subst (λ o. IfSome o (IsWalk m 0 target plan.way)) e walk;
+        few = few;
+      };
+      text_is = refl;
+    }
+
+-- a way is empty where its length is 0, and only there
+pub empty-way : (way : List ℕ) → true ≡ (length way == 0) → way ≡ []
+empty-way way e = let none : length way ≡ 0 = grind (arith, nat_tests) in by way none
+  where
+    by : (way : List ℕ) → length way ≡ 0 → way ≡ []
+    by [] none = refl
+    by (u ∷ way) none = absurd (omega (arith, none))
+
+pub some-way : (way : List ℕ) → false ≡ (length way == 0) → way ≡ [] → ⊥
+some-way [] e is = let never : false ≡ true = e in cc
+some-way (u ∷ way) e is = cc
+
+-- the writing of this text stopped
+pub ways-cut : {K : Type 0} (k : sinks.Ghosts K) (m : MapView) (target : ℕ) (sink sink' : K) (text : List ℕ) (r : Result (Unit {0}) PlanStop) (stop : PlanStop) → r ≡ Err stop
+    → (r ≡ Err plan_stop.WriteFault → AppendsPart (k.taken sink) (k.taken sink') text) → (r ≡ Err plan_stop.NoMemory → sink' ≡ sink) → k.faults sink ≤ k.faults sink'
+    → (r ≡ Err plan_stop.WriteFault → HasRisen (k.faults sink) (k.faults sink')) → (length text ≤ k.room sink → r ≢ Err plan_stop.WriteFault) → ShowsWays m target text
+    → WritesStop k m target sink sink' stop
+ways-cut k m target sink sink' text r plan_stop.WriteFault is part nothing later risen sure shows = record {
+  written = record { text = text; written = part is; holds = shows };
+  cause = risen is;
+  later = later;
+  no_room = λ room. sure (room text shows) is;
+}
+ways-cut k m target sink sink' text r plan_stop.NoMemory is part nothing later risen sure shows = nothing is
+
+-- ---- recordings that were read
+
+-- a recording without a fault, of this map
+of-map : (a : Option (List ℕ)) (m : MapView) (P : MapView → Type 0) → IfSome a (λ bytes. fault bytes ≡ None) → IfSome a (λ bytes. map_of bytes ≡ Some m) → P m
+    → IfSome a (λ bytes. HasMap bytes P)
+of-map None m P faultless is holds = tt
+of-map (Some bytes) m P faultless is holds = record { map = m; map_is = is; faultless = faultless; holds = holds }
+
+not-faulty : (a : Option (List ℕ)) → IfSome a (λ bytes. fault bytes ≡ None) → IsSomeAnd a (λ bytes. IsSome (fault bytes)) → ⊥
+not-faulty None faultless some = absurd some
+not-faulty (Some bytes) faultless some = let never : false ≡ true = subst IsSome faultless some in cc
+
+not-faultless : (a : Option (List ℕ)) (why : LineRefusal) → IfSome a (λ bytes. fault bytes ≡ Some why) → IsSomeAnd a (λ bytes. fault bytes ≡ None) → ⊥
+not-faultless None why faulty none = absurd none
+not-faultless (Some bytes) why faulty none = let never : Some why ≡ None = sym faulty ∙ none in cc
+
+-- there is room for what is to be written of this map
+room-of : (a : Option (List ℕ)) (m : MapView) (P : MapView → Type 0) → IfSome a (λ bytes. map_of bytes ≡ Some m) → IsSomeAnd a (λ bytes. IsSomeAnd (map_of bytes) P) → P m
+room-of None m P is room = absurd room
+room-of (Some bytes) m P is room = subst (λ o. IsSomeAnd o P) is room
+
+module _ {S K : Type 0} (s : sources.Ghosts S) (k : sinks.Ghosts K) (target : ℕ) (source source' : S) (sink sink' : K) (r : Report) (last : r.last ≡ None) (all : r.all ≡ []) where
+  -- ---- the map was read
+
+  module _ (m : MapView) (given : GivesMap s source source' m) where
+    pub way_planned : r.status ≡ 0 → WritesWay k m target sink sink' → IsPlanned s k target source source' sink sink' r
+    way_planned status writes = record {
+      done = λ is. of-map (s.left source) m _ given.faultless given.map_is writes.written;
+      no_spawn = λ is fault_is. absurd (omega (arith, is, status));
+      no_walk = λ is fault_is. absurd (omega (arith, is, status));
+      read = λ is. given.read;
+      refused = λ is. absurd (omega (arith, is, status));
+      refused_read = λ is. absurd (omega (arith, is, status));
+      cut = λ is. absurd (omega (arith, is, status));
+      nothing = λ is. absurd (omega (arith, is, status));
+      no_frame = last;
+      no_journals = all;
+      sure_writes = λ room is. absurd (omega (arith, is, status));
+      complete = λ none nothing. inl (inr status);
+      complete_refusal = λ some nothing. absurd (not-faulty (s.left source) given.faultless some);
+    }
+
+    pub no_spawn_planned : r.status ≡ 7 → r.fault ≡ 1 → WritesNothing k m target sink sink' → IsPlanned s k target source source' sink sink' r
+    no_spawn_planned status one writes = record {
+      done = λ is. absurd (omega (arith, is, status));
+      no_spawn = λ is fault_is. (of-map (s.left source) m _ given.faultless given.map_is writes.past, writes.same);
+      no_walk = λ is fault_is. absurd (omega (arith, fault_is, one));
+      read = λ is. given.read;
+      refused = λ is. absurd (omega (arith, is, status));
+      refused_read = λ is. absurd (omega (arith, is, status));
+      cut = λ is. absurd (omega (arith, is, status));
+      nothing = λ is. absurd (omega (arith, is, status));
+      no_frame = last;
+      no_journals = all;
+      sure_writes = λ room is. absurd (omega (arith, is, status));
+      complete = λ none nothing. inr status;
+      complete_refusal = λ some nothing. absurd (not-faulty (s.left source) given.faultless some);
+    }
+
+    pub no_walk_planned : r.status ≡ 7 → r.fault ≡ 2 → WritesLeast k m target sink sink' → IsPlanned s k target source source' sink sink' r
+    no_walk_planned status two writes = record {
+      done = λ is. absurd (omega (arith, is, status));
+      no_spawn = λ is fault_is. absurd (omega (arith, fault_is, two));
+      no_walk = λ is fault_is. of-map (s.left source) m _ given.faultless given.map_is writes.written;
+      read = λ is. given.read;
+      refused = λ is. absurd (omega (arith, is, status));
+      refused_read = λ is. absurd (omega (arith, is, status));
+      cut = λ is. absurd (omega (arith, is, status));
+      nothing = λ is. absurd (omega (arith, is, status));
+      no_frame = last;
+      no_journals = all;
+      sure_writes = λ room is. absurd (omega (arith, is, status));
+      complete = λ none nothing. inr status;
+      complete_refusal = λ some nothing. absurd (not-faulty (s.left source) given.faultless some);
+    }
+
+    pub cut_planned : r.status ≡ 4 → WritesCut k m target sink sink' → IsPlanned s k target source source' sink sink' r
+    cut_planned status cuts = record {
+      done = λ is. absurd (omega (arith, is, status));
+      no_spawn = λ is fault_is. absurd (omega (arith, is, status));
+      no_walk = λ is fault_is. absurd (omega (arith, is, status));
+      read = λ is. absurd (omega (arith, is, status));
+      refused = λ is. absurd (omega (arith, is, status));
+      refused_read = λ is. absurd (omega (arith, is, status));
+      cut = λ is. of-map (s.left source) m _ given.faultless given.map_is cuts.written;
+      nothing = λ is. absurd (omega (arith, is, status));
+      no_frame = last;
+      no_journals = all;
+      sure_writes = λ room is. cuts.no_room (room-of (s.left source) m (HasRoomForWays (k.room sink) target) given.map_is room);
+      complete = λ none nothing. absurd (nothing.writing cuts.cause);
+      complete_refusal = λ some nothing. absurd (nothing.writing cuts.cause);
+    }
+
+  -- ---- it wasn't, or memory was refused
+
+  pub memory_planned : r.status ≡ 5 → sink' ≡ sink → IsPlanned s k target source source' sink sink' r
+  memory_planned status same = record {
+    done = λ is. absurd (omega (arith, is, status));
+    no_spawn = λ is fault_is. absurd (omega (arith, is, status));
+    no_walk = λ is fault_is. absurd (omega (arith, is, status));
+    read = λ is. absurd (omega (arith, is, status));
+    refused = λ is. absurd (omega (arith, is, status));
+    refused_read = λ is. absurd (omega (arith, is, status));
+    cut = λ is. absurd (omega (arith, is, status));
+    nothing = λ is. same;
+    no_frame = last;
+    no_journals = all;
+    sure_writes = λ room is. absurd (omega (arith, is, status));
+    complete = λ none nothing. inl (inl status);
+    complete_refusal = λ some nothing. inl status;
+  }
+
+  pub refusal_planned : r.status ≡ 1 → sink' ≡ sink → GivesRefusal s source source' (refusal_of r) → IsPlanned s k target source source' sink sink' r
+  refusal_planned status same given = record {
+    done = λ is. absurd (omega (arith, is, status));
+    no_spawn = λ is fault_is. absurd (omega (arith, is, status));
+    no_walk = λ is fault_is. absurd (omega (arith, is, status));
+    read = λ is. absurd (omega (arith, is, status));
+    refused = λ is. given.faulty;
+    refused_read = λ is. given.read;
+    cut = λ is. absurd (omega (arith, is, status));
+    nothing = λ is. same;
+    no_frame = last;
+    no_journals = all;
+    sure_writes = λ room is. absurd (omega (arith, is, status));
+    complete = λ none nothing. absurd (not-faultless (s.left source) (refusal_of r) given.faulty none);
+    complete_refusal = λ some nothing. inr status;
+  }
+
+  pub read_fault_planned : r.status ≡ 3 → sink' ≡ sink → GivesReadFault s source source' → IsPlanned s k target source source' sink sink' r
+  read_fault_planned status same given = record {
+    done = λ is. absurd (omega (arith, is, status));
+    no_spawn = λ is fault_is. absurd (omega (arith, is, status));
+    no_walk = λ is fault_is. absurd (omega (arith, is, status));
+    read = λ is. absurd (omega (arith, is, status));
+    refused = λ is. absurd (omega (arith, is, status));
+    refused_read = λ is. absurd (omega (arith, is, status));
+    cut = λ is. absurd (omega (arith, is, status));
+    nothing = λ is. same;
+    no_frame = last;
+    no_journals = all;
+    sure_writes = λ room is. absurd (omega (arith, is, status));
+    complete = λ none nothing. absurd (nothing.reading given.cause);
+    complete_refusal = λ some nothing. absurd (nothing.reading given.cause);
+  }
+
+-- ---- what holds of every command
+
+module _ {S K : Type 0} (s : sources.Ghosts S) (k : sinks.Ghosts K) (source source' : S) (sink sink' : K) (r : Report) where
+  -- nothing failed
+  pub quiet_ends : r.status ≤ 5 → (r.status ≡ 2 → ⊥) → (r.status ≡ 3 → ⊥) → (r.status ≡ 4 → ⊥) → ((r.status ≡ 1 → ⊥) → (r.line ≡ 0) × (r.fault ≡ 0) × (r.rule ≡ 0))
+      → s.faults source' ≡ s.faults source → k.faults sink' ≡ k.faults sink → Ends s k source source' sink sink' r
+  quiet_ends known words no_read no_write place reads writes =
+      ends_by s k 1 source source' sink sink' r known words place (uncounted_in 3 _ _ r.status reads no_read) (uncounted_in 4 _ _ r.status writes no_write)
+      (λ is. absurd (no_read is)) (λ sure is. no_read is)
+
+  pub way_read_fault_ends : r.status ≡ 3 → (r.line ≡ 0) × (r.fault ≡ 0) × (r.rule ≡ 0) → sink' ≡ sink → GivesReadFault s source source' → Ends s k source source' sink sink' r
+  way_read_fault_ends status place same given =
+      ends_by s k 1 source source' sink sink' r (omega (arith, status)) (λ is. omega (arith, is, status)) (λ no. place)
+      (counted_in 3 _ _ r.status status given.later given.cause) (uncounted_in 4 _ _ r.status (ap k.faults same) (λ is. omega (arith, is, status)))
+      (λ is. given.same_end) (λ sure is. given.fails sure)
+
+  pub way_cut_ends : (m : MapView) (target : ℕ) → r.status ≡ 4 → (r.line ≡ 0) × (r.fault ≡ 0) × (r.rule ≡ 0) → s.faults source' ≡ s.faults source → WritesCut k m target sink sink' → Ends s k source source' sink sink' r
+  way_cut_ends m target status place reads cuts =
+      ends_by s k 1 source source' sink sink' r (omega (arith, status)) (λ is. omega (arith, is, status)) (λ no. place)
+      (uncounted_in 3 _ _ r.status reads (λ is. omega (arith, is, status))) (counted_in 4 _ _ r.status status cuts.later cuts.cause)
+      (λ is. absurd (omega (arith, is, status))) (λ sure is. omega (arith, is, status))
+
+  -- there is no way, for this reason
+  pub no_way_ends : (fault : ℕ) → (fault ≡ 1) ⊎ (fault ≡ 2) → r.status ≡ 7 → (r.line ≡ 0) × (r.fault ≡ fault) × (r.rule ≡ 0) → s.faults source' ≡ s.faults source → k.faults sink' ≡ k.faults sink
+      → Ends s k source source' sink sink' r
+  no_way_ends fault which status place reads writes = record {
+    known = inr status;
+    place = λ no. (place.0, place.2);
+    fault = λ no found. absurd (found status);
+    no_way = λ is. subst (λ n. (n ≡ 1) ⊎ (n ≡ 2)) (sym place.1) which;
+    untouched = λ is. absurd (omega (arith, is, status));
+    no_frame = λ is. absurd (omega (arith, is, status));
+    no_journals = λ is. absurd (omega (arith, is, status));
+    reads = uncounted_in 3 _ _ r.status reads (λ is. omega (arith, is, status));
+    writes = uncounted_in 4 _ _ r.status writes (λ is. omega (arith, is, status));
+    before_end = λ is. absurd (omega (arith, is, status));
+    sure_reads = λ sure is. omega (arith, is, status);
+  }

@@ -1,0 +1,26 @@
+use Rattle.arena_engine.proofs.WaysReported.{way_planned, no_spawn_planned, no_walk_planned, cut_planned}
+use Rattle.arena_engine.proofs.bots.plan_recording.Goals as goal
+
+pub returns-in-Ok-Found-clause-planned : goal.returns-in-Ok-Found-clause-planned
+returns-in-Ok-Found-clause-planned g c =
+    let r = c.unserved-in-Ok-Found in
+    way_planned g.S.Source g.K.Sink c.args.target c.args.source.now c.read_map.new.source c.args.sink.now c.write_ways.new.sink r.result r.ensures.last r.ensures.all
+    c.in-Ok.map c.in-Ok.ensures.ok r.ensures.status (rw c.in-Ok-Found.field-0-is at c.in-Ok-Found.ensures.ok)
+
+pub returns-in-Ok-NoSpawn-clause-planned : goal.returns-in-Ok-NoSpawn-clause-planned
+returns-in-Ok-NoSpawn-clause-planned g c =
+    let r = c.of_no_way in
+    no_spawn_planned g.S.Source g.K.Sink c.args.target c.args.source.now c.read_map.new.source c.args.sink.now c.write_ways.new.sink r.result r.ensures.last r.ensures.all
+    c.in-Ok.map c.in-Ok.ensures.ok r.ensures.status r.ensures.place.1 (rw c.in-Ok-NoSpawn.field-0-is at c.in-Ok-NoSpawn.ensures.ok)
+
+pub returns-in-Ok-NoWalk-clause-planned : goal.returns-in-Ok-NoWalk-clause-planned
+returns-in-Ok-NoWalk-clause-planned g c =
+    let r = c.of_no_way-in-Ok-NoWalk in
+    no_walk_planned g.S.Source g.K.Sink c.args.target c.args.source.now c.read_map.new.source c.args.sink.now c.write_ways.new.sink r.result r.ensures.last r.ensures.all
+    c.in-Ok.map c.in-Ok.ensures.ok r.ensures.status r.ensures.place.1 (rw c.in-Ok-NoWalk.field-0-is at c.in-Ok-NoWalk.ensures.ok)
+
+pub returns-in-Err-WriteFault-clause-planned : goal.returns-in-Err-WriteFault-clause-planned
+returns-in-Err-WriteFault-clause-planned g c =
+    let r = c.unserved-in-Err-WriteFault in
+    cut_planned g.S.Source g.K.Sink c.args.target c.args.source.now c.read_map.new.source c.args.sink.now c.write_ways.new.sink r.result r.ensures.last r.ensures.all
+    c.in-Ok.map c.in-Ok.ensures.ok r.ensures.status (rw c.in-Err-WriteFault.field-0-is at c.in-Err-WriteFault.ensures.err)

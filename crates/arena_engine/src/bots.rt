@@ -1,0 +1,90 @@
+ghost use Rattle.std.specs.Prelude.{◌≡◌, IfOk, IfErr};
+ghost use Rattle.demo_lines.specs.Reads.{fresh_reader};
+ghost use Rattle.arena_engine.specs.Endings.{Ends};
+ghost use Rattle.arena_engine.specs.MapReads.{GivesMap, GivesStop, WritesWays, WritesStop};
+ghost use Rattle.arena_engine.specs.Planned.{IsPlanned};
+
+use crate::game::is_end;
+use crate::report::Report;
+use arena_map::ArenaMap;
+use bot_ways::{PlanStop, plan_way, write_least, write_plan};
+use demo_lines::{DemoReader, DemoStop};
+use edge_io::{Sink, Source};
+use move_journal::JournalList;
+use std::alloc::Global;
+
+/// What was found of the ways to a spawn.
+#[derive(Clone, Copy, Debug, PartialEq, Eq)]
+pub enum Ways {
+    /// A shortest one.
+    Found,
+    /// The map has no such spawn.
+    NoSpawn,
+    /// No walk leads there.
+    NoWalk,
+}
+
+/// Reads a recording to its line `end`, and gives its map.
+fn read_map<S: Source>(alloc: Global, source: &mut S) -> Result<ArenaMap, DemoStop>
+    ensures ok { IfOk result (GivesMap S.Source source.old source.new) }
+    ensures err { IfErr result (GivesStop S.Source source.old source.new) }
+{
+    let mut demo = DemoReader::new(alloc)?;
+    'events: loop {
+        let event = demo.next(alloc, source)?;
+        if is_end(&event) {
+            return Ok(demo.take_map().unwrap());
+        }
+    }
+}
+
+/// Plans the way to a spawn of a map, and writes what that comes to.
+fn write_ways<K: Sink>(
+    alloc: Global,
+    map: &ArenaMap,
+    target: u8,
+    sink: &mut K,
+) -> Result<Ways, PlanStop>
+    ensures ok { IfOk result (WritesWays K.Sink map.now target sink.old sink.new) }
+    ensures err { IfErr result (WritesStop K.Sink map.now target sink.old sink.new) }
+{
+    if usize::from(target) >= map.spawns().len() {
+        return Ok(Ways::NoSpawn);
+    }
+    let plan = plan_way(alloc, map, target)?;
+    if plan.way.as_slice().is_empty() {
+        write_least(alloc, &plan.least, sink)?;
+        return Ok(Ways::NoWalk);
+    }
+    write_plan(alloc, map, &plan, sink)?;
+    Ok(Ways::Found)
+}
+
+/// Reads a recording for its map, and writes the recording of a bot that walks the shortest way from the first spawn to
+/// this one. The report has how that ended.
+pub fn plan_recording<S: Source, K: Sink>(
+    alloc: Global,
+    target: u8,
+    source: &mut S,
+    sink: &mut K,
+) -> Report
+    ensures planned { IsPlanned S.Source K.Sink target source.old source.new sink.old sink.new result }
+    ensures ends { Ends S.Source K.Sink source.old source.new sink.old sink.new result }
+    ensures served { result.status ≡ 2 → ⊥ }
+{
+    let map = match read_map(alloc, source) {
+        Ok(map) => map,
+        Err(DemoStop::Refused { line, fault, rule }) => {
+            return Report::of_refusal(line, fault, rule, None, JournalList::new(alloc));
+        }
+        Err(DemoStop::ReadFault) => return Report::unserved(alloc, 3),
+        Err(DemoStop::NoMemory) => return Report::unserved(alloc, 5),
+    };
+    match write_ways(alloc, &map, target, sink) {
+        Ok(Ways::Found) => Report::unserved(alloc, 0),
+        Ok(Ways::NoSpawn) => Report::of_no_way(alloc, 1),
+        Ok(Ways::NoWalk) => Report::of_no_way(alloc, 2),
+        Err(PlanStop::WriteFault) => Report::unserved(alloc, 4),
+        Err(PlanStop::NoMemory) => Report::unserved(alloc, 5),
+    }
+}

@@ -1,0 +1,240 @@
+-- A map that keeps the rules takes its lines in the order of blocks, spawns and things, each after those before it.
+use Rattle.std.proofs.Common.{◌≡◌, ℕ, ◌≤◌, ◌≤ℤ◌, ℤ, unsigned_abs, Bool, true, false, ◌||◌, List, [], ◌∷◌, ◌++◌, length, fold, map, filter_map, count_by, get_or, All, AllPairs, refl, sym, ap, ◌∙◌, subst, arith, append_assoc, append-nil, length-append}
+use Rattle.std.specs.List.{AllByRecursion, list_any}
+use Rattle.std.proofs.lemmas.Int.{ints}
+use Rattle.std.proofs.Math.ListN.{get_or-append}
+use Rattle.std.proofs.lemmas.List.Folds.{list_any-append}
+use Rattle.std.proofs.lemmas.List.Elements.{recursion_from_All, filter_map-append}
+use Rattle.arena_geo.specs.declared.vec3.Vec3.{Vec3}
+use Rattle.arena_geo.specs.Bounds.{Bounds}
+use Rattle.arena_geo.specs.Vectors.{IsNear}
+use Rattle.arena_geo.specs.Boxes.{contains_on, overlaps, is_blocked}
+use Rattle.arena_geo.proofs.Containment.{three_pass}
+use Rattle.arena_map.specs.declared.map_line.MapLine.{MapLine}
+use Rattle.arena_map.specs.declared.map_line.MapLine.TheVariants.{Arena, Block, Spawn, Item, Teleport, Goal, Lift}
+use Rattle.arena_map.specs.Places.{shaft_of}
+use Rattle.arena_map.specs.MapLines.{IsWithinLimits, is_added, is_thing_line, is_item_line, is_teleport_line, is_goal_line, is_lift_line}
+use Rattle.arena_map.specs.Maps.{MapView, map_of, IsMap, IsBlock, IsSpawn, IsThingInside, shafts_of}
+use Rattle.arena_map.specs.Rules.{with_line, with_block, with_spawn, with_thing}
+use Rattle.arena_map.proofs.Keeping.{count-push}
+use Rattle.arena_map.proofs.Breaking.{leaves-unbroken}
+use Rattle.demo_lines.specs.InTurn.{AreAccepted, map_in_turn}
+use Rattle.bot_ways.specs.PlanTexts.{block_of, added_lines}
+
+-- ---- fronts of lists
+
+all-front : {X : Type 0} (P : X → Type 0) (xs : List X) (x : X) → All P (xs ++ x ∷ []) → All P xs
+all-front P xs x each k d within =
+    let more = length-append xs (x ∷ []) in
+    subst P (get_or-append xs (x ∷ []) d k within) (each k d (omega (arith, more)))
+
+pairs-front : {X : Type 0} (R : X → X → Type 0) (xs ys : List X) → AllPairs R (xs ++ ys) → AllPairs R xs
+pairs-front R xs ys each i j d first within =
+    let more = length-append xs ys in
+    subst (R (get_or xs i d)) (get_or-append xs ys d j within)
+    (subst (λ x. R x (get_or (xs ++ ys) j d)) (get_or-append xs ys d i (omega arith)) (each i j d first (omega (arith, more))))
+
+all-start : {X : Type 0} (P : X → Type 0) (xs ys : List X) → All P (xs ++ ys) → All P xs
+all-start P xs ys each k d within =
+    let more = length-append xs ys in
+    subst P (get_or-append xs ys d k within) (each k d (omega (arith, more)))
+
+few-front : {X : Type 0} (xs : List X) (x : X) (most : ℕ) → length (xs ++ x ∷ []) ≤ most → length xs ≤ most
+few-front xs x most few = let more = length-append xs (x ∷ []) in omega (arith, more, few)
+
+count-front : (p : MapLine → Bool) (xs : List MapLine) (x : MapLine) (most : ℕ) → count_by p (xs ++ x ∷ []) ≤ most → count_by p xs ≤ most
+count-front p xs x most few = let more = count-push p xs x in omega (arith, more, few)
+
+neither : (a b : Bool) → (a || b) ≡ false → a ≡ false
+neither false b h = refl
+neither true b h = cc
+
+clear-front : (own : Bounds) (blocks : List Bounds) (b : Bounds) → is_blocked own (blocks ++ b ∷ []) ≡ false → is_blocked own blocks ≡ false
+clear-front own blocks b clear =
+    neither (list_any (overlaps own) blocks) (list_any (overlaps own) (b ∷ [])) (sym (list_any-append (overlaps own) blocks (b ∷ [])) ∙ clear)
+
+-- ---- the map before a line
+
+before_block : (m : MapView) (b : Bounds) → IsMap (with_block m b) → IsMap m
+before_block m b is = record {
+  is_box = is.is_box;
+  lo = is.lo;
+  hi = is.hi;
+  wide = is.wide;
+  blocks = all-front (IsBlock m.bounds) m.blocks b is.blocks;
+  few_blocks = few-front m.blocks b 1024 is.few_blocks;
+  spawns = is.spawns;
+  few_spawns = is.few_spawns;
+  things = is.things;
+  few_items = is.few_items;
+  few_teleporters = is.few_teleporters;
+  few_goals = is.few_goals;
+  few_lifts = is.few_lifts;
+  clear_shafts = λ k d within. clear-front (get_or (shafts_of m) k d) m.blocks b (is.clear_shafts k d within);
+  shafts_apart = is.shafts_apart;
+}
+
+before_spawn : (m : MapView) (at : Vec3) → IsMap (with_spawn m at) → IsMap m
+before_spawn m at is = record {
+  is_box = is.is_box;
+  lo = is.lo;
+  hi = is.hi;
+  wide = is.wide;
+  blocks = is.blocks;
+  few_blocks = is.few_blocks;
+  spawns = all-front (IsSpawn m.bounds) m.spawns at is.spawns;
+  few_spawns = few-front m.spawns at 64 is.few_spawns;
+  things = is.things;
+  few_items = is.few_items;
+  few_teleporters = is.few_teleporters;
+  few_goals = is.few_goals;
+  few_lifts = is.few_lifts;
+  clear_shafts = is.clear_shafts;
+  shafts_apart = is.shafts_apart;
+}
+
+before_thing : (m : MapView) (line : MapLine) → IsMap (with_thing m line) → IsMap m
+before_thing m line is =
+    let Clear : List Bounds → Type 0 = All (λ own. is_blocked own m.blocks ≡ false) in
+    let Apart : List Bounds → Type 0 = AllPairs (λ one other. overlaps one other ≡ false) in
+    let split = filter_map-append shaft_of m.things (line ∷ []) in
+    record {
+      is_box = is.is_box;
+      lo = is.lo;
+      hi = is.hi;
+      wide = is.wide;
+      blocks = is.blocks;
+      few_blocks = is.few_blocks;
+      spawns = is.spawns;
+      few_spawns = is.few_spawns;
+      things = all-front (IsThingInside m.bounds) m.things line is.things;
+      few_items = count-front is_item_line m.things line 144 is.few_items;
+      few_teleporters = count-front is_teleport_line m.things line 16 is.few_teleporters;
+      few_goals = count-front is_goal_line m.things line 16 is.few_goals;
+      few_lifts = count-front is_lift_line m.things line 16 is.few_lifts;
+      clear_shafts = all-start (λ own. is_blocked own m.blocks ≡ false) (shafts_of m) (filter_map shaft_of (line ∷ [])) (subst Clear split is.clear_shafts);
+      shafts_apart = pairs-front (λ one other. overlaps one other ≡ false) (shafts_of m) (filter_map shaft_of (line ∷ [])) (subst Apart split is.shafts_apart);
+    }
+
+before_line : (m : MapView) (line : MapLine) → IsMap (with_line m line) → IsMap m
+before_line m (Arena lo hi) is = is
+before_line m (Block lo hi) is = before_block m _ is
+before_line m (Spawn at) is = before_spawn m at is
+before_line m (Item at kind delay) is = before_thing m (Item at kind delay) is
+before_line m (Teleport lo hi dest) is = before_thing m (Teleport lo hi dest) is
+before_line m (Goal lo hi) is = before_thing m (Goal lo hi) is
+before_line m (Lift lo hi rise speed) is = before_thing m (Lift lo hi rise speed) is
+
+-- the map before these lines
+before_lines : (m : MapView) (lines : List MapLine) → IsMap (fold with_line m lines) → IsMap m
+before_lines m [] is = is
+before_lines m (line ∷ lines) is = before_line m line (before_lines (with_line m line) lines is)
+
+-- ---- lines that are accepted
+
+-- the numbers of a line are within their limits, and it isn't that of an arena
+pub record MayBeAdded (line : MapLine) : Type 0 where
+  pub limits : IsWithinLimits line
+  pub added : is_added line ≡ true
+
+accepted : (m : MapView) (lines : List MapLine) → AllByRecursion MayBeAdded lines → IsMap (fold with_line m lines) → AreAccepted m lines
+accepted m [] each is = tt
+accepted m (line ∷ lines) each is = (
+  record { limits = each.0.limits; added = each.0.added; rules = leaves-unbroken m line (before_lines (with_line m line) lines is) },
+  accepted (with_line m line) lines each.1 is,
+)
+
+each-of : {X : Type 0} (P : X → Type 0) (f : X → MapLine) (xs : List X) → ((x : X) → P x → MayBeAdded (f x)) → AllByRecursion P xs → AllByRecursion MayBeAdded (map f xs)
+each-of P f [] may each = tt
+each-of P f (x ∷ xs) may each = (may x each.0, each-of P f xs may each.1)
+
+each-both : (xs ys : List MapLine) → AllByRecursion MayBeAdded xs → AllByRecursion MayBeAdded ys → AllByRecursion MayBeAdded (xs ++ ys)
+each-both [] ys one other = other
+each-both (x ∷ xs) ys one other = (one.0, each-both xs ys one.1 other)
+
+thing-added : (line : MapLine) → is_thing_line line ≡ true → is_added line ≡ true
+thing-added (Arena lo hi) thing = cc
+thing-added (Block lo hi) thing = refl
+thing-added (Spawn at) thing = refl
+thing-added (Item at kind delay) thing = refl
+thing-added (Teleport lo hi dest) thing = refl
+thing-added (Goal lo hi) thing = refl
+thing-added (Lift lo hi rise speed) thing = refl
+
+things-each : (arena : Bounds) (lines : List MapLine) → AllByRecursion (IsThingInside arena) lines → AllByRecursion MayBeAdded lines
+things-each arena [] each = tt
+things-each arena (line ∷ lines) each =
+    (record { limits = each.0.limits; added = thing-added line each.0.thing }, things-each arena lines each.1)
+
+-- ---- the numbers of a block
+
+near_on : (lo hi l h : ℤ) → unsigned_abs lo ≤ 1048576 → unsigned_abs hi ≤ 1048576 → l ≤ℤ h → contains_on lo hi l h ≡ true
+    → (unsigned_abs l ≤ 1048576) × (unsigned_abs h ≤ 1048576)
+near_on lo hi l h near_lo near_hi ordered inside =
+    let low : lo ≤ℤ l = grind (arith, ints) in
+    let high : h ≤ℤ hi = grind (arith, ints) in
+    (omega (arith, ints), omega (arith, ints))
+
+-- a block inside an arena that is near is near
+pub block_near : (arena b : Bounds) → IsNear 1048576 arena.lo → IsNear 1048576 arena.hi → IsBlock arena b → IsNear 1048576 b.lo × IsNear 1048576 b.hi
+block_near arena b lo hi is =
+    let passed = three_pass _ _ _ is.inside in
+    let x = near_on arena.lo.x arena.hi.x b.lo.x b.hi.x lo.x hi.x is.is_box.ordered.x passed.x in
+    let y = near_on arena.lo.y arena.hi.y b.lo.y b.hi.y lo.y hi.y is.is_box.ordered.y passed.y in
+    let z = near_on arena.lo.z arena.hi.z b.lo.z b.hi.z lo.z hi.z is.is_box.ordered.z passed.z in
+    (record { x = x.0; y = y.0; z = z.0 }, record { x = x.1; y = y.1; z = z.1 })
+
+-- ---- the lines of a map
+
+blocks-added : (arena : Bounds) (done blocks : List Bounds) → fold with_line (map_of arena done [] []) (map block_of blocks) ≡ map_of arena (done ++ blocks) [] []
+blocks-added arena done [] = ap (λ bs. map_of arena bs [] []) (sym (append-nil done))
+blocks-added arena done (b ∷ blocks) =
+    blocks-added arena (done ++ b ∷ []) blocks ∙ ap (λ bs. map_of arena bs [] []) (append_assoc done (b ∷ []) blocks)
+
+spawns-added : (arena : Bounds) (blocks : List Bounds) (done spawns : List Vec3) → fold with_line (map_of arena blocks done []) (map Spawn spawns) ≡ map_of arena blocks (done ++ spawns) []
+spawns-added arena blocks done [] = ap (λ ss. map_of arena blocks ss []) (sym (append-nil done))
+spawns-added arena blocks done (at ∷ spawns) =
+    spawns-added arena blocks (done ++ at ∷ []) spawns ∙ ap (λ ss. map_of arena blocks ss []) (append_assoc done (at ∷ []) spawns)
+
+added-thing : (m : MapView) (line : MapLine) → is_thing_line line ≡ true → with_line m line ≡ with_thing m line
+added-thing m (Arena lo hi) thing = cc
+added-thing m (Block lo hi) thing = cc
+added-thing m (Spawn at) thing = cc
+added-thing m (Item at kind delay) thing = refl
+added-thing m (Teleport lo hi dest) thing = refl
+added-thing m (Goal lo hi) thing = refl
+added-thing m (Lift lo hi rise speed) thing = refl
+
+things-added : (arena : Bounds) (blocks : List Bounds) (spawns : List Vec3) (done things : List MapLine) → AllByRecursion (IsThingInside arena) things
+    → fold with_line (map_of arena blocks spawns done) things ≡ map_of arena blocks spawns (done ++ things)
+things-added arena blocks spawns done [] each = ap (λ ts. map_of arena blocks spawns ts) (sym (append-nil done))
+things-added arena blocks spawns done (line ∷ things) each =
+    ap (λ m. fold with_line m things) (added-thing (map_of arena blocks spawns done) line each.0.thing)
+    ∙ things-added arena blocks spawns (done ++ line ∷ []) things each.1
+    ∙ ap (λ ts. map_of arena blocks spawns ts) (append_assoc done (line ∷ []) things)
+
+fold-both : (m : MapView) (xs ys : List MapLine) → fold with_line m (xs ++ ys) ≡ fold with_line (fold with_line m xs) ys
+fold-both m [] ys = refl
+fold-both m (x ∷ xs) ys = fold-both (with_line m x) xs ys
+
+-- these lines give the map again
+pub map-again : (m : MapView) → IsMap m → map_in_turn m.bounds (added_lines m) ≡ m
+map-again m is =
+    let bare = map_of m.bounds [] [] [] in
+    let things = recursion_from_All (IsThingInside m.bounds) m.things is.things in
+    fold-both bare (map block_of m.blocks) (map Spawn m.spawns ++ m.things)
+    ∙ ap (λ n. fold with_line n (map Spawn m.spawns ++ m.things)) (blocks-added m.bounds [] m.blocks)
+    ∙ fold-both (map_of m.bounds m.blocks [] []) (map Spawn m.spawns) m.things
+    ∙ ap (λ n. fold with_line n m.things) (spawns-added m.bounds m.blocks [] m.spawns)
+    ∙ things-added m.bounds m.blocks m.spawns [] m.things things
+
+-- and each is accepted after those before it
+pub lines-accepted : (m : MapView) → IsMap m → AreAccepted (map_of m.bounds [] [] []) (added_lines m)
+lines-accepted m is =
+    let blocks = each-of (IsBlock m.bounds) block_of m.blocks (λ b inside. record { limits = block_near m.bounds b is.lo is.hi inside; added = refl })
+    (recursion_from_All (IsBlock m.bounds) m.blocks is.blocks) in
+    let spawns = each-of (IsSpawn m.bounds) Spawn m.spawns (λ at inside. record { limits = inside.near; added = refl })
+    (recursion_from_All (IsSpawn m.bounds) m.spawns is.spawns) in
+    let things = things-each m.bounds m.things (recursion_from_All (IsThingInside m.bounds) m.things is.things) in
+    accepted (map_of m.bounds [] [] []) (added_lines m) (each-both (map block_of m.blocks) (map Spawn m.spawns ++ m.things) blocks (each-both (map Spawn m.spawns) m.things spawns things))
+    (subst IsMap (sym (map-again m is)) is)
