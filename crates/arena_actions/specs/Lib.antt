@@ -14,6 +14,7 @@ pub mod Regions
 pub mod Leaps
 pub mod Indexes
 pub mod Takes
+pub mod Meanings
 pub mod Worlds
 pub mod Lawful
 pub mod Laws

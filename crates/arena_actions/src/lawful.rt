@@ -4,16 +4,10 @@ use arena_geo::Region;
 use entity_recs::{Action, Cmd, Effect, Rec};
 
 impl Action for ArenaAction {
-    ghost use Rattle.arena_actions.specs.Outcomes.{outcome_in};
-    ghost use Rattle.arena_actions.specs.Regions.{region_in};
-    ghost use Rattle.arena_actions.specs.Takes as taking;
+    ghost use Rattle.arena_actions.specs.Meanings.{meaning_of};
     ghost use Rattle.arena_actions.specs.Lawful.{outcome_is_valid, outcome_is_local, outcome_stays_within};
 
-    ghost takes = { λ a. taking.takes a.map };
-
-    ghost region_of = { λ a. region_in a.map };
-
-    ghost effect_of = { λ a. outcome_in a.map };
+    ghost meaning = { λ a. meaning_of a.map };
 
     fn region(&self, me: &Rec, cmd: &Cmd) -> Region {
         region_of(&self.leaps, me, cmd)

@@ -266,7 +266,7 @@ fn the_second_of_two_players_stays_at_the_teleporter(rt: HostRuntime) -> Result<
 
 /// The region and the effect of a command with nobody near, by any action.
 fn alone_by<A: Action>(action: &A, me: &Rec, cmd: &Cmd) -> (Region, Effect)
-    requires { IsCall (A.takes action.now) me.now [] (command_of cmd.now) }
+    requires { IsCall ((A.meaning action.now).takes) me.now [] (command_of cmd.now) }
 {
     (action.region(me, cmd), action.act(me, &[], cmd))
 }

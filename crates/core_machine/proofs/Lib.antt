@@ -6,6 +6,11 @@ pub mod Ranges
 pub mod Fixing
 pub mod ReadLists
 pub mod NearLists
+pub mod KeptNear
+pub mod SlotBits
+pub mod ThingsLoaded
+pub mod SlotLists
+pub mod ThingPlaces
 pub mod Changing
 pub mod SoundViews
 pub mod StepsLeft

@@ -105,7 +105,7 @@ near_are F region slot others states (r ∷ rs) found =
 
 -- ---- how many records there are at most
 
-id_small : (k : Kind) (id : ℕ) → IsIdOf k id → id < 256
+pub id_small : (k : Kind) (id : ℕ) → IsIdOf k id → id < 256
 id_small Player id is = omega arith
 id_small Ammo id is = omega (arith, is.most)
 id_small Gem id is = omega (arith, is.most)

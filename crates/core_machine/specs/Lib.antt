@@ -9,9 +9,12 @@ pub mod Tables
 pub mod Starts
 pub mod Points
 pub mod Logs
+pub mod Refusals
 pub mod Seats
 pub mod Shown
 pub mod NearRecords
+pub mod NearKept
+pub mod ThingColumns
 pub mod Going
 pub mod Sound
 pub mod Nexts

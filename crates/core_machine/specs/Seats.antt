@@ -7,9 +7,9 @@ use Rattle.core_steps.specs.Views as views
 use Rattle.core_steps.specs.Views.{View, no_command, new_view}
 use Rattle.core_machine.specs.declared.seat.ListRead.{ListRead}
 use Rattle.core_machine.specs.declared.seat.PlayerRead.{PlayerRead}
-use Rattle.core_machine.specs.declared.seat.Refused.{Refused}
 use Rattle.core_machine.specs.declared.seat.Seat.{Seat}
 use Rattle.core_machine.specs.Points.{point_of}
+use Rattle.core_machine.specs.Refusals.{last_of}
 
 -- the list word of the definitions
 abbrev pub list_read_of : ListRead → views.ListRead
@@ -18,10 +18,6 @@ list_read_of read = record { node = read.node; word = read.word }
 -- the words of a player of the definitions
 abbrev pub player_read_of : PlayerRead → views.PlayerRead
 player_read_of read = record { slot = read.slot; words = read.words }
-
--- the refused take of the definitions
-abbrev pub refused_of : Refused → views.Refused
-refused_of r = record { node = r.node; word = r.word; own = r.own.items; wanted = r.wanted.items }
 
 -- the command in hand
 abbrev pub hand_of : Option Cmd → Command
@@ -35,8 +31,8 @@ view_of s = record {
   room = s.log.room;
   seen = s.seen;
   log = s.log.items;
-  refusals = s.refusals;
-  refused = option_map refused_of s.refused;
+  refusals = s.refusals.count;
+  refused = last_of s.refusals;
   made = s.made;
   ended = [];
   cmd = hand_of s.cmd;

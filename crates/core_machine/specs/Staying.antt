@@ -21,7 +21,7 @@ use Rattle.entity_recs.specs.declared.effect.Effect.{Effect}
 use Rattle.entity_recs.specs.declared.effect.NewState.{NewState}
 use Rattle.entity_recs.specs.Bodies.{abs_of}
 use Rattle.entity_recs.specs.Commands.{Command}
-use Rattle.entity_recs.specs.Actions.{IsKeepable, HasValidity, HasLocality, HasFootprint}
+use Rattle.entity_recs.specs.Actions.{Meaning, IsKeepable, HasValidity, HasLocality, HasFootprint}
 use Rattle.entity_recs.proofs.Standing.{records_have_boxes}
 
 -- each part is at most far from 0
@@ -59,6 +59,10 @@ effect_of me near c = record {
   states = [];
   reply = record { origin = me.origin; got = [] };
 }
+
+-- what the action means
+abbrev pub meaning : Meaning
+meaning = record { takes = takes; region_of = region_of; effect_of = effect_of }
 
 -- ---- the laws of an action
 

@@ -113,7 +113,7 @@ impl Seat {
         ensures { (e : Effect) (got rest : List ℕ) → self.old.effect ≡ Some e
             → (view_of self.old).point ≡ views.Claiming got rest
             → view_of self.new
-            ≡ steps.view_after_commit (fixed_of A.takes A.region_of A.effect_of rules.now) place e got
+            ≡ steps.view_after_commit (fixed_of A.meaning rules.now) place e got
             (view_of self.old) }
     {
         if matches!(self.point, Point::Claiming) {
@@ -126,7 +126,7 @@ impl Seat {
         requires command { IsCommand (hand_of self.now.cmd) }
         requires before { IsRecord (record_read (hand_of self.now.cmd).slot self.now.again.items) }
         requires after { IsRecord effect.now.me }
-        ensures { result.items ≡ write_nodes (fixed_of A.takes A.region_of A.effect_of rules.now)
+        ensures { result.items ≡ write_nodes (fixed_of A.meaning rules.now)
             (record_read (hand_of self.now.cmd).slot self.now.again.items) effect.now }
     {
         rules.inner_of_two(rules.home(&self.before()), rules.home(&effect.me))
@@ -145,9 +145,9 @@ impl Seat {
         requires after { (e : Effect) → effect.now ≡ Some e → IsRecord e.me }
         requires room { length self.old.log.items < self.old.log.room }
         requires count { (e : Effect) → effect.now ≡ Some e
-            → write_nodes (fixed_of A.takes A.region_of A.effect_of rules.now)
+            → write_nodes (fixed_of A.meaning rules.now)
             (record_read (hand_of self.old.cmd).slot self.old.again.items) e ≡ [] → found + 1 < 2 ^ 64 }
-        ensures { (e : Effect) → effect.now ≡ Some e → let F = fixed_of A.takes A.region_of A.effect_of rules.now in
+        ensures { (e : Effect) → effect.now ≡ Some e → let F = fixed_of A.meaning rules.now in
             view_of self.new ≡ view_found F (view_of self.old)
             (resolving e (write_nodes F (record_read (hand_of self.old.cmd).slot self.old.again.items) e)) found }
     {

@@ -93,7 +93,7 @@ impl Seat {
         requires room { length self.old.log.items < self.old.log.room }
         requires place { place + 1 < 2 ^ 64 }
         ensures { (e : Effect) → self.old.effect ≡ Some e → view_of self.new
-            ≡ steps.view_after_commit (fixed_of A.takes A.region_of A.effect_of rules.now) place e
+            ≡ steps.view_after_commit (fixed_of A.meaning rules.now) place e
             self.old.queues.got.items
             (view_of self.old) }
     {

@@ -11,7 +11,7 @@ use entity_recs::Action;
 
 /// The inner node of the present visit, where it is one.
 fn visited_node<A: Action>(rules: &Rules<A>, node: u8) -> NodeQueue
-    ensures { result.items ≡ visited_node (fixed_of A.takes A.region_of A.effect_of rules.now) node }
+    ensures { result.items ≡ visited_node (fixed_of A.meaning rules.now) node }
 {
     if rules.is_leaf(node) {
         Queue::new()
@@ -91,10 +91,10 @@ impl Seat {
     /// The node that comes next was given back.
     pub(crate) fn give_next<A: Action>(&mut self, rules: &Rules<A>)
         requires { (node : ℕ) (plan : List ℕ) → (view_of self.old).point ≡ views.Leaving node plan
-            → HasPlayer (A.takes rules.now.action)
+            → HasPlayer ((A.meaning rules.now.action).takes)
             (record_read (hand_of self.old.cmd).slot self.old.own.items) (hand_of self.old.cmd) }
         ensures { view_of self.new
-            ≡ steps.view_after_give (fixed_of A.takes A.region_of A.effect_of rules.now) (view_of self.old)
+            ≡ steps.view_after_give (fixed_of A.meaning rules.now) (view_of self.old)
             (view_of self.old).point }
     {
         match self.point {
@@ -113,7 +113,7 @@ impl Seat {
     /// The inner nodes that are held.
     pub fn inner_held<A: Action>(&self, rules: &Rules<A>) -> NodeQueue
         ensures { result.items
-            ≡ views.inner_held (fixed_of A.takes A.region_of A.effect_of rules.now) (view_of self.now).point }
+            ≡ views.inner_held (fixed_of A.meaning rules.now) (view_of self.now).point }
     {
         match self.point {
             Point::Entered { node } | Point::Loading { node } | Point::Leaving { node } => {

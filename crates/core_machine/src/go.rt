@@ -18,17 +18,17 @@ impl Seat {
     /// The seat makes its next step, whichever it is, where this word was found. `effect` is the effect that is kept of
     /// its command; it is copied where it enters the view.
     pub fn go<A: Action>(&mut self, rules: &Rules<A>, effect: &Option<Effect>, found: u64)
-        requires comes { let F = fixed_of A.takes A.region_of A.effect_of rules.now in
+        requires comes { let F = fixed_of A.meaning rules.now in
             is_some (next_with F (view_of self.old) (given_of self.old) self.old.quits effect.now) ≡ true }
-        requires ready { let F = fixed_of A.takes A.region_of A.effect_of rules.now in
+        requires ready { let F = fixed_of A.meaning rules.now in
             IsReady F (view_of self.old) (given_of self.old) self.old.quits effect.now }
-        requires after { let F = fixed_of A.takes A.region_of A.effect_of rules.now in
+        requires after { let F = fixed_of A.meaning rules.now in
             IsSound F (view_found F (view_of self.old)
             (the_next (next_with F (view_of self.old) (given_of self.old) self.old.quits effect.now)) found) }
-        requires count { let F = fixed_of A.takes A.region_of A.effect_of rules.now in
+        requires count { let F = fixed_of A.meaning rules.now in
             kind_of (the_next (next_with F (view_of self.old) (given_of self.old) self.old.quits effect.now)) ≡ Commit
             → found + 1 < 2 ^ 64 }
-        ensures view { let F = fixed_of A.takes A.region_of A.effect_of rules.now in
+        ensures view { let F = fixed_of A.meaning rules.now in
             view_of self.new ≡ view_found F (view_of self.old)
             (the_next (next_with F (view_of self.old) (given_of self.old) self.old.quits effect.now)) found }
         ensures given { self.new.given ≡ None }
@@ -46,7 +46,7 @@ impl Seat {
     /// The first node that is held is given back by a seat that gives up; where none is held, the command is let go and
     /// the word found is the count.
     fn give_up<A: Action>(&mut self, rules: &Rules<A>, found: u64)
-        ensures { let F = fixed_of A.takes A.region_of A.effect_of rules.now in
+        ensures { let F = fixed_of A.meaning rules.now in
             view_of self.new ≡ view_found F (view_of self.old) (quitting (first_yield F (view_of self.old))) found }
     {
         let nodes = self.inner_held(rules);
@@ -61,19 +61,19 @@ impl Seat {
 
     /// The seat, which isn't to give up, makes its next step.
     fn go_on<A: Action>(&mut self, rules: &Rules<A>, effect: &Option<Effect>, found: u64)
-        requires comes { let F = fixed_of A.takes A.region_of A.effect_of rules.now in
+        requires comes { let F = fixed_of A.meaning rules.now in
             is_some (next_point F (view_of self.old) (given_of self.old) effect.now (view_of self.old).point) ≡ true }
-        requires ready { let F = fixed_of A.takes A.region_of A.effect_of rules.now in
+        requires ready { let F = fixed_of A.meaning rules.now in
             IsReady F (view_of self.old) (given_of self.old) self.old.quits effect.now }
-        requires after { let F = fixed_of A.takes A.region_of A.effect_of rules.now in
+        requires after { let F = fixed_of A.meaning rules.now in
             IsSound F (view_found F (view_of self.old)
             (the_next (next_point F (view_of self.old) (given_of self.old) effect.now (view_of self.old).point))
             found) }
-        requires count { let F = fixed_of A.takes A.region_of A.effect_of rules.now in
+        requires count { let F = fixed_of A.meaning rules.now in
             kind_of (the_next (next_point F (view_of self.old) (given_of self.old) effect.now (view_of self.old).point))
             ≡ Commit
             → found + 1 < 2 ^ 64 }
-        ensures { let F = fixed_of A.takes A.region_of A.effect_of rules.now in
+        ensures { let F = fixed_of A.meaning rules.now in
             view_of self.new ≡ view_found F (view_of self.old)
             (the_next (next_point F (view_of self.old) (given_of self.old) effect.now (view_of self.old).point)) found }
     {

@@ -61,14 +61,14 @@ impl Seat {
         effect: &Option<Effect>,
         found: u64,
     ) -> u64
-        requires comes { let F = fixed_of A.takes A.region_of A.effect_of rules.now in
+        requires comes { let F = fixed_of A.meaning rules.now in
             is_some (next_with F (view_of self.now) (given_of self.now) self.now.quits effect.now) ≡ true }
-        requires ready { let F = fixed_of A.takes A.region_of A.effect_of rules.now in
+        requires ready { let F = fixed_of A.meaning rules.now in
             IsReady F (view_of self.now) (given_of self.now) self.now.quits effect.now }
-        requires count { let F = fixed_of A.takes A.region_of A.effect_of rules.now in
+        requires count { let F = fixed_of A.meaning rules.now in
             kind_of (the_next (next_with F (view_of self.now) (given_of self.now) self.now.quits effect.now)) ≡ Commit
             → found + 1 < 2 ^ 64 }
-        ensures { let F = fixed_of A.takes A.region_of A.effect_of rules.now in
+        ensures { let F = fixed_of A.meaning rules.now in
             result ≡ word_left F number (view_of self.now)
             (the_next (next_with F (view_of self.now) (given_of self.now) self.now.quits effect.now)) found }
     {
@@ -82,7 +82,7 @@ impl Seat {
     /// The word that the first step of giving up leaves: 0 where a node is given back, and the count that was found
     /// where none is held.
     fn word_given_up<A: Action>(&self, rules: &Rules<A>, found: u64) -> u64
-        ensures { let F = fixed_of A.takes A.region_of A.effect_of rules.now in (number : ℕ) → result
+        ensures { let F = fixed_of A.meaning rules.now in (number : ℕ) → result
             ≡ word_left F number (view_of self.now) (quitting (steps.first_yield F (view_of self.now))) found }
     {
         if self.inner_held(rules).is_empty() && self.leaves_held().is_empty() {
@@ -104,7 +104,7 @@ impl Seat {
     ) -> u64
         requires nodes { All (λ n. n < 31) self.now.wanted.items }
         requires few { length self.now.wanted.items ≤ 31 }
-        ensures { let F = fixed_of A.takes A.region_of A.effect_of rules.now in
+        ensures { let F = fixed_of A.meaning rules.now in
             (stage : Stage) → is_writing stage ≡ writing → result
             ≡ (if found == 0 then held_word F number stage self.now.wanted.items node else found) }
     {
@@ -122,7 +122,7 @@ impl Seat {
         requires few { length self.now.wanted.items ≤ 31 }
         requires count { nodes.now ≡ [] → found + 1 < 2 ^ 64 }
         ensures none { nodes.now ≡ [] → result ≡ found + 1 }
-        ensures some { let F = fixed_of A.takes A.region_of A.effect_of rules.now in
+        ensures some { let F = fixed_of A.meaning rules.now in
             (node : ℕ) (rest : List ℕ) → nodes.now ≡ node ∷ rest
             → result ≡ (if found == 0 then held_word F number views.AtClaiming self.now.wanted.items node else found) }
     {
@@ -146,9 +146,9 @@ impl Seat {
         requires nodes { All (λ n. n < 31) self.now.wanted.items }
         requires few { length self.now.wanted.items ≤ 31 }
         requires count { (e : Effect) → effect.now ≡ Some e
-            → write_nodes (fixed_of A.takes A.region_of A.effect_of rules.now)
+            → write_nodes (fixed_of A.meaning rules.now)
             (record_read (hand_of self.now.cmd).slot self.now.again.items) e ≡ [] → found + 1 < 2 ^ 64 }
-        ensures { (e : Effect) → effect.now ≡ Some e → let F = fixed_of A.takes A.region_of A.effect_of rules.now in
+        ensures { (e : Effect) → effect.now ≡ Some e → let F = fixed_of A.meaning rules.now in
             result ≡ word_left F number (view_of self.now)
             (resolving e (write_nodes F (record_read (hand_of self.now.cmd).slot self.now.again.items) e)) found }
     {
@@ -167,15 +167,15 @@ impl Seat {
         effect: &Option<Effect>,
         found: u64,
     ) -> u64
-        requires comes { let F = fixed_of A.takes A.region_of A.effect_of rules.now in
+        requires comes { let F = fixed_of A.meaning rules.now in
             is_some (next_point F (view_of self.now) (given_of self.now) effect.now (view_of self.now).point) ≡ true }
-        requires ready { let F = fixed_of A.takes A.region_of A.effect_of rules.now in
+        requires ready { let F = fixed_of A.meaning rules.now in
             IsReady F (view_of self.now) (given_of self.now) self.now.quits effect.now }
-        requires count { let F = fixed_of A.takes A.region_of A.effect_of rules.now in
+        requires count { let F = fixed_of A.meaning rules.now in
             kind_of (the_next (next_point F (view_of self.now) (given_of self.now) effect.now (view_of self.now).point))
             ≡ Commit
             → found + 1 < 2 ^ 64 }
-        ensures { let F = fixed_of A.takes A.region_of A.effect_of rules.now in
+        ensures { let F = fixed_of A.meaning rules.now in
             result ≡ word_left F number (view_of self.now)
             (the_next (next_point F (view_of self.now) (given_of self.now) effect.now (view_of self.now).point)) found }
     {

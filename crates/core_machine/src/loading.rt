@@ -67,10 +67,10 @@ impl Seat {
 
     /// The leaves of the own record, which is loaded whole, are wanted.
     fn want_leaves<A: Action>(&mut self, rules: &Rules<A>)
-        requires { HasPlayer (A.takes rules.now.action) (record_read (hand_of self.old.cmd).slot self.old.own.items)
+        requires { HasPlayer ((A.meaning rules.now.action).takes) (record_read (hand_of self.old.cmd).slot self.old.own.items)
             (hand_of self.old.cmd) }
-        ensures { let leaves = leaf_nodes (fixed_of A.takes A.region_of A.effect_of rules.now)
-            (region_in (fixed_of A.takes A.region_of A.effect_of rules.now) (hand_of self.old.cmd) self.old.own.items)
+        ensures { let leaves = leaf_nodes (fixed_of A.meaning rules.now)
+            (region_in (fixed_of A.meaning rules.now) (hand_of self.old.cmd) self.old.own.items)
             in
             view_of self.new ≡ record (view_of self.old) { wanted = leaves; point = views.Taking [] leaves } }
     {
@@ -84,9 +84,9 @@ impl Seat {
     /// One more word of the own record was loaded.
     pub fn load_own<A: Action>(&mut self, rules: &Rules<A>, word: u64)
         requires part { length self.old.own.items < 6 }
-        requires player { length self.old.own.items ≡ 5 → HasPlayer (A.takes rules.now.action)
+        requires player { length self.old.own.items ≡ 5 → HasPlayer ((A.meaning rules.now.action).takes)
             (record_read (hand_of self.old.cmd).slot (self.old.own.items ++ word ∷ [])) (hand_of self.old.cmd) }
-        ensures { view_of self.new ≡ steps.view_after_own (fixed_of A.takes A.region_of A.effect_of rules.now) word
+        ensures { view_of self.new ≡ steps.view_after_own (fixed_of A.meaning rules.now) word
             (view_of self.old) }
     {
         self.own.push(word);
@@ -98,9 +98,9 @@ impl Seat {
     /// One more word of the own record was loaded again.
     pub fn load_again<A: Action>(&mut self, rules: &Rules<A>, word: u64)
         requires part { length self.old.again.items < 6 }
-        requires player { HasPlayer (A.takes rules.now.action) (record_read (hand_of self.old.cmd).slot
+        requires player { HasPlayer ((A.meaning rules.now.action).takes) (record_read (hand_of self.old.cmd).slot
             self.old.own.items) (hand_of self.old.cmd) }
-        ensures { view_of self.new ≡ steps.view_after_again (fixed_of A.takes A.region_of A.effect_of rules.now) word
+        ensures { view_of self.new ≡ steps.view_after_again (fixed_of A.meaning rules.now) word
             (view_of self.old) }
     {
         self.again.push(word);
@@ -114,9 +114,9 @@ impl Seat {
     /// The list word of the entered node was loaded.
     fn load_list<A: Action>(&mut self, rules: &Rules<A>, node: u8, word: u64)
         requires room { length self.old.lists.items < 31 }
-        requires player { HasPlayer (A.takes rules.now.action)
+        requires player { HasPlayer ((A.meaning rules.now.action).takes)
             (record_read (hand_of self.old.cmd).slot self.old.own.items) (hand_of self.old.cmd) }
-        ensures { view_of self.new ≡ steps.view_after_list (fixed_of A.takes A.region_of A.effect_of rules.now) node
+        ensures { view_of self.new ≡ steps.view_after_list (fixed_of A.meaning rules.now) node
             self.old.queues.plan.items word (view_of self.old) }
     {
         self.queues.players = players_of(word, self.hand().slot);
@@ -128,9 +128,9 @@ impl Seat {
     fn load_player<A: Action>(&mut self, rules: &Rules<A>, node: u8, slot: u8, words: [u64; 6])
         requires room { length (filter (λ (r : PlayerRead). not (r.slot == slot)) self.old.others.items) < 64 }
         requires whole { length words ≡ 6 }
-        requires player { HasPlayer (A.takes rules.now.action)
+        requires player { HasPlayer ((A.meaning rules.now.action).takes)
             (record_read (hand_of self.old.cmd).slot self.old.own.items) (hand_of self.old.cmd) }
-        ensures { view_of self.new ≡ steps.player_loaded (fixed_of A.takes A.region_of A.effect_of rules.now) node
+        ensures { view_of self.new ≡ steps.player_loaded (fixed_of A.meaning rules.now) node
             words slot self.old.queues.players.items self.old.queues.plan.items (view_of self.old) }
     {
         drop_read(&mut self.others, slot);
@@ -161,10 +161,10 @@ impl Seat {
     /// The list word of the entered node was loaded.
     pub(crate) fn read_list<A: Action>(&mut self, rules: &Rules<A>, word: u64)
         requires room { length self.old.lists.items < 31 }
-        requires player { HasPlayer (A.takes rules.now.action)
+        requires player { HasPlayer ((A.meaning rules.now.action).takes)
             (record_read (hand_of self.old.cmd).slot self.old.own.items) (hand_of self.old.cmd) }
         ensures { (node : ℕ) (plan : List ℕ) → (view_of self.old).point ≡ views.Entered node plan → view_of self.new
-            ≡ steps.view_after_list (fixed_of A.takes A.region_of A.effect_of rules.now) node plan word
+            ≡ steps.view_after_list (fixed_of A.meaning rules.now) node plan word
             (view_of self.old) }
     {
         if let Point::Entered { node } = self.point {
@@ -183,11 +183,11 @@ impl Seat {
         requires room { (node slot : ℕ) (part players plan : List ℕ)
             → (view_of self.old).point ≡ views.Loading node part (slot ∷ players) plan
             → length (filter (λ (r : PlayerRead). not (r.slot == slot)) self.old.others.items) < 64 }
-        requires player { HasPlayer (A.takes rules.now.action)
+        requires player { HasPlayer ((A.meaning rules.now.action).takes)
             (record_read (hand_of self.old.cmd).slot self.old.own.items) (hand_of self.old.cmd) }
         ensures { (node slot : ℕ) (part players plan : List ℕ)
             → (view_of self.old).point ≡ views.Loading node part (slot ∷ players) plan
-            → view_of self.new ≡ steps.player_loaded (fixed_of A.takes A.region_of A.effect_of rules.now) node
+            → view_of self.new ≡ steps.player_loaded (fixed_of A.meaning rules.now) node
             (part ++ word ∷ []) slot players plan
             (view_of self.old) }
     {

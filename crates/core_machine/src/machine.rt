@@ -52,7 +52,7 @@ impl<'a, A: Action> Model for Core<'a, A> {
 
     ghost view = { λ c. record { rules = c.rules; words = c.words; seats = map seat_of c.seats.items } };
 
-    ghost invariant = { λ c. IsCore (fixed_of A.takes A.region_of A.effect_of c.rules) (record
+    ghost invariant = { λ c. IsCore (fixed_of A.meaning c.rules) (record
         { rules = c.rules; words = c.words; seats = map seat_of c.seats.items }) };
 }
 
@@ -78,7 +78,7 @@ impl<'a, A: Action> Core<'a, A> {
         start: &[Rec],
         room: &[u32],
     ) -> Result<Core<'a, A>, AllocError>
-        requires start { IsStart (fixed_of A.takes A.region_of A.effect_of (record
+        requires start { IsStart (fixed_of A.meaning (record
             { action = action.now; tree = tree.now; start = start.now })) }
         requires some { 0 < length room.now }
         requires few { length room.now ≤ 16 }
@@ -86,8 +86,8 @@ impl<'a, A: Action> Core<'a, A> {
             { action = action.now; tree = tree.now; start = start.now }) }
         ensures seats { IfOk result (λ c. length c.seats ≡ length room.now) }
         ensures machine { (first : ℕ) (others : List ℕ) → room.now ≡ first ∷ others → IfOk result (λ c.
-            machine_of (fixed_of A.takes A.region_of A.effect_of c.rules) c
-            ≡ start_machine (fixed_of A.takes A.region_of A.effect_of c.rules) first others) }
+            machine_of (fixed_of A.meaning c.rules) c
+            ≡ start_machine (fixed_of A.meaning c.rules) first others) }
     {
         let rules = Rules::new(alloc, action, tree, start)?;
         rules.is_lawful();
@@ -111,11 +111,11 @@ impl<'a, A: Action> Core<'a, A> {
     /// Gives a seat a command. The seat has none in hand and has room, the command's player is live, and no other seat
     /// has a command of that player in hand.
     pub fn give(&mut self, seat: u8, cmd: Cmd)
-        requires { let F = fixed_of A.takes A.region_of A.effect_of self.old.rules in
+        requires { let F = fixed_of A.meaning self.old.rules in
             MayBeGiven F (machine_of F self.old) seat (command_of cmd) }
         ensures rules { self.new.rules ≡ self.old.rules }
         ensures seats { length self.new.seats ≡ length self.old.seats }
-        ensures machine { let F = fixed_of A.takes A.region_of A.effect_of self.old.rules in
+        ensures machine { let F = fixed_of A.meaning self.old.rules in
             machine_of F self.new ≡ with_given (machine_of F self.old) seat (command_of cmd) }
     {
         self.seats[usize::from(seat)].given = Some(cmd);
@@ -124,9 +124,9 @@ impl<'a, A: Action> Core<'a, A> {
     /// The seat's next step: none exactly where it has no command in hand.
     pub fn next_step(&self, seat: u8) -> Option<Step>
         requires { seat < length self.now.seats }
-        ensures step { let F = fixed_of A.takes A.region_of A.effect_of self.now.rules in
+        ensures step { let F = fixed_of A.meaning self.now.rules in
             result ≡ next_step_of F (machine_of F self.now) seat }
-        ensures some { let F = fixed_of A.takes A.region_of A.effect_of self.now.rules in
+        ensures some { let F = fixed_of A.meaning self.now.rules in
             is_some result ≡ has_command (machine_of F self.now) seat }
     {
         let one = &self.seats[usize::from(seat)];
@@ -140,22 +140,22 @@ impl<'a, A: Action> Core<'a, A> {
     pub fn step(&mut self, s: Step) -> bool
         ensures rules { self.new.rules ≡ self.old.rules }
         ensures seats { length self.new.seats ≡ length self.old.seats }
-        ensures done { let F = fixed_of A.takes A.region_of A.effect_of self.old.rules in
+        ensures done { let F = fixed_of A.meaning self.old.rules in
             IsTrue result ↔ IsFree F (machine_of F self.old) s }
-        ensures other { let F = fixed_of A.takes A.region_of A.effect_of self.old.rules in
+        ensures other { let F = fixed_of A.meaning self.old.rules in
             (next_step_of F (machine_of F self.old) s.seat ≡ Some s → ⊥) → self.new ≡ self.old }
-        ensures machine { let F = fixed_of A.takes A.region_of A.effect_of self.old.rules in let m = machine_of F
+        ensures machine { let F = fixed_of A.meaning self.old.rules in let m = machine_of F
             self.old in
             (next : Next) → next_of F m s.seat ≡ Some next → next_step_of F m s.seat ≡ Some s
             → machine_of F self.new ≡ machine_after F m s.seat next }
-        ensures refused { let F = fixed_of A.takes A.region_of A.effect_of self.old.rules in let m = machine_of F
+        ensures refused { let F = fixed_of A.meaning self.old.rules in let m = machine_of F
             self.old in
             (node : ℕ) → IsRefused F m s node → machine_of F self.new ≡ record m
             { core = refuse_node m.core s.seat node } }
-        ensures may_give_up { let F = fixed_of A.takes A.region_of A.effect_of self.old.rules in
+        ensures may_give_up { let F = fixed_of A.meaning self.old.rules in
             next_step_of F (machine_of F self.old) s.seat ≡ Some s → result ≡ false
             → is_taking ((machine_of F self.new).core.view s.seat).point ≡ true }
-        ensures logs { let F = fixed_of A.takes A.region_of A.effect_of self.old.rules in let m = machine_of F self.old
+        ensures logs { let F = fixed_of A.meaning self.old.rules in let m = machine_of F self.old
             in
             (next : Next) (seat : ℕ) → next_of F m s.seat ≡ Some next → next_step_of F m s.seat ≡ Some s
             → ((machine_of F self.new).core.view seat).log ≡ (if seat == s.seat
@@ -171,11 +171,11 @@ impl<'a, A: Action> Core<'a, A> {
     /// The seat is to give up its command, at a take before its commit or where the commit comes next: its next steps
     /// give back what it holds.
     pub fn give_up(&mut self, seat: u8)
-        requires { let F = fixed_of A.takes A.region_of A.effect_of self.old.rules in
+        requires { let F = fixed_of A.meaning self.old.rules in
             is_taking ((machine_of F self.old).core.view seat).point ≡ true }
         ensures rules { self.new.rules ≡ self.old.rules }
         ensures seats { length self.new.seats ≡ length self.old.seats }
-        ensures machine { let F = fixed_of A.takes A.region_of A.effect_of self.old.rules in
+        ensures machine { let F = fixed_of A.meaning self.old.rules in
             machine_of F self.new ≡ with_quitting (machine_of F self.old) seat }
     {
         self.seats[usize::from(seat)].quits = true;
@@ -184,7 +184,7 @@ impl<'a, A: Action> Core<'a, A> {
     /// The entries that the seat has committed, in their order.
     pub fn log(&self, seat: u8) -> &[Entry]
         requires { seat < length self.now.seats }
-        ensures { let F = fixed_of A.takes A.region_of A.effect_of self.now.rules in
+        ensures { let F = fixed_of A.meaning self.now.rules in
             result.now ≡ entries_of ((machine_of F self.now).core.view seat).log }
     {
         self.seats[usize::from(seat)].log.entries()
@@ -192,7 +192,7 @@ impl<'a, A: Action> Core<'a, A> {
 
     /// What holds of the core between any two calls: the machine stands.
     pub fn stands(&self)
-        ensures { let F = fixed_of A.takes A.region_of A.effect_of self.now.rules in
+        ensures { let F = fixed_of A.meaning self.now.rules in
             StandsSomehow F (machine_of F self.now) }
     {
         // To read a part of the core is to know what its type keeps.
@@ -202,7 +202,7 @@ impl<'a, A: Action> Core<'a, A> {
     /// Where a seat has a command in hand, some seat with a command in hand doesn't wait for a node that another seat
     /// holds.
     pub fn some_seat_goes_on(&self)
-        ensures { let F = fixed_of A.takes A.region_of A.effect_of self.now.rules in (seat : ℕ)
+        ensures { let F = fixed_of A.meaning self.now.rules in (seat : ℕ)
             → has_command (machine_of F self.now) seat ≡ true
             → SomeGoesOn F (machine_of F self.now) }
     {

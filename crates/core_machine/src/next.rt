@@ -62,16 +62,16 @@ impl Seat {
     /// The effect that the action gives on what was loaded, where all is read and the effect enters the view with the
     /// next step; else none.
     pub fn resolved<A: Action>(&self, rules: &Rules<A>) -> Option<Effect>
-        requires { IsSound (fixed_of A.takes A.region_of A.effect_of rules.now) (view_of self.now) }
-        ensures { result ≡ effect_due (fixed_of A.takes A.region_of A.effect_of rules.now) (view_of self.now) }
+        requires { IsSound (fixed_of A.meaning rules.now) (view_of self.now) }
+        ensures { result ≡ effect_due (fixed_of A.meaning rules.now) (view_of self.now) }
     {
         self.resolved_in(rules, &mut NearList::new())
     }
 
     /// As [`Seat::resolved`], with a list that is emptied and then holds the records that the action is given.
     pub fn resolved_in<A: Action>(&self, rules: &Rules<A>, near: &mut NearList) -> Option<Effect>
-        requires { IsSound (fixed_of A.takes A.region_of A.effect_of rules.now) (view_of self.now) }
-        ensures { result ≡ effect_due (fixed_of A.takes A.region_of A.effect_of rules.now) (view_of self.now) }
+        requires { IsSound (fixed_of A.meaning rules.now) (view_of self.now) }
+        ensures { result ≡ effect_due (fixed_of A.meaning rules.now) (view_of self.now) }
     {
         match self.point {
             Point::Resolving => Some(self.effect_on_loaded(rules, near)),
@@ -86,9 +86,9 @@ impl Seat {
         number: u8,
         effect: &Option<Effect>,
     ) -> Option<Step>
-        requires { IsReady (fixed_of A.takes A.region_of A.effect_of rules.now) (view_of self.now)
+        requires { IsReady (fixed_of A.meaning rules.now) (view_of self.now)
             (given_of self.now) self.now.quits effect.now }
-        ensures { let F = fixed_of A.takes A.region_of A.effect_of rules.now in
+        ensures { let F = fixed_of A.meaning rules.now in
             result ≡ option_map (step_of F number (view_of self.now)) (next_with F (view_of self.now)
             (given_of self.now) self.now.quits effect.now) }
     {
@@ -101,7 +101,7 @@ impl Seat {
 
     /// The step of a seat that is to give up.
     fn quit_step<A: Action>(&self, rules: &Rules<A>, number: u8) -> Step
-        ensures { let F = fixed_of A.takes A.region_of A.effect_of rules.now in
+        ensures { let F = fixed_of A.meaning rules.now in
             result ≡ step_of F number (view_of self.now) (quitting (first_yield F (view_of self.now))) }
     {
         let inner = self.inner_held(rules);
@@ -119,9 +119,9 @@ impl Seat {
         number: u8,
         effect: &Option<Effect>,
     ) -> Option<Step>
-        requires { IsReady (fixed_of A.takes A.region_of A.effect_of rules.now) (view_of self.now)
+        requires { IsReady (fixed_of A.meaning rules.now) (view_of self.now)
             (given_of self.now) self.now.quits effect.now }
-        ensures { let F = fixed_of A.takes A.region_of A.effect_of rules.now in
+        ensures { let F = fixed_of A.meaning rules.now in
             result ≡ option_map (step_of F number (view_of self.now)) (next_point F (view_of self.now)
             (given_of self.now) effect.now (view_of self.now).point) }
     {
@@ -159,13 +159,13 @@ impl Seat {
     }
     /// The effect that the action gives on what was loaded.
     fn effect_on_loaded<A: Action>(&self, rules: &Rules<A>, near: &mut NearList) -> Effect
-        requires call { IsCall (A.takes rules.now.action) (record_read (view_of self.now).cmd.slot
+        requires call { IsCall ((A.meaning rules.now.action).takes) (record_read (view_of self.now).cmd.slot
             (view_of self.now).again)
-            (loaded_near (fixed_of A.takes A.region_of A.effect_of rules.now) (view_of self.now))
+            (loaded_near (fixed_of A.meaning rules.now) (view_of self.now))
             (view_of self.now).cmd }
-        requires own { HasPlayer (A.takes rules.now.action) (record_read (view_of self.now).cmd.slot
+        requires own { HasPlayer ((A.meaning rules.now.action).takes) (record_read (view_of self.now).cmd.slot
             (view_of self.now).own) (view_of self.now).cmd }
-        ensures { result ≡ effect_loaded (fixed_of A.takes A.region_of A.effect_of rules.now) (view_of self.now) }
+        ensures { result ≡ effect_loaded (fixed_of A.meaning rules.now) (view_of self.now) }
     {
         let cmd = self.hand();
         let region = rules.region(&cmd, self.own.as_slice());
@@ -201,7 +201,7 @@ impl Seat {
         requires hand { IsCommand (hand_of self.now.cmd) }
         requires before { IsRecord (record_read (hand_of self.now.cmd).slot self.now.again.items) }
         requires after { (e : Effect) → effect.now ≡ Some e → IsRecord e.me }
-        ensures { let F = fixed_of A.takes A.region_of A.effect_of rules.now in
+        ensures { let F = fixed_of A.meaning rules.now in
             result ≡ option_map (step_of F number (view_of self.now)) (next_resolved F (view_of self.now) effect.now) }
     {
         let Some(effect) = effect else {

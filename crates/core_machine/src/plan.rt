@@ -22,9 +22,9 @@ impl Seat {
 
     /// The things of the map that touch the region of the command in hand.
     fn things<A: Action>(&self, rules: &Rules<A>) -> IdQueue
-        requires { HasPlayer (A.takes rules.now.action) (record_read (hand_of self.now.cmd).slot self.now.own.items)
+        requires { HasPlayer ((A.meaning rules.now.action).takes) (record_read (hand_of self.now.cmd).slot self.now.own.items)
             (hand_of self.now.cmd) }
-        ensures { let F = fixed_of A.takes A.region_of A.effect_of rules.now in
+        ensures { let F = fixed_of A.meaning rules.now in
             result.items ≡ things_in F (region_in F (hand_of self.now.cmd) self.now.own.items) }
     {
         let region = rules.region(&self.hand(), self.own.as_slice());
@@ -68,11 +68,11 @@ impl Seat {
 
     /// The next node of the plan is visited, if any; else the things of the map come.
     pub(crate) fn visit_next<A: Action>(&mut self, rules: &Rules<A>)
-        requires { HasPlayer (A.takes rules.now.action)
+        requires { HasPlayer ((A.meaning rules.now.action).takes)
             (record_read (hand_of self.old.cmd).slot self.old.own.items) (hand_of self.old.cmd) }
         ensures { view_of self.new ≡ record (view_of self.old) {
           point = steps.visiting
-              (fixed_of A.takes A.region_of A.effect_of rules.now) (view_of self.old) self.old.queues.plan.items;
+              (fixed_of A.meaning rules.now) (view_of self.old) self.old.queues.plan.items;
         } }
     {
         match self.queues.plan.pop_first() {
@@ -87,11 +87,11 @@ impl Seat {
 
     /// The players that are left are loaded under the node, if any; else it is left.
     pub(crate) fn load_under<A: Action>(&mut self, rules: &Rules<A>, node: u8)
-        requires { HasPlayer (A.takes rules.now.action)
+        requires { HasPlayer ((A.meaning rules.now.action).takes)
             (record_read (hand_of self.old.cmd).slot self.old.own.items) (hand_of self.old.cmd) }
         ensures { view_of self.new ≡ record (view_of self.old) {
           point = steps.loading
-              (fixed_of A.takes A.region_of A.effect_of rules.now) (view_of self.old) node self.old.queues.players.items
+              (fixed_of A.meaning rules.now) (view_of self.old) node self.old.queues.players.items
               self.old.queues.plan.items;
         } }
     {

@@ -1,8 +1,9 @@
 use crate::log::SeatLog;
 use crate::point::{NodeQueue, Point, Queues, WordList};
 use crate::queue::Queue;
+use crate::refusals::Refusals;
 use arrayvec::ArrayVec;
-use entity_recs::{Cmd, Effect, NewState};
+use entity_recs::{Cmd, Effect, Entry, NewState};
 use std::alloc::{AllocError, Global};
 
 /// The word of a node's list that was loaded.
@@ -23,19 +24,6 @@ pub struct PlayerRead {
     pub words: [u64; 6],
 }
 
-/// The last refused take: its node, the word that was found, the own record as loaded, and the leaves wanted.
-#[derive(Drop)]
-pub struct Refused {
-    /// The node that was held.
-    pub node: u8,
-    /// The node's word, which names the holder.
-    pub word: u64,
-    /// The words of the own record, as they were loaded at that step.
-    pub own: WordList,
-    /// The leaves that the command wanted at that step.
-    pub wanted: NodeQueue,
-}
-
 /// What a seat has in view, with what no view has yet: the command that was given and isn't begun, and whether the seat
 /// is to give up. In the lists of what was read the newest comes first.
 #[derive(Drop)]
@@ -44,10 +32,8 @@ pub struct Seat {
     pub seen: u64,
     /// What the seat has committed.
     pub log: SeatLog,
-    /// How many takes were refused, at most 2^64 - 1.
-    pub refusals: u64,
-    /// The last refused take.
-    pub refused: Option<Refused>,
+    /// The takes that were refused.
+    pub refusals: Refusals,
     /// How many seats were made from this one, itself among them.
     pub made: u8,
     /// The command that is begun.
@@ -77,8 +63,9 @@ pub struct Seat {
 }
 
 impl Seat {
-    ghost use Rattle.std.specs.Prelude.{◌≡◌, IfOk, OnOk};
+    ghost use Rattle.std.specs.Prelude.{◌≡◌, ◌<◌, ◌-◌, ◌^◌, suc, [], ◌∷◌, ◌++◌, length, IfOk, OnOk};
     ghost use Rattle.core_steps.specs.Views.{new_view, without_command};
+    ghost use Rattle.entity_recs.specs.Commands.{command_of};
     ghost use Rattle.core_machine.specs.Seats.{view_of, IsFresh};
 
     /// A seat without a command and with room for this many entries. `made` is how many seats are made from it: with
@@ -89,8 +76,7 @@ impl Seat {
         Ok(Seat {
             seen: 0,
             log: SeatLog::new(alloc, room)?,
-            refusals: 0,
-            refused: None,
+            refusals: Refusals::new(),
             made,
             cmd: None,
             point: Point::Idle,
@@ -122,5 +108,20 @@ impl Seat {
         self.others.clear();
         self.states.clear();
         self.effect = None;
+    }
+
+    /// Puts a command that was committed with this entry last in the log; the count after it is then seen.
+    pub fn keep(&mut self, cmd: Cmd, entry: Entry)
+        requires room { length self.old.log.items < self.old.log.room }
+        requires place { entry.place < 2 ^ 64 - 1 }
+        ensures view { view_of self.new ≡ record (view_of self.old) {
+          log = (view_of self.old).log ++ record { command = command_of cmd; entry = entry } ∷ [];
+          seen = suc entry.place;
+        } }
+        ensures given { self.new.given ≡ self.old.given }
+        ensures quits { self.new.quits ≡ self.old.quits }
+    {
+        self.seen = entry.place + 1;
+        self.log.push(cmd, entry);
     }
 }

@@ -26,7 +26,7 @@ pub fn find_record(start: &[Rec], id: u16) -> Option<Rec>
 
 /// A player's five words at the start, 0 where the player isn't live.
 fn body_at_start<A: Action>(rules: &Rules<A>, slot: u8) -> PlayerWords
-    ensures { let F = fixed_of A.takes A.region_of A.effect_of rules.now in result ≡ words_of (F.start.record_of slot) }
+    ensures { let F = fixed_of A.meaning rules.now in result ≡ words_of (F.start.record_of slot) }
 {
     match rules.record(u16::from(slot)) {
         Some(r) => encode(&r),
@@ -36,7 +36,7 @@ fn body_at_start<A: Action>(rules: &Rules<A>, slot: u8) -> PlayerWords
 
 /// The state word of an id at the start, 0 where the id isn't live.
 fn state_at_start<A: Action>(rules: &Rules<A>, id: u16) -> u64
-    ensures { let F = fixed_of A.takes A.region_of A.effect_of rules.now in result ≡ (F.start.record_of id).state }
+    ensures { let F = fixed_of A.meaning rules.now in result ≡ (F.start.record_of id).state }
 {
     match rules.record(id) {
         Some(r) => r.state,
@@ -47,7 +47,7 @@ fn state_at_start<A: Action>(rules: &Rules<A>, id: u16) -> u64
 /// Whether the player in this slot is live and linked at the node at the start.
 fn is_linked<A: Action>(rules: &Rules<A>, node: u8, slot: u8) -> bool
     requires { slot < 64 }
-    ensures { let F = fixed_of A.takes A.region_of A.effect_of rules.now in
+    ensures { let F = fixed_of A.meaning rules.now in
         result ≡ is_player F slot && (node == home F (F.start.record_of slot)) }
 {
     rules.is_ruled();
@@ -69,7 +69,7 @@ pub fn with_top_bit(word: u64, slot: u8, is_set: bool) -> u64
 
 /// The list word of a node at the start: bit p is set where player p is live and linked there.
 fn links_at_start<A: Action>(rules: &Rules<A>, node: u8) -> u64
-    ensures { let F = fixed_of A.takes A.region_of A.effect_of rules.now in result ≡ (start_words F).links node }
+    ensures { let F = fixed_of A.meaning rules.now in result ≡ (start_words F).links node }
 {
     let mut word = 0;
     for slot in 0..64u8 {
@@ -80,7 +80,7 @@ fn links_at_start<A: Action>(rules: &Rules<A>, node: u8) -> u64
 
 /// Each node's list word at the start.
 fn all_links<A: Action>(rules: &Rules<A>) -> [u64; NODES]
-    ensures { let F = fixed_of A.takes A.region_of A.effect_of rules.now in
+    ensures { let F = fixed_of A.meaning rules.now in
         (node : ℕ) → node < 31 → slice_index_or result node 0 ≡ (start_words F).links node }
 {
     let mut links = [0; NODES];
@@ -92,7 +92,7 @@ fn all_links<A: Action>(rules: &Rules<A>) -> [u64; NODES]
 
 /// Each player's five words at the start.
 fn all_bodies<A: Action>(rules: &Rules<A>) -> [PlayerWords; 64]
-    ensures { let F = fixed_of A.takes A.region_of A.effect_of rules.now in
+    ensures { let F = fixed_of A.meaning rules.now in
         (slot : ℕ) → slot < 64 → slice_index_or result slot [] ≡ words_of (F.start.record_of slot) }
 {
     let mut body = [[0; 5]; 64];
@@ -104,7 +104,7 @@ fn all_bodies<A: Action>(rules: &Rules<A>) -> [PlayerWords; 64]
 
 /// The state word of each id at the start.
 fn all_states<A: Action>(rules: &Rules<A>) -> [u64; 256]
-    ensures { let F = fixed_of A.takes A.region_of A.effect_of rules.now in
+    ensures { let F = fixed_of A.meaning rules.now in
         (id : ℕ) → id < 256 → slice_index_or result id 0 ≡ (F.start.record_of id).state }
 {
     let mut state = [0; 256];
@@ -123,7 +123,7 @@ impl Words {
     /// The words at the start: no node is held, each player is linked at its node, and the records are those of the
     /// start.
     pub fn of_start<A: Action>(rules: &Rules<A>) -> Words
-        ensures { let F = fixed_of A.takes A.region_of A.effect_of rules.now in
+        ensures { let F = fixed_of A.meaning rules.now in
             words_in result (start_words F) ≡ start_words F }
     {
         Words {

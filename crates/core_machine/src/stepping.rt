@@ -48,16 +48,16 @@ fn make_next<A: Action>(
     effect: &Option<Effect>,
     s: Step,
 ) -> bool
-    requires comes { let F = fixed_of A.takes A.region_of A.effect_of rules.now in
+    requires comes { let F = fixed_of A.meaning rules.now in
         is_some (next_with F (view_of seat.old) (given_of seat.old) seat.old.quits effect.now) ≡ true }
-    requires ready { IsReady (fixed_of A.takes A.region_of A.effect_of rules.now) (view_of seat.old)
+    requires ready { IsReady (fixed_of A.meaning rules.now) (view_of seat.old)
         (given_of seat.old) seat.old.quits effect.now }
-    requires word { let F = fixed_of A.takes A.region_of A.effect_of rules.now in IsOnWord F (words_in words.old
+    requires word { let F = fixed_of A.meaning rules.now in IsOnWord F (words_in words.old
         (start_words F))
         (view_of seat.old) (the_next (next_with F (view_of seat.old) (given_of seat.old) seat.old.quits effect.now)) }
-    requires same { let F = fixed_of A.takes A.region_of A.effect_of rules.now in step_of F s.seat (view_of seat.old)
+    requires same { let F = fixed_of A.meaning rules.now in step_of F s.seat (view_of seat.old)
         (the_next (next_with F (view_of seat.old) (given_of seat.old) seat.old.quits effect.now)) ≡ s }
-    ensures { let F = fixed_of A.takes A.region_of A.effect_of rules.now in
+    ensures { let F = fixed_of A.meaning rules.now in
         IsStepped F s.seat (words_in words.old (start_words F)) (words_in words.new (start_words F))
         (view_of seat.old) (seat_of seat.new)
         (the_next (next_with F (view_of seat.old) (given_of seat.old) seat.old.quits effect.now)) result }
@@ -72,9 +72,9 @@ fn make_next<A: Action>(
 /// Makes a step of a seat on these words, where it is the seat's next one. It is false where it isn't, and then nothing
 /// changes, and where it is a take of a node that is held.
 pub fn make_step<A: Action>(rules: &Rules<A>, words: &mut Words, seat: &mut Seat, s: Step) -> bool
-    requires { let F = fixed_of A.takes A.region_of A.effect_of rules.now in
+    requires { let F = fixed_of A.meaning rules.now in
         MayStep F (words_in words.old (start_words F)) (seat_of seat.old) }
-    ensures { let F = fixed_of A.takes A.region_of A.effect_of rules.now in
+    ensures { let F = fixed_of A.meaning rules.now in
         IsOther F s words.old words.new seat.old seat.new result
         ⊎ IsMade F s (words_in words.old (start_words F)) (words_in words.new (start_words F)) (seat_of seat.old)
         (seat_of seat.new) result }

@@ -1,5 +1,4 @@
-use crate::lists::same_words;
-use crate::seat::{Refused, Seat};
+use crate::seat::Seat;
 
 impl Seat {
     ghost use Rattle.std.specs.Prelude.{◌≡◌};
@@ -10,12 +9,7 @@ impl Seat {
     pub fn refuse(&mut self, node: u8, word: u64)
         ensures { view_of self.new ≡ view_after_refusal node word (view_of self.old) }
     {
-        self.refusals = self.refusals.saturating_add(1);
-        self.refused = Some(Refused {
-            node,
-            word,
-            own: same_words(self.own.as_slice()),
-            wanted: self.wanted.copied(),
-        });
+        self.refusals
+            .note(node, word, self.own.as_slice(), &self.wanted);
     }
 }

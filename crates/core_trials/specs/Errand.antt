@@ -11,6 +11,7 @@ use Rattle.entity_recs.specs.declared.effect.Effect.{Effect}
 use Rattle.entity_recs.specs.declared.effect.NewState.{NewState}
 use Rattle.entity_recs.specs.Bodies.{abs_of}
 use Rattle.entity_recs.specs.Commands.{Command}
+use Rattle.entity_recs.specs.Actions.{Meaning}
 use Rattle.core_machine.specs.Plain.{plain_command}
 use Rattle.core_machine.specs.Staying.{is_near, is_same, is_player}
 use Rattle.core_trials.specs.declared.places.TheConstants.{ARRIVAL, ITEM}
@@ -75,6 +76,10 @@ effect_where free me c = record {
 -- the player is moved, and the item among the other records is taken where it is free
 abbrev pub effect_of : Rec → List Rec → Command → Effect
 effect_of me near c = effect_where (list_any is_free_item near) me c
+
+-- what the action means
+abbrev pub meaning : Meaning
+meaning = record { takes = takes; region_of = region_of; effect_of = effect_of }
 
 -- the first command of this player, with these buttons
 abbrev pub errand_command : ℕ → ℕ → Command

@@ -74,11 +74,7 @@ impl Action for Errand {
     ghost use Rattle.core_trials.specs.Errand as errands;
     ghost use Rattle.core_trials.specs.Lawful as lawful;
 
-    ghost takes = { λ a. errands.takes };
-
-    ghost region_of = { λ a. errands.region_of };
-
-    ghost effect_of = { λ a. errands.effect_of };
+    ghost meaning = { λ a. errands.meaning };
 
     fn region(&self, me: &Rec, cmd: &Cmd) -> Region {
         let _ = cmd;

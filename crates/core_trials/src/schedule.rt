@@ -58,7 +58,7 @@ pub fn begun<'a, A: Action>(
     room: &[u32],
     away: u8,
 ) -> Result<Core<'a, A>, Fail>
-    requires start { (tree : TreeView) → IsStart (fixed_of A.takes A.region_of A.effect_of (record
+    requires start { (tree : TreeView) → IsStart (fixed_of A.meaning (record
         { action = action.now; tree = tree; start = start.now })) }
     requires live { (slot : ℕ) → slot < length room.now → has (map (λ (r : Rec). r.id) start.now) slot ≡ true }
     requires some { 0 < length room.now }

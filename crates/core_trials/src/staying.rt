@@ -7,11 +7,7 @@ pub struct Staying;
 impl Action for Staying {
     ghost use Rattle.core_machine.specs.Staying as staying;
 
-    ghost takes = { λ a. staying.takes };
-
-    ghost region_of = { λ a. staying.region_of };
-
-    ghost effect_of = { λ a. staying.effect_of };
+    ghost meaning = { λ a. staying.meaning };
 
     fn region(&self, me: &Rec, cmd: &Cmd) -> Region {
         let _ = cmd;

@@ -64,7 +64,7 @@ fn first_word_of_the_own_record_is_loaded(rt: HostRuntime) -> Result<(), Fail> {
 fn a_seat_counts_refusals_and_forgets_its_command(rt: HostRuntime) -> Result<(), Fail> {
     let mut seat = begun_seat(rt.alloc())?;
     seat.refuse(15, 257);
-    assert_eq!(rt; seat.refusals, 1);
+    assert_eq!(rt; seat.refusals.count, 1);
     seat.forget();
     assert_eq!(rt; seat.cmd, None);
     Ok(())

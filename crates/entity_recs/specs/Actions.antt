@@ -13,6 +13,13 @@ use Rattle.entity_recs.specs.Bodies.{abs_of}
 use Rattle.entity_recs.specs.Commands.{Command}
 use Rattle.entity_recs.specs.Histories.{Action}
 
+-- what an action means: which records it takes, the boxes in which a move may read and write, and what a move does, of
+-- the player's record, other live records in rising id, and the command
+pub record Meaning : Type 0 where
+  pub takes : Rec → Bool
+  pub region_of : Rec → Command → List Bounds
+  pub effect_of : Action
+
 -- the numbers of a command are those of its type
 pub record IsCommand (c : Command) : Type 0 where
   pub slot : c.slot < 64

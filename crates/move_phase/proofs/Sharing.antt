@@ -6,6 +6,7 @@ use Rattle.std.proofs.lemmas.List.{length-map, get_or-map, ext_get_or}
 use Rattle.std.proofs.lemmas.List.FromFn.{length-range_with_len, get_or-range_with_len}
 use Rattle.arena_geo.specs.Bounds.{Bounds}
 use Rattle.atomic_table.specs.Seated.{TableId}
+use Rattle.entity_recs.specs.Actions.{Meaning}
 use Rattle.entity_recs.specs.declared.rec.Rec.{Rec}
 use Rattle.entity_recs.specs.declared.effect.Effect.{Effect}
 use Rattle.entity_recs.specs.Commands.{Command}
@@ -22,10 +23,10 @@ use Rattle.move_phase.specs.Sharing.{IsReadyFor}
 use Rattle.move_phase.proofs.NewPasses.{IsNew, new_at, new_count, rooms_are}
 
 -- what doesn't change of a table is what its action and its world give
-pub fixed_is : {A : Type 0} (takes : A → Rec → Bool) (region : A → Rec → Command → List Bounds) (effect : A → Rec → List Rec → Command → Effect)
+pub fixed_is : {A : Type 0} (meaning : A → Meaning)
     (t : TableView A) (action : A) (world : WorldView) → t.action ≡ action → t.world ≡ world
-    → fixed_in takes region effect t ≡ fixed_by takes region effect action world
-fixed_is takes region effect t action world of_action of_world = λ i. fixed_by takes region effect (of_action i) (of_world i)
+    → fixed_in meaning t ≡ fixed_by meaning action world
+fixed_is meaning t action world of_action of_world = λ i. fixed_by meaning (of_action i) (of_world i)
 
 -- the entries of the logs are those of the passes' items
 entries_same : (passes : List PassView) → map (λ (view : JournalView). view.entries) (map log_from passes) ≡ map entries_from (map (λ (p : PassView). p.view.log) passes)
@@ -108,15 +109,15 @@ ready_for F table workers k commands all rooms passes k_is room rooms_is begun o
     record { count = are.count; room = are.room; begun = begun ∙ ap (new_passes table) (sym rooms_is); own = own; live = live }
 
 -- so they are, where the memory for them was taken
-pub ready_if_taken : {A E : Type 0} (takes : A → Rec → Bool) (region : A → Rec → Command → List Bounds) (effect : A → Rec → List Rec → Command → Effect) (action : A) (world : WorldView)
+pub ready_if_taken : {A E : Type 0} (meaning : A → Meaning) (action : A) (world : WorldView)
     (workers k : ℕ) (commands : List Command) (all : List ℕ) (r : Result (TableView A × Vec PassView Global) E) → k ≡ workers → HaveRoom workers commands all
-    → AreOfLive (fixed_by takes region effect action world) commands
+    → AreOfLive (fixed_by meaning action world) commands
     → IfOk r (λ s. (s.0.action ≡ action) × (s.0.world ≡ world) × (s.0.rooms ≡ take k all))
     → IfOk r (λ s. s.1.items ≡ new_passes s.0.table (take k all))
-    → IfOk r (λ s. All (IsPassOf (fixed_in takes region effect s.0) (length s.0.rooms) s.0.table) s.1.items)
-    → IfOk r (λ s. IsReadyFor (fixed_in takes region effect s.0) workers commands s.0.table s.0.rooms s.1.items)
-ready_if_taken takes region effect action world workers k commands all (Ok s) k_is room live shared begun own =
-    let same = fixed_is takes region effect s.0 action world shared.0 shared.1 in
-    ready_for (fixed_in takes region effect s.0) s.0.table workers k commands all s.0.rooms s.1.items k_is room shared.2 begun own
+    → IfOk r (λ s. All (IsPassOf (fixed_in meaning s.0) (length s.0.rooms) s.0.table) s.1.items)
+    → IfOk r (λ s. IsReadyFor (fixed_in meaning s.0) workers commands s.0.table s.0.rooms s.1.items)
+ready_if_taken meaning action world workers k commands all (Ok s) k_is room live shared begun own =
+    let same = fixed_is meaning s.0 action world shared.0 shared.1 in
+    ready_for (fixed_in meaning s.0) s.0.table workers k commands all s.0.rooms s.1.items k_is room shared.2 begun own
     (subst (λ (F : Fixed). AreOfLive F commands) (sym same) live)
-ready_if_taken takes region effect action world workers k commands all (Err e) k_is room live shared begun own = tt
+ready_if_taken meaning action world workers k commands all (Err e) k_is room live shared begun own = tt

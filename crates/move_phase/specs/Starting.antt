@@ -4,9 +4,7 @@ use Rattle.std.specs.Global.{Vec}
 use Rattle.entity_recs.specs.Commands.{Command}
 use Rattle.arena_map.specs.Validity.{IsValidWorld}
 use Rattle.arena_actions.specs.declared.arena_action.ArenaAction.{ArenaAction}
-use Rattle.arena_actions.specs.Outcomes.{outcome_on}
-use Rattle.arena_actions.specs.Regions.{region_in}
-use Rattle.arena_actions.specs.Takes.{takes}
+use Rattle.arena_actions.specs.Meanings.{meaning_of}
 use Rattle.world_tree.specs.Worlds.{WorldView, IsLinked}
 use Rattle.core_steps.specs.Views.{Fixed}
 use Rattle.region_locks.specs.Starts.{fixed_by}
@@ -22,9 +20,7 @@ pub record StartedView : Type 0 where
 
 -- what doesn't change, of an arena's action and a world
 abbrev pub fixed_of_arena : ArenaAction → WorldView → Fixed
-fixed_of_arena action world =
-    fixed_by (λ (a : ArenaAction). takes a.map) (λ (a : ArenaAction). region_in a.map) (λ (a : ArenaAction). outcome_on a.map)
-    action world
+fixed_of_arena action world = fixed_by (λ (a : ArenaAction). meaning_of a.map) action world
 
 -- the world is shared for these commands, on a table of this action
 pub record IsSharedFor (action : ArenaAction) (workers : ℕ) (world : WorldView) (commands : List Command)

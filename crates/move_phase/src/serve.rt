@@ -1,7 +1,7 @@
 ghost use Rattle.std.specs.Prelude.{◌≡◌, ℕ, ◌+◌, ◌<◌, ◌≤◌, true, [], ◌∷◌, map, length, slice_index_or};
 ghost use Rattle.entity_recs.specs.Commands.{command_of};
 ghost use Rattle.core_steps.specs.Views.{has};
-ghost use Rattle.region_locks.specs.Passes.{fixed_in, IsPassOf};
+ghost use Rattle.region_locks.specs.Passes.{fixed_in, IsOwn};
 ghost use Rattle.region_locks.specs.Closing.{HasNoCommand};
 ghost use Rattle.move_phase.specs.Serving.{served_by};
 ghost use Rattle.move_phase.specs.Running.{AreOfLive, MayServe, HasServed};
@@ -23,13 +23,12 @@ fn serve<R: Wait, A: Action, G: Gate>(
     gate: &G,
 )
     requires workers { (workers ≡ length shared.now.rooms) × (0 < workers) }
-    requires own { IsPassOf (fixed_in A.takes A.region_of A.effect_of shared.now) (length shared.now.rooms)
-        shared.now.table pass.old }
+    requires own { IsOwn A.meaning shared.now pass.old }
     requires free { HasNoCommand pass.old }
     requires room { length pass.old.view.log + length (served_by (length shared.now.rooms) pass.old.number
         (command_of cmd ∷ [])) ≤ pass.old.view.room }
-    requires live { has (fixed_in A.takes A.region_of A.effect_of shared.now).start.ids cmd.slot ≡ true }
-    ensures served { HasServed (fixed_in A.takes A.region_of A.effect_of shared.now) (length shared.now.rooms)
+    requires live { has (fixed_in A.meaning shared.now).start.ids cmd.slot ≡ true }
+    ensures served { HasServed (fixed_in A.meaning shared.now) (length shared.now.rooms)
         shared.now.table pass.old pass.new
         (served_by (length shared.now.rooms) pass.old.number (command_of cmd ∷ [])) }
 {
@@ -49,10 +48,10 @@ fn run_pass<R: Wait, A: Action, G: Gate>(
     gate: &G,
 )
     requires workers { (workers ≡ length shared.now.rooms) × (0 < workers) }
-    requires may { MayServe (fixed_in A.takes A.region_of A.effect_of shared.now) (length shared.now.rooms)
+    requires may { MayServe (fixed_in A.meaning shared.now) (length shared.now.rooms)
         shared.now.table (map command_of moves.now) pass.old }
-    requires live { AreOfLive (fixed_in A.takes A.region_of A.effect_of shared.now) (map command_of moves.now) }
-    ensures served { HasServed (fixed_in A.takes A.region_of A.effect_of shared.now) (length shared.now.rooms)
+    requires live { AreOfLive (fixed_in A.meaning shared.now) (map command_of moves.now) }
+    ensures served { HasServed (fixed_in A.meaning shared.now) (length shared.now.rooms)
         shared.now.table pass.old pass.new
         (served_by (length shared.now.rooms) pass.old.number (map command_of moves.now)) }
 {
@@ -72,12 +71,12 @@ pub(crate) fn run_passes<R: Threads + Wait + Sync, A: Action, G: Gate>(
 )
     requires workers { (workers ≡ length shared.now.rooms) × (0 < workers) }
     requires may { (i : ℕ) (d : _) → i < length passes.old.items
-        → MayServe (fixed_in A.takes A.region_of A.effect_of shared.now) (length shared.now.rooms) shared.now.table
+        → MayServe (fixed_in A.meaning shared.now) (length shared.now.rooms) shared.now.table
         (map command_of moves.now) (slice_index_or passes.old.items i d) }
-    requires live { AreOfLive (fixed_in A.takes A.region_of A.effect_of shared.now) (map command_of moves.now) }
+    requires live { AreOfLive (fixed_in A.meaning shared.now) (map command_of moves.now) }
     ensures count { length passes.new.items ≡ length passes.old.items }
     ensures served { (i : ℕ) (d : _) → i < length passes.old.items
-        → HasServed (fixed_in A.takes A.region_of A.effect_of shared.now) (length shared.now.rooms) shared.now.table
+        → HasServed (fixed_in A.meaning shared.now) (length shared.now.rooms) shared.now.table
         (slice_index_or passes.old.items i d) (slice_index_or passes.new.items i d)
         (served_by (length shared.now.rooms) (slice_index_or passes.old.items i d).number (map command_of moves.now)) }
 {
@@ -87,10 +86,10 @@ pub(crate) fn run_passes<R: Threads + Wait + Sync, A: Action, G: Gate>(
         usize::from(workers),
         &|_: usize, pass: &mut Pass<A>|
             requires { ((workers ≡ length shared.now.rooms) × (0 < workers))
-                × MayServe (fixed_in A.takes A.region_of A.effect_of shared.now) (length shared.now.rooms)
+                × MayServe (fixed_in A.meaning shared.now) (length shared.now.rooms)
                 shared.now.table (map command_of moves.now) pass.now
-                × AreOfLive (fixed_in A.takes A.region_of A.effect_of shared.now) (map command_of moves.now) }
-            ensures { HasServed (fixed_in A.takes A.region_of A.effect_of shared.entry.now)
+                × AreOfLive (fixed_in A.meaning shared.now) (map command_of moves.now) }
+            ensures { HasServed (fixed_in A.meaning shared.entry.now)
                 (length shared.entry.now.rooms) shared.entry.now.table pass.entry.now pass.exit.now
                 (served_by (length shared.entry.now.rooms) pass.entry.now.number (map command_of moves.entry.now)) }
         {

@@ -29,11 +29,11 @@ pub(crate) fn share<'a, A: Action>(
 ) -> Result<(Shared<'a, A>, PassList<A>), AllocError>
     requires workers { (0 < workers) × (workers ≤ 16) }
     requires few { length moves.now < 2 ^ 32 }
-    requires taken { All (λ r. A.takes action.now r ≡ true) (live_in world.now.records) }
-    requires live { AreOfLive (fixed_by A.takes A.region_of A.effect_of action.now world.now)
+    requires taken { All (λ r. (A.meaning action.now).takes r ≡ true) (live_in world.now.records) }
+    requires live { AreOfLive (fixed_by A.meaning action.now world.now)
         (map command_of moves.now) }
     ensures shared { IfOk result (λ s. (s.0.action ≡ action.now) × (s.0.world ≡ world.now)) }
-    ensures ready { IfOk result (λ s. IsReadyFor (fixed_in A.takes A.region_of A.effect_of s.0) workers
+    ensures ready { IfOk result (λ s. IsReadyFor (fixed_in A.meaning s.0) workers
         (map command_of moves.now) s.0.table s.0.rooms s.1.items) }
 {
     let room = rooms(moves, workers);
@@ -53,11 +53,11 @@ pub(crate) fn run_on_workers<R: Threads + Wait + Sync, A: Action, G: Gate>(
     logs: &mut LogList,
 )
     requires workers { 0 < workers }
-    requires ready { IsReadyFor (fixed_in A.takes A.region_of A.effect_of shared) workers (map command_of moves.now)
+    requires ready { IsReadyFor (fixed_in A.meaning shared) workers (map command_of moves.now)
         shared.table shared.rooms passes.items }
     requires world { world.old ≡ shared.world }
     requires logs { logs.old ≡ [] }
-    ensures ran { HaveRun (fixed_in A.takes A.region_of A.effect_of shared.entry) workers (map command_of moves.now)
+    ensures ran { HaveRun (fixed_in A.meaning shared.entry) workers (map command_of moves.now)
         logs.new world.new }
     ensures tree { world.new.tree ≡ world.old.tree }
     ensures linked { IsLinked world.new }

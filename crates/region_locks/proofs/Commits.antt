@@ -8,7 +8,8 @@ use Rattle.entity_recs.specs.Commands.{Command}
 use Rattle.entity_recs.specs.Histories.{entry_of}
 use Rattle.core_steps.specs.Views.{Fixed, Point, Idle, Owning, Taking, Checking, Entering, Entered, Loading, Leaving, Sensing, Resolving, Claiming, Storing, Releasing, Returning, Yielding, record_read, write_nodes}
 use Rattle.core_steps.specs.Steps.{first_yield, next_give}
-use Rattle.core_steps.specs.Machine.{Next, beginning, CommitMove, resolving, quitting, committing, giving, index_of}
+use Rattle.core_steps.specs.Machine.{Next, Begin, LoadOwn, LoadAgain, TakeNode, ClaimNode, ReadList, ReadPlayer, ReadState, CommitMove, StoreWord, GiveNode, YieldNode, YieldCount, beginning, resolving, quitting, committing, giving, index_of, kind_of}
+use Rattle.core_steps.specs.declared.step.StepKind.TheVariants.{Commit}
 use Rattle.core_machine.specs.Going.{word_left}
 use Rattle.region_locks.specs.Passes.{PassView, first_effect, effect_in_hand, next_of_pass, is_commit, is_commit_next}
 use Rattle.core_machine.specs.Nexts.{next_resolved, next_point, the_next}
@@ -96,6 +97,25 @@ module _ (F : Fixed) (p : PassView) where
 pub commit_there : (o : Option Next) → is_commit_next o ≡ true → is_some o ≡ true
 commit_there None e = not_true e
 commit_there (Some next) e = refl
+
+kind_is : (next : Next) → is_commit next ≡ true → kind_of next ≡ Commit
+kind_is (CommitMove e nodes) is = refl
+kind_is (Begin c) is = not_true is
+kind_is LoadOwn is = not_true is
+kind_is LoadAgain is = not_true is
+kind_is (TakeNode node) is = not_true is
+kind_is (ClaimNode e node) is = not_true is
+kind_is (ReadList node plan) is = not_true is
+kind_is (ReadPlayer node part slot players plan) is = not_true is
+kind_is (ReadState id ids) is = not_true is
+kind_is (StoreWord nodes store stores) is = not_true is
+kind_is (GiveNode node) is = not_true is
+kind_is (YieldNode node) is = not_true is
+kind_is YieldCount is = not_true is
+
+pub commit_kind : (o : Option Next) → is_commit_next o ≡ true → kind_of (the_next o) ≡ Commit
+commit_kind None e = not_true e
+commit_kind (Some next) e = kind_is next e
 
 abbrev entry_with : ℕ → ℕ → ℕ → Reply → Entry
 entry_with place slot seq reply = record { place = place; slot = slot; seq = seq; reply = reply }

@@ -17,6 +17,18 @@ pub mod Ending
 pub mod Refusing
 pub mod Owns
 pub mod Ready
+pub mod HandSteps
+pub mod BitWalks
+pub mod PlainHands
+pub mod StoresMade
+pub mod GivenBack
+pub mod Claims
+pub mod LoadedWords
+pub mod TriedTakes
+pub mod Visited
+pub mod VisitedNodes
+pub mod StateSteps
+pub mod EffectRead
 pub mod Takes
 pub mod Quitting
 pub mod Stepping
@@ -42,3 +54,5 @@ pub mod Finals
 pub mod EndedPasses
 pub mod EndedLogs
 pub mod RunWorlds
+pub mod Runs
+pub mod PassRuns

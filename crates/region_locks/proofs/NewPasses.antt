@@ -5,10 +5,8 @@ use Rattle.std.proofs.lemmas.Bool.{false≢true}
 use Rattle.std.proofs.lemmas.List.Elements.{All-from_recursion}
 use Rattle.std.proofs.lemmas.List.FromFn.{map-range_with_len_more}
 use Rattle.atomic_table.specs.Seated.{TableId}
-use Rattle.arena_geo.specs.Bounds.{Bounds}
-use Rattle.entity_recs.specs.declared.rec.Rec.{Rec}
+use Rattle.entity_recs.specs.Actions.{Meaning}
 use Rattle.entity_recs.specs.Commands.{Command}
-use Rattle.entity_recs.specs.Histories.{Action}
 use Rattle.world_tree.specs.Worlds.{WorldView}
 use Rattle.core_machine.specs.Shown.{RulesView, fixed_of, IsRuled}
 use Rattle.region_locks.specs.Starts.{rules_of}
@@ -109,6 +107,6 @@ others_more table rooms i least =
     ap (λ (n : ℕ). map (other_pass table rooms) (range_with_len 1 n)) count ∙ map-range_with_len_more (other_pass table rooms) 1 (i - 1) i (omega (arith, least))
 
 -- the tree of a world for which there are rules has depth 4
-pub depth_is : {A : Type 0} (takes : A → Rec → Bool) (region : A → Rec → Command → List Bounds) (effect : A → Action) (action : A) (w : WorldView) (r : RulesView A)
-    → r ≡ rules_of action w → IsRuled (fixed_of takes region effect r) → w.tree.depth ≡ 4
-depth_is {A} takes region effect action w r is ruled = ap (λ (x : RulesView A). x.tree.depth) (sym is) ∙ ruled.depth
+pub depth_is : {A : Type 0} (meaning : A → Meaning) (action : A) (w : WorldView) (r : RulesView A)
+    → r ≡ rules_of action w → IsRuled (fixed_of meaning r) → w.tree.depth ≡ 4
+depth_is {A} meaning action w r is ruled = ap (λ (x : RulesView A). x.tree.depth) (sym is) ∙ ruled.depth

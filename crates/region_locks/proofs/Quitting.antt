@@ -3,9 +3,8 @@ use Rattle.std.proofs.Common.{◌≤◌, ◌≡◌, ◌≢◌, ℕ, ◌+◌, ◌
 use Rattle.std.specs.Prelude.{◌==◌, not, ◌&&◌, ◌||◌}
 use Rattle.std.specs.Option.{option_map}
 use Rattle.std.proofs.lemmas.Bool.{cases_Bool, false≢true, true≢false, ne_eqb, cond-false}
-use Rattle.arena_geo.specs.Bounds.{Bounds}
 use Rattle.atomic_table.specs.Seated.{TableId}
-use Rattle.entity_recs.specs.declared.rec.Rec.{Rec}
+use Rattle.entity_recs.specs.Actions.{Meaning}
 use Rattle.entity_recs.specs.declared.effect.Effect.{Effect}
 use Rattle.entity_recs.specs.Commands.{Command}
 use Rattle.core_steps.specs.declared.step.Step.{Step}
@@ -294,9 +293,9 @@ free_of_steps F passes table old new step own at quit is none = elim (cases_Bool
 -- ---- what the seat in plain values knows of its pass
 
 -- what doesn't change of a table, by its rules
-pub same_fixed : {A : Type 0} (takes : A → Rec → Bool) (region : A → Rec → Command → List Bounds) (effect : A → Rec → List Rec → Command → Effect) (t u : TableView A) (rules : RulesView A)
-    → t ≡ u → rules ≡ rules_of t.action t.world → fixed_of takes region effect rules ≡ fixed_in takes region effect u
-same_fixed takes region effect t u rules same is = ap (fixed_of takes region effect) is ∙ ap (fixed_in takes region effect) same
+pub same_fixed : {A : Type 0} (meaning : A → Meaning) (t u : TableView A) (rules : RulesView A)
+    → t ≡ u → rules ≡ rules_of t.action t.world → fixed_of meaning rules ≡ fixed_in meaning u
+same_fixed meaning t u rules same is = ap (fixed_of meaning) is ∙ ap (fixed_in meaning) same
 
 -- the pass may make its next step
 pub pass_is_ready : (F G : Fixed) (passes : ℕ) (table : TableId) (p q : PassView) → F ≡ G → p ≡ q → IsPassOf G passes table q → IsReady F p.view p.given p.quits p.effect
@@ -310,10 +309,12 @@ pass_is_ready F G passes table p q fixed same own =
     }))
 
 -- the step that is found is the pass's
-pub step_found : (F G : Fixed) (p q : PassView) (found : Option Step) → F ≡ G → p ≡ q → found ≡ next_step F p → found ≡ next_step G q
-step_found F G p q found fixed same is = is ∙ ap (λ (H : Fixed). next_step H p) fixed ∙ ap (next_step G) same
+pub step_found : (F G : Fixed) (p q : PassView) (number : ℕ) (found : Option Step) → F ≡ G → p ≡ q → number ≡ q.number → found ≡ next_step F (record p { number = number }) → found ≡ next_step G q
+step_found F G p q number found fixed same numbered is =
+    is ∙ ap (λ (n : ℕ). next_step F (record p { number = n })) (numbered ∙ sym (ap (λ (r : PassView). r.number) same))
+    ∙ ap (λ (H : Fixed). next_step H p) fixed ∙ ap (next_step G) same
 
 -- and there is one where the pass has one
-pub some_found : (F G : Fixed) (passes : ℕ) (table : TableId) (p q : PassView) (found : Option Step) → F ≡ G → p ≡ q → found ≡ next_step F p → IsPassOf G passes table q
+pub some_found : (F G : Fixed) (passes : ℕ) (table : TableId) (p q : PassView) (number : ℕ) (found : Option Step) → F ≡ G → p ≡ q → number ≡ q.number → found ≡ next_step F (record p { number = number }) → IsPassOf G passes table q
     → is_some found ≡ has_next_step q
-some_found F G passes table p q found fixed same is own = ap (λ (o : Option Step). is_some o) (step_found F G p q found fixed same is) ∙ some_step G passes table q own
+some_found F G passes table p q number found fixed same numbered is own = ap (λ (o : Option Step). is_some o) (step_found F G p q number found fixed same numbered is) ∙ some_step G passes table q own

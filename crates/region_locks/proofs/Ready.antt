@@ -1,5 +1,5 @@
 -- The step that comes next of a pass, and what is known after it.
-use Rattle.std.proofs.Common.{◌≡◌, ◌≤◌, ℕ, Bool, true, false, if◌then◌else◌, List, refl, sym, ap, ◌∙◌, subst, Option, Some, None, is_some}
+use Rattle.std.proofs.Common.{◌≡◌, ◌≤◌, ℕ, Bool, true, false, if◌then◌else◌, refl, sym, ap, ◌∙◌, subst, Option, Some, None, is_some}
 use Rattle.std.specs.Option.{option_map}
 use Rattle.std.proofs.lemmas.Bool.{false≢true}
 use Rattle.atomic_table.specs.Seated.{TableId}
@@ -7,18 +7,20 @@ use Rattle.atomic_table.specs.declared.shared.Seat.{Seat}
 use Rattle.entity_recs.specs.declared.effect.Effect.{Effect}
 use Rattle.core_steps.specs.Views.{Fixed, Point, Idle, Owning, Taking, Checking, Entering, Entered, Loading, Leaving, Sensing, Resolving, Claiming, Storing, Releasing, Returning, Yielding, View, record_read, write_nodes, effect_loaded}
 use Rattle.core_steps.specs.Steps.{first_yield}
-use Rattle.core_steps.specs.Machine.{Next, resolving, quitting, next_at}
+use Rattle.core_steps.specs.Machine.{Next, resolving, quitting, next_at, index_of}
 use Rattle.region_locks.specs.Sights.{SightView, Tally, tally_after}
 use Rattle.region_locks.specs.Going.{next_asked, MayGo}
 use Rattle.core_machine.specs.Going.{view_found, word_left}
 use Rattle.region_locks.specs.Holders.{IsFoundHeld, AreReached}
-use Rattle.region_locks.specs.Plays.{IsSoundSight, SeatWent}
+use Rattle.region_locks.specs.Plays.{IsSoundSight, SeatStepped}
 use Rattle.entity_recs.specs.Commands.{command_of}
 use Rattle.core_machine.specs.declared.seat.Seat as mirrors
 use Rattle.core_machine.specs.Ready.{is_resolving}
 use Rattle.core_machine.specs.Seats.{view_of}
-use Rattle.region_locks.specs.Hands.{pass_view, IsHand, CanFollow}
-use Rattle.region_locks.specs.Passes.{PassView, effect_kept, next_of_pass, pass_after, IsPassOf, IsReady, HasGone}
+use Rattle.region_locks.specs.Hands.{hand_view, pass_view, IsAtPlace, CanFollow}
+use Rattle.region_locks.specs.WordSteps.{word_by, MayBe}
+use Rattle.region_locks.specs.declared.word_step.WordStep.{WordStep}
+use Rattle.region_locks.specs.Passes.{PassView, effect_kept, next_of_pass, pass_after, word_after, IsPassOf, IsReady, HasGone}
 use Rattle.region_locks.proofs.Owns.{own_after}
 use Rattle.core_machine.specs.Nexts.{next_resolved, next_point, the_next}
 
@@ -71,45 +73,66 @@ pub sight_is : (sight : SightView) (number : ℕ) (view : View) (tally : Tally) 
     → sight ≡ record { number = number; view = view; tally = tally }
 sight_is sight number view tally e f g i = record { number = e i; view = f i; tally = g i }
 
-pub sound_sight_ready : (F : Fixed) (passes : ℕ) (table : TableId) (p : PassView) (seat : Seat (Unit {0}) SightView) (word : ℕ) → IsReady F passes table p seat word → IsSoundSight F passes seat.me.0
-sound_sight_ready F passes table p seat word is = subst (IsSoundSight F passes) (sym (sight_is seat.me.0 p.number p.view p.tally is.same_number is.same_view is.same_tally)) is.own.sound_sight
+module _ (F : Fixed) (passes : ℕ) (table : TableId) (p : PassView) (seat : Seat (Unit {0}) SightView) (number word : ℕ) (is : IsReady F passes table p (hand_view seat number) word) (at : IsAtPlace seat number) where
+  number_is : seat.me.0.number ≡ p.number
+  number_is = at.has_number ∙ is.same_number
 
-pub may_ready : (F : Fixed) (passes : ℕ) (table : TableId) (p : PassView) (seat : Seat (Unit {0}) SightView) (word : ℕ) → IsReady F passes table p seat word
-    → MayGo F passes seat.me.0.number seat.me.0.view p.given p.quits (the_next (next_of_pass F p))
-may_ready F passes table p seat word is =
-    subst (λ (n : ℕ). MayGo F passes n seat.me.0.view p.given p.quits (the_next (next_of_pass F p))) (sym is.same_number)
-    (subst (λ (v : View). MayGo F passes p.number v p.given p.quits (the_next (next_of_pass F p))) (sym is.same_view) (may_go F passes table p is.own is.comes))
+  pub sound_sight_ready : IsSoundSight F passes seat.me.0
+  sound_sight_ready = subst (IsSoundSight F passes) (sym (sight_is seat.me.0 p.number p.view p.tally number_is is.same_view is.same_tally)) is.own.sound_sight
 
-pub has_gone : (F : Fixed) (passes : ℕ) (table : TableId) (p : PassView) (old new : Seat (Unit {0}) SightView) (word found : ℕ) → IsReady F passes table p old word
-    → new.table_id ≡ old.table_id → SeatWent F passes (the_next (next_of_pass F p)) old.me found new.me → HasGone F passes p found new old.me.1
-has_gone F passes table p old new word found is same went =
-    let number = went.0.number ∙ is.same_number in
-    let view = went.0.view ∙ ap (λ (v : View). view_found F v (the_next (next_of_pass F p)) found) is.same_view in
-    let tally : new.me.0.tally ≡ (pass_after F (the_next (next_of_pass F p)) found p).tally = went.0.tally
-    ∙ ap (λ (n : ℕ). tally_after (the_next (next_of_pass F p)) found (word_left F n old.me.0.view (the_next (next_of_pass F p)) found) old.me.0.tally) is.same_number
-    ∙ ap (λ (v : View). tally_after (the_next (next_of_pass F p)) found (word_left F p.number v (the_next (next_of_pass F p)) found) old.me.0.tally) is.same_view
-    ∙ ap (tally_after (the_next (next_of_pass F p)) found (word_left F p.number p.view (the_next (next_of_pass F p)) found)) is.same_tally in
-    record {
-      tally = tally;
-      same_table = same ∙ is.same_table;
-      same_number = number;
-      went = view;
-      sound_sight = subst (IsSoundSight F passes) (sight_is new.me.0 p.number _ _ number view tally) went.0.sound_sight;
-      small = went.0.small;
-      taken = went.0.taken;
-      counted = λ counts. subst (λ (v : View). v.seen ≤ found) is.same_view (went.0.counted counts);
-      carries = went.1;
-    }
+  pub may_ready : MayGo F passes seat.me.0.number seat.me.0.view p.given p.quits (the_next (next_of_pass F p))
+  may_ready =
+      subst (λ (n : ℕ). MayGo F passes n seat.me.0.view p.given p.quits (the_next (next_of_pass F p))) (sym number_is)
+      (subst (λ (v : View). MayGo F passes p.number v p.given p.quits (the_next (next_of_pass F p))) (sym is.same_view) (may_go F passes table p is.own is.comes))
+
+  -- what is asked of the pass's step is asked of the seat's
+  pub index_ready : word ≡ index_of 31 seat.me.0.view (the_next (next_of_pass F p))
+  index_ready = subst (λ (v : View). word ≡ index_of 31 v (the_next (next_of_pass F p))) (sym is.same_view) is.index
+
+  pub left_ready : (step : WordStep) → ((found : ℕ) → word_after F p found ≡ word_by step found) → (found : ℕ) → word_left F seat.me.0.number seat.me.0.view (the_next (next_of_pass F p)) found ≡ word_by step found
+  left_ready step left found =
+      ap (λ (n : ℕ). word_left F n seat.me.0.view (the_next (next_of_pass F p)) found) number_is
+      ∙ ap (λ (v : View). word_left F p.number v (the_next (next_of_pass F p)) found) is.same_view ∙ left found
+
+  pub may_be_ready : (step : WordStep) → MayBe step F p.view (the_next (next_of_pass F p)) word → MayBe step F seat.me.0.view (the_next (next_of_pass F p)) word
+  may_be_ready step may = subst (λ (v : View). MayBe step F v (the_next (next_of_pass F p)) word) (sym is.same_view) may
+
+  pub has_gone : (new : Seat (Unit {0}) SightView) (found : ℕ) → new.table_id ≡ seat.table_id → SeatStepped F passes (the_next (next_of_pass F p)) seat.me found new.me → HasGone F passes p found (hand_view new number)
+  has_gone new found same stepped =
+      let went = stepped.went.0 in
+      let moved = went.number ∙ number_is in
+      let view = went.view ∙ ap (λ (v : View). view_found F v (the_next (next_of_pass F p)) found) is.same_view in
+      let tally : new.me.0.tally ≡ (pass_after F (the_next (next_of_pass F p)) found p).tally = went.tally
+      ∙ ap (λ (n : ℕ). tally_after (the_next (next_of_pass F p)) found (word_left F n seat.me.0.view (the_next (next_of_pass F p)) found) seat.me.0.tally) number_is
+      ∙ ap (λ (v : View). tally_after (the_next (next_of_pass F p)) found (word_left F p.number v (the_next (next_of_pass F p)) found) seat.me.0.tally) is.same_view
+      ∙ ap (tally_after (the_next (next_of_pass F p)) found (word_left F p.number p.view (the_next (next_of_pass F p)) found)) is.same_tally in
+      record {
+        same_table = same ∙ is.same_table;
+        same_number = is.same_number;
+        went = view;
+        tally = tally;
+        sound_sight = subst (IsSoundSight F passes) (sight_is new.me.0 p.number _ _ moved view tally) went.sound_sight;
+        small = went.small;
+        taken = went.taken;
+        counted = λ counts. subst (λ (v : View). v.seen ≤ found) is.same_view (went.counted counts);
+        held = subst (λ (n : ℕ). IsFoundHeld F passes n (the_next (next_of_pass F p)) found) number_is stepped.held;
+        reached = subst (λ (v : View). AreReached F v (the_next (next_of_pass F p))) is.same_view stepped.reached;
+        seen = λ commits. subst (λ (v : View). v.seen ≤ found) is.same_view (stepped.seen commits);
+      }
+
+  -- the place keeps its number, and carries what it carried
+  pub at_place : (new : Seat (Unit {0}) SightView) (found : ℕ) → SeatStepped F passes (the_next (next_of_pass F p)) seat.me found new.me → IsAtPlace new number
+  at_place new found stepped = record { has_number = stepped.went.0.number ∙ at.has_number; carries = stepped.went.1 ∙ at.carries }
 
 -- the view after what comes next of a pass
 abbrev view_next : Fixed → PassView → ℕ → View
 view_next F p found = view_found F p.view (the_next (next_of_pass F p)) found
 
--- the seat in plain values may make the step that its place has made
-pub can_follow : (F G : Fixed) (passes : ℕ) (table : TableId) (p q : PassView) (found : ℕ) (place : Seat (Unit {0}) SightView) (carried : List (ℕ × Unit {0}))
-    → G ≡ F → q ≡ p → IsPassOf F passes table p → is_some (next_of_pass F p) ≡ true → HasGone F passes p found place carried
+-- the seat in plain values may make the step that its hand has made
+pub can_follow : (F G : Fixed) (passes : ℕ) (table : TableId) (p q : PassView) (found : ℕ) (hand : PassView)
+    → G ≡ F → q ≡ p → IsPassOf F passes table p → is_some (next_of_pass F p) ≡ true → HasGone F passes p found hand
     → CanFollow G q.view q.given q.quits q.effect found
-can_follow F G passes table p q found place carried same is own comes gone =
+can_follow F G passes table p q found hand same is own comes gone =
     subst (λ (H : Fixed). CanFollow H q.view q.given q.quits q.effect found) (sym same)
     (subst (λ (r : PassView). CanFollow F r.view r.given r.quits r.effect found) (sym is) (record {
       comes = comes;
@@ -124,24 +147,24 @@ can_follow F G passes table p q found place carried same is own comes gone =
     }))
 
 -- what a pass is after its step
-pub record Stepped (F : Fixed) (passes : ℕ) (table : TableId) (p : PassView) (found : ℕ) (place : Seat (Unit {0}) SightView) (number : ℕ) (mirror : mirrors.Seat) (effect : Option Effect) : Type 0 where
-  pub hand : IsHand place number mirror
-  pub pass : pass_view place number mirror effect ≡ pass_after F (the_next (next_of_pass F p)) found p
-  pub own : IsPassOf F passes table (pass_view place number mirror effect)
+pub record Stepped (F : Fixed) (passes : ℕ) (table : TableId) (p : PassView) (found : ℕ) (hand : PassView) (mirror : mirrors.Seat) (effect : Option Effect) : Type 0 where
+  pub mirrors : view_of mirror ≡ hand.view
+  pub pass : pass_view hand mirror effect ≡ pass_after F (the_next (next_of_pass F p)) found p
+  pub own : IsPassOf F passes table (pass_view hand mirror effect)
 
-module _ (F G : Fixed) (passes : ℕ) (table : TableId) (p : PassView) (found : ℕ) (old new : Seat (Unit {0}) SightView) (number : ℕ) (mirror after : mirrors.Seat) (effect effect_after : Option Effect)
-    (same : G ≡ F) (is : pass_view old number mirror effect ≡ p) (hand : IsHand old number mirror) (own : IsPassOf F passes table p) (comes : is_some (next_of_pass F p) ≡ true)
-    (gone : HasGone F passes p found new old.me.1) where
-  pub stepped : view_of after ≡ view_next G (pass_view old number mirror effect) found → after.given ≡ None → after.quits ≡ false → effect_after ≡ effect_kept (view_of after) effect
-      → Stepped F passes table p found new number after effect_after
+module _ (F G : Fixed) (passes : ℕ) (table : TableId) (p : PassView) (found : ℕ) (old new : PassView) (mirror after : mirrors.Seat) (effect effect_after : Option Effect)
+    (same : G ≡ F) (is : pass_view old mirror effect ≡ p) (own : IsPassOf F passes table p) (comes : is_some (next_of_pass F p) ≡ true)
+    (gone : HasGone F passes p found new) where
+  pub stepped : view_of after ≡ view_next G (pass_view old mirror effect) found → after.given ≡ None → after.quits ≡ false → effect_after ≡ effect_kept (view_of after) effect
+      → Stepped F passes table p found new after effect_after
   stepped follows given quits kept =
-      let q = pass_view old number mirror effect in
+      let q = pass_view old mirror effect in
       let followed : view_of after ≡ view_next F p found = follows ∙ ap (λ (H : Fixed). view_next H q found) same ∙ ap (λ (r : PassView). view_next F r found) is in
       let effect_is : effect_after ≡ effect_kept (view_next F p found) p.effect =
       kept ∙ ap (λ (r : PassView). effect_kept (view_of after) r.effect) is ∙ ap (λ (v : View). effect_kept v p.effect) followed in
-      let pass : pass_view new number after effect_after ≡ pass_after F (the_next (next_of_pass F p)) found p = λ i. record {
+      let pass : pass_view new after effect_after ≡ pass_after F (the_next (next_of_pass F p)) found p = λ i. record {
         table = gone.same_table i;
-        number = ap (λ (r : PassView). r.number) is i;
+        number = gone.same_number i;
         given = option_map command_of (given i);
         quits = quits i;
         effect = effect_is i;
@@ -149,29 +172,7 @@ module _ (F G : Fixed) (passes : ℕ) (table : TableId) (p : PassView) (found : 
         tally = gone.tally i;
       } in
       record {
-        hand = record {
-          has_number = gone.same_number ∙ sym (ap (λ (r : PassView). r.number) is);
-          carries = gone.carries ∙ hand.carries;
-          mirrors = followed ∙ sym gone.went;
-        };
+        mirrors = followed ∙ sym gone.went;
         pass = pass;
         own = subst (IsPassOf F passes table) (sym pass) (own_after F passes table p found own comes gone.sound_sight);
       }
-
--- who holds the node that the pass was to take
-pub held_ready : (F : Fixed) (passes : ℕ) (table : TableId) (p : PassView) (seat : Seat (Unit {0}) SightView) (word found : ℕ) → IsReady F passes table p seat word
-    → IsFoundHeld F passes seat.me.0.number (the_next (next_of_pass F p)) found → IsFoundHeld F passes p.number (the_next (next_of_pass F p)) found
-held_ready F passes table p seat word found is held = subst (λ (n : ℕ). IsFoundHeld F passes n (the_next (next_of_pass F p)) found) is.same_number held
-
--- what a step that takes a node, or counts, says of the seat's view holds of the pass's
-pub reached_ready : (F : Fixed) (passes : ℕ) (table : TableId) (p : PassView) (seat : Seat (Unit {0}) SightView) (word : ℕ) → IsReady F passes table p seat word
-    → (next : Next) → AreReached F seat.me.0.view next → AreReached F p.view next
-reached_ready F passes table p seat word is next reached = subst (λ (v : View). AreReached F v next) is.same_view reached
-
-pub seen_ready : (F : Fixed) (passes : ℕ) (table : TableId) (p : PassView) (seat : Seat (Unit {0}) SightView) (word found : ℕ) → IsReady F passes table p seat word
-    → seat.me.0.view.seen ≤ found → p.view.seen ≤ found
-seen_ready F passes table p seat word found is seen = subst (λ (v : View). v.seen ≤ found) is.same_view seen
-
-pub reached_as : (F G : Fixed) (p q : PassView) → F ≡ G → p ≡ q → AreReached F p.view (the_next (next_of_pass F p)) → AreReached G q.view (the_next (next_of_pass G q))
-reached_as F G p q same is reached =
-    subst (λ (H : Fixed). AreReached H q.view (the_next (next_of_pass H q))) same (subst (λ (r : PassView). AreReached F r.view (the_next (next_of_pass F r))) is reached)

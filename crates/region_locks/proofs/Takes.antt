@@ -154,11 +154,12 @@ word_of_holder F p node next t =
     ap (λ (b : Bool). suc (p.number + 256 * (if is_leaf F node then leaf_word F p.view.wanted else (if b then 1 else 0)))) (sym t.writes)
 
 -- the same word, as the rules compute it
-pub held_is : (F G : Fixed) (p q : PassView) (node result : ℕ) (wanted : List ℕ) (writing : Bool) → G ≡ F → q ≡ p → wanted ≡ q.view.wanted → writing ≡ is_some (effect_in_hand q)
-    → result ≡ suc (q.number + 256 * (if is_leaf G node then leaf_word G wanted else (if writing then 1 else 0)))
+pub held_is : (F G : Fixed) (p q : PassView) (number node result : ℕ) (wanted : List ℕ) (writing : Bool) → G ≡ F → q ≡ p → number ≡ p.number → wanted ≡ q.view.wanted → writing ≡ is_some (effect_in_hand q)
+    → result ≡ suc (number + 256 * (if is_leaf G node then leaf_word G wanted else (if writing then 1 else 0)))
     → suc (p.number + 256 * (if is_leaf F node then leaf_word F p.view.wanted else (if is_some (effect_in_hand p) then 1 else 0))) ≡ result
-held_is F G p q node result wanted writing same is wants writes computed =
+held_is F G p q number node result wanted writing same is numbered wants writes computed =
     sym (computed
+    ∙ ap (λ (n : ℕ). suc (n + 256 * (if is_leaf G node then leaf_word G wanted else (if writing then 1 else 0)))) (numbered ∙ sym (ap (λ (r : PassView). r.number) is))
     ∙ ap (λ (xs : List ℕ). suc (q.number + 256 * (if is_leaf G node then leaf_word G xs else (if writing then 1 else 0)))) wants
     ∙ ap (λ (b : Bool). suc (q.number + 256 * (if is_leaf G node then leaf_word G q.view.wanted else (if b then 1 else 0)))) writes
     ∙ ap (λ (H : Fixed). suc (q.number + 256 * (if is_leaf H node then leaf_word H q.view.wanted else (if is_some (effect_in_hand q) then 1 else 0)))) same

@@ -3,10 +3,8 @@ use Rattle.std.specs.Prelude.{◌≤◌, ◌≡◌, ◌≢◌, ℕ, ◌+◌, ◌
 use Rattle.std.specs.Prelude.{List, [], ◌∷◌, ◌++◌}
 use Rattle.std.specs.Prelude.{map, length, slice_index, Option, Some, None, is_some}
 use Rattle.std.specs.List.{range_with_len}
-use Rattle.arena_geo.specs.Bounds.{Bounds}
 use Rattle.atomic_table.specs.Seated.{TableId}
-use Rattle.atomic_table.specs.declared.shared.Seat.{Seat}
-use Rattle.entity_recs.specs.declared.rec.Rec.{Rec}
+use Rattle.entity_recs.specs.Actions.{Meaning}
 use Rattle.entity_recs.specs.declared.effect.Effect.{Effect}
 use Rattle.entity_recs.specs.Commands.{Command}
 use Rattle.world_tree.specs.Worlds.{WorldView}
@@ -23,6 +21,7 @@ use Rattle.core_steps.specs.Calls.{node_taken}
 use Rattle.core_machine.specs.Going.{view_found, word_left}
 use Rattle.core_machine.specs.Nexts.{next_with, the_next}
 use Rattle.core_machine.specs.Ready.{is_resolving}
+use Rattle.region_locks.specs.Holders.{IsFoundHeld, AreReached}
 use Rattle.region_locks.specs.Plays.{IsSoundSight}
 
 -- which table it is, the pass's number, the command that is given and not begun, whether the pass is to give up, the
@@ -92,9 +91,20 @@ pub record IsPassOf (F : Fixed) (passes : ℕ) (table : TableId) (p : PassView) 
   pub refusal : RefusalIsListed p.view.refused p.tally.refused
 
 -- what doesn't change of a table, by its action
-abbrev pub fixed_in : {A : Type 0} → (A → Rec → Bool) → (A → Rec → Command → List Bounds)
-    → (A → Rec → List Rec → Command → Effect) → TableView A → Fixed
-fixed_in takes region effect t = fixed_by takes region effect t.action t.world
+abbrev pub fixed_in : {A : Type 0} → (A → Meaning) → TableView A → Fixed
+fixed_in meaning t = fixed_by meaning t.action t.world
+
+-- the pass belongs to this table
+abbrev pub IsOwn : {A : Type 0} → (A → Meaning) → TableView A → PassView → Type 0
+IsOwn meaning t p = IsPassOf (fixed_in meaning t) (length t.rooms) t.table p
+
+-- what comes next of a pass of this table
+abbrev pub next_in : {A : Type 0} → (A → Meaning) → TableView A → PassView → Option Next
+next_in meaning t p = next_of_pass (fixed_in meaning t) p
+
+-- a pass of this table after what comes next, where this word was found
+abbrev pub after_in : {A : Type 0} → (A → Meaning) → TableView A → ℕ → PassView → PassView
+after_in meaning t found p = pass_after (fixed_in meaning t) (the_next (next_in meaning t p)) found p
 
 -- the node that is taken next
 abbrev pub node_taken_next : Option Next → Option ℕ
@@ -107,14 +117,13 @@ pub record IsHolderIn (word node number leaves : ℕ) : Type 0 where
   pub is_number : number ≡ (word - 1) % 256
   pub are_leaves : leaves ≡ (if nat_le 15 node then word / 256 % 2 ^ 16 else 0)
 
--- the seat is that of the pass, which belongs to the table and has a next step, and the word is that of the step
-pub record IsReady (F : Fixed) (passes : ℕ) (table : TableId) (p : PassView) (seat : Seat (Unit {0}) SightView)
-    (word : ℕ) : Type 0 where
+-- the hand is that of the pass, which belongs to the table and has a next step, and the word is that of the step
+pub record IsReady (F : Fixed) (passes : ℕ) (table : TableId) (p hand : PassView) (word : ℕ) : Type 0 where
   pub own : IsPassOf F passes table p
-  pub same_table : seat.table_id ≡ p.table
-  pub same_number : seat.me.0.number ≡ p.number
-  pub same_view : seat.me.0.view ≡ p.view
-  pub same_tally : seat.me.0.tally ≡ p.tally
+  pub same_table : hand.table ≡ p.table
+  pub same_number : hand.number ≡ p.number
+  pub same_view : hand.view ≡ p.view
+  pub same_tally : hand.tally ≡ p.tally
   pub comes : is_some (next_of_pass F p) ≡ true
   pub index : word ≡ index_of 31 p.view (the_next (next_of_pass F p))
 
@@ -122,20 +131,21 @@ pub record IsReady (F : Fixed) (passes : ℕ) (table : TableId) (p : PassView) (
 abbrev pub word_after : Fixed → PassView → ℕ → ℕ
 word_after F p found = word_left F p.number p.view (the_next (next_of_pass F p)) found
 
--- the seat is at its table, and its view is the one after what comes next of the pass
-pub record HasGone (F : Fixed) (passes : ℕ) (p : PassView) (found : ℕ) (seat : Seat (Unit {0}) SightView)
-    (carried : List (ℕ × Unit {0})) : Type 0 where
-  pub same_table : seat.table_id ≡ p.table
-  pub same_number : seat.me.0.number ≡ p.number
-  pub went : seat.me.0.view ≡ view_found F p.view (the_next (next_of_pass F p)) found
-  pub tally : seat.me.0.tally ≡ (pass_after F (the_next (next_of_pass F p)) found p).tally
+-- the hand is at its table, and its view is the one after what comes next of the pass
+pub record HasGone (F : Fixed) (passes : ℕ) (p : PassView) (found : ℕ) (hand : PassView) : Type 0 where
+  pub same_table : hand.table ≡ p.table
+  pub same_number : hand.number ≡ p.number
+  pub went : hand.view ≡ view_found F p.view (the_next (next_of_pass F p)) found
+  pub tally : hand.tally ≡ (pass_after F (the_next (next_of_pass F p)) found p).tally
   pub small : kind_of (the_next (next_of_pass F p)) ≡ Commit → found + 1 < 2 ^ 64
   pub taken : (node slot : ℕ) (part players plan : List ℕ)
       → the_next (next_of_pass F p) ≡ ReadPlayer node part slot players plan → length part ≡ 5
       → F.takes (record_read slot (part ++ found ∷ [])) ≡ true
   pub counted : the_next (next_of_pass F p) ≡ YieldCount → p.view.seen ≤ found
+  pub held : IsFoundHeld F passes p.number (the_next (next_of_pass F p)) found
+  pub reached : AreReached F p.view (the_next (next_of_pass F p))
+  pub seen : kind_of (the_next (next_of_pass F p)) ≡ Commit → p.view.seen ≤ found
   pub sound_sight : IsSoundSight F passes (sight_of (pass_after F (the_next (next_of_pass F p)) found p))
-  pub carries : seat.me.1 ≡ carried
 
 -- the node that a step gives back
 abbrev pub node_given : Next → Option ℕ

@@ -36,19 +36,14 @@ pub record Went (F : Fixed) (passes : ℕ) (next : Next) (before : SightView) (f
 abbrev pub SeatWent : Fixed → ℕ → Next → Me (Unit {0}) SightView → ℕ → Me (Unit {0}) SightView → Type 0
 SeatWent F passes next before found after = Went F passes next before.0 found after.0 × (after.1 ≡ before.1)
 
--- the seat went on, the node that the step takes is one of its leaves or visited by them, and where it isn't free,
--- another seat holds it
-pub record SeatTook (F : Fixed) (passes : ℕ) (next : Next) (before : Me (Unit {0}) SightView) (found : ℕ)
+-- the seat went on; a node that the step takes is one of its leaves or visited by them, and where it isn't free, another
+-- seat holds it; and a count to which it adds 1 isn't below the one that it had seen
+pub record SeatStepped (F : Fixed) (passes : ℕ) (next : Next) (before : Me (Unit {0}) SightView) (found : ℕ)
     (after : Me (Unit {0}) SightView) : Type 0 where
   pub went : SeatWent F passes next before found after
   pub held : IsFoundHeld F passes before.0.number next found
   pub reached : AreReached F before.0.view next
-
--- the seat went on, and the count that was found isn't below the one that it had seen
-pub record SeatCounted (F : Fixed) (passes : ℕ) (next : Next) (before : Me (Unit {0}) SightView) (found : ℕ)
-    (after : Me (Unit {0}) SightView) : Type 0 where
-  pub went : SeatWent F passes next before found after
-  pub seen : before.0.view.seen ≤ found
+  pub seen : kind_of next ≡ Commit → before.0.view.seen ≤ found
 
 -- the seat keeps its number, the count that was found is the one that it has seen and isn't below the one that it had
 -- seen, and its view is sound

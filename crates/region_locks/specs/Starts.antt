@@ -1,10 +1,7 @@
 -- The world that a table begins with, as histories see it.
-use Rattle.std.specs.Prelude.{◌≡◌, ℕ, ◌<◌, Bool, true, List, [], if◌then◌else◌, length, slice_index, slice_index_or}
+use Rattle.std.specs.Prelude.{◌≡◌, ℕ, ◌<◌, true, List, [], if◌then◌else◌, length, slice_index, slice_index_or}
 use Rattle.std.specs.Prelude.{Option, Some, None}
-use Rattle.arena_geo.specs.Bounds.{Bounds}
-use Rattle.entity_recs.specs.declared.rec.Rec.{Rec}
-use Rattle.entity_recs.specs.declared.effect.Effect.{Effect}
-use Rattle.entity_recs.specs.Commands.{Command}
+use Rattle.entity_recs.specs.Actions.{Meaning}
 use Rattle.entity_recs.specs.Worlds.{World, zero_vector, world_of}
 use Rattle.world_tree.specs.Live.{live_in}
 use Rattle.world_tree.specs.Worlds.{WorldView}
@@ -21,10 +18,9 @@ world_at_start world = world_of (live_in world.records)
 abbrev pub rules_of : {A : Type 0} → A → WorldView → RulesView A
 rules_of action world = record { action = action; tree = world.tree; start = live_in world.records }
 
--- what doesn't change, of an action with what it takes, its regions and its effects, and of the world at the start
-abbrev pub fixed_by : {A : Type 0} → (A → Rec → Bool) → (A → Rec → Command → List Bounds)
-    → (A → Rec → List Rec → Command → Effect) → A → WorldView → Fixed
-fixed_by takes region effect action world = fixed_of takes region effect (rules_of action world)
+-- what doesn't change, of an action with this meaning, and of the world at the start
+abbrev pub fixed_by : {A : Type 0} → (A → Meaning) → A → WorldView → Fixed
+fixed_by meaning action world = fixed_of meaning (rules_of action world)
 
 -- in place of what doesn't change, where no step is picked
 abbrev pub nothing_fixed : Fixed

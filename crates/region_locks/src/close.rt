@@ -27,7 +27,7 @@ use world_tree::World;
 fn end_all<A: Action>(words: &Words<A>, mut passes: PassList<A>, logs: &mut LogList) -> Place
     requires table { words.now.table_id.words ≡ 639 }
     requires own { let key = words.now.key in
-        let F = fixed_by A.takes A.region_of A.effect_of key.action.value key.world.value in
+        let F = fixed_by A.meaning key.action.value key.world.value in
         All (IsPassOf F (length key.rooms.items) words.now.table_id) passes.items }
     requires numbers { map (λ p. p.number) passes.items ≡ range_with_len 0 (length words.now.key.rooms.items) }
     requires rest { All HasNoCommand passes.items }
@@ -71,11 +71,11 @@ fn close_words<A: Action>(table: WordTable<A>, seat: Place) -> [u64; TABLE_WORDS
     requires first { seat.me.0.number ≡ 0 }
     requires ended { AreEndedBelow (length table.shared.key.rooms.items) seat.me.0.view }
     ensures closes { let key = table.shared.key in
-        Closes (fixed_by A.takes A.region_of A.effect_of key.action.value key.world.value) result seat.me.0.view }
+        Closes (fixed_by A.meaning key.action.value key.world.value) result seat.me.0.view }
     ensures refusals { AreRefusalsServed seat.me.0.tally }
     ensures made { seat.me.0.view.made ≡ length table.shared.key.rooms.items }
     ensures start { let key = table.shared.key in
-        IsStart (fixed_by A.takes A.region_of A.effect_of key.action.value key.world.value) }
+        IsStart (fixed_by A.meaning key.action.value key.world.value) }
 {
     words_of(table.close_with(seat))
 }
@@ -84,13 +84,13 @@ impl<'a, A: Action> NodeTable<'a, A> {
     /// Closes the table: all its passes are ended, each one's entries are put into the empty list, by number, and the
     /// records of the world that the table began with are made those of the shared words. It takes no memory.
     pub fn close(self, passes: PassList<A>, world: &mut World, logs: &mut LogList)
-        requires own { let F = fixed_in A.takes A.region_of A.effect_of self in
+        requires own { let F = fixed_in A.meaning self in
             All (IsPassOf F (length self.rooms) self.table) passes.items }
         requires all { map (λ p. p.number) passes.items ≡ range_with_len 0 (length self.rooms) }
         requires none { All HasNoCommand passes.items }
         requires world { world.old ≡ self.world }
         requires logs { logs.old ≡ [] }
-        ensures closed { let F = fixed_in A.takes A.region_of A.effect_of self.entry in
+        ensures closed { let F = fixed_in A.meaning self.entry in
             IsClosed F (map (λ p. p.view.log) passes.items) world.new }
         ensures refusals { AreRefusalsServed (tally_of_all passes.items) }
         ensures held { AreRefusalsHeld passes.items }

@@ -1,12 +1,13 @@
 ghost use Rattle.std.specs.Prelude.{◌≡◌, ◌≤◌, true, length, IfSome, IsSomeAnd, Some};
 ghost use Rattle.entity_recs.specs.Histories.{entry_of};
-ghost use Rattle.region_locks.specs.Passes.{fixed_in, IsPassOf, next_of_pass, pass_after, is_commit_next, first_effect};
+ghost use Rattle.region_locks.specs.Passes.{is_commit_next, first_effect, IsOwn, next_in, after_in};
 ghost use Rattle.region_locks.specs.Passes.{effect_in_hand};
 ghost use Rattle.core_machine.specs.Nexts.{the_next};
 
 use crate::owed::slot_and_seq;
 use crate::pass::Pass;
 use crate::table::NodeTable;
+use crate::word_step::WordStep;
 use arena_geo::Vec3;
 use entity_recs::{Action, Effect, Entry, IdList, Reply};
 use move_journal::same_reply;
@@ -37,22 +38,18 @@ fn reply_in_hand(kept: &Option<Effect>, in_view: &Option<Effect>) -> Reply
 impl<'a, A: Action> NodeTable<'a, A> {
     /// Commits, which is the pass's next step: the count grows by one, and the old count is the entry's place.
     pub fn commit(&self, pass: &mut Pass<A>) -> Entry
-        requires own { IsPassOf (fixed_in A.takes A.region_of A.effect_of self.now) (length self.now.rooms)
-            self.now.table pass.old }
-        requires next { is_commit_next (next_of_pass (fixed_in A.takes A.region_of A.effect_of self.now) pass.old)
+        requires own { IsOwn A.meaning self.now pass.old }
+        requires next { is_commit_next (next_in A.meaning self.now pass.old)
             ≡ true }
-        ensures own { IsPassOf (fixed_in A.takes A.region_of A.effect_of self.now) (length self.now.rooms)
-            self.now.table pass.new }
-        ensures pass { pass.new ≡ pass_after (fixed_in A.takes A.region_of A.effect_of self.now)
-            (the_next (next_of_pass (fixed_in A.takes A.region_of A.effect_of self.now) pass.old)) result.place
-            pass.old }
+        ensures own { IsOwn A.meaning self.now pass.new }
+        ensures pass { pass.new ≡ after_in A.meaning self.now result.place pass.old }
         ensures seen { pass.old.view.seen ≤ result.place }
         ensures entry { IsSomeAnd (effect_in_hand pass.old)
             (λ e. result ≡ entry_of result.place pass.old.view.cmd e) }
     {
         let (slot, seq) = slot_and_seq(&pass.mirror);
         let reply = reply_in_hand(&pass.effect, &pass.mirror.effect);
-        let place = self.add_to_count(pass, 0);
+        let place = self.step_word(pass, 0, WordStep::Count);
         Entry {
             place,
             slot,

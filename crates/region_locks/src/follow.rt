@@ -35,9 +35,9 @@ pub(crate) fn follow<A: Action>(
     effect: &mut Option<Effect>,
     found: u64,
 )
-    requires ready { CanFollow (fixed_of A.takes A.region_of A.effect_of rules.now) (view_of mirror.old)
+    requires ready { CanFollow (fixed_of A.meaning rules.now) (view_of mirror.old)
         (given_of mirror.old) mirror.old.quits effect.old found }
-    ensures view { let F = fixed_of A.takes A.region_of A.effect_of rules.now in view_of mirror.new
+    ensures view { let F = fixed_of A.meaning rules.now in view_of mirror.new
         ≡ view_found F (view_of mirror.old) (the_next (next_with F (view_of mirror.old) (given_of mirror.old)
         mirror.old.quits effect.old)) found }
     ensures given { mirror.new.given ≡ None }

@@ -1,6 +1,6 @@
 ghost use Rattle.std.specs.Prelude.{◌≡◌, true, length};
 ghost use Rattle.core_steps.specs.Steps.{first_yield, is_taking};
-ghost use Rattle.region_locks.specs.Passes.{fixed_in, IsPassOf};
+ghost use Rattle.region_locks.specs.Passes.{fixed_in, IsOwn};
 ghost use Rattle.region_locks.specs.Pursuits.{HasGivenUp};
 
 use crate::pass::Pass;
@@ -11,7 +11,7 @@ use entity_recs::Action;
 impl<'a, A: Action> NodeTable<'a, A> {
     /// The first node that the pass holds: inner nodes come before leaves, each in rising number.
     fn first_held(&self, pass: &Pass<A>) -> Option<u8>
-        ensures { result ≡ first_yield (fixed_in A.takes A.region_of A.effect_of self.now) pass.now.view }
+        ensures { result ≡ first_yield (fixed_in A.meaning self.now) pass.now.view }
     {
         let inner = pass.mirror.inner_held(&self.rules);
         let leaves = pass.mirror.leaves_held();
@@ -21,11 +21,9 @@ impl<'a, A: Action> NodeTable<'a, A> {
     /// Gives up the command in hand, as after a take that was refused: all that the pass holds is given back, and the
     /// command is no longer in hand. It may be given again. That a take, or the commit, comes next is all that it asks.
     pub fn give_up(&self, pass: &mut Pass<A>)
-        requires own { IsPassOf (fixed_in A.takes A.region_of A.effect_of self.now) (length self.now.rooms)
-            self.now.table pass.old }
+        requires own { IsOwn A.meaning self.now pass.old }
         requires at_take { is_taking pass.old.view.point ≡ true }
-        ensures own { IsPassOf (fixed_in A.takes A.region_of A.effect_of self.now) (length self.now.rooms)
-            self.now.table pass.new }
+        ensures own { IsOwn A.meaning self.now pass.new }
         ensures given_up { HasGivenUp pass.old pass.new }
     {
         self.quit(pass);

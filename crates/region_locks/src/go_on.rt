@@ -20,12 +20,12 @@ fn few_states(effect: &Effect)
 impl<'a, A: Action> NodeTable<'a, A> {
     /// Takes the node, which is the pass's next step, or reports who holds it.
     fn take_or_refuse(&self, pass: &mut Pass<A>, node: u8) -> Result<Went, RefusedTake>
-        requires going { IsGoingOn (fixed_in A.takes A.region_of A.effect_of self.now) (length self.now.rooms)
+        requires going { IsGoingOn (fixed_in A.meaning self.now) (length self.now.rooms)
             self.now.table pass.old }
-        requires turn { turn_of (fixed_in A.takes A.region_of A.effect_of self.now) pass.old ≡ Some (Turn.Take node) }
-        ensures ok { IfOk result (λ w. HasGoneOn (fixed_in A.takes A.region_of A.effect_of self.now)
+        requires turn { turn_of (fixed_in A.meaning self.now) pass.old ≡ Some (Turn.Take node) }
+        ensures ok { IfOk result (λ w. HasGoneOn (fixed_in A.meaning self.now)
             (length self.now.rooms) self.now.table pass.old pass.new w) }
-        ensures err { IfErr result (λ r. WasRefused (fixed_in A.takes A.region_of A.effect_of self.now)
+        ensures err { IfErr result (λ r. WasRefused (fixed_in A.meaning self.now)
             (length self.now.rooms) self.now.table pass.old pass.new r.node r.holder.number r.holder.leaves) }
     {
         match self.take(pass, node) {
@@ -36,10 +36,10 @@ impl<'a, A: Action> NodeTable<'a, A> {
 
     /// Keeps the effect of the command, once all is read.
     fn resolve_loaded(&self, pass: &mut Pass<A>) -> Went
-        requires going { IsGoingOn (fixed_in A.takes A.region_of A.effect_of self.now) (length self.now.rooms)
+        requires going { IsGoingOn (fixed_in A.meaning self.now) (length self.now.rooms)
             self.now.table pass.old }
-        requires turn { turn_of (fixed_in A.takes A.region_of A.effect_of self.now) pass.old ≡ Some Turn.Resolve }
-        ensures gone { HasGoneOn (fixed_in A.takes A.region_of A.effect_of self.now) (length self.now.rooms)
+        requires turn { turn_of (fixed_in A.meaning self.now) pass.old ≡ Some Turn.Resolve }
+        ensures gone { HasGoneOn (fixed_in A.meaning self.now) (length self.now.rooms)
             self.now.table pass.old pass.new result }
         ensures said { is_resolved result ≡ true }
     {
@@ -52,12 +52,12 @@ impl<'a, A: Action> NodeTable<'a, A> {
     /// Makes the call that comes next of the pass, and reports what it was. `Err` exactly where it is a take that is
     /// refused; the pass may then try it again or give up.
     pub fn go_on(&self, pass: &mut Pass<A>, turn: Turn) -> Result<Went, RefusedTake>
-        requires going { IsGoingOn (fixed_in A.takes A.region_of A.effect_of self.now) (length self.now.rooms)
+        requires going { IsGoingOn (fixed_in A.meaning self.now) (length self.now.rooms)
             self.now.table pass.old }
-        requires turn { turn_of (fixed_in A.takes A.region_of A.effect_of self.now) pass.old ≡ Some turn }
-        ensures ok { IfOk result (λ w. HasGoneOn (fixed_in A.takes A.region_of A.effect_of self.now)
+        requires turn { turn_of (fixed_in A.meaning self.now) pass.old ≡ Some turn }
+        ensures ok { IfOk result (λ w. HasGoneOn (fixed_in A.meaning self.now)
             (length self.now.rooms) self.now.table pass.old pass.new w) }
-        ensures err { IfErr result (λ r. WasRefused (fixed_in A.takes A.region_of A.effect_of self.now)
+        ensures err { IfErr result (λ r. WasRefused (fixed_in A.meaning self.now)
             (length self.now.rooms) self.now.table pass.old pass.new r.node r.holder.number r.holder.leaves) }
         ensures resolves { turn ≡ Turn.Resolve → IfOk result (λ w. is_resolved w ≡ true) }
         ensures commits { turn ≡ Turn.Commit → IfOk result (λ w. IsSome (entry_committed w)) }

@@ -27,7 +27,7 @@ impl<A: Action> TableRule<(), Sight, Key<A>> for Locks<A> {
     ghost use Rattle.region_locks.specs.Starts.{fixed_by};
     ghost use Rattle.region_locks.specs.Rule.{IsRuled, first_sight};
 
-    ghost holds = { λ key s. IsRuled (fixed_by A.takes A.region_of A.effect_of key.action.value key.world.value)
+    ghost holds = { λ key s. IsRuled (fixed_by A.meaning key.action.value key.world.value)
         key.rooms.items s };
 
     ghost first = { λ key. first_sight (slice_index key.rooms.items 0) };

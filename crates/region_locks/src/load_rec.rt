@@ -1,17 +1,18 @@
 ghost use Rattle.std.specs.Prelude.{◌≡◌, ◌<◌, length, Some};
 ghost use Rattle.core_steps.specs.Cells.{cell_of, cell_index};
-ghost use Rattle.region_locks.specs.Passes.{fixed_in, IsPassOf, next_of_pass};
+ghost use Rattle.region_locks.specs.Passes.{fixed_in, IsOwn, next_in};
 ghost use Rattle.region_locks.specs.Loads.{record_loaded_next, HasLoaded};
 
 use crate::pass::Pass;
 use crate::table::NodeTable;
+use crate::word_step::WordStep;
 use arrayvec::ArrayVec;
 use core_machine::{WordList, read_record};
 use core_steps::{record_word, state_word};
 use entity_recs::{Action, Rec};
 
 /// The index of the `k`-th of the six words of a player's record: its five words, and after them its state word.
-fn index_of_word(slot: u8, k: usize) -> usize
+pub(crate) fn index_of_word(slot: u8, k: usize) -> usize
     requires { k < 6 }
     ensures { result ≡ cell_index 31 (cell_of slot k) }
 {
@@ -27,17 +28,15 @@ impl<'a, A: Action> NodeTable<'a, A> {
     /// that was given, the own record again once all leaves are held, or another player's under the node that is
     /// visited.
     pub fn load_rec(&self, pass: &mut Pass<A>, slot: u8) -> Rec
-        requires own { IsPassOf (fixed_in A.takes A.region_of A.effect_of self.now) (length self.now.rooms)
-            self.now.table pass.old }
+        requires own { IsOwn A.meaning self.now pass.old }
         requires next { record_loaded_next pass.old.view
-            (next_of_pass (fixed_in A.takes A.region_of A.effect_of self.now) pass.old) ≡ Some slot }
-        ensures own { IsPassOf (fixed_in A.takes A.region_of A.effect_of self.now) (length self.now.rooms)
-            self.now.table pass.new }
-        ensures loaded { HasLoaded (fixed_in A.takes A.region_of A.effect_of self.now) pass.old pass.new slot result }
+            (next_in A.meaning self.now pass.old) ≡ Some slot }
+        ensures own { IsOwn A.meaning self.now pass.new }
+        ensures loaded { HasLoaded (fixed_in A.meaning self.now) pass.old pass.new slot result }
     {
         let mut words: WordList = ArrayVec::new();
         for k in 0..6usize {
-            words.push(self.load_word(pass, index_of_word(slot, k)));
+            words.push(self.step_word(pass, index_of_word(slot, k), WordStep::Load));
         }
         read_record(slot, words.as_slice())
     }

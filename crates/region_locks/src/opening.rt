@@ -54,7 +54,7 @@ pub(crate) fn rules_at_start<'a, A: Action>(
     action: &'a A,
     world: &World,
 ) -> Result<Rules<'a, A>, AllocError>
-    requires taken { All (λ r. A.takes action.now r ≡ true) (live_in world.now.records) }
+    requires taken { All (λ r. (A.meaning action.now).takes r ≡ true) (live_in world.now.records) }
     ensures { IfOk result (λ r. r ≡ rules_of action.now world.now) }
 {
     let records = live_records(alloc, world)?;
@@ -69,7 +69,7 @@ pub(crate) fn lay_table<A: Action>(
     room: &[u32],
 ) -> Result<(Table<(), Sight, Key<A>, Locks<A>, Global>, Place), AllocError>
     requires rooms { (0 < length room.now) × (length room.now ≤ 16) }
-    requires taken { All (λ r. A.takes action.now r ≡ true) (live_in world.now.records) }
+    requires taken { All (λ r. (A.meaning action.now).takes r ≡ true) (live_in world.now.records) }
     ensures words { IfOk result (λ t. (t.0.shared.table_id.words ≡ 639) × (t.0.shared.table_id.slots ≡ 0)) }
     ensures key { IfOk result (λ t. (t.0.shared.key.action.value ≡ action.now)
         × (t.0.shared.key.world.value ≡ world.now) × (t.0.shared.key.rooms.items ≡ room.now)) }

@@ -4,6 +4,7 @@ ghost use Rattle.region_locks.specs.Passes.{new_pass, sight_of};
 ghost use Rattle.region_locks.specs.Sights.{no_tally};
 ghost use Rattle.region_locks.specs.Closing.{log_from};
 
+use crate::hand::Hand;
 use crate::key::Place;
 use core_machine::Seat;
 use entity_recs::Effect;
@@ -14,8 +15,7 @@ use world_tree::NearList;
 /// A worker's seat at the table.
 #[derive(Drop)]
 pub struct Pass<A> {
-    pub(crate) place: Place,
-    pub(crate) number: u8,
+    pub(crate) hand: Hand,
     pub(crate) mirror: Seat,
     pub(crate) effect: Option<Effect>,
     pub(crate) near: NearList,
@@ -25,14 +25,16 @@ pub struct Pass<A> {
 // What the place at the table has in view is known to clauses alone, so the pass keeps the same in plain values.
 impl<A> Model for Pass<A> {
     ghost use Rattle.region_locks.specs.Passes.{PassView};
+    ghost use Rattle.std.specs.Prelude.{◌≡◌};
+    ghost use Rattle.core_machine.specs.Seats.{view_of};
 
     ghost Value = { PassView };
 
-    ghost use Rattle.region_locks.specs.Hands.{pass_view, IsHand};
+    ghost use Rattle.region_locks.specs.Hands.{pass_view};
 
-    ghost view = { λ p. pass_view p.place p.number p.mirror p.effect };
+    ghost view = { λ p. pass_view p.hand p.mirror p.effect };
 
-    ghost invariant = { λ p. IsHand p.place p.number p.mirror };
+    ghost invariant = { λ p. view_of p.mirror ≡ p.hand.view };
 }
 
 impl<A> Pass<A> {
@@ -46,8 +48,7 @@ impl<A> Pass<A> {
         ensures { result ≡ new_pass place.table_id number place.me.0.view }
     {
         Pass {
-            place,
-            number,
+            hand: Hand { place, number },
             mirror,
             effect: None,
             near: NearList::new(),
@@ -60,14 +61,14 @@ impl<A> Pass<A> {
         ensures seat { (result.0.table_id ≡ self.table) × (result.0.me ≡ (sight_of self, [])) }
         ensures log { result.1 ≡ log_from self }
     {
-        (self.place, self.mirror.log.into_entries())
+        (self.hand.into_place(), self.mirror.log.into_entries())
     }
 
     /// The pass's number.
     pub fn number(&self) -> u8
         ensures { result ≡ self.now.number }
     {
-        self.number
+        self.hand.number
     }
 
     /// The count of commits that the pass has seen.

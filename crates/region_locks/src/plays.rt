@@ -42,31 +42,9 @@ pub struct Goes<N> {
 }
 
 impl<N: Planned> Play<(), Sight> for Goes<N> {
-    ghost use Rattle.region_locks.specs.Plays.{SeatWent};
+    ghost use Rattle.region_locks.specs.Plays.{SeatStepped};
 
-    ghost then = { λ step before found after. SeatWent N.fixed N.passes N.next before found after };
-}
-
-/// A step of the core that takes a node.
-pub struct Takes<N> {
-    of: PhantomData<N>,
-}
-
-impl<N: Planned> Play<(), Sight> for Takes<N> {
-    ghost use Rattle.region_locks.specs.Plays.{SeatTook};
-
-    ghost then = { λ step before found after. SeatTook N.fixed N.passes N.next before found after };
-}
-
-/// A step of the core that adds 1 to the count of commits.
-pub struct Counts<N> {
-    of: PhantomData<N>,
-}
-
-impl<N: Planned> Play<(), Sight> for Counts<N> {
-    ghost use Rattle.region_locks.specs.Plays.{SeatCounted};
-
-    ghost then = { λ step before found after. SeatCounted N.fixed N.passes N.next before found after };
+    ghost then = { λ step before found after. SeatStepped N.fixed N.passes N.next before found after };
 }
 
 /// A look at the count of commits.

@@ -1,10 +1,11 @@
 ghost use Rattle.std.specs.Prelude.{◌≡◌, true, false, not, length, is_some};
 ghost use Rattle.core_steps.specs.Steps.{first_yield, is_taking};
-ghost use Rattle.region_locks.specs.Passes.{fixed_in, IsPassOf};
+ghost use Rattle.region_locks.specs.Passes.{fixed_in, IsOwn};
 ghost use Rattle.region_locks.specs.Quitting.{HasQuit, MayBegin, has_next_step, next_step};
 
 use crate::pass::Pass;
 use crate::table::NodeTable;
+use crate::word_step::WordStep;
 use core_steps::Step;
 use entity_recs::Action;
 
@@ -12,18 +13,17 @@ impl<'a, A: Action> NodeTable<'a, A> {
     /// The pass's next step, by its kind and its word. `None` exactly where the pass has no command in hand, or where
     /// `resolve` is to be called next.
     pub fn next(&self, pass: &Pass<A>) -> Option<Step>
-        requires own { IsPassOf (fixed_in A.takes A.region_of A.effect_of self.now) (length self.now.rooms)
-            self.now.table pass.now }
-        ensures step { result ≡ next_step (fixed_in A.takes A.region_of A.effect_of self.now) pass.now }
+        requires own { IsOwn A.meaning self.now pass.now }
+        ensures step { result ≡ next_step (fixed_in A.meaning self.now) pass.now }
         ensures some { is_some result ≡ has_next_step pass.now }
     {
-        pass.mirror
-            .next_step(&self.rules, pass.number, &pass.effect)
+        let number = pass.number();
+        pass.mirror.next_step(&self.rules, number, &pass.effect)
     }
 
     /// Whether the pass holds no node.
     fn holds_nothing(&self, pass: &Pass<A>) -> bool
-        ensures { result ≡ not (is_some (first_yield (fixed_in A.takes A.region_of A.effect_of self.now)
+        ensures { result ≡ not (is_some (first_yield (fixed_in A.meaning self.now)
             pass.now.view)) }
     {
         pass.mirror.inner_held(&self.rules).is_empty() && pass.mirror.leaves_held().is_empty()
@@ -34,19 +34,17 @@ impl<'a, A: Action> NodeTable<'a, A> {
     /// the pass holds nothing the count is loaded at once, and the command is then no longer in hand. Giving up may
     /// begin at any take before the commit, and where the commit comes next; a pass that was not refused may do so too.
     pub fn quit(&self, pass: &mut Pass<A>)
-        requires own { IsPassOf (fixed_in A.takes A.region_of A.effect_of self.now) (length self.now.rooms)
-            self.now.table pass.old }
+        requires own { IsOwn A.meaning self.now pass.old }
         requires at_take { is_taking pass.old.view.point ≡ true }
-        ensures own { IsPassOf (fixed_in A.takes A.region_of A.effect_of self.now) (length self.now.rooms)
-            self.now.table pass.new }
-        ensures pass { HasQuit (fixed_in A.takes A.region_of A.effect_of self.now) pass.old pass.new }
-        ensures free { is_some (first_yield (fixed_in A.takes A.region_of A.effect_of self.now) pass.old.view) ≡ false
+        ensures own { IsOwn A.meaning self.now pass.new }
+        ensures pass { HasQuit (fixed_in A.meaning self.now) pass.old pass.new }
+        ensures free { is_some (first_yield (fixed_in A.meaning self.now) pass.old.view) ≡ false
             → MayBegin pass.new }
     {
         let holds_nothing = self.holds_nothing(pass);
         pass.mirror.quits = true;
         if holds_nothing {
-            self.load_word(pass, 0);
+            self.step_word(pass, 0, WordStep::Load);
         }
     }
 }

@@ -1,6 +1,6 @@
 ghost use Rattle.std.specs.Prelude.{◌≡◌, length, Some, None};
 ghost use Rattle.core_steps.specs.Views.{Resolving, effect_loaded};
-ghost use Rattle.region_locks.specs.Passes.{fixed_in, IsPassOf};
+ghost use Rattle.region_locks.specs.Passes.{fixed_in, IsOwn};
 
 use crate::pass::Pass;
 use crate::table::NodeTable;
@@ -10,13 +10,11 @@ impl<'a, A: Action> NodeTable<'a, A> {
     /// Gives the pass the effect of its command, which it keeps: what the action gives on what the pass has loaded. It
     /// is no step on a word. The write nodes, the entry and the stores follow from it.
     pub fn resolve(&self, pass: &mut Pass<A>, e: Effect)
-        requires own { IsPassOf (fixed_in A.takes A.region_of A.effect_of self.now) (length self.now.rooms)
-            self.now.table pass.old }
+        requires own { IsOwn A.meaning self.now pass.old }
         requires read { pass.old.view.point ≡ Resolving }
         requires once { pass.old.effect ≡ None }
-        requires effect { e ≡ effect_loaded (fixed_in A.takes A.region_of A.effect_of self.now) pass.old.view }
-        ensures own { IsPassOf (fixed_in A.takes A.region_of A.effect_of self.now) (length self.now.rooms)
-            self.now.table pass.new }
+        requires effect { e ≡ effect_loaded (fixed_in A.meaning self.now) pass.old.view }
+        ensures own { IsOwn A.meaning self.now pass.new }
         ensures pass { pass.new ≡ record pass.old { effect = Some e } }
     {
         pass.effect = Some(e);

@@ -12,7 +12,7 @@ use std::marker::Brand;
 /// The seat looks at the count of commits, by a pick.
 fn look_as<A: Action, N: Planned>(words: &Words<A>, seat: &mut Place) -> u64
     requires table { (seat.old.table_id ≡ words.now.table_id) × (words.now.table_id.words ≡ 639) }
-    requires fixed { N.fixed ≡ (fixed_by A.takes A.region_of A.effect_of words.now.key.action.value
+    requires fixed { N.fixed ≡ (fixed_by A.meaning words.now.key.action.value
         words.now.key.world.value) }
     requires passes { N.passes ≡ length words.now.key.rooms.items }
     requires rests { IsAtRest seat.old.me.0.view }
@@ -27,7 +27,7 @@ pub(crate) fn look<A: Action>(words: &Words<A>, seat: &mut Place) -> u64
     requires table { (seat.old.table_id ≡ words.now.table_id) × (words.now.table_id.words ≡ 639) }
     requires rests { IsAtRest seat.old.me.0.view }
     ensures table { seat.new.table_id ≡ seat.old.table_id }
-    ensures looked { SeatLooked (fixed_by A.takes A.region_of A.effect_of words.now.key.action.value
+    ensures looked { SeatLooked (fixed_by A.meaning words.now.key.action.value
         words.now.key.world.value) (length words.now.key.rooms.items) seat.old.me result seat.new.me }
 {
     look_as::<A, Brand>(words, seat)

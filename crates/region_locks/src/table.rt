@@ -3,7 +3,7 @@ ghost use Rattle.std.specs.List.{range_with_len};
 ghost use Rattle.region_locks.specs.Rule.{first_sight, HasSomeRooms};
 ghost use Rattle.region_locks.specs.Sights.{no_tally};
 ghost use Rattle.world_tree.specs.Live.{live_in};
-ghost use Rattle.region_locks.specs.Passes.{fixed_in, IsPassOf, other_pass, new_passes, view_with_made};
+ghost use Rattle.region_locks.specs.Passes.{other_pass, new_passes, view_with_made, IsOwn};
 
 use crate::key::{Key, Locks, Place, Words};
 use crate::opening::{lay_table, rules_at_start};
@@ -93,12 +93,11 @@ impl<'a, A: Action> NodeTable<'a, A> {
         room: &[u32],
     ) -> Result<(NodeTable<'a, A>, PassList<A>), AllocError>
         requires rooms { (0 < length room.now) × (length room.now ≤ 16) }
-        requires taken { All (λ r. A.takes action.now r ≡ true) (live_in world.now.records) }
+        requires taken { All (λ r. (A.meaning action.now).takes r ≡ true) (live_in world.now.records) }
         ensures table { IfOk result (λ r. (r.0.action ≡ action.now) × (r.0.world ≡ world.now)
             × (r.0.rooms ≡ room.now)) }
         ensures passes { IfOk result (λ r. r.1.items ≡ new_passes r.0.table room.now) }
-        ensures own { IfOk result (λ r. All (IsPassOf (fixed_in A.takes A.region_of A.effect_of r.0) (length r.0.rooms)
-            r.0.table) r.1.items) }
+        ensures own { IfOk result (λ r. All (IsOwn A.meaning r.0) r.1.items) }
     {
         let rules = rules_at_start(alloc, action, world)?;
         rules.is_ruled();

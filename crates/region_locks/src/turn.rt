@@ -10,7 +10,7 @@ ghost use Rattle.core_machine.specs.Nexts.{next_point};
 ghost use Rattle.core_machine.specs.Ready as ready;
 ghost use Rattle.core_machine.specs.Points.{store_of};
 ghost use Rattle.core_machine.specs.Seats.{view_of, given_of};
-ghost use Rattle.region_locks.specs.Passes.{fixed_in, IsPassOf};
+ghost use Rattle.region_locks.specs.Passes.{fixed_in, IsOwn};
 ghost use Rattle.region_locks.specs.Turns.{turn_for, turn_of, has_command_in_hand};
 
 use crate::follow::is_resolving;
@@ -151,10 +151,9 @@ fn turn_at(seat: &Seat) -> Option<Turn>
 impl<'a, A: Action> NodeTable<'a, A> {
     /// The call that makes the pass's next step. `None` exactly where the pass has no command in hand.
     pub fn turn(&self, pass: &Pass<A>) -> Option<Turn>
-        requires own { IsPassOf (fixed_in A.takes A.region_of A.effect_of self.now) (length self.now.rooms)
-            self.now.table pass.now }
+        requires own { IsOwn A.meaning self.now pass.now }
         requires pursues { pass.now.quits ≡ false }
-        ensures turn { result ≡ turn_of (fixed_in A.takes A.region_of A.effect_of self.now) pass.now }
+        ensures turn { result ≡ turn_of (fixed_in A.meaning self.now) pass.now }
         ensures some { is_some result ≡ has_command_in_hand pass.now }
     {
         if is_resolving(&pass.mirror) {
@@ -165,11 +164,10 @@ impl<'a, A: Action> NodeTable<'a, A> {
 
     /// The call of a pass that has read all: `resolve`, and then the first take of a write node, or the commit.
     fn resolved_turn(&self, pass: &Pass<A>) -> Option<Turn>
-        requires own { IsPassOf (fixed_in A.takes A.region_of A.effect_of self.now) (length self.now.rooms)
-            self.now.table pass.now }
+        requires own { IsOwn A.meaning self.now pass.now }
         requires pursues { pass.now.quits ≡ false }
         requires read { pass.now.view.point ≡ views.Resolving }
-        ensures turn { result ≡ turn_of (fixed_in A.takes A.region_of A.effect_of self.now) pass.now }
+        ensures turn { result ≡ turn_of (fixed_in A.meaning self.now) pass.now }
     {
         let Some(effect) = &pass.effect else {
             return Some(Turn::Resolve);

@@ -12,8 +12,8 @@ use Rattle.region_locks.specs.Closing.{HasNoCommand}
 use Rattle.region_locks.specs.Quitting.{MayBegin}
 use Rattle.region_locks.specs.Turns.{has_command_in_hand}
 use Rattle.region_locks.specs.Pursuits.{IsGoingOn}
-use Rattle.shared_moves.specs.declared.again.Again.{Again}
-use Rattle.shared_moves.specs.Moves.{HasRun, WasNotRun}
+use Rattle.region_locks.specs.declared.again.Again.{Again}
+use Rattle.region_locks.specs.Moves.{HasRun, WasNotRun}
 use Rattle.shared_moves.specs.Trials.{IsFree, IsMoving, IsResting}
 use Rattle.shared_moves.proofs.Running.{without_command}
 

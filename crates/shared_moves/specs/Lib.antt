@@ -6,7 +6,7 @@ pub use Rattle.region_locks.specs.Quitting
 pub use Rattle.region_locks.specs.Closing
 pub use Rattle.region_locks.specs.Pursuits
 pub use Rattle.core_steps.specs.Views
-pub mod Moves
-pub mod Points
-pub mod Moments
+pub use Rattle.region_locks.specs.Moves
+pub use Rattle.region_locks.specs.Points
+pub use Rattle.region_locks.specs.Moments
 pub mod Trials

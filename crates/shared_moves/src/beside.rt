@@ -3,14 +3,11 @@ ghost use Rattle.core_steps.specs.Views.{has};
 ghost use Rattle.region_locks.specs.Passes.{fixed_in};
 ghost use Rattle.shared_moves.specs.Trials.{IsFree};
 
-use crate::again::Again;
-use crate::gate::{Gate, Moment, NoGate};
-use crate::point::GatePoint;
 use crate::shared::Shared;
 use crate::staying::Staying;
 use crate::trial::plain;
 use entity_recs::{Action, Entry};
-use region_locks::Pass;
+use region_locks::{Again, Gate, GatePoint, Moment, NoGate, Pass};
 use std::marker::Model;
 use std::sync::Mutex;
 
@@ -35,8 +32,8 @@ impl<'a, A: Action> Model for Second<'a, A> {
     ghost view = { λ s. s.entry };
 
     ghost invariant = { λ s. (length s.shared.now.rooms ≡ 2)
-        × (has (fixed_in A.takes A.region_of A.effect_of s.shared.now).start.ids 1 ≡ true)
-        × (s.entry ≡ None → IsFree (fixed_in A.takes A.region_of A.effect_of s.shared.now) (length s.shared.now.rooms)
+        × (has (fixed_in A.meaning s.shared.now).start.ids 1 ≡ true)
+        × (s.entry ≡ None → IsFree (fixed_in A.meaning s.shared.now) (length s.shared.now.rooms)
         s.shared.now.table 1 s.pass) };
 }
 
@@ -74,8 +71,8 @@ impl<'a, A: Action> Beside<'a, A> {
     /// A gate with pass 1 of two.
     pub(crate) fn new(shared: &'a Shared<'a, A>, pass: Pass<A>) -> Beside<'a, A>
         requires two { length shared.now.rooms ≡ 2 }
-        requires live { has (fixed_in A.takes A.region_of A.effect_of shared.now).start.ids 1 ≡ true }
-        requires free { IsFree (fixed_in A.takes A.region_of A.effect_of shared.now) (length shared.now.rooms)
+        requires live { has (fixed_in A.meaning shared.now).start.ids 1 ≡ true }
+        requires free { IsFree (fixed_in A.meaning shared.now) (length shared.now.rooms)
             shared.now.table 1 pass }
     {
         let second = Second {

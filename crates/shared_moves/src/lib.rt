@@ -1,16 +1,11 @@
 //! Moves on threads: each worker runs its moves on the shared words, and what they did is a history.
 #![tactic(auto)]
 
-pub use again::Again;
-pub use gate::{Gate, Moment, NoGate};
-pub use point::GatePoint;
+pub use region_locks::{Again, Gate, GatePoint, Moment, NoGate};
 pub use shared::Shared;
 
-mod again;
 #[cfg(test)]
 mod beside;
-mod gate;
-mod point;
 #[cfg(test)]
 mod root_tests;
 mod run;

@@ -5,14 +5,12 @@ ghost use Rattle.region_locks.specs.Turns.{turn_of};
 ghost use Rattle.region_locks.specs.Pursuits.{IsGoingOn};
 ghost use Rattle.shared_moves.specs.Trials.{IsFree, IsMoving, IsResting};
 
-use crate::again::Again;
-use crate::gate::NoGate;
 use crate::shared::Shared;
 use crate::staying::Staying;
 use crate::trial::{FAR, FIRST, far_world, plain, shared_by_two};
 use entity_recs::{Action, Entry, Rec};
 use move_journal::{Log, LogList};
-use region_locks::{Pass, Turn, Went};
+use region_locks::{Again, NoGate, Pass, Turn, Went};
 use std::alloc::{AllocGlobal, Global};
 use std::process::Abort;
 use std::test::Fail;
@@ -21,10 +19,10 @@ use world_tree::World;
 /// Gives pass 0 the command of slot 0.
 fn begin<A: Action>(shared: &Shared<A>, pass: &mut Pass<A>)
     requires two { length shared.now.rooms ≡ 2 }
-    requires live { has (fixed_in A.takes A.region_of A.effect_of shared.now).start.ids 0 ≡ true }
-    requires free { IsFree (fixed_in A.takes A.region_of A.effect_of shared.now) (length shared.now.rooms)
+    requires live { has (fixed_in A.meaning shared.now).start.ids 0 ≡ true }
+    requires free { IsFree (fixed_in A.meaning shared.now) (length shared.now.rooms)
         shared.now.table 0 pass.old }
-    ensures { IsMoving (fixed_in A.takes A.region_of A.effect_of shared.now) (length shared.now.rooms) shared.now.table
+    ensures { IsMoving (fixed_in A.meaning shared.now) (length shared.now.rooms) shared.now.table
         0 pass.new }
 {
     shared.begin(pass, plain(0));
@@ -32,10 +30,10 @@ fn begin<A: Action>(shared: &Shared<A>, pass: &mut Pass<A>)
 
 /// Makes the pass's next call, which is to be none that is refused.
 fn go<A: Action>(shared: &Shared<A>, pass: &mut Pass<A>, turn: Turn) -> Result<Went, Fail>
-    requires going { IsGoingOn (fixed_in A.takes A.region_of A.effect_of shared.now) (length shared.now.rooms)
+    requires going { IsGoingOn (fixed_in A.meaning shared.now) (length shared.now.rooms)
         shared.now.table pass.old }
-    requires turn { turn_of (fixed_in A.takes A.region_of A.effect_of shared.now) pass.old ≡ Some turn }
-    ensures going { IsGoingOn (fixed_in A.takes A.region_of A.effect_of shared.now) (length shared.now.rooms)
+    requires turn { turn_of (fixed_in A.meaning shared.now) pass.old ≡ Some turn }
+    ensures going { IsGoingOn (fixed_in A.meaning shared.now) (length shared.now.rooms)
         shared.now.table pass.new }
     ensures number { pass.new.number ≡ pass.old.number }
 {
@@ -47,9 +45,9 @@ fn go<A: Action>(shared: &Shared<A>, pass: &mut Pass<A>, turn: Turn) -> Result<W
 
 /// Makes the calls of pass 0 up to the take of the root, which it holds then.
 fn take_root<A: Action>(shared: &Shared<A>, pass: &mut Pass<A>) -> Result<(), Fail>
-    requires { IsMoving (fixed_in A.takes A.region_of A.effect_of shared.now) (length shared.now.rooms) shared.now.table
+    requires { IsMoving (fixed_in A.meaning shared.now) (length shared.now.rooms) shared.now.table
         0 pass.old }
-    ensures { IfOk result (λ _. IsMoving (fixed_in A.takes A.region_of A.effect_of shared.now) (length shared.now.rooms)
+    ensures { IfOk result (λ _. IsMoving (fixed_in A.meaning shared.now) (length shared.now.rooms)
         shared.now.table 0 pass.new) }
 {
     for _ in 0..200 {
@@ -66,9 +64,9 @@ fn take_root<A: Action>(shared: &Shared<A>, pass: &mut Pass<A>) -> Result<(), Fa
 
 /// Makes calls until pass 0 has no command in hand, and gives the place of the commit.
 fn finish<A: Action>(shared: &Shared<A>, pass: &mut Pass<A>) -> Result<Option<u64>, Fail>
-    requires { IsMoving (fixed_in A.takes A.region_of A.effect_of shared.now) (length shared.now.rooms) shared.now.table
+    requires { IsMoving (fixed_in A.meaning shared.now) (length shared.now.rooms) shared.now.table
         0 pass.old }
-    ensures { IfOk result (λ _. IsResting (fixed_in A.takes A.region_of A.effect_of shared.now)
+    ensures { IfOk result (λ _. IsResting (fixed_in A.meaning shared.now)
         (length shared.now.rooms) shared.now.table 0 pass.new) }
 {
     let mut place = None;
@@ -86,10 +84,10 @@ fn finish<A: Action>(shared: &Shared<A>, pass: &mut Pass<A>) -> Result<Option<u6
 /// Tries the command of slot 1 with pass 1, and gives why it wasn't run.
 fn refused<A: Action>(shared: &Shared<A>, pass: &mut Pass<A>) -> Result<Again, Fail>
     requires two { length shared.now.rooms ≡ 2 }
-    requires live { has (fixed_in A.takes A.region_of A.effect_of shared.now).start.ids 1 ≡ true }
-    requires free { IsFree (fixed_in A.takes A.region_of A.effect_of shared.now) (length shared.now.rooms)
+    requires live { has (fixed_in A.meaning shared.now).start.ids 1 ≡ true }
+    requires free { IsFree (fixed_in A.meaning shared.now) (length shared.now.rooms)
         shared.now.table 1 pass.old }
-    ensures { IfOk result (λ _. IsFree (fixed_in A.takes A.region_of A.effect_of shared.now) (length shared.now.rooms)
+    ensures { IfOk result (λ _. IsFree (fixed_in A.meaning shared.now) (length shared.now.rooms)
         shared.now.table 1 pass.new) }
 {
     match shared.try_run(pass, plain(1), &NoGate) {
@@ -101,10 +99,10 @@ fn refused<A: Action>(shared: &Shared<A>, pass: &mut Pass<A>) -> Result<Again, F
 /// Tries the command of slot 1 with pass 1, and gives its entry.
 fn ran<A: Action>(shared: &Shared<A>, pass: &mut Pass<A>) -> Result<Entry, Fail>
     requires two { length shared.now.rooms ≡ 2 }
-    requires live { has (fixed_in A.takes A.region_of A.effect_of shared.now).start.ids 1 ≡ true }
-    requires free { IsFree (fixed_in A.takes A.region_of A.effect_of shared.now) (length shared.now.rooms)
+    requires live { has (fixed_in A.meaning shared.now).start.ids 1 ≡ true }
+    requires free { IsFree (fixed_in A.meaning shared.now) (length shared.now.rooms)
         shared.now.table 1 pass.old }
-    ensures { IfOk result (λ _. IsResting (fixed_in A.takes A.region_of A.effect_of shared.now)
+    ensures { IfOk result (λ _. IsResting (fixed_in A.meaning shared.now)
         (length shared.now.rooms) shared.now.table 1 pass.new) }
 {
     match shared.try_run(pass, plain(1), &NoGate) {
@@ -120,10 +118,10 @@ fn expect_busy<A: Action>(
     pass: &mut Pass<A>,
 ) -> Result<(), Fail>
     requires two { length shared.now.rooms ≡ 2 }
-    requires live { has (fixed_in A.takes A.region_of A.effect_of shared.now).start.ids 1 ≡ true }
-    requires free { IsFree (fixed_in A.takes A.region_of A.effect_of shared.now) (length shared.now.rooms)
+    requires live { has (fixed_in A.meaning shared.now).start.ids 1 ≡ true }
+    requires free { IsFree (fixed_in A.meaning shared.now) (length shared.now.rooms)
         shared.now.table 1 pass.old }
-    ensures { IfOk result (λ _. IsFree (fixed_in A.takes A.region_of A.effect_of shared.now) (length shared.now.rooms)
+    ensures { IfOk result (λ _. IsFree (fixed_in A.meaning shared.now) (length shared.now.rooms)
         shared.now.table 1 pass.new) }
 {
     let again = refused(shared, pass)?;
@@ -140,14 +138,14 @@ fn run_first<A: Action>(
     second: &mut Pass<A>,
 ) -> Result<(), Fail>
     requires two { length shared.now.rooms ≡ 2 }
-    requires live { has (fixed_in A.takes A.region_of A.effect_of shared.now).start.ids 1 ≡ true }
-    requires first { IsMoving (fixed_in A.takes A.region_of A.effect_of shared.now) (length shared.now.rooms)
+    requires live { has (fixed_in A.meaning shared.now).start.ids 1 ≡ true }
+    requires first { IsMoving (fixed_in A.meaning shared.now) (length shared.now.rooms)
         shared.now.table 0 first.old }
-    requires second { IsFree (fixed_in A.takes A.region_of A.effect_of shared.now) (length shared.now.rooms)
+    requires second { IsFree (fixed_in A.meaning shared.now) (length shared.now.rooms)
         shared.now.table 1 second.old }
-    ensures first { IfOk result (λ _. IsResting (fixed_in A.takes A.region_of A.effect_of shared.now)
+    ensures first { IfOk result (λ _. IsResting (fixed_in A.meaning shared.now)
         (length shared.now.rooms) shared.now.table 0 first.new) }
-    ensures second { IfOk result (λ _. IsFree (fixed_in A.takes A.region_of A.effect_of shared.now)
+    ensures second { IfOk result (λ _. IsFree (fixed_in A.meaning shared.now)
         (length shared.now.rooms) shared.now.table 1 second.new) }
 {
     take_root(shared, first)?;
@@ -164,15 +162,15 @@ fn run_both<A: Action>(
     second: &mut Pass<A>,
 ) -> Result<(), Fail>
     requires two { length shared.now.rooms ≡ 2 }
-    requires zero { has (fixed_in A.takes A.region_of A.effect_of shared.now).start.ids 0 ≡ true }
-    requires one { has (fixed_in A.takes A.region_of A.effect_of shared.now).start.ids 1 ≡ true }
-    requires first { IsFree (fixed_in A.takes A.region_of A.effect_of shared.now) (length shared.now.rooms)
+    requires zero { has (fixed_in A.meaning shared.now).start.ids 0 ≡ true }
+    requires one { has (fixed_in A.meaning shared.now).start.ids 1 ≡ true }
+    requires first { IsFree (fixed_in A.meaning shared.now) (length shared.now.rooms)
         shared.now.table 0 first.old }
-    requires second { IsFree (fixed_in A.takes A.region_of A.effect_of shared.now) (length shared.now.rooms)
+    requires second { IsFree (fixed_in A.meaning shared.now) (length shared.now.rooms)
         shared.now.table 1 second.old }
-    ensures first { IfOk result (λ _. IsResting (fixed_in A.takes A.region_of A.effect_of shared.now)
+    ensures first { IfOk result (λ _. IsResting (fixed_in A.meaning shared.now)
         (length shared.now.rooms) shared.now.table 0 first.new) }
-    ensures second { IfOk result (λ _. IsResting (fixed_in A.takes A.region_of A.effect_of shared.now)
+    ensures second { IfOk result (λ _. IsResting (fixed_in A.meaning shared.now)
         (length shared.now.rooms) shared.now.table 1 second.new) }
 {
     begin(shared, first);
@@ -191,9 +189,9 @@ fn close<A: Action>(
     world: &mut World,
 ) -> Result<LogList, Fail>
     requires two { length shared.rooms ≡ 2 }
-    requires first { IsResting (fixed_in A.takes A.region_of A.effect_of shared) (length shared.rooms) shared.table 0
+    requires first { IsResting (fixed_in A.meaning shared) (length shared.rooms) shared.table 0
         first }
-    requires second { IsResting (fixed_in A.takes A.region_of A.effect_of shared) (length shared.rooms) shared.table 1
+    requires second { IsResting (fixed_in A.meaning shared) (length shared.rooms) shared.table 1
         second }
     requires world { world.old ≡ shared.world }
 {
@@ -237,11 +235,11 @@ fn expect_both_run<A: Action>(
     world: &mut World,
 ) -> Result<(), Fail>
     requires two { length shared.rooms ≡ 2 }
-    requires zero { has (fixed_in A.takes A.region_of A.effect_of shared).start.ids 0 ≡ true }
-    requires one { has (fixed_in A.takes A.region_of A.effect_of shared).start.ids 1 ≡ true }
-    requires first { IsFree (fixed_in A.takes A.region_of A.effect_of shared) (length shared.rooms) shared.table 0
+    requires zero { has (fixed_in A.meaning shared).start.ids 0 ≡ true }
+    requires one { has (fixed_in A.meaning shared).start.ids 1 ≡ true }
+    requires first { IsFree (fixed_in A.meaning shared) (length shared.rooms) shared.table 0
         first }
-    requires second { IsFree (fixed_in A.takes A.region_of A.effect_of shared) (length shared.rooms) shared.table 1
+    requires second { IsFree (fixed_in A.meaning shared) (length shared.rooms) shared.table 1
         second }
     requires world { world.old ≡ shared.world }
 {

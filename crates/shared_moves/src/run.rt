@@ -1,16 +1,14 @@
 ghost use Rattle.std.specs.Prelude.{◌≡◌, ℕ, ◌%◌, true, false, length, None, IfOk, IfErr, OnOk};
 ghost use Rattle.entity_recs.specs.Commands.{Command, command_of};
 ghost use Rattle.core_steps.specs.Views.{Fixed, Refused, has};
-ghost use Rattle.region_locks.specs.Passes.{fixed_in, IsPassOf};
+ghost use Rattle.region_locks.specs.Passes.{fixed_in, IsOwn};
 ghost use Rattle.region_locks.specs.Quitting.{MayBegin};
 ghost use Rattle.region_locks.specs.Pursuits.{IsRefusedBy};
-ghost use Rattle.shared_moves.specs.Moves.{HasRun, NoTakeWasRefused, WasNotRun, IsRunning, IsCause};
+ghost use Rattle.region_locks.specs.Moves.{HasRun, NoTakeWasRefused, WasNotRun, IsRunning, IsCause};
 
-use crate::again::Again;
-use crate::gate::Gate;
 use crate::shared::Shared;
 use entity_recs::{Action, Cmd, Entry};
-use region_locks::{Pass, RefusedTake};
+use region_locks::{Again, Gate, Pass, RefusedTake};
 use std::sync::Wait;
 use std::thread;
 
@@ -36,12 +34,11 @@ fn again_after(refusal: RefusedTake) -> Again
 impl<'a, A: Action> Shared<'a, A> {
     /// Gives the pass the command.
     pub(crate) fn begin(&self, pass: &mut Pass<A>, cmd: Cmd)
-        requires own { IsPassOf (fixed_in A.takes A.region_of A.effect_of self.now) (length self.now.rooms)
-            self.now.table pass.old }
+        requires own { IsOwn A.meaning self.now pass.old }
         requires free { MayBegin pass.old }
-        requires live { has (fixed_in A.takes A.region_of A.effect_of self.now).start.ids cmd.slot ≡ true }
+        requires live { has (fixed_in A.meaning self.now).start.ids cmd.slot ≡ true }
         requires serves { cmd.slot % length self.now.rooms ≡ pass.old.number }
-        ensures running { let F = fixed_in A.takes A.region_of A.effect_of self.now in
+        ensures running { let F = fixed_in A.meaning self.now in
             IsRunning F (length self.now.rooms) self.now.table pass.old (command_of cmd) pass.new None }
         ensures served { NoTakeWasRefused pass.old pass.new }
     {
@@ -51,12 +48,11 @@ impl<'a, A: Action> Shared<'a, A> {
     /// Runs the command and gives its entry. Each take that is refused is tried again until it is served, so the call
     /// may wait.
     pub fn run<R: Wait, G: Gate>(&self, rt: &R, pass: &mut Pass<A>, cmd: Cmd, gate: &G) -> Entry
-        requires own { IsPassOf (fixed_in A.takes A.region_of A.effect_of self.now) (length self.now.rooms)
-            self.now.table pass.old }
+        requires own { IsOwn A.meaning self.now pass.old }
         requires free { MayBegin pass.old }
-        requires live { has (fixed_in A.takes A.region_of A.effect_of self.now).start.ids cmd.slot ≡ true }
+        requires live { has (fixed_in A.meaning self.now).start.ids cmd.slot ≡ true }
         requires serves { cmd.slot % length self.now.rooms ≡ pass.old.number }
-        ensures { HasRun (fixed_in A.takes A.region_of A.effect_of self.now) (length self.now.rooms) self.now.table
+        ensures { HasRun (fixed_in A.meaning self.now) (length self.now.rooms) self.now.table
             pass.old pass.new (command_of cmd) result }
     {
         self.begin(pass, cmd);
@@ -76,15 +72,14 @@ impl<'a, A: Action> Shared<'a, A> {
     /// held by another pass, at the first such take; then nothing is committed, the pass holds no node, and the command
     /// may be tried again.
     pub fn try_run<G: Gate>(&self, pass: &mut Pass<A>, cmd: Cmd, gate: &G) -> Result<Entry, Again>
-        requires own { IsPassOf (fixed_in A.takes A.region_of A.effect_of self.now) (length self.now.rooms)
-            self.now.table pass.old }
+        requires own { IsOwn A.meaning self.now pass.old }
         requires free { MayBegin pass.old }
-        requires live { has (fixed_in A.takes A.region_of A.effect_of self.now).start.ids cmd.slot ≡ true }
+        requires live { has (fixed_in A.meaning self.now).start.ids cmd.slot ≡ true }
         requires serves { cmd.slot % length self.now.rooms ≡ pass.old.number }
-        ensures ok { IfOk result (λ e. HasRun (fixed_in A.takes A.region_of A.effect_of self.now)
+        ensures ok { IfOk result (λ e. HasRun (fixed_in A.meaning self.now)
             (length self.now.rooms) self.now.table pass.old pass.new (command_of cmd) e) }
         ensures served { OnOk result (NoTakeWasRefused pass.old pass.new) }
-        ensures err { IfErr result (λ a. WasNotRun (fixed_in A.takes A.region_of A.effect_of self.now)
+        ensures err { IfErr result (λ a. WasNotRun (fixed_in A.meaning self.now)
             (length self.now.rooms) self.now.table pass.old pass.new (command_of cmd) a) }
     {
         self.begin(pass, cmd);

@@ -2,7 +2,7 @@ ghost use Rattle.std.specs.Prelude.{◌≡◌, ◌<◌, ◌≤◌, true, [], map
 ghost use Rattle.std.specs.List.{range_with_len};
 ghost use Rattle.world_tree.specs.Live.{live_in};
 ghost use Rattle.world_tree.specs.Worlds.{IsLinked};
-ghost use Rattle.region_locks.specs.Passes.{fixed_in, IsPassOf, new_passes};
+ghost use Rattle.region_locks.specs.Passes.{fixed_in, IsPassOf, new_passes, IsOwn};
 ghost use Rattle.region_locks.specs.Sights.{AreRefusalsServed};
 ghost use Rattle.region_locks.specs.Closing.{tally_of_all, AreRefusalsHeld, HasNoCommand, log_from, IsClosed};
 
@@ -37,12 +37,11 @@ impl<'a, A: Action> Shared<'a, A> {
         room: &[u32],
     ) -> Result<(Shared<'a, A>, PassList<A>), AllocError>
         requires rooms { (0 < length room.now) × (length room.now ≤ 16) }
-        requires taken { All (λ r. A.takes action.now r ≡ true) (live_in world.now.records) }
+        requires taken { All (λ r. (A.meaning action.now).takes r ≡ true) (live_in world.now.records) }
         ensures shared { IfOk result (λ r. (r.0.action ≡ action.now) × (r.0.world ≡ world.now)
             × (r.0.rooms ≡ room.now)) }
         ensures passes { IfOk result (λ r. r.1.items ≡ new_passes r.0.table room.now) }
-        ensures own { IfOk result (λ r. All (IsPassOf (fixed_in A.takes A.region_of A.effect_of r.0) (length r.0.rooms)
-            r.0.table) r.1.items) }
+        ensures own { IfOk result (λ r. All (IsOwn A.meaning r.0) r.1.items) }
     {
         let (table, passes) = NodeTable::new(alloc, action, world, room)?;
         Ok((Shared { table }, passes))
@@ -51,13 +50,13 @@ impl<'a, A: Action> Shared<'a, A> {
     /// Ends all passes and gives what they did: the world after the moves of all, linked anew, and the entries of each
     /// pass by its number. It takes no memory.
     pub fn close(self, passes: PassList<A>, world: &mut World, logs: &mut LogList)
-        requires own { let F = fixed_in A.takes A.region_of A.effect_of self in
+        requires own { let F = fixed_in A.meaning self in
             All (IsPassOf F (length self.rooms) self.table) passes.items }
         requires all { map (λ p. p.number) passes.items ≡ range_with_len 0 (length self.rooms) }
         requires none { All HasNoCommand passes.items }
         requires world { world.old ≡ self.world }
         requires logs { logs.old ≡ [] }
-        ensures closed { let F = fixed_in A.takes A.region_of A.effect_of self.entry in
+        ensures closed { let F = fixed_in A.meaning self.entry in
             IsClosed F (map (λ p. p.view.log) passes.items) world.new }
         ensures refusals { AreRefusalsServed (tally_of_all passes.items) }
         ensures held { AreRefusalsHeld passes.items }

@@ -3,15 +3,13 @@ ghost use Rattle.entity_recs.specs.Commands.{Command, command_of};
 ghost use Rattle.region_locks.specs.Passes.{PassView, fixed_in};
 ghost use Rattle.region_locks.specs.Turns.{turn_of};
 ghost use Rattle.region_locks.specs.Pursuits.{IsGoingOn, WasRefused, calls_left, command_pursued};
-ghost use Rattle.shared_moves.specs.Moves.{IsRunning, NoTakeWasRefused};
-ghost use Rattle.shared_moves.specs.Points.{has_entry};
-ghost use Rattle.shared_moves.specs.Moments.{IsAtPoint, HasLogged, RunsCommand};
+ghost use Rattle.region_locks.specs.Moves.{IsRunning, NoTakeWasRefused};
+ghost use Rattle.region_locks.specs.Points.{has_entry};
+ghost use Rattle.region_locks.specs.Moments.{IsAtPoint, HasLogged, RunsCommand};
 
-use crate::gate::{Gate, Moment};
-use crate::point::GatePoint;
 use crate::shared::Shared;
 use entity_recs::{Action, Cmd, Entry};
-use region_locks::{Pass, RefusedTake, Turn, Went};
+use region_locks::{Gate, GatePoint, Moment, Pass, RefusedTake, Turn, Went};
 
 impl<'a, A: Action> Shared<'a, A> {
     /// Calls the gate before the commit.
@@ -66,17 +64,17 @@ impl<'a, A: Action> Shared<'a, A> {
         entry: &mut Option<Entry>,
         gate: &G,
     ) -> Result<(), RefusedTake>
-        requires going { IsGoingOn (fixed_in A.takes A.region_of A.effect_of self.now) (length self.now.rooms)
+        requires going { IsGoingOn (fixed_in A.meaning self.now) (length self.now.rooms)
             self.now.table pass.old }
-        requires turn { turn_of (fixed_in A.takes A.region_of A.effect_of self.now) pass.old ≡ Some turn }
+        requires turn { turn_of (fixed_in A.meaning self.now) pass.old ≡ Some turn }
         requires runs { RunsCommand pass.old (command_of cmd) entry.old }
-        ensures running { let F = fixed_in A.takes A.region_of A.effect_of self.now in let n = length self.now.rooms in
+        ensures running { let F = fixed_in A.meaning self.now in let n = length self.now.rooms in
             (start : PassView) (c : Command) → IsRunning F n self.now.table start c pass.old entry.old
             → IsRunning F n self.now.table start c pass.new entry.new }
-        ensures fewer { let F = fixed_in A.takes A.region_of A.effect_of self.now in
+        ensures fewer { let F = fixed_in A.meaning self.now in
             OnOk result (calls_left F pass.new < calls_left F pass.old) }
         ensures served { OnOk result (NoTakeWasRefused pass.old pass.new) }
-        ensures refused { IfErr result (λ r. WasRefused (fixed_in A.takes A.region_of A.effect_of self.now)
+        ensures refused { IfErr result (λ r. WasRefused (fixed_in A.meaning self.now)
             (length self.now.rooms) self.now.table pass.old pass.new r.node r.holder.number r.holder.leaves) }
         ensures kept { IfErr result (λ r. entry.new ≡ entry.old) }
     {

@@ -1,7 +1,7 @@
 ghost use Rattle.std.specs.Prelude.{◌≡◌, ◌%◌, true, length, IfOk, IfSome};
 ghost use Rattle.core_steps.specs.Views.{has};
 ghost use Rattle.core_steps.specs.Steps.{is_taking};
-ghost use Rattle.region_locks.specs.Passes.{fixed_in, IsPassOf};
+ghost use Rattle.region_locks.specs.Passes.{fixed_in, IsOwn};
 ghost use Rattle.region_locks.specs.Quitting.{MayBegin};
 ghost use Rattle.shared_moves.specs.Trials.{IsFree};
 
@@ -16,12 +16,11 @@ use std::test::Fail;
 
 /// Gives the pass a command, and loads its own record.
 fn begin<A: Action>(table: &NodeTable<A>, pass: &mut Pass<A>, cmd: Cmd)
-    requires own { IsPassOf (fixed_in A.takes A.region_of A.effect_of table.now) (length table.now.rooms)
-        table.now.table pass.old }
+    requires own { IsOwn A.meaning table.now pass.old }
     requires free { MayBegin pass.old }
-    requires live { has (fixed_in A.takes A.region_of A.effect_of table.now).start.ids cmd.slot ≡ true }
+    requires live { has (fixed_in A.meaning table.now).start.ids cmd.slot ≡ true }
     requires serves { cmd.slot % length table.now.rooms ≡ pass.old.number }
-    ensures { IsPassOf (fixed_in A.takes A.region_of A.effect_of table.now) (length table.now.rooms) table.now.table
+    ensures { IsOwn A.meaning table.now
         pass.new }
 {
     let slot = cmd.slot;
@@ -31,9 +30,9 @@ fn begin<A: Action>(table: &NodeTable<A>, pass: &mut Pass<A>, cmd: Cmd)
 
 /// Takes node 15, which is the pass's next step.
 fn take_leaf<A: Action>(table: &NodeTable<A>, pass: &mut Pass<A>) -> Result<Option<Holder>, Fail>
-    requires { IsPassOf (fixed_in A.takes A.region_of A.effect_of table.now) (length table.now.rooms) table.now.table
+    requires { IsOwn A.meaning table.now
         pass.old }
-    ensures own { IsPassOf (fixed_in A.takes A.region_of A.effect_of table.now) (length table.now.rooms) table.now.table
+    ensures own { IsOwn A.meaning table.now
         pass.new }
     ensures refused { IfOk result (λ r. IfSome r (λ h. is_taking pass.new.view.point ≡ true)) }
 {
@@ -52,16 +51,14 @@ fn take_leaf<A: Action>(table: &NodeTable<A>, pass: &mut Pass<A>) -> Result<Opti
 /// Gives each pass the command of its slot.
 fn begin_both<A: Action>(table: &NodeTable<A>, first: &mut Pass<A>, second: &mut Pass<A>)
     requires two { length table.now.rooms ≡ 2 }
-    requires zero { has (fixed_in A.takes A.region_of A.effect_of table.now).start.ids 0 ≡ true }
-    requires one { has (fixed_in A.takes A.region_of A.effect_of table.now).start.ids 1 ≡ true }
-    requires first { IsFree (fixed_in A.takes A.region_of A.effect_of table.now) (length table.now.rooms)
+    requires zero { has (fixed_in A.meaning table.now).start.ids 0 ≡ true }
+    requires one { has (fixed_in A.meaning table.now).start.ids 1 ≡ true }
+    requires first { IsFree (fixed_in A.meaning table.now) (length table.now.rooms)
         table.now.table 0 first.old }
-    requires second { IsFree (fixed_in A.takes A.region_of A.effect_of table.now) (length table.now.rooms)
+    requires second { IsFree (fixed_in A.meaning table.now) (length table.now.rooms)
         table.now.table 1 second.old }
-    ensures first { IsPassOf (fixed_in A.takes A.region_of A.effect_of table.now) (length table.now.rooms)
-        table.now.table first.new }
-    ensures second { IsPassOf (fixed_in A.takes A.region_of A.effect_of table.now) (length table.now.rooms)
-        table.now.table second.new }
+    ensures first { IsOwn A.meaning table.now first.new }
+    ensures second { IsOwn A.meaning table.now second.new }
 {
     begin(table, first, plain(0));
     begin(table, second, plain(1));
@@ -73,10 +70,9 @@ fn expect_refused<A: Action>(
     table: &NodeTable<A>,
     pass: &mut Pass<A>,
 ) -> Result<(), Fail>
-    requires { IsPassOf (fixed_in A.takes A.region_of A.effect_of table.now) (length table.now.rooms) table.now.table
+    requires { IsOwn A.meaning table.now
         pass.old }
-    ensures own { IfOk result (λ _. IsPassOf (fixed_in A.takes A.region_of A.effect_of table.now)
-        (length table.now.rooms) table.now.table pass.new) }
+    ensures own { IfOk result (λ _. IsOwn A.meaning table.now pass.new) }
     ensures taking { IfOk result (λ _. is_taking pass.new.view.point ≡ true) }
 {
     let holder = take_leaf(table, pass)?.ok_or("a holder")?;
@@ -96,11 +92,9 @@ fn expect_given_up<A: Action>(
     table: &NodeTable<A>,
     pass: &mut Pass<A>,
 ) -> Result<(), Fail>
-    requires own { IsPassOf (fixed_in A.takes A.region_of A.effect_of table.now) (length table.now.rooms)
-        table.now.table pass.old }
+    requires own { IsOwn A.meaning table.now pass.old }
     requires taking { is_taking pass.old.view.point ≡ true }
-    ensures own { IfOk result (λ _. IsPassOf (fixed_in A.takes A.region_of A.effect_of table.now)
-        (length table.now.rooms) table.now.table pass.new) }
+    ensures own { IfOk result (λ _. IsOwn A.meaning table.now pass.new) }
     ensures free { IfOk result (λ _. MayBegin pass.new) }
 {
     table.quit(pass);
@@ -114,9 +108,8 @@ fn expect_given_up<A: Action>(
 /// Pass 1 is given the command of slot 1 once more.
 fn begin_again<A: Action>(table: &NodeTable<A>, pass: &mut Pass<A>) -> Result<(), Fail>
     requires two { length table.now.rooms ≡ 2 }
-    requires one { has (fixed_in A.takes A.region_of A.effect_of table.now).start.ids 1 ≡ true }
-    requires own { IsPassOf (fixed_in A.takes A.region_of A.effect_of table.now) (length table.now.rooms)
-        table.now.table pass.old }
+    requires one { has (fixed_in A.meaning table.now).start.ids 1 ≡ true }
+    requires own { IsOwn A.meaning table.now pass.old }
     requires free { MayBegin pass.old }
 {
     if pass.number() != 1 {
@@ -134,11 +127,11 @@ fn expect_one_holder<A: Action>(
     mut second: Pass<A>,
 ) -> Result<(), Fail>
     requires two { length table.now.rooms ≡ 2 }
-    requires zero { has (fixed_in A.takes A.region_of A.effect_of table.now).start.ids 0 ≡ true }
-    requires one { has (fixed_in A.takes A.region_of A.effect_of table.now).start.ids 1 ≡ true }
-    requires first { IsFree (fixed_in A.takes A.region_of A.effect_of table.now) (length table.now.rooms)
+    requires zero { has (fixed_in A.meaning table.now).start.ids 0 ≡ true }
+    requires one { has (fixed_in A.meaning table.now).start.ids 1 ≡ true }
+    requires first { IsFree (fixed_in A.meaning table.now) (length table.now.rooms)
         table.now.table 0 first }
-    requires second { IsFree (fixed_in A.takes A.region_of A.effect_of table.now) (length table.now.rooms)
+    requires second { IsFree (fixed_in A.meaning table.now) (length table.now.rooms)
         table.now.table 1 second }
 {
     begin_both(table, &mut first, &mut second);

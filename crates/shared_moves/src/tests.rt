@@ -3,14 +3,12 @@ ghost use Rattle.core_steps.specs.Views.{has};
 ghost use Rattle.region_locks.specs.Passes.{fixed_in};
 ghost use Rattle.shared_moves.specs.Trials.{IsFree};
 
-use crate::again::Again;
 use crate::beside::{Beside, Second};
-use crate::gate::Gate;
 use crate::shared::Shared;
 use crate::staying::Staying;
 use crate::trial::{far_world, near_world, plain, shared_by_two};
 use entity_recs::Action;
-use region_locks::Pass;
+use region_locks::{Again, Gate, Pass};
 use std::process::Abort;
 use std::sync::Wait;
 use std::test::Fail;
@@ -23,8 +21,8 @@ fn run_first<A: Action, R: Wait, G: Gate>(
     gate: &G,
 ) -> (u64, u8, u32)
     requires two { length shared.now.rooms ≡ 2 }
-    requires live { has (fixed_in A.takes A.region_of A.effect_of shared.now).start.ids 0 ≡ true }
-    requires free { IsFree (fixed_in A.takes A.region_of A.effect_of shared.now) (length shared.now.rooms)
+    requires live { has (fixed_in A.meaning shared.now).start.ids 0 ≡ true }
+    requires free { IsFree (fixed_in A.meaning shared.now) (length shared.now.rooms)
         shared.now.table 0 pass.old }
 {
     let entry = shared.run(rt, pass, plain(0), gate);

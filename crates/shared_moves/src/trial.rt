@@ -126,11 +126,11 @@ pub(crate) fn shared_by_two<'a, A: Action>(
     room: u32,
 ) -> Result<(Shared<'a, A>, Pass<A>, Pass<A>), Fail>
     requires room { 0 < room }
-    requires taken { All (λ r. A.takes action.now r ≡ true) (live_in world.now.records) }
+    requires taken { All (λ r. (A.meaning action.now).takes r ≡ true) (live_in world.now.records) }
     ensures shared { IfOk result (λ r. (r.0.action ≡ action.now) × (r.0.world ≡ world.now) × (length r.0.rooms ≡ 2)) }
-    ensures first { IfOk result (λ r. IsFree (fixed_in A.takes A.region_of A.effect_of r.0) (length r.0.rooms) r.0.table
+    ensures first { IfOk result (λ r. IsFree (fixed_in A.meaning r.0) (length r.0.rooms) r.0.table
         0 r.1) }
-    ensures second { IfOk result (λ r. IsFree (fixed_in A.takes A.region_of A.effect_of r.0) (length r.0.rooms)
+    ensures second { IfOk result (λ r. IsFree (fixed_in A.meaning r.0) (length r.0.rooms)
         r.0.table 1 r.2) }
 {
     let (shared, mut passes) = Shared::start(alloc, action, world, &[room, room])?;

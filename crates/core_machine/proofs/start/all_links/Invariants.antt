@@ -4,4 +4,4 @@ use Rattle.core_machine.specs.Shown.{fixed_of}
 use Rattle.core_machine.proofs.start.all_links.Given as goal
 
 abbrev pub invariant-loop-node : goal.invariant-loop-node
-invariant-loop-node g l = record { each : (k : ℕ) → k < l.node → get_or l.links k 0 ≡ (start_words (fixed_of g.A.Action.takes g.A.Action.region_of g.A.Action.effect_of l.rules)).links k; size : length l.links ≡ 31 }
+invariant-loop-node g l = record { each : (k : ℕ) → k < l.node → get_or l.links k 0 ≡ (start_words (fixed_of g.A.Action.meaning l.rules)).links k; size : length l.links ≡ 31 }

@@ -9,7 +9,7 @@ use Rattle.core_machine.proofs.start.is_linked.Goals as goal
 
 pub home-requires-after_bounds : goal.home-requires-after_bounds
 home-requires-after_bounds g c κs within =
-    let F = fixed_of g.A.Action.takes g.A.Action.region_of g.A.Action.effect_of c.args.rules.now in
+    let F = fixed_of g.A.Action.meaning c.args.rules.now in
     let is = ap (record_at c.args.rules.now.start) (sym c.from.ensures) ∙ sym c.record.ensures ∙ c.in-Some.is in
     let same = found_record c.args.rules.now.start c.args.slot c.in-Some.r is in
     let lives = record_lives c.args.rules.now.start c.args.slot c.in-Some.r is in
@@ -17,12 +17,12 @@ home-requires-after_bounds g c κs within =
 
 pub returns-in-Some : goal.returns-in-Some
 returns-in-Some g c =
-    let F = fixed_of g.A.Action.takes g.A.Action.region_of g.A.Action.effect_of c.args.rules.now in
+    let F = fixed_of g.A.Action.meaning c.args.rules.now in
     let is = ap (record_at c.args.rules.now.start) (sym c.from.ensures) ∙ sym c.record.ensures ∙ c.in-Some.is in
     let same = found_record c.args.rules.now.start c.args.slot c.in-Some.r is in
     linked_is F c.args.slot c.args.node c.home.result c.requires (record_lives c.args.rules.now.start c.args.slot c.in-Some.r is) (c.home.ensures.node ∙ ap (home F) (sym same))
 
 pub returns-in-None : goal.returns-in-None
 returns-in-None g c =
-    let F = fixed_of g.A.Action.takes g.A.Action.region_of g.A.Action.effect_of c.args.rules.now in
+    let F = fixed_of g.A.Action.meaning c.args.rules.now in
     none_linked F c.args.slot c.args.node (none_lives c.args.rules.now.start c.args.slot (ap (record_at c.args.rules.now.start) (sym c.from.ensures) ∙ sym c.record.ensures ∙ c.in-None.is))

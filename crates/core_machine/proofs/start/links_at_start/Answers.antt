@@ -14,7 +14,7 @@ loop-slot-init g c = word_none _
 
 pub loop-slot-preserved : goal.loop-slot-preserved
 loop-slot-preserved g c =
-    let F = fixed_of g.A.Action.takes g.A.Action.region_of g.A.Action.effect_of c.args.rules.now in
+    let F = fixed_of g.A.Action.meaning c.args.rules.now in
     let test : ℕ → Bool = λ slot. is_player F slot && (c.args.node == home F (F.start.record_of slot)) in
     c.with_top_bit-word.ensures
     ∙ ap (λ (b : Bool). (if b then 2 ^ c.loop-slot.slot else 0) + c.loop-slot.word) c.is_linked.ensures

@@ -7,5 +7,5 @@ use Rattle.core_machine.proofs.start.links_at_start.Given as goal
 
 abbrev pub invariant-loop-slot : goal.invariant-loop-slot
 invariant-loop-slot g l =
-    let F = fixed_of g.A.Action.takes g.A.Action.region_of g.A.Action.effect_of l.rules in
+    let F = fixed_of g.A.Action.meaning l.rules in
     l.word ≡ word_of l.slot (λ slot. is_player F slot && (l.node == home F (F.start.record_of slot)))

@@ -8,7 +8,7 @@ use Rattle.core_machine.proofs.stepping.make_next.Goals as goal
 
 pub get-found-requires : goal.get-found-requires
 get-found-requires g c =
-    let F = fixed_of g.A.Action.takes g.A.Action.region_of g.A.Action.effect_of c.args.rules.now in
+    let F = fixed_of g.A.Action.meaning c.args.rules.now in
     let s = c.args.seat.now in
     let N = the_next (next_with F (view_of s) (given_of s) s.quits c.args.effect.now) in
     let at = index_is F (view_of s) N c.args.s c.from-index.result c.requires.ready.sound.depth c.requires.same c.from-index.ensures in
@@ -16,7 +16,7 @@ get-found-requires g c =
 
 pub word_left-requires-clause-count : goal.word_left-requires-clause-count
 word_left-requires-clause-count g c κs within =
-    let F = fixed_of g.A.Action.takes g.A.Action.region_of g.A.Action.effect_of c.args.rules.now in
+    let F = fixed_of g.A.Action.meaning c.args.rules.now in
     let s = c.args.seat.now in
     let words = words_in c.args.words.now (start_words F) in
     let N = the_next (next_with F (view_of s) (given_of s) s.quits c.args.effect.now) in
@@ -26,7 +26,7 @@ word_left-requires-clause-count g c κs within =
 
 pub set-requires : goal.set-requires
 set-requires g c =
-    let F = fixed_of g.A.Action.takes g.A.Action.region_of g.A.Action.effect_of c.args.rules.now in
+    let F = fixed_of g.A.Action.meaning c.args.rules.now in
     let s = c.args.seat.now in
     let N = the_next (next_with F (view_of s) (given_of s) s.quits c.args.effect.now) in
     let at = index_is F (view_of s) N c.args.s c.from-index.result c.requires.ready.sound.depth c.requires.same c.from-index.ensures in
@@ -34,7 +34,7 @@ set-requires g c =
 
 pub go-requires-clause-after : goal.go-requires-clause-after
 go-requires-clause-after g c κs within =
-    let F = fixed_of g.A.Action.takes g.A.Action.region_of g.A.Action.effect_of c.args.rules.now in
+    let F = fixed_of g.A.Action.meaning c.args.rules.now in
     let s = c.args.seat.now in
     let words = words_in c.args.words.now (start_words F) in
     let N = the_next (next_with F (view_of s) (given_of s) s.quits c.args.effect.now) in
@@ -44,7 +44,7 @@ go-requires-clause-after g c κs within =
 
 pub go-requires-clause-count : goal.go-requires-clause-count
 go-requires-clause-count g c κs within =
-    let F = fixed_of g.A.Action.takes g.A.Action.region_of g.A.Action.effect_of c.args.rules.now in
+    let F = fixed_of g.A.Action.meaning c.args.rules.now in
     let s = c.args.seat.now in
     let words = words_in c.args.words.now (start_words F) in
     let N = the_next (next_with F (view_of s) (given_of s) s.quits c.args.effect.now) in
@@ -54,7 +54,7 @@ go-requires-clause-count g c κs within =
 
 pub returns : goal.returns
 returns g c =
-    let F = fixed_of g.A.Action.takes g.A.Action.region_of g.A.Action.effect_of c.args.rules.now in
+    let F = fixed_of g.A.Action.meaning c.args.rules.now in
     let s = c.args.seat.now in
     let words = words_in c.args.words.now (start_words F) in
     let N = the_next (next_with F (view_of s) (given_of s) s.quits c.args.effect.now) in

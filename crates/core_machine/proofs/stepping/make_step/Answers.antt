@@ -14,7 +14,7 @@ use Rattle.core_machine.proofs.stepping.make_step.Goals as goal
 
 pub make_next-requires-clause-comes : goal.make_next-requires-clause-comes
 make_next-requires-clause-comes g c = λ κs within.
-    let F = fixed_of g.A.Action.takes g.A.Action.region_of g.A.Action.effect_of c.args.rules.now in
+    let F = fixed_of g.A.Action.meaning c.args.rules.now in
     let seat = c.args.seat.now in
     let words = words_in c.args.words.now (start_words F) in
     let comes = comes_next F seat c.resolved-effect.result c.args.s c.resolved-effect.ensures (sym c.next_step.ensures ∙ c.is_next.ensures.same c.if-is_next.true) in
@@ -22,7 +22,7 @@ make_next-requires-clause-comes g c = λ κs within.
 
 pub make_next-requires-clause-word : goal.make_next-requires-clause-word
 make_next-requires-clause-word g c = λ κs within.
-    let F = fixed_of g.A.Action.takes g.A.Action.region_of g.A.Action.effect_of c.args.rules.now in
+    let F = fixed_of g.A.Action.meaning c.args.rules.now in
     let seat = c.args.seat.now in
     let words = words_in c.args.words.now (start_words F) in
     let comes = comes_next F seat c.resolved-effect.result c.args.s c.resolved-effect.ensures (sym c.next_step.ensures ∙ c.is_next.ensures.same c.if-is_next.true) in
@@ -30,7 +30,7 @@ make_next-requires-clause-word g c = λ κs within.
 
 pub make_next-requires-clause-same : goal.make_next-requires-clause-same
 make_next-requires-clause-same g c = λ κs within.
-    let F = fixed_of g.A.Action.takes g.A.Action.region_of g.A.Action.effect_of c.args.rules.now in
+    let F = fixed_of g.A.Action.meaning c.args.rules.now in
     let seat = c.args.seat.now in
     let words = words_in c.args.words.now (start_words F) in
     let comes = comes_next F seat c.resolved-effect.result c.args.s c.resolved-effect.ensures (sym c.next_step.ensures ∙ c.is_next.ensures.same c.if-is_next.true) in
@@ -38,7 +38,7 @@ make_next-requires-clause-same g c = λ κs within.
 
 pub returns-then-is_next : goal.returns-then-is_next
 returns-then-is_next g c =
-    let F = fixed_of g.A.Action.takes g.A.Action.region_of g.A.Action.effect_of c.args.rules.now in
+    let F = fixed_of g.A.Action.meaning c.args.rules.now in
     let seat = c.args.seat.now in
     let words = words_in c.args.words.now (start_words F) in
     let after = words_in c.make_next.new.words (start_words F) in
@@ -52,7 +52,7 @@ returns-then-is_next g c =
 
 pub returns-else-is_next : goal.returns-else-is_next
 returns-else-is_next g c =
-    let F = fixed_of g.A.Action.takes g.A.Action.region_of g.A.Action.effect_of c.args.rules.now in
+    let F = fixed_of g.A.Action.meaning c.args.rules.now in
     let seat = c.args.seat.now in
     inl (record {
       other = λ same. c.is_next.ensures.other c.if-is_next.false

@@ -7,7 +7,7 @@ use Rattle.core_trials.proofs.rows.give_again.Goals as goal
 
 pub give-requires-after_bounds : goal.give-requires-after_bounds
 give-requires-after_bounds g c κs within =
-    let F = fixed_of g.A.Action.takes g.A.Action.region_of g.A.Action.effect_of c.args.core.now.rules in
+    let F = fixed_of g.A.Action.meaning c.args.core.now.rules in
     let slot = ap (λ (cmd : Command). cmd.slot) c.command.ensures.value in
     let free = sym c.next_step.ensures.some ∙ sym c.is_some.ensures ∙ c.if-is_some.false in
     let empty = sym c.is_empty.ensures ∙ c.if-not-is_empty.false in

@@ -8,7 +8,7 @@ use Rattle.core_trials.proofs.rows.give_up_refused.Goals as goal
 
 pub give_up-requires-after_bounds : goal.give_up-requires-after_bounds
 give_up-requires-after_bounds g c κs within =
-    let F = fixed_of g.A.Action.takes g.A.Action.region_of g.A.Action.effect_of c.args.core.now.rules in
+    let F = fixed_of g.A.Action.meaning c.args.core.now.rules in
     let m = machine_of F c.args.core.now in
     let next = sym c.in-Some.ensures.step in
     let seat = step_seat F m c.args.seat c.in-Some.s next in
@@ -17,7 +17,7 @@ give_up-requires-after_bounds g c κs within =
 
 pub returns-then-step-clause-own : goal.returns-then-step-clause-own
 returns-then-step-clause-own g c =
-    let F = fixed_of g.A.Action.takes g.A.Action.region_of g.A.Action.effect_of c.args.core.now.rules in
+    let F = fixed_of g.A.Action.meaning c.args.core.now.rules in
     let m = machine_of F c.args.core.now in
     let next = sym c.in-Some.ensures.step in
     let seat = step_seat F m c.args.seat c.in-Some.s next in
@@ -26,8 +26,8 @@ returns-then-step-clause-own g c =
 
 pub returns-clause-own : goal.returns-clause-own
 returns-clause-own g c is =
-    let G = fixed_of g.A.Action.takes g.A.Action.region_of g.A.Action.effect_of c.step.new.self.rules in
-    let F = fixed_of g.A.Action.takes g.A.Action.region_of g.A.Action.effect_of c.args.core.now.rules in
+    let G = fixed_of g.A.Action.meaning c.step.new.self.rules in
+    let F = fixed_of g.A.Action.meaning c.args.core.now.rules in
     let m = machine_of F c.args.core.now in
     let next = sym c.in-Some.ensures.step in
     let seat = step_seat F m c.args.seat c.in-Some.s next in

@@ -7,7 +7,7 @@ use Rattle.core_trials.proofs.rows.make_steps.Goals as goal
 
 pub returns-then-not-step-clause-own : goal.returns-then-not-step-clause-own
 returns-then-not-step-clause-own g c is =
-    let F = fixed_of g.A.Action.takes g.A.Action.region_of g.A.Action.effect_of c.loop.core.rules in
+    let F = fixed_of g.A.Action.meaning c.loop.core.rules in
     let m = machine_of F c.loop.core in
     let next = sym c.in-Some.ensures.step in
     let seat = step_seat F m c.args.seat c.in-Some.s next in
@@ -18,7 +18,7 @@ pub loop-preserved : goal.loop-preserved
 loop-preserved g c = record {
   seats = c.step.ensures.seats ∙ c.loop.invariant.seats;
   own = λ is.
-      let F = fixed_of g.A.Action.takes g.A.Action.region_of g.A.Action.effect_of c.loop.core.rules in
+      let F = fixed_of g.A.Action.meaning c.loop.core.rules in
       let m = machine_of F c.loop.core in
       let next = sym c.in-Some.ensures.step in
       let seat = step_seat F m c.args.seat c.in-Some.s next in

@@ -16,7 +16,7 @@ new-requires-clause-start g c = λ κs within. c.requires.start c.in_ok-tree.tre
 
 pub loop-slot-init : goal.loop-slot-init
 loop-slot-init g c =
-    let F = fixed_of g.A.Action.takes g.A.Action.region_of g.A.Action.effect_of c.in_ok-core.core.rules in
+    let F = fixed_of g.A.Action.meaning c.in_ok-core.core.rules in
     record {
       rules = refl;
       seats = c.in_ok-core.ensures.seats;
@@ -25,7 +25,7 @@ loop-slot-init g c =
 
 pub give-requires-after_bounds : goal.give-requires-after_bounds
 give-requires-after_bounds g c = λ κs within.
-    let fixed = λ (r : RulesView g.row.A.Denot). fixed_of g.A.Action.takes g.A.Action.region_of g.A.Action.effect_of r in
+    let fixed = λ (r : RulesView g.row.A.Denot). fixed_of g.A.Action.meaning r in
     let F = fixed c.in_ok-core.core.rules in
     let slot = c.loop-slot.slot in
     let live : has F.start.ids slot ≡ _ = ap (λ (r : RulesView g.row.A.Denot). has (map (λ (x : Rec). x.id) r.start) slot) c.in_ok-core.ensures.rules ∙ c.requires.live slot c.loop-slot-test.true in
@@ -35,7 +35,7 @@ give-requires-after_bounds g c = λ κs within.
 
 pub loop-slot-preserved : goal.loop-slot-preserved
 loop-slot-preserved g c =
-    let fixed = λ (r : RulesView g.row.A.Denot). fixed_of g.A.Action.takes g.A.Action.region_of g.A.Action.effect_of r in
+    let fixed = λ (r : RulesView g.row.A.Denot). fixed_of g.A.Action.meaning r in
     let F = fixed c.in_ok-core.core.rules in
     let slot = c.loop-slot.slot in
     let made = subst (λ (r : RulesView g.row.A.Denot). machine_of (fixed r) c.give.new.self ≡ with_given (machine_of (fixed r) c.loop-slot.core) slot (command_of c.command.result)) c.loop-slot.invariant.rules c.give.ensures.machine in
@@ -49,7 +49,7 @@ loop-slot-preserved g c =
 pub returns-clause-own : goal.returns-clause-own
 returns-clause-own g c =
     let core = c.loop-slot.core in
-    let F = fixed_of g.A.Action.takes g.A.Action.region_of g.A.Action.effect_of c.in_ok-core.core.rules in
+    let F = fixed_of g.A.Action.meaning c.in_ok-core.core.rules in
     let rules = c.loop-slot.invariant.rules ∙ c.in_ok-core.ensures.rules in
     own_when_filled F core c.loop-slot.slot (length c.args.room.now) c.loop-slot.invariant.seats c.requires.few
     (λ j below. ap (λ (r : RulesView g.row.A.Denot). has (map (λ (x : Rec). x.id) r.start) j) rules ∙ c.requires.live j below)

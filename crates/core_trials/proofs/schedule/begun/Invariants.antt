@@ -8,5 +8,5 @@ abbrev pub invariant-loop-slot : goal.invariant-loop-slot
 invariant-loop-slot g l = record {
   rules : l.core.rules ≡ l.initial.core.rules;
   seats : length l.core.seats ≡ length l.room;
-  filled : IsFilled (machine_of (fixed_of g.A.Action.takes g.A.Action.region_of g.A.Action.effect_of l.initial.core.rules) l.core) l.slot (length l.room);
+  filled : IsFilled (machine_of (fixed_of g.A.Action.meaning l.initial.core.rules) l.core) l.slot (length l.room);
 }

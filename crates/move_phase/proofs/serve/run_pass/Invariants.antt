@@ -8,5 +8,5 @@ use Rattle.move_phase.proofs.serve.run_pass.Given as goal
 -- the moves so far that the pass serves are in its log
 abbrev pub invariant-loop-cmd : goal.invariant-loop-cmd
 invariant-loop-cmd g l =
-    HasServed (fixed_in g.A.Action.takes g.A.Action.region_of g.A.Action.effect_of l.shared) (length l.shared.rooms) l.shared.table l.fn.pass l.pass
+    HasServed (fixed_in g.A.Action.meaning l.shared) (length l.shared.rooms) l.shared.table l.fn.pass l.pass
     (served_by (length l.shared.rooms) l.fn.pass.number (map command_of (take l.cmd-index l.moves)))

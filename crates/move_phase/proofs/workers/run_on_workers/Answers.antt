@@ -12,14 +12,14 @@ pub run_passes-requires-clause-may : goal.run_passes-requires-clause-may
 run_passes-requires-clause-may g c κs within =
     let t = c.args.shared in
     let ready = c.requires.ready in
-    may_serve (fixed_in g.A.Action.takes g.A.Action.region_of g.A.Action.effect_of t) t.table (map command_of c.args.moves.now) t.rooms c.args.passes.items ready.begun
+    may_serve (fixed_in g.A.Action.meaning t) t.table (map command_of c.args.moves.now) t.rooms c.args.passes.items ready.begun
     (omega (arith, ready.count, c.requires.workers)) ready.own ready.room
 
 pub close-requires-clause-all : goal.close-requires-clause-all
 close-requires-clause-all g c κs within =
     let t = c.args.shared in
     let ready = c.requires.ready in
-    numbers_rise (fixed_in g.A.Action.takes g.A.Action.region_of g.A.Action.effect_of t) t.table (map command_of c.args.moves.now) t.rooms c.args.passes.items c.run_passes.new.passes.items (record {
+    numbers_rise (fixed_in g.A.Action.meaning t) t.table (map command_of c.args.moves.now) t.rooms c.args.passes.items c.run_passes.new.passes.items (record {
       begun = ready.begun;
       some = omega (arith, ready.count, c.requires.workers);
       count = c.run_passes.ensures.count;
@@ -30,7 +30,7 @@ pub returns-clause-ran : goal.returns-clause-ran
 returns-clause-ran g c =
     let t = c.args.shared in
     let ready = c.requires.ready in
-    let F = fixed_in g.A.Action.takes g.A.Action.region_of g.A.Action.effect_of t in
+    let F = fixed_in g.A.Action.meaning t in
     let commands = map command_of c.args.moves.now in
     let ran : HaveRun F (length t.rooms) commands (map log_from c.run_passes.new.passes.items) c.close.new.world =
     have_run F t.table commands t.rooms c.args.passes.items c.run_passes.new.passes.items (record {

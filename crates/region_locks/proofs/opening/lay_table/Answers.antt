@@ -11,7 +11,7 @@ of_words-requires g c =
     let action = c.args.action.now in
     let world = c.args.world.now in
     let linked = c.tree-tree.ensures.linked in
-    let F : Fixed = fixed_by g.A.Action.takes g.A.Action.region_of g.A.Action.effect_of action world in
+    let F : Fixed = fixed_by g.A.Action.meaning action world in
     let laws = g.met.A.Action g.world.𝓛 g.world.𝓜 g.world.𝓡 ((λ s x. x), (λ x. x), (λ x. x), λ x. x) in
     let lawful : IsLawful F = record { validity = laws.validity action; locality = laws.locality action; footprint = laws.footprint action } in
     rw (c.of.ensures, c.of-2.ensures, c.rooms_of-rooms.ensures, c.as_slice.ensures.value)

@@ -9,6 +9,6 @@ new-requires g c = (
   (
     c.type_bounds.sync-A,
     rw (c.as_slice.ensures.value, c.in_ok-records.ensures, c.tree.ensures.tree)
-        (world_starts (fixed_by g.A.Action.takes g.A.Action.region_of g.A.Action.effect_of c.args.action.now c.args.world.now) c.args.world.now refl c.tree.ensures.linked c.requires.taken),
+        (world_starts (fixed_by g.A.Action.meaning c.args.action.now c.args.world.now) c.args.world.now refl c.tree.ensures.linked c.requires.taken),
   ),
 )

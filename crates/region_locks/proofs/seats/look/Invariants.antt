@@ -5,7 +5,7 @@ use Rattle.region_locks.proofs.seats.look.Given as goal
 
 abbrev pub ghosts-look_as : goal.ghosts-look_as
 ghosts-look_as g a = record {
-  fixed = fixed_by g.A.Action.takes g.A.Action.region_of g.A.Action.effect_of a.words.now.key.action.value a.words.now.key.world.value;
+  fixed = fixed_by g.A.Action.meaning a.words.now.key.action.value a.words.now.key.world.value;
   passes = length a.words.now.key.rooms.items;
   given = None;
   quits = false;

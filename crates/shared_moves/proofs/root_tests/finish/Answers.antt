@@ -7,4 +7,4 @@ use Rattle.shared_moves.proofs.root_tests.finish.Goals as goal
 
 pub returns-in_default : goal.returns-in_default
 returns-in_default g c =
-    rests_now (fixed_in g.A.Action.takes g.A.Action.region_of g.A.Action.effect_of c.args.shared.now) (length c.args.shared.now.rooms) c.args.shared.now.table 0 c.loop.pass c.loop.invariant (at_rest c.turn.result (has_command_in_hand c.loop.pass) c.in_default.not-Some c.turn.ensures.some)
+    rests_now (fixed_in g.A.Action.meaning c.args.shared.now) (length c.args.shared.now.rooms) c.args.shared.now.table 0 c.loop.pass c.loop.invariant (at_rest c.turn.result (has_command_in_hand c.loop.pass) c.in_default.not-Some c.turn.ensures.some)

@@ -6,4 +6,4 @@ use Rattle.shared_moves.proofs.root_tests.go.Goals as goal
 
 pub returns-in-Ok-clause-number : goal.returns-in-Ok-clause-number
 returns-in-Ok-clause-number g c =
-    keeps_number (fixed_in g.A.Action.takes g.A.Action.region_of g.A.Action.effect_of c.shared.inside.table) (length c.shared.inside.table.rooms) c.shared.inside.table.table c.args.pass.now c.go_on.new.pass c.in-Ok.went c.in-Ok.ensures.ok
+    keeps_number (fixed_in g.A.Action.meaning c.shared.inside.table) (length c.shared.inside.table.rooms) c.shared.inside.table.table c.args.pass.now c.go_on.new.pass c.in-Ok.went c.in-Ok.ensures.ok

@@ -5,4 +5,4 @@ use Rattle.shared_moves.proofs.table_tests.begin.Goals as goal
 
 pub load_rec-requires-clause-next : goal.load_rec-requires-clause-next
 load_rec-requires-clause-next g c κs within =
-    loads_own (fixed_in g.A.Action.takes g.A.Action.region_of g.A.Action.effect_of c.args.table.now) (length c.args.table.now.rooms) c.args.table.now.table c.args.pass.now _ _ c.requires.own c.requires.free c.begin.ensures.pass
+    loads_own (fixed_in g.A.Action.meaning c.args.table.now) (length c.args.table.now.rooms) c.args.table.now.table c.args.pass.now _ _ c.requires.own c.requires.free c.begin.ensures.pass

@@ -8,11 +8,11 @@ returns-clause-first g c =
     let table = c.in_ok-shared.shared.table in
     let first : c.in_ok-first.first ≡ first_pass table (rooms c.args.room) = search rules in
     let second : c.in_ok-second.second ≡ other_pass table (rooms c.args.room) 1 = search rules in
-    (are_free (fixed_in g.A.Action.takes g.A.Action.region_of g.A.Action.effect_of c.in_ok-shared.shared) (length c.in_ok-shared.shared.rooms) table c.args.room c.in_ok-shared.passes.items c.in_ok-first.first c.in_ok-second.second c.requires.room c.in_ok-shared.ensures.passes first second c.in_ok-shared.ensures.own).0
+    (are_free (fixed_in g.A.Action.meaning c.in_ok-shared.shared) (length c.in_ok-shared.shared.rooms) table c.args.room c.in_ok-shared.passes.items c.in_ok-first.first c.in_ok-second.second c.requires.room c.in_ok-shared.ensures.passes first second c.in_ok-shared.ensures.own).0
 
 pub returns-clause-second : goal.returns-clause-second
 returns-clause-second g c =
     let table = c.in_ok-shared.shared.table in
     let first : c.in_ok-first.first ≡ first_pass table (rooms c.args.room) = search rules in
     let second : c.in_ok-second.second ≡ other_pass table (rooms c.args.room) 1 = search rules in
-    (are_free (fixed_in g.A.Action.takes g.A.Action.region_of g.A.Action.effect_of c.in_ok-shared.shared) (length c.in_ok-shared.shared.rooms) table c.args.room c.in_ok-shared.passes.items c.in_ok-first.first c.in_ok-second.second c.requires.room c.in_ok-shared.ensures.passes first second c.in_ok-shared.ensures.own).1
+    (are_free (fixed_in g.A.Action.meaning c.in_ok-shared.shared) (length c.in_ok-shared.shared.rooms) table c.args.room c.in_ok-shared.passes.items c.in_ok-first.first c.in_ok-second.second c.requires.room c.in_ok-shared.ensures.passes first second c.in_ok-shared.ensures.own).1

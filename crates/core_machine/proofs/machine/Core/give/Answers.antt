@@ -7,7 +7,7 @@ use Rattle.core_machine.proofs.machine.Core.give.Goals as goal
 
 pub invariant_of-self : goal.invariant_of-self
 invariant_of-self g c =
-    let F = fixed_of g.A.Action.takes g.A.Action.region_of g.A.Action.effect_of c.self.inside.rules in
+    let F = fixed_of g.A.Action.meaning c.self.inside.rules in
     let seats = c.self.inside.seats.items in
     let may = rw (← c.self.view_is) at c.requires in
     let below : c.from.result < length seats = live_below seats c.from.result c.args.seat c.from.ensures may.pending.lives in
@@ -17,7 +17,7 @@ invariant_of-self g c =
 
 pub returns-clause-machine : goal.returns-clause-machine
 returns-clause-machine g c =
-    let F = fixed_of g.A.Action.takes g.A.Action.region_of g.A.Action.effect_of c.self.inside.rules in
+    let F = fixed_of g.A.Action.meaning c.self.inside.rules in
     let seats = c.self.inside.seats.items in
     let may = rw (← c.self.view_is) at c.requires in
     let below : c.from.result < length seats = live_below seats c.from.result c.args.seat c.from.ensures may.pending.lives in

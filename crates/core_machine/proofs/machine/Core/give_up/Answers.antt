@@ -6,7 +6,7 @@ use Rattle.core_machine.proofs.machine.Core.give_up.Goals as goal
 
 pub invariant_of-self : goal.invariant_of-self
 invariant_of-self g c =
-    let F = fixed_of g.A.Action.takes g.A.Action.region_of g.A.Action.effect_of c.self.inside.rules in
+    let F = fixed_of g.A.Action.meaning c.self.inside.rules in
     let seats = c.self.inside.seats.items in
     let may = rw (← c.self.view_is) at c.requires in
     let below : c.from.result < length seats = taking_below seats c.from.result c.args.seat c.from.ensures may in
@@ -16,7 +16,7 @@ invariant_of-self g c =
 
 pub returns-clause-machine : goal.returns-clause-machine
 returns-clause-machine g c =
-    let F = fixed_of g.A.Action.takes g.A.Action.region_of g.A.Action.effect_of c.self.inside.rules in
+    let F = fixed_of g.A.Action.meaning c.self.inside.rules in
     let seats = c.self.inside.seats.items in
     let may = rw (← c.self.view_is) at c.requires in
     let below : c.from.result < length seats = taking_below seats c.from.result c.args.seat c.from.ensures may in

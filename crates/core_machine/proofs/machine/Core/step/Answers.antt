@@ -10,7 +10,7 @@ use Rattle.core_machine.proofs.machine.Core.step.Goals as goal
 
 pub make_step-requires-after_bounds : goal.make_step-requires-after_bounds
 make_step-requires-after_bounds g c = λ κs within.
-    let F = fixed_of g.A.Action.takes g.A.Action.region_of g.A.Action.effect_of c.self.inside.rules in
+    let F = fixed_of g.A.Action.meaning c.self.inside.rules in
     let rules = c.self.inside.rules in
     let words = c.self.inside.words in
     let seats = c.self.inside.seats.items in
@@ -20,7 +20,7 @@ make_step-requires-after_bounds g c = λ κs within.
 
 pub invariant_of-self : goal.invariant_of-self
 invariant_of-self g c =
-    let F = fixed_of g.A.Action.takes g.A.Action.region_of g.A.Action.effect_of c.self.inside.rules in
+    let F = fixed_of g.A.Action.meaning c.self.inside.rules in
     let rules = c.self.inside.rules in
     let words = c.self.inside.words in
     let seats = c.self.inside.seats.items in
@@ -33,7 +33,7 @@ invariant_of-self g c =
 
 pub returns-clause-done : goal.returns-clause-done
 returns-clause-done g c =
-    let F = fixed_of g.A.Action.takes g.A.Action.region_of g.A.Action.effect_of c.self.inside.rules in
+    let F = fixed_of g.A.Action.meaning c.self.inside.rules in
     let rules = c.self.inside.rules in
     let words = c.self.inside.words in
     let seats = c.self.inside.seats.items in
@@ -46,7 +46,7 @@ returns-clause-done g c =
 
 pub returns-clause-other : goal.returns-clause-other
 returns-clause-other g c =
-    let F = fixed_of g.A.Action.takes g.A.Action.region_of g.A.Action.effect_of c.self.inside.rules in
+    let F = fixed_of g.A.Action.meaning c.self.inside.rules in
     let rules = c.self.inside.rules in
     let words = c.self.inside.words in
     let seats = c.self.inside.seats.items in
@@ -55,12 +55,12 @@ returns-clause-other g c =
     let old = core_view rules words seats in
     let new = core_view rules c.make_step.new.words (set seats i c.make_step.new.seat) in
     let made = outcome F rules words c.make_step.new.words seats i c.args.s c.index_mut.result.now c.make_step.new.seat c.make_step.result c.from-i.ensures below c.index_mut.ensures.value c.self.invariant c.make_step.ensures in
-    subst (λ (v : CoreView g.row.A.Denot). let G = fixed_of g.A.Action.takes g.A.Action.region_of g.A.Action.effect_of v.rules in let m = machine_of G v in (next_step_of G m c.args.s.seat ≡ Some c.args.s → ⊥) → new ≡ v) c.self.view_is
+    subst (λ (v : CoreView g.row.A.Denot). let G = fixed_of g.A.Action.meaning v.rules in let m = machine_of G v in (next_step_of G m c.args.s.seat ≡ Some c.args.s → ⊥) → new ≡ v) c.self.view_is
     (outcome_other F old new c.args.s c.make_step.result made)
 
 pub returns-clause-machine : goal.returns-clause-machine
 returns-clause-machine g c =
-    let F = fixed_of g.A.Action.takes g.A.Action.region_of g.A.Action.effect_of c.self.inside.rules in
+    let F = fixed_of g.A.Action.meaning c.self.inside.rules in
     let rules = c.self.inside.rules in
     let words = c.self.inside.words in
     let seats = c.self.inside.seats.items in
@@ -69,13 +69,13 @@ returns-clause-machine g c =
     let old = core_view rules words seats in
     let new = core_view rules c.make_step.new.words (set seats i c.make_step.new.seat) in
     let made = outcome F rules words c.make_step.new.words seats i c.args.s c.index_mut.result.now c.make_step.new.seat c.make_step.result c.from-i.ensures below c.index_mut.ensures.value c.self.invariant c.make_step.ensures in
-    subst (λ (v : CoreView g.row.A.Denot). let G = fixed_of g.A.Action.takes g.A.Action.region_of g.A.Action.effect_of v.rules in let m = machine_of G v in (next : Next) → next_of G m c.args.s.seat ≡ Some next → next_step_of G m c.args.s.seat ≡ Some c.args.s
+    subst (λ (v : CoreView g.row.A.Denot). let G = fixed_of g.A.Action.meaning v.rules in let m = machine_of G v in (next : Next) → next_of G m c.args.s.seat ≡ Some next → next_step_of G m c.args.s.seat ≡ Some c.args.s
     → machine_of G new ≡ machine_after G m c.args.s.seat next) c.self.view_is
     (outcome_machine F old new c.args.s c.make_step.result made)
 
 pub returns-clause-refused : goal.returns-clause-refused
 returns-clause-refused g c =
-    let F = fixed_of g.A.Action.takes g.A.Action.region_of g.A.Action.effect_of c.self.inside.rules in
+    let F = fixed_of g.A.Action.meaning c.self.inside.rules in
     let rules = c.self.inside.rules in
     let words = c.self.inside.words in
     let seats = c.self.inside.seats.items in
@@ -88,7 +88,7 @@ returns-clause-refused g c =
 
 pub returns-clause-logs : goal.returns-clause-logs
 returns-clause-logs g c =
-    let F = fixed_of g.A.Action.takes g.A.Action.region_of g.A.Action.effect_of c.self.inside.rules in
+    let F = fixed_of g.A.Action.meaning c.self.inside.rules in
     let rules = c.self.inside.rules in
     let words = c.self.inside.words in
     let seats = c.self.inside.seats.items in
@@ -97,13 +97,13 @@ returns-clause-logs g c =
     let old = core_view rules words seats in
     let new = core_view rules c.make_step.new.words (set seats i c.make_step.new.seat) in
     let made = outcome F rules words c.make_step.new.words seats i c.args.s c.index_mut.result.now c.make_step.new.seat c.make_step.result c.from-i.ensures below c.index_mut.ensures.value c.self.invariant c.make_step.ensures in
-    subst (λ (v : CoreView g.row.A.Denot). let G = fixed_of g.A.Action.takes g.A.Action.region_of g.A.Action.effect_of v.rules in let m = machine_of G v in (next : Next) (seat : ℕ) → next_of G m c.args.s.seat ≡ Some next → next_step_of G m c.args.s.seat ≡ Some c.args.s
+    subst (λ (v : CoreView g.row.A.Denot). let G = fixed_of g.A.Action.meaning v.rules in let m = machine_of G v in (next : Next) (seat : ℕ) → next_of G m c.args.s.seat ≡ Some next → next_step_of G m c.args.s.seat ≡ Some c.args.s
     → ((machine_of G new).core.view seat).log ≡ (if seat == c.args.s.seat then (m.core.view c.args.s.seat).log ++ items_after m.core c.args.s.seat next else (m.core.view seat).log)) c.self.view_is
     (outcome_logs F old new c.args.s c.make_step.result made)
 
 pub returns-clause-may_give_up : goal.returns-clause-may_give_up
 returns-clause-may_give_up g c =
-    let F = fixed_of g.A.Action.takes g.A.Action.region_of g.A.Action.effect_of c.self.inside.rules in
+    let F = fixed_of g.A.Action.meaning c.self.inside.rules in
     let rules = c.self.inside.rules in
     let words = c.self.inside.words in
     let seats = c.self.inside.seats.items in
@@ -112,6 +112,6 @@ returns-clause-may_give_up g c =
     let old = core_view rules words seats in
     let new = core_view rules c.make_step.new.words (set seats i c.make_step.new.seat) in
     let made = outcome F rules words c.make_step.new.words seats i c.args.s c.index_mut.result.now c.make_step.new.seat c.make_step.result c.from-i.ensures below c.index_mut.ensures.value c.self.invariant c.make_step.ensures in
-    subst (λ (v : CoreView g.row.A.Denot). let G = fixed_of g.A.Action.takes g.A.Action.region_of g.A.Action.effect_of v.rules in next_step_of G (machine_of G v) c.args.s.seat ≡ Some c.args.s → c.make_step.result ≡ false
+    subst (λ (v : CoreView g.row.A.Denot). let G = fixed_of g.A.Action.meaning v.rules in next_step_of G (machine_of G v) c.args.s.seat ≡ Some c.args.s → c.make_step.result ≡ false
     → is_taking ((machine_of G new).core.view c.args.s.seat).point ≡ true) c.self.view_is
     (outcome_may_give_up F old new c.args.s c.make_step.result c.self.invariant made)

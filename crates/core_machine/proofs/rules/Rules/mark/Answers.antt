@@ -7,7 +7,7 @@ use Rattle.core_machine.proofs.rules.Rules.mark.Goals as goal
 
 pub returns-then-is_leaf-clause-mark : goal.returns-then-is_leaf-clause-mark
 returns-then-is_leaf-clause-mark g c =
-    let F = fixed_of g.A.Action.takes g.A.Action.region_of g.A.Action.effect_of c.args.self.now in
+    let F = fixed_of g.A.Action.meaning c.args.self.now in
     let depth : F.tree.depth ≡ 4 = rw (← c.self.view_is) c.self.invariant.depth in
     c.leaf_word.ensures.word ∙ leaf_word_is F c.args.wanted.now depth
     ∙ sym (cond-true (is_leaf F c.args.node) _ _ (sym c.is_leaf.ensures ∙ c.if-is_leaf.true))

@@ -6,7 +6,7 @@ use Rattle.core_machine.proofs.rules.Rules.plan.Goals as goal
 
 pub returns : goal.returns
 returns g c =
-    let F = fixed_of g.A.Action.takes g.A.Action.region_of g.A.Action.effect_of (record { action = c.self.inside.action.now; tree = c.self.inside.tree; start = c.self.inside.start.items }) in
+    let F = fixed_of g.A.Action.meaning (record { action = c.self.inside.action.now; tree = c.self.inside.tree; start = c.self.inside.start.items }) in
     let leaves = leaf_nodes_are F c.args.region.now c.from.result c.leaf_nodes-plan.result.items
     c.leaves_of-leaves.ensures.depth (c.from.ensures ∙ c.leaves_of-leaves.ensures.leaves) c.leaf_nodes-plan.ensures.nodes in
     let inner = inner_visited_are F c.args.region.now c.leaves_of-leaves.result c.from-2.result c.bits_below-inner.result.items

@@ -10,13 +10,13 @@ use Rattle.core_machine.proofs.seat.Seat.go.Goals.{then-self, else-self}
 
 pub go_on-requires-clause-count : goal.go_on-requires-clause-count
 go_on-requires-clause-count g c κs within =
-    let F = fixed_of g.A.Action.takes g.A.Action.region_of g.A.Action.effect_of c.args.rules.now in
+    let F = fixed_of g.A.Action.meaning c.args.rules.now in
     subst (λ (quits : Bool). kind_of (the_next (next_with F (view_of c.args.self.now) (given_of c.args.self.now) quits c.args.effect.now)) ≡ Commit → c.args.found + 1 < 2 ^ 64) c.if-self.false
     c.requires.count
 
 pub returns-clause-view : goal.returns-clause-view
 returns-clause-view g c =
-    let F = fixed_of g.A.Action.takes g.A.Action.region_of g.A.Action.effect_of c.args.rules.now in
+    let F = fixed_of g.A.Action.meaning c.args.rules.now in
     let view = view_of c.args.self.now in
     let is : view_of c.if-self.self ≡ view_found F view (the_next (next_with F view (given_of c.args.self.now) c.args.self.now.quits c.args.effect.now)) c.args.found =
     elim c.if-self.branch [

@@ -10,7 +10,7 @@ write_nodes-nodes-requires-clause-after g c κs within = c.requires.after c.in-S
 
 pub returns : goal.returns
 returns g c = λ e is.
-    let F = fixed_of g.A.Action.takes g.A.Action.region_of g.A.Action.effect_of c.args.rules.now in
+    let F = fixed_of g.A.Action.meaning c.args.rules.now in
     let same : c.in-Some.effect ≡ e = let both = sym c.in-Some.is ∙ is in cc in
     let nodes = c.as_slice.ensures.value ∙ c.write_nodes-nodes.ensures ∙ ap (write_nodes F (record_read (hand_of c.args.self.now.cmd).slot c.args.self.now.again.items)) same in
     left_resolving F c.args.number (view_of c.args.self.now) e _ c.args.found c.word_claimed.result

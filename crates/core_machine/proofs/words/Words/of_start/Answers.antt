@@ -8,7 +8,7 @@ use Rattle.core_machine.proofs.words.Words.of_start.Goals as goal
 
 pub returns : goal.returns
 returns g c =
-    let F = fixed_of g.A.Action.takes g.A.Action.region_of g.A.Action.effect_of c.args.rules.now in
+    let F = fixed_of g.A.Action.meaning c.args.rules.now in
     let start = start_words F in
     let node : within 31 (zeros 31) start.node ≡ start.node = all_within 31 (zeros 31) start.node (λ k below. zeros_at 31 k) in
     let links = all_within 31 c.all_links.result start.links c.all_links.ensures in

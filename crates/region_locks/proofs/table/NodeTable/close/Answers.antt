@@ -32,7 +32,7 @@ close_words-words-requires-clause-ended g c κs within = λ n above below.
 pub relink_all-requires : goal.relink_all-requires
 relink_all-requires g c =
     let key = c.into_words-table.result.shared.key in
-    let F : Fixed = fixed_by g.A.Action.takes g.A.Action.region_of g.A.Action.effect_of key.action.value key.world.value in
+    let F : Fixed = fixed_by g.A.Action.meaning key.action.value key.world.value in
     let closes = c.close_words-words.ensures.closes in
     let starts : F.start ≡ world_at_start c.args.world.now = ap world_at_start (c.into_words-table.ensures.key.1 ∙ sym c.requires.world) in
     record {
@@ -44,9 +44,9 @@ returns-clause-closed g c =
     let passes = c.args.passes.items in
     let key = c.into_words-table.result.shared.key in
     let here = c.into_words-table.ensures in
-    let F : Fixed = fixed_by g.A.Action.takes g.A.Action.region_of g.A.Action.effect_of key.action.value key.world.value in
-    let G : Fixed = fixed_by g.A.Action.takes g.A.Action.region_of g.A.Action.effect_of c.args.self.action c.args.self.world in
-    let same : F ≡ G = λ i. fixed_by g.A.Action.takes g.A.Action.region_of g.A.Action.effect_of (here.key.0 i) (here.key.1 i) in
+    let F : Fixed = fixed_by g.A.Action.meaning key.action.value key.world.value in
+    let G : Fixed = fixed_by g.A.Action.meaning c.args.self.action c.args.self.world in
+    let same : F ≡ G = λ i. fixed_by g.A.Action.meaning (here.key.0 i) (here.key.1 i) in
     let closes : Closes G c.close_words-words.result c.end_all-seat.result.me.0.view = subst (λ (H : Fixed). Closes H c.close_words-words.result c.end_all-seat.result.me.0.view) same c.close_words-words.ensures.closes in
     let start : IsStart G = subst IsStart same c.close_words-words.ensures.start in
     let left = left_here G _ _ passes _ c.requires.own c.requires.none c.requires.all here.rooms.1.some c.end_all-seat.ensures.seat in

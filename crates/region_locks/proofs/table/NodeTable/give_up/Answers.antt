@@ -5,23 +5,23 @@ use Rattle.region_locks.proofs.table.NodeTable.give_up.Goals as goal
 
 pub loop-node-init : goal.loop-node-init
 loop-node-init g c =
-    begins_giving (fixed_in g.A.Action.takes g.A.Action.region_of g.A.Action.effect_of c.args.self.now) (length c.args.self.now.rooms) c.args.self.now.table c.args.pass.now c.quit.new.pass c.requires.own c.requires.at_take c.quit.ensures.own c.quit.ensures.pass
+    begins_giving (fixed_in g.A.Action.meaning c.args.self.now) (length c.args.self.now.rooms) c.args.self.now.table c.args.pass.now c.quit.new.pass c.requires.own c.requires.at_take c.quit.ensures.own c.quit.ensures.pass
 
 pub give_back-requires-clause-next : goal.give_back-requires-clause-next
 give_back-requires-clause-next g c κs within =
-    given_next (fixed_in g.A.Action.takes g.A.Action.region_of g.A.Action.effect_of c.args.self.now) c.loop-node.pass c.in-Some.node (sym c.first_held.ensures ∙ c.in-Some.is) c.loop-node.invariant.phase
+    given_next (fixed_in g.A.Action.meaning c.args.self.now) c.loop-node.pass c.in-Some.node (sym c.first_held.ensures ∙ c.in-Some.is) c.loop-node.invariant.phase
 
 pub loop-node-smaller : goal.loop-node-smaller
 loop-node-smaller g c =
-    gives_fewer (fixed_in g.A.Action.takes g.A.Action.region_of g.A.Action.effect_of c.args.self.now) (length c.args.self.now.rooms) c.args.self.now.table c.args.pass.now c.loop-node.pass c.give_back.new.pass c.in-Some.node
+    gives_fewer (fixed_in g.A.Action.meaning c.args.self.now) (length c.args.self.now.rooms) c.args.self.now.table c.args.pass.now c.loop-node.pass c.give_back.new.pass c.in-Some.node
     (sym c.first_held.ensures ∙ c.in-Some.is) c.loop-node.invariant c.give_back.ensures.pass c.give_back.ensures.own
 
 pub loop-node-preserved : goal.loop-node-preserved
 loop-node-preserved g c =
-    gives_on (fixed_in g.A.Action.takes g.A.Action.region_of g.A.Action.effect_of c.args.self.now) (length c.args.self.now.rooms) c.args.self.now.table c.args.pass.now c.loop-node.pass c.give_back.new.pass c.in-Some.node
+    gives_on (fixed_in g.A.Action.meaning c.args.self.now) (length c.args.self.now.rooms) c.args.self.now.table c.args.pass.now c.loop-node.pass c.give_back.new.pass c.in-Some.node
     (sym c.first_held.ensures ∙ c.in-Some.is) c.loop-node.invariant c.give_back.ensures.pass c.give_back.ensures.own
 
 pub returns-clause-given_up : goal.returns-clause-given_up
 returns-clause-given_up g c =
-    has_given_up (fixed_in g.A.Action.takes g.A.Action.region_of g.A.Action.effect_of c.args.self.now) (length c.args.self.now.rooms) c.args.self.now.table c.args.pass.now c.loop-node.pass
+    has_given_up (fixed_in g.A.Action.meaning c.args.self.now) (length c.args.self.now.rooms) c.args.self.now.table c.args.pass.now c.loop-node.pass
     (sym c.first_held.ensures ∙ not_some c.first_held.result c.in_default.not-Some) c.loop-node.invariant

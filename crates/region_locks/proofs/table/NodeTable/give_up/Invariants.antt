@@ -5,7 +5,7 @@ use Rattle.region_locks.proofs.table.NodeTable.give_up.Given as goal
 
 abbrev pub invariant-loop-node : goal.invariant-loop-node
 invariant-loop-node g l =
-    IsGivingUp (fixed_in g.A.Action.takes g.A.Action.region_of g.A.Action.effect_of l.self) (length l.self.rooms) l.self.table l.fn.pass l.pass
+    IsGivingUp (fixed_in g.A.Action.meaning l.self) (length l.self.rooms) l.self.table l.fn.pass l.pass
 
 abbrev pub decreases-loop-node : goal.decreases-loop-node
-decreases-loop-node g l = held_in (fixed_in g.A.Action.takes g.A.Action.region_of g.A.Action.effect_of l.self) l.pass.view
+decreases-loop-node g l = held_in (fixed_in g.A.Action.meaning l.self) l.pass.view

@@ -5,4 +5,4 @@ use Rattle.region_locks.proofs.table.NodeTable.load_rec.Given as goal
 
 abbrev pub invariant-loop-k : goal.invariant-loop-k
 invariant-loop-k g l =
-    IsLoading (fixed_in g.A.Action.takes g.A.Action.region_of g.A.Action.effect_of l.self) (length l.self.rooms) l.self.table l.initial.pass l.pass l.slot l.words.items × (length l.words.items ≡ l.k)
+    IsLoading (fixed_in g.A.Action.meaning l.self) (length l.self.rooms) l.self.table l.initial.pass l.pass l.slot l.words.items × (length l.words.items ≡ l.k)

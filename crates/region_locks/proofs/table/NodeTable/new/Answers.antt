@@ -14,9 +14,9 @@ returns-clause-own g c =
     let key = c.in_ok-table.table.shared.key in
     let table : TableId = c.in_ok-table.table.shared.table_id in
     let keyed = c.in_ok-table.ensures.key in
-    let F : Fixed = fixed_by g.A.Action.takes g.A.Action.region_of g.A.Action.effect_of key.action.value key.world.value in
+    let F : Fixed = fixed_by g.A.Action.meaning key.action.value key.world.value in
     let depth : F.tree.depth ≡ 4 =
-    ap (λ (w : WorldView). w.tree.depth) keyed.1 ∙ depth_is g.A.Action.takes g.A.Action.region_of g.A.Action.effect_of c.args.action.now c.args.world.now c.in_ok-rules.rules c.in_ok-rules.ensures c.is_ruled.ensures in
+    ap (λ (w : WorldView). w.tree.depth) keyed.1 ∙ depth_is g.A.Action.meaning c.args.action.now c.args.world.now c.in_ok-rules.rules c.in_ok-rules.ensures c.is_ruled.ensures in
     let first : c.resting.result ≡ first_pass table c.args.room.now =
     c.resting.ensures
     ∙ ap (λ (t : TableId). new_pass t 0 c.make_others.new.first.me.0.view) (c.make_others.ensures.table ∙ c.in_ok-table.ensures.seat.0)

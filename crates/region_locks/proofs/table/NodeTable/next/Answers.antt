@@ -6,18 +6,18 @@ use Rattle.region_locks.proofs.table.NodeTable.next.Goals as goal
 
 pub next_step-requires-after_bounds : goal.next_step-requires-after_bounds
 next_step-requires-after_bounds g c κs within =
-    let same = same_fixed g.A.Action.takes g.A.Action.region_of g.A.Action.effect_of _ c.args.self.now c.self.inside.rules c.self.view_is c.self.invariant.1 in
-    pass_is_ready (fixed_of g.A.Action.takes g.A.Action.region_of g.A.Action.effect_of c.self.inside.rules) (fixed_in g.A.Action.takes g.A.Action.region_of g.A.Action.effect_of c.args.self.now)
+    let same = same_fixed g.A.Action.meaning _ c.args.self.now c.self.inside.rules c.self.view_is c.self.invariant.1 in
+    pass_is_ready (fixed_of g.A.Action.meaning c.self.inside.rules) (fixed_in g.A.Action.meaning c.args.self.now)
     (length c.args.self.now.rooms) c.args.self.now.table _ c.args.pass.now same c.pass.view_is c.requires.own
 
 pub returns-clause-step : goal.returns-clause-step
 returns-clause-step g c =
-    let same = same_fixed g.A.Action.takes g.A.Action.region_of g.A.Action.effect_of _ c.args.self.now c.self.inside.rules c.self.view_is c.self.invariant.1 in
-    step_found (fixed_of g.A.Action.takes g.A.Action.region_of g.A.Action.effect_of c.self.inside.rules) (fixed_in g.A.Action.takes g.A.Action.region_of g.A.Action.effect_of c.args.self.now)
-    _ c.args.pass.now c.next_step.result same c.pass.view_is c.next_step.ensures
+    let same = same_fixed g.A.Action.meaning _ c.args.self.now c.self.inside.rules c.self.view_is c.self.invariant.1 in
+    step_found (fixed_of g.A.Action.meaning c.self.inside.rules) (fixed_in g.A.Action.meaning c.args.self.now)
+    _ c.args.pass.now c.number-number.result c.next_step.result same c.pass.view_is c.number-number.ensures c.next_step.ensures
 
 pub returns-clause-some : goal.returns-clause-some
 returns-clause-some g c =
-    let same = same_fixed g.A.Action.takes g.A.Action.region_of g.A.Action.effect_of _ c.args.self.now c.self.inside.rules c.self.view_is c.self.invariant.1 in
-    some_found (fixed_of g.A.Action.takes g.A.Action.region_of g.A.Action.effect_of c.self.inside.rules) (fixed_in g.A.Action.takes g.A.Action.region_of g.A.Action.effect_of c.args.self.now)
-    (length c.args.self.now.rooms) c.args.self.now.table _ c.args.pass.now c.next_step.result same c.pass.view_is c.next_step.ensures c.requires.own
+    let same = same_fixed g.A.Action.meaning _ c.args.self.now c.self.inside.rules c.self.view_is c.self.invariant.1 in
+    some_found (fixed_of g.A.Action.meaning c.self.inside.rules) (fixed_in g.A.Action.meaning c.args.self.now)
+    (length c.args.self.now.rooms) c.args.self.now.table _ c.args.pass.now c.number-number.result c.next_step.result same c.pass.view_is c.number-number.ensures c.next_step.ensures c.requires.own

@@ -5,5 +5,5 @@ use Rattle.region_locks.proofs.table.NodeTable.resolve.Goals as goal
 
 pub returns-clause-own : goal.returns-clause-own
 returns-clause-own g c =
-    subst (IsPassOf (fixed_in g.A.Action.takes g.A.Action.region_of g.A.Action.effect_of c.args.self.now) (length c.args.self.now.rooms) c.args.self.now.table) (ap (λ (q : PassView). record q { effect = Some c.args.e }) (sym c.pass.view_is))
-    (resolved_own (fixed_in g.A.Action.takes g.A.Action.region_of g.A.Action.effect_of c.args.self.now) (length c.args.self.now.rooms) c.args.self.now.table c.args.pass.now c.args.e c.requires.own c.requires.read c.requires.effect)
+    subst (IsPassOf (fixed_in g.A.Action.meaning c.args.self.now) (length c.args.self.now.rooms) c.args.self.now.table) (ap (λ (q : PassView). record q { effect = Some c.args.e }) (sym c.pass.view_is))
+    (resolved_own (fixed_in g.A.Action.meaning c.args.self.now) (length c.args.self.now.rooms) c.args.self.now.table c.args.pass.now c.args.e c.requires.own c.requires.read c.requires.effect)

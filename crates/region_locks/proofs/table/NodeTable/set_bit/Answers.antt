@@ -1,36 +1,28 @@
-use Rattle.std.proofs.Common.{ap, ◌∙◌, length}
-use Rattle.core_machine.specs.Shown.{fixed_of}
-use Rattle.region_locks.specs.Passes.{HasGone, fixed_in}
-use Rattle.region_locks.proofs.Ready.{can_follow, stepped}
+use Rattle.std.proofs.Common.{ℕ, ◌<◌, sym, ap, ◌∙◌, subst, length}
+use Rattle.core_steps.specs.Cells.{with_bit}
+use Rattle.core_steps.specs.Views.{Link}
+use Rattle.region_locks.specs.Passes.{fixed_in}
+use Rattle.region_locks.proofs.PlainHands.{comes_next, index_next}
+use Rattle.region_locks.proofs.StoresMade.{store_is, store_left, store_after, slot_small}
 use Rattle.region_locks.proofs.table.NodeTable.set_bit.Goals as goal
 
-pub follow-requires-clause-ready : goal.follow-requires-clause-ready
-follow-requires-clause-ready g c κs within =
-    let gone : HasGone (fixed_in g.A.Action.takes g.A.Action.region_of g.A.Action.effect_of c.args.self.now) (length c.args.self.now.rooms) c.args.pass.now c.set_next-found.result c.set_next-found.new.seat c.pass.inside.place.me.1 =
-    rw (← c.self.view_is, ← c.of-about.ensures) c.set_next-found.ensures.gone in
-    let same = ap (fixed_of g.A.Action.takes g.A.Action.region_of g.A.Action.effect_of) c.self.invariant.1 ∙ ap (fixed_in g.A.Action.takes g.A.Action.region_of g.A.Action.effect_of) c.self.view_is in
-    can_follow _ _ _ _ c.args.pass.now _ _ _ _ same c.pass.view_is c.requires.own c.requires.comes gone
+pub step_hand-requires-clause-comes : goal.step_hand-requires-clause-comes
+step_hand-requires-clause-comes g c κs within =
+    comes_next (fixed_in g.A.Action.meaning c.args.self.now) c.args.hand.now _ (store_is (fixed_in g.A.Action.meaning c.args.self.now) c.args.hand.now c.is_plain.ensures (Link c.args.node) c.requires.next)
 
-pub invariant_of-pass : goal.invariant_of-pass
-invariant_of-pass g c =
-    let gone : HasGone (fixed_in g.A.Action.takes g.A.Action.region_of g.A.Action.effect_of c.args.self.now) (length c.args.self.now.rooms) c.args.pass.now c.set_next-found.result c.set_next-found.new.seat c.pass.inside.place.me.1 =
-    rw (← c.self.view_is, ← c.of-about.ensures) c.set_next-found.ensures.gone in
-    let same = ap (fixed_of g.A.Action.takes g.A.Action.region_of g.A.Action.effect_of) c.self.invariant.1 ∙ ap (fixed_in g.A.Action.takes g.A.Action.region_of g.A.Action.effect_of) c.self.view_is in
-    (stepped (fixed_in g.A.Action.takes g.A.Action.region_of g.A.Action.effect_of c.args.self.now) _ (length c.args.self.now.rooms) c.args.self.now.table c.args.pass.now c.set_next-found.result c.pass.inside.place c.set_next-found.new.seat c.pass.inside.number c.pass.inside.mirror c.follow.new.mirror c.pass.inside.effect c.follow.new.effect same c.pass.view_is c.pass.invariant c.requires.own c.requires.comes gone
-    c.follow.ensures.view c.follow.ensures.given c.follow.ensures.quits c.follow.ensures.effect).hand
+pub step_hand-requires-clause-index : goal.step_hand-requires-clause-index
+step_hand-requires-clause-index g c κs within =
+    c.from.ensures ∙ c.list_word.ensures
+    ∙ index_next (fixed_in g.A.Action.meaning c.args.self.now) c.args.hand.now _ (store_is (fixed_in g.A.Action.meaning c.args.self.now) c.args.hand.now c.is_plain.ensures (Link c.args.node) c.requires.next) c.args.hand.now.view
 
-pub returns-clause-pass : goal.returns-clause-pass
-returns-clause-pass g c =
-    let gone : HasGone (fixed_in g.A.Action.takes g.A.Action.region_of g.A.Action.effect_of c.args.self.now) (length c.args.self.now.rooms) c.args.pass.now c.set_next-found.result c.set_next-found.new.seat c.pass.inside.place.me.1 =
-    rw (← c.self.view_is, ← c.of-about.ensures) c.set_next-found.ensures.gone in
-    let same = ap (fixed_of g.A.Action.takes g.A.Action.region_of g.A.Action.effect_of) c.self.invariant.1 ∙ ap (fixed_in g.A.Action.takes g.A.Action.region_of g.A.Action.effect_of) c.self.view_is in
-    (stepped (fixed_in g.A.Action.takes g.A.Action.region_of g.A.Action.effect_of c.args.self.now) _ (length c.args.self.now.rooms) c.args.self.now.table c.args.pass.now c.set_next-found.result c.pass.inside.place c.set_next-found.new.seat c.pass.inside.number c.pass.inside.mirror c.follow.new.mirror c.pass.inside.effect c.follow.new.effect same c.pass.view_is c.pass.invariant c.requires.own c.requires.comes gone
-    c.follow.ensures.view c.follow.ensures.given c.follow.ensures.quits c.follow.ensures.effect).pass
+pub step_hand-requires-clause-left : goal.step_hand-requires-clause-left
+step_hand-requires-clause-left g c κs within found =
+    store_left (fixed_in g.A.Action.meaning c.args.self.now) c.args.hand.now c.is_plain.ensures (Link c.args.node) c.requires.next found ∙ ap (λ (n : ℕ). with_bit found n) (sym c.requires.slot)
 
-pub returns-clause-own : goal.returns-clause-own
-returns-clause-own g c =
-    let gone : HasGone (fixed_in g.A.Action.takes g.A.Action.region_of g.A.Action.effect_of c.args.self.now) (length c.args.self.now.rooms) c.args.pass.now c.set_next-found.result c.set_next-found.new.seat c.pass.inside.place.me.1 =
-    rw (← c.self.view_is, ← c.of-about.ensures) c.set_next-found.ensures.gone in
-    let same = ap (fixed_of g.A.Action.takes g.A.Action.region_of g.A.Action.effect_of) c.self.invariant.1 ∙ ap (fixed_in g.A.Action.takes g.A.Action.region_of g.A.Action.effect_of) c.self.view_is in
-    (stepped (fixed_in g.A.Action.takes g.A.Action.region_of g.A.Action.effect_of c.args.self.now) _ (length c.args.self.now.rooms) c.args.self.now.table c.args.pass.now c.set_next-found.result c.pass.inside.place c.set_next-found.new.seat c.pass.inside.number c.pass.inside.mirror c.follow.new.mirror c.pass.inside.effect c.follow.new.effect same c.pass.view_is c.pass.invariant c.requires.own c.requires.comes gone
-    c.follow.ensures.view c.follow.ensures.given c.follow.ensures.quits c.follow.ensures.effect).own
+pub step_hand-requires-clause-may : goal.step_hand-requires-clause-may
+step_hand-requires-clause-may g c κs within =
+    subst (λ (n : ℕ). n < 64) (sym c.requires.slot) (slot_small (fixed_in g.A.Action.meaning c.args.self.now) (length c.args.self.now.rooms) c.args.self.now.table c.args.hand.now _ _ _ c.requires.own c.requires.next)
+
+pub returns-clause-view : goal.returns-clause-view
+returns-clause-view g c =
+    store_after (fixed_in g.A.Action.meaning c.args.self.now) c.args.hand.now c.is_plain.ensures (Link c.args.node) c.requires.next c.step_hand.new.hand c.step_hand.result c.step_hand.ensures.pass

@@ -7,39 +7,39 @@ use Rattle.region_locks.proofs.Quitting.{may_quit_after}
 use Rattle.region_locks.proofs.Takes.{takes_next, taken_next, taken_there, taken_index, word_of_holder, held_is, wanted_below}
 use Rattle.region_locks.proofs.table.NodeTable.take.Goals as goal
 
-pub exchange_word-found-requires-clause-comes : goal.exchange_word-found-requires-clause-comes
-exchange_word-found-requires-clause-comes g c κs within = taken_there _ _ c.requires.next
+pub step_word-found-requires-clause-comes : goal.step_word-found-requires-clause-comes
+step_word-found-requires-clause-comes g c κs within = taken_there _ _ c.requires.next
 
-pub exchange_word-found-requires-clause-index : goal.exchange_word-found-requires-clause-index
-exchange_word-found-requires-clause-index g c κs within =
-    c.from.ensures ∙ c.node_word.ensures ∙ sym (taken_index (fixed_in g.A.Action.takes g.A.Action.region_of g.A.Action.effect_of c.args.self.now) c.args.pass.now c.args.node _ (takes_next _ _ _ _ _ c.requires.own c.requires.next))
+pub step_word-found-requires-clause-index : goal.step_word-found-requires-clause-index
+step_word-found-requires-clause-index g c κs within =
+    c.from.ensures ∙ c.node_word.ensures ∙ sym (taken_index (fixed_in g.A.Action.meaning c.args.self.now) c.args.pass.now c.args.node _ (takes_next _ _ _ _ _ c.requires.own c.requires.next))
 
-pub exchange_word-found-requires-clause-left : goal.exchange_word-found-requires-clause-left
-exchange_word-found-requires-clause-left g c κs within found =
-    let t = takes_next (fixed_in g.A.Action.takes g.A.Action.region_of g.A.Action.effect_of c.args.self.now) (length c.args.self.now.rooms) c.args.self.now.table c.args.pass.now c.args.node c.requires.own c.requires.next in
+pub step_word-found-requires-clause-left : goal.step_word-found-requires-clause-left
+step_word-found-requires-clause-left g c κs within found =
+    let t = takes_next (fixed_in g.A.Action.meaning c.args.self.now) (length c.args.self.now.rooms) c.args.self.now.table c.args.pass.now c.args.node c.requires.own c.requires.next in
     t.left found
-    ∙ ap (λ (w : ℕ). if found == 0 then w else found) (word_of_holder (fixed_in g.A.Action.takes g.A.Action.region_of g.A.Action.effect_of c.args.self.now) c.args.pass.now c.args.node _ t
-    ∙ held_is _ _ c.args.pass.now (pass_view c.pass.inside.place c.pass.inside.number c.pass.inside.mirror c.pass.inside.effect) c.args.node c.held_word-new.result _ _
-    (ap (fixed_of g.A.Action.takes g.A.Action.region_of g.A.Action.effect_of) c.self.invariant.1 ∙ ap (fixed_in g.A.Action.takes g.A.Action.region_of g.A.Action.effect_of) c.self.view_is)
-    c.pass.view_is c.as_slice-wanted.ensures.value c.is_in_hand-writing.ensures c.held_word-new.ensures)
+    ∙ ap (λ (w : ℕ). if found == 0 then w else found) (word_of_holder (fixed_in g.A.Action.meaning c.args.self.now) c.args.pass.now c.args.node _ t
+    ∙ held_is _ _ c.args.pass.now (pass_view c.pass.inside.hand c.pass.inside.mirror c.pass.inside.effect) c.number-number.result c.args.node c.held_word-new.result _ _
+    (ap (fixed_of g.A.Action.meaning) c.self.invariant.1 ∙ ap (fixed_in g.A.Action.meaning) c.self.view_is)
+    c.pass.view_is c.number-number.ensures c.as_slice-wanted.ensures.value c.is_in_hand-writing.ensures c.held_word-new.ensures)
 
 pub held_word-new-requires-clause-nodes : goal.held_word-new-requires-clause-nodes
 held_word-new-requires-clause-nodes g c κs within =
     subst (All (λ n. n < 31)) (sym (c.as_slice-wanted.ensures.value ∙ ap (λ (q : PassView). q.view.wanted) c.pass.view_is))
-    (wanted_below _ _ _ c.args.pass.now c.args.node _ c.requires.own (takes_next (fixed_in g.A.Action.takes g.A.Action.region_of g.A.Action.effect_of c.args.self.now) (length c.args.self.now.rooms) c.args.self.now.table c.args.pass.now c.args.node c.requires.own c.requires.next))
+    (wanted_below _ _ _ c.args.pass.now c.args.node _ c.requires.own (takes_next (fixed_in g.A.Action.meaning c.args.self.now) (length c.args.self.now.rooms) c.args.self.now.table c.args.pass.now c.args.node c.requires.own c.requires.next))
 
 pub returns-else-found-eq0-clause-err : goal.returns-else-found-eq0-clause-err
 returns-else-found-eq0-clause-err g c =
-    let found = c.exchange_word-found.result in
+    let found = c.step_word-found.result in
     let holder = c.holder_in.ensures in (
       found,
-      c.exchange_word-found.ensures.pass,
+      c.step_word-found.ensures.pass,
       holder,
-      other_holder (fixed_in g.A.Action.takes g.A.Action.region_of g.A.Action.effect_of c.args.self.now) (length c.args.self.now.rooms) c.args.pass.now.number c.args.node found c.holder_in.result.number c.holder_in.result.leaves
-          c.requires.own.sound_sight.sound.depth (c.exchange_word-found.ensures.held c.args.node (taken_next _ _ c.requires.next) holder.is_held) holder,
-      c.exchange_word-found.ensures.reached c.args.node (taken_next _ _ c.requires.next),
+      other_holder (fixed_in g.A.Action.meaning c.args.self.now) (length c.args.self.now.rooms) c.args.pass.now.number c.args.node found c.holder_in.result.number c.holder_in.result.leaves
+          c.requires.own.sound_sight.sound.depth (c.step_word-found.ensures.held c.args.node (taken_next _ _ c.requires.next) holder.is_held) holder,
+      c.step_word-found.ensures.reached c.args.node (taken_next _ _ c.requires.next),
     )
 
 pub returns-else-found-eq0-clause-may_quit : goal.returns-else-found-eq0-clause-may_quit
 returns-else-found-eq0-clause-may_quit g c =
-    may_quit_after (fixed_in g.A.Action.takes g.A.Action.region_of g.A.Action.effect_of c.args.self.now) c.args.pass.now _ c.args.node c.exchange_word-found.result c.requires.next c.exchange_word-found.ensures.pass c.holder_in.ensures.is_held
+    may_quit_after (fixed_in g.A.Action.meaning c.args.self.now) c.args.pass.now _ c.args.node c.step_word-found.result c.requires.next c.step_word-found.ensures.pass c.holder_in.ensures.is_held

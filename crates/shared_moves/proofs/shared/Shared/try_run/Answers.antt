@@ -2,14 +2,14 @@ use Rattle.std.proofs.Common.{rules, length}
 use Rattle.entity_recs.specs.Commands.{command_of}
 use Rattle.region_locks.specs.Passes.{fixed_in, IsPassOf}
 use Rattle.region_locks.specs.Turns.{has_command_in_hand}
-use Rattle.shared_moves.specs.Moves.{NoTakeWasRefused}
+use Rattle.region_locks.specs.Moves.{NoTakeWasRefused}
 use Rattle.shared_moves.proofs.Running.{runs_command, is_done, has_run, was_not_run, none_refused_since, at_rest}
 use Rattle.shared_moves.proofs.shared.Shared.try_run.Goals as goal
 
 pub returns-in-Err-clause-err : goal.returns-in-Err-clause-err
 returns-in-Err-clause-err g c =
-    let own : IsPassOf (fixed_in g.A.Action.takes g.A.Action.region_of g.A.Action.effect_of c.args.self.now) (length c.args.self.now.rooms) c.args.self.now.table c.give_up.new.pass = rw (← c.self.view_is) c.give_up.ensures.own in
-    was_not_run (fixed_in g.A.Action.takes g.A.Action.region_of g.A.Action.effect_of c.args.self.now) (length c.args.self.now.rooms) c.args.self.now.table c.args.pass.now (command_of c.args.cmd) c.loop-turn.pass c.step.new.pass c.give_up.new.pass c.loop-turn.entry c.in-Err.refusal.node c.in-Err.refusal.holder.number c.in-Err.refusal.holder.leaves c.again_after.result c.loop-turn.invariant.0 c.loop-turn.invariant.1 c.in-Err.ensures.refused own c.give_up.ensures.given_up c.again_after.ensures
+    let own : IsPassOf (fixed_in g.A.Action.meaning c.args.self.now) (length c.args.self.now.rooms) c.args.self.now.table c.give_up.new.pass = rw (← c.self.view_is) c.give_up.ensures.own in
+    was_not_run (fixed_in g.A.Action.meaning c.args.self.now) (length c.args.self.now.rooms) c.args.self.now.table c.args.pass.now (command_of c.args.cmd) c.loop-turn.pass c.step.new.pass c.give_up.new.pass c.loop-turn.entry c.in-Err.refusal.node c.in-Err.refusal.holder.number c.in-Err.refusal.holder.leaves c.again_after.result c.loop-turn.invariant.0 c.loop-turn.invariant.1 c.in-Err.ensures.refused own c.give_up.ensures.given_up c.again_after.ensures
 
 pub loop-turn-preserved : goal.loop-turn-preserved
 loop-turn-preserved g c =
@@ -20,10 +20,10 @@ loop-turn-preserved g c =
 
 pub step-requires-clause-runs : goal.step-requires-clause-runs
 step-requires-clause-runs g c κs within =
-    runs_command (fixed_in g.A.Action.takes g.A.Action.region_of g.A.Action.effect_of c.args.self.now) (length c.args.self.now.rooms) c.args.self.now.table c.args.pass.now (command_of c.args.cmd) c.loop-turn.pass c.loop-turn.entry c.loop-turn.invariant.0
+    runs_command (fixed_in g.A.Action.meaning c.args.self.now) (length c.args.self.now.rooms) c.args.self.now.table c.args.pass.now (command_of c.args.cmd) c.loop-turn.pass c.loop-turn.entry c.loop-turn.invariant.0
 
 pub unwrap-requires : goal.unwrap-requires
-unwrap-requires g c = (is_done (fixed_in g.A.Action.takes g.A.Action.region_of g.A.Action.effect_of c.args.self.now) (length c.args.self.now.rooms) c.args.self.now.table c.args.pass.now (command_of c.args.cmd) c.loop-turn.pass c.loop-turn.entry c.loop-turn.invariant.0 (at_rest c.turn.result (has_command_in_hand c.loop-turn.pass) c.in_default.not-Some c.turn.ensures.some))
+unwrap-requires g c = (is_done (fixed_in g.A.Action.meaning c.args.self.now) (length c.args.self.now.rooms) c.args.self.now.table c.args.pass.now (command_of c.args.cmd) c.loop-turn.pass c.loop-turn.entry c.loop-turn.invariant.0 (at_rest c.turn.result (has_command_in_hand c.loop-turn.pass) c.in_default.not-Some c.turn.ensures.some))
 
 pub returns-clause-ok : goal.returns-clause-ok
-returns-clause-ok g c = has_run (fixed_in g.A.Action.takes g.A.Action.region_of g.A.Action.effect_of c.args.self.now) (length c.args.self.now.rooms) c.args.self.now.table c.args.pass.now (command_of c.args.cmd) c.loop-turn.pass c.loop-turn.entry c.loop-turn.invariant.0 (at_rest c.turn.result (has_command_in_hand c.loop-turn.pass) c.in_default.not-Some c.turn.ensures.some) c.unwrap.result c.unwrap.ensures
+returns-clause-ok g c = has_run (fixed_in g.A.Action.meaning c.args.self.now) (length c.args.self.now.rooms) c.args.self.now.table c.args.pass.now (command_of c.args.cmd) c.loop-turn.pass c.loop-turn.entry c.loop-turn.invariant.0 (at_rest c.turn.result (has_command_in_hand c.loop-turn.pass) c.in_default.not-Some c.turn.ensures.some) c.unwrap.result c.unwrap.ensures

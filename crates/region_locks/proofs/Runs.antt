@@ -1,0 +1,197 @@
+-- The parts of a move as straight code, one after another.
+use Rattle.std.proofs.Common.{◌≡◌, ℕ, suc, ◌+◌, ◌^◌, ◌<◌, ◌≤◌, Bool, true, false, List, [], ◌∷◌, ◌++◌, refl, sym, ap, ◌∙◌, subst, Option, Some, None}
+use Rattle.arena_geo.specs.Bounds.{Bounds}
+use Rattle.areanode.specs.Trees.{leaves_of}
+use Rattle.entity_recs.specs.declared.rec.Rec.{Rec}
+use Rattle.entity_recs.specs.declared.effect.Effect.{Effect}
+use Rattle.entity_recs.specs.declared.effect.NewState.{NewState}
+use Rattle.entity_recs.specs.declared.effect.Entry.{Entry}
+use Rattle.entity_recs.specs.Commands.{Command}
+use Rattle.entity_recs.specs.Histories.{entry_of}
+use Rattle.core_steps.specs.Steps.{item_at}
+use Rattle.core_steps.specs.Views.{Fixed, View, Point, stage_of, is_committed, without_command, Checking, Resolving, Releasing, ListRead, PlayerRead, Refused, region_in, leaf_nodes, leaf_word, record_read, effect_loaded}
+use Rattle.core_machine.specs.declared.refusals.Refusals.{Refusals}
+use Rattle.core_machine.specs.Refusals.{AreRefusals}
+use Rattle.region_locks.specs.declared.gate_point.GatePoint.TheVariants.{Leaves, Computed, Committed}
+use Rattle.region_locks.specs.Sights.{HeldWord, IsOneOf, Tally}
+use Rattle.region_locks.specs.Passes.{PassView, IsPassOf}
+use Rattle.region_locks.specs.Hands.{keeping}
+use Rattle.region_locks.specs.Pursuits.{HoldsLeavesAlone, is_checking, item_of}
+use Rattle.region_locks.specs.Moments.{IsAtPoint}
+use Rattle.region_locks.specs.Straight.{in_view, in_view_with, taking_leaves, at_point, nodes_read, IsTriedOn}
+use Rattle.region_locks.specs.Tries.{tried_until}
+use Rattle.region_locks.specs.Writing.{as_tried, HasTried, written}
+use Rattle.region_locks.specs.declared.held.Held.{Held}
+use Rattle.region_locks.specs.Runs.{HoldsLeavesOf, HasReadAll, HasWritten, HasMoved, all_read, all_written}
+use Rattle.region_locks.proofs.LeafWords.{leaf_word_is}
+
+-- ---- refused takes
+
+-- what refusals say of a view, they say of one with the same
+pub refusals_kept : (r : Refusals) (v w : View) → v.refusals ≡ w.refusals → v.refused ≡ w.refused → AreRefusals r v → AreRefusals r w
+refusals_kept r v w count last are = record { count = are.count ∙ count; last = are.last ∙ last }
+
+pub tried_as : (old new other : Tally) → new ≡ other → IsTriedOn old new → IsTriedOn old other
+tried_as old new other same tried = subst (IsTriedOn old) same tried
+
+-- takes after takes
+pub tried_twice : (a b c : Tally) → IsTriedOn a b → IsTriedOn b c → IsTriedOn a c
+tried_twice a b c first second = record { begun = second.begun ∙ first.begun; listed = λ h one. second.listed h (first.listed h one) }
+
+-- ---- the leaves are taken
+
+module _ (F : Fixed) (c : Command) (words : List ℕ) (old at new : PassView) (first : at ≡ in_view_with old (taking_leaves F c words old.view) (record old.tally { begun = suc old.tally.begun })) where
+  pub leaves_word : (leaves : ℕ) (region : List Bounds) → leaves ≡ leaves_of F.tree region → region ≡ region_in F at.view.cmd at.view.own → leaves ≡ leaf_word F at.view.wanted
+  leaves_word leaves region are is =
+      are ∙ ap (λ (r : List Bounds). leaves_of F.tree r) (is ∙ ap (λ (p : PassView). region_in F p.view.cmd p.view.own) first)
+      ∙ sym (leaf_word_is F (region_in F c words)) ∙ sym (ap (λ (p : PassView). leaf_word F p.view.wanted) first)
+
+  module _ (second : new ≡ tried_until at Checking new) where
+    pub held_point : IsAtPoint new Leaves
+    held_point = record {
+      come = ap (λ (p : PassView). is_checking p.view.point) second;
+      alone = subst HoldsLeavesAlone (sym second) (record { busy = refl; leaves = refl; inner = λ G. refl; stores = refl });
+    }
+
+    pub holds_leaves : IsTriedOn at.tally new.tally → HoldsLeavesOf F c words old new
+    holds_leaves tried = record {
+      hand = second ∙ ap (λ (p : PassView). tried_until p Checking new) first;
+      begun = tried.begun ∙ ap (λ (p : PassView). p.tally.begun) first;
+      listed = λ h one. tried.listed h (subst (λ (p : PassView). IsOneOf h p.tally.refused) (sym first) one);
+    }
+
+-- ---- the region is read
+
+module _ (F : Fixed) (old at new : PassView) (first : at ≡ in_view_with old (nodes_read F old.view at.view) at.tally)
+    (second : new ≡ in_view at (record at.view { states = new.view.states; point = Resolving })) where
+  both : new ≡ in_view_with old (record (nodes_read F old.view at.view) { states = new.view.states; point = Resolving }) at.tally
+  both = second ∙ ap (λ (p : PassView). in_view p (record p.view { states = new.view.states; point = Resolving })) first
+
+  pub read_all : new ≡ in_view_with old (all_read old.view new.view) new.tally
+  read_all =
+      let lists : at.view.lists ≡ new.view.lists = sym (ap (λ (p : PassView). p.view.lists) both) in
+      let others : at.view.others ≡ new.view.others = sym (ap (λ (p : PassView). p.view.others) both) in
+      let count : at.view.refusals ≡ new.view.refusals = sym (ap (λ (p : PassView). p.view.refusals) both) in
+      let last : at.view.refused ≡ new.view.refused = sym (ap (λ (p : PassView). p.view.refused) both) in
+      let tally : at.tally ≡ new.tally = sym (ap (λ (p : PassView). p.tally) both) in
+      both ∙ (λ i. in_view_with old (record old.view {
+        point = Resolving;
+        lists = lists i;
+        others = others i;
+        states = new.view.states;
+        refusals = count i;
+        refused = last i;
+      }) (tally i))
+
+  pub read_tally : IsTriedOn old.tally at.tally → IsTriedOn old.tally new.tally
+  read_tally tried = subst (IsTriedOn old.tally) (sym (ap (λ (p : PassView). p.tally) both)) tried
+
+  pub read_refusals : (r : Refusals) → AreRefusals r at.view → AreRefusals r new.view
+  read_refusals r are = refusals_kept r at.view new.view (sym (ap (λ (p : PassView). p.view.refusals) both)) (sym (ap (λ (p : PassView). p.view.refused) both)) are
+
+  pub known_point : (e : Effect) → IsAtPoint (keeping new e) Computed
+  known_point e = record {
+    come = refl;
+    alone = subst (λ (p : PassView). HoldsLeavesAlone (keeping p e)) (sym both) (record { busy = refl; leaves = refl; inner = λ G. refl; stores = refl });
+  }
+
+-- ---- the effect is written
+
+module _ (F : Fixed) (e : Effect) (place : ℕ) (nodes : List ℕ) (old at new : PassView) (first : HasTried old (written F place e nodes old.view) at)
+    (second : new ≡ in_view at (record at.view { point = Releasing [] })) where
+  done : new ≡ in_view_with old (record (as_tried (written F place e nodes old.view) at.view) { point = Releasing [] }) at.tally
+  done = second ∙ ap (λ (p : PassView). in_view p (record p.view { point = Releasing [] })) first.hand
+
+  pub written_all : old.view.seen ≤ place → place + 1 < 2 ^ 64 → HasWritten e place old new
+  written_all seen small =
+      let count : at.view.refusals ≡ new.view.refusals = sym (ap (λ (p : PassView). p.view.refusals) done) in
+      let last : at.view.refused ≡ new.view.refused = sym (ap (λ (p : PassView). p.view.refused) done) in
+      let tally : at.tally ≡ new.tally = sym (ap (λ (p : PassView). p.tally) done) in
+      record {
+        hand = done ∙ (λ i. in_view_with old (record old.view {
+          point = Releasing [];
+          effect = Some e;
+          seen = suc place;
+          log = old.view.log ++ item_at place old.view e ∷ [];
+          refusals = count i;
+          refused = last i;
+        }) (tally i));
+        tried = subst (IsTriedOn old.tally) tally first.tally;
+        place_is = seen;
+        small = small;
+      }
+
+  pub written_refusals : (r : Refusals) → AreRefusals r at.view → AreRefusals r new.view
+  written_refusals r are = refusals_kept r at.view new.view (sym (ap (λ (p : PassView). p.view.refusals) done)) (sym (ap (λ (p : PassView). p.view.refused) done)) are
+
+-- ---- the whole move
+
+module _ (F : Fixed) (c : Command) (held : Held) (words : List ℕ) (q : Point) (e : Effect) (place : ℕ) (h0 h1 h2 h3 h4 : PassView)
+    (holds : HoldsLeavesOf F c held.own h0 h1) (again : h2 ≡ in_view h1 (record h1.view { again = words; point = q })) where
+  -- the view after the own record was loaded again
+  abbrev checked_view : View
+  checked_view = record (at_point (taking_leaves F c held.own h0.view) Checking h1.view) { again = words; point = q }
+
+  at_again : h2 ≡ in_view_with h0 checked_view h1.tally
+  at_again = again ∙ ap (λ (p : PassView). in_view p (record p.view { again = words; point = q })) holds.hand
+
+  pub refusals_again : (r : Refusals) → AreRefusals r h1.view → AreRefusals r h2.view
+  refusals_again r are = refusals_kept r h1.view h2.view (sym (ap (λ (p : PassView). p.view.refusals) again)) (sym (ap (λ (p : PassView). p.view.refused) again)) are
+
+  module _ (read : HasReadAll F e h2 h3) where
+    at_read : h3 ≡ in_view_with h0 (all_read checked_view h3.view) h3.tally
+    at_read = read.hand ∙ ap (λ (p : PassView). in_view_with p (all_read p.view h3.view) h3.tally) at_again
+
+    pub again_still : words ≡ h3.view.again
+    again_still = sym (ap (λ (p : PassView). p.view.again) at_read)
+
+    pub own_still : held.own ≡ h3.view.own
+    own_still = sym (ap (λ (p : PassView). p.view.own) at_read)
+
+    module _ (writes : HasWritten e place h3 h4) where
+      -- the view after all is written
+      abbrev last_view : View
+      last_view = all_written e place (all_read checked_view h3.view) h4.view
+
+      at_written : h4 ≡ in_view_with h0 last_view h4.tally
+      at_written = writes.hand ∙ ap (λ (p : PassView). in_view_with p (all_written e place p.view h4.view) h4.tally) at_read
+
+      pub committed_point : IsAtPoint h4 Committed
+      committed_point = record {
+        come = ap (λ (p : PassView). is_committed (stage_of p.view.point)) at_written;
+        alone = subst HoldsLeavesAlone (sym at_written) (record { busy = refl; leaves = refl; inner = λ G. refl; stores = refl });
+      }
+
+      pub leaves_still : held.leaves ≡ leaves_of F.tree (region_in F h1.view.cmd h1.view.own) → held.leaves ≡ leaf_word F h4.view.wanted
+      leaves_still are =
+          are ∙ ap (λ (p : PassView). leaves_of F.tree (region_in F p.view.cmd p.view.own)) holds.hand
+          ∙ sym (leaf_word_is F (region_in F c held.own)) ∙ sym (ap (λ (p : PassView). leaf_word F p.view.wanted) at_written)
+
+      module _ (h5 : PassView) (gives : h5 ≡ in_view h4 (without_command h4.view)) where
+        at_end : h5 ≡ in_view_with h0 (without_command last_view) h4.tally
+        at_end = gives ∙ ap (λ (p : PassView). in_view p (without_command p.view)) at_written
+
+        pub refusals_end : (r : Refusals) → AreRefusals r h4.view → AreRefusals r h5.view
+        refusals_end r are = refusals_kept r h4.view h5.view (sym (ap (λ (p : PassView). p.view.refusals) gives)) (sym (ap (λ (p : PassView). p.view.refused) gives)) are
+
+        pub has_moved : (entry : Entry) → entry ≡ entry_of place c e → HasMoved c entry h0 h5
+        has_moved entry is =
+            let count : h4.view.refusals ≡ h5.view.refusals = sym (ap (λ (p : PassView). p.view.refusals) at_end) in
+            let last : h4.view.refused ≡ h5.view.refused = sym (ap (λ (p : PassView). p.view.refused) at_end) in
+            let tally : h4.tally ≡ h5.tally = sym (ap (λ (p : PassView). p.tally) at_end) in
+            let same : h2.tally ≡ h1.tally = ap (λ (p : PassView). p.tally) again in
+            let later = tried_twice h2.tally h3.tally h4.tally read.tried writes.tried in
+            subst (λ (x : Entry). HasMoved c x h0 h5) (sym is) (record {
+              hand = at_end ∙ (λ i. in_view_with h0 (record (without_command h0.view) {
+                seen = suc place;
+                log = h0.view.log ++ item_of c (entry_of place c e) ∷ [];
+                refusals = count i;
+                refused = last i;
+              }) (tally i));
+              begun = sym (ap (λ (t : Tally). t.begun) tally) ∙ later.begun ∙ ap (λ (t : Tally). t.begun) same ∙ holds.begun;
+              listed = λ h one. subst (λ (t : Tally). IsOneOf h t.refused) tally (later.listed h (subst (λ (t : Tally). IsOneOf h t.refused) (sym same) (holds.listed h one)));
+              slot = refl;
+              seq = refl;
+              place = subst (λ (n : ℕ). n ≤ place) (ap (λ (p : PassView). p.view.seen) at_read) writes.place_is;
+              small = writes.small;
+            })

@@ -1,0 +1,85 @@
+-- A whole move as straight code: what its hand has in view after each part.
+use Rattle.std.specs.Prelude.{◌≡◌, ℕ, suc, ◌+◌, ◌^◌, ◌<◌, ◌≤◌, Bool, true, false, List, [], ◌∷◌, ◌++◌, length, Some}
+use Rattle.areanode.specs.Trees.{leaves_of}
+use Rattle.entity_recs.specs.declared.effect.Effect.{Effect}
+use Rattle.entity_recs.specs.declared.effect.Entry.{Entry}
+use Rattle.entity_recs.specs.Commands.{Command}
+use Rattle.core_steps.specs.Views.{Fixed, View, Point, Taking, Checking, Resolving, Releasing, effect_loaded, region_in, without_command}
+use Rattle.core_steps.specs.Steps.{item_at}
+use Rattle.region_locks.specs.declared.held.Held.{Held}
+use Rattle.region_locks.specs.Passes.{PassView}
+use Rattle.region_locks.specs.Pursuits.{item_of}
+use Rattle.region_locks.specs.Straight.{in_view_with, taking_leaves, at_point, AreListedStill, IsTriedOn}
+
+-- leaves are to be taken
+abbrev pub is_taking_leaves : Point → Bool
+is_taking_leaves (Taking got rest) = true
+is_taking_leaves _ = false
+
+-- the hand began the command, by its own record as it was loaded, and holds its leaves
+pub record HoldsLeavesOf (F : Fixed) (c : Command) (own : List ℕ) (old new : PassView) : Type 0 where
+  pub hand : new ≡ in_view_with old (at_point (taking_leaves F c own old.view) Checking new.view) new.tally
+  pub begun : new.tally.begun ≡ suc old.tally.begun
+  pub listed : AreListedStill old.tally.refused new.tally.refused
+
+-- these are the own record, the region and the leaves of the command in this view
+pub record AreHeldFor (F : Fixed) (held : Held) (view : View) : Type 0 where
+  pub own_is : held.own ≡ view.own
+  pub six : length held.own ≡ 6
+  pub region_is : held.region ≡ region_in F view.cmd view.own
+  pub leaves_are : held.leaves ≡ leaves_of F.tree (region_in F view.cmd view.own)
+  pub wanted_is : held.wanted.items ≡ view.wanted
+
+-- the view after all was read, as this one has it
+abbrev pub all_read : View → View → View
+all_read view new = record view {
+  point = Resolving;
+  lists = new.lists;
+  others = new.others;
+  states = new.states;
+  refusals = new.refusals;
+  refused = new.refused;
+}
+
+-- the hand has read all of its region, and this is the effect
+pub record HasReadAll (F : Fixed) (e : Effect) (old new : PassView) : Type 0 where
+  pub hand : new ≡ in_view_with old (all_read old.view new.view) new.tally
+  pub tried : IsTriedOn old.tally new.tally
+  pub effect : e ≡ effect_loaded F new.view
+
+-- the view after the command is committed with this effect at this place and all is written
+abbrev pub all_written : Effect → ℕ → View → View → View
+all_written e place view new = record view {
+  point = Releasing [];
+  effect = Some e;
+  seen = suc place;
+  log = view.log ++ item_at place view e ∷ [];
+  refusals = new.refusals;
+  refused = new.refused;
+}
+
+-- the hand has committed and written the effect
+pub record HasWritten (e : Effect) (place : ℕ) (old new : PassView) : Type 0 where
+  pub hand : new ≡ in_view_with old (all_written e place old.view new.view) new.tally
+  pub tried : IsTriedOn old.tally new.tally
+  pub place_is : old.view.seen ≤ place
+  pub small : place + 1 < 2 ^ 64
+
+-- the view after the command is done with this entry, as this one has it
+abbrev pub done_with : Command → Entry → View → View → View
+done_with c e view new = record (without_command view) {
+  seen = suc e.place;
+  log = view.log ++ item_of c e ∷ [];
+  refusals = new.refusals;
+  refused = new.refused;
+}
+
+-- the hand ran the command with this entry, which has its slot and its number, and has none in hand
+pub record HasMoved (c : Command) (e : Entry) (old new : PassView) : Type 0 where
+  pub hand : new ≡ in_view_with old (done_with c e old.view new.view) new.tally
+  pub begun : new.tally.begun ≡ suc old.tally.begun
+  pub listed : AreListedStill old.tally.refused new.tally.refused
+  pub slot : e.slot ≡ c.slot
+  pub seq : e.seq ≡ c.seq
+  pub place : old.view.seen ≤ e.place
+  pub small : e.place + 1 < 2 ^ 64

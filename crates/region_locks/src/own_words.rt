@@ -1,0 +1,75 @@
+ghost use Rattle.std.specs.Prelude.{◌≡◌, ◌%◌, [], suc, length, Some};
+ghost use Rattle.entity_recs.specs.Commands.{command_of};
+ghost use Rattle.core_steps.specs.Machine.{IsPending};
+ghost use Rattle.core_steps.specs.Steps.{visiting};
+ghost use Rattle.core_steps.specs.Views.{Idle, Checking, plan_of, region_in};
+ghost use Rattle.region_locks.specs.Loads.{after_loads, record_loaded_next};
+ghost use Rattle.region_locks.specs.Passes.{fixed_in, IsOwn, next_in};
+ghost use Rattle.region_locks.specs.Straight.{in_view, in_view_with, taking_leaves};
+
+use crate::bit_walk::six_of;
+use crate::hand::Hand;
+use crate::load_rec::index_of_word;
+use crate::table::NodeTable;
+use crate::word_step::WordStep;
+use arrayvec::ArrayVec;
+use core_machine::WordList;
+use entity_recs::{Action, Cmd};
+
+impl<'a, A: Action> NodeTable<'a, A> {
+    /// Loads the own record for the command, which are the hand's next six steps, and gives its words. With the first
+    /// word the command enters the view, and after the last one the leaves are to be taken.
+    pub(crate) fn own_words(&self, hand: &mut Hand, cmd: &Cmd) -> [u64; 6]
+        requires own { IsOwn A.meaning self.now hand.old }
+        requires idle { hand.old.view.point ≡ Idle }
+        requires pending { IsPending (fixed_in A.meaning self.now) hand.old.view (command_of cmd.now) }
+        requires serves { cmd.now.slot % length self.now.rooms ≡ hand.old.number }
+        ensures own { IsOwn A.meaning self.now hand.new }
+        ensures view { hand.new ≡ in_view_with hand.old
+            (taking_leaves (fixed_in A.meaning self.now) (command_of cmd.now) result hand.old.view)
+            (record hand.old.tally { begun = suc hand.old.tally.begun }) }
+        ensures six { length result ≡ 6 }
+    {
+        hand.is_plain();
+        let mut words: WordList = ArrayVec::new();
+        words.push(self.begin_hand(hand, cmd));
+        for k in 1..6usize {
+            words.push(self.step_hand(hand, index_of_word(cmd.slot, k), WordStep::Load));
+        }
+        six_of(words.as_slice())
+    }
+
+    /// Loads the record of the player in this slot, which are the hand's next six steps, and gives its words.
+    pub(crate) fn load_six(&self, hand: &mut Hand, slot: u8) -> [u64; 6]
+        requires own { IsOwn A.meaning self.now hand.old }
+        requires next { record_loaded_next hand.old.view (next_in A.meaning self.now hand.old) ≡ Some slot }
+        ensures own { IsOwn A.meaning self.now hand.new }
+        ensures pass { hand.new ≡ after_loads (fixed_in A.meaning self.now) hand.old result }
+        ensures six { length result ≡ 6 }
+    {
+        let mut words: WordList = ArrayVec::new();
+        for k in 0..6usize {
+            words.push(self.step_hand(hand, index_of_word(slot, k), WordStep::Load));
+        }
+        six_of(words.as_slice())
+    }
+
+    /// Loads the own record again, once all leaves are held, and gives its words. Then the nodes of the region are to be
+    /// visited.
+    pub(crate) fn own_again(&self, hand: &mut Hand, slot: u8) -> [u64; 6]
+        requires own { IsOwn A.meaning self.now hand.old }
+        requires at { hand.old.view.point ≡ Checking }
+        requires none { hand.old.view.again ≡ [] }
+        requires slot { slot ≡ hand.old.view.cmd.slot }
+        ensures own { IsOwn A.meaning self.now hand.new }
+        ensures view { let F = fixed_in A.meaning self.now in let v = hand.old.view in
+            hand.new ≡ in_view hand.old (record v {
+              again = result;
+              point = visiting F v (plan_of F (region_in F v.cmd v.own));
+            }) }
+        ensures six { length result ≡ 6 }
+    {
+        hand.is_plain();
+        self.load_six(hand, slot)
+    }
+}

@@ -1,0 +1,241 @@
+ghost use Rattle.std.specs.Prelude.{◌≡◌, ◌≤◌, ◌<◌, ◌%◌, length, true, []};
+ghost use Rattle.areanode.specs.Trees.{leaves_of};
+ghost use Rattle.entity_recs.specs.Commands.{command_of};
+ghost use Rattle.entity_recs.specs.Histories as histories;
+ghost use Rattle.core_steps.specs.Machine.{IsPending};
+ghost use Rattle.core_steps.specs.Steps.{visiting};
+ghost use Rattle.core_steps.specs.Views.{Idle, Resolving, effect_loaded, has, home, leaf_nodes, plan_of, record_read};
+ghost use Rattle.core_steps.specs.Views.{region_in};
+ghost use Rattle.core_machine.specs.Refusals.{AreRefusals};
+ghost use Rattle.region_locks.specs.Moments.{IsAtPoint, HasLogged};
+ghost use Rattle.region_locks.specs.Moves.{HasRun};
+ghost use Rattle.region_locks.specs.Passes.{fixed_in, IsOwn};
+ghost use Rattle.region_locks.specs.Quitting.{MayBegin};
+ghost use Rattle.region_locks.specs.Runs.{is_taking_leaves, HoldsLeavesOf, HasReadAll, HasWritten, HasMoved, AreHeldFor};
+
+use crate::gate::{Gate, Moment};
+use crate::gate_point::GatePoint;
+use crate::hand::Hand;
+use crate::held::Held;
+use crate::pass::Pass;
+use crate::table::NodeTable;
+use areanode::visited;
+use arena_geo::Region;
+use core_machine::{Refusals, read_record};
+use entity_recs::{Action, Cmd, Effect, Entry};
+use move_journal::same_reply;
+use std::sync::Wait;
+use world_tree::NearList;
+
+/// The entry of a move that was committed at this place.
+fn entry_of(place: u64, cmd: &Cmd, effect: &Effect) -> Entry
+    ensures { result ≡ histories.entry_of place (command_of cmd.now) effect.now }
+{
+    Entry {
+        place,
+        slot: cmd.slot,
+        seq: cmd.seq,
+        reply: same_reply(&effect.reply),
+    }
+}
+
+/// The same entry.
+fn same_entry(entry: &Entry) -> Entry
+    ensures { result ≡ entry.now }
+{
+    Entry {
+        place: entry.place,
+        slot: entry.slot,
+        seq: entry.seq,
+        reply: same_reply(&entry.reply),
+    }
+}
+
+/// Calls the gate after the commit, and gives the entry back.
+fn show_entry<G: Gate>(hand: &Hand, cmd: &Cmd, entry: Entry, gate: &G) -> Entry
+    requires at { IsAtPoint hand.now GatePoint.Committed }
+    requires logged { HasLogged hand.now (command_of cmd.now) entry }
+    ensures { result ≡ entry }
+{
+    let moment = Moment::at_commit(hand, cmd, entry);
+    gate.at(&moment);
+    moment.into_entry().unwrap()
+}
+
+impl<'a, A: Action> NodeTable<'a, A> {
+    /// The region of the command, by the own record that was loaded.
+    fn region_of(&self, hand: &Hand, cmd: &Cmd, own: &[u64; 6]) -> Region
+        requires own { IsOwn A.meaning self.now hand.now }
+        requires at { is_taking_leaves hand.now.view.point ≡ true }
+        requires cmd_is { command_of cmd.now ≡ hand.now.view.cmd }
+        requires own_is { own.now ≡ hand.now.view.own }
+        ensures { result ≡ region_in (fixed_in A.meaning self.now) hand.now.view.cmd hand.now.view.own }
+    {
+        self.rules.region(cmd, own)
+    }
+
+    /// Loads the own record for the command, and takes the leaves of its region.
+    fn hold_leaves<R: Wait, G: Gate>(
+        &self,
+        rt: &R,
+        hand: &mut Hand,
+        refusals: &mut Refusals,
+        cmd: &Cmd,
+        gate: &G,
+    ) -> Held
+        requires own { IsOwn A.meaning self.now hand.old }
+        requires idle { hand.old.view.point ≡ Idle }
+        requires pending { IsPending (fixed_in A.meaning self.now) hand.old.view (command_of cmd.now) }
+        requires serves { cmd.now.slot % length self.now.rooms ≡ hand.old.number }
+        ensures own { IsOwn A.meaning self.now hand.new }
+        ensures holds { HoldsLeavesOf (fixed_in A.meaning self.now) (command_of cmd.now) result.own hand.old hand.new }
+        ensures held { AreHeldFor (fixed_in A.meaning self.now) result hand.new.view }
+        ensures refusals { AreRefusals refusals.old hand.old.view → AreRefusals refusals.new hand.new.view }
+    {
+        let own = self.own_words(hand, cmd);
+        let region = self.region_of(hand, cmd, &own);
+        let leaves = self.rules.leaf_bits(&region);
+        let wanted = self.rules.nodes_of(leaves);
+        self.take_leaves(rt, hand, refusals, &own, &wanted, leaves);
+        gate.at(&Moment::at_leaves(hand, cmd));
+        Held {
+            own,
+            region,
+            leaves,
+            wanted,
+        }
+    }
+
+    /// Loads all that the region holds, and gives the effect.
+    fn read_region<R: Wait, G: Gate>(
+        &self,
+        rt: &R,
+        hand: &mut Hand,
+        refusals: &mut Refusals,
+        near: &mut NearList,
+        cmd: &Cmd,
+        held: &Held,
+        again: &[u64; 6],
+        gate: &G,
+    ) -> Effect
+        requires own { IsOwn A.meaning self.now hand.old }
+        requires at { let F = fixed_in A.meaning self.now in let v = hand.old.view in
+            v.point ≡ visiting F v (plan_of F (region_in F v.cmd v.own)) }
+        requires others { hand.old.view.others ≡ [] }
+        requires held { AreHeldFor (fixed_in A.meaning self.now) held.now hand.old.view }
+        requires cmd_is { command_of cmd.now ≡ hand.old.view.cmd }
+        requires again_is { again.now ≡ hand.old.view.again }
+        ensures own { IsOwn A.meaning self.now hand.new }
+        ensures read { HasReadAll (fixed_in A.meaning self.now) result hand.old hand.new }
+        ensures refusals { AreRefusals refusals.old hand.old.view → AreRefusals refusals.new hand.new.view }
+    {
+        let inner = (visited(held.leaves) % (1 << 15)) as u16;
+        let mut six = [[0; 6]; 64];
+        let seen = self.read_nodes(
+            rt,
+            hand,
+            refusals,
+            &held.own,
+            &held.wanted,
+            held.leaves,
+            inner,
+            cmd.slot,
+            &mut six,
+        );
+        let effect = self.read_effect(hand, near, cmd, &held.region, again, seen, &six);
+        gate.at(&Moment::at_effect(hand, cmd, &effect));
+        effect
+    }
+
+    /// Takes the write nodes of the effect, commits, makes its stores and gives the write nodes back. It gives the place
+    /// of the commit.
+    fn write_region<R: Wait>(
+        &self,
+        rt: &R,
+        hand: &mut Hand,
+        refusals: &mut Refusals,
+        slot: u8,
+        held: &Held,
+        again: &[u64; 6],
+        effect: &Effect,
+    ) -> u64
+        requires own { IsOwn A.meaning self.now hand.old }
+        requires at { hand.old.view.point ≡ Resolving }
+        requires effect { effect.now ≡ effect_loaded (fixed_in A.meaning self.now) hand.old.view }
+        requires held { AreHeldFor (fixed_in A.meaning self.now) held.now hand.old.view }
+        requires slot { slot ≡ hand.old.view.cmd.slot }
+        requires again_is { again.now ≡ hand.old.view.again }
+        ensures own { IsOwn A.meaning self.now hand.new }
+        ensures written { HasWritten effect.now result hand.old hand.new }
+        ensures refusals { AreRefusals refusals.old hand.old.view → AreRefusals refusals.new hand.new.view }
+    {
+        let before = read_record(slot, again);
+        let (old, new) = self.homes(hand, &before, effect);
+        let nodes = self.write_nodes(old, new);
+        let place = self.write_effect(
+            rt,
+            hand,
+            refusals,
+            &held.own,
+            &held.wanted,
+            effect,
+            slot,
+            old,
+            new,
+            nodes.as_slice(),
+        );
+        self.release_nodes(hand, nodes.as_slice());
+        place
+    }
+
+    /// Runs the command on a hand that rests, and gives its entry.
+    fn run_hand<R: Wait, G: Gate>(
+        &self,
+        rt: &R,
+        hand: &mut Hand,
+        refusals: &mut Refusals,
+        near: &mut NearList,
+        cmd: &Cmd,
+        gate: &G,
+    ) -> Entry
+        requires own { IsOwn A.meaning self.now hand.old }
+        requires idle { hand.old.view.point ≡ Idle }
+        requires pending { IsPending (fixed_in A.meaning self.now) hand.old.view (command_of cmd.now) }
+        requires serves { cmd.now.slot % length self.now.rooms ≡ hand.old.number }
+        ensures own { IsOwn A.meaning self.now hand.new }
+        ensures moved { HasMoved (command_of cmd.now) result hand.old hand.new }
+        ensures refusals { AreRefusals refusals.old hand.old.view → AreRefusals refusals.new hand.new.view }
+    {
+        let held = self.hold_leaves(rt, hand, refusals, cmd, gate);
+        let again = self.own_again(hand, cmd.slot);
+        let effect = self.read_region(rt, hand, refusals, near, cmd, &held, &again, gate);
+        let place = self.write_region(rt, hand, refusals, cmd.slot, &held, &again, &effect);
+        let entry = show_entry(hand, cmd, entry_of(place, cmd, &effect), gate);
+        self.return_leaves(hand, held.leaves);
+        entry
+    }
+
+    /// Runs the command and gives its entry. Each take that is refused is tried again until it is served, so the call
+    /// may wait.
+    pub fn run<R: Wait, G: Gate>(&self, rt: &R, pass: &mut Pass<A>, cmd: Cmd, gate: &G) -> Entry
+        requires own { IsOwn A.meaning self.now pass.old }
+        requires free { MayBegin pass.old }
+        requires live { has (fixed_in A.meaning self.now).start.ids cmd.slot ≡ true }
+        requires serves { cmd.slot % length self.now.rooms ≡ pass.old.number }
+        ensures { HasRun (fixed_in A.meaning self.now) (length self.now.rooms) self.now.table pass.old pass.new
+            (command_of cmd) result }
+    {
+        pass.hand.is_plain();
+        pass.mirror.forget();
+        let entry = self.run_hand(
+            rt,
+            &mut pass.hand,
+            &mut pass.mirror.refusals,
+            &mut pass.near,
+            &cmd,
+            gate,
+        );
+        pass.mirror.keep(cmd, same_entry(&entry));
+        entry
+    }
+}
