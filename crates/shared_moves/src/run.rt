@@ -10,7 +10,6 @@ use crate::shared::Shared;
 use entity_recs::{Action, Cmd, Entry};
 use region_locks::{Again, Gate, Pass, RefusedTake};
 use std::sync::Wait;
-use std::thread;
 
 /// Why a move wasn't run, by the take that was refused.
 fn again_after(refusal: RefusedTake) -> Again
@@ -55,17 +54,7 @@ impl<'a, A: Action> Shared<'a, A> {
         ensures { HasRun (fixed_in A.meaning self.now) (length self.now.rooms) self.now.table
             pass.old pass.new (command_of cmd) result }
     {
-        self.begin(pass, cmd);
-        let mut entry = None;
-        for _ in rt.forever() {
-            let Some(turn) = self.table.turn(pass) else {
-                return entry.unwrap();
-            };
-            if self.step(pass, cmd, turn, &mut entry, gate).is_err() {
-                thread::yield_now();
-            }
-        }
-        unreachable!()
+        self.table.run(rt, pass, cmd, gate)
     }
 
     /// Runs the command and gives its entry, without waiting: no take is refused. `Err` where a node that it takes was
