@@ -56,3 +56,4 @@ pub mod EndedLogs
 pub mod RunWorlds
 pub mod Runs
 pub mod PassRuns
+pub mod Running

@@ -35,7 +35,7 @@ impl Model for Moment {
 
 impl Moment {
     /// A moment before the commit of the command that the pass has in hand.
-    pub fn before<A>(pass: &Pass<A>, cmd: Cmd, point: GatePoint) -> Moment
+    pub(crate) fn before<A>(pass: &Pass<A>, cmd: Cmd, point: GatePoint) -> Moment
         requires at { IsAtPoint pass.now point }
         requires before { has_entry point ≡ false }
         requires in_hand { command_pursued pass.now ≡ command_of cmd ∷ [] }
@@ -57,7 +57,7 @@ impl Moment {
     }
 
     /// The moment after the commit of the command with this entry, which are the last item of the pass's log.
-    pub fn committed<A>(pass: &Pass<A>, cmd: Cmd, entry: Entry) -> Moment
+    pub(crate) fn committed<A>(pass: &Pass<A>, cmd: Cmd, entry: Entry) -> Moment
         requires at { IsAtPoint pass.now GatePoint.Committed }
         requires logged { HasLogged pass.now (command_of cmd) entry }
         ensures { result ≡ record {
@@ -143,7 +143,7 @@ impl Moment {
     }
 
     /// Gives the entry back, if there is one.
-    pub fn into_entry(self) -> Option<Entry>
+    pub(crate) fn into_entry(self) -> Option<Entry>
         ensures { result ≡ self.entry }
     {
         self.entry

@@ -1,3 +1,2 @@
 -- Lemmas on moves on threads.
-pub mod Running
 pub mod Trials

@@ -15,7 +15,7 @@ use Rattle.region_locks.specs.Pursuits.{IsGoingOn}
 use Rattle.region_locks.specs.declared.again.Again.{Again}
 use Rattle.region_locks.specs.Moves.{HasRun, WasNotRun}
 use Rattle.shared_moves.specs.Trials.{IsFree, IsMoving, IsResting}
-use Rattle.shared_moves.proofs.Running.{without_command}
+use Rattle.region_locks.proofs.Running.{without_command}
 
 -- the rooms of two passes, as large as each other
 abbrev pub rooms : ℕ → List ℕ

@@ -12,7 +12,6 @@ mod run;
 mod shared;
 #[cfg(test)]
 mod staying;
-mod step;
 #[cfg(test)]
 mod table_tests;
 #[cfg(test)]

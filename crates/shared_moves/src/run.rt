@@ -8,42 +8,10 @@ ghost use Rattle.region_locks.specs.Moves.{HasRun, NoTakeWasRefused, WasNotRun, 
 
 use crate::shared::Shared;
 use entity_recs::{Action, Cmd, Entry};
-use region_locks::{Again, Gate, Pass, RefusedTake};
+use region_locks::{Again, Gate, Pass};
 use std::sync::Wait;
 
-/// Why a move wasn't run, by the take that was refused.
-fn again_after(refusal: RefusedTake) -> Again
-    ensures { (F : Fixed) (passes own : ℕ) (c : Command) (r : Refused) → r.node ≡ refusal.node
-        → IsRefusedBy F passes own c r refusal.holder.number refusal.holder.leaves → IsCause F passes own c r result }
-{
-    if refusal.node >= 15 {
-        Again::Held {
-            leaf: refusal.node - 15,
-            holder: refusal.holder.number,
-            leaves: refusal.holder.leaves,
-        }
-    } else {
-        Again::Busy {
-            node: refusal.node,
-            holder: refusal.holder.number,
-        }
-    }
-}
-
 impl<'a, A: Action> Shared<'a, A> {
-    /// Gives the pass the command.
-    pub(crate) fn begin(&self, pass: &mut Pass<A>, cmd: Cmd)
-        requires own { IsOwn A.meaning self.now pass.old }
-        requires free { MayBegin pass.old }
-        requires live { has (fixed_in A.meaning self.now).start.ids cmd.slot ≡ true }
-        requires serves { cmd.slot % length self.now.rooms ≡ pass.old.number }
-        ensures running { let F = fixed_in A.meaning self.now in
-            IsRunning F (length self.now.rooms) self.now.table pass.old (command_of cmd) pass.new None }
-        ensures served { NoTakeWasRefused pass.old pass.new }
-    {
-        self.table.begin(pass, cmd);
-    }
-
     /// Runs the command and gives its entry. Each take that is refused is tried again until it is served, so the call
     /// may wait.
     pub fn run<R: Wait, G: Gate>(&self, rt: &R, pass: &mut Pass<A>, cmd: Cmd, gate: &G) -> Entry
@@ -71,14 +39,6 @@ impl<'a, A: Action> Shared<'a, A> {
         ensures err { IfErr result (λ a. WasNotRun (fixed_in A.meaning self.now)
             (length self.now.rooms) self.now.table pass.old pass.new (command_of cmd) a) }
     {
-        self.begin(pass, cmd);
-        let mut entry = None;
-        while let Some(turn) = self.table.turn(pass) {
-            if let Err(refusal) = self.step(pass, cmd, turn, &mut entry, gate) {
-                self.table.give_up(pass);
-                return Err(again_after(refusal));
-            }
-        }
-        Ok(entry.unwrap())
+        self.table.try_run(pass, cmd, gate)
     }
 }

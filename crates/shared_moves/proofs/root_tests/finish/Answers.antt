@@ -1,7 +1,7 @@
 use Rattle.std.proofs.Common.{length}
 use Rattle.region_locks.specs.Passes.{fixed_in}
 use Rattle.region_locks.specs.Turns.{has_command_in_hand}
-use Rattle.shared_moves.proofs.Running.{at_rest}
+use Rattle.region_locks.proofs.Running.{at_rest}
 use Rattle.shared_moves.proofs.Trials.{rests_now}
 use Rattle.shared_moves.proofs.root_tests.finish.Goals as goal
 

@@ -1,7 +1,7 @@
 use Rattle.std.proofs.Common.{length}
 use Rattle.region_locks.specs.Passes.{fixed_in}
 use Rattle.region_locks.specs.Pursuits.{HasGoneOn}
-use Rattle.shared_moves.proofs.Running.{keeps_number}
+use Rattle.region_locks.proofs.Running.{keeps_number}
 use Rattle.shared_moves.proofs.root_tests.go.Goals as goal
 
 pub returns-in-Ok-clause-number : goal.returns-in-Ok-clause-number

@@ -2,7 +2,7 @@ use Rattle.std.proofs.Common.{length}
 use Rattle.entity_recs.specs.Commands.{command_of}
 use Rattle.region_locks.specs.Passes.{fixed_in}
 use Rattle.region_locks.specs.Turns.{has_command_in_hand}
-use Rattle.shared_moves.proofs.Running.{runs_command, is_done, has_run, at_rest}
+use Rattle.region_locks.proofs.Running.{runs_command, is_done, has_run, at_rest}
 use Rattle.shared_moves.proofs.shared.Shared.run.Goals as goal
 
 pub step-requires-clause-runs : goal.step-requires-clause-runs

@@ -4,7 +4,7 @@ use Rattle.entity_recs.specs.Commands.{command_of}
 use Rattle.region_locks.specs.Passes.{fixed_in}
 use Rattle.region_locks.specs.Pursuits.{HasGoneOn, WasRefused, entry_committed}
 use Rattle.region_locks.specs.Moves.{IsRunning}
-use Rattle.shared_moves.proofs.Running.{at_computed, in_hand_computed, runs_on, runs_done, runs_refused, none_refused}
+use Rattle.region_locks.proofs.Running.{at_computed, in_hand_computed, runs_on, runs_done, runs_refused, none_refused}
 use Rattle.shared_moves.proofs.shared.Shared.step.Goals as goal
 
 pub returns-in_err-go_on-clause-running : goal.returns-in_err-go_on-clause-running

@@ -3,7 +3,7 @@ use Rattle.entity_recs.specs.Commands.{command_of}
 use Rattle.region_locks.specs.Passes.{fixed_in, IsPassOf}
 use Rattle.region_locks.specs.Turns.{has_command_in_hand}
 use Rattle.region_locks.specs.Moves.{NoTakeWasRefused}
-use Rattle.shared_moves.proofs.Running.{runs_command, is_done, has_run, was_not_run, none_refused_since, at_rest}
+use Rattle.region_locks.proofs.Running.{runs_command, is_done, has_run, was_not_run, none_refused_since, at_rest}
 use Rattle.shared_moves.proofs.shared.Shared.try_run.Goals as goal
 
 pub returns-in-Err-clause-err : goal.returns-in-Err-clause-err

@@ -7,11 +7,15 @@ ghost use Rattle.region_locks.specs.Moves.{IsRunning, NoTakeWasRefused};
 ghost use Rattle.region_locks.specs.Points.{has_entry};
 ghost use Rattle.region_locks.specs.Moments.{IsAtPoint, HasLogged, RunsCommand};
 
-use crate::shared::Shared;
+use crate::gate::{Gate, Moment};
+use crate::gate_point::GatePoint;
+use crate::pass::Pass;
+use crate::table::NodeTable;
+use crate::turn::Turn;
+use crate::went::{RefusedTake, Went};
 use entity_recs::{Action, Cmd, Entry};
-use region_locks::{Gate, GatePoint, Moment, Pass, RefusedTake, Turn, Went};
 
-impl<'a, A: Action> Shared<'a, A> {
+impl<'a, A: Action> NodeTable<'a, A> {
     /// Calls the gate before the commit.
     fn show<G: Gate>(&self, pass: &Pass<A>, cmd: Cmd, point: GatePoint, gate: &G)
         requires at { IsAtPoint pass.now point }
@@ -56,7 +60,7 @@ impl<'a, A: Action> Shared<'a, A> {
 
     /// Makes the next call of a pass that runs the command, and calls the gate at its points. `Err` exactly where a
     /// take is refused.
-    pub(crate) fn step<G: Gate>(
+    pub(crate) fn step_gated<G: Gate>(
         &self,
         pass: &mut Pass<A>,
         cmd: Cmd,
@@ -79,7 +83,7 @@ impl<'a, A: Action> Shared<'a, A> {
         ensures kept { IfErr result (λ r. entry.new ≡ entry.old) }
     {
         self.show_held(pass, cmd, entry, gate);
-        match self.table.go_on(pass, turn)? {
+        match self.go_on(pass, turn)? {
             Went::On => {}
             Went::Resolved => self.show(pass, cmd, GatePoint::Computed, gate),
             Went::Committed(e) => *entry = Some(e),
