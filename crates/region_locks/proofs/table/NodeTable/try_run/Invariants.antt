@@ -3,7 +3,7 @@ use Rattle.entity_recs.specs.Commands.{command_of}
 use Rattle.region_locks.specs.Passes.{fixed_in}
 use Rattle.region_locks.specs.Pursuits.{calls_left}
 use Rattle.region_locks.specs.Moves.{IsRunning, NoTakeWasRefused}
-use Rattle.shared_moves.proofs.shared.Shared.try_run.Given as goal
+use Rattle.region_locks.proofs.table.NodeTable.try_run.Given as goal
 
 abbrev pub invariant-loop-turn : goal.invariant-loop-turn
 invariant-loop-turn g l = IsRunning (fixed_in g.A.Action.meaning l.self) (length l.self.rooms) l.self.table l.fn.pass (command_of l.cmd) l.pass l.entry × NoTakeWasRefused l.fn.pass l.pass

@@ -4,22 +4,22 @@ use Rattle.region_locks.specs.Passes.{fixed_in, IsPassOf}
 use Rattle.region_locks.specs.Turns.{has_command_in_hand}
 use Rattle.region_locks.specs.Moves.{NoTakeWasRefused}
 use Rattle.region_locks.proofs.Running.{runs_command, is_done, has_run, was_not_run, none_refused_since, at_rest}
-use Rattle.shared_moves.proofs.shared.Shared.try_run.Goals as goal
+use Rattle.region_locks.proofs.table.NodeTable.try_run.Goals as goal
 
 pub returns-in-Err-clause-err : goal.returns-in-Err-clause-err
 returns-in-Err-clause-err g c =
-    let own : IsPassOf (fixed_in g.A.Action.meaning c.args.self.now) (length c.args.self.now.rooms) c.args.self.now.table c.give_up.new.pass = rw (← c.self.view_is) c.give_up.ensures.own in
-    was_not_run (fixed_in g.A.Action.meaning c.args.self.now) (length c.args.self.now.rooms) c.args.self.now.table c.args.pass.now (command_of c.args.cmd) c.loop-turn.pass c.step.new.pass c.give_up.new.pass c.loop-turn.entry c.in-Err.refusal.node c.in-Err.refusal.holder.number c.in-Err.refusal.holder.leaves c.again_after.result c.loop-turn.invariant.0 c.loop-turn.invariant.1 c.in-Err.ensures.refused own c.give_up.ensures.given_up c.again_after.ensures
+    let own : IsPassOf (fixed_in g.A.Action.meaning c.args.self.now) (length c.args.self.now.rooms) c.args.self.now.table c.give_up.new.pass = c.give_up.ensures.own in
+    was_not_run (fixed_in g.A.Action.meaning c.args.self.now) (length c.args.self.now.rooms) c.args.self.now.table c.args.pass.now (command_of c.args.cmd) c.loop-turn.pass c.step_gated.new.pass c.give_up.new.pass c.loop-turn.entry c.in-Err.refusal.node c.in-Err.refusal.holder.number c.in-Err.refusal.holder.leaves c.again_after.result c.loop-turn.invariant.0 c.loop-turn.invariant.1 c.in-Err.ensures.refused own c.give_up.ensures.given_up c.again_after.ensures
 
 pub loop-turn-preserved : goal.loop-turn-preserved
 loop-turn-preserved g c =
-    let now : NoTakeWasRefused c.loop-turn.pass c.step.new.pass = search rules in (
-      c.step.ensures.running c.args.pass.now (command_of c.args.cmd) c.loop-turn.invariant.0,
-      none_refused_since c.args.pass.now c.loop-turn.pass c.step.new.pass c.loop-turn.invariant.1 now,
+    let now : NoTakeWasRefused c.loop-turn.pass c.step_gated.new.pass = search rules in (
+      c.step_gated.ensures.running c.args.pass.now (command_of c.args.cmd) c.loop-turn.invariant.0,
+      none_refused_since c.args.pass.now c.loop-turn.pass c.step_gated.new.pass c.loop-turn.invariant.1 now,
     )
 
-pub step-requires-clause-runs : goal.step-requires-clause-runs
-step-requires-clause-runs g c κs within =
+pub step_gated-requires-clause-runs : goal.step_gated-requires-clause-runs
+step_gated-requires-clause-runs g c κs within =
     runs_command (fixed_in g.A.Action.meaning c.args.self.now) (length c.args.self.now.rooms) c.args.self.now.table c.args.pass.now (command_of c.args.cmd) c.loop-turn.pass c.loop-turn.entry c.loop-turn.invariant.0
 
 pub unwrap-requires : goal.unwrap-requires
