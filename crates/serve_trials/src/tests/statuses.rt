@@ -47,7 +47,7 @@ fn the_first_faulty_line_is_reported(rt: HostRuntime) -> Result<(), Fail> {
 
 #[test]
 fn other_words_are_refused(rt: HostRuntime) -> Result<(), Fail> {
-    let rows: [&[&str]; 12] = [
+    let rows: [&[&str]; 15] = [
         &[],
         &["play"],
         &["play", "0"],
