@@ -18,14 +18,14 @@ use Rattle.core_steps.proofs.NextSteps.{next_step_stands}
 use Rattle.core_steps.proofs.TableWords.{NextIsIn, next_is_in, steps_have_their_word}
 use Rattle.core_steps.proofs.Logs.{logs_grow_by_commits}
 use Rattle.core_machine.specs.declared.words.Words.{Words}
-use Rattle.core_machine.specs.declared.seat.Seat.{Seat}
+use Rattle.core_seats.specs.declared.seat.Seat.{Seat}
 use Rattle.core_machine.specs.Tables.{words_in}
-use Rattle.core_machine.specs.Shown.{RulesView}
-use Rattle.core_machine.specs.Sound.{IsSound}
+use Rattle.core_seats.specs.Shown.{RulesView}
+use Rattle.core_seats.specs.Sound.{IsSound}
 use Rattle.core_machine.specs.Cores.{SeatView, CoreView, HasRooms, IsCore, IsFree, IsRefused, seat_of, machine_of}
 use Rattle.core_machine.specs.Stepping.{seat_next, is_done, IsOnWord, MayStep, IsStepped, IsOther, IsMade}
-use Rattle.core_machine.proofs.Changing.{view_here}
-use Rattle.core_machine.proofs.Sounding.{sound_here}
+use Rattle.core_seats.proofs.Changing.{view_here}
+use Rattle.core_seats.proofs.Sounding.{sound_here}
 use Rattle.core_machine.proofs.SeatRooms.{rooms_after, count_is_small}
 use Rattle.core_machine.proofs.StepsMade.{one_comes}
 use Rattle.core_machine.proofs.WordsAfter.{words_after}

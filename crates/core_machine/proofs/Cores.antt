@@ -20,16 +20,16 @@ use Rattle.core_steps.specs.Calls.{Call, has_command, StandsSomehow, MayBeCalled
 use Rattle.core_steps.proofs.Nexts.{next_exists}
 use Rattle.core_steps.proofs.Reached.{stands_called}
 use Rattle.core_machine.specs.declared.words.Words.{Words}
-use Rattle.core_machine.specs.declared.seat.Seat.{Seat}
+use Rattle.core_seats.specs.declared.seat.Seat.{Seat}
 use Rattle.core_machine.specs.Tables.{words_in}
-use Rattle.core_machine.specs.Seats.{view_of, given_of}
-use Rattle.core_machine.specs.Shown.{RulesView}
-use Rattle.core_machine.specs.Going.{view_found}
-use Rattle.core_machine.specs.Nexts.{next_with}
-use Rattle.core_machine.specs.Ready.{is_resolving, effect_due, IsReady}
+use Rattle.core_seats.specs.Seats.{view_of, given_of}
+use Rattle.core_seats.specs.Shown.{RulesView}
+use Rattle.core_seats.specs.Going.{view_found}
+use Rattle.core_seats.specs.Nexts.{next_with}
+use Rattle.core_seats.specs.Ready.{is_resolving, effect_due, IsReady}
 use Rattle.core_machine.specs.Cores.{SeatView, CoreView, HasRooms, IsCore, seat_of, no_seat, machine_of}
-use Rattle.core_machine.proofs.Changing.{view_here, view_there}
-use Rattle.core_machine.proofs.Sounding.{sound_here}
+use Rattle.core_seats.proofs.Changing.{view_here, view_there}
+use Rattle.core_seats.proofs.Sounding.{sound_here}
 use Rattle.core_machine.proofs.StepsMade.{due_at}
 
 -- ---- functions with another value at one number

@@ -1,20 +1,5 @@
 -- Lemmas on the core in code.
-pub mod Bits
 pub mod Tables
-pub mod Logs
-pub mod Ranges
-pub mod Fixing
-pub mod ReadLists
-pub mod NearLists
-pub mod KeptNear
-pub mod SlotBits
-pub mod ThingsLoaded
-pub mod SlotLists
-pub mod ThingPlaces
-pub mod Changing
-pub mod SoundViews
-pub mod StepsLeft
-pub mod Sounding
 pub mod WordsAfter
 pub mod SeatRooms
 pub mod StepsMade
@@ -23,9 +8,5 @@ pub mod Cores
 pub mod CoreSteps
 pub mod Starting
 pub mod Filled
-pub mod PointCases
-pub mod Rooms
-pub mod Steps
-pub mod Lefts
 pub mod TableParts
 pub mod StartRecords

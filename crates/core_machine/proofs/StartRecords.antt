@@ -10,7 +10,7 @@ use Rattle.entity_recs.specs.Worlds.{record_with, nobody}
 use Rattle.core_steps.specs.Cells.{Words}
 use Rattle.core_steps.specs.Views.{Fixed, has, home}
 use Rattle.core_steps.specs.Stands.{is_player}
-use Rattle.core_machine.specs.Starts.{record_at}
+use Rattle.core_seats.specs.Starts.{record_at}
 use Rattle.core_machine.specs.Tables.{within, rows}
 
 -- ---- a record of the start

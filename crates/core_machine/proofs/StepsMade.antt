@@ -11,13 +11,13 @@ use Rattle.core_steps.specs.Cells.{Words, word_at}
 use Rattle.core_steps.specs.Views.{Fixed, Point, Idle, Owning, Taking, Checking, Entering, Entered, Loading, Leaving, Sensing, Resolving, Claiming, Storing, Releasing, Returning, Yielding, View, nodes_of, effect_loaded}
 use Rattle.core_steps.specs.Steps.{first_yield}
 use Rattle.core_steps.specs.Machine.{Next, next_at, quitting, step_of, index_of, kind_of, word_of_next}
-use Rattle.core_machine.specs.declared.seat.Seat.{Seat}
+use Rattle.core_seats.specs.declared.seat.Seat.{Seat}
 use Rattle.core_machine.specs.Tables.{with_word_at}
-use Rattle.core_machine.specs.Seats.{view_of, given_of}
-use Rattle.core_machine.specs.Going.{view_found, word_left}
-use Rattle.core_machine.specs.Nexts.{next_point, next_with}
-use Rattle.core_machine.specs.Sound.{IsSound}
-use Rattle.core_machine.specs.Ready.{is_resolving, effect_due}
+use Rattle.core_seats.specs.Seats.{view_of, given_of}
+use Rattle.core_seats.specs.Going.{view_found, word_left}
+use Rattle.core_seats.specs.Nexts.{next_point, next_with}
+use Rattle.core_seats.specs.Sound.{IsSound}
+use Rattle.core_seats.specs.Ready.{is_resolving, effect_due}
 use Rattle.core_machine.specs.Cores.{seat_of}
 use Rattle.core_machine.specs.Stepping.{seat_next, is_done, IsOnWord, IsStepped}
 

@@ -9,7 +9,7 @@ use Rattle.core_steps.specs.Steps.{Core, words_after_store}
 use Rattle.core_steps.specs.Machine.{Next, Begin, LoadOwn, LoadAgain, TakeNode, ClaimNode, ReadList, ReadPlayer, ReadState, CommitMove, StoreWord, GiveNode, YieldNode, YieldCount, core_after, index_of, index_of_store, word_of_next, word_of_store}
 use Rattle.core_steps.proofs.TableWords.{CellIsIn, StoreIsIn, NextIsIn}
 use Rattle.core_machine.specs.Tables.{with_word_at}
-use Rattle.core_machine.specs.Going.{word_left, word_stored}
+use Rattle.core_seats.specs.Going.{word_left, word_stored}
 
 not_first : (n : ℕ) → 0 < n → (n == 0) ≡ false
 not_first n some = ne_eqb n 0 (λ e. omega arith)

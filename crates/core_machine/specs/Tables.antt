@@ -2,8 +2,10 @@
 use Rattle.std.specs.Prelude.{ℕ, ◌-◌, ◌/◌, ◌%◌, ◌<◌, ◌==◌, nat_lt, ◌&&◌, if◌then◌else◌, List, [], slice_index_or}
 use Rattle.core_steps.specs.Cells as cells
 use Rattle.core_machine.specs.declared.words.Words.{Words}
-use Rattle.core_machine.specs.declared.point.Cell.{Cell}
-use Rattle.core_machine.specs.declared.point.Cell.TheVariants.{Body, State}
+use Rattle.core_seats.specs.declared.point.Cell.{Cell}
+use Rattle.core_seats.specs.declared.point.Cell.TheVariants.{Body, State}
+use Rattle.core_seats.specs.declared.point.Store.{Store}
+use Rattle.core_seats.specs.declared.point.Store.TheVariants.{Clear, Put, Link}
 
 -- the first n numbers from a list, and the others from a function
 abbrev pub within : ℕ → List ℕ → (ℕ → ℕ) → ℕ → ℕ
@@ -24,11 +26,6 @@ words_in words beyond = record {
   state = within 256 words.state beyond.state;
 }
 
--- the cell of the definitions
-abbrev pub cell_in : Cell → cells.Cell
-cell_in (Body slot k) = cells.Body slot k
-cell_in (State id) = cells.State id
-
 -- the cell is one of the arrays'
 pub record IsBodyCell (slot k : ℕ) : Type 0 where
   pub slot_below : slot < 64
@@ -38,6 +35,12 @@ pub record IsBodyCell (slot k : ℕ) : Type 0 where
 abbrev pub IsCellOf : Cell → Type 0
 IsCellOf (Body slot k) = IsBodyCell slot k
 IsCellOf (State id) = id < 256
+
+-- the store is one in the arrays
+abbrev pub IsStoreOf : Store → Type 0
+IsStoreOf (Clear node) = node < 31
+IsStoreOf (Put cell x) = IsCellOf cell
+IsStoreOf (Link node) = node < 31
 
 -- the words with another word at an index of the table of a tree with this many nodes
 abbrev pub with_word_at : ℕ → cells.Words → ℕ → ℕ → cells.Words

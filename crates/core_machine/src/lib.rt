@@ -1,46 +1,11 @@
-//! What a seat of the pure core has in view, and the words that the seats share, as plain values in code.
+//! The pure core as a machine in code: the words that the seats share, and a step of any seat on them.
 #![tactic(auto)]
 
-pub use laws::served_steps_leave_fewer;
-pub use log::SeatLog;
 pub use machine::Core;
-pub use near_kept::is_thing_near;
-pub use point::{Cell, IdQueue, NodeQueue, Point, Queues, SlotQueue, Store, StoreQueue, WordList};
-pub use queue::Queue;
-pub use reading::read_record;
-pub use refusals::{Refusals, Refused};
-pub use rules::Rules;
-pub use seat::{ListRead, PlayerRead, Seat};
-pub use start::with_top_bit;
-pub use word_steps::first_of_two;
 pub use words::Words;
 
-mod boxes;
-mod claiming;
-mod columns;
-mod committing;
-mod giving;
-mod go;
-mod laws;
-mod left;
-mod lists;
-mod loading;
-mod log;
 mod machine;
-mod near;
-mod near_kept;
-mod next;
-mod plan;
-mod point;
-mod queue;
-mod reading;
-mod reads;
-mod refusals;
-mod rules;
-mod seat;
 mod start;
 mod stepping;
 mod table;
-mod taking;
-mod word_steps;
 mod words;

@@ -1,11 +1,10 @@
 ghost use Rattle.std.specs.Prelude.{◌≡◌, ◌<◌, ◌≤◌, ◌++◌, length, map, IfOk};
 ghost use Rattle.core_machine.specs.Cores.{seat_of, fresh_seat, start_seats};
 
-use crate::rules::Rules;
-use crate::seat::Seat;
 use crate::stepping::make_step;
 use crate::words::Words;
 use areanode::Tree;
+use core_seats::{Rules, Seat};
 use core_steps::Step;
 use entity_recs::{Action, Cmd, Entry, Rec};
 use std::alloc::{AllocError, Global};
@@ -46,7 +45,7 @@ fn new_seats(alloc: Global, room: &[u32]) -> Result<Vec<Seat>, AllocError>
 impl<'a, A: Action> Model for Core<'a, A> {
     ghost use Rattle.std.specs.Prelude.{map};
     ghost use Rattle.core_machine.specs.Cores.{CoreView, seat_of, IsCore};
-    ghost use Rattle.core_machine.specs.Shown.{fixed_of};
+    ghost use Rattle.core_seats.specs.Shown.{fixed_of};
 
     ghost Value = { CoreView A };
 
@@ -65,9 +64,9 @@ impl<'a, A: Action> Core<'a, A> {
     ghost use Rattle.core_steps.specs.Machine.{Next, next_of, next_step_of, machine_after, items_after};
     ghost use Rattle.core_steps.specs.Calls.{MayBeGiven, SomeGoesOn, StandsSomehow, start_machine, with_given};
     ghost use Rattle.core_steps.specs.Calls.{with_quitting, has_command};
-    ghost use Rattle.core_machine.specs.Logs.{entries_of};
+    ghost use Rattle.core_seats.specs.Logs.{entries_of};
     ghost use Rattle.core_machine.specs.Cores.{machine_of, IsFree, IsRefused};
-    ghost use Rattle.core_machine.specs.Shown.{fixed_of};
+    ghost use Rattle.core_seats.specs.Shown.{fixed_of};
 
     /// The core at the start: over these records, with a seat for each number in `room`, which has room for so many
     /// entries. No command is given, no node is held, and no command is committed.

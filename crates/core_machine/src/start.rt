@@ -1,28 +1,15 @@
-ghost use Rattle.std.specs.Prelude.{◌≡◌, ℕ, ◌<◌, ◌+◌, ◌^◌, ◌==◌, ◌&&◌, [], if◌then◌else◌, slice_index_or};
+ghost use Rattle.std.specs.Prelude.{◌≡◌, ℕ, ◌<◌, ◌==◌, ◌&&◌, [], slice_index_or};
 ghost use Rattle.areanode.specs.Words.{word_of};
 ghost use Rattle.core_steps.specs.Encoding.{words_of};
 ghost use Rattle.core_steps.specs.Views.{home};
 ghost use Rattle.core_steps.specs.Stands.{is_player, start_words};
-ghost use Rattle.core_machine.specs.Shown.{fixed_of};
-ghost use Rattle.core_machine.specs.Starts.{record_at};
+ghost use Rattle.core_seats.specs.Shown.{fixed_of};
 
-use crate::rules::Rules;
 use crate::words::Words;
 use areanode::NODES;
+use core_seats::{Rules, with_top_bit};
 use core_steps::{PlayerWords, encode};
-use entity_recs::{Action, Rec};
-
-/// The first of the records with this id, if there is one.
-pub fn find_record(start: &[Rec], id: u16) -> Option<Rec>
-    ensures { result ≡ record_at start.now id }
-{
-    for r in start {
-        if r.id == id {
-            return Some(*r);
-        }
-    }
-    None
-}
+use entity_recs::Action;
 
 /// A player's five words at the start, 0 where the player isn't live.
 fn body_at_start<A: Action>(rules: &Rules<A>, slot: u8) -> PlayerWords
@@ -56,15 +43,6 @@ fn is_linked<A: Action>(rules: &Rules<A>, node: u8, slot: u8) -> bool
         Some(r) => node == rules.home(&r),
         None => false,
     }
-}
-
-/// The word with the bit of a number that is above all its bits, where that bit is to be set.
-pub fn with_top_bit(word: u64, slot: u8, is_set: bool) -> u64
-    requires slot { slot < 64 }
-    requires below { word < 2 ^ slot }
-    ensures { result ≡ (if is_set then 2 ^ slot else 0) + word }
-{
-    if is_set { word + (1 << slot) } else { word }
 }
 
 /// The list word of a node at the start: bit p is set where player p is live and linked there.
@@ -118,7 +96,7 @@ impl Words {
     ghost use Rattle.std.specs.Prelude.{◌≡◌};
     ghost use Rattle.core_steps.specs.Stands.{start_words};
     ghost use Rattle.core_machine.specs.Tables.{words_in};
-    ghost use Rattle.core_machine.specs.Shown.{fixed_of};
+    ghost use Rattle.core_seats.specs.Shown.{fixed_of};
 
     /// The words at the start: no node is held, each player is linked at its node, and the records are those of the
     /// start.

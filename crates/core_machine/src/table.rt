@@ -1,5 +1,5 @@
-use crate::point::Cell;
 use crate::words::Words;
+use core_seats::Cell;
 
 impl Words {
     ghost use Rattle.std.specs.Prelude.{◌≡◌, ◌<◌};

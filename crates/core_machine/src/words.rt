@@ -1,12 +1,12 @@
 ghost use Rattle.std.specs.Prelude.{◌≡◌, ◌<◌, length, slice_set};
 ghost use Rattle.core_steps.specs.Cells as cells;
 ghost use Rattle.core_steps.specs.Cells.{put, word_in, with_word, cell_of, with_bit, without_bit};
-ghost use Rattle.core_machine.specs.Tables.{words_in, cell_in, IsCellOf};
 ghost use Rattle.core_steps.specs.Steps.{words_after_store};
-ghost use Rattle.core_machine.specs.Points.{store_of, IsStoreOf};
+ghost use Rattle.core_seats.specs.Points.{cell_in, store_of};
+ghost use Rattle.core_machine.specs.Tables.{words_in, IsCellOf, IsStoreOf};
 
-use crate::point::{Cell, Store};
 use areanode::NODES;
+use core_seats::{Cell, Store};
 use core_steps::PlayerWords;
 
 /// The shared words: the count of commits, each node's word, each node's list word, each player's five words, and each

@@ -11,9 +11,9 @@ use Rattle.core_steps.specs.Calls.{MayBeGiven, StandsSomehow, has_command, with_
 use Rattle.core_steps.specs.MachineLaws.{hand_of}
 use Rattle.core_steps.proofs.SameSeats.{SeatPart, same_seats}
 use Rattle.core_steps.proofs.InHand.{steps_bring_no_command}
-use Rattle.core_machine.specs.Shown.{RulesView}
+use Rattle.core_seats.specs.Shown.{RulesView}
 use Rattle.core_machine.specs.Cores.{CoreView, machine_of}
-use Rattle.core_machine.specs.Logs.{entries_of}
+use Rattle.core_seats.specs.Logs.{entries_of}
 use Rattle.core_machine.proofs.Filled.{IsFilled}
 use Rattle.core_trials.specs.Hands.{HasOwnCommands}
 use Rattle.std.specs.Option.{option_map}

@@ -13,7 +13,7 @@ use Rattle.entity_recs.specs.Bodies.{abs_of}
 use Rattle.entity_recs.specs.Commands.{Command}
 use Rattle.entity_recs.specs.Actions.{Meaning}
 use Rattle.core_machine.specs.Plain.{plain_command}
-use Rattle.core_machine.specs.Staying.{is_near, is_same, is_player}
+use Rattle.core_seats.specs.Staying.{is_near, is_same, is_player}
 use Rattle.core_trials.specs.declared.places.TheConstants.{ARRIVAL, ITEM}
 
 -- the item's id, place and shape

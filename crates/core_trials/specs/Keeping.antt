@@ -13,8 +13,8 @@ use Rattle.entity_recs.specs.declared.rec.Rec.{Rec}
 use Rattle.entity_recs.specs.Bodies.{abs_of}
 use Rattle.entity_recs.specs.Commands.{Command}
 use Rattle.entity_recs.specs.Actions.{HasPlayer, IsKeepable}
-use Rattle.core_machine.specs.Staying as staying
-use Rattle.core_machine.specs.Staying.{is_near, is_same, is_player}
+use Rattle.core_seats.specs.Staying as staying
+use Rattle.core_seats.specs.Staying.{is_near, is_same, is_player}
 use Rattle.core_trials.specs.declared.places.TheConstants.{ARRIVAL, ITEM}
 use Rattle.core_trials.specs.Errand.{is_placed, is_the_item, is_taken, takes, arrived, moved_where}
 

@@ -5,7 +5,7 @@ ghost use Rattle.entity_recs.specs.Actions.{IsCommand};
 ghost use Rattle.areanode.specs.Trees.{TreeView};
 ghost use Rattle.core_steps.specs.Views.{has};
 ghost use Rattle.core_steps.specs.Stands.{IsStart};
-ghost use Rattle.core_machine.specs.Shown.{fixed_of};
+ghost use Rattle.core_seats.specs.Shown.{fixed_of};
 ghost use Rattle.core_trials.specs.Errand.{errand_command};
 ghost use Rattle.core_trials.specs.Hands.{HasOwnCommands};
 

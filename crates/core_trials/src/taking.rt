@@ -1,5 +1,5 @@
 ghost use Rattle.std.specs.Prelude.{◌≡◌, nat_lt};
-ghost use Rattle.core_machine.specs.Staying as staying;
+ghost use Rattle.core_seats.specs.Staying as staying;
 ghost use Rattle.core_trials.specs.Errand as errands;
 
 use crate::places::ITEM;

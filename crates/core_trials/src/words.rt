@@ -1,6 +1,7 @@
 use crate::players::NEAR;
 use areanode::NODES;
-use core_machine::{Cell, Seat, Store, Words};
+use core_machine::Words;
+use core_seats::{Cell, Seat, Store};
 use core_steps::encode;
 use entity_recs::Cmd;
 use std::alloc::{AllocError, Global};

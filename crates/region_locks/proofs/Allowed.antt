@@ -14,7 +14,7 @@ use Rattle.core_steps.specs.Calls.{node_taken}
 use Rattle.core_steps.specs.Machine.{Next, Begin, LoadOwn, LoadAgain, TakeNode, ClaimNode, ReadList, ReadPlayer, ReadState, CommitMove, StoreWord, GiveNode, YieldNode, YieldCount, index_of, kind_of}
 use Rattle.region_locks.specs.Sights.{SightView, sight_found, tally_taken, begun_after}
 use Rattle.region_locks.specs.Going.{MayGo}
-use Rattle.core_machine.specs.Going.{view_found, word_left}
+use Rattle.core_seats.specs.Going.{view_found, word_left}
 use Rattle.region_locks.specs.Rule.{IsRuled}
 use Rattle.region_locks.specs.Plays.{SeatStepped}
 use Rattle.region_locks.specs.WordSteps.{word_by, MayBe}

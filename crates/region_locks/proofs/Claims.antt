@@ -12,10 +12,10 @@ use Rattle.core_steps.specs.declared.step.StepKind.TheVariants.{Commit}
 use Rattle.core_steps.specs.Stands.{IsAt, IsClaimingAfter}
 use Rattle.core_steps.proofs.Lists.{has_append}
 use Rattle.core_steps.proofs.Takes.{two_inner}
-use Rattle.core_machine.specs.Going.{view_found, word_left}
-use Rattle.core_machine.specs.Nexts.{the_next}
-use Rattle.core_machine.specs.declared.refusals.Refusals.{Refusals}
-use Rattle.core_machine.specs.Refusals.{AreRefusals}
+use Rattle.core_seats.specs.Going.{view_found, word_left}
+use Rattle.core_seats.specs.Nexts.{the_next}
+use Rattle.core_seats.specs.declared.refusals.Refusals.{Refusals}
+use Rattle.core_seats.specs.Refusals.{AreRefusals}
 use Rattle.region_locks.specs.Sights.{Tally, tally_after}
 use Rattle.region_locks.specs.Passes.{PassView, next_of_pass, pass_after, word_after, IsPassOf}
 use Rattle.region_locks.specs.Hands.{IsPlain, keeping, still_keeping}

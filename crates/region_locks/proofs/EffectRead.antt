@@ -2,7 +2,7 @@
 use Rattle.std.proofs.Common.{◌≡◌, ℕ, ◌<◌, ◌++◌, true, false, List, [], ◌∷◌, Some, refl, sym, ap, ◌∙◌, subst}
 use Rattle.std.proofs.lemmas.Bool.{false≢true}
 use Rattle.entity_recs.specs.declared.effect.Effect.{Effect}
-use Rattle.core_machine.specs.Ready.{is_resolving}
+use Rattle.core_seats.specs.Ready.{is_resolving}
 use Rattle.region_locks.specs.Hands.{keeping}
 use Rattle.std.specs.List.Sorted.{IsStrictlyIncreasing}
 use Rattle.arena_geo.specs.Bounds.{Bounds}
@@ -12,8 +12,8 @@ use Rattle.entity_recs.specs.Actions.{IsCall}
 use Rattle.core_steps.specs.Views.{Fixed, View, Point, PlayerRead, Resolving, stage_of, is_busy, record_read, region_in, near_loaded, loaded_near, effect_loaded}
 use Rattle.core_steps.specs.Steps.{sensing}
 use Rattle.atomic_table.specs.Seated.{TableId}
-use Rattle.core_machine.specs.NearKept.{players_kept, things_loaded}
-use Rattle.core_machine.proofs.KeptNear.{near_in_parts}
+use Rattle.core_seats.specs.NearKept.{players_kept, things_loaded}
+use Rattle.core_seats.proofs.KeptNear.{near_in_parts}
 use Rattle.region_locks.specs.Passes.{PassView, IsPassOf}
 use Rattle.region_locks.specs.Straight.{in_view, HasKept}
 

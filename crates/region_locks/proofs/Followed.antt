@@ -10,12 +10,12 @@ use Rattle.core_steps.specs.Steps.{next_give}
 use Rattle.core_steps.specs.Machine.{Next, Begin, LoadOwn, LoadAgain, TakeNode, ClaimNode, ReadList, ReadPlayer, ReadState, CommitMove, StoreWord, GiveNode, YieldNode, YieldCount, giving, beginning, committing, quitting}
 use Rattle.core_steps.specs.Stands.{IsAt}
 use Rattle.core_steps.specs.Calls.{pursued_of}
-use Rattle.core_machine.specs.Going.{view_found, word_left}
-use Rattle.core_machine.specs.Nexts.{next_with, next_point, next_resolved, the_next}
-use Rattle.core_machine.specs.Ready.{is_resolving}
-use Rattle.core_machine.specs.Sound.{IsSound}
-use Rattle.core_machine.specs.StepsLeft.{steps_left, is_served, IsCounting}
-use Rattle.core_machine.proofs.StepsLeft.{served_steps_leave_fewer}
+use Rattle.core_seats.specs.Going.{view_found, word_left}
+use Rattle.core_seats.specs.Nexts.{next_with, next_point, next_resolved, the_next}
+use Rattle.core_seats.specs.Ready.{is_resolving}
+use Rattle.core_seats.specs.Sound.{IsSound}
+use Rattle.core_seats.specs.StepsLeft.{steps_left, is_served, IsCounting}
+use Rattle.core_seats.proofs.StepsLeft.{served_steps_leave_fewer}
 use Rattle.region_locks.specs.declared.turn.Turn.{Turn}
 use Rattle.region_locks.specs.declared.turn.Turn.TheVariants.{LoadRec, Take, LoadList, LoadState, Resolve, Commit, Unlink, StoreNext, SetLink, GiveBack}
 use Rattle.region_locks.specs.declared.went.Went.TheVariants.{On}
@@ -236,7 +236,7 @@ same_next F view given a b (Yielding nodes leaves) same = refl
 idle_left : (F : Fixed) (effect : Option Effect) (view : View) → is_busy (stage_of view.point) ≡ false → steps_left F effect view ≡ 0
 idle_left F effect view idle = by_point view.point idle
   where
-    by_point : (point : Point) → is_busy (stage_of point) ≡ false → Rattle.core_machine.specs.StepsLeft.left_at F effect (length view.own) (length view.again) (length view.wanted) point ≡ 0
+    by_point : (point : Point) → is_busy (stage_of point) ≡ false → Rattle.core_seats.specs.StepsLeft.left_at F effect (length view.own) (length view.again) (length view.wanted) point ≡ 0
     by_point Idle e = refl
     by_point Owning e = absurd (true≢false e)
     by_point (Taking got rest) e = absurd (true≢false e)

@@ -11,7 +11,7 @@ use Rattle.core_steps.specs.Views.{Fixed, Clear, Put, Link, Point, Idle, Owning,
 use Rattle.core_steps.specs.Steps.{first_yield, next_give}
 use Rattle.core_steps.specs.Machine.{Next, Begin, LoadOwn, LoadAgain, TakeNode, ClaimNode, ReadList, ReadPlayer, ReadState, CommitMove, StoreWord, GiveNode, YieldNode, YieldCount, beginning, resolving, quitting, committing, giving, next_at, kind_of, index_of, word_of_next}
 use Rattle.core_steps.proofs.Asking.{loaded_record_is_taken}
-use Rattle.core_machine.specs.Going.{word_left}
+use Rattle.core_seats.specs.Going.{word_left}
 use Rattle.region_locks.specs.Sights.{SightView}
 use Rattle.region_locks.specs.Going.{next_asked, MayGo}
 use Rattle.region_locks.specs.Rule.{IsRuled}

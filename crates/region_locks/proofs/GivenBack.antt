@@ -9,8 +9,8 @@ use Rattle.areanode.specs.Trees.{leaf_node, leaves_of}
 use Rattle.core_steps.specs.Views.{Fixed, View, Point, Releasing, leaf_nodes, leaf_word, region_in, is_whole, stage_of, without_command}
 use Rattle.core_steps.specs.Steps.{first, rest_of, returning, view_after_give}
 use Rattle.core_steps.specs.Machine.{GiveNode, giving}
-use Rattle.core_machine.specs.Nexts.{the_next}
-use Rattle.core_machine.specs.Ready.{is_resolving}
+use Rattle.core_seats.specs.Nexts.{the_next}
+use Rattle.core_seats.specs.Ready.{is_resolving}
 use Rattle.region_locks.specs.Passes.{PassView, next_of_pass, node_given_next, pass_after, IsPassOf}
 use Rattle.region_locks.specs.Hands.{IsPlain}
 use Rattle.region_locks.specs.Straight.{in_view}

@@ -6,9 +6,9 @@ use Rattle.entity_recs.specs.Commands.{Command}
 use Rattle.core_steps.specs.Views.{Fixed, Point, Idle, Owning, Taking, Checking, Entering, Entered, Loading, Leaving, Sensing, Resolving, Claiming, Storing, Releasing, Returning, Yielding, View, record_read, write_nodes}
 use Rattle.core_steps.specs.Steps.{first_yield, next_give}
 use Rattle.core_steps.specs.Machine.{Next, beginning, resolving, quitting, committing, giving, index_of}
-use Rattle.core_machine.specs.Going.{view_found, word_left}
+use Rattle.core_seats.specs.Going.{view_found, word_left}
 use Rattle.region_locks.specs.Passes.{PassView, next_of_pass, node_given, node_given_next, list_read, list_read_next, state_read, state_read_next, IsPassOf}
-use Rattle.core_machine.specs.Nexts.{next_resolved, next_point, the_next}
+use Rattle.core_seats.specs.Nexts.{next_resolved, next_point, the_next}
 
 -- what is known of a pass whose next step gives back a node
 pub record Gives (F : Fixed) (p : PassView) (node : ℕ) (next : Next) : Type 0 where

@@ -7,8 +7,8 @@ use Rattle.core_steps.specs.Views.{Fixed, Point, Idle, Owning, Taking, Checking,
 use Rattle.core_steps.specs.Steps.{first, first_of_two, first_yield, yielding, yielded, rest_of, is_taking}
 use Rattle.core_steps.specs.Machine.{Next, YieldNode, GiveNode, giving, quitting, SomeIsLeft}
 use Rattle.core_steps.specs.Calls.{node_taken}
-use Rattle.core_machine.specs.Going.{view_found, word_left}
-use Rattle.core_machine.specs.Nexts.{next_point, the_next}
+use Rattle.core_seats.specs.Going.{view_found, word_left}
+use Rattle.core_seats.specs.Nexts.{next_point, the_next}
 use Rattle.region_locks.specs.Passes.{PassView, next_of_pass, pass_after, node_given_next, IsPassOf}
 use Rattle.region_locks.specs.Quitting.{HasQuit}
 use Rattle.region_locks.specs.Sights.{begun_after, tally_taken}

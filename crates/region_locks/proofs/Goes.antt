@@ -20,9 +20,9 @@ use Rattle.core_steps.proofs.TableWords.{steps_have_their_word}
 use Rattle.core_steps.proofs.OneWord.{steps_change_one_word}
 use Rattle.region_locks.specs.Sights.{SightView, sight_found}
 use Rattle.region_locks.specs.Going.{next_asked, MayGo}
-use Rattle.core_machine.specs.Going.{view_found, word_left}
+use Rattle.core_seats.specs.Going.{view_found, word_left}
 use Rattle.region_locks.specs.Rule.{at_rest, HasWords, HasSeats, ServesItsSlots, HasRooms, IsRuled}
-use Rattle.core_machine.proofs.Changing.{view_here, view_there, word_here}
+use Rattle.core_seats.proofs.Changing.{view_here, view_there, word_here}
 use Rattle.region_locks.proofs.Takings.{takes_step}
 use Rattle.region_locks.proofs.Views.{command_next, keeps_found, asked_is}
 

@@ -8,9 +8,9 @@ use Rattle.core_steps.specs.Cells.{body_index}
 use Rattle.core_steps.specs.Views.{Fixed, Point, Idle}
 use Rattle.core_steps.specs.Steps.{is_taking, first_yield}
 use Rattle.core_steps.specs.Machine.{Next, Begin, IsPending, index_of, quitting}
-use Rattle.core_machine.specs.Going.{view_found, word_left}
-use Rattle.core_machine.specs.Nexts.{next_point, the_next}
-use Rattle.core_machine.specs.Ready.{is_resolving}
+use Rattle.core_seats.specs.Going.{view_found, word_left}
+use Rattle.core_seats.specs.Nexts.{next_point, the_next}
+use Rattle.core_seats.specs.Ready.{is_resolving}
 use Rattle.region_locks.specs.Passes.{PassView, effect_kept, next_of_pass, pass_after, word_after, IsPassOf, IsReady, HasGone}
 use Rattle.region_locks.specs.Hands.{IsPlain, given_to, begun_with}
 use Rattle.region_locks.proofs.Owns.{own_after}

@@ -8,9 +8,9 @@ use Rattle.core_steps.specs.Cells.{cell_of, cell_index}
 use Rattle.core_steps.specs.Views.{Fixed, View, Point, Owning, Checking, plan_of, region_in, things_in}
 use Rattle.core_steps.specs.Steps.{owned, visiting, sensing}
 use Rattle.core_steps.specs.Machine.{Next, LoadOwn, index_of}
-use Rattle.core_machine.specs.Going.{view_found, word_left}
-use Rattle.core_machine.specs.Nexts.{next_point, the_next}
-use Rattle.core_machine.specs.Ready.{is_resolving}
+use Rattle.core_seats.specs.Going.{view_found, word_left}
+use Rattle.core_seats.specs.Nexts.{next_point, the_next}
+use Rattle.core_seats.specs.Ready.{is_resolving}
 use Rattle.region_locks.specs.Hands.{IsPlain, begun_with}
 use Rattle.region_locks.specs.Loads.{after_loads, record_loaded_next}
 use Rattle.region_locks.specs.Passes.{PassView, effect_kept, next_of_pass, pass_after, word_after}

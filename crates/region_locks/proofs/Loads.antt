@@ -10,9 +10,9 @@ use Rattle.core_steps.specs.Views.{Fixed, Point, Owning, Taking, Checking, Loadi
 use Rattle.core_steps.specs.Steps.{visiting}
 use Rattle.core_steps.specs.Machine.{Next, Begin, LoadOwn, LoadAgain, TakeNode, ClaimNode, ReadList, ReadPlayer, ReadState, CommitMove, StoreWord, GiveNode, YieldNode, YieldCount, index_of}
 use Rattle.core_steps.proofs.Points.{visiting_between}
-use Rattle.core_machine.specs.Going.{view_found, word_left}
-use Rattle.core_machine.specs.Nexts.{next_point, the_next}
-use Rattle.core_machine.specs.Sound.{IsSound}
+use Rattle.core_seats.specs.Going.{view_found, word_left}
+use Rattle.core_seats.specs.Nexts.{next_point, the_next}
+use Rattle.core_seats.specs.Sound.{IsSound}
 use Rattle.region_locks.specs.Passes.{PassView, next_of_pass, pass_after, IsPassOf}
 use Rattle.region_locks.specs.Loads.{PlayerWord, player_word, player_word_next, slot_of_first, slot_begun, record_loaded_next, after_loads, HasLoaded, IsLoading}
 use Rattle.region_locks.proofs.Found.{loading_of, loads_from}

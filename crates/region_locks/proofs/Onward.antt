@@ -12,11 +12,11 @@ use Rattle.core_steps.specs.Views.{Fixed, Point, Idle, Owning, Taking, Checking,
 use Rattle.core_steps.specs.Steps.{view_after_refusal, next_give, is_taking}
 use Rattle.core_steps.specs.Machine.{Next, Begin, LoadOwn, LoadAgain, TakeNode, ClaimNode, ReadList, ReadPlayer, ReadState, CommitMove, StoreWord, GiveNode, YieldNode, YieldCount, giving, beginning, committing, resolving}
 use Rattle.core_steps.specs.Calls.{is_pursued, pursued_of}
-use Rattle.core_machine.specs.Going.{view_found, word_left}
-use Rattle.core_machine.specs.Nexts.{next_with, next_point, next_resolved, the_next}
-use Rattle.core_machine.specs.Ready.{is_resolving}
-use Rattle.core_machine.specs.StepsLeft.{steps_left, is_served, IsCounting}
-use Rattle.core_machine.proofs.StepsLeft.{served_steps_leave_fewer}
+use Rattle.core_seats.specs.Going.{view_found, word_left}
+use Rattle.core_seats.specs.Nexts.{next_with, next_point, next_resolved, the_next}
+use Rattle.core_seats.specs.Ready.{is_resolving}
+use Rattle.core_seats.specs.StepsLeft.{steps_left, is_served, IsCounting}
+use Rattle.core_seats.proofs.StepsLeft.{served_steps_leave_fewer}
 use Rattle.region_locks.specs.declared.turn.Turn.TheVariants.{LoadRec, Resolve}
 use Rattle.region_locks.specs.declared.went.Went.TheVariants.{On, Resolved, Committed}
 use Rattle.region_locks.specs.Passes.{PassView, first_effect, effect_kept, effect_in_hand, next_of_pass, pass_after, node_taken_next, is_commit_next, IsPassOf, IsHolderIn}
@@ -537,12 +537,12 @@ module _ (F : Fixed) (passes : ℕ) (table : TableId) (p new : PassView) (going 
       let hand : effect_in_hand p ≡ None = ap (λ (o : Option Effect). first_effect o p.view.effect) none ∙ in_view in
       let view : new.view ≡ p.view = ap (λ (q : PassView). q.view) is in
       let pursues : new.quits ≡ false = ap (λ (q : PassView). q.quits) is ∙ going.pursues in
-      let left : calls_left F p ≡ Rattle.core_machine.specs.StepsLeft.left_at F None (length p.view.own) (length p.view.again) (length p.view.wanted) Resolving + 1 =
+      let left : calls_left F p ≡ Rattle.core_seats.specs.StepsLeft.left_at F None (length p.view.own) (length p.view.again) (length p.view.wanted) Resolving + 1 =
       cond-false (is_some p.given) _ _ (ap is_some given) ∙ ap (λ (o : Option Effect). steps_left F o p.view + (if is_busy (stage_of p.view.point) && not (is_some o) then 1 else 0)) hand
-      ∙ ap (λ (q : Point). Rattle.core_machine.specs.StepsLeft.left_at F None (length p.view.own) (length p.view.again) (length p.view.wanted) q + (if is_busy (stage_of q) && not false then 1 else 0)) at in
-      let after : calls_left F new ≡ Rattle.core_machine.specs.StepsLeft.left_at F (Some e) (length p.view.own) (length p.view.again) (length p.view.wanted) Resolving + 0 =
+      ∙ ap (λ (q : Point). Rattle.core_seats.specs.StepsLeft.left_at F None (length p.view.own) (length p.view.again) (length p.view.wanted) q + (if is_busy (stage_of q) && not false then 1 else 0)) at in
+      let after : calls_left F new ≡ Rattle.core_seats.specs.StepsLeft.left_at F (Some e) (length p.view.own) (length p.view.again) (length p.view.wanted) Resolving + 0 =
       ap (calls_left F) is ∙ cond-false (is_some p.given) _ _ (ap is_some given)
-      ∙ ap (λ (q : Point). Rattle.core_machine.specs.StepsLeft.left_at F (Some e) (length p.view.own) (length p.view.again) (length p.view.wanted) q + (if is_busy (stage_of q) && not true then 1 else 0)) at in
+      ∙ ap (λ (q : Point). Rattle.core_seats.specs.StepsLeft.left_at F (Some e) (length p.view.own) (length p.view.again) (length p.view.wanted) q + (if is_busy (stage_of q) && not true then 1 else 0)) at in
       record {
         going = record { own = own; pursues = pursues; between = whole_between F new pursues (ap (λ (v : View). is_partial v v.point) view ∙ ap (is_partial p.view) at) };
         fewer = omega (arith, left, after, few);

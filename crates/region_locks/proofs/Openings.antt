@@ -10,7 +10,7 @@ use Rattle.world_tree.specs.Worlds.{WorldView, IsLinked}
 use Rattle.world_tree.proofs.Rising.{live_ids_rise}
 use Rattle.core_steps.specs.Views.{Fixed}
 use Rattle.core_steps.specs.Stands.{IsStart, start_core}
-use Rattle.core_machine.proofs.NearLists.{AreFound, found_at_ids}
+use Rattle.core_seats.proofs.NearLists.{AreFound, found_at_ids}
 use Rattle.region_locks.specs.Starts.{world_at_start, fixed_of_world, AreStartWords}
 use Rattle.region_locks.specs.Rule.{HasWords}
 

@@ -8,9 +8,9 @@ use Rattle.entity_recs.specs.Commands.{Command}
 use Rattle.core_steps.specs.Views.{Fixed, Point, Idle, Owning, Taking, Checking, Entering, Entered, Loading, Leaving, Sensing, Resolving, Claiming, Storing, Releasing, Returning, Yielding, View, record_read, write_nodes, inner_held, leaves_held, effect_loaded}
 use Rattle.core_steps.specs.Steps.{rest_of, yielding, yielded, first_yield, view_after_claim, view_after_refusal}
 use Rattle.core_steps.specs.Machine.{Next, resolving, quitting}
-use Rattle.core_machine.specs.Going.{view_found, word_left}
-use Rattle.core_machine.specs.Nexts.{next_resolved, next_point, the_next}
-use Rattle.core_machine.specs.Ready.{is_resolving}
+use Rattle.core_seats.specs.Going.{view_found, word_left}
+use Rattle.core_seats.specs.Nexts.{next_resolved, next_point, the_next}
+use Rattle.core_seats.specs.Ready.{is_resolving}
 use Rattle.region_locks.specs.Going.{view_looked}
 use Rattle.region_locks.specs.Plays.{IsSoundSight}
 use Rattle.region_locks.specs.Passes.{PassView, sight_of, next_of_pass, pass_after, IsPassOf}

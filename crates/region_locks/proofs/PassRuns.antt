@@ -8,11 +8,11 @@ use Rattle.entity_recs.specs.Commands.{Command}
 use Rattle.entity_recs.specs.Histories.{Item}
 use Rattle.core_steps.specs.Views.{Fixed, View, Refused, without_command}
 use Rattle.core_steps.specs.Steps.{is_taking}
-use Rattle.core_machine.specs.declared.seat.Seat.{Seat}
-use Rattle.core_machine.specs.declared.refusals.Refusals.{Refusals}
-use Rattle.core_machine.specs.Refusals.{AreRefusals, last_of}
-use Rattle.core_machine.specs.Ready.{is_resolving}
-use Rattle.core_machine.specs.Seats.{view_of, given_of}
+use Rattle.core_seats.specs.declared.seat.Seat.{Seat}
+use Rattle.core_seats.specs.declared.refusals.Refusals.{Refusals}
+use Rattle.core_seats.specs.Refusals.{AreRefusals, last_of}
+use Rattle.core_seats.specs.Ready.{is_resolving}
+use Rattle.core_seats.specs.Seats.{view_of, given_of}
 use Rattle.region_locks.specs.Passes.{PassView, IsPassOf}
 use Rattle.region_locks.specs.Hands.{IsPlain, pass_view}
 use Rattle.region_locks.specs.Pursuits.{commands_given, item_of}

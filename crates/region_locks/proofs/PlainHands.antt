@@ -3,8 +3,8 @@ use Rattle.std.proofs.Common.{◌≡◌, ℕ, true, sym, ap, ◌∙◌, subst, O
 use Rattle.entity_recs.specs.declared.effect.Effect.{Effect}
 use Rattle.core_steps.specs.Views.{Fixed, View, Point}
 use Rattle.core_steps.specs.Machine.{Next, index_of}
-use Rattle.core_machine.specs.Going.{word_left}
-use Rattle.core_machine.specs.Nexts.{next_point, the_next}
+use Rattle.core_seats.specs.Going.{word_left}
+use Rattle.core_seats.specs.Nexts.{next_point, the_next}
 use Rattle.region_locks.specs.Passes.{PassView, next_of_pass, pass_after, word_after}
 use Rattle.region_locks.specs.Hands.{IsPlain, keeping}
 use Rattle.region_locks.proofs.LoadedWords.{plain_is}

@@ -8,10 +8,10 @@ use Rattle.core_steps.specs.Views.{Fixed, Store, Point, Idle, Owning, Taking, Ch
 use Rattle.core_steps.specs.Steps.{sensing, visiting, loading, taking, storing, returning, yielding, rest_of, first, view_after_give, point_after_take}
 use Rattle.core_steps.specs.Machine.{Next, Begin, LoadOwn, LoadAgain, TakeNode, ClaimNode, ReadList, ReadPlayer, ReadState, CommitMove, StoreWord, GiveNode, YieldNode, YieldCount, giving, beginning, committing, resolving}
 use Rattle.core_steps.specs.Calls.{is_pursued}
-use Rattle.core_machine.specs.Going.{view_found}
-use Rattle.core_machine.specs.Nexts.{next_point, next_resolved, the_next}
-use Rattle.core_machine.specs.Ready.{is_resolving}
-use Rattle.core_machine.specs.StepsLeft.{is_served}
+use Rattle.core_seats.specs.Going.{view_found}
+use Rattle.core_seats.specs.Nexts.{next_point, next_resolved, the_next}
+use Rattle.core_seats.specs.Ready.{is_resolving}
+use Rattle.core_seats.specs.StepsLeft.{is_served}
 use Rattle.region_locks.specs.Passes.{first_effect, effect_kept}
 
 -- no word is left

@@ -13,11 +13,11 @@ use Rattle.core_steps.specs.Steps.{first, first_of_two, first_yield, next_give, 
 use Rattle.core_steps.specs.Stands.{IsAt}
 use Rattle.core_steps.specs.Machine.{Next, Begin, LoadOwn, LoadAgain, TakeNode, ClaimNode, ReadList, ReadPlayer, ReadState, CommitMove, StoreWord, GiveNode, YieldNode, YieldCount, giving, quitting, beginning, committing, index_of, step_of, SomeIsLeft}
 use Rattle.core_steps.specs.Calls.{node_taken}
-use Rattle.core_machine.specs.Going.{view_found, word_left}
-use Rattle.core_machine.specs.Nexts.{next_point, the_next}
-use Rattle.core_machine.specs.Ready.{is_resolving, IsReady}
-use Rattle.core_machine.specs.Shown.{RulesView, fixed_of}
-use Rattle.core_machine.specs.Sound.{IsSound}
+use Rattle.core_seats.specs.Going.{view_found, word_left}
+use Rattle.core_seats.specs.Nexts.{next_point, the_next}
+use Rattle.core_seats.specs.Ready.{is_resolving, IsReady}
+use Rattle.core_seats.specs.Shown.{RulesView, fixed_of}
+use Rattle.core_seats.specs.Sound.{IsSound}
 use Rattle.region_locks.specs.Starts.{rules_of}
 use Rattle.region_locks.specs.Passes.{PassView, TableView, fixed_in, next_of_pass, pass_after, node_taken_next, IsPassOf}
 use Rattle.region_locks.specs.Quitting.{has_next_step, next_step, HasQuit, MayBegin}

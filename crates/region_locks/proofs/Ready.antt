@@ -10,19 +10,19 @@ use Rattle.core_steps.specs.Steps.{first_yield}
 use Rattle.core_steps.specs.Machine.{Next, resolving, quitting, next_at, index_of}
 use Rattle.region_locks.specs.Sights.{SightView, Tally, tally_after}
 use Rattle.region_locks.specs.Going.{next_asked, MayGo}
-use Rattle.core_machine.specs.Going.{view_found, word_left}
+use Rattle.core_seats.specs.Going.{view_found, word_left}
 use Rattle.region_locks.specs.Holders.{IsFoundHeld, AreReached}
 use Rattle.region_locks.specs.Plays.{IsSoundSight, SeatStepped}
 use Rattle.entity_recs.specs.Commands.{command_of}
-use Rattle.core_machine.specs.declared.seat.Seat as mirrors
-use Rattle.core_machine.specs.Ready.{is_resolving}
-use Rattle.core_machine.specs.Seats.{view_of}
+use Rattle.core_seats.specs.declared.seat.Seat as mirrors
+use Rattle.core_seats.specs.Ready.{is_resolving}
+use Rattle.core_seats.specs.Seats.{view_of}
 use Rattle.region_locks.specs.Hands.{hand_view, pass_view, IsAtPlace, CanFollow}
 use Rattle.region_locks.specs.WordSteps.{word_by, MayBe}
 use Rattle.region_locks.specs.declared.word_step.WordStep.{WordStep}
 use Rattle.region_locks.specs.Passes.{PassView, effect_kept, next_of_pass, pass_after, word_after, IsPassOf, IsReady, HasGone}
 use Rattle.region_locks.proofs.Owns.{own_after}
-use Rattle.core_machine.specs.Nexts.{next_resolved, next_point, the_next}
+use Rattle.core_seats.specs.Nexts.{next_resolved, next_point, the_next}
 
 pub some_is : (o : Option Next) → is_some o ≡ true → o ≡ Some (the_next o)
 some_is None e = absurd (false≢true e)

@@ -5,7 +5,7 @@ use Rattle.std.proofs.lemmas.Bool.{cases_Bool}
 use Rattle.core_steps.specs.Views.{Fixed, Point, Idle, Owning, Taking, Checking, Entering, Entered, Loading, Leaving, Sensing, Resolving, Claiming, Storing, Releasing, Returning, Yielding, View, Refused, inner_held, leaves_held}
 use Rattle.core_steps.specs.Steps.{rest_of, returning, released, yielding, yielded, view_after_give}
 use Rattle.core_steps.specs.Machine.{Next, Begin, LoadOwn, LoadAgain, TakeNode, ClaimNode, ReadList, ReadPlayer, ReadState, CommitMove, StoreWord, GiveNode, YieldNode, YieldCount}
-use Rattle.core_machine.specs.Going.{view_found}
+use Rattle.core_seats.specs.Going.{view_found}
 use Rattle.region_locks.specs.Sights.{Tally, tally_after}
 use Rattle.region_locks.specs.Passes.{RefusalIsListed}
 

@@ -12,7 +12,7 @@ use Rattle.world_tree.specs.Live.{record_at, live_in, IsEntry}
 use Rattle.world_tree.specs.Worlds.{WorldView, record_of}
 use Rattle.core_steps.specs.Views.{Fixed, has}
 use Rattle.core_steps.specs.Stands.{IsStart}
-use Rattle.core_machine.proofs.NearLists.{AreFound, found_at_ids}
+use Rattle.core_seats.proofs.NearLists.{AreFound, found_at_ids}
 use Rattle.region_locks.specs.Starts.{world_at_start}
 use Rattle.region_locks.specs.Closing.{record_in}
 

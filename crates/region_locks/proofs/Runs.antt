@@ -10,8 +10,8 @@ use Rattle.entity_recs.specs.Commands.{Command}
 use Rattle.entity_recs.specs.Histories.{entry_of}
 use Rattle.core_steps.specs.Steps.{item_at}
 use Rattle.core_steps.specs.Views.{Fixed, View, Point, stage_of, is_committed, without_command, Checking, Resolving, Releasing, ListRead, PlayerRead, Refused, region_in, leaf_nodes, leaf_word, record_read, effect_loaded}
-use Rattle.core_machine.specs.declared.refusals.Refusals.{Refusals}
-use Rattle.core_machine.specs.Refusals.{AreRefusals}
+use Rattle.core_seats.specs.declared.refusals.Refusals.{Refusals}
+use Rattle.core_seats.specs.Refusals.{AreRefusals}
 use Rattle.region_locks.specs.declared.gate_point.GatePoint.TheVariants.{Leaves, Computed, Committed}
 use Rattle.region_locks.specs.Sights.{HeldWord, IsOneOf, Tally}
 use Rattle.region_locks.specs.Passes.{PassView, IsPassOf}

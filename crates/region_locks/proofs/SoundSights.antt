@@ -4,8 +4,8 @@ use mathlib.Core.Option as maybe
 use lib.ListN.{get_elem?}
 use Rattle.atomic_table.specs.Table.{State}
 use Rattle.core_steps.specs.Views.{Fixed}
-use Rattle.core_machine.specs.Sound.{IsSound}
-use Rattle.core_machine.proofs.Sounding.{sound_here}
+use Rattle.core_seats.specs.Sound.{IsSound}
+use Rattle.core_seats.proofs.Sounding.{sound_here}
 use Rattle.region_locks.specs.Sights.{SightView}
 use Rattle.region_locks.specs.Rule.{at_rest, IsRuled}
 use Rattle.region_locks.specs.Plays.{IsSoundSight}

@@ -15,12 +15,12 @@ use Rattle.entity_recs.specs.Bodies.{abs_of}
 use Rattle.entity_recs.specs.Records.{with_state}
 use Rattle.core_steps.specs.Views.{Fixed, Point, Sensing, Resolving, has, things_in}
 use Rattle.areanode.specs.Words.{has_bit}
-use Rattle.core_machine.specs.ThingColumns.{MarksThings}
-use Rattle.core_machine.specs.NearKept.{AreThings, thing_with, touching, things_loaded}
-use Rattle.core_machine.proofs.ThingsLoaded.{touching_has, things_of_region, loaded_of_region, things_rise, touching_same, loaded_more, left_first, left_same}
+use Rattle.core_seats.specs.ThingColumns.{MarksThings}
+use Rattle.core_seats.specs.NearKept.{AreThings, thing_with, touching, things_loaded}
+use Rattle.core_seats.proofs.ThingsLoaded.{touching_has, things_of_region, loaded_of_region, things_rise, touching_same, loaded_more, left_first, left_same}
 use Rattle.core_steps.specs.Steps.{sensing, view_after_state}
-use Rattle.core_machine.specs.Nexts.{next_point, the_next}
-use Rattle.core_machine.specs.Ready.{is_resolving}
+use Rattle.core_seats.specs.Nexts.{next_point, the_next}
+use Rattle.core_seats.specs.Ready.{is_resolving}
 use Rattle.region_locks.specs.Passes.{PassView, next_of_pass, pass_after, state_read_next}
 use Rattle.region_locks.specs.Hands.{IsPlain}
 use Rattle.region_locks.specs.Straight.{in_view}

@@ -8,8 +8,8 @@ use Rattle.core_steps.specs.Encoding.{words_of}
 use Rattle.core_steps.specs.Views.{Fixed, View, Point, Releasing, Store, Clear, Put, Link, body_stores, stores_of, home, is_busy, stage_of, stores_owed}
 use Rattle.core_steps.specs.Steps.{storing}
 use Rattle.core_steps.specs.Machine.{Next, StoreWord}
-use Rattle.core_machine.specs.Going.{view_found, word_stored}
-use Rattle.core_machine.specs.Nexts.{the_next}
+use Rattle.core_seats.specs.Going.{view_found, word_stored}
+use Rattle.core_seats.specs.Nexts.{the_next}
 use Rattle.atomic_table.specs.Seated.{TableId}
 use Rattle.region_locks.specs.Passes.{PassView, IsPassOf, next_of_pass, pass_after, word_after}
 use Rattle.region_locks.specs.Hands.{IsPlain}

@@ -7,8 +7,8 @@ use Rattle.core_steps.specs.Cells.{with_bit, without_bit}
 use Rattle.core_steps.specs.Views.{Fixed, Store, Clear, Put, Link, Point, Idle, Owning, Taking, Checking, Entering, Entered, Loading, Leaving, Sensing, Resolving, Claiming, Storing, Releasing, Returning, Yielding, View, record_read, write_nodes, stores_owed}
 use Rattle.core_steps.specs.Steps.{first_yield, next_give}
 use Rattle.core_steps.specs.Machine.{Next, beginning, StoreWord, resolving, quitting, committing, giving, index_of}
-use Rattle.core_machine.specs.Going.{word_left}
-use Rattle.core_machine.specs.Nexts.{next_resolved, next_point, the_next}
+use Rattle.core_seats.specs.Going.{word_left}
+use Rattle.core_seats.specs.Nexts.{next_resolved, next_point, the_next}
 use Rattle.region_locks.specs.Passes.{PassView, bit_owed, index_owed, word_owed, next_of_pass, pass_after, store_made, store_made_next, is_clear, is_put, is_set, is_unlink_next, is_store_next, is_link_next}
 
 -- what is known of a pass whose next step makes this store

@@ -12,10 +12,10 @@ use Rattle.core_steps.specs.Stands.{IsAt, IsClaimingAfter}
 use Rattle.core_steps.proofs.Waiting.{leaf_below}
 use Rattle.core_steps.proofs.Runs.{all_from_has}
 use Rattle.core_steps.specs.Calls.{node_taken}
-use Rattle.core_machine.specs.Going.{word_left}
-use Rattle.core_machine.specs.Ready.{is_resolving}
+use Rattle.core_seats.specs.Going.{word_left}
+use Rattle.core_seats.specs.Ready.{is_resolving}
 use Rattle.region_locks.specs.Passes.{PassView, first_effect, effect_in_hand, next_of_pass, node_taken_next, IsPassOf}
-use Rattle.core_machine.specs.Nexts.{next_resolved, next_point, the_next}
+use Rattle.core_seats.specs.Nexts.{next_resolved, next_point, the_next}
 
 -- what is known of a pass whose next step takes a node: the step, and whether the node is taken to write
 pub record Takes (F : Fixed) (p : PassView) (node : ℕ) (next : Next) : Type 0 where

@@ -12,8 +12,8 @@ use Rattle.core_steps.specs.Steps.{Core, words_after_store}
 use Rattle.core_steps.specs.Machine.{Next, Begin, LoadOwn, LoadAgain, TakeNode, ClaimNode, ReadList, ReadPlayer, ReadState, CommitMove, StoreWord, GiveNode, YieldNode, YieldCount, core_after, word_of_next}
 use Rattle.core_steps.specs.Calls.{node_taken}
 use Rattle.core_steps.proofs.Puts.{put_same, put_other}
-use Rattle.core_machine.specs.Going.{word_left}
-use Rattle.core_machine.proofs.Changing.{word_here}
+use Rattle.core_seats.specs.Going.{word_left}
+use Rattle.core_seats.proofs.Changing.{word_here}
 use Rattle.region_locks.specs.Sights.{HeldWord, Tally, no_tally, tally_taken, tally_after, tally_of_both, IsOneOf, AreRefusalsServed, SightView}
 use Rattle.region_locks.specs.Rule.{WasTaken, AreTakesListed}
 use Rattle.region_locks.proofs.Idle.{place_below}

@@ -11,10 +11,10 @@ use Rattle.core_steps.specs.Steps.{taking, point_after_take, view_after_take, vi
 use Rattle.core_steps.specs.Machine.{Next, Begin, LoadOwn, LoadAgain, TakeNode, ClaimNode, ReadList, ReadPlayer, ReadState, CommitMove, StoreWord, GiveNode, YieldNode, YieldCount}
 use Rattle.core_steps.specs.Stands.{IsTaking, IsAt}
 use Rattle.core_steps.specs.Calls.{node_taken}
-use Rattle.core_machine.specs.declared.refusals.Refusals.{Refusals}
-use Rattle.core_machine.specs.Refusals.{AreRefusals, last_of}
-use Rattle.core_machine.specs.Going.{view_found, word_left}
-use Rattle.core_machine.specs.Nexts.{next_point, the_next}
+use Rattle.core_seats.specs.declared.refusals.Refusals.{Refusals}
+use Rattle.core_seats.specs.Refusals.{AreRefusals, last_of}
+use Rattle.core_seats.specs.Going.{view_found, word_left}
+use Rattle.core_seats.specs.Nexts.{next_point, the_next}
 use Rattle.region_locks.specs.Hands.{IsPlain}
 use Rattle.region_locks.specs.Passes.{PassView, next_of_pass, node_taken_next, pass_after, word_after, IsPassOf}
 use Rattle.region_locks.specs.Sights.{HeldWord, Tally, tally_after}

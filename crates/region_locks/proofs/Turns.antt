@@ -8,8 +8,8 @@ use Rattle.core_steps.specs.Views.{Fixed, Point, Idle, Owning, Taking, Checking,
 use Rattle.core_steps.specs.Machine.{Next, Begin, LoadOwn, LoadAgain, TakeNode, ClaimNode, ReadList, ReadPlayer, ReadState, CommitMove, StoreWord, GiveNode, YieldNode, YieldCount, giving, beginning, committing, resolving, quitting}
 use Rattle.core_steps.specs.Views.{record_read, write_nodes}
 use Rattle.core_steps.specs.Steps.{next_give, first_yield}
-use Rattle.core_machine.specs.Nexts.{next_point, next_resolved}
-use Rattle.core_machine.specs.Ready.{is_resolving}
+use Rattle.core_seats.specs.Nexts.{next_point, next_resolved}
+use Rattle.core_seats.specs.Ready.{is_resolving}
 use Rattle.region_locks.specs.declared.turn.Turn.{Turn}
 use Rattle.atomic_table.specs.Seated.{TableId}
 use Rattle.region_locks.specs.Passes.{PassView, next_of_pass, IsPassOf}

@@ -8,7 +8,7 @@ use Rattle.core_steps.specs.Views.{Fixed, Point, Idle, Owning, Taking, Checking,
 use Rattle.core_steps.specs.Steps.{rest_of, first_yield, next_give, is_taking, returning, released, yielding, yielded, view_after_give}
 use Rattle.core_steps.specs.Machine.{Next, Begin, LoadOwn, LoadAgain, TakeNode, ClaimNode, ReadList, ReadPlayer, ReadState, CommitMove, StoreWord, GiveNode, YieldNode, YieldCount, giving, quitting, beginning, resolving, committing, next_at}
 use Rattle.region_locks.specs.Going.{next_asked}
-use Rattle.core_machine.specs.Going.{view_found}
+use Rattle.core_seats.specs.Going.{view_found}
 
 -- the command in view after what comes next
 abbrev pub command_next : View → Next → Command

@@ -8,7 +8,7 @@ use Rattle.areanode.specs.Words.{has_bit}
 use Rattle.core_steps.specs.Views.{Fixed, View, Point, Entered, Loading, Leaving, PlayerRead, player_at, without_player, players_in, is_leaf}
 use Rattle.core_steps.specs.Steps.{loading}
 use Rattle.core_steps.specs.Machine.{Next, ReadList}
-use Rattle.core_machine.specs.Nexts.{the_next}
+use Rattle.core_seats.specs.Nexts.{the_next}
 use Rattle.region_locks.specs.Hands.{IsPlain}
 use Rattle.region_locks.specs.Loads.{after_loads, record_loaded_next}
 use Rattle.region_locks.specs.Passes.{PassView, next_of_pass, pass_after, list_read_next}

@@ -9,10 +9,10 @@ use Rattle.areanode.specs.Trees.{leaf_node, leaves_of, visited_of}
 use Rattle.core_steps.specs.Views.{Fixed, Point, Entering, Entered, Leaving, PlayerRead, player_at, is_leaf, plan_of, region_in, inner_visited, leaf_word, held_word, stage_of}
 use Rattle.core_steps.specs.Steps.{loading, visiting, point_after_take, view_after_give}
 use Rattle.core_steps.specs.Machine.{Next, TakeNode, GiveNode}
-use Rattle.core_machine.specs.declared.refusals.Refusals.{Refusals}
-use Rattle.core_machine.specs.Refusals.{AreRefusals}
-use Rattle.core_machine.specs.Going.{word_left}
-use Rattle.core_machine.specs.Nexts.{the_next}
+use Rattle.core_seats.specs.declared.refusals.Refusals.{Refusals}
+use Rattle.core_seats.specs.Refusals.{AreRefusals}
+use Rattle.core_seats.specs.Going.{word_left}
+use Rattle.core_seats.specs.Nexts.{the_next}
 use Rattle.region_locks.specs.Hands.{IsPlain}
 use Rattle.region_locks.specs.Passes.{PassView, next_of_pass, pass_after, node_given_next, word_after}
 use Rattle.region_locks.specs.Straight.{in_view, in_view_with, HasKept, nodes_read}

@@ -15,7 +15,7 @@ use Rattle.core_steps.specs.Cells.{Body, State, cell_index}
 use Rattle.core_steps.specs.Encoding.{record_from}
 use Rattle.core_steps.specs.Views.{Fixed, View, Idle, has}
 use Rattle.core_steps.specs.Stands.{is_live_cell, value_in, ended_log, is_ended, items_below}
-use Rattle.core_machine.specs.Logs.{entries_of}
+use Rattle.core_seats.specs.Logs.{entries_of}
 use Rattle.region_locks.specs.Sights.{Tally, no_tally, tally_of_both, SightView, no_sight, with_one_ended}
 use Rattle.region_locks.specs.Passes.{PassView, RefusalIsListed, sight_of}
 

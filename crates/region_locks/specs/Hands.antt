@@ -2,17 +2,17 @@
 use Rattle.std.specs.Prelude.{◌≡◌, ℕ, suc, ◌+◌, ◌^◌, ◌<◌, Bool, true, false, [], Option, Some, None, is_some}
 use Rattle.atomic_table.specs.declared.shared.Seat as places
 use Rattle.entity_recs.specs.declared.effect.Effect.{Effect}
-use Rattle.core_machine.specs.declared.seat.Seat.{Seat}
+use Rattle.core_seats.specs.declared.seat.Seat.{Seat}
 use Rattle.entity_recs.specs.Commands.{Command}
 use Rattle.core_steps.specs.declared.step.StepKind.TheVariants.{Commit}
 use Rattle.core_steps.specs.Views.{Fixed, View}
 use Rattle.core_steps.specs.Steps.{view_after_begin}
 use Rattle.core_steps.specs.Machine.{kind_of}
-use Rattle.core_machine.specs.Going.{view_found}
-use Rattle.core_machine.specs.Nexts.{next_with, the_next}
-use Rattle.core_machine.specs.Ready.{IsReady}
-use Rattle.core_machine.specs.Sound.{IsSound}
-use Rattle.core_machine.specs.Seats.{view_of, given_of}
+use Rattle.core_seats.specs.Going.{view_found}
+use Rattle.core_seats.specs.Nexts.{next_with, the_next}
+use Rattle.core_seats.specs.Ready.{IsReady}
+use Rattle.core_seats.specs.Sound.{IsSound}
+use Rattle.core_seats.specs.Seats.{view_of, given_of}
 use Rattle.region_locks.specs.Sights.{SightView}
 use Rattle.region_locks.specs.Passes.{PassView, effect_kept}
 

@@ -11,7 +11,7 @@ use Rattle.core_steps.specs.Machine.{Next, index_of}
 use Rattle.region_locks.specs.Sights.{HeldWord, IsOneOf, AreRefusalsServed, SightView, sight_found, no_sight}
 use Rattle.region_locks.specs.Sights.{with_one_made, sight_made, with_one_ended}
 use Rattle.region_locks.specs.Going.{view_looked, IsAtRest, MayGo}
-use Rattle.core_machine.specs.Going.{word_left}
+use Rattle.core_seats.specs.Going.{word_left}
 use Rattle.region_locks.specs.Rule.{HasWords, WasTaken, IsRuled, first_sight}
 use Rattle.region_locks.specs.Closing.{AreOthersEnded, Closes}
 

@@ -28,6 +28,6 @@ pub use Rattle.core_steps.specs.Views
 pub use Rattle.core_steps.specs.Steps
 pub use Rattle.core_steps.specs.Stands
 pub use Rattle.core_steps.specs.Machine
-pub use Rattle.core_machine.specs.Going as Stepping
-pub use Rattle.core_machine.specs.Sound
-pub use Rattle.core_machine.specs.Nexts
+pub use Rattle.core_seats.specs.Going as Stepping
+pub use Rattle.core_seats.specs.Sound
+pub use Rattle.core_seats.specs.Nexts

@@ -4,7 +4,7 @@ use Rattle.atomic_table.specs.Seated.{TableId}
 use Rattle.entity_recs.specs.declared.rec.Rec.{Rec}
 use Rattle.core_steps.specs.Views.{Fixed, View, record_read}
 use Rattle.core_steps.specs.Machine.{Next, Begin, LoadOwn, LoadAgain, ReadPlayer}
-use Rattle.core_machine.specs.Nexts.{the_next}
+use Rattle.core_seats.specs.Nexts.{the_next}
 use Rattle.region_locks.specs.Passes.{PassView, next_of_pass, pass_after, IsPassOf}
 
 -- a word of a player's record: whose it is, and the words before it, which were loaded

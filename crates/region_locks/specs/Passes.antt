@@ -18,9 +18,9 @@ use Rattle.core_steps.specs.declared.step.StepKind.TheVariants.{Commit}
 use Rattle.region_locks.specs.Sights.{HeldWord, IsOneOf, SightView, Tally, no_tally, tally_after}
 use Rattle.region_locks.specs.Starts.{fixed_by}
 use Rattle.core_steps.specs.Calls.{node_taken}
-use Rattle.core_machine.specs.Going.{view_found, word_left}
-use Rattle.core_machine.specs.Nexts.{next_with, the_next}
-use Rattle.core_machine.specs.Ready.{is_resolving}
+use Rattle.core_seats.specs.Going.{view_found, word_left}
+use Rattle.core_seats.specs.Nexts.{next_with, the_next}
+use Rattle.core_seats.specs.Ready.{is_resolving}
 use Rattle.region_locks.specs.Holders.{IsFoundHeld, AreReached}
 use Rattle.region_locks.specs.Plays.{IsSoundSight}
 

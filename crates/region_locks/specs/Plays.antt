@@ -5,8 +5,8 @@ use Rattle.entity_recs.specs.Commands.{Command}
 use Rattle.core_steps.specs.Views.{Fixed, record_read}
 use Rattle.core_steps.specs.declared.step.StepKind.TheVariants.{Commit}
 use Rattle.core_steps.specs.Machine.{Next, ReadPlayer, YieldCount, index_of, kind_of}
-use Rattle.core_machine.specs.Going.{view_found, word_left}
-use Rattle.core_machine.specs.Sound.{IsSound}
+use Rattle.core_seats.specs.Going.{view_found, word_left}
+use Rattle.core_seats.specs.Sound.{IsSound}
 use Rattle.region_locks.specs.Sights.{SightView, tally_after}
 use Rattle.region_locks.specs.Going.{view_looked, MayGo}
 use Rattle.region_locks.specs.Holders.{IsFoundHeld, AreReached}

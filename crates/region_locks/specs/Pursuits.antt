@@ -11,7 +11,7 @@ use Rattle.core_steps.specs.Views.{has, leaf_nodes, inner_visited, region_in, in
 use Rattle.core_steps.specs.Views.{stage_of, is_busy}
 use Rattle.core_steps.specs.Steps.{is_taking}
 use Rattle.core_steps.specs.Calls.{pursued_of}
-use Rattle.core_machine.specs.StepsLeft.{left_at, steps_left}
+use Rattle.core_seats.specs.StepsLeft.{left_at, steps_left}
 use Rattle.region_locks.specs.Passes.{PassView, IsPassOf, IsHolderIn, effect_in_hand}
 use Rattle.region_locks.specs.Holders.{IsOtherHolder}
 use Rattle.region_locks.specs.declared.went.Went.{Went}

@@ -4,7 +4,7 @@ use Rattle.core_steps.specs.Views.{Fixed, View, new_view, spent}
 use Rattle.core_steps.specs.Steps.{with_ended}
 use Rattle.core_steps.specs.Machine.{Next, Begin}
 use Rattle.core_steps.specs.Calls.{node_taken}
-use Rattle.core_machine.specs.Going.{view_found, word_left}
+use Rattle.core_seats.specs.Going.{view_found, word_left}
 
 -- a node, and the word that says who holds it
 pub record HeldWord : Type 0 where

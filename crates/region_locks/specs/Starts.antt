@@ -8,7 +8,7 @@ use Rattle.world_tree.specs.Worlds.{WorldView}
 use Rattle.core_steps.specs.Cells.{word_at}
 use Rattle.core_steps.specs.Views.{Fixed, home}
 use Rattle.core_steps.specs.Stands.{is_player, start_words}
-use Rattle.core_machine.specs.Shown.{RulesView, fixed_of}
+use Rattle.core_seats.specs.Shown.{RulesView, fixed_of}
 
 -- the world of the live records
 abbrev pub world_at_start : WorldView → World

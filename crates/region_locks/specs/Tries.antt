@@ -1,7 +1,7 @@
 -- A take that may be refused, in a move as straight code.
 use Rattle.std.specs.Prelude.{◌≡◌, ℕ, ◌==◌, Bool}
 use Rattle.core_steps.specs.Views.{Fixed, Point}
-use Rattle.core_machine.specs.Nexts.{the_next}
+use Rattle.core_seats.specs.Nexts.{the_next}
 use Rattle.region_locks.specs.Passes.{PassView, next_of_pass, pass_after}
 use Rattle.region_locks.specs.Straight.{in_view_with, at_point}
 

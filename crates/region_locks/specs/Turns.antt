@@ -3,7 +3,7 @@ use Rattle.std.specs.Prelude.{◌≡◌, [], Bool, ◌||◌, if◌then◌else◌
 use Rattle.core_steps.specs.Views.{Fixed, Store, Clear, Put, Link, View, stage_of, is_busy}
 use Rattle.core_steps.specs.Machine.{Next, Begin, LoadOwn, LoadAgain, TakeNode, ClaimNode, ReadList, ReadPlayer}
 use Rattle.core_steps.specs.Machine.{ReadState, CommitMove, StoreWord, GiveNode, YieldNode, YieldCount}
-use Rattle.core_machine.specs.Ready.{is_resolving}
+use Rattle.core_seats.specs.Ready.{is_resolving}
 use Rattle.region_locks.specs.declared.turn.Turn.{Turn}
 use Rattle.region_locks.specs.declared.turn.Turn.TheVariants.{LoadRec, Take, LoadList, LoadState, Resolve, Commit}
 use Rattle.region_locks.specs.declared.turn.Turn.TheVariants.{Unlink, StoreNext, SetLink, GiveBack}

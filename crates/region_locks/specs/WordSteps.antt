@@ -3,7 +3,7 @@ use Rattle.std.specs.Prelude.{◌≡◌, ℕ, ◌+◌, ◌<◌, ◌==◌, if◌t
 use Rattle.core_steps.specs.Cells.{with_bit, without_bit}
 use Rattle.core_steps.specs.Views.{Fixed, View}
 use Rattle.core_steps.specs.Machine.{Next}
-use Rattle.core_machine.specs.Going.{view_found}
+use Rattle.core_seats.specs.Going.{view_found}
 use Rattle.region_locks.specs.declared.word_step.WordStep.{WordStep}
 use Rattle.region_locks.specs.declared.word_step.WordStep.TheVariants.{Load, Store, Take, Count, Clear, Set}
 

@@ -1,14 +1,14 @@
 ghost use Rattle.std.specs.Prelude.{◌≡◌, ◌+◌, ◌∷◌, ◌==◌, suc, Some, if◌then◌else◌};
 ghost use Rattle.core_steps.specs.Views.{Resolving, Claiming, View, effect_loaded};
 ghost use Rattle.core_steps.specs.Steps.{first, view_after_take, view_after_claim, view_after_refusal};
-ghost use Rattle.core_machine.specs.Refusals.{AreRefusals};
+ghost use Rattle.core_seats.specs.Refusals.{AreRefusals};
 ghost use Rattle.region_locks.specs.Passes.{fixed_in, IsOwn};
 ghost use Rattle.region_locks.specs.Writing.{HasTried, nodes_written, nodes_held, claims_left, claimed};
 
 use crate::hand::Hand;
 use crate::table::NodeTable;
 use crate::word_step::WordStep;
-use core_machine::{NodeQueue, Refusals};
+use core_seats::{NodeQueue, Refusals};
 use core_steps::node_word;
 use entity_recs::{Action, Effect};
 use std::sync::Wait;

@@ -2,7 +2,7 @@ ghost use Rattle.std.specs.Prelude.{◌≡◌, ◌≤◌, true, length, IfSome, 
 ghost use Rattle.entity_recs.specs.Histories.{entry_of};
 ghost use Rattle.region_locks.specs.Passes.{is_commit_next, first_effect, IsOwn, next_in, after_in};
 ghost use Rattle.region_locks.specs.Passes.{effect_in_hand};
-ghost use Rattle.core_machine.specs.Nexts.{the_next};
+ghost use Rattle.core_seats.specs.Nexts.{the_next};
 
 use crate::owed::slot_and_seq;
 use crate::pass::Pass;

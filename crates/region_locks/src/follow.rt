@@ -1,13 +1,13 @@
 ghost use Rattle.std.specs.Prelude.{◌≡◌, false, None};
-ghost use Rattle.core_machine.specs.Going.{view_found};
-ghost use Rattle.core_machine.specs.Nexts.{next_with, the_next};
-ghost use Rattle.core_machine.specs.Ready as ready;
-ghost use Rattle.core_machine.specs.Seats.{view_of, given_of};
-ghost use Rattle.core_machine.specs.Shown.{fixed_of};
+ghost use Rattle.core_seats.specs.Going.{view_found};
+ghost use Rattle.core_seats.specs.Nexts.{next_with, the_next};
+ghost use Rattle.core_seats.specs.Ready as ready;
+ghost use Rattle.core_seats.specs.Seats.{view_of, given_of};
+ghost use Rattle.core_seats.specs.Shown.{fixed_of};
 ghost use Rattle.region_locks.specs.Passes.{effect_kept};
 ghost use Rattle.region_locks.specs.Hands.{CanFollow};
 
-use core_machine::{Point, Rules, Seat};
+use core_seats::{Point, Rules, Seat};
 use entity_recs::{Action, Effect};
 
 /// Whether all is read and no write node is taken.

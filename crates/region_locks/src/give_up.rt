@@ -5,7 +5,7 @@ ghost use Rattle.region_locks.specs.Pursuits.{HasGivenUp};
 
 use crate::pass::Pass;
 use crate::table::NodeTable;
-use core_machine::first_of_two;
+use core_seats::first_of_two;
 use entity_recs::Action;
 
 impl<'a, A: Action> NodeTable<'a, A> {

@@ -1,5 +1,5 @@
 ghost use Rattle.std.specs.Prelude.{◌≡◌, ◌≤◌, ℕ, [], length};
-ghost use Rattle.core_machine.specs.Nexts.{the_next};
+ghost use Rattle.core_seats.specs.Nexts.{the_next};
 ghost use Rattle.region_locks.specs.Starts.{fixed_by};
 ghost use Rattle.region_locks.specs.Going.{IsAtRest, view_looked};
 ghost use Rattle.region_locks.specs.Plays.{IsSoundSight};

@@ -3,7 +3,7 @@ ghost use Rattle.entity_recs.specs.Commands.{command_of};
 ghost use Rattle.core_steps.specs.declared.step.StepKind.TheVariants.{Commit};
 ghost use Rattle.core_steps.specs.Machine.{ReadPlayer, YieldCount, IsPending, index_of, kind_of};
 ghost use Rattle.core_steps.specs.Views.{Idle, record_read};
-ghost use Rattle.core_machine.specs.Nexts.{the_next};
+ghost use Rattle.core_seats.specs.Nexts.{the_next};
 ghost use Rattle.region_locks.specs.Hands.{begun_with, keeping, still_keeping};
 ghost use Rattle.region_locks.specs.Holders.{IsFoundHeld, AreReached};
 ghost use Rattle.region_locks.specs.Passes.{fixed_in, word_after, IsOwn, next_in, after_in};

@@ -1,5 +1,5 @@
 use arena_geo::Region;
-use core_machine::NodeQueue;
+use core_seats::NodeQueue;
 
 /// What a move knows once it holds its leaves.
 #[derive(Drop)]

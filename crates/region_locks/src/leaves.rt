@@ -3,7 +3,7 @@ ghost use Rattle.areanode.specs.Words.{word_of};
 ghost use Rattle.core_steps.specs.Views.{has};
 
 use crate::pass::Pass;
-use core_machine::with_top_bit;
+use core_seats::with_top_bit;
 
 /// Whether the node is one of these.
 fn is_among(nodes: &[u8], node: u8) -> bool

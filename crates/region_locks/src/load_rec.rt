@@ -7,7 +7,7 @@ use crate::pass::Pass;
 use crate::table::NodeTable;
 use crate::word_step::WordStep;
 use arrayvec::ArrayVec;
-use core_machine::{WordList, read_record};
+use core_seats::{WordList, read_record};
 use core_steps::{record_word, state_word};
 use entity_recs::{Action, Rec};
 

@@ -1,9 +1,9 @@
 ghost use Rattle.std.specs.Prelude.{◌≡◌};
-ghost use Rattle.core_machine.specs.Seats.{view_of};
+ghost use Rattle.core_seats.specs.Seats.{view_of};
 ghost use Rattle.region_locks.specs.Pursuits as pursuits;
 
 use crate::pass::Pass;
-use core_machine::{Point, Seat};
+use core_seats::{Point, Seat};
 
 /// Whether all leaves are held, and the own record isn't loaded again whole.
 fn is_checking(seat: &Seat) -> bool

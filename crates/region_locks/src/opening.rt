@@ -8,7 +8,7 @@ use crate::sight::Sight;
 use crate::start::words_at_start;
 use arrayvec::ArrayVec;
 use atomic_table::Table;
-use core_machine::Rules;
+use core_seats::Rules;
 use entity_recs::{Action, Rec};
 use std::alloc::{AllocError, Global};
 use std::snapshot::Snapshot;

@@ -1,12 +1,11 @@
 ghost use Rattle.std.specs.Prelude.{◌≡◌, map};
 ghost use Rattle.core_steps.specs.Views.{stores_owed};
 ghost use Rattle.core_steps.specs.Cells.{cell_index};
-ghost use Rattle.core_machine.specs.Tables.{cell_in};
-ghost use Rattle.core_machine.specs.Points.{store_of};
-ghost use Rattle.core_machine.specs.Seats.{view_of, hand_of};
+ghost use Rattle.core_seats.specs.Points.{cell_in, store_of};
+ghost use Rattle.core_seats.specs.Seats.{view_of, hand_of};
 ghost use Rattle.region_locks.specs.Passes as passes;
 
-use core_machine::{Cell, Point, Seat, Store};
+use core_seats::{Cell, Point, Seat, Store};
 use core_steps::{FIRST_STATE_WORD, record_word};
 
 /// The node at which the own bit is cleared or set by the first of these stores, and 0 where it is none of the bit.

@@ -13,7 +13,7 @@ use crate::load_rec::index_of_word;
 use crate::table::NodeTable;
 use crate::word_step::WordStep;
 use arrayvec::ArrayVec;
-use core_machine::WordList;
+use core_seats::WordList;
 use entity_recs::{Action, Cmd};
 
 impl<'a, A: Action> NodeTable<'a, A> {

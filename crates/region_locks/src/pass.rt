@@ -1,12 +1,12 @@
 ghost use Rattle.std.specs.Prelude.{◌≡◌, false, [], None};
-ghost use Rattle.core_machine.specs.Seats.{view_of};
+ghost use Rattle.core_seats.specs.Seats.{view_of};
 ghost use Rattle.region_locks.specs.Passes.{new_pass, sight_of};
 ghost use Rattle.region_locks.specs.Sights.{no_tally};
 ghost use Rattle.region_locks.specs.Closing.{log_from};
 
 use crate::hand::Hand;
 use crate::key::Place;
-use core_machine::Seat;
+use core_seats::Seat;
 use entity_recs::Effect;
 use move_journal::Log;
 use std::marker::{Model, PhantomData};
@@ -26,7 +26,7 @@ pub struct Pass<A> {
 impl<A> Model for Pass<A> {
     ghost use Rattle.region_locks.specs.Passes.{PassView};
     ghost use Rattle.std.specs.Prelude.{◌≡◌};
-    ghost use Rattle.core_machine.specs.Seats.{view_of};
+    ghost use Rattle.core_seats.specs.Seats.{view_of};
 
     ghost Value = { PassView };
 

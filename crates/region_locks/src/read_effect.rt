@@ -3,7 +3,7 @@ ghost use Rattle.entity_recs.specs.Actions.{IsCall};
 ghost use Rattle.entity_recs.specs.Commands.{command_of};
 ghost use Rattle.core_steps.specs.Views.{Resolving, region_in, things_in, effect_loaded};
 ghost use Rattle.core_steps.specs.Steps.{sensing};
-ghost use Rattle.core_machine.specs.NearKept.{players_kept};
+ghost use Rattle.core_seats.specs.NearKept.{players_kept};
 ghost use Rattle.region_locks.specs.Passes.{fixed_in, IsOwn};
 ghost use Rattle.region_locks.specs.Hands.{keeping};
 ghost use Rattle.region_locks.specs.Straight.{in_view, HasKept};
@@ -11,7 +11,7 @@ ghost use Rattle.region_locks.specs.Straight.{in_view, HasKept};
 use crate::hand::Hand;
 use crate::table::NodeTable;
 use arena_geo::Region;
-use core_machine::read_record;
+use core_seats::read_record;
 use entity_recs::{Action, Cmd, Effect, Rec};
 use world_tree::NearList;
 

@@ -7,7 +7,7 @@ ghost use Rattle.region_locks.specs.Starts.{world_at_start, fixed_of_world, home
 ghost use Rattle.region_locks.specs.Starts.{AreStartWords};
 
 use crate::records::TABLE_WORDS;
-use core_machine::with_top_bit;
+use core_seats::with_top_bit;
 use core_steps::{FIRST_LIST_WORD, FIRST_RECORD_WORD, FIRST_STATE_WORD, encode};
 use entity_recs::abs_box;
 use std::alloc::{AllocError, Global};

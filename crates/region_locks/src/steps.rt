@@ -1,5 +1,5 @@
 ghost use Rattle.std.specs.Prelude.{◌≡◌, ℕ, length};
-ghost use Rattle.core_machine.specs.Going.{word_left};
+ghost use Rattle.core_seats.specs.Going.{word_left};
 ghost use Rattle.core_steps.specs.Machine.{index_of};
 ghost use Rattle.region_locks.specs.Starts.{fixed_by};
 ghost use Rattle.region_locks.specs.Going.{MayGo};

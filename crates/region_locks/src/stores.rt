@@ -1,7 +1,7 @@
 ghost use Rattle.std.specs.Prelude.{◌≡◌, true, length};
 ghost use Rattle.region_locks.specs.Passes.{is_unlink_next, IsOwn, next_in, after_in};
 ghost use Rattle.region_locks.specs.Passes.{is_store_next, is_link_next};
-ghost use Rattle.core_machine.specs.Nexts.{the_next};
+ghost use Rattle.core_seats.specs.Nexts.{the_next};
 
 use crate::owed::{bit_owed, put_owed, slot_and_seq};
 use crate::pass::Pass;

@@ -11,7 +11,7 @@ use crate::pass::Pass;
 use crate::seats::make;
 use crate::sight::Sight;
 use atomic_table::Table;
-use core_machine::{Rules, Seat};
+use core_seats::{Rules, Seat};
 use entity_recs::Action;
 use std::alloc::{AllocError, Global};
 use std::marker::Model;

@@ -6,10 +6,10 @@ ghost use Rattle.core_steps.specs.Steps as steps;
 ghost use Rattle.core_steps.specs.Views as views;
 ghost use Rattle.core_steps.specs.Views.{Fixed, View};
 ghost use Rattle.core_steps.specs.Machine.{next_at, beginning};
-ghost use Rattle.core_machine.specs.Nexts.{next_point};
-ghost use Rattle.core_machine.specs.Ready as ready;
-ghost use Rattle.core_machine.specs.Points.{store_of};
-ghost use Rattle.core_machine.specs.Seats.{view_of, given_of};
+ghost use Rattle.core_seats.specs.Nexts.{next_point};
+ghost use Rattle.core_seats.specs.Ready as ready;
+ghost use Rattle.core_seats.specs.Points.{store_of};
+ghost use Rattle.core_seats.specs.Seats.{view_of, given_of};
 ghost use Rattle.region_locks.specs.Passes.{fixed_in, IsOwn};
 ghost use Rattle.region_locks.specs.Turns.{turn_for, turn_of, has_command_in_hand};
 
@@ -17,7 +17,7 @@ use crate::follow::is_resolving;
 use crate::owed::slot_and_seq;
 use crate::pass::Pass;
 use crate::table::NodeTable;
-use core_machine::{Point, Seat, Store};
+use core_seats::{Point, Seat, Store};
 use entity_recs::Action;
 
 /// Which call makes a pass's next step.

@@ -2,7 +2,7 @@ ghost use Rattle.std.specs.Prelude.{◌≡◌, ◌<◌, ◌%◌, ◌^◌, ℕ, [
 ghost use Rattle.areanode.specs.Trees.{leaves_of, visited_of};
 ghost use Rattle.core_steps.specs.Steps.{visiting};
 ghost use Rattle.core_steps.specs.Views.{Entering, Entered, Leaving, inner_visited, plan_of, region_in};
-ghost use Rattle.core_machine.specs.Refusals.{AreRefusals};
+ghost use Rattle.core_seats.specs.Refusals.{AreRefusals};
 ghost use Rattle.region_locks.specs.Passes.{fixed_in, IsOwn};
 ghost use Rattle.region_locks.specs.Straight.{HasKept, IsTriedOn, in_view, in_view_with, nodes_read};
 ghost use Rattle.region_locks.specs.Visits.{plan_left, read_until, under_until, visited_until};
@@ -11,7 +11,7 @@ use crate::bit_walk::{lowest_bit, without_bit};
 use crate::hand::Hand;
 use crate::table::NodeTable;
 use crate::word_step::WordStep;
-use core_machine::{NodeQueue, Refusals};
+use core_seats::{NodeQueue, Refusals};
 use core_steps::{list_word, node_word};
 use entity_recs::Action;
 use std::sync::Wait;

@@ -2,7 +2,7 @@ ghost use Rattle.std.specs.Prelude.{◌≡◌, ℕ, List, [], ◌∷◌, ◌++�
 ghost use Rattle.core_steps.specs.declared.step.StepKind.TheVariants.{Commit};
 ghost use Rattle.core_steps.specs.Machine.{ReadPlayer, YieldCount, index_of, kind_of};
 ghost use Rattle.core_steps.specs.Views.{record_read};
-ghost use Rattle.core_machine.specs.Nexts.{the_next};
+ghost use Rattle.core_seats.specs.Nexts.{the_next};
 ghost use Rattle.region_locks.specs.Holders.{IsFoundHeld, AreReached};
 ghost use Rattle.region_locks.specs.Passes.{fixed_in, word_after, IsOwn, next_in, after_in};
 ghost use Rattle.region_locks.specs.WordSteps.{word_by, MayBe};

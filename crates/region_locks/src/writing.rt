@@ -1,14 +1,14 @@
 ghost use Rattle.std.specs.Prelude.{◌≡◌, ◌+◌, ◌^◌, ◌<◌, ◌≤◌};
 ghost use Rattle.core_steps.specs.Views.{Resolving, Releasing, effect_loaded, home, leaf_word, record_read};
 ghost use Rattle.core_steps.specs.Views.{inner_of_two, without_command};
-ghost use Rattle.core_machine.specs.Refusals.{AreRefusals};
+ghost use Rattle.core_seats.specs.Refusals.{AreRefusals};
 ghost use Rattle.region_locks.specs.Passes.{fixed_in, IsOwn};
 ghost use Rattle.region_locks.specs.Straight.{in_view};
 ghost use Rattle.region_locks.specs.Writing.{HasTried, nodes_written, written};
 
 use crate::hand::Hand;
 use crate::table::NodeTable;
-use core_machine::{NodeQueue, Refusals};
+use core_seats::{NodeQueue, Refusals};
 use entity_recs::{Action, Effect, Rec};
 use std::sync::Wait;
 

@@ -5,7 +5,7 @@ use entity_recs::{Action, Cmd, Effect, IdList, Rec, Reply, StateList, abs_box};
 pub struct Staying;
 
 impl Action for Staying {
-    ghost use Rattle.core_machine.specs.Staying as staying;
+    ghost use Rattle.core_seats.specs.Staying as staying;
 
     ghost meaning = { λ a. staying.meaning };
 

@@ -1,5 +1,5 @@
 use Rattle.std.proofs.Common.{List, [], ◌∷◌, ◌++◌, ap, ◌∙◌}
-use Rattle.core_machine.specs.declared.seat.Seat.{Seat}
+use Rattle.core_seats.specs.declared.seat.Seat.{Seat}
 use Rattle.core_machine.proofs.Starting.{start_of}
 use Rattle.core_machine.proofs.machine.new_seats.Goals as goal
 

@@ -1,6 +1,6 @@
 use Rattle.std.proofs.Common.{◌<◌, length, length-set, ◌∙◌, arith}
 use Rattle.core_steps.specs.Stands.{start_words}
-use Rattle.core_machine.specs.Shown.{fixed_of}
+use Rattle.core_seats.specs.Shown.{fixed_of}
 use Rattle.core_machine.proofs.StartRecords.{filled}
 use Rattle.core_machine.proofs.start.all_links.Goals as goal
 

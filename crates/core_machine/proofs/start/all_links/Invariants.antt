@@ -1,6 +1,6 @@
 use Rattle.std.proofs.Common.{◌≡◌, ℕ, ◌<◌, get_or, length}
 use Rattle.core_steps.specs.Stands.{start_words}
-use Rattle.core_machine.specs.Shown.{fixed_of}
+use Rattle.core_seats.specs.Shown.{fixed_of}
 use Rattle.core_machine.proofs.start.all_links.Given as goal
 
 abbrev pub invariant-loop-node : goal.invariant-loop-node

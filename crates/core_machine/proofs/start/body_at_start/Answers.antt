@@ -1,6 +1,6 @@
 use Rattle.std.proofs.Common.{sym, ap, ◌∙◌}
 use Rattle.core_steps.specs.Encoding.{words_of}
-use Rattle.core_machine.specs.Starts.{record_at}
+use Rattle.core_seats.specs.Starts.{record_at}
 use Rattle.core_machine.proofs.StartRecords.{found_record, no_record}
 use Rattle.core_machine.proofs.start.body_at_start.Goals as goal
 

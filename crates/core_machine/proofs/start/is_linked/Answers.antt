@@ -2,8 +2,8 @@ use Rattle.std.proofs.Common.{sym, ap, ◌∙◌, subst}
 use Rattle.entity_recs.specs.Records.{IsRecord}
 use Rattle.core_steps.specs.Views.{home}
 use Rattle.core_steps.proofs.Runs.{start_world}
-use Rattle.core_machine.specs.Shown.{fixed_of}
-use Rattle.core_machine.specs.Starts.{record_at}
+use Rattle.core_seats.specs.Shown.{fixed_of}
+use Rattle.core_seats.specs.Starts.{record_at}
 use Rattle.core_machine.proofs.StartRecords.{found_record, record_lives, none_lives, linked_is, none_linked}
 use Rattle.core_machine.proofs.start.is_linked.Goals as goal
 

@@ -2,7 +2,7 @@ use Rattle.std.proofs.Common.{ℕ, Bool, ◌<◌, ◌^◌, ◌+◌, ◌&&◌, �
 use Rattle.areanode.proofs.Words.{word_of-below}
 use Rattle.core_steps.specs.Views.{home}
 use Rattle.core_steps.specs.Stands.{is_player}
-use Rattle.core_machine.specs.Shown.{fixed_of}
+use Rattle.core_seats.specs.Shown.{fixed_of}
 use Rattle.core_machine.proofs.StartRecords.{word_none, word_next}
 use Rattle.core_machine.proofs.start.links_at_start.Goals as goal
 

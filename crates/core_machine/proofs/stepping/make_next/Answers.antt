@@ -1,8 +1,8 @@
 use Rattle.core_steps.specs.Stands.{start_words}
 use Rattle.core_machine.specs.Tables.{words_in}
-use Rattle.core_machine.specs.Seats.{view_of, given_of}
-use Rattle.core_machine.specs.Shown.{fixed_of}
-use Rattle.core_machine.specs.Nexts.{next_with, the_next}
+use Rattle.core_seats.specs.Seats.{view_of, given_of}
+use Rattle.core_seats.specs.Shown.{fixed_of}
+use Rattle.core_seats.specs.Nexts.{next_with, the_next}
 use Rattle.core_machine.proofs.StepsMade.{index_is, found_is, index_in_table, count_fits, sound_after, stepped}
 use Rattle.core_machine.proofs.stepping.make_next.Goals as goal
 

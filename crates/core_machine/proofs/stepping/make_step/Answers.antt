@@ -4,10 +4,10 @@ use Rattle.std.specs.Option.{option_map}
 use Rattle.core_steps.specs.Stands.{start_words}
 use Rattle.core_steps.specs.Machine.{Next, step_of}
 use Rattle.core_machine.specs.Tables.{words_in}
-use Rattle.core_machine.specs.Seats.{view_of}
-use Rattle.core_machine.specs.Shown.{fixed_of}
+use Rattle.core_seats.specs.Seats.{view_of}
+use Rattle.core_seats.specs.Shown.{fixed_of}
 use Rattle.core_machine.specs.Cores.{seat_of}
-use Rattle.core_machine.specs.Nexts.{the_next}
+use Rattle.core_seats.specs.Nexts.{the_next}
 use Rattle.core_machine.specs.Stepping.{IsOnWord, IsStepped}
 use Rattle.core_machine.proofs.StepsMade.{comes_next, seat_due}
 use Rattle.core_machine.proofs.stepping.make_step.Goals as goal

@@ -1,7 +1,7 @@
 use Rattle.std.proofs.Common.{sym, ap, ◌∙◌}
 use Rattle.std.proofs.lemmas.Bool.{eqb-true}
 use Rattle.entity_recs.specs.Commands.{Command, command_of}
-use Rattle.core_machine.specs.Shown.{fixed_of}
+use Rattle.core_seats.specs.Shown.{fixed_of}
 use Rattle.core_trials.proofs.GivingUp.{may_give_again}
 use Rattle.core_trials.proofs.rows.give_again.Goals as goal
 

@@ -1,7 +1,7 @@
 use Rattle.std.proofs.Common.{◌≡◌, ℕ, true, sym, subst, Some}
 use Rattle.core_steps.specs.Steps.{is_taking}
 use Rattle.core_steps.specs.Machine.{next_step_of}
-use Rattle.core_machine.specs.Shown.{fixed_of}
+use Rattle.core_seats.specs.Shown.{fixed_of}
 use Rattle.core_machine.specs.Cores.{machine_of}
 use Rattle.core_trials.proofs.GivingUp.{step_seat, own_after_step, own_after_quitting}
 use Rattle.core_trials.proofs.rows.give_up_refused.Goals as goal

@@ -1,6 +1,6 @@
 use Rattle.std.proofs.Common.{◌≡◌, ℕ, sym, ◌∙◌, subst, Some}
 use Rattle.core_steps.specs.Machine.{next_step_of}
-use Rattle.core_machine.specs.Shown.{fixed_of}
+use Rattle.core_seats.specs.Shown.{fixed_of}
 use Rattle.core_machine.specs.Cores.{machine_of}
 use Rattle.core_trials.proofs.GivingUp.{step_seat, own_after_step}
 use Rattle.core_trials.proofs.rows.make_steps.Goals as goal

@@ -4,7 +4,7 @@ use Rattle.entity_recs.specs.Commands.{command_of}
 use Rattle.core_steps.specs.Views.{has}
 use Rattle.core_steps.specs.Machine.{Machine}
 use Rattle.core_steps.specs.Calls.{MayBeGiven, with_given}
-use Rattle.core_machine.specs.Shown.{RulesView, fixed_of}
+use Rattle.core_seats.specs.Shown.{RulesView, fixed_of}
 use Rattle.core_machine.specs.Cores.{machine_of}
 use Rattle.core_machine.proofs.Filled.{IsFilled, none_given_yet}
 use Rattle.core_trials.proofs.Given.{may_give, given_more}

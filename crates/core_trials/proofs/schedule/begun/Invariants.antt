@@ -1,5 +1,5 @@
 use Rattle.std.proofs.Common.{◌≡◌, length}
-use Rattle.core_machine.specs.Shown.{fixed_of}
+use Rattle.core_seats.specs.Shown.{fixed_of}
 use Rattle.core_machine.specs.Cores.{machine_of}
 use Rattle.core_machine.proofs.Filled.{IsFilled}
 use Rattle.core_trials.proofs.schedule.begun.Given as goal

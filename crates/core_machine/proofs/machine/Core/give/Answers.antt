@@ -1,7 +1,7 @@
 use Rattle.std.proofs.Common.{◌<◌, length}
 use Rattle.entity_recs.specs.Commands.{command_of}
 use Rattle.core_steps.specs.Calls.{Give}
-use Rattle.core_machine.specs.Shown.{fixed_of}
+use Rattle.core_seats.specs.Shown.{fixed_of}
 use Rattle.core_machine.proofs.Cores.{core_view, given_machine, live_below, core_called}
 use Rattle.core_machine.proofs.machine.Core.give.Goals as goal
 

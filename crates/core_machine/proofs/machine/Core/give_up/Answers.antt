@@ -1,6 +1,6 @@
 use Rattle.std.proofs.Common.{◌<◌, length}
 use Rattle.core_steps.specs.Calls.{GiveUp}
-use Rattle.core_machine.specs.Shown.{fixed_of}
+use Rattle.core_seats.specs.Shown.{fixed_of}
 use Rattle.core_machine.proofs.Cores.{core_view, quitting_machine, taking_below, core_called}
 use Rattle.core_machine.proofs.machine.Core.give_up.Goals as goal
 

@@ -1,5 +1,5 @@
 use Rattle.std.proofs.Common.{List, ap, ◌∙◌, arith}
-use Rattle.core_machine.specs.Shown.{fixed_of}
+use Rattle.core_seats.specs.Shown.{fixed_of}
 use Rattle.core_machine.specs.Cores.{SeatView, machine_of, start_seats}
 use Rattle.core_machine.proofs.Starting.{start_is, start_core_is}
 use Rattle.core_machine.proofs.machine.Core.new.Goals as goal

@@ -2,7 +2,7 @@ use Rattle.std.proofs.Common.{ap, ◌∙◌}
 use Rattle.std.specs.Prelude.{is_some}
 use Rattle.core_steps.specs.Machine.{next_step_of}
 use Rattle.core_machine.specs.Cores.{CoreView, machine_of}
-use Rattle.core_machine.specs.Shown.{fixed_of}
+use Rattle.core_seats.specs.Shown.{fixed_of}
 use Rattle.core_machine.proofs.Cores.{core_view, number_below, seat_ready, seat_step, step_exists}
 use Rattle.core_machine.proofs.machine.Core.next_step.Goals as goal
 

@@ -1,4 +1,4 @@
-use Rattle.core_machine.specs.Shown.{fixed_of}
+use Rattle.core_seats.specs.Shown.{fixed_of}
 use Rattle.core_steps.proofs.Nexts.{some_seat_is_free}
 use Rattle.core_machine.proofs.machine.Core.some_seat_goes_on.Goals as goal
 

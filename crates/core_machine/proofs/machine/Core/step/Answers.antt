@@ -2,7 +2,7 @@ use Rattle.std.proofs.Common.{◌≡◌, ◌<◌, ◌++◌, ℕ, true, false, if
 use Rattle.std.specs.Prelude.{◌==◌}
 use Rattle.core_steps.specs.Steps.{is_taking}
 use Rattle.core_steps.specs.Machine.{Next, next_of, next_step_of, machine_after, items_after}
-use Rattle.core_machine.specs.Shown.{fixed_of}
+use Rattle.core_seats.specs.Shown.{fixed_of}
 use Rattle.core_machine.specs.Cores.{CoreView, machine_of}
 use Rattle.core_machine.proofs.Cores.{core_view}
 use Rattle.core_machine.proofs.CoreSteps.{seat_may_step, outcome, outcome_core, outcome_done, outcome_other, outcome_machine, outcome_refused, outcome_logs, outcome_may_give_up}

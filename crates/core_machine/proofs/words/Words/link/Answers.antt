@@ -1,6 +1,6 @@
 use Rattle.std.proofs.Common.{arith, rules, ◌≡◌, ◌<◌, ◌^◌, ◌*◌, ◌%◌, get_or, bit_or, length}
 use Rattle.core_steps.specs.Cells.{with_bit}
-use Rattle.core_machine.proofs.Bits.{word_with_bit}
+use Rattle.core_seats.proofs.Bits.{word_with_bit}
 use Rattle.core_machine.proofs.words.Words.link.Goals as goal
 
 pub returns : goal.returns

@@ -1,7 +1,7 @@
 use Rattle.std.proofs.Common.{◌≡◌, ℕ, List, ap}
 use Rattle.core_steps.specs.Encoding.{nth_word}
 use Rattle.core_steps.specs.Stands.{start_words}
-use Rattle.core_machine.specs.Shown.{fixed_of}
+use Rattle.core_seats.specs.Shown.{fixed_of}
 use Rattle.core_machine.specs.Tables.{within}
 use Rattle.core_machine.proofs.StartRecords.{all_within, all_rows, zeros, zeros_at, same_words}
 use Rattle.core_machine.proofs.words.Words.of_start.Goals as goal

@@ -1,6 +1,6 @@
 use Rattle.std.proofs.Common.{arith, rules, ◌≡◌, ◌<◌, ◌^◌, ◌*◌, ◌%◌, ◌-◌, get_or, bit_and}
 use Rattle.core_steps.specs.Cells.{without_bit}
-use Rattle.core_machine.proofs.Bits.{word_without_bit}
+use Rattle.core_seats.proofs.Bits.{word_without_bit}
 use Rattle.core_machine.proofs.words.Words.unlink.Goals as goal
 
 pub returns : goal.returns

@@ -1,7 +1,7 @@
 use Rattle.std.proofs.Common.{length, Some, None, false}
 use Rattle.entity_recs.specs.Commands.{command_of}
 use Rattle.region_locks.specs.Starts.{fixed_by}
-use Rattle.core_machine.specs.Nexts.{next_with, the_next}
+use Rattle.core_seats.specs.Nexts.{next_with, the_next}
 use Rattle.region_locks.proofs.hand.Hand.begin_on.Given as goal
 
 -- the step that comes next of the seat's own view

@@ -1,7 +1,7 @@
 use Rattle.std.proofs.Common.{length}
 use Rattle.region_locks.specs.Starts.{fixed_by}
 use Rattle.region_locks.specs.Passes.{next_of_pass}
-use Rattle.core_machine.specs.Nexts.{the_next}
+use Rattle.core_seats.specs.Nexts.{the_next}
 use Rattle.region_locks.proofs.hand.Hand.step.Given as goal
 
 -- the step that comes next of the pass

@@ -1,6 +1,6 @@
 use Rattle.std.proofs.Common.{length, None, false}
 use Rattle.region_locks.specs.Starts.{fixed_by}
-use Rattle.core_machine.specs.Nexts.{next_with, the_next}
+use Rattle.core_seats.specs.Nexts.{next_with, the_next}
 use Rattle.region_locks.proofs.hand.Hand.step_on.Given as goal
 
 -- the step that comes next of the seat's own view

@@ -1,6 +1,6 @@
 use Rattle.std.proofs.Common.{ℕ, refl, sym, ap, ◌∙◌, length}
 use Rattle.region_locks.specs.Passes.{fixed_in, next_of_pass, pass_after}
-use Rattle.core_machine.specs.Nexts.{the_next}
+use Rattle.core_seats.specs.Nexts.{the_next}
 use Rattle.region_locks.proofs.Gives.{gives_next, given_there}
 use Rattle.region_locks.proofs.table.NodeTable.give_on.Goals as goal
 

@@ -2,8 +2,8 @@ use Rattle.std.proofs.Common.{◌∙◌, ap, sym, subst, refl}
 use Rattle.entity_recs.specs.Records.{IsRecord}
 use Rattle.core_steps.specs.Views.{Fixed, Resolving, home}
 use Rattle.core_steps.specs.Stands.{IsLawful}
-use Rattle.core_machine.specs.Shown.{fixed_of}
-use Rattle.core_machine.proofs.Rooms.{before_is_record, loaded_is_record}
+use Rattle.core_seats.specs.Shown.{fixed_of}
+use Rattle.core_seats.proofs.Rooms.{before_is_record, loaded_is_record}
 use Rattle.region_locks.specs.Passes.{fixed_in}
 use Rattle.region_locks.proofs.table.NodeTable.homes.Goals as goal
 

@@ -1,5 +1,5 @@
 use Rattle.std.proofs.Common.{length}
-use Rattle.core_machine.specs.Shown.{fixed_of}
+use Rattle.core_seats.specs.Shown.{fixed_of}
 use Rattle.region_locks.specs.Passes.{fixed_in}
 use Rattle.region_locks.proofs.Quitting.{same_fixed, pass_is_ready, step_found, some_found}
 use Rattle.region_locks.proofs.table.NodeTable.next.Goals as goal

@@ -2,7 +2,7 @@ use Rattle.std.proofs.Common.{◌≡◌, ◌+◌, ◌<◌, ◌++◌, ◌∷◌, 
 use Rattle.entity_recs.specs.Commands.{command_of}
 use Rattle.core_steps.specs.Cells.{cell_of, cell_index}
 use Rattle.core_steps.specs.Machine.{Next, index_of}
-use Rattle.core_machine.specs.Nexts.{the_next}
+use Rattle.core_seats.specs.Nexts.{the_next}
 use Rattle.region_locks.specs.Passes.{PassView, fixed_in, next_of_pass, pass_after, word_after}
 use Rattle.region_locks.proofs.Loads.{one_more}
 use Rattle.region_locks.proofs.LoadedWords.{own_at, own_comes, own_index, own_left, own_more, own_begun, own_whole}

@@ -3,7 +3,7 @@ use Rattle.entity_recs.specs.declared.rec.Rec.{Rec}
 use Rattle.entity_recs.specs.Actions.{IsCall}
 use Rattle.entity_recs.specs.Commands.{command_of}
 use Rattle.core_steps.specs.Views.{View, Point, record_read, things_in, region_in}
-use Rattle.core_machine.specs.NearKept.{players_kept, things_loaded}
+use Rattle.core_seats.specs.NearKept.{players_kept, things_loaded}
 use Rattle.region_locks.specs.Passes.{PassView, fixed_in}
 use Rattle.region_locks.proofs.EffectRead.{slot_below, may_act, effect_same, keeping_own}
 use Rattle.region_locks.proofs.table.NodeTable.read_effect.Goals as goal

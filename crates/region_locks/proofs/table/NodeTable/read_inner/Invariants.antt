@@ -1,5 +1,5 @@
 use Rattle.std.proofs.Common.{◌≡◌, ◌≤◌, ℕ, bit_or}
-use Rattle.core_machine.specs.Refusals.{AreRefusals}
+use Rattle.core_seats.specs.Refusals.{AreRefusals}
 use Rattle.region_locks.specs.Passes.{IsOwn, fixed_in}
 use Rattle.region_locks.specs.Straight.{HasKept, IsTriedOn}
 use Rattle.region_locks.proofs.VisitedNodes.{inner_until}

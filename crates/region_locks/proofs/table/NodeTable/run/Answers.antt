@@ -4,8 +4,8 @@ use Rattle.entity_recs.specs.declared.cmd.Cmd.{Cmd}
 use Rattle.entity_recs.specs.declared.effect.Entry.{Entry}
 use Rattle.entity_recs.specs.Commands.{command_of}
 use Rattle.core_steps.specs.Views.{View}
-use Rattle.core_machine.specs.Refusals.{AreRefusals, last_of}
-use Rattle.core_machine.specs.Seats.{view_of}
+use Rattle.core_seats.specs.Refusals.{AreRefusals, last_of}
+use Rattle.core_seats.specs.Seats.{view_of}
 use Rattle.region_locks.specs.Passes.{fixed_in}
 use Rattle.region_locks.specs.Pursuits.{item_of}
 use Rattle.region_locks.proofs.PassRuns.{seat_after, pass_ran}

@@ -1,5 +1,5 @@
 use Rattle.std.proofs.Common.{ap, ◌∙◌, length}
-use Rattle.core_machine.specs.Shown.{fixed_of}
+use Rattle.core_seats.specs.Shown.{fixed_of}
 use Rattle.region_locks.specs.Passes.{HasGone, fixed_in}
 use Rattle.region_locks.proofs.Ready.{can_follow, stepped}
 use Rattle.region_locks.proofs.table.NodeTable.step_word.Goals as goal

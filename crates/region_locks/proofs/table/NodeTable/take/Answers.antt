@@ -1,5 +1,5 @@
 use Rattle.std.proofs.Common.{sym, ap, subst, ◌∙◌, ◌<◌, ◌==◌, length, ℕ, if◌then◌else◌, All}
-use Rattle.core_machine.specs.Shown.{fixed_of}
+use Rattle.core_seats.specs.Shown.{fixed_of}
 use Rattle.region_locks.specs.Hands.{pass_view}
 use Rattle.region_locks.specs.Passes.{PassView, fixed_in}
 use Rattle.region_locks.proofs.Holders.{other_holder}

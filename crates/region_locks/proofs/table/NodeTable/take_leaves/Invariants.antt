@@ -1,5 +1,5 @@
 use Rattle.std.proofs.Common.{◌≡◌, ◌≤◌}
-use Rattle.core_machine.specs.Refusals.{AreRefusals}
+use Rattle.core_seats.specs.Refusals.{AreRefusals}
 use Rattle.region_locks.specs.Passes.{IsOwn}
 use Rattle.region_locks.specs.Straight.{IsTriedOn}
 use Rattle.region_locks.proofs.TriedTakes.{left_until}

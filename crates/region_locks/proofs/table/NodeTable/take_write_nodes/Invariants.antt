@@ -1,5 +1,5 @@
 use Rattle.std.proofs.Common.{length, take, drop}
-use Rattle.core_machine.specs.Refusals.{AreRefusals}
+use Rattle.core_seats.specs.Refusals.{AreRefusals}
 use Rattle.region_locks.specs.Passes.{fixed_in}
 use Rattle.region_locks.proofs.Claims.{Tries, claiming_view}
 use Rattle.region_locks.proofs.table.NodeTable.take_write_nodes.Given as goal

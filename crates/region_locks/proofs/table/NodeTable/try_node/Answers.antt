@@ -1,5 +1,5 @@
 use Rattle.std.proofs.Common.{sym, ap, subst, ◌∙◌}
-use Rattle.core_machine.specs.Nexts.{the_next}
+use Rattle.core_seats.specs.Nexts.{the_next}
 use Rattle.region_locks.specs.Passes.{PassView, fixed_in, next_of_pass}
 use Rattle.region_locks.specs.Straight.{IsTriedOn}
 use Rattle.region_locks.proofs.Takes.{takes_next, taken_next, taken_there, taken_index}

@@ -1,6 +1,6 @@
 use Rattle.std.proofs.Common.{◌∙◌, ap}
 use Rattle.core_steps.specs.Views.{Fixed, inner_of_two}
-use Rattle.core_machine.specs.Shown.{fixed_of}
+use Rattle.core_seats.specs.Shown.{fixed_of}
 use Rattle.region_locks.specs.Passes.{fixed_in}
 use Rattle.region_locks.proofs.table.NodeTable.write_nodes.Goals as goal
 

@@ -1,7 +1,0 @@
-use Rattle.std.proofs.Common.{◌≡◌, drop, map}
-use Rattle.core_steps.specs.Views.{player_at}
-use Rattle.core_machine.specs.Seats.{player_read_of}
-use Rattle.core_machine.proofs.reads.player_words.Given as goal
-
-abbrev pub invariant-loop-read : goal.invariant-loop-read
-invariant-loop-read l = player_at (map player_read_of l.others) l.slot ≡ player_at (map player_read_of (drop l.read-index l.others)) l.slot

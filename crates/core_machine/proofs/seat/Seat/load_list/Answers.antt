@@ -1,8 +1,0 @@
-use Rattle.std.proofs.Common.{◌≡◌, refl}
-use Rattle.core_machine.specs.Seats.{hand_of}
-use Rattle.core_machine.proofs.seat.Seat.load_list.Goals as goal
-
-pub returns : goal.returns
-returns g c =
-    let slot : c.hand.result.slot ≡ (hand_of c.args.self.now.cmd).slot = rw c.hand.ensures refl in
-    rw (c.load_under.ensures, c.insert.ensures.items, c.players_of-self.ensures, slot) refl

@@ -1,0 +1,75 @@
+-- What was read, in a list.
+use Rattle.std.proofs.Common.{◌≡◌, ℕ, ◌+◌, ◌*◌, ◌<◌, ◌≤◌, ◌==◌, Bool, true, false, List, [], ◌∷◌, ◌++◌, length, take, drop, get_or, map, refl, ap, add-one, drop-cons, arith}
+use Rattle.std.specs.Prelude.{filter, not, is_some, Some, if◌then◌else◌}
+use Rattle.std.specs.Prelude.{All, ◌^◌, ◌%◌, ◌-◌}
+use Rattle.std.proofs.lemmas.Nat.{pow_below}
+use Rattle.std.proofs.Math.Nat.{pow-le-pow_right}
+use Rattle.std.proofs.lemmas.List.{map-append, take_more}
+use Rattle.std.proofs.lemmas.List.Elements.{All-get_or}
+use Rattle.entity_recs.specs.declared.effect.NewState.{NewState}
+use Rattle.core_steps.specs.Views.{state_at, player_at, bits_of_leaves, without_player}
+use Rattle.core_seats.specs.declared.seat.PlayerRead.{PlayerRead}
+use Rattle.core_seats.specs.Seats.{player_read_of}
+
+pub state_next : (xs : List NewState) (i id : ℕ) (d : NewState) → i < length xs
+    → state_at (drop i xs) id ≡ (if (get_or xs i d).id == id then Some (get_or xs i d).state else state_at (drop (i + 1) xs) id)
+state_next xs i id d below = rw (add-one, drop-cons xs i d) refl
+
+pub player_next : (xs : List PlayerRead) (i slot : ℕ) (d : PlayerRead) → i < length xs
+    → player_at (map player_read_of (drop i xs)) slot
+    ≡ (if (get_or xs i d).slot == slot then Some (get_or xs i d).words else player_at (map player_read_of (drop (i + 1) xs)) slot)
+player_next xs i slot d below = rw (add-one, drop-cons xs i d) refl
+
+pub bits_more : (xs ys : List ℕ) → bits_of_leaves (xs ++ ys) ≡ bits_of_leaves xs + bits_of_leaves ys
+bits_more [] ys = omega arith
+bits_more (x ∷ xs) ys = omega (arith, bits_more xs ys)
+
+pub without_mapped : (slot : ℕ) (xs : List PlayerRead) → map player_read_of (filter (λ (r : PlayerRead). not (r.slot == slot)) xs) ≡ without_player slot (map player_read_of xs)
+without_mapped slot [] = refl
+without_mapped slot (x ∷ xs) = by_test (x.slot == slot) (without_mapped slot xs)
+  where
+    by_test : (b : Bool) → map player_read_of (filter (λ (r : PlayerRead). not (r.slot == slot)) xs) ≡ without_player slot (map player_read_of xs)
+        → map player_read_of (if not b then x ∷ filter (λ (r : PlayerRead). not (r.slot == slot)) xs else filter (λ (r : PlayerRead). not (r.slot == slot)) xs)
+        ≡ (if not b then player_read_of x ∷ without_player slot (map player_read_of xs) else without_player slot (map player_read_of xs))
+    by_test true rest = rest
+    by_test false rest = ap (λ rs. player_read_of x ∷ rs) rest
+
+low_leaf : (s : ℕ) → s ≤ 15 → 1 * 2 ^ s % 2 ^ 64 ≡ 2 ^ s
+low_leaf s low = let small = pow_below s 16 (omega arith) in omega arith
+
+small_leaf : (s : ℕ) → s ≤ 15 → 2 ^ s ≤ 32768
+small_leaf s low = pow-le-pow_right {n = 2} (omega arith) low
+
+leaf_low : (nodes : List ℕ) (k s : ℕ) → k < length nodes → All (λ n. n < 31) nodes → s ≡ get_or nodes k 0 - 15 → s ≤ 15
+leaf_low nodes k s below all is =
+    let small : get_or nodes k 0 < 31 = All-get_or (λ n. n < 31) nodes k 0 below all in
+    omega (arith, is)
+
+pub leaf_bits : (nodes : List ℕ) (k word s : ℕ) → k < length nodes → All (λ n. n < 31) nodes → s ≡ get_or nodes k 0 - 15
+    → word ≡ bits_of_leaves (map (λ n. n - 15) (take k nodes))
+    → word + 1 * 2 ^ s % 2 ^ 64 ≡ bits_of_leaves (map (λ n. n - 15) (take (k + 1) nodes))
+leaf_bits nodes k word s below all is made =
+    let low = low_leaf s (leaf_low nodes k s below all is) in
+    let more = ap (λ ns. bits_of_leaves (map (λ n. n - 15) ns)) (take_more nodes k 0 below) in
+    let split = ap bits_of_leaves (map-append (λ n. n - 15) (take k nodes) (get_or nodes k 0 ∷ [])) in
+    let two = bits_more (map (λ n. n - 15) (take k nodes)) ((get_or nodes k 0 - 15) ∷ []) in
+    let last = ap (λ n. 2 ^ n) is in
+    omega (arith, low, more, split, two, last, made)
+
+pub leaf_small : (nodes : List ℕ) (k word s : ℕ) → k < length nodes → All (λ n. n < 31) nodes → s ≡ get_or nodes k 0 - 15
+    → word ≤ 32768 * k → word + 1 * 2 ^ s % 2 ^ 64 ≤ 32768 * (k + 1)
+leaf_small nodes k word s below all is small =
+    let low = leaf_low nodes k s below all is in
+    omega (arith, low_leaf s low, small_leaf s low)
+
+-- without what was loaded of a player of whom nothing was, the list is the same
+pub none_dropped : (slot : ℕ) (xs : List PlayerRead) → is_some (player_at (map player_read_of xs) slot) ≡ false
+    → filter (λ (r : PlayerRead). not (r.slot == slot)) xs ≡ xs
+none_dropped slot [] none = refl
+none_dropped slot (x ∷ xs) none = by_test (x.slot == slot) none (none_dropped slot xs)
+  where
+    by_test : (b : Bool) → is_some (if b then Some x.words else player_at (map player_read_of xs) slot) ≡ false
+        → (is_some (player_at (map player_read_of xs) slot) ≡ false → filter (λ (r : PlayerRead). not (r.slot == slot)) xs ≡ xs)
+        → (if not b then x ∷ filter (λ (r : PlayerRead). not (r.slot == slot)) xs else filter (λ (r : PlayerRead). not (r.slot == slot)) xs) ≡ x ∷ xs
+    by_test true none same = cc
+    by_test false none same = ap (λ rs. x ∷ rs) (same none)

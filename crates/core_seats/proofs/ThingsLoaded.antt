@@ -1,0 +1,307 @@
+-- The things of the map at the start, and their states as they were loaded.
+use Rattle.std.proofs.Common.{◌≡◌, ◌≢◌, ℕ, zero, suc, ◌+◌, ◌-◌, ◌<◌, ◌≤◌, ◌==◌, ◌%◌, Bool, true, false, ◌&&◌, ◌||◌, List, [], ◌∷◌, ◌++◌, length, get_or, take, drop, map, append-nil, refl, ap, sym, ◌∙◌, subst, inl, inr, arith}
+use Rattle.std.specs.Prelude.{filter, nat_le, Option, Some, if◌then◌else◌}
+use Rattle.std.specs.List.{filter_map, cons_option}
+use Rattle.std.specs.List.Sorted.{IsStrictlyIncreasing}
+use Rattle.std.proofs.lemmas.Bool.{cases_Bool, false≢true, cond-true, cond-false, eqb-true, eq-eqb, ne_eqb, leb-true}
+use Rattle.std.proofs.lemmas.List.{length-map, length-drop, take_all, take_more, drop_more}
+use Rattle.std.proofs.lemmas.List.Elements.{All-get_or, filter_map-append}
+use Rattle.arena_geo.specs.Bounds.{Bounds}
+use Rattle.arena_geo.specs.Regions.{touches_region}
+use Rattle.entity_recs.specs.declared.rec.Rec.{Rec}
+use Rattle.entity_recs.specs.declared.effect.NewState.{NewState}
+use Rattle.entity_recs.specs.Bodies.{abs_of}
+use Rattle.entity_recs.specs.Records.{with_state}
+use Rattle.core_steps.specs.Views.{Fixed, has, state_at, thing_of, things_in}
+use Rattle.core_seats.specs.NearKept.{AreAtIds, AreThings, thing_with, touching, things_loaded}
+use Rattle.entity_recs.specs.Actions.{Meaning, HasValidity}
+use Rattle.core_steps.specs.Stands.{IsStart}
+use Rattle.std.proofs.Math.ListN.{get_or-map}
+use Rattle.core_seats.specs.declared.columns.Columns.{Columns}
+use Rattle.core_seats.specs.ThingColumns.{HasThing, HasThings}
+use Rattle.areanode.specs.Words.{has_bit}
+use Rattle.core_seats.specs.Shown.{RulesView, fixed_of, IsRuledWith}
+use Rattle.core_seats.proofs.NearLists.{AreFound, found_at_ids, id_small}
+use Rattle.core_seats.proofs.KeptNear.{IsBelowAll, AreRising, are_rising}
+
+or_right : (b : Bool) → (b || true) ≡ true
+or_right true = refl
+or_right false = refl
+
+-- ---- ids that rise
+
+below_kept : (p : ℕ → Bool) (n : ℕ) (ids : List ℕ) → IsBelowAll n ids → IsBelowAll n (filter p ids)
+below_kept p n [] below = tt
+below_kept p n (id ∷ ids) below = by_test (p id) (below_kept p n ids below.1)
+  where
+    by_test : (b : Bool) → IsBelowAll n (filter p ids) → IsBelowAll n (if b then id ∷ filter p ids else filter p ids)
+    by_test true rest = (below.0, rest)
+    by_test false rest = rest
+
+pub rising_kept : (p : ℕ → Bool) (ids : List ℕ) → AreRising ids → AreRising (filter p ids)
+rising_kept p [] rising = tt
+rising_kept p (id ∷ ids) rising = by_test (p id) (rising_kept p ids rising.1)
+  where
+    by_test : (b : Bool) → AreRising (filter p ids) → AreRising (if b then id ∷ filter p ids else filter p ids)
+    by_test true rest = (below_kept p id ids rising.0, rest)
+    by_test false rest = rest
+
+-- so many numbers rise from one that the last is at least so much larger
+abbrev AreBelow : ℕ → List ℕ → Type 0
+AreBelow n [] = Unit {0}
+AreBelow n (id ∷ ids) = (id < n) × AreBelow n ids
+
+spread : (n s : ℕ) (ids : List ℕ) → IsBelowAll s ids → AreRising ids → AreBelow n ids → s < n → s + length ids < n
+spread n s [] low rising high less = omega (arith, less)
+spread n s (id ∷ ids) low rising high less =
+    let rest = spread n id ids rising.0 rising.1 high.1 high.0 in
+    omega (arith, rest, low.0)
+
+below_high : (s n : ℕ) (ids : List ℕ) → AreBelow n ids → AreBelow n (filter (nat_le s) ids)
+below_high s n [] below = tt
+below_high s n (id ∷ ids) below = by_test (nat_le s id) (below_high s n ids below.1)
+  where
+    by_test : (b : Bool) → AreBelow n (filter (nat_le s) ids) → AreBelow n (if b then id ∷ filter (nat_le s) ids else filter (nat_le s) ids)
+    by_test true rest = (below.0, rest)
+    by_test false rest = rest
+
+all_high : (s : ℕ) (ids : List ℕ) → IsBelowAll s (filter (nat_le (suc s)) ids)
+all_high s [] = tt
+all_high s (id ∷ ids) = elim (cases_Bool (nat_le (suc s) id)) [
+  | inl high ↦ let least = leb-true (suc s) id high in rw high (omega (arith, least), all_high s ids)
+  | inr low ↦ rw low (all_high s ids)
+]
+
+pub few_things : (ids : List ℕ) → AreRising ids → AreBelow 256 ids → length (filter (nat_le 64) ids) ≤ 192
+few_things ids rising below =
+    let few = spread 256 63 (filter (nat_le 64) ids) (all_high 63 ids) (rising_kept (nat_le 64) ids rising) (below_high 64 256 ids below) (omega arith) in
+    omega (arith, few)
+
+-- ---- the things of a region
+
+module _ (f : ℕ → Rec) (region : List Bounds) where
+  abbrev touched : ℕ → Bool
+  touched id = touches_region (abs_of (f id)) region
+
+  both_tests : (ids : List ℕ) → filter (λ id. nat_le 64 id && touched id) ids ≡ filter touched (filter (nat_le 64) ids)
+  both_tests [] = refl
+  both_tests (id ∷ ids) = by_test (nat_le 64 id) (both_tests ids)
+    where
+      by_test : (b : Bool) → filter (λ i. nat_le 64 i && touched i) ids ≡ filter touched (filter (nat_le 64) ids)
+          → (if b && touched id then id ∷ filter (λ i. nat_le 64 i && touched i) ids else filter (λ i. nat_le 64 i && touched i) ids)
+          ≡ filter touched (if b then id ∷ filter (nat_le 64) ids else filter (nat_le 64) ids)
+      by_test true rest = ap (λ (ns : List ℕ). if touched id then id ∷ ns else ns) rest
+      by_test false rest = rest
+
+  touched_ids : (rs : List Rec) → AreAtIds f rs → filter touched (map (λ (r : Rec). r.id) rs) ≡ map (λ (r : Rec). r.id) (touching region rs)
+  touched_ids [] found = refl
+  touched_ids (r ∷ rs) found =
+      ap (λ (q : Rec). if touches_region (abs_of q) region then r.id ∷ filter touched (map (λ (r : Rec). r.id) rs) else filter touched (map (λ (r : Rec). r.id) rs)) found.0
+      ∙ by_test (touches_region (abs_of r) region) (touched_ids rs found.1)
+    where
+      by_test : (b : Bool) → filter touched (map (λ (r : Rec). r.id) rs) ≡ map (λ (r : Rec). r.id) (touching region rs)
+          → (if b then r.id ∷ filter touched (map (λ (r : Rec). r.id) rs) else filter touched (map (λ (r : Rec). r.id) rs))
+          ≡ map (λ (r : Rec). r.id) (if b then r ∷ touching region rs else touching region rs)
+      by_test true rest = ap (λ (ns : List ℕ). r.id ∷ ns) rest
+      by_test false rest = rest
+
+  touching_found : (rs : List Rec) → AreAtIds f rs → AreAtIds f (touching region rs)
+  touching_found [] found = tt
+  touching_found (r ∷ rs) found = by_test (touches_region (abs_of r) region) (touching_found rs found.1)
+    where
+      by_test : (b : Bool) → AreAtIds f (touching region rs) → AreAtIds f (if b then r ∷ touching region rs else touching region rs)
+      by_test true rest = (found.0, rest)
+      by_test false rest = rest
+
+loaded_at_ids : (f : ℕ → Rec) (states : List NewState) (rs : List Rec) → AreAtIds f rs
+    → filter_map (λ id. thing_of (f id) (state_at states id)) (map (λ (r : Rec). r.id) rs) ≡ filter_map (thing_with states) rs
+loaded_at_ids f states [] found = refl
+loaded_at_ids f states (r ∷ rs) found =
+    ap (λ (q : Rec). cons_option (thing_of q (state_at states r.id)) (filter_map (λ id. thing_of (f id) (state_at states id)) (map (λ (r : Rec). r.id) rs))) found.0
+    ∙ ap (λ (qs : List Rec). cons_option (thing_with states r) qs) (loaded_at_ids f states rs found.1)
+
+module _ (F : Fixed) (things : List Rec) (region : List Bounds) (are : AreThings F things) where
+  -- the ids of the things of a region
+  pub things_of_region : things_in F region ≡ map (λ (r : Rec). r.id) (touching region things)
+  things_of_region =
+      both_tests F.start.record_of region F.start.ids
+      ∙ ap (filter (touched F.start.record_of region)) (sym are.ids)
+      ∙ touched_ids F.start.record_of region things are.found
+
+  -- the things of a region, with the states that were loaded
+  pub loaded_of_region : (states : List NewState) → things_loaded F region states ≡ filter_map (thing_with states) (touching region things)
+  loaded_of_region states =
+      ap (filter_map (λ id. thing_of (F.start.record_of id) (state_at states id))) things_of_region
+      ∙ loaded_at_ids F.start.record_of states (touching region things) (touching_found F.start.record_of region things are.found)
+
+  pub things_rise : IsStrictlyIncreasing F.start.ids → AreRising (map (λ (r : Rec). r.id) things)
+  things_rise rising = subst AreRising (sym are.ids) (rising_kept (nat_le 64) F.start.ids (are_rising F.start.ids rising))
+
+-- ---- one thing more
+
+-- none of the records has this id
+abbrev pub AreOthers : ℕ → List Rec → Type 0
+AreOthers id [] = Unit {0}
+AreOthers id (r ∷ rs) = (r.id ≢ id) × AreOthers id rs
+
+below_at : (n : ℕ) (rs : List Rec) (k : ℕ) (d : Rec) → IsBelowAll n (map (λ (r : Rec). r.id) rs) → k < length rs → n < (get_or rs k d).id
+below_at n [] k d below there = absurd (omega (arith, there))
+below_at n (r ∷ rs) zero d below there = below.0
+below_at n (r ∷ rs) (suc k) d below there = below_at n rs k d below.1 (omega (arith, there))
+
+others_before : (rs : List Rec) (k : ℕ) (d : Rec) → AreRising (map (λ (r : Rec). r.id) rs) → k < length rs → AreOthers (get_or rs k d).id (take k rs)
+others_before [] k d rising there = absurd (omega (arith, there))
+others_before (r ∷ rs) zero d rising there = tt
+others_before (r ∷ rs) (suc k) d rising there =
+    let less = below_at r.id rs k d rising.0 (omega (arith, there)) in
+    ((λ e. omega (arith, e, less)), others_before rs k d rising.1 (omega (arith, there)))
+
+others_touching : (region : List Bounds) (id : ℕ) (rs : List Rec) → AreOthers id rs → AreOthers id (touching region rs)
+others_touching region id [] others = tt
+others_touching region id (r ∷ rs) others = by_test (touches_region (abs_of r) region) (others_touching region id rs others.1)
+  where
+    by_test : (b : Bool) → AreOthers id (touching region rs) → AreOthers id (if b then r ∷ touching region rs else touching region rs)
+    by_test true rest = (others.0, rest)
+    by_test false rest = rest
+
+-- a state of another thing doesn't matter
+with_other : (id state : ℕ) (states : List NewState) (rs : List Rec) → AreOthers id rs
+    → filter_map (thing_with states) rs ≡ filter_map (thing_with (record { id = id; state = state } ∷ states)) rs
+with_other id state states [] others = refl
+with_other id state states (r ∷ rs) others =
+    let same : thing_with states r ≡ thing_with (record { id = id; state = state } ∷ states) r =
+    ap (thing_of r) (sym (cond-false (id == r.id) (Some state) (state_at states r.id) (ne_eqb id r.id (λ e. others.0 (sym e))))) in
+    ap (λ (o : Option Rec). cons_option o (filter_map (thing_with states) rs)) same
+    ∙ ap (λ (qs : List Rec). cons_option (thing_with (record { id = id; state = state } ∷ states) r) qs) (with_other id state states rs others.1)
+
+touching_last : (region : List Bounds) (rs : List Rec) (r : Rec) → touching region (rs ++ r ∷ []) ≡ touching region rs ++ touching region (r ∷ [])
+touching_last region [] r = refl
+touching_last region (x ∷ rs) r = by_test (touches_region (abs_of x) region) (touching_last region rs r)
+  where
+    by_test : (b : Bool) → touching region (rs ++ r ∷ []) ≡ touching region rs ++ touching region (r ∷ [])
+        → (if b then x ∷ touching region (rs ++ r ∷ []) else touching region (rs ++ r ∷ []))
+        ≡ (if b then x ∷ touching region rs else touching region rs) ++ touching region (r ∷ [])
+    by_test true rest = ap (λ (qs : List Rec). x ∷ qs) rest
+    by_test false rest = rest
+
+module _ (region : List Bounds) (things : List Rec) (k : ℕ) (d : Rec) (there : k < length things) where
+  abbrev thing : Rec
+  thing = get_or things k d
+
+  touching_more : touches_region (abs_of thing) region ≡ true → touching region (take (k + 1) things) ≡ touching region (take k things) ++ thing ∷ []
+  touching_more is = ap (touching region) (take_more things k d there) ∙ touching_last region (take k things) thing
+      ∙ ap (λ (qs : List Rec). touching region (take k things) ++ qs) (cond-true (touches_region (abs_of thing) region) (thing ∷ []) [] is)
+
+  -- the thing doesn't touch the region
+  pub touching_same : touches_region (abs_of thing) region ≡ false → touching region (take (k + 1) things) ≡ touching region (take k things)
+  touching_same not = ap (touching region) (take_more things k d there) ∙ touching_last region (take k things) thing
+      ∙ ap (λ (qs : List Rec). touching region (take k things) ++ qs) (cond-false (touches_region (abs_of thing) region) (thing ∷ []) [] not)
+      ∙ append-nil (touching region (take k things))
+
+  -- the thing touches the region, and its state was loaded
+  pub loaded_more : (states : List NewState) (state : ℕ) → AreRising (map (λ (r : Rec). r.id) things) → touches_region (abs_of thing) region ≡ true
+      → filter_map (thing_with (record { id = thing.id; state = state } ∷ states)) (touching region (take (k + 1) things))
+      ≡ filter_map (thing_with states) (touching region (take k things)) ++ with_state thing state ∷ []
+  loaded_more states state rising is =
+      let more = record { id = thing.id; state = state } ∷ states in
+      ap (filter_map (thing_with more)) (touching_more is)
+      ∙ filter_map-append (thing_with more) (touching region (take k things)) (thing ∷ [])
+      ∙ ap (λ (qs : List Rec). qs ++ filter_map (thing_with more) (thing ∷ [])) (sym (with_other thing.id state states (touching region (take k things)) (others_touching region thing.id (take k things) (others_before things k d rising there))))
+      ∙ ap (λ (o : Option ℕ). filter_map (thing_with states) (touching region (take k things)) ++ cons_option (thing_of thing o) [])
+      (cond-true (thing.id == thing.id) (Some state) (state_at states thing.id) (eq-eqb thing.id thing.id refl))
+
+  drop_first : drop k things ≡ thing ∷ drop (k + 1) things
+  drop_first = drop_more things k d there
+
+  -- what is left of the things of the region
+  pub left_first : touches_region (abs_of thing) region ≡ true
+      → map (λ (r : Rec). r.id) (touching region (drop k things)) ≡ thing.id ∷ map (λ (r : Rec). r.id) (touching region (drop (k + 1) things))
+  left_first is = ap (λ (rs : List Rec). map (λ (r : Rec). r.id) (touching region rs)) drop_first
+      ∙ ap (λ (rs : List Rec). map (λ (r : Rec). r.id) rs) (cond-true (touches_region (abs_of thing) region) (thing ∷ touching region (drop (k + 1) things)) (touching region (drop (k + 1) things)) is)
+
+  pub left_same : touches_region (abs_of thing) region ≡ false
+      → map (λ (r : Rec). r.id) (touching region (drop k things)) ≡ map (λ (r : Rec). r.id) (touching region (drop (k + 1) things))
+  left_same not = ap (λ (rs : List Rec). map (λ (r : Rec). r.id) (touching region rs)) drop_first
+      ∙ ap (λ (rs : List Rec). map (λ (r : Rec). r.id) rs) (cond-false (touches_region (abs_of thing) region) (thing ∷ touching region (drop (k + 1) things)) (touching region (drop (k + 1) things)) not)
+
+-- ---- the records of things at the start
+
+high_ids : (rs : List Rec) → map (λ (r : Rec). r.id) (filter (λ (r : Rec). nat_le 64 r.id) rs) ≡ filter (nat_le 64) (map (λ (r : Rec). r.id) rs)
+high_ids [] = refl
+high_ids (r ∷ rs) = by_test (nat_le 64 r.id) (high_ids rs)
+  where
+    by_test : (b : Bool) → map (λ (r : Rec). r.id) (filter (λ (r : Rec). nat_le 64 r.id) rs) ≡ filter (nat_le 64) (map (λ (r : Rec). r.id) rs)
+        → map (λ (r : Rec). r.id) (if b then r ∷ filter (λ (r : Rec). nat_le 64 r.id) rs else filter (λ (r : Rec). nat_le 64 r.id) rs)
+        ≡ (if b then r.id ∷ filter (nat_le 64) (map (λ (r : Rec). r.id) rs) else filter (nat_le 64) (map (λ (r : Rec). r.id) rs))
+    by_test true rest = ap (λ (ns : List ℕ). r.id ∷ ns) rest
+    by_test false rest = rest
+
+high_found : (f : ℕ → Rec) (rs : List Rec) → AreFound f rs → AreAtIds f (filter (λ (r : Rec). nat_le 64 r.id) rs)
+high_found f [] found = tt
+high_found f (r ∷ rs) found = by_test (nat_le 64 r.id) (high_found f rs found.1)
+  where
+    by_test : (b : Bool) → AreAtIds f (filter (λ (r : Rec). nat_le 64 r.id) rs) → AreAtIds f (if b then r ∷ filter (λ (r : Rec). nat_le 64 r.id) rs else filter (λ (r : Rec). nat_le 64 r.id) rs)
+    by_test true rest = (found.0, rest)
+    by_test false rest = rest
+
+are_below : (n : ℕ) (ids : List ℕ) → ((j : ℕ) → j < length ids → get_or ids j 0 < n) → AreBelow n ids
+are_below n [] each = tt
+are_below n (id ∷ ids) each = (each 0 (omega arith), are_below n ids (λ j there. each (suc j) (omega (arith, there))))
+
+-- each live id is below 256
+id_below : (F : Fixed) → HasValidity F.takes F.effect_of → IsStart F → (j : ℕ) → j < length F.start.ids → get_or F.start.ids j 0 < 256
+id_below F validity start j there =
+    let id = get_or F.start.ids j 0 in
+    let sized = length-map F.start.ids F.start.record_of in
+    let all_taken = All-get_or (λ (r : Rec). F.takes r ≡ true) (map F.start.record_of F.start.ids) j (F.start.record_of 0) (omega (arith, sized, there)) start.taken in
+    let taken : F.takes (F.start.record_of id) ≡ true = ap F.takes (sym (get_or-map F.start.record_of F.start.ids j 0)) ∙ all_taken in
+    let own : (F.start.record_of id).id ≡ id = All-get_or (λ (n : ℕ). (F.start.record_of n).id ≡ n) F.start.ids j 0 there start.own in
+    let small = id_small (F.start.record_of id).kind (F.start.record_of id).id (validity.keepable (F.start.record_of id) taken).bounds.id in
+    omega (arith, own, small)
+
+-- the things at the start, where the records of players are left out
+pub are_things : {A : Type 0} (meaning : A → Meaning) (rules : RulesView A) (bits first : ℕ) (columns : Columns) → HasValidity (fixed_of meaning rules).takes (fixed_of meaning rules).effect_of
+    → IsRuledWith (fixed_of meaning rules) rules.start bits first columns → AreThings (fixed_of meaning rules) (drop first rules.start)
+are_things meaning rules bits first columns validity ruled =
+    let F = fixed_of meaning rules in
+    subst (AreThings F) (sym ruled.things) (record {
+      ids = high_ids rules.start;
+      found = high_found F.start.record_of rules.start (found_at_ids rules.start ruled.start.rising);
+      few = let few = few_things F.start.ids (are_rising F.start.ids ruled.start.rising) (are_below 256 F.start.ids (id_below F validity ruled.start)) in
+          let sized = length-map (filter (λ (r : Rec). nat_le 64 r.id) rules.start) (λ (r : Rec). r.id) in
+          let same = ap (λ (ns : List ℕ). length ns) (high_ids rules.start) in
+          omega (arith, few, sized, same);
+    })
+
+pub whole_rest : (n : ℕ) (rs : List Rec) → take (length rs - n) (drop n rs) ≡ drop n rs
+whole_rest n rs = let long = length-drop n rs in take_all (length rs - n) (drop n rs) (omega (arith, long))
+
+-- ---- the bits of things
+
+-- a thing that touches the region is one of its things
+pub touching_has : (region : List Bounds) (rs : List Rec) (k : ℕ) (d : Rec) → k < length rs → touches_region (abs_of (get_or rs k d)) region ≡ true
+    → has (map (λ (r : Rec). r.id) (touching region rs)) (get_or rs k d).id ≡ true
+touching_has region [] k d there touch = absurd (omega (arith, there))
+touching_has region (r ∷ rs) zero d there touch =
+    ap (λ (b : Bool). has (map (λ (q : Rec). q.id) (if b then r ∷ touching region rs else touching region rs)) r.id) touch
+    ∙ ap (λ (b : Bool). b || has (map (λ (q : Rec). q.id) (touching region rs)) r.id) (eq-eqb r.id r.id refl)
+touching_has region (r ∷ rs) (suc k) d there touch = by_test (touches_region (abs_of r) region) (touching_has region rs k d (omega (arith, there)) touch)
+  where
+    by_test : (b : Bool) → has (map (λ (q : Rec). q.id) (touching region rs)) (get_or rs k d).id ≡ true
+        → has (map (λ (q : Rec). q.id) (if b then r ∷ touching region rs else touching region rs)) (get_or rs k d).id ≡ true
+    by_test true rest = ap (λ (b : Bool). (r.id == (get_or rs k d).id) || b) rest ∙ or_right (r.id == (get_or rs k d).id)
+    by_test false rest = rest
+
+pub all_marked : (columns : Columns) (region : List Bounds) (bits : ℕ) → ((r : Rec) → HasThing columns r → touches_region (abs_of r) region ≡ true → has_bit bits (r.id % 64) ≡ true)
+    → (rs : List Rec) → HasThings columns rs → (id : ℕ) → has (map (λ (r : Rec). r.id) (touching region rs)) id ≡ true → has_bit bits (id % 64) ≡ true
+all_marked columns region bits each [] placed id there = absurd (false≢true there)
+all_marked columns region bits each (r ∷ rs) placed id there = by_test (touches_region (abs_of r) region) refl there (all_marked columns region bits each rs placed.1 id)
+  where
+    by_test : (b : Bool) → touches_region (abs_of r) region ≡ b → has (map (λ (q : Rec). q.id) (if b then r ∷ touching region rs else touching region rs)) id ≡ true
+        → (has (map (λ (q : Rec). q.id) (touching region rs)) id ≡ true → has_bit bits (id % 64) ≡ true) → has_bit bits (id % 64) ≡ true
+    by_test false is there rest = rest there
+    by_test true is there rest = by_id (r.id == id) refl there
+      where
+        by_id : (b : Bool) → (r.id == id) ≡ b → (b || has (map (λ (q : Rec). q.id) (touching region rs)) id) ≡ true → has_bit bits (id % 64) ≡ true
+        by_id true same there = subst (λ (n : ℕ). has_bit bits (n % 64) ≡ true) (eqb-true r.id id same) (each r placed.0 is)
+        by_id false other there = rest there

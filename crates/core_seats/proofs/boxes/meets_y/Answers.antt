@@ -1,0 +1,13 @@
+use Rattle.std.proofs.Common.{refl, rules, FitsSigned, w32}
+use Rattle.std.proofs.lemmas.Int.{to_z-of_z}
+use Rattle.core_seats.proofs.boxes.meets_y.Goals as goal
+
+pub returns : goal.returns
+returns c =
+    let origin : FitsSigned w32 c.args.r.now.origin.y = search rules in
+    let min : FitsSigned w32 c.args.r.now.mins.y = search rules in
+    let max : FitsSigned w32 c.args.r.now.maxs.y = search rules in
+    let by : FitsSigned w32 c.args.by.y = search rules in
+    let lo : FitsSigned w32 c.lo-lo.result.y = search rules in
+    let hi : FitsSigned w32 c.hi-hi.result.y = search rules in
+    rw (c.meets.ensures, to_z-of_z w32 _ origin, to_z-of_z w32 _ min, to_z-of_z w32 _ max, to_z-of_z w32 _ by, to_z-of_z w32 _ lo, to_z-of_z w32 _ hi, c.lo-lo.ensures.value, c.hi-hi.ensures.value) refl

@@ -1,0 +1,15 @@
+use Rattle.std.proofs.Common.{◌++◌, ℕ, List, ap, ◌∙◌}
+use Rattle.core_steps.specs.Views.{leaf_nodes}
+use Rattle.core_seats.specs.Shown.{fixed_of}
+use Rattle.core_seats.proofs.Fixing.{leaf_nodes_are, inner_visited_are}
+use Rattle.core_seats.proofs.rules.Rules.plan.Goals as goal
+
+pub returns : goal.returns
+returns g c =
+    let F = fixed_of g.A.Action.meaning (record { action = c.self.inside.action.now; tree = c.self.inside.tree; start = c.self.inside.start.items }) in
+    let leaves = leaf_nodes_are F c.args.region.now c.from.result c.leaf_nodes-plan.result.items
+    c.leaves_of-leaves.ensures.depth (c.from.ensures ∙ c.leaves_of-leaves.ensures.leaves) c.leaf_nodes-plan.ensures.nodes in
+    let inner = inner_visited_are F c.args.region.now c.leaves_of-leaves.result c.from-2.result c.bits_below-inner.result.items
+    c.leaves_of-leaves.ensures.depth c.leaves_of-leaves.ensures.leaves (c.from-2.ensures ∙ c.visited.ensures) c.bits_below-inner.ensures.numbers in
+    rw (← c.self.view_is)
+    (c.joined.ensures ∙ ap (λ (ns : List ℕ). ns ++ c.bits_below-inner.result.items) leaves ∙ ap (λ (ns : List ℕ). leaf_nodes F c.args.region.now ++ ns) inner)

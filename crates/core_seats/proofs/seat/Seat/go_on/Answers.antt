@@ -1,0 +1,199 @@
+use Rattle.std.proofs.Common.{◌==◌, length, map, refl, sym, ap, ◌∙◌, arith}
+use Rattle.std.specs.Prelude.{filter, not}
+use Rattle.std.proofs.lemmas.List.{length-map}
+use Rattle.entity_recs.specs.Actions.{HasValidity}
+use Rattle.core_steps.specs.Views as views
+use Rattle.core_seats.specs.declared.seat.PlayerRead.{PlayerRead}
+use Rattle.core_seats.specs.Points.{point_of, store_of}
+use Rattle.core_seats.specs.Seats.{view_of, given_of, list_read_of, player_read_of}
+use Rattle.core_seats.specs.Shown.{fixed_of}
+use Rattle.core_seats.proofs.ReadLists.{without_mapped}
+use Rattle.core_seats.proofs.Steps.{gone, sixth_word, took_leaf, took_inner, took_node, committed, commit_comes, read_player, read_state, stored, gave, resolved, resolved_commit, none_left, some_left}
+use Rattle.core_seats.proofs.Rooms.{lists_room, player_at_point, command_at, log_room, leaves_room, leaves_left, nodes_room, before_is_record, after_is_record, loaded_is_record, states_room, things_left, others_few, players_left, claimed, stores_left}
+use Rattle.core_seats.proofs.seat.Seat.go_on.Goals as goal
+
+pub load_own-requires-clause-player : goal.load_own-requires-clause-player
+load_own-requires-clause-player g c κs within =
+    let F = fixed_of g.A.Action.meaning c.args.rules.now in
+    λ five. sixth_word F (view_of c.args.self.now) (given_of c.args.self.now) c.args.effect.now c.args.found (ap (point_of c.args.self.now.queues) c.in-Owning.is) five c.requires.after
+
+pub load_again-requires-clause-player : goal.load_again-requires-clause-player
+load_again-requires-clause-player g c κs within =
+    let F = fixed_of g.A.Action.meaning c.args.rules.now in
+    player_at_point F (view_of c.args.self.now) c.requires.ready.sound views.Checking (ap (point_of c.args.self.now.queues) c.in-Checking.is) refl refl
+
+pub read_list-requires-clause-room : goal.read_list-requires-clause-room
+read_list-requires-clause-room g c κs within =
+    let F = fixed_of g.A.Action.meaning c.args.rules.now in
+    let few = lists_room F (view_of c.args.self.now) c.requires.ready.sound c.in-Entered.node c.args.self.now.queues.plan.items (ap (point_of c.args.self.now.queues) c.in-Entered.is) in
+    let same = length-map c.args.self.now.lists.items list_read_of in
+    omega (arith, few, same)
+
+pub read_list-requires-clause-player : goal.read_list-requires-clause-player
+read_list-requires-clause-player g c κs within =
+    let F = fixed_of g.A.Action.meaning c.args.rules.now in
+    player_at_point F (view_of c.args.self.now) c.requires.ready.sound (views.Entered c.in-Entered.node c.args.self.now.queues.plan.items) (ap (point_of c.args.self.now.queues) c.in-Entered.is) refl refl
+
+pub read_player-requires-clause-room : goal.read_player-requires-clause-room
+read_player-requires-clause-room g c κs within =
+    let F = fixed_of g.A.Action.meaning c.args.rules.now in
+    λ node slot part players plan at.
+    let few = others_few F (view_of c.args.self.now) c.requires.ready.sound node slot part players plan at in
+    let same = ap length (without_mapped slot c.args.self.now.others.items) in
+    let size = length-map (filter (λ (r : PlayerRead). not (r.slot == slot)) c.args.self.now.others.items) player_read_of in
+    omega (arith, few, same, size)
+
+pub read_player-requires-clause-player : goal.read_player-requires-clause-player
+read_player-requires-clause-player g c κs within =
+    let F = fixed_of g.A.Action.meaning c.args.rules.now in
+    player_at_point F (view_of c.args.self.now) c.requires.ready.sound (views.Loading c.in-Loading.node c.args.self.now.queues.part.items c.args.self.now.queues.players.items c.args.self.now.queues.plan.items) (ap (point_of c.args.self.now.queues) c.in-Loading.is) refl refl
+
+pub read_state-requires : goal.read_state-requires
+read_state-requires g c =
+    let F = fixed_of g.A.Action.meaning c.args.rules.now in
+    let met = g.met.A.Action g.world.𝓛 g.world.𝓜 g.world.𝓡 ((λ s x. x), (λ x. x), (λ x. x), λ x. x) in
+    let validity : HasValidity F.takes F.effect_of = met.validity c.args.rules.now.action in
+    states_room F (view_of c.args.self.now) c.requires.ready.sound c.args.self.now.queues.ids.items validity c.is_ruled.ensures.start (ap (point_of c.args.self.now.queues) c.in-Sensing.is)
+
+pub resolve-requires-clause-command : goal.resolve-requires-clause-command
+resolve-requires-clause-command g c κs within =
+    let F = fixed_of g.A.Action.meaning c.args.rules.now in
+    command_at F (view_of c.args.self.now) c.requires.ready.sound views.Resolving (ap (point_of c.args.self.now.queues) c.in-Resolving.is) refl
+
+pub resolve-requires-clause-before : goal.resolve-requires-clause-before
+resolve-requires-clause-before g c κs within =
+    let F = fixed_of g.A.Action.meaning c.args.rules.now in
+    let met = g.met.A.Action g.world.𝓛 g.world.𝓜 g.world.𝓡 ((λ s x. x), (λ x. x), (λ x. x), λ x. x) in
+    let validity : HasValidity F.takes F.effect_of = met.validity c.args.rules.now.action in
+    before_is_record F (view_of c.args.self.now) c.requires.ready.sound views.Resolving validity (ap (point_of c.args.self.now.queues) c.in-Resolving.is) refl refl
+
+pub resolve-requires-clause-after : goal.resolve-requires-clause-after
+resolve-requires-clause-after g c κs within =
+    let F = fixed_of g.A.Action.meaning c.args.rules.now in
+    let met = g.met.A.Action g.world.𝓛 g.world.𝓜 g.world.𝓡 ((λ s x. x), (λ x. x), (λ x. x), λ x. x) in
+    let validity : HasValidity F.takes F.effect_of = met.validity c.args.rules.now.action in
+    λ e kept. loaded_is_record F (view_of c.args.self.now) c.requires.ready.sound e validity (ap (point_of c.args.self.now.queues) c.in-Resolving.is) (c.requires.ready.due e (ap (point_of c.args.self.now.queues) c.in-Resolving.is) kept)
+
+pub resolve-requires-clause-room : goal.resolve-requires-clause-room
+resolve-requires-clause-room g c κs within =
+    let F = fixed_of g.A.Action.meaning c.args.rules.now in
+    log_room F (view_of c.args.self.now) c.requires.ready.sound views.Resolving (ap (point_of c.args.self.now.queues) c.in-Resolving.is) refl
+
+pub resolve-requires-clause-count : goal.resolve-requires-clause-count
+resolve-requires-clause-count g c κs within =
+    let F = fixed_of g.A.Action.meaning c.args.rules.now in
+    λ e kept none. c.requires.count (resolved_commit F (view_of c.args.self.now) (given_of c.args.self.now) c.args.effect.now e (ap (point_of c.args.self.now.queues) c.in-Resolving.is) kept none)
+
+pub commit_held-requires-clause-command : goal.commit_held-requires-clause-command
+commit_held-requires-clause-command g c κs within =
+    let F = fixed_of g.A.Action.meaning c.args.rules.now in
+    command_at F (view_of c.args.self.now) c.requires.ready.sound (views.Claiming c.args.self.now.queues.got.items c.args.self.now.queues.rest.items) (ap (point_of c.args.self.now.queues) c.in-Claiming.is) refl
+
+pub commit_held-requires-clause-before : goal.commit_held-requires-clause-before
+commit_held-requires-clause-before g c κs within =
+    let F = fixed_of g.A.Action.meaning c.args.rules.now in
+    let met = g.met.A.Action g.world.𝓛 g.world.𝓜 g.world.𝓡 ((λ s x. x), (λ x. x), (λ x. x), λ x. x) in
+    let validity : HasValidity F.takes F.effect_of = met.validity c.args.rules.now.action in
+    before_is_record F (view_of c.args.self.now) c.requires.ready.sound (views.Claiming c.args.self.now.queues.got.items c.args.self.now.queues.rest.items) validity (ap (point_of c.args.self.now.queues) c.in-Claiming.is) refl refl
+
+pub commit_held-requires-clause-after : goal.commit_held-requires-clause-after
+commit_held-requires-clause-after g c κs within =
+    let F = fixed_of g.A.Action.meaning c.args.rules.now in
+    let met = g.met.A.Action g.world.𝓛 g.world.𝓜 g.world.𝓡 ((λ s x. x), (λ x. x), (λ x. x), λ x. x) in
+    let validity : HasValidity F.takes F.effect_of = met.validity c.args.rules.now.action in
+    λ e in_view. after_is_record F (view_of c.args.self.now) c.requires.ready.sound (views.Claiming c.args.self.now.queues.got.items c.args.self.now.queues.rest.items) e validity (ap (point_of c.args.self.now.queues) c.in-Claiming.is) refl in_view
+
+pub commit_held-requires-clause-room : goal.commit_held-requires-clause-room
+commit_held-requires-clause-room g c κs within =
+    let F = fixed_of g.A.Action.meaning c.args.rules.now in
+    log_room F (view_of c.args.self.now) c.requires.ready.sound (views.Claiming c.args.self.now.queues.got.items c.args.self.now.queues.rest.items) (ap (point_of c.args.self.now.queues) c.in-Claiming.is) refl
+
+pub commit_held-requires-clause-place : goal.commit_held-requires-clause-place
+commit_held-requires-clause-place g c κs within =
+    let F = fixed_of g.A.Action.meaning c.args.rules.now in
+    let claim = claimed F (view_of c.args.self.now) c.requires.ready.sound c.args.self.now.queues.got.items c.args.self.now.queues.rest.items (ap (point_of c.args.self.now.queues) c.in-Claiming.is) in
+    c.requires.count (commit_comes F (view_of c.args.self.now) (given_of c.args.self.now) c.args.effect.now claim.e c.args.self.now.queues.got.items c.args.self.now.queues.rest.items (ap (point_of c.args.self.now.queues) c.in-Claiming.is) (none_left c.args.self.now.queues.rest.items (sym c.is_empty.ensures ∙ c.if-is_empty.true)) claim.is)
+
+pub take_next-requires-clause-leaves : goal.take_next-requires-clause-leaves
+take_next-requires-clause-leaves g c =
+    let F = fixed_of g.A.Action.meaning c.args.rules.now in
+    λ got rest at. leaves_room F (view_of c.args.self.now) c.requires.ready.sound got rest at
+
+pub take_next-requires-clause-nodes : goal.take_next-requires-clause-nodes
+take_next-requires-clause-nodes g c =
+    let F = fixed_of g.A.Action.meaning c.args.rules.now in
+    λ got rest at. nodes_room F (view_of c.args.self.now) c.requires.ready.sound got rest at
+
+pub take_next-requires-in-Claiming-2-clause-nodes : goal.take_next-requires-in-Claiming-2-clause-nodes
+take_next-requires-in-Claiming-2-clause-nodes g c =
+    let F = fixed_of g.A.Action.meaning c.args.rules.now in
+    λ got rest at. nodes_room F (view_of c.args.self.now) c.requires.ready.sound got rest at
+
+pub give_next-requires-after_bounds : goal.give_next-requires-after_bounds
+give_next-requires-after_bounds g c κs within =
+    let F = fixed_of g.A.Action.meaning c.args.rules.now in
+    λ node plan at. player_at_point F (view_of c.args.self.now) c.requires.ready.sound (views.Leaving node plan) at refl refl
+
+pub returns-in-Taking : goal.returns-in-Taking
+returns-in-Taking g c =
+    let F = fixed_of g.A.Action.meaning c.args.rules.now in
+    took_leaf F (view_of c.args.self.now) _ (given_of c.args.self.now) c.args.effect.now c.args.self.now.queues.got.items c.args.self.now.queues.rest.items c.args.found (ap (point_of c.args.self.now.queues) c.in-Taking.is) (leaves_left F (view_of c.args.self.now) c.requires.ready.sound c.args.self.now.queues.got.items c.args.self.now.queues.rest.items (ap (point_of c.args.self.now.queues) c.in-Taking.is)) c.take_next.ensures
+
+pub returns-in-Entering : goal.returns-in-Entering
+returns-in-Entering g c =
+    let F = fixed_of g.A.Action.meaning c.args.rules.now in
+    took_inner F (view_of c.args.self.now) _ (given_of c.args.self.now) c.args.effect.now c.in-Entering.node c.args.self.now.queues.plan.items c.args.found (ap (point_of c.args.self.now.queues) c.in-Entering.is) c.take_next-in-Entering.ensures
+
+pub returns-in-Entered : goal.returns-in-Entered
+returns-in-Entered g c =
+    let F = fixed_of g.A.Action.meaning c.args.rules.now in
+    gone F (view_of c.args.self.now) _ (given_of c.args.self.now) c.args.effect.now (views.Entered c.in-Entered.node c.args.self.now.queues.plan.items) _ c.args.found (ap (point_of c.args.self.now.queues) c.in-Entered.is) refl (c.read_list.ensures c.in-Entered.node c.args.self.now.queues.plan.items (ap (point_of c.args.self.now.queues) c.in-Entered.is))
+
+pub returns-in-Loading : goal.returns-in-Loading
+returns-in-Loading g c =
+    let F = fixed_of g.A.Action.meaning c.args.rules.now in
+    read_player F (view_of c.args.self.now) _ (given_of c.args.self.now) c.args.effect.now c.in-Loading.node c.args.self.now.queues.part.items c.args.self.now.queues.players.items c.args.self.now.queues.plan.items c.args.found (ap (point_of c.args.self.now.queues) c.in-Loading.is) (players_left F (view_of c.args.self.now) c.requires.ready.sound c.in-Loading.node c.args.self.now.queues.part.items c.args.self.now.queues.players.items c.args.self.now.queues.plan.items (ap (point_of c.args.self.now.queues) c.in-Loading.is))
+    (λ slot rest at. c.read_player.ensures c.in-Loading.node slot c.args.self.now.queues.part.items rest c.args.self.now.queues.plan.items at)
+
+pub returns-in-Sensing : goal.returns-in-Sensing
+returns-in-Sensing g c =
+    let F = fixed_of g.A.Action.meaning c.args.rules.now in
+    read_state F (view_of c.args.self.now) _ (given_of c.args.self.now) c.args.effect.now c.args.self.now.queues.ids.items c.args.found (ap (point_of c.args.self.now.queues) c.in-Sensing.is) (things_left F (view_of c.args.self.now) c.requires.ready.sound c.args.self.now.queues.ids.items (ap (point_of c.args.self.now.queues) c.in-Sensing.is)) c.read_state.ensures
+
+pub returns-in-Resolving : goal.returns-in-Resolving
+returns-in-Resolving g c =
+    let F = fixed_of g.A.Action.meaning c.args.rules.now in
+    resolved F (view_of c.args.self.now) _ (given_of c.args.self.now) c.args.effect.now c.args.found (ap (point_of c.args.self.now.queues) c.in-Resolving.is) c.requires.comes c.resolve.ensures
+
+pub returns-in-Claiming : goal.returns-in-Claiming
+returns-in-Claiming g c =
+    let F = fixed_of g.A.Action.meaning c.args.rules.now in
+    let claim = claimed F (view_of c.args.self.now) c.requires.ready.sound c.args.self.now.queues.got.items c.args.self.now.queues.rest.items (ap (point_of c.args.self.now.queues) c.in-Claiming.is) in
+    committed F (view_of c.args.self.now) _ (given_of c.args.self.now) c.args.effect.now claim.e c.args.self.now.queues.got.items c.args.self.now.queues.rest.items c.args.found (ap (point_of c.args.self.now.queues) c.in-Claiming.is) (none_left c.args.self.now.queues.rest.items (sym c.is_empty.ensures ∙ c.if-is_empty.true)) claim.is
+    (c.commit_held.ensures claim.e c.args.self.now.queues.got.items c.args.self.now.queues.rest.items claim.is (ap (point_of c.args.self.now.queues) c.in-Claiming.is))
+
+pub returns-in-Claiming-2 : goal.returns-in-Claiming-2
+returns-in-Claiming-2 g c =
+    let F = fixed_of g.A.Action.meaning c.args.rules.now in
+    took_node F (view_of c.args.self.now) _ (given_of c.args.self.now) c.args.effect.now c.args.self.now.queues.got.items c.args.self.now.queues.rest.items c.args.found (ap (point_of c.args.self.now.queues) c.in-Claiming.is) (some_left c.args.self.now.queues.rest.items (sym c.is_empty.ensures ∙ c.if-is_empty.false)) c.take_next-in-Claiming-2.ensures
+
+pub returns-in-Storing : goal.returns-in-Storing
+returns-in-Storing g c =
+    let F = fixed_of g.A.Action.meaning c.args.rules.now in
+    stored F (view_of c.args.self.now) _ (given_of c.args.self.now) c.args.effect.now c.args.self.now.queues.got.items (map store_of c.args.self.now.queues.stores.items) c.args.found (ap (point_of c.args.self.now.queues) c.in-Storing.is)
+    (stores_left F (view_of c.args.self.now) c.requires.ready.sound c.args.self.now.queues.got.items (map store_of c.args.self.now.queues.stores.items) (ap (point_of c.args.self.now.queues) c.in-Storing.is)) (c.store_made.ensures c.args.self.now.queues.got.items)
+
+pub returns-in-Releasing : goal.returns-in-Releasing
+returns-in-Releasing g c =
+    let F = fixed_of g.A.Action.meaning c.args.rules.now in
+    gave F (view_of c.args.self.now) _ (given_of c.args.self.now) c.args.effect.now (views.Releasing c.args.self.now.queues.got.items) _ c.args.found (ap (point_of c.args.self.now.queues) c.in-Releasing.is) refl c.requires.comes c.give_next-in-Releasing.ensures
+
+pub returns-in-Returning : goal.returns-in-Returning
+returns-in-Returning g c =
+    let F = fixed_of g.A.Action.meaning c.args.rules.now in
+    gave F (view_of c.args.self.now) _ (given_of c.args.self.now) c.args.effect.now (views.Returning c.args.self.now.queues.rest.items) _ c.args.found (ap (point_of c.args.self.now.queues) c.in-Returning.is) refl c.requires.comes c.give_next-in-Returning.ensures
+
+pub returns-in-Yielding : goal.returns-in-Yielding
+returns-in-Yielding g c =
+    let F = fixed_of g.A.Action.meaning c.args.rules.now in
+    gave F (view_of c.args.self.now) _ (given_of c.args.self.now) c.args.effect.now (views.Yielding c.args.self.now.queues.got.items c.args.self.now.queues.rest.items) _ c.args.found (ap (point_of c.args.self.now.queues) c.in-Yielding.is) refl c.requires.comes c.give_next-in-Yielding.ensures

@@ -1,0 +1,21 @@
+-- The seats of the pure core in code: how their plain fields are the views of the definitions.
+pub use Rattle.core_steps.specs.Cells
+pub use Rattle.core_steps.specs.Views
+pub use Rattle.core_steps.specs.Steps
+pub use Rattle.core_steps.specs.Stands
+pub use Rattle.core_steps.specs.Machine
+pub mod Starts
+pub mod Points
+pub mod Logs
+pub mod Refusals
+pub mod Seats
+pub mod Shown
+pub mod NearRecords
+pub mod NearKept
+pub mod ThingColumns
+pub mod Going
+pub mod Sound
+pub mod Nexts
+pub mod Ready
+pub mod Staying
+pub mod StepsLeft

@@ -1,0 +1,57 @@
+-- A seat of the code as a view of the definitions.
+use Rattle.std.specs.Prelude.{ℕ, ◌≡◌, true, false, [], map, Option, Some, None}
+use Rattle.std.specs.Option.{option_map}
+use Rattle.entity_recs.specs.declared.cmd.Cmd.{Cmd}
+use Rattle.entity_recs.specs.Commands.{Command, command_of}
+use Rattle.core_steps.specs.Views as views
+use Rattle.core_steps.specs.Views.{View, no_command, new_view}
+use Rattle.core_seats.specs.declared.seat.ListRead.{ListRead}
+use Rattle.core_seats.specs.declared.seat.PlayerRead.{PlayerRead}
+use Rattle.core_seats.specs.declared.seat.Seat.{Seat}
+use Rattle.core_seats.specs.Points.{point_of}
+use Rattle.core_seats.specs.Refusals.{last_of}
+
+-- the list word of the definitions
+abbrev pub list_read_of : ListRead → views.ListRead
+list_read_of read = record { node = read.node; word = read.word }
+
+-- the words of a player of the definitions
+abbrev pub player_read_of : PlayerRead → views.PlayerRead
+player_read_of read = record { slot = read.slot; words = read.words }
+
+-- the command in hand
+abbrev pub hand_of : Option Cmd → Command
+hand_of None = no_command
+hand_of (Some c) = command_of c
+
+-- the view of a seat
+abbrev pub view_of : Seat → View
+view_of s = record {
+  live = true;
+  room = s.log.room;
+  seen = s.seen;
+  log = s.log.items;
+  refusals = s.refusals.count;
+  refused = last_of s.refusals;
+  made = s.made;
+  ended = [];
+  cmd = hand_of s.cmd;
+  point = point_of s.queues s.point;
+  own = s.own.items;
+  wanted = s.wanted.items;
+  again = s.again.items;
+  lists = map list_read_of s.lists.items;
+  others = map player_read_of s.others.items;
+  states = s.states.items;
+  effect = s.effect;
+}
+
+-- the command that was given and isn't begun
+abbrev pub given_of : Seat → Option Command
+given_of s = option_map command_of s.given
+
+-- a seat without a command, with this room, from which so many seats are made
+pub record IsFresh (room made : ℕ) (s : Seat) : Type 0 where
+  pub view : view_of s ≡ record (new_view room) { made = made }
+  pub given : s.given ≡ None
+  pub quits : s.quits ≡ false

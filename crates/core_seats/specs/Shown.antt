@@ -1,0 +1,42 @@
+-- What doesn't change in the core of the code, as the definitions have it.
+use Rattle.std.specs.Prelude.{◌≡◌, ◌<◌, ◌≤◌, ℕ, nat_le, List, length, drop, filter}
+use Rattle.areanode.specs.Words.{has_bit}
+use Rattle.areanode.specs.Trees.{TreeView}
+use Rattle.entity_recs.specs.declared.rec.Rec.{Rec}
+use Rattle.entity_recs.specs.Worlds.{world_of}
+use Rattle.entity_recs.specs.Actions.{Meaning}
+use Rattle.core_steps.specs.Views.{Fixed, has}
+use Rattle.core_steps.specs.Stands.{IsStart}
+use Rattle.core_seats.specs.declared.columns.Columns.{Columns}
+use Rattle.core_seats.specs.ThingColumns.{HasThings}
+
+-- an action, the tree, and the records of the world at the start
+pub record RulesView (A : Type 0) : Type 0 where
+  pub action : A
+  pub tree : TreeView
+  pub start : List Rec
+
+-- what doesn't change, of an action with this meaning
+abbrev pub fixed_of : {A : Type 0} → (A → Meaning) → RulesView A → Fixed
+fixed_of meaning rules = record {
+  takes = (meaning rules.action).takes;
+  region_of = (meaning rules.action).region_of;
+  effect_of = (meaning rules.action).effect_of;
+  tree = rules.tree;
+  start = world_of rules.start;
+}
+
+-- the tree is as deep as the table is large, and the action takes the records of the start, whose ids rise
+pub record IsRuled (F : Fixed) : Type 0 where
+  pub depth : F.tree.depth ≡ 4
+  pub start : IsStart F
+
+-- the same, with the slots of the live players as the bits of a word, and the things of the map from a place on and by
+-- columns
+pub record IsRuledWith (F : Fixed) (records : List Rec) (bits first : ℕ) (columns : Columns) : Type 0 where
+  pub depth : F.tree.depth ≡ 4
+  pub start : IsStart F
+  pub slots : (slot : ℕ) → slot < 64 → has_bit bits slot ≡ has F.start.ids slot
+  pub fits : first ≤ length records
+  pub things : drop first records ≡ filter (λ (r : Rec). nat_le 64 r.id) records
+  pub placed : HasThings columns (drop first records)

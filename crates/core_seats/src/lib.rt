@@ -1,0 +1,40 @@
+//! What a seat of the pure core has in view, and how each step changes it, as plain values in code.
+#![tactic(auto)]
+
+pub use laws::served_steps_leave_fewer;
+pub use lists::with_top_bit;
+pub use log::SeatLog;
+pub use near_kept::is_thing_near;
+pub use point::{Cell, IdQueue, NodeQueue, Point, Queues, SlotQueue, Store, StoreQueue, WordList};
+pub use queue::Queue;
+pub use reading::read_record;
+pub use refusals::{Refusals, Refused};
+pub use rules::Rules;
+pub use seat::{ListRead, PlayerRead, Seat};
+pub use word_steps::first_of_two;
+
+mod boxes;
+mod claiming;
+mod columns;
+mod committing;
+mod giving;
+mod go;
+mod laws;
+mod left;
+mod lists;
+mod loading;
+mod log;
+mod near;
+mod near_kept;
+mod next;
+mod plan;
+mod point;
+mod queue;
+mod reading;
+mod reads;
+mod records;
+mod refusals;
+mod rules;
+mod seat;
+mod taking;
+mod word_steps;

@@ -1,0 +1,147 @@
+ghost use Rattle.std.specs.Prelude.{◌≡◌, ◌+◌, ◌<◌, ◌≤◌, ◌-◌, ◌*◌, ◌^◌, ◌++◌, All, ◌==◌, ◌||◌, ◌&&◌, [], ◌∷◌, MatchOption};
+ghost use Rattle.std.specs.Prelude.{length, filter, map, not, drop, if◌then◌else◌};
+ghost use Rattle.core_steps.specs.Steps.{rest_of};
+ghost use Rattle.std.specs.List.{range_with_len};
+ghost use Rattle.areanode.specs.Words.{has_bit};
+ghost use Rattle.areanode.specs.Trees.{leaf_node};
+ghost use Rattle.core_steps.specs.Views.{players_in, bits_of_leaves};
+
+use crate::point::{NodeQueue, SlotQueue, WordList};
+use crate::queue::Queue;
+use arrayvec::ArrayVec;
+
+/// Whether a bit of a word is set.
+fn is_set(word: u64, i: u8) -> bool
+    requires { i < 64 }
+    ensures { result ≡ has_bit word i }
+{
+    word >> i & 1 == 1
+}
+
+/// Whether a player's bit is set and it isn't the own player.
+fn is_other(word: u64, slot: u8, own: u8) -> bool
+    requires { slot < 64 }
+    ensures { result ≡ (has_bit word slot && not (slot == own)) }
+{
+    is_set(word, slot) && slot != own
+}
+
+/// Whether a node is one of two.
+fn is_either(node: u8, a: u8, b: u8) -> bool
+    ensures { result ≡ ((node == a) || (node == b)) }
+{
+    node == a || node == b
+}
+
+/// The numbers below `n` whose bit is set, rising.
+pub fn bits_below(word: u64, n: u8) -> NodeQueue
+    requires { n ≤ 31 }
+    ensures numbers { result.items ≡ filter (has_bit word) (range_with_len 0 n) }
+    ensures few { length result.items ≤ n }
+{
+    let mut numbers = Queue::new();
+    for i in 0..n {
+        if is_set(word, i) {
+            numbers.push(i);
+        }
+    }
+    numbers
+}
+
+/// The word with the bit of a number that is above all its bits, where that bit is to be set.
+pub fn with_top_bit(word: u64, slot: u8, is_set: bool) -> u64
+    requires slot { slot < 64 }
+    requires below { word < 2 ^ slot }
+    ensures { result ≡ (if is_set then 2 ^ slot else 0) + word }
+{
+    if is_set { word + (1 << slot) } else { word }
+}
+
+/// The nodes of these leaves, bit i for leaf i, rising.
+pub fn leaf_nodes(leaves: u64) -> NodeQueue
+    ensures nodes { result.items ≡ map (leaf_node 4) (filter (has_bit leaves) (range_with_len 0 16)) }
+    ensures few { length result.items ≤ 16 }
+{
+    let mut nodes = Queue::new();
+    for leaf in 0..16u8 {
+        if is_set(leaves, leaf) {
+            nodes.push(15 + leaf);
+        }
+    }
+    nodes
+}
+
+/// The inner ones among two nodes, rising, without repeats.
+pub fn inner_among(a: u8, b: u8) -> NodeQueue
+    ensures { result.items ≡ filter (λ node. (node == a) || (node == b)) (range_with_len 0 15) }
+{
+    let mut nodes = Queue::new();
+    for node in 0..15u8 {
+        if is_either(node, a, b) {
+            nodes.push(node);
+        }
+    }
+    nodes
+}
+
+/// The players of a list word but one, in rising slot.
+pub fn players_of(word: u64, own: u8) -> SlotQueue
+    ensures { result.items ≡ players_in word own }
+{
+    let mut players = Queue::new();
+    if word == 0 {
+        return players;
+    }
+    for slot in 0..64u8 {
+        if is_other(word, slot, own) {
+            players.push(slot);
+        }
+    }
+    players
+}
+
+/// One list of nodes after another.
+pub fn joined(front: NodeQueue, back: &NodeQueue) -> NodeQueue
+    requires { length front.items + length back.now.items ≤ 31 }
+    ensures { result.items ≡ front.items ++ back.now.items }
+{
+    let mut nodes = front;
+    for node in back.as_slice() {
+        nodes.push(*node);
+    }
+    nodes
+}
+
+/// The leaves of these nodes, bit i for leaf i.
+pub fn leaf_word(nodes: &[u8]) -> u64
+    requires nodes { All (λ n. n < 31) nodes.now }
+    requires few { length nodes.now ≤ 31 }
+    ensures word { result ≡ bits_of_leaves (map (λ n. n - 15) nodes.now) }
+    ensures small { result ≤ 32768 * length nodes.now }
+{
+    let mut word = 0;
+    for node in nodes {
+        word += 1 << node.saturating_sub(15);
+    }
+    word
+}
+
+/// The list of one node.
+pub fn one(node: u8) -> NodeQueue
+    ensures { result.items ≡ node ∷ [] }
+{
+    let mut nodes = Queue::new();
+    nodes.push(node);
+    nodes
+}
+
+/// A list of words once more.
+pub fn same_words(words: &[u64]) -> WordList
+    requires { length words.now ≤ 6 }
+    ensures { result.items ≡ words.now }
+{
+    let mut copy = ArrayVec::new();
+    // The copy has as much room as the list itself.
+    let _ = copy.try_extend_from_slice(words);
+    copy
+}

@@ -1,0 +1,165 @@
+ghost use Rattle.std.specs.Prelude.{◌≡◌, ◌<◌, ◌≤◌, ◌==◌, ◌||◌, ◌&&◌, ◌%◌, not, ℕ, true, false, [], nat_lt, map};
+ghost use Rattle.std.specs.Prelude.{filter, length};
+ghost use Rattle.std.specs.List.{filter_map, range_with_len};
+ghost use Rattle.core_seats.specs.NearKept.{near_player};
+ghost use Rattle.areanode.specs.Words.{has_bit};
+ghost use Rattle.arena_geo.specs.Regions.{touches_region};
+ghost use Rattle.entity_recs.specs.Bodies.{abs_of};
+ghost use Rattle.core_steps.specs.Views.{has};
+ghost use Rattle.entity_recs.specs.declared.rec.Rec.{Rec};
+
+use crate::boxes::touches_region;
+use crate::reading::read_record;
+use crate::rules::Rules;
+use arena_geo::Region;
+use entity_recs::{Action, Rec};
+use world_tree::NearList;
+
+/// The word with this bit.
+pub fn with_slot(word: u64, slot: u16) -> u64
+    requires { slot < 64 }
+    ensures { (other : ℕ) → other < 64 → has_bit result other ≡ (slot == other) || has_bit word other }
+{
+    word | 1 << slot
+}
+
+/// The word with the bit of this record's slot, where it is a player's.
+fn with_player(word: u64, r: &Rec) -> u64
+    ensures { (slot : ℕ) → slot < 64 → has_bit result slot ≡ (r.now.id == slot) || has_bit word slot }
+{
+    if r.id < 64 {
+        with_slot(word, r.id)
+    } else {
+        word
+    }
+}
+
+/// The slots of the players among these records, a bit for each.
+pub fn player_bits(start: &[Rec]) -> u64
+    ensures { (slot : ℕ) → slot < 64 → has_bit result slot ≡ has (map (λ (r : Rec). r.id) start.now) slot }
+{
+    let mut word = 0;
+    for r in start {
+        word = with_player(word, r);
+    }
+    word
+}
+
+/// How many of these records are players'.
+pub fn count_players(start: &[Rec]) -> usize
+    ensures count { result ≡ length (filter (λ (r : Rec). nat_lt r.id 64) start.now) }
+    ensures few { result ≤ length start.now }
+{
+    let mut count = 0;
+    for r in start {
+        if r.id < 64 {
+            count += 1;
+        }
+    }
+    count
+}
+
+/// The lowest slot whose bit is set.
+fn lowest_slot(word: u64) -> u8
+    requires { 0 < word }
+    ensures below { result < 64 }
+    ensures there { has_bit word result ≡ true }
+    ensures first { (slot : ℕ) → slot < result → has_bit word slot ≡ false }
+{
+    word.trailing_zeros() as u8
+}
+
+/// The word without the bit of this slot.
+fn without_slot(word: u64, slot: u8) -> u64
+    requires { slot < 64 }
+    ensures bits { (other : ℕ) → other < 64 → has_bit result other ≡ (has_bit word other && not (other == slot)) }
+    ensures less { has_bit word slot ≡ true → result < word }
+{
+    word & !(1 << slot)
+}
+
+/// The record of the words kept of this slot, where it touches a region.
+fn near_player(six: &[[u64; 6]; 64], slot: u8, region: &Region) -> Option<Rec>
+    requires { slot < 64 }
+    ensures { result ≡ near_player region.now six.now slot }
+{
+    let r = read_record(slot, &six[usize::from(slot)]);
+    if touches_region(&r, region) {
+        Some(r)
+    } else {
+        None
+    }
+}
+
+/// Puts the records of the words kept of these slots that touch a region into an empty list, in rising slot.
+fn put_slots(slots: u64, six: &[[u64; 6]; 64], region: &Region, list: &mut NearList)
+    requires { list.old ≡ [] }
+    ensures records { list.new ≡ filter_map (near_player region.now six.now)
+        (filter (has_bit slots) (range_with_len 0 64)) }
+    ensures few { length list.new ≤ 64 }
+{
+    let mut rest = slots;
+    while rest != 0 {
+        let slot = lowest_slot(rest);
+        if let Some(r) = near_player(six, slot, region) {
+            // The list has room for all players.
+            let _ = list.push(r);
+        }
+        rest = without_slot(rest, slot);
+    }
+}
+
+/// Whether the bit of the slot is set.
+fn has_slot(word: u64, slot: u16) -> bool
+    requires { slot < 64 }
+    ensures { result ≡ has_bit word slot }
+{
+    word >> slot & 1 == 1
+}
+
+/// Whether the absolute box of a thing of the map touches a region, where these are bits of all the things that do.
+pub fn is_thing_near(bits: u64, r: &Rec, region: &Region) -> bool
+    requires { touches_region (abs_of r.now) region.now ≡ true → has_bit bits (r.now.id % 64) ≡ true }
+    ensures { result ≡ touches_region (abs_of r.now) region.now }
+{
+    has_slot(bits, r.id % 64) && touches_region(r, region)
+}
+
+impl<'a, A: Action> Rules<'a, A> {
+    ghost use Rattle.std.specs.Prelude.{◌≡◌, ◌<◌, ◌≤◌, [], length};
+    ghost use Rattle.core_seats.specs.NearKept.{AreThings, players_kept};
+    ghost use Rattle.core_seats.specs.ThingColumns.{MarksThings};
+    ghost use Rattle.core_seats.specs.Shown.{fixed_of};
+
+    /// Puts the records of the words kept of live players but this one that touch a region into an empty list, in rising
+    /// slot.
+    pub fn put_players(
+        &self,
+        seen: u64,
+        six: &[[u64; 6]; 64],
+        region: &Region,
+        slot: u8,
+        list: &mut NearList,
+    )
+        requires slot { slot < 64 }
+        requires empty { list.old ≡ [] }
+        ensures players { list.new
+            ≡ players_kept (fixed_of A.meaning self.now) region.now slot seen six.now }
+        ensures few { length list.new ≤ 64 }
+    {
+        put_slots(without_slot(seen & self.players, slot), six, region, list);
+    }
+
+    /// The things of the map at the start, in rising id.
+    pub fn map_things(&self) -> &[Rec]
+        ensures { AreThings (fixed_of A.meaning self.now) result.now }
+    {
+        &self.start.as_slice()[self.first_thing..]
+    }
+    /// Bits of the things of the map that touch a region, each by its id modulo 64; those of others may be among them.
+    pub fn thing_bits(&self, region: &Region) -> u64
+        ensures { MarksThings (fixed_of A.meaning self.now) region.now result }
+    {
+        self.columns.near(region)
+    }
+}

@@ -1,0 +1,245 @@
+ghost use Rattle.std.specs.Prelude.{◌≡◌};
+
+use crate::columns::Columns;
+use crate::lists::{bits_below, inner_among, joined, leaf_nodes, leaf_word};
+use crate::near::{put_near, things_of};
+use crate::near_kept::{count_players, player_bits};
+use crate::point::{IdQueue, NodeQueue};
+use crate::reading::read_record;
+use crate::records::find_record;
+use crate::seat::PlayerRead;
+use areanode::{FIRST_LEAF, Tree, visited};
+use arena_geo::{Aabb, Region, Vec3};
+use entity_recs::{Action, Cmd, Effect, NewState, Rec, abs_box};
+use std::alloc::{AllocError, Global};
+use std::marker::Model;
+use world_tree::NearList;
+
+/// What doesn't change while the seats make their steps: the action, the tree, and the records of the start.
+#[derive(Drop)]
+pub struct Rules<'a, A: Action> {
+    action: &'a A,
+    tree: Tree,
+    pub(crate) start: Vec<Rec>,
+    /// The slots of the players that are live, a bit for each.
+    pub(crate) players: u64,
+    /// How many of the records are players'. The things of the map come after them.
+    pub(crate) first_thing: usize,
+    /// Where the things lie.
+    pub(crate) columns: Columns,
+}
+
+impl<'a, A: Action> Model for Rules<'a, A> {
+    ghost use Rattle.core_seats.specs.Shown.{RulesView, fixed_of, IsRuledWith};
+
+    ghost Value = { RulesView A };
+
+    ghost view = { λ r. record { action = r.action.now; tree = r.tree; start = r.start.items } };
+
+    ghost invariant = { λ r. IsRuledWith (fixed_of A.meaning
+        (record { action = r.action.now; tree = r.tree; start = r.start.items }))
+        r.start.items r.players r.first_thing r.columns };
+}
+
+/// A tree has the depth for which the table of words is made.
+fn has_depth_4(tree: &Tree)
+    ensures { tree.now.depth ≡ 4 }
+{
+    // To ask for a node is to know the depth.
+    if let Some(point) = Aabb::new(Vec3::ZERO, Vec3::ZERO) {
+        let _node = tree.node_of(&point);
+    }
+}
+
+impl<'a, A: Action> Rules<'a, A> {
+    ghost use Rattle.std.specs.Prelude.{◌≡◌, ◌<◌, ◌≤◌, ◌+◌, ◌*◌, ◌^◌, List, [], suc, map, length, All, OnOk, IfOk};
+    ghost use Rattle.std.specs.Prelude.{if◌then◌else◌};
+    ghost use Rattle.entity_recs.specs.Actions.{HasPlayer, IsCall};
+    ghost use Rattle.entity_recs.specs.Records.{IsRecord};
+    ghost use Rattle.entity_recs.specs.Commands.{command_of};
+    ghost use Rattle.core_steps.specs.Views.{region_in, is_leaf, leaf_nodes, inner_visited, plan_of, inner_of_two};
+    ghost use Rattle.core_steps.specs.Views.{things_in, home, record_read, near_loaded, leaf_word};
+    ghost use Rattle.core_steps.specs.Stands.{IsLawful, IsStart};
+    ghost use Rattle.core_seats.specs.Seats.{player_read_of};
+    ghost use Rattle.areanode.specs.Trees.{leaves_of};
+    ghost use Rattle.arena_geo.specs.Bounds.{Bounds};
+    ghost use Rattle.core_seats.specs.Starts.{record_at};
+    ghost use Rattle.core_seats.specs.Shown.{fixed_of, IsRuled};
+
+    /// The rules of an action, a tree and the records of a start.
+    pub fn new(
+        alloc: Global,
+        action: &'a A,
+        tree: &Tree,
+        start: &[Rec],
+    ) -> Result<Rules<'a, A>, AllocError>
+        requires { IsStart (fixed_of A.meaning
+            (record { action = action.now; tree = tree.now; start = start.now })) }
+        ensures { IfOk result (λ r. r ≡ record { action = action.now; tree = tree.now; start = start.now }) }
+    {
+        has_depth_4(tree);
+        let first_thing = count_players(start);
+        Ok(Rules {
+            action,
+            tree: *tree,
+            start: Vec::from_slice(alloc, start)?,
+            players: player_bits(start),
+            first_thing,
+            columns: Columns::of_things(&start[first_thing..]),
+        })
+    }
+
+    /// What the type keeps.
+    pub fn is_ruled(&self)
+        ensures { IsRuled (fixed_of A.meaning self.now) }
+    {
+        // To read a part of the rules is to know what their type keeps.
+        let _start = &self.start;
+    }
+
+    /// The action is lawful.
+    pub fn is_lawful(&self)
+        ensures { IsLawful (fixed_of A.meaning self.now) }
+    {
+        // To read a part of the rules is to know what their type keeps.
+        let _action = &self.action;
+    }
+
+    /// The record of this id at the start, if it is live.
+    pub fn record(&self, id: u16) -> Option<Rec>
+        ensures { result ≡ record_at self.now.start id }
+    {
+        find_record(self.start.as_slice(), id)
+    }
+
+    /// Whether the node is a leaf.
+    pub fn is_leaf(&self, node: u8) -> bool
+        ensures { result ≡ is_leaf (fixed_of A.meaning self.now) node }
+    {
+        // To read a part of the rules is to know what their type keeps.
+        let _tree = &self.tree;
+        usize::from(node) >= FIRST_LEAF
+    }
+
+    /// The region of a command whose own record was loaded so.
+    pub fn region(&self, cmd: &Cmd, own: &[u64]) -> Region
+        requires { HasPlayer ((A.meaning self.now.action).takes) (record_read cmd.now.slot own.now) (command_of cmd.now) }
+        ensures { result ≡ region_in (fixed_of A.meaning self.now) (command_of cmd.now) own.now }
+    {
+        self.action.region(&read_record(cmd.slot, own), cmd)
+    }
+
+    /// The nodes of a region's leaves, rising.
+    pub fn leaves(&self, region: &Region) -> NodeQueue
+        ensures { result.items ≡ leaf_nodes (fixed_of A.meaning self.now) region.now }
+    {
+        leaf_nodes(u64::from(self.tree.leaves_of(region)))
+    }
+
+    /// The leaves of a region, bit i for leaf i.
+    pub fn leaf_bits(&self, region: &Region) -> u16
+        ensures { result ≡ leaves_of self.now.tree region.now }
+    {
+        self.tree.leaves_of(region)
+    }
+
+    /// The nodes of a region's leaves, rising, where these are its leaves, bit i for leaf i.
+    pub fn nodes_of(&self, leaves: u16) -> NodeQueue
+        ensures { (region : List Bounds) → leaves ≡ leaves_of self.now.tree region
+            → result.items ≡ leaf_nodes (fixed_of A.meaning self.now) region }
+    {
+        // To read a part of the rules is to know what their type keeps.
+        let _tree = &self.tree;
+        leaf_nodes(u64::from(leaves))
+    }
+
+    /// The nodes that are read for a region: its leaves, then the inner nodes that are visited, each rising.
+    pub fn plan(&self, region: &Region) -> NodeQueue
+        ensures { result.items ≡ plan_of (fixed_of A.meaning self.now) region.now }
+    {
+        let leaves = self.tree.leaves_of(region);
+        let plan = leaf_nodes(u64::from(leaves));
+        let inner = bits_below(u64::from(visited(leaves)), 15);
+        joined(plan, &inner)
+    }
+
+    /// The node of a record.
+    pub fn home(&self, r: &Rec) -> u8
+        requires { IsRecord r.now }
+        ensures node { result ≡ home (fixed_of A.meaning self.now) r.now }
+        ensures in_range { result < 31 }
+    {
+        self.tree.node_of(&abs_box(r))
+    }
+
+    /// The inner ones among two nodes, rising, without repeats.
+    pub fn inner_of_two(&self, a: u8, b: u8) -> NodeQueue
+        ensures { result.items ≡ inner_of_two (fixed_of A.meaning self.now) a b }
+    {
+        // To read a part of the rules is to know what their type keeps.
+        let _tree = &self.tree;
+        inner_among(a, b)
+    }
+
+    /// The ids of the things of the map whose absolute box touches a region, rising.
+    pub fn things(&self, region: &Region) -> IdQueue
+        ensures { result.items ≡ things_in (fixed_of A.meaning self.now) region.now }
+    {
+        things_of(self.start.as_slice(), region)
+    }
+
+    /// Puts the records loaded that touch a region, but this player's, into an empty list, in rising id.
+    pub fn near(
+        &self,
+        region: &Region,
+        slot: u8,
+        others: &[PlayerRead],
+        states: &[NewState],
+        list: &mut NearList,
+    )
+        requires { list.old ≡ [] }
+        ensures { list.new ≡ near_loaded (fixed_of A.meaning self.now) region.now slot
+            (map player_read_of others.now) states.now }
+    {
+        put_near(self.start.as_slice(), region, slot, others, states, list);
+    }
+
+    /// What a command of this player does among these records.
+    pub fn act(&self, me: &Rec, near: &[Rec], cmd: &Cmd) -> Effect
+        requires { IsCall ((A.meaning self.now.action).takes) me.now near.now (command_of cmd.now) }
+        ensures { result ≡ (A.meaning self.now.action).effect_of me.now near.now (command_of cmd.now) }
+    {
+        self.action.act(me, near, cmd)
+    }
+
+    /// What a held node's word has beside the seat's number: for a leaf the leaves of the command, for an inner node 1
+    /// where it is held to write.
+    fn mark(&self, writing: bool, wanted: &[u8], node: u8) -> u64
+        requires nodes { All (λ n. n < 31) wanted.now }
+        requires few { length wanted.now ≤ 31 }
+        ensures mark { result ≡ (let F = fixed_of A.meaning self.now in
+            if is_leaf F node then leaf_word F wanted.now else (if writing then 1 else 0)) }
+        ensures small { result < 2 ^ 21 }
+    {
+        // To read a part of the rules is to know what their type keeps.
+        let _tree = &self.tree;
+        if self.is_leaf(node) {
+            leaf_word(wanted)
+        } else if writing {
+            1
+        } else {
+            0
+        }
+    }
+
+    /// The node's word while this seat holds it: the seat's number plus 1, and the mark above it.
+    pub fn held_word(&self, number: u8, writing: bool, wanted: &[u8], node: u8) -> u64
+        requires nodes { All (λ n. n < 31) wanted.now }
+        requires few { length wanted.now ≤ 31 }
+        ensures { result ≡ (let F = fixed_of A.meaning self.now in
+            suc (number + 256 * (if is_leaf F node then leaf_word F wanted.now else (if writing then 1 else 0)))) }
+    {
+        let mark = self.mark(writing, wanted, node);
+        u64::from(number) + 256 * mark + 1
+    }
+}
