@@ -1,5 +1,5 @@
 -- A core after a step.
-use Rattle.std.proofs.Common.{◌≡◌, ℕ, ◌+◌, ◌*◌, ◌^◌, ◌<◌, ◌⊎◌, Bool, true, false, if◌then◌else◌, List, ◌++◌, length, set, get_or, refl, sym, ap, ◌∙◌, subst, inl, inr, Some}
+use Rattle.std.proofs.Common.{◌≡◌, ℕ, ◌+◌, ◌*◌, ◌^◌, ◌<◌, ◌⊎◌, Bool, true, false, if◌then◌else◌, List, ◌++◌, length, set, get_or, refl, sym, ap, ◌∙◌, subst, inl, inr, Some, arith}
 use Rattle.std.specs.Prelude.{◌==◌, ◌↔◌, IsTrue}
 use Rattle.std.specs.Option.{option_map}
 use Rattle.std.proofs.lemmas.List.{set-get_or}
@@ -7,7 +7,7 @@ use Rattle.std.proofs.lemmas.Bool.{false≢true, true≢false}
 use Rattle.entity_recs.specs.Worlds.{World}
 use Rattle.entity_recs.specs.Histories.{Item}
 use Rattle.core_steps.specs.declared.step.Step.{Step}
-use Rattle.core_steps.specs.declared.step.StepKind.TheVariants.{Commit}
+use Rattle.core_steps.specs.declared.step.StepKind.TheVariants.{Take, Commit}
 use Rattle.core_steps.specs.Cells as cells
 use Rattle.core_steps.specs.Views.{Fixed, Store, Clear, Put, Link, View, nodes_of}
 use Rattle.core_steps.specs.Steps.{refuse_node, is_taking}
@@ -23,6 +23,7 @@ use Rattle.core_machine.specs.Tables.{words_in}
 use Rattle.core_seats.specs.Shown.{RulesView}
 use Rattle.core_seats.specs.Sound.{IsSound}
 use Rattle.core_machine.specs.Cores.{SeatView, CoreView, HasRooms, IsCore, IsFree, IsRefused, seat_of, machine_of}
+use Rattle.core_machine.specs.WordsLeft.{IsNodeWord}
 use Rattle.core_machine.specs.Stepping.{seat_next, is_done, IsOnWord, MayStep, IsStepped, IsOther, IsMade}
 use Rattle.core_seats.proofs.Changing.{view_here}
 use Rattle.core_seats.proofs.Sounding.{sound_here}
@@ -54,6 +55,30 @@ commit_word words view (GiveNode n) e = cc
 commit_word words view (YieldNode n) e = cc
 commit_word words view YieldCount e = cc
 
+store_takes : {R : Type 0} (store : Store) → kind_of_store store ≡ Take → R
+store_takes (Clear node) e = cc
+store_takes (Put cell x) e = cc
+store_takes (Link node) e = cc
+
+node_word : (node : ℕ) → node < 31 → IsNodeWord (1 + node)
+node_word node below = record { first = omega arith; last = omega (arith, below) }
+
+-- a take is of a node's word
+take_word : (view : View) (next : Next) → NextIsIn 31 view next → kind_of next ≡ Take → IsNodeWord (index_of 31 view next)
+take_word view (Begin c) is e = cc
+take_word view LoadOwn is e = cc
+take_word view LoadAgain is e = cc
+take_word view (TakeNode n) is e = node_word n is
+take_word view (ClaimNode f n) is e = node_word n is
+take_word view (ReadList n plan) is e = cc
+take_word view (ReadPlayer n part slot players plan) is e = cc
+take_word view (ReadState id ids) is e = cc
+take_word view (CommitMove f held) is e = cc
+take_word view (StoreWord held store stores) is e = store_takes store e
+take_word view (GiveNode n) is e = cc
+take_word view (YieldNode n) is e = cc
+take_word view YieldCount is e = cc
+
 at_31 : (P : ℕ → Type 0) (d : ℕ) → d ≡ 31 → P d → P 31
 at_31 P d is p = subst P is p
 
@@ -64,9 +89,11 @@ module _ (F : Fixed) (m : Machine) (history : List Item) (now : World) (n : ℕ)
   on_word : (next : Next) → next_of F m n ≡ Some next → IsOnWord F m.core.words (m.core.view n) next
   on_word next comes =
       let word = steps_have_their_word F m history now n next lawful start comes is in
+      let inside = next_is_in F m history now n next lawful start comes is in
       let after = sound_here F (machine_after F m n next) _ _ n lawful start (next_step_stands F m history now n next lawful start comes is) depth in
       record {
         in_table = at_31 (λ (d : ℕ). index_of d (m.core.view n) next < 577 + 2 * d) (nodes_of F) nodes word.in_table;
+        node = take_word (m.core.view n) next (at_31 (λ (d : ℕ). NextIsIn d (m.core.view n) next) (nodes_of F) nodes inside);
         found = at_31 (λ (d : ℕ). cells.word_at d m.core.words (index_of d (m.core.view n) next) ≡ word_of_next m.core.words (m.core.view n) next) (nodes_of F) nodes word.before;
         after = subst (IsSound F) (view_here F m.core n next) after;
         count = λ commits. subst (λ (w : ℕ). w + 1 < 2 ^ 64) (sym (commit_word m.core.words (m.core.view n) next commits)) (count_is_small F m.core history now is.core rooms);

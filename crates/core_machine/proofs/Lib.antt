@@ -1,4 +1,6 @@
 -- Lemmas on the core in code.
+pub mod Bits
+pub mod Lefts
 pub mod Tables
 pub mod WordsAfter
 pub mod SeatRooms

@@ -1,5 +1,5 @@
 -- A seat's next step, made on a word of the table.
-use Rattle.std.proofs.Common.{◌≡◌, ℕ, ◌+◌, ◌^◌, ◌<◌, Bool, false, refl, sym, ap, ◌∙◌, subst, Option, Some, None}
+use Rattle.std.proofs.Common.{◌≡◌, ℕ, ◌+◌, ◌^◌, ◌<◌, Bool, true, false, refl, sym, ap, ◌∙◌, subst, Option, Some, None, is_some}
 use Rattle.std.specs.Prelude.{if◌then◌else◌}
 use Rattle.std.specs.Option.{option_map}
 use Rattle.entity_recs.specs.declared.effect.Effect.{Effect}
@@ -8,17 +8,21 @@ use Rattle.core_steps.specs.declared.step.Step.{Step}
 use Rattle.core_steps.specs.declared.step.StepKind.{StepKind}
 use Rattle.core_steps.specs.declared.step.StepKind.TheVariants.{Commit}
 use Rattle.core_steps.specs.Cells.{Words, word_at}
-use Rattle.core_steps.specs.Views.{Fixed, Point, Idle, Owning, Taking, Checking, Entering, Entered, Loading, Leaving, Sensing, Resolving, Claiming, Storing, Releasing, Returning, Yielding, View, nodes_of, effect_loaded}
+use Rattle.core_steps.specs.Views.{Fixed, stage_of, Point, Idle, Owning, Taking, Checking, Entering, Entered, Loading, Leaving, Sensing, Resolving, Claiming, Storing, Releasing, Returning, Yielding, View, nodes_of, effect_loaded}
 use Rattle.core_steps.specs.Steps.{first_yield}
 use Rattle.core_steps.specs.Machine.{Next, next_at, quitting, step_of, index_of, kind_of, word_of_next}
+use Rattle.core_steps.proofs.Storing.{storing_busy}
 use Rattle.core_seats.specs.declared.seat.Seat.{Seat}
 use Rattle.core_machine.specs.Tables.{with_word_at}
 use Rattle.core_seats.specs.Seats.{view_of, given_of}
 use Rattle.core_seats.specs.Going.{view_found, word_left}
-use Rattle.core_seats.specs.Nexts.{next_point, next_with}
+use Rattle.core_seats.specs.Nexts.{next_point, next_with, the_next}
 use Rattle.core_seats.specs.Sound.{IsSound}
 use Rattle.core_seats.specs.Ready.{is_resolving, effect_due}
+use Rattle.core_seats.proofs.Rooms.{command_at, wanted_in, wanted_few}
 use Rattle.core_machine.specs.Cores.{seat_of}
+use Rattle.core_machine.specs.WordsLeft.{IsNodeWord, MayLeave, word_by_kind}
+use Rattle.core_machine.proofs.Lefts.{the_next_is_by_kind}
 use Rattle.core_machine.specs.Stepping.{seat_next, is_done, IsOnWord, IsStepped}
 
 index_at_31 : (d : ℕ) (view : View) (next : Next) → d ≡ 31 → index_of 31 view next ≡ index_of d view next
@@ -41,6 +45,38 @@ count_fits F words view next found on is commits = subst (λ (n : ℕ). n + 1 < 
 
 pub sound_after : (F : Fixed) (words : Words) (view : View) (next : Next) (found : ℕ) → IsOnWord F words view next → found ≡ word_of_next words view next → IsSound F (view_found F view next found)
 sound_after F words view next found on is = subst (λ (n : ℕ). IsSound F (view_found F view next n)) (sym is) on.after
+
+-- what the step's word is to become can be told
+pub may_leave : (F : Fixed) (words : Words) (view : View) (given : Option Command) (effect : Option Effect) (quits : Bool) (s : Step) (found : ℕ) → IsSound F view
+    → is_some (next_with F view given quits effect) ≡ true → IsOnWord F words view (the_next (next_with F view given quits effect))
+    → step_of F s.seat view (the_next (next_with F view given quits effect)) ≡ s
+    → found ≡ word_of_next words view (the_next (next_with F view given quits effect)) → MayLeave view s.kind s.word found
+may_leave F words view given effect quits s found sound some on same is =
+    let next = the_next (next_with F view given quits effect) in
+    let kind : kind_of next ≡ s.kind = ap (λ (t : Step). t.kind) same in
+    let word : s.word ≡ index_of 31 view next = index_is F view next s s.word sound.depth same refl in
+    let left = the_next_is_by_kind F s.seat view given effect found quits some in
+    record {
+      take = λ takes. record {
+        node = subst IsNodeWord (sym word) (on.node (kind ∙ takes));
+        wanted = wanted_in F view sound view.point refl (left.whole (kind ∙ takes));
+        few = wanted_few F view sound view.point refl (left.whole (kind ∙ takes));
+      };
+      count = λ commits. count_fits F words view next found on is (kind ∙ commits);
+      hand = λ storing. command_at F view sound view.point refl (storing_busy (stage_of view.point) storing);
+    }
+
+-- the word that is left by the step's kind is the one of what comes next
+pub left_is : (F : Fixed) (view : View) (given : Option Command) (effect : Option Effect) (quits : Bool) (s : Step) (found left : ℕ) → IsSound F view
+    → is_some (next_with F view given quits effect) ≡ true → step_of F s.seat view (the_next (next_with F view given quits effect)) ≡ s
+    → left ≡ word_by_kind F s.seat view s.kind s.word found → left ≡ word_left F s.seat view (the_next (next_with F view given quits effect)) found
+left_is F view given effect quits s found left sound some same is =
+    let next = the_next (next_with F view given quits effect) in
+    let kind : kind_of next ≡ s.kind = ap (λ (t : Step). t.kind) same in
+    let word : s.word ≡ index_of 31 view next = index_is F view next s s.word sound.depth same refl in
+    is ∙ ap (λ (k : StepKind). word_by_kind F s.seat view k s.word found) (sym kind)
+    ∙ ap (λ (w : ℕ). word_by_kind F s.seat view (kind_of next) w found) word
+    ∙ sym (the_next_is_by_kind F s.seat view given effect found quits some).word
 
 pub stepped : (F : Fixed) (s : Step) (words after : Words) (view : View) (new : Seat) (next : Next) (index found left : ℕ) (answer : Bool) → step_of F s.seat view next ≡ s
     → index ≡ index_of 31 view next → found ≡ word_of_next words view next

@@ -10,5 +10,6 @@ pub use Rattle.core_seats.specs.Logs
 pub use Rattle.core_seats.specs.Shown
 pub mod Tables
 pub mod Cores
+pub mod WordsLeft
 pub mod Stepping
 pub mod Plain

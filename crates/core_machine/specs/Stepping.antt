@@ -16,6 +16,7 @@ use Rattle.core_seats.specs.Going.{view_found, word_left}
 use Rattle.core_seats.specs.Sound.{IsSound}
 use Rattle.core_seats.specs.Ready.{IsReady, effect_due}
 use Rattle.core_machine.specs.Cores.{SeatView, seat_of}
+use Rattle.core_machine.specs.WordsLeft.{IsNodeWord}
 
 -- what the seat does next
 abbrev pub seat_next : Fixed → SeatView → Option Next
@@ -27,9 +28,11 @@ abbrev pub is_done : StepKind → ℕ → Bool
 is_done Take found = found == 0
 is_done _ _ = true
 
--- the step's word lies in the table, the view after it is sound, and the count of commits doesn't reach its end
+-- the step's word lies in the table, that of a take among those of the nodes, the view after it is sound, and the count
+-- of commits doesn't reach its end
 pub record IsOnWord (F : Fixed) (words : Words) (view : View) (next : Next) : Type 0 where
   pub in_table : index_of 31 view next < 639
+  pub node : kind_of next ≡ Take → IsNodeWord (index_of 31 view next)
   pub found : word_at 31 words (index_of 31 view next) ≡ word_of_next words view next
   pub after : IsSound F (view_found F view next (word_of_next words view next))
   pub count : kind_of next ≡ Commit → word_of_next words view next + 1 < 2 ^ 64

@@ -4,6 +4,7 @@
 pub use machine::Core;
 pub use words::Words;
 
+mod left;
 mod machine;
 mod start;
 mod stepping;

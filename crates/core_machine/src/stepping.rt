@@ -10,6 +10,7 @@ ghost use Rattle.core_machine.specs.Stepping as stepping;
 ghost use Rattle.core_machine.specs.Stepping.{MayStep, IsOnWord, IsStepped, IsOther, IsMade};
 ghost use Rattle.core_machine.specs.Tables.{words_in};
 
+use crate::left::word_left;
 use crate::words::Words;
 use core_seats::{Rules, Seat};
 use core_steps::{Step, StepKind};
@@ -63,7 +64,7 @@ fn make_next<A: Action>(
 {
     let index = usize::from(s.word);
     let found = words.get(index);
-    words.set(index, seat.word_left(rules, s.seat, effect, found));
+    words.set(index, word_left(rules, seat, s, found));
     seat.go(rules, effect, found);
     is_done(s.kind, found)
 }

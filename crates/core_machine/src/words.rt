@@ -5,6 +5,7 @@ ghost use Rattle.core_steps.specs.Steps.{words_after_store};
 ghost use Rattle.core_seats.specs.Points.{cell_in, store_of};
 ghost use Rattle.core_machine.specs.Tables.{words_in, IsCellOf, IsStoreOf};
 
+use crate::left::{linked, unlinked};
 use areanode::NODES;
 use core_seats::{Cell, Store};
 use core_steps::PlayerWords;
@@ -81,7 +82,7 @@ impl Words {
         } }
     {
         let word = self.links[usize::from(node)];
-        self.links[usize::from(node)] = word | 1 << slot;
+        self.links[usize::from(node)] = linked(word, slot);
     }
 
     /// Clears the player's bit in the list word of a node.
@@ -94,7 +95,7 @@ impl Words {
         } }
     {
         let word = self.links[usize::from(node)];
-        self.links[usize::from(node)] = word & !(1 << slot);
+        self.links[usize::from(node)] = unlinked(word, slot);
     }
 
     /// Makes a store that the player in this slot owes.

@@ -1,5 +1,4 @@
 -- Lemmas on the seats of the core in code.
-pub mod Bits
 pub mod Logs
 pub mod Ranges
 pub mod Fixing
@@ -17,4 +16,3 @@ pub mod Sounding
 pub mod PointCases
 pub mod Rooms
 pub mod Steps
-pub mod Lefts

@@ -122,7 +122,7 @@ impl Seat {
     }
 
     /// The write nodes of an effect on the own record as it was loaded again.
-    pub(crate) fn write_nodes<A: Action>(&self, rules: &Rules<A>, effect: &Effect) -> NodeQueue
+    fn write_nodes<A: Action>(&self, rules: &Rules<A>, effect: &Effect) -> NodeQueue
         requires command { IsCommand (hand_of self.now.cmd) }
         requires before { IsRecord (record_read (hand_of self.now.cmd).slot self.now.again.items) }
         requires after { IsRecord effect.now.me }

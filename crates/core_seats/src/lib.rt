@@ -20,7 +20,6 @@ mod committing;
 mod giving;
 mod go;
 mod laws;
-mod left;
 mod lists;
 mod loading;
 mod log;
