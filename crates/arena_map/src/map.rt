@@ -22,10 +22,7 @@ use crate::lift::Lift;
 use crate::limits::{MOST_BLOCKS, MOST_BOXES, MOST_ITEMS, MOST_SPAWNS};
 use crate::map_fault::{MapFault, MapRefusal};
 use crate::map_line::MapLine;
-use crate::rules::{
-    box_between, is_wide, keeps_box, keeps_item,
-    keeps_stand, keeps_travel, shaft,
-};
+use crate::rules::{box_between, is_wide, keeps_box, keeps_item, keeps_stand, keeps_travel, shaft};
 use crate::things::{delay_in, dest_in, lift_data, push_shaft, record_of};
 use arena_geo::{Aabb, Vec3};
 use box_trace::{WALLS, arena_walls};
