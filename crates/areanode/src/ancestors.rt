@@ -2,12 +2,12 @@ ghost use Rattle.std.specs.Prelude.{◌≡◌, ◌+◌, ◌==◌, ◌<◌};
 ghost use Rattle.areanode.specs.Words.{word_of};
 ghost use Rattle.areanode.specs.Trees.{is_over, visited_of};
 
-use crate::tree::{DEPTH, FIRST_LEAF, LEAVES, NODES};
+use crate::sizes::{DEPTH, FIRST_LEAF, LEAVES, NODES};
 
 /// The bits of a node and of all its ancestors, bit i for node i.
 fn path_to(start: usize) -> u32
     requires { start < NODES }
-    ensures { result ≡ word_of 31 (λ node. is_over 4 node start) }
+    ensures { result ≡ word_of NODES (λ node. is_over DEPTH node start) }
 {
     let mut node = start;
     let mut path = 1 << node;

@@ -9,11 +9,13 @@ pub use laws::{
     node_is_in_range, node_is_on_its_side, node_is_over_leaves, touched_leaf_is_listed,
     touched_node_is_visited, touching_boxes_share_a_leaf, word_fits, word_has_its_bits,
 };
-pub use tree::{DEPTH, FIRST_LEAF, LEAVES, NODES, Tree};
+pub use sizes::{DEPTH, FIRST_LEAF, LEAVES, NODES};
+pub use tree::Tree;
 
 mod ancestors;
 mod cut;
 mod laws;
+mod sizes;
 #[cfg(test)]
 mod tests;
 mod tree;

@@ -7,29 +7,19 @@ ghost use Rattle.areanode.specs.Areas.{area_at, AreCut, IsAtLevel};
 use crate::cut::{
     cut_of, is_above, is_below, part_above, part_below, reaches_above, reaches_below,
 };
+use crate::sizes::{DEPTH, FIRST_LEAF, LEAVES, NODES};
 use arena_geo::{Aabb, Region};
 use std::marker::Model;
 
-/// The depth of the leaves, where the root has depth 0.
-pub const DEPTH: u8 = 4;
-
-/// The number of leaves.
-pub const LEAVES: usize = 16;
-
-/// The number of nodes, the leaves among them.
-pub const NODES: usize = 31;
-
-/// The first leaf's node, which is also the number of inner nodes.
-pub const FIRST_LEAF: usize = 15;
-
 /// The tree of areanodes over an arena, by which boxes are linked and found. Node 0 is the root; the children of node i
-/// are 2i + 1 over the part of its area above its cut, and 2i + 2 over the part below. Leaf i is node 15 + i.
+/// are 2i + 1 over the part of its area above its cut, and 2i + 2 over the part below. Leaf i is node [`FIRST_LEAF`] + i.
 #[derive(Clone, Copy)]
 pub struct Tree {
     areas: [Aabb; NODES],
 }
 
 impl Model for Tree {
+    ghost use Rattle.areanode.specs.declared.sizes.TheConstants.{DEPTH};
     ghost use Rattle.areanode.specs.Trees.{TreeView};
     ghost use Rattle.areanode.specs.Areas.{area_at, areas_of, AreCut};
     ghost use Rattle.areanode.specs.Rebuilt.{areas_of-is};
@@ -37,7 +27,7 @@ impl Model for Tree {
 
     ghost Value = { TreeView };
 
-    ghost view = { λ t. record { depth = 4; bounds = area_at t.areas 0 } };
+    ghost view = { λ t. record { depth = DEPTH; bounds = area_at t.areas 0 } };
 
     ghost invariant = { λ t. AreCut t.areas };
 
@@ -69,7 +59,7 @@ fn node_from(areas: &[Aabb; NODES], node: usize, levels: u8, b: &Aabb) -> usize
 fn leaves_from(areas: &[Aabb; NODES], node: usize, levels: u8, b: &Aabb) -> u16
     requires cut { AreCut areas.now }
     requires level { IsAtLevel levels node }
-    ensures { result ≡ word_of 16 (λ leaf. trees.reaches levels node (area_at areas.now node) b.now (15 + leaf)) }
+    ensures { result ≡ word_of LEAVES (λ leaf. trees.reaches levels node (area_at areas.now node) b.now (FIRST_LEAF + leaf)) }
 {
     if levels == 0 {
         return 1 << (node - FIRST_LEAF);

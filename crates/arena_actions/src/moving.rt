@@ -15,15 +15,16 @@ use crate::boxes::Boxes;
 use crate::looking::looked_at;
 use crate::solid_index::SolidIndex;
 use arena_geo::Aabb;
-use arena_map::ArenaMap;
-use entity_recs::{Cmd, Rec};
+use arena_map::{ArenaMap, MOST_BLOCKS};
+use box_trace::WALLS;
+use entity_recs::{Cmd, IDS, Rec};
 use player_move::{Moved, move_player};
 
 /// How many solids are kept at first: as many as a move looks at in all but the most crowded places.
 const FEW_SOLIDS: usize = 64;
 
 /// The most solids that there may be: the walls and blocks of a map, and the bodies of all live records.
-const MOST_SOLIDS: usize = 1_286;
+const MOST_SOLIDS: usize = WALLS + MOST_BLOCKS + IDS;
 
 /// The flags after a move: bit 0 says that it began on the ground.
 fn flags(ground: bool) -> u8
@@ -76,7 +77,7 @@ fn move_among(map: &ArenaMap, index: &SolidIndex, me: &Rec, near: &[Rec], cmd: &
     requires index { IsIndexOf index.now (solids_of map.now) }
     requires record { IsRecord me.now }
     requires records { All IsRecord near.now }
-    requires few { length near.now ≤ 256 }
+    requires few { length near.now ≤ IDS }
     ensures { result ≡ move_of me.now (intent_of cmd.now) (solids_among map.now near.now) }
 {
     let place = looked_at(me, cmd.ms);

@@ -3,7 +3,7 @@ ghost use Rattle.arena_engine.specs.Commands.{Spells, contents};
 ghost use Rattle.arena_engine.specs.declared.command.Command.{Command};
 
 use crate::numbers::{number, number_up_to};
-use frame_phases::MOST_FRAMES;
+use arena_map::MOST_FRAMES;
 use match_play::MOST_MATCH_FRAMES;
 
 /// The most workers.

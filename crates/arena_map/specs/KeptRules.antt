@@ -2,6 +2,7 @@
 use Rattle.std.specs.Prelude.{◌≡◌, ⊤, ◌<◌, ◌≤◌, Bool, true, false, length, count_by, All, AllPairs}
 use Rattle.arena_geo.specs.Bounds.{Bounds}
 use Rattle.arena_geo.specs.Boxes.{overlaps, is_blocked}
+use Rattle.arena_map.specs.declared.limits.TheConstants.{MOST_BLOCKS, MOST_BOXES, MOST_ITEMS, MOST_SPAWNS}
 use Rattle.arena_map.specs.declared.map_fault.MapFault.{MapFault}
 use Rattle.arena_map.specs.declared.map_fault.MapFault.TheVariants as fault
 use Rattle.arena_map.specs.declared.map_line.MapLine.{MapLine}
@@ -17,12 +18,12 @@ AllThings test map = All (λ line. test map.bounds line ≡ true) map.things
 
 -- the map has no more of each kind than it may
 pub record HasFew (map : MapView) : Type 0 where
-  pub blocks : length map.blocks ≤ 1024
-  pub spawns : length map.spawns ≤ 64
-  pub items : count_by is_item_line map.things ≤ 144
-  pub teleporters : count_by is_teleport_line map.things ≤ 16
-  pub goals : count_by is_goal_line map.things ≤ 16
-  pub lifts : count_by is_lift_line map.things ≤ 16
+  pub blocks : length map.blocks ≤ MOST_BLOCKS
+  pub spawns : length map.spawns ≤ MOST_SPAWNS
+  pub items : count_by is_item_line map.things ≤ MOST_ITEMS
+  pub teleporters : count_by is_teleport_line map.things ≤ MOST_BOXES
+  pub goals : count_by is_goal_line map.things ≤ MOST_BOXES
+  pub lifts : count_by is_lift_line map.things ≤ MOST_BOXES
 
 -- no lift's shaft overlaps a block or another shaft
 pub record HasClearShafts (map : MapView) : Type 0 where

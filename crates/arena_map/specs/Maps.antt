@@ -11,6 +11,7 @@ use Rattle.arena_geo.specs.Boxes.{contains, overlaps, is_blocked}
 use Rattle.box_trace.specs.Walls.{walls_of}
 use Rattle.entity_recs.specs.declared.kind.Kind.{Kind}
 use Rattle.entity_recs.specs.declared.rec.Rec.{Rec}
+use Rattle.arena_map.specs.declared.limits.TheConstants.{MOST_BLOCKS, MOST_BOXES, MOST_ITEMS, MOST_SPAWNS}
 use Rattle.arena_map.specs.declared.lift.Lift.{Lift}
 use Rattle.arena_map.specs.declared.map_line.MapLine.{MapLine}
 use Rattle.arena_map.specs.MapLines.{IsWithinLimits, is_thing_line, is_item_line, is_teleport_line, is_goal_line}
@@ -112,14 +113,14 @@ pub record IsMap (map : MapView) : Type 0 where
   pub hi : IsNear 1048576 map.bounds.hi
   pub wide : is_wide map.bounds.lo map.bounds.hi ≡ true
   pub blocks : All (IsBlock map.bounds) map.blocks
-  pub few_blocks : length map.blocks ≤ 1024
+  pub few_blocks : length map.blocks ≤ MOST_BLOCKS
   pub spawns : All (IsSpawn map.bounds) map.spawns
-  pub few_spawns : length map.spawns ≤ 64
+  pub few_spawns : length map.spawns ≤ MOST_SPAWNS
   pub things : All (IsThingInside map.bounds) map.things
-  pub few_items : count_by is_item_line map.things ≤ 144
-  pub few_teleporters : count_by is_teleport_line map.things ≤ 16
-  pub few_goals : count_by is_goal_line map.things ≤ 16
-  pub few_lifts : count_by is_lift_line map.things ≤ 16
+  pub few_items : count_by is_item_line map.things ≤ MOST_ITEMS
+  pub few_teleporters : count_by is_teleport_line map.things ≤ MOST_BOXES
+  pub few_goals : count_by is_goal_line map.things ≤ MOST_BOXES
+  pub few_lifts : count_by is_lift_line map.things ≤ MOST_BOXES
   pub clear_shafts : All (λ shaft. is_blocked shaft map.blocks ≡ false) (shafts_of map)
   pub shafts_apart : AllPairs (λ one other. overlaps one other ≡ false) (shafts_of map)
 

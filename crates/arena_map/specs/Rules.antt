@@ -5,6 +5,7 @@ use Rattle.std.specs.List.{list_any}
 use Rattle.arena_geo.specs.declared.vec3.Vec3.{Vec3}
 use Rattle.arena_geo.specs.Bounds.{Bounds, bounds}
 use Rattle.arena_geo.specs.Boxes.{overlaps, is_blocked}
+use Rattle.arena_map.specs.declared.limits.TheConstants.{MOST_BLOCKS, MOST_BOXES, MOST_ITEMS, MOST_SPAWNS}
 use Rattle.arena_map.specs.declared.map_fault.MapFault.{MapFault}
 use Rattle.arena_map.specs.declared.map_fault.MapFault.TheVariants as fault
 use Rattle.arena_map.specs.declared.map_line.MapLine.{MapLine}
@@ -38,12 +39,12 @@ begun_map _ = None
 -- rule 3: there is room for one more of the line's kind
 abbrev pub keeps_count : MapView → MapLine → Bool
 keeps_count map (Arena lo hi) = true
-keeps_count map (Block lo hi) = nat_lt (length map.blocks) 1024
-keeps_count map (Spawn at) = nat_lt (length map.spawns) 64
-keeps_count map (Item at kind delay) = nat_lt (count_by is_item_line map.things) 144
-keeps_count map (Teleport lo hi dest) = nat_lt (count_by is_teleport_line map.things) 16
-keeps_count map (Goal lo hi) = nat_lt (count_by is_goal_line map.things) 16
-keeps_count map (Lift lo hi rise speed) = nat_lt (count_by is_lift_line map.things) 16
+keeps_count map (Block lo hi) = nat_lt (length map.blocks) MOST_BLOCKS
+keeps_count map (Spawn at) = nat_lt (length map.spawns) MOST_SPAWNS
+keeps_count map (Item at kind delay) = nat_lt (count_by is_item_line map.things) MOST_ITEMS
+keeps_count map (Teleport lo hi dest) = nat_lt (count_by is_teleport_line map.things) MOST_BOXES
+keeps_count map (Goal lo hi) = nat_lt (count_by is_goal_line map.things) MOST_BOXES
+keeps_count map (Lift lo hi rise speed) = nat_lt (count_by is_lift_line map.things) MOST_BOXES
 
 -- the shaft of an earlier lift overlaps the box
 abbrev pub meets_shaft : List Bounds → Bounds → Bool

@@ -7,16 +7,19 @@ pub use laws::{
     opening_world_is_valid, solids_have_walls,
 };
 pub use lift::Lift;
+pub use limits::{
+    LEAST_SIDE, MOST_BLOCKS, MOST_BOXES, MOST_FRAMES, MOST_ITEMS, MOST_SPAWNS, MOST_THINGS,
+};
 pub use map::ArenaMap;
 pub use map_fault::{MapFault, MapRefusal};
 pub use map_line::MapLine;
 pub use map_word::{MapField, MapWord};
 pub use reading::read_map_line;
-pub use rules::{LEAST_SIDE, MOST_BLOCKS, MOST_BOXES, MOST_ITEMS, MOST_SPAWNS};
 pub use spelling::print_map_line;
 
 mod laws;
 mod lift;
+mod limits;
 mod map;
 mod map_fault;
 mod map_line;

@@ -5,6 +5,7 @@ ghost use Rattle.arena_geo.specs.Vectors.{IsNear};
 ghost use Rattle.arena_geo.specs.Bounds.{bounds};
 ghost use Rattle.entity_recs.specs.Records.{IsRecord};
 ghost use Rattle.entity_recs.specs.Kinds.{is_item};
+ghost use Rattle.arena_map.specs.declared.limits.TheConstants.{MOST_THINGS};
 ghost use Rattle.arena_map.specs.declared.map_fault.MapFault.{MapFault};
 ghost use Rattle.arena_map.specs.declared.map_fault.MapRefusal.TheVariants.{Rule};
 ghost use Rattle.arena_map.specs.declared.map_line.MapLine.TheVariants.{Block, Spawn};
@@ -18,21 +19,16 @@ ghost use Rattle.arena_map.specs.Rules as rules;
 ghost use Rattle.arena_map.specs.Rules.{broken_at_first, begun_map, broken_rule, with_line, with_thing};
 
 use crate::lift::Lift;
+use crate::limits::{MOST_BLOCKS, MOST_BOXES, MOST_ITEMS, MOST_SPAWNS};
 use crate::map_fault::{MapFault, MapRefusal};
 use crate::map_line::MapLine;
-use crate::rules::{
-    MOST_BLOCKS, MOST_BOXES, MOST_ITEMS, MOST_SPAWNS, box_between, is_wide, keeps_box, keeps_item,
-    keeps_stand, keeps_travel, shaft,
-};
+use crate::rules::{box_between, is_wide, keeps_box, keeps_item, keeps_stand, keeps_travel, shaft};
 use crate::things::{delay_in, dest_in, lift_data, push_shaft, record_of};
 use arena_geo::{Aabb, Vec3};
-use box_trace::arena_walls;
+use box_trace::{WALLS, arena_walls};
 use entity_recs::Rec;
 use std::alloc::{AllocError, Global};
 use std::marker::Model;
-
-/// How many walls an arena has.
-const WALLS: usize = 6;
 
 /// The id of the first thing.
 const FIRST_THING: u16 = 64;
@@ -277,7 +273,7 @@ impl ArenaMap {
     /// The six walls, in the order low x, high x, low y, high y, low z, high z, and then the blocks in line order.
     pub fn solids(&self) -> &[Aabb]
         ensures value { result.now ≡ solids_of self.now }
-        ensures few { length result.now ≤ 1030 }
+        ensures few { length result.now ≤ WALLS + MOST_BLOCKS }
         ensures rules { IsMap self.now }
     {
         self.solids.as_slice()
@@ -294,7 +290,7 @@ impl ArenaMap {
     /// The things of the map at the start, by id from 64 in the order of their lines.
     pub fn entities(&self) -> &[Rec]
         ensures value { result.now ≡ entities_of self.now }
-        ensures few { length result.now ≤ 192 }
+        ensures few { length result.now ≤ MOST_THINGS }
         ensures records { All IsRecord result.now }
         ensures apart { IsDistinct nat_eq (map (λ r. r.id) result.now) }
         ensures rules { IsMap self.now }

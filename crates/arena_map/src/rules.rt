@@ -4,24 +4,10 @@ ghost use Rattle.arena_geo.specs.Bounds.{bounds};
 ghost use Rattle.arena_map.specs.MapLines.{IsWithinLimits};
 ghost use Rattle.arena_map.specs.Places as places;
 
+use crate::limits::LEAST_SIDE;
 use crate::map_line::MapLine;
 use arena_geo::{Aabb, Vec3};
 use entity_recs::{ITEM_MAXS, ITEM_MINS, player_box};
-
-/// The least length of a side of the arena, in sub-units.
-pub const LEAST_SIDE: i32 = 32_768;
-
-/// The most blocks of a map.
-pub const MOST_BLOCKS: usize = 1_024;
-
-/// The most spawns of a map.
-pub const MOST_SPAWNS: usize = 64;
-
-/// The most items of a map.
-pub const MOST_ITEMS: usize = 144;
-
-/// The most teleporters of a map, the most goals, and the most lifts.
-pub const MOST_BOXES: usize = 16;
 
 /// Whether a side is at least [`LEAST_SIDE`] long.
 fn is_long(from: i32, to: i32) -> bool

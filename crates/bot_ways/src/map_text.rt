@@ -8,11 +8,9 @@ ghost use Rattle.bot_ways.specs.Things as things;
 use crate::plan_text::PlanText;
 use arena_geo::Aabb;
 use arena_map::{ArenaMap, MapLine};
+use box_trace::WALLS;
 use entity_recs::{Rec, body_box};
 use std::alloc::AllocError;
-
-/// How many walls come before the blocks among the solids of a map.
-const WALLS: usize = 6;
 
 /// The blocks of a map in line order.
 fn blocks(map: &ArenaMap) -> &[Aabb]

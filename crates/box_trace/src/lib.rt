@@ -10,7 +10,7 @@ pub use laws::{
     named_solid_stops, steps_are_free, steps_stay_in_range, trace_is_unique, trace_stays_inside,
     walls_leave_inside_free,
 };
-pub use walls::arena_walls;
+pub use walls::{WALLS, arena_walls};
 pub use way::{REACH, shift_at, step_count};
 
 mod axis;

@@ -6,6 +6,9 @@ ghost use Rattle.box_trace.specs.Walls as spec;
 
 use arena_geo::{Aabb, Vec3};
 
+/// How many walls an arena has.
+pub const WALLS: usize = 6;
+
 /// How thick a wall is, in sub-units.
 const THICK: i32 = 16_384;
 

@@ -3,6 +3,7 @@ use Rattle.std.specs.Prelude.{◌≡◌, ◌↔◌, ℕ, ◌+◌, ◌≤◌, ◌
 use Rattle.std.specs.Prelude.{map, filter, flat_map, count_by, All, Option, Some, None, IsSome, Result, Ok, Err}
 use Rattle.std.specs.List.{IsDistinct, Contains}
 use Rattle.std.specs.List.Sorted.{IsStrictlyIncreasing}
+use Rattle.entity_recs.specs.declared.limits.TheConstants.{IDS}
 use Rattle.entity_recs.specs.declared.rec.Rec.{Rec}
 use Rattle.entity_recs.specs.Commands.{Command, is_same_move}
 use Rattle.packet_read.specs.declared.move_packet.MovePacket.{MovePacket}
@@ -183,7 +184,7 @@ MoversAreLive = (map : MapView) (frame : ℕ) (state : State) (arrivals : List A
 -- the state in which a server begins, with nobody joined and only the things of the map live, is a server's
 abbrev pub OpeningIsAServerState : Type 0
 OpeningIsAServerState =
-    (map : MapView) (records : List (Option Rec)) → IsMap map → length records ≡ 256 → IsOpeningWorld map records
+    (map : MapView) (records : List (Option Rec)) → IsMap map → length records ≡ IDS → IsOpeningWorld map records
     → IsServerState map (state_of no_clients records)
 
 -- ports stay apart, and moves few, through the packets and the end of a frame

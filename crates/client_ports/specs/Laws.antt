@@ -2,6 +2,7 @@
 use Rattle.std.specs.Prelude.{◌≡◌, ◌⊎◌, ◌↔◌, ℕ, ◌+◌, ◌≤◌, true, false, List, [], ◌∷◌, All, length, take, slice_get}
 use Rattle.std.specs.Prelude.{Option, Some, None, Ok, if◌then◌else◌}
 use Rattle.arena_geo.specs.Boxes.{overlaps, is_blocked}
+use Rattle.entity_recs.specs.declared.limits.TheConstants.{IDS}
 use Rattle.entity_recs.specs.declared.rec.Rec.{Rec}
 use Rattle.entity_recs.specs.Bodies.{body_of, player_body}
 use Rattle.entity_recs.specs.Kinds.{is_solid}
@@ -159,7 +160,7 @@ RefusalsHaveReasons = (map : MapView) (frame : ℕ) (r : Receiving) (place : ℕ
 
 -- the end of a frame takes out the clients that leave, with their players, and no other
 abbrev pub FinishTakesLeaversOut : Type 0
-FinishTakesLeaversOut = (state : State) → length state.clients ≡ 64 → length state.records ≡ 256 → (id : ℕ)
+FinishTakesLeaversOut = (state : State) → length state.clients ≡ 64 → length state.records ≡ IDS → (id : ℕ)
     → (client_at (finished state).clients id ≡ finished_client (client_at state.clients id))
     × (record_at (finished state).records id ≡ (if is_leaver (client_at state.clients id)
     then None else record_at state.records id))
@@ -177,6 +178,6 @@ pub record IsStillThere (before : Client) (after : Option Client) : Type 0 where
 -- the end of a frame keeps each client that doesn't leave, with its port and its last number
 abbrev pub FinishKeepsWhoStays : Type 0
 FinishKeepsWhoStays =
-    (state : State) (slot : ℕ) (before : Client) → length state.clients ≡ 64 → length state.records ≡ 256
+    (state : State) (slot : ℕ) (before : Client) → length state.clients ≡ 64 → length state.records ≡ IDS
     → client_at state.clients slot ≡ Some before → before.leaves ≡ false
     → IsStillThere before (client_at (finished state).clients slot)

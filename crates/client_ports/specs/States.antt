@@ -2,6 +2,7 @@
 use Rattle.std.specs.Prelude.{◌≡◌, ℕ, ◌<◌, List, length, Option, is_some, slice_set, Some}
 use Rattle.arena_geo.specs.declared.vec3.Vec3.{Vec3}
 use Rattle.arena_geo.specs.Vectors.{zero_vector}
+use Rattle.entity_recs.specs.declared.limits.TheConstants.{IDS}
 use Rattle.entity_recs.specs.declared.bodies.TheConstants.{PLAYER_MINS, PLAYER_MAXS}
 use Rattle.entity_recs.specs.declared.kind.Kind.TheVariants.{Player}
 use Rattle.entity_recs.specs.declared.rec.Rec.{Rec}
@@ -57,8 +58,8 @@ pub record IsState (map : MapView) (state : State) : Type 0 where
   pub live : HaveSameLive state.clients state.records
   pub valid : IsValidWorld map state.records
 
--- a server's state on a map: ports are apart, each of 256 ids has a place, and the state fits the map
+-- a server's state on a map: ports are apart, each id has a place, and the state fits the map
 pub record IsServerState (map : MapView) (state : State) : Type 0 where
   pub clients : AreClients state.clients
-  pub places : length state.records ≡ 256
+  pub places : length state.records ≡ IDS
   pub fits : IsState map state

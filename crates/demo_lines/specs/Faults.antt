@@ -2,6 +2,8 @@
 use Rattle.std.specs.Prelude.{ℕ, Bool, false, ◌&&◌, not, nat_lt, nat_le, List, length, Option, Some, None, is_none}
 use Rattle.std.specs.Prelude.{option_map, if◌then◌else◌}
 use Rattle.std.specs.Option.{option_or}
+use Rattle.packet_read.specs.declared.arrival.TheConstants.{MOST_ARRIVALS}
+use Rattle.arena_map.specs.declared.limits.TheConstants.{MOST_FRAMES}
 use Rattle.arena_map.specs.declared.map_fault.MapFault.{MapFault}
 use Rattle.arena_map.specs.declared.map_fault.MapFault.TheVariants as rules
 use Rattle.arena_map.specs.Faults.{number_of}
@@ -73,8 +75,8 @@ has_no_packet words.End rest = false
 -- 9: the line is one more frame than a recording may have, or one more packet than a frame may have
 abbrev pub is_one_too_many : Reading → word_types.Word → Bool
 is_one_too_many r (words.OfMap word) = false
-is_one_too_many r words.Frame = nat_le 100000 r.frames
-is_one_too_many r words.From = nat_le 512 r.arrivals
+is_one_too_many r words.Frame = nat_le MOST_FRAMES r.frames
+is_one_too_many r words.From = nat_le MOST_ARRIVALS r.arrivals
 is_one_too_many r words.End = false
 
 -- ---- the first that holds

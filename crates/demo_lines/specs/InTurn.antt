@@ -3,6 +3,7 @@ use Rattle.std.specs.Prelude.{◌≡◌, ℕ, ◌≤◌, ◌<◌, true, List, []
 use Rattle.std.specs.List.{AllByRecursion}
 use Rattle.edge_io.specs.WholeLines.{unlines}
 use Rattle.arena_geo.specs.Bounds.{Bounds}
+use Rattle.arena_map.specs.declared.limits.TheConstants.{MOST_FRAMES}
 use Rattle.arena_map.specs.declared.map_line.MapLine.{MapLine}
 use Rattle.arena_map.specs.declared.map_line.MapLine.TheVariants.{Arena}
 use Rattle.arena_map.specs.MapLines.{IsWithinLimits, is_added}
@@ -44,6 +45,6 @@ pub record IsBuilt (arena : Bounds) (added : List MapLine) (frames : List (List 
   pub near : IsWithinLimits (Arena arena.lo arena.hi)
   pub wide : is_wide arena.lo arena.hi ≡ true
   pub accepted : AreAccepted (map_of arena [] [] []) added
-  pub few : length frames ≤ 100000
+  pub few : length frames ≤ MOST_FRAMES
   pub each : AllByRecursion IsFrame frames
   pub spawn : 0 < length frames → is_ready (map_in_turn arena added) ≡ true

@@ -9,8 +9,8 @@ use Rattle.arena_geo.specs.Bounds.{Bounds}
 use Rattle.arena_map.specs.declared.map_line.MapLine.{MapLine}
 use Rattle.arena_map.specs.Maps.{MapView}
 use Rattle.packet_read.specs.declared.arrival.Arrival.{Arrival}
-use Rattle.packet_read.specs.declared.arrival.TheConstants.{MOST_BYTES}
-use Rattle.demo_lines.specs.declared.reading.TheConstants.{MOST_FRAMES, MOST_ARRIVALS}
+use Rattle.packet_read.specs.declared.arrival.TheConstants.{MOST_ARRIVALS, MOST_BYTES}
+use Rattle.arena_map.specs.declared.limits.TheConstants.{MOST_FRAMES}
 use Rattle.demo_lines.specs.declared.line.Line.{Line}
 use Rattle.demo_lines.specs.declared.line.Line.TheVariants.{From}
 use Rattle.demo_lines.specs.declared.line_fault.LineFault.{LineFault}
@@ -20,7 +20,7 @@ use Rattle.demo_lines.specs.declared.word.Word.{Word}
 use Rattle.demo_lines.specs.Words.{has_form}
 use Rattle.demo_lines.specs.Lines.{text_of, are_printable, first_word, rest_of, line_in}
 use Rattle.demo_lines.specs.Faults.{is_long, fault_of}
-use Rattle.demo_lines.specs.Recording.{after, events_of}
+use Rattle.demo_lines.specs.Recording.{after, events_of, most_lines}
 use Rattle.demo_lines.specs.Reads.{ReadsQuietly}
 use Rattle.demo_lines.specs.Spelling.{line_text, IsLine, recording_lines, recording_text, recording_events, IsRecording}
 use Rattle.demo_lines.specs.Spelling.{small_map, small_lines, small_frames, small_text}
@@ -28,11 +28,12 @@ use Rattle.demo_lines.specs.InTurn.{IsBuilt, map_in_turn, text_in_turn}
 use Rattle.edge_io.specs.WholeLines.{is_line_feed, whole_lines}
 use Rattle.demo_lines.specs.Bytes.{LineRefusal, refusal, events, fault, map_of}
 
--- the numbers of this crate, and how many bytes a packet has at the most
+-- the most frames of a recording, packets of a frame, bytes of a packet, and lines of a recording
 pub record LimitsAreKnown : Type 0 where
   pub frames : MOST_FRAMES ≡ 100000
   pub arrivals : MOST_ARRIVALS ≡ 512
   pub bytes : MOST_BYTES ≡ 252
+  pub lines : most_lines ≡ 51301282
 
 -- a packet is read back from its bytes as two hexadecimal digits each, in either case, and an empty one from a dash
 pub record PacketReadsBack : Type 0 where
@@ -146,5 +147,5 @@ pub record HasLines (count : ℕ) : Type 0 where
 -- 192 with things, 100,000 times 1 that opens a frame and 512 with its packets, and 1 that ends it or is refused; and
 -- some have so many
 pub record LinesAreBounded : Type 0 where
-  pub bound : (lines : List (List ℕ)) → is_over (after start lines).stage ≡ false → length lines < 51301282
-  pub longest : HasLines 51301282
+  pub bound : (lines : List (List ℕ)) → is_over (after start lines).stage ≡ false → length lines < most_lines
+  pub longest : HasLines most_lines

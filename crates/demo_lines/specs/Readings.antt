@@ -1,5 +1,7 @@
 -- What holds of what is known of a recording.
 use Rattle.std.specs.Prelude.{◌≡◌, ◌+◌, ◌≤◌, true, None, IfSome, IsSome, ⊤}
+use Rattle.packet_read.specs.declared.arrival.TheConstants.{MOST_ARRIVALS}
+use Rattle.arena_map.specs.declared.limits.TheConstants.{MOST_FRAMES}
 use Rattle.arena_map.specs.declared.map_line.MapLine.{MapLine}
 use Rattle.arena_map.specs.Maps.{is_ready}
 use Rattle.arena_map.specs.MapLines.{IsWithinLimits, is_arena, is_added}
@@ -10,7 +12,7 @@ use Rattle.demo_lines.specs.declared.stage.Stage.TheVariants.{Start, Map, Playin
 use Rattle.demo_lines.specs.declared.word.Word.TheVariants as words
 use Rattle.demo_lines.specs.Known.{Reading}
 use Rattle.demo_lines.specs.Words.{is_allowed}
-use Rattle.demo_lines.specs.Recording.{lines_left}
+use Rattle.demo_lines.specs.Recording.{lines_left, most_lines}
 
 -- a line of the map is allowed at this stage
 abbrev pub IsOfMap : Stage → MapLine → Type 0
@@ -38,6 +40,6 @@ HasMap (Refused why) r = ⊤
 -- what holds of each reading of a recording
 pub record IsReading (r : Reading) : Type 0 where
   pub map : HasMap r.stage r
-  pub frames : r.frames ≤ 100000
-  pub arrivals : r.arrivals ≤ 512
-  pub lines : r.lines + lines_left r ≤ 51301282
+  pub frames : r.frames ≤ MOST_FRAMES
+  pub arrivals : r.arrivals ≤ MOST_ARRIVALS
+  pub lines : r.lines + lines_left r ≤ most_lines

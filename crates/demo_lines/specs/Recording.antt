@@ -1,6 +1,8 @@
 -- A recording as a machine over lines: what is known after each, the events of each, and how many more can follow.
 use Rattle.std.specs.Prelude.{ℕ, ◌+◌, ◌-◌, ◌*◌, false, List, [], ◌∷◌, length, Option, Some, None, count_by}
 use Rattle.std.specs.Prelude.{if◌then◌else◌}
+use Rattle.packet_read.specs.declared.arrival.TheConstants.{MOST_ARRIVALS}
+use Rattle.arena_map.specs.declared.limits.TheConstants.{MOST_BLOCKS, MOST_BOXES, MOST_FRAMES, MOST_ITEMS, MOST_SPAWNS, MOST_THINGS}
 use Rattle.arena_map.specs.declared.map_line.MapLine.{MapLine}
 use Rattle.arena_map.specs.Maps.{MapView}
 use Rattle.arena_map.specs.MapLines.{is_item_line, is_teleport_line, is_goal_line, is_lift_line}
@@ -13,7 +15,7 @@ use Rattle.demo_lines.specs.declared.event.Event.{Event}
 use Rattle.demo_lines.specs.declared.event.Event.TheVariants as events
 use Rattle.demo_lines.specs.declared.line.Line.{Line}
 use Rattle.demo_lines.specs.declared.line.Line.TheVariants.{OfMap, Frame, From, End}
-use Rattle.demo_lines.specs.Known.{Reading, is_over, at_stage, with_map, with_frame, with_arrival}
+use Rattle.demo_lines.specs.Known.{Reading, start, is_over, at_stage, with_map, with_frame, with_arrival}
 use Rattle.demo_lines.specs.Lines.{line_in}
 use Rattle.demo_lines.specs.Faults.{fault_of}
 use Rattle.demo_lines.specs.Machines.{run_of, outputs_of}
@@ -67,27 +69,31 @@ events_of r lines = outputs_of next events_of_line r lines
 
 -- at most so many more lines of frames and packets can follow this many frames
 abbrev pub frames_left : ℕ → ℕ
-frames_left frames = (100000 - frames) * 513
+frames_left frames = (MOST_FRAMES - frames) * (1 + MOST_ARRIVALS)
 
 -- at most so many more things can be added to a map
 abbrev pub things_left : List MapLine → ℕ
 things_left things =
-    (144 - count_by is_item_line things) + (16 - count_by is_teleport_line things) + (16 - count_by is_goal_line things)
-    + (16 - count_by is_lift_line things)
+    (MOST_ITEMS - count_by is_item_line things) + (MOST_BOXES - count_by is_teleport_line things) + (MOST_BOXES - count_by is_goal_line things)
+    + (MOST_BOXES - count_by is_lift_line things)
 
 -- at most so many more lines can be added to a map
 abbrev pub map_lines_left : Option MapView → ℕ
-map_lines_left None = 1024 + 64 + 192
-map_lines_left (Some map) = (1024 - length map.blocks) + (64 - length map.spawns) + things_left map.things
+map_lines_left None = MOST_BLOCKS + MOST_SPAWNS + MOST_THINGS
+map_lines_left (Some map) = (MOST_BLOCKS - length map.blocks) + (MOST_SPAWNS - length map.spawns) + things_left map.things
 
 -- at most so many more lines can follow at this stage, the end or a refused line among them
 abbrev pub left_at : Stage → Reading → ℕ
 left_at Start r = frames_left r.frames + map_lines_left None + 2
 left_at Map r = frames_left r.frames + map_lines_left r.map + 1
-left_at Playing r = frames_left r.frames + (512 - r.arrivals) + 1
+left_at Playing r = frames_left r.frames + (MOST_ARRIVALS - r.arrivals) + 1
 left_at Ended r = 0
 left_at (Refused why) r = 0
 
 -- at most so many more lines can follow
 abbrev pub lines_left : Reading → ℕ
 lines_left r = left_at r.stage r
+
+-- the most lines of a recording, its end or its refused line among them
+abbrev pub most_lines : ℕ
+most_lines = lines_left start

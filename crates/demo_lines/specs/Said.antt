@@ -3,6 +3,8 @@ use Rattle.std.specs.Prelude.{ℕ, ◌==◌, Bool, List, nat_le, Option, Some, N
 use Rattle.std.specs.Prelude.{if◌then◌else◌}
 use Rattle.edge_io.specs.Numbers.{natural_up_to}
 use Rattle.std.specs.Option.{option_or}
+use Rattle.packet_read.specs.declared.arrival.TheConstants.{MOST_ARRIVALS}
+use Rattle.arena_map.specs.declared.limits.TheConstants.{MOST_FRAMES}
 use Rattle.arena_map.specs.declared.map_word.MapWord.{MapWord}
 use Rattle.arena_map.specs.declared.map_line.MapLine.{MapLine}
 use Rattle.arena_map.specs.Words.{fields_of}
@@ -85,8 +87,8 @@ line_said stage raw =
 abbrev pub place_fault : Reading → Line → Option LineFault
 place_fault r (OfMap line) = option_map faults.Rule (broken_by_line r.map line)
 place_fault r Frame =
-    option_or (option_map faults.Rule (broken_by_frame r)) (if nat_le 100000 r.frames then Some faults.Count else None)
-place_fault r (From a) = if nat_le 512 r.arrivals then Some faults.Count else None
+    option_or (option_map faults.Rule (broken_by_frame r)) (if nat_le MOST_FRAMES r.frames then Some faults.Count else None)
+place_fault r (From a) = if nat_le MOST_ARRIVALS r.arrivals then Some faults.Count else None
 place_fault r End = None
 
 -- after a line that says this, or has this fault

@@ -7,12 +7,14 @@ use Rattle.edge_io.specs.Lines.{AreBytes}
 use Rattle.edge_io.specs.WholeLines.{unlines}
 use Rattle.arena_geo.specs.declared.vec3.Vec3.{Vec3}
 use Rattle.arena_geo.specs.Bounds.{Bounds, bounds}
+use Rattle.arena_map.specs.declared.limits.TheConstants.{MOST_FRAMES}
 use Rattle.arena_map.specs.declared.map_line.MapLine.{MapLine}
 use Rattle.arena_map.specs.declared.map_line.MapLine.TheVariants.{Arena, Block, Spawn}
 use Rattle.arena_map.specs.Maps.{MapView, IsMap, is_ready, map_of}
 use Rattle.arena_map.specs.MapLines.{IsWithinLimits}
 use Rattle.arena_map.specs.Spelling.{map_line_text}
 use Rattle.edge_io.specs.Fields.{field_text}
+use Rattle.packet_read.specs.declared.arrival.TheConstants.{MOST_ARRIVALS}
 use Rattle.packet_read.specs.declared.arrival.Arrival.{Arrival}
 use Rattle.demo_lines.specs.declared.line.Line.{Line}
 use Rattle.demo_lines.specs.declared.line.Line.TheVariants.{OfMap, Frame, From, End}
@@ -80,15 +82,15 @@ frame_events arrivals = events.Frame ∷ map events.From arrivals
 abbrev pub recording_events : List (List Arrival) → List Event
 recording_events frames = flat_map frame_events frames ++ events.End ∷ []
 
--- at most 512 packets, each of which a line has room for
+-- no more packets than a frame may have, each of which a line has room for
 pub record IsFrame (arrivals : List Arrival) : Type 0 where
-  pub few : length arrivals ≤ 512
+  pub few : length arrivals ≤ MOST_ARRIVALS
   pub each : AllByRecursion IsArrival arrivals
 
 -- a recording that can be written: a map with a spawn where there is a frame, and at most 100,000 frames
 pub record IsRecording (m : MapView) (frames : List (List Arrival)) : Type 0 where
   pub is_map : IsMap m
-  pub few : length frames ≤ 100000
+  pub few : length frames ≤ MOST_FRAMES
   pub each : AllByRecursion IsFrame frames
   pub spawn : 0 < length frames → is_ready m ≡ true
 

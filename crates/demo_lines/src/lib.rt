@@ -11,7 +11,6 @@ pub use laws::{
 };
 pub use line::Line;
 pub use line_fault::LineFault;
-pub use reading::{MOST_ARRIVALS, MOST_FRAMES};
 pub use stage::Stage;
 pub use word::Word;
 

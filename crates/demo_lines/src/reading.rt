@@ -16,15 +16,10 @@ use crate::event::Event;
 use crate::line::Line;
 use crate::line_fault::LineFault;
 use crate::stage::Stage;
-use arena_map::{ArenaMap, MapFault, MapLine, MapRefusal};
+use arena_map::{ArenaMap, MOST_FRAMES, MapFault, MapLine, MapRefusal};
+use packet_read::MOST_ARRIVALS;
 use std::alloc::{AllocError, Global};
 use std::marker::Model;
-
-/// The most frames of a recording.
-pub const MOST_FRAMES: u32 = 100_000;
-
-/// The most packets of a frame.
-pub const MOST_ARRIVALS: u32 = 512;
 
 /// What is known of a recording from the lines that were read.
 #[derive(Drop)]

@@ -1,6 +1,7 @@
 -- What a server makes of a generated recording: every packet is accepted.
 use Rattle.std.specs.Prelude.{◌≡◌, ℕ, ◌+◌, ◌^◌, ◌≤◌, ◌<◌, true, false, List, [], length, Option, Some, None}
 use Rattle.arena_geo.specs.Boxes.{overlaps}
+use Rattle.entity_recs.specs.declared.limits.TheConstants.{IDS}
 use Rattle.entity_recs.specs.declared.rec.Rec.{Rec}
 use Rattle.entity_recs.specs.Bodies.{body_of, player_body}
 use Rattle.entity_recs.specs.Kinds.{is_solid}
@@ -43,17 +44,17 @@ pub record AllAreAccepted (joins moves : ℕ) (next : Receiving) : Type 0 where
 -- a frame with these packets: all are accepted, and whatever the moves make of the records, the players play on
 pub record IsPlayed (players joins last : ℕ) (next : Receiving) : Type 0 where
   pub accepted : AllAreAccepted joins players next
-  pub plays_on : (records : List (Option Rec)) → length records ≡ 256
+  pub plays_on : (records : List (Option Rec)) → length records ≡ IDS
       → ArePlaying players last (finished (state_of next.state.clients records)).clients
 
 -- every join and every move is accepted, in frame 0 where nobody is joined and nothing is at the spawns, and in each
 -- later frame wherever the players and the things are
 pub record AllIsAccepted : Type 0 where
   pub first : (seed players : ℕ) (state : State) → players ≤ 64 → ArePlaying 0 0 state.clients
-      → length state.records ≡ 256 → AreClearOfSpawns state.records
+      → length state.records ≡ IDS → AreClearOfSpawns state.records
       → IsPlayed players players 1 (received generated_map 0 state (arrivals_in seed players 0))
   pub later : (seed players frame : ℕ) (state : State) → players ≤ 64 → 0 < frame → frame + 1 < 2 ^ 32
-      → ArePlaying players frame state.clients → length state.records ≡ 256
+      → ArePlaying players frame state.clients → length state.records ≡ IDS
       → IsPlayed players 0 (frame + 1) (received generated_map frame state (arrivals_in seed players frame))
 
 -- in a valid world without players no body of a live solid is at a spawn, wherever the lift is

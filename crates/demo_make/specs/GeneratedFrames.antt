@@ -2,6 +2,7 @@
 use Rattle.std.specs.Prelude.{ℕ, ◌+◌, ◌-◌, ◌*◌, ◌/◌, ◌%◌, ◌^◌, ◌≤◌, ◌==◌, List, [], ◌++◌, map, ℤ, pos, ◌-ℤ◌}
 use Rattle.std.specs.Prelude.{if◌then◌else◌}
 use Rattle.std.specs.List.{range_with_len}
+use Rattle.arena_map.specs.declared.limits.TheConstants.{MOST_FRAMES}
 use Rattle.packet_read.specs.declared.block_list.CmdBlock.{CmdBlock}
 use Rattle.packet_read.specs.declared.move_packet.MovePacket.{MovePacket}
 use Rattle.packet_read.specs.declared.packet.Packet.TheVariants.{Join, Step}
@@ -18,7 +19,7 @@ pub record IsInRange (players frames : ℕ) : Type 0 where
   pub some_players : 1 ≤ players
   pub few_players : players ≤ 64
   pub some_frames : 1 ≤ frames
-  pub few_frames : frames ≤ 100000
+  pub few_frames : frames ≤ MOST_FRAMES
 
 -- ---- the packets
 

@@ -3,6 +3,7 @@
 use Rattle.std.specs.Prelude.{◌≡◌, ℕ, zero, suc, ◌+◌, ◌-◌, ◌%◌, ◌^◌, ◌≤◌, ◌<◌, ◌==◌, List, [], map, filter, length}
 use Rattle.std.specs.Prelude.{flat_map, Option, if◌then◌else◌}
 use Rattle.std.specs.List.{range_with_len}
+use Rattle.entity_recs.specs.declared.limits.TheConstants.{IDS}
 use Rattle.entity_recs.specs.declared.rec.Rec.{Rec}
 use Rattle.entity_recs.specs.Commands.{Command}
 use Rattle.packet_read.specs.declared.move_packet.MovePacket.{MovePacket}
@@ -59,7 +60,7 @@ pub record OnlyNewAreAccepted (seed players frames frame : ℕ) (next : Receivin
   pub moves : (slot : ℕ) → slot < players → moves_of slot next.lists.moves
       ≡ map (receiving.command_in frame slot) (new_commands seed players frames frame (slot + 1))
   pub others : (slot : ℕ) → players ≤ slot → moves_of slot next.lists.moves ≡ []
-  pub plays_on : (records : List (Option Rec)) → length records ≡ 256
+  pub plays_on : (records : List (Option Rec)) → length records ≡ IDS
       → ArePlayingUpTo players (λ slot. last_before frames (slot + 1) (frame + 1))
       (finished (state_of next.state.clients records)).clients
 
@@ -68,11 +69,11 @@ pub record OnlyNewAreAccepted (seed players frames frame : ℕ) (next : Receivin
 -- commands of a player haven't come, and over all frames each comes once
 pub record CommandsArriveOnce : Type 0 where
   pub first : (seed players frames : ℕ) (state : State) → players ≤ 64 → ArePlaying 0 0 state.clients
-      → length state.records ≡ 256 → AreClearOfSpawns state.records
+      → length state.records ≡ IDS → AreClearOfSpawns state.records
       → OnlyNewAreAccepted seed players frames 0 (received generated_map 0 state (resent_in seed players frames 0))
   pub later : (seed players frames frame : ℕ) (state : State) → players ≤ 64 → 0 < frame → frame + 1 < 2 ^ 32
       → ArePlayingUpTo players (λ slot. last_before frames (slot + 1) frame) state.clients
-      → length state.records ≡ 256
+      → length state.records ≡ IDS
       → OnlyNewAreAccepted seed players frames frame
       (received generated_map frame state (resent_in seed players frames frame))
   pub before : (frames port frame : ℕ) → frame < frames

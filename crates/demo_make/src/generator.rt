@@ -1,4 +1,5 @@
 ghost use Rattle.std.specs.Prelude.{◌≡◌, ◌+◌, ◌*◌, ◌≤◌};
+ghost use Rattle.arena_map.specs.declared.limits.TheConstants.{MOST_FRAMES};
 ghost use Rattle.demo_make.specs.declared.sending.Sending.TheVariants.{Repeated};
 ghost use Rattle.demo_make.specs.Words.{state_back};
 
@@ -41,7 +42,7 @@ pub struct Generator {
     ghost few_players: { players ≤ 64 },
     ghost few_joins: { joins_left ≤ players },
     ghost few_moves: { moves_left ≤ players },
-    ghost few_frames: { opened + frames_left ≤ 100000 },
+    ghost few_frames: { opened + frames_left ≤ MOST_FRAMES },
     ghost moves_of_open: { moves_left ≤ 64 * opened },
     ghost words_are: { words ≡ state_back seed players opened moves_left 0 },
     ghost one_back_is: { sending ≡ Repeated → one_back ≡ state_back seed players opened moves_left 1 },

@@ -1,4 +1,5 @@
 ghost use Rattle.std.specs.Prelude.{◌≡◌, ◌+◌, ◌<◌, ◌≤◌, ◌++◌, length, map, option_to_list};
+ghost use Rattle.arena_map.specs.declared.limits.TheConstants.{MOST_FRAMES};
 ghost use Rattle.demo_make.specs.GeneratedFrames as frames;
 ghost use Rattle.demo_make.specs.ResentFrames as resent;
 ghost use Rattle.demo_make.specs.LastWords.{commands_by};
@@ -62,7 +63,7 @@ pub fn last_commands(words: &LastWords) -> BlockList
 /// Whether the packet of a player in this frame arrives, where commands are repeated: one of three does, and each one
 /// of the last frame.
 pub fn arrives(frames: u32, frame: u32, port: u16) -> bool
-    requires { frame < 100000 }
+    requires { frame < MOST_FRAMES }
     ensures { result ≡ resent.arrives frames frame port }
 {
     (frame + u32::from(port)) % 3 == 0 || frame + 1 == frames

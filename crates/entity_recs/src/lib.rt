@@ -12,6 +12,7 @@ pub use kind::Kind;
 pub use laws::{
     abs_contains_body, abs_ignores_state, boxes_are_known, records_have_boxes, sizes_are_known,
 };
+pub use limits::IDS;
 pub use lists::{IdList, LIST_LEN, StateList};
 pub use rec::Rec;
 
@@ -21,5 +22,6 @@ mod cmd;
 mod effect;
 mod kind;
 mod laws;
+mod limits;
 mod lists;
 mod rec;

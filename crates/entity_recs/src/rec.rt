@@ -8,7 +8,7 @@ use std::alloc::AllocError;
 /// ammunition and gems carried have limits, the id belongs to the kind, and so does the shape.
 #[derive(Clone, Copy, Debug, PartialEq, Eq)]
 pub struct Rec {
-    /// The slot, 0 to 63, of a player; 64 to 255 for a thing of the map.
+    /// The slot, 0 to 63, of a player; and from 64 to below [`IDS`](crate::IDS) that of a thing of the map.
     pub id: u16,
     /// What it is.
     pub kind: Kind,

@@ -1,12 +1,12 @@
 ghost use Rattle.std.specs.Prelude.{◌≡◌};
 ghost use Rattle.client_ports.specs.Lists.{room_for};
-ghost use Rattle.frame_phases.specs.declared.limits.TheConstants.{MOST_ARRIVALS};
+ghost use Rattle.packet_read.specs.declared.arrival.TheConstants.{MOST_ARRIVALS};
 
-use crate::limits::MOST_ARRIVALS;
 use crate::replies::ReplyList;
 use crate::slots::SlotList;
 use client_ports::Received;
 use move_journal::Journal;
+use packet_read::MOST_ARRIVALS;
 use std::alloc::{AllocError, Global};
 
 /// What a frame gives out.

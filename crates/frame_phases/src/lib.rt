@@ -3,14 +3,12 @@
 
 pub use frame_out::FrameOut;
 pub use laws::limits_are_known;
-pub use limits::{MOST_ARRIVALS, MOST_FRAMES};
 pub use replies::ReplyList;
 pub use server::{Server, run_frame};
 pub use slots::{MOST_SLOTS, SlotList};
 
 mod frame_out;
 mod laws;
-mod limits;
 mod phases;
 mod replies;
 mod scores;

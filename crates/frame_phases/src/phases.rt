@@ -7,7 +7,8 @@ ghost use Rattle.client_ports.specs.Receiving.{receiving_of};
 ghost use Rattle.plain_server.specs.RecordsById.{opening};
 ghost use Rattle.plain_server.specs.Frames.{received_in};
 ghost use Rattle.move_phase.specs.Serving.{AreWorkers};
-ghost use Rattle.frame_phases.specs.declared.limits.TheConstants.{MOST_ARRIVALS, MOST_FRAMES};
+ghost use Rattle.packet_read.specs.declared.arrival.TheConstants.{MOST_ARRIVALS};
+ghost use Rattle.arena_map.specs.declared.limits.TheConstants.{MOST_FRAMES};
 ghost use Rattle.frame_phases.specs.Servers.{IsServer};
 ghost use Rattle.frame_phases.specs.Finishes.{IsBegun, IsFinished};
 

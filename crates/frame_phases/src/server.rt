@@ -2,7 +2,8 @@ ghost use Rattle.std.specs.Prelude.{◌≡◌, ◌<◌, ◌≤◌, length, OnOk,
 ghost use Rattle.move_journal.specs.Merges.{IsInOrder};
 ghost use Rattle.plain_server.specs.Frames.{received_in, moved_by, IsRightAfter};
 ghost use Rattle.plain_server.specs.Replies.{slots_of, replies_of};
-ghost use Rattle.frame_phases.specs.declared.limits.TheConstants.{MOST_ARRIVALS, MOST_FRAMES};
+ghost use Rattle.packet_read.specs.declared.arrival.TheConstants.{MOST_ARRIVALS};
+ghost use Rattle.arena_map.specs.declared.limits.TheConstants.{MOST_FRAMES};
 ghost use Rattle.plain_server.specs.Takers.{HasOneTaker, HasItemsAway};
 ghost use Rattle.move_phase.specs.Serving.{AreWorkers};
 ghost use Rattle.frame_phases.specs.Servers.{server_after};

@@ -1,9 +1,9 @@
 ghost use Rattle.std.specs.Prelude.{◌≡◌, ◌≤◌, length, true};
 ghost use Rattle.arena_map.specs.MapLines.{IsWithinLimits, is_arena, is_added};
 
-use crate::{FrameOut, MOST_FRAMES, Server, run_frame};
+use crate::{FrameOut, Server, run_frame};
 use arena_geo::Vec3;
-use arena_map::{ArenaMap, MapLine, MapRefusal};
+use arena_map::{ArenaMap, MOST_FRAMES, MapLine, MapRefusal};
 use client_ports::Joined;
 use entity_recs::{Entry, Kind};
 use packet_read::{Arrival, ArrivalBytes};

@@ -1,3 +1,5 @@
+ghost use Rattle.arena_map.specs.declared.limits.TheConstants.{MOST_FRAMES};
+
 use crate::items::items_in;
 use client_ports::Received;
 use entity_recs::Entry;
@@ -41,7 +43,7 @@ impl Totals {
     /// The totals with one frame more, of what its packets came to and its journal, after which the live players'
     /// scores have this sum.
     pub(crate) fn with_frame(&self, received: &Received, journal: &[Entry], score: u64) -> Totals
-        requires room { self.now.frames < 100000 }
+        requires room { self.now.frames < MOST_FRAMES }
         requires bounded { AreBounded self.now }
         requires few { HasFew received.now.lists journal.now }
         ensures totals { result ≡ totals_with self.now received.now.lists journal.now score }

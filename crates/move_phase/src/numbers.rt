@@ -3,8 +3,8 @@ ghost use Rattle.world_tree.specs.Live.{record_at};
 ghost use Rattle.world_tree.specs.Worlds.{IsLinked};
 ghost use Rattle.move_phase.specs.Numbers.{HasSmallNumbers, HaveSmallNumbers};
 
-use entity_recs::Rec;
-use world_tree::{IDS, World};
+use entity_recs::{IDS, Rec};
+use world_tree::World;
 
 /// The record of an id, whose numbers are known to be those of their types.
 fn read(world: &World, id: u16) -> Option<Rec>
@@ -19,7 +19,7 @@ pub(crate) fn look_at_all(world: &World)
     ensures small { HaveSmallNumbers world.now.records }
     ensures linked { IsLinked world.now }
 {
-    // To ask for the tree is to know that the world is linked, and so that it has 256 places.
+    // To ask for the tree is to know that the world is linked, and so that it has [`IDS`] places.
     let _linked = world.tree();
     for id in 0..IDS as u16 {
         // What is read is known to have the form that its kind has.

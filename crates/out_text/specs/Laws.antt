@@ -3,6 +3,7 @@ use Rattle.std.specs.Prelude.{◌≡◌, ℕ, ◌+◌, ◌*◌, ◌≤◌, ◌�
 use Rattle.std.specs.Prelude.{Option, None, Some, IsSome}
 use Rattle.entity_recs.specs.declared.effect.Entry.{Entry}
 use Rattle.move_journal.specs.Merges.{IsInOrder}
+use Rattle.arena_map.specs.declared.limits.TheConstants.{MOST_FRAMES}
 use Rattle.arena_map.specs.Maps.{MapView, IsMap}
 use Rattle.packet_read.specs.declared.arrival.Arrival.{Arrival}
 use Rattle.client_ports.specs.Clients.{client_at}
@@ -115,7 +116,7 @@ pub record OutputsHaveOneTaker : Type 0 where
 -- a recording has at most 100,000 frames; with right journals the text of its first frames has at most 600,000 bytes a
 -- frame, and its whole output at most 16 more, whatever their order
 pub record OutputsAreBounded : Type 0 where
-  pub few : (bytes : List ℕ) → length (frames_of bytes) ≤ 100000
+  pub few : (bytes : List ℕ) → length (frames_of bytes) ≤ MOST_FRAMES
   pub front : (bytes : List ℕ) (k : ℕ) (journals : List (List Entry))
       → AreRightIn (map_of bytes) (take k (frames_of bytes)) journals
       → length (front_text bytes k journals) ≤ 600000 * length (take k (frames_of bytes))

@@ -1,6 +1,7 @@
 -- Which lines are in range: their numbers fit their types, at most 8 ids were got, and a snapshot has 1 to 4,123 bytes.
 use Rattle.std.specs.Prelude.{◌≡◌, ℕ, ◌^◌, ◌<◌, ◌≤◌, List, length}
 use Rattle.std.specs.List.{AllByRecursion}
+use Rattle.snapshot_write.specs.declared.reply_buf.TheConstants.{REPLY_ROOM}
 use Rattle.arena_geo.specs.Vectors.{Fits}
 use Rattle.out_text.specs.Dids.{Did}
 use Rattle.out_text.specs.OutLines.{OutLine, FrameLine, NoLine, JoinedLine, DidLine, ToLine, EndLine, spelled}
@@ -22,7 +23,7 @@ pub record IsDidInRange (d : Did) : Type 0 where
 pub record IsSnapshotInRange (slot : ℕ) (bytes : List ℕ) : Type 0 where
   pub slot_fits : slot < 2 ^ 8
   pub some : 1 ≤ length bytes
-  pub most : length bytes ≤ 4123
+  pub most : length bytes ≤ REPLY_ROOM
   pub are_bytes : AllByRecursion (λ b. b < 2 ^ 8) bytes
 
 -- the line is in range
@@ -41,5 +42,5 @@ pub record IsPrinted (text : List ℕ) (l : OutLine) : Type 0 where
 
 -- a snapshot has at least one byte and fits a reply
 abbrev pub HasRoom : OutLine → Type 0
-HasRoom (ToLine slot bytes) = (1 ≤ length bytes) × (length bytes ≤ 4123)
+HasRoom (ToLine slot bytes) = (1 ≤ length bytes) × (length bytes ≤ REPLY_ROOM)
 HasRoom _ = Unit {0}

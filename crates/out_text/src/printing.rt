@@ -1,5 +1,6 @@
 ghost use Rattle.std.specs.Prelude.{◌≡◌, ◌+◌, ◌*◌, ◌/◌, ◌%◌, ◌<◌, ◌≤◌, [], ◌++◌, codes, decimal, length, slice_index, take};
 ghost use Rattle.std.specs.Fmt.{signed_decimal};
+ghost use Rattle.snapshot_write.specs.declared.reply_buf.TheConstants.{REPLY_ROOM};
 ghost use Rattle.hex.specs.Hex.{encode_lower, lower_digits};
 ghost use Rattle.out_text.specs.OutLines as lines;
 ghost use Rattle.out_text.specs.OutLines.{FrameLine, NoLine, JoinedLine, DidLine, ToLine, EndLine};
@@ -180,7 +181,7 @@ fn print_did(slot: u8, seq: u32, origin: Vec3, got: &[u16], out: &mut LineBuf)
 /// Prints the line of a snapshot.
 fn print_to(slot: u8, bytes: &[u8], out: &mut LineBuf)
     requires empty { out.old ≡ [] }
-    requires short { length bytes.now ≤ 4123 }
+    requires short { length bytes.now ≤ REPLY_ROOM }
     ensures { out.new ≡ lines.spelled (ToLine slot bytes.now) }
 {
     out.extend(b"to ");

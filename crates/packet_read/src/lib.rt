@@ -14,7 +14,7 @@ mod steps_packet;
 mod wire;
 mod writing;
 
-pub use arrival::{Arrival, ArrivalBytes, MOST_BYTES};
+pub use arrival::{Arrival, ArrivalBytes, MOST_ARRIVALS, MOST_BYTES};
 pub use block_list::{BlockList, CmdBlock, MOST_BLOCKS};
 pub use laws::{
     commands_are_numbered, limits_are_known, no_cause_where_spelled, one_spelling,

@@ -1,6 +1,7 @@
 -- The records by id as a world of histories, and the records of such a world.
 use Rattle.std.specs.Prelude.{List, map, fold, replicate, Option, Some, None, slice_set}
 use Rattle.std.specs.Option.{option_map}
+use Rattle.entity_recs.specs.declared.limits.TheConstants.{IDS}
 use Rattle.entity_recs.specs.declared.rec.Rec.{Rec}
 use Rattle.entity_recs.specs.Worlds.{World, record_or_nobody}
 use Rattle.arena_map.specs.Maps.{MapView, entities_of}
@@ -22,4 +23,4 @@ with_record_at records r = slice_set records r.id (Some r)
 
 -- before the first frame the things of the map are there, and nobody is joined
 unfoldable pub opening : MapView → State
-opening map = state_of no_clients (fold with_record_at (replicate 256 None) (entities_of map))
+opening map = state_of no_clients (fold with_record_at (replicate IDS None) (entities_of map))

@@ -4,7 +4,9 @@ use Rattle.entity_recs.specs.declared.rec.Rec.{Rec}
 use Rattle.entity_recs.specs.declared.effect.Entry.{Entry}
 use Rattle.move_journal.specs.Logs.{JournalView}
 use Rattle.move_journal.specs.Merges.{IsInOrder}
+use Rattle.arena_map.specs.declared.limits.TheConstants.{MOST_FRAMES}
 use Rattle.arena_map.specs.Maps.{MapView}
+use Rattle.packet_read.specs.declared.arrival.TheConstants.{MOST_ARRIVALS}
 use Rattle.packet_read.specs.declared.arrival.Arrival.{Arrival}
 use Rattle.plain_server.specs.Frames.{received_in, moved_by, IsRightAfter}
 use Rattle.plain_server.specs.Replies.{slots_of, replies_of}
@@ -93,8 +95,8 @@ GoesOn workers old new End closed = ClosesFrame workers old new closed None
 
 -- a frame that is open may be closed: it has few packets, and there are few frames
 pub record MayClose (course : Course) : Type 0 where
-  pub few : IfSome course.opened (λ arrivals. length arrivals ≤ 512)
-  pub frames : IfSome course.opened (λ _. course.server.frames < 100000)
+  pub few : IfSome course.opened (λ arrivals. length arrivals ≤ MOST_ARRIVALS)
+  pub frames : IfSome course.opened (λ _. course.server.frames < MOST_FRAMES)
 
 -- this event may come
 abbrev pub IsReady : Course → Event → Type 0

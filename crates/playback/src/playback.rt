@@ -1,9 +1,9 @@
 use crate::host::Host;
 use arena_map::ArenaMap;
 use demo_lines::Event;
-use frame_phases::{FrameOut, MOST_ARRIVALS, Server, run_frame};
+use frame_phases::{FrameOut, Server, run_frame};
 use move_journal::Journal;
-use packet_read::Arrival;
+use packet_read::{Arrival, MOST_ARRIVALS};
 use shared_moves::Gate;
 use std::alloc::{AllocError, Global};
 use std::marker::Model;

@@ -3,7 +3,7 @@ use Rattle.std.proofs.Common.{◌≡◌, ℕ, ◌*◌, ◌≤◌, ◌==◌, Bool
 use Rattle.std.specs.Prelude.{nat_lt}
 use Rattle.std.specs.List.{list_any}
 use Rattle.std.specs.Simd.{first_chunks}
-use Rattle.std.proofs.lemmas.Bool.{le-ltb}
+use Rattle.std.proofs.lemmas.Bool.{le-ltb, lt-leb}
 use Rattle.std.proofs.lemmas.List.{length-map}
 use Rattle.std.proofs.lemmas.Nat.{from_le_bytes-to_le_bytes_2, from_le_bytes-to_le_bytes_4}
 use Rattle.arena_geo.specs.declared.vec3.Vec3.{Vec3}
@@ -12,6 +12,8 @@ use Rattle.entity_recs.specs.declared.kind.Kind.TheVariants.{Player, Ammo, Gem, 
 use Rattle.entity_recs.specs.declared.rec.Rec.{Rec}
 use Rattle.entity_recs.specs.declared.bodies.TheConstants.{PLAYER_MINS, PLAYER_MAXS}
 use Rattle.entity_recs.specs.Kinds.{number_of, is_item}
+use Rattle.entity_recs.specs.declared.limits.TheConstants.{IDS}
+use Rattle.snapshot_write.specs.declared.seen.TheConstants.{MOST_SEEN}
 use Rattle.snapshot_write.specs.declared.seen.Seen.{Seen}
 use Rattle.snapshot_write.specs.declared.snapshot.Snapshot.{Snapshot}
 use Rattle.snapshot_write.specs.declared.snap_fault.SnapFault.TheVariants.{Short, Version, Order, Count, Long}
@@ -76,7 +78,7 @@ none_wrong [] are = refl
 none_wrong (s ∷ seen) are =
     rw (
       from_le_bytes-to_le_bytes_2 s.id (omega (arith, (are.0).id)),
-      le-ltb 255 s.id (are.0).id,
+      lt-leb IDS s.id (are.0).id,
       kind_is s.kind,
       kind_again s.kind,
       status_is s.here,
@@ -132,10 +134,10 @@ own_again s own =
     (own_is s.own own)
 
 -- so are the count and the blocks
-pub count_again : (s : Snapshot) → length s.seen ≤ 255 → count_in (spelling s) ≡ length s.seen
+pub count_again : (s : Snapshot) → length s.seen ≤ MOST_SEEN → count_in (spelling s) ≡ length s.seen
 count_again s few = from_le_bytes-to_le_bytes_2 (length s.seen) (omega (arith, few))
 
-pub spelled_blocks : (s : Snapshot) → length s.seen ≤ 255 → blocks_in (spelling s) ≡ map block_of s.seen
+pub spelled_blocks : (s : Snapshot) → length s.seen ≤ MOST_SEEN → blocks_in (spelling s) ≡ map block_of s.seen
 spelled_blocks s few =
     ap (λ n. first_chunks 16 n (flat_map block_of s.seen)) (count_again s few) ∙ blocks_again s.seen
 
@@ -163,7 +165,7 @@ own_right s own =
 blocks_right : (s : Snapshot) → IsSnapshot s → has_wrong_blocks (blocks_in (spelling s)) ≡ false
 blocks_right s is =
     ap has_wrong_blocks (spelled_blocks s is.count)
-    ∙ rw (length-map s.seen block_of, le-ltb 255 (length s.seen) is.count, none_wrong s.seen is.seen) refl
+    ∙ rw (length-map s.seen block_of, le-ltb MOST_SEEN (length s.seen) is.count, none_wrong s.seen is.seen) refl
 
 in_order : (s : Snapshot) → IsSnapshot s → breaks (spelling s) Order ≡ false
 in_order s is =

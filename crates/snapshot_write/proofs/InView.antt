@@ -1,4 +1,4 @@
--- What a walk along the live ids finds in a view, and that a player sees at most 255 things.
+-- What a walk along the live ids finds in a view, and that a player sees at most all ids but its own.
 use Rattle.std.proofs.Common.{◌≡◌, ℕ, zero, suc, ◌+◌, ◌*◌, ◌^◌, ◌<◌, ◌≤◌, ◌==◌, Bool, true, false, ◌&&◌, not, cond, if◌then◌else◌, List, [], ◌∷◌, ◌++◌, length, filter, flat_map, take, drop, get_or, Option, Some, None, is_some, append_assoc, zero-add, sym, refl, ap, ◌∙◌, arith}
 use Rattle.std.specs.Int.{from_bool}
 use Rattle.std.specs.Option.{option_map}
@@ -13,6 +13,8 @@ use Rattle.entity_recs.specs.declared.rec.Rec.{Rec}
 use Rattle.entity_recs.specs.Bodies.{abs_of}
 use Rattle.world_tree.specs.Live.{record_at, live_in, ids_of, AreEntries}
 use Rattle.world_tree.proofs.Kept.{few_live}
+use Rattle.entity_recs.specs.declared.limits.TheConstants.{IDS}
+use Rattle.snapshot_write.specs.declared.seen.TheConstants.{MOST_SEEN}
 use Rattle.snapshot_write.specs.Snapshots.{sight, view_of, entity_bytes, is_in_view, in_view_at, in_view, is_seen, seen_by}
 
 -- ---- a walk along the live ids
@@ -113,7 +115,7 @@ at_most_one true = omega arith
 at_most_one false = omega arith
 
 -- there are no more than there are ids
-pub count_fits : (records : List (Option Rec)) (ids : List ℕ) (k count : ℕ) (seen : Bool) → length records ≡ 256 → ids ≡ ids_of records → k < length ids → count ≤ k
+pub count_fits : (records : List (Option Rec)) (ids : List ℕ) (k count : ℕ) (seen : Bool) → length records ≡ IDS → ids ≡ ids_of records → k < length ids → count ≤ k
     → count + from_bool seen < 2 ^ 16
 count_fits records ids k count seen places are below least =
     let few = few_live records in
@@ -220,7 +222,7 @@ fewer_pass p (Some r ∷ records) (suc id) me at fails = by_test (p r) (filter p
     by_test true l rest = omega arith
     by_test false l rest = omega arith
 
--- of 256 records a player sees at most 255
-pub few_are_seen : (me : Rec) (records : List (Option Rec)) (id : ℕ) → length records ≡ 256 → record_at records id ≡ Some me
-    → length (seen_by me (live_in records)) ≤ 255
+-- of the records of all ids a player sees all but its own at most
+pub few_are_seen : (me : Rec) (records : List (Option Rec)) (id : ℕ) → length records ≡ IDS → record_at records id ≡ Some me
+    → length (seen_by me (live_in records)) ≤ MOST_SEEN
 few_are_seen me records id places at = let fewer = fewer_pass (is_seen me) records id me at (not_itself me) in omega arith

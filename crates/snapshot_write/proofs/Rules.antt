@@ -1,6 +1,6 @@
 -- Bytes that break no rule spell the snapshot that is in them.
 use Rattle.std.proofs.Common.{◌≡◌, ℕ, zero, suc, ◌+◌, ◌*◌, ◌^◌, ◌<◌, ◌≤◌, ◌==◌, Bool, true, false, ◌&&◌, ◌||◌, not, cond, List, [], ◌∷◌, ◌++◌, length, map, take, drop, flat_map, get_or, Option, Some, None, refl, ap, sym, ◌∙◌, subst, arith, rules, length-drop, length-take-le}
-use Rattle.std.specs.Prelude.{nat_lt, Result, Ok, Err, IfOk}
+use Rattle.std.specs.Prelude.{nat_le, nat_lt, Result, Ok, Err, IfOk}
 use Rattle.std.specs.Int.{w16, w32, to_le_bytes}
 use Rattle.std.specs.List.{list_any}
 use Rattle.std.specs.Simd.{first_chunks}
@@ -9,6 +9,8 @@ use Rattle.std.proofs.lemmas.Bool.Decides.{nat_tests}
 use Rattle.std.proofs.lemmas.List.{length-map, nil_from_length, take-append-drop, get_or-take, get_or-drop, get_or_default}
 use Rattle.arena_geo.specs.Vectors.{Fits}
 use Rattle.entity_recs.specs.Kinds.{number_of, is_item}
+use Rattle.entity_recs.specs.declared.limits.TheConstants.{IDS}
+use Rattle.snapshot_write.specs.declared.seen.TheConstants.{MOST_SEEN}
 use Rattle.snapshot_write.specs.declared.snapshot.Snapshot.{Snapshot}
 use Rattle.snapshot_write.specs.declared.snap_fault.SnapFault.{SnapFault}
 use Rattle.snapshot_write.specs.declared.snap_fault.SnapFault.TheVariants.{Short, Version, Order, Count, Long}
@@ -50,7 +52,7 @@ keeps bytes none =
 
 -- a block has no wrong field
 record IsRightBlock (block : List ℕ) : Type 0 where
-  id : id_in block ≤ 255
+  id : id_in block < IDS
   kind : byte block 2 ≤ 5
   status : byte block 3 ≤ 1
   here : ((byte block 3 == 0) && not (is_item (kind_of (byte block 2)))) ≡ false
@@ -59,9 +61,9 @@ right_block : (block : List ℕ) → has_wrong_field block ≡ false → IsRight
 right_block block right =
     let last = or_parts _ ((byte block 3 == 0) && not (is_item (kind_of (byte block 2)))) right in
     let third = or_parts _ (nat_lt 1 (byte block 3)) last.0 in
-    let second = or_parts (nat_lt 255 (id_in block)) (not (is_kind (byte block 2))) third.0 in
+    let second = or_parts (nat_le IDS (id_in block)) (not (is_kind (byte block 2))) third.0 in
     record {
-      id = ltb-false 255 (id_in block) second.0;
+      id = grind (arith, nat_tests, second.0);
       kind = grind (arith, nat_tests, second.1);
       status = ltb-false 1 (byte block 3) third.1;
       here = last.1;
@@ -211,7 +213,7 @@ kept_spelled bytes below kept =
     let version : byte bytes 0 ≡ 1 = eqb-true (byte bytes 0) 1 (not-false (byte bytes 0 == 1) kept.version) in
     let order = or_parts (not (are_rising (blocks_in bytes))) (have_id (byte bytes 5) (blocks_in bytes)) kept.order in
     let fields = or_parts (has_wrong_own bytes) (has_wrong_blocks (blocks_in bytes)) kept.count in
-    let blocks = or_parts (nat_lt 255 (length (blocks_in bytes))) (list_any has_wrong_field (blocks_in bytes)) fields.1 in
+    let blocks = or_parts (nat_lt MOST_SEEN (length (blocks_in bytes))) (list_any has_wrong_field (blocks_in bytes)) fields.1 in
     let long : length body ≡ 16 * count = length-drop 43 bytes ∙ omega (arith, enough, most) in
     let spelled = blocks_spelled count body long (below_drop 43 bytes below) blocks.1 in
     let ids = ids_are (blocks_in bytes) in
@@ -220,7 +222,7 @@ kept_spelled bytes below kept =
       in_range = record {
         frame = number_fits bytes 1 (omega (arith, least)) below;
         own = own_right bytes least below fields.0;
-        count = rw (length-map (blocks_in bytes) seen_in) (ltb-false 255 (length (blocks_in bytes)) blocks.0);
+        count = rw (length-map (blocks_in bytes) seen_in) (ltb-false MOST_SEEN (length (blocks_in bytes)) blocks.0);
         seen = spelled.seen;
         rising = ap is_rising ids ∙ sym (rising_blocks (blocks_in bytes)) ∙ not-false (are_rising (blocks_in bytes)) order.0;
         others = ap (list_any (λ id. id == byte bytes 5)) ids ∙ list_any-map (λ id. id == byte bytes 5) id_in (blocks_in bytes) ∙ order.1;

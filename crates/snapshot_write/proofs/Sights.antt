@@ -18,6 +18,7 @@ use Rattle.entity_recs.specs.Kinds.{is_item}
 use Rattle.entity_recs.specs.Records.{IsIdOf, IsShapeOf, HasCorners, IsRecord, with_state}
 use Rattle.entity_recs.specs.Bodies.{abs_of}
 use Rattle.world_tree.specs.Live.{record_at, live_in, IsEntry, AreEntries}
+use Rattle.entity_recs.specs.declared.limits.TheConstants.{IDS}
 use Rattle.snapshot_write.specs.declared.seen.Seen.{Seen}
 use Rattle.snapshot_write.specs.declared.snapshot.Snapshot.{Snapshot}
 use Rattle.snapshot_write.specs.Snapshots.{view_of, is_seen, seen_by, status_at, entity_bytes, own_bytes, snapshot}
@@ -107,7 +108,7 @@ item_is Teleporter state = refl
 item_is Goal state = refl
 item_is Lift state = refl
 
-small_id : (kind : Kind) (id : ℕ) → IsIdOf kind id → id ≤ 255
+small_id : (kind : Kind) (id : ℕ) → IsIdOf kind id → id < IDS
 small_id Player id is = omega (arith, is)
 small_id Ammo id is = is.most
 small_id Gem id is = is.most

@@ -3,6 +3,7 @@ use Rattle.std.proofs.Common.{◌≡◌, ℕ, ◌+◌, ◌*◌, ◌≤◌, List,
 use Rattle.arena_geo.specs.Bounds.{Bounds}
 use Rattle.entity_recs.specs.declared.rec.Rec.{Rec}
 use Rattle.world_tree.specs.Live.{record_at, live_in, IsEntry, AreEntries}
+use Rattle.snapshot_write.specs.declared.seen.TheConstants.{MOST_SEEN}
 use Rattle.snapshot_write.specs.Snapshots.{view_of, in_view, snapshot, own_bytes, seen_by, seen_bytes}
 use Rattle.snapshot_write.proofs.InView.{few_are_seen}
 
@@ -35,7 +36,7 @@ seen_is records slot id place me view up entries is_view =
 pub room_for : (records : List (Option Rec)) (slot id : ℕ) (place : Option Rec) (me : Rec) (seen : List Rec) (own : ℕ) → IsLookedUp records slot id place me → length records ≡ 256
     → seen ≡ seen_by me (live_in records) → own ≡ 41 → own + 2 + 16 * length seen ≤ 4123
 room_for records slot id place me seen own up places is length_is =
-    let few : length (seen_by me (live_in records)) ≤ 255 = few_are_seen me records slot places (at_place records slot id place me up) in
+    let few : length (seen_by me (live_in records)) ≤ MOST_SEEN = few_are_seen me records slot places (at_place records slot id place me up) in
     let same : length seen ≡ length (seen_by me (live_in records)) = ap length is in
     omega arith
 

@@ -1,7 +1,9 @@
 -- Why bytes are no snapshot: the first rule that they break.
 use Rattle.std.specs.Prelude.{ℕ, ◌==◌, nat_lt, nat_le, Bool, not, ◌&&◌, ◌||◌, List, [], ◌∷◌, length, drop, find, Option}
 use Rattle.std.specs.List.{list_all, list_any, zip}
+use Rattle.entity_recs.specs.declared.limits.TheConstants.{IDS}
 use Rattle.entity_recs.specs.Kinds.{is_item}
+use Rattle.snapshot_write.specs.declared.seen.TheConstants.{MOST_SEEN}
 use Rattle.snapshot_write.specs.declared.snap_fault.SnapFault.{SnapFault}
 use Rattle.snapshot_write.specs.declared.snap_fault.SnapFault.TheVariants.{Short, Version, Order, Count, Long}
 use Rattle.snapshot_write.specs.Fields.{byte, count_in, length_with, blocks_in, id_in, kind_of}
@@ -23,15 +25,15 @@ abbrev pub has_wrong_own : List ℕ → Bool
 has_wrong_own bytes =
     nat_lt 63 (byte bytes 5) || nat_lt 3 (byte bytes 30) || nat_lt 100 (byte bytes 31) || nat_lt 8 (byte bytes 32)
 
--- the id is above 255, the kind above 5 or the status above 1, or something other than an item has status 0
+-- the id is no id of an entity, the kind above 5 or the status above 1, or something other than an item has status 0
 abbrev pub has_wrong_field : List ℕ → Bool
 has_wrong_field block =
-    nat_lt 255 (id_in block) || not (is_kind (byte block 2)) || nat_lt 1 (byte block 3)
+    nat_le IDS (id_in block) || not (is_kind (byte block 2)) || nat_lt 1 (byte block 3)
     || ((byte block 3 == 0) && not (is_item (kind_of (byte block 2))))
 
--- there are more than 255 blocks, or one has a wrong field
+-- there are more blocks than a snapshot shows entities, or one has a wrong field
 abbrev pub has_wrong_blocks : List (List ℕ) → Bool
-has_wrong_blocks blocks = nat_lt 255 (length blocks) || list_any has_wrong_field blocks
+has_wrong_blocks blocks = nat_lt MOST_SEEN (length blocks) || list_any has_wrong_field blocks
 
 -- whether the bytes break the rule that the fault is named for
 abbrev pub breaks : List ℕ → SnapFault → Bool

@@ -1,5 +1,6 @@
 -- What holds of snapshots: of their spellings and causes, and of what they show.
 use Rattle.std.specs.Prelude.{◌≡◌, ◌↔◌, ℕ, ◌^◌, ◌<◌, List, All, Contains, length, Option, Some, None, Ok, Err}
+use Rattle.entity_recs.specs.declared.limits.TheConstants.{IDS}
 use Rattle.entity_recs.specs.declared.rec.Rec.{Rec}
 use Rattle.world_tree.specs.Live.{record_at, live_in, AreEntries}
 use Rattle.snapshot_write.specs.declared.reply_buf.TheConstants.{REPLY_ROOM}
@@ -44,7 +45,7 @@ pub record HasCounts (me : Rec) : Type 0 where
 -- the snapshot of a player of a world is read as the frame, its own record and what it sees
 abbrev pub WrittenSnapshotsAreRead : Type 0
 WrittenSnapshotsAreRead =
-    (records : List (Option Rec)) (frame slot : ℕ) (me : Rec) → length records ≡ 256 → AreEntries records
+    (records : List (Option Rec)) (frame slot : ℕ) (me : Rec) → length records ≡ IDS → AreEntries records
     → frame < 2 ^ 32 → slot < 64 → record_at records slot ≡ Some me → HasCounts me
     → reading (snapshot frame me (live_in records)) ≡ Ok (shown frame me (live_in records))
 

@@ -4,11 +4,13 @@ use Rattle.std.specs.Prelude.{length, map, flat_map}
 use Rattle.std.specs.List.{list_all, list_any, zip}
 use Rattle.std.specs.Int.{w16, to_le_bytes}
 use Rattle.arena_geo.specs.Vectors.{Fits}
+use Rattle.entity_recs.specs.declared.limits.TheConstants.{IDS}
 use Rattle.entity_recs.specs.declared.kind.Kind.TheVariants.{Player}
 use Rattle.entity_recs.specs.declared.rec.Rec.{Rec}
 use Rattle.entity_recs.specs.declared.bodies.TheConstants.{PLAYER_MINS, PLAYER_MAXS}
 use Rattle.entity_recs.specs.Kinds.{number_of, is_item}
 use Rattle.entity_recs.specs.Records.{HasCorners}
+use Rattle.snapshot_write.specs.declared.seen.TheConstants.{MOST_SEEN}
 use Rattle.snapshot_write.specs.declared.seen.Seen.{Seen}
 use Rattle.snapshot_write.specs.declared.snapshot.Snapshot.{Snapshot}
 use Rattle.snapshot_write.specs.Snapshots.{vector_bytes, own_bytes}
@@ -46,7 +48,7 @@ pub record IsOwn (me : Rec) : Type 0 where
 
 -- an entity as snapshots show it: only an item can be taken
 pub record IsSeen (s : Seen) : Type 0 where
-  pub id : s.id ≤ 255
+  pub id : s.id < IDS
   pub origin : Fits s.origin
   pub here : (s.here || is_item s.kind) ≡ true
 
@@ -63,11 +65,11 @@ ids_of seen = map (λ (s : Seen). s.id) seen
 abbrev pub is_rising : List ℕ → Bool
 is_rising numbers = list_all (λ p. nat_lt p.0 p.1) (zip numbers (drop 1 numbers))
 
--- a snapshot in its range: the entities are in rising id, at most 255 of them, and the player isn't among them
+-- a snapshot in its range: the entities are in rising id, at most as many as a snapshot shows, and the player isn't among them
 pub record IsSnapshot (s : Snapshot) : Type 0 where
   pub frame : s.frame < 2 ^ 32
   pub own : IsOwn s.own
-  pub count : length s.seen ≤ 255
+  pub count : length s.seen ≤ MOST_SEEN
   pub seen : AreSeen s.seen
   pub rising : is_rising (ids_of s.seen) ≡ true
   pub others : list_any (λ id. id == s.own.id) (ids_of s.seen) ≡ false

@@ -9,18 +9,15 @@ ghost use Rattle.snapshot_write.specs.Fields as fields;
 ghost use Rattle.snapshot_write.specs.Cause as causes;
 ghost use Rattle.snapshot_write.specs.Reading.{reading, answer, snapshot_in, own_in, seen_in};
 
+use crate::reply_buf::{BLOCK, HEAD};
 use crate::seen::{Seen, SeenList};
 use crate::snap_fault::SnapFault;
 use crate::snapshot::Snapshot;
 use arena_geo::Vec3;
-use entity_recs::{Kind, PLAYER_MAXS, PLAYER_MINS, Rec};
+use entity_recs::{IDS, Kind, PLAYER_MAXS, PLAYER_MINS, Rec};
 
 /// The version of the snapshots.
 const VERSION: u8 = 1;
-/// How many bytes come before those of the entities.
-const HEAD: usize = 43;
-/// How many bytes an entity takes.
-const BLOCK: usize = 16;
 
 /// The number of 16 bits at `i`.
 fn u16_at(bytes: &[u8], i: usize) -> u16
@@ -136,7 +133,7 @@ fn read_block(block: &[u8; BLOCK]) -> Option<Seen>
     let id = id_of(block);
     let kind = kind_of(block[2])?;
     let status = block[3];
-    if id > 255 || status > 1 || (status == 0 && !kind.is_item()) {
+    if usize::from(id) >= IDS || status > 1 || (status == 0 && !kind.is_item()) {
         return None;
     }
     Some(Seen {
@@ -147,7 +144,7 @@ fn read_block(block: &[u8; BLOCK]) -> Option<Seen>
     })
 }
 
-/// The entities of the blocks, if there are at most 255 and each of their fields is in range.
+/// The entities of the blocks, if there are at most [`MOST_SEEN`](crate::MOST_SEEN) and each of their fields is in range.
 fn read_seen(blocks: &[[u8; BLOCK]]) -> Option<SeenList>
     ensures { result ≡ (if causes.has_wrong_blocks blocks.now then None else Some (map seen_in blocks.now)) }
 {

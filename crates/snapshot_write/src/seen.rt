@@ -1,14 +1,14 @@
 use arena_geo::Vec3;
-use entity_recs::Kind;
+use entity_recs::{IDS, Kind};
 use std::marker::Model;
 
 /// How many entities a snapshot shows at most: all ids but the player's own.
-pub const MOST_SEEN: usize = 255;
+pub const MOST_SEEN: usize = IDS - 1;
 
 /// An entity that a player sees.
 #[derive(Clone, Copy, Debug, PartialEq, Eq)]
 pub struct Seen {
-    /// Its id, at most 255.
+    /// Its id, below [`IDS`].
     pub id: u16,
     /// What it is.
     pub kind: Kind,
@@ -37,12 +37,13 @@ pub struct SeenList {
 impl Model for SeenList {
     ghost use Rattle.std.specs.Prelude.{List, take, length, ◌≤◌, ◌≡◌};
     ghost use Rattle.snapshot_write.specs.declared.seen.Seen.{Seen};
+    ghost use Rattle.snapshot_write.specs.declared.seen.TheConstants.{MOST_SEEN};
 
     ghost Value = { List Seen };
 
     ghost view = { λ l. take l.len l.entities };
 
-    ghost invariant = { λ l. (l.len ≤ 255) × (length l.entities ≡ 255) };
+    ghost invariant = { λ l. (l.len ≤ MOST_SEEN) × (length l.entities ≡ MOST_SEEN) };
 }
 
 impl SeenList {

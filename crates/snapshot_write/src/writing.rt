@@ -6,7 +6,7 @@ ghost use Rattle.snapshot_write.specs.Snapshots as spec;
 ghost use Rattle.snapshot_write.specs.Shown.{shown};
 ghost use Rattle.snapshot_write.specs.Reading.{reading};
 
-use crate::reply_buf::ReplyBuf;
+use crate::reply_buf::{REPLY_ROOM, ReplyBuf};
 use arena_geo::{Aabb, Vec3};
 use entity_recs::{Kind, Rec};
 use world_tree::World;
@@ -40,14 +40,14 @@ fn status(kind: Kind, state: u64) -> u8
 }
 
 fn push_signed(out: &mut ReplyBuf, z: i32)
-    requires { length out.old + 4 ≤ 4123 }
+    requires { length out.old + 4 ≤ REPLY_ROOM }
     ensures { out.new ≡ out.old ++ spec.signed_bytes z }
 {
     out.extend(&z.to_le_bytes());
 }
 
 fn push_vector(out: &mut ReplyBuf, v: Vec3)
-    requires { length out.old + 12 ≤ 4123 }
+    requires { length out.old + 12 ≤ REPLY_ROOM }
     ensures bytes { out.new ≡ out.old ++ spec.vector_bytes v }
     ensures len { length out.new ≡ length out.old + 12 }
 {
@@ -58,7 +58,7 @@ fn push_vector(out: &mut ReplyBuf, v: Vec3)
 
 /// The bytes of a thing that is seen.
 fn push_entity(out: &mut ReplyBuf, r: &Rec)
-    requires { length out.old + 16 ≤ 4123 }
+    requires { length out.old + 16 ≤ REPLY_ROOM }
     ensures bytes { out.new ≡ out.old ++ spec.entity_bytes r.now }
     ensures len { length out.new ≡ length out.old + 16 }
 {
@@ -75,7 +75,7 @@ fn push_entity(out: &mut ReplyBuf, r: &Rec)
 
 /// The version, the frame and the slot.
 fn push_head(out: &mut ReplyBuf, frame: u32, slot: u8)
-    requires { length out.old + 6 ≤ 4123 }
+    requires { length out.old + 6 ≤ REPLY_ROOM }
     ensures bytes { out.new ≡ out.old ++ spec.head_bytes frame slot }
     ensures len { length out.new ≡ length out.old + 6 }
 {
@@ -86,7 +86,7 @@ fn push_head(out: &mut ReplyBuf, frame: u32, slot: u8)
 
 /// What the player has, and the number of its last command.
 fn push_counts(out: &mut ReplyBuf, me: &Rec)
-    requires { length out.old + 11 ≤ 4123 }
+    requires { length out.old + 11 ≤ REPLY_ROOM }
     ensures bytes { out.new ≡ out.old ++ spec.count_bytes me.now }
     ensures len { length out.new ≡ length out.old + 11 }
 {
@@ -97,7 +97,7 @@ fn push_counts(out: &mut ReplyBuf, me: &Rec)
 
 /// The bytes of the player itself, which is in this slot.
 fn push_own(out: &mut ReplyBuf, frame: u32, slot: u8, me: &Rec)
-    requires room { length out.old + 41 ≤ 4123 }
+    requires room { length out.old + 41 ≤ REPLY_ROOM }
     requires slot { me.now.id ≡ slot }
     ensures bytes { out.new ≡ out.old ++ spec.own_bytes frame me.now }
     ensures len { length out.new ≡ length out.old + 41 }
@@ -142,7 +142,7 @@ fn count_seen(world: &World, view: &Aabb, me: u16) -> u16
 
 /// The number of the things that the player with the id `me` sees, whose view this is, and the bytes of each.
 fn push_seen(out: &mut ReplyBuf, world: &World, view: &Aabb, me: u16)
-    requires room { length out.old + 2 + 16 * length (spec.in_view view.now me (live_in world.now.records)) ≤ 4123 }
+    requires room { length out.old + 2 + 16 * length (spec.in_view view.now me (live_in world.now.records)) ≤ REPLY_ROOM }
     ensures { out.new ≡ out.old ++ spec.seen_bytes (spec.in_view view.now me (live_in world.now.records)) }
 {
     let count = count_seen(world, view, me);

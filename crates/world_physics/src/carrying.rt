@@ -32,7 +32,7 @@ pub fn carry(world: &mut World, step: &LiftStep)
     ensures records { world.new.records ≡ each_changed (carried_along step.now) world.old.records }
     ensures tree { world.new.tree ≡ world.old.tree }
 {
-    // To ask for the tree is to know that the world is linked, and so that it has 256 places.
+    // To ask for the tree is to know that the world is linked, and so that it has `IDS` places.
     let _linked = world.tree();
     for slot in 0..SLOTS {
         carry_slot(world, step, slot);

@@ -9,8 +9,8 @@ ghost use Rattle.world_physics.specs.LiftSteps.{IsStep, is_in_the_way, is_presse
 use crate::lift_step::{LiftStep, raised_body};
 use arena_geo::Aabb;
 use arena_map::ArenaMap;
-use entity_recs::{Rec, body_box};
-use world_tree::{IDS, World};
+use entity_recs::{IDS, Rec, body_box};
+use world_tree::World;
 
 /// The number of players' slots, which are the lowest ids.
 pub const SLOTS: u16 = 64;
@@ -32,7 +32,7 @@ fn meets_others(world: &World, step: &LiftStep, body: &Aabb) -> bool
     requires { IsStep step.now }
     ensures { result ≡ list_any (is_in_the_way step.now body.now) (live_in world.now.records) }
 {
-    // To ask for the tree is to know that the world is linked, and so that it has 256 places.
+    // To ask for the tree is to know that the world is linked, and so that it has `IDS` places.
     let _linked = world.tree();
     for id in 0..IDS as u16 {
         if is_met(step, world.get(id), body) {
@@ -71,7 +71,7 @@ pub fn is_stopped(map: &ArenaMap, world: &World, step: &LiftStep) -> bool
     requires { IsStep step.now }
     ensures { result ≡ steps.is_stopped map.now step.now world.now.records }
 {
-    // To ask for the tree is to know that the world is linked, and so that it has 256 places.
+    // To ask for the tree is to know that the world is linked, and so that it has `IDS` places.
     let _linked = world.tree();
     for slot in 0..SLOTS {
         if presses(map, world, step, world.get(slot)) {

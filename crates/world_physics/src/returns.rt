@@ -3,8 +3,8 @@ ghost use Rattle.entity_recs.specs.Records.{with_state};
 ghost use Rattle.world_physics.specs.Returns as spec;
 ghost use Rattle.world_physics.specs.Returns.{after_returns, changed_at, returned};
 
-use entity_recs::Rec;
-use world_tree::{IDS, World};
+use entity_recs::{IDS, Rec};
+use world_tree::World;
 
 /// Whether the record is that of a taken item, and the frame in which it returns has come.
 fn is_due(r: &Rec, frame: u32) -> bool
@@ -22,7 +22,7 @@ fn back(r: &Rec) -> Rec
 
 /// Puts the item with this id back, if it is due in the frame.
 fn return_item(world: &mut World, id: u16, frame: u32)
-    requires { id < 256 }
+    requires { id < IDS }
     ensures records { world.new.records ≡ changed_at (returned frame) world.old.records id }
     ensures tree { world.new.tree ≡ world.old.tree }
     ensures still { world.new.records ≡ world.old.records → world.new ≡ world.old }
@@ -40,7 +40,7 @@ pub fn return_items(world: &mut World, frame: u32)
     ensures tree { world.new.tree ≡ world.old.tree }
     ensures still { world.new.records ≡ world.old.records → world.new ≡ world.old }
 {
-    // To ask for the tree is to know that the world is linked, and so that it has 256 places.
+    // To ask for the tree is to know that the world is linked, and so that it has `IDS` places.
     let _linked = world.tree();
     for id in 0..IDS as u16 {
         return_item(world, id, frame);

@@ -1,8 +1,10 @@
 -- The linked world: a tree, records by id, and the lists of the tree's nodes in which the live ids are linked.
-use Rattle.std.specs.Prelude.{◌≡◌, ℕ, ◌+◌, if◌then◌else◌, List, fold, length, replicate, Option, Some, None, slice_set}
+use Rattle.std.specs.Prelude.{◌≡◌, ℕ, ◌+◌, ◌*◌, if◌then◌else◌, List, fold, length, replicate, Option, Some, None, slice_set}
 use Rattle.std.specs.Option.{option_map}
 use Rattle.arena_geo.specs.Bounds.{Bounds}
+use Rattle.areanode.specs.declared.sizes.TheConstants.{DEPTH, NODES}
 use Rattle.areanode.specs.Trees.{TreeView, node_of}
+use Rattle.entity_recs.specs.declared.limits.TheConstants.{IDS}
 use Rattle.entity_recs.specs.declared.rec.Rec.{Rec}
 use Rattle.entity_recs.specs.Kinds.{is_solid}
 use Rattle.entity_recs.specs.Bodies.{abs_of}
@@ -23,18 +25,18 @@ world_of tree records lists = record { tree = tree; records = records; lists = l
 abbrev pub record_of : WorldView → ℕ → Option Rec
 record_of w id = record_at w.records id
 
--- the list of a record: that of the node of its absolute box for a solid, and 31 further on for a trigger
+-- the list of a record: that of the node of its absolute box for a solid, and as many further on as there are nodes for a trigger
 abbrev pub list_for : TreeView → Rec → ℕ
-list_for tree r = if is_solid r.kind then node_of tree (abs_of r) else 31 + node_of tree (abs_of r)
+list_for tree r = if is_solid r.kind then node_of tree (abs_of r) else NODES + node_of tree (abs_of r)
 
 -- Quake's SV_LinkEdict: each live id is in one list, there once, and the list is that of its record; no other id is in
 -- any.
--- The records are those of ids below 256, each within its bounds, and the lists are two for each of the 31 nodes.
+-- The records are by id, each within its bounds, and there are two lists for each node.
 pub record IsLinked (w : WorldView) : Type 0 where
-  pub depth : w.tree.depth ≡ 4
-  pub places : length w.records ≡ 256
-  pub ids : w.lists.ids ≡ 256
-  pub list_count : length w.lists.lists ≡ 62
+  pub depth : w.tree.depth ≡ DEPTH
+  pub places : length w.records ≡ IDS
+  pub ids : w.lists.ids ≡ IDS
+  pub list_count : length w.lists.lists ≡ 2 * NODES
   pub entries : AreEntries w.records
   pub proper : IsProper w.lists
   pub linked : (id : ℕ) → where_of w.lists id ≡ option_map (list_for w.tree) (record_of w id)
@@ -49,9 +51,9 @@ pub record IsKept (w : WorldView) (boxes : List (Option Bounds)) (live : List �
 -- the world over these bounds in which no id is live
 abbrev pub empty_world : Bounds → WorldView
 empty_world bounds = record {
-  tree = record { depth = 4; bounds = bounds };
-  records = replicate 256 None;
-  lists = empty_pool 256 62;
+  tree = record { depth = DEPTH; bounds = bounds };
+  records = replicate IDS None;
+  lists = empty_pool IDS (2 * NODES);
 }
 
 -- the world with this record, its id first in the record's list

@@ -4,7 +4,7 @@
 pub use laws::{found_ids_rise, live_ids_have_records, live_ids_rise, live_records_by_id};
 pub use near_list::{NEAR_RECORDS, NearList};
 pub use steps::Steps;
-pub use world::{IDS, World};
+pub use world::World;
 
 mod laws;
 mod live_ids;

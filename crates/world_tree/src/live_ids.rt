@@ -2,7 +2,7 @@ ghost use Rattle.std.specs.Prelude.{◌≡◌, ◌<◌, ◌≤◌, [], IfOk, len
 ghost use Rattle.std.specs.List.{insert, remove};
 ghost use Rattle.world_tree.specs.Live.{place_in};
 
-use crate::world::IDS;
+use entity_recs::IDS;
 use std::alloc::{AllocError, Global};
 use std::marker::Model;
 
@@ -14,12 +14,13 @@ pub struct LiveIds {
 
 impl Model for LiveIds {
     ghost use Rattle.std.specs.Prelude.{ℕ, ◌≤◌, List, vec_capacity};
+    ghost use Rattle.entity_recs.specs.declared.limits.TheConstants.{IDS};
 
     ghost Value = { List ℕ };
 
     ghost view = { λ live. live.ids.items };
 
-    ghost invariant = { λ live. 256 ≤ vec_capacity live.ids };
+    ghost invariant = { λ live. IDS ≤ vec_capacity live.ids };
 }
 
 /// How many ids come before the first that isn't below this one.

@@ -2,11 +2,11 @@ ghost use Rattle.std.specs.Prelude.{◌≡◌, ◌↔◌, ◌<◌, ◌≤◌, []
 ghost use Rattle.std.specs.Bool.{MatchBool};
 
 use arena_geo::Vec3;
-use entity_recs::{Kind, Rec};
+use entity_recs::{IDS, Kind, Rec};
 use std::marker::Model;
 
 /// The greatest number of records in a [`NearList`].
-pub const NEAR_RECORDS: usize = 256;
+pub const NEAR_RECORDS: usize = IDS;
 
 /// What is in the places that aren't used.
 const NOBODY: Rec = Rec {
@@ -35,12 +35,13 @@ pub struct NearList {
 impl Model for NearList {
     ghost use Rattle.std.specs.Prelude.{List, take, length, ◌≤◌, ◌≡◌};
     ghost use Rattle.entity_recs.specs.declared.rec.Rec.{Rec};
+    ghost use Rattle.world_tree.specs.declared.near_list.TheConstants.{NEAR_RECORDS};
 
     ghost Value = { List Rec };
 
     ghost view = { λ l. take l.len l.records };
 
-    ghost invariant = { λ l. (l.len ≤ 256) × (length l.records ≡ 256) };
+    ghost invariant = { λ l. (l.len ≤ NEAR_RECORDS) × (length l.records ≡ NEAR_RECORDS) };
 }
 
 impl NearList {

@@ -1,5 +1,6 @@
 ghost use Rattle.std.specs.Prelude.{◌≡◌, ◌+◌, ◌<◌, false, [], filter, length, replicate, slice_index_or, slice_set, sum_by, None};
 ghost use Rattle.std.specs.List.{list_any, range_with_len};
+ghost use Rattle.areanode.specs.declared.sizes.TheConstants.{NODES};
 ghost use Rattle.areanode.specs.Words.{has_bit};
 ghost use Rattle.entity_recs.specs.declared.rec.Rec.{Rec};
 ghost use Rattle.entity_recs.specs.Records.{IsRecord};
@@ -10,15 +11,15 @@ ghost use Rattle.world_tree.specs.Walks as walks;
 
 use crate::near_list::NearList;
 use crate::steps::Steps;
-use crate::world::{IDS, NODE_LISTS};
+use crate::world::NODE_LISTS;
 use arena_geo::{Aabb, Region};
-use entity_recs::{Rec, body_box};
+use entity_recs::{IDS, Rec, body_box};
 use link_lists::Lists;
 use std::sync::ledger::Ledger;
 
 /// Whether the node is among those of the word, bit i for node i.
 fn is_among(nodes: u32, node: u8) -> bool
-    requires { node < 31 }
+    requires { node < NODES }
     ensures { result ≡ has_bit nodes node }
 {
     nodes >> node & 1 == 1
@@ -93,7 +94,7 @@ fn mark_counted<L: Ledger>(
 pub fn touched_at(lists: &Lists, boxes: &[Option<Aabb>], region: &Region, nodes: u32) -> [bool; IDS]
     requires ids { lists.now.ids ≡ IDS }
     ensures { result ≡ walks.marked boxes.now region.now
-        (walks.ids_at lists.now (filter (has_bit nodes) (range_with_len 0 31))) (replicate 256 false) }
+        (walks.ids_at lists.now (filter (has_bit nodes) (range_with_len 0 NODES))) (replicate IDS false) }
 {
     let mut marks = [false; IDS];
     for node in 0..NODE_LISTS {
@@ -116,9 +117,9 @@ pub fn touched_triggers<L: Ledger>(
 ) -> [bool; IDS]
     requires ids { lists.now.ids ≡ IDS }
     ensures marks { result ≡ walks.marked boxes.now region.now
-        (walks.triggers_at lists.now (filter (has_bit nodes) (range_with_len 0 31))) (replicate 256 false) }
-    ensures looks { steps.new ≡ steps.old + (length (filter (has_bit nodes) (range_with_len 0 31))
-        + sum_by (λ node. length (list_of lists.now (31 + node))) (filter (has_bit nodes) (range_with_len 0 31))) }
+        (walks.triggers_at lists.now (filter (has_bit nodes) (range_with_len 0 NODES))) (replicate IDS false) }
+    ensures looks { steps.new ≡ steps.old + (length (filter (has_bit nodes) (range_with_len 0 NODES))
+        + sum_by (λ node. length (list_of lists.now (NODES + node))) (filter (has_bit nodes) (range_with_len 0 NODES))) }
 {
     let mut marks = [false; IDS];
     for node in 0..NODE_LISTS {
@@ -151,7 +152,7 @@ fn marked_record(place: &Option<Rec>, mark: bool) -> Option<Rec>
 /// Puts the live records at the marked places into the list, in rising id.
 pub fn gather(records: &[Option<Rec>], marks: &[bool; IDS], out: &mut NearList)
     requires places { length records.now ≡ length marks.now }
-    requires few { length marks.now ≡ 256 }
+    requires few { length marks.now ≡ IDS }
     requires empty { out.old ≡ [] }
     ensures { out.new ≡ walks.picked marks.now records.now }
 {

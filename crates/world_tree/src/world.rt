@@ -1,4 +1,4 @@
-ghost use Rattle.std.specs.Prelude.{◌≡◌, ℕ, ◌+◌, ◌<◌, ◌==◌, if◌then◌else◌, [], map, nat_eq, replicate, All, IfOk, IsSome, None};
+ghost use Rattle.std.specs.Prelude.{◌≡◌, ℕ, ◌+◌, ◌*◌, ◌<◌, ◌==◌, if◌then◌else◌, [], map, nat_eq, replicate, All, IfOk, IsSome, None};
 ghost use Rattle.std.specs.List.{find, IsDistinct};
 ghost use Rattle.std.specs.Option.{option_map};
 ghost use Rattle.areanode.specs.Trees.{node_of};
@@ -19,20 +19,17 @@ use crate::walk::{
 };
 use areanode::{NODES, Tree, visited};
 use arena_geo::{Aabb, Region};
-use entity_recs::{Kind, Rec, abs_box};
+use entity_recs::{IDS, Kind, Rec, abs_box};
 use link_lists::Lists;
 use std::alloc::{AllocError, Global};
 use std::marker::Model;
 use std::sync::ledger::Ledger;
 
-/// The number of ids: 0 to 63 are the players' slots, 64 to 255 those of the things of the map.
-pub const IDS: usize = 256;
-
 /// The number of lists of solids, one for each node of the tree. As many lists of triggers come after them.
 pub const NODE_LISTS: u8 = NODES as u8;
 
 /// The live records, each linked in a list of the node of the areanode tree that its absolute box demands, as Quake's
-/// `SV_LinkEdict` does: list i has the solids of node i, list 31 + i its triggers. Each live id is in one list.
+/// `SV_LinkEdict` does: list i has the solids of node i, and the list [`NODES`] further on its triggers. Each live id is in one list.
 ///
 /// Records are found by id. Beside each record it keeps the absolute box, and of all records the ids in rising order, so
 /// that no query computes them anew. Only `new` takes memory.
@@ -58,8 +55,8 @@ impl Model for World {
 
 /// The list in which a record of this kind with this absolute box is linked.
 fn list_for(tree: &Tree, kind: Kind, abs: &Aabb) -> u8
-    ensures list { result ≡ (if is_solid kind then node_of tree.now abs.now else 31 + node_of tree.now abs.now) }
-    ensures in_range { result < 62 }
+    ensures list { result ≡ (if is_solid kind then node_of tree.now abs.now else NODES + node_of tree.now abs.now) }
+    ensures in_range { result < 2 * NODES }
 {
     let node = tree.node_of(abs);
     if kind.is_solid() {
@@ -184,7 +181,7 @@ impl World {
         self.live.as_slice()
     }
 
-    /// The list that the id is linked in: the number of its node for a solid, and 31 more for a trigger. `None` exactly
+    /// The list that the id is linked in: the number of its node for a solid, and [`NODES`] more for a trigger. `None` exactly
     /// where the id isn't live.
     pub fn list_of(&self, id: u16) -> Option<u8>
         ensures list { result ≡ where_of self.now.lists id }

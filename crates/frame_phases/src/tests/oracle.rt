@@ -1,9 +1,10 @@
 ghost use Rattle.move_phase.specs.Serving.{AreWorkers};
 
 use super::{JOIN, arrival};
-use crate::{FrameOut, MOST_ARRIVALS, MOST_FRAMES, Server, run_frame};
+use crate::{FrameOut, Server, run_frame};
+use arena_map::MOST_FRAMES;
 use entity_recs::Entry;
-use packet_read::Arrival;
+use packet_read::{Arrival, MOST_ARRIVALS};
 use shared_moves::NoGate;
 use std::alloc::{AllocError, AllocGlobal, Global};
 use std::process::Abort;
