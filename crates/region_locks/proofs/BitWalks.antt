@@ -9,13 +9,6 @@ use Rattle.std.proofs.lemmas.Nat.Bits.{bit_at-trailing_zeros, bit_at_clear_same,
 use Rattle.areanode.specs.Words.{has_bit}
 use Rattle.core_steps.specs.Views.{players_in}
 
-pub bit_first : (n : ℕ) → 0 < n → n < 2 ^ 64 → (has_bit n (trailing_zeros w64 n) ≡ true) × ((i : ℕ) → i < trailing_zeros w64 n → has_bit n i ≡ false)
-bit_first n some small =
-    let first = bit_at-trailing_zeros w64 n some small in (
-      eq-eqb (bit_at n (trailing_zeros w64 n)) 1 first.1,
-      λ i low. ap (λ (b : ℕ). b == 1) (first.2 i low),
-    )
-
 and_false : (b : Bool) → (b && false) ≡ false
 and_false true = refl
 and_false false = refl
@@ -23,26 +16,6 @@ and_false false = refl
 and_true : (b : Bool) → (b && true) ≡ b
 and_true true = refl
 and_true false = refl
-
-pub bit_cleared : (n k i : ℕ) → k < 64 → i < 64 → has_bit (bit_and n (bit_not w64 (1 * 2 ^ k % 2 ^ 64))) i ≡ (has_bit n i && not (i == k))
-bit_cleared n k i below within = elim (cases_Bool (i == k)) [
-  | inl same ↦
-      let e : i ≡ k = eqb-true i k same in
-      ap (λ (j : ℕ). has_bit (bit_and n (bit_not w64 (1 * 2 ^ k % 2 ^ 64))) j) e ∙ ap (λ (b : ℕ). b == 1) (bit_at_clear_same w64 n k below)
-      ∙ sym (ap (λ (b : Bool). has_bit n i && not b) same ∙ and_false (has_bit n i))
-  | inr other ↦
-      ap (λ (b : ℕ). b == 1) (bit_at_clear_other w64 n k below i within (λ e. true≢false (sym (eq-eqb i k e) ∙ other)))
-      ∙ sym (ap (λ (b : Bool). has_bit n i && not b) other ∙ and_true (has_bit n i))
-]
-
--- a word without a bit of it is less
-pub less_cleared : (n k : ℕ) → k < 64 → has_bit n k ≡ true → bit_and n (bit_not w64 (1 * 2 ^ k % 2 ^ 64)) < n
-less_cleared n k below there =
-    let m = bit_and n (bit_not w64 (1 * 2 ^ k % 2 ^ 64)) in
-    let most = and_le_l n (bit_not w64 (1 * 2 ^ k % 2 ^ 64)) in
-    let cleared : has_bit m k ≡ false = ap (λ (b : ℕ). b == 1) (bit_at_clear_same w64 n k below) in
-    let differs : m ≢ n = λ e. true≢false (sym there ∙ sym (ap (λ (x : ℕ). has_bit x k) e) ∙ cleared) in
-    omega (arith, most, differs)
 
 -- ---- the numbers whose bit is set
 

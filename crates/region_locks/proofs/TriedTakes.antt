@@ -1,7 +1,7 @@
 -- A take that may be refused, and is tried again.
-use Rattle.std.proofs.Common.{◌≡◌, ◌≢◌, ℕ, suc, ◌+◌, ◌-◌, ◌*◌, ◌^◌, ◌<◌, ◌≤◌, arith, Bool, true, false, if◌then◌else◌, List, [], ◌∷◌, ◌++◌, length, map, refl, sym, ap, ◌∙◌, subst, inr, Option, Some, None}
+use Rattle.std.proofs.Common.{◌≡◌, ◌≢◌, ℕ, suc, ◌+◌, ◌-◌, ◌*◌, ◌^◌, ◌<◌, ◌≤◌, arith, Bool, true, false, if◌then◌else◌, List, [], ◌∷◌, ◌++◌, length, map, refl, sym, ap, ◌∙◌, subst, inl, inr, Option, Some, None}
 use Rattle.std.specs.Prelude.{◌==◌, min, nat_le}
-use Rattle.std.proofs.lemmas.Bool.{cond-true, cond-false, ne_eqb, le-leb}
+use Rattle.std.proofs.lemmas.Bool.{cases_eq, cond-true, cond-false, eq-eqb, ne_eqb, le-leb}
 use Rattle.atomic_table.specs.Seated.{TableId}
 use Rattle.arena_geo.specs.Bounds.{Bounds}
 use Rattle.areanode.specs.Trees.{leaf_node, leaves_of}
@@ -83,20 +83,20 @@ refused_is F view (GiveNode n) node found e busy = cc
 refused_is F view (YieldNode n) node found e busy = cc
 refused_is F view YieldCount node found e busy = cc
 
--- one that is refused is noted
-pub noted : (F : Fixed) (old new : Refusals) (view after : View) (next : Next) (node found : ℕ) (own wanted : List ℕ) → node_taken next ≡ Some node → found ≢ 0 → after ≡ view_found F view next found
-    → own ≡ view.own → wanted ≡ view.wanted → new.count ≡ min (old.count + 1) (2 ^ 64 - 1)
-    → last_of new ≡ Some (record { node = node; word = found; own = own; wanted = wanted }) → AreRefusals old view → AreRefusals new after
-noted F old new view after next node found own wanted taken busy is own_is wanted_is count last here =
-    subst (AreRefusals new) (sym (is ∙ refused_is F view next node found taken busy))
-    (record {
-      count = count ∙ ap (λ (n : ℕ). min (n + 1) (2 ^ 64 - 1)) here.count;
-      last = last ∙ (λ i. Some (record { node = node; word = found; own = own_is i; wanted = wanted_is i }));
-    })
-
-pub served_noted : (F : Fixed) (r : Refusals) (view after : View) (next : Next) (node found : ℕ) → node_taken next ≡ Some node → found ≡ 0 → after ≡ view_found F view next found → AreRefusals r view → AreRefusals r after
+served_noted : (F : Fixed) (r : Refusals) (view after : View) (next : Next) (node found : ℕ) → node_taken next ≡ Some node → found ≡ 0 → after ≡ view_found F view next found → AreRefusals r view → AreRefusals r after
 served_noted F r view after next node found taken free is here =
     subst (AreRefusals r) (sym (is ∙ ap (view_found F view next) free)) (served_keeps F r view next node taken here)
+
+-- what was noted, by the word that was found, is that of the view after the step
+pub found_noted : (F : Fixed) (r : Refusals) (view after : View) (next : Next) (node found : ℕ) → node_taken next ≡ Some node → after ≡ view_found F view next found
+    → AreRefusals r (if found == 0 then view else view_after_refusal node found view) → AreRefusals r after
+found_noted F r view after next node found taken is here = elim (cases_eq found 0) [
+  | inl free ↦
+      served_noted F r view after next node found taken free is
+      (subst (AreRefusals r) (cond-true (found == 0) view (view_after_refusal node found view) (eq-eqb found 0 free)) here)
+  | inr busy ↦
+      subst (AreRefusals r) (cond-false (found == 0) view (view_after_refusal node found view) (ne_eqb found 0 busy) ∙ sym (is ∙ refused_is F view next node found taken busy)) here
+]
 
 -- ---- one take after another
 

@@ -1,12 +1,13 @@
-ghost use Rattle.std.specs.Prelude.{◌≡◌, ◌+◌, ◌∷◌, ◌==◌, suc, Some, if◌then◌else◌};
-ghost use Rattle.core_steps.specs.Views.{Resolving, Claiming, View, effect_loaded};
-ghost use Rattle.core_steps.specs.Steps.{first, view_after_take, view_after_claim, view_after_refusal};
+ghost use Rattle.std.specs.Prelude.{◌≡◌, ◌+◌, ◌∷◌, suc, Some, if◌then◌else◌};
+ghost use Rattle.core_steps.specs.Views.{Resolving, Claiming, effect_loaded};
+ghost use Rattle.core_steps.specs.Steps.{first, view_after_take, view_after_claim};
 ghost use Rattle.core_machine.specs.Refusals.{AreRefusals};
 ghost use Rattle.region_locks.specs.Passes.{fixed_in, IsOwn};
 ghost use Rattle.region_locks.specs.Writing.{HasTried, nodes_written, nodes_held, claims_left, claimed};
 
 use crate::hand::Hand;
 use crate::table::NodeTable;
+use crate::taking::note_refused;
 use crate::word_step::WordStep;
 use core_machine::{NodeQueue, Refusals};
 use core_steps::node_word;
@@ -19,26 +20,6 @@ fn writing_word(number: u8) -> u64
     ensures { result ≡ suc (number + 256) }
 {
     u64::from(number) + 256 + 1
-}
-
-/// Whether the take was served: it found 0. One that was refused is counted.
-fn note_refused(
-    refusals: &mut Refusals,
-    own: &[u64; 6],
-    wanted: &NodeQueue,
-    node: u8,
-    found: u64,
-) -> bool
-    ensures served { result ≡ (found == 0) }
-    ensures noted { (view : View) → own.now ≡ view.own → wanted.now.items ≡ view.wanted
-        → AreRefusals refusals.old view
-        → AreRefusals refusals.new (if found == 0 then view else view_after_refusal node found view) }
-{
-    if found == 0 {
-        return true;
-    }
-    refusals.note(node, found, own, wanted);
-    false
 }
 
 impl<'a, A: Action> NodeTable<'a, A> {

@@ -192,6 +192,14 @@ pub trait Gate: Sync {
     fn at(&self, moment: &Moment);
 }
 
+/// Calls the gate at this moment, and gives the moment's entry back, if it has one.
+pub(crate) fn show_moment<G: Gate>(moment: Moment, gate: &G) -> Option<Entry>
+    ensures { result ≡ moment.entry }
+{
+    gate.at(&moment);
+    moment.into_entry()
+}
+
 /// A gate that does nothing.
 #[derive(Clone, Copy, Debug, Default)]
 pub struct NoGate;

@@ -7,7 +7,7 @@ ghost use Rattle.region_locks.specs.Moves.{IsRunning, NoTakeWasRefused};
 ghost use Rattle.region_locks.specs.Points.{has_entry};
 ghost use Rattle.region_locks.specs.Moments.{IsAtPoint, HasLogged, RunsCommand};
 
-use crate::gate::{Gate, Moment};
+use crate::gate::{Gate, Moment, show_moment};
 use crate::gate_point::GatePoint;
 use crate::pass::Pass;
 use crate::table::NodeTable;
@@ -40,9 +40,7 @@ impl<'a, A: Action> NodeTable<'a, A> {
         let Some(entry) = entry else {
             return None;
         };
-        let moment = Moment::committed(pass, cmd, entry);
-        gate.at(&moment);
-        moment.into_entry()
+        show_moment(Moment::committed(pass, cmd, entry), gate)
     }
 
     /// Calls the gate where the pass holds all leaves and nothing is read yet, or where all is written.

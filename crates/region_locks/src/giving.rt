@@ -3,10 +3,10 @@ ghost use Rattle.core_steps.specs.Views.{Releasing, leaf_word, without_command};
 ghost use Rattle.region_locks.specs.Passes.{fixed_in, IsOwn, next_in, after_in, node_given_next};
 ghost use Rattle.region_locks.specs.Straight.{in_view};
 
-use crate::bit_walk::{lowest_bit, without_bit};
 use crate::hand::Hand;
 use crate::table::NodeTable;
 use crate::word_step::WordStep;
+use core_machine::{lowest_bit, without_bit};
 use core_steps::node_word;
 use entity_recs::Action;
 

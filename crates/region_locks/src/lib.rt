@@ -16,7 +16,6 @@ pub use went::{RefusedTake, Went};
 
 mod again;
 mod begin;
-mod bit_walk;
 mod claiming;
 mod close;
 mod commit;

@@ -7,7 +7,6 @@ ghost use Rattle.region_locks.specs.Loads.{after_loads, record_loaded_next};
 ghost use Rattle.region_locks.specs.Passes.{fixed_in, IsOwn, next_in};
 ghost use Rattle.region_locks.specs.Straight.{in_view, in_view_with, taking_leaves};
 
-use crate::bit_walk::six_of;
 use crate::hand::Hand;
 use crate::load_rec::index_of_word;
 use crate::table::NodeTable;
@@ -15,6 +14,14 @@ use crate::word_step::WordStep;
 use arrayvec::ArrayVec;
 use core_machine::WordList;
 use entity_recs::{Action, Cmd};
+
+/// Six words as an array.
+fn six_of(words: &[u64]) -> [u64; 6]
+    requires { length words.now ≡ 6 }
+    ensures { result ≡ words.now }
+{
+    [words[0], words[1], words[2], words[3], words[4], words[5]]
+}
 
 impl<'a, A: Action> NodeTable<'a, A> {
     /// Loads the own record for the command, which are the hand's next six steps, and gives its words. With the first

@@ -7,14 +7,12 @@ ghost use Rattle.core_steps.specs.Steps.{visiting};
 ghost use Rattle.core_steps.specs.Views.{Idle, Resolving, effect_loaded, has, home, leaf_nodes, plan_of, record_read};
 ghost use Rattle.core_steps.specs.Views.{region_in};
 ghost use Rattle.core_machine.specs.Refusals.{AreRefusals};
-ghost use Rattle.region_locks.specs.Moments.{IsAtPoint, HasLogged};
 ghost use Rattle.region_locks.specs.Moves.{HasRun};
 ghost use Rattle.region_locks.specs.Passes.{fixed_in, IsOwn};
 ghost use Rattle.region_locks.specs.Quitting.{MayBegin};
 ghost use Rattle.region_locks.specs.Runs.{is_taking_leaves, HoldsLeavesOf, HasReadAll, HasWritten, HasMoved, AreHeldFor};
 
-use crate::gate::{Gate, Moment};
-use crate::gate_point::GatePoint;
+use crate::gate::{Gate, Moment, show_moment};
 use crate::hand::Hand;
 use crate::held::Held;
 use crate::pass::Pass;
@@ -23,7 +21,7 @@ use areanode::visited;
 use arena_geo::Region;
 use core_machine::{Refusals, read_record};
 use entity_recs::{Action, Cmd, Effect, Entry};
-use move_journal::same_reply;
+use move_journal::{same_entry, same_reply};
 use std::sync::Wait;
 use world_tree::NearList;
 
@@ -37,29 +35,6 @@ fn entry_of(place: u64, cmd: &Cmd, effect: &Effect) -> Entry
         seq: cmd.seq,
         reply: same_reply(&effect.reply),
     }
-}
-
-/// The same entry.
-fn same_entry(entry: &Entry) -> Entry
-    ensures { result ≡ entry.now }
-{
-    Entry {
-        place: entry.place,
-        slot: entry.slot,
-        seq: entry.seq,
-        reply: same_reply(&entry.reply),
-    }
-}
-
-/// Calls the gate after the commit, and gives the entry back.
-fn show_entry<G: Gate>(hand: &Hand, cmd: &Cmd, entry: Entry, gate: &G) -> Entry
-    requires at { IsAtPoint hand.now GatePoint.Committed }
-    requires logged { HasLogged hand.now (command_of cmd.now) entry }
-    ensures { result ≡ entry }
-{
-    let moment = Moment::at_commit(hand, cmd, entry);
-    gate.at(&moment);
-    moment.into_entry().unwrap()
 }
 
 impl<'a, A: Action> NodeTable<'a, A> {
@@ -210,7 +185,8 @@ impl<'a, A: Action> NodeTable<'a, A> {
         let again = self.own_again(hand, cmd.slot);
         let effect = self.read_region(rt, hand, refusals, near, cmd, &held, &again, gate);
         let place = self.write_region(rt, hand, refusals, cmd.slot, &held, &again, &effect);
-        let entry = show_entry(hand, cmd, entry_of(place, cmd, &effect), gate);
+        let committed = Moment::at_commit(hand, cmd, entry_of(place, cmd, &effect));
+        let entry = show_moment(committed, gate).unwrap();
         self.return_leaves(hand, held.leaves);
         entry
     }

@@ -1,22 +1,41 @@
-ghost use Rattle.std.specs.Prelude.{◌≡◌, ℕ, [], Some};
+ghost use Rattle.std.specs.Prelude.{◌≡◌, ◌==◌, ℕ, [], Some, if◌then◌else◌};
 ghost use Rattle.core_steps.specs.Machine.{TakeNode};
-ghost use Rattle.core_steps.specs.Steps.{point_after_take};
-ghost use Rattle.core_steps.specs.Views.{Taking, Checking, leaf_word};
+ghost use Rattle.core_steps.specs.Steps.{point_after_take, view_after_refusal};
+ghost use Rattle.core_steps.specs.Views.{Taking, Checking, View, leaf_word};
 ghost use Rattle.core_machine.specs.Refusals.{AreRefusals};
 ghost use Rattle.region_locks.specs.Passes.{fixed_in, IsOwn, next_in, node_taken_next, word_after};
 ghost use Rattle.region_locks.specs.Straight.{IsTriedOn};
 ghost use Rattle.region_locks.specs.Tries.{IsTried, tried_until};
 ghost use Rattle.region_locks.specs.WordSteps.{word_by};
 
-use crate::bit_walk::{lowest_bit, without_bit};
 use crate::hand::Hand;
 use crate::table::NodeTable;
 use crate::word_step::WordStep;
-use core_machine::{NodeQueue, Refusals};
+use core_machine::{NodeQueue, Refusals, lowest_bit, without_bit};
 use core_steps::node_word;
 use entity_recs::Action;
 use std::sync::Wait;
 use std::thread;
+
+/// Whether the take was served: it found 0. One that was refused is counted.
+pub(crate) fn note_refused(
+    refusals: &mut Refusals,
+    own: &[u64; 6],
+    wanted: &NodeQueue,
+    node: u8,
+    found: u64,
+) -> bool
+    ensures served { result ≡ (found == 0) }
+    ensures noted { (view : View) → own.now ≡ view.own → wanted.now.items ≡ view.wanted
+        → AreRefusals refusals.old view
+        → AreRefusals refusals.new (if found == 0 then view else view_after_refusal node found view) }
+{
+    if found == 0 {
+        return true;
+    }
+    refusals.note(node, found, own, wanted);
+    false
+}
 
 impl<'a, A: Action> NodeTable<'a, A> {
     /// Tries to take the node, which comes next, with this word: false where another pass holds it. The refused take is
@@ -42,11 +61,7 @@ impl<'a, A: Action> NodeTable<'a, A> {
         ensures refusals { AreRefusals refusals.old hand.old.view → AreRefusals refusals.new hand.new.view }
     {
         let found = self.step_hand(hand, usize::from(node_word(node)), WordStep::Take(new));
-        if found == 0 {
-            return true;
-        }
-        refusals.note(node, found, own, wanted);
-        false
+        note_refused(refusals, own, wanted, node, found)
     }
 
     /// Takes the node, which comes next, with this word. Where another pass holds it, it is tried again until it is

@@ -34,7 +34,7 @@ fn again_after(refusal: RefusedTake) -> Again
 
 impl<'a, A: Action> NodeTable<'a, A> {
     /// Gives the pass the command, as [`NodeTable::begin`] does, with what a move says of it.
-    pub fn begin_move(&self, pass: &mut Pass<A>, cmd: Cmd)
+    fn begin_move(&self, pass: &mut Pass<A>, cmd: Cmd)
         requires own { IsOwn A.meaning self.now pass.old }
         requires free { MayBegin pass.old }
         requires live { has (fixed_in A.meaning self.now).start.ids cmd.slot ≡ true }

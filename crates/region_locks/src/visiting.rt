@@ -7,12 +7,11 @@ ghost use Rattle.region_locks.specs.Passes.{fixed_in, IsOwn};
 ghost use Rattle.region_locks.specs.Straight.{HasKept, IsTriedOn, in_view, in_view_with, nodes_read};
 ghost use Rattle.region_locks.specs.Visits.{plan_left, read_until, under_until, visited_until};
 
-use crate::bit_walk::{lowest_bit, without_bit};
 use crate::hand::Hand;
 use crate::table::NodeTable;
 use crate::word_step::WordStep;
-use core_machine::{NodeQueue, Refusals};
-use core_steps::{list_word, node_word};
+use core_machine::{NodeQueue, Refusals, lowest_bit, without_bit};
+use core_steps::list_word;
 use entity_recs::Action;
 use std::sync::Wait;
 
@@ -84,7 +83,7 @@ impl<'a, A: Action> NodeTable<'a, A> {
             (record v { point = visiting (fixed_in A.meaning self.now) v (plan_left v.point) }) }
     {
         hand.is_plain();
-        self.step_hand(hand, usize::from(node_word(node)), WordStep::Store(0));
+        self.give_on(hand, node);
     }
 
     /// Takes the inner node, which is visited next, reads it, and gives it back. Gives the bits of its players.

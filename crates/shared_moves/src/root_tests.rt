@@ -25,7 +25,7 @@ fn begin<A: Action>(shared: &Shared<A>, pass: &mut Pass<A>)
     ensures { IsMoving (fixed_in A.meaning shared.now) (length shared.now.rooms) shared.now.table
         0 pass.new }
 {
-    shared.table.begin_move(pass, plain(0));
+    shared.table.begin(pass, plain(0));
 }
 
 /// Makes the pass's next call, which is to be none that is refused.

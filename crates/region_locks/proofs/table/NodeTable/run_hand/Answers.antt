@@ -8,8 +8,8 @@ pub write_region-place-requires-clause-again_is : goal.write_region-place-requir
 write_region-place-requires-clause-again_is g c κs within =
     again_still (fixed_in g.A.Action.meaning c.args.self.now) (command_of c.args.cmd.now) c.hold_leaves-held.result c.own_again-again.result _ c.read_region-effect.result 0 c.args.hand.now c.hold_leaves-held.new.hand c.own_again-again.new.hand c.read_region-effect.new.hand c.read_region-effect.new.hand c.hold_leaves-held.ensures.holds c.own_again-again.ensures.view c.read_region-effect.ensures.read
 
-pub show_entry-entry-requires-clause-at : goal.show_entry-entry-requires-clause-at
-show_entry-entry-requires-clause-at g c κs within =
+pub at_commit-committed-requires-clause-at : goal.at_commit-committed-requires-clause-at
+at_commit-committed-requires-clause-at g c κs within =
     committed_point (fixed_in g.A.Action.meaning c.args.self.now) (command_of c.args.cmd.now) c.hold_leaves-held.result c.own_again-again.result _ c.read_region-effect.result c.write_region-place.result c.args.hand.now c.hold_leaves-held.new.hand c.own_again-again.new.hand c.read_region-effect.new.hand c.write_region-place.new.hand c.hold_leaves-held.ensures.holds c.own_again-again.ensures.view c.read_region-effect.ensures.read c.write_region-place.ensures.written
 
 pub return_leaves-requires-clause-leaves : goal.return_leaves-requires-clause-leaves
@@ -18,7 +18,7 @@ return_leaves-requires-clause-leaves g c κs within =
 
 pub returns-clause-moved : goal.returns-clause-moved
 returns-clause-moved g c =
-    has_moved (fixed_in g.A.Action.meaning c.args.self.now) (command_of c.args.cmd.now) c.hold_leaves-held.result c.own_again-again.result _ c.read_region-effect.result c.write_region-place.result c.args.hand.now c.hold_leaves-held.new.hand c.own_again-again.new.hand c.read_region-effect.new.hand c.write_region-place.new.hand c.hold_leaves-held.ensures.holds c.own_again-again.ensures.view c.read_region-effect.ensures.read c.write_region-place.ensures.written c.return_leaves.new.hand c.return_leaves.ensures.view c.show_entry-entry.result (c.show_entry-entry.ensures ∙ c.entry_of.ensures)
+    has_moved (fixed_in g.A.Action.meaning c.args.self.now) (command_of c.args.cmd.now) c.hold_leaves-held.result c.own_again-again.result _ c.read_region-effect.result c.write_region-place.result c.args.hand.now c.hold_leaves-held.new.hand c.own_again-again.new.hand c.read_region-effect.new.hand c.write_region-place.new.hand c.hold_leaves-held.ensures.holds c.own_again-again.ensures.view c.read_region-effect.ensures.read c.write_region-place.ensures.written c.return_leaves.new.hand c.return_leaves.ensures.view c.unwrap-entry.result (c.unwrap-entry.ensures ∙ c.entry_of.ensures)
 
 pub returns-clause-refusals : goal.returns-clause-refusals
 returns-clause-refusals g c are =

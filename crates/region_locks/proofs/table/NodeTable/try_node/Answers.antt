@@ -3,7 +3,7 @@ use Rattle.core_machine.specs.Nexts.{the_next}
 use Rattle.region_locks.specs.Passes.{PassView, fixed_in, next_of_pass}
 use Rattle.region_locks.specs.Straight.{IsTriedOn}
 use Rattle.region_locks.proofs.Takes.{takes_next, taken_next, taken_there, taken_index}
-use Rattle.region_locks.proofs.TriedTakes.{tried_on, noted, served_noted}
+use Rattle.region_locks.proofs.TriedTakes.{tried_on, found_noted}
 use Rattle.region_locks.proofs.table.NodeTable.try_node.Goals as goal
 
 pub step_hand-found-requires-clause-comes : goal.step_hand-found-requires-clause-comes
@@ -13,26 +13,14 @@ pub step_hand-found-requires-clause-index : goal.step_hand-found-requires-clause
 step_hand-found-requires-clause-index g c κs within =
     c.from.ensures ∙ c.node_word.ensures ∙ sym (taken_index (fixed_in g.A.Action.meaning c.args.self.now) c.args.hand.now c.args.node _ (takes_next _ _ _ _ _ c.requires.own c.requires.next))
 
-pub returns-then-found-eq0-clause-tried : goal.returns-then-found-eq0-clause-tried
-returns-then-found-eq0-clause-tried g c =
-    let F = fixed_in g.A.Action.meaning c.args.self.now in
-    subst (IsTriedOn c.args.hand.now.tally) (sym (ap (λ (q : PassView). q.tally) c.step_hand-found.ensures.pass))
-    (tried_on (the_next (next_of_pass F c.args.hand.now)) c.args.node c.step_hand-found.result _ c.args.hand.now.tally (taken_next _ _ c.requires.next))
-
 pub returns-clause-tried : goal.returns-clause-tried
 returns-clause-tried g c =
     let F = fixed_in g.A.Action.meaning c.args.self.now in
     subst (IsTriedOn c.args.hand.now.tally) (sym (ap (λ (q : PassView). q.tally) c.step_hand-found.ensures.pass))
     (tried_on (the_next (next_of_pass F c.args.hand.now)) c.args.node c.step_hand-found.result _ c.args.hand.now.tally (taken_next _ _ c.requires.next))
 
-pub returns-then-found-eq0-clause-refusals : goal.returns-then-found-eq0-clause-refusals
-returns-then-found-eq0-clause-refusals g c =
-    let F = fixed_in g.A.Action.meaning c.args.self.now in
-    served_noted F c.args.refusals.now c.args.hand.now.view c.step_hand-found.new.hand.view (the_next (next_of_pass F c.args.hand.now)) c.args.node c.step_hand-found.result (taken_next _ _ c.requires.next)
-    c.if-found-eq0.true (ap (λ (q : PassView). q.view) c.step_hand-found.ensures.pass)
-
 pub returns-clause-refusals : goal.returns-clause-refusals
-returns-clause-refusals g c =
+returns-clause-refusals g c are =
     let F = fixed_in g.A.Action.meaning c.args.self.now in
-    noted F c.args.refusals.now c.note.new.self c.args.hand.now.view c.step_hand-found.new.hand.view (the_next (next_of_pass F c.args.hand.now)) c.args.node c.step_hand-found.result c.args.own.now c.args.wanted.now.items (taken_next _ _ c.requires.next)
-    c.if-found-eq0.false (ap (λ (q : PassView). q.view) c.step_hand-found.ensures.pass) c.requires.own_is c.requires.wanted_is c.note.ensures.count c.note.ensures.last
+    found_noted F c.note_refused.new.refusals c.args.hand.now.view c.step_hand-found.new.hand.view (the_next (next_of_pass F c.args.hand.now)) c.args.node c.step_hand-found.result (taken_next _ _ c.requires.next)
+    (ap (λ (q : PassView). q.view) c.step_hand-found.ensures.pass) (c.note_refused.ensures.noted c.args.hand.now.view c.requires.own_is c.requires.wanted_is are)

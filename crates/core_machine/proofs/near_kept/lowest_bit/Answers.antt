@@ -1,5 +1,5 @@
 use Rattle.core_machine.proofs.SlotLists.{bit_first}
-use Rattle.core_machine.proofs.near_kept.lowest_slot.Goals as goal
+use Rattle.core_machine.proofs.near_kept.lowest_bit.Goals as goal
 
 pub returns-clause-there : goal.returns-clause-there
 returns-clause-there c = (bit_first c.args.word c.requires c.ranges.word.fits).0
