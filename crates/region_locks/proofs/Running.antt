@@ -10,8 +10,8 @@ use Rattle.core_steps.specs.Views.{Fixed, Refused, Point, Idle, Owning, Taking, 
 use Rattle.core_steps.specs.Calls.{is_pursued, pursued_of}
 use Rattle.region_locks.specs.declared.went.Went.{Went}
 use Rattle.region_locks.specs.declared.went.Went.TheVariants.{Resolved}
-use Rattle.region_locks.specs.Sights.{HeldWord, IsOneOf}
-use Rattle.region_locks.specs.Passes.{PassView, IsPassOf}
+use Rattle.ruled_words.specs.Sights.{HeldWord, IsOneOf}
+use Rattle.ruled_words.specs.Passes.{PassView, IsPassOf}
 use Rattle.region_locks.specs.declared.turn.Turn.{Turn}
 use Rattle.region_locks.specs.Turns.{has_command_in_hand}
 use Rattle.region_locks.specs.Closing.{HasNoCommand}

@@ -7,8 +7,8 @@ use Rattle.core_machine.specs.Ready.{is_resolving}
 use Rattle.region_locks.specs.declared.turn.Turn.{Turn}
 use Rattle.region_locks.specs.declared.turn.Turn.TheVariants.{LoadRec, Take, LoadList, LoadState, Resolve, Commit}
 use Rattle.region_locks.specs.declared.turn.Turn.TheVariants.{Unlink, StoreNext, SetLink, GiveBack}
-use Rattle.region_locks.specs.Passes.{PassView, next_of_pass}
-use Rattle.region_locks.specs.Loads.{PlayerWord, player_word_next}
+use Rattle.ruled_words.specs.Passes.{PassView, next_of_pass}
+use Rattle.ruled_words.specs.Loads.{PlayerWord, player_word_next}
 
 -- the call that makes a store
 abbrev pub turn_of_store : Store → Turn

@@ -1,6 +1,6 @@
 ghost use Rattle.std.specs.Prelude.{◌≡◌, true, length, Some, IfOk};
 ghost use Rattle.core_steps.specs.Views.{has};
-ghost use Rattle.region_locks.specs.Passes.{fixed_in};
+ghost use Rattle.ruled_words.specs.Passes.{fixed_in};
 ghost use Rattle.region_locks.specs.Turns.{turn_of};
 ghost use Rattle.region_locks.specs.Pursuits.{IsGoingOn};
 ghost use Rattle.shared_moves.specs.Trials.{IsFree, IsMoving, IsResting};
