@@ -10,8 +10,8 @@ use Rattle.core_machine.specs.declared.seat.Seat as mirrors
 use Rattle.core_machine.specs.Ready.{is_resolving}
 use Rattle.core_machine.specs.Seats.{view_of}
 use Rattle.ruled_words.specs.Hands.{pass_view}
-use Rattle.region_locks.specs.Following.{CanFollow}
 use Rattle.ruled_words.specs.Passes.{PassView, effect_kept, next_of_pass, pass_after, IsPassOf, HasGone}
+use Rattle.region_locks.specs.Following.{CanFollow}
 use Rattle.ruled_words.proofs.Owns.{own_after}
 use Rattle.core_machine.specs.Nexts.{the_next}
 

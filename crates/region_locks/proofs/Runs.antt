@@ -10,15 +10,15 @@ use Rattle.core_steps.specs.Steps.{item_at}
 use Rattle.core_steps.specs.Views.{Fixed, View, Point, stage_of, is_committed, without_command, Checking, Resolving, Releasing, region_in, leaf_word}
 use Rattle.core_machine.specs.declared.refusals.Refusals.{Refusals}
 use Rattle.core_machine.specs.Refusals.{AreRefusals}
-use Rattle.region_locks.specs.declared.gate_point.GatePoint.TheVariants.{Leaves, Computed, Committed}
 use Rattle.ruled_words.specs.Sights.{IsOneOf, Tally}
 use Rattle.ruled_words.specs.Passes.{PassView}
 use Rattle.ruled_words.specs.Hands.{keeping}
-use Rattle.region_locks.specs.Pursuits.{HoldsLeavesAlone, is_checking, item_of}
-use Rattle.region_locks.specs.Moments.{IsAtPoint}
 use Rattle.ruled_words.specs.Straight.{in_view, in_view_with, taking_leaves, at_point, nodes_read, IsTriedOn}
 use Rattle.ruled_words.specs.Tries.{tried_until}
 use Rattle.ruled_words.specs.Writing.{as_tried, HasTried, written}
+use Rattle.region_locks.specs.declared.gate_point.GatePoint.TheVariants.{Leaves, Computed, Committed}
+use Rattle.region_locks.specs.Pursuits.{HoldsLeavesAlone, is_checking, item_of}
+use Rattle.region_locks.specs.Moments.{IsAtPoint}
 use Rattle.region_locks.specs.declared.moving.held.Held.{Held}
 use Rattle.region_locks.specs.Runs.{HoldsLeavesOf, HasReadAll, HasWritten, HasMoved, all_read, all_written}
 use Rattle.ruled_words.proofs.LeafWords.{leaf_word_is}

@@ -6,10 +6,10 @@ use Rattle.entity_recs.specs.declared.effect.Entry.{Entry}
 use Rattle.entity_recs.specs.Commands.{Command}
 use Rattle.core_steps.specs.Views.{Fixed, View, Checking, Resolving, Releasing, effect_loaded, region_in, without_command}
 use Rattle.core_steps.specs.Steps.{item_at}
-use Rattle.region_locks.specs.declared.moving.held.Held.{Held}
 use Rattle.ruled_words.specs.Passes.{PassView}
-use Rattle.region_locks.specs.Pursuits.{item_of}
 use Rattle.ruled_words.specs.Straight.{in_view_with, taking_leaves, at_point, AreListedStill, IsTriedOn}
+use Rattle.region_locks.specs.declared.moving.held.Held.{Held}
+use Rattle.region_locks.specs.Pursuits.{item_of}
 
 -- the hand began the command, by its own record as it was loaded, and holds its leaves
 pub record HoldsLeavesOf (F : Fixed) (c : Command) (own : List ℕ) (old new : PassView) : Type 0 where

@@ -1,4 +1,4 @@
-ghost use Rattle.std.specs.Prelude.{◌<◌, ◌≢◌, ◌^◌};
+ghost use Rattle.std.specs.Prelude.{◌≢◌};
 ghost use Rattle.ruled_words.specs.Passes.{IsHolderIn};
 
 /// Who holds a node.

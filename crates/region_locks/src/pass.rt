@@ -1,8 +1,8 @@
 ghost use Rattle.std.specs.Prelude.{◌≡◌, false, None};
 ghost use Rattle.core_machine.specs.Seats.{view_of};
-ghost use Rattle.region_locks.specs.NewPasses.{new_pass};
 ghost use Rattle.ruled_words.specs.Passes.{sight_of};
 ghost use Rattle.ruled_words.specs.Sights.{no_tally};
+ghost use Rattle.region_locks.specs.NewPasses.{new_pass};
 ghost use Rattle.region_locks.specs.Closing.{log_from};
 
 use core_machine::Seat;

@@ -1,4 +1,4 @@
-ghost use Rattle.std.specs.Prelude.{◌≡◌, ℕ, List, false, map, length, is_some, Option};
+ghost use Rattle.std.specs.Prelude.{◌≡◌, ℕ, List, false, map, is_some, Option};
 ghost use Rattle.std.specs.Option.{option_map};
 ghost use Rattle.entity_recs.specs.declared.effect.Effect.{Effect};
 ghost use Rattle.entity_recs.specs.Commands.{Command};

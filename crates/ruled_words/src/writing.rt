@@ -1,9 +1,8 @@
 ghost use Rattle.std.specs.Prelude.{◌≡◌, ◌+◌, ◌^◌, ◌<◌, ◌≤◌};
-ghost use Rattle.core_steps.specs.Views.{Resolving, Releasing, effect_loaded, home, leaf_word, record_read};
-ghost use Rattle.core_steps.specs.Views.{inner_of_two, without_command};
+ghost use Rattle.core_steps.specs.Views.{Resolving, effect_loaded, home, record_read};
+ghost use Rattle.core_steps.specs.Views.{inner_of_two};
 ghost use Rattle.core_machine.specs.Refusals.{AreRefusals};
 ghost use Rattle.ruled_words.specs.Passes.{fixed_in, IsOwn};
-ghost use Rattle.ruled_words.specs.Straight.{in_view};
 ghost use Rattle.ruled_words.specs.Writing.{HasTried, nodes_written, written};
 
 use crate::hand::Hand;

@@ -3,8 +3,8 @@ ghost use Rattle.std.specs.List.{range_with_len};
 ghost use Rattle.world_tree.specs.Live.{live_in};
 ghost use Rattle.world_tree.specs.Worlds.{IsLinked};
 ghost use Rattle.ruled_words.specs.Passes.{fixed_in, IsPassOf, IsOwn};
-ghost use Rattle.region_locks.specs.NewPasses.{new_passes};
 ghost use Rattle.ruled_words.specs.Sights.{AreRefusalsServed};
+ghost use Rattle.region_locks.specs.NewPasses.{new_passes};
 ghost use Rattle.region_locks.specs.Closing.{tally_of_all, AreRefusalsHeld, HasNoCommand, log_from, IsClosed};
 
 use entity_recs::Action;

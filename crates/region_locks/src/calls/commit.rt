@@ -1,9 +1,8 @@
-ghost use Rattle.std.specs.Prelude.{◌≡◌, ◌≤◌, true, length, IfSome, IsSomeAnd, Some};
+ghost use Rattle.std.specs.Prelude.{◌≡◌, ◌≤◌, true, IfSome, IsSomeAnd, Some};
 ghost use Rattle.entity_recs.specs.Histories.{entry_of};
-ghost use Rattle.region_locks.specs.NextCalls.{is_commit_next};
 ghost use Rattle.ruled_words.specs.Passes.{first_effect, IsOwn, next_in, after_in};
 ghost use Rattle.ruled_words.specs.Passes.{effect_in_hand};
-ghost use Rattle.core_machine.specs.Nexts.{the_next};
+ghost use Rattle.region_locks.specs.NextCalls.{is_commit_next};
 
 use crate::mirror::owed::slot_and_seq;
 use crate::pass::Pass;

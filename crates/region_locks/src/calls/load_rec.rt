@@ -1,4 +1,4 @@
-ghost use Rattle.std.specs.Prelude.{◌≡◌, length, Some};
+ghost use Rattle.std.specs.Prelude.{◌≡◌, Some};
 ghost use Rattle.ruled_words.specs.Passes.{fixed_in, IsOwn, next_in};
 ghost use Rattle.ruled_words.specs.Loads.{record_loaded_next, HasLoaded};
 

@@ -1,4 +1,4 @@
-ghost use Rattle.std.specs.Prelude.{◌≡◌, length, Some, None};
+ghost use Rattle.std.specs.Prelude.{◌≡◌, Some, None};
 ghost use Rattle.core_steps.specs.Views.{Resolving, effect_loaded};
 ghost use Rattle.ruled_words.specs.Passes.{fixed_in, IsOwn};
 

@@ -1,8 +1,7 @@
-ghost use Rattle.std.specs.Prelude.{◌≡◌, true, length};
-ghost use Rattle.region_locks.specs.NextCalls.{is_unlink_next};
+ghost use Rattle.std.specs.Prelude.{◌≡◌, true};
 ghost use Rattle.ruled_words.specs.Passes.{IsOwn, next_in, after_in};
+ghost use Rattle.region_locks.specs.NextCalls.{is_unlink_next};
 ghost use Rattle.region_locks.specs.NextCalls.{is_store_next, is_link_next};
-ghost use Rattle.core_machine.specs.Nexts.{the_next};
 
 use crate::mirror::owed::{bit_owed, put_owed, slot_and_seq};
 use crate::pass::Pass;

@@ -3,7 +3,6 @@ ghost use Rattle.core_steps.specs.Steps.{is_taking};
 ghost use Rattle.ruled_words.specs.Holders.{IsOtherHolder, IsReached};
 ghost use Rattle.ruled_words.specs.Passes.{fixed_in, IsHolderIn, first_effect, IsOwn, next_in, after_in};
 ghost use Rattle.ruled_words.specs.Passes.{node_taken_next, node_given_next, list_read_next, state_read_next};
-ghost use Rattle.core_machine.specs.Nexts.{the_next};
 
 use crate::holder::{Holder, holder_in};
 use crate::pass::Pass;

@@ -3,7 +3,7 @@ ghost use Rattle.std.specs.Option.{option_map};
 ghost use Rattle.entity_recs.specs.declared.rec.Rec.{Rec};
 ghost use Rattle.world_tree.specs.Live.{IsEntry};
 ghost use Rattle.world_tree.specs.Worlds.{record_of, IsLinked};
-ghost use Rattle.ruled_words.specs.Ends.{body_in, state_in, record_in};
+ghost use Rattle.ruled_words.specs.Ends.{body_in, record_in};
 
 use core_steps::{FIRST_RECORD_WORD, FIRST_STATE_WORD, PlayerWords, decode};
 use entity_recs::Rec;

@@ -1,14 +1,13 @@
-ghost use Rattle.std.specs.Prelude.{◌≡◌, ◌≤◌, ◌<◌, ◌%◌, length, true, []};
-ghost use Rattle.areanode.specs.Trees.{leaves_of};
+ghost use Rattle.std.specs.Prelude.{◌≡◌, ◌%◌, length, true, []};
 ghost use Rattle.entity_recs.specs.Commands.{command_of};
 ghost use Rattle.entity_recs.specs.Histories as histories;
 ghost use Rattle.core_steps.specs.Machine.{IsPending};
 ghost use Rattle.core_steps.specs.Steps.{visiting};
-ghost use Rattle.core_steps.specs.Views.{Idle, Resolving, effect_loaded, has, home, leaf_nodes, plan_of, record_read};
+ghost use Rattle.core_steps.specs.Views.{Idle, Resolving, effect_loaded, has, plan_of};
 ghost use Rattle.core_steps.specs.Views.{region_in};
 ghost use Rattle.core_machine.specs.Refusals.{AreRefusals};
-ghost use Rattle.region_locks.specs.Moves.{HasRun};
 ghost use Rattle.ruled_words.specs.Passes.{fixed_in, IsOwn};
+ghost use Rattle.region_locks.specs.Moves.{HasRun};
 ghost use Rattle.region_locks.specs.Quitting.{MayBegin};
 ghost use Rattle.region_locks.specs.Runs.{HoldsLeavesOf, HasReadAll, HasWritten, HasMoved, AreHeldFor};
 
@@ -17,7 +16,6 @@ use crate::moving::held::Held;
 use crate::pass::Pass;
 use crate::table::NodeTable;
 use areanode::visited;
-use arena_geo::Region;
 use core_machine::{Refusals, read_record};
 use entity_recs::{Action, Cmd, Effect, Entry};
 use move_journal::{same_entry, same_reply};

@@ -1,4 +1,4 @@
-ghost use Rattle.std.specs.Prelude.{◌≡◌, ℕ, ◌%◌, true, false, length, None, IfOk, IfErr, OnOk};
+ghost use Rattle.std.specs.Prelude.{◌≡◌, ℕ, ◌%◌, true, length, None, IfOk, IfErr, OnOk};
 ghost use Rattle.entity_recs.specs.Commands.{Command, command_of};
 ghost use Rattle.core_steps.specs.Views.{Fixed, Refused, has};
 ghost use Rattle.ruled_words.specs.Passes.{fixed_in, IsOwn};

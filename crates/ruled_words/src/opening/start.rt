@@ -1,4 +1,4 @@
-ghost use Rattle.std.specs.Prelude.{◌≡◌, ℕ, Bool, ◌&&◌, ◌==◌, ◌<◌, ◌+◌, ◌^◌, if◌then◌else◌, Some, None, IfOk};
+ghost use Rattle.std.specs.Prelude.{◌≡◌, ℕ, Bool, ◌&&◌, ◌==◌, ◌<◌, if◌then◌else◌, Some, None, IfOk};
 ghost use Rattle.areanode.specs.Words.{word_of};
 ghost use Rattle.core_steps.specs.Encoding.{words_of, nth_word};
 ghost use Rattle.core_steps.specs.Stands.{is_player};

@@ -1,7 +1,7 @@
 ghost use Rattle.std.specs.Prelude.{◌≡◌, ℕ, List, [], ◌∷◌, ◌++◌, ◌+◌, ◌^◌, ◌<◌, ◌≤◌, ◌%◌, true, length, is_some};
 ghost use Rattle.entity_recs.specs.Commands.{command_of};
 ghost use Rattle.core_steps.specs.declared.step.StepKind.TheVariants.{Commit};
-ghost use Rattle.core_steps.specs.Machine.{ReadPlayer, YieldCount, IsPending, index_of, kind_of};
+ghost use Rattle.core_steps.specs.Machine.{ReadPlayer, IsPending, index_of, kind_of};
 ghost use Rattle.core_steps.specs.Views.{Idle, record_read};
 ghost use Rattle.core_machine.specs.Nexts.{the_next};
 ghost use Rattle.core_machine.specs.Seats.{view_of};

@@ -1,4 +1,4 @@
-ghost use Rattle.std.specs.Prelude.{◌≡◌, ◌≢◌, ◌<◌, ◌^◌, [], length};
+ghost use Rattle.std.specs.Prelude.{◌≡◌, ◌<◌, [], length};
 ghost use Rattle.ruled_words.specs.Starts.{fixed_by};
 ghost use Rattle.ruled_words.specs.Sights.{with_one_made, sight_made, with_one_ended};
 ghost use Rattle.ruled_words.specs.Going.{IsAtRest};

@@ -1,4 +1,4 @@
-ghost use Rattle.std.specs.Prelude.{◌≡◌, ◌+◌, ◌^◌, ◌<◌, ◌≤◌, [], ◌∷◌, Some};
+ghost use Rattle.std.specs.Prelude.{◌≡◌, ◌+◌, ◌^◌, ◌<◌, ◌≤◌, [], Some};
 ghost use Rattle.core_steps.specs.Views.{Resolving, Claiming, effect_loaded};
 ghost use Rattle.core_steps.specs.Steps.{view_after_commit};
 ghost use Rattle.ruled_words.specs.Passes.{fixed_in, IsOwn};

@@ -1,6 +1,6 @@
 ghost use Rattle.std.specs.Prelude.{◌≡◌, ◌∷◌, ◌++◌, map, length};
 ghost use Rattle.core_steps.specs.Cells.{Body, State};
-ghost use Rattle.core_steps.specs.Views.{Releasing, Clear, Put, Link, body_stores, record_read, stores_of, home};
+ghost use Rattle.core_steps.specs.Views.{Releasing, Clear, Put, Link, body_stores, stores_of, home};
 ghost use Rattle.core_steps.specs.Steps.{storing};
 ghost use Rattle.ruled_words.specs.Passes.{fixed_in, IsOwn};
 ghost use Rattle.ruled_words.specs.Straight.{in_view};

@@ -1,7 +1,7 @@
 use Rattle.std.proofs.Common.{sym, ap, ◌∙◌}
 use Rattle.entity_recs.specs.Commands.{command_of}
-use Rattle.region_locks.specs.Points.{MomentView}
 use Rattle.ruled_words.specs.Passes.{fixed_in}
+use Rattle.region_locks.specs.Points.{MomentView}
 use Rattle.region_locks.proofs.Runs.{some_entry, again_still, committed_point, leaves_still, refusals_again, refusals_end, has_moved}
 use Rattle.region_locks.proofs.moving.run.run_hand.Goals as goal
 

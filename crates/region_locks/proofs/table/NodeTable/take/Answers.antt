@@ -3,8 +3,8 @@ use Rattle.core_machine.specs.Shown.{fixed_of}
 use Rattle.ruled_words.specs.Hands.{pass_view}
 use Rattle.ruled_words.specs.Passes.{PassView, fixed_in}
 use Rattle.ruled_words.proofs.Holders.{other_holder}
-use Rattle.region_locks.proofs.Quitting.{may_quit_after}
 use Rattle.ruled_words.proofs.Takes.{takes_next, taken_next, taken_there, taken_index, word_of_holder, held_is, wanted_below}
+use Rattle.region_locks.proofs.Quitting.{may_quit_after}
 use Rattle.region_locks.proofs.table.NodeTable.take.Goals as goal
 
 pub step_word-found-requires-clause-comes : goal.step_word-found-requires-clause-comes
