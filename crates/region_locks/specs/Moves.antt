@@ -5,9 +5,9 @@ use Rattle.entity_recs.specs.declared.effect.Entry.{Entry}
 use Rattle.entity_recs.specs.Commands.{Command}
 use Rattle.areanode.specs.Words.{has_bit}
 use Rattle.core_steps.specs.Views.{Fixed, Refused, has, leaf_nodes, inner_visited, region_in}
-use Rattle.region_locks.specs.Sights.{HeldWord, IsOneOf}
-use Rattle.region_locks.specs.Passes.{PassView, IsPassOf, IsHolderIn}
-use Rattle.region_locks.specs.Holders.{IsOtherHolder}
+use Rattle.ruled_words.specs.Sights.{HeldWord, IsOneOf}
+use Rattle.ruled_words.specs.Passes.{PassView, IsPassOf, IsHolderIn}
+use Rattle.ruled_words.specs.Holders.{IsOtherHolder}
 use Rattle.region_locks.specs.Closing.{HasNoCommand}
 use Rattle.region_locks.specs.Pursuits.{IsGoingOn, command_pursued, commands_given, item_of}
 use Rattle.region_locks.specs.declared.again.Again.{Again}
