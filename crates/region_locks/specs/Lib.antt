@@ -18,6 +18,7 @@ pub use Rattle.ruled_words.specs.WordSteps
 pub use Rattle.ruled_words.specs.Passes
 pub use Rattle.ruled_words.specs.Hands
 pub use Rattle.ruled_words.specs.Loads
+pub use Rattle.ruled_words.specs.Straight
 pub use Rattle.core_steps.specs.Cells
 pub use Rattle.core_steps.specs.Views
 pub use Rattle.core_steps.specs.Steps

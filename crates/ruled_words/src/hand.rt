@@ -69,12 +69,14 @@ impl Hand {
         step: WordStep,
     ) -> u64
         requires ready { IsReady (fixed_by A.meaning words.now.key.action.value words.now.key.world.value)
-            (length words.now.key.rooms.items) words.now.table_id (pass_view self.old mirror.now effect.now) self.old word }
+            (length words.now.key.rooms.items) words.now.table_id (pass_view self.old mirror.now effect.now)
+            self.old word }
         requires wide { words.now.table_id.words ≡ 639 }
         requires left { (found : ℕ) → word_after (fixed_by A.meaning words.now.key.action.value
             words.now.key.world.value) (pass_view self.old mirror.now effect.now) found ≡ word_by step found }
         requires may { let F = fixed_by A.meaning words.now.key.action.value words.now.key.world.value in
-            MayBe step F (pass_view self.old mirror.now effect.now).view (the_next (next_of_pass F (pass_view self.old mirror.now effect.now))) word }
+            let p = pass_view self.old mirror.now effect.now in
+            MayBe step F p.view (the_next (next_of_pass F p)) word }
         ensures gone { HasGone (fixed_by A.meaning words.now.key.action.value words.now.key.world.value)
             (length words.now.key.rooms.items) (pass_view self.old mirror.now effect.now) result self.new }
         ensures stored { (new : ℕ) → step ≡ WordStep.Store new → result ≡ new }
