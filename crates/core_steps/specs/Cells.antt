@@ -1,6 +1,5 @@
 -- The shared words, by what they hold, and the flat table in which they lie.
 use Rattle.std.specs.Prelude.{ℕ, ◌+◌, ◌-◌, ◌*◌, ◌/◌, ◌%◌, ◌==◌, nat_lt, Bool, false, ◌&&◌, not, ◌||◌, if◌then◌else◌}
-use Rattle.entity_recs.specs.declared.limits.TheConstants.{IDS}
 use Rattle.areanode.specs.Words.{has_bit, word_of}
 
 -- the count of commits, each node's word, each node's list word, each player's five words, and each entity's state word
@@ -78,7 +77,7 @@ cell_index nodes (State id) = state_index nodes id
 
 -- how many words the flat table has
 abbrev pub table_size : ℕ → ℕ
-table_size nodes = state_index nodes IDS
+table_size nodes = 577 + 2 * nodes
 
 -- the word at an index of the flat table
 abbrev pub word_at : ℕ → Words → ℕ → ℕ
