@@ -69,6 +69,7 @@ fn set_in(rows: &mut [u64], from: usize, to: usize, bit: u16)
     requires bit { bit < 64 }
     ensures set { (row d : ℕ) → from ≤ row → row < to → has_bit (slice_index_or rows.new row d) bit ≡ true }
     ensures kept { KeepsBits rows.old rows.new }
+    ensures before { (row d : ℕ) → row < from → slice_index_or rows.new row d ≡ slice_index_or rows.old row d }
     ensures length { length rows.new ≡ length rows.old }
 {
     for row in from..to {
