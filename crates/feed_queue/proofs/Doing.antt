@@ -64,13 +64,13 @@ module _ (part : Hand → Option (List ℕ)) where
   done_given at done views pass v left right mine d here is none is' j u yours e has =
       let vs : List Hand = set views pass left in
       let nobody : get_elem? vs j ≢ some u = λ x. ⊎_elim
-              (λ (y : (j ≡ pass) × (left ≡ u)). none-some yours (sym none ∙ ap part y.1 ∙ has))
-              (λ (y : (j ≢ pass) × (get_elem? views j ≡ some u)). y.0 ((d j u yours y.1 has).0 ∙ sym (d pass v mine here is).0))
-              (at_set views pass j left u x) in
+      (λ (y : (j ≡ pass) × (left ≡ u)). none-some yours (sym none ∙ ap part y.1 ∙ has))
+      (λ (y : (j ≢ pass) × (get_elem? views j ≡ some u)). y.0 ((d j u yours y.1 has).0 ∙ sym (d pass v mine here is).0))
+      (at_set views pass j left u x) in
       ⊎_elim
-          (λ (x : get_elem? vs j ≡ some u). absurd (nobody x))
-          (λ (x : right ≡ u). (at_end vs right u j nobody e, same_done u right yours mine x has is' ∙ (d pass v mine here is).1))
-          (at_snoc vs right u j e)
+      (λ (x : get_elem? vs j ≡ some u). absurd (nobody x))
+      (λ (x : right ≡ u). (at_end vs right u j nobody e, same_done u right yours mine x has is' ∙ (d pass v mine here is).1))
+      (at_snoc vs right u j e)
 
   -- a pass has it back from another, which is spent
   pub done_back : (at : ℕ) (done : List ℕ) (views : List Hand) (pass other : ℕ) (w both spent : Hand) (mine : List ℕ)
@@ -79,9 +79,9 @@ module _ (part : Hand → Option (List ℕ)) where
   done_back at done views pass other w both spent mine d there is is' none j u yours e has =
       let vs : List Hand = set views pass both in
       ⊎_elim
-          (λ (x : (j ≡ other) × (spent ≡ u)). absurd (none-some yours (sym none ∙ ap part x.1 ∙ has)))
-          (λ (x : (j ≢ other) × (get_elem? vs j ≡ some u)). ⊎_elim
-              (λ (y : (j ≡ pass) × (both ≡ u)). (y.0, same_done u both yours mine y.1 has is' ∙ (d other w mine there is).1))
-              (λ (y : (j ≢ pass) × (get_elem? views j ≡ some u)). absurd (x.0 ((d j u yours y.1 has).0 ∙ sym (d other w mine there is).0)))
-              (at_set views pass j both u x.1))
-          (at_set vs other j spent u e)
+      (λ (x : (j ≡ other) × (spent ≡ u)). absurd (none-some yours (sym none ∙ ap part x.1 ∙ has)))
+      (λ (x : (j ≢ other) × (get_elem? vs j ≡ some u)). ⊎_elim
+      (λ (y : (j ≡ pass) × (both ≡ u)). (y.0, same_done u both yours mine y.1 has is' ∙ (d other w mine there is).1))
+      (λ (y : (j ≢ pass) × (get_elem? views j ≡ some u)). absurd (x.0 ((d j u yours y.1 has).0 ∙ sym (d other w mine there is).0)))
+      (at_set views pass j both u x.1))
+      (at_set vs other j spent u e)

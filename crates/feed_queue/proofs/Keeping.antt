@@ -1,14 +1,14 @@
 -- Each call on the queue keeps the rule.
-use Rattle.std.proofs.Common.{◌≡◌, ◌≢◌, ℕ, zero, suc, ◌+◌, ◌<◌, ◌≤◌, true, false, List, [], ◌∷◌, ◌++◌, length, set, sym, refl, ap, ◌∙◌, subst, ⊎_elim, append_assoc, length-append, append-nil, Option, Some, None, arith}
+use Rattle.std.proofs.Common.{◌≡◌, ℕ, zero, suc, ◌+◌, ◌<◌, true, false, List, [], ◌∷◌, ◌++◌, length, set, sym, refl, ap, ◌∙◌, ⊎_elim, append_assoc, length-append, append-nil, Option, Some, None, arith}
 use Rattle.std.specs.List.{filter}
 use mathlib.Core.Option.{some}
 use lib.ListN.{get_elem?}
 use Rattle.crossbeam_queue.specs.Fifo.{Pushes, Pops, Forks, Merges, Learns, Held}
 use Rattle.crossbeam_queue.proofs.Lists.{at_set}
-use Rattle.std.proofs.lemmas.Option.{none-some, same_Some}
+use Rattle.std.proofs.lemmas.Option.{same_Some}
 use Rattle.feed_queue.specs.declared.hand.Hand.{Hand}
 use Rattle.feed_queue.specs.Orders.{is_of, places_below, IsOrder}
-use Rattle.feed_queue.specs.Hands.{hand, nothing_done, spent, feeder_hand, pushed, popped, without_evens, evens_alone, with_evens, without_odds, odds_alone, with_odds}
+use Rattle.feed_queue.specs.Hands.{hand, nothing_done, spent, feeder_hand, pushed, popped}
 use Rattle.feed_queue.specs.Rule.{IsKept, HasRoomFor, Holds}
 use Rattle.feed_queue.proofs.Counting.{own_last, other_last, own_below, other_below, own_fits, each_of_one, even_not_odd, odd_not_even, as_many_places}
 use Rattle.feed_queue.proofs.Doing.{done_first, done_more, done_same, done_none, done_beside, done_given, done_back}
@@ -30,7 +30,7 @@ begins ports = record {
 
 pub sends : (n : ℕ) (ports : List ℕ) (feeder place pass : ℕ) → feeder < 2 → place < length ports → is_of ports feeder place ≡ true
     → Pushes (IsKept ports) n pass (feeder_hand feeder (places_below ports feeder place)) place
-        (λ w. w ≡ pushed (feeder_hand feeder (places_below ports feeder place)) place)
+    (λ w. w ≡ pushed (feeder_hand feeder (places_below ports feeder place)) place)
 sends n ports zero place pass two lt own items views room k here =
     let v : Hand = feeder_hand 0 (places_below ports 0 place) in
     let w : Hand = pushed v place in
@@ -92,15 +92,31 @@ passed_on ports feeder place other = ap (feeder_hand feeder) (sym (other_below p
 -- what a queue holds is not all, while a feeder has a place to push
 pub has_room : (ports : List ℕ) (feeder place pass : ℕ) → feeder < 2 → place < length ports → is_of ports feeder place ≡ true
     → Learns (IsKept ports) pass (feeder_hand feeder (places_below ports feeder place))
-        (HasRoomFor ports (feeder_hand feeder (places_below ports feeder place)))
+    (HasRoomFor ports (feeder_hand feeder (places_below ports feeder place)))
 has_room ports zero place pass two lt own items views k here =
     let mine = k.evens pass (feeder_hand 0 (places_below ports 0 place)) (places_below ports 0 place) here refl in
-    omega (arith, own_fits ports 0 place lt own, length-append (places_below ports 0 place) (place ∷ []), ap length mine.1, k.few_odds,
-      each_of_one ports (k.got ++ items), as_many_places ports, length-append k.got items)
+    omega (
+      arith,
+      own_fits ports 0 place lt own,
+      length-append (places_below ports 0 place) (place ∷ []),
+      ap length mine.1,
+      k.few_odds,
+      each_of_one ports (k.got ++ items),
+      as_many_places ports,
+      length-append k.got items,
+    )
 has_room ports (suc zero) place pass two lt own items views k here =
     let mine = k.odds pass (feeder_hand 1 (places_below ports 1 place)) (places_below ports 1 place) here refl in
-    omega (arith, own_fits ports 1 place lt own, length-append (places_below ports 1 place) (place ∷ []), ap length mine.1, k.few_evens,
-      each_of_one ports (k.got ++ items), as_many_places ports, length-append k.got items)
+    omega (
+      arith,
+      own_fits ports 1 place lt own,
+      length-append (places_below ports 1 place) (place ∷ []),
+      ap length mine.1,
+      k.few_evens,
+      each_of_one ports (k.got ++ items),
+      as_many_places ports,
+      length-append k.got items,
+    )
 has_room ports (suc (suc f)) place pass two lt own items views k here = absurd (omega arith)
 
 -- ---- a pop

@@ -11,7 +11,12 @@ fn arrival(port: u16) -> Arrival {
 
 #[test]
 fn packets_of_one_port_stay_in_order(rt: HostRuntime) -> Result<(), Fail> {
-    let order = gather(&rt, rt.alloc(), &[arrival(7), arrival(7), arrival(7)], &NoFeedGate)?;
+    let order = gather(
+        &rt,
+        rt.alloc(),
+        &[arrival(7), arrival(7), arrival(7)],
+        &NoFeedGate,
+    )?;
     assert_eq!(rt; order.as_slice(), [0, 1, 2].as_slice());
     let order = gather(&rt, rt.alloc(), &[], &NoFeedGate)?;
     assert_eq!(rt; order.as_slice(), [].as_slice());

@@ -86,8 +86,14 @@ fn expect_passed(
     assert!(rt; gate.has_sent.load(Ordering::SeqCst));
     assert!(rt; gate.has_other_sent.load(Ordering::SeqCst));
     let places = order.as_slice();
-    let passing = places.iter().position(|place| *place == 2).ok_or("place 2")?;
-    let passed = places.iter().position(|place| *place == 1).ok_or("place 1")?;
+    let passing = places
+        .iter()
+        .position(|place| *place == 2)
+        .ok_or("place 2")?;
+    let passed = places
+        .iter()
+        .position(|place| *place == 1)
+        .ok_or("place 1")?;
     assert!(rt; passing < passed);
     Ok(())
 }

@@ -1,7 +1,7 @@
-use Rattle.std.proofs.Common.{◌≡◌, ℕ, ◌≤◌, Some, length, List, sym, subst, ap, ◌∙◌, arith}
+use Rattle.std.proofs.Common.{◌≡◌, Some, length, sym, subst, arith}
 use Rattle.crossbeam_queue.specs.Fifo.{Pops, Learns, Held}
 use Rattle.feed_queue.specs.declared.hand.Hand.{Hand}
-use Rattle.feed_queue.specs.Hands.{hand, popped}
+use Rattle.feed_queue.specs.Hands.{popped}
 use Rattle.feed_queue.specs.Orders.{places_below}
 use Rattle.feed_queue.specs.Rule.{IsKept, Holds}
 use Rattle.feed_queue.proofs.Keeping.{gets, holds, not_empty, all_popped}
@@ -27,4 +27,4 @@ returns g c =
     let ports = g.N.Ported.ports in
     let learned = c.learn_as.ensures.rule in
     all_popped ports c.loop.order learned.0 (subst (λ (v : Hand). Holds ports v learned.0) c.loop.invariant.1 learned.1)
-        (omega (arith, c.loop.invariant.2, c.loop-test.false, c.loop.auto.counter-end, c.requires.count))
+    (omega (arith, c.loop.invariant.2, c.loop-test.false, c.loop.auto.counter-end, c.requires.count))
