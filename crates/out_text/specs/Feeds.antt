@@ -175,15 +175,15 @@ pub record IsFedPart (workers : ℕ) (bytes : List ℕ) (k : ℕ) (whole_with : 
 -- a write failed at the text of a frame
 pub record IsFedCutFrame (workers : ℕ) (bytes : List ℕ) (order : Option (List ℕ)) (last : Option (List Entry)) (text : List ℕ)
     : Type 0 where
-    pub k : ℕ
-    pub some : 1 ≤ k
-    pub cut : IsFedPart workers bytes k (fed_text bytes) order last text
+  pub k : ℕ
+  pub some : 1 ≤ k
+  pub cut : IsFedPart workers bytes k (fed_text bytes) order last text
 
 -- a write failed at the text of the last frame and the last line
 pub record IsFedCutEnd (workers : ℕ) (bytes : List ℕ) (order : Option (List ℕ)) (last : Option (List Entry)) (text : List ℕ)
     : Type 0 where
-    pub accepted : fault bytes ≡ None
-    pub cut : IsFedPart workers bytes (length (frames_of bytes)) (fed_output bytes) order last text
+  pub accepted : fault bytes ≡ None
+  pub cut : IsFedPart workers bytes (length (frames_of bytes)) (fed_output bytes) order last text
 
 -- a write failed in a text; `order` and `last` are the order of arrival and the journal of the last frame that was run
 abbrev pub IsFedCut : ℕ → List ℕ → Option (List ℕ) → Option (List Entry) → List ℕ → Type 0
@@ -204,6 +204,6 @@ pub record IsFedSome (workers : ℕ) (bytes text : List ℕ) : Type 0 where
 -- none
 pub record HasLastFed (Is : List ℕ → Type 0) (bytes : List ℕ) (order : Option (List ℕ)) (last : Option (List Entry))
     (text : List ℕ) : Type 0 where
-    pub holds : Is text
-    pub order_is : IsLastOrder order (take (length (froms text)) (frames_of bytes)) (froms text)
-    pub last_is : last ≡ last_of (dids text)
+  pub holds : Is text
+  pub order_is : IsLastOrder order (take (length (froms text)) (frames_of bytes)) (froms text)
+  pub last_is : last ≡ last_of (dids text)
