@@ -31,7 +31,7 @@ use Rattle.demo_make.proofs.ResentKept.{resent-back}
 use Rattle.out_text.specs.Collecting.{frames_of}
 use Rattle.out_text.specs.FrameLines.{lines_with, run_lines}
 use Rattle.out_text.specs.Journals.{dids}
-use Rattle.out_text.specs.OutLines.{OutLine, FrameLine, NoLine, JoinedLine, DidLine, ToLine, EndLine, spelled, text_of}
+use Rattle.out_text.specs.OutLines.{OutLine, FrameLine, FromLine, NoLine, JoinedLine, DidLine, ToLine, EndLine, spelled, text_of}
 use Rattle.out_text.specs.Output.{lines_in, AreRightIn, IsOutput}
 use Rattle.out_text.specs.PacketLines.{refusals_in}
 use Rattle.out_text.specs.Reading.{line_in}
@@ -95,6 +95,7 @@ record AreKept (seed players frames frame n : ℕ) (state : State) (arrivals : L
 refusals-append : (xs ys : List OutLine) → refusals_in (xs ++ ys) ≡ refusals_in xs ++ refusals_in ys
 refusals-append [] ys = refl
 refusals-append (FrameLine frame ∷ xs) ys = refusals-append xs ys
+refusals-append (FromLine port bytes ∷ xs) ys = refusals-append xs ys
 refusals-append (NoLine place why ∷ xs) ys = ap (λ (ts : List Refused). record { place = place; why = why } ∷ ts) (refusals-append xs ys)
 refusals-append (JoinedLine port slot ∷ xs) ys = refusals-append xs ys
 refusals-append (DidLine did ∷ xs) ys = refusals-append xs ys
@@ -176,6 +177,7 @@ unread line quiet = by (line_in (spelled line)) refl
   where
     differ : (place : ℕ) (why : Refusal) (l : OutLine) → refusals_in (l ∷ []) ≡ [] → spelled l ≡ spelled (NoLine place why) → ⊥
     differ place why (FrameLine frame) q e = let h : 102 ≡ 110 = ap first-byte e in omega (arith, h)
+    differ place why (FromLine port bytes) q e = let h : 102 ≡ 110 = ap first-byte e in omega (arith, h)
     differ place why (NoLine other reason) q e = cc
     differ place why (JoinedLine port slot) q e = let h : 106 ≡ 110 = ap first-byte e in omega (arith, h)
     differ place why (DidLine did) q e = let h : 100 ≡ 110 = ap first-byte e in omega (arith, h)
@@ -185,6 +187,7 @@ unread line quiet = by (line_in (spelled line)) refl
     by : (o : Option OutLine) → line_in (spelled line) ≡ o → is_no_line o ≡ false
     by None e = refl
     by (Some (FrameLine frame)) e = refl
+    by (Some (FromLine port bytes)) e = refl
     by (Some (NoLine place why)) e = absurd (differ place why line quiet (line-sound (spelled line) (NoLine place why) e).spelled)
     by (Some (JoinedLine port slot)) e = refl
     by (Some (DidLine did)) e = refl
@@ -193,6 +196,7 @@ unread line quiet = by (line_in (spelled line)) refl
 
 refusals-tail : (line : OutLine) (lines : List OutLine) → refusals_in (line ∷ lines) ≡ [] → (refusals_in (line ∷ []) ≡ []) × (refusals_in lines ≡ [])
 refusals-tail (FrameLine frame) lines none = (refl, none)
+refusals-tail (FromLine port bytes) lines none = (refl, none)
 refusals-tail (NoLine place why) lines none = cc
 refusals-tail (JoinedLine port slot) lines none = (refl, none)
 refusals-tail (DidLine did) lines none = (refl, none)

@@ -16,7 +16,7 @@ use Rattle.plain_server.specs.RecordsById.{opening}
 use Rattle.plain_server.specs.Replies.{players_in}
 use Rattle.plain_server.specs.Frames.{received_in, moved_by, state_after}
 use Rattle.out_text.specs.Dids.{did_of}
-use Rattle.out_text.specs.OutLines.{OutLine, FrameLine, NoLine, JoinedLine, DidLine, ToLine, EndLine}
+use Rattle.out_text.specs.OutLines.{OutLine, FrameLine, FromLine, NoLine, JoinedLine, DidLine, ToLine, EndLine}
 use Rattle.out_text.specs.FrameLines.{no_line, joined_line, did_line, to_line, to_lines, frame_lines, lines_with, run_lines}
 use Rattle.out_text.specs.PacketLines as packet_lines
 use Rattle.out_text.proofs.OneAnswer.{one_answer_each}
@@ -29,6 +29,7 @@ use Rattle.match_play.specs.Laws.{TotalsAreOfTheOutput}
 dids-append : (xs ys : List OutLine) → dids_in (xs ++ ys) ≡ dids_in xs ++ dids_in ys
 dids-append [] ys = refl
 dids-append (FrameLine frame ∷ xs) ys = dids-append xs ys
+dids-append (FromLine port bytes ∷ xs) ys = dids-append xs ys
 dids-append (NoLine place why ∷ xs) ys = dids-append xs ys
 dids-append (JoinedLine port slot ∷ xs) ys = dids-append xs ys
 dids-append (DidLine did ∷ xs) ys = ap (λ ds. did ∷ ds) (dids-append xs ys)
@@ -38,6 +39,7 @@ dids-append (EndLine frames ∷ xs) ys = dids-append xs ys
 frames-append : (xs ys : List OutLine) → frames_in (xs ++ ys) ≡ frames_in xs ++ frames_in ys
 frames-append [] ys = refl
 frames-append (FrameLine frame ∷ xs) ys = ap (λ ns. frame ∷ ns) (frames-append xs ys)
+frames-append (FromLine port bytes ∷ xs) ys = frames-append xs ys
 frames-append (NoLine place why ∷ xs) ys = frames-append xs ys
 frames-append (JoinedLine port slot ∷ xs) ys = frames-append xs ys
 frames-append (DidLine did ∷ xs) ys = frames-append xs ys
@@ -47,6 +49,7 @@ frames-append (EndLine frames ∷ xs) ys = frames-append xs ys
 joins-more : (xs ys : List OutLine) → length (packet_lines.joins_in (xs ++ ys)) ≡ length (packet_lines.joins_in xs) + length (packet_lines.joins_in ys)
 joins-more [] ys = omega arith
 joins-more (FrameLine frame ∷ xs) ys = joins-more xs ys
+joins-more (FromLine port bytes ∷ xs) ys = joins-more xs ys
 joins-more (NoLine place why ∷ xs) ys = joins-more xs ys
 joins-more (JoinedLine port slot ∷ xs) ys = omega (arith, joins-more xs ys)
 joins-more (DidLine did ∷ xs) ys = joins-more xs ys
@@ -56,6 +59,7 @@ joins-more (EndLine frames ∷ xs) ys = joins-more xs ys
 refusals-more : (xs ys : List OutLine) → length (packet_lines.refusals_in (xs ++ ys)) ≡ length (packet_lines.refusals_in xs) + length (packet_lines.refusals_in ys)
 refusals-more [] ys = omega arith
 refusals-more (FrameLine frame ∷ xs) ys = refusals-more xs ys
+refusals-more (FromLine port bytes ∷ xs) ys = refusals-more xs ys
 refusals-more (NoLine place why ∷ xs) ys = omega (arith, refusals-more xs ys)
 refusals-more (JoinedLine port slot ∷ xs) ys = refusals-more xs ys
 refusals-more (DidLine did ∷ xs) ys = refusals-more xs ys

@@ -9,7 +9,7 @@ use Rattle.plain_server.specs.Frames.{AreRight}
 use Rattle.demo_make.specs.GeneratedMap.{generated_map}
 use Rattle.demo_make.specs.GeneratedFrames.{IsInRange}
 use Rattle.demo_make.specs.ResentFrames.{resent_frames, resent_text}
-use Rattle.out_text.specs.OutLines.{OutLine, FrameLine, NoLine, JoinedLine, DidLine, ToLine, EndLine}
+use Rattle.out_text.specs.OutLines.{OutLine, FrameLine, FromLine, NoLine, JoinedLine, DidLine, ToLine, EndLine}
 use Rattle.out_text.specs.Reading.{line_in}
 use Rattle.out_text.specs.Journals.{dids}
 use Rattle.out_text.specs.Output.{IsOutput}
@@ -32,6 +32,7 @@ pub record HasEachCommandOnce (players frames : ℕ) (journals : List (List Entr
 abbrev pub is_no_line : Option OutLine → Bool
 is_no_line None = false
 is_no_line (Some (FrameLine frame)) = false
+is_no_line (Some (FromLine port bytes)) = false
 is_no_line (Some (NoLine place why)) = true
 is_no_line (Some (JoinedLine port slot)) = false
 is_no_line (Some (DidLine did)) = false

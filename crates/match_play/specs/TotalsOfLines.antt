@@ -5,7 +5,7 @@ use Rattle.client_ports.specs.Clients.{client_at}
 use Rattle.client_ports.specs.States.{State}
 use Rattle.frame_phases.specs.Scores.{score_at}
 use Rattle.out_text.specs.Dids.{Did}
-use Rattle.out_text.specs.OutLines.{OutLine, FrameLine, NoLine, JoinedLine, DidLine, ToLine, EndLine}
+use Rattle.out_text.specs.OutLines.{OutLine, FrameLine, FromLine, NoLine, JoinedLine, DidLine, ToLine, EndLine}
 use Rattle.out_text.specs.PacketLines as packet_lines
 use Rattle.match_play.specs.declared.totals.Totals.{Totals}
 
@@ -13,6 +13,7 @@ use Rattle.match_play.specs.declared.totals.Totals.{Totals}
 abbrev pub dids_in : List OutLine → List Did
 dids_in [] = []
 dids_in (FrameLine frame ∷ lines) = dids_in lines
+dids_in (FromLine port bytes ∷ lines) = dids_in lines
 dids_in (NoLine place why ∷ lines) = dids_in lines
 dids_in (JoinedLine port slot ∷ lines) = dids_in lines
 dids_in (DidLine did ∷ lines) = did ∷ dids_in lines
@@ -23,6 +24,7 @@ dids_in (EndLine frames ∷ lines) = dids_in lines
 abbrev pub frames_in : List OutLine → List ℕ
 frames_in [] = []
 frames_in (FrameLine frame ∷ lines) = frame ∷ frames_in lines
+frames_in (FromLine port bytes ∷ lines) = frames_in lines
 frames_in (NoLine place why ∷ lines) = frames_in lines
 frames_in (JoinedLine port slot ∷ lines) = frames_in lines
 frames_in (DidLine did ∷ lines) = frames_in lines

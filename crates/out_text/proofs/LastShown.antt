@@ -31,7 +31,7 @@ use Rattle.plain_server.specs.Ends.{HasNoEntryOf, IsLastEntry, IsAsReported}
 use Rattle.plain_server.proofs.Frames.{received_is, moved_by_is}
 use Rattle.plain_server.proofs.Ending.{moved_in, kept_in}
 use Rattle.out_text.specs.Dids.{Did, did_of}
-use Rattle.out_text.specs.OutLines.{OutLine, FrameLine, NoLine, JoinedLine, DidLine, ToLine, EndLine}
+use Rattle.out_text.specs.OutLines.{OutLine, FrameLine, FromLine, NoLine, JoinedLine, DidLine, ToLine, EndLine}
 use Rattle.out_text.specs.FrameLines.{no_line, joined_line, did_line, to_line, to_lines, frame_lines, lines_with}
 use Rattle.out_text.specs.ToLines.{Reply, replies_in, reply_to}
 use Rattle.out_text.specs.LastMoves.{moves_in, IsLastMove, IsShownAt, IsLiveAt}
@@ -43,6 +43,7 @@ use Rattle.out_text.proofs.OneReply.{at_front, entries_of, one_reply}
 moves-append : (xs ys : List OutLine) → moves_in (xs ++ ys) ≡ moves_in xs ++ moves_in ys
 moves-append [] ys = refl
 moves-append (FrameLine frame ∷ xs) ys = moves-append xs ys
+moves-append (FromLine port bytes ∷ xs) ys = moves-append xs ys
 moves-append (NoLine place why ∷ xs) ys = moves-append xs ys
 moves-append (JoinedLine port slot ∷ xs) ys = moves-append xs ys
 moves-append (DidLine did ∷ xs) ys = ap (λ (ds : List Did). did ∷ ds) (moves-append xs ys)

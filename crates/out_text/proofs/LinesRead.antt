@@ -19,12 +19,14 @@ use Rattle.client_ports.specs.declared.refusal.Refusal.{Refusal}
 use Rattle.client_ports.specs.declared.refusal.Refusal.TheVariants.{Packet, Already, Full, Crowded, NotJoined, Leaving, Old, Many}
 use Rattle.packet_read.specs.declared.packet_fault.PacketFault.{PacketFault}
 use Rattle.packet_read.specs.declared.packet_fault.PacketFault.TheVariants.{Empty, Version, Kind, Short, Long, Time, Buttons, Count}
-use Rattle.hex.specs.Hex.{encode_lower}
+use Rattle.hex.specs.Hex.{encode_lower, lower_digits}
+use Rattle.hex.proofs.HexLemmas.{length-encode_with}
 use Rattle.out_text.specs.Dids.{Did}
-use Rattle.out_text.specs.OutLines.{OutLine, FrameLine, NoLine, JoinedLine, DidLine, ToLine, EndLine, name_of, ids_text, spelled}
+use Rattle.out_text.specs.OutLines.{OutLine, FrameLine, FromLine, NoLine, JoinedLine, DidLine, ToLine, EndLine, name_of, ids_text, spelled}
+use Rattle.demo_lines.specs.Spelling.{packet_text}
 use Rattle.out_text.specs.Journals.{number_at, all_there, ids_in, alone, is_coordinate}
 use Rattle.out_text.specs.Ranges.{IsInRange, IsPrinted, HasRoom}
-use Rattle.out_text.specs.Reading.{passing, within, coordinate_at, origin_at, few_ids, refusals, refusal_of, bytes_in, frame_in, no_in, joined_in, did_line_in, to_in, end_in, line_in}
+use Rattle.out_text.specs.Reading.{passing, within, coordinate_at, origin_at, few_ids, refusals, refusal_of, bytes_in, packet_in, frame_in, from_in, no_in, joined_in, did_line_in, to_in, end_in, line_in}
 use Rattle.out_text.proofs.Spellings.{AreIds, joined, ids-read}
 use Rattle.out_text.proofs.HexTexts.{hex-back, hex-sound, hex-above}
 
@@ -152,12 +154,35 @@ few-back ids are few =
     let within : nat_le (length ids) 8 ≡ true = grind (arith, nat_tests, few) in
     ap few_ids (ids-read ids (are_ids ids are)) ∙ rw within refl
 
+-- the digits of a byte and more are no dash
+not_dash : (b : ℕ) (bytes : List ℕ) → bytes_eq (encode_lower (b ∷ bytes)) (codes "-") ≡ false
+not_dash b bytes = by (bytes_eq (encode_lower (b ∷ bytes)) (codes "-")) refl
+  where
+    by : (dash : Bool) → bytes_eq (encode_lower (b ∷ bytes)) (codes "-") ≡ dash → dash ≡ false
+    by true e =
+        let long = ap length ((bytes_eq-Decides (encode_lower (b ∷ bytes)) (codes "-")).0 e) in
+        absurd (omega (arith, long, length-encode_with lower_digits (b ∷ bytes)))
+    by false e = refl
+
+-- a packet is read back
+packet-back : (bytes : List ℕ) → length bytes ≤ 252 → AllByRecursion (λ b. b < 2 ^ 8) bytes → packet_in (packet_text bytes) ≡ Some bytes
+packet-back [] few are = refl
+packet-back (b ∷ bytes) few are =
+    let within : nat_le (length (b ∷ bytes)) 252 ≡ true = grind (arith, nat_tests, few) in
+    let no_dash : bytes_eq (encode_lower (b ∷ bytes)) (codes "-") ≡ false = not_dash b bytes in
+    rw no_dash (ap (passing (λ (l : List ℕ). nat_le (length l) 252)) (hex-back (b ∷ bytes) (omega arith) (omega (arith, few)) are) ∙ rw within refl)
+
+packet_above : (bytes : List ℕ) → AllByRecursion (λ b. b < 2 ^ 8) bytes → AreAbove 32 (packet_text bytes)
+packet_above [] are = above (packet_text []) refl
+packet_above (b ∷ bytes) are = hex-above (b ∷ bytes) are
+
 -- ---- the whole line
 
 -- what the rest of a line says, by its first word
 abbrev by_word : List ℕ × List ℕ → Option OutLine
 by_word parts =
     if bytes_eq parts.0 (codes "frame") then frame_in parts.1
+    else if bytes_eq parts.0 (codes "from") then from_in parts.1
     else if bytes_eq parts.0 (codes "no") then no_in parts.1
     else if bytes_eq parts.0 (codes "joined") then joined_in parts.1
     else if bytes_eq parts.0 (codes "did") then did_line_in parts.1
@@ -208,6 +233,15 @@ line-back (NoLine place why) is =
     ∙ goes_on (field_at name) (name_of why, []) (λ field. refusal_of field.0 >>= (λ other. alone (NoLine place other) field.1))
     (field_at-field (name_of why) [] (above (name_of why) (name_above why)) tt)
     ∙ goes_on (refusal_of (name_of why)) why (λ other. alone (NoLine place other) []) (name-back why)
+line-back (FromLine port bytes) is =
+    let fits = is.port_fits in
+    let text = field_text (packet_text bytes) ++ [] in
+    word-back (codes "from") (field_text (decimal port) ++ text) (spelled (FromLine port bytes)) refl refl
+    (two_fields (codes "from ") (decimal port) (packet_text bytes))
+    ∙ goes_on (number_at 65535 (field_text (decimal port) ++ text)) (port, text) _ (number-back 65535 port text (omega (arith, fits)) (omega arith) refl)
+    ∙ goes_on (field_at text) (packet_text bytes, []) (λ field. packet_in field.0 >>= (λ read. alone (FromLine port read) field.1))
+    (field_at-field (packet_text bytes) [] (packet_above bytes is.are_bytes) tt)
+    ∙ goes_on (packet_in (packet_text bytes)) bytes (λ read. alone (FromLine port read) []) (packet-back bytes is.most is.are_bytes)
 line-back (JoinedLine port slot) is =
     let fits = is.port_fits in
     let small = is.slot_fits in
@@ -479,6 +513,45 @@ to-sound rest l h =
           ∙ sym (two_fields (codes "to ") (decimal slot.at.0) (encode_lower bytes.at));
     })
 
+-- a packet was read
+record ReadsPacket (text bytes : List ℕ) : Type 0 where
+  spelled : text ≡ packet_text bytes
+  most : length bytes ≤ 252
+  are : AllByRecursion (λ b. b < 2 ^ 8) bytes
+
+packet-sound : (text bytes : List ℕ) → packet_in text ≡ Some bytes → ReadsPacket text bytes
+packet-sound text bytes h = by (bytes_eq text (codes "-")) refl h
+  where
+    spelled_so : (xs : List ℕ) → 1 ≤ length xs → encode_lower xs ≡ packet_text xs
+    spelled_so [] some = absurd (omega arith)
+    spelled_so (x ∷ xs) some = refl
+
+    by : (dash : Bool) → bytes_eq text (codes "-") ≡ dash → cond dash (Some []) (passing (λ (l : List ℕ). nat_le (length l) 252) (bytes_in text)) ≡ Some bytes
+        → ReadsPacket text bytes
+    by true e g = subst (λ (l : List ℕ). ReadsPacket text l) (same [] bytes g) (record { spelled = (bytes_eq-Decides text (codes "-")).0 e; most = omega arith; are = tt })
+    by false e g =
+        let parts = passed (λ (l : List ℕ). nat_le (length l) 252) (bytes_in text) bytes g in
+        let hex = hex-sound text bytes parts.0 in
+        record { spelled = hex.spelled ∙ spelled_so bytes hex.some; most = leb-true (length bytes) 252 parts.1; are = hex.are }
+
+from-sound : (rest : List ℕ) (l : OutLine) → from_in rest ≡ Some l → IsPrinted (codes "from" ++ rest) l
+from-sound rest l h =
+    let port = binds (number_at 65535 rest) _ l h in
+    let field = binds (field_at port.at.1) _ l port.gives in
+    let bytes = binds (packet_in field.at.0) _ l field.gives in
+    let read = number-sound 65535 rest port.at (omega arith) port.is in
+    let packet = packet-sound field.at.0 bytes.at bytes.is in
+    let last = alone-sound (FromLine port.at.0 bytes.at) l field.at.1 bytes.gives in
+    let few = read.most in
+    subst (λ (k : OutLine). IsPrinted (codes "from" ++ rest) k) last.1
+    (record {
+      in_range = record { port_fits = omega (arith, few); most = packet.most; are_bytes = packet.are };
+      spelled =
+          ap (λ r. codes "from" ++ r) (read.spelled ∙ ap (λ t. field_text (decimal port.at.0) ++ t)
+          (field_at-whole port.at.1 field.at field.is ∙ ap (λ t. field_text field.at.0 ++ t) last.0 ∙ ap (λ t. field_text t ++ []) packet.spelled))
+          ∙ sym (two_fields (codes "from ") (decimal port.at.0) (packet_text bytes.at));
+    })
+
 did-sound : (rest : List ℕ) (l : OutLine) → did_line_in rest ≡ Some l → IsPrinted (codes "did" ++ rest) l
 did-sound rest l h =
     let slot = binds (number_at 255 rest) _ l h in
@@ -519,11 +592,12 @@ by_first first word rest here others l h is isnt = by (bytes_eq first word) refl
 word-sound : (f r : List ℕ) (l : OutLine) → by_word (f, r) ≡ Some l → IsPrinted (f ++ r) l
 word-sound f r l h =
     by_first f (codes "frame") r _ _ l h (frame-sound r l) (λ h2.
-    by_first f (codes "no") r _ _ l h2 (no-sound r l) (λ h3.
-    by_first f (codes "joined") r _ _ l h3 (joined-sound r l) (λ h4.
-    by_first f (codes "did") r _ _ l h4 (did-sound r l) (λ h5.
-    by_first f (codes "to") r _ _ l h5 (to-sound r l) (λ h6.
-    by_first f (codes "end") r _ _ l h6 (end-sound r l) (λ h7. nothing h7))))))
+    by_first f (codes "from") r _ _ l h2 (from-sound r l) (λ h3.
+    by_first f (codes "no") r _ _ l h3 (no-sound r l) (λ h4.
+    by_first f (codes "joined") r _ _ l h4 (joined-sound r l) (λ h5.
+    by_first f (codes "did") r _ _ l h5 (did-sound r l) (λ h6.
+    by_first f (codes "to") r _ _ l h6 (to-sound r l) (λ h7.
+    by_first f (codes "end") r _ _ l h7 (end-sound r l) (λ h8. nothing h8)))))))
   where
     nothing : None ≡ Some l → IsPrinted (f ++ r) l
     nothing e = cc
@@ -548,6 +622,7 @@ printed_read line l is = ap line_in is.spelled ∙ line-back l is.in_range
 -- a line in range can be printed
 pub has_room : (l : OutLine) → IsInRange l → HasRoom l
 has_room (FrameLine frame) is = tt
+has_room (FromLine port bytes) is = is.most
 has_room (NoLine place why) is = tt
 has_room (JoinedLine port slot) is = tt
 has_room (DidLine d) is = tt

@@ -31,7 +31,7 @@ use Rattle.client_ports.proofs.NewMoves.{read-few}
 use Rattle.client_ports.proofs.Facts.{one_answer}
 use Rattle.client_ports.proofs.Counts.{moves_of_commands, packets_answered}
 use Rattle.plain_server.specs.Frames.{state_after_tick, received_in, moved_by}
-use Rattle.out_text.specs.OutLines.{OutLine, FrameLine, NoLine, JoinedLine, DidLine, ToLine, EndLine}
+use Rattle.out_text.specs.OutLines.{OutLine, FrameLine, FromLine, NoLine, JoinedLine, DidLine, ToLine, EndLine}
 use Rattle.out_text.specs.FrameLines.{no_line, joined_line, did_line, to_line, to_lines, frame_lines}
 use Rattle.out_text.specs.PacketLines.{refusals_in, joins_in, place_of, HasOneCommandAtMost}
 use Rattle.out_text.specs.Laws.{FramesAnswerTheirPackets}
@@ -41,6 +41,7 @@ use Rattle.out_text.specs.Laws.{FramesAnswerTheirPackets}
 refusals-append : (xs ys : List OutLine) → refusals_in (xs ++ ys) ≡ refusals_in xs ++ refusals_in ys
 refusals-append [] ys = refl
 refusals-append (FrameLine frame ∷ xs) ys = refusals-append xs ys
+refusals-append (FromLine port bytes ∷ xs) ys = refusals-append xs ys
 refusals-append (NoLine place why ∷ xs) ys = ap (λ ts. record { place = place; why = why } ∷ ts) (refusals-append xs ys)
 refusals-append (JoinedLine port slot ∷ xs) ys = refusals-append xs ys
 refusals-append (DidLine did ∷ xs) ys = refusals-append xs ys
@@ -50,6 +51,7 @@ refusals-append (EndLine frames ∷ xs) ys = refusals-append xs ys
 joins-append : (xs ys : List OutLine) → joins_in (xs ++ ys) ≡ joins_in xs ++ joins_in ys
 joins-append [] ys = refl
 joins-append (FrameLine frame ∷ xs) ys = joins-append xs ys
+joins-append (FromLine port bytes ∷ xs) ys = joins-append xs ys
 joins-append (NoLine place why ∷ xs) ys = joins-append xs ys
 joins-append (JoinedLine port slot ∷ xs) ys = ap (λ js. record { port = port; slot = slot } ∷ js) (joins-append xs ys)
 joins-append (DidLine did ∷ xs) ys = joins-append xs ys

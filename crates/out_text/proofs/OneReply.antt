@@ -14,7 +14,7 @@ use Rattle.plain_server.specs.Frames.{received_in, moved_by}
 use Rattle.plain_server.specs.Replies.{players_in}
 use Rattle.plain_server.proofs.Frames.{received_is, moved_by_is}
 use Rattle.plain_server.proofs.SlotPlayers.{players_are_first}
-use Rattle.out_text.specs.OutLines.{OutLine, FrameLine, NoLine, JoinedLine, DidLine, ToLine, EndLine}
+use Rattle.out_text.specs.OutLines.{OutLine, FrameLine, FromLine, NoLine, JoinedLine, DidLine, ToLine, EndLine}
 use Rattle.out_text.specs.FrameLines.{no_line, joined_line, did_line, to_line, to_lines, frame_lines}
 use Rattle.out_text.specs.ToLines.{Reply, replies_in, reply_to, HasOneReplyEach}
 use Rattle.out_text.specs.Laws.{FramesHaveOneReplyEach}
@@ -22,6 +22,7 @@ use Rattle.out_text.specs.Laws.{FramesHaveOneReplyEach}
 replies-append : (xs ys : List OutLine) → replies_in (xs ++ ys) ≡ replies_in xs ++ replies_in ys
 replies-append [] ys = refl
 replies-append (FrameLine frame ∷ xs) ys = replies-append xs ys
+replies-append (FromLine port bytes ∷ xs) ys = replies-append xs ys
 replies-append (NoLine place why ∷ xs) ys = replies-append xs ys
 replies-append (JoinedLine port slot ∷ xs) ys = replies-append xs ys
 replies-append (DidLine did ∷ xs) ys = replies-append xs ys

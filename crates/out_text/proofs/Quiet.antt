@@ -16,7 +16,8 @@ use Rattle.client_ports.specs.declared.refusal.Refusal.TheVariants.{Packet, Alre
 use Rattle.packet_read.specs.declared.packet_fault.PacketFault.{PacketFault}
 use Rattle.packet_read.specs.declared.packet_fault.PacketFault.TheVariants.{Empty, Version, Kind, Short, Long, Time, Buttons, Count}
 use Rattle.out_text.specs.Dids.{Did, journal_from}
-use Rattle.out_text.specs.OutLines.{OutLine, FrameLine, NoLine, JoinedLine, DidLine, ToLine, EndLine, fault_name_of, name_of, ids_text, spelled, text_of}
+use Rattle.out_text.specs.OutLines.{OutLine, FrameLine, FromLine, NoLine, JoinedLine, DidLine, ToLine, EndLine, fault_name_of, name_of, ids_text, spelled, text_of}
+use Rattle.demo_lines.specs.Spelling.{packet_text}
 use Rattle.out_text.specs.Journals.{Mark, Other, frame_mark, did_mark, number_at, did_in, mark_of, Split, onto, split_at_frames, dids}
 
 -- ---- bytes among which none passes a test
@@ -89,6 +90,10 @@ unfolding encode_with
 Unbroken-encode t [] none = tt
 Unbroken-encode t (b ∷ bytes) none = (read_is_no_feed t (b / 16) none, (read_is_no_feed t (b % 16) none, Unbroken-encode t bytes none))
 
+Unbroken-packet : (bytes : List ℕ) → Unbroken (packet_text bytes)
+Unbroken-packet [] = (refl, tt)
+Unbroken-packet (b ∷ bytes) = Unbroken-encode lower_digits (b ∷ bytes) (none_where is_line_feed lower_digits refl)
+
 Unbroken-fault : (fault : PacketFault) → Unbroken (fault_name_of fault)
 Unbroken-fault Empty = none_where is_line_feed (codes "Empty") refl
 Unbroken-fault Version = none_where is_line_feed (codes "Version") refl
@@ -132,6 +137,8 @@ Unbroken-did e =
 
 Unbroken-spelled : (line : OutLine) → Unbroken (spelled line)
 Unbroken-spelled (FrameLine frame) = Unbroken-numbered (codes "frame ") frame refl
+Unbroken-spelled (FromLine port bytes) =
+    Unbroken-spaced (codes "from " ++ decimal port) (packet_text bytes) (Unbroken-numbered (codes "from ") port refl) (Unbroken-packet bytes)
 Unbroken-spelled (NoLine place why) =
     Unbroken-spaced (codes "no " ++ decimal place) (name_of why) (Unbroken-numbered (codes "no ") place refl) (Unbroken-name why)
 Unbroken-spelled (JoinedLine port slot) =
@@ -203,6 +210,7 @@ mark-word word rest none = ap (mark_by (word ++ 32 ∷ rest)) (cut-word word res
 -- the line opens no frame and reports no move
 abbrev pub IsSilent : OutLine → Type 0
 IsSilent (FrameLine frame) = ⊥
+IsSilent (FromLine port bytes) = ⊤
 IsSilent (NoLine place why) = ⊤
 IsSilent (JoinedLine port slot) = ⊤
 IsSilent (DidLine did) = ⊥
@@ -211,6 +219,7 @@ IsSilent (EndLine frames) = ⊤
 
 mark-silent : (line : OutLine) → IsSilent line → mark_of (spelled line) ≡ Other
 mark-silent (FrameLine frame) silent = absurd silent
+mark-silent (FromLine port bytes) silent = mark-word (codes "from") (decimal port ++ codes " " ++ packet_text bytes) (none_where is_space (codes "from") refl)
 mark-silent (NoLine place why) silent = mark-word (codes "no") (decimal place ++ codes " " ++ name_of why) (none_where is_space (codes "no") refl)
 mark-silent (JoinedLine port slot) silent = mark-word (codes "joined") (decimal port ++ codes " " ++ decimal slot) (none_where is_space (codes "joined") refl)
 mark-silent (DidLine did) silent = absurd silent

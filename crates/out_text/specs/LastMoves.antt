@@ -6,13 +6,14 @@ use Rattle.world_tree.specs.Live.{record_at}
 use Rattle.snapshot_write.specs.declared.snapshot.Snapshot.{Snapshot}
 use Rattle.snapshot_write.specs.Reading.{reading}
 use Rattle.out_text.specs.Dids.{Did}
-use Rattle.out_text.specs.OutLines.{OutLine, FrameLine, NoLine, JoinedLine, DidLine, ToLine, EndLine}
+use Rattle.out_text.specs.OutLines.{OutLine, FrameLine, FromLine, NoLine, JoinedLine, DidLine, ToLine, EndLine}
 use Rattle.out_text.specs.ToLines.{Reply, replies_in}
 
 -- what the `did` lines among lines report, in their order
 abbrev pub moves_in : List OutLine → List Did
 moves_in [] = []
 moves_in (FrameLine frame ∷ lines) = moves_in lines
+moves_in (FromLine port bytes ∷ lines) = moves_in lines
 moves_in (NoLine place why ∷ lines) = moves_in lines
 moves_in (JoinedLine port slot ∷ lines) = moves_in lines
 moves_in (DidLine did ∷ lines) = did ∷ moves_in lines

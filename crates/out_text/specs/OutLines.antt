@@ -3,6 +3,7 @@ use Rattle.std.specs.Prelude.{ℕ, List, [], ◌∷◌, ◌++◌, map, flat_map,
 use Rattle.std.specs.List.{join_with_byte}
 use Rattle.std.specs.Fmt.{signed_decimal}
 use Rattle.hex.specs.Hex.{encode_lower}
+use Rattle.demo_lines.specs.Spelling.{packet_text}
 use Rattle.client_ports.specs.declared.refusal.Refusal.{Refusal}
 use Rattle.client_ports.specs.declared.refusal.Refusal.TheVariants.{Packet, Already, Full, Crowded, NotJoined, Leaving}
 use Rattle.client_ports.specs.declared.refusal.Refusal.TheVariants.{Old, Many}
@@ -14,6 +15,7 @@ use Rattle.out_text.specs.Dids.{Did}
 -- one line of the output
 pub data OutLine : Type 0 where
   FrameLine : (frame : ℕ) → OutLine
+  FromLine : (port : ℕ) → (bytes : List ℕ) → OutLine
   NoLine : (place : ℕ) → (why : Refusal) → OutLine
   JoinedLine : (port : ℕ) → (slot : ℕ) → OutLine
   DidLine : (did : Did) → OutLine
@@ -50,6 +52,7 @@ ids_text (id ∷ ids) = join_with_byte 44 (map decimal (id ∷ ids))
 -- a line without its line feed
 abbrev pub spelled : OutLine → List ℕ
 spelled (FrameLine frame) = codes "frame " ++ decimal frame
+spelled (FromLine port bytes) = codes "from " ++ decimal port ++ codes " " ++ packet_text bytes
 spelled (NoLine place why) = codes "no " ++ decimal place ++ codes " " ++ name_of why
 spelled (JoinedLine port slot) = codes "joined " ++ decimal port ++ codes " " ++ decimal slot
 spelled (DidLine e) =

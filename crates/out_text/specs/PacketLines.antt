@@ -11,12 +11,13 @@ use Rattle.client_ports.specs.Lists.{Lists}
 use Rattle.client_ports.specs.States.{State}
 use Rattle.client_ports.specs.Receiving.{Receiving}
 use Rattle.client_ports.specs.Frames.{leaver_count, is_some_move, command_count, HaveFewMoves}
-use Rattle.out_text.specs.OutLines.{OutLine, FrameLine, NoLine, JoinedLine, DidLine, ToLine, EndLine}
+use Rattle.out_text.specs.OutLines.{OutLine, FrameLine, FromLine, NoLine, JoinedLine, DidLine, ToLine, EndLine}
 
 -- what the `no` lines among lines say, in their order
 abbrev pub refusals_in : List OutLine → List Refused
 refusals_in [] = []
 refusals_in (FrameLine frame ∷ lines) = refusals_in lines
+refusals_in (FromLine port bytes ∷ lines) = refusals_in lines
 refusals_in (NoLine place why ∷ lines) = record { place = place; why = why } ∷ refusals_in lines
 refusals_in (JoinedLine port slot ∷ lines) = refusals_in lines
 refusals_in (DidLine did ∷ lines) = refusals_in lines
@@ -27,6 +28,7 @@ refusals_in (EndLine frames ∷ lines) = refusals_in lines
 abbrev pub joins_in : List OutLine → List Joined
 joins_in [] = []
 joins_in (FrameLine frame ∷ lines) = joins_in lines
+joins_in (FromLine port bytes ∷ lines) = joins_in lines
 joins_in (NoLine place why ∷ lines) = joins_in lines
 joins_in (JoinedLine port slot ∷ lines) = record { port = port; slot = slot } ∷ joins_in lines
 joins_in (DidLine did ∷ lines) = joins_in lines

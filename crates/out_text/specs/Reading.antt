@@ -11,7 +11,7 @@ use Rattle.client_ports.specs.declared.refusal.Refusal.TheVariants.{Packet, Alre
 use Rattle.client_ports.specs.declared.refusal.Refusal.TheVariants.{Old, Many}
 use Rattle.packet_read.specs.declared.packet_fault.PacketFault.TheVariants.{Empty, Version, Kind, Short, Long, Time}
 use Rattle.packet_read.specs.declared.packet_fault.PacketFault.TheVariants.{Buttons, Count}
-use Rattle.out_text.specs.OutLines.{OutLine, FrameLine, NoLine, JoinedLine, DidLine, ToLine, EndLine, name_of}
+use Rattle.out_text.specs.OutLines.{OutLine, FrameLine, FromLine, NoLine, JoinedLine, DidLine, ToLine, EndLine, name_of}
 use Rattle.out_text.specs.Journals.{number_at, all_there, ids_in, alone, is_coordinate}
 
 -- the value, where it passes the test
@@ -77,11 +77,23 @@ without_error (Err e) = None
 abbrev pub bytes_in : List ℕ → Option (List ℕ)
 bytes_in text = if is_hex_text text then without_error (decode_of text) else None
 
+-- the bytes of a packet: a dash for none, or the digits of at most 252
+abbrev pub packet_in : List ℕ → Option (List ℕ)
+packet_in text =
+    if bytes_eq text (codes "-") then Some [] else passing (λ bytes. nat_le (length bytes) 252) (bytes_in text)
+
 -- what the rest of a line says after its first word
 abbrev pub frame_in : List ℕ → Option OutLine
 frame_in rest = do
   frame ← number_at 4294967295 rest
   alone (FrameLine frame.0) frame.1
+
+abbrev pub from_in : List ℕ → Option OutLine
+from_in rest = do
+  port ← number_at 65535 rest
+  text ← field_at port.1
+  bytes ← packet_in text.0
+  alone (FromLine port.0 bytes) text.1
 
 abbrev pub no_in : List ℕ → Option OutLine
 no_in rest = do
@@ -121,6 +133,7 @@ end_in rest = do
 abbrev pub line_in : List ℕ → Option OutLine
 line_in line =
     if bytes_eq (cut line).0 (codes "frame") then frame_in (cut line).1
+    else if bytes_eq (cut line).0 (codes "from") then from_in (cut line).1
     else if bytes_eq (cut line).0 (codes "no") then no_in (cut line).1
     else if bytes_eq (cut line).0 (codes "joined") then joined_in (cut line).1
     else if bytes_eq (cut line).0 (codes "did") then did_line_in (cut line).1

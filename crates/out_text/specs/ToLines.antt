@@ -4,7 +4,7 @@ use Rattle.std.specs.List.Sorted.{IsStrictlyIncreasing}
 use Rattle.entity_recs.specs.declared.rec.Rec.{Rec}
 use Rattle.world_tree.specs.Live.{live_in}
 use Rattle.snapshot_write.specs.Snapshots.{snapshot}
-use Rattle.out_text.specs.OutLines.{OutLine, FrameLine, NoLine, JoinedLine, DidLine, ToLine, EndLine}
+use Rattle.out_text.specs.OutLines.{OutLine, FrameLine, FromLine, NoLine, JoinedLine, DidLine, ToLine, EndLine}
 
 -- the bytes that are sent to a slot
 pub record Reply : Type 0 where
@@ -15,6 +15,7 @@ pub record Reply : Type 0 where
 abbrev pub replies_in : List OutLine → List Reply
 replies_in [] = []
 replies_in (FrameLine frame ∷ lines) = replies_in lines
+replies_in (FromLine port bytes ∷ lines) = replies_in lines
 replies_in (NoLine place why ∷ lines) = replies_in lines
 replies_in (JoinedLine port slot ∷ lines) = replies_in lines
 replies_in (DidLine did ∷ lines) = replies_in lines

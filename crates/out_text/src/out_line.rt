@@ -13,6 +13,13 @@ use entity_recs::{Entry, IdList};
 pub enum OutLine<'a> {
     /// A frame begins, which has this number.
     Frame(u32),
+    /// A packet arrived, where the order of arrival is printed.
+    From {
+        /// The port that sent it.
+        port: u16,
+        /// Its bytes.
+        bytes: &'a [u8],
+    },
     /// A packet was refused.
     No {
         /// The place of the packet among those of its frame, from 0 on.

@@ -2,8 +2,9 @@ ghost use Rattle.std.specs.Prelude.{◌≡◌, ◌+◌, ◌*◌, ◌/◌, ◌%�
 ghost use Rattle.std.specs.Fmt.{signed_decimal};
 ghost use Rattle.snapshot_write.specs.declared.reply_buf.TheConstants.{REPLY_ROOM};
 ghost use Rattle.hex.specs.Hex.{encode_lower, lower_digits};
+ghost use Rattle.demo_lines.specs.Spelling.{packet_text};
 ghost use Rattle.out_text.specs.OutLines as lines;
-ghost use Rattle.out_text.specs.OutLines.{FrameLine, NoLine, JoinedLine, DidLine, ToLine, EndLine};
+ghost use Rattle.out_text.specs.OutLines.{FrameLine, FromLine, NoLine, JoinedLine, DidLine, ToLine, EndLine};
 ghost use Rattle.out_text.specs.Ranges.{HasRoom};
 ghost use Rattle.out_text.specs.Printing.{line_of};
 
@@ -119,7 +120,7 @@ fn push_each(out: &mut LineBuf, bytes: &[u8])
     }
 }
 
-/// Puts the digits of a snapshot last, those of eight bytes at a time.
+/// Puts the digits of a text of bytes last, those of eight bytes at a time.
 fn push_digits(out: &mut LineBuf, bytes: &[u8])
     requires { length out.old + 2 * length bytes.now ≤ ROOM }
     ensures { out.new ≡ out.old ++ encode_lower bytes.now }
@@ -139,6 +140,30 @@ fn print_frame(frame: u32, out: &mut LineBuf)
 {
     out.extend(b"frame ");
     push_number(out, frame);
+}
+
+/// Puts the digits of a packet last, or a dash where it has no bytes.
+fn push_packet(out: &mut LineBuf, bytes: &[u8])
+    requires { length out.old + 1 + 2 * length bytes.now ≤ ROOM }
+    ensures { out.new ≡ out.old ++ packet_text bytes.now }
+{
+    if bytes.is_empty() {
+        out.extend(b"-");
+    } else {
+        push_digits(out, bytes);
+    }
+}
+
+/// Prints the line of a packet that arrived.
+fn print_from(port: u16, bytes: &[u8], out: &mut LineBuf)
+    requires empty { out.old ≡ [] }
+    requires short { length bytes.now ≤ 252 }
+    ensures { out.new ≡ lines.spelled (FromLine port bytes.now) }
+{
+    out.extend(b"from ");
+    push_number(out, u32::from(port));
+    out.extend(b" ");
+    push_packet(out, bytes);
 }
 
 /// Prints the line of a refused packet.
@@ -199,8 +224,8 @@ fn print_end(frames: u32, out: &mut LineBuf)
     push_number(out, frames);
 }
 
-/// Prints a line, without its line feed, into `out`, which is empty. The snapshot of a `to` line has at least one byte,
-/// and fits a reply. It takes no memory.
+/// Prints a line, without its line feed, into `out`, which is empty. The packet of a `from` line has at most 252 bytes;
+/// the snapshot of a `to` line has at least one byte, and fits a reply. It takes no memory.
 pub fn print_line(l: &OutLine, out: &mut LineBuf)
     requires empty { out.old ≡ [] }
     requires room { HasRoom (line_of l.now) }
@@ -208,6 +233,7 @@ pub fn print_line(l: &OutLine, out: &mut LineBuf)
 {
     match l {
         OutLine::Frame(frame) => print_frame(*frame, out),
+        OutLine::From { port, bytes } => print_from(*port, bytes, out),
         OutLine::No { place, why } => print_no(*place, *why, out),
         OutLine::Joined { port, slot } => print_joined(*port, *slot, out),
         OutLine::Did {

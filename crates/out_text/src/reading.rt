@@ -15,7 +15,7 @@ use arena_geo::Vec3;
 use client_ports::Refusal;
 use edge_io::{cut, field_at, natural};
 use entity_recs::IdList;
-use packet_read::PacketFault;
+use packet_read::{MOST_BYTES, PacketFault};
 use snapshot_write::{REPLY_ROOM, ReplyBuf};
 
 /// How many digits the longest snapshot takes.
@@ -224,6 +224,37 @@ fn read_bytes(text: &[u8], bytes: &mut ReplyBuf) -> bool
     true
 }
 
+/// Puts the bytes of a packet into `bytes`, which is empty, or answers false: a dash is none, and else the text is the
+/// digits of at most 252.
+fn read_packet_bytes(text: &[u8], bytes: &mut ReplyBuf) -> bool
+    requires { bytes.old ≡ [] }
+    ensures { reading.packet_in text.now ≡ (if result then Some bytes.new else None) }
+{
+    if text == b"-".as_slice() {
+        return true;
+    }
+    read_bytes(text, bytes) && bytes.as_slice().len() <= MOST_BYTES
+}
+
+/// The line of a packet, whose bytes are put into `bytes`.
+fn from_in<'a>(rest: &[u8], bytes: &'a mut ReplyBuf) -> Option<OutLine<'a>>
+    requires { bytes.old ≡ [] }
+    ensures { option_map line_of result ≡ reading.from_in rest.now }
+{
+    let (port, rest) = number_at(rest, 65_535)?;
+    let (text, rest) = field_at(rest)?;
+    if !read_packet_bytes(text, bytes) {
+        return None;
+    }
+    alone(
+        OutLine::From {
+            port: port as u16,
+            bytes: bytes.as_slice(),
+        },
+        rest,
+    )
+}
+
 /// The line of a snapshot, whose bytes are put into `bytes`.
 fn to_in<'a>(rest: &[u8], bytes: &'a mut ReplyBuf) -> Option<OutLine<'a>>
     requires { bytes.old ≡ [] }
@@ -259,6 +290,8 @@ fn line_in<'a>(line: &[u8], bytes: &'a mut ReplyBuf) -> Option<OutLine<'a>>
     let (word, rest) = cut(line);
     if word == b"frame".as_slice() {
         frame_in(rest)
+    } else if word == b"from".as_slice() {
+        from_in(rest, bytes)
     } else if word == b"no".as_slice() {
         no_in(rest)
     } else if word == b"joined".as_slice() {
@@ -274,11 +307,12 @@ fn line_in<'a>(line: &[u8], bytes: &'a mut ReplyBuf) -> Option<OutLine<'a>>
     }
 }
 
-/// The line of the output that is printed so, without its line feed. The bytes of a snapshot are put into `bytes`,
-/// which is empty.
+/// The line of the output that is printed so, without its line feed. The bytes of a packet or a snapshot are put into
+/// `bytes`, which is empty.
 ///
 /// There is none exactly where no line in range is printed so: numbers in decimal digits without a leading zero, single
-/// spaces, at most 8 ids, and 1 to 4,123 bytes of a snapshot in lower-case digits. It takes no memory.
+/// spaces, at most 8 ids, and 1 to 4,123 bytes of a snapshot or at most 252 of a packet in lower-case digits. It takes no
+/// memory.
 pub fn read_line<'a>(line: &[u8], bytes: &'a mut ReplyBuf) -> Option<OutLine<'a>>
     requires { bytes.old ≡ [] }
     // What is read is printed so, and is in range.

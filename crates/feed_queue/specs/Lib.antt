@@ -1,0 +1,5 @@
+-- The definitions of the order of arrival from two feeders.
+pub mod Orders
+pub mod Hands
+pub mod Rule
+pub mod Laws

@@ -1,0 +1,35 @@
+-- The order in which the packets of a frame arrive from two feeders.
+use Rattle.std.specs.Prelude.{◌≡◌, ℕ, ◌%◌, ◌≤◌, ◌==◌, Bool, List, length, map, filter_map, slice_get, slice_index}
+use Rattle.std.specs.List.{filter, range_with_len}
+use Rattle.packet_read.specs.declared.arrival.Arrival.{Arrival}
+
+-- the ports of packets, in their order
+abbrev pub ports_of : List Arrival → List ℕ
+ports_of arrivals = map (λ (a : Arrival). a.port) arrivals
+
+-- the packet at this place is sent by this feeder: its port leaves the feeder's number when it is divided by 2
+abbrev pub is_of : List ℕ → ℕ → ℕ → Bool
+is_of ports feeder place = slice_index ports place % 2 == feeder
+
+-- the places of a feeder below a number, as they rise
+abbrev pub places_below : List ℕ → ℕ → ℕ → List ℕ
+places_below ports feeder n = filter (is_of ports feeder) (range_with_len 0 n)
+
+-- these are the ports of a frame's packets, of which there are at most 512, and a queue has room for all of them
+pub record Fit (ports : List ℕ) (capacity : ℕ) (arrivals : List Arrival) : Type 0 where
+  pub ports_are : ports ≡ ports_of arrivals
+  pub room : length ports ≤ capacity
+  pub few : length arrivals ≤ 512
+
+-- the places of each feeder stand in this order as they rise, each once, and no other place does
+pub record IsOrder (ports order : List ℕ) : Type 0 where
+  pub evens : filter (is_of ports 0) order ≡ places_below ports 0 (length ports)
+  pub odds : filter (is_of ports 1) order ≡ places_below ports 1 (length ports)
+
+-- the packet comes from this port
+abbrev pub is_from : ℕ → Arrival → Bool
+is_from port a = a.port == port
+
+-- the packets in this order
+abbrev pub in_order : List ℕ → List Arrival → List Arrival
+in_order order arrivals = filter_map (λ place. slice_get arrivals place) order

@@ -1,0 +1,94 @@
+ghost use Rattle.std.specs.Prelude.{◌≡◌, ◌≤◌, Some, [], length, IfOk};
+ghost use Rattle.crossbeam_queue.specs.Passes.{view, IsPassOf, ruled_capacity};
+ghost use Rattle.feed_queue.specs.Hands.{hand, feeder_hand};
+ghost use Rattle.feed_queue.specs.Orders.{ports_of, places_below, Fit, IsOrder};
+
+use crate::gate::FeedGate;
+use crate::hand::{Evens, Gets, Hand, Line, Odds, Ported};
+use crate::place_list::PlaceList;
+use crate::sending::feed;
+use crossbeam_queue::Pass;
+use packet_read::Arrival;
+use std::alloc::{AllocError, Global};
+use std::marker::Brand;
+use std::sync::Wait;
+use std::thread;
+use std::thread::Threads;
+
+/// Reads a queue to its end, which has all places that the feeders have pushed.
+fn read_all<N: Ported, R: Wait>(
+    rt: &R,
+    line: &Line<N>,
+    mut pass: Pass<u32, Hand>,
+    count: usize,
+) -> PlaceList
+    requires pass { IsPassOf line.now pass }
+    requires fed { view pass ≡ hand (Some (places_below N.ports 0 (length N.ports)))
+        (Some (places_below N.ports 1 (length N.ports))) (Some []) }
+    requires count { count ≡ length N.ports }
+    requires few { count ≤ 512 }
+    ensures { IsOrder N.ports result }
+{
+    let mut order = PlaceList::new();
+    for _ in 0..count {
+        let Some(place) = line.pop_as::<Gets<N>, R>(rt, &mut pass) else {
+            unreachable!();
+        };
+        let _ = order.push(place);
+    }
+    line.learn_as::<Gets<N>>(&mut pass);
+    order
+}
+
+/// The order in which two feeders send these packets, with the ports picked.
+fn gather_as<N: Ported + Send + Sync, R: Threads + Wait + Sync, F: FeedGate>(
+    rt: &R,
+    alloc: Global,
+    arrivals: &[Arrival],
+    gate: &F,
+) -> Result<PlaceList, AllocError>
+    requires ports { N.ports ≡ ports_of arrivals.now }
+    requires few { length arrivals.now ≤ 512 }
+    ensures { IfOk result (IsOrder N.ports) }
+{
+    let (queue, mut pass) = Line::<N>::ruled(alloc, arrivals.len().max(1))?;
+    let line = &queue;
+    let evens = line.another::<Evens>(&mut pass);
+    let odds = line.another::<Odds>(&mut pass);
+    let (evens, odds) = thread::join(
+        rt,
+        move ||
+            requires { IsPassOf line.now evens × (view evens ≡ feeder_hand 0 [])
+                × Fit N.ports (ruled_capacity line.now) arrivals.now }
+            ensures { IsPassOf line.entry.now result
+                × (view result ≡ feeder_hand 0 (places_below N.ports 0 (length N.ports))) }
+        { feed::<N, R, F>(rt, line, evens, 0, arrivals, gate) },
+        move ||
+            requires { IsPassOf line.now odds × (view odds ≡ feeder_hand 1 [])
+                × Fit N.ports (ruled_capacity line.now) arrivals.now }
+            ensures { IsPassOf line.entry.now result
+                × (view result ≡ feeder_hand 1 (places_below N.ports 1 (length N.ports))) }
+        { feed::<N, R, F>(rt, line, odds, 1, arrivals, gate) },
+    );
+    line.absorb::<Evens>(&mut pass, evens);
+    line.absorb::<Odds>(&mut pass, odds);
+    Ok(read_all::<N, R>(rt, line, pass, arrivals.len()))
+}
+
+/// The order in which two client threads send these packets, as places in `arrivals`: feeder 0 sends those of even ports
+/// and feeder 1 those of odd ports, each in their order. The gate is called after each packet by the feeder that has sent
+/// it.
+///
+/// All memory is taken before a feeder starts: the queue has room for all packets, so none is refused. The only error is
+/// that memory is refused.
+pub fn gather<R: Threads + Wait + Sync, F: FeedGate>(
+    rt: &R,
+    alloc: Global,
+    arrivals: &[Arrival],
+    gate: &F,
+) -> Result<PlaceList, AllocError>
+    requires { length arrivals.now ≤ 512 }
+    ensures { IfOk result (IsOrder (ports_of arrivals.now)) }
+{
+    gather_as::<Brand, R, F>(rt, alloc, arrivals, gate)
+}

@@ -1,0 +1,16 @@
+//! The order of arrival of a frame's packets, as two client threads send them.
+#![tactic(auto)]
+
+pub use gate::{FeedGate, NoFeedGate};
+pub use gathering::gather;
+pub use laws::{orders_have_each_place_once, orders_keep_each_port};
+pub use place_list::{MOST_PLACES, PlaceList};
+
+mod gate;
+mod gathering;
+mod hand;
+mod laws;
+mod place_list;
+mod sending;
+#[cfg(test)]
+mod tests;
