@@ -21,3 +21,4 @@ pub mod LinesBack
 pub mod Given
 pub mod Joins
 pub mod LongestRecording
+pub mod RestLines

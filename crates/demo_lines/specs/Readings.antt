@@ -38,6 +38,7 @@ HasMap (Refused why) r = ⊤
 -- what holds of each reading of a recording
 pub record IsReading (r : Reading) : Type 0 where
   pub map : HasMap r.stage r
-  pub frames : r.frames ≤ 100000
+  pub limit : r.limit ≤ 100000
+  pub frames : r.frames ≤ r.limit
   pub arrivals : r.arrivals ≤ 512
   pub lines : r.lines + lines_left r ≤ 51301282

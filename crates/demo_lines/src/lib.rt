@@ -12,6 +12,7 @@ pub use laws::{
 pub use line::Line;
 pub use line_fault::LineFault;
 pub use reading::{MOST_ARRIVALS, MOST_FRAMES};
+pub use rest::{LONGEST_REST, RestBuf};
 pub use stage::Stage;
 pub use word::Word;
 
@@ -23,5 +24,6 @@ mod line;
 mod line_fault;
 mod packet;
 mod reading;
+mod rest;
 mod stage;
 mod word;
