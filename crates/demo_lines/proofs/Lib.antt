@@ -22,3 +22,4 @@ pub mod Given
 pub mod Joins
 pub mod LongestRecording
 pub mod RestLines
+pub mod Limits
