@@ -23,3 +23,5 @@ pub mod Joins
 pub mod LongestRecording
 pub mod RestLines
 pub mod Limits
+pub mod Continuing
+pub mod Counting

@@ -285,6 +285,7 @@ impl DemoReader {
 
         // What the reader keeps.
         ensures map { OnOk result (KeepsMap self.old.reading self.new.reading) }
+        ensures cut { self.new.cut ≡ self.old.cut }
         ensures ok { OnOk result (self.new.stop ≡ None) }
         ensures err { IfErr result (λ stop. self.new.stop ≡ Some stop) }
         ensures stopped { IfSome self.old.stop (λ stop.

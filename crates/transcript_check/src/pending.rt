@@ -1,5 +1,11 @@
+ghost use Rattle.std.specs.Prelude.{◌≡◌, ◌<◌, ◌≤◌, ◌↔◌, [], ◌==◌, false, length, map, All, IsTrue, IfOk, IfSome, None};
+ghost use Rattle.std.specs.List.{AllByRecursion};
+ghost use Rattle.entity_recs.specs.Commands.{command_of};
+ghost use Rattle.transcript_check.specs.Moves.{IsNextOf};
+
 use entity_recs::Cmd;
 use std::alloc::{AllocError, Global};
+use std::marker::Model;
 
 /// The most moves of a frame: 8 for each of 64 slots.
 const MOST_MOVES: usize = 512;
@@ -10,16 +16,33 @@ pub struct Pending {
     moves: Vec<Cmd>,
 }
 
+impl Model for Pending {
+    ghost use Rattle.std.specs.Prelude.{List, ◌≤◌, map, vec_capacity};
+    ghost use Rattle.entity_recs.specs.Commands.{Command, command_of};
+    ghost use Rattle.transcript_check.specs.declared.pending.TheConstants.{MOST_MOVES};
+
+    ghost Value = { List Command };
+
+    ghost view = { λ p. map command_of p.moves.items };
+
+    ghost invariant = { λ p. MOST_MOVES ≤ vec_capacity p.moves };
+}
+
 impl Pending {
     /// No move. The only error is that memory is refused.
-    pub fn new(alloc: Global) -> Result<Pending, AllocError> {
+    pub fn new(alloc: Global) -> Result<Pending, AllocError>
+        ensures { IfOk result (λ pending. pending ≡ []) }
+    {
         Ok(Pending {
             moves: Vec::with_capacity(alloc, MOST_MOVES)?,
         })
     }
 
     /// Has these moves, and no others.
-    pub fn set(&mut self, moves: &[Cmd]) {
+    pub fn set(&mut self, moves: &[Cmd])
+        requires { length moves.now ≤ MOST_MOVES }
+        ensures { self.new ≡ map command_of moves.now }
+    {
         self.moves.clear();
         for cmd in moves {
             self.moves.push_reserved(*cmd);
@@ -27,12 +50,18 @@ impl Pending {
     }
 
     /// Whether there is none.
-    pub fn is_empty(&self) -> bool {
+    pub fn is_empty(&self) -> bool
+        ensures { IsTrue result ↔ (self.now ≡ []) }
+    {
         self.moves.is_empty()
     }
 
     /// Takes out the first move of a slot, if it has one.
-    pub fn take_first_of(&mut self, slot: u8) -> Option<Cmd> {
+    pub fn take_first_of(&mut self, slot: u8) -> Option<Cmd>
+        ensures some { IfSome result (λ cmd. IsNextOf self.old (command_of cmd) self.new) }
+        ensures slot { IfSome result (λ cmd. cmd.slot ≡ slot) }
+        ensures none { result ≡ None → AllByRecursion (λ c. (c.slot == slot) ≡ false) self.old }
+    {
         let place = self.moves.iter().position(|cmd| cmd.slot == slot)?;
         Some(self.moves.remove(place))
     }
