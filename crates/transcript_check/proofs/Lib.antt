@@ -5,3 +5,9 @@ pub mod Turns
 pub mod ReadingOn
 pub mod InRange
 pub mod MovesRead
+pub mod Firsts
+pub mod Others
+pub mod Stating
+pub mod Replies
+pub mod Moving
+pub mod Recording

@@ -10,6 +10,8 @@ use Rattle.entity_recs.specs.declared.effect.Entry.{Entry}
 use Rattle.entity_recs.specs.Commands.{Command}
 use Rattle.entity_recs.specs.Histories.{commands_of}
 use Rattle.move_journal.specs.Merges.{IsRight, history_of}
+use Rattle.move_journal.proofs.Uniques.{legal_at_first}
+use Rattle.move_journal.proofs.Orders.{legal_from_first}
 use Rattle.arena_map.specs.Maps.{MapView, IsMap}
 use Rattle.arena_map.specs.Validity.{IsValidWorld}
 use Rattle.arena_actions.specs.Outcomes.{outcome_on}
@@ -19,7 +21,7 @@ use Rattle.plain_server.proofs.Moves.{moved-none, moved-records}
 use Rattle.demo_lines.specs.Reads.{DemoReaderView}
 use Rattle.demo_lines.specs.Rest.{HasRest, HasNoRestLine}
 use Rattle.out_text.specs.FrameLines.{did_line}
-use Rattle.out_text.specs.OutLines.{OutLine, spelled, printed, text_of}
+use Rattle.out_text.specs.OutLines.{OutLine, FrameLine, NoLine, JoinedLine, DidLine, ToLine, EndLine, spelled, printed, text_of}
 use Rattle.out_text.specs.Dids.{Did}
 use Rattle.out_text.specs.Transcripts.{BeginsWith}
 use Rattle.out_text.proofs.Runs.{text_of-append}
@@ -67,21 +69,21 @@ pub record IsOne (c d : Command) (left other : List Command) : Type 0 where
 
 one-split : (before : List Command) (c : Command) (after : List Command) (other : List Command) (d : Command) (rest : List Command) → AllByRecursion (λ x. (x.slot == c.slot) ≡ false) before
     → AllByRecursion (λ x. (x.slot == d.slot) ≡ false) other → c.slot ≡ d.slot → before ++ c ∷ after ≡ other ++ d ∷ rest → IsOne c d (before ++ after) (other ++ rest)
-one-split [] c after [] d rest none no same parts = record { command = cc; left_is = cc }
-one-split [] c after (x ∷ other) d rest none no same parts =
+one-split [] c after [] d rest none lacks same parts = record { command = cc; left_is = cc }
+one-split [] c after (x ∷ other) d rest none lacks same parts =
     let first : c ≡ x = cc in
-    let is : (c.slot == d.slot) ≡ false = subst (λ (y : Command). (y.slot == d.slot) ≡ false) (sym first) no.0 in
+    let is : (c.slot == d.slot) ≡ false = subst (λ (y : Command). (y.slot == d.slot) ≡ false) (sym first) lacks.0 in
     let own : (c.slot == d.slot) ≡ true = eq-eqb c.slot d.slot same in
     cc
-one-split (x ∷ before) c after [] d rest none no same parts =
+one-split (x ∷ before) c after [] d rest none lacks same parts =
     let first : x ≡ d = cc in
     let is : (d.slot == c.slot) ≡ false = subst (λ (y : Command). (y.slot == c.slot) ≡ false) first none.0 in
     let own : (d.slot == c.slot) ≡ true = eq-eqb d.slot c.slot (sym same) in
     cc
-one-split (x ∷ before) c after (y ∷ other) d rest none no same parts =
+one-split (x ∷ before) c after (y ∷ other) d rest none lacks same parts =
     let first : x ≡ y = cc in
     let more : before ++ c ∷ after ≡ other ++ d ∷ rest = cc in
-    let is = one-split before c after other d rest none.1 no.1 same more in
+    let is = one-split before c after other d rest none.1 lacks.1 same more in
     record { command = is.command; left_is = (λ i. first i ∷ is.left_is i) }
 
 pub one-next : (pending : List Command) (c d : Command) (left other : List Command) → IsNextOf pending c left → IsNextOf pending d other → c.slot ≡ d.slot → IsOne c d left other
@@ -91,9 +93,102 @@ one-next pending c d left other one two same =
 
 -- none of a player's moves is there
 not-among : (slot : ℕ) (before : List Command) (c : Command) (after : List Command) → AllByRecursion (λ x. (x.slot == slot) ≡ false) (before ++ c ∷ after) → c.slot ≡ slot → ⊥
-not-among slot [] c after none own = let is : (c.slot == slot) ≡ true = eq-eqb c.slot slot own in let no = none.0 in let never : true ≡ false = sym is ∙ no in cc
+not-among slot [] c after none own = let is : (c.slot == slot) ≡ true = eq-eqb c.slot slot own in let lacks = none.0 in let never : true ≡ false = sym is ∙ lacks in cc
 not-among slot (x ∷ before) c after none own = not-among slot before c after none.1 own
 
 pub no-next : (slot : ℕ) (pending : List Command) (c : Command) (left : List Command) → AllByRecursion (λ x. (x.slot == slot) ≡ false) pending → IsNextOf pending c left → c.slot ≡ slot → ⊥
 no-next slot pending c left none next own = not-among slot next.before c next.after (subst (AllByRecursion (λ x. (x.slot == slot) ≡ false)) next.pending_is none) own
 
+-- ---- the lines of a journal
+
+-- two lines of moves that are the same and can be read are of one player
+same-slot : (map_view : MapView) (records : List (Option Rec)) (c d : Command) → IsReadable (move_line map_view records c) → IsReadable (move_line map_view records d)
+    → spelled (move_line map_view records c) ≡ spelled (move_line map_view records d) → c.slot ≡ d.slot
+same-slot map_view records c d is also same = ap slot_of (lines_read.one_line (move_line map_view records c) (move_line map_view records d) is.in_range also.in_range same)
+  where
+    slot_of : OutLine → ℕ
+    slot_of (DidLine did) = did.slot
+    slot_of (FrameLine frame) = 0
+    slot_of (NoLine place why) = 0
+    slot_of (JoinedLine port slot) = 0
+    slot_of (ToLine slot bytes) = 0
+    slot_of (EndLine frames) = 0
+
+module _ {S : Type 0} (s : sources.Ghosts S) (map_view : MapView) (is_map : IsMap map_view) (moves : List Command) (start : List (Option Rec)) where
+  abbrev Right : List Entry → Type 0
+  Right = IsRight (outcome_on map_view) (world_of start) moves
+
+  abbrev RightFirst : List Entry → Type 0
+  RightFirst = IsRightFrom map_view moves 0 start moves
+
+  abbrev lines : List Entry → List OutLine
+  lines = map did_line
+
+  -- a right journal goes on so after these entries
+  pub record GoesOnWith (records : List (Option Rec)) (pending : List Command) (front journal : List Entry) : Type 0 where
+    pub rest : List Entry
+    pub is : journal ≡ front ++ rest
+    pub right : IsRightFrom map_view moves (length front) records pending rest
+
+  -- the lines of these entries were read, and the moves are run so far
+  pub record MovesSoFar (old now : S) (demo demo' : DemoReaderView) (records : List (Option Rec)) (pending : List Command) (first count : ℕ) : Type 0 where
+    pub front : List Entry
+    pub ready : AreReady map_view moves records pending
+    pub small : AllByRecursion HasSmallNumber pending
+    pub moved : HaveMoved map_view start records (commands_of (history_of moves front))
+    pub reads : ReadsLines s old now demo demo' (lines front)
+    pub into : (rest : List Entry) → IsRightFrom map_view moves (length front) records pending rest → RightFirst (front ++ rest)
+    pub out_of : IfSome (ahead_of s demo old) (λ bytes. (journal : List Entry) → RightFirst journal → BeginsWith bytes (text_of (lines journal)) → GoesOnWith records pending front journal)
+    pub count_is : count ≡ counted first (length front)
+
+  pub so-far-first : (old : S) (demo : DemoReaderView) (first : ℕ) → HasRest demo → AreReady map_view moves start moves → AllByRecursion HasSmallNumber moves → MovesSoFar old old demo demo start moves first first
+  so-far-first old demo first may ready small = record {
+    front = [];
+    ready = ready;
+    small = small;
+    moved = moved-none map_view start ready.valid;
+    reads = reads-none s old demo may;
+    into = λ rest right. right;
+    out_of = if_some-all (ahead_of s demo old) _ (λ bytes journal right begins. record { rest = journal; is = refl; right = right });
+    count_is = refl;
+  }
+
+  -- the next line, for a journal that goes on with its move
+  text-with : (front : List Entry) (e : Entry) (rest : List Entry) → text_of (lines (front ++ e ∷ rest)) ≡ text_of (lines front) ++ (printed (did_line e) ++ text_of (lines rest))
+  text-with front e rest = ap text_of (map-append did_line front (e ∷ rest)) ∙ text_of-append (lines front) (did_line e ∷ lines rest)
+
+  module _ (old now : S) (demo demo' : DemoReaderView) (records : List (Option Rec)) (pending : List Command) (first count : ℕ) (so : MovesSoFar old now demo demo' records pending first count) where
+    readable-next : (c : Command) (left : List Command) → IsNextOf pending c left → IsReadable (move_line map_view records c)
+    readable-next c left next =
+        readable map_view records c is_map so.ready.valid (next-has (HasLivePlayer records) pending c left next so.ready.live).0 (next-has HasSmallNumber pending c left next so.small).0
+
+    -- what is ahead begins with the line of the next move of a journal
+    begins-next : (bytes left_bytes : List ℕ) (front rest journal : List Entry) (e : Entry) → bytes ≡ text_of (lines front) ++ left_bytes → journal ≡ front ++ e ∷ rest → BeginsWith bytes (text_of (lines journal))
+        → BeginsWith left_bytes (printed (did_line e))
+    begins-next bytes left_bytes front rest journal e parts is begins =
+        begins-front left_bytes (printed (did_line e)) (text_of (lines rest))
+        (begins-after bytes left_bytes (text_of (lines front)) (printed (did_line e) ++ text_of (lines rest)) parts
+        (subst (BeginsWith bytes) (ap (λ j. text_of (lines j)) is ∙ text-with front e rest) begins))
+
+    -- none of the next moves has its line there
+    pub so-far-missed : (next : S) → pending ≢ [] → Misses s now next demo' (IsNoMove map_view records pending) → Misses s old next demo (HasNoJournal Right lines)
+    so-far-missed next some missed = record {
+      missed = by (if_some-read (ahead_of s demo old) (ahead_of s demo' now) (text_of (lines so.front)) (IsNoMove map_view records pending) Split so.reads.consumed missed.missed
+          (λ bytes left_bytes is none. record { left_bytes = left_bytes; is = is; none = none }));
+      uncounted = missed.uncounted ∙ so.reads.on.uncounted;
+    }
+      where
+        record Split (bytes : List ℕ) : Type 0 where
+          left_bytes : List ℕ
+          is : bytes ≡ text_of (lines so.front) ++ left_bytes
+          none : IsNoMove map_view records pending left_bytes
+        by : IfSome (ahead_of s demo old) Split → IfSome (ahead_of s demo old) (HasNoJournal Right lines)
+        by splits = if_some-weaker (ahead_of s demo old) _ _ (if_some-both (ahead_of s demo old) _ _ splits so.out_of)
+            (λ bytes has journal right begins.
+            let goes = has.1 journal (right-of journal right) begins in
+            let first_move = begins-with_move map_view is_map moves (length so.front) records pending goes.rest some so.ready goes.right in
+            let e = entry_there map_view is_map moves (length so.front) records first_move.c in
+            has.0.none first_move.c first_move.left first_move.next (readable-next first_move.c first_move.left first_move.next)
+            (begins-next bytes has.0.left_bytes so.front first_move.rest journal e has.0.is (goes.is ∙ ap (λ r. so.front ++ r) first_move.journal_is) begins))
+        right-of : (journal : List Entry) → Right journal → RightFirst journal
+        right-of journal right = record { merge = right.merge; legal = legal_at_first (outcome_on map_view) (world_of start) (history_of moves journal) right.legal }

@@ -1,5 +1,5 @@
 -- Lines that are read or missed after others.
-use Rattle.std.proofs.Common.{◌≡◌, ℕ, ◌+◌, ◌-◌, ◌^◌, ◌≤◌, min, List, [], ◌∷◌, ◌++◌, length, Option, Some, IfSome, refl, sym, ap, ◌∙◌, subst, arith, length-append}
+use Rattle.std.proofs.Common.{◌≡◌, ℕ, zero, suc, ◌+◌, ◌-◌, ◌^◌, ◌≤◌, min, List, [], ◌∷◌, ◌++◌, length, Option, Some, IfSome, refl, sym, ap, ◌∙◌, subst, arith, append_assoc, append-nil, length-append}
 use Rattle.std.specs.Io.KnownBytes.{Consumes}
 use Rattle.std.proofs.KnownBytes.{Consumes-nil, Consumes-trans}
 use Rattle.edge_io.specs.declared.source.Source as sources
@@ -15,10 +15,11 @@ use Rattle.transcript_check.proofs.Texts.{text_of-one, read-one, missed-none, mi
 
 -- counts add up
 pub counted-both : (n a b : ℕ) → counted (counted n a) b ≡ counted n (a + b)
-counted-both n a b = omega arith
-
-pub counted-none : (n : ℕ) → n ≤ 2 ^ 64 - 1 → n ≡ counted n 0
-counted-none n most = omega arith
+counted-both n zero b = ap (counted n) (let same : b ≡ 0 + b = omega arith in same)
+counted-both n (suc a) zero = ap (counted n) (let same : suc a ≡ suc a + 0 = omega arith in same)
+counted-both n (suc a) (suc b) =
+    let both : min (min (n + suc a) (2 ^ 64 - 1) + suc b) (2 ^ 64 - 1) ≡ min (n + suc (a + suc b)) (2 ^ 64 - 1) = omega arith in
+    both ∙ ap (counted n) (let same : suc (a + suc b) ≡ suc a + suc b = omega arith in same)
 
 module _ {S : Type 0} (s : sources.Ghosts S) where
   pub on-none : (old : S) (demo : DemoReaderView) → HasRest demo → GoesOn s old old demo demo
@@ -79,3 +80,41 @@ module _ {S : Type 0} (s : sources.Ghosts S) where
   -- none was there
   pub misses-none : (a b : S) (d : DemoReaderView) (l : OutLine) → Misses s a b d HasNoRestLine → length (spelled l) ≤ 16500 → Misses s a b d (λ bytes. BeginsWith bytes (printed l) → ⊥)
   misses-none a b d l none short = record { missed = missed-none (ahead_of s d a) l none.missed short; uncounted = none.uncounted }
+
+-- the first of these lines were read, and those are left
+pub record ReadsSome {S : Type 0} (s : sources.Ghosts S) (old now : S) (demo demo' : DemoReaderView) (first count : ℕ) (all left : List OutLine) : Type 0 where
+  pub front : List OutLine
+  pub reads : ReadsLines s old now demo demo' front
+  pub all_are : all ≡ front ++ left
+  pub count_is : count ≡ counted first (length front)
+
+module _ {S : Type 0} (s : sources.Ghosts S) where
+  pub some-first : (old : S) (demo : DemoReaderView) (count : ℕ) (all left : List OutLine) → HasRest demo → all ≡ left → ReadsSome s old old demo demo count count all left
+  some-first old demo count all left may same = record { front = []; reads = reads-none s old demo may; all_are = same; count_is = refl }
+
+  -- lines more
+  pub some-next : (a b c : S) (d e f : DemoReaderView) (first count count' : ℕ) (all more left : List OutLine) → ReadsSome s a b d e first count all (more ++ left) → ReadsLines s b c e f more
+      → count' ≡ counted count (length more) → ReadsSome s a c d f first count' all left
+  some-next a b c d e f first count count' all more left some reads counts = record {
+    front = some.front ++ more;
+    reads = reads-both s a b c d e f some.front more some.reads reads;
+    all_are = some.all_are ∙ sym (append_assoc some.front more left);
+    count_is = counts ∙ ap (λ n. counted n (length more)) some.count_is ∙ counted-both first (length some.front) (length more)
+        ∙ ap (counted first) (sym (length-append some.front more));
+  }
+
+  -- they are missed
+  pub some-missed : (a b c : S) (d e : DemoReaderView) (first count : ℕ) (all more left : List OutLine) → ReadsSome s a b d e first count all (more ++ left)
+      → Misses s b c e (λ bytes. BeginsWith bytes (text_of more) → ⊥) → Misses s a c d (λ bytes. BeginsWith bytes (text_of all) → ⊥)
+  some-missed a b c d e first count all more left some missed =
+      subst (λ (ls : List OutLine). Misses s a c d (λ bytes. BeginsWith bytes (text_of ls) → ⊥)) (append_assoc some.front more left ∙ sym some.all_are)
+      (misses-front s a c d (some.front ++ more) left (misses-after s a b c d e some.front more some.reads missed))
+
+  -- all were read
+  pub some-all : (a b : S) (d e : DemoReaderView) (first count : ℕ) (all left : List OutLine) → left ≡ [] → ReadsSome s a b d e first count all left → ReadsLines s a b d e all
+  some-all a b d e first count all left none some =
+      subst (ReadsLines s a b d e) (sym (some.all_are ∙ ap (λ ls. some.front ++ ls) none ∙ append-nil some.front)) some.reads
+
+  pub some-count : (a b : S) (d e : DemoReaderView) (first count : ℕ) (all left : List OutLine) → left ≡ [] → ReadsSome s a b d e first count all left → count ≡ counted first (length all)
+  some-count a b d e first count all left none some =
+      some.count_is ∙ ap (λ ls. counted first (length ls)) (sym (some.all_are ∙ ap (λ ls. some.front ++ ls) none ∙ append-nil some.front))

@@ -1,7 +1,8 @@
 -- Texts at the front of bytes, and lines that are read or missed there.
-use Rattle.std.proofs.Common.{◌≡◌, ℕ, ◌+◌, ◌≤◌, ◌<◌, ◌==◌, true, false, List, [], ◌∷◌, ◌++◌, length, Option, Some, None, IfSome, refl, sym, ap, ◌∙◌, subst, append_assoc, append-nil, arith}
+use Rattle.std.proofs.Common.{◌≡◌, ℕ, ◌+◌, ◌≤◌, ◌<◌, ◌==◌, Bool, true, false, List, [], ◌∷◌, ◌++◌, length, map, drop, get_or, zero, suc, add-one, Option, Some, None, IfSome, Result, Ok, Err, IfOk, refl, sym, ap, ◌∙◌, subst, append_assoc, append-nil, arith}
 use Rattle.std.specs.Prelude.{All}
 use Rattle.std.specs.List.{AllByRecursion}
+use Rattle.std.specs.Bool.{OnTrue, OnFalse}
 use Rattle.std.specs.Io.KnownBytes.{Consumes}
 use Rattle.std.proofs.lemmas.List.Elements.{All-head, All-tail}
 use Rattle.edge_io.specs.Lines.{HasNoLineFeed}
@@ -125,3 +126,37 @@ missed-front a front more missed =
 
 pub missed-one : (a : Option (List ℕ)) (l : OutLine) → IfSome a (λ bytes. BeginsWith bytes (printed l) → ⊥) → IfSome a (λ bytes. BeginsWith bytes (text_of (l ∷ [])) → ⊥)
 missed-one a l missed = if_some-weaker a _ _ missed (λ bytes none begins. none (subst (BeginsWith bytes) (text_of-one l) begins))
+
+-- ---- what holds where an answer is false
+
+pub on_false-weaker : (b : Bool) (P Q : Type 0) → OnFalse b P → (P → Q) → OnFalse b Q
+on_false-weaker true P Q p then = tt
+on_false-weaker false P Q p then = then p
+
+pub on_true-weaker : (b : Bool) (P Q : Type 0) → OnTrue b P → (P → Q) → OnTrue b Q
+on_true-weaker true P Q p then = then p
+on_true-weaker false P Q p then = tt
+
+pub ok_false-weaker : {E : Type 0} (r : Result Bool E) (P Q : Type 0) → IfOk r (λ is. OnFalse is P) → (P → Q) → IfOk r (λ is. OnFalse is Q)
+ok_false-weaker (Ok b) P Q p then = on_false-weaker b P Q p then
+ok_false-weaker (Err e) P Q p then = tt
+
+pub ok_true-weaker : {E : Type 0} (r : Result Bool E) (P Q : Type 0) → IfOk r (λ is. OnTrue is P) → (P → Q) → IfOk r (λ is. OnTrue is Q)
+ok_true-weaker (Ok b) P Q p then = on_true-weaker b P Q p then
+ok_true-weaker (Err e) P Q p then = tt
+
+-- the lines that are left, with the first of them
+pub left_cons : {X : Type 0} (f : X → OutLine) (xs : List X) (i : ℕ) (d : X) → i < length xs → map f (drop i xs) ≡ f (get_or xs i d) ∷ map f (drop (i + 1) xs)
+left_cons {X = X} f xs i d inside = ap (map f) (drop-at xs i inside) ∙ ap (λ n. f (get_or xs i d) ∷ map f (drop n xs)) (sym (add-one i))
+  where
+    drop-at : (ys : List X) (k : ℕ) → k < length ys → drop k ys ≡ get_or ys k d ∷ drop (suc k) ys
+    drop-at [] k within = absurd (omega (arith, within))
+    drop-at (y ∷ ys) zero within = refl
+    drop-at (y ∷ ys) (suc k) within = drop-at ys k (omega (arith, within))
+
+-- none are left
+pub left_none : {X : Type 0} (f : X → OutLine) (xs : List X) (i : ℕ) → length xs ≤ i → map f (drop i xs) ≡ []
+left_none f [] zero past = refl
+left_none f [] (suc i) past = refl
+left_none f (x ∷ xs) zero past = absurd (omega (arith, past))
+left_none f (x ∷ xs) (suc i) past = left_none f xs i (omega (arith, past))

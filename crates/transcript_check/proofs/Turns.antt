@@ -88,10 +88,10 @@ next-cons d pending slot seq other has = record {
 
 pub has-next : (pending : List Command) (slot seq : ℕ) (more : List ℕ) → sent_numbers slot pending ≡ seq ∷ more → HasNext pending slot seq
 has-next [] slot seq more sent = cc
-has-next (d ∷ pending) slot seq more sent = by (d.slot == slot) refl
+has-next (d ∷ pending) slot seq more sent = by (d.slot == slot) refl (has-next pending slot seq more)
   where
-    by : (own : Bool) → (d.slot == slot) ≡ own → HasNext (d ∷ pending) slot seq
-    by true e =
+    by : (own : Bool) → (d.slot == slot) ≡ own → (sent_numbers slot pending ≡ seq ∷ more → HasNext pending slot seq) → HasNext (d ∷ pending) slot seq
+    by true e later =
         let whole : d.seq ∷ sent_numbers slot pending ≡ seq ∷ more = rw e at sent in
         record {
           c = d;
@@ -100,9 +100,9 @@ has-next (d ∷ pending) slot seq more sent = by (d.slot == slot) refl
           slot_is = eqb-true d.slot slot e;
           seq_is = first-number d.seq seq (sent_numbers slot pending) more whole;
         }
-    by false e =
+    by false e later =
         let whole : sent_numbers slot pending ≡ seq ∷ more = rw e at sent in
-        next-cons d pending slot seq e (has-next pending slot seq more whole)
+        next-cons d pending slot seq e (later whole)
 
 -- ---- a journal from here on
 

@@ -1,5 +1,5 @@
 -- The moves of a frame, taken in any order in which each player's are in the order sent.
-use Rattle.std.specs.Prelude.{◌≡◌, ℕ, ◌+◌, ◌==◌, ◌<◌, ◌≤◌, ◌^◌, false, List, [], ◌∷◌, ◌++◌, length, map as map_list, Option}
+use Rattle.std.specs.Prelude.{◌≡◌, ℕ, ◌+◌, ◌==◌, ◌<◌, ◌≤◌, ◌^◌, Bool, false, not, List, [], ◌∷◌, ◌++◌, length, map as map_list, Option}
 use Rattle.std.specs.List.{AllByRecursion}
 use Rattle.entity_recs.specs.declared.rec.Rec.{Rec}
 use Rattle.entity_recs.specs.declared.effect.Entry.{Entry}
@@ -19,6 +19,10 @@ use Rattle.out_text.specs.Ranges.{IsInRange}
 use Rattle.out_text.specs.Transcripts.{BeginsWith}
 use Rattle.transcript_check.specs.Reading.{counted, ReadsLines}
 use Rattle.transcript_check.specs.Pieces.{ReadsJournal}
+
+-- the record is another one than that of this slot
+abbrev pub is_other : ℕ → Rec → Bool
+is_other slot r = not (r.id == slot)
 
 -- the command is the first of its player among these, and the others are left without it
 pub record IsNextOf (pending : List Command) (c : Command) (left : List Command) : Type 0 where

@@ -1,5 +1,5 @@
 -- What reading the lines of a transcript takes off what is ahead.
-use Rattle.std.specs.Prelude.{◌≡◌, ℕ, ◌+◌, ◌-◌, ◌^◌, ◌≤◌, min, List, Option, IfSome, length}
+use Rattle.std.specs.Prelude.{◌≡◌, ℕ, zero, suc, ◌+◌, ◌-◌, ◌^◌, ◌≤◌, min, List, Option, IfSome, length}
 use Rattle.std.specs.Io.KnownBytes.{Consumes}
 use Rattle.edge_io.specs.declared.source.Source as sources
 use Rattle.edge_io.specs.Counts.{HasRisen}
@@ -19,7 +19,8 @@ pub record LinesView : Type 0 where
 
 -- a count of lines after so many more; it stops at 2^64 - 1
 abbrev pub counted : ℕ → ℕ → ℕ
-counted count more = min (count + more) (2 ^ 64 - 1)
+counted count zero = count
+counted count (suc more) = min (count + suc more) (2 ^ 64 - 1)
 
 module _ {S : Type 0} (s : sources.Ghosts S) where
   -- what is ahead of the reader

@@ -1,5 +1,5 @@
 ghost use Rattle.std.specs.Prelude.{◌≡◌, ◌<◌, ◌≤◌, [], ◌∷◌, length, map, Some, IfOk, IfErr};
-ghost use Rattle.std.specs.Option.{option_to_list};
+ghost use Rattle.std.specs.Option.{option_map, option_to_list};
 ghost use Rattle.std.specs.Bool.{OnTrue, OnFalse};
 ghost use Rattle.demo_lines.specs.declared.stage.Stage.TheVariants.{Ended};
 ghost use Rattle.demo_lines.specs.Rest.{HasRest, HasNoRestLine};
@@ -50,6 +50,17 @@ impl Model for Lines {
     ghost Value = { LinesView };
 
     ghost view = { λ l. record { given = l.given; wanted = l.wanted; bytes = l.bytes; count = l.count } };
+}
+
+/// Whose move a line reports, if it reports one.
+fn move_of(line: Option<OutLine>) -> Option<Reported>
+    ensures { (d : Did) → option_map line_of line.entry ≡ Some (DidLine d)
+        → result ≡ Some (record { slot = d.slot; seq = d.seq }) }
+{
+    match line {
+        Some(OutLine::Did { slot, seq, .. }) => Some(Reported { slot, seq }),
+        _ => None,
+    }
 }
 
 impl Lines {
@@ -196,7 +207,8 @@ impl Lines {
         Ok(true)
     }
 
-    /// Whose move the line that was read last reports, if it reports one.
+    /// Whose move the line that was read last reports, if it reports one. It is not to be trusted beyond that: only what
+    /// running the move comes to shows whether the line is right.
     pub fn reported(&mut self) -> Option<Reported>
         ensures only { (d : Did) → IsDidInRange d → self.old.given ≡ spelled (DidLine d)
             → result ≡ Some (record { slot = d.slot; seq = d.seq }) }
@@ -204,10 +216,7 @@ impl Lines {
         ensures count { self.new.count ≡ self.old.count }
     {
         self.bytes.clear();
-        match read_line(self.given.as_slice(), &mut self.bytes) {
-            Some(OutLine::Did { slot, seq, .. }) => Some(Reported { slot, seq }),
-            _ => None,
-        }
+        move_of(read_line(self.given.as_slice(), &mut self.bytes))
     }
 
     /// Puts the line of a snapshot, which was written for this slot, in the place of the line that is wanted.

@@ -1,18 +1,20 @@
-ghost use Rattle.std.specs.Prelude.{◌≡◌, ◌<◌, ◌≤◌, [], All, filter, map};
+ghost use Rattle.std.specs.Prelude.{◌≡◌, ◌<◌, ◌≤◌, [], ◌∷◌, ◌++◌, All, filter, length, map, Some, IsSome, ◌^◌};
+ghost use Rattle.std.specs.Option.{option_to_list};
 ghost use Rattle.std.specs.List.Sorted.{IsStrictlyIncreasing};
 ghost use Rattle.entity_recs.specs.declared.effect.NewState.{NewState};
-ghost use Rattle.entity_recs.specs.Records.{IsRecord};
+ghost use Rattle.entity_recs.specs.Records.{IsRecord, with_state};
 ghost use Rattle.entity_recs.specs.Commands.{command_of};
 ghost use Rattle.entity_recs.specs.Worlds.{others_of};
 ghost use Rattle.world_tree.specs.Worlds.{IsLinked, record_of};
 ghost use Rattle.arena_map.specs.Validity.{IsValidWorld};
 ghost use Rattle.plain_server.specs.RecordsById.{world_of};
+ghost use Rattle.transcript_check.specs.Moves.{is_other};
 ghost use Rattle.plain_server.specs.Moving.{HasLivePlayer, effect_among, with_new_states, records_with, records_after};
 
 use arena_actions::ArenaAction;
 use arena_map::ArenaMap;
 use entity_recs::{Cmd, Effect, NewState, Rec, Reply};
-use world_tree::{NearList, World};
+use world_tree::{IDS, NearList, World};
 
 /// Runs moves one after another on a world, each over all other live records.
 #[derive(Drop)]
@@ -22,15 +24,26 @@ pub struct Mover {
 }
 
 /// Puts a record last, if it is another one.
-fn put_other(world: &World, id: u16, slot: u16, others: &mut NearList) {
-    if id == slot {
+fn put_if_other(r: Rec, slot: u16, others: &mut NearList)
+    requires { length others.old < 256 }
+    ensures { others.new ≡ others.old ++ filter (is_other slot) (r ∷ []) }
+{
+    if r.id == slot {
         return;
     }
+    // There are fewer in the list than it has room for.
+    let _fits = others.push(r);
+}
+
+/// Puts the record with this id last, if it is live and another one.
+fn put_other(world: &World, id: u16, slot: u16, others: &mut NearList)
+    requires { length others.old < 256 }
+    ensures { others.new ≡ others.old ++ filter (is_other slot) (option_to_list (record_of world.now id)) }
+{
     let Some(r) = world.get(id) else {
         return;
     };
-    // There are fewer in the list than there are ids, so it has room.
-    let _fits = others.push(r);
+    put_if_other(r, slot, others);
 }
 
 /// Puts the live records but one into the list, in rising id, in the place of what is there.
@@ -38,30 +51,49 @@ fn list_others(world: &World, slot: u16, others: &mut NearList)
     ensures others { others.new ≡ others_of (world_of world.now.records) slot }
     ensures linked { IsLinked world.now }
 {
+    // To ask for the tree is to know that the world is linked, and so that it has 256 places.
+    let _linked = world.tree();
     others.clear();
-    for id in world.live_ids() {
-        put_other(world, *id, slot, others);
+    for id in 0..IDS as u16 {
+        put_other(world, id, slot, others);
     }
+}
+
+/// The record in another state.
+fn in_state(r: Rec, state: u64) -> Rec
+    ensures { result ≡ with_state r state }
+{
+    Rec { state, ..r }
 }
 
 /// Puts the record with this id in another state, if it is live.
-fn put_state(world: &mut World, new: &NewState) {
-    let Some(r) = world.get(new.id) else {
-        return;
-    };
-    world.relink(Rec {
-        state: new.state,
-        ..r
-    });
+fn put_state(world: &mut World, new: &NewState)
+    ensures { world.new.records ≡ with_new_states (new.now ∷ []) world.old.records }
+{
+    if let Some(r) = world.get(new.id) {
+        world.relink(in_state(r, new.state));
+    }
 }
 
-/// Puts records in other states, so that of two states of one record the first is its state then.
+/// Puts records in other states. Of two states of one record the first is put last, and so it is the record's state.
 fn put_states(world: &mut World, states: &[NewState])
     ensures { world.new.records ≡ with_new_states states.now world.old.records }
 {
-    for new in states.iter().rev() {
-        put_state(world, new);
+    let mut left = states.len();
+    while left > 0 {
+        left -= 1;
+        put_state(world, &states[left]);
     }
+}
+
+/// The record of a live player. To read it is to know that its score is a number of 32 bits.
+fn player_in(world: &World, slot: u8) -> Rec
+    requires { IsSome (record_of world.now slot) }
+    ensures player { record_of world.now slot ≡ Some result }
+    ensures score { result.score < 2 ^ 32 }
+    ensures linked { IsLinked world.now }
+{
+    world.get(u16::from(slot)).unwrap()
 }
 
 impl Mover {
@@ -82,8 +114,8 @@ impl Mover {
         ensures effect { result ≡ effect_among self.old.action.map world.now.records (command_of cmd.now) }
         ensures action { self.new.action ≡ self.old.action }
     {
-        let me = world.get(u16::from(cmd.slot)).unwrap();
-        list_others(world, me.id, &mut self.others);
+        let me = player_in(world, cmd.slot);
+        list_others(world, u16::from(cmd.slot), &mut self.others);
         self.action.act(&me, self.others.as_slice(), cmd)
     }
 

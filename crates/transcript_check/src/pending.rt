@@ -1,6 +1,8 @@
-ghost use Rattle.std.specs.Prelude.{◌≡◌, ◌<◌, ◌≤◌, ◌↔◌, [], ◌==◌, false, length, map, All, IsTrue, IfOk, IfSome, None};
+ghost use Rattle.std.specs.Prelude.{◌≡◌, ◌<◌, ◌≤◌, ◌↔◌, [], ◌∷◌, ◌++◌, ◌==◌, false, length, map, position, IsTrue, IfOk};
+ghost use Rattle.std.specs.Prelude.{IfSome, None};
 ghost use Rattle.std.specs.List.{AllByRecursion};
 ghost use Rattle.entity_recs.specs.Commands.{command_of};
+ghost use Rattle.plain_server.specs.Moving.{HasSmallNumber};
 ghost use Rattle.transcript_check.specs.Moves.{IsNextOf};
 
 use entity_recs::Cmd;
@@ -28,6 +30,13 @@ impl Model for Pending {
     ghost invariant = { λ p. MOST_MOVES ≤ vec_capacity p.moves };
 }
 
+/// The place of the first move of a slot.
+fn first_of(moves: &[Cmd], slot: u8) -> Option<usize>
+    ensures { result ≡ position (λ cmd. cmd.slot == slot) moves.now }
+{
+    moves.iter().position(|cmd| cmd.slot == slot)
+}
+
 impl Pending {
     /// No move. The only error is that memory is refused.
     pub fn new(alloc: Global) -> Result<Pending, AllocError>
@@ -38,14 +47,31 @@ impl Pending {
         })
     }
 
+    /// Puts a move last.
+    fn push(&mut self, cmd: Cmd)
+        requires { length self.old < MOST_MOVES }
+        ensures moves { self.new ≡ self.old ++ command_of cmd ∷ [] }
+        ensures small { HasSmallNumber (command_of cmd) }
+    {
+        self.moves.push_reserved(cmd);
+    }
+
+    /// Has no move.
+    fn clear(&mut self)
+        ensures { self.new ≡ [] }
+    {
+        self.moves.clear();
+    }
+
     /// Has these moves, and no others.
     pub fn set(&mut self, moves: &[Cmd])
         requires { length moves.now ≤ MOST_MOVES }
-        ensures { self.new ≡ map command_of moves.now }
+        ensures moves { self.new ≡ map command_of moves.now }
+        ensures small { AllByRecursion HasSmallNumber self.new }
     {
-        self.moves.clear();
+        self.clear();
         for cmd in moves {
-            self.moves.push_reserved(*cmd);
+            self.push(*cmd);
         }
     }
 
@@ -62,7 +88,7 @@ impl Pending {
         ensures slot { IfSome result (λ cmd. cmd.slot ≡ slot) }
         ensures none { result ≡ None → AllByRecursion (λ c. (c.slot == slot) ≡ false) self.old }
     {
-        let place = self.moves.iter().position(|cmd| cmd.slot == slot)?;
+        let place = first_of(&self.moves, slot)?;
         Some(self.moves.remove(place))
     }
 }
