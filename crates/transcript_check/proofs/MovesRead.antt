@@ -32,7 +32,7 @@ use Rattle.transcript_check.specs.Moves.{IsNextOf, move_line, IsReadable, IsNoMo
 use Rattle.transcript_check.proofs.Texts.{one_line, same_line, missed-none, missed-other, text_of-one, begins-after, begins-front, if_some-read, if_some-weaker, if_some-both, if_some-all}
 use Rattle.transcript_check.proofs.ReadingOn.{reads-none, reads-both, counted-both}
 use Rattle.transcript_check.proofs.InRange.{readable}
-use Rattle.transcript_check.proofs.Turns.{AreReady, IsRightFrom, right-none, ready-next, right-cons, entry_there, BeginsWithMove, begins-with_move, moved-next, next-has}
+use Rattle.transcript_check.proofs.Turns.{AreReady, IsRightFrom, right-none, right-empty, ready-next, right-cons, entry_there, BeginsWithMove, begins-with_move, moved-next, next-has}
 
 -- ---- one line
 
@@ -114,6 +114,15 @@ same-slot map_view records c d is also same = ap slot_of (lines_read.one_line (m
     slot_of (ToLine slot bytes) = 0
     slot_of (EndLine frames) = 0
 
+-- what is ahead is a text and then bytes of which P holds
+pub record IsSplit (text : List ℕ) (P : List ℕ → Type 0) (bytes : List ℕ) : Type 0 where
+  pub left : List ℕ
+  pub is : bytes ≡ text ++ left
+  pub holds : P left
+
+pub split-ahead : (a b : Option (List ℕ)) (text : List ℕ) (P : List ℕ → Type 0) → Consumes a b text → IfSome b P → IfSome a (IsSplit text P)
+split-ahead a b text P reads has = if_some-read a b text P (IsSplit text P) reads has (λ bytes left is holds. record { left = left; is = is; holds = holds })
+
 module _ {S : Type 0} (s : sources.Ghosts S) (map_view : MapView) (is_map : IsMap map_view) (moves : List Command) (start : List (Option Rec)) where
   abbrev Right : List Entry → Type 0
   Right = IsRight (outcome_on map_view) (world_of start) moves
@@ -171,24 +180,110 @@ module _ {S : Type 0} (s : sources.Ghosts S) (map_view : MapView) (is_map : IsMa
         (subst (BeginsWith bytes) (ap (λ j. text_of (lines j)) is ∙ text-with front e rest) begins))
 
     -- none of the next moves has its line there
+    -- none of the next moves has its line there
     pub so-far-missed : (next : S) → pending ≢ [] → Misses s now next demo' (IsNoMove map_view records pending) → Misses s old next demo (HasNoJournal Right lines)
-    so-far-missed next some missed = record {
-      missed = by (if_some-read (ahead_of s demo old) (ahead_of s demo' now) (text_of (lines so.front)) (IsNoMove map_view records pending) Split so.reads.consumed missed.missed
-          (λ bytes left_bytes is none. record { left_bytes = left_bytes; is = is; none = none }));
-      uncounted = missed.uncounted ∙ so.reads.on.uncounted;
-    }
+    so-far-missed next some missed =
+        let splits = split-ahead (ahead_of s demo old) (ahead_of s demo' now) (text_of (lines so.front)) (IsNoMove map_view records pending) so.reads.consumed missed.missed in
+        record {
+          missed = if_some-weaker (ahead_of s demo old) _ _ (if_some-both (ahead_of s demo old) _ _ splits so.out_of)
+              (λ bytes has journal right begins.
+              let goes = has.1 journal (right-of journal right) begins in
+              let first_move = begins-with_move map_view is_map moves (length so.front) records pending goes.rest some so.ready goes.right in
+              let e = entry_there map_view is_map moves (length so.front) records first_move.c in
+              has.0.holds first_move.c first_move.left first_move.next (readable-next first_move.c first_move.left first_move.next)
+              (begins-next bytes has.0.left so.front first_move.rest journal e has.0.is (goes.is ∙ ap (λ r. so.front ++ r) first_move.journal_is) begins));
+          uncounted = missed.uncounted ∙ so.reads.on.uncounted;
+        }
       where
-        record Split (bytes : List ℕ) : Type 0 where
-          left_bytes : List ℕ
-          is : bytes ≡ text_of (lines so.front) ++ left_bytes
-          none : IsNoMove map_view records pending left_bytes
-        by : IfSome (ahead_of s demo old) Split → IfSome (ahead_of s demo old) (HasNoJournal Right lines)
-        by splits = if_some-weaker (ahead_of s demo old) _ _ (if_some-both (ahead_of s demo old) _ _ splits so.out_of)
-            (λ bytes has journal right begins.
-            let goes = has.1 journal (right-of journal right) begins in
-            let first_move = begins-with_move map_view is_map moves (length so.front) records pending goes.rest some so.ready goes.right in
-            let e = entry_there map_view is_map moves (length so.front) records first_move.c in
-            has.0.none first_move.c first_move.left first_move.next (readable-next first_move.c first_move.left first_move.next)
-            (begins-next bytes has.0.left_bytes so.front first_move.rest journal e has.0.is (goes.is ∙ ap (λ r. so.front ++ r) first_move.journal_is) begins))
         right-of : (journal : List Entry) → Right journal → RightFirst journal
         right-of journal right = record { merge = right.merge; legal = legal_at_first (outcome_on map_view) (world_of start) (history_of moves journal) right.legal }
+
+    -- the line of a next move was read, and it was run
+    pub so-far-next : (next : S) (demo'' : DemoReaderView) (records' : List (Option Rec)) (pending' : List Command) (count' : ℕ) → TakesMove s map_view now next demo' demo'' records records' pending pending'
+        → count' ≡ counted count 1 → MovesSoFar old next demo demo'' records' pending' first count'
+    so-far-next next demo'' records' pending' count' takes counts =
+        let c = takes.c in
+        let e = entry_there map_view is_map moves (length so.front) records c in
+        let front = so.front ++ e ∷ [] in
+        let more : length front ≡ length so.front + 1 = length-append so.front (e ∷ []) in
+        let made : MovesSoFar old next demo demo'' (records_after map_view records c) pending' first count' = record {
+          front = front;
+          ready = ready-next map_view is_map moves records pending c pending' so.ready takes.next;
+          small = (next-has HasSmallNumber pending c pending' takes.next so.small).1;
+          moved = moved-next map_view is_map moves start records so.front (length so.front) pending c pending' so.ready takes.next so.moved;
+          reads = subst (ReadsLines s old next demo demo'') (sym (map-append did_line so.front (e ∷ [])))
+              (reads-both s old now next demo demo' demo'' (lines so.front) (move_line map_view records c ∷ []) so.reads takes.reads);
+          into = λ rest right.
+              subst RightFirst (sym (append_assoc so.front (e ∷ []) rest))
+              (so.into (e ∷ rest) (right-cons map_view is_map moves (length so.front) records pending c pending' rest so.ready takes.next
+              (subst (λ n. IsRightFrom map_view moves n (records_after map_view records c) pending' rest) more right)));
+          out_of = if_some-weaker (ahead_of s demo old) _ _
+              (if_some-both (ahead_of s demo old) _ _ (split-ahead (ahead_of s demo old) (ahead_of s demo' now) (text_of (lines so.front)) (λ bytes. BeginsWith bytes (printed (move_line map_view records c))) so.reads.consumed
+              (begins-read (ahead_of s demo' now) (ahead_of s demo'' next) (move_line map_view records c) takes.reads.consumed)) so.out_of)
+              (λ bytes has journal right begins. goes-next c takes.next e bytes has.0.left has.0.is has.0.holds journal begins (has.1 journal right begins));
+          count_is = counts ∙ ap (λ n. counted n 1) so.count_is ∙ counted-both first (length so.front) 1 ∙ ap (counted first) (sym more);
+        } in
+        subst (λ rs. MovesSoFar old next demo demo'' rs pending' first count') (sym takes.records_are) made
+      where
+        begins-read : (a b : Option (List ℕ)) (l : OutLine) → Consumes a b (text_of (l ∷ [])) → IfSome a (λ bytes. BeginsWith bytes (printed l))
+        begins-read None b l reads = tt
+        begins-read (Some bytes) None l reads = absurd reads
+        begins-read (Some bytes) (Some left) l reads = record { after = left; is = reads ∙ ap (λ t. t ++ left) (text_of-one l) }
+
+        some-pending : (c : Command) → IsNextOf pending c pending' → pending ≢ []
+        some-pending c is none = no-parts is.before c is.after (sym none ∙ is.pending_is)
+          where
+            no-parts : (before : List Command) (d : Command) (after : List Command) → [] ≡ before ++ d ∷ after → ⊥
+            no-parts [] d after same = cc
+            no-parts (x ∷ before) d after same = cc
+
+        same-line : (left_bytes : List ℕ) (l k : OutLine) → BeginsWith left_bytes (printed l) → BeginsWith left_bytes (printed k) → spelled l ≡ spelled k
+        same-line left_bytes l k one two =
+            (same_line (spelled l) (spelled k) one.after two.after (one_line l) (one_line k)
+            (sym (append_assoc (spelled l) (10 ∷ []) one.after) ∙ sym one.is ∙ two.is ∙ append_assoc (spelled k) (10 ∷ []) two.after)).line_is
+
+        goes-same : (c d : Command) (left other : List Command) (journal rest : List Entry) → IsOne c d left other → journal ≡ so.front ++ entry_there map_view is_map moves (length so.front) records d ∷ rest
+            → IsRightFrom map_view moves (length so.front + 1) (records_after map_view records d) other rest
+            → GoesOnWith (records_after map_view records c) left (so.front ++ entry_there map_view is_map moves (length so.front) records c ∷ []) journal
+        goes-same c d left other journal rest one is right =
+            let e = entry_there map_view is_map moves (length so.front) records c in
+            let more : length (so.front ++ e ∷ []) ≡ length so.front + 1 = length-append so.front (e ∷ []) in
+            record {
+              rest = rest;
+              is = is ∙ ap (λ x. so.front ++ entry_there map_view is_map moves (length so.front) records x ∷ rest) (sym one.command) ∙ sym (append_assoc so.front (e ∷ []) rest);
+              right = subst (λ n. IsRightFrom map_view moves n (records_after map_view records c) left rest) (sym more)
+                  (subst (λ l. IsRightFrom map_view moves (length so.front + 1) (records_after map_view records c) l rest) (sym one.left_is)
+                  (subst (λ x. IsRightFrom map_view moves (length so.front + 1) (records_after map_view records x) other rest) (sym one.command) right));
+            }
+
+        goes-next : (c : Command) (is : IsNextOf pending c pending') (e : Entry) (bytes left_bytes : List ℕ) → bytes ≡ text_of (lines so.front) ++ left_bytes → BeginsWith left_bytes (printed (move_line map_view records c))
+            → (journal : List Entry) → BeginsWith bytes (text_of (lines journal)) → GoesOnWith records pending so.front journal
+            → GoesOnWith (records_after map_view records c) pending' (so.front ++ entry_there map_view is_map moves (length so.front) records c ∷ []) journal
+        goes-next c is e bytes left_bytes parts here journal begins goes =
+            let m = begins-with_move map_view is_map moves (length so.front) records pending goes.rest (some-pending c is) so.ready goes.right in
+            let entry = entry_there map_view is_map moves (length so.front) records m.c in
+            let there = begins-next bytes left_bytes so.front m.rest journal entry parts (goes.is ∙ ap (λ r. so.front ++ r) m.journal_is) begins in
+            let slots = same-slot map_view records c m.c (readable-next c pending' is) (readable-next m.c m.left m.next) (same-line left_bytes (move_line map_view records c) (move_line map_view records m.c) here there) in
+            let one = one-next pending c m.c pending' m.left is m.next slots in
+            goes-same c m.c pending' m.left journal m.rest one (goes.is ∙ ap (λ r. so.front ++ r) m.journal_is) m.right
+
+    -- all moves were run
+    pub so-far-done : pending ≡ [] → RunsMoves s map_view old now demo demo' start records moves first count
+    so-far-done none = record {
+      journal = so.front;
+      reads = record {
+        right = right-of so.front (subst RightFirst (append-nil so.front) (so.into [] (subst (λ p. IsRightFrom map_view moves (length so.front) records p []) (sym none) (right-none map_view moves (length so.front) records))));
+        reads = so.reads;
+        only = if_some-weaker (ahead_of s demo old) _ _ so.out_of (λ bytes goes other right begins. only-one other (goes other (first-of other right) begins));
+      };
+      records_are = sym (moved-records map_view start records (commands_of (history_of moves so.front)) so.moved);
+      count_is = so.count_is;
+    }
+      where
+        right-of : (journal : List Entry) → RightFirst journal → Right journal
+        right-of journal right = record { merge = right.merge; legal = legal_from_first (outcome_on map_view) (world_of start) (history_of moves journal) right.legal }
+        first-of : (journal : List Entry) → Right journal → RightFirst journal
+        first-of journal right = record { merge = right.merge; legal = legal_at_first (outcome_on map_view) (world_of start) (history_of moves journal) right.legal }
+        only-one : (other : List Entry) → GoesOnWith records pending so.front other → other ≡ so.front
+        only-one other goes =
+            goes.is ∙ ap (λ r. so.front ++ r) (right-empty map_view moves (length so.front) records goes.rest (subst (λ p. IsRightFrom map_view moves (length so.front) records p goes.rest) none goes.right)) ∙ append-nil so.front

@@ -133,6 +133,14 @@ no-parts (b ∷ before) item following A same = cc
 pub right-none : (map_view : MapView) (moves : List Command) (place : ℕ) (records : List (Option Rec)) → IsRightFrom map_view moves place records [] []
 right-none map_view moves place records = record { merge = record { each = λ slot. refl }; legal = record { each = λ before item following parts. no-parts before item following _ parts } }
 
+own-first-number : (e : Entry) (rest : List Entry) → reported_numbers e.slot (e ∷ rest) ≡ e.seq ∷ reported_numbers e.slot rest
+own-first-number e rest = let own : (e.slot == e.slot) ≡ true = eq-eqb e.slot e.slot refl in rw own refl
+
+-- where none is left, there is no entry
+pub right-empty : (map_view : MapView) (moves : List Command) (place : ℕ) (records : List (Option Rec)) (journal : List Entry) → IsRightFrom map_view moves place records [] journal → journal ≡ []
+right-empty map_view moves place records [] right = refl
+right-empty map_view moves place records (e ∷ rest) right = let never : e.seq ∷ reported_numbers e.slot rest ≡ [] = sym (own-first-number e rest) ∙ right.merge.each e.slot in cc
+
 module _ (map_view : MapView) (is_map : IsMap map_view) (moves : List Command) where
   abbrev act : Action
   act = outcome_on map_view

@@ -47,6 +47,19 @@ IsNoMove map records pending bytes =
     (c : Command) (left : List Command) → IsNextOf pending c left → IsReadable (move_line map records c)
     → BeginsWith bytes (printed (move_line map records c)) → ⊥
 
+-- this is the line of a move that is the next one of its player, and the move was run
+pub record ReportsMove (map : MapView) (line : List ℕ) (records records' : List (Option Rec)) (pending pending' : List Command) : Type 0 where
+  pub c : Command
+  pub next : IsNextOf pending c pending'
+  pub line_is : line ≡ spelled (move_line map records c)
+  pub records_are : records' ≡ records_after map records c
+
+-- it is that of none
+abbrev pub ReportsNone : MapView → List ℕ → List (Option Rec) → List Command → Type 0
+ReportsNone map line records pending =
+    (c : Command) (left : List Command) → IsNextOf pending c left → IsReadable (move_line map records c)
+    → line ≡ spelled (move_line map records c) → ⊥
+
 -- the line of a move that is the next one of its player was read, and the move was run
 pub record TakesMove {S : Type 0} (s : sources.Ghosts S) (map : MapView) (old new : S) (demo demo' : DemoReaderView)
     (records records' : List (Option Rec)) (pending pending' : List Command) : Type 0 where

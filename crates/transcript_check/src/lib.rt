@@ -3,6 +3,7 @@
 
 pub use verdict::Verdict;
 
+mod checker;
 mod lines;
 mod mover;
 mod pending;

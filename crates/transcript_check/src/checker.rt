@@ -1,0 +1,167 @@
+ghost use Rattle.std.specs.Prelude.{◌≡◌, ◌+◌, ◌<◌, ◌≤◌, [], ◌∷◌, length, All, map, IfOk, IfErr};
+ghost use Rattle.std.specs.List.{AllByRecursion};
+ghost use Rattle.std.specs.Bool.{OnTrue, OnFalse};
+ghost use Rattle.entity_recs.specs.Commands.{command_of};
+ghost use Rattle.move_journal.specs.Merges.{IsRight, HasNumbersApart};
+ghost use Rattle.arena_map.specs.Validity.{IsValidWorld};
+ghost use Rattle.arena_actions.specs.Outcomes.{outcome_on};
+ghost use Rattle.plain_server.specs.RecordsById.{world_of};
+ghost use Rattle.plain_server.specs.Moving.{HasLivePlayer, HasSmallNumber, records_after};
+ghost use Rattle.demo_lines.specs.declared.stage.Stage.TheVariants.{Ended};
+ghost use Rattle.demo_lines.specs.Rest.{HasRest};
+ghost use Rattle.out_text.specs.FrameLines.{did_line};
+ghost use Rattle.out_text.specs.OutLines.{text_of};
+ghost use Rattle.out_text.specs.Printing.{line_of};
+ghost use Rattle.out_text.specs.Ranges.{HasRoom};
+ghost use Rattle.out_text.specs.Transcripts.{BeginsWith};
+ghost use Rattle.transcript_check.specs.Reading.{counted, ReadsLines, Misses, ReadFails};
+ghost use Rattle.transcript_check.specs.Moves as specs;
+ghost use Rattle.transcript_check.specs.Moves.{IsNoMove, TakesMove, RunsMoves};
+ghost use Rattle.transcript_check.specs.Pieces.{HasNoJournal, head_lines};
+
+use crate::lines::Lines;
+use crate::mover::Mover;
+use crate::pending::Pending;
+use crate::state::State;
+use arena_map::ArenaMap;
+use client_ports::Received;
+use demo_lines::{DemoReader, DemoStop};
+use edge_io::Source;
+use entity_recs::Cmd;
+use out_text::OutLine;
+use packet_read::Arrival;
+use std::alloc::{AllocError, Global};
+use std::marker::Model;
+use world_tree::World;
+
+/// The most packets of a frame.
+const MOST_ARRIVALS: u32 = 512;
+
+/// Runs a move of a live player, and gives its line.
+fn run_for_line(mover: &mut Mover, world: &mut World, cmd: &Cmd) -> OutLine<'static>
+    requires valid { IsValidWorld mover.old.action.map world.old.records }
+    requires live { HasLivePlayer world.old.records (command_of cmd.now) }
+    ensures line { line_of result ≡ specs.move_line mover.old.action.map world.old.records (command_of cmd.now) }
+    ensures room { HasRoom (line_of result) }
+    ensures records { world.new.records
+        ≡ records_after mover.old.action.map world.old.records (command_of cmd.now) }
+    ensures action { mover.new.action ≡ mover.old.action }
+{
+    let reply = mover.run(world, cmd);
+    OutLine::Did {
+        slot: cmd.slot,
+        seq: cmd.seq,
+        origin: reply.origin,
+        got: reply.got,
+    }
+}
+
+/// Whether the line that was read last reports a move that is the next one of its player, and what running it on the
+/// world comes to.
+fn is_next_move(mover: &mut Mover, world: &mut World, pending: &mut Pending, lines: &mut Lines) -> bool
+    requires valid { IsValidWorld mover.old.action.map world.old.records }
+    requires live { AllByRecursion (HasLivePlayer world.old.records) pending.old }
+    ensures ok { OnTrue result (specs.ReportsMove mover.old.action.map lines.old.given world.old.records
+        world.new.records pending.old pending.new) }
+    ensures missed { OnFalse result (specs.ReportsNone mover.old.action.map lines.old.given world.old.records
+        pending.old) }
+    ensures count { lines.new.count ≡ lines.old.count }
+    ensures action { mover.new.action ≡ mover.old.action }
+{
+    let Some(reported) = lines.reported() else {
+        return false;
+    };
+    let Some(cmd) = pending.take_first_of(reported.slot) else {
+        return false;
+    };
+    if cmd.seq != reported.seq {
+        return false;
+    }
+    let line = run_for_line(mover, world, &cmd);
+    lines.is_given(&line)
+}
+
+/// Whether the next line reports a move that is the next one of its player, and what running it on the world comes to.
+fn expect_move<S: Source>(
+    mover: &mut Mover,
+    world: &mut World,
+    pending: &mut Pending,
+    lines: &mut Lines,
+    reader: &mut DemoReader,
+    source: &mut S,
+) -> Result<bool, DemoStop>
+    requires over { reader.old.reading.stage ≡ Ended }
+    requires may { HasRest reader.old }
+    requires valid { IsValidWorld mover.old.action.map world.old.records }
+    requires live { AllByRecursion (HasLivePlayer world.old.records) pending.old }
+    ensures ok { IfOk result (λ is. OnTrue is (TakesMove S.Source mover.old.action.map source.old source.new reader.old
+        reader.new world.old.records world.new.records pending.old pending.new)) }
+    ensures missed { IfOk result (λ is. OnFalse is (Misses S.Source source.old source.new reader.old
+        (IsNoMove mover.old.action.map world.old.records pending.old))) }
+    ensures count { IfOk result (λ is. OnTrue is (lines.new.count ≡ counted lines.old.count 1)) }
+    ensures err { IfErr result (ReadFails S.Source source.old source.new) }
+    ensures action { mover.new.action ≡ mover.old.action }
+{
+    if !lines.take(reader, source)? {
+        return Ok(false);
+    }
+    Ok(is_next_move(mover, world, pending, lines))
+}
+
+/// Whether the next lines report these moves, each once and each player's in the order sent, and what running them on the
+/// world, one after another, comes to.
+fn expect_moves<S: Source>(
+    mover: &mut Mover,
+    world: &mut World,
+    pending: &mut Pending,
+    lines: &mut Lines,
+    reader: &mut DemoReader,
+    source: &mut S,
+) -> Result<bool, DemoStop>
+    requires over { reader.old.reading.stage ≡ Ended }
+    requires may { HasRest reader.old }
+    requires valid { IsValidWorld mover.old.action.map world.old.records }
+    requires live { All (HasLivePlayer world.old.records) pending.old }
+    requires apart { HasNumbersApart pending.old }
+    requires small { AllByRecursion HasSmallNumber pending.old }
+    ensures ok { IfOk result (λ is. OnTrue is (RunsMoves S.Source mover.old.action.map source.old source.new reader.old
+        reader.new world.old.records world.new.records pending.old lines.old.count lines.new.count)) }
+    ensures missed { IfOk result (λ is. OnFalse is (Misses S.Source source.old source.new reader.old (HasNoJournal
+        (IsRight (outcome_on mover.old.action.map) (world_of world.old.records) pending.old) (map did_line)))) }
+    ensures err { IfErr result (ReadFails S.Source source.old source.new) }
+    ensures action { mover.new.action ≡ mover.old.action }
+{
+    while !pending.is_empty() {
+        if !expect_move(mover, world, pending, lines, reader, source)? {
+            return Ok(false);
+        }
+    }
+    Ok(true)
+}
+
+/// Whether the next lines are those of a frame before its moves: its first line, the refusals and the joins.
+fn expect_head<S: Source>(
+    frame: u32,
+    received: &Received,
+    lines: &mut Lines,
+    reader: &mut DemoReader,
+    source: &mut S,
+) -> Result<bool, DemoStop>
+    requires over { reader.old.reading.stage ≡ Ended }
+    requires may { HasRest reader.old }
+    ensures ok { IfOk result (λ is. OnTrue is (ReadsLines S.Source source.old source.new reader.old reader.new
+        (head_lines frame received.now.lists))) }
+    ensures missed { IfOk result (λ is. OnFalse is (Misses S.Source source.old source.new reader.old
+        (λ bytes. BeginsWith bytes (text_of (head_lines frame received.now.lists)) → ⊥))) }
+    ensures count { IfOk result (λ is. OnTrue is
+        (lines.new.count ≡ counted lines.old.count (length (head_lines frame received.now.lists)))) }
+    ensures err { IfErr result (ReadFails S.Source source.old source.new) }
+{
+    if !lines.expect(&OutLine::Frame(frame), reader, source)? {
+        return Ok(false);
+    }
+    if !lines.expect_each(received.refused(), reader, source)? {
+        return Ok(false);
+    }
+    lines.expect_each(received.joined(), reader, source)
+}
