@@ -11,3 +11,4 @@ pub mod Stating
 pub mod Replies
 pub mod Moving
 pub mod Recording
+pub mod Frames

@@ -26,6 +26,8 @@ use Rattle.out_text.specs.Dids.{Did}
 use Rattle.out_text.specs.Transcripts.{BeginsWith}
 use Rattle.out_text.proofs.Runs.{text_of-append}
 use Rattle.out_text.proofs.LinesRead as lines_read
+use Rattle.std.proofs.lemmas.Option.{same_Some}
+use Rattle.transcript_check.specs.declared.lines.Reported.{Reported}
 use Rattle.transcript_check.specs.Reading.{counted, ahead_of, GoesOn, ReadsLine, ReadsLines, Misses}
 use Rattle.transcript_check.specs.Pieces.{ReadsJournal, HasNoJournal}
 use Rattle.transcript_check.specs.Moves.{IsNextOf, move_line, IsReadable, IsNoMove, TakesMove, RunsMoves}
@@ -287,3 +289,15 @@ module _ {S : Type 0} (s : sources.Ghosts S) (map_view : MapView) (is_map : IsMa
         only-one : (other : List Entry) → GoesOnWith records pending so.front other → other ≡ so.front
         only-one other goes =
             goes.is ∙ ap (λ r. so.front ++ r) (right-empty map_view moves (length so.front) records goes.rest (subst (λ p. IsRightFrom map_view moves (length so.front) records p goes.rest) none goes.right)) ∙ append-nil so.front
+
+-- ---- what the code finds in a line
+
+-- what is reported is the slot and the number of a line
+pub record IsReport (r : Reported) (slot seq : ℕ) : Type 0 where
+  pub slot_is : r.slot ≡ slot
+  pub seq_is : r.seq ≡ seq
+
+pub same-report : (o : Option Reported) (r : Reported) (slot seq : ℕ) → o ≡ Some r → o ≡ Some (record { slot = slot; seq = seq }) → IsReport r slot seq
+same-report o r slot seq is also =
+    let same : ◌≡◌ {A = Reported} r (record { slot = slot; seq = seq }) = same_Some r (record { slot = slot; seq = seq }) (sym is ∙ also) in
+    record { slot_is = ap (λ (x : Reported). x.slot) same; seq_is = ap (λ (x : Reported). x.seq) same }

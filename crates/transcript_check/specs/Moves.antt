@@ -13,7 +13,8 @@ use Rattle.arena_actions.specs.Outcomes.{outcome_on}
 use Rattle.plain_server.specs.RecordsById.{world_of, records_in}
 use Rattle.plain_server.specs.Moving.{effect_among, records_after}
 use Rattle.out_text.specs.Dids.{did_of}
-use Rattle.out_text.specs.FrameLines.{did_line}
+use Rattle.client_ports.specs.Lists.{Lists}
+use Rattle.out_text.specs.FrameLines.{did_line, frame_lines}
 use Rattle.out_text.specs.OutLines.{OutLine, DidLine, spelled, printed}
 use Rattle.out_text.specs.Ranges.{IsInRange}
 use Rattle.out_text.specs.Transcripts.{BeginsWith}
@@ -75,3 +76,19 @@ pub record RunsMoves {S : Type 0} (s : sources.Ghosts S) (map : MapView) (old ne
   pub reads : ReadsJournal s old new demo demo' (IsRight (outcome_on map) (world_of records) moves) (map_list did_line) journal
   pub records_are : records' ≡ records_in (run (outcome_on map) (world_of records) (history_of moves journal)) records
   pub count_is : count' ≡ counted count (length journal)
+
+-- the records after these moves have run in the order of a journal
+abbrev pub moved_in : MapView → List (Option Rec) → List Command → List Entry → List (Option Rec)
+moved_in map records moves journal = records_in (run (outcome_on map) (world_of records) (history_of moves journal)) records
+
+-- the lines of a frame with this journal, whose moves run among these records
+abbrev pub lines_among : MapView → ℕ → List (Option Rec) → Lists → List Entry → List OutLine
+lines_among map frame records lists journal = frame_lines frame lists journal (moved_in map records lists.moves journal)
+
+-- the lines of a frame were read, with a right journal, and its moves were run
+pub record RunsFrame {S : Type 0} (s : sources.Ghosts S) (map : MapView) (frame : ℕ) (lists : Lists) (old new : S) (demo demo' : DemoReaderView)
+    (records records' : List (Option Rec)) (count count' : ℕ) : Type 0 where
+  pub journal : List Entry
+  pub reads : ReadsJournal s old new demo demo' (IsRight (outcome_on map) (world_of records) lists.moves) (lines_among map frame records lists) journal
+  pub records_are : records' ≡ moved_in map records lists.moves journal
+  pub count_is : count' ≡ counted count (length (lines_among map frame records lists journal))

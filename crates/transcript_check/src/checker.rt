@@ -1,4 +1,4 @@
-ghost use Rattle.std.specs.Prelude.{◌≡◌, ◌+◌, ◌<◌, ◌≤◌, [], ◌∷◌, length, All, map, IfOk, IfErr};
+ghost use Rattle.std.specs.Prelude.{◌≡◌, ◌+◌, ◌*◌, ◌<◌, ◌≤◌, [], ◌∷◌, length, All, map, IfOk, IfErr};
 ghost use Rattle.std.specs.List.{AllByRecursion};
 ghost use Rattle.std.specs.Bool.{OnTrue, OnFalse};
 ghost use Rattle.entity_recs.specs.Commands.{command_of};
@@ -16,7 +16,7 @@ ghost use Rattle.out_text.specs.Ranges.{HasRoom};
 ghost use Rattle.out_text.specs.Transcripts.{BeginsWith};
 ghost use Rattle.transcript_check.specs.Reading.{counted, ReadsLines, Misses, ReadFails};
 ghost use Rattle.transcript_check.specs.Moves as specs;
-ghost use Rattle.transcript_check.specs.Moves.{IsNoMove, TakesMove, RunsMoves};
+ghost use Rattle.transcript_check.specs.Moves.{IsNoMove, TakesMove, RunsMoves, lines_among, RunsFrame};
 ghost use Rattle.transcript_check.specs.Pieces.{HasNoJournal, head_lines};
 
 use crate::lines::Lines;
@@ -164,4 +164,40 @@ fn expect_head<S: Source>(
         return Ok(false);
     }
     lines.expect_each(received.joined(), reader, source)
+}
+
+/// Whether the next lines are those of a frame, in which this was received: its moves are run on the world.
+fn expect_lines<S: Source>(
+    frame: u32,
+    received: &Received,
+    mover: &mut Mover,
+    world: &mut World,
+    pending: &mut Pending,
+    lines: &mut Lines,
+    reader: &mut DemoReader,
+    source: &mut S,
+) -> Result<bool, DemoStop>
+    requires over { reader.old.reading.stage ≡ Ended }
+    requires may { HasRest reader.old }
+    requires valid { IsValidWorld mover.old.action.map world.old.records }
+    requires live { All (HasLivePlayer world.old.records) received.now.lists.moves }
+    requires apart { HasNumbersApart received.now.lists.moves }
+    requires few { length received.now.lists.moves ≤ 8 * 64 }
+    ensures ok { IfOk result (λ is. OnTrue is (RunsFrame S.Source mover.old.action.map frame received.now.lists
+        source.old source.new reader.old reader.new world.old.records world.new.records lines.old.count
+        lines.new.count)) }
+    ensures missed { IfOk result (λ is. OnFalse is (Misses S.Source source.old source.new reader.old (HasNoJournal
+        (IsRight (outcome_on mover.old.action.map) (world_of world.old.records) received.now.lists.moves)
+        (lines_among mover.old.action.map frame world.old.records received.now.lists)))) }
+    ensures err { IfErr result (ReadFails S.Source source.old source.new) }
+    ensures action { mover.new.action ≡ mover.old.action }
+{
+    if !expect_head(frame, received, lines, reader, source)? {
+        return Ok(false);
+    }
+    pending.set(received.moves());
+    if !expect_moves(mover, world, pending, lines, reader, source)? {
+        return Ok(false);
+    }
+    lines.expect_replies(world, frame, reader, source)
 }
