@@ -64,7 +64,7 @@ module _ {S : Type 0} (s : sources.Ghosts S) (map_view : MapView) (frame : ℕ) 
 
     module _ (c : S) (f : DemoReaderView) (records' : List (Option Rec)) (count count' : ℕ) (runs : RunsMoves s map_view b c e f records records' lists.moves count count') where
       -- only this journal has its lines after the head
-      Only : List ℕ → Type 0
+      abbrev Only : List ℕ → Type 0
       Only bytes = (other : List Entry) → Right other → BeginsWith bytes (text_of (map did_line other)) → other ≡ runs.journal
 
       -- the snapshots are missed

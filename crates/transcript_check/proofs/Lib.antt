@@ -12,3 +12,5 @@ pub mod Replies
 pub mod Moving
 pub mod Recording
 pub mod Frames
+pub mod Fewness
+pub mod FrameTaken

@@ -160,3 +160,8 @@ left_none f [] zero past = refl
 left_none f [] (suc i) past = refl
 left_none f (x ∷ xs) zero past = absurd (omega (arith, past))
 left_none f (x ∷ xs) (suc i) past = left_none f xs i (omega (arith, past))
+
+pub ok_true-both : {E : Type 0} (r : Result Bool E) (P Q T : Type 0) → IfOk r (λ is. OnTrue is P) → IfOk r (λ is. OnTrue is Q) → (P → Q → T) → IfOk r (λ is. OnTrue is T)
+ok_true-both (Ok true) P Q T p q then = then p q
+ok_true-both (Ok false) P Q T p q then = tt
+ok_true-both (Err e) P Q T p q then = tt

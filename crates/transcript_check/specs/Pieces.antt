@@ -1,5 +1,5 @@
 -- The pieces of a transcript, of which the code doesn't know the journal beforehand.
-use Rattle.std.specs.Prelude.{◌≡◌, ℕ, ◌+◌, List, [], ◌∷◌, ◌++◌, length, map as map_list, IfSome}
+use Rattle.std.specs.Prelude.{◌≡◌, ℕ, ◌+◌, List, [], ◌∷◌, ◌++◌, ◌≤◌, length, map as map_list, IfSome}
 use Rattle.edge_io.specs.declared.source.Source as sources
 use Rattle.entity_recs.specs.declared.effect.Entry.{Entry}
 use Rattle.packet_read.specs.declared.arrival.Arrival.{Arrival}
@@ -41,3 +41,4 @@ pub record TakesFrame {S : Type 0} (s : sources.Ghosts S) (old new : S) (demo de
     pub count_is : c'.count
         ≡ counted c.count (length (lines_with c.map c.frames (received_in c.map c.frames c.state arrivals) journal))
     pub is : IsChecker c'.map c'.state
+    pub few : length (lines_with c.map c.frames (received_in c.map c.frames c.state arrivals) journal) ≤ 2000

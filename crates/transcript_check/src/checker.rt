@@ -201,3 +201,157 @@ fn expect_lines<S: Source>(
     }
     lines.expect_replies(world, frame, reader, source)
 }
+
+/// A plain server between two frames, and what it compares the lines of a transcript with.
+#[derive(Drop)]
+pub struct Checker {
+    mover: Mover,
+    state: State,
+    frames: u32,
+    moves: u64,
+    received: Received,
+    pending: Pending,
+    lines: Lines,
+}
+
+// Clauses see the map, the clients by slot beside the records by id, and the counts.
+impl Model for Checker {
+    ghost use Rattle.std.specs.Prelude.{◌≡◌};
+    ghost use Rattle.client_ports.specs.States.{state_of};
+    ghost use Rattle.client_ports.specs.Lists.{room_for};
+    ghost use Rattle.transcript_check.specs.declared.checker.TheConstants.{MOST_ARRIVALS};
+    ghost use Rattle.transcript_check.specs.Checkers.{CheckerView};
+
+    ghost Value = { CheckerView };
+
+    ghost view = { λ c. record {
+      map = c.mover.action.map;
+      state = state_of c.state.ports c.state.world.records;
+      frames = c.frames;
+      moves = c.moves;
+      count = c.lines.count;
+    } };
+
+    ghost invariant = { λ c. c.received.room ≡ room_for MOST_ARRIVALS };
+}
+
+impl Checker {
+    ghost use Rattle.std.specs.Prelude.{◌≡◌, ◌*◌, ◌<◌, ◌≤◌, [], ◌∷◌, length, IfOk, IfErr, OnOk};
+    ghost use Rattle.std.specs.Bool.{OnTrue, OnFalse};
+    ghost use Rattle.plain_server.specs.Frames.{received_in, IsRightAfter};
+    ghost use Rattle.demo_lines.specs.declared.stage.Stage.TheVariants.{Ended};
+    ghost use Rattle.demo_lines.specs.Rest.{HasRest};
+    ghost use Rattle.out_text.specs.FrameLines.{lines_with};
+    ghost use Rattle.out_text.specs.OutLines.{EndLine, printed};
+    ghost use Rattle.out_text.specs.Transcripts.{BeginsWith};
+    ghost use Rattle.transcript_check.specs.Reading.{ReadsLines, Misses, ReadFails};
+    ghost use Rattle.transcript_check.specs.Checkers.{new_checker, IsChecker};
+    ghost use Rattle.transcript_check.specs.Pieces.{HasNoJournal, TakesFrame};
+
+    /// A server in this arena, before the first frame. It takes all memory that checking needs. The only error is that
+    /// memory is refused; the map is then gone.
+    pub fn new(alloc: Global, map: ArenaMap) -> Result<Checker, AllocError>
+        ensures checker { IfOk result (λ checker. checker ≡ new_checker map) }
+        ensures is { IfOk result (λ checker. IsChecker checker.map checker.state) }
+    {
+        let mover = Mover::new(map);
+        let state = State::opening(alloc, mover.action.map())?;
+        Ok(Checker {
+            mover,
+            state,
+            frames: 0,
+            moves: 0,
+            received: Received::new(alloc, MOST_ARRIVALS)?,
+            pending: Pending::new(alloc)?,
+            lines: Lines::new(alloc)?,
+        })
+    }
+
+    /// How many frames were right.
+    pub fn frames(&self) -> u32
+        ensures { result ≡ self.now.frames }
+    {
+        self.frames
+    }
+
+    /// How many moves were received in them.
+    pub fn moves(&self) -> u64
+        ensures { result ≡ self.now.moves }
+    {
+        self.moves
+    }
+
+    /// How many lines were read.
+    pub fn lines(&self) -> u64
+        ensures { result ≡ self.now.count }
+    {
+        self.lines.count()
+    }
+
+    /// Whether the next lines are those of a frame with these packets. It takes no memory.
+    pub fn expect_frame<S: Source>(
+        &mut self,
+        arrivals: &[Arrival],
+        reader: &mut DemoReader,
+        source: &mut S,
+    ) -> Result<bool, DemoStop>
+        requires is { IsChecker self.old.map self.old.state }
+        requires few { length arrivals.now ≤ MOST_ARRIVALS }
+        requires frames { self.old.frames < 100000 }
+        requires moves { self.old.moves ≤ 512 * self.old.frames }
+        requires over { reader.old.reading.stage ≡ Ended }
+        requires may { HasRest reader.old }
+        ensures ok { IfOk result (λ is. OnTrue is (TakesFrame S.Source source.old source.new reader.old reader.new self.old
+            self.new arrivals.now)) }
+        ensures missed { IfOk result (λ is. OnFalse is (Misses S.Source source.old source.new reader.old (HasNoJournal
+            (IsRightAfter self.old.map (received_in self.old.map self.old.frames self.old.state arrivals.now))
+            (lines_with self.old.map self.old.frames
+            (received_in self.old.map self.old.frames self.old.state arrivals.now))))) }
+        ensures err { IfErr result (ReadFails S.Source source.old source.new) }
+    {
+        self.received.clear();
+        self.state.receive(
+            self.mover.action.map(),
+            self.frames,
+            arrivals,
+            &mut self.received,
+        );
+        let is_right = expect_lines(
+            self.frames,
+            &self.received,
+            &mut self.mover,
+            &mut self.state.world,
+            &mut self.pending,
+            &mut self.lines,
+            reader,
+            source,
+        )?;
+        if !is_right {
+            return Ok(false);
+        }
+        self.state.finish();
+        self.frames += 1;
+        self.moves += self.received.moves().len() as u64;
+        Ok(true)
+    }
+
+    /// Whether the next line is the last one of an output after the frames that were right.
+    pub fn expect_end<S: Source>(
+        &mut self,
+        reader: &mut DemoReader,
+        source: &mut S,
+    ) -> Result<bool, DemoStop>
+        requires over { reader.old.reading.stage ≡ Ended }
+        requires may { HasRest reader.old }
+        ensures ok { IfOk result (λ is. OnTrue is (ReadsLines S.Source source.old source.new reader.old reader.new
+            (EndLine self.old.frames ∷ []))) }
+        ensures missed { IfOk result (λ is. OnFalse is (Misses S.Source source.old source.new reader.old
+            (λ bytes. BeginsWith bytes (printed (EndLine self.old.frames)) → ⊥))) }
+        ensures err { IfErr result (ReadFails S.Source source.old source.new) }
+        ensures frames { self.new.frames ≡ self.old.frames }
+        ensures moves { self.new.moves ≡ self.old.moves }
+    {
+        self.lines
+            .expect(&OutLine::End(self.frames), reader, source)
+    }
+}
