@@ -74,5 +74,6 @@ module _ {S : Type 0} (s : sources.Ghosts S) (old new : S) (demo demo' : DemoRea
           };
           few = lines-few v.map v.frames v.state arrivals runs.journal here.is_map few (subst (IsReception v.map) here.is here.pass) (subst (λ (p : Receiving). length p.lists.moves ≤ 8 * 64) here.is here.few)
               (subst (λ (p : Receiving). IsRightAfter v.map p runs.journal) here.is runs.reads.right);
+          moves_few = (let few = subst (λ (q : Receiving). length q.lists.moves ≤ 8 * 64) here.is here.few in omega (arith, few));
         } in
         subst (λ (u : CheckerView). TakesFrame s old new demo demo' u v' arrivals) view made

@@ -14,3 +14,6 @@ pub mod Recording
 pub mod Frames
 pub mod Fewness
 pub mod FrameTaken
+pub mod FramesRead
+pub mod Judged
+pub mod NextFrames

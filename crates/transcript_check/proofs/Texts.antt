@@ -108,6 +108,13 @@ pub if_some-both : (a : Option (List ℕ)) (P Q : List ℕ → Type 0) → IfSom
 if_some-both None P Q p q = tt
 if_some-both (Some bytes) P Q p q = (p, q)
 
+-- P of the whole and Q of what is left give T of the whole
+pub if_some-over : (a b : Option (List ℕ)) (front : List ℕ) (P Q T : List ℕ → Type 0) → Consumes a b front → IfSome a P → IfSome b Q
+    → ((bytes left : List ℕ) → bytes ≡ front ++ left → P bytes → Q left → T bytes) → IfSome a T
+if_some-over None b front P Q T reads p q then = tt
+if_some-over (Some bytes) None front P Q T reads p q then = absurd reads
+if_some-over (Some bytes) (Some left) front P Q T reads p q then = then bytes left reads p q
+
 pub if_some-all : (a : Option (List ℕ)) (P : List ℕ → Type 0) → ((bytes : List ℕ) → P bytes) → IfSome a P
 if_some-all None P each = tt
 if_some-all (Some bytes) P each = each bytes

@@ -42,3 +42,4 @@ pub record TakesFrame {S : Type 0} (s : sources.Ghosts S) (old new : S) (demo de
         ≡ counted c.count (length (lines_with c.map c.frames (received_in c.map c.frames c.state arrivals) journal))
     pub is : IsChecker c'.map c'.state
     pub few : length (lines_with c.map c.frames (received_in c.map c.frames c.state arrivals) journal) ≤ 2000
+    pub moves_few : length (received_in c.map c.frames c.state arrivals).lists.moves ≤ 512

@@ -20,6 +20,10 @@ use Rattle.out_text.specs.Transcripts.{IsTranscript, IsWrongAfter, run_moves}
 use Rattle.transcript_check.specs.declared.verdict.Verdict.{Verdict}
 use Rattle.transcript_check.specs.declared.verdict.Verdict.TheVariants.{Right, Wrong}
 
+-- the packets of a frame of a recording are few
+abbrev pub IsShort : List Arrival → Type 0
+IsShort arrivals = length arrivals ≤ 512
+
 -- the transcript of these frames is right, and so many moves were received in them
 pub record IsRight (map : MapView) (frames : List (List Arrival)) (rest : List ℕ) (count moves : ℕ) : Type 0 where
   pub transcript : IsTranscript map frames rest
