@@ -24,6 +24,7 @@ impl Display for Notice<'_> {
             2 => write!(f, "words refused"),
             3 => write!(f, "read fault"),
             4 => write!(f, "write fault"),
+            6 => write!(f, "transcript refused: line {line}"),
             7 => write!(f, "no way: fault {fault}"),
             _ => write!(f, "out of memory"),
         }

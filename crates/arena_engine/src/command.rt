@@ -57,6 +57,8 @@ pub enum Command {
         /// The number of that spawn, 0 to 63.
         target: u8,
     },
+    /// Reads a recording from the source, and after it an output, and says whether it is one of the recording.
+    Check,
 }
 
 /// The command `play` with this word.
@@ -136,6 +138,7 @@ pub fn command_of(words: &[&str]) -> Option<Command>
         ["make", seed, players, frames] => make(seed, players, frames),
         ["resend", seed, players, frames] => resend(seed, players, frames),
         ["match", seed, players, frames, workers] => match_of(seed, players, frames, workers),
+        ["check"] => Some(Command::Check),
         ["bots", target] => bots(target),
         _ => None,
     }

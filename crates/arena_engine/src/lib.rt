@@ -17,6 +17,7 @@ use std::sync::Wait;
 use std::thread::Threads;
 
 mod bots;
+mod checked;
 mod command;
 mod game;
 mod made;

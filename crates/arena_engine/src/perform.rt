@@ -4,6 +4,7 @@ ghost use Rattle.arena_engine.specs.Endings.{Ends};
 ghost use Rattle.arena_engine.specs.Served.{IsServed};
 
 use crate::bots::plan_recording;
+use crate::checked::check_transcript;
 use crate::command::Command;
 use crate::made::{write_made, write_resent};
 use crate::matched::play_and_sum;
@@ -71,6 +72,7 @@ pub fn perform<R: Threads + Wait + Sync, S: Source, K: Sink, G: Gate>(
             };
             play_and_sum(&host, seed, players, frames, sink)
         }
+        Some(Command::Check) => check_transcript(alloc, source, sink),
         Some(Command::Bots { target }) => plan_recording(alloc, target, source, sink),
     }
 }

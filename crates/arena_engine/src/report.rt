@@ -69,6 +69,24 @@ impl Report {
         }
     }
 
+    /// A report that this line of a transcript is wrong.
+    pub(crate) fn of_wrong_line(alloc: Global, line: u64) -> Report
+        ensures status { result.status ≡ 6 }
+        ensures line { result.line ≡ line }
+        ensures place { (result.fault ≡ 0) × (result.rule ≡ 0) }
+        ensures last { result.last ≡ None }
+        ensures all { result.all ≡ [] }
+    {
+        Report {
+            status: 6,
+            line,
+            fault: 0,
+            rule: 0,
+            last: None,
+            all: JournalList::new(alloc),
+        }
+    }
+
     /// A report that this line was refused for this fault, with the journal of the last frame before it.
     pub(crate) fn of_refusal(
         line: u64,

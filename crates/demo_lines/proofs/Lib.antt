@@ -21,3 +21,7 @@ pub mod LinesBack
 pub mod Given
 pub mod Joins
 pub mod LongestRecording
+pub mod RestLines
+pub mod Limits
+pub mod Continuing
+pub mod Counting

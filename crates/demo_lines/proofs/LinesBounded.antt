@@ -13,7 +13,7 @@ use Rattle.demo_lines.proofs.Taking.{GoesOn, said-goes_on, refusing-goes_on, som
 use Rattle.demo_lines.proofs.MapGiven.{line_said-taken}
 
 start-holds : IsReading start
-start-holds = record { map = (refl, refl, refl); frames = omega arith; arrivals = omega arith; lines = omega arith }
+start-holds = record { map = (refl, refl, refl); limit = omega arith; frames = omega arith; arrivals = omega arith; lines = omega arith }
 
 next-goes_on : (r : Reading) (raw : List ℕ) (b : Bool) → IsReading r → is_over r.stage ≡ false → is_long raw ≡ b → GoesOn (lines_left r) (next r raw)
 next-goes_on r raw true holds going is =

@@ -130,7 +130,7 @@ after-kept r (line ∷ lines) whole = after-kept (next r line) lines ((stays r l
 frame-fault : (r : Reading) (b : Bool) → is_map_whole r.stage ≡ true → place_fault (without_map r) Frame ≡ place_fault r Frame
 frame-fault r b whole =
     let Fault : Bool → Bool → Option LineFault = λ w there.
-    option_or (option_map faults.Rule (cond w None (cond there None (Some rules.NoSpawn)))) (cond (nat_le 100000 r.frames) (Some faults.Count) None) in
+    option_or (option_map faults.Rule (cond w None (cond there None (Some rules.NoSpawn)))) (cond (nat_le r.limit r.frames) (Some faults.Count) None) in
     ap (λ w. Fault w false) whole ∙ sym (ap (λ w. Fault w (has_spawn r.map)) whole)
 
 test-without : (r : Reading) (fault : Option LineFault) (line : Line) → IsTaken r.stage line → is_map_whole r.stage ≡ true

@@ -96,15 +96,15 @@ goes-line r line s i is going taken none step =
 
 -- there is a map, and this many lines were read
 abbrev mapping : MapView → ℕ → Reading
-mapping m lines = record { stage = Map; map = Some m; frames = 0; arrivals = 0; lines = lines }
+mapping m lines = record { stage = Map; map = Some m; limit = 100000; frames = 0; arrivals = 0; lines = lines }
 
 -- in this frame, with its packets so far and the lines that were read
 abbrev playing : MapView → ℕ → ℕ × ℕ → Reading
-playing m frames at = record { stage = Playing; map = Some m; frames = frames; arrivals = at.0; lines = at.1 }
+playing m frames at = record { stage = Playing; map = Some m; limit = 100000; frames = frames; arrivals = at.0; lines = at.1 }
 
 -- after the end
 abbrev ended : MapView → ℕ × ℕ × ℕ → Reading
-ended m at = record { stage = Ended; map = Some m; frames = at.0; arrivals = at.1; lines = at.2 }
+ended m at = record { stage = Ended; map = Some m; limit = 100000; frames = at.0; arrivals = at.1; lines = at.2 }
 
 -- ---- the map
 

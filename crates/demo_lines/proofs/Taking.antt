@@ -105,28 +105,28 @@ added-fewer map (Lift lo hi rise speed) added count =
       count-push is_lift_line map.things line,
     )
 
-begun-goes_on : (r : Reading) (line : MapLine) → r.frames ≡ 0 → r.arrivals ≡ 0 → r.lines + left_at Start r ≤ 51301282 → is_arena line ≡ true
+begun-goes_on : (r : Reading) (line : MapLine) → r.limit ≤ 100000 → r.frames ≡ 0 → r.arrivals ≡ 0 → r.lines + left_at Start r ≤ 51301282 → is_arena line ≡ true
     → GoesOn (left_at Start r) (with_map r (begun_map line))
-begun-goes_on r (Arena lo hi) frames arrivals lines arena = record {
-  holds = record { map = (refl, frames, arrivals); frames = omega arith; arrivals = omega arith; lines = omega arith };
+begun-goes_on r (Arena lo hi) limit frames arrivals lines arena = record {
+  holds = record { map = (refl, frames, arrivals); limit = limit; frames = omega arith; arrivals = omega arith; lines = omega arith };
   fewer = omega arith;
 }
-begun-goes_on r (Block lo hi) frames arrivals lines arena = cc
-begun-goes_on r (Spawn at) frames arrivals lines arena = cc
-begun-goes_on r (Item at kind delay) frames arrivals lines arena = cc
-begun-goes_on r (Teleport lo hi dest) frames arrivals lines arena = cc
-begun-goes_on r (Goal lo hi) frames arrivals lines arena = cc
-begun-goes_on r (Lift lo hi rise speed) frames arrivals lines arena = cc
+begun-goes_on r (Block lo hi) limit frames arrivals lines arena = cc
+begun-goes_on r (Spawn at) limit frames arrivals lines arena = cc
+begun-goes_on r (Item at kind delay) limit frames arrivals lines arena = cc
+begun-goes_on r (Teleport lo hi dest) limit frames arrivals lines arena = cc
+begun-goes_on r (Goal lo hi) limit frames arrivals lines arena = cc
+begun-goes_on r (Lift lo hi rise speed) limit frames arrivals lines arena = cc
 
-added-goes_on : (r : Reading) (map : Option MapView) (line : MapLine) → r.map ≡ map → IsSome map → r.frames ≡ 0 → r.arrivals ≡ 0 → r.lines + left_at Map r ≤ 51301282
+added-goes_on : (r : Reading) (map : Option MapView) (line : MapLine) → r.map ≡ map → IsSome map → r.limit ≤ 100000 → r.frames ≡ 0 → r.arrivals ≡ 0 → r.lines + left_at Map r ≤ 51301282
     → is_added line ≡ true → broken_by_line map line ≡ None → GoesOn (left_at Map r) (with_map r (with_map_line map line))
-added-goes_on r None line is there frames arrivals lines added none = cc
-added-goes_on r (Some map) line is there frames arrivals lines added none =
+added-goes_on r None line is there limit frames arrivals lines added none = cc
+added-goes_on r (Some map) line is there limit frames arrivals lines added none =
     let fewer = added-fewer map line added (kept-count (keeps_box map.bounds line) (keeps_count map line) _ none) in
     let left : map_lines_left r.map ≡ map_lines_left (Some map) = ap map_lines_left is in
     let less : left_at Map (with_map r (Some (with_line map line))) < left_at Map r = omega (arith, fewer, left) in
     record {
-      holds = record { map = (refl, frames, arrivals); frames = omega arith; arrivals = omega arith; lines = omega (arith, less) };
+      holds = record { map = (refl, frames, arrivals); limit = limit; frames = omega arith; arrivals = omega arith; lines = omega (arith, less) };
       fewer = less;
     }
 
@@ -169,7 +169,7 @@ first_frame r here none =
 
 refused-goes_on : (n : ℕ) (r : Reading) (why : LineFault) → IsReading r → r.lines + n ≤ 51301282 → 0 < n → GoesOn n (at_stage (Refused why) r)
 refused-goes_on n r why holds lines some = record {
-  holds = record { map = tt; frames = holds.frames; arrivals = holds.arrivals; lines = omega arith };
+  holds = record { map = tt; limit = holds.limit; frames = holds.frames; arrivals = holds.arrivals; lines = omega arith };
   fewer = some;
 }
 
@@ -187,7 +187,7 @@ some_left (Refused why) r going = cc
 
 ended-goes_on : (n : ℕ) (r : Reading) → IsReading r → r.lines + n ≤ 51301282 → 0 < n → GoesOn n (at_stage Ended r)
 ended-goes_on n r holds lines some = record {
-  holds = record { map = tt; frames = holds.frames; arrivals = holds.arrivals; lines = omega arith };
+  holds = record { map = tt; limit = holds.limit; frames = holds.frames; arrivals = holds.arrivals; lines = omega arith };
   fewer = some;
 }
 
@@ -195,31 +195,44 @@ ended-goes_on n r holds lines some = record {
 taken-goes_on : (stage : Stage) (r : Reading) (line : Line) → r.stage ≡ stage → IsReading r → HasMap stage r → r.lines + left_at stage r ≤ 51301282
     → is_over stage ≡ false → IsTaken stage line → place_fault r line ≡ None → GoesOn (left_at stage r) (after_line r (Some line))
 taken-goes_on Start r (OfMap line) here holds has lines going taken none =
-    subst (λ m. GoesOn (left_at Start r) (with_map r (with_map_line m line))) (sym has.0) (begun-goes_on r line has.1 has.2 lines taken)
+    subst (λ m. GoesOn (left_at Start r) (with_map r (with_map_line m line))) (sym has.0) (begun-goes_on r line holds.limit has.1 has.2 lines taken)
 taken-goes_on Start r Frame here holds has lines going taken none = cc
 taken-goes_on Start r (From a) here holds has lines going taken none = cc
 taken-goes_on Start r End here holds has lines going taken none = cc
 taken-goes_on Map r (OfMap line) here holds has lines going taken none =
-    added-goes_on r r.map line refl has.0 has.1 has.2 lines taken (no_rule (broken_by_line r.map line) none)
+    added-goes_on r r.map line refl has.0 holds.limit has.1 has.2 lines taken (no_rule (broken_by_line r.map line) none)
 taken-goes_on Map r Frame here holds has lines going taken none =
     let rule = no_rule (broken_by_frame r) (first-none (option_map faults.Rule (broken_by_frame r)) _ none) in
+    let few = below r.limit r.frames (no_count _ (second-none (option_map faults.Rule (broken_by_frame r)) _ none)) in
     record {
-      holds = record { map = ready r.map (first_frame r here rule); frames = omega (arith, has.1); arrivals = omega arith; lines = omega (arith, has.1) };
+      holds = record {
+        map = ready r.map (first_frame r here rule);
+        limit = holds.limit;
+        frames = omega (arith, few);
+        arrivals = omega arith;
+        lines = omega (arith, has.1);
+      };
       fewer = omega (arith, has.1);
     }
 taken-goes_on Map r (From a) here holds has lines going taken none = cc
 taken-goes_on Map r End here holds has lines going taken none = ended-goes_on (left_at Map r) r holds lines (omega arith)
 taken-goes_on Playing r (OfMap line) here holds has lines going taken none = absurd taken
 taken-goes_on Playing r Frame here holds has lines going taken none =
-    let few = below 100000 r.frames (no_count _ (second-none (option_map faults.Rule (broken_by_frame r)) _ none)) in
+    let few = below r.limit r.frames (no_count _ (second-none (option_map faults.Rule (broken_by_frame r)) _ none)) in
     record {
-      holds = record { map = has; frames = omega (arith, few); arrivals = omega arith; lines = omega (arith, few) };
-      fewer = omega (arith, few);
+      holds = record {
+        map = has;
+        limit = holds.limit;
+        frames = omega (arith, few);
+        arrivals = omega arith;
+        lines = omega (arith, few, holds.limit);
+      };
+      fewer = omega (arith, few, holds.limit);
     }
 taken-goes_on Playing r (From a) here holds has lines going taken none =
     let few = below 512 r.arrivals (no_count _ none) in
     record {
-      holds = record { map = has; frames = holds.frames; arrivals = omega (arith, few); lines = omega (arith, few) };
+      holds = record { map = has; limit = holds.limit; frames = holds.frames; arrivals = omega (arith, few); lines = omega (arith, few) };
       fewer = omega (arith, few);
     }
 taken-goes_on Playing r End here holds has lines going taken none = ended-goes_on (left_at Playing r) r holds lines (omega arith)

@@ -7,7 +7,7 @@ use Rattle.demo_lines.specs.declared.stage.Stage.{Stage}
 use Rattle.demo_lines.specs.declared.stage.Stage.TheVariants.{Start, Map, Playing, Ended, Refused}
 use Rattle.demo_lines.specs.declared.line_fault.LineFault.{LineFault}
 use Rattle.demo_lines.specs.declared.event.Event.{Event}
-use Rattle.demo_lines.specs.Known.{Reading, start}
+use Rattle.demo_lines.specs.Known.{Reading, start_within, start}
 use Rattle.demo_lines.specs.Lines.{is_end}
 use Rattle.demo_lines.specs.Faults.{fault_of, fault_number, rule_number}
 use Rattle.demo_lines.specs.Recording.{after, events_of}
@@ -60,14 +60,24 @@ events_in r bytes = events_of r (lines_of bytes)
 abbrev pub fault_in : Reading → List ℕ → Option LineRefusal
 fault_in r bytes = refused_where (after r (lines_of bytes)) (last_part bytes)
 
--- the events of a recording: up to its end, or up to the line before the faulty one
+-- the events of a recording that may have so many frames: up to its end, or up to the line before the faulty one
+abbrev pub events_within : ℕ → List ℕ → List Event
+events_within limit bytes = events_in (start_within limit) bytes
+
+-- its first faulty line, before or at the first `end`, and its fault
+abbrev pub fault_within : ℕ → List ℕ → Option LineRefusal
+fault_within limit bytes = fault_in (start_within limit) bytes
+
+-- its map
+abbrev pub map_within : ℕ → List ℕ → Option MapView
+map_within limit bytes = (after (start_within limit) (lines_of bytes)).map
+
+-- the same of a recording that may have as many frames as any
 abbrev pub events : List ℕ → List Event
 events bytes = events_in start bytes
 
--- the first faulty line, before or at the first `end`, and its fault
 abbrev pub fault : List ℕ → Option LineRefusal
 fault bytes = fault_in start bytes
 
--- the map of a recording
 abbrev pub map_of : List ℕ → Option MapView
 map_of bytes = (after start (lines_of bytes)).map

@@ -75,7 +75,7 @@ has_no_packet words.End rest = false
 -- 9: the line is one more frame than a recording may have, or one more packet than a frame may have
 abbrev pub is_one_too_many : Reading → word_types.Word → Bool
 is_one_too_many r (words.OfMap word) = false
-is_one_too_many r words.Frame = nat_le MOST_FRAMES r.frames
+is_one_too_many r words.Frame = nat_le r.limit r.frames
 is_one_too_many r words.From = nat_le MOST_ARRIVALS r.arrivals
 is_one_too_many r words.End = false
 

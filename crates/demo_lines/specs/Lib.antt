@@ -18,4 +18,5 @@ pub mod Readings
 pub mod Spelling
 pub mod InTurn
 pub mod Reads
+pub mod Rest
 pub mod Laws

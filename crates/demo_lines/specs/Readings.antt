@@ -40,6 +40,7 @@ HasMap (Refused why) r = ⊤
 -- what holds of each reading of a recording
 pub record IsReading (r : Reading) : Type 0 where
   pub map : HasMap r.stage r
-  pub frames : r.frames ≤ MOST_FRAMES
+  pub limit : r.limit ≤ MOST_FRAMES
+  pub frames : r.frames ≤ r.limit
   pub arrivals : r.arrivals ≤ MOST_ARRIVALS
   pub lines : r.lines + lines_left r ≤ most_lines

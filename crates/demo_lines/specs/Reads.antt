@@ -1,5 +1,5 @@
 -- What a call of the reader takes off the bytes that are ahead, and what it gives.
-use Rattle.std.specs.Prelude.{◌≡◌, ◌⊎◌, ℕ, ◌+◌, ◌≤◌, true, false, IsSome, List, [], ◌∷◌, ◌++◌, length, Option, Some}
+use Rattle.std.specs.Prelude.{◌≡◌, ◌⊎◌, ℕ, ◌+◌, ◌≤◌, Bool, true, false, IsSome, List, [], ◌∷◌, ◌++◌, length, Option, Some}
 use Rattle.std.specs.Prelude.{None, Result, ⊤}
 use Rattle.std.specs.List.{AllByRecursion}
 use Rattle.std.specs.Result.{result_ok}
@@ -7,6 +7,7 @@ use Rattle.std.specs.Io.KnownBytes.{Consumes, IsAtEnd}
 use Rattle.edge_io.specs.declared.line_reader.TheConstants.{LONGEST}
 use Rattle.edge_io.specs.Lines.{HasNoLineFeed}
 use Rattle.edge_io.specs.WholeLines.{all_but_last, unlines}
+use Rattle.arena_map.specs.declared.limits.TheConstants.{MOST_FRAMES}
 use Rattle.demo_lines.specs.declared.event.Event.{Event}
 use Rattle.demo_lines.specs.declared.event.Event.TheVariants.{Frame, From, End}
 use Rattle.demo_lines.specs.declared.line.Line.{Line}
@@ -16,18 +17,20 @@ use Rattle.demo_lines.specs.declared.demo_stop.DemoStop.{DemoStop}
 use Rattle.demo_lines.specs.declared.demo_stop.DemoStop.TheVariants.{Refused, ReadFault, NoMemory}
 use Rattle.demo_lines.specs.declared.stage.Stage.{Stage}
 use Rattle.demo_lines.specs.declared.stage.Stage.TheVariants as stages
-use Rattle.demo_lines.specs.Known.{Reading, start, without_map, is_map_whole, is_over, is_refused}
+use Rattle.demo_lines.specs.Known.{Reading, start_within, without_map, is_map_whole, is_over, is_refused}
 use Rattle.demo_lines.specs.Lines.{is_end}
 use Rattle.demo_lines.specs.Recording.{next, after, events_of, event_of}
 use Rattle.demo_lines.specs.Said.{after_said}
 use Rattle.demo_lines.specs.Readings.{IsReading}
 use Rattle.demo_lines.specs.Bytes.{LineRefusal, refusal, events_in, fault_in}
 
--- a reader: what it has buffered, what is known of the recording so far, and the stop that it keeps
+-- a reader: what it has buffered, what is known of the recording so far, the stop that it keeps, and whether it was told
+-- that no line follows the recording
 pub record DemoReaderView : Type 0 where
   pub pending : List ℕ
   pub reading : Reading
   pub stop : Option DemoStop
+  pub cut : Bool
 
 -- the last of the lines is an end without a line feed, and nothing is left after it
 pub record EndsWithoutFeed (lines : List (List ℕ)) (text : List ℕ) (later : Option (List ℕ)) : Type 0 where
@@ -145,13 +148,18 @@ pub record IsDemoReader (reading : Reading) (stop : Option DemoStop) : Type 0 wh
   pub holds : IsReading reading
   pub stopped : is_refused reading.stage ≡ true → IsSome stop
 
+-- a reader that has read nothing, of a recording that may have so many frames
+abbrev pub fresh_within : ℕ → DemoReaderView
+fresh_within limit = record { pending = []; reading = start_within limit; stop = None; cut = false }
+
 -- a reader that has read nothing
 abbrev pub fresh_reader : DemoReaderView
-fresh_reader = record { pending = []; reading = start; stop = None }
+fresh_reader = fresh_within MOST_FRAMES
 
 -- the reader, after its map was given out
 abbrev pub map_taken : DemoReaderView → DemoReaderView
-map_taken demo = record { pending = demo.pending; reading = without_map demo.reading; stop = demo.stop }
+map_taken demo =
+    record { pending = demo.pending; reading = without_map demo.reading; stop = demo.stop; cut = demo.cut }
 
 -- the reader goes on
 pub record IsOpen (demo : DemoReaderView) : Type 0 where

@@ -87,7 +87,7 @@ line_said stage raw =
 abbrev pub place_fault : Reading → Line → Option LineFault
 place_fault r (OfMap line) = option_map faults.Rule (broken_by_line r.map line)
 place_fault r Frame =
-    option_or (option_map faults.Rule (broken_by_frame r)) (if nat_le MOST_FRAMES r.frames then Some faults.Count else None)
+    option_or (option_map faults.Rule (broken_by_frame r)) (if nat_le r.limit r.frames then Some faults.Count else None)
 place_fault r (From a) = if nat_le MOST_ARRIVALS r.arrivals then Some faults.Count else None
 place_fault r End = None
 

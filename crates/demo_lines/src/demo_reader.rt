@@ -17,13 +17,14 @@ use crate::event::Event;
 use crate::line::{is_end, line_at};
 use crate::line_fault::LineFault;
 use crate::reading::{Reading, event_of};
+use crate::rest::{RestBuf, next_rest};
 use crate::stage::Stage;
-use arena_map::ArenaMap;
+use arena_map::{ArenaMap, MOST_FRAMES};
 use edge_io::{LONGEST, LineBuf, LineReader, NextLine, Source};
 use std::alloc::{AllocError, Global};
 use std::marker::Model;
 
-/// Reads a recording from a source, one event after another. It holds a buffer of input, one line of it, and the map
+/// Reads a recording from a source, one event after another, and then what follows it, line by line. It holds a buffer of input, one line of it, and the map
 /// until it is taken.
 #[derive(Drop)]
 pub struct DemoReader {
@@ -31,6 +32,8 @@ pub struct DemoReader {
     line: LineBuf,
     reading: Reading,
     stop: Option<DemoStop>,
+    /// `rest` has answered false.
+    is_cut: bool,
 }
 
 impl Model for DemoReader {
@@ -38,7 +41,7 @@ impl Model for DemoReader {
 
     ghost Value = { DemoReaderView };
 
-    ghost view = { λ d. record { pending = d.lines; reading = d.reading; stop = d.stop } };
+    ghost view = { λ d. record { pending = d.lines; reading = d.reading; stop = d.stop; cut = d.is_cut } };
 
     ghost invariant = { λ d. IsDemoReader d.reading d.stop };
 }
@@ -175,14 +178,16 @@ fn next_event<S: Source>(
 }
 
 impl DemoReader {
-    ghost use Rattle.std.specs.Prelude.{◌≡◌, ◌⊎◌, ◌≤◌, ◌<◌, true, [], ◌∷◌, Ok, Err, None, Some, IfOk, IfErr, OnOk};
-    ghost use Rattle.std.specs.Prelude.{OnErr, IfSome};
+    ghost use Rattle.std.specs.Prelude.{◌≡◌, ◌⊎◌, ◌≤◌, ◌<◌, true, false, not, [], ◌∷◌, Ok, Err, None, Some, IfOk, IfErr};
+    ghost use Rattle.std.specs.Prelude.{OnOk, OnErr, IfSome, IsOk};
+    ghost use Rattle.std.specs.Bool.{OnTrue, OnFalse};
     ghost use Rattle.edge_io.specs.Counts.{HasRisen};
     ghost use Rattle.edge_io.specs.Lines.{ahead, HasNotReadAhead};
     ghost use Rattle.demo_lines.specs.Known.{is_map_whole, is_refused};
     ghost use Rattle.demo_lines.specs.Recording.{lines_left};
     ghost use Rattle.demo_lines.specs.Readings.{IsReading};
-    ghost use Rattle.demo_lines.specs.Reads.{fresh_reader, map_taken, IsOpen, Reads, ReadsFront, ReadsQuietly};
+    ghost use Rattle.demo_lines.specs.Rest.{HasRest, GivesRestLine, HasNoRestLine};
+    ghost use Rattle.demo_lines.specs.Reads.{fresh_reader, fresh_within, map_taken, IsOpen, Reads, ReadsFront, ReadsQuietly};
     ghost use Rattle.demo_lines.specs.Reads.{TakesCutEnd, stop_at, Refuses, EndsAt, KeepsMap, OnRefused, OnReadFault};
     ghost use Rattle.demo_lines.specs.Reads.{OnNoMemory, stage_after};
 
@@ -190,12 +195,31 @@ impl DemoReader {
     pub fn new(alloc: Global) -> Result<DemoReader, AllocError>
         ensures { IfOk result (λ demo. demo ≡ fresh_reader) }
     {
+        DemoReader::limited(alloc, MOST_FRAMES)
+    }
+
+    /// A reader that has read nothing, of a recording with at most so many frames: one more is refused, as with
+    /// [`new`](Self::new) the 100,001st is.
+    pub fn limited(alloc: Global, frames: u32) -> Result<DemoReader, AllocError>
+        requires { frames ≤ MOST_FRAMES }
+        ensures { IfOk result (λ demo. demo ≡ fresh_within frames) }
+    {
         Ok(DemoReader {
             lines: LineReader::new(alloc)?,
             line: LineBuf::new(alloc)?,
-            reading: Reading::new(),
+            reading: Reading::within(frames),
             stop: None,
+            is_cut: false,
         })
+    }
+
+    /// The number of the line `end` in the input, from 1. It is to be called where [`next`](Self::next) has given
+    /// [`Event::End`].
+    pub fn end_line(&self) -> u64
+        requires { self.now.reading.stage ≡ Stage.Ended }
+        ensures { result ≡ self.now.reading.lines }
+    {
+        self.reading.lines()
     }
 
     /// Gives the map, once. `None` exactly where it was taken before. It is to be called where [`next`](Self::next) has
@@ -261,6 +285,7 @@ impl DemoReader {
 
         // What the reader keeps.
         ensures map { OnOk result (KeepsMap self.old.reading self.new.reading) }
+        ensures cut { self.new.cut ≡ self.old.cut }
         ensures ok { OnOk result (self.new.stop ≡ None) }
         ensures err { IfErr result (λ stop. self.new.stop ≡ Some stop) }
         ensures stopped { IfSome self.old.stop (λ stop.
@@ -284,5 +309,59 @@ impl DemoReader {
         );
         self.stop = result.as_ref().err().copied();
         result
+    }
+
+    /// Puts the next line after the recording into `out`, which is empty, without its line feed. It is to be called
+    /// where [`next`](Self::next) has given [`Event::End`], with the same source.
+    ///
+    /// `false` exactly where the input ends before a line feed, or the line has more than [`LONGEST_REST`] bytes; each
+    /// later call then gives `false` again and reads nothing. [`DemoStop::ReadFault`] first comes only where the source's
+    /// count of faults rose, and the count rises nowhere else; each later call then gives it again. It takes no memory.
+    pub fn rest<S: Source>(&mut self, source: &mut S, out: &mut RestBuf) -> Result<bool, DemoStop>
+        requires over { self.old.reading.stage ≡ Stage.Ended }
+        requires empty { out.old ≡ [] }
+
+        // A line, or none.
+        ensures line { HasRest self.old → IfOk result (λ is. OnTrue is (GivesRestLine
+            (ahead self.old.pending (S.left source.old)) (ahead self.new.pending (S.left source.new)) out.new)) }
+        ensures none { HasRest self.old → IfOk result (λ is. OnFalse is
+            (IfSome (ahead self.old.pending (S.left source.old)) HasNoRestLine)) }
+
+        // A read fault.
+        ensures read_fault { HasRest self.old → IfErr result (λ stop. stop ≡ DemoStop.ReadFault) }
+        ensures cause { HasRest self.old → OnErr result (HasRisen (S.faults source.old) (S.faults source.new)) }
+        ensures sure { HasRest self.old → S.never_fails source.old → IsOk result }
+
+        // The source's count of faults.
+        ensures later { S.faults source.old ≤ S.faults source.new }
+        ensures uncounted { OnOk result (S.faults source.new ≡ S.faults source.old) }
+        ensures keeps { S.never_fails source.old → S.never_fails source.new }
+
+        // What the reader keeps.
+        ensures reading { self.new.reading ≡ self.old.reading }
+        ensures ok { OnOk result (self.new.stop ≡ None) }
+        ensures err { IfErr result (λ stop. self.new.stop ≡ Some stop) }
+        ensures cut { HasRest self.old → IfOk result (λ is. self.new.cut ≡ not is) }
+        ensures stopped { IfSome self.old.stop (λ stop.
+            (result ≡ Err stop) × (self.new ≡ self.old) × (source.new ≡ source.old)) }
+        ensures ended { self.old.stop ≡ None → self.old.cut ≡ true →
+            (result ≡ Ok false) × (self.new ≡ self.old) × (source.new ≡ source.old) }
+    {
+        if let Some(stop) = self.stop {
+            return Err(stop);
+        }
+        if self.is_cut {
+            return Ok(false);
+        }
+        match next_rest(&mut self.lines, &mut self.line, source, out) {
+            Ok(is_line) => {
+                self.is_cut = !is_line;
+                Ok(is_line)
+            }
+            Err(_) => {
+                self.stop = Some(DemoStop::ReadFault);
+                Err(DemoStop::ReadFault)
+            }
+        }
     }
 }

@@ -11,6 +11,7 @@ pub use laws::{
 };
 pub use line::Line;
 pub use line_fault::LineFault;
+pub use rest::{LONGEST_REST, RestBuf};
 pub use stage::Stage;
 pub use word::Word;
 
@@ -22,5 +23,6 @@ mod line;
 mod line_fault;
 mod packet;
 mod reading;
+mod rest;
 mod stage;
 mod word;

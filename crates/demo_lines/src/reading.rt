@@ -1,4 +1,4 @@
-ghost use Rattle.std.specs.Prelude.{◌≡◌, ◌↔◌, ◌<◌, ◌^◌, true, false, Some, None, Ok, Err, IsSome, IfOk, OnOk, OnErr};
+ghost use Rattle.std.specs.Prelude.{◌≡◌, ◌↔◌, ◌<◌, ◌≤◌, ◌^◌, true, false, Some, None, Ok, Err, IsSome, IfOk, OnOk, OnErr};
 ghost use Rattle.std.specs.Prelude.{option_to_list};
 ghost use Rattle.arena_map.specs.declared.map_fault.MapFault.{MapFault};
 ghost use Rattle.arena_map.specs.declared.map_fault.MapRefusal.TheVariants as refusal;
@@ -28,7 +28,9 @@ pub struct Reading {
     stage: Stage,
     /// The map, from the arena's line on, until it is given out.
     map: Option<ArenaMap>,
-    /// How many frames were opened, at most [`MOST_FRAMES`].
+    /// How many frames there may be, at most [`MOST_FRAMES`].
+    limit: u32,
+    /// How many frames were opened, at most `limit`.
     frames: u32,
     /// How many packets the open frame has so far, at most [`MOST_ARRIVALS`].
     arrivals: u32,
@@ -44,6 +46,7 @@ impl Model for Reading {
     ghost view = { λ r. record {
       stage = r.stage;
       map = r.map;
+      limit = r.limit;
       frames = r.frames;
       arrivals = r.arrivals;
       lines = r.lines;
@@ -74,14 +77,16 @@ fn add_to(map: &mut Option<ArenaMap>, alloc: Global, line: &MapLine) -> Result<(
 }
 
 impl Reading {
-    /// Before the first line.
-    pub fn new() -> Reading
-        ensures value { result ≡ known.start }
+    /// Before the first line of a recording that may have so many frames.
+    pub fn within(limit: u32) -> Reading
+        requires { limit ≤ MOST_FRAMES }
+        ensures value { result ≡ known.start_within limit }
         ensures holds { IsReading result }
     {
         Reading {
             stage: Stage::Start,
             map: None,
+            limit,
             frames: 0,
             arrivals: 0,
             lines: 0,
@@ -135,7 +140,7 @@ impl Reading {
     {
         if !self.stage.is_map_whole() && !self.has_spawn() {
             Some(LineFault::Rule(MapFault::NoSpawn))
-        } else if self.frames >= MOST_FRAMES {
+        } else if self.frames >= self.limit {
             Some(LineFault::Count)
         } else {
             None

@@ -149,7 +149,7 @@ Unbroken-spelled (ToLine slot bytes) =
     (Unbroken-encode lower_digits bytes (none_where is_line_feed lower_digits refl))
 Unbroken-spelled (EndLine frames) = Unbroken-numbered (codes "end ") frames refl
 
-each_unbroken : (lines : List OutLine) → AllByRecursion HasNoLineFeed (map spelled lines)
+pub each_unbroken : (lines : List OutLine) → AllByRecursion HasNoLineFeed (map spelled lines)
 each_unbroken [] = tt
 each_unbroken (line ∷ lines) = (All-from_recursion (λ b. (b == 10) ≡ false) (spelled line) (Unbroken-spelled line), each_unbroken lines)
 

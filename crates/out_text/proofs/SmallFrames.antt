@@ -12,13 +12,13 @@ use Rattle.demo_lines.specs.declared.line_fault.LineFault.TheVariants as faults
 use Rattle.demo_lines.specs.declared.event.Event.{Event}
 use Rattle.demo_lines.specs.declared.event.Event.TheVariants as events
 use Rattle.demo_lines.specs.Machines.{run_of}
-use Rattle.demo_lines.specs.Known.{Reading, start, is_over}
+use Rattle.demo_lines.specs.Known.{Reading, start_within, is_over}
 use Rattle.demo_lines.specs.Said.{place_fault}
 use Rattle.demo_lines.specs.Recording.{next, event_of, events_of_line, events_of}
 use Rattle.demo_lines.specs.Bytes.{lines_of}
 use Rattle.demo_lines.proofs.Machines.{run_of-append}
 use Rattle.demo_lines.proofs.Taking.{IsTaken}
-use Rattle.out_text.specs.Collecting.{Frames, collect, closing, no_frames, frames_of}
+use Rattle.out_text.specs.Collecting.{Frames, collect, collected, closing, no_frames, frames_of}
 use Rattle.out_text.proofs.Saying.{IsSound}
 use Rattle.out_text.proofs.Fitting.{IsShort, FitsLine}
 use Rattle.out_text.proofs.EachLine.{of_each_line}
@@ -114,10 +114,16 @@ small_lines r (l ∷ ls) f agrees small =
     subst AreSmall (sym (run_of-append {E = Event} collect (λ _ _. []) f (events_of_line r l) (events_of (next r l) ls))) rest
 
 -- a recording's frames are small
+pub frames_are_small_of : (limit : ℕ) (ls : List (List ℕ)) → AreSmallFrames (collected (events_of (start_within limit) ls)).closed
+frames_are_small_of limit ls =
+    let r = start_within limit in
+    let none : NoneYet r no_frames = record { closed = refl; opened = refl; frames = refl } in
+    (small_lines r ls no_frames none (record { closed = tt; opened = tt })).closed
+
+-- so are those of a recording
 pub frames_are_small : (bytes : List ℕ) → AreSmallFrames (frames_of bytes)
 frames_are_small bytes =
-    let none : NoneYet start no_frames = record { closed = refl; opened = refl; frames = refl } in
-    (small_lines start (lines_of bytes) no_frames none (record { closed = tt; opened = tt })).closed
+    frames_are_small_of 100000 (lines_of bytes)
 
 first_are_small : (xs ys : List (List Arrival)) → AreSmallFrames (xs ++ ys) → AreSmallFrames xs
 first_are_small [] ys p = tt

@@ -4,7 +4,7 @@ use Rattle.packet_read.specs.declared.arrival.Arrival.{Arrival}
 use Rattle.demo_lines.specs.declared.event.Event.{Event}
 use Rattle.demo_lines.specs.declared.event.Event.TheVariants.{Frame, From, End}
 use Rattle.demo_lines.specs.Machines.{run_of}
-use Rattle.demo_lines.specs.Bytes.{events}
+use Rattle.demo_lines.specs.Bytes.{events, events_within}
 
 -- the frames that are closed, each with its packets, and the packets of the frame that is open
 pub record Frames : Type 0 where
@@ -30,6 +30,10 @@ collect frames End = record { closed = frames.closed ++ closing frames.opened; o
 -- the frames that these events make
 abbrev pub collected : List Event → Frames
 collected es = run_of collect no_frames es
+
+-- the frames that a recording closes, which may have so many, each with its packets
+abbrev pub frames_within : ℕ → List ℕ → List (List Arrival)
+frames_within limit bytes = (collected (events_within limit bytes)).closed
 
 -- the frames that a recording closes, each with its packets
 abbrev pub frames_of : List ℕ → List (List Arrival)

@@ -33,6 +33,7 @@ pub mod Ranges
 pub mod Collecting
 pub mod Output
 pub mod Feeds
+pub mod Transcripts
 pub mod OneTaker
 pub mod ToLines
 pub mod PacketLines

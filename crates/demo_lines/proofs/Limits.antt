@@ -1,0 +1,35 @@
+-- A limit of frames decides which frame is one too many, and nothing else.
+use Rattle.std.proofs.Common.{◌≡◌, ℕ, ◌+◌, ◌≤◌, ◌<◌, Bool, true, false, nat_le, List, [], ◌∷◌, ◌++◌, Option, Some, None, Result, Ok, Err, IfOk, option_map, cond, ◌⊎◌, inl, inr, refl, sym, ap, ◌∙◌, subst, arith}
+use Rattle.std.specs.Option.{option_or}
+use Rattle.std.proofs.lemmas.Bool.Decides.{nat_tests}
+use Rattle.arena_map.specs.declared.map_fault.MapFault.{MapFault}
+use Rattle.demo_lines.specs.declared.stage.Stage.TheVariants.{Refused}
+use Rattle.demo_lines.specs.declared.line.Line.{Line}
+use Rattle.demo_lines.specs.declared.line.Line.TheVariants.{OfMap, Frame, From, End}
+use Rattle.demo_lines.specs.declared.line_fault.LineFault.{LineFault}
+use Rattle.demo_lines.specs.declared.line_fault.LineFault.TheVariants as faults
+use Rattle.demo_lines.specs.Known.{Reading, is_over, is_refused, at_stage}
+use Rattle.demo_lines.specs.Faults.{broken_by_frame}
+use Rattle.demo_lines.specs.Recording.{next, after_line, after_test, after}
+use Rattle.demo_lines.specs.Said.{place_fault, after_said}
+use Rattle.demo_lines.proofs.Taking.{IsTaken}
+use Rattle.demo_lines.proofs.MapGiven.{after_any_line}
+
+test-limit : (r : Reading) (fault : Option LineFault) (line : Line) → (after_test r fault (Some line)).limit ≡ r.limit
+test-limit r (Some why) line = refl
+test-limit r None (OfMap line) = refl
+test-limit r None Frame = refl
+test-limit r None (From a) = refl
+test-limit r None End = refl
+
+said-limit : (r : Reading) (said : Result Line LineFault) → is_over r.stage ≡ false → IfOk said (IsTaken r.stage) → (after_said r said).limit ≡ r.limit
+said-limit r (Ok line) going is = test-limit r (place_fault r line) line
+said-limit r (Err why) going is = refl
+
+-- a line leaves the limit
+pub next-limit : (r : Reading) (raw : List ℕ) → (next r raw).limit ≡ r.limit
+next-limit r raw = after_any_line (λ r s. s.limit ≡ r.limit) (λ r over. refl) (λ r going. refl) said-limit r raw
+
+pub after-limit : (r : Reading) (lines : List (List ℕ)) → (after r lines).limit ≡ r.limit
+after-limit r [] = refl
+after-limit r (line ∷ lines) = after-limit (next r line) lines ∙ next-limit r line

@@ -1,0 +1,97 @@
+-- Parts of a line that follows a recording, read one after another.
+use Rattle.std.proofs.Common.{◌≡◌, ℕ, ◌+◌, ◌≤◌, ◌<◌, ◌==◌, true, false, List, [], ◌∷◌, ◌++◌, length, Option, Some, None, IfSome, refl, sym, ap, ◌∙◌, subst, append_assoc, length-append, arith}
+use Rattle.std.specs.Prelude.{All}
+use Rattle.std.specs.List.{AllByRecursion}
+use Rattle.std.specs.Io.KnownBytes.{Consumes, IsAtEnd, prepend_known}
+use Rattle.std.proofs.KnownBytes.{Consumes-trans, Consumes-nil}
+use Rattle.std.proofs.lemmas.List.Elements.{All-nil, All-append, All-head, All-tail}
+use Rattle.edge_io.specs.Lines.{HasNoLineFeed, GivesLine, GivesLongFront, GivesLastPart, OnWhole, OnLong, OnEnded}
+use Rattle.edge_io.specs.declared.line_reader.NextLine.{NextLine}
+use Rattle.edge_io.specs.declared.line_reader.NextLine.TheVariants.{Whole, Long, Ended}
+use Rattle.demo_lines.specs.Rest.{GivesRestLine, HasNoRestLine}
+
+-- the front of a line was taken off what was ahead
+pub record TakesFront (old new : Option (List ℕ)) (front : List ℕ) : Type 0 where
+  pub consumed : Consumes old new front
+  pub one_line : HasNoLineFeed front
+
+pub no_front : (a : Option (List ℕ)) → TakesFront a a []
+no_front a = record { consumed = Consumes-nil a; one_line = All-nil (λ b. (b == 10) ≡ false) }
+
+both_without : (xs ys : List ℕ) → HasNoLineFeed xs → HasNoLineFeed ys → HasNoLineFeed (xs ++ ys)
+both_without xs ys one more = All-append (λ b. (b == 10) ≡ false) xs ys one more
+
+-- one part more
+pub longer_front : (a b c : Option (List ℕ)) (front part : List ℕ) → TakesFront a b front → Consumes b c part → HasNoLineFeed part → TakesFront a c (front ++ part)
+longer_front a b c front part is consumed one_line = record {
+  consumed = Consumes-trans a b c front part is.consumed consumed;
+  one_line = both_without front part is.one_line one_line;
+}
+
+-- the last part, and the line feed
+pub line_of : (a b c : Option (List ℕ)) (front part : List ℕ) → TakesFront a b front → Consumes b c (part ++ 10 ∷ []) → HasNoLineFeed part → length (front ++ part) ≤ 16500
+    → GivesRestLine a c (front ++ part)
+line_of a b c front part is consumed one_line fits = record {
+  consumed = subst (Consumes a c) (sym (append_assoc front part (10 ∷ []))) (Consumes-trans a b c front (part ++ 10 ∷ []) is.consumed consumed);
+  one_line = both_without front part is.one_line one_line;
+  fits = fits;
+}
+
+-- a line is as long as each front of it without a line feed
+front_within : (front rest line after : List ℕ) → HasNoLineFeed front → front ++ rest ≡ line ++ 10 ∷ after → length front ≤ length line
+front_within [] rest line after one_line is = omega arith
+front_within (b ∷ front) rest [] after one_line is =
+    let first : b ≡ 10 = cc in
+    let none : (b == 10) ≡ false = All-head (λ x. (x == 10) ≡ false) b front one_line in
+    let never : true ≡ false = subst (λ x. (x == 10) ≡ false) first none in
+    cc
+front_within (b ∷ front) rest (x ∷ line) after one_line is =
+    let more : front ++ rest ≡ line ++ 10 ∷ after = cc in
+    let shorter = front_within front rest line after (All-tail (λ y. (y == 10) ≡ false) b front one_line) more in
+    omega (arith, shorter)
+
+-- the line is too long
+pub too_long : (a b : Option (List ℕ)) (front : List ℕ) → TakesFront a b front → 16500 < length front → IfSome a HasNoRestLine
+too_long None b front is long = tt
+too_long (Some bytes) None front is long = absurd is.consumed
+too_long (Some bytes) (Some left) front is long = λ line after one_line fits same.
+    let within = front_within front left line after is.one_line (sym is.consumed ∙ same) in
+    let never : 16500 < 16500 = omega (arith, long, fits, within) in
+    absurd (omega (arith, never))
+
+longer-than : (line after : List ℕ) → length line < length (line ++ 10 ∷ after)
+longer-than line after = omega (arith, length-append line (10 ∷ after))
+
+-- what is ahead has no line feed
+pub no_line_feed : (a b : Option (List ℕ)) (front : List ℕ) → TakesFront a b front → IsAtEnd b → IfSome a HasNoRestLine
+no_line_feed None b front is end = tt
+no_line_feed (Some bytes) None front is end = absurd is.consumed
+no_line_feed (Some bytes) (Some left) front is end = λ line after one_line fits same.
+    let all : front ++ [] ≡ line ++ 10 ∷ after = ap (λ x. front ++ x) (sym end) ∙ sym is.consumed ∙ same in
+    let within = front_within front [] line after is.one_line all in
+    let whole : length (front ++ []) ≡ length (line ++ 10 ∷ after) = ap length all in
+    let never : length line < length line = omega (arith, whole, length-append front [], longer-than line after, within) in
+    absurd (omega (arith, never))
+
+-- a part of a line was taken off what was ahead, and maybe a line feed after it
+pub record TakesPart (old : Option (List ℕ)) (part : List ℕ) : Type 0 where
+  pub left : Option (List ℕ)
+  pub consumed : Consumes old left part
+  pub one_line : HasNoLineFeed part
+
+before_feed : (a b : Option (List ℕ)) (part : List ℕ) → Consumes a b (part ++ 10 ∷ []) → Consumes a (prepend_known (10 ∷ []) b) part
+before_feed None b part is = tt
+before_feed (Some bytes) None part is = absurd is
+before_feed (Some bytes) (Some left) part is = is ∙ append_assoc part (10 ∷ []) left
+
+-- whatever was given, a part of a line was taken
+pub part_taken : (next : NextLine) (a b : Option (List ℕ)) (part pending : List ℕ) → OnWhole next (GivesLine a b part) → OnLong next (GivesLongFront a b part)
+    → OnEnded next (GivesLastPart a b part pending) → TakesPart a part
+part_taken Whole a b part pending whole long ended = record { left = prepend_known (10 ∷ []) b; consumed = before_feed a b part whole.consumed; one_line = whole.one_line }
+part_taken Long a b part pending whole long ended = record { left = b; consumed = long.consumed; one_line = long.one_line }
+part_taken Ended a b part pending whole long ended = record { left = b; consumed = ended.front.consumed; one_line = ended.front.one_line }
+
+-- with the part the line is too long
+pub part_too_long : (a b : Option (List ℕ)) (front part : List ℕ) → TakesFront a b front → TakesPart b part → 16500 < length (front ++ part) → IfSome a HasNoRestLine
+part_too_long a b front part is takes long =
+    too_long a takes.left (front ++ part) (longer_front a b takes.left front part is takes.consumed takes.one_line) long

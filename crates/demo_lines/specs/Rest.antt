@@ -1,0 +1,22 @@
+-- What follows a recording, line by line. A line feed is the byte 10.
+use Rattle.std.specs.Prelude.{◌≡◌, ℕ, ◌≤◌, false, List, [], ◌∷◌, ◌++◌, length, Option, None}
+use Rattle.std.specs.Io.KnownBytes.{Consumes}
+use Rattle.edge_io.specs.Lines.{HasNoLineFeed}
+use Rattle.demo_lines.specs.declared.rest.TheConstants.{LONGEST_REST}
+use Rattle.demo_lines.specs.Reads.{DemoReaderView}
+
+-- the reader hasn't been told yet that no line follows, and no read has failed
+pub record HasRest (demo : DemoReaderView) : Type 0 where
+  pub no_stop : demo.stop ≡ None
+  pub not_cut : demo.cut ≡ false
+
+-- a line and its line feed were taken off what was ahead, and the line isn't too long
+pub record GivesRestLine (old new : Option (List ℕ)) (line : List ℕ) : Type 0 where
+  pub consumed : Consumes old new (line ++ 10 ∷ [])
+  pub one_line : HasNoLineFeed line
+  pub fits : length line ≤ LONGEST_REST
+
+-- the bytes begin with no such line
+abbrev pub HasNoRestLine : List ℕ → Type 0
+HasNoRestLine bytes =
+    (line after : List ℕ) → HasNoLineFeed line → length line ≤ LONGEST_REST → bytes ≡ line ++ 10 ∷ after → ⊥

@@ -1,0 +1,404 @@
+-- The frames of a transcript that were read so far, each with the one right journal whose lines are there.
+use Rattle.std.proofs.Common.{◌≡◌, ℕ, zero, suc, ◌+◌, ◌*◌, ◌-◌, ◌^◌, ◌≤◌, ◌<◌, min, List, [], ◌∷◌, ◌++◌, length, take, drop, get_or, Option, Some, None, IfSome, refl, sym, ap, ◌∙◌, subst, add-zero, append_assoc, append-nil, arith, length-append, take-append-drop}
+use Rattle.std.specs.Prelude.{⊤}
+use Rattle.edge_io.specs.declared.source.Source as sources
+use Rattle.entity_recs.specs.declared.effect.Entry.{Entry}
+use Rattle.arena_map.specs.Maps.{MapView}
+use Rattle.packet_read.specs.declared.arrival.Arrival.{Arrival}
+use Rattle.client_ports.specs.States.{State}
+use Rattle.client_ports.specs.Receiving.{Receiving}
+use Rattle.plain_server.specs.RecordsById.{opening}
+use Rattle.plain_server.specs.Frames.{received_in, state_after, state_played, first_of, rest_of, IsRightAfter, AreRight}
+use Rattle.demo_lines.specs.Reads.{DemoReaderView}
+use Rattle.demo_lines.specs.Rest.{HasRest}
+use Rattle.out_text.specs.FrameLines.{lines_with, run_lines}
+use Rattle.out_text.specs.OutLines.{OutLine, EndLine, printed, text_of}
+use Rattle.out_text.specs.Transcripts.{BeginsWith, run_moves, IsTranscript, HasRightPieces, IsWrongAfter}
+use Rattle.out_text.proofs.Runs.{length-right, run_lines-append, run_lines-push, state_played-push, right-push, right-split_last, right-take, text_of-append}
+use Rattle.transcript_check.specs.Reading.{counted, ahead_of, ReadsLines, Misses}
+use Rattle.transcript_check.specs.Checkers.{CheckerView, new_checker, IsChecker}
+use Rattle.transcript_check.specs.Pieces.{HasNoJournal, TakesFrame}
+use Rattle.transcript_check.specs.Verdicts.{IsRight, IsWrongAt, IsVerdict}
+use Rattle.transcript_check.specs.declared.verdict.Verdict.TheVariants.{Right, Wrong}
+use Rattle.transcript_check.proofs.Texts.{text_of-one, begins-after, begins-front, if_some-over, if_some-all}
+use Rattle.transcript_check.proofs.ReadingOn.{counted-both, reads-none, reads-both}
+
+next_number : (frame n : ℕ) → frame + 1 + n ≡ frame + suc n
+next_number frame n = omega arith
+
+-- the moves of one frame more
+run_moves-push : (map : MapView) (frame : ℕ) (s : State) (frames : List (List Arrival)) (arrivals : List Arrival) (js : List (List Entry)) (j : List Entry) → length js ≡ length frames
+    → run_moves map frame s (frames ++ arrivals ∷ []) (js ++ j ∷ [])
+    ≡ run_moves map frame s frames js + length (received_in map (frame + length frames) (state_played map frame s frames js) arrivals).lists.moves
+run_moves-push map frame s [] arrivals [] j same =
+    let here = ap (λ n. length (received_in map n s arrivals).lists.moves) (add-zero frame) in
+    omega (arith, here)
+run_moves-push map frame s [] arrivals (k ∷ js) j same = absurd (omega (arith, same))
+run_moves-push map frame s (x ∷ frames) arrivals [] j same = absurd (omega (arith, same))
+run_moves-push map frame s (x ∷ frames) arrivals (k ∷ js) j same =
+    let next = state_after map (received_in map frame s x) k in
+    let rest = run_moves-push map (frame + 1) next frames arrivals js j (omega (arith, same)) in
+    let here = ap (λ n. length (received_in map n (state_played map (frame + 1) next frames js) arrivals).lists.moves) (next_number frame (length frames)) in
+    omega (arith, rest, here)
+
+-- a list with one item more than another has a last one
+record IsPushed (n : ℕ) (ls : List (List Entry)) : Type 0 where
+  front : List (List Entry)
+  last : List Entry
+  is : ls ≡ front ++ last ∷ []
+  same : length front ≡ n
+
+pushed : (n : ℕ) (ls : List (List Entry)) → length ls ≡ n + 1 → IsPushed n ls
+pushed n [] same = absurd (omega (arith, same))
+pushed zero (x ∷ []) same = record { front = []; last = x; is = refl; same = refl }
+pushed zero (x ∷ y ∷ ls) same = absurd (omega (arith, same))
+pushed (suc n) (x ∷ ls) same =
+    let rest = pushed n ls (omega (arith, same)) in
+    record { front = x ∷ rest.front; last = rest.last; is = ap (λ (ys : List (List Entry)). x ∷ ys) rest.is; same = ap suc rest.same }
+
+-- a count of few lines is their number
+pub counted-few : (n : ℕ) → n ≤ 2000 * 100000 → counted 0 n ≡ n
+counted-few zero few = refl
+counted-few (suc n) few = omega (arith, few)
+
+-- no journals are those of no frames
+no-journals : (map : MapView) (s : State) (js : List (List Entry)) → AreRight map 0 s [] js → js ≡ []
+no-journals map s [] right = refl
+no-journals map s (j ∷ js) right = absurd right
+
+-- the bytes begin with the text of these frames with right journals only where the journals are these
+abbrev pub HasOnly : MapView → List (List Arrival) → List (List Entry) → List ℕ → Type 0
+HasOnly map frames js bytes =
+    (others : List (List Entry)) → AreRight map 0 (opening map) frames others → BeginsWith bytes (text_of (run_lines map 0 (opening map) frames others)) → others ≡ js
+
+module _ (map : MapView) (done : List (List Arrival)) (arrivals : List Arrival) (js : List (List Entry)) (bytes left : List ℕ) (begun : bytes ≡ text_of (run_lines map 0 (opening map) done js) ++ left)
+    (only : HasOnly map done js bytes) where
+  -- what is received next, after these journals
+  abbrev received_after : List (List Entry) → Receiving
+  received_after ks = received_in map (0 + length done) (state_played map 0 (opening map) done ks) arrivals
+
+  -- a right journal of the next frame, whose lines are there
+  record NextThere (k : List Entry) : Type 0 where
+    right : IsRightAfter map (received_after js) k
+    begins : BeginsWith left (text_of (lines_with map (0 + length done) (received_after js) k))
+
+  -- journals of one frame more whose lines are there are these, and one more that is right
+  record MoreThere (others : List (List Entry)) : Type 0 where
+    last : List Entry
+    is : others ≡ js ++ last ∷ []
+    there : NextThere last
+
+  more-there : (others : List (List Entry)) → AreRight map 0 (opening map) (done ++ arrivals ∷ []) others → BeginsWith bytes (text_of (run_lines map 0 (opening map) (done ++ arrivals ∷ []) others)) → MoreThere others
+  more-there others right begins =
+      let long : length others ≡ length done + 1 = length-right map 0 (opening map) (done ++ arrivals ∷ []) others right ∙ length-append done (arrivals ∷ []) in
+      let p = pushed (length done) others long in
+      by p.front p.last p.same p.is (subst (AreRight map 0 (opening map) (done ++ arrivals ∷ [])) p.is right)
+      (subst (λ (ls : List (List Entry)). BeginsWith bytes (text_of (run_lines map 0 (opening map) (done ++ arrivals ∷ []) ls))) p.is begins)
+    where
+      by : (ks : List (List Entry)) (k : List Entry) → length ks ≡ length done → others ≡ ks ++ k ∷ [] → AreRight map 0 (opening map) (done ++ arrivals ∷ []) (ks ++ k ∷ [])
+          → BeginsWith bytes (text_of (run_lines map 0 (opening map) (done ++ arrivals ∷ []) (ks ++ k ∷ []))) → MoreThere others
+      by ks k same is right begins =
+          let parts = right-split_last map 0 (opening map) done arrivals ks k same right in
+          let front = run_lines map 0 (opening map) done ks in
+          let here = lines_with map (0 + length done) (received_after ks) k in
+          let text = ap text_of (run_lines-push map 0 (opening map) done arrivals ks k same) ∙ text_of-append front here in
+          let begins' : BeginsWith bytes (text_of front ++ text_of here) = subst (BeginsWith bytes) text begins in
+          let ks_are : ks ≡ js = only ks parts.0 (begins-front bytes (text_of front) (text_of here) begins') in
+          let Q : List (List Entry) → Type 0 = λ ls. IsRightAfter map (received_after ls) k in
+          let T : List (List Entry) → Type 0 = λ ls. BeginsWith bytes (text_of (run_lines map 0 (opening map) done ls) ++ text_of (lines_with map (0 + length done) (received_after ls) k)) in
+          record {
+            last = k;
+            is = is ∙ ap (λ (ls : List (List Entry)). ls ++ k ∷ []) ks_are;
+            there = record {
+              right = subst Q ks_are parts.1;
+              begins = begins-after bytes left (text_of (run_lines map 0 (opening map) done js)) (text_of (lines_with map (0 + length done) (received_after js) k)) begun (subst T ks_are begins');
+            };
+          }
+
+  -- where no other journal of the next frame is there, none is with these
+  only-pushed : (j : List Entry) → ((k : List Entry) → IsRightAfter map (received_after js) k → BeginsWith left (text_of (lines_with map (0 + length done) (received_after js) k)) → k ≡ j)
+      → HasOnly map (done ++ arrivals ∷ []) (js ++ j ∷ []) bytes
+  only-pushed j next = λ others right begins.
+      let more = more-there others right begins in
+      more.is ∙ ap (λ (k : List Entry). js ++ k ∷ []) (next more.last more.there.right more.there.begins)
+
+  -- where none of the next frame is there, no journals of one frame more are
+  none-pushed : HasNoJournal (IsRightAfter map (received_after js)) (lines_with map (0 + length done) (received_after js)) left
+      → (others : List (List Entry)) → AreRight map 0 (opening map) (done ++ arrivals ∷ []) others → BeginsWith bytes (text_of (run_lines map 0 (opening map) (done ++ arrivals ∷ []) others)) → ⊥
+  none-pushed none others right begins =
+      let more = more-there others right begins in
+      none more.last more.there.right more.there.begins
+
+-- ---- pieces
+
+take-done : (done more : List (List Arrival)) → take (length done) (done ++ more) ≡ done
+take-done [] more = refl
+take-done (x ∷ done) more = ap (λ (xs : List (List Arrival)). x ∷ xs) (take-done done more)
+
+take-one_more : (done : List (List Arrival)) (arrivals : List Arrival) (more : List (List Arrival)) → take (length done + 1) (done ++ arrivals ∷ more) ≡ done ++ arrivals ∷ []
+take-one_more [] arrivals more = refl
+take-one_more (x ∷ done) arrivals more =
+    let next : length (x ∷ done) + 1 ≡ suc (length done + 1) = omega arith in
+    ap (λ n. take n (x ∷ done ++ arrivals ∷ more)) next ∙ ap (λ (xs : List (List Arrival)). x ∷ xs) (take-one_more done arrivals more)
+
+same_taken : (k : ℕ) (frames : List (List Arrival)) (js : List (List Entry)) → length js ≡ length frames → length (take k js) ≡ length (take k frames)
+same_taken zero frames js same = refl
+same_taken (suc k) [] [] same = refl
+same_taken (suc k) [] (j ∷ js) same = cc
+same_taken (suc k) (x ∷ frames) [] same = cc
+same_taken (suc k) (x ∷ frames) (j ∷ js) same = let rest : length js ≡ length frames = cc in ap suc (same_taken k frames js rest)
+
+-- a right transcript has right pieces
+pub pieces-right : (map : MapView) (frames : List (List Arrival)) (bytes : List ℕ) (k : ℕ) → k ≤ length frames → IsTranscript map frames bytes → HasRightPieces map frames bytes k
+pieces-right map frames bytes k few t =
+    let js = t.journals in
+    let s = opening map in
+    let first = take k frames in
+    let front = run_lines map 0 s first (take k js) in
+    let rest = run_lines map (0 + length first) (state_played map 0 s first (take k js)) (drop k frames) (drop k js) in
+    let both = run_lines-append map 0 s first (drop k frames) (take k js) (drop k js) (same_taken k frames js (length-right map 0 s frames js t.right)) in
+    let whole : run_lines map 0 s frames js ≡ front ++ rest =
+    ap (λ (fs : List (List Arrival)). run_lines map 0 s fs js) (sym (take-append-drop k frames))
+    ∙ ap (λ (ls : List (List Entry)). run_lines map 0 s (first ++ drop k frames) ls) (sym (take-append-drop k js)) ∙ both in
+    let end = EndLine (length frames) ∷ [] in
+    let text : text_of (run_lines map 0 s frames js ++ end) ≡ text_of front ++ text_of (rest ++ end) =
+    ap (λ (ls : List OutLine). text_of (ls ++ end)) whole ∙ ap text_of (append_assoc front rest end) ∙ text_of-append front (rest ++ end) in
+    record {
+      few = few;
+      journals = take k js;
+      right = right-take map 0 s k frames js t.right;
+      begins = begins-front bytes (text_of front) (text_of (rest ++ end)) (subst (BeginsWith bytes) text t.begins);
+    }
+
+-- the pieces so far are right, and the next one is wrong
+wrong-pieces : (map : MapView) (done : List (List Arrival)) (arrivals : List Arrival) (more : List (List Arrival)) (js : List (List Entry)) (bytes left : List ℕ)
+    → AreRight map 0 (opening map) done js → bytes ≡ text_of (run_lines map 0 (opening map) done js) ++ left
+    → ((others : List (List Entry)) → AreRight map 0 (opening map) (done ++ arrivals ∷ []) others → BeginsWith bytes (text_of (run_lines map 0 (opening map) (done ++ arrivals ∷ []) others)) → ⊥)
+    → IsWrongAfter map (done ++ arrivals ∷ more) bytes (length (run_lines map 0 (opening map) done js))
+wrong-pieces map done arrivals more js bytes left right is never =
+    let frames = done ++ arrivals ∷ more in
+    let first = take-done done (arrivals ∷ more) in
+    let long : length frames ≡ length done + length (arrivals ∷ more) = length-append done (arrivals ∷ more) in
+    let no_more : HasRightPieces map frames bytes (length done + 1) → ⊥ =
+    λ p. never p.journals (subst (λ (fs : List (List Arrival)). AreRight map 0 (opening map) fs p.journals) (take-one_more done arrivals more) p.right)
+    (subst (λ (fs : List (List Arrival)). BeginsWith bytes (text_of (run_lines map 0 (opening map) fs p.journals))) (take-one_more done arrivals more) p.begins) in
+    record {
+      k = length done;
+      pieces = record {
+        few = omega (arith, long);
+        journals = js;
+        right = subst (λ (fs : List (List Arrival)). AreRight map 0 (opening map) fs js) (sym first) right;
+        begins = record { after = left; is = is ∙ ap (λ (fs : List (List Arrival)). text_of (run_lines map 0 (opening map) fs js) ++ left) (sym first) };
+      };
+      no_more = no_more;
+      not_all = λ t. no_more (pieces-right map frames bytes (length done + 1) (omega (arith, long)) t);
+      lines_are = ap (λ (fs : List (List Arrival)). length (run_lines map 0 (opening map) fs js)) (sym first);
+    }
+
+-- all pieces of frames are right, and the last line is wrong
+endless-pieces : (map : MapView) (frames : List (List Arrival)) (js : List (List Entry)) (bytes left : List ℕ) → AreRight map 0 (opening map) frames js
+    → bytes ≡ text_of (run_lines map 0 (opening map) frames js) ++ left → HasOnly map frames js bytes → (BeginsWith left (printed (EndLine (length frames))) → ⊥)
+    → IsWrongAfter map frames bytes (length (run_lines map 0 (opening map) frames js))
+endless-pieces map frames js bytes left right is only none =
+    let all : take (length frames) frames ≡ frames = ap (take (length frames)) (sym (append-nil frames)) ∙ take-done frames [] in
+    let end = EndLine (length frames) in
+    let not_all : IsTranscript map frames bytes → ⊥ =
+    λ t. (let lines = run_lines map 0 (opening map) frames t.journals in
+    let begins : BeginsWith bytes (text_of lines ++ printed end) = subst (BeginsWith bytes) (text_of-append lines (end ∷ []) ∙ ap (λ x. text_of lines ++ x) (text_of-one end)) t.begins in
+    let same : t.journals ≡ js = only t.journals t.right (begins-front bytes (text_of lines) (printed end) begins) in
+    let here : BeginsWith bytes (text_of (run_lines map 0 (opening map) frames js) ++ printed end) =
+    subst (λ (ls : List (List Entry)). BeginsWith bytes (text_of (run_lines map 0 (opening map) frames ls) ++ printed end)) same begins in
+    none (begins-after bytes left (text_of (run_lines map 0 (opening map) frames js)) (printed end) is here)) in
+    record {
+      k = length frames;
+      pieces = record {
+        few = omega arith;
+        journals = js;
+        right = subst (λ (fs : List (List Arrival)). AreRight map 0 (opening map) fs js) (sym all) right;
+        begins = record { after = left; is = is ∙ ap (λ (fs : List (List Arrival)). text_of (run_lines map 0 (opening map) fs js) ++ left) (sym all) };
+      };
+      no_more = λ p. (let few = p.few in absurd (omega (arith, few)));
+      not_all = not_all;
+      lines_are = ap (λ (fs : List (List Arrival)). length (run_lines map 0 (opening map) fs js)) (sym all);
+    }
+
+-- these frames were read
+pub record FramesSoFar {S : Type 0} (s : sources.Ghosts S) (map : MapView) (done : List (List Arrival)) (old now : S) (demo demo' : DemoReaderView) (c : CheckerView) : Type 0 where
+  pub journals : List (List Entry)
+  pub right : AreRight map 0 (opening map) done journals
+  pub reads : ReadsLines s old now demo demo' (run_lines map 0 (opening map) done journals)
+  pub only : IfSome (ahead_of s demo old) (HasOnly map done journals)
+  pub map_is : c.map ≡ map
+  pub state_is : c.state ≡ state_played map 0 (opening map) done journals
+  pub frames_are : c.frames ≡ 0 + length done
+  pub moves_are : c.moves ≡ run_moves map 0 (opening map) done journals
+  pub moves_few : c.moves ≤ 512 * length done
+  pub count_is : c.count ≡ counted 0 (length (run_lines map 0 (opening map) done journals))
+  pub few : length (run_lines map 0 (opening map) done journals) ≤ 2000 * length done
+  pub is : IsChecker c.map c.state
+
+module _ {S : Type 0} (s : sources.Ghosts S) (map : MapView) where
+  -- none were read
+  pub so-far-none : (old : S) (demo : DemoReaderView) (c : CheckerView) → HasRest demo → c ≡ new_checker map → IsChecker c.map c.state → FramesSoFar s map [] old old demo demo c
+  so-far-none old demo c may new is = record {
+    journals = [];
+    right = tt;
+    reads = reads-none s old demo may;
+    only = if_some-all (ahead_of s demo old) (HasOnly map [] []) (λ bytes others right begins. no-journals map (opening map) others right);
+    map_is = ap (λ (u : CheckerView). u.map) new;
+    state_is = ap (λ (u : CheckerView). u.state) new;
+    frames_are = ap (λ (u : CheckerView). u.frames) new;
+    moves_are = ap (λ (u : CheckerView). u.moves) new;
+    moves_few = (let m = ap (λ (u : CheckerView). u.moves) new in omega (arith, m));
+    count_is = ap (λ (u : CheckerView). u.count) new;
+    few = omega arith;
+    is = is;
+  }
+
+  module _ (done : List (List Arrival)) (old now : S) (demo demo' : DemoReaderView) (c : CheckerView) (so : FramesSoFar s map done old now demo demo' c) (arrivals : List Arrival) where
+    -- the checker, as what was read says
+    abbrev checker_after : CheckerView
+    checker_after = record { map = map; state = state_played map 0 (opening map) done so.journals; frames = 0 + length done; moves = c.moves; count = c.count }
+
+    checker_is : c ≡ checker_after
+    checker_is = λ i. record { map = so.map_is i; state = so.state_is i; frames = so.frames_are i; moves = c.moves; count = c.count }
+
+    abbrev received_next : Receiving
+    received_next = received_in map (0 + length done) (state_played map 0 (opening map) done so.journals) arrivals
+
+    -- one more was read
+    pub so-far-pushed : (new : S) (demo'' : DemoReaderView) (c' : CheckerView) → TakesFrame s now new demo' demo'' c c' arrivals → FramesSoFar s map (done ++ arrivals ∷ []) old new demo demo'' c'
+    so-far-pushed new demo'' c' taken =
+        let t : TakesFrame s now new demo' demo'' checker_after c' arrivals = subst (λ (u : CheckerView). TakesFrame s now new demo' demo'' u c' arrivals) checker_is taken in
+        let js = so.journals in
+        let j = t.journal in
+        let same = length-right map 0 (opening map) done js so.right in
+        let front = run_lines map 0 (opening map) done js in
+        let here = lines_with map (0 + length done) received_next j in
+        let both = run_lines-push map 0 (opening map) done arrivals js j same in
+        let long = ap length both ∙ length-append front here in
+        let more = length-append done (arrivals ∷ []) in
+        let counts = t.count_is ∙ ap (λ n. counted n (length here)) so.count_is ∙ counted-both 0 (length front) (length here) ∙ ap (counted 0) (sym long) in
+        let moves = run_moves-push map 0 (opening map) done arrivals js j same in
+        record {
+          journals = js ++ j ∷ [];
+          right = right-push map 0 (opening map) done arrivals js j so.right t.reads.right;
+          reads = subst (ReadsLines s old new demo demo'') (sym both) (reads-both s old now new demo demo' demo'' front here so.reads t.reads.reads);
+          only = if_some-over (ahead_of s demo old) (ahead_of s demo' now) (text_of front) (HasOnly map done js)
+              (λ bytes. (other : List Entry) → IsRightAfter map received_next other → BeginsWith bytes (text_of (lines_with map (0 + length done) received_next other)) → other ≡ j)
+              (HasOnly map (done ++ arrivals ∷ []) (js ++ j ∷ [])) so.reads.consumed so.only t.reads.only
+              (λ bytes left is only next. only-pushed map done arrivals js bytes left is only j next);
+          map_is = t.map_is;
+          state_is = t.state_is ∙ sym (state_played-push map 0 (opening map) done arrivals js j same);
+          frames_are = (let f = t.frames_are in omega (arith, f, more));
+          moves_are = t.moves_are ∙ ap (λ n. n + length received_next.lists.moves) so.moves_are ∙ sym moves;
+          moves_few = (let m = t.moves_are in let b = t.moves_few in let a = so.moves_few in omega (arith, m, b, a, more));
+          count_is = counts;
+          few = (let a = so.few in let b = t.few in omega (arith, a, b, long, more));
+          is = t.is;
+        }
+
+    -- the next frame is missed: where others follow it or not, the transcript is wrong after the lines of those that were read
+    pub so-far-missed : (new : S) (more : List (List Arrival)) (before : ℕ) → length done ≤ 100000
+        → Misses s now new demo' (HasNoJournal (IsRightAfter c.map (received_in c.map c.frames c.state arrivals)) (lines_with c.map c.frames (received_in c.map c.frames c.state arrivals)))
+        → Misses s old new demo (λ bytes. IsWrongAt map (done ++ arrivals ∷ more) bytes before (before + c.count + 1))
+    so-far-missed new more before few missed =
+        let js = so.journals in
+        let front = run_lines map 0 (opening map) done js in
+        let there : Misses s now new demo' (HasNoJournal (IsRightAfter map received_next) (lines_with map (0 + length done) received_next)) =
+        subst (λ (u : CheckerView). Misses s now new demo' (HasNoJournal (IsRightAfter u.map (received_in u.map u.frames u.state arrivals)) (lines_with u.map u.frames (received_in u.map u.frames u.state arrivals)))) checker_is missed in
+        record {
+          missed = if_some-over (ahead_of s demo old) (ahead_of s demo' now) (text_of front) (HasOnly map done js)
+              (HasNoJournal (IsRightAfter map received_next) (lines_with map (0 + length done) received_next))
+              (λ bytes. IsWrongAt map (done ++ arrivals ∷ more) bytes before (before + c.count + 1)) so.reads.consumed so.only there.missed
+              (λ bytes left is only none. wrong-at bytes left is only none);
+          uncounted = there.uncounted ∙ so.reads.on.uncounted;
+        }
+      where
+        wrong-at : (bytes left : List ℕ) → bytes ≡ text_of (run_lines map 0 (opening map) done so.journals) ++ left → HasOnly map done so.journals bytes
+            → HasNoJournal (IsRightAfter map received_next) (lines_with map (0 + length done) received_next) left → IsWrongAt map (done ++ arrivals ∷ more) bytes before (before + c.count + 1)
+        wrong-at bytes left is only none =
+            let js = so.journals in
+            let lines = length (run_lines map 0 (opening map) done js) in
+            let count : c.count ≡ lines = so.count_is ∙ counted-few lines (let f = so.few in omega (arith, f, few)) in
+            let never = none-pushed map done arrivals js bytes left is only none in
+            record {
+              lines = lines;
+              wrong = wrong-pieces map done arrivals more js bytes left so.right is never;
+              line_is = omega (arith, count);
+            }
+
+  module _ (frames : List (List Arrival)) (old now : S) (demo demo' : DemoReaderView) (c : CheckerView) (so : FramesSoFar s map frames old now demo demo' c) where
+    -- all frames were read, and the last line too
+    pub so-far-right : (new : S) (demo'' : DemoReaderView) → ReadsLines s now new demo' demo'' (EndLine c.frames ∷ []) → Misses s old new demo (λ bytes. IsRight map frames bytes c.frames c.moves)
+    so-far-right new demo'' reads =
+        let js = so.journals in
+        let lines = run_lines map 0 (opening map) frames js in
+        let count : c.frames ≡ length frames = (let f = so.frames_are in omega (arith, f)) in
+        let all : ReadsLines s old new demo demo'' (lines ++ EndLine (length frames) ∷ []) =
+        reads-both s old now new demo demo' demo'' lines (EndLine (length frames) ∷ []) so.reads (subst (λ n. ReadsLines s now new demo' demo'' (EndLine n ∷ [])) count reads) in
+        record {
+          missed = if_some-over (ahead_of s demo old) (ahead_of s demo'' new) (text_of (lines ++ EndLine (length frames) ∷ [])) (HasOnly map frames js) (λ _. ⊤) (λ bytes. IsRight map frames bytes c.frames c.moves)
+              all.consumed so.only (if_some-all (ahead_of s demo'' new) (λ _. ⊤) (λ _. tt))
+              (λ bytes left is only more. record {
+                transcript = record { journals = js; right = so.right; begins = record { after = left; is = is } };
+                count_is = count;
+                moves_are = so.moves_are;
+              });
+          uncounted = all.on.uncounted;
+        }
+
+    -- the last line is missed
+    pub so-far-endless : (new : S) (before : ℕ) → length frames ≤ 100000 → Misses s now new demo' (λ bytes. BeginsWith bytes (printed (EndLine c.frames)) → ⊥)
+        → Misses s old new demo (λ bytes. IsWrongAt map frames bytes before (before + c.count + 1))
+    so-far-endless new before few missed =
+        let front = run_lines map 0 (opening map) frames so.journals in
+        let end : c.frames ≡ length frames = (let f = so.frames_are in omega (arith, f)) in
+        let there = subst (λ n. Misses s now new demo' (λ bytes. BeginsWith bytes (printed (EndLine n)) → ⊥)) end missed in
+        record {
+          missed = if_some-over (ahead_of s demo old) (ahead_of s demo' now) (text_of front) (HasOnly map frames so.journals) (λ bytes. BeginsWith bytes (printed (EndLine (length frames))) → ⊥)
+              (λ bytes. IsWrongAt map frames bytes before (before + c.count + 1)) so.reads.consumed so.only there.missed (λ bytes left is only none. wrong-at bytes left is only none);
+          uncounted = there.uncounted ∙ so.reads.on.uncounted;
+        }
+      where
+        wrong-at : (bytes left : List ℕ) → bytes ≡ text_of (run_lines map 0 (opening map) frames so.journals) ++ left → HasOnly map frames so.journals bytes
+            → (BeginsWith left (printed (EndLine (length frames))) → ⊥) → IsWrongAt map frames bytes before (before + c.count + 1)
+        wrong-at bytes left is only none =
+            let js = so.journals in
+            let lines = run_lines map 0 (opening map) frames js in
+            let count : c.count ≡ length lines = so.count_is ∙ counted-few (length lines) (let f = so.few in omega (arith, f, few)) in
+            record {
+              lines = length lines;
+              wrong = endless-pieces map frames js bytes left so.right is only none;
+              line_is = omega (arith, count);
+            }
+
+-- ---- a verdict
+
+module _ {S : Type 0} (s : sources.Ghosts S) (map : MapView) (frames : List (List Arrival)) (before : ℕ) (few : length frames ≤ 100000) where
+  -- the next frame is missed
+  pub frame-wrong : (done more : List (List Arrival)) (arrivals : List Arrival) → frames ≡ done ++ arrivals ∷ more → (old now new : S) (demo demo' : DemoReaderView) (c : CheckerView)
+      → FramesSoFar s map done old now demo demo' c → (count : ℕ) → count ≡ c.count
+      → Misses s now new demo' (HasNoJournal (IsRightAfter c.map (received_in c.map c.frames c.state arrivals)) (lines_with c.map c.frames (received_in c.map c.frames c.state arrivals)))
+      → Misses s old new demo (λ bytes. IsVerdict map frames bytes before (Wrong (before + count + 1)))
+  frame-wrong done more arrivals is old now new demo demo' c so count counts missed =
+      let fewer : length done ≤ 100000 = (let long = ap length is ∙ length-append done (arrivals ∷ more) in omega (arith, few, long)) in
+      let wrong = so-far-missed s map done old now demo demo' c so arrivals new more before fewer missed in
+      let right_frames = subst (λ (fs : List (List Arrival)). Misses s old new demo (λ bytes. IsWrongAt map fs bytes before (before + c.count + 1))) (sym is) wrong in
+      subst (λ n. Misses s old new demo (λ bytes. IsWrongAt map frames bytes before (before + n + 1))) (sym counts) right_frames
+
+  -- the last line is missed
+  pub end-wrong : (done : List (List Arrival)) → done ≡ frames → (old now new : S) (demo demo' : DemoReaderView) (c : CheckerView) → FramesSoFar s map done old now demo demo' c → (count : ℕ) → count ≡ c.count
+      → Misses s now new demo' (λ bytes. BeginsWith bytes (printed (EndLine c.frames)) → ⊥) → Misses s old new demo (λ bytes. IsVerdict map frames bytes before (Wrong (before + count + 1)))
+  end-wrong done all old now new demo demo' c so count counts missed =
+      let here = subst (λ (fs : List (List Arrival)). FramesSoFar s map fs old now demo demo' c) all so in
+      subst (λ n. Misses s old new demo (λ bytes. IsWrongAt map frames bytes before (before + n + 1))) (sym counts) (so-far-endless s map frames old now demo demo' c here new before few missed)
+
+  -- all is right
+  pub all-right : (done : List (List Arrival)) → done ≡ frames → (old now new : S) (demo demo' demo'' : DemoReaderView) (c : CheckerView) → FramesSoFar s map done old now demo demo' c → (count moves : ℕ)
+      → count ≡ c.frames → moves ≡ c.moves → ReadsLines s now new demo' demo'' (EndLine c.frames ∷ []) → Misses s old new demo (λ bytes. IsVerdict map frames bytes before (Right count moves))
+  all-right done all old now new demo demo' demo'' c so count moves counts moved reads =
+      let here = subst (λ (fs : List (List Arrival)). FramesSoFar s map fs old now demo demo' c) all so in
+      let right = so-far-right s map frames old now demo demo' c here new demo'' reads in
+      subst (λ n. Misses s old new demo (λ bytes. IsRight map frames bytes n moves)) (sym counts)
+      (subst (λ n. Misses s old new demo (λ bytes. IsRight map frames bytes c.frames n)) (sym moved) right)

@@ -1,0 +1,93 @@
+-- The line of a live player's command can be read.
+use Rattle.std.proofs.Common.{◌≡◌, ℕ, ◌+◌, ◌<◌, ◌≤◌, ◌^◌, List, [], ◌∷◌, length, refl, sym, subst, arith, length-append}
+use Rattle.std.specs.Prelude.{All, Option, Some}
+use Rattle.std.specs.Prelude.{map as map_list}
+use Rattle.std.specs.List.{AllByRecursion}
+use Rattle.std.proofs.lemmas.List.Elements.{All-head, All-tail}
+use Rattle.std.specs.Int.{w32}
+use Rattle.std.proofs.lemmas.Int.{fits_signed_from_abs}
+use Rattle.arena_geo.specs.declared.vec3.Vec3.{Vec3}
+use Rattle.arena_geo.specs.Vectors.{IsNear, Fits}
+use Rattle.entity_recs.specs.declared.rec.Rec.{Rec}
+use Rattle.entity_recs.specs.declared.effect.NewState.{NewState}
+use Rattle.entity_recs.specs.declared.effect.Entry.{Entry}
+use Rattle.entity_recs.specs.Commands.{Command}
+use Rattle.entity_recs.specs.Worlds.{others_of, record_or_nobody}
+use Rattle.entity_recs.specs.Histories.{entry_of}
+use Rattle.arena_map.specs.Maps.{MapView, IsMap}
+use Rattle.arena_map.specs.Validity.{IsValidWorld}
+use Rattle.arena_actions.specs.Lawful.Moves.{replied_rise, replies_have_origin}
+use Rattle.world_tree.specs.Live.{record_at}
+use Rattle.world_tree.proofs.Links.{id-below}
+use Rattle.plain_server.specs.RecordsById.{world_of}
+use Rattle.plain_server.specs.Moving.{HasLivePlayer, HasSmallNumber, effect_among}
+use Rattle.plain_server.specs.Entries.{IsReported}
+use Rattle.plain_server.proofs.Players.{live_record}
+use Rattle.plain_server.proofs.NewStates.{IsOfItem}
+use Rattle.plain_server.proofs.Others.{others_rise}
+use Rattle.plain_server.proofs.Takes.{of_items, few_got, got_are}
+use Rattle.plain_server.proofs.Moves.{moved_is_valid}
+use Rattle.out_text.specs.FrameLines.{did_line}
+use Rattle.out_text.specs.OutLines.{OutLine, spelled, printed, text_of}
+use Rattle.out_text.proofs.Lengths.{journal-long}
+use Rattle.transcript_check.specs.Moves.{move_line, IsReadable}
+
+-- the ids of items among records have 16 bits
+small_ids : (map : MapView) (records : List (Option Rec)) (states : List NewState) → IsValidWorld map records → All (IsOfItem records) states
+    → AllByRecursion (λ id. id < 2 ^ 16) (map_list (λ (s : NewState). s.id) states)
+small_ids map records [] valid items = tt
+small_ids map records (s ∷ states) valid items =
+    let item = All-head (IsOfItem records) s states items in
+    let here = valid.each s.id item.item item.at in
+    let below = id-below item.item here.is_record in
+    (omega (arith, below, here.own_id), small_ids map records states valid (All-tail (IsOfItem records) s states items))
+
+-- the entry of a live player's command is in range
+pub reported_one : (map : MapView) (records : List (Option Rec)) (place : ℕ) (c : Command) → IsMap map → IsValidWorld map records → HasLivePlayer records c → HasSmallNumber c
+    → IsReported place (entry_of place c (effect_among map records c))
+reported_one map records place c is_map valid has small =
+    let found = live_record records c.slot has.live in
+    let me = moved_is_valid map records c found.r is_map valid has.slot found.at in
+    let own = λ (id : ℕ) (r : Rec) (at : record_at records id ≡ Some r). (valid.each id r at).own_id in
+    let e = effect_among map records c in
+    let origin : e.reply.origin ≡ e.me.origin = replies_have_origin map (record_or_nobody (record_at records c.slot)) (others_of (world_of records) c.slot) c in
+    record {
+      place_is = refl;
+      slot = has.slot;
+      seq = small;
+      origin = subst (IsNear 1048576) (sym origin) me.is_record.origin;
+      got = record {
+        few = few_got map records c own;
+        rising = replied_rise map (record_or_nobody (record_at records c.slot)) (others_of (world_of records) c.slot) c (others_rise records c.slot own);
+        small = subst (AllByRecursion (λ id. id < 2 ^ 16)) (sym (got_are map records c own)) (small_ids map records e.states valid (of_items map records c own));
+      };
+    }
+
+near_fits : (v : Vec3) → IsNear 1048576 v → Fits v
+near_fits v near = record {
+  x = fits_signed_from_abs w32 v.x (omega (arith, near.x));
+  y = fits_signed_from_abs w32 v.y (omega (arith, near.y));
+  z = fits_signed_from_abs w32 v.z (omega (arith, near.z));
+}
+
+printed-long : (l : OutLine) → length (spelled l) ≤ length (text_of (l ∷ []))
+printed-long l = omega (arith, length-append (printed l) (text_of []), length-append (spelled l) (10 ∷ []))
+
+-- so its line can be read
+pub readable : (map : MapView) (records : List (Option Rec)) (c : Command) → IsMap map → IsValidWorld map records → HasLivePlayer records c → HasSmallNumber c
+    → IsReadable (move_line map records c)
+readable map records c is_map valid has small =
+    let e = entry_of 0 c (effect_among map records c) in
+    let is = reported_one map records 0 c is_map valid has small in
+    let long = journal-long 0 (e ∷ []) (is, tt) in
+    let low : c.slot < 64 = has.slot in
+    record {
+      in_range = record {
+        slot = omega (arith, low);
+        seq = small;
+        origin = near_fits e.reply.origin is.origin;
+        few = is.got.few;
+        got = is.got.small;
+      };
+      short = omega (arith, long, printed-long (did_line e));
+    }

@@ -1,0 +1,151 @@
+-- A recording that is read to its end, event after event.
+use Rattle.std.proofs.Common.{◌≡◌, ℕ, ◌≤◌, Bool, true, false, List, [], ◌∷◌, ◌++◌, ◌⊎◌, inl, inr, Some, None, IfSome, IsSome, refl, sym, ap, ◌∙◌, subst}
+use Rattle.std.proofs.KnownBytes.{Consumes-nil, prepend_known-nil}
+use Rattle.std.specs.Io.KnownBytes.{Consumes}
+use Rattle.edge_io.specs.declared.source.Source as sources
+use Rattle.edge_io.specs.Counts.{HasRisen}
+use Rattle.edge_io.specs.Lines.{ahead}
+use Rattle.demo_lines.specs.declared.stage.Stage.{Stage}
+use Rattle.demo_lines.specs.declared.stage.Stage.TheVariants.{Ended}
+use Rattle.demo_lines.specs.declared.event.Event.{Event}
+use Rattle.demo_lines.specs.declared.event.Event.TheVariants.{Frame, From, End}
+use Rattle.demo_lines.specs.declared.demo_stop.DemoStop.{DemoStop}
+use Rattle.demo_lines.specs.declared.demo_stop.DemoStop.TheVariants as demo_stop
+use Rattle.demo_lines.specs.Known.{Reading, start_within, is_map_whole, is_over}
+use Rattle.demo_lines.specs.Machines.{run_of}
+use Rattle.demo_lines.specs.Bytes.{LineRefusal, fault_in, fault_within}
+use Rattle.demo_lines.specs.Readings.{IsReading}
+use Rattle.demo_lines.specs.Reads.{DemoReaderView, fresh_within, IsOpen, Reads, EndsAt, KeepsMap, stage_after, OnRefused, OnReadFault, OnNoMemory}
+use Rattle.demo_lines.specs.Rest.{HasRest}
+use Rattle.demo_lines.proofs.Machines.{run_of-append}
+use Rattle.demo_lines.proofs.Joins.{Reads-trans}
+use Rattle.demo_lines.proofs.Continuing.{continues}
+use Rattle.out_text.specs.Collecting.{Frames, collect, collected, no_frames}
+use Rattle.transcript_check.specs.Reading.{ahead_of}
+use Rattle.transcript_check.specs.Recorded.{is_last, ReadsRecording}
+use Rattle.transcript_check.specs.Verdicts.{StopsChecking}
+
+-- ---- stages
+
+going-stage : (e : Event) → is_last e ≡ false → is_over (stage_after e) ≡ false
+going-stage Frame going = refl
+going-stage (From a) going = refl
+going-stage End going = cc
+
+ended-stage : (e : Event) → is_last e ≡ true → stage_after e ≡ Ended
+ended-stage Frame is = cc
+ended-stage (From a) is = cc
+ended-stage End is = refl
+
+-- a map is there after an event
+map-there : (old new : Reading) → (is_map_whole old.stage ≡ true → IsSome old.map) → KeepsMap old new → IsSome new.map
+map-there old new has keeps = by (is_map_whole old.stage) refl
+  where
+    by : (whole : Bool) → is_map_whole old.stage ≡ whole → IsSome new.map
+    by true e = subst IsSome (sym (keeps.kept e)) (has e)
+    by false e = keeps.completed e
+
+-- one event more
+collected-push : (es : List Event) (e : Event) (before after : Frames) → before ≡ collected es → after ≡ collect before e → after ≡ collected (es ++ e ∷ [])
+collected-push es e before after so_far is =
+    is ∙ ap (λ (f : Frames). collect f e) so_far ∙ sym (run_of-append {E = Event} collect (λ _ _. []) no_frames es (e ∷ []))
+
+-- what a call of the reader says where it gives an event
+pub record ReaderGives {S : Type 0} (s : sources.Ghosts S) (old new : DemoReaderView) (source source' : S) (e : Event) : Type 0 where
+  pub event : IsOpen old → Reads old.reading new.reading (ahead_of s old source) (ahead_of s new source') (e ∷ [])
+  pub stage : new.reading.stage ≡ stage_after e
+  pub map : KeepsMap old.reading new.reading
+  pub uncounted : s.faults source' ≡ s.faults source
+  pub keeps : s.never_fails source → s.never_fails source'
+  pub ok : new.stop ≡ None
+  pub cut : new.cut ≡ old.cut
+  pub holds : IsReading new.reading
+
+-- and where it stops
+pub record ReaderStops {S : Type 0} (s : sources.Ghosts S) (old new : DemoReaderView) (source source' : S) (d : DemoStop) : Type 0 where
+  pub refused : IsOpen old → OnRefused d (λ why. IfSome (ahead_of s old source) (EndsAt old.reading why))
+  pub cause : IsOpen old → OnReadFault d (HasRisen (s.faults source) (s.faults source'))
+  pub sure : IsOpen old → s.never_fails source → OnReadFault d ⊥
+  pub later : s.faults source ≤ s.faults source'
+  pub uncounted_refusal : OnRefused d (λ _. s.faults source' ≡ s.faults source)
+  pub uncounted_memory : OnNoMemory d (s.faults source' ≡ s.faults source)
+
+module _ {S : Type 0} (s : sources.Ghosts S) (limit : ℕ) where
+  -- what was read so far gave some events, which made these frames, and the recording goes on
+  pub record ReadsOn (first now : S) (demo : DemoReaderView) (frames : Frames) : Type 0 where
+    pub events : List Event
+    pub reads : Reads (start_within limit) demo.reading (s.left first) (ahead_of s demo now) events
+    pub frames_are : frames ≡ collected events
+    pub is_open : IsOpen demo
+    pub not_cut : demo.cut ≡ false
+    pub uncounted : s.faults now ≡ s.faults first
+    pub keeps : s.never_fails first → s.never_fails now
+    pub map : is_map_whole demo.reading.stage ≡ true → IsSome demo.reading.map
+
+  -- before the first event
+  pub begun : (source : S) (demo : DemoReaderView) (frames : Frames) → demo ≡ fresh_within limit → frames ≡ no_frames → ReadsOn source source demo frames
+  begun source demo frames fresh none = subst (λ (d : DemoReaderView). ReadsOn source source d frames) (sym fresh) (record {
+    events = [];
+    reads = record {
+      lines = [];
+      text = [];
+      each = tt;
+      spelled = inl refl;
+      consumed = subst (λ o. Consumes (s.left source) o []) (sym (prepend_known-nil (s.left source))) (Consumes-nil (s.left source));
+      reached = refl;
+      events = refl;
+      going = refl;
+    };
+    frames_are = none;
+    is_open = record { no_stop = refl; not_over = refl };
+    not_cut = refl;
+    uncounted = refl;
+    keeps = λ sure. sure;
+    map = λ whole. cc;
+  })
+
+  module _ (first now : S) (demo : DemoReaderView) (frames : Frames) (on : ReadsOn first now demo frames) (next : S) (demo' : DemoReaderView) where
+    -- an event was given, and it wasn't the end
+    pub goes_on : (e : Event) (frames' : Frames) → ReaderGives s demo demo' now next e → frames' ≡ collect frames e → is_last e ≡ false → ReadsOn first next demo' frames'
+    goes_on e frames' gives made going = record {
+      events = on.events ++ e ∷ [];
+      reads = Reads-trans (start_within limit) demo.reading demo'.reading (s.left first) (ahead_of s demo now) (ahead_of s demo' next) on.events (e ∷ [])
+          on.reads on.is_open.not_over (gives.event on.is_open);
+      frames_are = collected-push on.events e frames frames' on.frames_are made;
+      is_open = record { no_stop = gives.ok; not_over = ap is_over gives.stage ∙ going-stage e going };
+      not_cut = gives.cut ∙ on.not_cut;
+      uncounted = gives.uncounted ∙ on.uncounted;
+      keeps = λ sure. gives.keeps (on.keeps sure);
+      map = λ whole. map-there demo.reading demo'.reading on.map gives.map;
+    }
+
+    -- the end was given
+    pub ends : (e : Event) (frames' : Frames) → ReaderGives s demo demo' now next e → frames' ≡ collect frames e → is_last e ≡ true → ReadsRecording s limit first next demo' frames'
+    ends e frames' gives made last = record {
+      events = on.events ++ e ∷ [];
+      reads = Reads-trans (start_within limit) demo.reading demo'.reading (s.left first) (ahead_of s demo now) (ahead_of s demo' next) on.events (e ∷ [])
+          on.reads on.is_open.not_over (gives.event on.is_open);
+      frames_are = collected-push on.events e frames frames' on.frames_are made;
+      ended = gives.stage ∙ ended-stage e last;
+      may = record { no_stop = gives.ok; not_cut = gives.cut ∙ on.not_cut };
+      map = map-there demo.reading demo'.reading on.map gives.map;
+      holds = gives.holds;
+      uncounted = gives.uncounted ∙ on.uncounted;
+      keeps = λ sure. gives.keeps (on.keeps sure);
+    }
+
+    -- the reader stopped
+    pub stops : (d : DemoStop) → ReaderStops s demo demo' now next d → StopsChecking s limit first next d
+    stops (demo_stop.Refused line rule_fault rule) given =
+        let why : LineRefusal = record { line = line; fault = rule_fault; rule = rule } in
+        record {
+          faulty = continues (start_within limit) demo.reading (s.left first) (ahead_of s demo now) on.events (λ bytes. fault_within limit bytes ≡ Some why) on.reads
+              (λ bytes rest is so. so.fault_is ∙ (subst (λ o. IfSome o (EndsAt demo.reading why)) is (given.refused on.is_open)).fault);
+          reads = given.uncounted_refusal ∙ on.uncounted;
+        }
+    stops demo_stop.ReadFault given = record {
+      cause = subst (λ (n : ℕ). HasRisen n (s.faults next)) on.uncounted (given.cause on.is_open);
+      later = subst (λ (n : ℕ). n ≤ s.faults next) on.uncounted given.later;
+      fails = λ sure. given.sure on.is_open (on.keeps sure);
+    }
+    stops demo_stop.NoMemory given = record { reads = given.uncounted_memory ∙ on.uncounted }

@@ -1,0 +1,37 @@
+use Rattle.std.proofs.Common.{◌≡◌, ◌≢◌, [], false, IsTrue, refl, sym, ap, ◌∙◌}
+use Rattle.transcript_check.proofs.Turns.{ready-first}
+use Rattle.transcript_check.proofs.MovesRead.{so-far-first, so-far-next, so-far-missed, so-far-done}
+use Rattle.transcript_check.proofs.checker.expect_moves.Goals as goal
+
+pub loop-mover-init : goal.loop-mover-init
+loop-mover-init g c =
+    let action = c.args.mover.now.action in
+    record {
+      so = so-far-first g.S.Source action.map action.is_map c.args.pending.now c.args.world.now.records c.args.source.now c.args.reader.now c.args.lines.now.count c.requires.may
+          (ready-first action.map c.args.world.now.records c.args.pending.now c.requires.valid c.requires.live c.requires.apart) c.requires.small;
+      action = refl;
+    }
+
+pub returns-then-not-branch-clause-missed : goal.returns-then-not-branch-clause-missed
+returns-then-not-branch-clause-missed g c =
+    let action = c.args.mover.now.action in
+    let some : c.loop-mover.pending ≢ [] = λ none. let never : IsTrue false = c.loop-mover-test.ensures.1 none in cc in
+    so-far-missed g.S.Source action.map action.is_map c.args.pending.now c.args.world.now.records c.args.source.now c.loop-mover.source c.args.reader.now c.loop-mover.reader c.loop-mover.world.records c.loop-mover.pending
+    c.args.lines.now.count c.loop-mover.lines.count c.loop-mover.invariant.so c.expect_move.new.source some
+    (rw c.loop-mover.invariant.action at (rw c.if-not-branch.true at c.in_ok-expect_move.ensures.missed))
+
+pub loop-mover-preserved : goal.loop-mover-preserved
+loop-mover-preserved g c =
+    let action = c.args.mover.now.action in
+    record {
+      so = so-far-next g.S.Source action.map action.is_map c.args.pending.now c.args.world.now.records c.args.source.now c.loop-mover.source c.args.reader.now c.loop-mover.reader c.loop-mover.world.records
+          c.loop-mover.pending c.args.lines.now.count c.loop-mover.lines.count c.loop-mover.invariant.so c.expect_move.new.source c.expect_move.new.reader c.expect_move.new.world.records c.expect_move.new.pending
+          c.expect_move.new.lines.count (rw c.loop-mover.invariant.action at (rw c.if-not-branch.false at c.in_ok-expect_move.ensures.ok)) (rw c.if-not-branch.false at c.in_ok-expect_move.ensures.count);
+      action = c.in_ok-expect_move.ensures.action ∙ c.loop-mover.invariant.action;
+    }
+
+pub returns-clause-ok : goal.returns-clause-ok
+returns-clause-ok g c =
+    let action = c.args.mover.now.action in
+    so-far-done g.S.Source action.map action.is_map c.args.pending.now c.args.world.now.records c.args.source.now c.loop-mover.source c.args.reader.now c.loop-mover.reader c.loop-mover.world.records c.loop-mover.pending
+    c.args.lines.now.count c.loop-mover.lines.count c.loop-mover.invariant.so (c.loop-mover-test.ensures.0 refl)

@@ -1,0 +1,9 @@
+use Rattle.std.proofs.Common.{◌≡◌, List, ◌++◌, length, map, drop}
+use Rattle.out_text.specs.OutLines.{OutLine}
+use Rattle.transcript_check.proofs.ReadingOn.{ReadsSome}
+use Rattle.transcript_check.proofs.lines.Lines.expect_each.Given as goal
+
+-- the lines of the items so far were read, and those of the others are left
+abbrev pub invariant-loop-item : goal.invariant-loop-item
+invariant-loop-item g l =
+    ReadsSome g.S.Source l.fn.source l.source l.fn.reader l.reader l.fn.self.count l.self.count (map g.T.Printed.line l.items) (map g.T.Printed.line (drop l.item-index l.items))

@@ -1,0 +1,57 @@
+-- What reading the lines of a transcript takes off what is ahead.
+use Rattle.std.specs.Prelude.{◌≡◌, ℕ, zero, suc, ◌+◌, ◌-◌, ◌^◌, ◌≤◌, min, List, Option, IfSome, length}
+use Rattle.std.specs.Io.KnownBytes.{Consumes}
+use Rattle.edge_io.specs.declared.source.Source as sources
+use Rattle.edge_io.specs.Counts.{HasRisen}
+use Rattle.edge_io.specs.Lines.{ahead}
+use Rattle.demo_lines.specs.declared.demo_stop.DemoStop.{DemoStop}
+use Rattle.demo_lines.specs.declared.demo_stop.DemoStop.TheVariants as demo_stop
+use Rattle.demo_lines.specs.Reads.{DemoReaderView}
+use Rattle.demo_lines.specs.Rest.{HasRest, GivesRestLine}
+use Rattle.out_text.specs.OutLines.{OutLine, text_of}
+
+-- the line that was read last, the line that is wanted, the snapshot that was written last, and how many lines were read
+pub record LinesView : Type 0 where
+  pub given : List ℕ
+  pub wanted : List ℕ
+  pub bytes : List ℕ
+  pub count : ℕ
+
+-- a count of lines after so many more; it stops at 2^64 - 1
+abbrev pub counted : ℕ → ℕ → ℕ
+counted count zero = count
+counted count (suc more) = min (count + suc more) (2 ^ 64 - 1)
+
+module _ {S : Type 0} (s : sources.Ghosts S) where
+  -- what is ahead of the reader
+  abbrev pub ahead_of : DemoReaderView → S → Option (List ℕ)
+  ahead_of demo source = ahead demo.pending (s.left source)
+
+  -- no read failed, and more lines may follow
+  pub record GoesOn (old new : S) (demo demo' : DemoReaderView) : Type 0 where
+    pub may : HasRest demo'
+    pub same : demo'.reading ≡ demo.reading
+    pub uncounted : s.faults new ≡ s.faults old
+    pub keeps : s.never_fails old → s.never_fails new
+
+  -- a line was read
+  pub record ReadsLine (old new : S) (demo demo' : DemoReaderView) (line : List ℕ) : Type 0 where
+    pub gives : GivesRestLine (ahead_of demo old) (ahead_of demo' new) line
+    pub on : GoesOn old new demo demo'
+
+  -- these lines were read
+  pub record ReadsLines (old new : S) (demo demo' : DemoReaderView) (lines : List OutLine) : Type 0 where
+    pub consumed : Consumes (ahead_of demo old) (ahead_of demo' new) (text_of lines)
+    pub on : GoesOn old new demo demo'
+
+  -- no read failed, and P of what was ahead
+  pub record Misses (old new : S) (demo : DemoReaderView) (P : List ℕ → Type 0) : Type 0 where
+    pub missed : IfSome (ahead_of demo old) P
+    pub uncounted : s.faults new ≡ s.faults old
+
+  -- a read failed
+  pub record ReadFails (old new : S) (stop : DemoStop) : Type 0 where
+    pub is : stop ≡ demo_stop.ReadFault
+    pub cause : HasRisen (s.faults old) (s.faults new)
+    pub later : s.faults old ≤ s.faults new
+    pub fails : s.never_fails old → ⊥

@@ -1,0 +1,76 @@
+ghost use Rattle.std.specs.Prelude.{◌≡◌, ◌<◌, ◌≤◌, ◌^◌, List, length, map, IfOk, IfErr};
+ghost use Rattle.std.specs.List.{AllByRecursion};
+ghost use Rattle.packet_read.specs.declared.arrival.Arrival as arrival;
+ghost use Rattle.demo_lines.specs.declared.stage.Stage.TheVariants.{Ended};
+ghost use Rattle.demo_lines.specs.Reads.{fresh_within};
+ghost use Rattle.demo_lines.specs.Rest.{HasRest};
+ghost use Rattle.transcript_check.specs.Reading.{Misses, ReadFails};
+ghost use Rattle.transcript_check.specs.Checkers.{new_checker, IsChecker};
+ghost use Rattle.transcript_check.specs.Verdicts.{IsShort, IsVerdict, Judges, StopsChecking};
+
+use crate::checker::Checker;
+use crate::recorded::read_recording;
+use crate::verdict::Verdict;
+use demo_lines::{DemoReader, DemoStop};
+use edge_io::Source;
+use packet_read::Arrival;
+use std::alloc::Global;
+
+/// Compares what follows a recording with the output of its frames. So many lines are before it.
+fn compare<S: Source>(
+    checker: &mut Checker,
+    frames: &[Vec<Arrival>],
+    before: u64,
+    reader: &mut DemoReader,
+    source: &mut S,
+) -> Result<Verdict, DemoStop>
+    requires new { checker.old ≡ new_checker checker.old.map }
+    requires is { IsChecker checker.old.map checker.old.state }
+    requires few { length frames.now ≤ 100000 }
+    requires short { AllByRecursion IsShort (map (λ arrivals. arrivals.items) frames.now) }
+    requires before { before < 2 ^ 62 }
+    requires over { reader.old.reading.stage ≡ Ended }
+    requires may { HasRest reader.old }
+    ensures ok { IfOk result (λ verdict. Misses S.Source source.old source.new reader.old (λ bytes.
+        IsVerdict checker.old.map (map (λ arrivals. arrivals.items) frames.now) bytes before verdict)) }
+    ensures err { IfErr result (ReadFails S.Source source.old source.new) }
+{
+    for arrivals in frames {
+        let line = before + checker.lines() + 1;
+        if !checker.expect_frame(arrivals.as_slice(), reader, source)? {
+            return Ok(Verdict::Wrong { line });
+        }
+    }
+    let line = before + checker.lines() + 1;
+    if !checker.expect_end(reader, source)? {
+        return Ok(Verdict::Wrong { line });
+    }
+    Ok(Verdict::Right {
+        frames: checker.frames(),
+        moves: checker.moves(),
+    })
+}
+
+/// Reads a recording, which ends with its line `end`, and compares what follows it with the output of the recording. The
+/// reader is to be a new one; it says how many frames the recording may have, all of which are kept in memory.
+///
+/// [`Verdict::Right`] comes exactly where what follows begins with an output that a plain server gives for the recording
+/// with some order of each frame's moves in which each player's are in the order sent. Where it doesn't,
+/// [`Verdict::Wrong`] has the first line of the first piece that is wrong. What follows the last line of the output isn't
+/// read.
+pub fn check<S: Source>(
+    alloc: Global,
+    reader: &mut DemoReader,
+    source: &mut S,
+) -> Result<Verdict, DemoStop>
+    requires fresh { reader.old ≡ fresh_within reader.old.reading.limit }
+    requires limit { reader.old.reading.limit ≤ 100000 }
+    ensures ok { IfOk result (Judges S.Source reader.old.reading.limit source.old source.new) }
+    ensures err { IfErr result (StopsChecking S.Source reader.old.reading.limit source.old source.new) }
+{
+    let recorded = read_recording(alloc, reader, source)?;
+    let before = reader.end_line();
+    let map = reader.take_map().unwrap();
+    let mut checker = Checker::new(alloc, map)?;
+    compare(&mut checker, recorded.frames(), before, reader, source)
+}

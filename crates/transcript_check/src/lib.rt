@@ -1,0 +1,14 @@
+//! Checks the output of a recording: whether it is what a plain server writes with the journals that it spells.
+#![tactic(auto)]
+
+pub use checking::check;
+pub use verdict::Verdict;
+
+mod checker;
+mod checking;
+mod lines;
+mod mover;
+mod pending;
+mod recorded;
+mod state;
+mod verdict;

@@ -1,0 +1,136 @@
+ghost use Rattle.std.specs.Prelude.{◌≡◌, ◌<◌, ◌≤◌, [], ◌∷◌, ◌++◌, All, filter, length, map, Some, IsSome, ◌^◌};
+ghost use Rattle.std.specs.Option.{option_to_list};
+ghost use Rattle.std.specs.List.Sorted.{IsStrictlyIncreasing};
+ghost use Rattle.entity_recs.specs.declared.effect.NewState.{NewState};
+ghost use Rattle.entity_recs.specs.Records.{IsRecord, with_state};
+ghost use Rattle.entity_recs.specs.Commands.{command_of};
+ghost use Rattle.entity_recs.specs.Worlds.{others_of};
+ghost use Rattle.world_tree.specs.Worlds.{IsLinked, record_of};
+ghost use Rattle.arena_map.specs.Validity.{IsValidWorld};
+ghost use Rattle.plain_server.specs.RecordsById.{world_of};
+ghost use Rattle.transcript_check.specs.Moves.{is_other};
+ghost use Rattle.plain_server.specs.Moving.{HasLivePlayer, effect_among, with_new_states, records_with, records_after};
+
+use arena_actions::ArenaAction;
+use arena_map::ArenaMap;
+use entity_recs::{Cmd, Effect, NewState, Rec, Reply};
+use world_tree::{IDS, NearList, World};
+
+/// Runs moves one after another on a world, each over all other live records.
+#[derive(Drop)]
+pub struct Mover {
+    pub action: ArenaAction,
+    others: NearList,
+}
+
+/// Puts a record last, if it is another one.
+fn put_if_other(r: Rec, slot: u16, others: &mut NearList)
+    requires { length others.old < 256 }
+    ensures { others.new ≡ others.old ++ filter (is_other slot) (r ∷ []) }
+{
+    if r.id == slot {
+        return;
+    }
+    // There are fewer in the list than it has room for.
+    let _fits = others.push(r);
+}
+
+/// Puts the record with this id last, if it is live and another one.
+fn put_other(world: &World, id: u16, slot: u16, others: &mut NearList)
+    requires { length others.old < 256 }
+    ensures { others.new ≡ others.old ++ filter (is_other slot) (option_to_list (record_of world.now id)) }
+{
+    let Some(r) = world.get(id) else {
+        return;
+    };
+    put_if_other(r, slot, others);
+}
+
+/// Puts the live records but one into the list, in rising id, in the place of what is there.
+fn list_others(world: &World, slot: u16, others: &mut NearList)
+    ensures others { others.new ≡ others_of (world_of world.now.records) slot }
+    ensures linked { IsLinked world.now }
+{
+    // To ask for the tree is to know that the world is linked, and so that it has 256 places.
+    let _linked = world.tree();
+    others.clear();
+    for id in 0..IDS as u16 {
+        put_other(world, id, slot, others);
+    }
+}
+
+/// The record in another state.
+fn in_state(r: Rec, state: u64) -> Rec
+    ensures { result ≡ with_state r state }
+{
+    Rec { state, ..r }
+}
+
+/// Puts the record with this id in another state, if it is live.
+fn put_state(world: &mut World, new: &NewState)
+    ensures { world.new.records ≡ with_new_states (new.now ∷ []) world.old.records }
+{
+    if let Some(r) = world.get(new.id) {
+        world.relink(in_state(r, new.state));
+    }
+}
+
+/// Puts records in other states. Of two states of one record the first is put last, and so it is the record's state.
+fn put_states(world: &mut World, states: &[NewState])
+    ensures { world.new.records ≡ with_new_states states.now world.old.records }
+{
+    let mut left = states.len();
+    while left > 0 {
+        left -= 1;
+        put_state(world, &states[left]);
+    }
+}
+
+/// The record of a live player. To read it is to know that its score is a number of 32 bits.
+fn player_in(world: &World, slot: u8) -> Rec
+    requires { IsSome (record_of world.now slot) }
+    ensures player { record_of world.now slot ≡ Some result }
+    ensures score { result.score < 2 ^ 32 }
+    ensures linked { IsLinked world.now }
+{
+    world.get(u16::from(slot)).unwrap()
+}
+
+impl Mover {
+    /// Runs moves in this arena.
+    pub fn new(map: ArenaMap) -> Mover
+        ensures { result.action.map ≡ map }
+    {
+        Mover {
+            action: ArenaAction::new(map),
+            others: NearList::new(),
+        }
+    }
+
+    /// What a move of a live player does.
+    fn effect(&mut self, world: &World, cmd: &Cmd) -> Effect
+        requires valid { IsValidWorld self.old.action.map world.now.records }
+        requires live { HasLivePlayer world.now.records (command_of cmd.now) }
+        ensures effect { result ≡ effect_among self.old.action.map world.now.records (command_of cmd.now) }
+        ensures action { self.new.action ≡ self.old.action }
+    {
+        let me = player_in(world, cmd.slot);
+        list_others(world, u16::from(cmd.slot), &mut self.others);
+        self.action.act(&me, self.others.as_slice(), cmd)
+    }
+
+    /// Runs a move of a live player, and gives what the player is answered.
+    pub fn run(&mut self, world: &mut World, cmd: &Cmd) -> Reply
+        requires valid { IsValidWorld self.old.action.map world.old.records }
+        requires live { HasLivePlayer world.old.records (command_of cmd.now) }
+        ensures reply { result ≡ (effect_among self.old.action.map world.old.records (command_of cmd.now)).reply }
+        ensures records { world.new.records
+            ≡ records_after self.old.action.map world.old.records (command_of cmd.now) }
+        ensures action { self.new.action ≡ self.old.action }
+    {
+        let Effect { me, states, reply } = self.effect(world, cmd);
+        put_states(world, states.as_slice());
+        world.relink(me);
+        reply
+    }
+}
