@@ -13,8 +13,8 @@ ghost use Rattle.plain_server.specs.Moving.{HasLivePlayer, effect_among, with_ne
 
 use arena_actions::ArenaAction;
 use arena_map::ArenaMap;
-use entity_recs::{Cmd, Effect, NewState, Rec, Reply};
-use world_tree::{IDS, NearList, World};
+use entity_recs::{Cmd, Effect, IDS, NewState, Rec, Reply};
+use world_tree::{NearList, World};
 
 /// Runs moves one after another on a world, each over all other live records.
 #[derive(Drop)]
