@@ -3,6 +3,7 @@ pub mod Puts
 pub mod Frames
 pub mod Unyielding
 pub mod Resting
+pub mod TreeNodes
 pub mod Starts
 pub mod Seats
 pub mod Points

@@ -75,7 +75,7 @@ first_load = after_calls near_players (with_two near_players) (times 1 1)
 -- the first view: the command and the first word of the own record, of which the other words are to be loaded
 pub record FirstView : Type 0 where
   pub step : step_of near_players 1 ((with_two near_players).core.view 1) (Begin (plain 1))
-      ≡ record { seat = 1; word = 68; kind = Load }
+      ≡ record { seat = 1; word = 132; kind = Load }
   pub view : first_load.core.view 1 ≡ record (new_view 1) { cmd = plain 1; own = 422212465151488 ∷ []; point = Owning }
 
 -- near: seat 1 has loaded its own record, and seat 0 has made seven steps
