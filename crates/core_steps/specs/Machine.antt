@@ -164,12 +164,12 @@ index_of view (YieldNode node) = node_index node
 index_of view YieldCount = count_index
 
 -- the step that the seat makes next, by its kind and its word
-abbrev pub step_of : Fixed → ℕ → View → Next → Step
-step_of F i view next = record { seat = i; word = index_of view next; kind = kind_of next }
+abbrev pub step_of : ℕ → View → Next → Step
+step_of i view next = record { seat = i; word = index_of view next; kind = kind_of next }
 
 -- the seat's next step, if it has one
 abbrev pub next_step_of : Fixed → Machine → ℕ → Option Step
-next_step_of F m i = option_map (step_of F i (m.core.view i)) (next_of F m i)
+next_step_of F m i = option_map (step_of i (m.core.view i)) (next_of F m i)
 
 -- ---- the machine after it
 

@@ -20,7 +20,7 @@ pub use machine_laws::{
     steps_change_one_view, steps_change_one_word, steps_follow_their_word, steps_have_their_word,
 };
 pub use sizes::{
-    COUNT_WORD, FIRST_LIST_WORD, FIRST_NODE_WORD, FIRST_RECORD_WORD, FIRST_STATE_WORD,
+    COUNT_WORD, FIRST_LIST_WORD, FIRST_NODE_WORD, FIRST_RECORD_WORD, FIRST_STATE_WORD, MOST_SEATS,
     NODE_HOLDERS, TABLE_LEAVES, TABLE_NODES, TABLE_STATES, TABLE_WORDS,
 };
 pub use step::{Step, StepKind};

@@ -25,6 +25,9 @@ pub const FIRST_STATE_WORD: u16 = FIRST_RECORD_WORD + 5 * 64;
 /// How many words the table has.
 pub const TABLE_WORDS: usize = FIRST_STATE_WORD as usize + TABLE_STATES;
 
+/// The most seats. Their numbers are below it.
+pub const MOST_SEATS: usize = 16;
+
 /// How many values the low bits of a node's word have. They hold the number of the seat that holds the node plus 1, and
 /// are 0 where nobody holds it; the bits above them are the leaves of the seat's command.
 pub const NODE_HOLDERS: u64 = 256;

@@ -125,7 +125,7 @@ has_next F passes table p own = by_given p.given refl
 pub some_step : (F : Fixed) (passes : ℕ) (table : TableId) (p : PassView) → IsPassOf F passes table p → is_some (next_step F p) ≡ has_next_step p
 some_step F passes table p own = mapped (next_of_pass F p) ∙ has_next F passes table p own
   where
-    mapped : (o : Option Next) → is_some (option_map (step_of F p.number p.view) o) ≡ is_some o
+    mapped : (o : Option Next) → is_some (option_map (step_of p.number p.view) o) ≡ is_some o
     mapped None = refl
     mapped (Some next) = refl
 

@@ -15,7 +15,7 @@ use Rattle.region_locks.specs.Passes.{PassView, next_of_pass, node_taken_next, I
 use Rattle.region_locks.specs.Loads.{record_loaded_next}
 use Rattle.region_locks.specs.Quitting.{next_step, MayBegin}
 
-step_is : (F : Fixed) (p : PassView) (next : Next) (step : Step) → Some (step_of F p.number p.view next) ≡ Some step → step ≡ step_of F p.number p.view next
+step_is : (F : Fixed) (p : PassView) (next : Next) (step : Step) → Some (step_of p.number p.view next) ≡ Some step → step ≡ step_of p.number p.view next
 step_is F p next step e = cc
 
 take_kind : (next : Next) → kind_of next ≡ kinds.Take → (view : View) (nodes node : ℕ) → index_of nodes view next ≡ 1 + node → node_taken next ≡ Some node
@@ -39,7 +39,7 @@ take_kind YieldCount e view nodes node at = cc
 pub takes_node : (F : Fixed) (p : PassView) (step : Step) (node : ℕ) → next_step F p ≡ Some step → step.kind ≡ kinds.Take → step.word ≡ 1 + node → node_taken_next (next_of_pass F p) ≡ Some node
 takes_node F p step node e kind word = by_next (next_of_pass F p) e
   where
-    by_next : (o : Option Next) → option_map (step_of F p.number p.view) o ≡ Some step → node_taken_next o ≡ Some node
+    by_next : (o : Option Next) → option_map (step_of p.number p.view) o ≡ Some step → node_taken_next o ≡ Some node
     by_next None e = cc
     by_next (Some next) e =
         let is = step_is F p next step e in

@@ -9,7 +9,7 @@ use Rattle.core_steps.specs.Views.{Fixed, Point, Idle, Owning, Taking, Checking,
 use Rattle.core_steps.specs.Steps.{taking, point_after_take, first_yield}
 use Rattle.core_steps.specs.Machine.{Next, beginning, TakeNode, ClaimNode, resolving, quitting, committing, giving, index_of}
 use Rattle.core_steps.specs.Stands.{IsAt, IsClaimingAfter}
-use Rattle.core_steps.proofs.Waiting.{leaf_below}
+use Rattle.core_steps.proofs.TreeNodes.{leaf_below}
 use Rattle.core_steps.proofs.Runs.{all_from_has}
 use Rattle.core_steps.specs.Calls.{node_taken}
 use Rattle.core_seats.specs.Going.{word_left}
