@@ -4,7 +4,7 @@
 pub use laws::served_steps_leave_fewer;
 pub use lists::with_top_bit;
 pub use log::SeatLog;
-pub use near_kept::is_thing_near;
+pub use near_kept::{is_thing_near, lowest_bit, without_bit};
 pub use point::{Cell, IdQueue, NodeQueue, Point, Queues, SlotQueue, Store, StoreQueue, WordList};
 pub use queue::Queue;
 pub use reading::read_record;

@@ -59,23 +59,23 @@ pub fn count_players(start: &[Rec]) -> usize
     count
 }
 
-/// The lowest slot whose bit is set.
-fn lowest_slot(word: u64) -> u8
+/// The lowest number, 0 to 63, of those whose bit is set.
+pub fn lowest_bit(word: u64) -> u8
     requires { 0 < word }
     ensures below { result < 64 }
     ensures there { has_bit word result ≡ true }
-    ensures first { (slot : ℕ) → slot < result → has_bit word slot ≡ false }
+    ensures first { (i : ℕ) → i < result → has_bit word i ≡ false }
 {
     word.trailing_zeros() as u8
 }
 
-/// The word without the bit of this slot.
-fn without_slot(word: u64, slot: u8) -> u64
-    requires { slot < 64 }
-    ensures bits { (other : ℕ) → other < 64 → has_bit result other ≡ (has_bit word other && not (other == slot)) }
-    ensures less { has_bit word slot ≡ true → result < word }
+/// The word without the bit of this number, 0 to 63.
+pub fn without_bit(word: u64, bit: u8) -> u64
+    requires { bit < 64 }
+    ensures bits { (i : ℕ) → i < 64 → has_bit result i ≡ (has_bit word i && not (i == bit)) }
+    ensures less { has_bit word bit ≡ true → result < word }
 {
-    word & !(1 << slot)
+    word & !(1 << bit)
 }
 
 /// The record of the words kept of this slot, where it touches a region.
@@ -100,12 +100,12 @@ fn put_slots(slots: u64, six: &[[u64; 6]; 64], region: &Region, list: &mut NearL
 {
     let mut rest = slots;
     while rest != 0 {
-        let slot = lowest_slot(rest);
+        let slot = lowest_bit(rest);
         if let Some(r) = near_player(six, slot, region) {
             // The list has room for all players.
             let _ = list.push(r);
         }
-        rest = without_slot(rest, slot);
+        rest = without_bit(rest, slot);
     }
 }
 
@@ -147,7 +147,7 @@ impl<'a, A: Action> Rules<'a, A> {
             ≡ players_kept (fixed_of A.meaning self.now) region.now slot seen six.now }
         ensures few { length list.new ≤ 64 }
     {
-        put_slots(without_slot(seen & self.players, slot), six, region, list);
+        put_slots(without_bit(seen & self.players, slot), six, region, list);
     }
 
     /// The things of the map at the start, in rising id.

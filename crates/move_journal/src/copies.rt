@@ -18,7 +18,7 @@ pub fn same_reply(reply: &Reply) -> Reply
 }
 
 /// The entry once more. It takes no memory.
-pub(crate) fn same_entry(entry: &Entry) -> Entry
+pub fn same_entry(entry: &Entry) -> Entry
     ensures { result ≡ entry.now }
 {
     Entry {

@@ -1,7 +1,7 @@
 //! Journals of moves: the lists that hold their entries, and when a journal is right.
 #![tactic(auto)]
 
-pub use copies::same_reply;
+pub use copies::{same_entry, same_reply};
 pub use journal::{Journal, Log};
 pub use laws::{
     merges_have_whole_histories, moves_in_order_are_right, moves_keep_records_in_bounds,

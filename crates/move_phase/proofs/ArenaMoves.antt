@@ -28,7 +28,7 @@ use Rattle.plain_server.proofs.Others.{each_live}
 use Rattle.plain_server.proofs.Players.{live_record}
 use Rattle.move_phase.specs.Numbers.{HaveSmallNumbers}
 use Rattle.move_phase.specs.Running.{HaveRun}
-use Rattle.region_locks.specs.Passes.{PassView, TableView}
+use Rattle.ruled_words.specs.Passes.{PassView, TableView}
 use Rattle.move_phase.specs.Starting.{StartedView, fixed_of_arena, IsSharedFor, IsSharedForAny, AreStarted}
 use Rattle.move_phase.proofs.StartWorlds.{start_world_is, live_is_listed, records_are}
 use Rattle.move_phase.proofs.Journals.{history_is_run, journal_right}

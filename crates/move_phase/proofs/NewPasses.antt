@@ -6,7 +6,8 @@ use Rattle.std.proofs.lemmas.List.FromFn.{get_or-map-range_with_len, length-map-
 use Rattle.atomic_table.specs.Seated.{TableId}
 use Rattle.entity_recs.specs.Commands.{Command}
 use Rattle.core_steps.specs.Views.{Fixed, Idle}
-use Rattle.region_locks.specs.Passes.{PassView, IsPassOf, new_passes, other_pass}
+use Rattle.ruled_words.specs.Passes.{PassView, IsPassOf}
+use Rattle.region_locks.specs.NewPasses.{new_passes, other_pass}
 use Rattle.move_phase.specs.Serving.{served_by}
 use Rattle.move_phase.specs.Running.{MayServe, HaveRoom}
 

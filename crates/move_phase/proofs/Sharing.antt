@@ -14,8 +14,9 @@ use Rattle.entity_recs.specs.Histories.{Item, commands_of}
 use Rattle.move_journal.specs.Logs.{JournalView}
 use Rattle.world_tree.specs.Worlds.{WorldView}
 use Rattle.core_steps.specs.Views.{Fixed}
-use Rattle.region_locks.specs.Starts.{fixed_by}
-use Rattle.region_locks.specs.Passes.{PassView, TableView, IsPassOf, fixed_in, new_passes, first_pass}
+use Rattle.ruled_words.specs.Starts.{fixed_by}
+use Rattle.ruled_words.specs.Passes.{PassView, TableView, IsPassOf, fixed_in}
+use Rattle.region_locks.specs.NewPasses.{new_passes, first_pass}
 use Rattle.region_locks.specs.Closing.{HasNoCommand, IsClosed, log_from}
 use Rattle.move_phase.specs.Serving.{served_by, entries_from}
 use Rattle.move_phase.specs.Running.{AreOfLive, HasServed, HaveRoom, HaveRun}

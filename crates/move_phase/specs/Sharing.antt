@@ -3,7 +3,8 @@ use Rattle.std.specs.Prelude.{◌≡◌, ℕ, List, length, All}
 use Rattle.atomic_table.specs.Seated.{TableId}
 use Rattle.entity_recs.specs.Commands.{Command}
 use Rattle.core_steps.specs.Views.{Fixed}
-use Rattle.region_locks.specs.Passes.{PassView, IsPassOf, new_passes}
+use Rattle.ruled_words.specs.Passes.{PassView, IsPassOf}
+use Rattle.region_locks.specs.NewPasses.{new_passes}
 use Rattle.move_phase.specs.Running.{AreOfLive, HaveRoom}
 
 -- the table and its passes may run these commands: the passes are new, one a worker, each has room for just the commands

@@ -7,8 +7,8 @@ use Rattle.arena_actions.specs.declared.arena_action.ArenaAction.{ArenaAction}
 use Rattle.arena_actions.specs.Meanings.{meaning_of}
 use Rattle.world_tree.specs.Worlds.{WorldView, IsLinked}
 use Rattle.core_steps.specs.Views.{Fixed}
-use Rattle.region_locks.specs.Starts.{fixed_by}
-use Rattle.region_locks.specs.Passes.{PassView, TableView}
+use Rattle.ruled_words.specs.Starts.{fixed_by}
+use Rattle.ruled_words.specs.Passes.{PassView, TableView}
 use Rattle.move_phase.specs.Serving.{AreWorkers}
 use Rattle.move_phase.specs.Sharing.{IsReadyFor}
 

@@ -2,8 +2,8 @@ ghost use Rattle.std.specs.Prelude.{◌≡◌, ◌<◌, ◌≤◌, ◌^◌, true
 ghost use Rattle.entity_recs.specs.Commands.{command_of};
 ghost use Rattle.world_tree.specs.Live.{live_in};
 ghost use Rattle.world_tree.specs.Worlds.{IsLinked};
-ghost use Rattle.region_locks.specs.Passes.{fixed_in};
-ghost use Rattle.region_locks.specs.Starts.{fixed_by};
+ghost use Rattle.ruled_words.specs.Passes.{fixed_in};
+ghost use Rattle.ruled_words.specs.Starts.{fixed_by};
 ghost use Rattle.move_phase.specs.Running.{AreOfLive, HaveRun};
 ghost use Rattle.move_phase.specs.Sharing.{IsReadyFor};
 

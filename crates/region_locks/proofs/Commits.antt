@@ -11,7 +11,8 @@ use Rattle.core_steps.specs.Steps.{first_yield, next_give}
 use Rattle.core_steps.specs.Machine.{Next, Begin, LoadOwn, LoadAgain, TakeNode, ClaimNode, ReadList, ReadPlayer, ReadState, CommitMove, StoreWord, GiveNode, YieldNode, YieldCount, beginning, resolving, quitting, committing, giving, index_of, kind_of}
 use Rattle.core_steps.specs.declared.step.StepKind.TheVariants.{Commit}
 use Rattle.core_seats.specs.Going.{word_left}
-use Rattle.region_locks.specs.Passes.{PassView, first_effect, effect_in_hand, next_of_pass, is_commit, is_commit_next}
+use Rattle.ruled_words.specs.Passes.{PassView, first_effect, effect_in_hand, next_of_pass}
+use Rattle.region_locks.specs.NextCalls.{is_commit, is_commit_next}
 use Rattle.core_seats.specs.Nexts.{next_resolved, next_point, the_next}
 
 -- what is known of a pass whose next step commits

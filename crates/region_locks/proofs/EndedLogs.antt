@@ -6,7 +6,6 @@ use Rattle.std.specs.List.Sorted.{IsPermutation, IsStrictlyIncreasing}
 use Rattle.std.proofs.lemmas.Bool.{cases_eq, eq-eqb, ne_eqb, or_left, or_right, cond-true, cond-false}
 use Rattle.std.proofs.lemmas.List.{append-nil}
 use Rattle.std.proofs.lemmas.List.Elements.{All-from_recursion, recursion_from_All}
-use Rattle.atomic_table.specs.Table.{Me}
 use Rattle.atomic_table.specs.Seated.{TableId}
 use Rattle.entity_recs.specs.declared.rec.Rec.{Rec}
 use Rattle.entity_recs.specs.Worlds.{World}
@@ -16,10 +15,11 @@ use Rattle.world_tree.specs.Live.{live_in}
 use Rattle.world_tree.specs.Worlds.{WorldView}
 use Rattle.core_steps.specs.Views.{Fixed, Ended, View, has}
 use Rattle.core_steps.specs.Stands.{ended_log, is_ended, items_below}
-use Rattle.region_locks.specs.Sights.{SightView, with_one_ended}
-use Rattle.region_locks.specs.Going.{IsAtRest}
-use Rattle.region_locks.specs.Passes.{PassView, sight_of, IsPassOf}
-use Rattle.region_locks.specs.Closing.{AreEndedBelow, HasNoCommand, log_in, logs_in, with_passes_ended, sight_at_end, Closes, IsClosed}
+use Rattle.ruled_words.specs.Sights.{SightView, with_one_ended}
+use Rattle.ruled_words.specs.Going.{IsAtRest}
+use Rattle.ruled_words.specs.Passes.{PassView, sight_of, IsPassOf}
+use Rattle.ruled_words.specs.Ends.{AreEndedBelow, log_in, logs_in, Closes}
+use Rattle.region_locks.specs.Closing.{HasNoCommand, with_passes_ended, sight_at_end, IsClosed}
 use Rattle.region_locks.proofs.EndedPasses.{AllCanEnd, all_can_end}
 
 -- ---- what stays of a sight while others are ended into it
@@ -196,9 +196,9 @@ module _ (F : Fixed) (words : List ℕ) (passes : List PassView) (sight : SightV
   }
 
 -- the seat that is left of a table's passes
-pub left_here : (F : Fixed) (count : ℕ) (table : TableId) (passes : List PassView) (me : Me (Unit {0}) SightView) → All (IsPassOf F count table) passes → All HasNoCommand passes
-    → map (λ (p : PassView). p.number) passes ≡ range_with_len 0 count → 0 < count → me ≡ (sight_at_end passes, []) → IsLeftAfter passes me.0
+pub left_here : (F : Fixed) (count : ℕ) (table : TableId) (passes : List PassView) (me : SightView) → All (IsPassOf F count table) passes → All HasNoCommand passes
+    → map (λ (p : PassView). p.number) passes ≡ range_with_len 0 count → 0 < count → me ≡ sight_at_end passes → IsLeftAfter passes me
 left_here F count table passes me own none numbers some is =
     let same = passes_count passes count numbers in
     let can = all_can_end F count table passes (recursion_from_All (IsPassOf F count table) passes own) (recursion_from_All HasNoCommand passes none) in
-    subst (λ (m : Me (Unit {0}) SightView). IsLeftAfter passes m.0) (sym is) (left_after table passes count (omega (arith, some, same)) can numbers)
+    subst (λ (m : SightView). IsLeftAfter passes m) (sym is) (left_after table passes count (omega (arith, some, same)) can numbers)

@@ -5,15 +5,14 @@ use Rattle.std.specs.List.{range_with_len}
 use Rattle.std.proofs.lemmas.List.Elements.{recursion_from_All, All-from_recursion}
 use Rattle.std.specs.Bool.{OnTrue}
 use Rattle.std.specs.List.{AllByRecursion}
-use Rattle.atomic_table.specs.Table.{Me}
 use Rattle.atomic_table.specs.Seated.{TableId}
 use Rattle.move_journal.specs.Logs.{JournalView}
 use Rattle.core_steps.specs.Views.{Fixed, Refused}
-use Rattle.region_locks.specs.Sights.{HeldWord, IsOneOf, Tally, tally_of_both, AreRefusalsServed, SightView, with_one_ended}
-use Rattle.region_locks.specs.Going.{IsAtRest}
-use Rattle.region_locks.specs.Passes.{PassView, RefusalIsListed, sight_of, IsPassOf}
+use Rattle.ruled_words.specs.Sights.{HeldWord, IsOneOf, Tally, tally_of_both, AreRefusalsServed, SightView, with_one_ended}
+use Rattle.ruled_words.specs.Going.{IsAtRest}
+use Rattle.ruled_words.specs.Passes.{PassView, RefusalIsListed, sight_of, IsPassOf}
 use Rattle.region_locks.specs.Closing.{tally_of_all, AreRefusalsHeld, HasNoCommand, with_passes_ended, sight_at_end, log_from}
-use Rattle.region_locks.proofs.Takings.{one_in_front, one_in_back}
+use Rattle.ruled_words.proofs.Takings.{one_in_front, one_in_back}
 
 -- the pass can be ended
 pub record CanEnd (table : TableId) (p : PassView) : Type 0 where
@@ -26,14 +25,13 @@ AllCanEnd table [] = Unit {0}
 AllCanEnd table (p ∷ passes) = CanEnd table p × AllCanEnd table passes
 
 -- of these passes some are ended into the first one's seat, and the others are left
-pub record IsEndedBut (table : TableId) (all left : List PassView) (at : TableId) (me : Me (Unit {0}) SightView) (given : List JournalView) : Type 0 where
+pub record IsEndedBut (table : TableId) (all left : List PassView) (at : TableId) (me : SightView) (given : List JournalView) : Type 0 where
   pub at_table : at ≡ table
-  pub carries : me.1 ≡ []
-  pub sight : with_passes_ended left me.0 ≡ sight_at_end all
+  pub sight : with_passes_ended left me ≡ sight_at_end all
   pub logs : given ++ map log_from left ≡ map log_from all
   pub can_end : AllCanEnd table left
-  pub rests : IsAtRest me.0.view
-  pub first : me.0.number ≡ 0
+  pub rests : IsAtRest me.view
+  pub first : me.number ≡ 0
 
 -- what the passes of a table are, as they are handed in, lets each be ended
 pub all_can_end : (F : Fixed) (count : ℕ) (table : TableId) (passes : List PassView) → AllByRecursion (IsPassOf F count table) passes → AllByRecursion HasNoCommand passes → AllCanEnd table passes
@@ -62,13 +60,12 @@ first_number all left p (suc n) numbers is =
 
 module _ (table : TableId) (all : List PassView) where
   -- the first one is at hand
-  begins : (p : PassView) (left : List PassView) (at : TableId) (me : Me (Unit {0}) SightView) (given : List JournalView) → all ≡ p ∷ left → AllCanEnd table all → p.number ≡ 0
-      → at ≡ p.table → me ≡ (sight_of p, []) → given ≡ log_from p ∷ [] → IsEndedBut table all left at me given
+  begins : (p : PassView) (left : List PassView) (at : TableId) (me : SightView) (given : List JournalView) → all ≡ p ∷ left → AllCanEnd table all → p.number ≡ 0
+      → at ≡ p.table → me ≡ sight_of p → given ≡ log_from p ∷ [] → IsEndedBut table all left at me given
   begins p left at me given is can first here seat logs =
       let each = subst (AllCanEnd table) is can in
       rw (seat, logs, is) (record {
         at_table = here ∙ each.0.at_table;
-        carries = refl;
         sight = refl;
         logs = refl;
         can_end = each.1;
@@ -77,7 +74,7 @@ module _ (table : TableId) (all : List PassView) where
       })
 
   -- there is room for the log of one that is left
-  has_room : (p : PassView) (left : List PassView) (at : TableId) (me : Me (Unit {0}) SightView) (given : List JournalView) → IsEndedBut table all (p ∷ left) at me given → length all ≤ 16
+  has_room : (p : PassView) (left : List PassView) (at : TableId) (me : SightView) (given : List JournalView) → IsEndedBut table all (p ∷ left) at me given → length all ≤ 16
       → length given < 16
   has_room p left at me given is few =
       let whole = ap (λ (logs : List JournalView). length logs) is.logs in
@@ -87,11 +84,10 @@ module _ (table : TableId) (all : List PassView) where
       omega (arith, whole, parts, more, count, few)
 
   -- one more is ended
-  goes_on : (p : PassView) (left : List PassView) (at : TableId) (me me' : Me (Unit {0}) SightView) (given : List JournalView) → IsEndedBut table all (p ∷ left) at me given
-      → me' ≡ (with_one_ended me.0 (sight_of p), me.1) → IsEndedBut table all left at me' (given ++ log_from p ∷ [])
+  goes_on : (p : PassView) (left : List PassView) (at : TableId) (me me' : SightView) (given : List JournalView) → IsEndedBut table all (p ∷ left) at me given
+      → me' ≡ with_one_ended me (sight_of p) → IsEndedBut table all left at me' (given ++ log_from p ∷ [])
   goes_on p left at me me' given is ended = rw ended (record {
     at_table = is.at_table;
-    carries = is.carries;
     sight = is.sight;
     logs = append_assoc given (log_from p ∷ []) (map log_from left) ∙ is.logs;
     can_end = is.can_end.1;
@@ -100,9 +96,9 @@ module _ (table : TableId) (all : List PassView) where
   })
 
 -- the first of the passes, taken out of the list, with its log put into the empty list
-pub first_taken : (F : Fixed) (table : TableId) (all left : List PassView) (p : PassView) (count : ℕ) (at : TableId) (me : Me (Unit {0}) SightView) (old given : List JournalView) (log : JournalView) (fits : Bool)
+pub first_taken : (F : Fixed) (table : TableId) (all left : List PassView) (p : PassView) (count : ℕ) (at : TableId) (me : SightView) (old given : List JournalView) (log : JournalView) (fits : Bool)
     → All (IsPassOf F count table) all → All HasNoCommand all → map (λ (x : PassView). x.number) all ≡ range_with_len 0 count → 0 < length all
-    → p ≡ slice_index_or all 0 p → left ≡ drop 1 all → at ≡ p.table → me ≡ (sight_of p, []) → log ≡ log_from p → old ≡ []
+    → p ≡ slice_index_or all 0 p → left ≡ drop 1 all → at ≡ p.table → me ≡ sight_of p → log ≡ log_from p → old ≡ []
     → (IsTrue fits ↔ (length old < 16)) → OnTrue fits (given ≡ old ++ log ∷ []) → IsEndedBut table all left at me given
 first_taken F table all left p count at me old given log fits own none numbers some first rest here seat is empty fit put =
     let split = first_and_rest all left p some first rest in
@@ -112,13 +108,13 @@ first_taken F table all left p count at me old given log fits own none numbers s
     begins table all p left at me given split can (first_number all left p count numbers split) here seat whole
 
 -- the next of the passes that are left is ended, with its log put last
-pub next_ended : (table : TableId) (all items left : List PassView) (p : PassView) (at at' : TableId) (me me' other : Me (Unit {0}) SightView) (given given' : List JournalView) (log : JournalView) (fits : Bool)
-    → IsEndedBut table all items at me given → length all ≤ 16 → items ≡ p ∷ left → other ≡ (sight_of p, []) → log ≡ log_from p → at' ≡ at → me' ≡ (with_one_ended me.0 other.0, me.1)
+pub next_ended : (table : TableId) (all items left : List PassView) (p : PassView) (at at' : TableId) (me me' other : SightView) (given given' : List JournalView) (log : JournalView) (fits : Bool)
+    → IsEndedBut table all items at me given → length all ≤ 16 → items ≡ p ∷ left → other ≡ sight_of p → log ≡ log_from p → at' ≡ at → me' ≡ with_one_ended me other
     → (IsTrue fits ↔ (length given < 16)) → OnTrue fits (given' ≡ given ++ log ∷ []) → IsEndedBut table all left at' me' given'
 next_ended table all items left p at at' me me' other given given' log fits is few next seat own here ended fit put =
     let now : IsEndedBut table all (p ∷ left) at me given = subst (λ (xs : List PassView). IsEndedBut table all xs at me given) next is in
     let whole = put_last fits given given' log fit (has_room table all p left at me given now few) put in
-    let sight : me' ≡ (with_one_ended me.0 (sight_of p), me.1) = ended ∙ ap (λ (m : Me (Unit {0}) SightView). (with_one_ended me.0 m.0, me.1)) seat in
+    let sight : me' ≡ with_one_ended me (sight_of p) = ended ∙ ap (λ (m : SightView). with_one_ended me m) seat in
     rw (whole, here, own) (goes_on table all p left at me me' given now sight)
 
 -- what the seat that is left did is what all passes did
@@ -135,8 +131,8 @@ takes_ended : (passes : List PassView) (sight : SightView) → (with_passes_ende
 takes_ended [] sight = λ i. record { begun = no_more sight.tally.begun i; served = sym (append-nil sight.tally.served) i; refused = sym (append-nil sight.tally.refused) i }
 takes_ended (p ∷ passes) sight = takes_ended passes (with_one_ended sight (sight_of p)) ∙ both_assoc sight.tally p.tally (tally_of_all passes)
 
-pub takes_at_close : (passes : List PassView) (me : Me (Unit {0}) SightView) → me ≡ (sight_at_end passes, []) → AreRefusalsServed me.0.tally → AreRefusalsServed (tally_of_all passes)
-takes_at_close passes me is served = subst AreRefusalsServed (ap (λ (m : Me (Unit {0}) SightView). m.0.tally) is ∙ at_end passes) served
+pub takes_at_close : (passes : List PassView) (me : SightView) → me ≡ sight_at_end passes → AreRefusalsServed me.tally → AreRefusalsServed (tally_of_all passes)
+takes_at_close passes me is served = subst AreRefusalsServed (ap (λ (m : SightView). m.tally) is ∙ at_end passes) served
   where
     at_end : (ps : List PassView) → (sight_at_end ps).tally ≡ tally_of_all ps
     at_end [] = refl

@@ -16,13 +16,14 @@ use Rattle.core_seats.specs.Ready.{is_resolving}
 use Rattle.core_seats.specs.Sound.{IsSound}
 use Rattle.core_seats.specs.StepsLeft.{steps_left, is_served, IsCounting}
 use Rattle.core_seats.proofs.StepsLeft.{served_steps_leave_fewer}
+use Rattle.ruled_words.specs.Passes.{PassView, first_effect, effect_in_hand, next_of_pass, pass_after, node_taken_next, node_given_next, list_read_next, state_read_next, IsPassOf}
+use Rattle.ruled_words.specs.Loads.{PlayerWord, player_word_next, slot_of_first, slot_begun, record_loaded_next}
+use Rattle.ruled_words.specs.Sights.{Tally, begun_after, tally_after}
 use Rattle.region_locks.specs.declared.turn.Turn.{Turn}
 use Rattle.region_locks.specs.declared.turn.Turn.TheVariants.{LoadRec, Take, LoadList, LoadState, Resolve, Commit, Unlink, StoreNext, SetLink, GiveBack}
 use Rattle.region_locks.specs.declared.went.Went.TheVariants.{On}
-use Rattle.region_locks.specs.Passes.{PassView, first_effect, effect_in_hand, next_of_pass, pass_after, node_taken_next, node_given_next, list_read_next, state_read_next, is_commit_next, is_unlink_next, is_store_next, is_link_next, IsPassOf}
-use Rattle.region_locks.specs.Loads.{PlayerWord, player_word_next, slot_of_first, slot_begun, record_loaded_next}
+use Rattle.region_locks.specs.NextCalls.{is_commit_next, is_unlink_next, is_store_next, is_link_next}
 use Rattle.region_locks.specs.Turns.{turn_of_store, turn_for, turn_of, IsBetweenRecords}
-use Rattle.region_locks.specs.Sights.{Tally, begun_after, tally_after}
 use Rattle.region_locks.specs.Pursuits.{command_pursued, commands_given, IsGoingOn, effect_left, calls_left, HasGoneOn}
 use Rattle.region_locks.proofs.Pursuing.{no_word, is_partial, pursued_at, Leaves, is_plain_next, leaves_here}
 

@@ -9,9 +9,9 @@ use Rattle.core_steps.specs.Machine.{Next, YieldNode, GiveNode, giving, quitting
 use Rattle.core_steps.specs.Calls.{node_taken}
 use Rattle.core_seats.specs.Going.{view_found, word_left}
 use Rattle.core_seats.specs.Nexts.{next_point, the_next}
-use Rattle.region_locks.specs.Passes.{PassView, next_of_pass, pass_after, node_given_next, IsPassOf}
+use Rattle.ruled_words.specs.Passes.{PassView, next_of_pass, pass_after, node_given_next, IsPassOf}
+use Rattle.ruled_words.specs.Sights.{begun_after, tally_taken}
 use Rattle.region_locks.specs.Quitting.{HasQuit}
-use Rattle.region_locks.specs.Sights.{begun_after, tally_taken}
 use Rattle.region_locks.specs.Pursuits.{commands_given, HasGivenUp}
 
 -- the number of nodes that are held

@@ -9,16 +9,17 @@ use Rattle.entity_recs.specs.Actions.{Meaning}
 use Rattle.entity_recs.specs.Commands.{Command}
 use Rattle.world_tree.specs.Worlds.{WorldView}
 use Rattle.core_seats.specs.Shown.{RulesView, fixed_of, IsRuled}
-use Rattle.region_locks.specs.Starts.{rules_of}
+use Rattle.ruled_words.specs.Starts.{rules_of}
 use Rattle.core_steps.specs.Views.{Fixed, Store, View}
 use Rattle.core_steps.specs.Machine.{Next, Begin, beginning, index_of, IsPending}
 use Rattle.core_steps.proofs.Machines.{fits_none}
-use Rattle.region_locks.specs.Going.{MayGo}
-use Rattle.region_locks.specs.Plays.{IsSoundSight}
+use Rattle.ruled_words.specs.Going.{MayGo}
+use Rattle.ruled_words.specs.Plays.{IsSoundSight}
 use Rattle.core_seats.specs.Sound.{IsSound}
 use Rattle.core_seats.specs.Ready.{is_resolving}
-use Rattle.region_locks.specs.Sights.{no_tally}
-use Rattle.region_locks.specs.Passes.{IsPassOf, new_pass, view_with_made, other_pass, new_passes}
+use Rattle.ruled_words.specs.Sights.{no_tally}
+use Rattle.ruled_words.specs.Passes.{IsPassOf}
+use Rattle.region_locks.specs.NewPasses.{new_pass, view_with_made, other_pass, new_passes}
 
 module _ (F : Fixed) (depth : F.tree.depth ≡ 4) (room made : ℕ) where
   abbrev view : View

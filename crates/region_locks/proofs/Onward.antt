@@ -17,16 +17,17 @@ use Rattle.core_seats.specs.Nexts.{next_with, next_point, next_resolved, the_nex
 use Rattle.core_seats.specs.Ready.{is_resolving}
 use Rattle.core_seats.specs.StepsLeft.{steps_left, is_served, IsCounting}
 use Rattle.core_seats.proofs.StepsLeft.{served_steps_leave_fewer}
+use Rattle.ruled_words.specs.Passes.{PassView, first_effect, effect_kept, effect_in_hand, next_of_pass, pass_after, node_taken_next, IsPassOf, IsHolderIn}
+use Rattle.ruled_words.specs.Holders.{IsOtherHolder, IsReached}
+use Rattle.ruled_words.specs.Loads.{PlayerWord, player_word_next, after_loads, HasLoaded}
+use Rattle.ruled_words.specs.Sights.{Tally, begun_after, tally_taken, tally_after}
 use Rattle.region_locks.specs.declared.turn.Turn.TheVariants.{LoadRec, Resolve}
 use Rattle.region_locks.specs.declared.went.Went.TheVariants.{On, Resolved, Committed}
-use Rattle.region_locks.specs.Passes.{PassView, first_effect, effect_kept, effect_in_hand, next_of_pass, pass_after, node_taken_next, is_commit_next, IsPassOf, IsHolderIn}
-use Rattle.region_locks.specs.Holders.{IsOtherHolder, IsReached}
-use Rattle.region_locks.specs.Loads.{PlayerWord, player_word_next, after_loads, HasLoaded}
+use Rattle.region_locks.specs.NextCalls.{is_commit_next}
 use Rattle.region_locks.specs.Turns.{turn_of}
 use Rattle.region_locks.specs.Pursuits.{command_pursued, commands_given, IsGoingOn, HasCommitted, WasRefused, effect_left, calls_left, HasGoneOn}
 use Rattle.region_locks.proofs.Turns.{resolving_is}
 use Rattle.region_locks.proofs.Pursuing.{is_partial, pursued_at, visiting_plain, loading_plain, pursued_reading}
-use Rattle.region_locks.specs.Sights.{Tally, begun_after, tally_taken, tally_after}
 use Rattle.region_locks.proofs.Followed.{asked, none_refused, next_pursued, whole_between, none_given, unread, fewer_step, command_in_view}
 
 -- ---- a record is loaded

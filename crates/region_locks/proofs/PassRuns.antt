@@ -1,24 +1,22 @@
 -- What a move leaves of its pass, by what its hand ran.
-use Rattle.std.proofs.Common.{◌≡◌, ℕ, suc, ◌+◌, Bool, true, false, if◌then◌else◌, List, [], ◌∷◌, ◌++◌, refl, sym, ap, ◌∙◌, subst, inl, inr, Option, Some, None, is_some, arith}
+use Rattle.std.proofs.Common.{◌≡◌, ℕ, suc, ◌+◌, false, if◌then◌else◌, [], ◌∷◌, ◌++◌, sym, ap, ◌∙◌, subst, inl, inr, Option, None, is_some, arith}
 use Rattle.std.proofs.lemmas.Bool.{cases_Bool, false≢true}
 use Rattle.atomic_table.specs.Seated.{TableId}
 use Rattle.entity_recs.specs.declared.effect.Effect.{Effect}
 use Rattle.entity_recs.specs.declared.effect.Entry.{Entry}
 use Rattle.entity_recs.specs.Commands.{Command}
-use Rattle.entity_recs.specs.Histories.{Item}
-use Rattle.core_steps.specs.Views.{Fixed, View, Refused, without_command}
+use Rattle.core_steps.specs.Views.{Fixed, View, without_command}
 use Rattle.core_steps.specs.Steps.{is_taking}
 use Rattle.core_seats.specs.declared.seat.Seat.{Seat}
 use Rattle.core_seats.specs.declared.refusals.Refusals.{Refusals}
 use Rattle.core_seats.specs.Refusals.{AreRefusals, last_of}
 use Rattle.core_seats.specs.Ready.{is_resolving}
 use Rattle.core_seats.specs.Seats.{view_of, given_of}
-use Rattle.region_locks.specs.Passes.{PassView, IsPassOf}
-use Rattle.region_locks.specs.Hands.{IsPlain, pass_view}
-use Rattle.region_locks.specs.Pursuits.{commands_given, item_of}
+use Rattle.ruled_words.specs.Passes.{PassView, IsPassOf}
+use Rattle.ruled_words.specs.Hands.{IsPlain, pass_view}
+use Rattle.region_locks.specs.Pursuits.{item_of}
 use Rattle.region_locks.specs.Quitting.{MayBegin}
 use Rattle.region_locks.specs.Moves.{HasRun}
-use Rattle.region_locks.specs.Straight.{in_view_with}
 use Rattle.region_locks.specs.Runs.{HasMoved, done_with}
 
 -- the seat in plain values after the move: its command is forgotten, its refusals and its log are those of the view

@@ -12,7 +12,7 @@ use Rattle.core_seats.specs.Going.{view_found}
 use Rattle.core_seats.specs.Nexts.{next_point, next_resolved, the_next}
 use Rattle.core_seats.specs.Ready.{is_resolving}
 use Rattle.core_seats.specs.StepsLeft.{is_served}
-use Rattle.region_locks.specs.Passes.{first_effect, effect_kept}
+use Rattle.ruled_words.specs.Passes.{first_effect, effect_kept}
 
 -- no word is left
 abbrev pub no_word : List ℕ → Bool

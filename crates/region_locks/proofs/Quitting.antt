@@ -18,8 +18,8 @@ use Rattle.core_seats.specs.Nexts.{next_point, the_next}
 use Rattle.core_seats.specs.Ready.{is_resolving, IsReady}
 use Rattle.core_seats.specs.Shown.{RulesView, fixed_of}
 use Rattle.core_seats.specs.Sound.{IsSound}
-use Rattle.region_locks.specs.Starts.{rules_of}
-use Rattle.region_locks.specs.Passes.{PassView, TableView, fixed_in, next_of_pass, pass_after, node_taken_next, IsPassOf}
+use Rattle.ruled_words.specs.Starts.{rules_of}
+use Rattle.ruled_words.specs.Passes.{PassView, TableView, fixed_in, next_of_pass, pass_after, node_taken_next, IsPassOf}
 use Rattle.region_locks.specs.Quitting.{has_next_step, next_step, HasQuit, MayBegin}
 
 -- ---- which passes have a next step

@@ -5,7 +5,7 @@ use Rattle.std.proofs.lemmas.Bool.{cases_eq, cases_lt}
 use Rattle.std.proofs.lemmas.List.{get_or_past}
 use Rattle.entity_recs.specs.declared.rec.Rec.{Rec}
 use Rattle.world_tree.specs.Worlds.{WorldView, record_of, IsLinked, with_record, without_id}
-use Rattle.region_locks.specs.Closing.{record_in}
+use Rattle.ruled_words.specs.Ends.{record_in}
 
 -- the records below an id are made those of the words
 pub record IsRelinkedBelow (n : ℕ) (words : List ℕ) (before after : WorldView) : Type 0 where

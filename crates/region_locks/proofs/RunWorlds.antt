@@ -13,8 +13,8 @@ use Rattle.world_tree.specs.Worlds.{WorldView, record_of}
 use Rattle.core_steps.specs.Views.{Fixed, has}
 use Rattle.core_steps.specs.Stands.{IsStart}
 use Rattle.core_seats.proofs.NearLists.{AreFound, found_at_ids}
-use Rattle.region_locks.specs.Starts.{world_at_start}
-use Rattle.region_locks.specs.Closing.{record_in}
+use Rattle.ruled_words.specs.Starts.{world_at_start}
+use Rattle.ruled_words.specs.Ends.{record_in}
 
 -- where each place has what the function makes of the other's record, so have the live records
 live_mapped : (f : Rec → Rec) (xs ys : List (Option Rec)) → ((i : ℕ) → record_at ys i ≡ option_map f (record_at xs i)) → live_in ys ≡ map f (live_in xs)

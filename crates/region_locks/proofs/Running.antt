@@ -8,10 +8,10 @@ use Rattle.entity_recs.specs.Commands.{Command}
 use Rattle.areanode.specs.Words.{has_bit}
 use Rattle.core_steps.specs.Views.{Fixed, Refused, Point, Idle, Owning, Taking, Checking, Entering, Entered, Loading, Leaving, Sensing, Resolving, Claiming, Storing, Releasing, Returning, Yielding, stage_of, is_busy, inner_held, leaves_held, stores_owed}
 use Rattle.core_steps.specs.Calls.{is_pursued, pursued_of}
+use Rattle.ruled_words.specs.Sights.{HeldWord, IsOneOf}
+use Rattle.ruled_words.specs.Passes.{PassView, IsPassOf}
 use Rattle.region_locks.specs.declared.went.Went.{Went}
 use Rattle.region_locks.specs.declared.went.Went.TheVariants.{Resolved}
-use Rattle.region_locks.specs.Sights.{HeldWord, IsOneOf}
-use Rattle.region_locks.specs.Passes.{PassView, IsPassOf}
 use Rattle.region_locks.specs.declared.turn.Turn.{Turn}
 use Rattle.region_locks.specs.Turns.{has_command_in_hand}
 use Rattle.region_locks.specs.Closing.{HasNoCommand}

@@ -1,29 +1,32 @@
 -- The parts of a move as straight code, one after another.
-use Rattle.std.proofs.Common.{◌≡◌, ℕ, suc, ◌+◌, ◌^◌, ◌<◌, ◌≤◌, Bool, true, false, List, [], ◌∷◌, ◌++◌, refl, sym, ap, ◌∙◌, subst, Option, Some, None}
+use Rattle.std.proofs.Common.{◌≡◌, ℕ, suc, ◌+◌, ◌^◌, ◌<◌, ◌≤◌, List, [], ◌∷◌, ◌++◌, refl, sym, ap, ◌∙◌, subst, Some}
 use Rattle.arena_geo.specs.Bounds.{Bounds}
 use Rattle.areanode.specs.Trees.{leaves_of}
-use Rattle.entity_recs.specs.declared.rec.Rec.{Rec}
 use Rattle.entity_recs.specs.declared.effect.Effect.{Effect}
-use Rattle.entity_recs.specs.declared.effect.NewState.{NewState}
 use Rattle.entity_recs.specs.declared.effect.Entry.{Entry}
 use Rattle.entity_recs.specs.Commands.{Command}
 use Rattle.entity_recs.specs.Histories.{entry_of}
 use Rattle.core_steps.specs.Steps.{item_at}
-use Rattle.core_steps.specs.Views.{Fixed, View, Point, stage_of, is_committed, without_command, Checking, Resolving, Releasing, ListRead, PlayerRead, Refused, region_in, leaf_nodes, leaf_word, record_read, effect_loaded}
+use Rattle.core_steps.specs.Views.{Fixed, View, Point, stage_of, is_committed, without_command, Checking, Resolving, Releasing, region_in, leaf_word}
 use Rattle.core_seats.specs.declared.refusals.Refusals.{Refusals}
 use Rattle.core_seats.specs.Refusals.{AreRefusals}
+use Rattle.ruled_words.specs.Sights.{IsOneOf, Tally}
+use Rattle.ruled_words.specs.Passes.{PassView}
+use Rattle.ruled_words.specs.Hands.{keeping}
+use Rattle.ruled_words.specs.Straight.{in_view, in_view_with, taking_leaves, at_point, nodes_read, IsTriedOn}
+use Rattle.ruled_words.specs.Tries.{tried_until}
+use Rattle.ruled_words.specs.Writing.{as_tried, HasTried, written}
 use Rattle.region_locks.specs.declared.gate_point.GatePoint.TheVariants.{Leaves, Computed, Committed}
-use Rattle.region_locks.specs.Sights.{HeldWord, IsOneOf, Tally}
-use Rattle.region_locks.specs.Passes.{PassView, IsPassOf}
-use Rattle.region_locks.specs.Hands.{keeping}
 use Rattle.region_locks.specs.Pursuits.{HoldsLeavesAlone, is_checking, item_of}
 use Rattle.region_locks.specs.Moments.{IsAtPoint}
-use Rattle.region_locks.specs.Straight.{in_view, in_view_with, taking_leaves, at_point, nodes_read, IsTriedOn}
-use Rattle.region_locks.specs.Tries.{tried_until}
-use Rattle.region_locks.specs.Writing.{as_tried, HasTried, written}
-use Rattle.region_locks.specs.declared.held.Held.{Held}
+use Rattle.region_locks.specs.declared.moving.held.Held.{Held}
 use Rattle.region_locks.specs.Runs.{HoldsLeavesOf, HasReadAll, HasWritten, HasMoved, all_read, all_written}
-use Rattle.region_locks.proofs.LeafWords.{leaf_word_is}
+use Rattle.ruled_words.proofs.LeafWords.{leaf_word_is}
+
+-- ---- an entry that is there
+
+pub some_entry : (a b : Entry) → Some a ≡ Some b → a ≡ b
+some_entry a b e = cc
 
 -- ---- refused takes
 

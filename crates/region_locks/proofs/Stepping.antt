@@ -11,8 +11,8 @@ use Rattle.core_steps.specs.Steps.{first_yield, is_taking}
 use Rattle.core_steps.specs.Machine.{Next, Begin, LoadOwn, LoadAgain, TakeNode, ClaimNode, ReadList, ReadPlayer, ReadState, CommitMove, StoreWord, GiveNode, YieldNode, YieldCount, quitting, kind_of, index_of, step_of}
 use Rattle.core_steps.specs.Calls.{node_taken}
 use Rattle.core_seats.specs.Nexts.{next_point}
-use Rattle.region_locks.specs.Passes.{PassView, next_of_pass, node_taken_next, IsPassOf}
-use Rattle.region_locks.specs.Loads.{record_loaded_next}
+use Rattle.ruled_words.specs.Passes.{PassView, next_of_pass, node_taken_next, IsPassOf}
+use Rattle.ruled_words.specs.Loads.{record_loaded_next}
 use Rattle.region_locks.specs.Quitting.{next_step, MayBegin}
 
 step_is : (F : Fixed) (p : PassView) (next : Next) (step : Step) → Some (step_of p.number p.view next) ≡ Some step → step ≡ step_of p.number p.view next

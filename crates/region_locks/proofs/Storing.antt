@@ -9,7 +9,8 @@ use Rattle.core_steps.specs.Steps.{first_yield, next_give}
 use Rattle.core_steps.specs.Machine.{Next, beginning, StoreWord, resolving, quitting, committing, giving, index_of}
 use Rattle.core_seats.specs.Going.{word_left}
 use Rattle.core_seats.specs.Nexts.{next_resolved, next_point, the_next}
-use Rattle.region_locks.specs.Passes.{PassView, bit_owed, index_owed, word_owed, next_of_pass, pass_after, store_made, store_made_next, is_clear, is_put, is_set, is_unlink_next, is_store_next, is_link_next}
+use Rattle.ruled_words.specs.Passes.{PassView, next_of_pass, pass_after}
+use Rattle.region_locks.specs.NextCalls.{bit_owed, index_owed, word_owed, store_made, store_made_next, is_clear, is_put, is_set, is_unlink_next, is_store_next, is_link_next}
 
 -- what is known of a pass whose next step makes this store
 record Makes (p : PassView) (store : Store) (next : Next) : Type 0 where

@@ -12,7 +12,7 @@ use Rattle.core_seats.specs.Nexts.{next_point, next_resolved}
 use Rattle.core_seats.specs.Ready.{is_resolving}
 use Rattle.region_locks.specs.declared.turn.Turn.{Turn}
 use Rattle.atomic_table.specs.Seated.{TableId}
-use Rattle.region_locks.specs.Passes.{PassView, next_of_pass, IsPassOf}
+use Rattle.ruled_words.specs.Passes.{PassView, next_of_pass, IsPassOf}
 use Rattle.region_locks.specs.Turns.{turn_for, turn_of, has_command_in_hand}
 use Rattle.region_locks.proofs.Quitting.{has_next}
 

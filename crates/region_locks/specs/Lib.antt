@@ -1,20 +1,8 @@
--- The rule on shared words, and what each call does to a pass.
-pub mod Sights
-pub mod Starts
-pub mod Going
-pub mod Rule
-pub mod WordSteps
-pub mod Plays
-pub mod Passes
-pub mod Hands
-pub mod Straight
-pub mod Tries
-pub mod Visits
-pub mod Writing
-pub mod Sensing
-pub mod Loads
+-- A pass, what each call does to it, and what a move leaves of it.
+pub mod NextCalls
+pub mod NewPasses
+pub mod Following
 pub mod Turns
-pub mod Holders
 pub mod Pursuits
 pub mod Points
 pub mod Moments
@@ -22,7 +10,15 @@ pub mod Quitting
 pub mod Closing
 pub mod Moves
 pub mod Runs
-pub mod Laws
+pub use Rattle.ruled_words.specs.Sights
+pub use Rattle.ruled_words.specs.Starts
+pub use Rattle.ruled_words.specs.Going
+pub use Rattle.ruled_words.specs.Holders
+pub use Rattle.ruled_words.specs.WordSteps
+pub use Rattle.ruled_words.specs.Passes
+pub use Rattle.ruled_words.specs.Hands
+pub use Rattle.ruled_words.specs.Loads
+pub use Rattle.ruled_words.specs.Straight
 pub use Rattle.core_steps.specs.Cells
 pub use Rattle.core_steps.specs.Views
 pub use Rattle.core_steps.specs.Steps

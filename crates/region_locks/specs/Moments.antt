@@ -4,7 +4,7 @@ use Rattle.entity_recs.specs.declared.effect.Entry.{Entry}
 use Rattle.entity_recs.specs.Commands.{Command}
 use Rattle.entity_recs.specs.Histories.{Item}
 use Rattle.core_steps.specs.Views.{stage_of, is_committed}
-use Rattle.region_locks.specs.Passes.{PassView}
+use Rattle.ruled_words.specs.Passes.{PassView}
 use Rattle.region_locks.specs.Pursuits.{command_pursued, item_of, is_checking, HoldsLeavesAlone}
 use Rattle.region_locks.specs.declared.gate_point.GatePoint.{GatePoint}
 use Rattle.region_locks.specs.declared.gate_point.GatePoint.TheVariants.{Leaves, Computed, Committed}

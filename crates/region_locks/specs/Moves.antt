@@ -5,17 +5,13 @@ use Rattle.entity_recs.specs.declared.effect.Entry.{Entry}
 use Rattle.entity_recs.specs.Commands.{Command}
 use Rattle.areanode.specs.Words.{has_bit}
 use Rattle.core_steps.specs.Views.{Fixed, Refused, has, leaf_nodes, inner_visited, region_in}
-use Rattle.region_locks.specs.Sights.{HeldWord, IsOneOf}
-use Rattle.region_locks.specs.Passes.{PassView, IsPassOf, IsHolderIn}
-use Rattle.region_locks.specs.Holders.{IsOtherHolder}
+use Rattle.ruled_words.specs.Passes.{PassView, IsPassOf, IsHolderIn}
+use Rattle.ruled_words.specs.Holders.{IsOtherHolder}
+use Rattle.ruled_words.specs.Straight.{AreListedStill}
 use Rattle.region_locks.specs.Closing.{HasNoCommand}
 use Rattle.region_locks.specs.Pursuits.{IsGoingOn, command_pursued, commands_given, item_of}
 use Rattle.region_locks.specs.declared.again.Again.{Again}
 use Rattle.region_locks.specs.declared.again.Again.TheVariants.{Held, Busy}
-
--- what is listed in the first is listed in the second
-abbrev pub AreListedStill : List HeldWord → List HeldWord → Type 0
-AreListedStill old new = (h : HeldWord) → IsOneOf h old → IsOneOf h new
 
 -- the command was run with this entry, which has its slot and its number: the pass's log is the old one and the command
 -- with its entry; the entry's place isn't below the count that the pass had seen, and it has now seen the place plus 1; it

@@ -12,8 +12,8 @@ use Rattle.core_steps.specs.Views.{stage_of, is_busy}
 use Rattle.core_steps.specs.Steps.{is_taking}
 use Rattle.core_steps.specs.Calls.{pursued_of}
 use Rattle.core_seats.specs.StepsLeft.{left_at, steps_left}
-use Rattle.region_locks.specs.Passes.{PassView, IsPassOf, IsHolderIn, effect_in_hand}
-use Rattle.region_locks.specs.Holders.{IsOtherHolder}
+use Rattle.ruled_words.specs.Passes.{PassView, IsPassOf, IsHolderIn, effect_in_hand}
+use Rattle.ruled_words.specs.Holders.{IsOtherHolder}
 use Rattle.region_locks.specs.declared.went.Went.{Went}
 use Rattle.region_locks.specs.declared.went.Went.TheVariants.{On, Resolved, Committed}
 use Rattle.region_locks.specs.Turns.{IsBetweenRecords}

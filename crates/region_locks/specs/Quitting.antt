@@ -6,7 +6,7 @@ use Rattle.core_steps.specs.Views.{Fixed, Idle, stage_of, is_busy}
 use Rattle.core_steps.specs.Steps.{first_yield}
 use Rattle.core_steps.specs.Machine.{YieldCount, step_of}
 use Rattle.core_seats.specs.Ready.{is_resolving}
-use Rattle.region_locks.specs.Passes.{PassView, next_of_pass, pass_after}
+use Rattle.ruled_words.specs.Passes.{PassView, next_of_pass, pass_after}
 
 -- the pass's next step, by its kind and its word
 abbrev pub next_step : Fixed → PassView → Option Step

@@ -1,20 +1,15 @@
 -- A whole move as straight code: what its hand has in view after each part.
-use Rattle.std.specs.Prelude.{◌≡◌, ℕ, suc, ◌+◌, ◌^◌, ◌<◌, ◌≤◌, Bool, true, false, List, [], ◌∷◌, ◌++◌, length, Some}
+use Rattle.std.specs.Prelude.{◌≡◌, ℕ, suc, ◌+◌, ◌^◌, ◌<◌, ◌≤◌, List, [], ◌∷◌, ◌++◌, length, Some}
 use Rattle.areanode.specs.Trees.{leaves_of}
 use Rattle.entity_recs.specs.declared.effect.Effect.{Effect}
 use Rattle.entity_recs.specs.declared.effect.Entry.{Entry}
 use Rattle.entity_recs.specs.Commands.{Command}
-use Rattle.core_steps.specs.Views.{Fixed, View, Point, Taking, Checking, Resolving, Releasing, effect_loaded, region_in, without_command}
+use Rattle.core_steps.specs.Views.{Fixed, View, Checking, Resolving, Releasing, effect_loaded, region_in, without_command}
 use Rattle.core_steps.specs.Steps.{item_at}
-use Rattle.region_locks.specs.declared.held.Held.{Held}
-use Rattle.region_locks.specs.Passes.{PassView}
+use Rattle.ruled_words.specs.Passes.{PassView}
+use Rattle.ruled_words.specs.Straight.{in_view_with, taking_leaves, at_point, AreListedStill, IsTriedOn}
+use Rattle.region_locks.specs.declared.moving.held.Held.{Held}
 use Rattle.region_locks.specs.Pursuits.{item_of}
-use Rattle.region_locks.specs.Straight.{in_view_with, taking_leaves, at_point, AreListedStill, IsTriedOn}
-
--- leaves are to be taken
-abbrev pub is_taking_leaves : Point → Bool
-is_taking_leaves (Taking got rest) = true
-is_taking_leaves _ = false
 
 -- the hand began the command, by its own record as it was loaded, and holds its leaves
 pub record HoldsLeavesOf (F : Fixed) (c : Command) (own : List ℕ) (old new : PassView) : Type 0 where

@@ -4,11 +4,11 @@ use Rattle.core_steps.specs.Views.{Fixed, Store, Clear, Put, Link, View, stage_o
 use Rattle.core_steps.specs.Machine.{Next, Begin, LoadOwn, LoadAgain, TakeNode, ClaimNode, ReadList, ReadPlayer}
 use Rattle.core_steps.specs.Machine.{ReadState, CommitMove, StoreWord, GiveNode, YieldNode, YieldCount}
 use Rattle.core_seats.specs.Ready.{is_resolving}
+use Rattle.ruled_words.specs.Passes.{PassView, next_of_pass}
+use Rattle.ruled_words.specs.Loads.{PlayerWord, player_word_next}
 use Rattle.region_locks.specs.declared.turn.Turn.{Turn}
 use Rattle.region_locks.specs.declared.turn.Turn.TheVariants.{LoadRec, Take, LoadList, LoadState, Resolve, Commit}
 use Rattle.region_locks.specs.declared.turn.Turn.TheVariants.{Unlink, StoreNext, SetLink, GiveBack}
-use Rattle.region_locks.specs.Passes.{PassView, next_of_pass}
-use Rattle.region_locks.specs.Loads.{PlayerWord, player_word_next}
 
 -- the call that makes a store
 abbrev pub turn_of_store : Store → Turn

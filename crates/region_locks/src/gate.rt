@@ -1,14 +1,14 @@
 ghost use Rattle.std.specs.Prelude.{◌≡◌, ◌∷◌, [], false, Some, None, is_some, option_copied};
 ghost use Rattle.entity_recs.specs.Commands.{command_of};
-ghost use Rattle.region_locks.specs.Hands.{keeping};
+ghost use Rattle.ruled_words.specs.Hands.{keeping};
 ghost use Rattle.region_locks.specs.Pursuits.{command_pursued};
 ghost use Rattle.region_locks.specs.Points.{has_entry};
 ghost use Rattle.region_locks.specs.Moments.{IsAtPoint, HasLogged};
 
 use crate::gate_point::GatePoint;
-use crate::hand::Hand;
 use crate::pass::Pass;
 use entity_recs::{Cmd, Effect, Entry};
+use ruled_words::Hand;
 use std::marker::Model;
 
 /// A moment of a move, which is lent to the gate. Only the calls that run moves make one: it has no public constructor
@@ -90,7 +90,7 @@ impl Moment {
         } }
     {
         Moment {
-            worker: hand.number,
+            worker: hand.number(),
             point: GatePoint::Leaves,
             slot: cmd.slot,
             seq: cmd.seq,
@@ -113,7 +113,7 @@ impl Moment {
         // The condition alone reads the effect.
         let _ = effect;
         Moment {
-            worker: hand.number,
+            worker: hand.number(),
             point: GatePoint::Computed,
             slot: cmd.slot,
             seq: cmd.seq,
@@ -134,7 +134,7 @@ impl Moment {
         } }
     {
         Moment {
-            worker: hand.number,
+            worker: hand.number(),
             point: GatePoint::Committed,
             slot: cmd.slot,
             seq: cmd.seq,
@@ -190,6 +190,14 @@ impl Moment {
 pub trait Gate: Sync {
     /// The move is at this moment. It goes on once this returns.
     fn at(&self, moment: &Moment);
+}
+
+/// Calls the gate at this moment, and gives the moment's entry back, if it has one.
+pub(crate) fn show_moment<G: Gate>(moment: Moment, gate: &G) -> Option<Entry>
+    ensures { result ≡ moment.entry }
+{
+    gate.at(&moment);
+    moment.into_entry()
 }
 
 /// A gate that does nothing.

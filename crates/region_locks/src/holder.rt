@@ -1,5 +1,5 @@
-ghost use Rattle.std.specs.Prelude.{◌<◌, ◌≢◌, ◌^◌};
-ghost use Rattle.region_locks.specs.Passes.{IsHolderIn};
+ghost use Rattle.std.specs.Prelude.{◌≢◌};
+ghost use Rattle.ruled_words.specs.Passes.{IsHolderIn};
 
 /// Who holds a node.
 #[derive(Clone, Copy, Debug, PartialEq, Eq)]

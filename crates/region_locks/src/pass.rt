@@ -1,14 +1,14 @@
-ghost use Rattle.std.specs.Prelude.{◌≡◌, false, [], None};
+ghost use Rattle.std.specs.Prelude.{◌≡◌, false, None};
 ghost use Rattle.core_seats.specs.Seats.{view_of};
-ghost use Rattle.region_locks.specs.Passes.{new_pass, sight_of};
-ghost use Rattle.region_locks.specs.Sights.{no_tally};
+ghost use Rattle.ruled_words.specs.Passes.{sight_of};
+ghost use Rattle.ruled_words.specs.Sights.{no_tally};
+ghost use Rattle.region_locks.specs.NewPasses.{new_pass};
 ghost use Rattle.region_locks.specs.Closing.{log_from};
 
-use crate::hand::Hand;
-use crate::key::Place;
 use core_seats::Seat;
 use entity_recs::Effect;
 use move_journal::Log;
+use ruled_words::Hand;
 use std::marker::{Model, PhantomData};
 use world_tree::NearList;
 
@@ -24,13 +24,13 @@ pub struct Pass<A> {
 
 // What the place at the table has in view is known to clauses alone, so the pass keeps the same in plain values.
 impl<A> Model for Pass<A> {
-    ghost use Rattle.region_locks.specs.Passes.{PassView};
+    ghost use Rattle.ruled_words.specs.Passes.{PassView};
     ghost use Rattle.std.specs.Prelude.{◌≡◌};
     ghost use Rattle.core_seats.specs.Seats.{view_of};
 
     ghost Value = { PassView };
 
-    ghost use Rattle.region_locks.specs.Hands.{pass_view};
+    ghost use Rattle.ruled_words.specs.Hands.{pass_view};
 
     ghost view = { λ p. pass_view p.hand p.mirror p.effect };
 
@@ -38,17 +38,15 @@ impl<A> Model for Pass<A> {
 }
 
 impl<A> Pass<A> {
-    /// The pass of a place that rests, with the same seat in plain values.
-    pub(crate) fn resting(place: Place, number: u8, mirror: Seat) -> Pass<A>
-        requires number { place.me.0.number ≡ number }
-        requires carries { place.me.1 ≡ [] }
-        requires tally { place.me.0.tally ≡ no_tally }
-        requires mirrors { view_of mirror ≡ place.me.0.view }
+    /// The pass of a hand that rests, with the same seat in plain values.
+    pub(crate) fn resting(hand: Hand, mirror: Seat) -> Pass<A>
+        requires tally { hand.tally ≡ no_tally }
+        requires mirrors { view_of mirror ≡ hand.view }
         requires rests { (mirror.given ≡ None) × (mirror.quits ≡ false) }
-        ensures { result ≡ new_pass place.table_id number place.me.0.view }
+        ensures { result ≡ new_pass hand.table hand.number hand.view }
     {
         Pass {
-            hand: Hand { place, number },
+            hand,
             mirror,
             effect: None,
             near: NearList::new(),
@@ -56,19 +54,19 @@ impl<A> Pass<A> {
         }
     }
 
-    /// The pass's seat, and the entries of its log with its room. It takes no memory.
-    pub(crate) fn into_parts(self) -> (Place, Log)
-        ensures seat { (result.0.table_id ≡ self.table) × (result.0.me ≡ (sight_of self, [])) }
+    /// The pass's hand, and the entries of its log with its room. It takes no memory.
+    pub(crate) fn into_parts(self) -> (Hand, Log)
+        ensures hand { (result.0.table ≡ self.table) × (sight_of result.0 ≡ sight_of self) }
         ensures log { result.1 ≡ log_from self }
     {
-        (self.hand.into_place(), self.mirror.log.into_entries())
+        (self.hand, self.mirror.log.into_entries())
     }
 
     /// The pass's number.
     pub fn number(&self) -> u8
         ensures { result ≡ self.now.number }
     {
-        self.hand.number
+        self.hand.number()
     }
 
     /// The count of commits that the pass has seen.

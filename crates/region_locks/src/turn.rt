@@ -1,4 +1,4 @@
-ghost use Rattle.std.specs.Prelude.{◌≡◌, ℕ, List, false, map, length, is_some, Option};
+ghost use Rattle.std.specs.Prelude.{◌≡◌, ℕ, List, false, map, is_some, Option};
 ghost use Rattle.std.specs.Option.{option_map};
 ghost use Rattle.entity_recs.specs.declared.effect.Effect.{Effect};
 ghost use Rattle.entity_recs.specs.Commands.{Command};
@@ -10,11 +10,11 @@ ghost use Rattle.core_seats.specs.Nexts.{next_point};
 ghost use Rattle.core_seats.specs.Ready as ready;
 ghost use Rattle.core_seats.specs.Points.{store_of};
 ghost use Rattle.core_seats.specs.Seats.{view_of, given_of};
-ghost use Rattle.region_locks.specs.Passes.{fixed_in, IsOwn};
+ghost use Rattle.ruled_words.specs.Passes.{fixed_in, IsOwn};
 ghost use Rattle.region_locks.specs.Turns.{turn_for, turn_of, has_command_in_hand};
 
-use crate::follow::is_resolving;
-use crate::owed::slot_and_seq;
+use crate::mirror::follow::is_resolving;
+use crate::mirror::owed::slot_and_seq;
 use crate::pass::Pass;
 use crate::table::NodeTable;
 use core_seats::{Point, Seat, Store};
@@ -172,9 +172,10 @@ impl<'a, A: Action> NodeTable<'a, A> {
         let Some(effect) = &pass.effect else {
             return Some(Turn::Resolve);
         };
-        self.rules.is_lawful();
-        let old = self.rules.home(&pass.mirror.before());
-        let nodes = self.rules.inner_of_two(old, self.rules.home(&effect.me));
+        let rules = self.rules();
+        rules.is_lawful();
+        let old = rules.home(&pass.mirror.before());
+        let nodes = rules.inner_of_two(old, rules.home(&effect.me));
         match nodes.as_slice() {
             [node, ..] => Some(Turn::Take(*node)),
             [] => Some(Turn::Commit),

@@ -7,7 +7,8 @@ use Rattle.entity_recs.specs.declared.effect.Entry.{Entry}
 use Rattle.entity_recs.specs.Commands.{Command}
 use Rattle.entity_recs.specs.Histories.{Item}
 use Rattle.core_steps.specs.Views.{Fixed}
-use Rattle.region_locks.specs.Passes.{PassView, IsPassOf, first_pass, other_pass}
+use Rattle.ruled_words.specs.Passes.{PassView, IsPassOf}
+use Rattle.region_locks.specs.NewPasses.{first_pass, other_pass}
 use Rattle.region_locks.specs.Closing.{HasNoCommand}
 use Rattle.region_locks.specs.Quitting.{MayBegin}
 use Rattle.region_locks.specs.Turns.{has_command_in_hand}

@@ -1,7 +1,9 @@
 -- Moves on threads.
-pub use Rattle.region_locks.specs.Sights
-pub use Rattle.region_locks.specs.Passes
-pub use Rattle.region_locks.specs.Holders
+pub use Rattle.ruled_words.specs.Sights
+pub use Rattle.ruled_words.specs.Passes
+pub use Rattle.ruled_words.specs.Holders
+pub use Rattle.ruled_words.specs.Straight
+pub use Rattle.region_locks.specs.NewPasses
 pub use Rattle.region_locks.specs.Quitting
 pub use Rattle.region_locks.specs.Closing
 pub use Rattle.region_locks.specs.Pursuits

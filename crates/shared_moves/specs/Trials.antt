@@ -2,7 +2,7 @@
 use Rattle.std.specs.Prelude.{◌≡◌, ℕ}
 use Rattle.atomic_table.specs.Seated.{TableId}
 use Rattle.core_steps.specs.Views.{Fixed}
-use Rattle.region_locks.specs.Passes.{PassView, IsPassOf}
+use Rattle.ruled_words.specs.Passes.{PassView, IsPassOf}
 use Rattle.region_locks.specs.Closing.{HasNoCommand}
 use Rattle.region_locks.specs.Quitting.{MayBegin}
 use Rattle.region_locks.specs.Pursuits.{IsGoingOn}

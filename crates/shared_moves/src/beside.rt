@@ -1,6 +1,6 @@
 ghost use Rattle.std.specs.Prelude.{◌≡◌, true, length, None};
 ghost use Rattle.core_steps.specs.Views.{has};
-ghost use Rattle.region_locks.specs.Passes.{fixed_in};
+ghost use Rattle.ruled_words.specs.Passes.{fixed_in};
 ghost use Rattle.shared_moves.specs.Trials.{IsFree};
 
 use crate::shared::Shared;
@@ -24,7 +24,7 @@ impl<'a, A: Action> Model for Second<'a, A> {
     ghost use Rattle.std.specs.Prelude.{◌≡◌, true, length, Option, None};
     ghost use Rattle.entity_recs.specs.declared.effect.Entry.{Entry};
     ghost use Rattle.core_steps.specs.Views.{has};
-    ghost use Rattle.region_locks.specs.Passes.{fixed_in};
+    ghost use Rattle.ruled_words.specs.Passes.{fixed_in};
     ghost use Rattle.shared_moves.specs.Trials.{IsFree};
 
     ghost Value = { Option Entry };

@@ -1,6 +1,6 @@
 ghost use Rattle.std.specs.Prelude.{◌≡◌, true, length, Some, IfOk};
 ghost use Rattle.core_steps.specs.Views.{has};
-ghost use Rattle.region_locks.specs.Passes.{fixed_in};
+ghost use Rattle.ruled_words.specs.Passes.{fixed_in};
 ghost use Rattle.region_locks.specs.Turns.{turn_of};
 ghost use Rattle.region_locks.specs.Pursuits.{IsGoingOn};
 ghost use Rattle.shared_moves.specs.Trials.{IsFree, IsMoving, IsResting};
@@ -25,7 +25,7 @@ fn begin<A: Action>(shared: &Shared<A>, pass: &mut Pass<A>)
     ensures { IsMoving (fixed_in A.meaning shared.now) (length shared.now.rooms) shared.now.table
         0 pass.new }
 {
-    shared.table.begin_move(pass, plain(0));
+    shared.table.begin(pass, plain(0));
 }
 
 /// Makes the pass's next call, which is to be none that is refused.

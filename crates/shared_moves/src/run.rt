@@ -1,7 +1,7 @@
 ghost use Rattle.std.specs.Prelude.{◌≡◌, ℕ, ◌%◌, true, false, length, None, IfOk, IfErr, OnOk};
 ghost use Rattle.entity_recs.specs.Commands.{Command, command_of};
 ghost use Rattle.core_steps.specs.Views.{Fixed, Refused, has};
-ghost use Rattle.region_locks.specs.Passes.{fixed_in, IsOwn};
+ghost use Rattle.ruled_words.specs.Passes.{fixed_in, IsOwn};
 ghost use Rattle.region_locks.specs.Quitting.{MayBegin};
 ghost use Rattle.region_locks.specs.Pursuits.{IsRefusedBy};
 ghost use Rattle.region_locks.specs.Moves.{HasRun, NoTakeWasRefused, WasNotRun, IsRunning, IsCause};

@@ -2,8 +2,9 @@ ghost use Rattle.std.specs.Prelude.{◌≡◌, ◌<◌, ◌≤◌, true, [], map
 ghost use Rattle.std.specs.List.{range_with_len};
 ghost use Rattle.world_tree.specs.Live.{live_in};
 ghost use Rattle.world_tree.specs.Worlds.{IsLinked};
-ghost use Rattle.region_locks.specs.Passes.{fixed_in, IsPassOf, new_passes, IsOwn};
-ghost use Rattle.region_locks.specs.Sights.{AreRefusalsServed};
+ghost use Rattle.ruled_words.specs.Passes.{fixed_in, IsPassOf, IsOwn};
+ghost use Rattle.ruled_words.specs.Sights.{AreRefusalsServed};
+ghost use Rattle.region_locks.specs.NewPasses.{new_passes};
 ghost use Rattle.region_locks.specs.Closing.{tally_of_all, AreRefusalsHeld, HasNoCommand, log_from, IsClosed};
 
 use entity_recs::Action;
@@ -20,7 +21,7 @@ pub struct Shared<'a, A: Action> {
 }
 
 impl<'a, A: Action> Model for Shared<'a, A> {
-    ghost use Rattle.region_locks.specs.Passes.{TableView};
+    ghost use Rattle.ruled_words.specs.Passes.{TableView};
 
     ghost Value = { TableView A };
 

@@ -1,7 +1,7 @@
 ghost use Rattle.std.specs.Prelude.{◌≡◌, ◌%◌, true, length, IfOk, IfSome};
 ghost use Rattle.core_steps.specs.Views.{has};
 ghost use Rattle.core_steps.specs.Steps.{is_taking};
-ghost use Rattle.region_locks.specs.Passes.{fixed_in, IsOwn};
+ghost use Rattle.ruled_words.specs.Passes.{fixed_in, IsOwn};
 ghost use Rattle.region_locks.specs.Quitting.{MayBegin};
 ghost use Rattle.shared_moves.specs.Trials.{IsFree};
 

@@ -1,6 +1,6 @@
 ghost use Rattle.std.specs.Prelude.{◌≡◌, true, length};
 ghost use Rattle.core_steps.specs.Views.{has};
-ghost use Rattle.region_locks.specs.Passes.{fixed_in};
+ghost use Rattle.ruled_words.specs.Passes.{fixed_in};
 ghost use Rattle.shared_moves.specs.Trials.{IsFree};
 
 use crate::beside::{Beside, Second};

@@ -1,6 +1,6 @@
 ghost use Rattle.std.specs.Prelude.{◌≡◌, ◌<◌, ◌∷◌, [], true, length, All, IfOk};
 ghost use Rattle.world_tree.specs.Live.{live_in};
-ghost use Rattle.region_locks.specs.Passes.{fixed_in};
+ghost use Rattle.ruled_words.specs.Passes.{fixed_in};
 ghost use Rattle.shared_moves.specs.Trials.{IsFree};
 
 use crate::shared::Shared;

@@ -1,6 +1,6 @@
 use Rattle.std.proofs.Common.{length, map, take}
 use Rattle.entity_recs.specs.Commands.{command_of}
-use Rattle.region_locks.specs.Passes.{fixed_in}
+use Rattle.ruled_words.specs.Passes.{fixed_in}
 use Rattle.move_phase.specs.Serving.{served_by}
 use Rattle.move_phase.specs.Running.{HasServed}
 use Rattle.move_phase.proofs.serve.run_pass.Given as goal

@@ -1,5 +1,5 @@
 use Rattle.std.proofs.Common.{length}
-use Rattle.region_locks.specs.Passes.{fixed_in}
+use Rattle.ruled_words.specs.Passes.{fixed_in}
 use Rattle.region_locks.specs.Turns.{has_command_in_hand}
 use Rattle.region_locks.proofs.Running.{at_rest}
 use Rattle.shared_moves.proofs.Trials.{rests_now}

@@ -1,5 +1,5 @@
 use Rattle.std.proofs.Common.{length}
-use Rattle.region_locks.specs.Passes.{fixed_in}
+use Rattle.ruled_words.specs.Passes.{fixed_in}
 use Rattle.shared_moves.specs.Trials.{IsMoving}
 use Rattle.shared_moves.proofs.root_tests.take_root.Given as goal
 

@@ -1,5 +1,5 @@
 use Rattle.std.proofs.Common.{sym, ◌∙◌}
-use Rattle.region_locks.specs.Passes.{fixed_in}
+use Rattle.ruled_words.specs.Passes.{fixed_in}
 use Rattle.region_locks.proofs.Stepping.{takes_node}
 use Rattle.shared_moves.proofs.table_tests.take_leaf.Goals as goal
 

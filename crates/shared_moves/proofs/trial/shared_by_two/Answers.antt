@@ -1,5 +1,6 @@
 use Rattle.std.proofs.Common.{rules, ◌≡◌, length}
-use Rattle.region_locks.specs.Passes.{fixed_in, first_pass, other_pass}
+use Rattle.ruled_words.specs.Passes.{fixed_in}
+use Rattle.region_locks.specs.NewPasses.{first_pass, other_pass}
 use Rattle.shared_moves.proofs.Trials.{rooms, are_free}
 use Rattle.shared_moves.proofs.trial.shared_by_two.Goals as goal
 

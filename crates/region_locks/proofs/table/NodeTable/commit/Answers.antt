@@ -1,5 +1,5 @@
 use Rattle.std.proofs.Common.{◌≡◌, sym, ap, ◌∙◌, subst, ℕ, IfSome}
-use Rattle.region_locks.specs.Passes.{PassView, fixed_in, effect_in_hand}
+use Rattle.ruled_words.specs.Passes.{PassView, fixed_in, effect_in_hand}
 use Rattle.region_locks.proofs.Commits.{commits_next, commit_there, commit_kind, entry_is}
 use Rattle.region_locks.proofs.table.NodeTable.commit.Goals as goal
 

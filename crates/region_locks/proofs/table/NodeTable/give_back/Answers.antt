@@ -1,7 +1,7 @@
 use Rattle.std.proofs.Common.{ℕ, refl, sym, ap, ◌∙◌, length}
-use Rattle.region_locks.specs.Passes.{fixed_in, next_of_pass, pass_after}
+use Rattle.ruled_words.specs.Passes.{fixed_in, next_of_pass, pass_after}
 use Rattle.core_seats.specs.Nexts.{the_next}
-use Rattle.region_locks.proofs.Gives.{gives_next, given_there}
+use Rattle.ruled_words.proofs.Gives.{gives_next, given_there}
 use Rattle.region_locks.proofs.table.NodeTable.give_back.Goals as goal
 
 pub step_word-requires-clause-comes : goal.step_word-requires-clause-comes

@@ -1,5 +1,5 @@
 use Rattle.std.proofs.Common.{length, sym, ◌∙◌}
-use Rattle.region_locks.specs.Passes.{fixed_in}
+use Rattle.ruled_words.specs.Passes.{fixed_in}
 use Rattle.region_locks.proofs.GivingUp.{given_next, gives_on, gives_fewer, begins_giving, has_given_up, not_some}
 use Rattle.region_locks.proofs.table.NodeTable.give_up.Goals as goal
 

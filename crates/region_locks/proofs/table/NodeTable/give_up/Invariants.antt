@@ -1,5 +1,5 @@
 use Rattle.std.proofs.Common.{length}
-use Rattle.region_locks.specs.Passes.{fixed_in}
+use Rattle.ruled_words.specs.Passes.{fixed_in}
 use Rattle.region_locks.proofs.GivingUp.{held_in, IsGivingUp}
 use Rattle.region_locks.proofs.table.NodeTable.give_up.Given as goal
 

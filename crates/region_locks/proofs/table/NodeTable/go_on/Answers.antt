@@ -1,5 +1,5 @@
 use Rattle.std.proofs.Common.{length, ap, ◌∙◌, refl, Some}
-use Rattle.region_locks.specs.Passes.{fixed_in, next_of_pass}
+use Rattle.ruled_words.specs.Passes.{fixed_in, next_of_pass}
 use Rattle.region_locks.specs.declared.turn.Turn.TheVariants.{LoadList, LoadState, Commit, Unlink, StoreNext, SetLink, GiveBack}
 use Rattle.region_locks.proofs.Followed.{asked, plain_call, load_call}
 use Rattle.region_locks.proofs.Onward.{load_step, commit_step}

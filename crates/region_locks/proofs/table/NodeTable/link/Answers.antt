@@ -1,7 +1,8 @@
 use Rattle.std.proofs.Common.{sym, ap, ◌∙◌, ℕ, ◌+◌}
 use Rattle.core_steps.specs.Cells.{with_bit}
 use Rattle.core_steps.specs.Views.{stores_owed}
-use Rattle.region_locks.specs.Passes.{PassView, fixed_in, bit_owed}
+use Rattle.ruled_words.specs.Passes.{PassView, fixed_in}
+use Rattle.region_locks.specs.NextCalls.{bit_owed}
 use Rattle.region_locks.proofs.Storing.{links_next, link_there}
 use Rattle.region_locks.proofs.table.NodeTable.link.Goals as goal
 

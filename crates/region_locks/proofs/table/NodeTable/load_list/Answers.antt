@@ -1,6 +1,6 @@
 use Rattle.std.proofs.Common.{sym, ◌∙◌, length}
-use Rattle.region_locks.specs.Passes.{fixed_in}
-use Rattle.region_locks.proofs.Gives.{lists_next, list_there}
+use Rattle.ruled_words.specs.Passes.{fixed_in}
+use Rattle.ruled_words.proofs.Gives.{lists_next, list_there}
 use Rattle.region_locks.proofs.table.NodeTable.load_list.Goals as goal
 
 pub step_word-requires-clause-comes : goal.step_word-requires-clause-comes

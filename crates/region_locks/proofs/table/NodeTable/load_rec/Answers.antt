@@ -1,9 +1,9 @@
 use Rattle.std.proofs.Common.{◌≡◌, ◌+◌, ◌<◌, ◌++◌, ◌∷◌, [], ℕ, List, length, sym, ap, ◌∙◌, subst, arith}
 use Rattle.core_steps.specs.Cells.{cell_of, cell_index}
 use Rattle.core_steps.specs.Views.{record_read}
-use Rattle.region_locks.specs.Passes.{fixed_in}
-use Rattle.region_locks.specs.Loads.{IsLoading}
-use Rattle.region_locks.proofs.Loads.{load_next, loading_none, loading_more, has_loaded, one_more}
+use Rattle.ruled_words.specs.Passes.{fixed_in}
+use Rattle.ruled_words.specs.Loads.{IsLoading}
+use Rattle.ruled_words.proofs.Loads.{load_next, loading_none, loading_more, has_loaded, one_more}
 use Rattle.region_locks.proofs.table.NodeTable.load_rec.Goals as goal
 
 pub step_word-requires-clause-index : goal.step_word-requires-clause-index

@@ -1,6 +1,6 @@
 use Rattle.std.proofs.Common.{◌≡◌, length}
-use Rattle.region_locks.specs.Passes.{fixed_in}
-use Rattle.region_locks.specs.Loads.{IsLoading}
+use Rattle.ruled_words.specs.Passes.{fixed_in}
+use Rattle.ruled_words.specs.Loads.{IsLoading}
 use Rattle.region_locks.proofs.table.NodeTable.load_rec.Given as goal
 
 abbrev pub invariant-loop-k : goal.invariant-loop-k

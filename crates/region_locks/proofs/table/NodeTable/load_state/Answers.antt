@@ -1,6 +1,6 @@
 use Rattle.std.proofs.Common.{sym, ap, ◌∙◌, ◌+◌, length, ℕ}
-use Rattle.region_locks.specs.Passes.{fixed_in}
-use Rattle.region_locks.proofs.Gives.{states_next, state_there}
+use Rattle.ruled_words.specs.Passes.{fixed_in}
+use Rattle.ruled_words.proofs.Gives.{states_next, state_there}
 use Rattle.region_locks.proofs.table.NodeTable.load_state.Goals as goal
 
 pub step_word-requires-clause-comes : goal.step_word-requires-clause-comes

@@ -1,4 +1,4 @@
-use Rattle.region_locks.proofs.Owns.{looked_own}
+use Rattle.ruled_words.proofs.Owns.{looked_own}
 use Rattle.region_locks.proofs.table.NodeTable.look.Goals as goal
 
 pub returns-clause-own : goal.returns-clause-own

@@ -1,5 +1,5 @@
 use Rattle.std.proofs.Common.{length}
-use Rattle.region_locks.specs.Passes.{fixed_in}
+use Rattle.ruled_words.specs.Passes.{fixed_in}
 use Rattle.region_locks.proofs.Quitting.{quits_own, count_index, count_left, quit_at_once, may_begin}
 use Rattle.region_locks.proofs.table.NodeTable.quit.Goals as goal
 

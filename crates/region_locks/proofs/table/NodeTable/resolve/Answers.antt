@@ -1,6 +1,6 @@
 use Rattle.std.proofs.Common.{sym, ap, subst, length, Some}
-use Rattle.region_locks.specs.Passes.{PassView, fixed_in, IsPassOf}
-use Rattle.region_locks.proofs.Owns.{resolved_own}
+use Rattle.ruled_words.specs.Passes.{PassView, fixed_in, IsPassOf}
+use Rattle.ruled_words.proofs.Owns.{resolved_own}
 use Rattle.region_locks.proofs.table.NodeTable.resolve.Goals as goal
 
 pub returns-clause-own : goal.returns-clause-own

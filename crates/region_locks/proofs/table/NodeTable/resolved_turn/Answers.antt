@@ -3,22 +3,22 @@ use Rattle.core_steps.specs.Views as views
 use Rattle.core_seats.specs.Seats.{view_of}
 use Rattle.core_seats.specs.Shown.{fixed_of}
 use Rattle.core_seats.proofs.Rooms.{before_is_record, loaded_is_record}
-use Rattle.region_locks.specs.Passes.{PassView, fixed_in}
-use Rattle.region_locks.proofs.Quitting.{same_fixed, pass_is_ready}
+use Rattle.ruled_words.specs.Passes.{PassView, fixed_in}
+use Rattle.region_locks.proofs.Quitting.{pass_is_ready}
 use Rattle.region_locks.proofs.table.NodeTable.resolved_turn.Goals as goal
 
 pub home-old-requires-after_bounds : goal.home-old-requires-after_bounds
 home-old-requires-after_bounds g c κs within =
-    let F = fixed_of g.A.Action.meaning c.self.inside.rules in
-    let same = same_fixed g.A.Action.meaning _ c.args.self.now c.self.inside.rules c.self.view_is c.self.invariant.1 in
+    let F = fixed_of g.A.Action.meaning c.rules-rules.result.now in
+    let same = ap (fixed_of g.A.Action.meaning) c.rules-rules.ensures in
     let ready = pass_is_ready F (fixed_in g.A.Action.meaning c.args.self.now) (length c.args.self.now.rooms) c.args.self.now.table _ c.args.pass.now same c.pass.view_is c.requires.own in
     let at = ap (λ (q : PassView). q.view.point) c.pass.view_is ∙ c.requires.read in
     rw c.before-2.ensures (before_is_record F (view_of c.pass.inside.mirror) ready.sound views.Resolving c.is_lawful.ensures.validity at refl refl)
 
 pub home-requires-after_bounds : goal.home-requires-after_bounds
 home-requires-after_bounds g c κs within =
-    let F = fixed_of g.A.Action.meaning c.self.inside.rules in
-    let same = same_fixed g.A.Action.meaning _ c.args.self.now c.self.inside.rules c.self.view_is c.self.invariant.1 in
+    let F = fixed_of g.A.Action.meaning c.rules-rules.result.now in
+    let same = ap (fixed_of g.A.Action.meaning) c.rules-rules.ensures in
     let ready = pass_is_ready F (fixed_in g.A.Action.meaning c.args.self.now) (length c.args.self.now.rooms) c.args.self.now.table _ c.args.pass.now same c.pass.view_is c.requires.own in
     let at = ap (λ (q : PassView). q.view.point) c.pass.view_is ∙ c.requires.read in
     loaded_is_record F (view_of c.pass.inside.mirror) ready.sound c.in-Some.effect c.is_lawful.ensures.validity at (ready.due c.in-Some.effect at c.in-Some.is)

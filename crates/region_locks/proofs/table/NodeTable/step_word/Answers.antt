@@ -1,66 +1,66 @@
-use Rattle.std.proofs.Common.{ap, ◌∙◌, length}
+use Rattle.std.proofs.Common.{ap, length}
 use Rattle.core_seats.specs.Shown.{fixed_of}
-use Rattle.region_locks.specs.Passes.{HasGone, fixed_in}
-use Rattle.region_locks.proofs.Ready.{can_follow, stepped}
+use Rattle.ruled_words.specs.Passes.{HasGone, fixed_in}
+use Rattle.region_locks.proofs.Following.{can_follow, stepped}
 use Rattle.region_locks.proofs.table.NodeTable.step_word.Goals as goal
 
 pub follow-requires-clause-ready : goal.follow-requires-clause-ready
 follow-requires-clause-ready g c κs within =
-    let gone : HasGone (fixed_in g.A.Action.meaning c.args.self.now) (length c.args.self.now.rooms) c.args.pass.now c.step-found.result c.step-found.new.self =
-    rw (← c.self.view_is, ← c.of-about.ensures) c.step-found.ensures.gone in
-    let same = ap (fixed_of g.A.Action.meaning) c.self.invariant.1 ∙ ap (fixed_in g.A.Action.meaning) c.self.view_is in
+    let gone : HasGone (fixed_in g.A.Action.meaning c.args.self.now) (length c.args.self.now.rooms) c.args.pass.now c.step_beside-found.result c.step_beside-found.new.hand =
+    rw (← c.self.view_is, ← c.pass.view_is) c.step_beside-found.ensures.gone in
+    let same = ap (fixed_of g.A.Action.meaning) c.rules.ensures in
     can_follow _ _ _ _ c.args.pass.now _ _ _ same c.pass.view_is c.requires.own c.requires.comes gone
 
 pub invariant_of-pass : goal.invariant_of-pass
 invariant_of-pass g c =
-    let gone : HasGone (fixed_in g.A.Action.meaning c.args.self.now) (length c.args.self.now.rooms) c.args.pass.now c.step-found.result c.step-found.new.self =
-    rw (← c.self.view_is, ← c.of-about.ensures) c.step-found.ensures.gone in
-    let same = ap (fixed_of g.A.Action.meaning) c.self.invariant.1 ∙ ap (fixed_in g.A.Action.meaning) c.self.view_is in
-    (stepped (fixed_in g.A.Action.meaning c.args.self.now) _ (length c.args.self.now.rooms) c.args.self.now.table c.args.pass.now c.step-found.result c.pass.inside.hand c.step-found.new.self c.pass.inside.mirror c.follow.new.mirror c.pass.inside.effect c.follow.new.effect same c.pass.view_is c.requires.own c.requires.comes gone
+    let gone : HasGone (fixed_in g.A.Action.meaning c.args.self.now) (length c.args.self.now.rooms) c.args.pass.now c.step_beside-found.result c.step_beside-found.new.hand =
+    rw (← c.self.view_is, ← c.pass.view_is) c.step_beside-found.ensures.gone in
+    let same = ap (fixed_of g.A.Action.meaning) c.rules.ensures in
+    (stepped (fixed_in g.A.Action.meaning c.args.self.now) _ (length c.args.self.now.rooms) c.args.self.now.table c.args.pass.now c.step_beside-found.result c.pass.inside.hand c.step_beside-found.new.hand c.pass.inside.mirror c.follow.new.mirror c.pass.inside.effect c.follow.new.effect same c.pass.view_is c.requires.own c.requires.comes gone
     c.follow.ensures.view c.follow.ensures.given c.follow.ensures.quits c.follow.ensures.effect).mirrors
 
 pub returns-clause-pass : goal.returns-clause-pass
 returns-clause-pass g c =
-    let gone : HasGone (fixed_in g.A.Action.meaning c.args.self.now) (length c.args.self.now.rooms) c.args.pass.now c.step-found.result c.step-found.new.self =
-    rw (← c.self.view_is, ← c.of-about.ensures) c.step-found.ensures.gone in
-    let same = ap (fixed_of g.A.Action.meaning) c.self.invariant.1 ∙ ap (fixed_in g.A.Action.meaning) c.self.view_is in
-    (stepped (fixed_in g.A.Action.meaning c.args.self.now) _ (length c.args.self.now.rooms) c.args.self.now.table c.args.pass.now c.step-found.result c.pass.inside.hand c.step-found.new.self c.pass.inside.mirror c.follow.new.mirror c.pass.inside.effect c.follow.new.effect same c.pass.view_is c.requires.own c.requires.comes gone
+    let gone : HasGone (fixed_in g.A.Action.meaning c.args.self.now) (length c.args.self.now.rooms) c.args.pass.now c.step_beside-found.result c.step_beside-found.new.hand =
+    rw (← c.self.view_is, ← c.pass.view_is) c.step_beside-found.ensures.gone in
+    let same = ap (fixed_of g.A.Action.meaning) c.rules.ensures in
+    (stepped (fixed_in g.A.Action.meaning c.args.self.now) _ (length c.args.self.now.rooms) c.args.self.now.table c.args.pass.now c.step_beside-found.result c.pass.inside.hand c.step_beside-found.new.hand c.pass.inside.mirror c.follow.new.mirror c.pass.inside.effect c.follow.new.effect same c.pass.view_is c.requires.own c.requires.comes gone
     c.follow.ensures.view c.follow.ensures.given c.follow.ensures.quits c.follow.ensures.effect).pass
 
 pub returns-clause-own : goal.returns-clause-own
 returns-clause-own g c =
-    let gone : HasGone (fixed_in g.A.Action.meaning c.args.self.now) (length c.args.self.now.rooms) c.args.pass.now c.step-found.result c.step-found.new.self =
-    rw (← c.self.view_is, ← c.of-about.ensures) c.step-found.ensures.gone in
-    let same = ap (fixed_of g.A.Action.meaning) c.self.invariant.1 ∙ ap (fixed_in g.A.Action.meaning) c.self.view_is in
-    (stepped (fixed_in g.A.Action.meaning c.args.self.now) _ (length c.args.self.now.rooms) c.args.self.now.table c.args.pass.now c.step-found.result c.pass.inside.hand c.step-found.new.self c.pass.inside.mirror c.follow.new.mirror c.pass.inside.effect c.follow.new.effect same c.pass.view_is c.requires.own c.requires.comes gone
+    let gone : HasGone (fixed_in g.A.Action.meaning c.args.self.now) (length c.args.self.now.rooms) c.args.pass.now c.step_beside-found.result c.step_beside-found.new.hand =
+    rw (← c.self.view_is, ← c.pass.view_is) c.step_beside-found.ensures.gone in
+    let same = ap (fixed_of g.A.Action.meaning) c.rules.ensures in
+    (stepped (fixed_in g.A.Action.meaning c.args.self.now) _ (length c.args.self.now.rooms) c.args.self.now.table c.args.pass.now c.step_beside-found.result c.pass.inside.hand c.step_beside-found.new.hand c.pass.inside.mirror c.follow.new.mirror c.pass.inside.effect c.follow.new.effect same c.pass.view_is c.requires.own c.requires.comes gone
     c.follow.ensures.view c.follow.ensures.given c.follow.ensures.quits c.follow.ensures.effect).own
 
 pub returns-clause-taken : goal.returns-clause-taken
 returns-clause-taken g c =
-    let gone : HasGone (fixed_in g.A.Action.meaning c.args.self.now) (length c.args.self.now.rooms) c.args.pass.now c.step-found.result c.step-found.new.self =
-    rw (← c.self.view_is, ← c.of-about.ensures) c.step-found.ensures.gone in
+    let gone : HasGone (fixed_in g.A.Action.meaning c.args.self.now) (length c.args.self.now.rooms) c.args.pass.now c.step_beside-found.result c.step_beside-found.new.hand =
+    rw (← c.self.view_is, ← c.pass.view_is) c.step_beside-found.ensures.gone in
     gone.taken
 
 pub returns-clause-counted : goal.returns-clause-counted
 returns-clause-counted g c =
-    let gone : HasGone (fixed_in g.A.Action.meaning c.args.self.now) (length c.args.self.now.rooms) c.args.pass.now c.step-found.result c.step-found.new.self =
-    rw (← c.self.view_is, ← c.of-about.ensures) c.step-found.ensures.gone in
+    let gone : HasGone (fixed_in g.A.Action.meaning c.args.self.now) (length c.args.self.now.rooms) c.args.pass.now c.step_beside-found.result c.step_beside-found.new.hand =
+    rw (← c.self.view_is, ← c.pass.view_is) c.step_beside-found.ensures.gone in
     gone.counted
 
 pub returns-clause-held : goal.returns-clause-held
 returns-clause-held g c =
-    let gone : HasGone (fixed_in g.A.Action.meaning c.args.self.now) (length c.args.self.now.rooms) c.args.pass.now c.step-found.result c.step-found.new.self =
-    rw (← c.self.view_is, ← c.of-about.ensures) c.step-found.ensures.gone in
+    let gone : HasGone (fixed_in g.A.Action.meaning c.args.self.now) (length c.args.self.now.rooms) c.args.pass.now c.step_beside-found.result c.step_beside-found.new.hand =
+    rw (← c.self.view_is, ← c.pass.view_is) c.step_beside-found.ensures.gone in
     gone.held
 
 pub returns-clause-reached : goal.returns-clause-reached
 returns-clause-reached g c =
-    let gone : HasGone (fixed_in g.A.Action.meaning c.args.self.now) (length c.args.self.now.rooms) c.args.pass.now c.step-found.result c.step-found.new.self =
-    rw (← c.self.view_is, ← c.of-about.ensures) c.step-found.ensures.gone in
+    let gone : HasGone (fixed_in g.A.Action.meaning c.args.self.now) (length c.args.self.now.rooms) c.args.pass.now c.step_beside-found.result c.step_beside-found.new.hand =
+    rw (← c.self.view_is, ← c.pass.view_is) c.step_beside-found.ensures.gone in
     gone.reached
 
 pub returns-clause-seen : goal.returns-clause-seen
 returns-clause-seen g c =
-    let gone : HasGone (fixed_in g.A.Action.meaning c.args.self.now) (length c.args.self.now.rooms) c.args.pass.now c.step-found.result c.step-found.new.self =
-    rw (← c.self.view_is, ← c.of-about.ensures) c.step-found.ensures.gone in
+    let gone : HasGone (fixed_in g.A.Action.meaning c.args.self.now) (length c.args.self.now.rooms) c.args.pass.now c.step_beside-found.result c.step_beside-found.new.hand =
+    rw (← c.self.view_is, ← c.pass.view_is) c.step_beside-found.ensures.gone in
     gone.seen

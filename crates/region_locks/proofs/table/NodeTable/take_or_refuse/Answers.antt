@@ -1,5 +1,5 @@
 use Rattle.std.proofs.Common.{length}
-use Rattle.region_locks.specs.Passes.{fixed_in, next_of_pass}
+use Rattle.ruled_words.specs.Passes.{fixed_in, next_of_pass}
 use Rattle.region_locks.specs.declared.turn.Turn.TheVariants.{Take}
 use Rattle.region_locks.proofs.Followed.{asked, taken_call}
 use Rattle.region_locks.proofs.Onward.{refused_step}

@@ -1,6 +1,6 @@
 use Rattle.std.proofs.Common.{ap, ◌∙◌, sym, length, Option, is_some}
+use Rattle.ruled_words.specs.Passes.{PassView, fixed_in}
 use Rattle.region_locks.specs.declared.turn.Turn.{Turn}
-use Rattle.region_locks.specs.Passes.{PassView, fixed_in}
 use Rattle.region_locks.proofs.Turns.{resolving_is, turn_found, turn_exists}
 use Rattle.region_locks.proofs.table.NodeTable.turn.Goals as goal
 

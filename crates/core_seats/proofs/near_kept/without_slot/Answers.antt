@@ -1,8 +1,0 @@
-use Rattle.core_seats.proofs.SlotLists.{bit_cleared, without_less}
-use Rattle.core_seats.proofs.near_kept.without_slot.Goals as goal
-
-pub returns-clause-bits : goal.returns-clause-bits
-returns-clause-bits c other within = bit_cleared c.args.word c.args.slot other c.requires within
-
-pub returns-clause-less : goal.returns-clause-less
-returns-clause-less c there = without_less c.args.word c.args.slot c.requires there

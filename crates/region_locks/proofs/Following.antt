@@ -1,0 +1,69 @@
+-- A pass after its step: the seat in plain values makes the step that its hand has made.
+use Rattle.std.proofs.Common.{◌≡◌, ℕ, true, false, sym, ap, ◌∙◌, subst, Option, None, is_some}
+use Rattle.std.specs.Option.{option_map}
+use Rattle.atomic_table.specs.Seated.{TableId}
+use Rattle.entity_recs.specs.declared.effect.Effect.{Effect}
+use Rattle.core_steps.specs.Views.{Fixed, View}
+use Rattle.core_seats.specs.Going.{view_found}
+use Rattle.entity_recs.specs.Commands.{command_of}
+use Rattle.core_seats.specs.declared.seat.Seat as mirrors
+use Rattle.core_seats.specs.Ready.{is_resolving}
+use Rattle.core_seats.specs.Seats.{view_of}
+use Rattle.ruled_words.specs.Hands.{pass_view}
+use Rattle.ruled_words.specs.Passes.{PassView, effect_kept, next_of_pass, pass_after, IsPassOf, HasGone}
+use Rattle.region_locks.specs.Following.{CanFollow}
+use Rattle.ruled_words.proofs.Owns.{own_after}
+use Rattle.core_seats.specs.Nexts.{the_next}
+
+-- the view after what comes next of a pass
+abbrev view_next : Fixed → PassView → ℕ → View
+view_next F p found = view_found F p.view (the_next (next_of_pass F p)) found
+
+-- the seat in plain values may make the step that its hand has made
+pub can_follow : (F G : Fixed) (passes : ℕ) (table : TableId) (p q : PassView) (found : ℕ) (hand : PassView)
+    → G ≡ F → q ≡ p → IsPassOf F passes table p → is_some (next_of_pass F p) ≡ true → HasGone F passes p found hand
+    → CanFollow G q.view q.given q.quits q.effect found
+can_follow F G passes table p q found hand same is own comes gone =
+    subst (λ (H : Fixed). CanFollow H q.view q.given q.quits q.effect found) (sym same)
+    (subst (λ (r : PassView). CanFollow F r.view r.given r.quits r.effect found) (sym is) (record {
+      comes = comes;
+      ready = record {
+        sound = own.sound_sight.sound;
+        pending = own.pending;
+        taking = own.may_quit;
+        due = λ e at some. own.has_effect (ap is_resolving at) e some;
+      };
+      after = gone.sound_sight.sound;
+      small = gone.small;
+    }))
+
+-- what a pass is after its step
+pub record Stepped (F : Fixed) (passes : ℕ) (table : TableId) (p : PassView) (found : ℕ) (hand : PassView) (mirror : mirrors.Seat) (effect : Option Effect) : Type 0 where
+  pub mirrors : view_of mirror ≡ hand.view
+  pub pass : pass_view hand mirror effect ≡ pass_after F (the_next (next_of_pass F p)) found p
+  pub own : IsPassOf F passes table (pass_view hand mirror effect)
+
+module _ (F G : Fixed) (passes : ℕ) (table : TableId) (p : PassView) (found : ℕ) (old new : PassView) (mirror after : mirrors.Seat) (effect effect_after : Option Effect)
+    (same : G ≡ F) (is : pass_view old mirror effect ≡ p) (own : IsPassOf F passes table p) (comes : is_some (next_of_pass F p) ≡ true)
+    (gone : HasGone F passes p found new) where
+  pub stepped : view_of after ≡ view_next G (pass_view old mirror effect) found → after.given ≡ None → after.quits ≡ false → effect_after ≡ effect_kept (view_of after) effect
+      → Stepped F passes table p found new after effect_after
+  stepped follows given quits kept =
+      let q = pass_view old mirror effect in
+      let followed : view_of after ≡ view_next F p found = follows ∙ ap (λ (H : Fixed). view_next H q found) same ∙ ap (λ (r : PassView). view_next F r found) is in
+      let effect_is : effect_after ≡ effect_kept (view_next F p found) p.effect =
+      kept ∙ ap (λ (r : PassView). effect_kept (view_of after) r.effect) is ∙ ap (λ (v : View). effect_kept v p.effect) followed in
+      let pass : pass_view new after effect_after ≡ pass_after F (the_next (next_of_pass F p)) found p = λ i. record {
+        table = gone.same_table i;
+        number = gone.same_number i;
+        given = option_map command_of (given i);
+        quits = quits i;
+        effect = effect_is i;
+        view = followed i;
+        tally = gone.tally i;
+      } in
+      record {
+        mirrors = followed ∙ sym gone.went;
+        pass = pass;
+        own = subst (IsPassOf F passes table) (sym pass) (own_after F passes table p found own comes gone.sound_sight);
+      }

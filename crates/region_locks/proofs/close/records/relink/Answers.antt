@@ -1,0 +1,19 @@
+use Rattle.std.proofs.Common.{sym, ap, ◌∙◌}
+use Rattle.entity_recs.specs.declared.rec.Rec.{Rec}
+use Rattle.world_tree.specs.Worlds.{WorldView, record_of}
+use Rattle.world_tree.proofs.Links.{id-below}
+use Rattle.region_locks.proofs.Relinking.{put_elsewhere}
+use Rattle.region_locks.proofs.close.records.relink.Goals as goal
+
+pub record_in-requires : goal.record_in-requires
+record_in-requires c =
+    let entry = c.get.ensures.linked.entries c.args.id c.in-Some.r (sym c.in-Some.ensures.record) in
+    id-below c.in-Some.r entry.is_record
+
+pub returns-in-Some-clause-others : goal.returns-in-Some-clause-others
+returns-in-Some-clause-others c = λ other apart.
+    let entry = c.requires.entry c.in-Some.r (sym c.in-Some.ensures.record) in
+    let at = c.get.ensures.linked.entries c.args.id c.in-Some.r (sym c.in-Some.ensures.record) in
+    let own = ap (λ (r : Rec). r.id) c.record_in.ensures ∙ entry.own_id ∙ at.own_id in
+    ap (λ (w : WorldView). record_of w other) c.relink.ensures.world
+    ∙ put_elsewhere c.args.world.now c.args.id c.record_in.result own other apart

@@ -1,6 +1,0 @@
-use Rattle.std.specs.Mem.Slots.{slots_items}
-use Rattle.region_locks.proofs.TableCopies.{IsCopiedBelow}
-use Rattle.region_locks.proofs.close.words_of.Given as goal
-
-abbrev pub invariant-loop-i : goal.invariant-loop-i
-invariant-loop-i l = IsCopiedBelow l.i (slots_items l.fn.closed.words) l.words

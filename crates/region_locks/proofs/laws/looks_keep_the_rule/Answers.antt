@@ -1,5 +1,0 @@
-use Rattle.region_locks.proofs.Looking as lemma
-use Rattle.region_locks.proofs.laws.looks_keep_the_rule.Goals as goal
-
-pub returns : goal.returns
-returns c = λ F rooms s r i sight at rests. lemma.looks F rooms s r i sight at rests

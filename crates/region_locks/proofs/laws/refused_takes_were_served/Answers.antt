@@ -1,4 +1,0 @@
-use Rattle.region_locks.proofs.laws.refused_takes_were_served.Goals as goal
-
-pub returns : goal.returns
-returns c = λ F rooms s r i sight at h one. r.takes.refused i sight at h one

@@ -1,5 +1,0 @@
-use Rattle.region_locks.proofs.Goes as lemma
-use Rattle.region_locks.proofs.laws.steps_keep_the_rule.Goals as goal
-
-pub returns : goal.returns
-returns c = λ F rooms s r i sight at given quits next may. lemma.goes F rooms s r i sight at given quits next may

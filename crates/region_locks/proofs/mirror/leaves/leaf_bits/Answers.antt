@@ -1,0 +1,28 @@
+use Rattle.std.proofs.Common.{arith, rules, ◌≡◌, sym, ◌∙◌, ap, subst, ℕ, Bool, ◌<◌, ◌^◌, ◌+◌, if◌then◌else◌}
+use Rattle.areanode.specs.Words.{word_of}
+use Rattle.areanode.proofs.Words.{word_of-below}
+use Rattle.core_steps.specs.Views.{has}
+use Rattle.ruled_words.proofs.Worlds.{word_none, word_next}
+use Rattle.region_locks.proofs.mirror.leaves.leaf_bits.Goals as goal
+
+pub with_top_bit-word-requires-clause-below : goal.with_top_bit-word-requires-clause-below
+with_top_bit-word-requires-clause-below c = subst (λ (n : ℕ). n < 2 ^ c.loop-leaf.leaf) (sym c.loop-leaf.invariant) (word_of-below c.loop-leaf.leaf _)
+
+pub loop-leaf-init : goal.loop-leaf-init
+loop-leaf-init c = word_none _
+
+pub loop-leaf-preserved : goal.loop-leaf-preserved
+loop-leaf-preserved c =
+    let test : ℕ → Bool = λ leaf. has c.args.nodes.now (15 + leaf) in
+    c.with_top_bit-word.ensures
+    ∙ ap (λ (b : Bool). (if b then 2 ^ c.loop-leaf.leaf else 0) + c.loop-leaf.word) c.is_among.ensures
+    ∙ ap (λ (n : ℕ). (if test c.loop-leaf.leaf then 2 ^ c.loop-leaf.leaf else 0) + n) c.loop-leaf.invariant
+    ∙ sym (word_next c.loop-leaf.leaf test)
+
+pub overflow_cast-result : goal.overflow_cast-result
+overflow_cast-result c =
+    let test : ℕ → Bool = λ leaf. has c.args.nodes.now (15 + leaf) in
+    let all : c.loop-leaf.leaf ≡ 16 = omega (arith, c.loop-leaf.auto.leaf-end, c.loop-leaf-test.false) in
+    let word : c.loop-leaf.word ≡ word_of 16 test = c.loop-leaf.invariant ∙ ap (λ (k : ℕ). word_of k test) all in
+    let small : c.loop-leaf.word < 2 ^ 16 = subst (λ (n : ℕ). n < 2 ^ 16) (sym word) (word_of-below 16 test) in
+    search rules

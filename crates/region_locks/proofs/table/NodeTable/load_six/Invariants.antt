@@ -1,8 +1,0 @@
-use Rattle.std.proofs.Common.{◌≡◌, length}
-use Rattle.region_locks.specs.Passes.{fixed_in}
-use Rattle.region_locks.specs.Loads.{IsLoading}
-use Rattle.region_locks.proofs.table.NodeTable.load_six.Given as goal
-
-abbrev pub invariant-loop-k : goal.invariant-loop-k
-invariant-loop-k g l =
-    IsLoading (fixed_in g.A.Action.meaning l.self) (length l.self.rooms) l.self.table l.fn.hand l.hand l.slot l.words.items × (length l.words.items ≡ l.k)

@@ -1,8 +1,0 @@
-use Rattle.std.proofs.Common.{length, drop}
-use Rattle.region_locks.specs.Passes.{fixed_in}
-use Rattle.region_locks.proofs.GivenBack.{HasReleased}
-use Rattle.region_locks.proofs.table.NodeTable.release_nodes.Given as goal
-
-abbrev pub invariant-loop-node : goal.invariant-loop-node
-invariant-loop-node g l =
-    HasReleased (fixed_in g.A.Action.meaning l.self) (length l.self.rooms) l.self.table l.fn.hand l.hand (drop l.node-index l.nodes)

@@ -1,9 +1,0 @@
-use Rattle.std.proofs.Common.{◌++◌, drop, length, map}
-use Rattle.region_locks.specs.Passes.{fixed_in}
-use Rattle.region_locks.specs.Writing.{owed_beyond, state_store}
-use Rattle.region_locks.proofs.StoresMade.{HasStored}
-use Rattle.region_locks.proofs.table.NodeTable.store_states.Given as goal
-
-abbrev pub invariant-loop-new_state : goal.invariant-loop-new_state
-invariant-loop-new_state g l =
-    HasStored (fixed_in g.A.Action.meaning l.self) (length l.self.rooms) l.self.table l.fn.hand l.hand (map state_store (drop l.new_state-index l.states) ++ owed_beyond (length l.states) l.fn.hand.view.point)

@@ -1,8 +1,0 @@
-use Rattle.std.proofs.Common.{◌∙◌, ap}
-use Rattle.core_steps.specs.Views.{Fixed, inner_of_two}
-use Rattle.core_seats.specs.Shown.{fixed_of}
-use Rattle.region_locks.specs.Passes.{fixed_in}
-use Rattle.region_locks.proofs.table.NodeTable.write_nodes.Goals as goal
-
-pub returns : goal.returns
-returns g c = c.inner_of_two.ensures ∙ ap (λ (G : Fixed). inner_of_two G c.args.old c.args.new) (ap (fixed_of g.A.Action.meaning) c.self.invariant.1 ∙ ap (fixed_in g.A.Action.meaning) c.self.view_is)

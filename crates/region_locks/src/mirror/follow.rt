@@ -1,0 +1,51 @@
+ghost use Rattle.std.specs.Prelude.{◌≡◌, false, None};
+ghost use Rattle.core_seats.specs.Going.{view_found};
+ghost use Rattle.core_seats.specs.Nexts.{next_with, the_next};
+ghost use Rattle.core_seats.specs.Ready as ready;
+ghost use Rattle.core_seats.specs.Seats.{view_of, given_of};
+ghost use Rattle.core_seats.specs.Shown.{fixed_of};
+ghost use Rattle.ruled_words.specs.Passes.{effect_kept};
+ghost use Rattle.region_locks.specs.Following.{CanFollow};
+
+use core_seats::{Point, Rules, Seat};
+use entity_recs::{Action, Effect};
+
+/// Whether all is read and no write node is taken.
+pub(crate) fn is_resolving(seat: &Seat) -> bool
+    ensures { result ≡ ready.is_resolving (view_of seat.now).point }
+{
+    matches!(seat.point, Point::Resolving)
+}
+
+/// The effect is let go, if there is one.
+fn let_go(effect: &mut Option<Effect>)
+    ensures { effect.new ≡ None }
+{
+    // An effect is large: where there is none, nothing is stored.
+    if effect.is_some() {
+        *effect = None;
+    }
+}
+
+/// The seat in plain values makes the step that its place at the table has made. The effect is kept on until it enters
+/// the view, and let go where the command is given up.
+pub(crate) fn follow<A: Action>(
+    rules: &Rules<A>,
+    mirror: &mut Seat,
+    effect: &mut Option<Effect>,
+    found: u64,
+)
+    requires ready { CanFollow (fixed_of A.meaning rules.now) (view_of mirror.old)
+        (given_of mirror.old) mirror.old.quits effect.old found }
+    ensures view { let F = fixed_of A.meaning rules.now in view_of mirror.new
+        ≡ view_found F (view_of mirror.old) (the_next (next_with F (view_of mirror.old) (given_of mirror.old)
+        mirror.old.quits effect.old)) found }
+    ensures given { mirror.new.given ≡ None }
+    ensures quits { mirror.new.quits ≡ false }
+    ensures effect { effect.new ≡ effect_kept (view_of mirror.new) effect.old }
+{
+    mirror.go(rules, effect, found);
+    if !is_resolving(mirror) {
+        let_go(effect);
+    }
+}

@@ -1,0 +1,7 @@
+//! Whole moves: as straight code, and call by call.
+
+mod gated;
+mod go_on;
+pub(crate) mod held;
+mod run;
+mod try_run;

@@ -1,0 +1,206 @@
+ghost use Rattle.std.specs.Prelude.{◌≡◌, ◌%◌, length, true, []};
+ghost use Rattle.entity_recs.specs.Commands.{command_of};
+ghost use Rattle.entity_recs.specs.Histories as histories;
+ghost use Rattle.core_steps.specs.Machine.{IsPending};
+ghost use Rattle.core_steps.specs.Steps.{visiting};
+ghost use Rattle.core_steps.specs.Views.{Idle, Resolving, effect_loaded, has, plan_of};
+ghost use Rattle.core_steps.specs.Views.{region_in};
+ghost use Rattle.core_seats.specs.Refusals.{AreRefusals};
+ghost use Rattle.ruled_words.specs.Passes.{fixed_in, IsOwn};
+ghost use Rattle.region_locks.specs.Moves.{HasRun};
+ghost use Rattle.region_locks.specs.Quitting.{MayBegin};
+ghost use Rattle.region_locks.specs.Runs.{HoldsLeavesOf, HasReadAll, HasWritten, HasMoved, AreHeldFor};
+
+use crate::gate::{Gate, Moment, show_moment};
+use crate::moving::held::Held;
+use crate::pass::Pass;
+use crate::table::NodeTable;
+use areanode::visited;
+use core_seats::{Refusals, read_record};
+use entity_recs::{Action, Cmd, Effect, Entry};
+use move_journal::{same_entry, same_reply};
+use ruled_words::{Hand, SharedWords};
+use std::sync::Wait;
+use world_tree::NearList;
+
+/// The entry of a move that was committed at this place.
+fn entry_of(place: u64, cmd: &Cmd, effect: &Effect) -> Entry
+    ensures { result ≡ histories.entry_of place (command_of cmd.now) effect.now }
+{
+    Entry {
+        place,
+        slot: cmd.slot,
+        seq: cmd.seq,
+        reply: same_reply(&effect.reply),
+    }
+}
+
+/// Loads the own record for the command, and takes the leaves of its region.
+fn hold_leaves<A: Action, R: Wait, G: Gate>(
+    words: &SharedWords<A>,
+    rt: &R,
+    hand: &mut Hand,
+    refusals: &mut Refusals,
+    cmd: &Cmd,
+    gate: &G,
+) -> Held
+    requires own { IsOwn A.meaning words.now hand.old }
+    requires idle { hand.old.view.point ≡ Idle }
+    requires pending { IsPending (fixed_in A.meaning words.now) hand.old.view (command_of cmd.now) }
+    requires serves { cmd.now.slot % length words.now.rooms ≡ hand.old.number }
+    ensures own { IsOwn A.meaning words.now hand.new }
+    ensures holds { HoldsLeavesOf (fixed_in A.meaning words.now) (command_of cmd.now) result.own hand.old hand.new }
+    ensures held { AreHeldFor (fixed_in A.meaning words.now) result hand.new.view }
+    ensures refusals { AreRefusals refusals.old hand.old.view → AreRefusals refusals.new hand.new.view }
+{
+    let own = words.own_words(hand, cmd);
+    let region = words.region_of(hand, cmd, &own);
+    let rules = words.rules();
+    let leaves = rules.leaf_bits(&region);
+    let wanted = rules.nodes_of(leaves);
+    words.take_leaves(rt, hand, refusals, &own, &wanted, leaves);
+    gate.at(&Moment::at_leaves(hand, cmd));
+    Held {
+        own,
+        region,
+        leaves,
+        wanted,
+    }
+}
+
+/// Loads all that the region holds, and gives the effect.
+fn read_region<A: Action, R: Wait, G: Gate>(
+    words: &SharedWords<A>,
+    rt: &R,
+    hand: &mut Hand,
+    refusals: &mut Refusals,
+    near: &mut NearList,
+    cmd: &Cmd,
+    held: &Held,
+    again: &[u64; 6],
+    gate: &G,
+) -> Effect
+    requires own { IsOwn A.meaning words.now hand.old }
+    requires at { let F = fixed_in A.meaning words.now in let v = hand.old.view in
+        v.point ≡ visiting F v (plan_of F (region_in F v.cmd v.own)) }
+    requires others { hand.old.view.others ≡ [] }
+    requires held { AreHeldFor (fixed_in A.meaning words.now) held.now hand.old.view }
+    requires cmd_is { command_of cmd.now ≡ hand.old.view.cmd }
+    requires again_is { again.now ≡ hand.old.view.again }
+    ensures own { IsOwn A.meaning words.now hand.new }
+    ensures read { HasReadAll (fixed_in A.meaning words.now) result hand.old hand.new }
+    ensures refusals { AreRefusals refusals.old hand.old.view → AreRefusals refusals.new hand.new.view }
+{
+    let inner = (visited(held.leaves) % (1 << 15)) as u16;
+    let mut six = [[0; 6]; 64];
+    let seen = words.read_nodes(
+        rt,
+        hand,
+        refusals,
+        &held.own,
+        &held.wanted,
+        held.leaves,
+        inner,
+        cmd.slot,
+        &mut six,
+    );
+    let effect = words.read_effect(hand, near, cmd, &held.region, again, seen, &six);
+    gate.at(&Moment::at_effect(hand, cmd, &effect));
+    effect
+}
+
+/// Takes the write nodes of the effect, commits, makes its stores and gives the write nodes back. It gives the place
+/// of the commit.
+fn write_region<A: Action, R: Wait>(
+    words: &SharedWords<A>,
+    rt: &R,
+    hand: &mut Hand,
+    refusals: &mut Refusals,
+    slot: u8,
+    held: &Held,
+    again: &[u64; 6],
+    effect: &Effect,
+) -> u64
+    requires own { IsOwn A.meaning words.now hand.old }
+    requires at { hand.old.view.point ≡ Resolving }
+    requires effect { effect.now ≡ effect_loaded (fixed_in A.meaning words.now) hand.old.view }
+    requires held { AreHeldFor (fixed_in A.meaning words.now) held.now hand.old.view }
+    requires slot { slot ≡ hand.old.view.cmd.slot }
+    requires again_is { again.now ≡ hand.old.view.again }
+    ensures own { IsOwn A.meaning words.now hand.new }
+    ensures written { HasWritten effect.now result hand.old hand.new }
+    ensures refusals { AreRefusals refusals.old hand.old.view → AreRefusals refusals.new hand.new.view }
+{
+    let before = read_record(slot, again);
+    let (old, new) = words.homes(hand, &before, effect);
+    let nodes = words.write_nodes(old, new);
+    let place = words.write_effect(
+        rt,
+        hand,
+        refusals,
+        &held.own,
+        &held.wanted,
+        effect,
+        slot,
+        old,
+        new,
+        nodes.as_slice(),
+    );
+    words.release_nodes(hand, nodes.as_slice());
+    place
+}
+
+/// Runs the command on a hand that rests, and gives its entry.
+fn run_hand<A: Action, R: Wait, G: Gate>(
+    words: &SharedWords<A>,
+    rt: &R,
+    hand: &mut Hand,
+    refusals: &mut Refusals,
+    near: &mut NearList,
+    cmd: &Cmd,
+    gate: &G,
+) -> Entry
+    requires own { IsOwn A.meaning words.now hand.old }
+    requires idle { hand.old.view.point ≡ Idle }
+    requires pending { IsPending (fixed_in A.meaning words.now) hand.old.view (command_of cmd.now) }
+    requires serves { cmd.now.slot % length words.now.rooms ≡ hand.old.number }
+    ensures own { IsOwn A.meaning words.now hand.new }
+    ensures moved { HasMoved (command_of cmd.now) result hand.old hand.new }
+    ensures refusals { AreRefusals refusals.old hand.old.view → AreRefusals refusals.new hand.new.view }
+{
+    let held = hold_leaves(words, rt, hand, refusals, cmd, gate);
+    let again = words.own_again(hand, cmd.slot);
+    let effect = read_region(words, rt, hand, refusals, near, cmd, &held, &again, gate);
+    let place = write_region(words, rt, hand, refusals, cmd.slot, &held, &again, &effect);
+    let committed = Moment::at_commit(hand, cmd, entry_of(place, cmd, &effect));
+    let entry = show_moment(committed, gate).unwrap();
+    words.return_leaves(hand, held.leaves);
+    entry
+}
+
+impl<'a, A: Action> NodeTable<'a, A> {
+    /// Runs the command and gives its entry. Each take that is refused is tried again until it is served, so the call
+    /// may wait.
+    pub fn run<R: Wait, G: Gate>(&self, rt: &R, pass: &mut Pass<A>, cmd: Cmd, gate: &G) -> Entry
+        requires own { IsOwn A.meaning self.now pass.old }
+        requires free { MayBegin pass.old }
+        requires live { has (fixed_in A.meaning self.now).start.ids cmd.slot ≡ true }
+        requires serves { cmd.slot % length self.now.rooms ≡ pass.old.number }
+        ensures { HasRun (fixed_in A.meaning self.now) (length self.now.rooms) self.now.table pass.old pass.new
+            (command_of cmd) result }
+    {
+        pass.hand.is_plain();
+        pass.mirror.forget();
+        let entry = run_hand(
+            &self.words,
+            rt,
+            &mut pass.hand,
+            &mut pass.mirror.refusals,
+            &mut pass.near,
+            &cmd,
+            gate,
+        );
+        pass.mirror.keep(cmd, same_entry(&entry));
+        entry
+    }
+}

@@ -1,0 +1,135 @@
+-- A plain hand gives back its write nodes, and then its leaves.
+use Rattle.std.proofs.Common.{◌≡◌, ◌⊎◌, ℕ, ◌+◌, ◌^◌, ◌<◌, ◌≤◌, true, false, List, [], ◌∷◌, map, length, slice_index_or, drop, refl, sym, ap, ◌∙◌, inl, inr, Some, None, arith}
+use Rattle.std.specs.Prelude.{◌==◌, ◌&&◌, not}
+use Rattle.std.proofs.lemmas.List.{drop_more, drop_all}
+use Rattle.atomic_table.specs.Seated.{TableId}
+use Rattle.arena_geo.specs.Bounds.{Bounds}
+use Rattle.areanode.specs.Words.{has_bit}
+use Rattle.areanode.specs.Trees.{leaf_node, leaves_of}
+use Rattle.core_steps.specs.Views.{Fixed, View, Point, Releasing, leaf_nodes, leaf_word, region_in, is_whole, stage_of, without_command}
+use Rattle.core_steps.specs.Steps.{first, rest_of, returning, view_after_give}
+use Rattle.core_steps.specs.Machine.{GiveNode, giving}
+use Rattle.core_seats.specs.Nexts.{the_next}
+use Rattle.core_seats.specs.Ready.{is_resolving}
+use Rattle.ruled_words.specs.Passes.{PassView, next_of_pass, node_given_next, pass_after, IsPassOf}
+use Rattle.ruled_words.specs.Hands.{IsPlain}
+use Rattle.ruled_words.specs.Straight.{in_view}
+use Rattle.ruled_words.proofs.BitWalks.{bits_in, bits_first, bits_none, bit_below}
+use Rattle.ruled_words.proofs.LeafWords.{leaf_word_is}
+use Rattle.ruled_words.proofs.LoadedWords.{none_kept, plain_is, plain_after, plain_next}
+use Rattle.ruled_words.proofs.PlainHands.{after_next_is}
+
+-- ---- the write nodes
+
+abbrev pub releasing_view : View → List ℕ → View
+releasing_view view nodes = record view { point = Releasing nodes }
+
+-- these write nodes are left to be given back
+pub record HasReleased (F : Fixed) (passes : ℕ) (table : TableId) (start now : PassView) (left : List ℕ) : Type 0 where
+  pub own : IsPassOf F passes table now
+  pub now_is : now ≡ in_view start (releasing_view start.view left)
+
+module _ (F : Fixed) (passes : ℕ) (table : TableId) (start : PassView) (nodes : List ℕ) where
+  pub released_none : IsPassOf F passes table start → IsPlain start → start.view.point ≡ Releasing nodes → HasReleased F passes table start start nodes
+  released_none own plain at = record { own = own; now_is = plain_is start plain ∙ ap (λ (q : Point). in_view start (record start.view { point = q })) at }
+
+  module _ (now : PassView) (i : ℕ) (below : i < length nodes) (is : HasReleased F passes table start now (drop i nodes)) where
+    at_node : now ≡ in_view start (releasing_view start.view (slice_index_or nodes i 0 ∷ drop (i + 1) nodes))
+    at_node = is.now_is ∙ ap (λ (ns : List ℕ). in_view start (releasing_view start.view ns)) (drop_more nodes i 0 below)
+
+    pub release_next : node_given_next (next_of_pass F now) ≡ Some (slice_index_or nodes i 0)
+    release_next = ap (λ (q : PassView). node_given_next (next_of_pass F q)) at_node
+
+    pub released_more : (new : PassView) → IsPassOf F passes table new → new ≡ pass_after F (the_next (next_of_pass F now)) 0 now → HasReleased F passes table start new (drop (i + 1) nodes)
+    released_more new own after = record { own = own; now_is = after ∙ ap (λ (q : PassView). pass_after F (the_next (next_of_pass F q)) 0 q) at_node }
+
+  pub released_all : (now : PassView) (i : ℕ) → length nodes ≤ i → HasReleased F passes table start now (drop i nodes) → now ≡ in_view start (releasing_view start.view [])
+  released_all now i over is = is.now_is ∙ ap (λ (ns : List ℕ). in_view start (releasing_view start.view ns)) (drop_all i nodes over)
+
+-- ---- the leaves
+
+-- the nodes of the leaves of this word, rising
+abbrev pub leaves_in : ℕ → List ℕ
+leaves_in word = map (leaf_node 4) (bits_in 16 word)
+
+-- these leaves are left to be given back: all of those wanted where none was
+pub record HasReturned (F : Fixed) (passes : ℕ) (table : TableId) (start now : PassView) (left : List ℕ) : Type 0 where
+  pub own : IsPassOf F passes table now
+  pub phase : ((now ≡ start) × (left ≡ start.view.wanted)) ⊎ (now ≡ in_view start (returning start.view left))
+
+module _ (F : Fixed) (passes : ℕ) (table : TableId) (start : PassView) (plain : IsPlain start) (at : start.view.point ≡ Releasing []) where
+  -- the leaves are those of the word
+  pub returned_none : (leaves : ℕ) → IsPassOf F passes table start → leaves ≡ leaf_word F start.view.wanted → HasReturned F passes table start start (leaves_in leaves)
+  returned_none leaves own are = record { own = own; phase = inl (refl, wanted) }
+    where
+      region : List Bounds
+      region = region_in F start.view.cmd start.view.own
+
+      whole : start.view.wanted ≡ leaf_nodes F region
+      whole = own.sound_sight.sound.whole (ap (λ (q : Point). is_whole (stage_of q)) at)
+
+      word : leaves ≡ leaves_of F.tree region
+      word = are ∙ ap (leaf_word F) whole ∙ leaf_word_is F region
+
+      wanted : leaves_in leaves ≡ start.view.wanted
+      wanted = ap leaves_in word ∙ sym (ap (λ (d : ℕ). map (leaf_node d) (bits_in (2 ^ d) (leaves_of F.tree region))) own.sound_sight.sound.depth) ∙ sym whole
+
+  module _ (now : PassView) (node : ℕ) (rest : List ℕ) where
+    first_given : now ≡ start → node ∷ rest ≡ start.view.wanted → next_of_pass F now ≡ Some (GiveNode node)
+    first_given same wanted =
+        ap (next_of_pass F) same ∙ plain_next F start (Releasing []) plain at ∙ ap (λ (ns : List ℕ). giving (first ns)) (sym wanted)
+
+    later_given : now ≡ in_view start (returning start.view (node ∷ rest)) → next_of_pass F now ≡ Some (GiveNode node)
+    later_given is = ap (next_of_pass F) is
+
+    -- the next leaf is given back
+    pub return_next : HasReturned F passes table start now (node ∷ rest) → node_given_next (next_of_pass F now) ≡ Some node
+    return_next is = elim is.phase [
+      | inl none ↦ ap node_given_next (first_given none.0 none.1)
+      | inr some ↦ ap node_given_next (later_given some)
+    ]
+
+    first_after : now ≡ start → node ∷ rest ≡ start.view.wanted → pass_after F (the_next (next_of_pass F now)) 0 now ≡ in_view start (returning start.view rest)
+    first_after same wanted =
+        after_next_is F now (GiveNode node) (first_given same wanted) 0 ∙ ap (λ (q : PassView). pass_after F (GiveNode node) 0 q) same
+        ∙ plain_after F start (GiveNode node) 0 plain
+        ∙ ap (λ (q : Point). in_view start (view_after_give F start.view q)) at
+        ∙ ap (λ (ns : List ℕ). in_view start (returning start.view (rest_of ns))) (sym wanted)
+
+    at_rest : (leaves : List ℕ) → returning (returning start.view (node ∷ leaves)) leaves ≡ returning start.view leaves
+    at_rest [] = refl
+    at_rest (leaf ∷ leaves) = refl
+
+    later_after : now ≡ in_view start (returning start.view (node ∷ rest)) → pass_after F (the_next (next_of_pass F now)) 0 now ≡ in_view start (returning start.view rest)
+    later_after is =
+        ap (λ (q : PassView). pass_after F (the_next (next_of_pass F q)) 0 q) is
+        ∙ (λ i. record (in_view start (returning (returning start.view (node ∷ rest)) rest)) { effect = none_kept (is_resolving (returning (returning start.view (node ∷ rest)) rest).point) None refl i })
+        ∙ ap (in_view start) (at_rest rest)
+
+    pub returned_more : HasReturned F passes table start now (node ∷ rest) → (new : PassView) → IsPassOf F passes table new → new ≡ pass_after F (the_next (next_of_pass F now)) 0 now → HasReturned F passes table start new rest
+    returned_more is new own after = record {
+      own = own;
+      phase = elim is.phase [
+        | inl none ↦ inr (after ∙ first_after none.0 none.1)
+        | inr some ↦ inr (after ∙ later_after some)
+      ];
+    }
+
+  pub returned_all : (now : PassView) → IsPassOf F passes table start → HasReturned F passes table start now [] → now ≡ in_view start (without_command start.view)
+  returned_all now own is = elim is.phase [
+    | inl none ↦
+        let some : 0 < length start.view.wanted = own.sound_sight.sound.next.some_wanted (ap (λ (q : Point). is_whole (stage_of q)) at) in
+        let zero : 0 ≡ length start.view.wanted = ap (λ (ns : List ℕ). length ns) none.1 in
+        absurd (omega (arith, some, zero))
+    | inr some ↦ some
+  ]
+
+-- ---- the lowest leaf
+
+-- the lowest leaf comes first
+pub leaves_first : (word rest bit : ℕ) → word < 2 ^ 16 → has_bit word bit ≡ true → ((i : ℕ) → i < bit → has_bit word i ≡ false) → ((i : ℕ) → i < 64 → has_bit rest i ≡ (has_bit word i && not (i == bit)))
+    → leaves_in word ≡ (15 + bit) ∷ leaves_in rest
+leaves_first word rest bit small there lowest without = ap (map (leaf_node 4)) (bits_first 16 word rest bit (bit_below 16 word bit small there) (omega arith) there lowest without)
+
+pub leaves_none : leaves_in 0 ≡ []
+leaves_none = ap (map (leaf_node 4)) (bits_none 16)

@@ -1,0 +1,114 @@
+-- A step of a pass that is held without the same seat in plain values.
+use Rattle.std.proofs.Common.{◌≡◌, ℕ, suc, ◌+◌, ◌%◌, arith, Bool, true, false, if◌then◌else◌, sym, ap, ◌∙◌, refl, subst, inl, inr, Option, Some, None, is_some}
+use Rattle.std.proofs.lemmas.Bool.{cases_Bool, false≢true}
+use Rattle.atomic_table.specs.Seated.{TableId}
+use Rattle.entity_recs.specs.declared.effect.Effect.{Effect}
+use Rattle.entity_recs.specs.Commands.{Command}
+use Rattle.core_steps.specs.Cells.{body_index}
+use Rattle.core_steps.specs.Views.{Fixed, Point, Idle}
+use Rattle.core_steps.specs.Steps.{is_taking, first_yield}
+use Rattle.core_steps.specs.Machine.{Next, Begin, IsPending, index_of, quitting}
+use Rattle.core_seats.specs.Going.{view_found, word_left}
+use Rattle.core_seats.specs.Nexts.{next_point, the_next}
+use Rattle.core_seats.specs.Ready.{is_resolving}
+use Rattle.ruled_words.specs.Passes.{PassView, effect_kept, next_of_pass, pass_after, word_after, IsPassOf, IsReady, HasGone}
+use Rattle.ruled_words.specs.Hands.{IsPlain, given_to, begun_with}
+use Rattle.ruled_words.proofs.Owns.{own_after}
+
+none_kept : (b : Bool) (o : Option Effect) → o ≡ None → None ≡ (if b then o else None)
+none_kept true o none = sym none
+none_kept false o none = refl
+
+module _ (F : Fixed) (passes : ℕ) (table : TableId) (p hand : PassView) (found : ℕ) (own : IsPassOf F passes table p) (comes : is_some (next_of_pass F p) ≡ true) (gone : HasGone F passes p found hand) (plain : IsPlain hand) where
+  -- the hand's pass, with the effect that is kept, is the pass after its step
+  pub kept_after : record hand { effect = effect_kept hand.view p.effect } ≡ pass_after F (the_next (next_of_pass F p)) found p
+  kept_after = λ i. record {
+    table = gone.same_table i;
+    number = gone.same_number i;
+    given = plain.given i;
+    quits = plain.quits i;
+    effect = effect_kept (gone.went i) p.effect;
+    view = gone.went i;
+    tally = gone.tally i;
+  }
+
+  pub kept_own : IsPassOf F passes table (record hand { effect = effect_kept hand.view p.effect })
+  kept_own = subst (IsPassOf F passes table) (sym kept_after) (own_after F passes table p found own comes gone.sound_sight)
+
+  -- the same where no effect was kept
+  pub plain_after : p.effect ≡ None → hand ≡ pass_after F (the_next (next_of_pass F p)) found p
+  plain_after none =
+      let effect_is : hand.effect ≡ effect_kept hand.view p.effect = plain.effect ∙ none_kept (is_resolving hand.view.point) p.effect none in
+      (λ i. record hand { effect = effect_is i }) ∙ kept_after
+
+  pub plain_own : p.effect ≡ None → IsPassOf F passes table hand
+  plain_own none = subst (IsPassOf F passes table) (sym (plain_after none)) (own_after F passes table p found own comes gone.sound_sight)
+
+no_more : (n : ℕ) → n ≡ n + 0
+no_more n = omega arith
+
+-- ---- a command is begun
+
+same_command : (a b : Command) → Some a ≡ Some b → a ≡ b
+same_command a b e = cc
+
+module _ (F : Fixed) (passes : ℕ) (table : TableId) (p : PassView) (c : Command) (own : IsPassOf F passes table p) (idle : p.view.point ≡ Idle) (pending : IsPending F p.view c)
+    (serves : c.slot % passes ≡ p.number) where
+  given_own : IsPassOf F passes table (given_to p c)
+  given_own = record {
+    at_table = own.at_table;
+    lives = own.lives;
+    sound_sight = own.sound_sight;
+    pending = λ d e. subst (IsPending F p.view) (same_command c d e) pending;
+    serves = λ d e. subst (λ (x : Command). x.slot % passes ≡ p.number) (same_command c d e) serves;
+    may_quit = own.may_quit;
+    has_effect = own.has_effect;
+    only_resolving = own.only_resolving;
+    refusal = own.refusal;
+  }
+
+  quits_not : p.quits ≡ false
+  quits_not = elim (cases_Bool p.quits) [
+    | inl quits ↦ absurd (false≢true (sym (ap is_taking idle) ∙ own.may_quit quits))
+    | inr not ↦ not
+  ]
+
+  given_next : next_of_pass F (given_to p c) ≡ Some (Begin c)
+  given_next =
+      ap (λ (b : Bool). if b then Some (quitting (first_yield F p.view)) else next_point F p.view (Some c) p.effect p.view.point) quits_not
+      ∙ ap (λ (q : Point). next_point F p.view (Some c) p.effect q) idle
+
+  -- the first word of the own record is loaded next
+  pub begin_ready : (word : ℕ) → word ≡ body_index 31 c.slot → IsReady F passes table (given_to p c) p word
+  begin_ready word index = record {
+    own = given_own;
+    same_table = refl;
+    same_number = refl;
+    same_view = refl;
+    same_tally = refl;
+    comes = ap (λ (o : Option Next). is_some o) given_next;
+    index = index ∙ no_more (body_index 31 c.slot) ∙ sym (ap (λ (o : Option Next). index_of 31 p.view (the_next o)) given_next);
+  }
+
+  pub begin_left : (found : ℕ) → word_after F (given_to p c) found ≡ found
+  begin_left found = ap (λ (o : Option Next). word_left F p.number p.view (the_next o) found) given_next
+
+  module _ (hand : PassView) (found : ℕ) (gone : HasGone F passes (given_to p c) found hand) (plain : IsPlain hand) (plain_old : IsPlain p) where
+    after_begin : pass_after F (the_next (next_of_pass F (given_to p c))) found (given_to p c) ≡ begun_with c found p
+    after_begin =
+        ap (λ (o : Option Next). pass_after F (the_next o) found (given_to p c)) given_next
+        ∙ (λ i. record {
+          table = p.table;
+          number = p.number;
+          given = sym plain_old.given i;
+          quits = sym plain_old.quits i;
+          effect = (sym (none_kept false p.effect plain_old.effect) ∙ sym plain_old.effect) i;
+          view = view_found F p.view (Begin c) found;
+          tally = record p.tally { begun = suc p.tally.begun };
+        })
+
+    pub has_begun : hand ≡ begun_with c found p
+    has_begun = plain_after F passes table (given_to p c) hand found given_own (ap (λ (o : Option Next). is_some o) given_next) gone plain plain_old.effect ∙ after_begin
+
+    pub begun_own : IsPassOf F passes table hand
+    begun_own = plain_own F passes table (given_to p c) hand found given_own (ap (λ (o : Option Next). is_some o) given_next) gone plain plain_old.effect

@@ -1,0 +1,34 @@
+-- What comes next of a hand, where it is known: what a step asks of it, and the hand after it.
+use Rattle.std.proofs.Common.{◌≡◌, ℕ, true, sym, ap, ◌∙◌, subst, Option, Some, None, is_some}
+use Rattle.entity_recs.specs.declared.effect.Effect.{Effect}
+use Rattle.core_steps.specs.Views.{Fixed, View, Point}
+use Rattle.core_steps.specs.Machine.{Next, index_of}
+use Rattle.core_seats.specs.Going.{word_left}
+use Rattle.core_seats.specs.Nexts.{next_point, the_next}
+use Rattle.ruled_words.specs.Passes.{PassView, next_of_pass, pass_after, word_after}
+use Rattle.ruled_words.specs.Hands.{IsPlain, keeping}
+use Rattle.ruled_words.proofs.LoadedWords.{plain_is}
+use Rattle.ruled_words.specs.WordSteps.{MayBe}
+use Rattle.ruled_words.specs.declared.word_step.WordStep.{WordStep}
+
+-- what comes next of a plain hand with an effect that it keeps
+pub keeping_next : (F : Fixed) (p : PassView) (e : Effect) (point : Point) → IsPlain p → p.view.point ≡ point → next_of_pass F (keeping p e) ≡ next_point F p.view None (Some e) point
+keeping_next F p e point plain at = ap (λ (q : PassView). next_of_pass F (keeping q e)) (plain_is p plain) ∙ ap (λ (q : Point). next_point F p.view None (Some e) q) at
+
+-- ---- what a step asks, of what comes next
+
+module _ (F : Fixed) (p : PassView) (next : Next) (is : next_of_pass F p ≡ Some next) where
+  pub comes_next : is_some (next_of_pass F p) ≡ true
+  comes_next = ap (λ (o : Option Next). is_some o) is
+
+  pub index_next : (view : View) → index_of 31 view next ≡ index_of 31 view (the_next (next_of_pass F p))
+  index_next view = sym (ap (λ (o : Option Next). index_of 31 view (the_next o)) is)
+
+  pub left_next : (found : ℕ) → word_after F p found ≡ word_left F p.number p.view next found
+  left_next found = ap (λ (o : Option Next). word_left F p.number p.view (the_next o) found) is
+
+  pub may_next : (step : WordStep) (view : View) (word : ℕ) → MayBe step F view next word → MayBe step F view (the_next (next_of_pass F p)) word
+  may_next step view word may = subst (λ (o : Option Next). MayBe step F view (the_next o) word) (sym is) may
+
+  pub after_next_is : (found : ℕ) → pass_after F (the_next (next_of_pass F p)) found p ≡ pass_after F next found p
+  after_next_is found = ap (λ (o : Option Next). pass_after F (the_next o) found p) is

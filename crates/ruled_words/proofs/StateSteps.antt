@@ -1,0 +1,178 @@
+-- The state of a thing is loaded by a pass that is held without the same seat in plain values.
+use Rattle.std.proofs.Common.{◌≡◌, ℕ, ◌+◌, ◌%◌, ◌≤◌, ◌<◌, List, [], ◌∷◌, ◌++◌, Bool, true, false, map, take, drop, get_or, length, length-append, append-nil, append_assoc, refl, sym, ap, ◌∙◌, arith, Option, Some, None}
+use Rattle.std.specs.List.{filter_map}
+use Rattle.std.specs.List.Sorted.{IsStrictlyIncreasing}
+use Rattle.std.proofs.lemmas.List.{take_all, drop_all}
+use Rattle.arena_geo.specs.Bounds.{Bounds}
+use Rattle.arena_geo.specs.Regions.{touches_region}
+use Rattle.entity_recs.specs.declared.rec.Rec.{Rec}
+use Rattle.std.specs.Prelude.{if◌then◌else◌, ◌↔◌, IsTrue}
+use Rattle.std.specs.Bool.{MatchBool}
+use Rattle.std.proofs.lemmas.Bool.{false≢true}
+use Rattle.entity_recs.specs.declared.effect.Effect.{Effect}
+use Rattle.entity_recs.specs.declared.effect.NewState.{NewState}
+use Rattle.entity_recs.specs.Bodies.{abs_of}
+use Rattle.entity_recs.specs.Records.{with_state}
+use Rattle.core_steps.specs.Views.{Fixed, Point, Sensing, Resolving, has, things_in}
+use Rattle.areanode.specs.Words.{has_bit}
+use Rattle.core_seats.specs.ThingColumns.{MarksThings}
+use Rattle.core_seats.specs.NearKept.{AreThings, thing_with, touching, things_loaded}
+use Rattle.core_seats.proofs.ThingsLoaded.{touching_has, things_of_region, loaded_of_region, things_rise, touching_same, loaded_more, left_first, left_same}
+use Rattle.core_steps.specs.Steps.{sensing, view_after_state}
+use Rattle.core_seats.specs.Nexts.{the_next}
+use Rattle.core_seats.specs.Ready.{is_resolving}
+use Rattle.ruled_words.specs.Passes.{PassView, next_of_pass, pass_after, state_read_next}
+use Rattle.ruled_words.specs.Hands.{IsPlain}
+use Rattle.ruled_words.specs.Straight.{in_view}
+use Rattle.ruled_words.specs.Sensing.{after_thing, sensed_to}
+
+none_stays : (b : Bool) (none : Option Effect) → (if b then none else none) ≡ none
+none_stays true none = refl
+none_stays false none = refl
+
+-- a pass that nothing but its view speaks of
+pub held_in_view : (p : PassView) → IsPlain p → p ≡ in_view p p.view
+held_in_view p plain = λ i. record {
+  table = p.table;
+  number = p.number;
+  given = plain.given i;
+  quits = plain.quits i;
+  effect = plain.effect i;
+  view = p.view;
+  tally = p.tally;
+}
+
+module _ (F : Fixed) (p : PassView) (id : ℕ) (plain : IsPlain p) (at : p.view.point ≡ Sensing (id ∷ after_thing p.view.point)) where
+  abbrev left : List ℕ
+  left = after_thing p.view.point
+
+  abbrev at_thing : PassView
+  at_thing = in_view p (record p.view { point = Sensing (id ∷ left) })
+
+  is_at_thing : p ≡ at_thing
+  is_at_thing = held_in_view p plain ∙ ap (λ (q : Point). in_view p (record p.view { point = q })) at
+
+  -- the state of the thing is loaded next
+  pub thing_next : state_read_next (next_of_pass F p) ≡ Some id
+  thing_next = ap (λ (q : PassView). state_read_next (next_of_pass F q)) is_at_thing
+
+  -- the state of the thing was loaded
+  pub thing_loaded : (new : PassView) (found : ℕ) → new ≡ pass_after F (the_next (next_of_pass F p)) found p
+      → new ≡ in_view p (view_after_state id found left p.view)
+  thing_loaded new found after =
+      after ∙ ap (λ (q : PassView). pass_after F (the_next (next_of_pass F q)) found q) is_at_thing
+      ∙ (λ i. record {
+        table = p.table;
+        number = p.number;
+        given = None;
+        quits = false;
+        effect = none_stays (is_resolving (sensing left)) None i;
+        view = view_after_state id found left p.view;
+        tally = p.tally;
+      })
+
+-- the next thing is the first of those that are left
+pub first_thing : (start p : PassView) (id : ℕ) (rest : List ℕ) → p ≡ sensed_to start p.view.states (id ∷ rest)
+    → p.view.point ≡ Sensing (id ∷ after_thing p.view.point)
+first_thing start p id rest is =
+    let at : p.view.point ≡ Sensing (id ∷ rest) = ap (λ (q : PassView). q.view.point) is in
+    at ∙ ap (λ (ids : List ℕ). Sensing (id ∷ ids)) (sym (ap after_thing at))
+
+module _ (start p new : PassView) (id found : ℕ) (rest : List ℕ) (is : p ≡ sensed_to start p.view.states (id ∷ rest))
+    (after : new ≡ in_view p (view_after_state id found (after_thing p.view.point) p.view)) where
+  made : new ≡ sensed_to start (record { id = id; state = found } ∷ p.view.states) rest
+  made = after ∙ ap (λ (q : PassView). in_view q (view_after_state id found (after_thing q.view.point) q.view)) is
+
+  -- one state more is in view
+  pub states_more : new.view.states ≡ record { id = id; state = found } ∷ p.view.states
+  states_more = ap (λ (q : PassView). q.view.states) after
+
+  -- and one thing less is left
+  pub sensed_more : new ≡ sensed_to start new.view.states rest
+  sensed_more = made ∙ ap (λ (states : List NewState). sensed_to start states rest) (sym states_more)
+
+-- a record is put last where there is room
+pub put_last : (b : Bool) (near new : List Rec) (r : Rec) → IsTrue b ↔ (length near < 256) → MatchBool b (new ≡ near ++ r ∷ []) (new ≡ near) → length near < 256
+    → new ≡ near ++ r ∷ []
+put_last true near new r room records few = records
+put_last false near new r room records few = absurd (false≢true (room.1 few))
+
+-- ---- the things of a region, one after another
+
+-- the states of those of the first k things that a region touches are loaded, and they stand with them in the near list
+pub record AreSensed (region : List Bounds) (things : List Rec) (start p : PassView) (before near : List Rec) (k : ℕ) : Type 0 where
+  pub hand : p ≡ sensed_to start p.view.states (map (λ (r : Rec). r.id) (touching region (drop k things)))
+  pub near_is : near ≡ before ++ filter_map (thing_with p.view.states) (touching region (take k things))
+  pub room : length near ≤ 64 + k
+
+module _ (F : Fixed) (things : List Rec) (region : List Bounds) (are : AreThings F things) (rising : IsStrictlyIncreasing F.start.ids) (start : PassView) (before : List Rec) where
+  -- nothing is loaded yet
+  pub sensed_none : IsPlain start → start.view.point ≡ sensing (things_in F region) → length before ≤ 64 → AreSensed region things start start before before 0
+  sensed_none plain at few = record {
+    hand = held_in_view start plain
+        ∙ ap (λ (q : Point). in_view start (record start.view { point = q })) (at ∙ ap sensing (things_of_region F things region are));
+    near_is = sym (append-nil before);
+    room = omega (arith, few);
+  }
+
+  module _ (p : PassView) (near : List Rec) (k : ℕ) (d : Rec) (there : k < length things) (is : AreSensed region things start p before near k) where
+    abbrev thing : Rec
+    thing = get_or things k d
+
+    abbrev rest : List ℕ
+    rest = map (λ (r : Rec). r.id) (touching region (drop (k + 1) things))
+
+    at_first : touches_region (abs_of thing) region ≡ true → p ≡ sensed_to start p.view.states (thing.id ∷ rest)
+    at_first touch = is.hand ∙ ap (sensed_to start p.view.states) (left_first region things k d there touch)
+
+    -- the thing comes next
+    pub sensed_at : touches_region (abs_of thing) region ≡ true → p.view.point ≡ Sensing (thing.id ∷ after_thing p.view.point)
+    sensed_at touch = first_thing start p thing.id rest (at_first touch)
+
+    -- there is room for it
+    pub sensed_room : length near < 256
+    sensed_room = let few = are.few in let most = is.room in omega (arith, few, most, there)
+
+    -- its state was loaded
+    pub sensed_one : touches_region (abs_of thing) region ≡ true → (new : PassView) (state : ℕ)
+        → new ≡ in_view p (view_after_state thing.id state (after_thing p.view.point) p.view)
+        → AreSensed region things start new before (near ++ with_state thing state ∷ []) (k + 1)
+    sensed_one touch new state after =
+        let more = loaded_more region things k d there p.view.states state (things_rise F things region are rising) touch in
+        let long = length-append near (with_state thing state ∷ []) in
+        let most = is.room in
+        record {
+          hand = sensed_more start p new thing.id state rest (at_first touch) after;
+          near_is = ap (λ (rs : List Rec). rs ++ with_state thing state ∷ []) is.near_is
+              ∙ append_assoc before (filter_map (thing_with p.view.states) (touching region (take k things))) (with_state thing state ∷ [])
+              ∙ ap (λ (rs : List Rec). before ++ rs) (sym more)
+              ∙ ap (λ (states : List NewState). before ++ filter_map (thing_with states) (touching region (take (k + 1) things))) (sym (states_more start p new thing.id state rest (at_first touch) after));
+          room = omega (arith, long, most);
+        }
+
+    -- it doesn't touch the region
+    pub sensed_skip : touches_region (abs_of thing) region ≡ false → AreSensed region things start p before near (k + 1)
+    sensed_skip not =
+        let most = is.room in
+        record {
+          hand = is.hand ∙ ap (sensed_to start p.view.states) (left_same region things k d there not);
+          near_is = is.near_is ∙ ap (λ (rs : List Rec). before ++ filter_map (thing_with p.view.states) rs) (sym (touching_same region things k d there not));
+          room = omega (arith, most);
+        }
+
+  module _ (p : PassView) (near : List Rec) (k : ℕ) (end : length things ≤ k) (is : AreSensed region things start p before near k) where
+    -- all are loaded
+    pub sensed_view : p ≡ in_view start (record start.view { states = p.view.states; point = Resolving })
+    sensed_view = is.hand ∙ ap (λ (rs : List Rec). sensed_to start p.view.states (map (λ (r : Rec). r.id) (touching region rs))) (drop_all k things end)
+
+    pub sensed_near : near ≡ before ++ things_loaded F region p.view.states
+    sensed_near = is.near_is
+        ∙ ap (λ (rs : List Rec). before ++ filter_map (thing_with p.view.states) (touching region rs)) (take_all k things end)
+        ∙ ap (λ (rs : List Rec). before ++ rs) (sym (loaded_of_region F things region are p.view.states))
+
+-- a thing that touches the region has its bit
+pub thing_marked : (F : Fixed) (things : List Rec) (region : List Bounds) → AreThings F things → (bits : ℕ) → MarksThings F region bits → (k : ℕ) (d : Rec) → k < length things
+    → touches_region (abs_of (get_or things k d)) region ≡ true → has_bit bits ((get_or things k d).id % 64) ≡ true
+thing_marked F things region are bits marks k d there touch =
+    marks (get_or things k d).id
+    (ap (λ (ids : List ℕ). has ids (get_or things k d).id) (things_of_region F things region are) ∙ touching_has region things k d there touch)

@@ -1,0 +1,280 @@
+-- A take that may be refused, and is tried again.
+use Rattle.std.proofs.Common.{◌≡◌, ◌≢◌, ℕ, suc, ◌+◌, ◌-◌, ◌*◌, ◌^◌, ◌<◌, ◌≤◌, arith, Bool, true, false, if◌then◌else◌, List, [], ◌∷◌, ◌++◌, length, map, refl, sym, ap, ◌∙◌, subst, inl, inr, Option, Some, None}
+use Rattle.std.specs.Prelude.{◌==◌, nat_le}
+use Rattle.std.proofs.lemmas.Bool.{cases_eq, cond-true, cond-false, eq-eqb, ne_eqb, le-leb}
+use Rattle.atomic_table.specs.Seated.{TableId}
+use Rattle.arena_geo.specs.Bounds.{Bounds}
+use Rattle.areanode.specs.Trees.{leaf_node, leaves_of}
+use Rattle.core_steps.specs.Views as views
+use Rattle.core_steps.specs.Views.{Fixed, View, Point, Idle, Owning, Taking, Checking, Entering, Entered, Loading, Leaving, Sensing, Resolving, Claiming, Storing, Releasing, Returning, Yielding, is_leaf, leaf_word, leaf_nodes, region_in, held_word, stage_of, is_whole, is_writing}
+use Rattle.core_steps.specs.Steps.{taking, point_after_take, view_after_take, view_after_refusal}
+use Rattle.core_steps.specs.Machine.{Next, Begin, LoadOwn, LoadAgain, TakeNode, ClaimNode, ReadList, ReadPlayer, ReadState, CommitMove, StoreWord, GiveNode, YieldNode, YieldCount}
+use Rattle.core_steps.specs.Stands.{IsTaking, IsAt}
+use Rattle.core_steps.specs.Calls.{node_taken}
+use Rattle.core_seats.specs.declared.refusals.Refusals.{Refusals}
+use Rattle.core_seats.specs.Refusals.{AreRefusals}
+use Rattle.core_seats.specs.Going.{view_found, word_left}
+use Rattle.core_seats.specs.Nexts.{next_point, the_next}
+use Rattle.ruled_words.specs.Hands.{IsPlain}
+use Rattle.ruled_words.specs.Passes.{PassView, next_of_pass, node_taken_next, pass_after, word_after, IsPassOf}
+use Rattle.ruled_words.specs.Sights.{HeldWord, Tally, tally_after}
+use Rattle.ruled_words.specs.Straight.{in_view_with, IsTriedOn, got_at}
+use Rattle.ruled_words.specs.Tries.{IsTried, tried_until}
+use Rattle.ruled_words.proofs.BitWalks.{bits_in, bits_none}
+use Rattle.ruled_words.proofs.LeafWords.{leaf_word_is}
+use Rattle.ruled_words.proofs.LoadedWords.{plain_is, plain_after, plain_next}
+
+-- ---- what a take leaves beside the point
+
+tried_by : (b : Bool) (t : Tally) (served : List HeldWord) (h : HeldWord)
+    → IsTriedOn t (record (if b then record t { served = served } else record t { refused = h ∷ t.refused }) { begun = t.begun })
+tried_by true t served h = record { begun = refl; listed = λ x is. is }
+tried_by false t served h = record { begun = refl; listed = λ x is. inr is }
+
+pub tried_on : (next : Next) (node found left : ℕ) (t : Tally) → node_taken next ≡ Some node → IsTriedOn t (tally_after next found left t)
+tried_on (Begin c) node found left t e = cc
+tried_on LoadOwn node found left t e = cc
+tried_on LoadAgain node found left t e = cc
+tried_on (TakeNode n) node found left t e = tried_by (found == 0) t _ _
+tried_on (ClaimNode f n) node found left t e = tried_by (found == 0) t _ _
+tried_on (ReadList n plan) node found left t e = cc
+tried_on (ReadPlayer n part slot players plan) node found left t e = cc
+tried_on (ReadState id ids) node found left t e = cc
+tried_on (CommitMove f nodes) node found left t e = cc
+tried_on (StoreWord nodes store stores) node found left t e = cc
+tried_on (GiveNode n) node found left t e = cc
+tried_on (YieldNode n) node found left t e = cc
+tried_on YieldCount node found left t e = cc
+
+same_node : (a b : ℕ) → Some a ≡ Some b → a ≡ b
+same_node a b e = cc
+
+-- a take that is served leaves the refused ones as they are
+served_keeps : (F : Fixed) (r : Refusals) (view : View) (next : Next) (node : ℕ) → node_taken next ≡ Some node → AreRefusals r view → AreRefusals r (view_found F view next 0)
+served_keeps F r view (Begin c) node e is = cc
+served_keeps F r view LoadOwn node e is = cc
+served_keeps F r view LoadAgain node e is = cc
+served_keeps F r view (TakeNode n) node e is = record { count = is.count; last = is.last }
+served_keeps F r view (ClaimNode f n) node e is = record { count = is.count; last = is.last }
+served_keeps F r view (ReadList n plan) node e is = cc
+served_keeps F r view (ReadPlayer n part slot players plan) node e is = cc
+served_keeps F r view (ReadState id ids) node e is = cc
+served_keeps F r view (CommitMove f nodes) node e is = cc
+served_keeps F r view (StoreWord nodes store stores) node e is = cc
+served_keeps F r view (GiveNode n) node e is = cc
+served_keeps F r view (YieldNode n) node e is = cc
+served_keeps F r view YieldCount node e is = cc
+
+-- the view after a take that is refused
+refused_is : (F : Fixed) (view : View) (next : Next) (node found : ℕ) → node_taken next ≡ Some node → found ≢ 0 → view_found F view next found ≡ view_after_refusal node found view
+refused_is F view (Begin c) node found e busy = cc
+refused_is F view LoadOwn node found e busy = cc
+refused_is F view LoadAgain node found e busy = cc
+refused_is F view (TakeNode n) node found e busy =
+    cond-false (found == 0) (view_found F view (TakeNode n) 0) (view_after_refusal n found view) (ne_eqb found 0 busy) ∙ ap (λ (k : ℕ). view_after_refusal k found view) (same_node n node e)
+refused_is F view (ClaimNode f n) node found e busy =
+    cond-false (found == 0) (view_found F view (ClaimNode f n) 0) (view_after_refusal n found view) (ne_eqb found 0 busy) ∙ ap (λ (k : ℕ). view_after_refusal k found view) (same_node n node e)
+refused_is F view (ReadList n plan) node found e busy = cc
+refused_is F view (ReadPlayer n part slot players plan) node found e busy = cc
+refused_is F view (ReadState id ids) node found e busy = cc
+refused_is F view (CommitMove f nodes) node found e busy = cc
+refused_is F view (StoreWord nodes store stores) node found e busy = cc
+refused_is F view (GiveNode n) node found e busy = cc
+refused_is F view (YieldNode n) node found e busy = cc
+refused_is F view YieldCount node found e busy = cc
+
+served_noted : (F : Fixed) (r : Refusals) (view after : View) (next : Next) (node found : ℕ) → node_taken next ≡ Some node → found ≡ 0 → after ≡ view_found F view next found → AreRefusals r view → AreRefusals r after
+served_noted F r view after next node found taken free is here =
+    subst (AreRefusals r) (sym (is ∙ ap (view_found F view next) free)) (served_keeps F r view next node taken here)
+
+-- what was noted, by the word that was found, is that of the view after the step
+pub found_noted : (F : Fixed) (r : Refusals) (view after : View) (next : Next) (node found : ℕ) → node_taken next ≡ Some node → after ≡ view_found F view next found
+    → AreRefusals r (if found == 0 then view else view_after_refusal node found view) → AreRefusals r after
+found_noted F r view after next node found taken is here = elim (cases_eq found 0) [
+  | inl free ↦
+      served_noted F r view after next node found taken free is
+      (subst (AreRefusals r) (cond-true (found == 0) view (view_after_refusal node found view) (eq-eqb found 0 free)) here)
+  | inr busy ↦
+      subst (AreRefusals r) (cond-false (found == 0) view (view_after_refusal node found view) (ne_eqb found 0 busy) ∙ sym (is ∙ refused_is F view next node found taken busy)) here
+]
+
+-- ---- one take after another
+
+pub tried_again : (one two three : Tally) → IsTriedOn one two → IsTriedOn two three → IsTriedOn one three
+tried_again one two three a b = record { begun = b.begun ∙ a.begun; listed = λ h is. b.listed h (a.listed h is) }
+
+pub not_tried : (t : Tally) → IsTriedOn t t
+not_tried t = record { begun = refl; listed = λ h is. is }
+
+-- at the same point where nothing was tried yet
+pub until_start : (p : PassView) → IsPlain p → p ≡ tried_until p p.view.point p
+until_start p plain = plain_is p plain
+
+pub until_plain : (p new : PassView) (at : Point) → new ≡ tried_until p at new → IsPlain new
+until_plain p new at is = record { given = ap (λ (q : PassView). q.given) is; quits = ap (λ (q : PassView). q.quits) is; effect = ap (λ (q : PassView). q.effect) is }
+
+pub until_more : (p now new : PassView) (one two : Point) → now ≡ tried_until p one now → new ≡ tried_until now two new → new ≡ tried_until p two new
+until_more p now new one two is more = more ∙ ap (λ (q : PassView). tried_until q two new) is
+
+module _ (F : Fixed) (p : PassView) (node : ℕ) where
+  tried_case : (k : Bool) (found : ℕ) (t : Tally) →
+      in_view_with p (if k then view_after_take node p.view else view_after_refusal node found p.view) t
+      ≡ tried_until p (if k then point_after_take node p.view.point else p.view.point) (in_view_with p (if k then view_after_take node p.view else view_after_refusal node found p.view) t)
+  tried_case true found t = refl
+  tried_case false found t = refl
+
+  -- the pass after its take was tried
+  pub tried_is : IsPlain p → next_of_pass F p ≡ Some (TakeNode node) → (new : PassView) (b : Bool) → IsTried F p new b
+      → new ≡ tried_until p (if b then point_after_take node p.view.point else p.view.point) new
+  tried_is plain comes new b is =
+      let found = is.found in
+      let tally = tally_after (TakeNode node) found (word_left F p.number p.view (TakeNode node) found) p.tally in
+      let q = in_view_with p (if found == 0 then view_after_take node p.view else view_after_refusal node found p.view) tally in
+      let made : new ≡ q = is.pass ∙ ap (λ (o : Option Next). pass_after F (the_next o) found p) comes ∙ plain_after F p (TakeNode node) found plain in
+      subst (λ (r : PassView). r ≡ tried_until p (if b then point_after_take node p.view.point else p.view.point) r) (sym made)
+      (subst (λ (k : Bool). q ≡ tried_until p (if k then point_after_take node p.view.point else p.view.point) q) (sym is.where_free) (tried_case (found == 0) found tally))
+
+-- ---- tried again
+
+module _ (F : Fixed) (view : View) (refusals : ℕ) (refused : Option views.Refused) where
+  abbrev tried_view : Point → View
+  tried_view point = record view { point = point; refusals = refusals; refused = refused }
+
+  -- what comes next doesn't depend on the refused takes
+  same_next : (at q : Point) → next_point F (tried_view at) None None q ≡ next_point F view None None q
+  same_next at Idle = refl
+  same_next at Owning = refl
+  same_next at (Taking got []) = refl
+  same_next at (Taking got (leaf ∷ rest)) = refl
+  same_next at Checking = refl
+  same_next at (Entering n plan) = refl
+  same_next at (Entered n plan) = refl
+  same_next at (Loading n part [] plan) = refl
+  same_next at (Loading n part (slot ∷ players) plan) = refl
+  same_next at (Leaving n plan) = refl
+  same_next at (Sensing []) = refl
+  same_next at (Sensing (id ∷ ids)) = refl
+  same_next at Resolving = refl
+  same_next at (Claiming got []) = refl
+  same_next at (Claiming got (n ∷ rest)) = refl
+  same_next at (Storing nodes []) = refl
+  same_next at (Storing nodes (store ∷ stores)) = refl
+  same_next at (Releasing nodes) = refl
+  same_next at (Returning leaves) = refl
+  same_next at (Yielding nodes leaves) = refl
+
+module _ (F : Fixed) (p : PassView) (node : ℕ) (plain : IsPlain p) (comes : next_of_pass F p ≡ Some (TakeNode node)) (now : PassView) (is : now ≡ tried_until p p.view.point now) where
+  -- the same node comes next
+  pub until_next : next_of_pass F now ≡ Some (TakeNode node)
+  until_next =
+      ap (λ (q : PassView). next_of_pass F q) is ∙ same_next F p.view now.view.refusals now.view.refused p.view.point p.view.point
+      ∙ sym (plain_next F p p.view.point plain refl) ∙ comes
+
+  pub until_taken : node_taken_next (next_of_pass F now) ≡ Some node
+  until_taken = ap (λ (o : Option Next). node_taken_next o) until_next
+
+  -- with the same word
+  pub until_word : (found : ℕ) → word_after F now found ≡ word_after F p found
+  until_word found =
+      ap (λ (o : Option Next). word_left F now.number now.view (the_next o) found) until_next
+      ∙ ap (λ (q : PassView). word_left F q.number q.view (TakeNode node) found) is
+      ∙ sym (ap (λ (o : Option Next). word_left F p.number p.view (the_next o) found) comes)
+
+  -- it was taken
+  pub until_tried : (new : PassView) (b : Bool) → b ≡ true → IsTried F now new b → new ≡ tried_until p (point_after_take node p.view.point) new
+  until_tried new b served tried =
+      until_more p now new p.view.point (point_after_take node p.view.point) is
+      (tried_is F now node (until_plain p now p.view.point is) until_next new b tried
+      ∙ ap (λ (k : Bool). tried_until now (if k then point_after_take node now.view.point else now.view.point) new) served
+      ∙ ap (λ (q : Point). tried_until now (point_after_take node q) new) (ap (λ (q : PassView). q.view.point) is))
+
+  -- it was refused once more
+  pub until_refused : (new : PassView) (b : Bool) → b ≡ false → IsTried F now new b → new ≡ tried_until p p.view.point new
+  until_refused new b refused tried =
+      until_more p now new p.view.point p.view.point is
+      (tried_is F now node (until_plain p now p.view.point is) until_next new b tried
+      ∙ ap (λ (k : Bool). tried_until now (if k then point_after_take node now.view.point else now.view.point) new) refused
+      ∙ ap (λ (q : Point). tried_until now q new) (ap (λ (q : PassView). q.view.point) is))
+
+-- ---- leaves
+
+-- the nodes of these leaves
+abbrev pub leaf_list : ℕ → List ℕ
+leaf_list leaves = map (leaf_node 4) (bits_in 16 leaves)
+
+-- the leaves of a region by their word
+pub leaf_list_is : (F : Fixed) (region : List Bounds) → F.tree.depth ≡ 4 → leaf_nodes F region ≡ leaf_list (leaves_of F.tree region)
+leaf_list_is F region depth = ap (λ (d : ℕ). map (leaf_node d) (bits_in (2 ^ d) (leaves_of F.tree region))) depth
+
+pub leaf_there : (F : Fixed) (node : ℕ) → F.tree.depth ≡ 4 → 15 ≤ node → is_leaf F node ≡ true
+leaf_there F node depth above = ap (λ (d : ℕ). nat_le (2 ^ d - 1) node) depth ∙ le-leb 15 node above
+
+-- the lowest leaf comes first
+pub leaf_list_first : (leaves rest leaf : ℕ) → bits_in 16 leaves ≡ leaf ∷ bits_in 16 rest → leaf_list leaves ≡ (15 + leaf) ∷ leaf_list rest
+leaf_list_first leaves rest leaf first = ap (map (leaf_node 4)) first
+
+taking_got : (got rest : List ℕ) → taking got rest ≡ taking (got_at (taking got rest)) rest
+taking_got got [] = refl
+taking_got got (x ∷ xs) = refl
+
+start_point : (q : Point) (nodes : List ℕ) → q ≡ Taking [] nodes → 0 < length nodes → q ≡ taking (got_at q) nodes
+start_point q [] at some = absurd (omega (arith, some))
+start_point q (x ∷ xs) at some = at ∙ ap (λ (g : List ℕ). taking g (x ∷ xs)) (sym (ap got_at at))
+
+-- what is known where the leaves of a command are to be taken
+pub record WantsLeaves (F : Fixed) (p : PassView) (leaves : ℕ) : Type 0 where
+  pub depth : F.tree.depth ≡ 4
+  pub wanted : p.view.wanted ≡ leaf_list leaves
+  pub some : 0 < length (leaf_list leaves)
+
+pub wants_leaves : (F : Fixed) (passes : ℕ) (table : TableId) (p : PassView) (leaves : ℕ) → IsPassOf F passes table p → p.view.point ≡ Taking [] p.view.wanted → leaves ≡ leaf_word F p.view.wanted → WantsLeaves F p leaves
+wants_leaves F passes table p leaves own at word =
+    let sound = own.sound_sight.sound in
+    let region = region_in F p.view.cmd p.view.own in
+    let nodes : p.view.wanted ≡ leaf_nodes F region = sound.whole (ap (λ (q : Point). is_whole (stage_of q)) at) in
+    let is : leaves ≡ leaves_of F.tree region = word ∙ ap (leaf_word F) nodes ∙ leaf_word_is F region in
+    let wanted : p.view.wanted ≡ leaf_list leaves = nodes ∙ leaf_list_is F region sound.depth ∙ ap leaf_list (sym is) in
+    let left : IsTaking [] p.view.wanted p.view.wanted = subst (λ (q : Point). IsAt F p.view.cmd p.view.own p.view.wanted p.view.again p.view.lists p.view.others p.view.states p.view.effect q) at sound.at in
+    record { depth = sound.depth; wanted = wanted; some = subst (λ (xs : List ℕ). 0 < length xs) wanted left.left }
+
+-- these leaves are left to be taken
+abbrev pub left_until : PassView → ℕ → PassView → PassView
+left_until p rest now = tried_until p (taking (got_at now.view.point) (leaf_list rest)) now
+
+module _ (F : Fixed) (p : PassView) (leaves : ℕ) (plain : IsPlain p) (wants : WantsLeaves F p leaves) where
+  pub leaves_start : p.view.point ≡ Taking [] p.view.wanted → p ≡ left_until p leaves p
+  leaves_start at = plain_is p plain ∙ ap (λ (q : Point). tried_until p q p) (start_point p.view.point (leaf_list leaves) (at ∙ ap (Taking []) wants.wanted) wants.some)
+
+  pub leaves_end : (now : PassView) → now ≡ left_until p 0 now → now ≡ tried_until p Checking now
+  leaves_end now is = is ∙ ap (λ (xs : List ℕ). tried_until p (taking (got_at now.view.point) (map (leaf_node 4) xs)) now) (bits_none 16)
+
+  module _ (rest after leaf : ℕ) (first : bits_in 16 rest ≡ leaf ∷ bits_in 16 after) (now : PassView) (is : now ≡ left_until p rest now) where
+    at_leaf : now ≡ tried_until p (Taking (got_at now.view.point) ((15 + leaf) ∷ leaf_list after)) now
+    at_leaf = is ∙ ap (λ (xs : List ℕ). tried_until p (taking (got_at now.view.point) xs) now) (leaf_list_first rest after leaf first)
+
+    pub leaf_comes : next_of_pass F now ≡ Some (TakeNode (15 + leaf))
+    leaf_comes = ap (λ (q : PassView). next_of_pass F q) at_leaf
+
+    pub leaf_left : (new : ℕ) → new ≡ p.number + 256 * leaf_word F p.view.wanted + 1 → (found : ℕ) → word_after F now found ≡ (if found == 0 then new else found)
+    leaf_left new marked found =
+        let node = 15 + leaf in
+        let held : held_word F p.number (stage_of (taking (got_at now.view.point ++ node ∷ []) (leaf_list after))) p.view.wanted node ≡ new =
+        ap (λ (n : ℕ). suc (p.number + 256 * n)) (cond-true (is_leaf F node) (leaf_word F p.view.wanted) (if is_writing (stage_of (taking (got_at now.view.point ++ node ∷ []) (leaf_list after))) then 1 else 0) (leaf_there F node wants.depth (omega arith)))
+        ∙ (let m = marked in omega (arith, m)) in
+        ap (λ (q : PassView). word_after F q found) at_leaf ∙ ap (λ (w : ℕ). if found == 0 then w else found) held
+
+    pub leaf_taken : (new : PassView) → new ≡ tried_until now (point_after_take (15 + leaf) now.view.point) new → new ≡ left_until p after new
+    leaf_taken new taken =
+        let node = 15 + leaf in
+        let got = got_at now.view.point in
+        let point : point_after_take node now.view.point ≡ taking (got ++ node ∷ []) (leaf_list after) = ap (λ (q : PassView). point_after_take node q.view.point) at_leaf in
+        let made : new ≡ tried_until p (taking (got ++ node ∷ []) (leaf_list after)) new =
+        until_more p now new (Taking got (node ∷ leaf_list after)) (taking (got ++ node ∷ []) (leaf_list after)) at_leaf (taken ∙ ap (λ (q : Point). tried_until now q new) point) in
+        made ∙ ap (λ (q : Point). tried_until p q new)
+        (taking_got (got ++ node ∷ []) (leaf_list after) ∙ ap (λ (g : List ℕ). taking g (leaf_list after)) (sym (ap (λ (q : PassView). got_at q.view.point) made)))
+
+    pub leaf_own : now.view.own ≡ p.view.own
+    leaf_own = ap (λ (q : PassView). q.view.own) is
+
+    pub leaf_wanted : now.view.wanted ≡ p.view.wanted
+    leaf_wanted = ap (λ (q : PassView). q.view.wanted) is

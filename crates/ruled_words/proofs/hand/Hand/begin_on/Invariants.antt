@@ -1,0 +1,15 @@
+use Rattle.std.proofs.Common.{length, Some, None, false}
+use Rattle.entity_recs.specs.Commands.{command_of}
+use Rattle.ruled_words.specs.Starts.{fixed_by}
+use Rattle.core_seats.specs.Nexts.{next_with, the_next}
+use Rattle.ruled_words.proofs.hand.Hand.begin_on.Given as goal
+
+-- the step that comes next of the seat's own view
+abbrev pub ghosts-step_as : goal.ghosts-step_as
+ghosts-step_as g a = record {
+  fixed = fixed_by g.A.Action.meaning a.words.now.key.action.value a.words.now.key.world.value;
+  passes = length a.words.now.key.rooms.items;
+  given = Some (command_of a.about.now);
+  quits = false;
+  next = the_next (next_with (fixed_by g.A.Action.meaning a.words.now.key.action.value a.words.now.key.world.value) a.seat.now.me.0.view (Some (command_of a.about.now)) false None);
+}

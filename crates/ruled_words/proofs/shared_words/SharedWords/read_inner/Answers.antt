@@ -1,0 +1,70 @@
+use Rattle.std.proofs.Common.{◌≡◌, ℕ, sym, ap, ◌∙◌, subst, arith, refl, bit_or}
+use Rattle.core_steps.specs.Views.{region_in}
+use Rattle.core_steps.specs.Steps.{visiting}
+use Rattle.ruled_words.specs.Passes.{PassView, fixed_in}
+use Rattle.ruled_words.proofs.BitWalks.{bits_first, bit_below}
+use Rattle.ruled_words.proofs.TriedTakes.{not_tried, tried_again}
+use Rattle.ruled_words.proofs.VisitedNodes.{inner_until, inner_list_is, inner_start, inner_end, now_entering, inner_more, none_kept_yet, kept_after}
+use Rattle.ruled_words.proofs.shared_words.SharedWords.read_inner.Goals as goal
+
+pub loop-rest-init : goal.loop-rest-init
+loop-rest-init g c =
+    let same = c.from-rest.ensures in
+    let inner = inner_list_is (fixed_in g.A.Action.meaning c.args.self.now) (region_in (fixed_in g.A.Action.meaning c.args.self.now) c.args.hand.now.view.cmd c.args.hand.now.view.own) _ c.args.inner c.requires.own.sound_sight.sound.depth refl c.requires.inner in (
+      c.requires.own,
+      inner_start (fixed_in g.A.Action.meaning c.args.self.now) c.args.hand.now c.args.inner c.is_plain.ensures (c.requires.at ∙ ap (visiting (fixed_in g.A.Action.meaning c.args.self.now) c.args.hand.now.view) inner)
+          ∙ ap (λ (n : ℕ). inner_until (fixed_in g.A.Action.meaning c.args.self.now) c.args.hand.now n c.args.hand.now) (sym c.from-rest.ensures),
+      λ seen kept. none_kept_yet seen c.args.six.now c.args.hand.now.view.others kept,
+      omega (arith, same),
+      not_tried c.args.hand.now.tally,
+      λ is. is,
+    )
+
+pub visit_inner-seen-requires-clause-inner : goal.visit_inner-seen-requires-clause-inner
+visit_inner-seen-requires-clause-inner g c κs within =
+    let few = c.loop-rest.invariant.3 in
+    let cut = c.requires.inner in
+    bit_below 15 c.loop-rest.rest c.lowest_bit-node.result (omega (arith, few, cut)) c.lowest_bit-node.ensures.there
+
+pub visit_inner-seen-requires-clause-at : goal.visit_inner-seen-requires-clause-at
+visit_inner-seen-requires-clause-at g c κs within =
+    let few = c.loop-rest.invariant.3 in
+    let cut = c.requires.inner in
+    let below = bit_below 15 c.loop-rest.rest c.lowest_bit-node.result (omega (arith, few, cut)) c.lowest_bit-node.ensures.there in
+    let first = bits_first 15 c.loop-rest.rest c.without_bit-rest.result c.lowest_bit-node.result below (omega arith) c.lowest_bit-node.ensures.there c.lowest_bit-node.ensures.first c.without_bit-rest.ensures.bits in
+    now_entering (fixed_in g.A.Action.meaning c.args.self.now) c.args.hand.now c.requires.own.sound_sight.sound.depth c.loop-rest.rest c.without_bit-rest.result c.lowest_bit-node.result below first c.loop-rest.hand c.loop-rest.invariant.1
+
+pub visit_inner-seen-requires-clause-own_is : goal.visit_inner-seen-requires-clause-own_is
+visit_inner-seen-requires-clause-own_is g c κs within = c.requires.own_is ∙ sym (ap (λ (q : PassView). q.view.own) c.loop-rest.invariant.1)
+
+pub visit_inner-seen-requires-clause-wanted_is : goal.visit_inner-seen-requires-clause-wanted_is
+visit_inner-seen-requires-clause-wanted_is g c κs within = c.requires.wanted_is ∙ sym (ap (λ (q : PassView). q.view.wanted) c.loop-rest.invariant.1)
+
+pub visit_inner-seen-requires-clause-slot : goal.visit_inner-seen-requires-clause-slot
+visit_inner-seen-requires-clause-slot g c κs within = c.requires.slot ∙ sym (ap (λ (q : PassView). q.view.cmd.slot) c.loop-rest.invariant.1)
+
+pub loop-rest-preserved : goal.loop-rest-preserved
+loop-rest-preserved g c =
+    let few = c.loop-rest.invariant.3 in
+    let cut = c.requires.inner in
+    let below = bit_below 15 c.loop-rest.rest c.lowest_bit-node.result (omega (arith, few, cut)) c.lowest_bit-node.ensures.there in
+    let first = bits_first 15 c.loop-rest.rest c.without_bit-rest.result c.lowest_bit-node.result below (omega arith) c.lowest_bit-node.ensures.there c.lowest_bit-node.ensures.first c.without_bit-rest.ensures.bits in
+    let less = c.without_bit-rest.ensures.less c.lowest_bit-node.ensures.there in (
+      c.visit_inner-seen.ensures.own,
+      inner_more (fixed_in g.A.Action.meaning c.args.self.now) c.args.hand.now c.requires.own.sound_sight.sound.depth c.loop-rest.rest c.without_bit-rest.result c.lowest_bit-node.result below first c.loop-rest.hand c.loop-rest.invariant.1 c.visit_inner-seen.new.hand c.visit_inner-seen.ensures.view,
+      λ seen kept. kept_after seen c.loop-rest.seen c.visit_inner-seen.result c.visit_inner-seen.new.six c.visit_inner-seen.new.hand.view.others (c.visit_inner-seen.ensures.kept (bit_or seen c.loop-rest.seen) (c.loop-rest.invariant.2 seen kept)),
+      omega (arith, few, less),
+      tried_again _ _ _ c.loop-rest.invariant.4 c.visit_inner-seen.ensures.tried,
+      λ is. c.visit_inner-seen.ensures.refusals (c.loop-rest.invariant.5 is),
+    )
+
+pub loop-rest-smaller : goal.loop-rest-smaller
+loop-rest-smaller g c = c.without_bit-rest.ensures.less c.lowest_bit-node.ensures.there
+
+pub returns-clause-view : goal.returns-clause-view
+returns-clause-view g c =
+    inner_end (fixed_in g.A.Action.meaning c.args.self.now) c.args.hand.now c.loop-rest.hand
+    (subst (λ (n : ℕ). c.loop-rest.hand ≡ inner_until (fixed_in g.A.Action.meaning c.args.self.now) c.args.hand.now n c.loop-rest.hand) c.loop-rest-test.false c.loop-rest.invariant.1)
+
+pub returns-clause-kept : goal.returns-clause-kept
+returns-clause-kept g c = c.loop-rest.invariant.2

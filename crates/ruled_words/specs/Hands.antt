@@ -1,0 +1,61 @@
+-- How a pass is held: its seat at the table, its hand, beside the same seat in plain values.
+use Rattle.std.specs.Prelude.{◌≡◌, ℕ, suc, false, [], Option, Some, None}
+use Rattle.atomic_table.specs.declared.shared.Seat as places
+use Rattle.entity_recs.specs.declared.effect.Effect.{Effect}
+use Rattle.core_seats.specs.declared.seat.Seat.{Seat}
+use Rattle.entity_recs.specs.Commands.{Command}
+use Rattle.core_steps.specs.Steps.{view_after_begin}
+use Rattle.core_seats.specs.Seats.{view_of, given_of}
+use Rattle.ruled_words.specs.Sights.{SightView}
+use Rattle.ruled_words.specs.Passes.{PassView, effect_kept}
+
+-- the pass of this place at the table with this number, that was given nothing, isn't to give up and keeps no effect
+abbrev pub hand_view : places.Seat (Unit {0}) SightView → ℕ → PassView
+hand_view place number = record {
+  table = place.table_id;
+  number = number;
+  given = None;
+  quits = false;
+  effect = None;
+  view = place.me.0.view;
+  tally = place.me.0.tally;
+}
+
+-- the place has the pass's number and carries nothing
+pub record IsAtPlace (place : places.Seat (Unit {0}) SightView) (number : ℕ) : Type 0 where
+  pub has_number : place.me.0.number ≡ number
+  pub carries : place.me.1 ≡ []
+
+-- the pass was given nothing, isn't to give up and keeps no effect
+pub record IsPlain (p : PassView) : Type 0 where
+  pub given : p.given ≡ None
+  pub quits : p.quits ≡ false
+  pub effect : p.effect ≡ None
+
+-- the pass with this command, which isn't begun
+abbrev pub given_to : PassView → Command → PassView
+given_to p c = record p { given = Some c }
+
+-- the pass with this effect, which it keeps
+abbrev pub keeping : PassView → Effect → PassView
+keeping p e = record p { effect = Some e }
+
+-- the same where all is still read and no write node is taken
+abbrev pub still_keeping : PassView → Effect → PassView
+still_keeping p e = record p { effect = effect_kept p.view (Some e) }
+
+-- the pass after it began this command, where this was the first word of the own record
+abbrev pub begun_with : Command → ℕ → PassView → PassView
+begun_with c word p = record p {
+  view = view_after_begin c word p.view;
+  tally = record p.tally { begun = suc p.tally.begun };
+}
+
+-- the pass of this hand, with the same seat in plain values and the effect that is kept
+abbrev pub pass_view : PassView → Seat → Option Effect → PassView
+pass_view hand mirror effect = record hand {
+  given = given_of mirror;
+  quits = mirror.quits;
+  effect = effect;
+  view = view_of mirror;
+}

@@ -1,0 +1,76 @@
+-- What the rule of the table keeps, and what it says at the start and at the end.
+use Rattle.std.specs.Prelude.{◌≡◌, ◌≢◌, ℕ, ◌^◌, ◌<◌, ◌≤◌, Bool, List, [], ◌∷◌, ◌++◌, length, slice_index, slice_set}
+use Rattle.std.specs.Prelude.{Option}
+use mathlib.Core.Option as maybe
+use lib.ListN.{get_elem?}
+use Rattle.atomic_table.specs.Table.{State, keeps, stepped, opening}
+use Rattle.entity_recs.specs.Commands.{Command}
+use Rattle.core_steps.specs.Views.{Fixed}
+use Rattle.core_steps.specs.Stands.{IsLawful, IsStart, start_core}
+use Rattle.core_steps.specs.Machine.{Next, index_of}
+use Rattle.ruled_words.specs.Sights.{HeldWord, IsOneOf, AreRefusalsServed, SightView, sight_found, no_sight}
+use Rattle.ruled_words.specs.Sights.{with_one_made, sight_made, with_one_ended}
+use Rattle.ruled_words.specs.Going.{view_looked, IsAtRest, MayGo}
+use Rattle.core_seats.specs.Going.{word_left}
+use Rattle.ruled_words.specs.Rule.{HasWords, WasTaken, IsRuled, first_sight}
+use Rattle.ruled_words.specs.Ends.{AreOthersEnded, Closes}
+
+-- the table at the start, with the words of the world and seat 0, meets the rule
+abbrev pub StartIsRuled : Type 0
+StartIsRuled = (F : Fixed) (rooms words : List ℕ) → IsLawful F → IsStart F → F.tree.depth ≡ 4 → 0 < length rooms
+    → length rooms ≤ 16 → slice_index rooms 0 < 2 ^ 32 → HasWords words (start_core F (slice_index rooms 0))
+    → IsRuled F rooms (opening words [] (first_sight (slice_index rooms 0)))
+
+-- a seat's next step, which leaves in its word what it should, keeps the rule
+abbrev pub StepsKeepTheRule : Type 0
+StepsKeepTheRule = (F : Fixed) (rooms : List ℕ) (s : State (Unit {0}) SightView) → IsRuled F rooms s
+    → (i : ℕ) (sight : SightView) → get_elem? s.views i ≡ maybe.some sight
+    → (given : Option Command) (quits : Bool) (next : Next)
+    → MayGo F (length rooms) sight.number sight.view given quits next
+    → (left : ℕ)
+    → left ≡ word_left F sight.number sight.view next (slice_index s.words (index_of 31 sight.view next))
+    → IsRuled F rooms (stepped s (index_of 31 sight.view next) left i []
+    (sight_found F sight next (slice_index s.words (index_of 31 sight.view next))) keeps)
+
+-- a seat that rests and looks at the count keeps the rule
+abbrev pub LooksKeepTheRule : Type 0
+LooksKeepTheRule = (F : Fixed) (rooms : List ℕ) (s : State (Unit {0}) SightView) → IsRuled F rooms s
+    → (i : ℕ) (sight : SightView) → get_elem? s.views i ≡ maybe.some sight → IsAtRest sight.view
+    → IsRuled F rooms (stepped s 0 (slice_index s.words 0) i []
+    (record sight { view = view_looked (slice_index s.words 0) sight.view }) keeps)
+
+-- a seat that is made from seat 0 keeps the rule
+abbrev pub MadeSeatsKeepTheRule : Type 0
+MadeSeatsKeepTheRule = (F : Fixed) (rooms : List ℕ) (room : ℕ) (s : State (Unit {0}) SightView) → IsRuled F rooms s
+    → (sight : SightView) → get_elem? s.views 0 ≡ maybe.some sight → IsAtRest sight.view
+    → sight.view.made < length rooms → room < 2 ^ 32
+    → IsRuled F rooms (record {
+      words = s.words;
+      homes = s.homes;
+      views = slice_set s.views 0 (with_one_made sight) ++ sight_made room sight ∷ [];
+    })
+
+-- a seat that is ended into seat 0 keeps the rule
+abbrev pub EndedSeatsKeepTheRule : Type 0
+EndedSeatsKeepTheRule = (F : Fixed) (rooms : List ℕ) (s : State (Unit {0}) SightView) → IsRuled F rooms s
+    → (i : ℕ) (sight ended : SightView) → get_elem? s.views 0 ≡ maybe.some sight → i ≢ 0
+    → get_elem? s.views i ≡ maybe.some ended → IsAtRest sight.view → IsAtRest ended.view
+    → IsRuled F rooms (record {
+      words = s.words;
+      homes = s.homes;
+      views = slice_set (slice_set s.views 0 (with_one_ended sight ended)) i no_sight;
+    })
+
+-- between any two steps: each word that a seat found where its take was refused was written by a seat whose take of that
+-- node was served
+abbrev pub RefusedTakesWereServed : Type 0
+RefusedTakesWereServed = (F : Fixed) (rooms : List ℕ) (s : State (Unit {0}) SightView) → IsRuled F rooms s
+    → (i : ℕ) (sight : SightView) → get_elem? s.views i ≡ maybe.some sight
+    → (h : HeldWord) → IsOneOf h sight.tally.refused → WasTaken s.views h
+
+-- once all other seats are ended into seat 0: its logs are those of a legal history, the words are those of its run, and
+-- each word that was found where a take was refused was written where one was served
+abbrev pub ClosedTableIsItsRun : Type 0
+ClosedTableIsItsRun = (F : Fixed) (rooms : List ℕ) (s : State (Unit {0}) SightView) → IsRuled F rooms s
+    → (sight : SightView) → get_elem? s.views 0 ≡ maybe.some sight → IsAtRest sight.view → AreOthersEnded sight.view
+    → Closes F s.words sight.view × AreRefusalsServed sight.tally

@@ -1,0 +1,67 @@
+-- A move as straight code: what its hand has in view between its steps, and what is kept of it in plain values.
+use Rattle.std.specs.Prelude.{◌≡◌, ℕ, ◌<◌, Bool, true, false, if◌then◌else◌, List, [], Some, None, get_or}
+use Rattle.areanode.specs.Words.{has_bit}
+use Rattle.entity_recs.specs.Commands.{Command}
+use Rattle.core_steps.specs.Views.{Fixed, View, Point, Taking, PlayerRead, player_at, leaf_nodes, region_in, things_in}
+use Rattle.core_steps.specs.Steps.{rest_of, sensing}
+use Rattle.ruled_words.specs.Sights.{HeldWord, IsOneOf, Tally}
+use Rattle.ruled_words.specs.Passes.{PassView}
+
+-- the pass with this view, to which nothing was given, that isn't to give up and keeps no effect
+abbrev pub in_view : PassView → View → PassView
+in_view p view = record p { given = None; quits = false; effect = None; view = view }
+
+-- the same, with this tally
+abbrev pub in_view_with : PassView → View → Tally → PassView
+in_view_with p view tally = record (in_view p view) { tally = tally }
+
+-- what is listed in the first is listed in the second
+abbrev pub AreListedStill : List HeldWord → List HeldWord → Type 0
+AreListedStill old new = (h : HeldWord) → IsOneOf h old → IsOneOf h new
+
+-- no command was begun, and the refused takes that were listed are listed still
+pub record IsTriedOn (old new : Tally) : Type 0 where
+  pub begun : new.begun ≡ old.begun
+  pub listed : AreListedStill old.refused new.refused
+
+-- the words kept by slot are those that were loaded last, of the players whose bit is set in `seen`
+abbrev pub HasKept : ℕ → List (List ℕ) → List PlayerRead → Type 0
+HasKept seen six others =
+    (slot : ℕ) → slot < 64 → player_at others slot ≡ (if has_bit seen slot then Some (get_or six slot []) else None)
+
+-- leaves are to be taken
+abbrev pub is_taking_leaves : Point → Bool
+is_taking_leaves (Taking got rest) = true
+is_taking_leaves _ = false
+
+-- the view of a command whose own record was loaded so, and whose leaves are to be taken
+abbrev pub taking_leaves : Fixed → Command → List ℕ → View → View
+taking_leaves F c words view = record view {
+  cmd = c;
+  own = words;
+  wanted = leaf_nodes F (region_in F c words);
+  point = Taking [] (leaf_nodes F (region_in F c words));
+}
+
+-- the view at this point, where other takes may have been refused
+abbrev pub at_point : View → Point → View → View
+at_point view point tried = record view { point = point; refusals = tried.refusals; refused = tried.refused }
+
+-- the view after all nodes of the region were read, as this one has it
+abbrev pub nodes_read : Fixed → View → View → View
+nodes_read F view new = record view {
+  point = sensing (things_in F (region_in F view.cmd view.own));
+  lists = new.lists;
+  others = new.others;
+  refusals = new.refusals;
+  refused = new.refused;
+}
+
+-- the nodes that are taken, and those that come after the next one
+abbrev pub got_at : Point → List ℕ
+got_at (Taking got rest) = got
+got_at _ = []
+
+abbrev pub after_next : Point → List ℕ
+after_next (Taking got rest) = rest_of rest
+after_next _ = []

@@ -1,0 +1,22 @@
+//! The shared words of parallel moves under one rule, and the steps that a seat makes on them.
+#![tactic(auto)]
+
+pub use hand::Hand;
+pub use reading::index_of_word;
+pub use rule::laws::{
+    closed_table_is_its_run, ended_seats_keep_the_rule, looks_keep_the_rule,
+    made_seats_keep_the_rule, refused_takes_were_served, start_is_ruled, steps_keep_the_rule,
+};
+pub use shared_words::{SharedWords, TABLE_WORDS};
+pub use word_step::WordStep;
+
+mod end;
+mod hand;
+mod nodes;
+mod opening;
+mod reading;
+mod rule;
+mod shared_words;
+mod steps;
+mod word_step;
+mod writing;

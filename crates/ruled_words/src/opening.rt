@@ -1,0 +1,133 @@
+ghost use Rattle.std.specs.Prelude.{◌≡◌, ◌<◌, ◌≤◌, true, [], length, slice_index, All, IfOk};
+ghost use Rattle.world_tree.specs.Live.{live_in};
+ghost use Rattle.ruled_words.specs.Starts.{rules_of};
+ghost use Rattle.ruled_words.specs.Rule.{first_sight};
+ghost use Rattle.ruled_words.specs.Going.{IsAtRest};
+ghost use Rattle.ruled_words.specs.Passes.{sight_of};
+ghost use Rattle.ruled_words.specs.Sights.{with_one_made, sight_made};
+
+use crate::hand::Hand;
+use crate::rule::key::{Key, Place};
+use crate::shared_words::{SharedWords, WordTable};
+use arrayvec::ArrayVec;
+use atomic_table::Table;
+use core_seats::Rules;
+use entity_recs::{Action, Rec};
+use start::words_at_start;
+use std::alloc::{AllocError, Global};
+use std::snapshot::Snapshot;
+use world_tree::World;
+
+mod start;
+
+/// These rooms as a list of at most 16.
+fn rooms_of(room: &[u32]) -> ArrayVec<u32, 16>
+    requires { length room.now ≤ 16 }
+    ensures { result.items ≡ room.now }
+{
+    let mut rooms = ArrayVec::new();
+    // There are at most 16, so they fit.
+    let _ = rooms.try_extend_from_slice(room);
+    rooms
+}
+
+/// The first of these rooms.
+fn first_room(room: &[u32]) -> u32
+    requires { 0 < length room.now }
+    ensures { result ≡ slice_index room.now 0 }
+{
+    room[0]
+}
+
+/// The live records of the world, in rising id.
+fn live_records(alloc: Global, world: &World) -> Result<Vec<Rec>, AllocError>
+    ensures { IfOk result (λ v. v.items ≡ live_in world.now.records) }
+{
+    // To ask for the tree is to know that there are 256 places.
+    let _tree = world.tree();
+    let mut records = Vec::with_capacity(alloc, 256)?;
+    for id in 0..256u16 {
+        if let Some(r) = world.get(id) {
+            records.push(r)?;
+        }
+    }
+    Ok(records)
+}
+
+/// The rules of an action in the world at the start.
+fn rules_at_start<'a, A: Action>(
+    alloc: Global,
+    action: &'a A,
+    world: &World,
+) -> Result<Rules<'a, A>, AllocError>
+    requires taken { All (λ r. (A.meaning action.now).takes r ≡ true) (live_in world.now.records) }
+    ensures { IfOk result (λ r. r ≡ rules_of action.now world.now) }
+{
+    let records = live_records(alloc, world)?;
+    Rules::new(alloc, action, world.tree(), records.as_slice())
+}
+
+/// A table with the words of the world, under its rule, and the seat of pass 0.
+fn lay_table<A: Action>(
+    alloc: Global,
+    action: &A,
+    world: &World,
+    room: &[u32],
+) -> Result<(WordTable<A>, Place), AllocError>
+    requires rooms { (0 < length room.now) × (length room.now ≤ 16) }
+    requires taken { All (λ r. (A.meaning action.now).takes r ≡ true) (live_in world.now.records) }
+    ensures words { IfOk result (λ t. (t.0.shared.table_id.words ≡ 639) × (t.0.shared.table_id.slots ≡ 0)) }
+    ensures key { IfOk result (λ t. (t.0.shared.key.action.value ≡ action.now)
+        × (t.0.shared.key.world.value ≡ world.now) × (t.0.shared.key.rooms.items ≡ room.now)) }
+    ensures seat { IfOk result (λ t. (t.1.table_id ≡ t.0.shared.table_id)
+        × (t.1.me ≡ (first_sight (slice_index room.now 0), []))) }
+{
+    let words = words_at_start(alloc, world)?;
+    // To ask for the tree is to know that the world is linked, and for the first room that there is one: what the rule
+    // says of the words at the start stands on both.
+    let _tree = world.tree();
+    let _first = first_room(room);
+    let rooms = rooms_of(room);
+    let about = Key {
+        action: Snapshot::of(action),
+        world: Snapshot::of(world),
+        rooms,
+    };
+    Table::of_words(alloc, words.as_slice(), &about)
+}
+
+impl<'a, A: Action> SharedWords<'a, A> {
+    /// The words of `world`, which is only read, under their rule, and the hand of seat 0: there is a room for each seat,
+    /// and that of seat 0 is the first.
+    pub fn new(
+        alloc: Global,
+        action: &'a A,
+        world: &World,
+        room: &[u32],
+    ) -> Result<(SharedWords<'a, A>, Hand), AllocError>
+        requires rooms { (0 < length room.now) × (length room.now ≤ 16) }
+        requires taken { All (λ r. (A.meaning action.now).takes r ≡ true) (live_in world.now.records) }
+        ensures table { IfOk result (λ r. (r.0.action ≡ action.now) × (r.0.world ≡ world.now)
+            × (r.0.rooms ≡ room.now)) }
+        ensures first { IfOk result (λ r. (r.1.table ≡ r.0.table)
+            × (sight_of r.1 ≡ first_sight (slice_index room.now 0))) }
+    {
+        let rules = rules_at_start(alloc, action, world)?;
+        let (table, place) = lay_table(alloc, action, world, room)?;
+        Ok((SharedWords { rules, table }, Hand { place, number: 0 }))
+    }
+
+    /// The hand of the seat that is made next from seat 0, which rests, with this room.
+    pub fn make(&self, first: &mut Hand, number: u8, room: u32) -> Hand
+        requires table { first.old.table ≡ self.now.table }
+        requires rests { IsAtRest first.old.view }
+        requires first { first.old.number ≡ 0 }
+        requires number { number ≡ first.old.view.made }
+        requires more { first.old.view.made < length self.now.rooms }
+        ensures table { (first.new.table ≡ first.old.table) × (result.table ≡ first.old.table) }
+        ensures first { sight_of first.new ≡ with_one_made (sight_of first.old) }
+        ensures made { sight_of result ≡ sight_made room (sight_of first.old) }
+    {
+        first.make(&self.table.shared, number, room)
+    }
+}

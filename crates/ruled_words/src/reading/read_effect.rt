@@ -1,0 +1,78 @@
+ghost use Rattle.std.specs.Prelude.{◌≡◌, ◌<◌, ◌≤◌, [], length};
+ghost use Rattle.entity_recs.specs.Actions.{IsCall};
+ghost use Rattle.entity_recs.specs.Commands.{command_of};
+ghost use Rattle.core_steps.specs.Views.{Resolving, region_in, things_in, effect_loaded};
+ghost use Rattle.core_steps.specs.Steps.{sensing};
+ghost use Rattle.core_seats.specs.NearKept.{players_kept};
+ghost use Rattle.ruled_words.specs.Passes.{fixed_in, IsOwn};
+ghost use Rattle.ruled_words.specs.Hands.{keeping};
+ghost use Rattle.ruled_words.specs.Straight.{in_view, HasKept};
+
+use crate::hand::Hand;
+use crate::shared_words::SharedWords;
+use arena_geo::Region;
+use core_seats::read_record;
+use entity_recs::{Action, Cmd, Effect, Rec};
+use world_tree::NearList;
+
+impl<'a, A: Action> SharedWords<'a, A> {
+    /// Puts the records of the words kept of live players but this one that touch a region into an empty list, in rising
+    /// slot.
+    fn put_players(
+        &self,
+        seen: u64,
+        six: &[[u64; 6]; 64],
+        region: &Region,
+        slot: u8,
+        near: &mut NearList,
+    )
+        requires slot { slot < 64 }
+        requires empty { near.old ≡ [] }
+        ensures players { near.new ≡ players_kept (fixed_in A.meaning self.now) region.now slot seen six.now }
+        ensures few { length near.new ≤ 64 }
+    {
+        self.rules.put_players(seen, six, region, slot, near);
+    }
+
+    /// What a command of this player does among these records.
+    fn act(&self, me: &Rec, near: &[Rec], cmd: &Cmd) -> Effect
+        requires { IsCall (fixed_in A.meaning self.now).takes me.now near.now (command_of cmd.now) }
+        ensures { result ≡ (fixed_in A.meaning self.now).effect_of me.now near.now (command_of cmd.now) }
+    {
+        self.rules.act(me, near, cmd)
+    }
+
+    /// Loads the states of the things of the map that the region touches, once all lists are read, and gives the effect of
+    /// the command: what the action gives on what was loaded. `again` is the own record as it was loaded again, and `six`
+    /// the words of the players in `seen`. The near list is only room.
+    pub fn read_effect(
+        &self,
+        hand: &mut Hand,
+        near: &mut NearList,
+        cmd: &Cmd,
+        region: &Region,
+        again: &[u64; 6],
+        seen: u64,
+        six: &[[u64; 6]; 64],
+    ) -> Effect
+        requires own { IsOwn A.meaning self.now hand.old }
+        requires at { let F = fixed_in A.meaning self.now in
+            hand.old.view.point ≡ sensing (things_in F (region_in F hand.old.view.cmd hand.old.view.own)) }
+        requires region_is { region.now
+            ≡ region_in (fixed_in A.meaning self.now) hand.old.view.cmd hand.old.view.own }
+        requires cmd_is { command_of cmd.now ≡ hand.old.view.cmd }
+        requires again_is { again.now ≡ hand.old.view.again }
+        requires kept { HasKept seen six.now hand.old.view.others }
+        ensures own { IsOwn A.meaning self.now hand.new }
+        ensures view { hand.new ≡ in_view hand.old
+            (record hand.old.view { states = hand.new.view.states; point = Resolving }) }
+        ensures effect { result ≡ effect_loaded (fixed_in A.meaning self.now) hand.new.view }
+        ensures resolved { IsOwn A.meaning self.now (keeping hand.new result) }
+    {
+        self.ids_rise();
+        near.clear();
+        self.put_players(seen, six, region, cmd.slot, near);
+        self.load_states(hand, region, near);
+        self.act(&read_record(cmd.slot, again), near.as_slice(), cmd)
+    }
+}

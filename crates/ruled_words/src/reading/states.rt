@@ -1,0 +1,84 @@
+ghost use Rattle.std.specs.Prelude.{◌≡◌, ◌≤◌, ◌++◌, ◌∷◌, length};
+ghost use Rattle.std.specs.List.Sorted.{IsStrictlyIncreasing};
+ghost use Rattle.entity_recs.specs.Records.{with_state};
+ghost use Rattle.core_steps.specs.Views.{Sensing, Resolving, region_in, things_in};
+ghost use Rattle.core_steps.specs.Steps.{sensing, view_after_state};
+ghost use Rattle.core_seats.specs.NearKept.{AreThings, things_loaded};
+ghost use Rattle.core_seats.specs.ThingColumns.{MarksThings};
+ghost use Rattle.ruled_words.specs.Passes.{fixed_in, IsOwn};
+ghost use Rattle.ruled_words.specs.Straight.{in_view};
+ghost use Rattle.ruled_words.specs.Sensing.{after_thing};
+
+use crate::hand::Hand;
+use crate::shared_words::SharedWords;
+use crate::word_step::WordStep;
+use arena_geo::Region;
+use core_seats::is_thing_near;
+use core_steps::FIRST_STATE_WORD;
+use entity_recs::{Action, Rec};
+use world_tree::NearList;
+
+impl<'a, A: Action> SharedWords<'a, A> {
+    /// The ids of the start rise.
+    pub(crate) fn ids_rise(&self)
+        ensures { IsStrictlyIncreasing (fixed_in A.meaning self.now).start.ids }
+    {
+        self.rules.is_ruled();
+    }
+
+    /// The things of the map at the start, in rising id.
+    fn map_things(&self) -> &[Rec]
+        ensures { AreThings (fixed_in A.meaning self.now) result.now }
+    {
+        self.rules.map_things()
+    }
+
+    /// Bits of the things of the map that touch a region, each by its id modulo 64; those of others may be among them.
+    fn thing_bits(&self, region: &Region) -> u64
+        ensures { MarksThings (fixed_in A.meaning self.now) region.now result }
+    {
+        self.rules.thing_bits(region)
+    }
+
+    /// Loads the state of the thing, which comes next, and gives the thing with that state.
+    fn load_thing(&self, hand: &mut Hand, r: &Rec) -> Rec
+        requires own { IsOwn A.meaning self.now hand.old }
+        requires at { hand.old.view.point ≡ Sensing (r.now.id ∷ after_thing hand.old.view.point) }
+        ensures own { IsOwn A.meaning self.now hand.new }
+        ensures view { hand.new ≡ in_view hand.old
+            (view_after_state r.now.id result.state (after_thing hand.old.view.point) hand.old.view) }
+        ensures thing { result ≡ with_state r.now result.state }
+    {
+        hand.is_plain();
+        let word = usize::from(FIRST_STATE_WORD) + usize::from(r.id);
+        let state = self.step_hand(hand, word, WordStep::Load);
+        Rec { state, ..*r }
+    }
+
+    /// Loads the states of the things of the map that the region touches, once all lists are read, and puts the things
+    /// with their states after the players that are near.
+    pub(crate) fn load_states(&self, hand: &mut Hand, region: &Region, near: &mut NearList)
+        requires own { IsOwn A.meaning self.now hand.old }
+        requires at { let F = fixed_in A.meaning self.now in
+            hand.old.view.point ≡ sensing (things_in F (region_in F hand.old.view.cmd hand.old.view.own)) }
+        requires region_is { region.now
+            ≡ region_in (fixed_in A.meaning self.now) hand.old.view.cmd hand.old.view.own }
+        requires room { length near.old ≤ 64 }
+        ensures own { IsOwn A.meaning self.now hand.new }
+        ensures view { hand.new ≡ in_view hand.old
+            (record hand.old.view { states = hand.new.view.states; point = Resolving }) }
+        ensures near { near.new ≡ near.old ++ things_loaded (fixed_in A.meaning self.now) region.now
+            hand.new.view.states }
+    {
+        hand.is_plain();
+        self.ids_rise();
+        let bits = self.thing_bits(region);
+        let things = self.map_things();
+        for r in things {
+            if is_thing_near(bits, r, region) {
+                // The list has room for all players and all things.
+                let _ = near.push(self.load_thing(hand, r));
+            }
+        }
+    }
+}

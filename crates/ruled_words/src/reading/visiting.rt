@@ -1,0 +1,199 @@
+ghost use Rattle.std.specs.Prelude.{◌≡◌, ◌<◌, ◌%◌, ◌^◌, ℕ, [], bit_or};
+ghost use Rattle.areanode.specs.Trees.{leaves_of, visited_of};
+ghost use Rattle.core_steps.specs.Steps.{visiting};
+ghost use Rattle.core_steps.specs.Views.{Entering, Entered, Leaving, inner_visited, plan_of, region_in};
+ghost use Rattle.core_seats.specs.Refusals.{AreRefusals};
+ghost use Rattle.ruled_words.specs.Passes.{fixed_in, IsOwn};
+ghost use Rattle.ruled_words.specs.Straight.{HasKept, IsTriedOn, in_view, in_view_with, nodes_read};
+ghost use Rattle.ruled_words.specs.Visits.{plan_left, read_until, under_until, visited_until};
+
+use crate::hand::Hand;
+use crate::shared_words::SharedWords;
+use crate::word_step::WordStep;
+use core_seats::{NodeQueue, Refusals, lowest_bit, without_bit};
+use core_steps::list_word;
+use entity_recs::Action;
+use std::sync::Wait;
+
+/// The words of the players' records, by slot.
+pub(crate) type SixBySlot = [[u64; 6]; 64];
+
+impl<'a, A: Action> SharedWords<'a, A> {
+    /// Loads the list word of the entered node, and the words of each player under it but the own one, which are kept by
+    /// slot. Gives the list word without the own bit.
+    pub(crate) fn read_under(&self, hand: &mut Hand, node: u8, slot: u8, six: &mut SixBySlot) -> u64
+        requires own { IsOwn A.meaning self.now hand.old }
+        requires at { hand.old.view.point ≡ Entered node (plan_left hand.old.view.point) }
+        requires slot { slot ≡ hand.old.view.cmd.slot }
+        ensures own { IsOwn A.meaning self.now hand.new }
+        ensures view { hand.new ≡ under_until (fixed_in A.meaning self.now) hand.old node [] hand.new }
+        ensures kept { (seen : ℕ) → HasKept seen six.old hand.old.view.others
+            → HasKept (bit_or seen result) six.new hand.new.view.others }
+    {
+        hand.is_plain();
+        let list = self.step_hand(hand, usize::from(list_word(node)), WordStep::Load);
+        let players = without_bit(list, slot);
+        let mut rest = players;
+        while rest != 0 {
+            let other = lowest_bit(rest);
+            rest = without_bit(rest, other);
+            six[usize::from(other)] = self.load_six(hand, other);
+        }
+        players
+    }
+
+    /// Reads the leaves of the region, in rising number, which are visited next: the words of their players are kept by
+    /// slot. Gives the bits of these players.
+    pub(crate) fn read_leaves(
+        &self,
+        hand: &mut Hand,
+        leaves: u16,
+        slot: u8,
+        six: &mut SixBySlot,
+    ) -> u64
+        requires own { IsOwn A.meaning self.now hand.old }
+        requires at { let F = fixed_in A.meaning self.now in let v = hand.old.view in
+            v.point ≡ visiting F v (plan_of F (region_in F v.cmd v.own)) }
+        requires leaves { let F = fixed_in A.meaning self.now in let v = hand.old.view in
+            leaves ≡ leaves_of F.tree (region_in F v.cmd v.own) }
+        requires slot { slot ≡ hand.old.view.cmd.slot }
+        ensures own { IsOwn A.meaning self.now hand.new }
+        ensures view { let F = fixed_in A.meaning self.now in let v = hand.old.view in
+            hand.new ≡ read_until hand.old (visiting F v (inner_visited F (region_in F v.cmd v.own))) hand.new }
+        ensures kept { (seen : ℕ) → HasKept seen six.old hand.old.view.others
+            → HasKept (bit_or seen result) six.new hand.new.view.others }
+    {
+        hand.is_plain();
+        let mut seen = 0;
+        let mut rest = u64::from(leaves);
+        while rest != 0 {
+            let leaf = lowest_bit(rest);
+            rest = without_bit(rest, leaf);
+            seen |= self.read_under(hand, 15 + leaf, slot, six);
+        }
+        seen
+    }
+
+    /// Gives back the inner node, of which all is read.
+    fn leave(&self, hand: &mut Hand, node: u8)
+        requires own { IsOwn A.meaning self.now hand.old }
+        requires at { hand.old.view.point ≡ Leaving node (plan_left hand.old.view.point) }
+        ensures own { IsOwn A.meaning self.now hand.new }
+        ensures view { let v = hand.old.view in hand.new ≡ in_view hand.old
+            (record v { point = visiting (fixed_in A.meaning self.now) v (plan_left v.point) }) }
+    {
+        hand.is_plain();
+        self.give_on(hand, node);
+    }
+
+    /// Takes the inner node, which is visited next, reads it, and gives it back. Gives the bits of its players.
+    pub(crate) fn visit_inner<R: Wait>(
+        &self,
+        rt: &R,
+        hand: &mut Hand,
+        refusals: &mut Refusals,
+        own: &[u64; 6],
+        wanted: &NodeQueue,
+        node: u8,
+        slot: u8,
+        six: &mut SixBySlot,
+    ) -> u64
+        requires own { IsOwn A.meaning self.now hand.old }
+        requires at { hand.old.view.point ≡ Entering node (plan_left hand.old.view.point) }
+        requires inner { node < 15 }
+        requires own_is { own.now ≡ hand.old.view.own }
+        requires wanted_is { wanted.now.items ≡ hand.old.view.wanted }
+        requires slot { slot ≡ hand.old.view.cmd.slot }
+        ensures own { IsOwn A.meaning self.now hand.new }
+        ensures view { hand.new ≡ visited_until hand.old
+            (visiting (fixed_in A.meaning self.now) hand.old.view (plan_left hand.old.view.point)) hand.new }
+        ensures tried { IsTriedOn hand.old.tally hand.new.tally }
+        ensures refusals { AreRefusals refusals.old hand.old.view → AreRefusals refusals.new hand.new.view }
+        ensures kept { (seen : ℕ) → HasKept seen six.old hand.old.view.others
+            → HasKept (bit_or seen result) six.new hand.new.view.others }
+    {
+        hand.is_plain();
+        // The word of an inner node that is held to read names the pass alone.
+        let new = u64::from(hand.number) + 1;
+        self.take_node(rt, hand, refusals, own, wanted, node, new);
+        let players = self.read_under(hand, node, slot, six);
+        self.leave(hand, node);
+        players
+    }
+
+    /// Visits the inner nodes over the leaves of the region, in rising number: the words of their players are kept by
+    /// slot. Gives the bits of these players.
+    pub(crate) fn read_inner<R: Wait>(
+        &self,
+        rt: &R,
+        hand: &mut Hand,
+        refusals: &mut Refusals,
+        own: &[u64; 6],
+        wanted: &NodeQueue,
+        inner: u16,
+        slot: u8,
+        six: &mut SixBySlot,
+    ) -> u64
+        requires own { IsOwn A.meaning self.now hand.old }
+        requires at { let F = fixed_in A.meaning self.now in let v = hand.old.view in
+            v.point ≡ visiting F v (inner_visited F (region_in F v.cmd v.own)) }
+        requires inner { let F = fixed_in A.meaning self.now in let v = hand.old.view in
+            inner ≡ visited_of 4 (leaves_of F.tree (region_in F v.cmd v.own)) % 2 ^ 15 }
+        requires own_is { own.now ≡ hand.old.view.own }
+        requires wanted_is { wanted.now.items ≡ hand.old.view.wanted }
+        requires slot { slot ≡ hand.old.view.cmd.slot }
+        ensures own { IsOwn A.meaning self.now hand.new }
+        ensures view { hand.new ≡ visited_until hand.old
+            (visiting (fixed_in A.meaning self.now) hand.old.view []) hand.new }
+        ensures tried { IsTriedOn hand.old.tally hand.new.tally }
+        ensures refusals { AreRefusals refusals.old hand.old.view → AreRefusals refusals.new hand.new.view }
+        ensures kept { (seen : ℕ) → HasKept seen six.old hand.old.view.others
+            → HasKept (bit_or seen result) six.new hand.new.view.others }
+    {
+        hand.is_plain();
+        let mut seen = 0;
+        let mut rest = u64::from(inner);
+        while rest != 0 {
+            let node = lowest_bit(rest);
+            rest = without_bit(rest, node);
+            seen |= self.visit_inner(rt, hand, refusals, own, wanted, node, slot, six);
+        }
+        seen
+    }
+
+    /// Reads the nodes of the region, which are visited next: its leaves, which are held, and then the inner nodes over
+    /// them. The words of the players are kept by slot. Gives the bits of these players.
+    pub fn read_nodes<R: Wait>(
+        &self,
+        rt: &R,
+        hand: &mut Hand,
+        refusals: &mut Refusals,
+        own: &[u64; 6],
+        wanted: &NodeQueue,
+        leaves: u16,
+        inner: u16,
+        slot: u8,
+        six: &mut SixBySlot,
+    ) -> u64
+        requires own { IsOwn A.meaning self.now hand.old }
+        requires at { let F = fixed_in A.meaning self.now in let v = hand.old.view in
+            v.point ≡ visiting F v (plan_of F (region_in F v.cmd v.own)) }
+        requires others { hand.old.view.others ≡ [] }
+        requires leaves { let F = fixed_in A.meaning self.now in let v = hand.old.view in
+            leaves ≡ leaves_of F.tree (region_in F v.cmd v.own) }
+        requires inner { inner ≡ visited_of 4 leaves % 2 ^ 15 }
+        requires own_is { own.now ≡ hand.old.view.own }
+        requires wanted_is { wanted.now.items ≡ hand.old.view.wanted }
+        requires slot { slot ≡ hand.old.view.cmd.slot }
+        ensures own { IsOwn A.meaning self.now hand.new }
+        ensures view { hand.new ≡ in_view_with hand.old
+            (nodes_read (fixed_in A.meaning self.now) hand.old.view hand.new.view) hand.new.tally }
+        ensures tried { IsTriedOn hand.old.tally hand.new.tally }
+        ensures refusals { AreRefusals refusals.old hand.old.view → AreRefusals refusals.new hand.new.view }
+        ensures kept { HasKept result six.new hand.new.view.others }
+    {
+        let outer = self.read_leaves(hand, leaves, slot, six);
+        let over = self.read_inner(rt, hand, refusals, own, wanted, inner, slot, six);
+        outer | over
+    }
+}
