@@ -54,7 +54,7 @@ fn has_its_depth(tree: &Tree)
 }
 
 impl<'a, A: Action> Rules<'a, A> {
-    ghost use Rattle.std.specs.Prelude.{◌≡◌, ◌<◌, ◌≤◌, ◌+◌, ◌*◌, ◌^◌, List, [], suc, map, length, All, OnOk, IfOk};
+    ghost use Rattle.std.specs.Prelude.{◌≡◌, ◌<◌, ◌≤◌, ◌+◌, ◌*◌, ◌%◌, ◌^◌, List, [], suc, map, length, All, OnOk, IfOk};
     ghost use Rattle.std.specs.Prelude.{if◌then◌else◌};
     ghost use Rattle.entity_recs.specs.Actions.{HasPlayer, IsCall};
     ghost use Rattle.entity_recs.specs.Records.{IsRecord};
@@ -63,7 +63,7 @@ impl<'a, A: Action> Rules<'a, A> {
     ghost use Rattle.core_steps.specs.Views.{things_in, home, record_read, near_loaded, leaf_word};
     ghost use Rattle.core_steps.specs.Stands.{IsLawful, IsStart};
     ghost use Rattle.core_seats.specs.Seats.{player_read_of};
-    ghost use Rattle.areanode.specs.Trees.{leaves_of};
+    ghost use Rattle.areanode.specs.Trees.{leaves_of, visited_of};
     ghost use Rattle.core_steps.specs.declared.sizes.TheConstants.{TABLE_LEAVES};
     ghost use Rattle.arena_geo.specs.Bounds.{Bounds};
     ghost use Rattle.core_seats.specs.Starts.{record_at};
@@ -139,11 +139,13 @@ impl<'a, A: Action> Rules<'a, A> {
         leaf_nodes(u64::from(self.tree.leaves_of(region)))
     }
 
-    /// The leaves of a region, bit i for leaf i.
-    pub fn leaf_bits(&self, region: &Region) -> u32
-        ensures { result ≡ leaves_of self.now.tree region.now }
+    /// The leaves of a region, bit i for leaf i, and the inner nodes that are visited for them, bit i for node i.
+    pub fn node_bits(&self, region: &Region) -> (u32, u32)
+        ensures leaves { result.0 ≡ leaves_of self.now.tree region.now }
+        ensures inner { result.1 ≡ visited_of DEPTH result.0 % 2 ^ FIRST_LEAF }
     {
-        u32::from(self.tree.leaves_of(region))
+        let leaves = self.tree.leaves_of(region);
+        (u32::from(leaves), visited(leaves) % (1 << FIRST_LEAF))
     }
 
     /// The nodes of a region's leaves, rising, where these are its leaves, bit i for leaf i.

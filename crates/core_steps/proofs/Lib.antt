@@ -5,6 +5,7 @@ pub mod Unyielding
 pub mod Resting
 pub mod TreeNodes
 pub mod Starts
+pub mod StartWords
 pub mod Seats
 pub mod Points
 pub mod Drops
