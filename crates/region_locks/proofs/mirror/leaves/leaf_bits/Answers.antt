@@ -23,7 +23,7 @@ loop-leaf-preserved c =
 pub overflow_cast-result : goal.overflow_cast-result
 overflow_cast-result c =
     let test : ℕ → Bool = λ leaf. has c.args.nodes.now (FIRST_LEAF + leaf) in
-    let all : c.loop-leaf.leaf ≡ 16 = omega (arith, c.loop-leaf.auto.leaf-end, c.loop-leaf-test.false) in
+    let all : c.loop-leaf.leaf ≡ LEAVES = omega (arith, c.loop-leaf.auto.leaf-end, c.loop-leaf-test.false) in
     let word : c.loop-leaf.word ≡ word_of LEAVES test = c.loop-leaf.invariant ∙ ap (λ (k : ℕ). word_of k test) all in
-    let small : c.loop-leaf.word < 2 ^ LEAVES = subst (λ (n : ℕ). n < 2 ^ 16) (sym word) (word_of-below LEAVES test) in
+    let small : c.loop-leaf.word < 2 ^ LEAVES = subst (λ (n : ℕ). n < 2 ^ LEAVES) (sym word) (word_of-below LEAVES test) in
     search rules
