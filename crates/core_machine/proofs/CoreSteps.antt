@@ -1,5 +1,5 @@
 -- A core after a step.
-use Rattle.std.proofs.Common.{◌≡◌, ℕ, ◌+◌, ◌*◌, ◌^◌, ◌<◌, ◌⊎◌, Bool, true, false, if◌then◌else◌, List, ◌++◌, length, set, get_or, refl, sym, ap, ◌∙◌, subst, inl, inr, Some, arith}
+use Rattle.std.proofs.Common.{◌≡◌, ℕ, ◌+◌, ◌^◌, ◌<◌, ◌⊎◌, Bool, true, false, if◌then◌else◌, List, ◌++◌, length, set, get_or, refl, sym, ap, ◌∙◌, subst, inl, inr, Some, arith}
 use Rattle.std.specs.Prelude.{◌==◌, ◌↔◌, IsTrue}
 use Rattle.std.specs.Option.{option_map}
 use Rattle.std.proofs.lemmas.List.{set-get_or}
@@ -8,8 +8,10 @@ use Rattle.entity_recs.specs.Worlds.{World}
 use Rattle.entity_recs.specs.Histories.{Item}
 use Rattle.core_steps.specs.declared.step.Step.{Step}
 use Rattle.core_steps.specs.declared.step.StepKind.TheVariants.{Take, Commit}
+use Rattle.areanode.specs.declared.sizes.TheConstants.{DEPTH}
+use Rattle.core_steps.specs.declared.sizes.TheConstants.{TABLE_NODES}
 use Rattle.core_steps.specs.Cells as cells
-use Rattle.core_steps.specs.Views.{Fixed, Store, Clear, Put, Link, View, nodes_of}
+use Rattle.core_steps.specs.Views.{Fixed, Store, Clear, Put, Link, View}
 use Rattle.core_steps.specs.Steps.{refuse_node, is_taking}
 use Rattle.core_steps.specs.Stands.{IsLawful, IsStart, start_words}
 use Rattle.core_steps.specs.Machine.{Machine, Next, Begin, LoadOwn, LoadAgain, TakeNode, ClaimNode, ReadList, ReadPlayer, ReadState, CommitMove, StoreWord, GiveNode, YieldNode, YieldCount, kind_of_store, next_of, next_step_of, step_of, kind_of, index_of, word_of_next, machine_after, items_after, MachineStands}
@@ -26,7 +28,7 @@ use Rattle.core_machine.specs.Cores.{SeatView, CoreView, HasRooms, IsCore, IsFre
 use Rattle.core_machine.specs.WordsLeft.{IsNodeWord}
 use Rattle.core_machine.specs.Stepping.{seat_next, is_done, IsOnWord, MayStep, IsStepped, IsOther, IsMade}
 use Rattle.core_seats.proofs.Changing.{view_here}
-use Rattle.core_seats.proofs.Sounding.{sound_here}
+use Rattle.core_seats.proofs.Sounding.{fits_table, sound_here}
 use Rattle.core_machine.proofs.SeatRooms.{rooms_after, count_is_small}
 use Rattle.core_machine.proofs.StepsMade.{one_comes}
 use Rattle.core_machine.proofs.WordsAfter.{words_after}
@@ -60,11 +62,11 @@ store_takes (Clear node) e = cc
 store_takes (Put cell x) e = cc
 store_takes (Link node) e = cc
 
-node_word : (node : ℕ) → node < 31 → IsNodeWord (1 + node)
+node_word : (node : ℕ) → node < TABLE_NODES → IsNodeWord (1 + node)
 node_word node below = record { first = omega arith; last = omega (arith, below) }
 
 -- a take is of a node's word
-take_word : (view : View) (next : Next) → NextIsIn 31 view next → kind_of next ≡ Take → IsNodeWord (index_of 31 view next)
+take_word : (view : View) (next : Next) → NextIsIn view next → kind_of next ≡ Take → IsNodeWord (index_of view next)
 take_word view (Begin c) is e = cc
 take_word view LoadOwn is e = cc
 take_word view LoadAgain is e = cc
@@ -79,22 +81,17 @@ take_word view (GiveNode n) is e = cc
 take_word view (YieldNode n) is e = cc
 take_word view YieldCount is e = cc
 
-at_31 : (P : ℕ → Type 0) (d : ℕ) → d ≡ 31 → P d → P 31
-at_31 P d is p = subst P is p
-
-module _ (F : Fixed) (m : Machine) (history : List Item) (now : World) (n : ℕ) (lawful : IsLawful F) (start : IsStart F) (depth : F.tree.depth ≡ 4) (is : MachineStands F m history now) (rooms : HasRooms m.core.view) where
-  nodes : nodes_of F ≡ 31
-  nodes = rw depth refl
-
+module _ (F : Fixed) (m : Machine) (history : List Item) (now : World) (n : ℕ) (lawful : IsLawful F) (start : IsStart F) (depth : F.tree.depth ≡ DEPTH) (is : MachineStands F m history now) (rooms : HasRooms m.core.view) where
   on_word : (next : Next) → next_of F m n ≡ Some next → IsOnWord F m.core.words (m.core.view n) next
   on_word next comes =
-      let word = steps_have_their_word F m history now n next lawful start comes is in
-      let inside = next_is_in F m history now n next lawful start comes is in
+      let fits = fits_table F depth in
+      let word = steps_have_their_word F m history now n next lawful start fits comes is in
+      let inside = next_is_in F m history now n next lawful start fits comes is in
       let after = sound_here F (machine_after F m n next) _ _ n lawful start (next_step_stands F m history now n next lawful start comes is) depth in
       record {
-        in_table = at_31 (λ (d : ℕ). index_of d (m.core.view n) next < 577 + 2 * d) (nodes_of F) nodes word.in_table;
-        node = take_word (m.core.view n) next (at_31 (λ (d : ℕ). NextIsIn d (m.core.view n) next) (nodes_of F) nodes inside);
-        found = at_31 (λ (d : ℕ). cells.word_at d m.core.words (index_of d (m.core.view n) next) ≡ word_of_next m.core.words (m.core.view n) next) (nodes_of F) nodes word.before;
+        in_table = word.in_table;
+        node = take_word (m.core.view n) next inside;
+        found = word.before;
         after = subst (IsSound F) (view_here F m.core n next) after;
         count = λ commits. subst (λ (w : ℕ). w + 1 < 2 ^ 64) (sym (commit_word m.core.words (m.core.view n) next commits)) (count_is_small F m.core history now is.core rooms);
       }
@@ -123,7 +120,7 @@ core_kept F rules words after seats i s old new answer here other =
 pub record IsCoreStep {A : Type 0} (F : Fixed) (old new : CoreView A) (s : Step) (answer : Bool) : Type 0 where
   pub next : Next
   pub comes : next_of F (machine_of F old) s.seat ≡ Some next
-  pub same : step_of F s.seat ((machine_of F old).core.view s.seat) next ≡ s
+  pub same : step_of s.seat ((machine_of F old).core.view s.seat) next ≡ s
   pub after : machine_of F new ≡ machine_after F (machine_of F old) s.seat next
   pub done : answer ≡ is_done (kind_of next) (word_of_next (machine_of F old).core.words ((machine_of F old).core.view s.seat) next)
 
@@ -136,8 +133,7 @@ module _ {A : Type 0} (F : Fixed) (rules : RulesView A) (words after : Words) (s
   stepped_at n number = subst (λ (k : ℕ). (next : Next) → next_of F m k ≡ Some next → IsStepped F k m.core.words (words_in after (start_words F)) (m.core.view k) (seat_of new) next answer
       → machine_of F (core_view rules after (set seats i new)) ≡ machine_after F m k next) number
       (λ next comes stepped.
-      let inside = at_31 (λ (d : ℕ). NextIsIn d (m.core.view i) next) (nodes_of F) (rw core.ruled.depth refl)
-      (next_is_in F m core.stands.history core.stands.now i next core.lawful core.ruled.start comes core.stands.stands) in
+      let inside = next_is_in F m core.stands.history core.stands.now i next core.lawful core.ruled.start (fits_table F core.ruled.depth) comes core.stands.stands in
       stepped_machine F rules words after seats i new next below (stepped.words ∙ sym (words_after F m.core i next inside)) stepped.view stepped.given stepped.quits)
 
   pub core_step : i ≡ s.seat → IsMade F s (words_in words (start_words F)) (words_in after (start_words F)) (seat_of old) (seat_of new) answer
@@ -149,7 +145,7 @@ module _ {A : Type 0} (F : Fixed) (rules : RulesView A) (words after : Words) (s
       record {
         next = made.next;
         comes = comes;
-        same = subst (λ (x : SeatView). step_of F s.seat x.view made.next ≡ s) seat made.same;
+        same = subst (λ (x : SeatView). step_of s.seat x.view made.next ≡ s) seat made.same;
         after = stepped_at s.seat number made.next comes stepped;
         done = stepped.done;
       }
@@ -175,7 +171,7 @@ core_stepped F old new s answer core step =
 pub step_is_next : {A : Type 0} (F : Fixed) (old new : CoreView A) (s : Step) (answer : Bool) → IsCoreStep F old new s answer → next_step_of F (machine_of F old) s.seat ≡ Some s
 step_is_next F old new s answer step =
     let m = machine_of F old in
-    ap (option_map (step_of F s.seat (m.core.view s.seat))) step.comes ∙ ap Some step.same
+    ap (option_map (step_of s.seat (m.core.view s.seat))) step.comes ∙ ap Some step.same
 
 -- it is done where it doesn't wait
 pub step_done : {A : Type 0} (F : Fixed) (old new : CoreView A) (s : Step) (answer : Bool) → IsCore F old → IsCoreStep F old new s answer → IsTrue answer ↔ IsFree F (machine_of F old) s
@@ -235,7 +231,7 @@ pub outcome : {A : Type 0} (F : Fixed) (rules : RulesView A) (words after : Word
 outcome F rules words after seats i s old new answer number below here core made = elim made [
   | inl other ↦ inl (record {
     other = λ next. other.other
-        (subst (λ (x : SeatView). option_map (step_of F s.seat x.view) (seat_next F x) ≡ Some s) (seat_numbered seats i s.seat old number below here) next);
+        (subst (λ (x : SeatView). option_map (step_of s.seat x.view) (seat_next F x) ≡ Some s) (seat_numbered seats i s.seat old number below here) next);
     same = core_kept F rules words after seats i s old new answer here other;
     done = other.done;
   })

@@ -13,6 +13,7 @@ use Rattle.entity_recs.specs.Histories.{Item}
 use Rattle.core_steps.specs.Cells as cells
 use Rattle.core_steps.specs.Cells.{put}
 use Rattle.core_steps.specs.Views.{Fixed, Point, Resolving, View, effect_loaded}
+use Rattle.areanode.specs.declared.sizes.TheConstants.{DEPTH}
 use Rattle.core_steps.specs.Steps.{Core, first_yield, is_taking}
 use Rattle.core_steps.specs.Stands.{IsLawful, IsStart, start_words}
 use Rattle.core_steps.specs.Machine.{Machine, Next, next_of, next_step_of, step_of, quitting, core_after, machine_after, word_of_next, MachineStands}
@@ -152,7 +153,7 @@ due_is F view point e at is =
     cc
 
 -- each seat of a machine that stands may make its next step
-pub ready_here : (F : Fixed) (m : Machine) (history : List Item) (now : World) (i : ℕ) → IsLawful F → IsStart F → F.tree.depth ≡ 4 → MachineStands F m history now
+pub ready_here : (F : Fixed) (m : Machine) (history : List Item) (now : World) (i : ℕ) → IsLawful F → IsStart F → F.tree.depth ≡ DEPTH → MachineStands F m history now
     → IsReady F (m.core.view i) (m.given i) (m.quits i) (effect_due F (m.core.view i))
 ready_here F m history now i lawful start depth is = record {
   sound = sound_here F m history now i lawful start is depth;
@@ -214,15 +215,15 @@ seat_ready F rules words seats i n s number below is core =
 -- the next step of a seat of a core, where this effect is due
 pub seat_step : {A : Type 0} (F : Fixed) (rules : RulesView A) (words : Words) (seats : List Seat) (i n : ℕ) (s : Seat) (effect : Option Effect) → i ≡ n → i < length seats → s ≡ get_or seats i s
     → effect ≡ effect_due F (view_of s)
-    → option_map (step_of F n (view_of s)) (next_with F (view_of s) (given_of s) s.quits effect) ≡ next_step_of F (machine_of F (core_view rules words seats)) n
+    → option_map (step_of n (view_of s)) (next_with F (view_of s) (given_of s) s.quits effect) ≡ next_step_of F (machine_of F (core_view rules words seats)) n
 seat_step F rules words seats i n s effect number below is due =
     let m = machine_of F (core_view rules words seats) in
-    ap (λ (e : Option Effect). option_map (step_of F n (view_of s)) (next_with F (view_of s) (given_of s) s.quits e)) due
-    ∙ subst (λ (x : SeatView). option_map (step_of F n x.view) (next_with F x.view x.given x.quits (effect_due F x.view)) ≡ next_step_of F m n) (seat_numbered seats i n s number below is)
-    (ap (option_map (step_of F n (m.core.view n))) (next_due F m n))
+    ap (λ (e : Option Effect). option_map (step_of n (view_of s)) (next_with F (view_of s) (given_of s) s.quits e)) due
+    ∙ subst (λ (x : SeatView). option_map (step_of n x.view) (next_with F x.view x.given x.quits (effect_due F x.view)) ≡ next_step_of F m n) (seat_numbered seats i n s number below is)
+    (ap (option_map (step_of n (m.core.view n))) (next_due F m n))
 
 -- a seat has a next step where it has a command in hand
 pub step_exists : {A : Type 0} (F : Fixed) (c : CoreView A) (n : ℕ) → IsCore F c → is_some (next_step_of F (machine_of F c) n) ≡ has_command (machine_of F c) n
 step_exists F c n core =
     let m = machine_of F c in
-    some_mapped (step_of F n (m.core.view n)) (next_of F m n) ∙ next_exists F m core.stands.history core.stands.now n core.stands.stands
+    some_mapped (step_of n (m.core.view n)) (next_of F m n) ∙ next_exists F m core.stands.history core.stands.now n core.stands.stands

@@ -1,5 +1,6 @@
 -- A machine at its start, to whose seats commands are given one after another.
 use Rattle.std.proofs.Common.{◌≡◌, ℕ, zero, suc, ◌+◌, ◌<◌, ◌≤◌, true, List, [], ◌∷◌, length, map, get_or, refl, sym, ap, ◌∙◌, subst, inl, inr, Some, None, arith}
+use Rattle.core_steps.specs.declared.sizes.TheConstants.{MOST_SEATS}
 use Rattle.std.specs.Prelude.{◌==◌}
 use Rattle.std.proofs.lemmas.Int.{ints}
 use Rattle.std.proofs.lemmas.Bool.{cases_Bool, false≢true, cond-true, cond-false, eqb-true, eqb-false, ne_eqb}
@@ -41,7 +42,7 @@ some_is : (c d : Command) → Some c ≡ Some d → c ≡ d
 some_is c d e = cc
 
 -- the next seat may be given a command
-pub may_give : (F : Fixed) (m : Machine) (i n : ℕ) → i < n → n ≤ 16 → has F.start.ids i ≡ true → IsFilled m i n → MayBeGiven F m i (plain_command i)
+pub may_give : (F : Fixed) (m : Machine) (i n : ℕ) → i < n → n ≤ MOST_SEATS → has F.start.ids i ≡ true → IsFilled m i n → MayBeGiven F m i (plain_command i)
 may_give F m i n below few live is = record {
   pending = record {
     lives = is.lives i below;

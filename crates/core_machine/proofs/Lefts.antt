@@ -3,11 +3,11 @@ use Rattle.std.proofs.Common.{◌≡◌, ℕ, ◌+◌, ◌-◌, ◌*◌, ◌==�
 use Rattle.std.proofs.lemmas.Bool.{false≢true}
 use Rattle.entity_recs.specs.declared.effect.Effect.{Effect}
 use Rattle.entity_recs.specs.Commands.{Command}
-use Rattle.core_steps.specs.declared.step.StepKind.{StepKind}
+use Rattle.core_steps.specs.declared.sizes.TheConstants.{NODE_HOLDERS}
 use Rattle.core_steps.specs.declared.step.StepKind.TheVariants.{Take}
 use Rattle.core_steps.specs.Views.{Fixed, View, Store, Clear, Put, Link, Point, Idle, Owning, Taking, Checking, Entering, Entered, Loading, Leaving, Sensing, Resolving, Claiming, Storing, Releasing, Returning, Yielding, stage_of, is_whole, is_writing, is_leaf, leaf_word, record_read, write_nodes, stores_owed}
 use Rattle.core_steps.specs.Steps.{point_after_take, taking, next_give, first_yield}
-use Rattle.core_steps.specs.Machine.{Next, Begin, LoadOwn, LoadAgain, TakeNode, ClaimNode, ReadList, ReadPlayer, ReadState, CommitMove, StoreWord, GiveNode, YieldNode, YieldCount, beginning, committing, giving, quitting, resolving, kind_of, kind_of_store, index_of}
+use Rattle.core_steps.specs.Machine.{Next, Begin, LoadOwn, LoadAgain, TakeNode, ClaimNode, ReadList, ReadPlayer, ReadState, CommitMove, StoreWord, GiveNode, beginning, committing, giving, quitting, resolving, kind_of, index_of}
 use Rattle.core_seats.specs.Going.{word_left}
 use Rattle.core_seats.specs.Nexts.{next_point, next_with, the_next}
 use Rattle.core_machine.specs.WordsLeft.{takes_to_write, first_stored, word_by_kind}
@@ -26,7 +26,7 @@ some_next (Some next) some = refl
 
 -- the word that a step leaves follows from its kind, and a take comes where leaves are wanted
 pub record IsLeftByKind (F : Fixed) (i : ℕ) (view : View) (found : ℕ) (next : Next) : Type 0 where
-  pub word : word_left F i view next found ≡ word_by_kind F i view (kind_of next) (index_of 31 view next) found
+  pub word : word_left F i view next found ≡ word_by_kind F i view (kind_of next) (index_of view next) found
   pub whole : kind_of next ≡ Take → is_whole (stage_of view.point) ≡ true
 
 module _ (F : Fixed) (i : ℕ) (view : View) (given : Option Command) (effect : Option Effect) (found : ℕ) where
@@ -39,7 +39,7 @@ module _ (F : Fixed) (i : ℕ) (view : View) (given : Option Command) (effect : 
   -- the word of a node that is taken, to write or not
   abbrev held : Bool → ℕ → ℕ
   held writing node =
-      if found == 0 then suc (i + 256 * (if is_leaf F node then leaf_word F view.wanted else (if writing then 1 else 0))) else found
+      if found == 0 then suc (i + NODE_HOLDERS * (if is_leaf F node then leaf_word F view.wanted else (if writing then 1 else 0))) else found
 
   taken : (node : ℕ) (point : Point) → view.point ≡ point → is_writing (stage_of (point_after_take node point)) ≡ takes_to_write point → is_whole (stage_of point) ≡ true → IsByKind (TakeNode node)
   taken node point at same whole = record {

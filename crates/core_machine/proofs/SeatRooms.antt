@@ -1,5 +1,6 @@
 -- Seats keep their rooms, and so the count of commits is small.
 use Rattle.std.proofs.Common.{◌≡◌, ℕ, zero, suc, ◌+◌, ◌*◌, ◌^◌, ◌<◌, ◌≤◌, List, [], length, sym, ap, ◌∙◌, subst, inl, inr, arith, length-append}
+use Rattle.core_steps.specs.declared.sizes.TheConstants.{MOST_SEATS}
 use Rattle.std.proofs.lemmas.Bool.{cases_Bool}
 use Rattle.std.proofs.lemmas.List.Sorted.{length_permutation}
 use Rattle.entity_recs.specs.Histories.{Item}
@@ -16,7 +17,7 @@ pub rooms_after : (F : Fixed) (core : Core) (i : ℕ) (next : Next) → HasRooms
 rooms_after F core i next rooms =
     let same = same_seats F core i next in
     record {
-      made = subst (λ (part : SeatPart). part.made ≤ 16) (sym (same 0)) rooms.made;
+      made = subst (λ (part : SeatPart). part.made ≤ MOST_SEATS) (sym (same 0)) rooms.made;
       ended = ap (λ (part : SeatPart). part.ended) (same 0) ∙ rooms.ended;
       room = λ j. subst (λ (part : SeatPart). part.room < 2 ^ 32) (sym (same j)) (rooms.room j);
     }

@@ -50,6 +50,8 @@ none_lives (x ∷ rs) id is =
       | inr e ↦ rw e (none_lives rs id (sym (cond-false (x.id == id) (Some x) (record_at rs id) e) ∙ is))
     ]
 
+-- ---- a player's bit
+
 pub linked_is : (F : Fixed) (slot node at : ℕ) → slot < 64 → has F.start.ids slot ≡ true → at ≡ home F (F.start.record_of slot)
     → (node == at) ≡ (is_player F slot && (node == home F (F.start.record_of slot)))
 linked_is F slot node at below lives is =

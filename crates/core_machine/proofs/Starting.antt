@@ -1,6 +1,7 @@
 -- The seats at the start are those of the machine.
 use mathlib.Core.Path.{fun_ext}
 use Rattle.std.proofs.Common.{◌≡◌, ℕ, zero, suc, ◌+◌, ◌-◌, ◌^◌, ◌<◌, ◌≤◌, true, false, List, [], ◌∷◌, ◌++◌, length, map, take, drop, get_or, refl, sym, ap, ◌∙◌, subst, inl, inr, None, arith, append_assoc, append-nil, length-append}
+use Rattle.core_steps.specs.declared.sizes.TheConstants.{MOST_SEATS}
 use Rattle.std.specs.Prelude.{◌==◌}
 use Rattle.std.proofs.lemmas.List.{map_more, map-append}
 use Rattle.std.proofs.Math.Seq.{take-length}
@@ -147,7 +148,7 @@ rooms_at : (first : ℕ) (rooms : List ℕ) → ((k : ℕ) → k < length (first
 rooms_at first rooms small zero = small 0 (omega arith)
 rooms_at first rooms small (suc j) = rooms_small rooms (λ k below. small (suc k) (omega arith)) j
 
-pub start_rooms : {A : Type 0} (F : Fixed) (rules : RulesView A) (words : Words) (first : ℕ) (rooms : List ℕ) → length (first ∷ rooms) ≤ 16 → ((k : ℕ) → k < length (first ∷ rooms) → get_or (first ∷ rooms) k 0 < 2 ^ 32)
+pub start_rooms : {A : Type 0} (F : Fixed) (rules : RulesView A) (words : Words) (first : ℕ) (rooms : List ℕ) → length (first ∷ rooms) ≤ MOST_SEATS → ((k : ℕ) → k < length (first ∷ rooms) → get_or (first ∷ rooms) k 0 < 2 ^ 32)
     → HasRooms (machine_of F (record { rules = rules; words = words; seats = seats_with first rooms })).core.view
 start_rooms F rules words first rooms few small = record { made = few; ended = refl; room = rooms_at first rooms small }
 
@@ -176,7 +177,7 @@ start_of seats one s (first ∷ others) some fresh is all =
 
 -- a core at the start is one
 pub start_core_is : {A : Type 0} (F : Fixed) (rules : RulesView A) (words : Words) (seats : List SeatView) (room : List ℕ) → IsLawful F → IsRuled F → words_in words (start_words F) ≡ start_words F → 0 < length room
-    → length room ≤ 16 → ((k : ℕ) → get_or room k 0 < 2 ^ 32) → seats ≡ start_seats room → IsCore F (record { rules = rules; words = words; seats = seats })
+    → length room ≤ MOST_SEATS → ((k : ℕ) → get_or room k 0 < 2 ^ 32) → seats ≡ start_seats room → IsCore F (record { rules = rules; words = words; seats = seats })
 start_core_is F rules words seats [] lawful ruled laid some few small is = absurd (omega arith)
 start_core_is F rules words seats (first ∷ others) lawful ruled laid some few small is =
     subst (λ (ss : List SeatView). IsCore F (record { rules = rules; words = words; seats = ss })) (sym is) (record {

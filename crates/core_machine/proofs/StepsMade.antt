@@ -7,8 +7,9 @@ use Rattle.entity_recs.specs.Commands.{Command, command_of}
 use Rattle.core_steps.specs.declared.step.Step.{Step}
 use Rattle.core_steps.specs.declared.step.StepKind.{StepKind}
 use Rattle.core_steps.specs.declared.step.StepKind.TheVariants.{Commit}
+use Rattle.core_steps.specs.declared.sizes.TheConstants.{TABLE_WORDS}
 use Rattle.core_steps.specs.Cells.{Words, word_at}
-use Rattle.core_steps.specs.Views.{Fixed, stage_of, Point, Idle, Owning, Taking, Checking, Entering, Entered, Loading, Leaving, Sensing, Resolving, Claiming, Storing, Releasing, Returning, Yielding, View, nodes_of, effect_loaded}
+use Rattle.core_steps.specs.Views.{Fixed, stage_of, Point, Idle, Owning, Taking, Checking, Entering, Entered, Loading, Leaving, Sensing, Resolving, Claiming, Storing, Releasing, Returning, Yielding, View, effect_loaded}
 use Rattle.core_steps.specs.Steps.{first_yield}
 use Rattle.core_steps.specs.Machine.{Next, next_at, quitting, step_of, index_of, kind_of, word_of_next}
 use Rattle.core_steps.proofs.Storing.{storing_busy}
@@ -25,19 +26,16 @@ use Rattle.core_machine.specs.WordsLeft.{IsNodeWord, MayLeave, word_by_kind}
 use Rattle.core_machine.proofs.Lefts.{the_next_is_by_kind}
 use Rattle.core_machine.specs.Stepping.{seat_next, is_done, IsOnWord, IsStepped}
 
-index_at_31 : (d : ℕ) (view : View) (next : Next) → d ≡ 31 → index_of 31 view next ≡ index_of d view next
-index_at_31 d view next is = ap (λ (n : ℕ). index_of n view next) (sym is)
-
 -- the index of the step's word
-pub index_is : (F : Fixed) (view : View) (next : Next) (s : Step) (index : ℕ) → F.tree.depth ≡ 4 → step_of F s.seat view next ≡ s → index ≡ s.word → index ≡ index_of 31 view next
-index_is F view next s index depth same at = at ∙ sym (index_at_31 (nodes_of F) view next (rw depth refl) ∙ ap (λ (t : Step). t.word) same)
+pub index_is : (view : View) (next : Next) (s : Step) (index : ℕ) → step_of s.seat view next ≡ s → index ≡ s.word → index ≡ index_of view next
+index_is view next s index same at = at ∙ sym (ap (λ (t : Step). t.word) same)
 
 -- what is found there is the step's word
-pub found_is : (F : Fixed) (words : Words) (view : View) (next : Next) (index found : ℕ) → IsOnWord F words view next → index ≡ index_of 31 view next → found ≡ word_at 31 words index
+pub found_is : (F : Fixed) (words : Words) (view : View) (next : Next) (index found : ℕ) → IsOnWord F words view next → index ≡ index_of view next → found ≡ word_at words index
     → found ≡ word_of_next words view next
-found_is F words view next index found on at is = is ∙ ap (word_at 31 words) at ∙ on.found
+found_is F words view next index found on at is = is ∙ ap (word_at words) at ∙ on.found
 
-pub index_in_table : (F : Fixed) (words : Words) (view : View) (next : Next) (index : ℕ) → IsOnWord F words view next → index ≡ index_of 31 view next → index < 639
+pub index_in_table : (F : Fixed) (words : Words) (view : View) (next : Next) (index : ℕ) → IsOnWord F words view next → index ≡ index_of view next → index < TABLE_WORDS
 index_in_table F words view next index on at = rw at on.in_table
 
 pub count_fits : (F : Fixed) (words : Words) (view : View) (next : Next) (found : ℕ) → IsOnWord F words view next → found ≡ word_of_next words view next → kind_of next ≡ Commit → found + 1 < 2 ^ 64
@@ -49,12 +47,12 @@ sound_after F words view next found on is = subst (λ (n : ℕ). IsSound F (view
 -- what the step's word is to become can be told
 pub may_leave : (F : Fixed) (words : Words) (view : View) (given : Option Command) (effect : Option Effect) (quits : Bool) (s : Step) (found : ℕ) → IsSound F view
     → is_some (next_with F view given quits effect) ≡ true → IsOnWord F words view (the_next (next_with F view given quits effect))
-    → step_of F s.seat view (the_next (next_with F view given quits effect)) ≡ s
+    → step_of s.seat view (the_next (next_with F view given quits effect)) ≡ s
     → found ≡ word_of_next words view (the_next (next_with F view given quits effect)) → MayLeave view s.kind s.word found
 may_leave F words view given effect quits s found sound some on same is =
     let next = the_next (next_with F view given quits effect) in
     let kind : kind_of next ≡ s.kind = ap (λ (t : Step). t.kind) same in
-    let word : s.word ≡ index_of 31 view next = index_is F view next s s.word sound.depth same refl in
+    let word : s.word ≡ index_of view next = index_is view next s s.word same refl in
     let left = the_next_is_by_kind F s.seat view given effect found quits some in
     record {
       take = λ takes. record {
@@ -68,24 +66,24 @@ may_leave F words view given effect quits s found sound some on same is =
 
 -- the word that is left by the step's kind is the one of what comes next
 pub left_is : (F : Fixed) (view : View) (given : Option Command) (effect : Option Effect) (quits : Bool) (s : Step) (found left : ℕ) → IsSound F view
-    → is_some (next_with F view given quits effect) ≡ true → step_of F s.seat view (the_next (next_with F view given quits effect)) ≡ s
+    → is_some (next_with F view given quits effect) ≡ true → step_of s.seat view (the_next (next_with F view given quits effect)) ≡ s
     → left ≡ word_by_kind F s.seat view s.kind s.word found → left ≡ word_left F s.seat view (the_next (next_with F view given quits effect)) found
 left_is F view given effect quits s found left sound some same is =
     let next = the_next (next_with F view given quits effect) in
     let kind : kind_of next ≡ s.kind = ap (λ (t : Step). t.kind) same in
-    let word : s.word ≡ index_of 31 view next = index_is F view next s s.word sound.depth same refl in
+    let word : s.word ≡ index_of view next = index_is view next s s.word same refl in
     is ∙ ap (λ (k : StepKind). word_by_kind F s.seat view k s.word found) (sym kind)
     ∙ ap (λ (w : ℕ). word_by_kind F s.seat view (kind_of next) w found) word
     ∙ sym (the_next_is_by_kind F s.seat view given effect found quits some).word
 
-pub stepped : (F : Fixed) (s : Step) (words after : Words) (view : View) (new : Seat) (next : Next) (index found left : ℕ) (answer : Bool) → step_of F s.seat view next ≡ s
-    → index ≡ index_of 31 view next → found ≡ word_of_next words view next
-    → left ≡ word_left F s.seat view next found → after ≡ with_word_at 31 words index left
+pub stepped : (F : Fixed) (s : Step) (words after : Words) (view : View) (new : Seat) (next : Next) (index found left : ℕ) (answer : Bool) → step_of s.seat view next ≡ s
+    → index ≡ index_of view next → found ≡ word_of_next words view next
+    → left ≡ word_left F s.seat view next found → after ≡ with_word_at words index left
     → view_of new ≡ view_found F view next found → new.given ≡ None → new.quits ≡ false → answer ≡ is_done s.kind found
     → IsStepped F s.seat words after view (seat_of new) next answer
 stepped F s words after view new next index found left answer same at is leaves made seen given quits done = record {
-  words = made ∙ ap (λ (n : ℕ). with_word_at 31 words n left) at
-      ∙ ap (with_word_at 31 words (index_of 31 view next)) (leaves ∙ ap (word_left F s.seat view next) is);
+  words = made ∙ ap (λ (n : ℕ). with_word_at words n left) at
+      ∙ ap (with_word_at words (index_of view next)) (leaves ∙ ap (word_left F s.seat view next) is);
   view = seen ∙ ap (view_found F view next) is;
   given = ap (option_map command_of) given;
   quits = quits;
@@ -133,12 +131,12 @@ pub record ComesNext (F : Fixed) (seat : Seat) (effect : Option Effect) (s : Ste
   pub next : Next
   pub is : next_with F (view_of seat) (given_of seat) seat.quits effect ≡ Some next
   pub due : seat_next F (seat_of seat) ≡ Some next
-  pub same : step_of F s.seat (view_of seat) next ≡ s
+  pub same : step_of s.seat (view_of seat) next ≡ s
 
 pub comes_next : (F : Fixed) (seat : Seat) (effect : Option Effect) (s : Step) → effect ≡ effect_due F (view_of seat)
-    → option_map (step_of F s.seat (view_of seat)) (next_with F (view_of seat) (given_of seat) seat.quits effect) ≡ Some s → ComesNext F seat effect s
+    → option_map (step_of s.seat (view_of seat)) (next_with F (view_of seat) (given_of seat) seat.quits effect) ≡ Some s → ComesNext F seat effect s
 comes_next F seat effect s due e =
-    let o = mapped (step_of F s.seat (view_of seat)) (next_with F (view_of seat) (given_of seat) seat.quits effect) s e in
+    let o = mapped (step_of s.seat (view_of seat)) (next_with F (view_of seat) (given_of seat) seat.quits effect) s e in
     record { next = o.a; is = o.is; due = sym (seat_due F seat effect due) ∙ o.is; same = o.same }
 
 pub one_comes : (o : Option Next) (a b : Next) → o ≡ Some a → o ≡ Some b → a ≡ b

@@ -3,6 +3,7 @@ use Rattle.std.specs.Prelude.{ℕ, suc, ◌≡◌, ◌<◌, ◌≤◌, ◌^◌, 
 use Rattle.std.specs.Prelude.{Option, Some, None}
 use Rattle.entity_recs.specs.Commands.{Command}
 use Rattle.core_steps.specs.declared.step.Step.{Step}
+use Rattle.core_steps.specs.declared.sizes.TheConstants.{MOST_SEATS}
 use Rattle.core_steps.specs.Views.{Fixed, View, new_view, spent}
 use Rattle.core_steps.specs.Stands.{IsLawful, start_words}
 use Rattle.core_steps.specs.Machine.{Machine, Next, next_of, next_step_of}
@@ -53,14 +54,14 @@ abbrev pub start_seats : List ℕ → List SeatView
 start_seats [] = []
 start_seats (room ∷ rooms) = fresh_seat room (suc (length rooms)) ∷ map (λ more. fresh_seat more 0) rooms
 
--- there are at most 16 seats, none was ended, and each has room for fewer than 2^32 entries
+-- there are at most as many seats as there may be, none was ended, and each has room for fewer than 2^32 entries
 pub record HasRooms (view : ℕ → View) : Type 0 where
-  pub made : (view 0).made ≤ 16
+  pub made : (view 0).made ≤ MOST_SEATS
   pub ended : (view 0).ended ≡ []
   pub room : (i : ℕ) → (view i).room < 2 ^ 32
 
 -- what holds of a core between any two calls: the action is lawful, the start is one of the definitions', the tree has
--- depth 4, the machine stands, and its seats have their rooms
+-- its depth, the machine stands, and its seats have their rooms
 pub record IsCore {A : Type 0} (F : Fixed) (c : CoreView A) : Type 0 where
   pub lawful : IsLawful F
   pub ruled : IsRuled F

@@ -4,6 +4,7 @@ use Rattle.std.specs.Option.{option_map}
 use Rattle.core_steps.specs.declared.step.Step.{Step}
 use Rattle.core_steps.specs.declared.step.StepKind.{StepKind}
 use Rattle.core_steps.specs.declared.step.StepKind.TheVariants.{Take, Commit}
+use Rattle.core_steps.specs.declared.sizes.TheConstants.{TABLE_WORDS}
 use Rattle.core_steps.specs.Cells.{Words, word_at}
 use Rattle.core_steps.specs.Views.{Fixed, View}
 use Rattle.core_steps.specs.Steps.{first_yield}
@@ -31,9 +32,9 @@ is_done _ _ = true
 -- the step's word lies in the table, that of a take among those of the nodes, the view after it is sound, and the count
 -- of commits doesn't reach its end
 pub record IsOnWord (F : Fixed) (words : Words) (view : View) (next : Next) : Type 0 where
-  pub in_table : index_of 31 view next < 639
-  pub node : kind_of next ≡ Take → IsNodeWord (index_of 31 view next)
-  pub found : word_at 31 words (index_of 31 view next) ≡ word_of_next words view next
+  pub in_table : index_of view next < TABLE_WORDS
+  pub node : kind_of next ≡ Take → IsNodeWord (index_of view next)
+  pub found : word_at words (index_of view next) ≡ word_of_next words view next
   pub after : IsSound F (view_found F view next (word_of_next words view next))
   pub count : kind_of next ≡ Commit → word_of_next words view next + 1 < 2 ^ 64
 
@@ -46,7 +47,7 @@ pub record MayStep (F : Fixed) (words : Words) (seat : SeatView) : Type 0 where
 -- is left to be begun or to be given up
 pub record IsStepped (F : Fixed) (i : ℕ) (old_words new_words : Words) (old : View) (new : SeatView) (next : Next)
     (answer : Bool) : Type 0 where
-  pub words : new_words ≡ with_word_at 31 old_words (index_of 31 old next)
+  pub words : new_words ≡ with_word_at old_words (index_of old next)
       (word_left F i old next (word_of_next old_words old next))
   pub view : new.view ≡ view_found F old next (word_of_next old_words old next)
   pub given : new.given ≡ None
@@ -56,7 +57,7 @@ pub record IsStepped (F : Fixed) (i : ℕ) (old_words new_words : Words) (old : 
 -- this step isn't the seat's next one: nothing changed, and it wasn't done
 pub record IsOther (F : Fixed) (s : Step) (old_words new_words : declared.Words) (old new : Seat) (answer : Bool) :
     Type 0 where
-  pub other : option_map (step_of F s.seat (view_of old)) (seat_next F (seat_of old)) ≡ Some s → ⊥
+  pub other : option_map (step_of s.seat (view_of old)) (seat_next F (seat_of old)) ≡ Some s → ⊥
   pub words : new_words ≡ old_words
   pub seat : new ≡ old
   pub done : answer ≡ false
@@ -66,5 +67,5 @@ pub record IsMade (F : Fixed) (s : Step) (old_words new_words : Words) (old new 
   where
     pub next : Next
     pub comes : seat_next F old ≡ Some next
-    pub same : step_of F s.seat old.view next ≡ s
+    pub same : step_of s.seat old.view next ≡ s
     pub stepped : IsStepped F s.seat old_words new_words old.view new next answer

@@ -1,5 +1,6 @@
 -- The words in the arrays of the code, as the shared words of the definitions.
 use Rattle.std.specs.Prelude.{ℕ, ◌-◌, ◌/◌, ◌%◌, ◌<◌, ◌==◌, nat_lt, ◌&&◌, if◌then◌else◌, List, [], slice_index_or}
+use Rattle.core_steps.specs.declared.sizes.TheConstants.{TABLE_NODES, TABLE_STATES}
 use Rattle.core_steps.specs.Cells as cells
 use Rattle.core_machine.specs.declared.words.Words.{Words}
 use Rattle.core_seats.specs.declared.point.Cell.{Cell}
@@ -20,10 +21,10 @@ rows body beyond = λ slot k.
 abbrev pub words_in : Words → cells.Words → cells.Words
 words_in words beyond = record {
   commits = words.commits;
-  node = within 31 words.node beyond.node;
-  links = within 31 words.links beyond.links;
+  node = within TABLE_NODES words.node beyond.node;
+  links = within TABLE_NODES words.links beyond.links;
   body = rows words.body beyond.body;
-  state = within 256 words.state beyond.state;
+  state = within TABLE_STATES words.state beyond.state;
 }
 
 -- the cell is one of the arrays'
@@ -34,21 +35,21 @@ pub record IsBodyCell (slot k : ℕ) : Type 0 where
 -- the cell is one of the arrays'
 abbrev pub IsCellOf : Cell → Type 0
 IsCellOf (Body slot k) = IsBodyCell slot k
-IsCellOf (State id) = id < 256
+IsCellOf (State id) = id < TABLE_STATES
 
 -- the store is one in the arrays
 abbrev pub IsStoreOf : Store → Type 0
-IsStoreOf (Clear node) = node < 31
+IsStoreOf (Clear node) = node < TABLE_NODES
 IsStoreOf (Put cell x) = IsCellOf cell
-IsStoreOf (Link node) = node < 31
+IsStoreOf (Link node) = node < TABLE_NODES
 
--- the words with another word at an index of the table of a tree with this many nodes
-abbrev pub with_word_at : ℕ → cells.Words → ℕ → ℕ → cells.Words
-with_word_at nodes words index x =
+-- the words with another word at an index of the table
+abbrev pub with_word_at : cells.Words → ℕ → ℕ → cells.Words
+with_word_at words index x =
     if index == 0 then record words { commits = x }
-    else (if nat_lt index (cells.links_index nodes 0) then record words { node = cells.put (index - 1) x words.node }
-    else (if nat_lt index (cells.body_index nodes 0) then record words
-    { links = cells.put (index - cells.links_index nodes 0) x words.links }
-    else (if nat_lt index (cells.state_index nodes 0) then cells.with_word words
-    (cells.Body ((index - cells.body_index nodes 0) / 5) ((index - cells.body_index nodes 0) % 5)) x
-    else cells.with_word words (cells.State (index - cells.state_index nodes 0)) x)))
+    else (if nat_lt index (cells.links_index 0) then record words { node = cells.put (index - 1) x words.node }
+    else (if nat_lt index (cells.body_index 0) then record words
+    { links = cells.put (index - cells.links_index 0) x words.links }
+    else (if nat_lt index (cells.state_index 0) then cells.with_word words
+    (cells.Body ((index - cells.body_index 0) / 5) ((index - cells.body_index 0) % 5)) x
+    else cells.with_word words (cells.State (index - cells.state_index 0)) x)))

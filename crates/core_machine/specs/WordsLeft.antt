@@ -2,6 +2,8 @@
 use Rattle.std.specs.Prelude.{ℕ, suc, ◌≡◌, ◌≤◌, ◌<◌, ◌+◌, ◌-◌, ◌*◌, ◌^◌, ◌==◌, Bool, true, false, if◌then◌else◌}
 use Rattle.std.specs.Prelude.{List, [], ◌∷◌, length, All}
 use Rattle.entity_recs.specs.Actions.{IsCommand}
+use Rattle.areanode.specs.declared.sizes.TheConstants.{NODES}
+use Rattle.core_steps.specs.declared.sizes.TheConstants.{TABLE_NODES, NODE_HOLDERS}
 use Rattle.core_steps.specs.declared.step.StepKind.{StepKind}
 use Rattle.core_steps.specs.declared.step.StepKind.TheVariants.{Take, GiveBack, Commit, Bit, Store}
 use Rattle.core_steps.specs.Views as views
@@ -12,7 +14,7 @@ use Rattle.core_seats.specs.Going.{word_stored}
 -- the word of the table is that of a node
 pub record IsNodeWord (index : ℕ) : Type 0 where
   pub first : 1 ≤ index
-  pub last : index < 32
+  pub last : index ≤ TABLE_NODES
 
 -- a node that is taken at this point is taken to write: all is read, or write nodes are being taken
 abbrev pub takes_to_write : Point → Bool
@@ -23,7 +25,7 @@ takes_to_write _ = false
 -- the word at this index, of a node, once the seat with this number has taken the node
 abbrev pub word_taken : Fixed → ℕ → View → ℕ → ℕ
 word_taken F i view index =
-    suc (i + 256 * (if is_leaf F (index - 1) then leaf_word F view.wanted
+    suc (i + NODE_HOLDERS * (if is_leaf F (index - 1) then leaf_word F view.wanted
     else (if takes_to_write view.point then 1 else 0)))
 
 -- the word after the first of these stores by the player of this slot, where this word was found
@@ -43,8 +45,8 @@ word_by_kind F i view _ index found = found
 -- a take may be made at this index: it is a node's, and the leaves that are wanted are nodes
 pub record MayTake (view : View) (index : ℕ) : Type 0 where
   pub node : IsNodeWord index
-  pub wanted : All (λ n. n < 31) view.wanted
-  pub few : length view.wanted ≤ 31
+  pub wanted : All (λ n. n < NODES) view.wanted
+  pub few : length view.wanted ≤ NODES
 
 -- a step of this kind may be made at this index, where this word was found: the count doesn't reach its end, and stores
 -- are of a command in hand

@@ -5,7 +5,7 @@ use crate::stepping::make_step;
 use crate::words::Words;
 use areanode::Tree;
 use core_seats::{Rules, Seat};
-use core_steps::Step;
+use core_steps::{MOST_SEATS, Step};
 use entity_recs::{Action, Cmd, Entry, Rec};
 use std::alloc::{AllocError, Global};
 use std::marker::Model;
@@ -33,7 +33,7 @@ fn add_seats(seats: &mut Vec<Seat>, alloc: Global, room: &[u32]) -> Result<(), A
 /// A seat for each number in `room`, which has room for so many entries. The others are made from the first.
 fn new_seats(alloc: Global, room: &[u32]) -> Result<Vec<Seat>, AllocError>
     requires some { 0 < length room.now }
-    requires few { length room.now ≤ 16 }
+    requires few { length room.now ≤ MOST_SEATS }
     ensures { IfOk result (λ seats. map seat_of seats.items ≡ start_seats room.now) }
 {
     let mut seats = Vec::with_capacity(alloc, room.len())?;
@@ -80,7 +80,7 @@ impl<'a, A: Action> Core<'a, A> {
         requires start { IsStart (fixed_of A.meaning (record
             { action = action.now; tree = tree.now; start = start.now })) }
         requires some { 0 < length room.now }
-        requires few { length room.now ≤ 16 }
+        requires few { length room.now ≤ MOST_SEATS }
         ensures rules { IfOk result (λ c. c.rules ≡ record
             { action = action.now; tree = tree.now; start = start.now }) }
         ensures seats { IfOk result (λ c. length c.seats ≡ length room.now) }

@@ -6,9 +6,8 @@ ghost use Rattle.core_steps.specs.Stands.{is_player, start_words};
 ghost use Rattle.core_seats.specs.Shown.{fixed_of};
 
 use crate::words::Words;
-use areanode::NODES;
 use core_seats::{Rules, with_top_bit};
-use core_steps::{PlayerWords, encode};
+use core_steps::{PlayerWords, TABLE_NODES, TABLE_STATES, encode};
 use entity_recs::Action;
 
 /// A player's five words at the start, 0 where the player isn't live.
@@ -57,12 +56,12 @@ fn links_at_start<A: Action>(rules: &Rules<A>, node: u8) -> u64
 }
 
 /// Each node's list word at the start.
-fn all_links<A: Action>(rules: &Rules<A>) -> [u64; NODES]
+fn all_links<A: Action>(rules: &Rules<A>) -> [u64; TABLE_NODES]
     ensures { let F = fixed_of A.meaning rules.now in
-        (node : ℕ) → node < 31 → slice_index_or result node 0 ≡ (start_words F).links node }
+        (node : ℕ) → node < TABLE_NODES → slice_index_or result node 0 ≡ (start_words F).links node }
 {
-    let mut links = [0; NODES];
-    for node in 0..31u8 {
+    let mut links = [0; TABLE_NODES];
+    for node in 0..TABLE_NODES as u8 {
         links[usize::from(node)] = links_at_start(rules, node);
     }
     links
@@ -81,12 +80,12 @@ fn all_bodies<A: Action>(rules: &Rules<A>) -> [PlayerWords; 64]
 }
 
 /// The state word of each id at the start.
-fn all_states<A: Action>(rules: &Rules<A>) -> [u64; 256]
+fn all_states<A: Action>(rules: &Rules<A>) -> [u64; TABLE_STATES]
     ensures { let F = fixed_of A.meaning rules.now in
-        (id : ℕ) → id < 256 → slice_index_or result id 0 ≡ (F.start.record_of id).state }
+        (id : ℕ) → id < TABLE_STATES → slice_index_or result id 0 ≡ (F.start.record_of id).state }
 {
-    let mut state = [0; 256];
-    for id in 0..256u16 {
+    let mut state = [0; TABLE_STATES];
+    for id in 0..TABLE_STATES as u16 {
         state[usize::from(id)] = state_at_start(rules, id);
     }
     state
@@ -106,7 +105,7 @@ impl Words {
     {
         Words {
             commits: 0,
-            node: [0; NODES],
+            node: [0; TABLE_NODES],
             links: all_links(rules),
             body: all_bodies(rules),
             state: all_states(rules),

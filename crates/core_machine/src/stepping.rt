@@ -55,7 +55,7 @@ fn make_next<A: Action>(
     requires word { let F = fixed_of A.meaning rules.now in IsOnWord F (words_in words.old
         (start_words F))
         (view_of seat.old) (the_next (next_with F (view_of seat.old) (given_of seat.old) seat.old.quits effect.now)) }
-    requires same { let F = fixed_of A.meaning rules.now in step_of F s.seat (view_of seat.old)
+    requires same { let F = fixed_of A.meaning rules.now in step_of s.seat (view_of seat.old)
         (the_next (next_with F (view_of seat.old) (given_of seat.old) seat.old.quits effect.now)) ≡ s }
     ensures { let F = fixed_of A.meaning rules.now in
         IsStepped F s.seat (words_in words.old (start_words F)) (words_in words.new (start_words F))

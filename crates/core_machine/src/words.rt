@@ -6,9 +6,8 @@ ghost use Rattle.core_seats.specs.Points.{cell_in, store_of};
 ghost use Rattle.core_machine.specs.Tables.{words_in, IsCellOf, IsStoreOf};
 
 use crate::left::{linked, unlinked};
-use areanode::NODES;
 use core_seats::{Cell, Store};
-use core_steps::PlayerWords;
+use core_steps::{PlayerWords, TABLE_NODES, TABLE_STATES};
 
 /// The shared words: the count of commits, each node's word, each node's list word, each player's five words, and each
 /// entity's state word.
@@ -17,13 +16,13 @@ pub struct Words {
     /// The count of commits.
     pub commits: u64,
     /// Who holds each node, 0 where nobody does.
-    pub node: [u64; NODES],
+    pub node: [u64; TABLE_NODES],
     /// Which players are linked at each node: bit p is player p.
-    pub links: [u64; NODES],
+    pub links: [u64; TABLE_NODES],
     /// The words of each player's record but its state.
     pub body: [PlayerWords; 64],
     /// The state word of each id.
-    pub state: [u64; 256],
+    pub state: [u64; TABLE_STATES],
 }
 
 /// A player's five words with another word at one place.
@@ -51,7 +50,7 @@ impl Words {
 
     /// Stores a node's word.
     pub fn set_node(&mut self, node: u8, word: u64)
-        requires { node < 31 }
+        requires { node < TABLE_NODES }
         ensures { (beyond : cells.Words) → words_in self.new beyond
             ≡ record (words_in self.old beyond) { node = put node word (words_in self.old beyond).node } }
     {
@@ -75,7 +74,7 @@ impl Words {
 
     /// Sets the player's bit in the list word of a node.
     pub fn link(&mut self, node: u8, slot: u8)
-        requires node { node < 31 }
+        requires node { node < TABLE_NODES }
         requires slot { slot < 64 }
         ensures { (beyond : cells.Words) → words_in self.new beyond ≡ record (words_in self.old beyond) {
           links = put node (with_bit ((words_in self.old beyond).links node) slot) (words_in self.old beyond).links;
@@ -87,7 +86,7 @@ impl Words {
 
     /// Clears the player's bit in the list word of a node.
     pub fn unlink(&mut self, node: u8, slot: u8)
-        requires node { node < 31 }
+        requires node { node < TABLE_NODES }
         requires slot { slot < 64 }
         ensures { (beyond : cells.Words) → words_in self.new beyond ≡ record (words_in self.old beyond) {
           links = put node (without_bit ((words_in self.old beyond).links node) slot)

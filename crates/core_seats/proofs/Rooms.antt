@@ -16,7 +16,7 @@ use Rattle.core_steps.specs.Machine.{slots_of, lists_ahead, states_ahead, SomeIs
 use Rattle.core_steps.proofs.Lists.{distinct_filter, has_filter}
 use Rattle.core_steps.proofs.Planned.{slots_without, gone, leaf_nodes_length}
 use Rattle.core_steps.proofs.Runs.{all_from_has}
-use Rattle.core_steps.proofs.Waiting.{leaf_below}
+use Rattle.core_steps.proofs.TreeNodes.{leaf_below}
 use Rattle.core_seats.specs.Sound.{IsSound}
 use Rattle.core_seats.proofs.NearLists.{few_ids}
 

@@ -1,13 +1,14 @@
 -- Each view of a machine that stands is sound.
-use Rattle.std.proofs.Common.{◌≡◌, ℕ, ◌<◌, true, List, ◌∷◌, refl, sym, ap, ◌∙◌, subst, inl, inr, Some}
+use Rattle.std.proofs.Common.{arith, ◌≡◌, ℕ, ◌<◌, true, List, ◌∷◌, refl, sym, ap, ◌∙◌, subst, inl, inr, Some}
 use Rattle.std.proofs.lemmas.Bool.{cases_Bool, false≢true, cond-false}
 use Rattle.entity_recs.specs.declared.rec.Rec.{Rec}
 use Rattle.entity_recs.specs.declared.effect.Effect.{Effect}
 use Rattle.entity_recs.specs.Actions.{HasPlayer}
 use Rattle.entity_recs.specs.Worlds.{World, others_of}
 use Rattle.entity_recs.specs.Histories.{Item}
-use Rattle.core_steps.specs.Cells.{table_size}
-use Rattle.core_steps.specs.Views.{Fixed, Store, Point, Idle, Owning, Taking, Checking, Entering, Entered, Loading, Leaving, Sensing, Resolving, Claiming, Storing, Releasing, Returning, Yielding, stage_of, is_settled, is_read_again, stores_owed, nodes_of, record_read}
+use Rattle.areanode.specs.declared.sizes.TheConstants.{DEPTH}
+use Rattle.core_steps.specs.declared.sizes.TheConstants.{TABLE_WORDS}
+use Rattle.core_steps.specs.Views.{Fixed, Store, Point, Idle, Owning, Taking, Checking, Entering, Entered, Loading, Leaving, Sensing, Resolving, Claiming, Storing, Releasing, Returning, Yielding, stage_of, is_settled, is_read_again, stores_owed, FitsTable, record_read}
 use Rattle.core_steps.specs.Steps.{is_taking, first_yield}
 use Rattle.core_steps.specs.Stands.{IsLawful, IsStart}
 use Rattle.core_steps.specs.Machine.{Machine, StoreWord, index_of_store, next_of, next_at, quitting, MachineStands}
@@ -18,7 +19,11 @@ use Rattle.core_steps.proofs.Asking.{region_may_be_asked, effect_may_be_asked}
 use Rattle.core_steps.proofs.TableWords.{steps_have_their_word}
 use Rattle.core_seats.specs.Sound.{IsSound}
 
-module _ (F : Fixed) (m : Machine) (history : List Item) (now : World) (i : ℕ) (lawful : IsLawful F) (start : IsStart F) (is : MachineStands F m history now) where
+-- the table has words for a tree of this depth
+pub fits_table : (F : Fixed) → F.tree.depth ≡ DEPTH → FitsTable F
+fits_table F depth = record { nodes = rw depth (omega arith) }
+
+module _ (F : Fixed) (m : Machine) (history : List Item) (now : World) (i : ℕ) (lawful : IsLawful F) (start : IsStart F) (fits : FitsTable F) (is : MachineStands F m history now) where
   stored_next : (nodes : List ℕ) (store : Store) (stores : List Store) → (m.core.view i).point ≡ Storing nodes (store ∷ stores) → next_of F m i ≡ Some (StoreWord nodes store stores)
   stored_next nodes store stores e =
       let view = m.core.view i in
@@ -30,7 +35,7 @@ module _ (F : Fixed) (m : Machine) (history : List Item) (now : World) (i : ℕ)
       ]
 
   owed_in_table : (point : Point) (store : Store) (stores : List Store) → (m.core.view i).point ≡ point → stores_owed point ≡ store ∷ stores
-      → index_of_store (nodes_of F) store < table_size (nodes_of F)
+      → index_of_store store < TABLE_WORDS
   owed_in_table Idle store stores e owes = cc
   owed_in_table Owning store stores e owes = cc
   owed_in_table (Taking got rest) store stores e owes = cc
@@ -43,7 +48,7 @@ module _ (F : Fixed) (m : Machine) (history : List Item) (now : World) (i : ℕ)
   owed_in_table Resolving store stores e owes = cc
   owed_in_table (Claiming got rest) store stores e owes = cc
   owed_in_table (Storing nodes owed) store stores e owes =
-      (steps_have_their_word F m history now i (StoreWord nodes store stores) lawful start
+      (steps_have_their_word F m history now i (StoreWord nodes store stores) lawful start fits
       (stored_next nodes store stores (e ∙ ap (Storing nodes) owes)) is).in_table
   owed_in_table (Releasing nodes) store stores e owes = cc
   owed_in_table (Returning leaves) store stores e owes = cc
@@ -67,25 +72,26 @@ module _ (F : Fixed) (m : Machine) (history : List Item) (now : World) (i : ℕ)
       ap (λ (f : Effect). F.takes f.me) ((is.core.seats i).resolved.is_outcome settled e in_view)
       ∙ lawful.validity.me (now.record_of slot) (others_of now slot) view.cmd (is_call F now view.cmd start world mine.given)
 
-  pub sound_here : F.tree.depth ≡ 4 → IsSound F (m.core.view i)
-  sound_here depth =
-      let seat = is.core.seats i in
-      record {
-        depth = depth;
-        own_part = seat.own.part;
-        own_whole = seat.own.whole;
-        again_whole = seat.right.whole;
-        room = seat.counted.has_room;
-        hand = seat.hand;
-        whole = seat.own.leaves;
-        holding = seat.holding;
-        unread = seat.unread;
-        at = seat.at;
-        next = is.next i;
-        fits = is.fits i;
-        owed = λ store stores owes. owed_in_table (m.core.view i).point store stores refl owes;
-        region = λ open' whole. region_may_be_asked F m.core history now i lawful start open' whole is.core;
-        effect = λ at. effect_may_be_asked F m.core history now i lawful start at is.core;
-        taken_again = again_is_taken;
-        taken_after = after_is_taken;
-      }
+pub sound_here : (F : Fixed) (m : Machine) (history : List Item) (now : World) (i : ℕ) → IsLawful F → IsStart F → MachineStands F m history now → F.tree.depth ≡ DEPTH → IsSound F (m.core.view i)
+sound_here F m history now i lawful start is depth =
+    let seat = is.core.seats i in
+    let fits = fits_table F depth in
+    record {
+      depth = depth;
+      own_part = seat.own.part;
+      own_whole = seat.own.whole;
+      again_whole = seat.right.whole;
+      room = seat.counted.has_room;
+      hand = seat.hand;
+      whole = seat.own.leaves;
+      holding = seat.holding;
+      unread = seat.unread;
+      at = seat.at;
+      next = is.next i;
+      fits = is.fits i;
+      owed = λ store stores owes. owed_in_table F m history now i lawful start fits is (m.core.view i).point store stores refl owes;
+      region = λ open' whole. region_may_be_asked F m.core history now i lawful start open' whole is.core;
+      effect = λ at. effect_may_be_asked F m.core history now i lawful start at is.core;
+      taken_again = again_is_taken F m history now i lawful start fits is;
+      taken_after = after_is_taken F m history now i lawful start fits is;
+    }

@@ -1,9 +1,10 @@
 -- The near list from the words of players kept by slot, and from the states of things that were loaded.
-use Rattle.std.specs.Prelude.{ℕ, ◌≡◌, ◌≤◌, ◌==◌, nat_lt, nat_le, ◌&&◌, not, if◌then◌else◌, List, [], ◌∷◌, map, filter}
+use Rattle.std.specs.Prelude.{ℕ, ◌≡◌, ◌+◌, ◌≤◌, ◌==◌, nat_lt, nat_le, ◌&&◌, not, if◌then◌else◌, List, [], ◌∷◌, map, filter}
 use Rattle.std.specs.Prelude.{length, get_or, Option, Some, None}
 use Rattle.std.specs.List.{filter_map}
 use Rattle.arena_geo.specs.Bounds.{Bounds}
 use Rattle.arena_geo.specs.Regions.{touches_region}
+use Rattle.entity_recs.specs.declared.limits.TheConstants.{IDS}
 use Rattle.entity_recs.specs.declared.rec.Rec.{Rec}
 use Rattle.entity_recs.specs.declared.effect.NewState.{NewState}
 use Rattle.entity_recs.specs.Bodies.{abs_of}
@@ -43,7 +44,7 @@ AreAtIds f (r ∷ rs) = (f r.id ≡ r) × AreAtIds f rs
 pub record AreThings (F : Fixed) (things : List Rec) : Type 0 where
   pub ids : map (λ (r : Rec). r.id) things ≡ filter (nat_le 64) F.start.ids
   pub found : AreAtIds F.start.record_of things
-  pub few : length things ≤ 192
+  pub few : length things + 64 ≤ IDS
 
 -- the thing of the map with the state that was loaded of it, where it was
 abbrev pub thing_with : List NewState → Rec → Option Rec

@@ -2,6 +2,7 @@
 use Rattle.std.specs.Prelude.{◌≡◌, ◌<◌, ◌≤◌, ℕ, nat_le, List, length, drop, filter}
 use Rattle.areanode.specs.Words.{has_bit}
 use Rattle.areanode.specs.Trees.{TreeView}
+use Rattle.areanode.specs.declared.sizes.TheConstants.{DEPTH}
 use Rattle.entity_recs.specs.declared.rec.Rec.{Rec}
 use Rattle.entity_recs.specs.Worlds.{world_of}
 use Rattle.entity_recs.specs.Actions.{Meaning}
@@ -26,15 +27,15 @@ fixed_of meaning rules = record {
   start = world_of rules.start;
 }
 
--- the tree is as deep as the table is large, and the action takes the records of the start, whose ids rise
+-- the tree has its depth, for which the table has words, and the action takes the records of the start, whose ids rise
 pub record IsRuled (F : Fixed) : Type 0 where
-  pub depth : F.tree.depth ≡ 4
+  pub depth : F.tree.depth ≡ DEPTH
   pub start : IsStart F
 
 -- the same, with the slots of the live players as the bits of a word, and the things of the map from a place on and by
 -- columns
 pub record IsRuledWith (F : Fixed) (records : List Rec) (bits first : ℕ) (columns : Columns) : Type 0 where
-  pub depth : F.tree.depth ≡ 4
+  pub depth : F.tree.depth ≡ DEPTH
   pub start : IsStart F
   pub slots : (slot : ℕ) → slot < 64 → has_bit bits slot ≡ has F.start.ids slot
   pub fits : first ≤ length records

@@ -2,16 +2,17 @@
 use Rattle.std.specs.Prelude.{◌≡◌, ◌<◌, true, length, List, ◌∷◌, Some}
 use Rattle.entity_recs.specs.declared.effect.Effect.{Effect}
 use Rattle.entity_recs.specs.Actions.{HasPlayer, IsCall}
-use Rattle.core_steps.specs.Cells.{table_size}
+use Rattle.areanode.specs.declared.sizes.TheConstants.{DEPTH}
+use Rattle.core_steps.specs.declared.sizes.TheConstants.{TABLE_WORDS}
 use Rattle.core_steps.specs.Views.{Fixed, Store, Resolving, stage_of, is_busy, is_open, is_owning, is_whole}
-use Rattle.core_steps.specs.Views.{is_settled, is_read_again, stores_owed, nodes_of, View}
+use Rattle.core_steps.specs.Views.{is_settled, is_read_again, stores_owed, View}
 use Rattle.core_steps.specs.Views.{record_read, leaf_nodes, region_in, leaves_held, inner_held, loaded_near}
 use Rattle.core_steps.specs.Stands.{IsGiven, IsHolding, IsUnread, IsAt}
 use Rattle.core_steps.specs.Machine.{HasNext, ViewFits, index_of_store}
 
 -- what a core that stands says of one view alone
 pub record IsSound (F : Fixed) (view : View) : Type 0 where
-  pub depth : F.tree.depth ≡ 4
+  pub depth : F.tree.depth ≡ DEPTH
   pub own_part : is_owning (stage_of view.point) ≡ true → length view.own < 6
   pub own_whole : is_whole (stage_of view.point) ≡ true → length view.own ≡ 6
   pub again_whole : is_read_again (stage_of view.point) ≡ true → length view.again ≡ 6
@@ -24,7 +25,7 @@ pub record IsSound (F : Fixed) (view : View) : Type 0 where
   pub next : HasNext view.point view.wanted
   pub fits : ViewFits F view
   pub owed : (store : Store) (stores : List Store) → stores_owed view.point ≡ store ∷ stores
-      → index_of_store (nodes_of F) store < table_size (nodes_of F)
+      → index_of_store store < TABLE_WORDS
   pub region : is_open (stage_of view.point) ≡ true → is_whole (stage_of view.point) ≡ true
       → HasPlayer F.takes (record_read view.cmd.slot view.own) view.cmd
   pub effect : view.point ≡ Resolving

@@ -1,5 +1,5 @@
 -- Where the things of the map lie along x: an index that misses none of those that touch a region.
-use Rattle.std.specs.Prelude.{◌≡◌, ℕ, ◌<◌, ◌≤◌, ◌/◌, ◌%◌, ◌^◌, true, List, [], ◌∷◌, ℤ, ◌-ℤ◌, pos, neg_ℤ, min, unsigned_abs}
+use Rattle.std.specs.Prelude.{◌≡◌, ℕ, ◌<◌, ◌≤◌, ◌-◌, ◌/◌, ◌%◌, ◌^◌, true, List, [], ◌∷◌, ℤ, ◌-ℤ◌, pos, neg_ℤ, min, unsigned_abs}
 use Rattle.std.specs.Prelude.{slice_index_or}
 use Rattle.std.specs.Int.{int_max}
 use Rattle.areanode.specs.Words.{has_bit}
@@ -8,10 +8,11 @@ use Rattle.entity_recs.specs.Bodies.{abs_of}
 use Rattle.arena_geo.specs.Bounds.{Bounds}
 use Rattle.core_steps.specs.Views.{Fixed, has, things_in}
 use Rattle.core_seats.specs.declared.columns.Columns.{Columns}
+use Rattle.core_seats.specs.declared.columns.TheConstants.{COLUMNS}
 
--- the column of a place on the axis: how many widths it is past the first, 63 at most, and 0 before it
+-- the column of a place on the axis: how many widths it is past the first, and the last one beyond it, and 0 before it
 abbrev pub column_of : ℤ → ℕ
-column_of at = min (unsigned_abs (int_max at (neg_ℤ (pos 1048576)) -ℤ neg_ℤ (pos 1048576)) / 2 ^ 15) 63
+column_of at = min (unsigned_abs (int_max at (neg_ℤ (pos 1048576)) -ℤ neg_ℤ (pos 1048576)) / 2 ^ 15) (COLUMNS - 1)
 
 -- what is set in a row stays set
 abbrev pub KeepsBits : List ℕ → List ℕ → Type 0

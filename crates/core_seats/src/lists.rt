@@ -4,10 +4,12 @@ ghost use Rattle.core_steps.specs.Steps.{rest_of};
 ghost use Rattle.std.specs.List.{range_with_len};
 ghost use Rattle.areanode.specs.Words.{has_bit};
 ghost use Rattle.areanode.specs.Trees.{leaf_node};
+ghost use Rattle.areanode.specs.declared.sizes.TheConstants.{DEPTH};
 ghost use Rattle.core_steps.specs.Views.{players_in, bits_of_leaves};
 
 use crate::point::{NodeQueue, SlotQueue, WordList};
 use crate::queue::Queue;
+use areanode::{FIRST_LEAF, LEAVES, NODES};
 use arrayvec::ArrayVec;
 
 /// Whether a bit of a word is set.
@@ -35,7 +37,7 @@ fn is_either(node: u8, a: u8, b: u8) -> bool
 
 /// The numbers below `n` whose bit is set, rising.
 pub fn bits_below(word: u64, n: u8) -> NodeQueue
-    requires { n ≤ 31 }
+    requires { n ≤ NODES }
     ensures numbers { result.items ≡ filter (has_bit word) (range_with_len 0 n) }
     ensures few { length result.items ≤ n }
 {
@@ -59,13 +61,13 @@ pub fn with_top_bit(word: u64, slot: u8, is_set: bool) -> u64
 
 /// The nodes of these leaves, bit i for leaf i, rising.
 pub fn leaf_nodes(leaves: u64) -> NodeQueue
-    ensures nodes { result.items ≡ map (leaf_node 4) (filter (has_bit leaves) (range_with_len 0 16)) }
-    ensures few { length result.items ≤ 16 }
+    ensures nodes { result.items ≡ map (leaf_node DEPTH) (filter (has_bit leaves) (range_with_len 0 LEAVES)) }
+    ensures few { length result.items ≤ LEAVES }
 {
     let mut nodes = Queue::new();
-    for leaf in 0..16u8 {
+    for leaf in 0..LEAVES as u8 {
         if is_set(leaves, leaf) {
-            nodes.push(15 + leaf);
+            nodes.push(FIRST_LEAF as u8 + leaf);
         }
     }
     nodes
@@ -73,10 +75,10 @@ pub fn leaf_nodes(leaves: u64) -> NodeQueue
 
 /// The inner ones among two nodes, rising, without repeats.
 pub fn inner_among(a: u8, b: u8) -> NodeQueue
-    ensures { result.items ≡ filter (λ node. (node == a) || (node == b)) (range_with_len 0 15) }
+    ensures { result.items ≡ filter (λ node. (node == a) || (node == b)) (range_with_len 0 FIRST_LEAF) }
 {
     let mut nodes = Queue::new();
-    for node in 0..15u8 {
+    for node in 0..FIRST_LEAF as u8 {
         if is_either(node, a, b) {
             nodes.push(node);
         }
@@ -102,7 +104,7 @@ pub fn players_of(word: u64, own: u8) -> SlotQueue
 
 /// One list of nodes after another.
 pub fn joined(front: NodeQueue, back: &NodeQueue) -> NodeQueue
-    requires { length front.items + length back.now.items ≤ 31 }
+    requires { length front.items + length back.now.items ≤ NODES }
     ensures { result.items ≡ front.items ++ back.now.items }
 {
     let mut nodes = front;
@@ -114,14 +116,14 @@ pub fn joined(front: NodeQueue, back: &NodeQueue) -> NodeQueue
 
 /// The leaves of these nodes, bit i for leaf i.
 pub fn leaf_word(nodes: &[u8]) -> u64
-    requires nodes { All (λ n. n < 31) nodes.now }
-    requires few { length nodes.now ≤ 31 }
-    ensures word { result ≡ bits_of_leaves (map (λ n. n - 15) nodes.now) }
-    ensures small { result ≤ 32768 * length nodes.now }
+    requires nodes { All (λ n. n < NODES) nodes.now }
+    requires few { length nodes.now ≤ NODES }
+    ensures word { result ≡ bits_of_leaves (map (λ n. n - FIRST_LEAF) nodes.now) }
+    ensures small { result ≤ 2 ^ LEAVES * length nodes.now }
 {
     let mut word = 0;
     for node in nodes {
-        word += 1 << node.saturating_sub(15);
+        word += 1 << node.saturating_sub(FIRST_LEAF as u8);
     }
     word
 }

@@ -46,6 +46,8 @@ fn drop_read(others: &mut ArrayVec<PlayerRead, 64>, slot: u8)
 
 impl Seat {
     ghost use Rattle.std.specs.Prelude.{◌≡◌, ◌<◌, ◌∷◌, [], ◌++◌, ◌==◌, ℕ, List, Some, not, filter, length, slice_index};
+    ghost use Rattle.areanode.specs.declared.sizes.TheConstants.{NODES};
+    ghost use Rattle.entity_recs.specs.declared.limits.TheConstants.{IDS};
     ghost use Rattle.entity_recs.specs.Commands.{Command, command_of};
     ghost use Rattle.entity_recs.specs.Actions.{HasPlayer, IsCommand};
     ghost use Rattle.core_steps.specs.Views as views;
@@ -113,7 +115,7 @@ impl Seat {
 
     /// The list word of the entered node was loaded.
     fn load_list<A: Action>(&mut self, rules: &Rules<A>, node: u8, word: u64)
-        requires room { length self.old.lists.items < 31 }
+        requires room { length self.old.lists.items < NODES }
         requires player { HasPlayer ((A.meaning rules.now.action).takes)
             (record_read (hand_of self.old.cmd).slot self.old.own.items) (hand_of self.old.cmd) }
         ensures { view_of self.new ≡ steps.view_after_list (fixed_of A.meaning rules.now) node
@@ -140,7 +142,7 @@ impl Seat {
 
     /// The state of a thing was loaded, which was the first of those that were left.
     fn load_state(&mut self, id: u16, word: u64)
-        requires { length self.old.states.items < 256 }
+        requires { length self.old.states.items < IDS }
         ensures { view_of self.new
             ≡ steps.view_after_state id word self.old.queues.ids.items (view_of self.old) }
     {
@@ -160,7 +162,7 @@ impl Seat {
 
     /// The list word of the entered node was loaded.
     pub(crate) fn read_list<A: Action>(&mut self, rules: &Rules<A>, word: u64)
-        requires room { length self.old.lists.items < 31 }
+        requires room { length self.old.lists.items < NODES }
         requires player { HasPlayer ((A.meaning rules.now.action).takes)
             (record_read (hand_of self.old.cmd).slot self.old.own.items) (hand_of self.old.cmd) }
         ensures { (node : ℕ) (plan : List ℕ) → (view_of self.old).point ≡ views.Entered node plan → view_of self.new
@@ -205,7 +207,7 @@ impl Seat {
 
     /// The state of the first of the things that are left was loaded.
     pub(crate) fn read_state(&mut self, word: u64)
-        requires { length self.old.states.items < 256 }
+        requires { length self.old.states.items < IDS }
         ensures { (id : ℕ) (ids : List ℕ) → (view_of self.old).point ≡ views.Sensing (id ∷ ids) → view_of self.new
             ≡ steps.view_after_state id word ids (view_of self.old) }
     {

@@ -14,7 +14,7 @@ use crate::reading::read_record;
 use crate::reads::{player_words, thing_state};
 use crate::seat::PlayerRead;
 use arena_geo::Region;
-use entity_recs::{NewState, Rec};
+use entity_recs::{IDS, NewState, Rec};
 use world_tree::NearList;
 
 /// The record, with another state.
@@ -34,7 +34,7 @@ fn is_touched_thing(r: &Rec, region: &Region) -> bool
 /// The ids of the things of the map among these records whose absolute box touches a region, in the order of the
 /// records.
 pub fn things_of(start: &[Rec], region: &Region) -> IdQueue
-    requires { length start.now ≤ 256 }
+    requires { length start.now ≤ IDS }
     ensures { result.items ≡ map (λ (r : Rec). r.id) (filter (near.is_touched_thing region.now) start.now) }
 {
     let mut ids = Queue::new();
@@ -92,11 +92,11 @@ fn near_one(
 }
 
 /// Which slots have a player of whom something was loaded. To look a slot up here costs less than to search the list.
-fn slots_read(others: &[PlayerRead]) -> [bool; 256]
+fn slots_read(others: &[PlayerRead]) -> [bool; IDS]
     ensures { (slot : ℕ) → slice_index_or result slot true ≡ false → player_at (map player_read_of others.now)
         slot ≡ None }
 {
-    let mut slots = [false; 256];
+    let mut slots = [false; IDS];
     for read in others {
         slots[usize::from(read.slot)] = true;
     }
@@ -110,7 +110,7 @@ fn near_read(
     slot: u8,
     others: &[PlayerRead],
     states: &[NewState],
-    slots: &[bool; 256],
+    slots: &[bool; IDS],
 ) -> Option<Rec>
     requires { (slot : ℕ) → slice_index_or slots.now slot true ≡ false → player_at (map player_read_of others.now)
         slot ≡ None }
@@ -133,7 +133,7 @@ pub fn put_near(
     states: &[NewState],
     list: &mut NearList,
 )
-    requires few { length start.now ≤ 256 }
+    requires few { length start.now ≤ IDS }
     requires empty { list.old ≡ [] }
     ensures { list.new ≡ filter_map (near.near_one region.now slot (map player_read_of others.now) states.now)
         start.now }

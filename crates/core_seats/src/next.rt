@@ -1,7 +1,7 @@
 ghost use Rattle.std.specs.Prelude.{◌≡◌, ◌<◌, ℕ, List, ◌∷◌, map, Option};
 ghost use Rattle.std.specs.Option.{option_map};
 ghost use Rattle.entity_recs.specs.Commands.{Command};
-ghost use Rattle.core_steps.specs.Cells.{table_size};
+ghost use Rattle.core_steps.specs.declared.sizes.TheConstants.{TABLE_WORDS};
 ghost use Rattle.core_steps.specs.Views as views;
 ghost use Rattle.core_steps.specs.Views.{Fixed, View};
 ghost use Rattle.core_steps.specs.Machine.{step_of, next_at, index_of_store};
@@ -32,10 +32,10 @@ fn count_step(number: u8, kind: StepKind) -> Step
 
 /// The step that makes the first of these stores, if any.
 fn next_store_step(number: u8, stores: &[Store]) -> Option<Step>
-    requires { (store : Store) (rest : List Store) → stores.now ≡ store ∷ rest → index_of_store 31
-        (store_of store) < table_size 31 }
-    ensures { (F : Fixed) (view : View) (given : Option Command) (nodes : List ℕ) → F.tree.depth ≡ 4 → result
-        ≡ option_map (step_of F number view) (next_at F view given (views.Storing nodes (map store_of stores.now))) }
+    requires { (store : Store) (rest : List Store) → stores.now ≡ store ∷ rest
+        → index_of_store (store_of store) < TABLE_WORDS }
+    ensures { (F : Fixed) (view : View) (given : Option Command) (nodes : List ℕ) → result
+        ≡ option_map (step_of number view) (next_at F view given (views.Storing nodes (map store_of stores.now))) }
 {
     let &[store, ..] = stores else {
         return None;
@@ -89,7 +89,7 @@ impl Seat {
         requires { IsReady (fixed_of A.meaning rules.now) (view_of self.now)
             (given_of self.now) self.now.quits effect.now }
         ensures { let F = fixed_of A.meaning rules.now in
-            result ≡ option_map (step_of F number (view_of self.now)) (next_with F (view_of self.now)
+            result ≡ option_map (step_of number (view_of self.now)) (next_with F (view_of self.now)
             (given_of self.now) self.now.quits effect.now) }
     {
         if self.quits {
@@ -102,7 +102,7 @@ impl Seat {
     /// The step of a seat that is to give up.
     fn quit_step<A: Action>(&self, rules: &Rules<A>, number: u8) -> Step
         ensures { let F = fixed_of A.meaning rules.now in
-            result ≡ step_of F number (view_of self.now) (quitting (first_yield F (view_of self.now))) }
+            result ≡ step_of number (view_of self.now) (quitting (first_yield F (view_of self.now))) }
     {
         let inner = self.inner_held(rules);
         let leaves = self.leaves_held();
@@ -122,7 +122,7 @@ impl Seat {
         requires { IsReady (fixed_of A.meaning rules.now) (view_of self.now)
             (given_of self.now) self.now.quits effect.now }
         ensures { let F = fixed_of A.meaning rules.now in
-            result ≡ option_map (step_of F number (view_of self.now)) (next_point F (view_of self.now)
+            result ≡ option_map (step_of number (view_of self.now)) (next_point F (view_of self.now)
             (given_of self.now) effect.now (view_of self.now).point) }
     {
         rules.is_ruled();
@@ -182,8 +182,7 @@ impl Seat {
 
     /// The step that begins the command that was given, if any.
     fn begin_step(&self, number: u8) -> Option<Step>
-        ensures { (F : Fixed) → F.tree.depth ≡ 4 → result
-            ≡ option_map (step_of F number (view_of self.now)) (beginning (given_of self.now)) }
+        ensures { result ≡ option_map (step_of number (view_of self.now)) (beginning (given_of self.now)) }
     {
         match &self.given {
             Some(cmd) => Some(load_step(number, cmd.slot, 0)),
@@ -202,7 +201,7 @@ impl Seat {
         requires before { IsRecord (record_read (hand_of self.now.cmd).slot self.now.again.items) }
         requires after { (e : Effect) → effect.now ≡ Some e → IsRecord e.me }
         ensures { let F = fixed_of A.meaning rules.now in
-            result ≡ option_map (step_of F number (view_of self.now)) (next_resolved F (view_of self.now) effect.now) }
+            result ≡ option_map (step_of number (view_of self.now)) (next_resolved F (view_of self.now) effect.now) }
     {
         let Some(effect) = effect else {
             return None;
@@ -216,7 +215,7 @@ impl Seat {
 
     /// The step that takes the first of these write nodes, or commits the effect in view where none is left.
     fn claim_step(&self, number: u8, rest: &[u8]) -> Option<Step>
-        ensures { (F : Fixed) (got : List ℕ) → result ≡ option_map (step_of F number (view_of self.now))
+        ensures { (F : Fixed) (got : List ℕ) → result ≡ option_map (step_of number (view_of self.now))
             (next_at F (view_of self.now) (given_of self.now) (views.Claiming got rest.now)) }
     {
         if let &[node, ..] = rest {

@@ -1,20 +1,26 @@
 use crate::queue::Queue;
+use areanode::NODES;
 use arrayvec::ArrayVec;
+use entity_recs::IDS;
 
 /// A list of nodes, each at most once.
-pub type NodeQueue = Queue<u8, 31>;
+pub type NodeQueue = Queue<u8, NODES>;
 
 /// A list of players' slots, each at most once.
 pub type SlotQueue = Queue<u8, 64>;
 
 /// A list of ids, each at most once.
-pub type IdQueue = Queue<u16, 256>;
+pub type IdQueue = Queue<u16, IDS>;
 
 /// The words of a record that were loaded: a player's five, then the state word.
 pub type WordList = ArrayVec<u64, 6>;
 
+/// The most stores of a command: the own bit is cleared and set, and between them come the own record's six words and
+/// the state words of the things that the effect lists, at most eight.
+pub const MOST_STORES: usize = 16;
+
 /// A list of stores that are owed.
-pub type StoreQueue = Queue<Store, 16>;
+pub type StoreQueue = Queue<Store, MOST_STORES>;
 
 /// The word of a record that is stored.
 #[derive(Clone, Copy, Debug, PartialEq, Eq)]

@@ -1,4 +1,5 @@
 ghost use Rattle.std.specs.Prelude.{◌≡◌};
+ghost use Rattle.areanode.specs.declared.sizes.TheConstants.{DEPTH};
 
 use crate::columns::Columns;
 use crate::lists::{bits_below, inner_among, joined, leaf_nodes, leaf_word};
@@ -8,8 +9,9 @@ use crate::point::{IdQueue, NodeQueue};
 use crate::reading::read_record;
 use crate::records::find_record;
 use crate::seat::PlayerRead;
-use areanode::{FIRST_LEAF, Tree, visited};
+use areanode::{FIRST_LEAF, NODES, Tree, visited};
 use arena_geo::{Aabb, Region, Vec3};
+use core_steps::NODE_HOLDERS;
 use entity_recs::{Action, Cmd, Effect, NewState, Rec, abs_box};
 use std::alloc::{AllocError, Global};
 use std::marker::Model;
@@ -41,9 +43,9 @@ impl<'a, A: Action> Model for Rules<'a, A> {
         r.start.items r.players r.first_thing r.columns };
 }
 
-/// A tree has the depth for which the table of words is made.
-fn has_depth_4(tree: &Tree)
-    ensures { tree.now.depth ≡ 4 }
+/// The depth of a tree.
+fn has_its_depth(tree: &Tree)
+    ensures { tree.now.depth ≡ DEPTH }
 {
     // To ask for a node is to know the depth.
     if let Some(point) = Aabb::new(Vec3::ZERO, Vec3::ZERO) {
@@ -52,7 +54,7 @@ fn has_depth_4(tree: &Tree)
 }
 
 impl<'a, A: Action> Rules<'a, A> {
-    ghost use Rattle.std.specs.Prelude.{◌≡◌, ◌<◌, ◌≤◌, ◌+◌, ◌*◌, ◌^◌, List, [], suc, map, length, All, OnOk, IfOk};
+    ghost use Rattle.std.specs.Prelude.{◌≡◌, ◌<◌, ◌≤◌, ◌+◌, ◌*◌, ◌%◌, ◌^◌, List, [], suc, map, length, All, OnOk, IfOk};
     ghost use Rattle.std.specs.Prelude.{if◌then◌else◌};
     ghost use Rattle.entity_recs.specs.Actions.{HasPlayer, IsCall};
     ghost use Rattle.entity_recs.specs.Records.{IsRecord};
@@ -61,7 +63,8 @@ impl<'a, A: Action> Rules<'a, A> {
     ghost use Rattle.core_steps.specs.Views.{things_in, home, record_read, near_loaded, leaf_word};
     ghost use Rattle.core_steps.specs.Stands.{IsLawful, IsStart};
     ghost use Rattle.core_seats.specs.Seats.{player_read_of};
-    ghost use Rattle.areanode.specs.Trees.{leaves_of};
+    ghost use Rattle.areanode.specs.Trees.{leaves_of, visited_of};
+    ghost use Rattle.core_steps.specs.declared.sizes.TheConstants.{TABLE_LEAVES};
     ghost use Rattle.arena_geo.specs.Bounds.{Bounds};
     ghost use Rattle.core_seats.specs.Starts.{record_at};
     ghost use Rattle.core_seats.specs.Shown.{fixed_of, IsRuled};
@@ -77,7 +80,7 @@ impl<'a, A: Action> Rules<'a, A> {
             (record { action = action.now; tree = tree.now; start = start.now })) }
         ensures { IfOk result (λ r. r ≡ record { action = action.now; tree = tree.now; start = start.now }) }
     {
-        has_depth_4(tree);
+        has_its_depth(tree);
         let first_thing = count_players(start);
         Ok(Rules {
             action,
@@ -136,15 +139,17 @@ impl<'a, A: Action> Rules<'a, A> {
         leaf_nodes(u64::from(self.tree.leaves_of(region)))
     }
 
-    /// The leaves of a region, bit i for leaf i.
-    pub fn leaf_bits(&self, region: &Region) -> u16
-        ensures { result ≡ leaves_of self.now.tree region.now }
+    /// The leaves of a region, bit i for leaf i, and the inner nodes that are visited for them, bit i for node i.
+    pub fn node_bits(&self, region: &Region) -> (u32, u32)
+        ensures leaves { result.0 ≡ leaves_of self.now.tree region.now }
+        ensures inner { result.1 ≡ visited_of DEPTH result.0 % 2 ^ FIRST_LEAF }
     {
-        self.tree.leaves_of(region)
+        let leaves = self.tree.leaves_of(region);
+        (u32::from(leaves), visited(leaves) % (1 << FIRST_LEAF))
     }
 
     /// The nodes of a region's leaves, rising, where these are its leaves, bit i for leaf i.
-    pub fn nodes_of(&self, leaves: u16) -> NodeQueue
+    pub fn nodes_of(&self, leaves: u32) -> NodeQueue
         ensures { (region : List Bounds) → leaves ≡ leaves_of self.now.tree region
             → result.items ≡ leaf_nodes (fixed_of A.meaning self.now) region }
     {
@@ -159,7 +164,7 @@ impl<'a, A: Action> Rules<'a, A> {
     {
         let leaves = self.tree.leaves_of(region);
         let plan = leaf_nodes(u64::from(leaves));
-        let inner = bits_below(u64::from(visited(leaves)), 15);
+        let inner = bits_below(u64::from(visited(leaves)), FIRST_LEAF as u8);
         joined(plan, &inner)
     }
 
@@ -167,7 +172,7 @@ impl<'a, A: Action> Rules<'a, A> {
     pub fn home(&self, r: &Rec) -> u8
         requires { IsRecord r.now }
         ensures node { result ≡ home (fixed_of A.meaning self.now) r.now }
-        ensures in_range { result < 31 }
+        ensures in_range { result < NODES }
     {
         self.tree.node_of(&abs_box(r))
     }
@@ -215,11 +220,11 @@ impl<'a, A: Action> Rules<'a, A> {
     /// What a held node's word has beside the seat's number: for a leaf the leaves of the command, for an inner node 1
     /// where it is held to write.
     fn mark(&self, writing: bool, wanted: &[u8], node: u8) -> u64
-        requires nodes { All (λ n. n < 31) wanted.now }
-        requires few { length wanted.now ≤ 31 }
+        requires nodes { All (λ n. n < NODES) wanted.now }
+        requires few { length wanted.now ≤ NODES }
         ensures mark { result ≡ (let F = fixed_of A.meaning self.now in
             if is_leaf F node then leaf_word F wanted.now else (if writing then 1 else 0)) }
-        ensures small { result < 2 ^ 21 }
+        ensures small { result < 2 ^ TABLE_LEAVES }
     {
         // To read a part of the rules is to know what their type keeps.
         let _tree = &self.tree;
@@ -234,12 +239,12 @@ impl<'a, A: Action> Rules<'a, A> {
 
     /// The node's word while this seat holds it: the seat's number plus 1, and the mark above it.
     pub fn held_word(&self, number: u8, writing: bool, wanted: &[u8], node: u8) -> u64
-        requires nodes { All (λ n. n < 31) wanted.now }
-        requires few { length wanted.now ≤ 31 }
+        requires nodes { All (λ n. n < NODES) wanted.now }
+        requires few { length wanted.now ≤ NODES }
         ensures { result ≡ (let F = fixed_of A.meaning self.now in
-            suc (number + 256 * (if is_leaf F node then leaf_word F wanted.now else (if writing then 1 else 0)))) }
+            suc (number + NODE_HOLDERS * (if is_leaf F node then leaf_word F wanted.now else (if writing then 1 else 0)))) }
     {
         let mark = self.mark(writing, wanted, node);
-        u64::from(number) + 256 * mark + 1
+        u64::from(number) + NODE_HOLDERS * mark + 1
     }
 }

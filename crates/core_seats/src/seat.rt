@@ -2,8 +2,9 @@ use crate::log::SeatLog;
 use crate::point::{NodeQueue, Point, Queues, WordList};
 use crate::queue::Queue;
 use crate::refusals::Refusals;
+use areanode::NODES;
 use arrayvec::ArrayVec;
-use entity_recs::{Cmd, Effect, Entry, NewState};
+use entity_recs::{Cmd, Effect, Entry, IDS, NewState};
 use std::alloc::{AllocError, Global};
 
 /// The word of a node's list that was loaded.
@@ -49,11 +50,11 @@ pub struct Seat {
     /// The words of the own record that are loaded again, once all leaves are held.
     pub again: WordList,
     /// The list words that are loaded.
-    pub lists: ArrayVec<ListRead, 31>,
+    pub lists: ArrayVec<ListRead, NODES>,
     /// The words of other players that are loaded.
     pub others: ArrayVec<PlayerRead, 64>,
     /// The states of things of the map that are loaded.
-    pub states: ArrayVec<NewState, 256>,
+    pub states: ArrayVec<NewState, IDS>,
     /// The effect of the command, once it is in view.
     pub effect: Option<Effect>,
     /// The command that was given and isn't begun.

@@ -1,12 +1,13 @@
 ghost use Rattle.std.specs.Prelude.{◌≡◌, ◌<◌, ℕ, List, ◌∷◌};
 ghost use Rattle.std.specs.Option.{option_map};
-ghost use Rattle.core_steps.specs.Cells.{node_index, links_index, cell_index, state_index, cell_of, table_size};
+ghost use Rattle.core_steps.specs.Cells.{node_index, links_index, cell_index, state_index, cell_of};
+ghost use Rattle.core_steps.specs.declared.sizes.TheConstants.{TABLE_STATES, TABLE_WORDS};
 ghost use Rattle.core_steps.specs.Steps as steps;
 ghost use Rattle.core_steps.specs.Machine.{kind_of_store, index_of_store};
 ghost use Rattle.core_seats.specs.Points.{store_of};
 
 use crate::point::{Cell, Store};
-use core_steps::{FIRST_STATE_WORD, Step, StepKind, list_word, node_word, record_word, state_word};
+use core_steps::{Step, StepKind, list_word, node_word, record_word, state_word};
 
 /// The step of a seat on the word of a node.
 pub fn node_step(number: u8, node: u8, kind: StepKind) -> Step
@@ -21,7 +22,7 @@ pub fn node_step(number: u8, node: u8, kind: StepKind) -> Step
 
 /// The step of a seat on the list word of a node.
 pub fn list_step(number: u8, node: u8, kind: StepKind) -> Step
-    ensures { result ≡ record { seat = number; word = links_index 31 node; kind = kind } }
+    ensures { result ≡ record { seat = number; word = links_index node; kind = kind } }
 {
     Step {
         seat: number,
@@ -32,12 +33,12 @@ pub fn list_step(number: u8, node: u8, kind: StepKind) -> Step
 
 /// The step that loads the `k`-th of the six words of the player in this slot.
 pub fn load_step(number: u8, slot: u8, k: usize) -> Step
-    ensures { result ≡ record { seat = number; word = cell_index 31 (cell_of slot k); kind = StepKind.Load } }
+    ensures { result ≡ record { seat = number; word = cell_index (cell_of slot k); kind = StepKind.Load } }
 {
     let word = if k < 5 {
         record_word(slot) + k as u16
     } else {
-        state_word(slot)
+        state_word(u16::from(slot))
     };
     Step {
         seat: number,
@@ -48,8 +49,8 @@ pub fn load_step(number: u8, slot: u8, k: usize) -> Step
 
 /// The step that loads the state word of the first of these things, if any.
 pub fn state_step(number: u8, ids: &[u16]) -> Option<Step>
-    requires { (id : ℕ) (rest : List ℕ) → ids.now ≡ id ∷ rest → id < 256 }
-    ensures { result ≡ option_map (λ id. record { seat = number; word = state_index 31 id; kind = StepKind.Load })
+    requires { (id : ℕ) (rest : List ℕ) → ids.now ≡ id ∷ rest → id < TABLE_STATES }
+    ensures { result ≡ option_map (λ id. record { seat = number; word = state_index id; kind = StepKind.Load })
         (steps.first ids.now) }
 {
     let &[id, ..] = ids else {
@@ -57,7 +58,7 @@ pub fn state_step(number: u8, ids: &[u16]) -> Option<Step>
     };
     Some(Step {
         seat: number,
-        word: FIRST_STATE_WORD + id,
+        word: state_word(id),
         kind: StepKind::Load,
     })
 }
@@ -104,7 +105,7 @@ pub fn give_step(number: u8, inner: &[u8], leaves: &[u8]) -> Option<Step>
 pub fn player_step(number: u8, players: &[u8], k: usize) -> Option<Step>
     ensures { result ≡ option_map (λ slot. record {
       seat = number;
-      word = cell_index 31 (cell_of slot k);
+      word = cell_index (cell_of slot k);
       kind = StepKind.Load;
     }) (steps.first players.now) }
 {
@@ -116,10 +117,10 @@ pub fn player_step(number: u8, players: &[u8], k: usize) -> Option<Step>
 
 /// The step that makes a store.
 pub fn store_step(number: u8, store: Store) -> Step
-    requires { index_of_store 31 (store_of store) < table_size 31 }
+    requires { index_of_store (store_of store) < TABLE_WORDS }
     ensures { result ≡ record {
       seat = number;
-      word = index_of_store 31 (store_of store);
+      word = index_of_store (store_of store);
       kind = kind_of_store (store_of store);
     } }
 {
@@ -132,7 +133,7 @@ pub fn store_step(number: u8, store: Store) -> Step
         },
         Store::Put(Cell::State(id), _) => Step {
             seat: number,
-            word: FIRST_STATE_WORD + id,
+            word: state_word(id),
             kind: StepKind::Store,
         },
     }

@@ -8,6 +8,7 @@ use Rattle.core_steps.specs.Steps.{first, rest_of, view_after_claim}
 use Rattle.core_steps.specs.Laws.{ClaimedNodeStands}
 use Rattle.core_steps.proofs.Unyielding.{not_giving_up}
 use Rattle.core_steps.proofs.Giving.{seat_at}
+use Rattle.core_steps.proofs.TreeNodes.{inner_in}
 use Rattle.core_steps.proofs.Taking.{IsTaken, take_on}
 use Rattle.core_steps.proofs.Takes.{two_inner}
 use Rattle.core_steps.proofs.Drops.{word_of_leaf}
@@ -40,6 +41,7 @@ claimed_node_stands F core history now i e node lawful start at_point effect nex
     take_on F core history now i node new is free
     (subst (λ (point : Point). IsTaken F core history now i node new point) (sym at_point) (record {
       was_busy = refl;
+      within = inner_in F node (inner node (or_left _ _ (eq-eqb node node refl)));
       keeps = record { live = refl; log = refl; made = refl; ended = refl };
       cmd = refl;
       now_held = or_left _ _ (or_left _ _ (eq-eqb node node refl));

@@ -346,4 +346,5 @@ module _ (F : Fixed) (core : Core) (history : List Item) (now : World) (i : ℕ)
         unowed = unowed_after;
         linked = linked_after;
         unlinked = is.unlinked;
+        unused = is.unused;
       }

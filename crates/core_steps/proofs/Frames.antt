@@ -1,12 +1,12 @@
 -- What a step leaves that changes the view of one seat and the words of nodes.
-use Rattle.std.proofs.Common.{◌≡◌, ℕ, zero, suc, ◌<◌, Bool, true, false, List, refl, sym, ap, ◌∙◌, subst, inl, inr, Option, Some, None}
+use Rattle.std.proofs.Common.{◌≡◌, ℕ, zero, suc, ◌<◌, ◌≤◌, Bool, true, false, List, refl, sym, ap, ◌∙◌, subst, inl, inr, Option, Some, None}
 use Rattle.std.specs.Prelude.{◌==◌, All, ◌||◌}
 use Rattle.std.specs.List.Sorted.{IsPermutation}
 use Rattle.std.proofs.lemmas.Bool.{cases_Bool, eqb-true, true≢false, false≢true, false_from_ne_true}
 use Rattle.entity_recs.specs.Worlds.{World}
 use Rattle.entity_recs.specs.Histories.{Item}
 use Rattle.core_steps.specs.Cells.{Words, Cell, put}
-use Rattle.core_steps.specs.Views.{Fixed, Store, stage_of, is_busy, View, Ended, spent, holds, stores_owed}
+use Rattle.core_steps.specs.Views.{Fixed, Store, stage_of, is_busy, View, Ended, spent, nodes_of, holds, stores_owed}
 use Rattle.core_steps.specs.Steps.{Core}
 use Rattle.core_steps.specs.Stands.{owed_at, IsLogWithin, is_ended, log_of, items_below, items_of, IsNumbered, SeatStands, SeatsApart, is_storing_for, Stands}
 use Rattle.core_steps.proofs.Puts.{each_put, put_same, put_other, kept_put, eqb_sym}
@@ -124,6 +124,7 @@ pub record IsNodeStep (F : Fixed) (core : Core) (history : List Item) (now : Wor
   pub free : (node : ℕ) → holds F new.point new.wanted node ≡ false → ((j : ℕ) → (j == i) ≡ false → holds F (core.view j).point (core.view j).wanted node ≡ false) → node' node ≡ 0
   pub owes : (cell : Cell) → owed_at (stores_owed new.point) cell ≡ owed_at (stores_owed (core.view i).point) cell
   pub stores : (p : ℕ) → is_storing_for new p ≡ is_storing_for (core.view i) p
+  pub unused : (v : ℕ) → nodes_of F ≤ v → node' v ≡ 0
 
 -- the core after a step that changes one seat's view and words of nodes
 abbrev pub core_after : Core → ℕ → View → (ℕ → ℕ) → Core
@@ -149,6 +150,7 @@ stands_after F core history now i new node' is step = record {
       (λ j. sym (kept_put (λ (v : View). owed_at (stores_owed v.point) cell) i new core.view (step.owes cell) j) ∙ none j);
   linked = λ p node lives none. is.linked p node lives (λ j. sym (kept_put (λ (v : View). is_storing_for v p) i new core.view (step.stores p) j) ∙ none j);
   unlinked = is.unlinked;
+  unused = record { no_node = step.unused; no_links = is.unused.no_links; no_body = is.unused.no_body; no_state = is.unused.no_state };
 }
 
 -- ---- steps that change no word of a node
@@ -187,4 +189,5 @@ stands_with_view F core history now i new is step = stands_after F core history 
   free = λ node here others. is.free node (none_before F core.view i node (sym (step.same node) ∙ here) others);
   owes = λ cell. ap (λ (stores : List Store). owed_at stores cell) step.owes;
   stores = step.stores;
+  unused = is.unused.no_node;
 })

@@ -5,7 +5,7 @@ use Rattle.std.proofs.lemmas.Bool.{cases_Bool, false≢true, true≢false, cond-
 use Rattle.entity_recs.specs.Worlds.{World}
 use Rattle.entity_recs.specs.Histories.{Item}
 use Rattle.core_steps.specs.Cells.{put}
-use Rattle.core_steps.specs.Views.{Fixed, Point, Returning, Yielding, ListRead, Stage, AtRest, AtClaiming, AtReturning, AtYielding, stage_of, is_busy, is_settled, is_storing, has, inner_held, leaves_held, holds, held_word, stores_owed, without_command}
+use Rattle.core_steps.specs.Views.{Fixed, Point, Returning, Yielding, ListRead, Stage, AtRest, AtClaiming, AtReturning, AtYielding, stage_of, is_busy, is_settled, is_storing, has, nodes_of, inner_held, leaves_held, holds, held_word, stores_owed, without_command}
 use Rattle.core_steps.specs.Steps.{Core, with_node, returning, yielding, yielded, first_of_two}
 use Rattle.core_steps.specs.Stands.{IsAt, IsCurrent, IsHolding, IsReadStill, IsGivingUp, IsCounted, owed_at, part_of, Stands}
 use Rattle.core_steps.proofs.Puts.{put_other, eqb_sym}
@@ -20,6 +20,13 @@ not_by_others : (F : Fixed) (core : Core) (history : List Item) (now : World) (i
     → holds F (core.view i).point (core.view i).wanted node ≡ true → holds F (core.view j).point (core.view j).wanted v ≡ true → (v == node) ≡ false
 not_by_others F core history now i j node v is other held by_other =
     ne_eqb v node (λ same. true≢false (sym by_other ∙ subst (λ (n : ℕ). holds F (core.view j).point (core.view j).wanted n ≡ false) (sym same) ((is.apart i j (eqb_sym j i other)).nodes node held)))
+
+-- a node that is given back leaves the nodes free that the tree hasn't
+still_unused : (F : Fixed) (core : Core) (history : List Item) (now : World) (node : ℕ) → Stands F core history now → (v : ℕ) → nodes_of F ≤ v → put node 0 core.words.node v ≡ 0
+still_unused F core history now node is v beyond = elim (cases_Bool (v == node)) [
+  | inl e ↦ cond-true (v == node) 0 (core.words.node v) e
+  | inr e ↦ cond-false (v == node) 0 (core.words.node v) e ∙ is.unused.no_node v beyond
+]
 
 -- ---- the point goes on
 
@@ -81,6 +88,7 @@ give_on F core history now i node point is step =
       ];
       owes = λ cell. ap (λ stores. owed_at stores cell) (step.owes ∙ sym step.owed);
       stores = λ p. ap (λ (b : Bool). b && (view.cmd.slot == p)) (step.less.not_storing ∙ sym step.was_not_storing);
+      unused = still_unused F core history now node is;
     })
 
 -- ---- the last node is given back
@@ -114,6 +122,7 @@ give_last F core history now i node is step =
       ];
       owes = λ cell. ap (λ stores. owed_at stores cell) (sym step.owed);
       stores = λ p. ap (λ (b : Bool). b && (view.cmd.slot == p)) (sym step.was_not_storing);
+      unused = still_unused F core history now node is;
     })
 
 -- ---- the rest that is to be given back

@@ -9,33 +9,33 @@ not_first : (n : ℕ) → 0 < n → (n == 0) ≡ false
 not_first n some = ne_eqb n 0 (λ e. omega arith)
 
 pub layout_is_right : LayoutIsRight
-layout_is_right nodes words = record {
+layout_is_right words = record {
   count = refl;
   node = λ v below.
       let index = 1 + v in
       cond-false _ _ _ (not_first index (omega arith))
-      ∙ cond-true _ _ _ (lt-ltb index (links_index nodes 0) (omega arith))
+      ∙ cond-true _ _ _ (lt-ltb index (links_index 0) (omega arith))
       ∙ ap words.node (omega arith);
   links = λ v below.
-      let index = links_index nodes v in
+      let index = links_index v in
       cond-false _ _ _ (not_first index (omega arith))
-      ∙ cond-false _ _ _ (le-ltb index (links_index nodes 0) (omega arith))
-      ∙ cond-true _ _ _ (lt-ltb index (body_index nodes 0) (omega arith))
+      ∙ cond-false _ _ _ (le-ltb index (links_index 0) (omega arith))
+      ∙ cond-true _ _ _ (lt-ltb index (body_index 0) (omega arith))
       ∙ ap words.links (omega arith);
   body = λ slot k below five.
-      let index = body_index nodes slot + k in
-      let first : (index - body_index nodes 0) / 5 ≡ slot = omega arith in
-      let second : (index - body_index nodes 0) % 5 ≡ k = omega arith in
+      let index = body_index slot + k in
+      let first : (index - body_index 0) / 5 ≡ slot = omega arith in
+      let second : (index - body_index 0) % 5 ≡ k = omega arith in
       cond-false _ _ _ (not_first index (omega arith))
-      ∙ cond-false _ _ _ (le-ltb index (links_index nodes 0) (omega arith))
-      ∙ cond-false _ _ _ (le-ltb index (body_index nodes 0) (omega arith))
-      ∙ cond-true _ _ _ (lt-ltb index (state_index nodes 0) (omega arith))
+      ∙ cond-false _ _ _ (le-ltb index (links_index 0) (omega arith))
+      ∙ cond-false _ _ _ (le-ltb index (body_index 0) (omega arith))
+      ∙ cond-true _ _ _ (lt-ltb index (state_index 0) (omega arith))
       ∙ rw (first, second) refl;
   state = λ id.
-      let index = state_index nodes id in
+      let index = state_index id in
       cond-false _ _ _ (not_first index (omega arith))
-      ∙ cond-false _ _ _ (le-ltb index (links_index nodes 0) (omega arith))
-      ∙ cond-false _ _ _ (le-ltb index (body_index nodes 0) (omega arith))
-      ∙ cond-false _ _ _ (le-ltb index (state_index nodes 0) (omega arith))
+      ∙ cond-false _ _ _ (le-ltb index (links_index 0) (omega arith))
+      ∙ cond-false _ _ _ (le-ltb index (body_index 0) (omega arith))
+      ∙ cond-false _ _ _ (le-ltb index (state_index 0) (omega arith))
       ∙ ap words.state (omega arith);
 }

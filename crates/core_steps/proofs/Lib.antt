@@ -3,7 +3,9 @@ pub mod Puts
 pub mod Frames
 pub mod Unyielding
 pub mod Resting
+pub mod TreeNodes
 pub mod Starts
+pub mod StartWords
 pub mod Seats
 pub mod Points
 pub mod Drops

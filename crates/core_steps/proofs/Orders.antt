@@ -10,7 +10,8 @@ use Rattle.areanode.specs.Trees.{leaves_of, visited_of}
 use Rattle.core_steps.specs.Views.{Fixed, has, is_leaf, inner_nodes, leaf_nodes, inner_visited, place_of}
 use Rattle.core_steps.specs.Laws.{PlansComeInOrder}
 use Rattle.core_steps.proofs.Lists.{has_append, has_filter, has_range, has_shifted}
-use Rattle.core_steps.proofs.Waiting.{Rises, rises_range, rises_filter, leaf_nodes_rise, leaf_below, leaf_first, place_of_leaf, place_of_inner}
+use Rattle.core_steps.proofs.TreeNodes.{leaf_below}
+use Rattle.core_steps.proofs.Waiting.{Rises, rises_range, rises_filter, leaf_nodes_rise, leaf_first, place_of_leaf, place_of_inner}
 
 -- each number of the list has a lesser place than those after it
 abbrev RisesBy : (ℕ → ℕ) → List ℕ → Type 0

@@ -222,6 +222,7 @@ made_seat_stands F core history now room rest is =
       unowed = λ cell lives none. is.unowed cell lives (λ j. sym (kept_made (λ (v : View). owed_at (stores_owed v.point) cell) view room fresh refl refl j) ∙ none j);
       linked = λ p node lives none. is.linked p node lives (λ j. sym (kept_made (λ (v : View). is_storing_for v p) view room fresh refl refl j) ∙ none j);
       unlinked = is.unlinked;
+      unused = is.unused;
     }
 
 -- ---- a seat is ended
@@ -343,4 +344,5 @@ ended_seat_stands F core history now i not_first rest first is =
       unowed = λ cell lives none. is.unowed cell lives (λ j. sym (kept_end (λ (v : View). owed_at (stores_owed v.point) cell) view i not_first (owes_nothing cell) refl j) ∙ none j);
       linked = λ p node lives none. is.linked p node lives (λ j. sym (kept_end (λ (v : View). is_storing_for v p) view i not_first (stores_nothing p) refl j) ∙ none j);
       unlinked = is.unlinked;
+      unused = is.unused;
     }

@@ -2,16 +2,16 @@
 use Rattle.std.proofs.Common.{◌≡◌, ℕ, ◌<◌, ◌≤◌, Bool, true, false, List, [], ◌∷◌, ◌++◌, length, refl, sym, ap, ◌∙◌, subst, inl, inr, Option, Some, None, arith, append_assoc}
 use Rattle.std.specs.Prelude.{◌==◌, ◌||◌, ◌&&◌, nat_lt, All, is_some}
 use Rattle.std.specs.List.Sorted.{IsPermutation}
-use Rattle.std.proofs.lemmas.Bool.{cases_Bool, false≢true, true≢false, eqb-true, eq-eqb, ne_eqb, and_parts, and_from, or_cases, or_left, or_right, ltb-true, leb-false, cond-true, cond-false}
+use Rattle.std.proofs.lemmas.Bool.{cases_Bool, false≢true, true≢false, eqb-true, eq-eqb, ne_eqb, and_parts, and_from, or_cases, or_left, or_right, ltb-true, lt-ltb, leb-false, cond-true, cond-false}
 use Rattle.entity_recs.specs.Worlds.{World}
 use Rattle.entity_recs.specs.Histories.{Item}
 use Rattle.areanode.specs.Trees.{node_of}
 use Rattle.areanode.specs.Words.{has_bit}
 use Rattle.std.specs.List.{range_with_len}
 use Rattle.core_steps.specs.Cells.{Words, Cell, Body, State, put, is_cell, word_in, with_word, with_bit, without_bit}
-use Rattle.core_steps.specs.Views.{Fixed, Store, Clear, Put, Link, Point, Idle, Owning, Taking, Checking, Entering, Entered, Loading, Leaving, Sensing, Resolving, Claiming, Storing, Releasing, Returning, Yielding, Stage, AtRest, AtOwning, AtTaking, AtChecking, AtReading, AtClaiming, AtStoring, AtReleasing, AtReturning, AtYielding, stage_of, is_busy, is_open, is_settled, is_committed, is_before_leaves, is_whole, is_owning, is_read_again, is_without_effect, is_storing, is_writing, Ended, View, has, is_leaf, inner_nodes, home, record_read, region_in, inner_held, leaves_held, holds, stores_owed}
+use Rattle.core_steps.specs.Views.{Fixed, Store, Clear, Put, Link, Point, Idle, Owning, Taking, Checking, Entering, Entered, Loading, Leaving, Sensing, Resolving, Claiming, Storing, Releasing, Returning, Yielding, Stage, AtRest, AtOwning, AtTaking, AtChecking, AtReading, AtClaiming, AtStoring, AtReleasing, AtReturning, AtYielding, stage_of, is_busy, is_open, is_settled, is_committed, is_before_leaves, is_whole, is_owning, is_read_again, is_without_effect, is_storing, is_writing, Ended, View, has, is_leaf, inner_nodes, nodes_of, home, state_at, record_read, region_in, inner_held, leaves_held, holds, stores_owed}
 use Rattle.core_steps.specs.Steps.{Core, storing, store_next}
-use Rattle.core_steps.specs.Stands.{OwesRight, IsAt, IsStart, IsLawful, IsLogWithin, IsHolding, IsCurrent, IsGivingUp, IsStoring, is_present, part_of, is_player, is_live_cell, value_in, owed_at, is_linked_at, is_storing_for, SeatStands, Stands}
+use Rattle.core_steps.specs.Stands.{OwesRight, IsAt, IsStart, IsLawful, IsLogWithin, IsHolding, AreUnusedZero, IsCurrent, IsGivingUp, IsStoring, is_present, part_of, is_player, is_live_cell, value_in, owed_at, is_linked_at, is_storing_for, SeatStands, Stands}
 use Rattle.core_steps.specs.Laws.{StoredNextStands}
 use Rattle.core_steps.proofs.Unyielding.{is_yielding, not_giving_up}
 use Rattle.core_steps.proofs.Puts.{each_put, put_same, put_other, kept_put, eqb_sym}
@@ -19,6 +19,8 @@ use Rattle.core_steps.proofs.Lists.{filter_has, range_has}
 use Rattle.core_steps.proofs.Frames.{same_logs_put, items_of_same, numbered_put, apart_put, busy_lives, KeepsLog}
 use Rattle.core_steps.proofs.Giving.{seat_at, current_unsettled}
 use Rattle.core_steps.proofs.Drops.{word_at_stages}
+use Rattle.core_steps.proofs.TreeNodes.{inner_in, wanted_in}
+use Rattle.entity_recs.specs.declared.effect.Effect.{Effect}
 use Rattle.core_steps.proofs.Exclusion.{all_leaves, now_world}
 use Rattle.core_steps.proofs.Runs.{live_ordered}
 use Rattle.core_steps.proofs.Owing.{owing}
@@ -176,6 +178,7 @@ record IsStoreStep (F : Fixed) (core : Core) (now : World) (i : ℕ) (nodes : Li
   linked : (p v : ℕ) → is_player F p ≡ true → (is_storing (stage_of (storing nodes stores)) && ((core.view i).cmd.slot == p)) ≡ false
       → ((j : ℕ) → (j == i) ≡ false → is_storing_for (core.view j) p ≡ false) → has_bit (words'.links v) p ≡ (v == home F (now.record_of p))
   unlinked : (p v : ℕ) → p < 64 → has F.start.ids p ≡ false → has_bit (words'.links v) p ≡ false
+  unused : AreUnusedZero F words'.node words'.links words'.body words'.state
 
 store_on : (F : Fixed) (core : Core) (history : List Item) (now : World) (i : ℕ) (nodes : List ℕ) (store : Store) (stores : List Store) (words' : Words)
     → (core.view i).point ≡ Storing nodes (store ∷ stores) → OwesRight now stores → Stands F core history now → IsStoreStep F core now i nodes stores words'
@@ -220,6 +223,7 @@ store_on F core history now i nodes store stores words' e owes is step =
           (elsewhere (λ (w : View). owed_at (stores_owed w.point) cell ≡ None) none);
       linked = λ p v player none. step.linked p v player (there (λ (w : View). is_storing_for w p ≡ false) none) (elsewhere (λ (w : View). is_storing_for w p ≡ false) none);
       unlinked = step.unlinked;
+      unused = step.unused;
     }
 
 -- ---- what other seats read
@@ -341,6 +345,16 @@ links_word : (words : Words) (links' : ℕ → ℕ) (cell : Cell) → word_in (r
 links_word words links' (Body p k) = refl
 links_word words links' (State id) = refl
 
+-- a node that a seat holds while it stores is a node of the tree
+storing_holds : (F : Fixed) (core : Core) (history : List Item) (now : World) (i n : ℕ) (nodes : List ℕ) (stores : List Store) → Stands F core history now
+    → (core.view i).point ≡ Storing nodes stores → holds F (core.view i).point (core.view i).wanted n ≡ true → n < nodes_of F
+storing_holds F core history now i n nodes stores is e held =
+    let wanted = (core.view i).wanted in
+    elim (or_cases (has nodes n) (has wanted n) (ap (λ (p : Point). holds F p wanted n) (sym e) ∙ held)) [
+      | inl inner ↦ inner_in F n ((seat_at F core history now i (Storing nodes stores) is e).holding.inner_are_inner n inner)
+      | inr leaf ↦ wanted_in F core history now i is (ap (λ (p : Point). is_whole (stage_of p)) e) n leaf
+    ]
+
 -- a list word of a held node that keeps the bits of the other players
 link_step : (F : Fixed) (core : Core) (history : List Item) (now : World) (i n word : ℕ) (nodes : List ℕ) (store : Store) (stores : List Store) → Stands F core history now
     → (core.view i).point ≡ Storing nodes (store ∷ stores) → ((cell : Cell) → owed_at (store ∷ stores) cell ≡ owed_at stores cell)
@@ -388,7 +402,16 @@ link_step F core history now i n word nodes store stores is e same_owed held oth
       unlinked = λ p v below dead.
           let differ : (p == slot) ≡ false = ne_eqb p slot (λ same. true≢false (sym given.live ∙ subst (λ (m : ℕ). has F.start.ids m ≡ false) same dead)) in
           bits_kept core.words.links n word p v (others p below differ) ∙ is.unlinked p v below dead;
+      unused = record {
+        no_node = is.unused.no_node;
+        no_links = λ v beyond. put_other n v word core.words.links (away v n beyond (storing_holds F core history now i n nodes (store ∷ stores) is e held)) ∙ is.unused.no_links v beyond;
+        no_body = is.unused.no_body;
+        no_state = is.unused.no_state;
+      };
     }
+  where
+    away : (v m : ℕ) → nodes_of F ≤ v → m < nodes_of F → (v == m) ≡ false
+    away v m beyond within = ne_eqb v m (λ same. omega arith)
 
 clear_stands : (F : Fixed) (core : Core) (history : List Item) (now : World) (i n : ℕ) (nodes : List ℕ) (stores : List Store) → IsLawful F → IsStart F
     → (core.view i).point ≡ Storing nodes (Clear n ∷ stores) → Stands F core history now → Stands F (store_next core i nodes (Clear n) stores) history now
@@ -469,8 +492,9 @@ put_step : (F : Fixed) (core : Core) (history : List Item) (now : World) (i : �
     → (core.view i).point ≡ Storing nodes (Put cell x ∷ stores) → 0 < length stores → NoClear stores → words'.node ≡ core.words.node → words'.commits ≡ core.words.commits → words'.links ≡ core.words.links
     → word_in words' cell ≡ value_in now cell → ((other : Cell) → is_cell cell other ≡ false → word_in words' other ≡ word_in core.words other)
     → ((j : ℕ) → (j == i) ≡ false → (p k : ℕ) → k < length (part_of (core.view j).point p) → words'.body p k ≡ core.words.body p k)
+    → AreUnusedZero F words'.node words'.links words'.body words'.state
     → IsStoreStep F core now i nodes stores words'
-put_step F core history now i cell x nodes stores words' is e left none node_same commits_same links_same stored others bodies =
+put_step F core history now i cell x nodes stores words' is e left none node_same commits_same links_same stored others bodies unused =
     let view = core.view i in
     let slot = view.cmd.slot in
     let seat = is.seats i in
@@ -504,6 +528,7 @@ put_step F core history now i cell x nodes stores words' is e left none node_sam
         | inr away ↦ others_none j away
       ]);
       unlinked = λ p v below dead. same_bit p v ∙ is.unlinked p v below dead;
+      unused = unused;
     }
   where
     same_cell : (a b : Cell) → is_cell a b ≡ true → word_in words' a ≡ value_in now a → word_in words' b ≡ value_in now b
@@ -537,9 +562,9 @@ put_next F core history now i cell x nodes stores is e =
       owes = right.1;
     }
 
-put_stands : (F : Fixed) (core : Core) (history : List Item) (now : World) (i : ℕ) (cell : Cell) (x : ℕ) (nodes : List ℕ) (stores : List Store)
+put_stands : (F : Fixed) (core : Core) (history : List Item) (now : World) (i : ℕ) (cell : Cell) (x : ℕ) (nodes : List ℕ) (stores : List Store) → IsLawful F → IsStart F
     → (core.view i).point ≡ Storing nodes (Put cell x ∷ stores) → Stands F core history now → Stands F (store_next core i nodes (Put cell x) stores) history now
-put_stands F core history now i (Body p k) x nodes stores e is =
+put_stands F core history now i (Body p k) x nodes stores lawful start e is =
     let view = core.view i in
     let next = put_next F core history now i (Body p k) x nodes stores is e in
     let words' = with_word core.words (Body p k) x in
@@ -556,15 +581,49 @@ put_stands F core history now i (Body p k) x nodes stores e is =
           let linked = part_linked F core history now j q l (core.view j).point is refl below in
           absurd (true≢false (sym linked.bit ∙ ap (has_bit (core.words.links linked.node)) (eqb-true q p same) ∙ bit linked.node))
       | inr away ↦ ap (λ (f : ℕ → ℕ). f l) (put_other p q (put k x (core.words.body p)) core.words.body away)
-    ]))
-put_stands F core history now i (State id) x nodes stores e is =
+    ]) (record {
+      no_node = is.unused.no_node;
+      no_links = is.unused.no_links;
+      no_body = λ q l dead. ap (λ (f : ℕ → ℕ). f l) (put_other p q (put k x (core.words.body p)) core.words.body (other_slot q dead (player own))) ∙ is.unused.no_body q l dead;
+      no_state = is.unused.no_state;
+    }))
+  where
+    player : p ≡ (core.view i).cmd.slot → is_player F p ≡ true
+    player own =
+        let given = (is.seats i).hand (ap (λ (q : Point). is_busy (stage_of q)) e) in
+        let slot = (core.view i).cmd.slot in
+        ap (is_player F) own ∙ and_from (nat_lt slot 64) (has F.start.ids slot) (lt-ltb slot 64 given.command.slot) given.live
+
+    other_slot : (q : ℕ) → is_player F q ≡ false → is_player F p ≡ true → (q == p) ≡ false
+    other_slot q dead live = ne_eqb q p (λ same. true≢false (sym live ∙ ap (is_player F) (sym same) ∙ dead))
+put_stands F core history now i (State id) x nodes stores lawful start e is =
     let next = put_next F core history now i (State id) x nodes stores is e in
     let words' = with_word core.words (State id) x in
     store_on F core history now i nodes (Put (State id) x) stores words' e next.owes is
     (put_step F core history now i (State id) x nodes stores words' is e next.left next.none refl refl refl (word_same core.words (State id) x ∙ next.value)
-    (λ other differ. word_other core.words (State id) other x differ) (λ j _ q l below. refl))
+    (λ other differ. word_other core.words (State id) other x differ) (λ j _ q l below. refl) (record {
+      no_node = is.unused.no_node;
+      no_links = is.unused.no_links;
+      no_body = is.unused.no_body;
+      no_state = λ other dead. put_other id other x core.words.state (other_id other dead live) ∙ is.unused.no_state other dead;
+    }))
+  where
+    live : has F.start.ids id ≡ true
+    live =
+        let view = core.view i in
+        let owes = owing F view.cmd view.own view.wanted view.again view.lists view.others view.states view.effect view.point (State id) x (is.seats i).at
+        (ap (λ (q : Point). owed_at (stores_owed q) (State id)) e ∙ cond-true (id == id) (Some x) (owed_at stores (State id)) (eq-eqb id id refl)) in
+        let wrote = has_written F core history now i lawful start is (ap (λ (q : Point). is_storing (stage_of q)) e) in
+        let same : wrote.e ≡ owes.e = let both = sym wrote.is ∙ owes.is in cc in
+        elim (or_cases (id == view.cmd.slot) (is_some (state_at owes.e.states id)) owes.written) [
+          | inl own ↦ ap (has F.start.ids) (eqb-true id view.cmd.slot own) ∙ wrote.given.live
+          | inr listed ↦ wrote.live id (ap (λ (f : Effect). is_some (state_at f.states id)) same ∙ listed)
+        ]
+
+    other_id : (other : ℕ) → has F.start.ids other ≡ false → has F.start.ids id ≡ true → (other == id) ≡ false
+    other_id other dead there = ne_eqb other id (λ same. true≢false (sym there ∙ ap (has F.start.ids) (sym same) ∙ dead))
 
 pub stored_next_stands : StoredNextStands
 stored_next_stands F core history now i nodes (Clear n) stores lawful start e is = clear_stands F core history now i n nodes stores lawful start e is
-stored_next_stands F core history now i nodes (Put cell x) stores lawful start e is = put_stands F core history now i cell x nodes stores e is
+stored_next_stands F core history now i nodes (Put cell x) stores lawful start e is = put_stands F core history now i cell x nodes stores lawful start e is
 stored_next_stands F core history now i nodes (Link n) stores lawful start e is = link_stands F core history now i n nodes stores lawful start e is

@@ -5,7 +5,7 @@ use Rattle.std.specs.List.{range_with_len}
 use Rattle.std.proofs.lemmas.Bool.{false≢true, eqb-true, eqb-false, eq-eqb, or_cases, or_left, or_right, cond-false, lt-leb}
 use Rattle.entity_recs.specs.Worlds.{World}
 use Rattle.entity_recs.specs.Histories.{Item}
-use Rattle.core_steps.specs.Views.{Fixed, Point, Idle, Owning, Taking, Checking, Entering, Entered, Loading, Leaving, Sensing, Resolving, Claiming, Storing, Releasing, Returning, Yielding, Stage, AtTaking, AtChecking, AtReading, AtClaiming, stage_of, View, has, is_leaf, inner_nodes, inner_of_two, write_nodes, home, record_read, visited_node, held_word}
+use Rattle.core_steps.specs.Views.{Fixed, Point, Idle, Owning, Taking, Checking, Entering, Entered, Loading, Leaving, Sensing, Resolving, Claiming, Storing, Releasing, Returning, Yielding, Stage, AtTaking, AtChecking, AtReading, AtClaiming, stage_of, is_whole, View, has, is_leaf, inner_nodes, inner_of_two, write_nodes, home, record_read, visited_node, held_word}
 use Rattle.core_steps.specs.Steps.{Core, with_node, taking, next_take, point_after_take, view_after_refusal}
 use Rattle.core_steps.specs.Stands.{AreDistinct, Stands}
 use Rattle.core_steps.specs.Laws.{TakenNodeStands, RefusedNodeStands}
@@ -15,6 +15,7 @@ use Rattle.core_steps.proofs.Unyielding.{not_giving_up}
 use Rattle.core_steps.proofs.Points.{StageAsksLess, seat_with_point, reading_goes_on}
 use Rattle.core_steps.proofs.Drops.{word_at_stages}
 use Rattle.core_steps.proofs.Giving.{seat_at, current_unsettled}
+use Rattle.core_steps.proofs.TreeNodes.{inner_in, wanted_in}
 use Rattle.core_steps.proofs.GiveBacks.{taking_point}
 use Rattle.core_steps.proofs.Taking.{IsTaken, take_on, checking_stands}
 use Rattle.core_steps.proofs.Lists.{has_front, has_last, has_before_last, distinct_front, distinct_filter, distinct_range, has_filter, has_range}
@@ -65,6 +66,7 @@ take_last_leaf F core history now i node got is e free =
     take_on F core history now i node (record view { point = Checking }) is free
     (subst (λ (point : Point). IsTaken F core history now i node (record view { point = Checking }) point) (sym e) (record {
       was_busy = refl;
+      within = wanted_in F core history now i is (ap (λ (p : Point). is_whole (stage_of p)) e) node (subst (λ (leaves : List ℕ). has leaves node ≡ true) all (has_last got node));
       keeps = record { live = refl; log = refl; made = refl; ended = refl };
       cmd = refl;
       now_held = subst (λ (leaves : List ℕ). has leaves node ≡ true) all (has_last got node);
@@ -93,6 +95,7 @@ take_leaf F core history now i node next got rest is e free =
     take_on F core history now i node (record view { point = new }) is free
     (subst (λ (point : Point). IsTaken F core history now i node (record view { point = new }) point) (sym e) (record {
       was_busy = refl;
+      within = wanted_in F core history now i is (ap (λ (p : Point). is_whole (stage_of p)) e) node (leaf node (has_last got node));
       keeps = record { live = refl; log = refl; made = refl; ended = refl };
       cmd = refl;
       now_held = has_last got node;
@@ -135,6 +138,7 @@ enter_node F core history now i node plan is e free =
     take_on F core history now i node (record view { point = new }) is free
     (subst (λ (point : Point). IsTaken F core history now i node (record view { point = new }) point) (sym e) (record {
       was_busy = refl;
+      within = inner_in F node seat.at.inner;
       keeps = record { live = refl; log = refl; made = refl; ended = refl };
       cmd = refl;
       now_held = or_left _ _ (subst (λ (nodes : List ℕ). has nodes node ≡ true) (sym inner) (or_left _ _ (eq-eqb node node refl)));
@@ -195,6 +199,8 @@ claim_next F core history now i node got rest is e free =
     take_on F core history now i node (record view { point = new }) is free
     (subst (λ (point : Point). IsTaken F core history now i node (record view { point = new }) point) (sym e) (record {
       was_busy = refl;
+      within = inner_in F node (two_inner F (home F before) (home F claim.e.me) node
+          (subst (λ (all : List ℕ). has all node ≡ true) nodes (has_front (got ++ node ∷ []) rest node (has_last got node))));
       keeps = record { live = refl; log = refl; made = refl; ended = refl };
       cmd = refl;
       now_held = or_left _ _ (has_last got node);

@@ -1,12 +1,12 @@
 -- A node is taken.
-use Rattle.std.proofs.Common.{◌≡◌, ℕ, suc, ◌<◌, Bool, true, false, List, [], length, refl, sym, ap, ◌∙◌, subst, inl, inr, arith}
+use Rattle.std.proofs.Common.{◌≡◌, ℕ, suc, ◌<◌, ◌≤◌, Bool, true, false, List, [], length, refl, sym, ap, ◌∙◌, subst, inl, inr, arith}
 use Rattle.std.specs.Prelude.{◌==◌, ◌&&◌}
 use Rattle.std.proofs.lemmas.Bool.{cases_Bool, false≢true, true≢false, eqb-true, ne_eqb, cond-true, cond-false, false_from_ne_true}
 use Rattle.entity_recs.specs.declared.effect.NewState.{NewState}
 use Rattle.entity_recs.specs.Worlds.{World}
 use Rattle.entity_recs.specs.Histories.{Item}
 use Rattle.core_steps.specs.Cells.{Words, put}
-use Rattle.core_steps.specs.Views.{Fixed, ListRead, PlayerRead, list_at, player_at, state_at, is_before_leaves, is_open, is_whole, is_without_effect, Point, Taking, Checking, AtTaking, AtChecking, stage_of, is_busy, is_storing, View, home, holds, held_word, stores_owed}
+use Rattle.core_steps.specs.Views.{Fixed, ListRead, PlayerRead, list_at, player_at, state_at, is_before_leaves, is_open, is_whole, is_without_effect, Point, Taking, Checking, AtTaking, AtChecking, stage_of, is_busy, is_storing, View, nodes_of, home, holds, held_word, stores_owed}
 use Rattle.core_steps.specs.Steps.{Core, with_node}
 use Rattle.core_steps.specs.Stands.{SeatStands, owed_at, Stands}
 use Rattle.core_steps.proofs.Unyielding.{not_giving_up}
@@ -28,6 +28,7 @@ not_held F core history now j node is free =
 -- the seat's view after it has taken a node at the old point
 pub record IsTaken (F : Fixed) (core : Core) (history : List Item) (now : World) (i node : ℕ) (new : View) (old : Point) : Type 0 where
   pub was_busy : is_busy (stage_of old) ≡ true
+  pub within : node < nodes_of F
   pub keeps : KeepsLog new (core.view i)
   pub cmd : new.cmd ≡ (core.view i).cmd
   pub now_held : holds F new.point new.wanted node ≡ true
@@ -77,7 +78,11 @@ take_on F core history now i node new is free step =
       owes = λ cell. ap (λ stores. owed_at stores cell) (step.owes ∙ sym step.owed);
       stores = λ p. ap (λ (b : Bool). b && (new.cmd.slot == p)) (step.not_storing ∙ sym step.was_not_storing)
           ∙ ap (λ c. is_storing (stage_of view.point) && (c.slot == p)) step.cmd;
+      unused = λ v beyond. put_other node v word core.words.node (away v node beyond step.within) ∙ is.unused.no_node v beyond;
     })
+  where
+    away : (v n : ℕ) → nodes_of F ≤ v → n < nodes_of F → (v == n) ≡ false
+    away v n beyond within = ne_eqb v n (λ same. omega arith)
 
 -- ---- a leaf
 

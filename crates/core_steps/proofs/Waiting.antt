@@ -15,6 +15,7 @@ use Rattle.core_steps.specs.Laws.{NotAllWait, TakesComeInOrder}
 use Rattle.core_steps.proofs.Lists.{has_filter, has_range, has_shifted, has_append}
 use Rattle.core_steps.proofs.Frames.{busy_lives}
 use Rattle.core_steps.proofs.Giving.{seat_at}
+use Rattle.core_steps.proofs.TreeNodes.{wanted_below}
 use Rattle.core_steps.proofs.Takes.{two_inner}
 
 -- ---- rising lists
@@ -66,13 +67,6 @@ place_of_leaf F node leaf = cond-true (is_leaf F node) (node - inner_nodes F) (2
 pub place_of_inner : (F : Fixed) (node : ℕ) → is_leaf F node ≡ false → place_of F node ≡ 2 ^ F.tree.depth + node
 place_of_inner F node inner = cond-false (is_leaf F node) (node - inner_nodes F) (2 ^ F.tree.depth + node) inner
 
-pub leaf_below : (F : Fixed) (region : List Bounds) (v : ℕ) → has (leaf_nodes F region) v ≡ true → v < inner_nodes F + 2 ^ F.tree.depth
-leaf_below F region v there =
-    let s = has_shifted (2 ^ F.tree.depth - 1) (filter (has_bit (leaves_of F.tree region)) (range_with_len 0 (2 ^ F.tree.depth))) v there in
-    let kept = has_filter (has_bit (leaves_of F.tree region)) (range_with_len 0 (2 ^ F.tree.depth)) s.from s.listed in
-    let range = has_range 0 (2 ^ F.tree.depth) s.from kept.listed in
-    omega (arith, s.is, range.most)
-
 -- a leaf comes before each inner node
 pub leaf_first : (F : Fixed) (leaf node : ℕ) → is_leaf F leaf ≡ true → leaf < inner_nodes F + 2 ^ F.tree.depth → is_leaf F node ≡ false → place_of F leaf < place_of F node
 leaf_first F leaf node is below inner =
@@ -91,12 +85,6 @@ inner_most F node inner =
     let is = place_of_inner F node inner in
     let below = leb-false (inner_nodes F) node inner in
     rw is (omega arith)
-
--- the leaves wanted are in range
-pub wanted_below : (F : Fixed) (core : Core) (history : List Item) (now : World) (j : ℕ) → Stands F core history now → is_whole (stage_of (core.view j).point) ≡ true
-    → (v : ℕ) → has (core.view j).wanted v ≡ true → v < inner_nodes F + 2 ^ F.tree.depth
-wanted_below F core history now j is whole v there =
-    leaf_below F (region_in F (core.view j).cmd (core.view j).own) v (subst (λ (leaves : List ℕ). has leaves v ≡ true) ((is.seats j).own.leaves whole) there)
 
 pub first_there : (nodes : List ℕ) (node : ℕ) → first nodes ≡ Some node → has nodes node ≡ true
 first_there [] node e = cc

@@ -1,6 +1,7 @@
 -- The shared words, by what they hold, and the flat table in which they lie.
 use Rattle.std.specs.Prelude.{ℕ, ◌+◌, ◌-◌, ◌*◌, ◌/◌, ◌%◌, ◌==◌, nat_lt, Bool, false, ◌&&◌, not, ◌||◌, if◌then◌else◌}
 use Rattle.areanode.specs.Words.{has_bit, word_of}
+use Rattle.core_steps.specs.declared.sizes.TheConstants.{TABLE_NODES}
 
 -- the count of commits, each node's word, each node's list word, each player's five words, and each entity's state word
 pub record Words : Type 0 where
@@ -48,7 +49,7 @@ with_bit word slot = word_of 64 (λ other. (other == slot) || has_bit word other
 abbrev pub without_bit : ℕ → ℕ → ℕ
 without_bit word slot = word_of 64 (λ other. not (other == slot) && has_bit word other)
 
--- ---- the flat table of a tree with this many nodes
+-- ---- the flat table, whose layout is one whatever the tree and the arena
 
 -- the index of the count of commits
 abbrev pub count_index : ℕ
@@ -59,32 +60,28 @@ abbrev pub node_index : ℕ → ℕ
 node_index node = 1 + node
 
 -- the index of a node's list word
-abbrev pub links_index : ℕ → ℕ → ℕ
-links_index nodes node = 1 + nodes + node
+abbrev pub links_index : ℕ → ℕ
+links_index node = 1 + TABLE_NODES + node
 
 -- the index of the first of a player's five words
-abbrev pub body_index : ℕ → ℕ → ℕ
-body_index nodes slot = 1 + 2 * nodes + 5 * slot
+abbrev pub body_index : ℕ → ℕ
+body_index slot = 1 + 2 * TABLE_NODES + 5 * slot
 
 -- the index of an entity's state word
-abbrev pub state_index : ℕ → ℕ → ℕ
-state_index nodes id = 321 + 2 * nodes + id
+abbrev pub state_index : ℕ → ℕ
+state_index id = 1 + 2 * TABLE_NODES + 5 * 64 + id
 
 -- the index of a cell
-abbrev pub cell_index : ℕ → Cell → ℕ
-cell_index nodes (Body slot k) = body_index nodes slot + k
-cell_index nodes (State id) = state_index nodes id
-
--- how many words the flat table has
-abbrev pub table_size : ℕ → ℕ
-table_size nodes = 577 + 2 * nodes
+abbrev pub cell_index : Cell → ℕ
+cell_index (Body slot k) = body_index slot + k
+cell_index (State id) = state_index id
 
 -- the word at an index of the flat table
-abbrev pub word_at : ℕ → Words → ℕ → ℕ
-word_at nodes words index =
+abbrev pub word_at : Words → ℕ → ℕ
+word_at words index =
     if index == 0 then words.commits
-    else (if nat_lt index (links_index nodes 0) then words.node (index - 1)
-    else (if nat_lt index (body_index nodes 0) then words.links (index - links_index nodes 0)
-    else (if nat_lt index (state_index nodes 0) then
-    words.body ((index - body_index nodes 0) / 5) ((index - body_index nodes 0) % 5)
-    else words.state (index - state_index nodes 0))))
+    else (if nat_lt index (links_index 0) then words.node (index - 1)
+    else (if nat_lt index (body_index 0) then words.links (index - links_index 0)
+    else (if nat_lt index (state_index 0) then
+    words.body ((index - body_index 0) / 5) ((index - body_index 0) % 5)
+    else words.state (index - state_index 0))))

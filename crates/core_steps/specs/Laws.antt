@@ -1,5 +1,5 @@
 -- That each kind of step keeps what stands.
-use Rattle.std.specs.Prelude.{◌≡◌, ℕ, ◌<◌, ◌==◌, length, true, false, List, [], ◌∷◌, ◌++◌}
+use Rattle.std.specs.Prelude.{◌≡◌, ℕ, ◌<◌, ◌≤◌, ◌==◌, length, true, false, List, [], ◌∷◌, ◌++◌}
 use Rattle.std.specs.Prelude.{Some, None, map}
 use Rattle.std.specs.List.Sorted.{IsStrictlyIncreasing}
 use Rattle.arena_geo.specs.Bounds.{Bounds}
@@ -7,6 +7,7 @@ use Rattle.entity_recs.specs.declared.kind.Kind.TheVariants.{Player}
 use Rattle.entity_recs.specs.declared.rec.Rec.{Rec}
 use Rattle.entity_recs.specs.Records.{with_state}
 use Rattle.entity_recs.specs.Actions.{IsKeepable}
+use Rattle.core_steps.specs.declared.sizes.TheConstants.{TABLE_NODES}
 use Rattle.core_steps.specs.Cells.{Words, Body, State, count_index, node_index, links_index}
 use Rattle.core_steps.specs.Cells.{cell_index, word_at}
 use Rattle.core_steps.specs.Encoding.{words_of, record_from}
@@ -16,7 +17,7 @@ use Rattle.entity_recs.specs.Worlds.{World}
 use Rattle.entity_recs.specs.Histories.{Item, apply}
 use Rattle.core_steps.specs.Views.{Store, Storing, Fixed, Resolving, Claiming, record_read, write_nodes, effect_loaded}
 use Rattle.core_steps.specs.Views.{Idle, Owning, Checking, Sensing, Loading, Entered, AtChecking, stage_of, is_busy}
-use Rattle.core_steps.specs.Views.{is_open, leaves_held, holds, place_of, plan_of}
+use Rattle.core_steps.specs.Views.{is_open, leaves_held, holds, place_of, plan_of, has, nodes_of}
 use Rattle.core_steps.specs.Steps.{store_next, item_at, commit, SomeSeatGoesOn, Core, first, claim_node, next_take}
 use Rattle.core_steps.specs.Steps.{take_node, refuse_node, next_give, give_node, is_taking, first_yield, yield_node}
 use Rattle.core_steps.specs.Steps.{yield_nothing, load_list, begin_move, load_own, load_again, load_player, load_state}
@@ -144,16 +145,30 @@ LoadedPlayerStands =
     → Stands F (load_player F core i node part p players plan) history now
 
 -- each word lies at its index in the flat table
-pub record LaysOut (nodes : ℕ) (words : Words) : Type 0 where
-  pub count : word_at nodes words count_index ≡ words.commits
-  pub node : (v : ℕ) → v < nodes → word_at nodes words (node_index v) ≡ words.node v
-  pub links : (v : ℕ) → v < nodes → word_at nodes words (links_index nodes v) ≡ words.links v
-  pub body : (slot k : ℕ) → slot < 64 → k < 5 → word_at nodes words (cell_index nodes (Body slot k)) ≡ words.body slot k
-  pub state : (id : ℕ) → word_at nodes words (cell_index nodes (State id)) ≡ words.state id
+pub record LaysOut (words : Words) : Type 0 where
+  pub count : word_at words count_index ≡ words.commits
+  pub node : (v : ℕ) → v < TABLE_NODES → word_at words (node_index v) ≡ words.node v
+  pub links : (v : ℕ) → v < TABLE_NODES → word_at words (links_index v) ≡ words.links v
+  pub body : (slot k : ℕ) → slot < 64 → k < 5 → word_at words (cell_index (Body slot k)) ≡ words.body slot k
+  pub state : (id : ℕ) → word_at words (cell_index (State id)) ≡ words.state id
 
--- the words lie in the flat table at their indices, whatever the number of nodes
+-- the words lie in the flat table at their indices, whatever the tree
 abbrev pub LayoutIsRight : Type 0
-LayoutIsRight = (nodes : ℕ) (words : Words) → LaysOut nodes words
+LayoutIsRight = (words : Words) → LaysOut words
+
+-- the words in the flat table of nodes that the tree hasn't, of players that aren't live and of ids that aren't live are
+-- 0
+pub record HasUnusedWords (F : Fixed) (words : Words) : Type 0 where
+  pub node : (v : ℕ) → v < TABLE_NODES → nodes_of F ≤ v → word_at words (node_index v) ≡ 0
+  pub links : (v : ℕ) → v < TABLE_NODES → nodes_of F ≤ v → word_at words (links_index v) ≡ 0
+  pub body : (slot k : ℕ) → slot < 64 → k < 5 → has F.start.ids slot ≡ false
+      → word_at words (cell_index (Body slot k)) ≡ 0
+  pub state : (id : ℕ) → has F.start.ids id ≡ false → word_at words (cell_index (State id)) ≡ 0
+
+-- and they stay 0, since they are between any two steps
+abbrev pub UnusedWordsAreZero : Type 0
+UnusedWordsAreZero = (F : Fixed) (core : Core) (history : List Item) (now : World) → Stands F core history now
+    → HasUnusedWords F core.words
 
 -- the first write node that is taken, with which the effect that the action gives on what was loaded enters the view,
 -- leaves what stands

@@ -23,7 +23,7 @@ use Rattle.core_steps.specs.Views.{has}
 use Rattle.core_steps.specs.Steps.{Core, item_at, take_node, claim_node, refuse_node, next_give, give_node, is_taking}
 use Rattle.core_steps.specs.Steps.{first_yield, yield_node, yield_nothing, load_list, begin_move, load_own, load_again}
 use Rattle.core_steps.specs.Steps.{load_player, load_state, commit, store_next}
-use Rattle.core_steps.specs.Stands.{IsGiven, AreDistinct, Stands}
+use Rattle.core_steps.specs.Stands.{is_live_cell, IsGiven, AreDistinct, Stands}
 
 -- the core, with what no view has yet: the commands that were given and aren't begun, and which seats are to give up
 pub record Machine : Type 0 where
@@ -125,11 +125,11 @@ kind_of_store (views.Clear node) = Bit
 kind_of_store (views.Put cell x) = Store
 kind_of_store (views.Link node) = Bit
 
--- the index of the word of a store that is owed, in the table of a tree with this many nodes
-abbrev pub index_of_store : ℕ → views.Store → ℕ
-index_of_store nodes (views.Clear node) = links_index nodes node
-index_of_store nodes (views.Put cell x) = cell_index nodes cell
-index_of_store nodes (views.Link node) = links_index nodes node
+-- the index of the word of a store that is owed
+abbrev pub index_of_store : views.Store → ℕ
+index_of_store (views.Clear node) = links_index node
+index_of_store (views.Put cell x) = cell_index cell
+index_of_store (views.Link node) = links_index node
 
 -- the kind of what comes next
 abbrev pub kind_of : Next → StepKind
@@ -147,29 +147,29 @@ kind_of (GiveNode node) = GiveBack
 kind_of (YieldNode node) = GiveBack
 kind_of YieldCount = Count
 
--- the index of its word, in the table of a tree with this many nodes
-abbrev pub index_of : ℕ → View → Next → ℕ
-index_of nodes view (Begin c) = cell_index nodes (cell_of c.slot 0)
-index_of nodes view LoadOwn = cell_index nodes (cell_of view.cmd.slot (length view.own))
-index_of nodes view LoadAgain = cell_index nodes (cell_of view.cmd.slot (length view.again))
-index_of nodes view (TakeNode node) = node_index node
-index_of nodes view (ClaimNode e node) = node_index node
-index_of nodes view (ReadList node plan) = links_index nodes node
-index_of nodes view (ReadPlayer node part slot players plan) = cell_index nodes (cell_of slot (length part))
-index_of nodes view (ReadState id ids) = state_index nodes id
-index_of nodes view (CommitMove e held) = count_index
-index_of nodes view (StoreWord held store stores) = index_of_store nodes store
-index_of nodes view (GiveNode node) = node_index node
-index_of nodes view (YieldNode node) = node_index node
-index_of nodes view YieldCount = count_index
+-- the index of its word in the table
+abbrev pub index_of : View → Next → ℕ
+index_of view (Begin c) = cell_index (cell_of c.slot 0)
+index_of view LoadOwn = cell_index (cell_of view.cmd.slot (length view.own))
+index_of view LoadAgain = cell_index (cell_of view.cmd.slot (length view.again))
+index_of view (TakeNode node) = node_index node
+index_of view (ClaimNode e node) = node_index node
+index_of view (ReadList node plan) = links_index node
+index_of view (ReadPlayer node part slot players plan) = cell_index (cell_of slot (length part))
+index_of view (ReadState id ids) = state_index id
+index_of view (CommitMove e held) = count_index
+index_of view (StoreWord held store stores) = index_of_store store
+index_of view (GiveNode node) = node_index node
+index_of view (YieldNode node) = node_index node
+index_of view YieldCount = count_index
 
 -- the step that the seat makes next, by its kind and its word
-abbrev pub step_of : Fixed → ℕ → View → Next → Step
-step_of F i view next = record { seat = i; word = index_of (nodes_of F) view next; kind = kind_of next }
+abbrev pub step_of : ℕ → View → Next → Step
+step_of i view next = record { seat = i; word = index_of view next; kind = kind_of next }
 
 -- the seat's next step, if it has one
 abbrev pub next_step_of : Fixed → Machine → ℕ → Option Step
-next_step_of F m i = option_map (step_of F i (m.core.view i)) (next_of F m i)
+next_step_of F m i = option_map (step_of i (m.core.view i)) (next_of F m i)
 
 -- ---- the machine after it
 
@@ -223,6 +223,31 @@ word_of_next words view (StoreWord nodes store stores) = word_of_store words sto
 word_of_next words view (GiveNode node) = words.node node
 word_of_next words view (YieldNode node) = words.node node
 word_of_next words view YieldCount = words.commits
+
+-- ---- words that are in use
+
+-- the store is to the list word of a node of the tree, or to a word of a live player or a live id
+abbrev pub IsStoreInUse : Fixed → views.Store → Type 0
+IsStoreInUse F (views.Clear node) = node < nodes_of F
+IsStoreInUse F (views.Put cell x) = is_live_cell F cell ≡ true
+IsStoreInUse F (views.Link node) = node < nodes_of F
+
+-- the word of what comes next is the count, the word or the list word of a node of the tree, or one of a live player or a
+-- live id
+abbrev pub IsInUse : Fixed → View → Next → Type 0
+IsInUse F view (Begin c) = is_live_cell F (cell_of c.slot 0) ≡ true
+IsInUse F view LoadOwn = is_live_cell F (cell_of view.cmd.slot (length view.own)) ≡ true
+IsInUse F view LoadAgain = is_live_cell F (cell_of view.cmd.slot (length view.again)) ≡ true
+IsInUse F view (TakeNode node) = node < nodes_of F
+IsInUse F view (ClaimNode e node) = node < nodes_of F
+IsInUse F view (ReadList node plan) = node < nodes_of F
+IsInUse F view (ReadPlayer node part slot players plan) = is_live_cell F (cell_of slot (length part)) ≡ true
+IsInUse F view (ReadState id ids) = has F.start.ids id ≡ true
+IsInUse F view (CommitMove e nodes) = Unit {0}
+IsInUse F view (StoreWord nodes store stores) = IsStoreInUse F store
+IsInUse F view (GiveNode node) = node < nodes_of F
+IsInUse F view (YieldNode node) = node < nodes_of F
+IsInUse F view YieldCount = Unit {0}
 
 -- ---- what holds of a machine
 

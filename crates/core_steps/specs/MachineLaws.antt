@@ -5,13 +5,14 @@ use Rattle.std.specs.List.{range_with_len, sum_by}
 use Rattle.std.specs.List.Sorted.{IsStrictlyIncreasing, IsPermutation}
 use Rattle.entity_recs.specs.Actions.{HasPlayer, IsCall}
 use Rattle.core_steps.specs.Cells.{word_in, cell_of}
-use Rattle.core_steps.specs.Cells.{word_at, table_size}
+use Rattle.core_steps.specs.declared.sizes.TheConstants.{TABLE_WORDS}
+use Rattle.core_steps.specs.Cells.{word_at}
 use Rattle.entity_recs.specs.Commands.{Command}
 use Rattle.entity_recs.specs.Worlds.{World}
 use Rattle.entity_recs.specs.Histories.{Item, run, commands_of, places_of}
 use Rattle.core_steps.specs.Views.{Fixed, Resolving, record_read}
 use Rattle.core_steps.specs.Views.{Loading, stage_of, is_busy, is_open}
-use Rattle.core_steps.specs.Views.{is_whole, nodes_of, holds, place_of}
+use Rattle.core_steps.specs.Views.{is_whole, nodes_of, FitsTable, holds, place_of}
 use Rattle.core_steps.specs.Views.{loaded_near, Ended, View}
 use Rattle.core_steps.specs.Steps.{Core}
 use Rattle.core_steps.specs.Steps.{refuse_node, is_taking, make_seat, end_seat, load_count}
@@ -19,7 +20,7 @@ use Rattle.core_steps.specs.Machine.{Next, Machine, MachineStands}
 use Rattle.core_steps.specs.Calls.{StandsSomehow, SomeGoesOn, MayBeGiven, Call}
 use Rattle.core_steps.specs.Machine.{items_after, machine_after, next_of}
 use Rattle.core_steps.specs.Calls.{MayAllBeCalled, has_command, start_machine}
-use Rattle.core_steps.specs.Machine.{index_of, word_of_next, core_after}
+use Rattle.core_steps.specs.Machine.{index_of, IsInUse, word_of_next, core_after}
 use Rattle.core_steps.specs.Calls.{with_given, with_quitting, after_calls}
 use Rattle.core_steps.specs.Calls.{node_taken, pursued, kept_by}
 use Rattle.core_steps.specs.Stands.{IsLawful, IsStart, Stands, items_of}
@@ -89,8 +90,8 @@ EachTakeComesLater =
 abbrev pub StepsChangeOneWord : Type 0
 StepsChangeOneWord =
     (F : Fixed) (core : Core) (i index : ℕ) (next : Next)
-    → (index == index_of (nodes_of F) (core.view i) next) ≡ false
-    → word_at (nodes_of F) (core_after F core i next).words index ≡ word_at (nodes_of F) core.words index
+    → (index == index_of (core.view i) next) ≡ false
+    → word_at (core_after F core i next).words index ≡ word_at core.words index
 
 -- a step of a seat, which may be a refused take, and its load of the count change no view but that seat's; a command
 -- that is given to it, and that it is asked to give up, change no view and no word; a seat that is made changes its own
@@ -205,19 +206,20 @@ RoomsAreThoseGiven =
     (F : Fixed) (room : ℕ) (rooms : List ℕ) (calls : List Call)
     → rooms_of (after_calls F (start_machine F room rooms) calls).core.view ≡ room ∷ rooms
 
--- the word of what comes next lies in the table at the step's index, before the step and after it
+-- the word of what comes next lies in the table at the step's index, before the step and after it, and it is a word that
+-- is in use
 pub record HasItsWord (F : Fixed) (core : Core) (i : ℕ) (next : Next) : Type 0 where
-  pub in_table : index_of (nodes_of F) (core.view i) next < table_size (nodes_of F)
-  pub before : word_at (nodes_of F) core.words (index_of (nodes_of F) (core.view i) next)
-      ≡ word_of_next core.words (core.view i) next
-  pub after : word_at (nodes_of F) (core_after F core i next).words (index_of (nodes_of F) (core.view i) next)
+  pub in_use : IsInUse F (core.view i) next
+  pub in_table : index_of (core.view i) next < TABLE_WORDS
+  pub before : word_at core.words (index_of (core.view i) next) ≡ word_of_next core.words (core.view i) next
+  pub after : word_at (core_after F core i next).words (index_of (core.view i) next)
       ≡ word_of_next (core_after F core i next).words (core.view i) next
 
--- each step is one on a word of the table
+-- each step is one on a word of the table, where the table has words for the tree
 abbrev pub StepsHaveTheirWord : Type 0
 StepsHaveTheirWord =
     (F : Fixed) (m : Machine) (history : List Item) (now : World) (i : ℕ) (next : Next) → IsLawful F → IsStart F
-    → next_of F m i ≡ Some next → MachineStands F m history now → HasItsWord F m.core i next
+    → FitsTable F → next_of F m i ≡ Some next → MachineStands F m history now → HasItsWord F m.core i next
 
 -- a step follows its seat's view and its own word alone: among other words, of which its own is the same, it leaves the
 -- same view and the same word

@@ -74,8 +74,8 @@ first_load = after_calls near_players (with_two near_players) (times 1 1)
 
 -- the first view: the command and the first word of the own record, of which the other words are to be loaded
 pub record FirstView : Type 0 where
-  pub step : step_of near_players 1 ((with_two near_players).core.view 1) (Begin (plain 1))
-      ≡ record { seat = 1; word = 68; kind = Load }
+  pub step : step_of 1 ((with_two near_players).core.view 1) (Begin (plain 1))
+      ≡ record { seat = 1; word = 132; kind = Load }
   pub view : first_load.core.view 1 ≡ record (new_view 1) { cmd = plain 1; own = 422212465151488 ∷ []; point = Owning }
 
 -- near: seat 1 has loaded its own record, and seat 0 has made seven steps
@@ -90,7 +90,7 @@ after_refusal = after_calls near_players before_refusal (times 1 1)
 pub record NearRow : Type 0 where
   pub held : before_refusal.core.words.node 15 ≡ 257
   pub next : next_of near_players before_refusal 1 ≡ Some (TakeNode 15)
-  pub step : step_of near_players 1 (before_refusal.core.view 1) (TakeNode 15)
+  pub step : step_of 1 (before_refusal.core.view 1) (TakeNode 15)
       ≡ record { seat = 1; word = 16; kind = Take }
   pub refused : (after_refusal.core.view 1).refused
       ≡ Some (record { node = 15; word = 257; own = second_words; wanted = 15 ∷ [] })

@@ -22,7 +22,7 @@ use Rattle.core_steps.specs.Views.{Returning, Yielding, Stage, AtClaiming, stage
 use Rattle.core_steps.specs.Views.{is_committed}
 use Rattle.core_steps.specs.Views.{is_before_leaves, is_whole, is_owning, is_read_again, is_without_effect, is_storing}
 use Rattle.core_steps.specs.Views.{ListRead, PlayerRead, Ended, View, new_view, spent, has, list_at, player_at}
-use Rattle.core_steps.specs.Views.{state_at, record_read, is_leaf, leaf_nodes, plan_of, home, region_in, things_in}
+use Rattle.core_steps.specs.Views.{state_at, record_read, nodes_of, is_leaf, leaf_nodes, plan_of, home, region_in, things_in}
 use Rattle.core_steps.specs.Views.{write_nodes, stores_of, stores_owed, leaves_held, inner_held, holds, held_word}
 use Rattle.core_steps.specs.Steps.{Core}
 
@@ -428,6 +428,13 @@ SeatsApart F a b = AreApart F a.point b.point a.wanted b.wanted a.cmd b.cmd
 abbrev pub is_storing_for : View → ℕ → Bool
 is_storing_for view p = is_storing (stage_of view.point) && (view.cmd.slot == p)
 
+-- the words of nodes that the tree hasn't, of players that aren't live and of ids that aren't live are 0
+pub record AreUnusedZero (F : Fixed) (node links : ℕ → ℕ) (body : ℕ → ℕ → ℕ) (state : ℕ → ℕ) : Type 0 where
+  pub no_node : (v : ℕ) → nodes_of F ≤ v → node v ≡ 0
+  pub no_links : (v : ℕ) → nodes_of F ≤ v → links v ≡ 0
+  pub no_body : (slot k : ℕ) → is_player F slot ≡ false → body slot k ≡ 0
+  pub no_state : (id : ℕ) → has F.start.ids id ≡ false → state id ≡ 0
+
 -- what holds of the core, its history and the run of it
 pub record Stands (F : Fixed) (core : Core) (history : List Item) (now : World) : Type 0 where
   pub tied : now ≡ run F.effect_of F.start history
@@ -446,15 +453,17 @@ pub record Stands (F : Fixed) (core : Core) (history : List Item) (now : World) 
   pub linked : (p node : ℕ) → is_player F p ≡ true → ((i : ℕ) → is_storing_for (core.view i) p ≡ false)
       → has_bit (core.words.links node) p ≡ (node == home F (now.record_of p))
   pub unlinked : (p node : ℕ) → p < 64 → has F.start.ids p ≡ false → has_bit (core.words.links node) p ≡ false
+  pub unused : AreUnusedZero F core.words.node core.words.links core.words.body core.words.state
 
--- the words at the start
+-- the words at the start: no node is held, each live player is linked at its node, and the records are those of the
+-- world
 abbrev pub start_words : Fixed → Words
 start_words F = record {
   commits = 0;
   node = λ node. 0;
   links = λ node. word_of 64 (λ p. is_player F p && (node == home F (F.start.record_of p)));
-  body = λ slot k. nth_word (words_of (F.start.record_of slot)) k;
-  state = λ id. (F.start.record_of id).state;
+  body = λ slot k. if is_player F slot then nth_word (words_of (F.start.record_of slot)) k else 0;
+  state = λ id. if has F.start.ids id then (F.start.record_of id).state else 0;
 }
 
 -- the core at the start: seat 0 with this room, and no other seat

@@ -1,5 +1,5 @@
 -- What a seat has in view: the command in hand, what is left to do, what was read, what was logged.
-use Rattle.std.specs.Prelude.{ℕ, suc, ◌+◌, ◌-◌, ◌*◌, ◌^◌, ◌==◌, nat_lt, nat_le, Bool, true, false, ◌&&◌, ◌||◌, not}
+use Rattle.std.specs.Prelude.{ℕ, suc, ◌+◌, ◌-◌, ◌*◌, ◌^◌, ◌==◌, ◌≤◌, nat_lt, nat_le, Bool, true, false, ◌&&◌, ◌||◌, not}
 use Rattle.std.specs.Prelude.{if◌then◌else◌, List, [], ◌∷◌, ◌++◌, map, filter, Option, Some, None, pos}
 use Rattle.std.specs.List.{list_any, range_with_len, filter_map}
 use Rattle.arena_geo.specs.Bounds.{Bounds}
@@ -14,6 +14,7 @@ use Rattle.entity_recs.specs.Worlds.{World}
 use Rattle.entity_recs.specs.Histories.{Action, Item}
 use Rattle.areanode.specs.Words.{has_bit}
 use Rattle.areanode.specs.Trees.{TreeView, leaf_node, node_of, leaves_of, visited_of}
+use Rattle.core_steps.specs.declared.sizes.TheConstants.{TABLE_NODES, NODE_HOLDERS}
 use Rattle.core_steps.specs.Cells.{Cell, Body, State}
 use Rattle.core_steps.specs.Encoding.{words_of, nth_word, record_from}
 
@@ -303,9 +304,13 @@ record_read slot words = record_from slot words (nth_word words 5)
 abbrev pub inner_nodes : Fixed → ℕ
 inner_nodes F = 2 ^ F.tree.depth - 1
 
--- the number of nodes
+-- the number of nodes of the tree, for which the table may have more words
 abbrev pub nodes_of : Fixed → ℕ
 nodes_of F = 2 ^ (F.tree.depth + 1) - 1
+
+-- the table has words for each node of the tree
+pub record FitsTable (F : Fixed) : Type 0 where
+  pub nodes : nodes_of F ≤ TABLE_NODES
 
 -- the node is a leaf
 abbrev pub is_leaf : Fixed → ℕ → Bool
@@ -436,4 +441,4 @@ leaf_word F wanted = bits_of_leaves (map (λ node. node - inner_nodes F) wanted)
 -- or 1 for an inner node that is held to write
 abbrev pub held_word : Fixed → ℕ → Stage → List ℕ → ℕ → ℕ
 held_word F i stage wanted node =
-    suc (i + 256 * (if is_leaf F node then leaf_word F wanted else (if is_writing stage then 1 else 0)))
+    suc (i + NODE_HOLDERS * (if is_leaf F node then leaf_word F wanted else (if is_writing stage then 1 else 0)))

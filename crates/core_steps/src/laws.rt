@@ -1,6 +1,7 @@
 ghost use Rattle.core_steps.specs.Laws.{StartStands, MadeSeatStands, EndedSeatStands, EndedSeatKeepsItems};
 ghost use Rattle.core_steps.specs.Laws.{LoadedCountStands, GivenNodeStands, YieldedNodeStands, YieldedNothingStands};
 ghost use Rattle.core_steps.specs.Laws.{TakenNodeStands, RefusedNodeStands, LayoutIsRight, EncodedIsDecoded};
+ghost use Rattle.core_steps.specs.Laws.{UnusedWordsAreZero};
 ghost use Rattle.core_steps.specs.Laws.{BegunMoveStands, LoadedOwnStands, LoadedAgainStands, LoadedListStands};
 ghost use Rattle.core_steps.specs.Laws.{LoadedPlayerStands, LoadedStateStands, ClaimedNodeStands, StoredNextStands};
 ghost use Rattle.core_steps.specs.Laws.{CommittedHeldStands, CommittedFreeStands, NotAllWait};
@@ -61,6 +62,12 @@ pub fn refused_node_stands()
 /// The words lie in the flat table at their indices.
 pub fn layout_is_right()
     ensures { LayoutIsRight }
+{}
+
+/// The words of nodes that the tree hasn't, of players that aren't live and of ids that aren't live are 0 in the flat
+/// table.
+pub fn unused_words_are_zero()
+    ensures { UnusedWordsAreZero }
 {}
 
 /// The five words of a player's record give it back, with the state that is given.

@@ -1,52 +1,39 @@
-ghost use Rattle.std.specs.Prelude.{◌≡◌, ◌+◌, ◌*◌, ◌^◌};
+ghost use Rattle.std.specs.Prelude.{◌≡◌, ◌<◌, ◌+◌, ◌*◌, ◌^◌};
 ghost use Rattle.core_steps.specs.Cells.{node_index, links_index, body_index, state_index};
+ghost use Rattle.core_steps.specs.declared.sizes.TheConstants.{TABLE_STATES};
 ghost use Rattle.core_steps.specs.Encoding.{low_half, high_half, joined, words_of, record_from};
 
-use areanode::NODES;
+use crate::sizes::{FIRST_LIST_WORD, FIRST_NODE_WORD, FIRST_RECORD_WORD, FIRST_STATE_WORD};
 use arena_geo::Vec3;
 use entity_recs::{Kind, PLAYER_MAXS, PLAYER_MINS, Rec};
 
-/// The index of the count of commits.
-pub const COUNT_WORD: u16 = 0;
-
-/// The index of the word of node 0, after which come those of the other nodes.
-pub const FIRST_NODE_WORD: u16 = 1;
-
-/// The index of the list word of node 0, after which come those of the other nodes.
-pub const FIRST_LIST_WORD: u16 = FIRST_NODE_WORD + NODES as u16;
-
-/// The index of the first of the five words of player 0, after which come those of the other players.
-pub const FIRST_RECORD_WORD: u16 = FIRST_LIST_WORD + NODES as u16;
-
-/// The index of the state word of id 0, after which come those of the other ids.
-pub const FIRST_STATE_WORD: u16 = FIRST_RECORD_WORD + 5 * 64;
-
-/// The index of the word of a node, below [`NODES`].
+/// The index of the word of a node, below [`TABLE_NODES`](crate::TABLE_NODES).
 pub fn node_word(node: u8) -> u16
     ensures { result ≡ node_index node }
 {
     FIRST_NODE_WORD + u16::from(node)
 }
 
-/// The index of the list word of a node, below [`NODES`], of which bit p is set where player p is linked there.
+/// The index of the list word of a node, below [`TABLE_NODES`](crate::TABLE_NODES), of which bit p is set where player p is linked there.
 pub fn list_word(node: u8) -> u16
-    ensures { result ≡ links_index NODES node }
+    ensures { result ≡ links_index node }
 {
     FIRST_LIST_WORD + u16::from(node)
 }
 
 /// The index of the first of the five words of a player, of slot 0 to 63.
 pub fn record_word(slot: u8) -> u16
-    ensures { result ≡ body_index NODES slot }
+    ensures { result ≡ body_index slot }
 {
     FIRST_RECORD_WORD + 5 * u16::from(slot)
 }
 
-/// The index of the state word of an entity, of id 0 to 255.
-pub fn state_word(id: u8) -> u16
-    ensures { result ≡ state_index NODES id }
+/// The index of the state word of an id, below [`TABLE_STATES`](crate::TABLE_STATES).
+pub fn state_word(id: u16) -> u16
+    requires { id < TABLE_STATES }
+    ensures { result ≡ state_index id }
 {
-    FIRST_STATE_WORD + u16::from(id)
+    FIRST_STATE_WORD + id
 }
 
 /// A player's record as five words: x and y; z and vx; vy and vz; score and seq, the low half first; and flags, ammo

@@ -1,5 +1,6 @@
 -- Commands with buttons, which are given to the seats of a machine at its start, one after another.
 use Rattle.std.proofs.Common.{◌≡◌, ℕ, ◌+◌, ◌^◌, ◌<◌, ◌≤◌, true, sym, ap, ◌∙◌, inl, inr, Some, arith}
+use Rattle.core_steps.specs.declared.sizes.TheConstants.{MOST_SEATS}
 use Rattle.std.specs.Prelude.{◌==◌}
 use Rattle.std.proofs.lemmas.Int.{ints}
 use Rattle.std.proofs.lemmas.Bool.{cases_Bool, false≢true, cond-true, cond-false, eqb-true, eqb-false, ne_eqb}
@@ -29,7 +30,7 @@ some_is : (c d : Command) → Some c ≡ Some d → c ≡ d
 some_is c d e = cc
 
 -- the next seat may be given a command
-pub may_give : (F : Fixed) (m : Machine) (i n buttons : ℕ) → i < n → n ≤ 16 → buttons < 2 ^ 8 → has F.start.ids i ≡ true → IsFilled m i n → MayBeGiven F m i (errand_command i buttons)
+pub may_give : (F : Fixed) (m : Machine) (i n buttons : ℕ) → i < n → n ≤ MOST_SEATS → buttons < 2 ^ 8 → has F.start.ids i ≡ true → IsFilled m i n → MayBeGiven F m i (errand_command i buttons)
 may_give F m i n buttons below few small live is = record {
   pending = record {
     lives = is.lives i below;

@@ -1,5 +1,6 @@
 -- A seat that gives up.
 use Rattle.std.proofs.Common.{◌≡◌, ℕ, ◌<◌, ◌≤◌, true, false, List, map, length, refl, sym, ap, ◌∙◌, subst, Option, Some, None, arith}
+use Rattle.core_steps.specs.declared.sizes.TheConstants.{MOST_SEATS}
 use Rattle.std.specs.Prelude.{is_some}
 use Rattle.std.proofs.lemmas.List.{length-map}
 use Rattle.std.proofs.lemmas.Bool.{true≢false, or_parts, eqb-false, ne_eqb, cond-true, cond-false}
@@ -21,9 +22,9 @@ use Rattle.core_steps.specs.declared.step.Step.{Step}
 use Rattle.core_steps.specs.Views.{Fixed, View, Point, Idle, Owning, Taking, Checking, Entering, Entered, Loading, Leaving, Sensing, Resolving, Claiming, Storing, Releasing, Returning, Yielding, stage_of, is_busy, has}
 use Rattle.core_steps.specs.Machine.{Machine, Next, next_of, next_step_of, step_of, machine_after}
 
-step_seat_of : (F : Fixed) (i : ℕ) (view : View) (s : Step) (next : Option Next) → option_map (step_of F i view) next ≡ Some s → s.seat ≡ i
+step_seat_of : (F : Fixed) (i : ℕ) (view : View) (s : Step) (next : Option Next) → option_map (step_of i view) next ≡ Some s → s.seat ≡ i
 step_seat_of F i view s None e = cc
-step_seat_of F i view s (Some next) e = let same : step_of F i view next ≡ s = cc in ap (λ (t : Step). t.seat) (sym same)
+step_seat_of F i view s (Some next) e = let same : step_of i view next ≡ s = cc in ap (λ (t : Step). t.seat) (sym same)
 
 -- a seat's next step is one of this seat
 pub step_seat : (F : Fixed) (m : Machine) (i : ℕ) (s : Step) → next_step_of F m i ≡ Some s → s.seat ≡ i
@@ -36,7 +37,7 @@ record IsNext (F : Fixed) (m : Machine) (i : ℕ) : Type 0 where
   next : Next
   comes : next_of F m i ≡ Some next
 
-next_there : (F : Fixed) (m : Machine) (i : ℕ) (view : View) (s : Step) (o : Option Next) → next_of F m i ≡ o → option_map (step_of F i view) o ≡ Some s → IsNext F m i
+next_there : (F : Fixed) (m : Machine) (i : ℕ) (view : View) (s : Step) (o : Option Next) → next_of F m i ≡ o → option_map (step_of i view) o ≡ Some s → IsNext F m i
 next_there F m i view s None e step = cc
 next_there F m i view s (Some next) e step = record { next = next; comes = e }
 
@@ -50,7 +51,7 @@ own_after_step {A} F old new i s stands step made rules seats is =
     let after = made there.next there.comes in
     let below : (j : ℕ) → j < length new.seats → j < length old.seats = λ j. subst (λ (n : ℕ). j < n) seats in
     record {
-      few = subst (λ (n : ℕ). n ≤ 16) (sym seats) is.few;
+      few = subst (λ (n : ℕ). n ≤ MOST_SEATS) (sym seats) is.few;
       lives = λ j b. ap (λ (k : Machine). (k.core.view j).live) after ∙ ap (λ (part : SeatPart). part.live) (same_seats F m.core i there.next j) ∙ is.lives j (below j b);
       room = λ j b. subst (λ (n : ℕ). 0 < n) (sym (ap (λ (k : Machine). (k.core.view j).room) after ∙ ap (λ (part : SeatPart). part.room) (same_seats F m.core i there.next j))) (is.room j (below j b));
       player = λ j b. ap (λ (r : RulesView A). has (map (λ (x : Rec). x.id) r.start) j) rules ∙ is.player j (below j b);
@@ -64,7 +65,7 @@ pub own_after_quitting : {A : Type 0} (F : Fixed) (old new : CoreView A) (i : �
 own_after_quitting {A} F old new i after rules seats is =
     let below : (j : ℕ) → j < length new.seats → j < length old.seats = λ j. subst (λ (n : ℕ). j < n) seats in
     record {
-      few = subst (λ (n : ℕ). n ≤ 16) (sym seats) is.few;
+      few = subst (λ (n : ℕ). n ≤ MOST_SEATS) (sym seats) is.few;
       lives = λ j b. ap (λ (k : Machine). (k.core.view j).live) after ∙ is.lives j (below j b);
       room = λ j b. subst (λ (k : Machine). 0 < (k.core.view j).room) (sym after) (is.room j (below j b));
       player = λ j b. ap (λ (r : RulesView A). has (map (λ (x : Rec). x.id) r.start) j) rules ∙ is.player j (below j b);
@@ -132,12 +133,12 @@ given_when_idle : (given : Option Command) (view : View) (c : Command) → view.
 given_when_idle None view c idle e = let none = sym (cond-false (is_busy (stage_of view.point)) (Some view.cmd) None (ap (λ (p : Point). is_busy (stage_of p)) idle)) ∙ e in cc
 given_when_idle (Some d) view c idle e = e
 
-pub own_when_filled : {A : Type 0} (F : Fixed) (c : CoreView A) (i n : ℕ) → length c.seats ≡ n → n ≤ 16 → ((j : ℕ) → j < n → has (map (λ (r : Rec). r.id) c.rules.start) j ≡ true)
+pub own_when_filled : {A : Type 0} (F : Fixed) (c : CoreView A) (i n : ℕ) → length c.seats ≡ n → n ≤ MOST_SEATS → ((j : ℕ) → j < n → has (map (λ (r : Rec). r.id) c.rules.start) j ≡ true)
     → IsFilled (machine_of F c) i n → HasOwnCommands c
 own_when_filled F c i n seats few player is =
     let m = machine_of F c in
     record {
-      few = subst (λ (k : ℕ). k ≤ 16) (sym seats) few;
+      few = subst (λ (k : ℕ). k ≤ MOST_SEATS) (sym seats) few;
       lives = λ j below. is.lives j (subst (λ (k : ℕ). j < k) seats below);
       room = λ j below. let room = is.room j (subst (λ (k : ℕ). j < k) seats below) in omega (arith, room);
       player = λ j below. player j (subst (λ (k : ℕ). j < k) seats below);

@@ -1,15 +1,18 @@
 use arena_geo::Vec3;
-use core_steps::{COUNT_WORD, decode, encode, list_word, node_word, record_word, state_word};
+use core_steps::{
+    COUNT_WORD, TABLE_WORDS, decode, encode, list_word, node_word, record_word, state_word,
+};
 use entity_recs::{Kind, PLAYER_MAXS, PLAYER_MINS, Rec};
 use std::test::Fail;
 
 #[test]
 fn words_lie_where_they_should(rt: HostRuntime) -> Result<(), Fail> {
     assert_eq!(rt; COUNT_WORD, 0);
-    assert_eq!(rt; (node_word(0), node_word(30)), (1, 31));
-    assert_eq!(rt; (list_word(0), list_word(30)), (32, 62));
-    assert_eq!(rt; (record_word(0), record_word(63)), (63, 378));
-    assert_eq!(rt; (state_word(0), state_word(255)), (383, 638));
+    assert_eq!(rt; (node_word(0), node_word(62)), (1, 63));
+    assert_eq!(rt; (list_word(0), list_word(62)), (64, 126));
+    assert_eq!(rt; (record_word(0), record_word(63)), (127, 442));
+    assert_eq!(rt; (state_word(0), state_word(511)), (447, 958));
+    assert_eq!(rt; TABLE_WORDS, 959);
     Ok(())
 }
 

@@ -3,6 +3,7 @@ ghost use Rattle.entity_recs.specs.declared.rec.Rec.{Rec};
 ghost use Rattle.entity_recs.specs.Commands.{command_of};
 ghost use Rattle.entity_recs.specs.Actions.{IsCommand};
 ghost use Rattle.areanode.specs.Trees.{TreeView};
+ghost use Rattle.core_steps.specs.declared.sizes.TheConstants.{MOST_SEATS};
 ghost use Rattle.core_steps.specs.Views.{has};
 ghost use Rattle.core_steps.specs.Stands.{IsStart};
 ghost use Rattle.core_seats.specs.Shown.{fixed_of};
@@ -62,7 +63,7 @@ pub fn begun<'a, A: Action>(
         { action = action.now; tree = tree; start = start.now })) }
     requires live { (slot : ℕ) → slot < length room.now → has (map (λ (r : Rec). r.id) start.now) slot ≡ true }
     requires some { 0 < length room.now }
-    requires few { length room.now ≤ 16 }
+    requires few { length room.now ≤ MOST_SEATS }
     requires room { (k : ℕ) → k < length room.now → 0 < slice_index room.now k }
     ensures seats { IfOk result (λ c. length c.seats ≡ length room.now) }
     ensures own { IfOk result (λ c. HasOwnCommands c) }

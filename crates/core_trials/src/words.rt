@@ -1,8 +1,7 @@
 use crate::players::NEAR;
-use areanode::NODES;
 use core_machine::Words;
 use core_seats::{Cell, Seat, Store};
-use core_steps::encode;
+use core_steps::{TABLE_NODES, TABLE_STATES, encode};
 use entity_recs::Cmd;
 use std::alloc::{AllocError, Global};
 use std::test::Fail;
@@ -22,10 +21,10 @@ const PLAIN: Cmd = Cmd {
 fn zeros() -> Words {
     Words {
         commits: 0,
-        node: [0; NODES],
-        links: [0; NODES],
+        node: [0; TABLE_NODES],
+        links: [0; TABLE_NODES],
         body: [[0; 5]; 64],
-        state: [0; 256],
+        state: [0; TABLE_STATES],
     }
 }
 
@@ -76,9 +75,9 @@ fn numbered() -> Words {
     let mut words = zeros();
     words.set(0, 7);
     words.set(4, 5);
-    words.set(47, 2);
-    words.set(77, 9);
-    words.set(583, 11);
+    words.set(79, 2);
+    words.set(141, 9);
+    words.set(647, 11);
     words
 }
 
@@ -96,7 +95,7 @@ fn words_lie_in_the_order_of_the_table(rt: HostRuntime) {
 fn words_are_read_where_they_were_set(rt: HostRuntime) {
     let words = numbered();
     assert_eq!(rt; words.get(0), 7);
-    assert_eq!(rt; words.get(77), 9);
-    assert_eq!(rt; words.get(78), 0);
-    assert_eq!(rt; words.get(583), 11);
+    assert_eq!(rt; words.get(141), 9);
+    assert_eq!(rt; words.get(142), 0);
+    assert_eq!(rt; words.get(647), 11);
 }

@@ -2,6 +2,7 @@
 use Rattle.std.proofs.Common.{◌≡◌, ℕ, zero, suc, ◌*◌, ◌<◌, ◌≤◌, List, [], ◌∷◌, length, Option, IsSome, sym, ◌∙◌, subst, arith}
 use Rattle.std.specs.Prelude.{All}
 use Rattle.std.proofs.lemmas.List.Elements.{All-weaker}
+use Rattle.entity_recs.specs.declared.limits.TheConstants.{IDS}
 use Rattle.entity_recs.specs.declared.rec.Rec.{Rec}
 use Rattle.entity_recs.specs.Commands.{Command}
 use Rattle.move_journal.specs.Merges.{HasNumbersApart}
@@ -40,7 +41,7 @@ pub record IsGot (records : List (Option Rec)) (moves : List Command) : Type 0 w
   pub few : length moves ≤ 8 * 64
 
 -- the world of the opening is a server's, where nobody is joined
-pub opening_state : (map_view : MapView) (clients : List (Option Client)) (records : List (Option Rec)) → IsMap map_view → length records ≡ 256
+pub opening_state : (map_view : MapView) (clients : List (Option Client)) (records : List (Option Rec)) → IsMap map_view → length records ≡ IDS
     → IsOpeningWorld map_view records → clients ≡ no_clients → IsServerState map_view (state_of clients records)
 opening_state map_view clients records is_map places opening nobody =
     subst (λ (cs : List (Option Client)). IsServerState map_view (state_of cs records)) (sym nobody)

@@ -3,13 +3,14 @@ use Rattle.std.specs.Prelude.{◌≡◌, ℕ, ◌<◌, ◌≤◌, ◌%◌, ◌==
 use Rattle.std.specs.List.{AllPairs, flat_map}
 use Rattle.std.specs.List.Sorted.{IsPermutation}
 use Rattle.entity_recs.specs.Commands.{Command}
+use Rattle.move_phase.specs.declared.rooms.TheConstants.{MOST_WORKERS}
 use Rattle.entity_recs.specs.declared.effect.Entry.{Entry}
 use Rattle.entity_recs.specs.Worlds.{World}
 use Rattle.entity_recs.specs.Histories.{Action, Item, IsLegal, commands_of}
 
 -- how many workers a frame may have
 abbrev pub AreWorkers : ℕ → Type 0
-AreWorkers workers = (1 ≤ workers) × (workers ≤ 16)
+AreWorkers workers = (1 ≤ workers) × (workers ≤ MOST_WORKERS)
 
 -- the moves that a pass of this number serves, one of so many passes, in the order of arrival
 abbrev pub served_by : ℕ → ℕ → List Command → List Command

@@ -4,6 +4,7 @@ ghost use Rattle.world_tree.specs.Live.{live_in};
 ghost use Rattle.world_tree.specs.Worlds.{IsLinked};
 ghost use Rattle.ruled_words.specs.Passes.{fixed_in};
 ghost use Rattle.ruled_words.specs.Starts.{fixed_by};
+ghost use Rattle.move_phase.specs.declared.rooms.TheConstants.{MOST_WORKERS};
 ghost use Rattle.move_phase.specs.Running.{AreOfLive, HaveRun};
 ghost use Rattle.move_phase.specs.Sharing.{IsReadyFor};
 
@@ -27,7 +28,7 @@ pub(crate) fn share<'a, A: Action>(
     moves: &[Cmd],
     workers: u8,
 ) -> Result<(Shared<'a, A>, PassList<A>), AllocError>
-    requires workers { (0 < workers) × (workers ≤ 16) }
+    requires workers { (0 < workers) × (workers ≤ MOST_WORKERS) }
     requires few { length moves.now < 2 ^ 32 }
     requires taken { All (λ r. (A.meaning action.now).takes r ≡ true) (live_in world.now.records) }
     requires live { AreOfLive (fixed_by A.meaning action.now world.now)

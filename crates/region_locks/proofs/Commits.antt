@@ -17,7 +17,7 @@ use Rattle.core_seats.specs.Nexts.{next_resolved, next_point, the_next}
 
 -- what is known of a pass whose next step commits
 pub record Commits (F : Fixed) (p : PassView) (next : Next) : Type 0 where
-  pub index : index_of 31 p.view next ≡ 0
+  pub index : index_of p.view next ≡ 0
   pub left : (found : ℕ) → word_left F p.number p.view next found ≡ found + 1
   pub has_effect : is_some (effect_in_hand p) ≡ true
 

@@ -5,6 +5,7 @@ use Rattle.std.specs.List.{range_with_len}
 use Rattle.std.proofs.lemmas.List.Elements.{recursion_from_All, All-from_recursion}
 use Rattle.std.specs.Bool.{OnTrue}
 use Rattle.std.specs.List.{AllByRecursion}
+use Rattle.core_steps.specs.declared.sizes.TheConstants.{MOST_SEATS}
 use Rattle.atomic_table.specs.Seated.{TableId}
 use Rattle.move_journal.specs.Logs.{JournalView}
 use Rattle.core_steps.specs.Views.{Fixed, Refused}
@@ -74,7 +75,7 @@ module _ (table : TableId) (all : List PassView) where
       })
 
   -- there is room for the log of one that is left
-  has_room : (p : PassView) (left : List PassView) (at : TableId) (me : SightView) (given : List JournalView) → IsEndedBut table all (p ∷ left) at me given → length all ≤ 16
+  has_room : (p : PassView) (left : List PassView) (at : TableId) (me : SightView) (given : List JournalView) → IsEndedBut table all (p ∷ left) at me given → length all ≤ MOST_SEATS
       → length given < 16
   has_room p left at me given is few =
       let whole = ap (λ (logs : List JournalView). length logs) is.logs in
@@ -109,7 +110,7 @@ first_taken F table all left p count at me old given log fits own none numbers s
 
 -- the next of the passes that are left is ended, with its log put last
 pub next_ended : (table : TableId) (all items left : List PassView) (p : PassView) (at at' : TableId) (me me' other : SightView) (given given' : List JournalView) (log : JournalView) (fits : Bool)
-    → IsEndedBut table all items at me given → length all ≤ 16 → items ≡ p ∷ left → other ≡ sight_of p → log ≡ log_from p → at' ≡ at → me' ≡ with_one_ended me other
+    → IsEndedBut table all items at me given → length all ≤ MOST_SEATS → items ≡ p ∷ left → other ≡ sight_of p → log ≡ log_from p → at' ≡ at → me' ≡ with_one_ended me other
     → (IsTrue fits ↔ (length given < 16)) → OnTrue fits (given' ≡ given ++ log ∷ []) → IsEndedBut table all left at' me' given'
 next_ended table all items left p at at' me me' other given given' log fits is few next seat own here ended fit put =
     let now : IsEndedBut table all (p ∷ left) at me given = subst (λ (xs : List PassView). IsEndedBut table all xs at me given) next is in

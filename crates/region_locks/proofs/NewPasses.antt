@@ -4,6 +4,8 @@ use Rattle.std.specs.List.{range_with_len, AllByRecursion}
 use Rattle.std.proofs.lemmas.Bool.{false≢true}
 use Rattle.std.proofs.lemmas.List.Elements.{All-from_recursion}
 use Rattle.std.proofs.lemmas.List.FromFn.{map-range_with_len_more}
+use Rattle.areanode.specs.declared.sizes.TheConstants.{DEPTH}
+use Rattle.core_steps.specs.declared.sizes.TheConstants.{TABLE_WORDS}
 use Rattle.atomic_table.specs.Seated.{TableId}
 use Rattle.entity_recs.specs.Actions.{Meaning}
 use Rattle.entity_recs.specs.Commands.{Command}
@@ -21,7 +23,7 @@ use Rattle.ruled_words.specs.Sights.{no_tally}
 use Rattle.ruled_words.specs.Passes.{IsPassOf}
 use Rattle.region_locks.specs.NewPasses.{new_pass, view_with_made, other_pass, new_passes}
 
-module _ (F : Fixed) (depth : F.tree.depth ≡ 4) (room made : ℕ) where
+module _ (F : Fixed) (depth : F.tree.depth ≡ DEPTH) (room made : ℕ) where
   abbrev view : View
   view = view_with_made room made
 
@@ -56,14 +58,14 @@ module _ (F : Fixed) (depth : F.tree.depth ≡ 4) (room made : ℕ) where
     taken_after = λ e f some. absurd (false≢true e);
   }
 
-  begun : (given : Option Command) (next : Next) → beginning given ≡ Some next → ((c : Command) → given ≡ Some c → IsPending F view c) → index_of 31 view next < 639
+  begun : (given : Option Command) (next : Next) → beginning given ≡ Some next → ((c : Command) → given ≡ Some c → IsPending F view c) → index_of view next < TABLE_WORDS
   begun None next e pending = absurd (none_next e)
     where
       none_next : None ≡ Some next → ⊥
       none_next e = cc
   begun (Some c) next e pending =
       let below = (pending c refl).command.command.slot in
-      subst (λ (n : Next). index_of 31 view n < 639) (same_next e) (omega (arith, below))
+      subst (λ (n : Next). index_of view n < TABLE_WORDS) (same_next e) (omega (arith, below))
     where
       same_next : Some (Begin c) ≡ Some next → Begin c ≡ next
       same_next e = cc
@@ -71,7 +73,7 @@ module _ (F : Fixed) (depth : F.tree.depth ≡ 4) (room made : ℕ) where
   pub sound_sight_new : (passes number : ℕ) → IsSoundSight F passes (record { number = number; view = view; tally = no_tally })
   sound_sight_new passes number = record { sound = sound; in_table = λ given quits next may. in_table given quits next may }
     where
-      in_table : (given : Option Command) (quits : Bool) (next : Next) → MayGo F passes number view given quits next → index_of 31 view next < 639
+      in_table : (given : Option Command) (quits : Bool) (next : Next) → MayGo F passes number view given quits next → index_of view next < TABLE_WORDS
       in_table given true next may = absurd (false≢true (may.at_take refl))
       in_table given false next may = begun given next may.comes may.pending
 
@@ -92,7 +94,7 @@ module _ (F : Fixed) (depth : F.tree.depth ≡ 4) (room made : ℕ) where
       no_given c e = cc
 
 -- all new passes belong to their table
-pub all_own : (F : Fixed) (table : TableId) (rooms : List ℕ) → F.tree.depth ≡ 4 → All (IsPassOf F (length rooms) table) (new_passes table rooms)
+pub all_own : (F : Fixed) (table : TableId) (rooms : List ℕ) → F.tree.depth ≡ DEPTH → All (IsPassOf F (length rooms) table) (new_passes table rooms)
 all_own F table rooms depth =
     All-from_recursion (IsPassOf F (length rooms) table) (new_passes table rooms)
     (new_own F depth (slice_index rooms 0) (length rooms) (length rooms) table 0, others 1 (length rooms - 1))
@@ -109,5 +111,5 @@ others_more table rooms i least =
 
 -- the tree of a world for which there are rules has depth 4
 pub depth_is : {A : Type 0} (meaning : A → Meaning) (action : A) (w : WorldView) (r : RulesView A)
-    → r ≡ rules_of action w → IsRuled (fixed_of meaning r) → w.tree.depth ≡ 4
+    → r ≡ rules_of action w → IsRuled (fixed_of meaning r) → w.tree.depth ≡ DEPTH
 depth_is {A} meaning action w r is ruled = ap (λ (x : RulesView A). x.tree.depth) (sym is) ∙ ruled.depth

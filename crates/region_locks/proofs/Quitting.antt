@@ -125,7 +125,7 @@ has_next F passes table p own = by_given p.given refl
 pub some_step : (F : Fixed) (passes : ℕ) (table : TableId) (p : PassView) → IsPassOf F passes table p → is_some (next_step F p) ≡ has_next_step p
 some_step F passes table p own = mapped (next_of_pass F p) ∙ has_next F passes table p own
   where
-    mapped : (o : Option Next) → is_some (option_map (step_of F p.number p.view) o) ≡ is_some o
+    mapped : (o : Option Next) → is_some (option_map (step_of p.number p.view) o) ≡ is_some o
     mapped None = refl
     mapped (Some next) = refl
 
@@ -231,8 +231,8 @@ count_next : (F : Fixed) (p q : PassView) (nothing : Bool) → p ≡ q → nothi
 count_next F p q nothing same e holds =
     loads_count (first_yield F p.view) (ap (λ (r : PassView). is_some (first_yield F r.view)) same ∙ not_some (is_some (first_yield F q.view)) nothing e holds)
 
-pub count_index : (F : Fixed) (p q : PassView) (nothing : Bool) → p ≡ q → nothing ≡ not (is_some (first_yield F q.view)) → nothing ≡ true → 0 ≡ index_of 31 p.view (quitting (first_yield F p.view))
-count_index F p q nothing same e holds = sym (ap (λ (next : Next). index_of 31 p.view next) (count_next F p q nothing same e holds))
+pub count_index : (F : Fixed) (p q : PassView) (nothing : Bool) → p ≡ q → nothing ≡ not (is_some (first_yield F q.view)) → nothing ≡ true → 0 ≡ index_of p.view (quitting (first_yield F p.view))
+count_index F p q nothing same e holds = sym (ap (λ (next : Next). index_of p.view next) (count_next F p q nothing same e holds))
 
 pub count_left : (F : Fixed) (p q : PassView) (nothing : Bool) (found : ℕ) → p ≡ q → nothing ≡ not (is_some (first_yield F q.view)) → nothing ≡ true
     → word_left F p.number p.view (quitting (first_yield F p.view)) found ≡ found

@@ -3,6 +3,7 @@ use Rattle.std.proofs.Common.{◌≡◌, ◌≢◌, ℕ, ◌+◌, ◌<◌, ◌�
 use Rattle.std.specs.Option.{option_map}
 use Rattle.std.proofs.lemmas.Bool.{cases_eq, cases_lt}
 use Rattle.std.proofs.lemmas.List.{get_or_past}
+use Rattle.entity_recs.specs.declared.limits.TheConstants.{IDS}
 use Rattle.entity_recs.specs.declared.rec.Rec.{Rec}
 use Rattle.world_tree.specs.Worlds.{WorldView, record_of, IsLinked, with_record, without_id}
 use Rattle.ruled_words.specs.Ends.{record_in}
@@ -33,9 +34,9 @@ relinked_next n words before after next is here others tree linked = record {
     below_next id below apart = omega (arith, below, apart)
 
 -- once all ids are done, the rest has no record
-pub relinked_all : (words : List ℕ) (before after : WorldView) → IsRelinkedBelow 256 words before after → (id : ℕ)
+pub relinked_all : (words : List ℕ) (before after : WorldView) → IsRelinkedBelow IDS words before after → (id : ℕ)
     → record_of after id ≡ option_map (record_in words) (record_of before id)
-relinked_all words before after is id = elim (cases_lt id 256) [
+relinked_all words before after is id = elim (cases_lt id IDS) [
   | inl below ↦ is.done id below
   | inr past ↦
       let places = (is.linked (omega arith)).places in

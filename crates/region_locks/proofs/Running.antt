@@ -2,6 +2,7 @@
 use Rattle.std.proofs.Common.{◌≡◌, ℕ, ◌+◌, ◌-◌, ◌^◌, ◌≤◌, Bool, true, false, if◌then◌else◌, List, [], ◌∷◌, ◌++◌, refl, sym, ap, ◌∙◌, subst, inr, Option, Some, None, is_some, arith}
 use Rattle.std.specs.Prelude.{nat_le, min}
 use Rattle.std.proofs.lemmas.Bool.{true≢false, le-leb, cond-true, or_parts}
+use Rattle.areanode.specs.declared.sizes.TheConstants.{FIRST_LEAF}
 use Rattle.atomic_table.specs.Seated.{TableId}
 use Rattle.entity_recs.specs.declared.effect.Entry.{Entry}
 use Rattle.entity_recs.specs.Commands.{Command}
@@ -223,15 +224,15 @@ module _ (F : Fixed) (passes : ℕ) (table : TableId) (start : PassView) (c : Co
       }
 
 -- the leaf was held
-pub is_leaf_held : (F : Fixed) (passes own : ℕ) (c : Command) (r : Refused) (node number leaves : ℕ) → 15 ≤ node → r.node ≡ node → IsRefusedBy F passes own c r number leaves → IsLeafHeld F passes own c r (node - 15) number leaves
+pub is_leaf_held : (F : Fixed) (passes own : ℕ) (c : Command) (r : Refused) (node number leaves : ℕ) → FIRST_LEAF ≤ node → r.node ≡ node → IsRefusedBy F passes own c r number leaves → IsLeafHeld F passes own c r (node - FIRST_LEAF) number leaves
 is_leaf_held F passes own c r node number leaves least same by =
-    let leaf : nat_le 15 r.node ≡ true = subst (λ (n : ℕ). nat_le 15 n ≡ true) (sym same) (le-leb 15 node least) in record {
+    let leaf : nat_le FIRST_LEAF r.node ≡ true = subst (λ (n : ℕ). nat_le FIRST_LEAF n ≡ true) (sym same) (le-leb FIRST_LEAF node least) in record {
       node = omega (arith, least, same);
       leaves_wanted = by.wanted;
       wanted = by.is_wanted leaf;
       named = by.held;
       other = by.other;
-      has_leaf = subst (λ (n : ℕ). has_bit leaves (n - 15) ≡ true) same (by.other.has_leaf leaf);
+      has_leaf = subst (λ (n : ℕ). has_bit leaves (n - FIRST_LEAF) ≡ true) same (by.other.has_leaf leaf);
     }
 
 -- a command that was refused and given up

@@ -6,7 +6,7 @@ use Rattle.atomic_table.specs.Seated.{TableId}
 use Rattle.entity_recs.specs.Commands.{Command}
 use Rattle.core_steps.specs.declared.step.Step.{Step}
 use Rattle.core_steps.specs.declared.step.StepKind.TheVariants as kinds
-use Rattle.core_steps.specs.Views.{Fixed, Clear, Put, Link, Point, View, nodes_of}
+use Rattle.core_steps.specs.Views.{Fixed, Clear, Put, Link, Point, View}
 use Rattle.core_steps.specs.Steps.{first_yield, is_taking}
 use Rattle.core_steps.specs.Machine.{Next, Begin, LoadOwn, LoadAgain, TakeNode, ClaimNode, ReadList, ReadPlayer, ReadState, CommitMove, StoreWord, GiveNode, YieldNode, YieldCount, quitting, kind_of, index_of, step_of}
 use Rattle.core_steps.specs.Calls.{node_taken}
@@ -15,35 +15,35 @@ use Rattle.ruled_words.specs.Passes.{PassView, next_of_pass, node_taken_next, Is
 use Rattle.ruled_words.specs.Loads.{record_loaded_next}
 use Rattle.region_locks.specs.Quitting.{next_step, MayBegin}
 
-step_is : (F : Fixed) (p : PassView) (next : Next) (step : Step) → Some (step_of F p.number p.view next) ≡ Some step → step ≡ step_of F p.number p.view next
+step_is : (F : Fixed) (p : PassView) (next : Next) (step : Step) → Some (step_of p.number p.view next) ≡ Some step → step ≡ step_of p.number p.view next
 step_is F p next step e = cc
 
-take_kind : (next : Next) → kind_of next ≡ kinds.Take → (view : View) (nodes node : ℕ) → index_of nodes view next ≡ 1 + node → node_taken next ≡ Some node
-take_kind (Begin c) e view nodes node at = cc
-take_kind LoadOwn e view nodes node at = cc
-take_kind LoadAgain e view nodes node at = cc
-take_kind (TakeNode n) e view nodes node at = let same : n ≡ node = omega (arith, at) in ap Some same
-take_kind (ClaimNode f n) e view nodes node at = let same : n ≡ node = omega (arith, at) in ap Some same
-take_kind (ReadList n plan) e view nodes node at = cc
-take_kind (ReadPlayer n part slot players plan) e view nodes node at = cc
-take_kind (ReadState id ids) e view nodes node at = cc
-take_kind (CommitMove f held) e view nodes node at = cc
-take_kind (StoreWord held (Clear n) stores) e view nodes node at = cc
-take_kind (StoreWord held (Put cell x) stores) e view nodes node at = cc
-take_kind (StoreWord held (Link n) stores) e view nodes node at = cc
-take_kind (GiveNode n) e view nodes node at = cc
-take_kind (YieldNode n) e view nodes node at = cc
-take_kind YieldCount e view nodes node at = cc
+take_kind : (next : Next) → kind_of next ≡ kinds.Take → (view : View) (node : ℕ) → index_of view next ≡ 1 + node → node_taken next ≡ Some node
+take_kind (Begin c) e view node at = cc
+take_kind LoadOwn e view node at = cc
+take_kind LoadAgain e view node at = cc
+take_kind (TakeNode n) e view node at = let same : n ≡ node = omega (arith, at) in ap Some same
+take_kind (ClaimNode f n) e view node at = let same : n ≡ node = omega (arith, at) in ap Some same
+take_kind (ReadList n plan) e view node at = cc
+take_kind (ReadPlayer n part slot players plan) e view node at = cc
+take_kind (ReadState id ids) e view node at = cc
+take_kind (CommitMove f held) e view node at = cc
+take_kind (StoreWord held (Clear n) stores) e view node at = cc
+take_kind (StoreWord held (Put cell x) stores) e view node at = cc
+take_kind (StoreWord held (Link n) stores) e view node at = cc
+take_kind (GiveNode n) e view node at = cc
+take_kind (YieldNode n) e view node at = cc
+take_kind YieldCount e view node at = cc
 
 -- a step that is known by its kind and its word
 pub takes_node : (F : Fixed) (p : PassView) (step : Step) (node : ℕ) → next_step F p ≡ Some step → step.kind ≡ kinds.Take → step.word ≡ 1 + node → node_taken_next (next_of_pass F p) ≡ Some node
 takes_node F p step node e kind word = by_next (next_of_pass F p) e
   where
-    by_next : (o : Option Next) → option_map (step_of F p.number p.view) o ≡ Some step → node_taken_next o ≡ Some node
+    by_next : (o : Option Next) → option_map (step_of p.number p.view) o ≡ Some step → node_taken_next o ≡ Some node
     by_next None e = cc
     by_next (Some next) e =
         let is = step_is F p next step e in
-        take_kind next (ap (λ (s : Step). s.kind) (sym is) ∙ kind) p.view (nodes_of F) node (ap (λ (s : Step). s.word) (sym is) ∙ word)
+        take_kind next (ap (λ (s : Step). s.kind) (sym is) ∙ kind) p.view node (ap (λ (s : Step). s.word) (sym is) ∙ word)
 
 -- a pass that was given a command loads the own record next
 pub loads_own : (F : Fixed) (passes : ℕ) (table : TableId) (p q : PassView) (c : Command) → IsPassOf F passes table p → MayBegin p → q ≡ record p { given = Some c }

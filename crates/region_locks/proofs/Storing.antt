@@ -1,6 +1,7 @@
 -- A pass makes the next store that it owes: it clears its player's bit, puts a word of a record, or sets the bit.
 use Rattle.std.proofs.Common.{◌≡◌, ℕ, ◌+◌, Bool, true, false, if◌then◌else◌, List, [], ◌∷◌, refl, sym, ap, subst, Option, Some, None, is_some}
 use Rattle.std.proofs.lemmas.Bool.{false≢true}
+use Rattle.core_steps.specs.declared.sizes.TheConstants.{FIRST_LIST_WORD}
 use Rattle.entity_recs.specs.declared.effect.Effect.{Effect}
 use Rattle.entity_recs.specs.Commands.{Command}
 use Rattle.core_steps.specs.Cells.{with_bit, without_bit}
@@ -83,19 +84,19 @@ module _ (F : Fixed) (p : PassView) (store : Store) where
 
 -- what is known of a pass whose next step clears its player's bit
 pub record Unlinks (F : Fixed) (p : PassView) (next : Next) : Type 0 where
-  pub index : index_of 31 p.view next ≡ 32 + bit_owed (stores_owed p.view.point)
+  pub index : index_of p.view next ≡ FIRST_LIST_WORD + bit_owed (stores_owed p.view.point)
   pub left : (found : ℕ) → word_left F p.number p.view next found ≡ without_bit found p.view.cmd.slot
   pub blind : (found : ℕ) → pass_after F next found p ≡ pass_after F next 0 p
 
 -- what is known of a pass whose next step puts a word
 pub record Puts (F : Fixed) (p : PassView) (next : Next) : Type 0 where
-  pub index : index_of 31 p.view next ≡ index_owed (stores_owed p.view.point)
+  pub index : index_of p.view next ≡ index_owed (stores_owed p.view.point)
   pub left : (found : ℕ) → word_left F p.number p.view next found ≡ word_owed (stores_owed p.view.point)
   pub blind : (found other : ℕ) → pass_after F next found p ≡ pass_after F next other p
 
 -- what is known of a pass whose next step sets its player's bit
 pub record Links (F : Fixed) (p : PassView) (next : Next) : Type 0 where
-  pub index : index_of 31 p.view next ≡ 32 + bit_owed (stores_owed p.view.point)
+  pub index : index_of p.view next ≡ FIRST_LIST_WORD + bit_owed (stores_owed p.view.point)
   pub left : (found : ℕ) → word_left F p.number p.view next found ≡ with_bit found p.view.cmd.slot
   pub blind : (found : ℕ) → pass_after F next found p ≡ pass_after F next 0 p
 
@@ -107,7 +108,7 @@ module _ (F : Fixed) (p : PassView) where
   unlinks_with None made e = not_true e
   unlinks_with (Some (Clear node)) made e =
       let m = makes_next F p (Clear node) made in
-      subst (Unlinks F p) (sym m.is) (record { index = ap (λ (s : List Store). 32 + bit_owed s) (sym m.owed); left = λ found. refl; blind = λ found. refl })
+      subst (Unlinks F p) (sym m.is) (record { index = ap (λ (s : List Store). FIRST_LIST_WORD + bit_owed s) (sym m.owed); left = λ found. refl; blind = λ found. refl })
   unlinks_with (Some (Put cell x)) made e = not_true e
   unlinks_with (Some (Link node)) made e = not_true e
 
@@ -131,7 +132,7 @@ module _ (F : Fixed) (p : PassView) where
   links_with (Some (Put cell x)) made e = not_true e
   links_with (Some (Link node)) made e =
       let m = makes_next F p (Link node) made in
-      subst (Links F p) (sym m.is) (record { index = ap (λ (s : List Store). 32 + bit_owed s) (sym m.owed); left = λ found. refl; blind = λ found. refl })
+      subst (Links F p) (sym m.is) (record { index = ap (λ (s : List Store). FIRST_LIST_WORD + bit_owed s) (sym m.owed); left = λ found. refl; blind = λ found. refl })
 
   pub links_next : is_link_next (next_of_pass F p) ≡ true → Links F p (the_next (next_of_pass F p))
   links_next e = links_with (store_made_next (next_of_pass F p)) refl e

@@ -1,5 +1,6 @@
 -- What a move leaves of its pass, and why it wasn't run.
 use Rattle.std.specs.Prelude.{◌≡◌, ℕ, ◌+◌, ◌-◌, ◌^◌, ◌<◌, ◌≤◌, min, true, List, [], ◌∷◌, ◌++◌, Option, Some, None}
+use Rattle.areanode.specs.declared.sizes.TheConstants.{FIRST_LEAF}
 use Rattle.atomic_table.specs.Seated.{TableId}
 use Rattle.entity_recs.specs.declared.effect.Entry.{Entry}
 use Rattle.entity_recs.specs.Commands.{Command}
@@ -39,7 +40,7 @@ pub record NoTakeWasRefused (old new : PassView) : Type 0 where
 -- the refused take was of a leaf that the command wants, by the own record as loaded, and its word names the holder,
 -- which isn't this pass, with its leaves, which have that leaf
 pub record IsLeafHeld (F : Fixed) (passes own : ℕ) (c : Command) (r : Refused) (leaf holder leaves : ℕ) : Type 0 where
-  pub node : r.node ≡ 15 + leaf
+  pub node : r.node ≡ FIRST_LEAF + leaf
   pub leaves_wanted : r.wanted ≡ leaf_nodes F (region_in F c r.own)
   pub wanted : has r.wanted r.node ≡ true
   pub named : IsHolderIn r.word r.node holder leaves
@@ -50,7 +51,7 @@ pub record IsLeafHeld (F : Fixed) (passes own : ℕ) (c : Command) (r : Refused)
 -- names the holder, which isn't this pass
 pub record IsNodeBusy (F : Fixed) (passes own : ℕ) (c : Command) (r : Refused) (node holder : ℕ) : Type 0 where
   pub is_node : r.node ≡ node
-  pub below : node < 15
+  pub below : node < FIRST_LEAF
   pub leaves_wanted : r.wanted ≡ leaf_nodes F (region_in F c r.own)
   pub visited : has (inner_visited F (region_in F c r.own)) node ≡ true
   pub named : IsHolderIn r.word node holder 0

@@ -23,7 +23,7 @@ bit_owed (Link node ∷ stores) = node
 
 -- the index of the word that the first of these stores puts, and 0 where it puts none
 abbrev pub index_owed : List Store → ℕ
-index_owed (Put cell x ∷ stores) = cell_index 31 cell
+index_owed (Put cell x ∷ stores) = cell_index cell
 index_owed _ = 0
 
 -- the word that the first of these stores puts, and 0 where it puts none

@@ -1,6 +1,7 @@
 -- How a pass goes on with its command, call after call, and what a move leaves of it.
 use Rattle.std.specs.Prelude.{◌≡◌, ℕ, ◌+◌, ◌-◌, ◌^◌, ◌<◌, ◌≤◌, nat_le, min, Bool, true, false, ◌&&◌, not}
 use Rattle.std.specs.Prelude.{if◌then◌else◌, List, [], ◌∷◌, ◌++◌, Option, Some, None, is_some}
+use Rattle.areanode.specs.declared.sizes.TheConstants.{FIRST_LEAF}
 use Rattle.atomic_table.specs.Seated.{TableId}
 use Rattle.entity_recs.specs.declared.effect.Entry.{Entry}
 use Rattle.entity_recs.specs.Commands.{Command}
@@ -79,8 +80,8 @@ pub record IsRefusedBy (F : Fixed) (passes own : ℕ) (c : Command) (r : Refused
   pub held : IsHolderIn r.word r.node number leaves
   pub other : IsOtherHolder F passes own r.node number leaves
   pub wanted : r.wanted ≡ leaf_nodes F (region_in F c r.own)
-  pub is_wanted : nat_le 15 r.node ≡ true → has r.wanted r.node ≡ true
-  pub is_visited : nat_le 15 r.node ≡ false → has (inner_visited F (region_in F c r.own)) r.node ≡ true
+  pub is_wanted : nat_le FIRST_LEAF r.node ≡ true → has r.wanted r.node ≡ true
+  pub is_visited : nat_le FIRST_LEAF r.node ≡ false → has (inner_visited F (region_in F c r.own)) r.node ≡ true
 
 -- the take of this node was refused: the same pass with the same command keeps it as its last refused take, one more
 -- is counted, and this one is listed

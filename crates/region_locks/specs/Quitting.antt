@@ -10,7 +10,7 @@ use Rattle.ruled_words.specs.Passes.{PassView, next_of_pass, pass_after}
 
 -- the pass's next step, by its kind and its word
 abbrev pub next_step : Fixed → PassView → Option Step
-next_step F p = option_map (step_of F p.number p.view) (next_of_pass F p)
+next_step F p = option_map (step_of p.number p.view) (next_of_pass F p)
 
 -- the pass has a command in hand, and it isn't the effect of that command that comes next
 abbrev pub has_next_step : PassView → Bool

@@ -1,6 +1,7 @@
 -- A whole move as straight code: what its hand has in view after each part.
-use Rattle.std.specs.Prelude.{◌≡◌, ℕ, suc, ◌+◌, ◌^◌, ◌<◌, ◌≤◌, List, [], ◌∷◌, ◌++◌, length, Some}
-use Rattle.areanode.specs.Trees.{leaves_of}
+use Rattle.std.specs.Prelude.{◌≡◌, ℕ, suc, ◌+◌, ◌%◌, ◌^◌, ◌<◌, ◌≤◌, List, [], ◌∷◌, ◌++◌, length, Some}
+use Rattle.areanode.specs.declared.sizes.TheConstants.{DEPTH, FIRST_LEAF}
+use Rattle.areanode.specs.Trees.{leaves_of, visited_of}
 use Rattle.entity_recs.specs.declared.effect.Effect.{Effect}
 use Rattle.entity_recs.specs.declared.effect.Entry.{Entry}
 use Rattle.entity_recs.specs.Commands.{Command}
@@ -17,12 +18,13 @@ pub record HoldsLeavesOf (F : Fixed) (c : Command) (own : List ℕ) (old new : P
   pub begun : new.tally.begun ≡ suc old.tally.begun
   pub listed : AreListedStill old.tally.refused new.tally.refused
 
--- these are the own record, the region and the leaves of the command in this view
+-- these are the own record, the region, the leaves and the inner nodes of the command in this view
 pub record AreHeldFor (F : Fixed) (held : Held) (view : View) : Type 0 where
   pub own_is : held.own ≡ view.own
   pub six : length held.own ≡ 6
   pub region_is : held.region ≡ region_in F view.cmd view.own
   pub leaves_are : held.leaves ≡ leaves_of F.tree (region_in F view.cmd view.own)
+  pub inner_are : held.inner ≡ visited_of DEPTH held.leaves % 2 ^ FIRST_LEAF
   pub wanted_is : held.wanted.items ≡ view.wanted
 
 -- the view after all was read, as this one has it

@@ -3,16 +3,16 @@
 pub enum Again {
     /// One of the move's own leaves was held.
     Held {
-        /// The leaf, 0 to 15.
+        /// The leaf, by its number.
         leaf: u8,
         /// The number of the pass that held it.
         holder: u8,
         /// The leaves of that pass's command, bit i for leaf i.
-        leaves: u16,
+        leaves: u32,
     },
     /// An inner node that the move's leaves visit was held.
     Busy {
-        /// The node, 0 to 14.
+        /// The node, by its number.
         node: u8,
         /// The number of the pass that held it.
         holder: u8,

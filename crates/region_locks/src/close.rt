@@ -1,5 +1,6 @@
 ghost use Rattle.std.specs.Prelude.{◌≡◌, ◌<◌, ◌≤◌, [], map, length, All};
 ghost use Rattle.std.specs.List.{range_with_len};
+ghost use Rattle.core_steps.specs.declared.sizes.TheConstants.{MOST_SEATS};
 ghost use Rattle.world_tree.specs.Worlds.{IsLinked};
 ghost use Rattle.ruled_words.specs.Passes.{fixed_in, sight_of, IsPassOf};
 ghost use Rattle.ruled_words.specs.Sights.{AreRefusalsServed};
@@ -21,14 +22,14 @@ fn end_all<A: Action>(words: &SharedWords<A>, mut passes: PassList<A>, logs: &mu
         All (IsPassOf F (length words.now.rooms) words.now.table) passes.items }
     requires numbers { map (λ p. p.number) passes.items ≡ range_with_len 0 (length words.now.rooms) }
     requires rest { All HasNoCommand passes.items }
-    requires count { (0 < length passes.items) × (length passes.items ≤ 16) }
+    requires count { (0 < length passes.items) × (length passes.items ≤ MOST_SEATS) }
     requires logs { logs.old ≡ [] }
     ensures table { result.table ≡ words.now.table }
     ensures sight { sight_of result ≡ sight_at_end passes.items }
     ensures logs { logs.new ≡ map log_from passes.items }
 {
     let (mut first, log) = passes.remove(0).into_parts();
-    // The list has room for 16 logs, and there are at most 16 passes.
+    // The list has room for as many logs as there are passes.
     let _ = logs.push(log);
     for pass in passes {
         let (hand, log) = pass.into_parts();

@@ -1,5 +1,6 @@
 ghost use Rattle.std.specs.Prelude.{◌≡◌, ◌-◌, ◌<◌, ◌≤◌, true, map, length, slice_index, All, IfOk, OnOk};
 ghost use Rattle.std.specs.List.{range_with_len};
+ghost use Rattle.core_steps.specs.declared.sizes.TheConstants.{MOST_SEATS};
 ghost use Rattle.ruled_words.specs.Rule.{first_sight};
 ghost use Rattle.ruled_words.specs.Sights.{no_tally};
 ghost use Rattle.ruled_words.specs.Passes.{sight_of, IsOwn};
@@ -40,7 +41,7 @@ fn make_others<A: Action>(
     room: &[u32],
 ) -> Result<PassList<A>, AllocError>
     requires table { first.old.table ≡ words.now.table }
-    requires rooms { (words.now.rooms ≡ room.now) × (0 < length room.now) × (length room.now ≤ 16) }
+    requires rooms { (words.now.rooms ≡ room.now) × (0 < length room.now) × (length room.now ≤ MOST_SEATS) }
     requires first { sight_of first.old ≡ first_sight (slice_index room.now 0) }
     ensures passes { IfOk result (λ v. v.items ≡ map (other_pass words.now.table room.now)
         (range_with_len 1 (length room.now - 1))) }
@@ -70,7 +71,7 @@ impl<'a, A: Action> NodeTable<'a, A> {
         world: &World,
         room: &[u32],
     ) -> Result<(NodeTable<'a, A>, PassList<A>), AllocError>
-        requires rooms { (0 < length room.now) × (length room.now ≤ 16) }
+        requires rooms { (0 < length room.now) × (length room.now ≤ MOST_SEATS) }
         requires taken { All (λ r. (A.meaning action.now).takes r ≡ true) (live_in world.now.records) }
         ensures table { IfOk result (λ r. (r.0.action ≡ action.now) × (r.0.world ≡ world.now)
             × (r.0.rooms ≡ room.now)) }

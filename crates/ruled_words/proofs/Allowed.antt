@@ -38,16 +38,16 @@ there_below (y ∷ ys) (suc i) x e = let below = there_below ys i x e in omega a
 -- the step leaves in its word what it should, whatever the table is
 abbrev Leaves : Fixed → List ℕ → Me (Unit {0}) SightView → Next → (ℕ → ℕ) → Type 0
 Leaves F rooms me next f =
-    (s : State (Unit {0}) SightView) → IsRuled F rooms s → slice_index s.words (index_of 31 me.0.view next) < 18446744073709551616
-    → f (slice_index s.words (index_of 31 me.0.view next)) ≡ word_left F me.0.number me.0.view next (slice_index s.words (index_of 31 me.0.view next))
+    (s : State (Unit {0}) SightView) → IsRuled F rooms s → slice_index s.words (index_of me.0.view next) < 18446744073709551616
+    → f (slice_index s.words (index_of me.0.view next)) ≡ word_left F me.0.number me.0.view next (slice_index s.words (index_of me.0.view next))
 
 -- a step that leaves in its word what it should is allowed, and gives the view after it
 allowed_here : (F : Fixed) (rooms : List ℕ) (slots i : ℕ) (me : Me (Unit {0}) SightView) (given : Option Command) (quits : Bool) (next : Next) (f : ℕ → ℕ)
     → MayGo F (length rooms) me.0.number me.0.view given quits next
     → Leaves F rooms me next f
-    → Allows (IsRuled F rooms) slots i me (index_of 31 me.0.view next) f (λ found after. SeatStepped F (length rooms) next me found after)
+    → Allows (IsRuled F rooms) slots i me (index_of me.0.view next) f (λ found after. SeatStepped F (length rooms) next me found after)
 allowed_here F rooms slots i me given quits next f may leaves s r homes at small =
-    let found = slice_index s.words (index_of 31 me.0.view next) in
+    let found = slice_index s.words (index_of me.0.view next) in
     let new : SightView = sight_found F me.0 next found in
     let ruled = goes F rooms s r i me.0 at given quits next may (f found) (leaves s r small) in (
       new,
@@ -63,7 +63,7 @@ allowed_here F rooms slots i me given quits next f may leaves s r homes at small
             sound_sight = sound_sight F rooms _ ruled i new (set_here s.views i new (there_below s.views i me.0 at));
             small = found_small F rooms s r i me.0 at given quits next may;
             taken = found_taken F rooms s r i me.0 at given quits next may;
-            counted = λ is. subst (λ (n : Next). me.0.view.seen ≤ slice_index s.words (index_of 31 me.0.view n)) (sym is) (seen_is_below F rooms s r i me.0 at);
+            counted = λ is. subst (λ (n : Next). me.0.view.seen ≤ slice_index s.words (index_of me.0.view n)) (sym is) (seen_is_below F rooms s r i me.0 at);
           },
           refl,
         );
@@ -75,7 +75,7 @@ allowed_here F rooms slots i me given quits next f may leaves s r homes at small
 
 -- the same where what doesn't change, the number of passes and the word are picked
 allowed_as : (F G : Fixed) (rooms : List ℕ) (passes word slots i : ℕ) (me : Me (Unit {0}) SightView) (given : Option Command) (quits : Bool) (next : Next) (f : ℕ → ℕ)
-    → F ≡ G → passes ≡ length rooms → word ≡ index_of 31 me.0.view next → MayGo F passes me.0.number me.0.view given quits next
+    → F ≡ G → passes ≡ length rooms → word ≡ index_of me.0.view next → MayGo F passes me.0.number me.0.view given quits next
     → Leaves F rooms me next f
     → Allows (IsRuled G rooms) slots i me word f (λ found after. SeatStepped F passes next me found after)
 allowed_as F G rooms passes word slots i me given quits next f fixed count at may leaves =
@@ -86,11 +86,11 @@ allowed_as F G rooms passes word slots i me given quits next f fixed count at ma
 
 -- the same where the word that is left is right of each word that may be found
 pub allowed : (F G : Fixed) (rooms : List ℕ) (passes word slots i : ℕ) (me : Me (Unit {0}) SightView) (given : Option Command) (quits : Bool) (next : Next) (f : ℕ → ℕ)
-    → F ≡ G → passes ≡ length rooms → word ≡ index_of 31 me.0.view next → MayGo F passes me.0.number me.0.view given quits next
+    → F ≡ G → passes ≡ length rooms → word ≡ index_of me.0.view next → MayGo F passes me.0.number me.0.view given quits next
     → ((found : ℕ) → found < 18446744073709551616 → f found ≡ word_left F me.0.number me.0.view next found)
     → Allows (IsRuled G rooms) slots i me word f (λ found after. SeatStepped F passes next me found after)
 allowed F G rooms passes word slots i me given quits next f fixed count at may leaves =
-    allowed_as F G rooms passes word slots i me given quits next f fixed count at may (λ t ruled. leaves (slice_index t.words (index_of 31 me.0.view next)))
+    allowed_as F G rooms passes word slots i me given quits next f fixed count at may (λ t ruled. leaves (slice_index t.words (index_of me.0.view next)))
 
 -- a step that leaves the same word whatever was found doesn't load the count
 no_store : {R : Type 0} (F : Fixed) (number : ℕ) (view : View) (next : Next) (new : ℕ) → ((found : ℕ) → word_left F number view next found ≡ new) → next ≡ YieldCount → R
@@ -139,7 +139,7 @@ none_taken o node none some = cc
 
 -- the same for a store, whose step gets the word that is stored
 pub allowed_store : (F G : Fixed) (rooms : List ℕ) (passes word slots i : ℕ) (me : Me (Unit {0}) SightView) (given : Option Command) (quits : Bool) (next : Next) (new : ℕ)
-    → F ≡ G → passes ≡ length rooms → word ≡ index_of 31 me.0.view next → MayGo F passes me.0.number me.0.view given quits next
+    → F ≡ G → passes ≡ length rooms → word ≡ index_of me.0.view next → MayGo F passes me.0.number me.0.view given quits next
     → ((found : ℕ) → word_left F me.0.number me.0.view next found ≡ new)
     → ((found : ℕ) → view_found F me.0.view next found ≡ view_found F me.0.view next new)
     → Allows (IsRuled G rooms) slots i me word (λ _. new) (λ _ after. SeatStepped F passes next me new after)
@@ -178,7 +178,7 @@ either_is false x y = refl
 
 -- the same for a compare-exchange from 0
 pub allowed_from_0 : (F G : Fixed) (rooms : List ℕ) (passes word slots i : ℕ) (me : Me (Unit {0}) SightView) (given : Option Command) (quits : Bool) (next : Next) (new : ℕ)
-    → F ≡ G → passes ≡ length rooms → word ≡ index_of 31 me.0.view next → MayGo F passes me.0.number me.0.view given quits next
+    → F ≡ G → passes ≡ length rooms → word ≡ index_of me.0.view next → MayGo F passes me.0.number me.0.view given quits next
     → ((found : ℕ) → word_left F me.0.number me.0.view next found ≡ (if found == 0 then new else found))
     → Allows (IsRuled G rooms) slots i me word (λ n. either (n == 0) new n) (λ found after. SeatStepped F passes next me found after)
 allowed_from_0 F G rooms passes word slots i me given quits next new fixed count at may leaves =
@@ -187,13 +187,13 @@ allowed_from_0 F G rooms passes word slots i me given quits next new fixed count
 
 -- the same for the count of commits, which grows by one
 pub allowed_add : (F G : Fixed) (rooms : List ℕ) (passes word slots i : ℕ) (me : Me (Unit {0}) SightView) (given : Option Command) (quits : Bool) (next : Next)
-    → F ≡ G → passes ≡ length rooms → word ≡ index_of 31 me.0.view next → word ≡ 0 → MayGo F passes me.0.number me.0.view given quits next
+    → F ≡ G → passes ≡ length rooms → word ≡ index_of me.0.view next → word ≡ 0 → MayGo F passes me.0.number me.0.view given quits next
     → ((found : ℕ) → word_left F me.0.number me.0.view next found ≡ found + 1)
     → Allows (IsRuled G rooms) slots i me word (λ n. (n + 1) % 2 ^ 64) (λ found after. SeatStepped F passes next me found after)
 allowed_add F G rooms passes word slots i me given quits next fixed count at at_0 may leaves =
     allowed_as F G rooms passes word slots i me given quits next (λ n. (n + 1) % 2 ^ 64) fixed count at may
     (λ s r small.
-    let found = slice_index s.words (index_of 31 me.0.view next) in
+    let found = slice_index s.words (index_of me.0.view next) in
     let bound : found < 2 ^ 40 = subst (λ (n : ℕ). slice_index s.words n < 2 ^ 40) (sym at_0 ∙ at) (count_is_small F rooms s r) in
     grown found bound ∙ sym (leaves found))
   where
@@ -202,7 +202,7 @@ allowed_add F G rooms passes word slots i me given quits next fixed count at at_
 
 -- the same for a bit that is cleared or set
 pub allowed_clear : (F G : Fixed) (rooms : List ℕ) (passes word slots i : ℕ) (me : Me (Unit {0}) SightView) (given : Option Command) (quits : Bool) (next : Next) (slot : ℕ)
-    → F ≡ G → passes ≡ length rooms → word ≡ index_of 31 me.0.view next → MayGo F passes me.0.number me.0.view given quits next → slot < 64
+    → F ≡ G → passes ≡ length rooms → word ≡ index_of me.0.view next → MayGo F passes me.0.number me.0.view given quits next → slot < 64
     → ((found : ℕ) → word_left F me.0.number me.0.view next found ≡ without_bit found slot)
     → Allows (IsRuled G rooms) slots i me word (λ n. bit_and n (bit_not w64 (1 * 2 ^ slot % 2 ^ 64))) (λ found after. SeatStepped F passes next me found after)
 allowed_clear F G rooms passes word slots i me given quits next slot fixed count at may below leaves =
@@ -210,7 +210,7 @@ allowed_clear F G rooms passes word slots i me given quits next slot fixed count
     (λ found small. cleared found slot small below ∙ sym (leaves found))
 
 pub allowed_set : (F G : Fixed) (rooms : List ℕ) (passes word slots i : ℕ) (me : Me (Unit {0}) SightView) (given : Option Command) (quits : Bool) (next : Next) (slot : ℕ)
-    → F ≡ G → passes ≡ length rooms → word ≡ index_of 31 me.0.view next → MayGo F passes me.0.number me.0.view given quits next → slot < 64
+    → F ≡ G → passes ≡ length rooms → word ≡ index_of me.0.view next → MayGo F passes me.0.number me.0.view given quits next → slot < 64
     → ((found : ℕ) → word_left F me.0.number me.0.view next found ≡ with_bit found slot)
     → Allows (IsRuled G rooms) slots i me word (λ n. bit_or n (1 * 2 ^ slot % 2 ^ 64)) (λ found after. SeatStepped F passes next me found after)
 allowed_set F G rooms passes word slots i me given quits next slot fixed count at may below leaves =

@@ -3,6 +3,7 @@ use Rattle.std.proofs.Common.{◌≡◌, ℕ, suc, ◌+◌, ◌*◌, Bool, true,
 use Rattle.std.specs.Prelude.{◌==◌}
 use Rattle.std.proofs.lemmas.Bool.{eqb-true, or_left, or_right, eq-eqb}
 use Rattle.std.proofs.lemmas.List.{take_more, take_all, drop_more, drop_all}
+use Rattle.core_steps.specs.declared.sizes.TheConstants.{NODE_HOLDERS}
 use Rattle.atomic_table.specs.Seated.{TableId}
 use Rattle.entity_recs.specs.declared.effect.Effect.{Effect}
 use Rattle.core_steps.specs.Views.{Fixed, View, Point, Resolving, Claiming, Storing, Releasing, AtClaiming, stage_of, is_without_effect, without_command, has, is_leaf, home, record_read, region_in, leaf_word, held_word, stores_of}
@@ -29,9 +30,9 @@ use Rattle.ruled_words.proofs.TriedTakes.{tried_on, tried_again, not_tried}
 -- ---- the word of a write node
 
 -- the word with which an inner node is held to write
-held_to_write : (F : Fixed) (number node : ℕ) (wanted : List ℕ) → is_leaf F node ≡ false → held_word F number AtClaiming wanted node ≡ suc (number + 256)
+held_to_write : (F : Fixed) (number node : ℕ) (wanted : List ℕ) → is_leaf F node ≡ false → held_word F number AtClaiming wanted node ≡ suc (number + NODE_HOLDERS)
 held_to_write F number node wanted inner =
-    ap (λ (b : Bool). suc (number + 256 * (if b then leaf_word F wanted else 1))) inner
+    ap (λ (b : Bool). suc (number + NODE_HOLDERS * (if b then leaf_word F wanted else 1))) inner
 
 first_has : (nodes : List ℕ) (node : ℕ) → first nodes ≡ Some node → has nodes node ≡ true
 first_has [] node e = cc
@@ -124,7 +125,7 @@ module _ (F : Fixed) (passes : ℕ) (table : TableId) (p : PassView) (node : ℕ
       two_inner F (home F before) (home F is.claim.e.me) node
       (subst (λ (ns : List ℕ). has ns node ≡ true) is.claim.nodes (has_append got (node ∷ rest) node ∙ or_right (has got node) _ (or_left (node == node) (has rest node) (eq-eqb node node refl))))
 
-  pub further_left : (found : ℕ) → word_after F p found ≡ (if found == 0 then suc (p.number + 256) else found)
+  pub further_left : (found : ℕ) → word_after F p found ≡ (if found == 0 then suc (p.number + NODE_HOLDERS) else found)
   further_left found =
       left_next F p (TakeNode node) further_is found
       ∙ ap (λ (q : Point). if found == 0 then held_word F p.number (stage_of (point_after_take node q)) p.view.wanted node else found) at
@@ -179,7 +180,7 @@ module _ (F : Fixed) (p : PassView) (e : Effect) (node : ℕ) (plain : IsPlain p
   pub first_is : next_of_pass F (keeping p e) ≡ Some (ClaimNode e node)
   first_is = with_effect_is F p e plain at (ClaimNode e node) (claims_first e (nodes_written F p.view e) node there)
 
-  pub first_left : (found : ℕ) → word_after F (keeping p e) found ≡ (if found == 0 then suc (p.number + 256) else found)
+  pub first_left : (found : ℕ) → word_after F (keeping p e) found ≡ (if found == 0 then suc (p.number + NODE_HOLDERS) else found)
   first_left found =
       left_next F (keeping p e) (ClaimNode e node) first_is found
       ∙ ap (λ (w : ℕ). if found == 0 then w else found)

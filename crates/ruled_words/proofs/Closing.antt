@@ -8,6 +8,7 @@ use Rattle.std.specs.List.Sorted.{IsPermutation}
 use mathlib.Core.Option as maybe
 use lib.ListN.{get_elem?}
 use Rattle.std.proofs.lemmas.Bool.{cases_Bool, cases_lt, true≢false, eqb-true, eqb-false, cond-true, cond-false}
+use Rattle.core_steps.specs.declared.sizes.TheConstants.{TABLE_WORDS}
 use Rattle.atomic_table.specs.Table.{State}
 use Rattle.entity_recs.specs.Histories.{Item, places_of}
 use Rattle.core_steps.specs.Cells.{Cell, Body, State as StateCell, word_in, cell_index}
@@ -100,15 +101,15 @@ module _ (F : Fixed) (rooms : List ℕ) (s : State (Unit {0}) SightView) (r : Is
   is_run = now_world F r.core r.history r.now r.lawful r.start r.stands.core
 
   -- a list with the same words
-  module _ (words : List ℕ) (same : (k : ℕ) → k < 639 → slice_index words k ≡ slice_index s.words k) where
+  module _ (words : List ℕ) (same : (k : ℕ) → k < TABLE_WORDS → slice_index words k ≡ slice_index s.words k) where
     record_words : HasRecordWords F words r.now
     record_words = record {
       body = λ slot k below word live.
-          same (cell_index 31 (Body slot k)) (omega (arith, below, word)) ∙ r.words.each (cell_index 31 (Body slot k)) (omega (arith, below, word))
-          ∙ (layout_is_right 31 r.core.words).body slot k below word ∙ word_is (Body slot k) live;
+          same (cell_index (Body slot k)) (omega (arith, below, word)) ∙ r.words.each (cell_index (Body slot k)) (omega (arith, below, word))
+          ∙ (layout_is_right r.core.words).body slot k below word ∙ word_is (Body slot k) live;
       state = λ id below live.
-          same (cell_index 31 (StateCell id)) (omega (arith, below)) ∙ r.words.each (cell_index 31 (StateCell id)) (omega (arith, below))
-          ∙ (layout_is_right 31 r.core.words).state id ∙ word_is (StateCell id) live;
+          same (cell_index (StateCell id)) (omega (arith, below)) ∙ r.words.each (cell_index (StateCell id)) (omega (arith, below))
+          ∙ (layout_is_right r.core.words).state id ∙ word_is (StateCell id) live;
     }
 
     pub closes_with : Closes F words sight.view

@@ -1,5 +1,6 @@
 -- The words and the last seat of a table that is closed.
 use Rattle.std.proofs.Common.{◌≡◌, ℕ, ◌<◌, List, length, slice_index, sym, ap, ◌∙◌, subst}
+use Rattle.core_steps.specs.declared.sizes.TheConstants.{TABLE_WORDS}
 use mathlib.Core.Option.{some}
 use lib.ListN.{get_elem?}
 use Rattle.atomic_table.specs.Table.{Final, Seen}
@@ -29,7 +30,7 @@ module _ (F : Fixed) (rooms : List ℕ) (id : ℕ) (seat sight : SightView) (wor
   pub start_at_end : IsStart F
   start_at_end = ruled.start
 
-  pub closes_at_end : (copy : List ℕ) → ((k : ℕ) → k < 639 → get_elem? words k ≡ some (slice_index copy k)) → Closes F copy sight.view
+  pub closes_at_end : (copy : List ℕ) → ((k : ℕ) → k < TABLE_WORDS → get_elem? words k ≡ some (slice_index copy k)) → Closes F copy sight.view
   closes_at_end copy each =
       closes_with F rooms final.0 ruled sight at_first rests (others_ended F rooms final.0 ruled sight at_first ended) copy
       (λ k below. sym (ap (λ (ws : List ℕ). slice_index ws k) final.2 ∙ word_found words k (slice_index copy k) (each k below)))

@@ -19,7 +19,7 @@ use Rattle.ruled_words.proofs.Goes.{found_is}
 use Rattle.ruled_words.proofs.Counting.{count_is_small}
 
 -- a commit is a step on the count
-pub commit_index : (view : View) (next : Next) → kind_of next ≡ Commit → index_of 31 view next ≡ 0
+pub commit_index : (view : View) (next : Next) → kind_of next ≡ Commit → index_of view next ≡ 0
 commit_index view (Begin c) e = cc
 commit_index view LoadOwn e = cc
 commit_index view LoadAgain e = cc
@@ -111,22 +111,22 @@ loads_from F view given false next q comes e = loads_at F view given q view.poin
 module _ (F : Fixed) (rooms : List ℕ) (s : State (Unit {0}) SightView) (r : IsRuled F rooms s) (i : ℕ) (sight : SightView) (at : get_elem? s.views i ≡ maybe.some sight)
     (given : Option Command) (quits : Bool) (next : Next) (may : MayGo F (length rooms) sight.number sight.view given quits next) where
   -- a count that a commit finds is small
-  pub found_small : kind_of next ≡ Commit → slice_index s.words (index_of 31 sight.view next) + 1 < 2 ^ 64
+  pub found_small : kind_of next ≡ Commit → slice_index s.words (index_of sight.view next) + 1 < 2 ^ 64
   found_small commits =
-      let bound : slice_index s.words (index_of 31 sight.view next) < 2 ^ 40 =
+      let bound : slice_index s.words (index_of sight.view next) < 2 ^ 40 =
       subst (λ (n : ℕ). slice_index s.words n < 2 ^ 40) (sym (commit_index sight.view next commits)) (count_is_small F rooms s r) in
       omega (arith, bound)
 
   -- the record whose last word is found is one that the action takes
   pub found_taken : (node slot : ℕ) (part players plan : List ℕ) → next ≡ ReadPlayer node part slot players plan → length part ≡ 5
-      → F.takes (record_read slot (part ++ slice_index s.words (index_of 31 sight.view next) ∷ [])) ≡ true
+      → F.takes (record_read slot (part ++ slice_index s.words (index_of sight.view next) ∷ [])) ≡ true
   found_taken node slot part players plan is five =
       let view : View = r.core.view i in
       let seen : view ≡ sight.view = r.seats.view i sight at in
       let point : view.point ≡ Loading node part (slot ∷ players) plan =
       ap (λ (v : View). v.point) seen ∙ loads_from F sight.view given quits next (Loading node part (slot ∷ players) plan) may.comes (ap loading_of is) in
-      let found : slice_index s.words (index_of 31 sight.view next) ≡ word_in r.core.words (cell_of slot 5) =
-      ap (λ (v : View). slice_index s.words (index_of 31 v next)) (sym seen)
+      let found : slice_index s.words (index_of sight.view next) ≡ word_in r.core.words (cell_of slot 5) =
+      ap (λ (v : View). slice_index s.words (index_of v next)) (sym seen)
       ∙ found_is F rooms s r i sight at given quits next may
       ∙ ap (word_of_next r.core.words view) is ∙ ap (λ (k : ℕ). word_in r.core.words (cell_of slot k)) five in
       ap (λ (x : ℕ). F.takes (record_read slot (part ++ x ∷ []))) found

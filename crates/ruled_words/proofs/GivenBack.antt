@@ -2,6 +2,7 @@
 use Rattle.std.proofs.Common.{◌≡◌, ◌⊎◌, ℕ, ◌+◌, ◌^◌, ◌<◌, ◌≤◌, true, false, List, [], ◌∷◌, map, length, slice_index_or, drop, refl, sym, ap, ◌∙◌, inl, inr, Some, None, arith}
 use Rattle.std.specs.Prelude.{◌==◌, ◌&&◌, not}
 use Rattle.std.proofs.lemmas.List.{drop_more, drop_all}
+use Rattle.areanode.specs.declared.sizes.TheConstants.{DEPTH, LEAVES, FIRST_LEAF}
 use Rattle.atomic_table.specs.Seated.{TableId}
 use Rattle.arena_geo.specs.Bounds.{Bounds}
 use Rattle.areanode.specs.Words.{has_bit}
@@ -15,7 +16,7 @@ use Rattle.ruled_words.specs.Passes.{PassView, next_of_pass, node_given_next, pa
 use Rattle.ruled_words.specs.Hands.{IsPlain}
 use Rattle.ruled_words.specs.Straight.{in_view}
 use Rattle.ruled_words.proofs.BitWalks.{bits_in, bits_first, bits_none, bit_below}
-use Rattle.ruled_words.proofs.LeafWords.{leaf_word_is}
+use Rattle.ruled_words.proofs.LeafWords.{leaf_word_is, leaves_small}
 use Rattle.ruled_words.proofs.LoadedWords.{none_kept, plain_is, plain_after, plain_next}
 use Rattle.ruled_words.proofs.PlainHands.{after_next_is}
 
@@ -50,7 +51,7 @@ module _ (F : Fixed) (passes : ℕ) (table : TableId) (start : PassView) (nodes 
 
 -- the nodes of the leaves of this word, rising
 abbrev pub leaves_in : ℕ → List ℕ
-leaves_in word = map (leaf_node 4) (bits_in 16 word)
+leaves_in word = map (leaf_node DEPTH) (bits_in LEAVES word)
 
 -- these leaves are left to be given back: all of those wanted where none was
 pub record HasReturned (F : Fixed) (passes : ℕ) (table : TableId) (start now : PassView) (left : List ℕ) : Type 0 where
@@ -73,6 +74,14 @@ module _ (F : Fixed) (passes : ℕ) (table : TableId) (start : PassView) (plain 
 
       wanted : leaves_in leaves ≡ start.view.wanted
       wanted = ap leaves_in word ∙ sym (ap (λ (d : ℕ). map (leaf_node d) (bits_in (2 ^ d) (leaves_of F.tree region))) own.sound_sight.sound.depth) ∙ sym whole
+
+  -- and the word has a bit for each leaf at most
+  pub returned_small : (leaves : ℕ) → IsPassOf F passes table start → leaves ≡ leaf_word F start.view.wanted → leaves < 2 ^ LEAVES
+  returned_small leaves own are =
+      let sound = own.sound_sight.sound in
+      let region = region_in F start.view.cmd start.view.own in
+      let whole = sound.whole (ap (λ (q : Point). is_whole (stage_of q)) at) in
+      leaves_small F region leaves sound.depth (are ∙ ap (leaf_word F) whole ∙ leaf_word_is F region)
 
   module _ (now : PassView) (node : ℕ) (rest : List ℕ) where
     first_given : now ≡ start → node ∷ rest ≡ start.view.wanted → next_of_pass F now ≡ Some (GiveNode node)
@@ -127,9 +136,9 @@ module _ (F : Fixed) (passes : ℕ) (table : TableId) (start : PassView) (plain 
 -- ---- the lowest leaf
 
 -- the lowest leaf comes first
-pub leaves_first : (word rest bit : ℕ) → word < 2 ^ 16 → has_bit word bit ≡ true → ((i : ℕ) → i < bit → has_bit word i ≡ false) → ((i : ℕ) → i < 64 → has_bit rest i ≡ (has_bit word i && not (i == bit)))
-    → leaves_in word ≡ (15 + bit) ∷ leaves_in rest
-leaves_first word rest bit small there lowest without = ap (map (leaf_node 4)) (bits_first 16 word rest bit (bit_below 16 word bit small there) (omega arith) there lowest without)
+pub leaves_first : (word rest bit : ℕ) → word < 2 ^ LEAVES → has_bit word bit ≡ true → ((i : ℕ) → i < bit → has_bit word i ≡ false) → ((i : ℕ) → i < 64 → has_bit rest i ≡ (has_bit word i && not (i == bit)))
+    → leaves_in word ≡ (FIRST_LEAF + bit) ∷ leaves_in rest
+leaves_first word rest bit small there lowest without = ap (map (leaf_node DEPTH)) (bits_first LEAVES word rest bit (bit_below LEAVES word bit small there) (omega arith) there lowest without)
 
 pub leaves_none : leaves_in 0 ≡ []
-leaves_none = ap (map (leaf_node 4)) (bits_none 16)
+leaves_none = ap (map (leaf_node DEPTH)) (bits_none LEAVES)

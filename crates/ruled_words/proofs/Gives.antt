@@ -1,5 +1,6 @@
 -- A pass gives back its next node, or loads its next list word or state.
 use Rattle.std.proofs.Common.{◌≡◌, ℕ, ◌+◌, Bool, true, false, if◌then◌else◌, List, [], ◌∷◌, refl, ap, Option, Some, None, is_some}
+use Rattle.core_steps.specs.declared.sizes.TheConstants.{FIRST_LIST_WORD, FIRST_STATE_WORD}
 use Rattle.atomic_table.specs.Seated.{TableId}
 use Rattle.entity_recs.specs.declared.effect.Effect.{Effect}
 use Rattle.entity_recs.specs.Commands.{Command}
@@ -12,18 +13,18 @@ use Rattle.core_seats.specs.Nexts.{next_resolved, next_point, the_next}
 
 -- what is known of a pass whose next step gives back a node
 pub record Gives (F : Fixed) (p : PassView) (node : ℕ) (next : Next) : Type 0 where
-  pub index : index_of 31 p.view next ≡ 1 + node
+  pub index : index_of p.view next ≡ 1 + node
   pub left : (found : ℕ) → word_left F p.number p.view next found ≡ 0
   pub blind : (found : ℕ) → view_found F p.view next found ≡ view_found F p.view next 0
 
 -- what is known of a pass whose next step loads the list word of a node
 pub record ReadsList (F : Fixed) (p : PassView) (node : ℕ) (next : Next) : Type 0 where
-  pub index : index_of 31 p.view next ≡ 32 + node
+  pub index : index_of p.view next ≡ FIRST_LIST_WORD + node
   pub left : (found : ℕ) → word_left F p.number p.view next found ≡ found
 
 -- what is known of a pass whose next step loads the state of a thing
 pub record ReadsState (F : Fixed) (p : PassView) (id : ℕ) (next : Next) : Type 0 where
-  pub index : index_of 31 p.view next ≡ 383 + id
+  pub index : index_of p.view next ≡ FIRST_STATE_WORD + id
   pub left : (found : ℕ) → word_left F p.number p.view next found ≡ found
 
 same_number : (a b : ℕ) → Some a ≡ Some b → a ≡ b
@@ -147,7 +148,7 @@ module _ (F : Fixed) (passes : ℕ) (table : TableId) (p : PassView) (n : ℕ) (
   lists_at Checking at e = none_is n e
   lists_at (Entering node plan) at e = none_is n e
   lists_at (Entered node plan) at e = record {
-    index = ap (λ (k : ℕ). 32 + k) (same_number node n e);
+    index = ap (λ (k : ℕ). FIRST_LIST_WORD + k) (same_number node n e);
     left = λ found. refl;
   }
   lists_at (Loading node part [] plan) at e = none_is n e
@@ -187,7 +188,7 @@ module _ (F : Fixed) (passes : ℕ) (table : TableId) (p : PassView) (n : ℕ) (
   states_at (Leaving node plan) at e = none_is n e
   states_at (Sensing []) at e = none_is n e
   states_at (Sensing (id ∷ ids)) at e = record {
-    index = ap (λ (k : ℕ). 383 + k) (same_number id n e);
+    index = ap (λ (k : ℕ). FIRST_STATE_WORD + k) (same_number id n e);
     left = λ found. refl;
   }
   states_at Resolving at e = state_resolved n F p.view p.effect e

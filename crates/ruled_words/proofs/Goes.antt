@@ -4,19 +4,22 @@ use Rattle.std.specs.Prelude.{◌==◌}
 use mathlib.Core.Option as maybe
 use lib.ListN.{get_elem?}
 use Rattle.std.proofs.lemmas.Bool.{cases_Bool, false≢true, eqb-true, eqb-false, ne_eqb}
+use Rattle.areanode.specs.declared.sizes.TheConstants.{DEPTH, NODES}
+use Rattle.core_steps.specs.declared.sizes.TheConstants.{TABLE_WORDS}
 use Rattle.atomic_table.specs.Table.{State, keeps, stepped}
 use Rattle.atomic_table.proofs.Lists.{at_set}
 use Rattle.entity_recs.specs.Commands.{Command}
 use Rattle.entity_recs.specs.Worlds.{World}
 use Rattle.entity_recs.specs.Histories.{Item, run}
-use Rattle.core_steps.specs.Cells.{put, word_at, table_size}
-use Rattle.core_steps.specs.Views.{Fixed, Ended, stage_of, is_busy, View, nodes_of}
+use Rattle.core_steps.specs.Cells.{put, word_at}
+use Rattle.core_steps.specs.Views.{Fixed, Ended, stage_of, is_busy, View}
 use Rattle.core_steps.specs.Steps.{Core, first_yield, is_taking}
 use Rattle.core_steps.specs.Machine.{Machine, Next, quitting, next_at, next_of, machine_after, core_after, items_after, index_of, word_of_next, IsPending, MachineStands}
 use Rattle.core_steps.specs.MachineLaws.{HasItsWord}
 use Rattle.core_steps.proofs.Puts.{each_put, put_same, put_other}
 use Rattle.core_steps.proofs.NextSteps.{next_step_stands}
 use Rattle.core_steps.proofs.TableWords.{steps_have_their_word}
+use Rattle.core_seats.proofs.Sounding.{fits_table}
 use Rattle.core_steps.proofs.OneWord.{steps_change_one_word}
 use Rattle.ruled_words.specs.Sights.{SightView, sight_found}
 use Rattle.ruled_words.specs.Going.{next_asked, MayGo}
@@ -83,9 +86,6 @@ asked_next F core i given quits =
     ap (λ (q : Bool). if q then Some (quitting (first_yield F view)) else next_at F view (put i given (λ j. None) i) view.point) (put_same i quits (λ j. false))
     ∙ ap (λ (o : Option Command). if quits then Some (quitting (first_yield F view)) else next_at F view o view.point) (put_same i given (λ j. None))
 
-nodes_31 : (F : Fixed) → F.tree.depth ≡ 4 → nodes_of F ≡ 31
-nodes_31 F depth = ap (λ (d : ℕ). 2 ^ (d + 1) - 1) depth
-
 module _ (F : Fixed) (rooms : List ℕ) (s : State (Unit {0}) SightView) (r : IsRuled F rooms s) (i : ℕ) (sight : SightView) (at : get_elem? s.views i ≡ maybe.some sight) where
   -- a seat that lives is at the place of its number
   pub number_is : sight.view.live ≡ true → sight.number ≡ i
@@ -117,25 +117,22 @@ module _ (F : Fixed) (rooms : List ℕ) (s : State (Unit {0}) SightView) (r : Is
     stands_after = rested F (machine_after F (asked r.core i given quits) i next) _ _ (next_step_stands F (asked r.core i given quits) r.history r.now i next r.lawful r.start comes stands_before)
 
     has_word : HasItsWord F r.core i next
-    has_word = steps_have_their_word F (asked r.core i given quits) r.history r.now i next r.lawful r.start comes stands_before
-
-    wide : nodes_of F ≡ 31
-    wide = nodes_31 F r.depth
+    has_word = steps_have_their_word F (asked r.core i given quits) r.history r.now i next r.lawful r.start (fits_table F r.depth) comes stands_before
 
     abbrev index : ℕ
-    index = index_of 31 V next
+    index = index_of V next
 
-    in_table : index < 639
-    in_table = subst (λ (n : ℕ). index_of n V next < table_size n) wide has_word.in_table
+    in_table : index < TABLE_WORDS
+    in_table = has_word.in_table
 
-    before_word : word_at 31 r.core.words index ≡ word_of_next r.core.words V next
-    before_word = subst (λ (n : ℕ). word_at n r.core.words (index_of n V next) ≡ word_of_next r.core.words V next) wide has_word.before
+    before_word : word_at r.core.words index ≡ word_of_next r.core.words V next
+    before_word = has_word.before
 
-    after_word : word_at 31 after.words index ≡ word_of_next after.words V next
-    after_word = subst (λ (n : ℕ). word_at n after.words (index_of n V next) ≡ word_of_next after.words V next) wide has_word.after
+    after_word : word_at after.words index ≡ word_of_next after.words V next
+    after_word = has_word.after
 
-    other_words : (k : ℕ) → (k == index) ≡ false → word_at 31 after.words k ≡ word_at 31 r.core.words k
-    other_words = subst (λ (n : ℕ). (k : ℕ) → (k == index_of n V next) ≡ false → word_at n after.words k ≡ word_at n r.core.words k) wide (λ k other. steps_change_one_word F r.core i k next other)
+    other_words : (k : ℕ) → (k == index) ≡ false → word_at after.words k ≡ word_at r.core.words k
+    other_words k other = steps_change_one_word F r.core i k next other
 
     pub found_is : slice_index s.words index ≡ word_of_next r.core.words V next
     found_is = r.words.each index in_table ∙ before_word
@@ -152,8 +149,8 @@ module _ (F : Fixed) (rooms : List ℕ) (s : State (Unit {0}) SightView) (r : Is
       each = λ k below. elim (cases_Bool (k == index)) [
         | inl same ↦
             let at_index : slice_index (slice_set s.words index left) index ≡ left = get_or-set_same s.words index left 0 (subst (λ (n : ℕ). index < n) (sym r.words.count) in_table) in
-            let left_word : left ≡ word_at 31 after.words index = is ∙ ap (λ (n : ℕ). word_left F i V next n) found_is ∙ sym (word_here F r.core i next) ∙ sym after_word in
-            subst (λ (n : ℕ). slice_index (slice_set s.words index left) n ≡ word_at 31 after.words n) (sym (eqb-true k index same)) (at_index ∙ left_word)
+            let left_word : left ≡ word_at after.words index = is ∙ ap (λ (n : ℕ). word_left F i V next n) found_is ∙ sym (word_here F r.core i next) ∙ sym after_word in
+            subst (λ (n : ℕ). slice_index (slice_set s.words index left) n ≡ word_at after.words n) (sym (eqb-true k index same)) (at_index ∙ left_word)
         | inr other ↦ get_or-set_other s.words index k left 0 (eqb-false k index other) ∙ r.words.each k below ∙ sym (other_words k other)
       ];
     }
@@ -225,14 +222,14 @@ module _ (F : Fixed) (rooms : List ℕ) (s : State (Unit {0}) SightView) (r : Is
     }
 
     -- the step is one on a word of the table
-    pub goes_in_table : index_of 31 sight.view next < 639
-    goes_in_table = subst (λ (v : View). index_of 31 v next < 639) seen in_table
+    pub goes_in_table : index_of sight.view next < TABLE_WORDS
+    goes_in_table = subst (λ (v : View). index_of v next < TABLE_WORDS) seen in_table
 
     -- the rule holds after the step
-    pub goes : (left : ℕ) → left ≡ word_left F sight.number sight.view next (slice_index s.words (index_of 31 sight.view next))
-        → IsRuled F rooms (stepped s (index_of 31 sight.view next) left i [] (sight_found F sight next (slice_index s.words (index_of 31 sight.view next))) keeps)
+    pub goes : (left : ℕ) → left ≡ word_left F sight.number sight.view next (slice_index s.words (index_of sight.view next))
+        → IsRuled F rooms (stepped s (index_of sight.view next) left i [] (sight_found F sight next (slice_index s.words (index_of sight.view next))) keeps)
     goes = subst
-        (λ (v : View). (left : ℕ) → left ≡ word_left F sight.number v next (slice_index s.words (index_of 31 v next))
-        → IsRuled F rooms (stepped s (index_of 31 v next) left i [] (sight_found F (record { number = sight.number; view = v; tally = sight.tally }) next (slice_index s.words (index_of 31 v next))) keeps))
+        (λ (v : View). (left : ℕ) → left ≡ word_left F sight.number v next (slice_index s.words (index_of v next))
+        → IsRuled F rooms (stepped s (index_of v next) left i [] (sight_found F (record { number = sight.number; view = v; tally = sight.tally }) next (slice_index s.words (index_of v next))) keeps))
         seen
         (λ left is. goes_here left (is ∙ ap (λ (n : ℕ). word_left F n V next (slice_index s.words index)) here))

@@ -79,7 +79,7 @@ module _ (F : Fixed) (passes : ℕ) (table : TableId) (p : PassView) (c : Comman
       ∙ ap (λ (q : Point). next_point F p.view (Some c) p.effect q) idle
 
   -- the first word of the own record is loaded next
-  pub begin_ready : (word : ℕ) → word ≡ body_index 31 c.slot → IsReady F passes table (given_to p c) p word
+  pub begin_ready : (word : ℕ) → word ≡ body_index c.slot → IsReady F passes table (given_to p c) p word
   begin_ready word index = record {
     own = given_own;
     same_table = refl;
@@ -87,7 +87,7 @@ module _ (F : Fixed) (passes : ℕ) (table : TableId) (p : PassView) (c : Comman
     same_view = refl;
     same_tally = refl;
     comes = ap (λ (o : Option Next). is_some o) given_next;
-    index = index ∙ no_more (body_index 31 c.slot) ∙ sym (ap (λ (o : Option Next). index_of 31 p.view (the_next o)) given_next);
+    index = index ∙ no_more (body_index c.slot) ∙ sym (ap (λ (o : Option Next). index_of p.view (the_next o)) given_next);
   }
 
   pub begin_left : (found : ℕ) → word_after F (given_to p c) found ≡ found

@@ -5,6 +5,8 @@ use Rattle.std.specs.List.{range_with_len}
 use mathlib.Core.Option as maybe
 use lib.ListN.{get_elem?}
 use Rattle.std.proofs.lemmas.Bool.{cases_Bool, false≢true, true≢false, or_cases, cond-true}
+use Rattle.areanode.specs.declared.sizes.TheConstants.{DEPTH, FIRST_LEAF}
+use Rattle.core_steps.specs.declared.sizes.TheConstants.{TABLE_LEAVES, MOST_SEATS, NODE_HOLDERS}
 use Rattle.arena_geo.specs.Bounds.{Bounds}
 use Rattle.atomic_table.specs.Table.{State}
 use Rattle.entity_recs.specs.declared.effect.Effect.{Effect}
@@ -26,7 +28,7 @@ use Rattle.ruled_words.specs.Rule.{IsRuled}
 use Rattle.ruled_words.specs.Passes.{node_taken_next, IsHolderIn}
 use Rattle.ruled_words.specs.Holders.{IsHeldByOther, IsFoundHeld, IsOtherHolder}
 use Rattle.ruled_words.proofs.Goes.{number_is, found_is}
-use Rattle.ruled_words.proofs.LeafWords.{leaf_word_is}
+use Rattle.ruled_words.proofs.LeafWords.{leaf_word_is, leaves_small}
 
 -- ---- the node that is taken is the one that the seat takes next
 
@@ -143,16 +145,16 @@ held_wanted F view (Returning leaves) node at left held = left.among node held
 held_wanted F view (Yielding nodes leaves) node at left held = left.among node held
 
 -- a leaf of a region has its bit in the word of the region's leaves
-leaf_has_bit : (F : Fixed) (region : List Bounds) (node : ℕ) → F.tree.depth ≡ 4 → has (leaf_nodes F region) node ≡ true → has_bit (leaves_of F.tree region) (node - 15) ≡ true
+leaf_has_bit : (F : Fixed) (region : List Bounds) (node : ℕ) → F.tree.depth ≡ DEPTH → has (leaf_nodes F region) node ≡ true → has_bit (leaves_of F.tree region) (node - FIRST_LEAF) ≡ true
 leaf_has_bit F region node depth there =
     let range = range_with_len 0 (2 ^ F.tree.depth) in
     let s = has_shifted (2 ^ F.tree.depth - 1) (filter (has_bit (leaves_of F.tree region)) range) node there in
     let kept = has_filter (has_bit (leaves_of F.tree region)) range s.from s.listed in
-    let inner : 2 ^ F.tree.depth - 1 ≡ 15 = ap (λ (d : ℕ). 2 ^ d - 1) depth in
-    let same : s.from ≡ node - 15 = from_is node s.from (2 ^ F.tree.depth - 1) s.is inner in
+    let inner : 2 ^ F.tree.depth - 1 ≡ FIRST_LEAF = ap (λ (d : ℕ). 2 ^ d - 1) depth in
+    let same : s.from ≡ node - FIRST_LEAF = from_is node s.from (2 ^ F.tree.depth - 1) s.is inner in
     subst (λ (n : ℕ). has_bit (leaves_of F.tree region) n ≡ true) same kept.passes
   where
-    from_is : (node from inner : ℕ) → node ≡ inner + from → inner ≡ 15 → from ≡ node - 15
+    from_is : (node from inner : ℕ) → node ≡ inner + from → inner ≡ FIRST_LEAF → from ≡ node - FIRST_LEAF
     from_is node from inner e at = omega (arith, e, at)
 
 module _ (F : Fixed) (rooms : List ℕ) (s : State (Unit {0}) SightView) (r : IsRuled F rooms s) where
@@ -176,7 +178,7 @@ module _ (F : Fixed) (rooms : List ℕ) (s : State (Unit {0}) SightView) (r : Is
       let most = r.fits.made in
       let few = r.fits.few in
       let wanted : view.wanted ≡ leaf_nodes F (region_in F view.cmd view.own) = seat.own.leaves is.whole in
-      let inner : inner_nodes F ≡ 15 = ap (λ (d : ℕ). 2 ^ d - 1) r.depth in
+      let inner : inner_nodes F ≡ FIRST_LEAF = ap (λ (d : ℕ). 2 ^ d - 1) r.depth in
       record {
         holder = j;
         other = other;
@@ -214,29 +216,29 @@ module _ (F : Fixed) (rooms : List ℕ) (s : State (Unit {0}) SightView) (r : Is
         not_before node less = omega (arith, less)
 
     -- where the word that a take finds isn't 0, another seat holds the node
-    pub found_held : IsFoundHeld F (length rooms) sight.number next (slice_index s.words (index_of 31 sight.view next))
+    pub found_held : IsFoundHeld F (length rooms) sight.number next (slice_index s.words (index_of sight.view next))
     found_held node taken busy =
         let seen : r.core.view i ≡ sight.view = r.seats.view i sight at in
-        let found : slice_index s.words (index_of 31 sight.view next) ≡ r.core.words.node node =
-        ap (λ (v : View). slice_index s.words (index_of 31 v next)) (sym seen) ∙ found_is F rooms s r i sight at given quits next may ∙ word_taken r.core.words (r.core.view i) next node taken in
-        subst (λ (n : ℕ). IsHeldByOther F (length rooms) n node (slice_index s.words (index_of 31 sight.view next))) (sym (number_is F rooms s r i sight at may.lives))
+        let found : slice_index s.words (index_of sight.view next) ≡ r.core.words.node node =
+        ap (λ (v : View). slice_index s.words (index_of v next)) (sym seen) ∙ found_is F rooms s r i sight at given quits next may ∙ word_taken r.core.words (r.core.view i) next node taken in
+        subst (λ (n : ℕ). IsHeldByOther F (length rooms) n node (slice_index s.words (index_of sight.view next))) (sym (number_is F rooms s r i sight at may.lives))
         (subst (IsHeldByOther F (length rooms) i node) (sym found) (held_in_core node taken (λ zero. busy (found ∙ zero))))
 
 -- ---- the holder, as its word names it
 
-number_in : (word holder mark : ℕ) → word ≡ suc (holder + 256 * mark) → holder < 16 → (word - 1) % 256 ≡ holder
-number_in word holder mark e small = subst (λ (w : ℕ). (w - 1) % 256 ≡ holder) (sym e) (plain holder mark small)
+number_in : (word holder mark : ℕ) → word ≡ suc (holder + NODE_HOLDERS * mark) → holder < MOST_SEATS → (word - 1) % NODE_HOLDERS ≡ holder
+number_in word holder mark e small = subst (λ (w : ℕ). (w - 1) % NODE_HOLDERS ≡ holder) (sym e) (plain holder mark small)
   where
-    plain : (holder mark : ℕ) → holder < 16 → (suc (holder + 256 * mark) - 1) % 256 ≡ holder
+    plain : (holder mark : ℕ) → holder < MOST_SEATS → (suc (holder + NODE_HOLDERS * mark) - 1) % NODE_HOLDERS ≡ holder
     plain holder mark small = omega (arith, small)
 
-mark_in : (word holder mark : ℕ) → word ≡ suc (holder + 256 * mark) → holder < 16 → mark < 2 ^ 16 → word / 256 % 2 ^ 16 ≡ mark
-mark_in word holder mark e small low = subst (λ (w : ℕ). w / 256 % 2 ^ 16 ≡ mark) (sym e) (plain holder mark small low)
+mark_in : (word holder mark : ℕ) → word ≡ suc (holder + NODE_HOLDERS * mark) → holder < MOST_SEATS → mark < 2 ^ TABLE_LEAVES → word / NODE_HOLDERS % 2 ^ TABLE_LEAVES ≡ mark
+mark_in word holder mark e small low = subst (λ (w : ℕ). w / NODE_HOLDERS % 2 ^ TABLE_LEAVES ≡ mark) (sym e) (plain holder mark small low)
   where
-    plain : (holder mark : ℕ) → holder < 16 → mark < 2 ^ 16 → suc (holder + 256 * mark) / 256 % 2 ^ 16 ≡ mark
+    plain : (holder mark : ℕ) → holder < MOST_SEATS → mark < 2 ^ TABLE_LEAVES → suc (holder + NODE_HOLDERS * mark) / NODE_HOLDERS % 2 ^ TABLE_LEAVES ≡ mark
     plain holder mark small low = omega (arith, small, low)
 
-module _ (F : Fixed) (passes own node word number leaves : ℕ) (depth : F.tree.depth ≡ 4) (by : IsHeldByOther F passes own node word) (is : IsHolderIn word node number leaves) where
+module _ (F : Fixed) (passes own node word number leaves : ℕ) (depth : F.tree.depth ≡ DEPTH) (by : IsHeldByOther F passes own node word) (is : IsHolderIn word node number leaves) where
   abbrev region : List Bounds
   region = region_in F by.view.cmd by.view.own
 
@@ -244,15 +246,16 @@ module _ (F : Fixed) (passes own node word number leaves : ℕ) (depth : F.tree.
   same_number = is.is_number ∙ number_in word by.holder _ by.is_word by.small
 
   -- the word of a leaf has the leaves of the command
-  same_leaves : nat_le 15 node ≡ true → leaves ≡ leaves_of F.tree region
+  same_leaves : nat_le FIRST_LEAF node ≡ true → leaves ≡ leaves_of F.tree region
   same_leaves leaf =
-      let inner : inner_nodes F ≡ 15 = ap (λ (d : ℕ). 2 ^ d - 1) depth in
+      let inner : inner_nodes F ≡ FIRST_LEAF = ap (λ (d : ℕ). 2 ^ d - 1) depth in
       let is_leaf_here : is_leaf F node ≡ true = subst (λ (n : ℕ). nat_le n node ≡ true) (sym inner) leaf in
       let mark : leaf_word F by.view.wanted ≡ leaves_of F.tree region = ap (leaf_word F) by.wanted ∙ leaf_word_is F region in
-      let low : leaves_of F.tree region < 2 ^ 16 = subst (λ (d : ℕ). leaves_of F.tree region < 2 ^ 2 ^ d) depth (word_of-below (2 ^ F.tree.depth) (region_has_leaf F.tree region)) in
-      let full : word ≡ suc (by.holder + 256 * leaves_of F.tree region) =
-      by.is_word ∙ ap (λ (x : ℕ). suc (by.holder + 256 * x)) (cond-true (is_leaf F node) (leaf_word F by.view.wanted) (if is_writing (stage_of by.view.point) then 1 else 0) is_leaf_here ∙ mark) in
-      is.are_leaves ∙ cond-true (nat_le 15 node) (word / 256 % 2 ^ 16) 0 leaf ∙ mark_in word by.holder (leaves_of F.tree region) full by.small low
+      let few = leaves_small F region (leaves_of F.tree region) depth refl in
+      let low : leaves_of F.tree region < 2 ^ TABLE_LEAVES = omega (arith, few) in
+      let full : word ≡ suc (by.holder + NODE_HOLDERS * leaves_of F.tree region) =
+      by.is_word ∙ ap (λ (x : ℕ). suc (by.holder + NODE_HOLDERS * x)) (cond-true (is_leaf F node) (leaf_word F by.view.wanted) (if is_writing (stage_of by.view.point) then 1 else 0) is_leaf_here ∙ mark) in
+      is.are_leaves ∙ cond-true (nat_le FIRST_LEAF node) (word / NODE_HOLDERS % 2 ^ TABLE_LEAVES) 0 leaf ∙ mark_in word by.holder (leaves_of F.tree region) full by.small low
 
   pub other_holder : IsOtherHolder F passes own node number leaves
   other_holder = record {
@@ -263,5 +266,5 @@ module _ (F : Fixed) (passes own node word number leaves : ℕ) (depth : F.tree.
     given = by.given;
     serves = by.serves ∙ sym same_number;
     are_leaves = same_leaves;
-    has_leaf = λ leaf. subst (λ (w : ℕ). has_bit w (node - 15) ≡ true) (sym (same_leaves leaf)) (by.has_leaf leaf);
+    has_leaf = λ leaf. subst (λ (w : ℕ). has_bit w (node - FIRST_LEAF) ≡ true) (sym (same_leaves leaf)) (by.has_leaf leaf);
   }

@@ -1,5 +1,5 @@
 -- The word of the leaves of a region.
-use Rattle.std.proofs.Common.{◌≡◌, ℕ, zero, suc, ◌+◌, ◌-◌, ◌^◌, ◌<◌, Bool, if◌then◌else◌, List, [], ◌∷◌, ◌++◌, map, refl, sym, ap, ◌∙◌, inl, inr, arith}
+use Rattle.std.proofs.Common.{◌≡◌, ℕ, zero, suc, ◌+◌, ◌-◌, ◌^◌, ◌<◌, Bool, if◌then◌else◌, List, [], ◌∷◌, ◌++◌, map, refl, sym, ap, ◌∙◌, subst, inl, inr, arith}
 use Rattle.std.specs.Prelude.{filter}
 use Rattle.std.specs.List.{range_with_len}
 use Rattle.std.proofs.lemmas.Bool.{cases_Bool}
@@ -7,7 +7,8 @@ use Rattle.std.proofs.lemmas.List.Elements.{filter-append}
 use Rattle.arena_geo.specs.Bounds.{Bounds}
 use Rattle.areanode.specs.Words.{has_bit, word_of}
 use Rattle.areanode.specs.Trees.{leaf_node, leaves_of, region_has_leaf}
-use Rattle.areanode.proofs.Words.{word_has_its_bits}
+use Rattle.areanode.specs.declared.sizes.TheConstants.{DEPTH, LEAVES}
+use Rattle.areanode.proofs.Words.{word_has_its_bits, word_of-below}
 use Rattle.core_steps.specs.Views.{Fixed, leaf_nodes, leaf_word, bits_of_leaves}
 
 range_last : (low n : ℕ) → range_with_len low (suc n) ≡ range_with_len low n ++ (low + n) ∷ []
@@ -61,3 +62,9 @@ leaf_word_is F region =
     ap bits_of_leaves (all_back F.tree.depth (filter (has_bit (leaves_of F.tree region)) (range_with_len 0 n)))
     ∙ ap bits_of_leaves (filter_same n (has_bit (leaves_of F.tree region)) (region_has_leaf F.tree region) (λ i below. word_has_its_bits n (region_has_leaf F.tree region) i below))
     ∙ bits_of_test n (region_has_leaf F.tree region)
+
+-- it has a bit for each leaf at most
+pub leaves_small : (F : Fixed) (region : List Bounds) (leaves : ℕ) → F.tree.depth ≡ DEPTH → leaves ≡ leaves_of F.tree region → leaves < 2 ^ LEAVES
+leaves_small F region leaves depth is =
+    subst (λ (n : ℕ). n < 2 ^ LEAVES) (sym is)
+    (subst (λ (d : ℕ). leaves_of F.tree region < 2 ^ 2 ^ d) depth (word_of-below (2 ^ F.tree.depth) (region_has_leaf F.tree region)))

@@ -64,8 +64,8 @@ module _ (F : Fixed) (p : PassView) (c : Command) where
   pub own_comes : (words : List ℕ) → length words < 6 → next_of_pass F (own_at words) ≡ Some LoadOwn
   own_comes words below = ap (λ (q : PassView). next_of_pass F q) (own_part words below)
 
-  pub own_index : (words : List ℕ) → length words < 6 → index_of 31 (own_at words).view (the_next (next_of_pass F (own_at words))) ≡ cell_index 31 (cell_of c.slot (length words))
-  own_index words below = ap (λ (q : PassView). index_of 31 q.view (the_next (next_of_pass F q))) (own_part words below)
+  pub own_index : (words : List ℕ) → length words < 6 → index_of (own_at words).view (the_next (next_of_pass F (own_at words))) ≡ cell_index (cell_of c.slot (length words))
+  own_index words below = ap (λ (q : PassView). index_of q.view (the_next (next_of_pass F q))) (own_part words below)
 
   pub own_left : (words : List ℕ) (found : ℕ) → length words < 6 → word_after F (own_at words) found ≡ found
   own_left words found below = ap (λ (q : PassView). word_after F q found) (own_part words below)

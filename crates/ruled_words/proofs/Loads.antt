@@ -34,18 +34,18 @@ none_word w e = cc
 
 -- the index of the word, and what a load leaves in it
 pub record IsLoad (F : Fixed) (number : ℕ) (view : View) (w : PlayerWord) (next : Next) : Type 0 where
-  pub index : index_of 31 view next ≡ cell_index 31 (cell_of w.slot (length w.before))
+  pub index : index_of view next ≡ cell_index (cell_of w.slot (length w.before))
   pub left : (found : ℕ) → word_left F number view next found ≡ found
 
 is_load : (F : Fixed) (number : ℕ) (view : View) (w : PlayerWord) (next : Next) → player_word view next ≡ Some w → IsLoad F number view w next
-is_load F number view w (Begin c) e = record { index = ap (λ (v : PlayerWord). cell_index 31 (cell_of v.slot (length v.before))) (same_word _ w e); left = λ found. refl }
-is_load F number view w LoadOwn e = record { index = ap (λ (v : PlayerWord). cell_index 31 (cell_of v.slot (length v.before))) (same_word _ w e); left = λ found. refl }
-is_load F number view w LoadAgain e = record { index = ap (λ (v : PlayerWord). cell_index 31 (cell_of v.slot (length v.before))) (same_word _ w e); left = λ found. refl }
+is_load F number view w (Begin c) e = record { index = ap (λ (v : PlayerWord). cell_index (cell_of v.slot (length v.before))) (same_word _ w e); left = λ found. refl }
+is_load F number view w LoadOwn e = record { index = ap (λ (v : PlayerWord). cell_index (cell_of v.slot (length v.before))) (same_word _ w e); left = λ found. refl }
+is_load F number view w LoadAgain e = record { index = ap (λ (v : PlayerWord). cell_index (cell_of v.slot (length v.before))) (same_word _ w e); left = λ found. refl }
 is_load F number view w (TakeNode node) e = none_word w e
 is_load F number view w (ClaimNode f node) e = none_word w e
 is_load F number view w (ReadList node plan) e = none_word w e
 is_load F number view w (ReadPlayer node part slot players plan) e =
-    record { index = ap (λ (v : PlayerWord). cell_index 31 (cell_of v.slot (length v.before))) (same_word _ w e); left = λ found. refl }
+    record { index = ap (λ (v : PlayerWord). cell_index (cell_of v.slot (length v.before))) (same_word _ w e); left = λ found. refl }
 is_load F number view w (ReadState id ids) e = none_word w e
 is_load F number view w (CommitMove f nodes) e = none_word w e
 is_load F number view w (StoreWord nodes store stores) e = none_word w e

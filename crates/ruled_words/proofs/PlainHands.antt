@@ -21,8 +21,8 @@ module _ (F : Fixed) (p : PassView) (next : Next) (is : next_of_pass F p ≡ Som
   pub comes_next : is_some (next_of_pass F p) ≡ true
   comes_next = ap (λ (o : Option Next). is_some o) is
 
-  pub index_next : (view : View) → index_of 31 view next ≡ index_of 31 view (the_next (next_of_pass F p))
-  index_next view = sym (ap (λ (o : Option Next). index_of 31 view (the_next o)) is)
+  pub index_next : (view : View) → index_of view next ≡ index_of view (the_next (next_of_pass F p))
+  index_next view = sym (ap (λ (o : Option Next). index_of view (the_next o)) is)
 
   pub left_next : (found : ℕ) → word_after F p found ≡ word_left F p.number p.view next found
   left_next found = ap (λ (o : Option Next). word_left F p.number p.view (the_next o) found) is

@@ -5,6 +5,7 @@ use Rattle.std.specs.List.{range_with_len}
 use mathlib.Core.Option as maybe
 use lib.ListN.{get_elem?}
 use Rattle.std.proofs.lemmas.Bool.{cases_Bool, true≢false, or_cases, or_left, or_right, eq-eqb, eqb-true, leb-true, leb-false}
+use Rattle.areanode.specs.declared.sizes.TheConstants.{FIRST_LEAF}
 use Rattle.arena_geo.specs.Bounds.{Bounds, IsOrdered}
 use Rattle.arena_geo.specs.Regions.{touches_region}
 use Rattle.atomic_table.specs.Table.{State}
@@ -183,7 +184,7 @@ module _ (F : Fixed) (rooms : List ℕ) (s : State (Unit {0}) SightView) (r : Is
   is_reached node next =
       let seat = r.stands.core.seats i in
       let is = taken_by_point seat_view.point node refl next in
-      let inner : inner_nodes F ≡ 15 = ap (λ (d : ℕ). 2 ^ d - 1) r.depth in
+      let inner : inner_nodes F ≡ FIRST_LEAF = ap (λ (d : ℕ). 2 ^ d - 1) r.depth in
       record {
         wanted = seat.own.leaves is.whole;
         is_wanted = λ leaf. is.wanted (subst (λ (n : ℕ). nat_le n node ≡ true) (sym inner) leaf);

@@ -2,6 +2,7 @@
 use Rattle.std.proofs.Common.{◌≡◌, ℕ, ◌<◌, ◌≤◌, true, List, refl, sym, ap, ◌∙◌, inl, inr, arith, slice_index}
 use Rattle.std.specs.Prelude.{nat_lt}
 use Rattle.std.proofs.lemmas.Bool.{cases_Bool, cond-true, cond-false, and_from, lt-ltb, ltb-true, ltb-false}
+use Rattle.entity_recs.specs.declared.limits.TheConstants.{IDS}
 use Rattle.entity_recs.specs.declared.rec.Rec.{Rec}
 use Rattle.entity_recs.specs.Records.{with_state}
 use Rattle.entity_recs.specs.Worlds.{World}
@@ -18,16 +19,16 @@ use Rattle.ruled_words.specs.Ends.{body_in, state_in, record_in}
 -- the words of each live record are those of the world
 pub record HasRecordWords (F : Fixed) (words : List ℕ) (now : World) : Type 0 where
   pub body : (slot k : ℕ) → slot < 64 → k < 5 → is_live_cell F (Body slot k) ≡ true
-      → slice_index words (cell_index 31 (Body slot k)) ≡ value_in now (Body slot k)
-  pub state : (id : ℕ) → id < 256 → is_live_cell F (State id) ≡ true
-      → slice_index words (cell_index 31 (State id)) ≡ value_in now (State id)
+      → slice_index words (cell_index (Body slot k)) ≡ value_in now (Body slot k)
+  pub state : (id : ℕ) → id < IDS → is_live_cell F (State id) ≡ true
+      → slice_index words (cell_index (State id)) ≡ value_in now (State id)
 
 module _ (F : Fixed) (words : List ℕ) (now : World) (lawful : IsLawful F) (start : IsStart F) (is : IsRunWorld F now) (here : HasRecordWords F words now) where
   state_read : (id : ℕ) → has F.start.ids id ≡ true → state_in words id ≡ (now.record_of id).state
   state_read id live = here.state id (live_in F id lawful start live) live
 
   body_read : (slot k : ℕ) → slot < 64 → has F.start.ids slot ≡ true → k < 5
-      → slice_index words (cell_index 31 (Body slot k)) ≡ value_in now (Body slot k)
+      → slice_index words (cell_index (Body slot k)) ≡ value_in now (Body slot k)
   body_read slot k below live within =
       here.body slot k below within
       (and_from (is_player F slot) (nat_lt k 5) (and_from (nat_lt slot 64) (has F.start.ids slot) (lt-ltb slot 64 below) live) (lt-ltb k 5 within))

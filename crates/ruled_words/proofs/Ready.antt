@@ -81,8 +81,8 @@ module _ (F : Fixed) (passes : ℕ) (table : TableId) (p : PassView) (seat : Sea
       (subst (λ (v : View). MayGo F passes p.number v p.given p.quits (the_next (next_of_pass F p))) (sym is.same_view) (may_go F passes table p is.own is.comes))
 
   -- what is asked of the pass's step is asked of the seat's
-  pub index_ready : word ≡ index_of 31 seat.me.0.view (the_next (next_of_pass F p))
-  index_ready = subst (λ (v : View). word ≡ index_of 31 v (the_next (next_of_pass F p))) (sym is.same_view) is.index
+  pub index_ready : word ≡ index_of seat.me.0.view (the_next (next_of_pass F p))
+  index_ready = subst (λ (v : View). word ≡ index_of v (the_next (next_of_pass F p))) (sym is.same_view) is.index
 
   pub left_ready : (step : WordStep) → ((found : ℕ) → word_after F p found ≡ word_by step found) → (found : ℕ) → word_left F seat.me.0.number seat.me.0.view (the_next (next_of_pass F p)) found ≡ word_by step found
   left_ready step left found =

@@ -9,6 +9,7 @@ use Rattle.entity_recs.specs.declared.rec.Rec.{Rec}
 use Rattle.std.specs.Prelude.{if◌then◌else◌, ◌↔◌, IsTrue}
 use Rattle.std.specs.Bool.{MatchBool}
 use Rattle.std.proofs.lemmas.Bool.{false≢true}
+use Rattle.entity_recs.specs.declared.limits.TheConstants.{IDS}
 use Rattle.entity_recs.specs.declared.effect.Effect.{Effect}
 use Rattle.entity_recs.specs.declared.effect.NewState.{NewState}
 use Rattle.entity_recs.specs.Bodies.{abs_of}
@@ -92,7 +93,7 @@ module _ (start p new : PassView) (id found : ℕ) (rest : List ℕ) (is : p ≡
   sensed_more = made ∙ ap (λ (states : List NewState). sensed_to start states rest) (sym states_more)
 
 -- a record is put last where there is room
-pub put_last : (b : Bool) (near new : List Rec) (r : Rec) → IsTrue b ↔ (length near < 256) → MatchBool b (new ≡ near ++ r ∷ []) (new ≡ near) → length near < 256
+pub put_last : (b : Bool) (near new : List Rec) (r : Rec) → IsTrue b ↔ (length near < IDS) → MatchBool b (new ≡ near ++ r ∷ []) (new ≡ near) → length near < IDS
     → new ≡ near ++ r ∷ []
 put_last true near new r room records few = records
 put_last false near new r room records few = absurd (false≢true (room.1 few))
@@ -130,7 +131,7 @@ module _ (F : Fixed) (things : List Rec) (region : List Bounds) (are : AreThings
     sensed_at touch = first_thing start p thing.id rest (at_first touch)
 
     -- there is room for it
-    pub sensed_room : length near < 256
+    pub sensed_room : length near < IDS
     sensed_room = let few = are.few in let most = is.room in omega (arith, few, most, there)
 
     -- its state was loaded

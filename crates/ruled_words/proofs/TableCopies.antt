@@ -1,6 +1,7 @@
 -- The words of a closed table, copied one by one.
 use Rattle.std.proofs.Common.{◌≡◌, ℕ, zero, suc, ◌+◌, ◌<◌, List, [], ◌∷◌, length, slice_index, slice_set, sym, ap, ◌∙◌, subst, inl, inr, arith, length-set, get_or-set_same, get_or-set_other}
 use Rattle.std.proofs.lemmas.Bool.{cases_eq}
+use Rattle.core_steps.specs.declared.sizes.TheConstants.{TABLE_WORDS}
 use mathlib.Core.Option.{some, some-injective, some-ne-none}
 use lib.ListN.{get_elem?}
 
@@ -12,10 +13,10 @@ word_found (x ∷ words) (suc k) word at = word_found words k word at
 
 -- the words below an index are copied
 pub record IsCopiedBelow (n : ℕ) (words copy : List ℕ) : Type 0 where
-  pub count : length copy ≡ 639
+  pub count : length copy ≡ TABLE_WORDS
   pub each : (k : ℕ) → k < n → get_elem? words k ≡ some (slice_index copy k)
 
-pub copied_next : (n word : ℕ) (words copy : List ℕ) → IsCopiedBelow n words copy → n < 639 → get_elem? words n ≡ some word
+pub copied_next : (n word : ℕ) (words copy : List ℕ) → IsCopiedBelow n words copy → n < TABLE_WORDS → get_elem? words n ≡ some word
     → IsCopiedBelow (n + 1) words (slice_set copy n word)
 copied_next n word words copy is below at = record {
   count = length-set copy n word ∙ is.count;

@@ -2,6 +2,8 @@
 use Rattle.std.proofs.Common.{◌≡◌, ◌⊎◌, ℕ, suc, ◌+◌, ◌-◌, ◌*◌, ◌^◌, ◌<◌, Bool, true, false, if◌then◌else◌, List, [], ◌∷◌, ◌++◌, refl, sym, ap, ◌∙◌, subst, inl, inr, Option, Some, None, is_some, All}
 use Rattle.std.specs.Prelude.{◌==◌}
 use Rattle.std.proofs.lemmas.List.Elements.{All-from_recursion}
+use Rattle.areanode.specs.declared.sizes.TheConstants.{NODES}
+use Rattle.core_steps.specs.declared.sizes.TheConstants.{NODE_HOLDERS}
 use Rattle.atomic_table.specs.Seated.{TableId}
 use Rattle.entity_recs.specs.declared.effect.Effect.{Effect}
 use Rattle.entity_recs.specs.Commands.{Command}
@@ -9,7 +11,7 @@ use Rattle.core_steps.specs.Views.{Fixed, Point, Idle, Owning, Taking, Checking,
 use Rattle.core_steps.specs.Steps.{taking, point_after_take, first_yield}
 use Rattle.core_steps.specs.Machine.{Next, beginning, TakeNode, ClaimNode, resolving, quitting, committing, giving, index_of}
 use Rattle.core_steps.specs.Stands.{IsAt, IsClaimingAfter}
-use Rattle.core_steps.proofs.Waiting.{leaf_below}
+use Rattle.core_steps.proofs.TreeNodes.{leaf_below}
 use Rattle.core_steps.proofs.Runs.{all_from_has}
 use Rattle.core_steps.specs.Calls.{node_taken}
 use Rattle.core_seats.specs.Going.{word_left}
@@ -137,42 +139,42 @@ module _ (F : Fixed) (passes : ℕ) (table : TableId) (p : PassView) (node : ℕ
       by_quits false e = takes_at p.view.point refl e
 
 -- the leaves that are wanted are nodes of the table
-pub wanted_below : (F : Fixed) (passes : ℕ) (table : TableId) (p : PassView) (node : ℕ) (next : Next) → IsPassOf F passes table p → Takes F p node next → All (λ n. n < 31) p.view.wanted
+pub wanted_below : (F : Fixed) (passes : ℕ) (table : TableId) (p : PassView) (node : ℕ) (next : Next) → IsPassOf F passes table p → Takes F p node next → All (λ n. n < NODES) p.view.wanted
 wanted_below F passes table p node next own t =
     let sound = own.sound_sight.sound in
     let wanted = sound.whole t.whole in
-    let all : inner_nodes F + 2 ^ F.tree.depth ≡ 31 = ap (λ (d : ℕ). 2 ^ d - 1 + 2 ^ d) sound.depth in
-    subst (All (λ n. n < 31)) (sym wanted)
-    (All-from_recursion (λ n. n < 31) (leaf_nodes F (region_in F p.view.cmd p.view.own))
-    (all_from_has (λ n. n < 31) (leaf_nodes F (region_in F p.view.cmd p.view.own))
+    let all : inner_nodes F + 2 ^ F.tree.depth ≡ NODES = ap (λ (d : ℕ). 2 ^ d - 1 + 2 ^ d) sound.depth in
+    subst (All (λ n. n < NODES)) (sym wanted)
+    (All-from_recursion (λ n. n < NODES) (leaf_nodes F (region_in F p.view.cmd p.view.own))
+    (all_from_has (λ n. n < NODES) (leaf_nodes F (region_in F p.view.cmd p.view.own))
     (λ v there. subst (λ (n : ℕ). v < n) all (leaf_below F (region_in F p.view.cmd p.view.own) v there))))
 
 -- the word with which the node is taken, of what the pass holds
 pub word_of_holder : (F : Fixed) (p : PassView) (node : ℕ) (next : Next) → (t : Takes F p node next)
-    → held_word F p.number t.stage p.view.wanted node ≡ suc (p.number + 256 * (if is_leaf F node then leaf_word F p.view.wanted else (if is_some (effect_in_hand p) then 1 else 0)))
+    → held_word F p.number t.stage p.view.wanted node ≡ suc (p.number + NODE_HOLDERS * (if is_leaf F node then leaf_word F p.view.wanted else (if is_some (effect_in_hand p) then 1 else 0)))
 word_of_holder F p node next t =
-    ap (λ (b : Bool). suc (p.number + 256 * (if is_leaf F node then leaf_word F p.view.wanted else (if b then 1 else 0)))) (sym t.writes)
+    ap (λ (b : Bool). suc (p.number + NODE_HOLDERS * (if is_leaf F node then leaf_word F p.view.wanted else (if b then 1 else 0)))) (sym t.writes)
 
 -- the same word, as the rules compute it
 pub held_is : (F G : Fixed) (p q : PassView) (number node result : ℕ) (wanted : List ℕ) (writing : Bool) → G ≡ F → q ≡ p → number ≡ p.number → wanted ≡ q.view.wanted → writing ≡ is_some (effect_in_hand q)
-    → result ≡ suc (number + 256 * (if is_leaf G node then leaf_word G wanted else (if writing then 1 else 0)))
-    → suc (p.number + 256 * (if is_leaf F node then leaf_word F p.view.wanted else (if is_some (effect_in_hand p) then 1 else 0))) ≡ result
+    → result ≡ suc (number + NODE_HOLDERS * (if is_leaf G node then leaf_word G wanted else (if writing then 1 else 0)))
+    → suc (p.number + NODE_HOLDERS * (if is_leaf F node then leaf_word F p.view.wanted else (if is_some (effect_in_hand p) then 1 else 0))) ≡ result
 held_is F G p q number node result wanted writing same is numbered wants writes computed =
     sym (computed
-    ∙ ap (λ (n : ℕ). suc (n + 256 * (if is_leaf G node then leaf_word G wanted else (if writing then 1 else 0)))) (numbered ∙ sym (ap (λ (r : PassView). r.number) is))
-    ∙ ap (λ (xs : List ℕ). suc (q.number + 256 * (if is_leaf G node then leaf_word G xs else (if writing then 1 else 0)))) wants
-    ∙ ap (λ (b : Bool). suc (q.number + 256 * (if is_leaf G node then leaf_word G q.view.wanted else (if b then 1 else 0)))) writes
-    ∙ ap (λ (H : Fixed). suc (q.number + 256 * (if is_leaf H node then leaf_word H q.view.wanted else (if is_some (effect_in_hand q) then 1 else 0)))) same
-    ∙ ap (λ (r : PassView). suc (r.number + 256 * (if is_leaf F node then leaf_word F r.view.wanted else (if is_some (effect_in_hand r) then 1 else 0)))) is)
+    ∙ ap (λ (n : ℕ). suc (n + NODE_HOLDERS * (if is_leaf G node then leaf_word G wanted else (if writing then 1 else 0)))) (numbered ∙ sym (ap (λ (r : PassView). r.number) is))
+    ∙ ap (λ (xs : List ℕ). suc (q.number + NODE_HOLDERS * (if is_leaf G node then leaf_word G xs else (if writing then 1 else 0)))) wants
+    ∙ ap (λ (b : Bool). suc (q.number + NODE_HOLDERS * (if is_leaf G node then leaf_word G q.view.wanted else (if b then 1 else 0)))) writes
+    ∙ ap (λ (H : Fixed). suc (q.number + NODE_HOLDERS * (if is_leaf H node then leaf_word H q.view.wanted else (if is_some (effect_in_hand q) then 1 else 0)))) same
+    ∙ ap (λ (r : PassView). suc (r.number + NODE_HOLDERS * (if is_leaf F node then leaf_word F r.view.wanted else (if is_some (effect_in_hand r) then 1 else 0)))) is)
 
 pub taken_there : (o : Option Next) (node : ℕ) → node_taken_next o ≡ Some node → is_some o ≡ true
 taken_there None node e = none_taken node e
 taken_there (Some next) node e = refl
 
-pub taken_index : (F : Fixed) (p : PassView) (node : ℕ) (next : Next) → Takes F p node next → index_of 31 p.view next ≡ 1 + node
+pub taken_index : (F : Fixed) (p : PassView) (node : ℕ) (next : Next) → Takes F p node next → index_of p.view next ≡ 1 + node
 taken_index F p node next t = elim t.takes [
-  | inl is ↦ ap (index_of 31 p.view) is
-  | inr is ↦ ap (index_of 31 p.view) is.1
+  | inl is ↦ ap (index_of p.view) is
+  | inr is ↦ ap (index_of p.view) is.1
 ]
 
 pub taken_next : (o : Option Next) (node : ℕ) → node_taken_next o ≡ Some node → node_taken (the_next o) ≡ Some node

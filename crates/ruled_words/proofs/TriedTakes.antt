@@ -2,6 +2,8 @@
 use Rattle.std.proofs.Common.{◌≡◌, ◌≢◌, ℕ, suc, ◌+◌, ◌-◌, ◌*◌, ◌^◌, ◌<◌, ◌≤◌, arith, Bool, true, false, if◌then◌else◌, List, [], ◌∷◌, ◌++◌, length, map, refl, sym, ap, ◌∙◌, subst, inl, inr, Option, Some, None}
 use Rattle.std.specs.Prelude.{◌==◌, nat_le}
 use Rattle.std.proofs.lemmas.Bool.{cases_eq, cond-true, cond-false, eq-eqb, ne_eqb, le-leb}
+use Rattle.areanode.specs.declared.sizes.TheConstants.{DEPTH, LEAVES, FIRST_LEAF}
+use Rattle.core_steps.specs.declared.sizes.TheConstants.{NODE_HOLDERS}
 use Rattle.atomic_table.specs.Seated.{TableId}
 use Rattle.arena_geo.specs.Bounds.{Bounds}
 use Rattle.areanode.specs.Trees.{leaf_node, leaves_of}
@@ -21,7 +23,7 @@ use Rattle.ruled_words.specs.Sights.{HeldWord, Tally, tally_after}
 use Rattle.ruled_words.specs.Straight.{in_view_with, IsTriedOn, got_at}
 use Rattle.ruled_words.specs.Tries.{IsTried, tried_until}
 use Rattle.ruled_words.proofs.BitWalks.{bits_in, bits_none}
-use Rattle.ruled_words.proofs.LeafWords.{leaf_word_is}
+use Rattle.ruled_words.proofs.LeafWords.{leaf_word_is, leaves_small}
 use Rattle.ruled_words.proofs.LoadedWords.{plain_is, plain_after, plain_next}
 
 -- ---- what a take leaves beside the point
@@ -200,18 +202,18 @@ module _ (F : Fixed) (p : PassView) (node : ℕ) (plain : IsPlain p) (comes : ne
 
 -- the nodes of these leaves
 abbrev pub leaf_list : ℕ → List ℕ
-leaf_list leaves = map (leaf_node 4) (bits_in 16 leaves)
+leaf_list leaves = map (leaf_node DEPTH) (bits_in LEAVES leaves)
 
 -- the leaves of a region by their word
-pub leaf_list_is : (F : Fixed) (region : List Bounds) → F.tree.depth ≡ 4 → leaf_nodes F region ≡ leaf_list (leaves_of F.tree region)
+pub leaf_list_is : (F : Fixed) (region : List Bounds) → F.tree.depth ≡ DEPTH → leaf_nodes F region ≡ leaf_list (leaves_of F.tree region)
 leaf_list_is F region depth = ap (λ (d : ℕ). map (leaf_node d) (bits_in (2 ^ d) (leaves_of F.tree region))) depth
 
-pub leaf_there : (F : Fixed) (node : ℕ) → F.tree.depth ≡ 4 → 15 ≤ node → is_leaf F node ≡ true
-leaf_there F node depth above = ap (λ (d : ℕ). nat_le (2 ^ d - 1) node) depth ∙ le-leb 15 node above
+pub leaf_there : (F : Fixed) (node : ℕ) → F.tree.depth ≡ DEPTH → FIRST_LEAF ≤ node → is_leaf F node ≡ true
+leaf_there F node depth above = ap (λ (d : ℕ). nat_le (2 ^ d - 1) node) depth ∙ le-leb FIRST_LEAF node above
 
 -- the lowest leaf comes first
-pub leaf_list_first : (leaves rest leaf : ℕ) → bits_in 16 leaves ≡ leaf ∷ bits_in 16 rest → leaf_list leaves ≡ (15 + leaf) ∷ leaf_list rest
-leaf_list_first leaves rest leaf first = ap (map (leaf_node 4)) first
+pub leaf_list_first : (leaves rest leaf : ℕ) → bits_in LEAVES leaves ≡ leaf ∷ bits_in LEAVES rest → leaf_list leaves ≡ (FIRST_LEAF + leaf) ∷ leaf_list rest
+leaf_list_first leaves rest leaf first = ap (map (leaf_node DEPTH)) first
 
 taking_got : (got rest : List ℕ) → taking got rest ≡ taking (got_at (taking got rest)) rest
 taking_got got [] = refl
@@ -223,7 +225,8 @@ start_point q (x ∷ xs) at some = at ∙ ap (λ (g : List ℕ). taking g (x ∷
 
 -- what is known where the leaves of a command are to be taken
 pub record WantsLeaves (F : Fixed) (p : PassView) (leaves : ℕ) : Type 0 where
-  pub depth : F.tree.depth ≡ 4
+  pub depth : F.tree.depth ≡ DEPTH
+  pub small : leaves < 2 ^ LEAVES
   pub wanted : p.view.wanted ≡ leaf_list leaves
   pub some : 0 < length (leaf_list leaves)
 
@@ -235,7 +238,7 @@ wants_leaves F passes table p leaves own at word =
     let is : leaves ≡ leaves_of F.tree region = word ∙ ap (leaf_word F) nodes ∙ leaf_word_is F region in
     let wanted : p.view.wanted ≡ leaf_list leaves = nodes ∙ leaf_list_is F region sound.depth ∙ ap leaf_list (sym is) in
     let left : IsTaking [] p.view.wanted p.view.wanted = subst (λ (q : Point). IsAt F p.view.cmd p.view.own p.view.wanted p.view.again p.view.lists p.view.others p.view.states p.view.effect q) at sound.at in
-    record { depth = sound.depth; wanted = wanted; some = subst (λ (xs : List ℕ). 0 < length xs) wanted left.left }
+    record { depth = sound.depth; small = leaves_small F region leaves sound.depth is; wanted = wanted; some = subst (λ (xs : List ℕ). 0 < length xs) wanted left.left }
 
 -- these leaves are left to be taken
 abbrev pub left_until : PassView → ℕ → PassView → PassView
@@ -246,26 +249,26 @@ module _ (F : Fixed) (p : PassView) (leaves : ℕ) (plain : IsPlain p) (wants : 
   leaves_start at = plain_is p plain ∙ ap (λ (q : Point). tried_until p q p) (start_point p.view.point (leaf_list leaves) (at ∙ ap (Taking []) wants.wanted) wants.some)
 
   pub leaves_end : (now : PassView) → now ≡ left_until p 0 now → now ≡ tried_until p Checking now
-  leaves_end now is = is ∙ ap (λ (xs : List ℕ). tried_until p (taking (got_at now.view.point) (map (leaf_node 4) xs)) now) (bits_none 16)
+  leaves_end now is = is ∙ ap (λ (xs : List ℕ). tried_until p (taking (got_at now.view.point) (map (leaf_node DEPTH) xs)) now) (bits_none LEAVES)
 
-  module _ (rest after leaf : ℕ) (first : bits_in 16 rest ≡ leaf ∷ bits_in 16 after) (now : PassView) (is : now ≡ left_until p rest now) where
-    at_leaf : now ≡ tried_until p (Taking (got_at now.view.point) ((15 + leaf) ∷ leaf_list after)) now
+  module _ (rest after leaf : ℕ) (first : bits_in LEAVES rest ≡ leaf ∷ bits_in LEAVES after) (now : PassView) (is : now ≡ left_until p rest now) where
+    at_leaf : now ≡ tried_until p (Taking (got_at now.view.point) ((FIRST_LEAF + leaf) ∷ leaf_list after)) now
     at_leaf = is ∙ ap (λ (xs : List ℕ). tried_until p (taking (got_at now.view.point) xs) now) (leaf_list_first rest after leaf first)
 
-    pub leaf_comes : next_of_pass F now ≡ Some (TakeNode (15 + leaf))
+    pub leaf_comes : next_of_pass F now ≡ Some (TakeNode (FIRST_LEAF + leaf))
     leaf_comes = ap (λ (q : PassView). next_of_pass F q) at_leaf
 
-    pub leaf_left : (new : ℕ) → new ≡ p.number + 256 * leaf_word F p.view.wanted + 1 → (found : ℕ) → word_after F now found ≡ (if found == 0 then new else found)
+    pub leaf_left : (new : ℕ) → new ≡ p.number + NODE_HOLDERS * leaf_word F p.view.wanted + 1 → (found : ℕ) → word_after F now found ≡ (if found == 0 then new else found)
     leaf_left new marked found =
-        let node = 15 + leaf in
+        let node = FIRST_LEAF + leaf in
         let held : held_word F p.number (stage_of (taking (got_at now.view.point ++ node ∷ []) (leaf_list after))) p.view.wanted node ≡ new =
-        ap (λ (n : ℕ). suc (p.number + 256 * n)) (cond-true (is_leaf F node) (leaf_word F p.view.wanted) (if is_writing (stage_of (taking (got_at now.view.point ++ node ∷ []) (leaf_list after))) then 1 else 0) (leaf_there F node wants.depth (omega arith)))
+        ap (λ (n : ℕ). suc (p.number + NODE_HOLDERS * n)) (cond-true (is_leaf F node) (leaf_word F p.view.wanted) (if is_writing (stage_of (taking (got_at now.view.point ++ node ∷ []) (leaf_list after))) then 1 else 0) (leaf_there F node wants.depth (omega arith)))
         ∙ (let m = marked in omega (arith, m)) in
         ap (λ (q : PassView). word_after F q found) at_leaf ∙ ap (λ (w : ℕ). if found == 0 then w else found) held
 
-    pub leaf_taken : (new : PassView) → new ≡ tried_until now (point_after_take (15 + leaf) now.view.point) new → new ≡ left_until p after new
+    pub leaf_taken : (new : PassView) → new ≡ tried_until now (point_after_take (FIRST_LEAF + leaf) now.view.point) new → new ≡ left_until p after new
     leaf_taken new taken =
-        let node = 15 + leaf in
+        let node = FIRST_LEAF + leaf in
         let got = got_at now.view.point in
         let point : point_after_take node now.view.point ≡ taking (got ++ node ∷ []) (leaf_list after) = ap (λ (q : PassView). point_after_take node q.view.point) at_leaf in
         let made : new ≡ tried_until p (taking (got ++ node ∷ []) (leaf_list after)) new =

@@ -18,6 +18,10 @@ use Rattle.world_tree.specs.Worlds.{WorldView, record_of, IsLinked}
 use Rattle.core_steps.specs.Encoding.{words_of, nth_word}
 use Rattle.core_steps.specs.Views.{has, home}
 use Rattle.std.proofs.lemmas.Option.{same_Some, none-some}
+use Rattle.entity_recs.specs.declared.limits.TheConstants.{IDS}
+use Rattle.core_steps.specs.declared.sizes.TheConstants.{TABLE_WORDS}
+use Rattle.core_steps.specs.Stands.{is_player, start_words}
+use Rattle.core_steps.proofs.StartWords.{dead_record, dead_player, words_if_live, state_if_live}
 use Rattle.ruled_words.specs.Starts.{world_at_start, fixed_of_world, home_of, start_word_at, AreStartWords}
 
 -- no record of these places has an id below theirs
@@ -106,10 +110,10 @@ word_next n test = let next : n + 1 ≡ suc n = omega arith in ap (λ (k : ℕ).
 pub words_more : (w : WorldView) (n : ℕ) → map (start_word_at w) (range_with_len 0 (n + 1)) ≡ map (start_word_at w) (range_with_len 0 n) ++ start_word_at w n ∷ []
 words_more w n = map-range_with_len_more (start_word_at w) 0 n n (omega arith)
 
-pub all_words : (w : WorldView) (words : List ℕ) → words ≡ map (start_word_at w) (range_with_len 0 639) → AreStartWords w words
+pub all_words : (w : WorldView) (words : List ℕ) → words ≡ map (start_word_at w) (range_with_len 0 TABLE_WORDS) → AreStartWords w words
 all_words w words is = subst (AreStartWords w) (sym is) (record {
-  count = length-map-range_with_len (start_word_at w) 0 639;
-  each = λ index below. get_or-map-range_with_len (start_word_at w) 0 639 index index 0 below (omega arith);
+  count = length-map-range_with_len (start_word_at w) 0 TABLE_WORDS;
+  each = λ index below. get_or-map-range_with_len (start_word_at w) 0 TABLE_WORDS index index 0 below (omega arith);
 })
 
 -- the live records before a place, and the one of that place
@@ -124,7 +128,7 @@ live_suc (Some r ∷ records) (suc n) = ap (λ (rs : List Rec). r ∷ rs) (live_
 live_more : (records : List (Option Rec)) (n : ℕ) → live_in (take (n + 1) records) ≡ live_in (take n records) ++ option_to_list (record_at records n)
 live_more records n = let same : n + 1 ≡ suc n = omega arith in ap (λ (k : ℕ). live_in (take k records)) same ∙ live_suc records n
 
-pub live_all : (w : WorldView) (n : ℕ) → IsLinked w → n ≡ 256 → live_in (take n w.records) ≡ live_in w.records
+pub live_all : (w : WorldView) (n : ℕ) → IsLinked w → n ≡ IDS → live_in (take n w.records) ≡ live_in w.records
 live_all w n linked is = ap live_in (ap (λ (k : ℕ). take k w.records) (is ∙ sym linked.places) ∙ take-length w.records)
 
 pub live_some : (records : List (Option Rec)) (n : ℕ) (r : Rec) → record_at records n ≡ Some r → live_in (take (n + 1) records) ≡ live_in (take n records) ++ r ∷ []
@@ -147,6 +151,17 @@ start_some w id r linked is = start_record w linked id ∙ ap record_or_nobody i
 
 pub start_none : (w : WorldView) (id : ℕ) → IsLinked w → record_of w id ≡ None → (world_at_start w).record_of id ≡ nobody
 start_none w id linked is = start_record w linked id ∙ ap record_or_nobody is
+
+-- what isn't live has the words of nobody
+pub body_at_start : (w : WorldView) (slot k : ℕ) → slot < 64 → nth_word (words_of ((world_at_start w).record_of slot)) k ≡ (start_words (fixed_of_world w)).body slot k
+body_at_start w slot k below =
+    let F = fixed_of_world w in
+    words_if_live (is_player F slot) (F.start.record_of slot) k (λ dead. dead_record (live_in w.records) slot (dead_player F slot below dead))
+
+pub state_at_start : (w : WorldView) (id : ℕ) → ((world_at_start w).record_of id).state ≡ (start_words (fixed_of_world w)).state id
+state_at_start w id =
+    let F = fixed_of_world w in
+    state_if_live (has F.start.ids id) (F.start.record_of id) (λ dead. dead_record (live_in w.records) id dead)
 
 pub none_word : (w : WorldView) (id k : ℕ) → IsLinked w → record_of w id ≡ None → 0 ≡ nth_word (words_of ((world_at_start w).record_of id)) k
 none_word w id k linked is = sym (ap (λ (r : Rec). nth_word (words_of r) k) (start_none w id linked is) ∙ nobody_word k)

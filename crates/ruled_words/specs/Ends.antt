@@ -1,6 +1,7 @@
 -- What is read of a table at its end.
 use Rattle.std.specs.Prelude.{◌≡◌, ℕ, ◌<◌, ◌==◌, nat_lt, true, if◌then◌else◌, List, [], ◌∷◌, map, slice_index}
 use Rattle.std.specs.List.Sorted.{IsPermutation, IsStrictlyIncreasing}
+use Rattle.entity_recs.specs.declared.limits.TheConstants.{IDS}
 use Rattle.entity_recs.specs.declared.rec.Rec.{Rec}
 use Rattle.entity_recs.specs.Records.{with_state}
 use Rattle.entity_recs.specs.Worlds.{World}
@@ -31,11 +32,11 @@ AreEndedBelow passes view = (n : ℕ) → 0 < n → n < passes → is_ended view
 
 -- the five words of a player's record in a table
 abbrev pub body_in : List ℕ → ℕ → List ℕ
-body_in words slot = map (λ k. slice_index words (cell_index 31 (Body slot k))) (0 ∷ 1 ∷ 2 ∷ 3 ∷ 4 ∷ [])
+body_in words slot = map (λ k. slice_index words (cell_index (Body slot k))) (0 ∷ 1 ∷ 2 ∷ 3 ∷ 4 ∷ [])
 
 -- the state word of an id in a table
 abbrev pub state_in : List ℕ → ℕ → ℕ
-state_in words id = slice_index words (cell_index 31 (State id))
+state_in words id = slice_index words (cell_index (State id))
 
 -- the record that a table's words have in place of this one: a player's is decoded, another's has a new state
 abbrev pub record_in : List ℕ → Rec → Rec
@@ -55,9 +56,9 @@ pub record Closes (F : Fixed) (words : List ℕ) (view : View) : Type 0 where
   pub items : IsPermutation history (logs_in view)
   pub rising : (n : ℕ) → n < view.made → IsStrictlyIncreasing (places_of (log_in view n))
   pub body : (slot k : ℕ) → slot < 64 → k < 5 → is_live_cell F (Body slot k) ≡ true
-      → slice_index words (cell_index 31 (Body slot k)) ≡ value_in now (Body slot k)
-  pub state : (id : ℕ) → id < 256 → is_live_cell F (State id) ≡ true
-      → slice_index words (cell_index 31 (State id)) ≡ value_in now (State id)
+      → slice_index words (cell_index (Body slot k)) ≡ value_in now (Body slot k)
+  pub state : (id : ℕ) → id < IDS → is_live_cell F (State id) ≡ true
+      → slice_index words (cell_index (State id)) ≡ value_in now (State id)
   pub ids : now.ids ≡ F.start.ids
   pub entry : (id : ℕ) → has F.start.ids id ≡ true → IsEntry id (now.record_of id)
   pub taken : (id : ℕ) → has F.start.ids id ≡ true → F.takes (now.record_of id) ≡ true

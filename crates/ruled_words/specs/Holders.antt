@@ -1,5 +1,7 @@
 -- Who holds a node that a seat was to take.
 use Rattle.std.specs.Prelude.{◌≡◌, ◌≢◌, ℕ, ◌-◌, ◌%◌, ◌<◌, nat_le, true, false, List, Some}
+use Rattle.areanode.specs.declared.sizes.TheConstants.{FIRST_LEAF}
+use Rattle.core_steps.specs.declared.sizes.TheConstants.{MOST_SEATS}
 use Rattle.entity_recs.specs.Commands.{Command}
 use Rattle.areanode.specs.Words.{has_bit}
 use Rattle.areanode.specs.Trees.{leaves_of}
@@ -16,13 +18,13 @@ pub record IsHeldByOther (F : Fixed) (passes number node word : ℕ) : Type 0 wh
   pub holder : ℕ
   pub other : holder ≢ number
   pub below : holder < passes
-  pub small : holder < 16
+  pub small : holder < MOST_SEATS
   pub view : View
   pub given : IsGiven F view.cmd
   pub serves : view.cmd.slot % passes ≡ holder
   pub held : holds F view.point view.wanted node ≡ true
   pub wanted : view.wanted ≡ leaf_nodes F (region_in F view.cmd view.own)
-  pub has_leaf : nat_le 15 node ≡ true → has_bit (leaves_of F.tree (region_in F view.cmd view.own)) (node - 15) ≡ true
+  pub has_leaf : nat_le FIRST_LEAF node ≡ true → has_bit (leaves_of F.tree (region_in F view.cmd view.own)) (node - FIRST_LEAF) ≡ true
   pub is_word : word ≡ held_word F holder (stage_of view.point) view.wanted node
 
 -- where the step takes a node, and this word was found, which isn't 0, another seat holds that node
@@ -39,14 +41,14 @@ pub record IsOtherHolder (F : Fixed) (passes own node number leaves : ℕ) : Typ
   pub loaded : List ℕ
   pub given : IsGiven F cmd
   pub serves : cmd.slot % passes ≡ number
-  pub are_leaves : nat_le 15 node ≡ true → leaves ≡ leaves_of F.tree (region_in F cmd loaded)
-  pub has_leaf : nat_le 15 node ≡ true → has_bit leaves (node - 15) ≡ true
+  pub are_leaves : nat_le FIRST_LEAF node ≡ true → leaves ≡ leaves_of F.tree (region_in F cmd loaded)
+  pub has_leaf : nat_le FIRST_LEAF node ≡ true → has_bit leaves (node - FIRST_LEAF) ≡ true
 
 -- the node that this seat takes next is one of the leaves that it wants, or an inner node that they visit
 pub record IsReached (F : Fixed) (view : View) (node : ℕ) : Type 0 where
   pub wanted : view.wanted ≡ leaf_nodes F (region_in F view.cmd view.own)
-  pub is_wanted : nat_le 15 node ≡ true → has view.wanted node ≡ true
-  pub is_visited : nat_le 15 node ≡ false → has (inner_visited F (region_in F view.cmd view.own)) node ≡ true
+  pub is_wanted : nat_le FIRST_LEAF node ≡ true → has view.wanted node ≡ true
+  pub is_visited : nat_le FIRST_LEAF node ≡ false → has (inner_visited F (region_in F view.cmd view.own)) node ≡ true
 
 -- the same of the node that a step takes, if it takes one
 abbrev pub AreReached : Fixed → View → Next → Type 0

@@ -1,6 +1,8 @@
 -- What the rule of the table keeps, and what it says at the start and at the end.
 use Rattle.std.specs.Prelude.{◌≡◌, ◌≢◌, ℕ, ◌^◌, ◌<◌, ◌≤◌, Bool, List, [], ◌∷◌, ◌++◌, length, slice_index, slice_set}
 use Rattle.std.specs.Prelude.{Option}
+use Rattle.areanode.specs.declared.sizes.TheConstants.{DEPTH}
+use Rattle.core_steps.specs.declared.sizes.TheConstants.{MOST_SEATS}
 use mathlib.Core.Option as maybe
 use lib.ListN.{get_elem?}
 use Rattle.atomic_table.specs.Table.{State, keeps, stepped, opening}
@@ -17,8 +19,8 @@ use Rattle.ruled_words.specs.Ends.{AreOthersEnded, Closes}
 
 -- the table at the start, with the words of the world and seat 0, meets the rule
 abbrev pub StartIsRuled : Type 0
-StartIsRuled = (F : Fixed) (rooms words : List ℕ) → IsLawful F → IsStart F → F.tree.depth ≡ 4 → 0 < length rooms
-    → length rooms ≤ 16 → slice_index rooms 0 < 2 ^ 32 → HasWords words (start_core F (slice_index rooms 0))
+StartIsRuled = (F : Fixed) (rooms words : List ℕ) → IsLawful F → IsStart F → F.tree.depth ≡ DEPTH → 0 < length rooms
+    → length rooms ≤ MOST_SEATS → slice_index rooms 0 < 2 ^ 32 → HasWords words (start_core F (slice_index rooms 0))
     → IsRuled F rooms (opening words [] (first_sight (slice_index rooms 0)))
 
 -- a seat's next step, which leaves in its word what it should, keeps the rule
@@ -28,9 +30,9 @@ StepsKeepTheRule = (F : Fixed) (rooms : List ℕ) (s : State (Unit {0}) SightVie
     → (given : Option Command) (quits : Bool) (next : Next)
     → MayGo F (length rooms) sight.number sight.view given quits next
     → (left : ℕ)
-    → left ≡ word_left F sight.number sight.view next (slice_index s.words (index_of 31 sight.view next))
-    → IsRuled F rooms (stepped s (index_of 31 sight.view next) left i []
-    (sight_found F sight next (slice_index s.words (index_of 31 sight.view next))) keeps)
+    → left ≡ word_left F sight.number sight.view next (slice_index s.words (index_of sight.view next))
+    → IsRuled F rooms (stepped s (index_of sight.view next) left i []
+    (sight_found F sight next (slice_index s.words (index_of sight.view next))) keeps)
 
 -- a seat that rests and looks at the count keeps the rule
 abbrev pub LooksKeepTheRule : Type 0

@@ -2,6 +2,8 @@
 use Rattle.std.specs.Prelude.{◌≤◌, ◌≡◌, ◌≢◌, ℕ, ◌+◌, ◌-◌, ◌/◌, ◌%◌, ◌^◌, ◌<◌, nat_le, Bool, true, false, if◌then◌else◌}
 use Rattle.std.specs.Prelude.{List, [], ◌∷◌, ◌++◌}
 use Rattle.std.specs.Prelude.{length, Option, Some, None, is_some}
+use Rattle.areanode.specs.declared.sizes.TheConstants.{FIRST_LEAF}
+use Rattle.core_steps.specs.declared.sizes.TheConstants.{TABLE_LEAVES, NODE_HOLDERS}
 use Rattle.atomic_table.specs.Seated.{TableId}
 use Rattle.entity_recs.specs.Actions.{Meaning}
 use Rattle.entity_recs.specs.declared.effect.Effect.{Effect}
@@ -112,8 +114,8 @@ node_taken_next (Some next) = node_taken next
 -- the words of who holds a node: its number and, for a leaf, its leaves
 pub record IsHolderIn (word node number leaves : ℕ) : Type 0 where
   pub is_held : word ≢ 0
-  pub is_number : number ≡ (word - 1) % 256
-  pub are_leaves : leaves ≡ (if nat_le 15 node then word / 256 % 2 ^ 16 else 0)
+  pub is_number : number ≡ (word - 1) % NODE_HOLDERS
+  pub are_leaves : leaves ≡ (if nat_le FIRST_LEAF node then word / NODE_HOLDERS % 2 ^ TABLE_LEAVES else 0)
 
 -- the hand is that of the pass, which belongs to the table and has a next step, and the word is that of the step
 pub record IsReady (F : Fixed) (passes : ℕ) (table : TableId) (p hand : PassView) (word : ℕ) : Type 0 where
@@ -123,7 +125,7 @@ pub record IsReady (F : Fixed) (passes : ℕ) (table : TableId) (p hand : PassVi
   pub same_view : hand.view ≡ p.view
   pub same_tally : hand.tally ≡ p.tally
   pub comes : is_some (next_of_pass F p) ≡ true
-  pub index : word ≡ index_of 31 p.view (the_next (next_of_pass F p))
+  pub index : word ≡ index_of p.view (the_next (next_of_pass F p))
 
 -- the word after what comes next of a pass
 abbrev pub word_after : Fixed → PassView → ℕ → ℕ

@@ -1,5 +1,6 @@
 -- What the caller of a step knows after it.
 use Rattle.std.specs.Prelude.{◌≡◌, ℕ, ◌+◌, ◌^◌, ◌<◌, ◌≤◌, Bool, true, List, [], ◌∷◌, ◌++◌, length, Option}
+use Rattle.core_steps.specs.declared.sizes.TheConstants.{TABLE_WORDS}
 use Rattle.atomic_table.specs.Table.{Me}
 use Rattle.entity_recs.specs.Commands.{Command}
 use Rattle.core_steps.specs.Views.{Fixed, record_read}
@@ -15,7 +16,7 @@ use Rattle.ruled_words.specs.Holders.{IsFoundHeld, AreReached}
 pub record IsSoundSight (F : Fixed) (passes : ℕ) (sight : SightView) : Type 0 where
   pub sound : IsSound F sight.view
   pub in_table : (given : Option Command) (quits : Bool) (next : Next)
-      → MayGo F passes sight.number sight.view given quits next → index_of 31 sight.view next < 639
+      → MayGo F passes sight.number sight.view given quits next → index_of sight.view next < TABLE_WORDS
 
 -- the seat keeps its number, its view is the one after the step and sound, a count that it adds 1 to doesn't wrap, a
 -- player's record whose last word it loads is one that the action takes, and a count that it loads isn't below the one

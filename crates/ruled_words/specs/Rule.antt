@@ -1,5 +1,7 @@
 -- The rule of the table: what holds between any two steps of any threads.
 use Rattle.std.specs.Prelude.{◌≡◌, ◌≢◌, ℕ, ◌%◌, ◌^◌, ◌<◌, ◌≤◌, true, false, List, length, slice_index, None, All}
+use Rattle.areanode.specs.declared.sizes.TheConstants.{DEPTH}
+use Rattle.core_steps.specs.declared.sizes.TheConstants.{TABLE_WORDS, MOST_SEATS}
 use mathlib.Core.Option as maybe
 use lib.ListN.{get_elem?}
 use Rattle.atomic_table.specs.Table.{State}
@@ -18,8 +20,8 @@ at_rest core = record { core = core; given = λ i. None; quits = λ i. false }
 
 -- the words of the table are those of the core, each at its index
 pub record HasWords (words : List ℕ) (core : Core) : Type 0 where
-  pub count : length words ≡ 639
-  pub each : (index : ℕ) → index < 639 → slice_index words index ≡ word_at 31 core.words index
+  pub count : length words ≡ TABLE_WORDS
+  pub each : (index : ℕ) → index < TABLE_WORDS → slice_index words index ≡ word_at core.words index
 
 -- the seats of the table are those of the core, each at the place of its number
 pub record HasSeats (sights : List SightView) (core : Core) : Type 0 where
@@ -35,7 +37,7 @@ ServesItsSlots passes core = (k : ℕ) → is_busy (stage_of (core.view k).point
 
 -- no more seats are made than there are rooms, at most 16, and each room is a number of 32 bits
 pub record HasRooms (rooms : List ℕ) (core : Core) : Type 0 where
-  pub few : length rooms ≤ 16
+  pub few : length rooms ≤ MOST_SEATS
   pub made : (core.view 0).made ≤ length rooms
   pub room : (k : ℕ) → (core.view k).room < 2 ^ 32
   pub ended : All (λ (e : Ended). e.room < 2 ^ 32) (core.view 0).ended
@@ -43,7 +45,7 @@ pub record HasRooms (rooms : List ℕ) (core : Core) : Type 0 where
 -- there are 1 to 16 rooms
 pub record HasSomeRooms (rooms : List ℕ) : Type 0 where
   pub some : 0 < length rooms
-  pub few : length rooms ≤ 16
+  pub few : length rooms ≤ MOST_SEATS
 
 -- some seat took this node and wrote this word
 pub record WasTaken (sights : List SightView) (h : HeldWord) : Type 0 where
@@ -67,7 +69,7 @@ pub record IsRuled (F : Fixed) (rooms : List ℕ) (s : State (Unit {0}) SightVie
   pub now : World
   pub lawful : IsLawful F
   pub start : IsStart F
-  pub depth : F.tree.depth ≡ 4
+  pub depth : F.tree.depth ≡ DEPTH
   pub stands : MachineStands F (at_rest core) history now
   pub words : HasWords s.words core
   pub seats : HasSeats s.views core

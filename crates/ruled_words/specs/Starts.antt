@@ -1,6 +1,7 @@
 -- The world that a table begins with, as histories see it.
 use Rattle.std.specs.Prelude.{◌≡◌, ℕ, ◌<◌, true, List, [], if◌then◌else◌, length, slice_index, slice_index_or}
 use Rattle.std.specs.Prelude.{Option, Some, None}
+use Rattle.core_steps.specs.declared.sizes.TheConstants.{TABLE_WORDS}
 use Rattle.entity_recs.specs.Actions.{Meaning}
 use Rattle.entity_recs.specs.Worlds.{World, zero_vector, world_of}
 use Rattle.world_tree.specs.Live.{live_in}
@@ -50,9 +51,9 @@ pub record AreHomes (world : WorldView) (homes : List (Option ℕ)) : Type 0 whe
 
 -- the words of the table at the start, in the flat table
 abbrev pub start_word_at : WorldView → ℕ → ℕ
-start_word_at world index = word_at 31 (start_words (fixed_of_world world)) index
+start_word_at world index = word_at (start_words (fixed_of_world world)) index
 
 -- the words of the world, each at its index
 pub record AreStartWords (world : WorldView) (words : List ℕ) : Type 0 where
-  pub count : length words ≡ 639
-  pub each : (index : ℕ) → index < 639 → slice_index words index ≡ start_word_at world index
+  pub count : length words ≡ TABLE_WORDS
+  pub each : (index : ℕ) → index < TABLE_WORDS → slice_index words index ≡ start_word_at world index

@@ -9,16 +9,17 @@ ghost use Rattle.ruled_words.specs.Sights.{AreRefusalsServed, with_one_ended};
 ghost use Rattle.ruled_words.specs.Ends.{AreEndedBelow, Closes};
 
 use crate::hand::Hand;
-use crate::shared_words::{SharedWords, TABLE_WORDS};
+use crate::shared_words::SharedWords;
 use atomic_table::Closed;
+use core_steps::TABLE_WORDS;
 use entity_recs::Action;
 use std::alloc::Global;
 
 /// The words of a closed table, whose memory is given back.
 fn words_of(closed: Closed<(), Global>) -> [u64; TABLE_WORDS]
-    requires size { (slots_len closed.words ≡ 639) × (slots_len closed.slots ≡ 0) }
+    requires size { (slots_len closed.words ≡ TABLE_WORDS) × (slots_len closed.slots ≡ 0) }
     requires full { IsFull closed.words }
-    ensures { (k : ℕ) → k < 639 → get_elem? (slots_items closed.words) k ≡ some (slice_index result k) }
+    ensures { (k : ℕ) → k < TABLE_WORDS → get_elem? (slots_items closed.words) k ≡ some (slice_index result k) }
 {
     let mut words = [0; TABLE_WORDS];
     for i in 0..TABLE_WORDS {

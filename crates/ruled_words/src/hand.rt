@@ -1,4 +1,5 @@
 ghost use Rattle.std.specs.Prelude.{◌≡◌, ◌<◌, ◌≤◌, ℕ, [], length};
+ghost use Rattle.core_steps.specs.declared.sizes.TheConstants.{TABLE_WORDS};
 ghost use Rattle.core_seats.specs.Nexts.{the_next};
 ghost use Rattle.ruled_words.specs.Starts.{fixed_by};
 ghost use Rattle.ruled_words.specs.Going.{IsAtRest, view_looked};
@@ -71,7 +72,7 @@ impl Hand {
         requires ready { IsReady (fixed_by A.meaning words.now.key.action.value words.now.key.world.value)
             (length words.now.key.rooms.items) words.now.table_id (pass_view self.old mirror.now effect.now)
             self.old word }
-        requires wide { words.now.table_id.words ≡ 639 }
+        requires wide { words.now.table_id.words ≡ TABLE_WORDS }
         requires left { (found : ℕ) → word_after (fixed_by A.meaning words.now.key.action.value
             words.now.key.world.value) (pass_view self.old mirror.now effect.now) found ≡ word_by step found }
         requires may { let F = fixed_by A.meaning words.now.key.action.value words.now.key.world.value in
@@ -99,7 +100,7 @@ impl Hand {
     ) -> u64
         requires ready { IsReady (fixed_by A.meaning words.now.key.action.value words.now.key.world.value)
             (length words.now.key.rooms.items) words.now.table_id self.old self.old word }
-        requires wide { words.now.table_id.words ≡ 639 }
+        requires wide { words.now.table_id.words ≡ TABLE_WORDS }
         requires left { (found : ℕ) → word_after (fixed_by A.meaning words.now.key.action.value
             words.now.key.world.value) self.old found ≡ word_by step found }
         requires may { let F = fixed_by A.meaning words.now.key.action.value words.now.key.world.value in
@@ -116,7 +117,7 @@ impl Hand {
     pub(crate) fn begin_on<A: Action>(&mut self, words: &Words<A>, cmd: &Cmd, word: usize) -> u64
         requires ready { IsReady (fixed_by A.meaning words.now.key.action.value words.now.key.world.value)
             (length words.now.key.rooms.items) words.now.table_id (given_to self.old (command_of cmd.now)) self.old word }
-        requires wide { words.now.table_id.words ≡ 639 }
+        requires wide { words.now.table_id.words ≡ TABLE_WORDS }
         requires left { (found : ℕ) → word_after (fixed_by A.meaning words.now.key.action.value
             words.now.key.world.value) (given_to self.old (command_of cmd.now)) found ≡ found }
         ensures gone { HasGone (fixed_by A.meaning words.now.key.action.value words.now.key.world.value)
@@ -136,7 +137,7 @@ impl Hand {
     ) -> u64
         requires ready { IsReady (fixed_by A.meaning words.now.key.action.value words.now.key.world.value)
             (length words.now.key.rooms.items) words.now.table_id (keeping self.old effect.now) self.old word }
-        requires wide { words.now.table_id.words ≡ 639 }
+        requires wide { words.now.table_id.words ≡ TABLE_WORDS }
         requires left { (found : ℕ) → word_after (fixed_by A.meaning words.now.key.action.value
             words.now.key.world.value) (keeping self.old effect.now) found ≡ word_by step found }
         requires may { let F = fixed_by A.meaning words.now.key.action.value words.now.key.world.value in
@@ -151,7 +152,7 @@ impl Hand {
 
     /// The hand looks at the count of commits, with no command in hand.
     pub(crate) fn look_on<A: Action>(&mut self, words: &Words<A>) -> u64
-        requires table { (self.old.table ≡ words.now.table_id) × (words.now.table_id.words ≡ 639) }
+        requires table { (self.old.table ≡ words.now.table_id) × (words.now.table_id.words ≡ TABLE_WORDS) }
         requires rests { IsAtRest self.old.view }
         ensures hand { self.new ≡ record self.old { view = view_looked result self.old.view } }
         ensures seen { self.old.view.seen ≤ result }
@@ -163,7 +164,7 @@ impl Hand {
 
     /// The hand of the seat that is made next from this one, which is the first and rests.
     pub(crate) fn make<A: Action>(&mut self, words: &Words<A>, number: u8, room: u32) -> Hand
-        requires table { (self.old.table ≡ words.now.table_id) × (words.now.table_id.words ≡ 639) }
+        requires table { (self.old.table ≡ words.now.table_id) × (words.now.table_id.words ≡ TABLE_WORDS) }
         requires rests { IsAtRest self.old.view }
         requires first { self.old.number ≡ 0 }
         requires number { number ≡ self.old.view.made }
@@ -179,7 +180,7 @@ impl Hand {
     /// The seat of another hand that rests is ended into that of this one, which is the first.
     pub(crate) fn end<A: Action>(&mut self, words: &Words<A>, other: Hand)
         requires table { (self.old.table ≡ words.now.table_id) × (other.table ≡ words.now.table_id)
-            × (words.now.table_id.words ≡ 639) }
+            × (words.now.table_id.words ≡ TABLE_WORDS) }
         requires rests { IsAtRest self.old.view × IsAtRest other.view }
         requires first { self.old.number ≡ 0 }
         ensures table { self.new.table ≡ self.old.table }

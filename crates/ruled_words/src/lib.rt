@@ -7,7 +7,7 @@ pub use rule::laws::{
     closed_table_is_its_run, ended_seats_keep_the_rule, looks_keep_the_rule,
     made_seats_keep_the_rule, refused_takes_were_served, start_is_ruled, steps_keep_the_rule,
 };
-pub use shared_words::{SharedWords, TABLE_WORDS};
+pub use shared_words::SharedWords;
 pub use word_step::WordStep;
 
 mod end;

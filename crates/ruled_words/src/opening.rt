@@ -1,4 +1,5 @@
 ghost use Rattle.std.specs.Prelude.{◌≡◌, ◌<◌, ◌≤◌, true, [], length, slice_index, All, IfOk};
+ghost use Rattle.core_steps.specs.declared.sizes.TheConstants.{TABLE_WORDS};
 ghost use Rattle.world_tree.specs.Live.{live_in};
 ghost use Rattle.ruled_words.specs.Starts.{rules_of};
 ghost use Rattle.ruled_words.specs.Rule.{first_sight};
@@ -12,7 +13,8 @@ use crate::shared_words::{SharedWords, WordTable};
 use arrayvec::ArrayVec;
 use atomic_table::Table;
 use core_seats::Rules;
-use entity_recs::{Action, Rec};
+use core_steps::MOST_SEATS;
+use entity_recs::{Action, IDS, Rec};
 use start::words_at_start;
 use std::alloc::{AllocError, Global};
 use std::snapshot::Snapshot;
@@ -20,13 +22,13 @@ use world_tree::World;
 
 mod start;
 
-/// These rooms as a list of at most 16.
-fn rooms_of(room: &[u32]) -> ArrayVec<u32, 16>
-    requires { length room.now ≤ 16 }
+/// These rooms as a list of at most [`MOST_SEATS`].
+fn rooms_of(room: &[u32]) -> ArrayVec<u32, MOST_SEATS>
+    requires { length room.now ≤ MOST_SEATS }
     ensures { result.items ≡ room.now }
 {
     let mut rooms = ArrayVec::new();
-    // There are at most 16, so they fit.
+    // There are no more than seats, so they fit.
     let _ = rooms.try_extend_from_slice(room);
     rooms
 }
@@ -43,10 +45,10 @@ fn first_room(room: &[u32]) -> u32
 fn live_records(alloc: Global, world: &World) -> Result<Vec<Rec>, AllocError>
     ensures { IfOk result (λ v. v.items ≡ live_in world.now.records) }
 {
-    // To ask for the tree is to know that there are 256 places.
+    // To ask for the tree is to know that there is a place for each id.
     let _tree = world.tree();
-    let mut records = Vec::with_capacity(alloc, 256)?;
-    for id in 0..256u16 {
+    let mut records = Vec::with_capacity(alloc, IDS)?;
+    for id in 0..IDS as u16 {
         if let Some(r) = world.get(id) {
             records.push(r)?;
         }
@@ -74,9 +76,9 @@ fn lay_table<A: Action>(
     world: &World,
     room: &[u32],
 ) -> Result<(WordTable<A>, Place), AllocError>
-    requires rooms { (0 < length room.now) × (length room.now ≤ 16) }
+    requires rooms { (0 < length room.now) × (length room.now ≤ MOST_SEATS) }
     requires taken { All (λ r. (A.meaning action.now).takes r ≡ true) (live_in world.now.records) }
-    ensures words { IfOk result (λ t. (t.0.shared.table_id.words ≡ 639) × (t.0.shared.table_id.slots ≡ 0)) }
+    ensures words { IfOk result (λ t. (t.0.shared.table_id.words ≡ TABLE_WORDS) × (t.0.shared.table_id.slots ≡ 0)) }
     ensures key { IfOk result (λ t. (t.0.shared.key.action.value ≡ action.now)
         × (t.0.shared.key.world.value ≡ world.now) × (t.0.shared.key.rooms.items ≡ room.now)) }
     ensures seat { IfOk result (λ t. (t.1.table_id ≡ t.0.shared.table_id)
@@ -105,7 +107,7 @@ impl<'a, A: Action> SharedWords<'a, A> {
         world: &World,
         room: &[u32],
     ) -> Result<(SharedWords<'a, A>, Hand), AllocError>
-        requires rooms { (0 < length room.now) × (length room.now ≤ 16) }
+        requires rooms { (0 < length room.now) × (length room.now ≤ MOST_SEATS) }
         requires taken { All (λ r. (A.meaning action.now).takes r ≡ true) (live_in world.now.records) }
         ensures table { IfOk result (λ r. (r.0.action ≡ action.now) × (r.0.world ≡ world.now)
             × (r.0.rooms ≡ room.now)) }

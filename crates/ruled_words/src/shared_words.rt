@@ -10,9 +10,6 @@ use entity_recs::Action;
 use std::alloc::Global;
 use std::marker::Model;
 
-/// The number of the shared words.
-pub const TABLE_WORDS: usize = 639;
-
 /// The shared words with their memory.
 pub(crate) type WordTable<A> = Table<(), Sight, Key<A>, Locks<A>, Global>;
 
@@ -25,6 +22,7 @@ pub struct SharedWords<'a, A: Action> {
 
 impl<'a, A: Action> Model for SharedWords<'a, A> {
     ghost use Rattle.std.specs.Prelude.{◌≡◌};
+    ghost use Rattle.core_steps.specs.declared.sizes.TheConstants.{TABLE_WORDS};
     ghost use Rattle.ruled_words.specs.Passes.{TableView};
     ghost use Rattle.ruled_words.specs.Rule.{HasSomeRooms};
     ghost use Rattle.ruled_words.specs.Starts.{rules_of};
@@ -39,7 +37,7 @@ impl<'a, A: Action> Model for SharedWords<'a, A> {
       rooms = t.table.shared.key.rooms.items;
     } };
 
-    ghost invariant = { λ t. (t.table.shared.table_id.words ≡ 639)
+    ghost invariant = { λ t. (t.table.shared.table_id.words ≡ TABLE_WORDS)
         × (t.rules ≡ rules_of t.table.shared.key.action.value t.table.shared.key.world.value)
         × (t.table.shared.table_id.slots ≡ 0) × HasSomeRooms t.table.shared.key.rooms.items };
 }
@@ -52,7 +50,7 @@ impl<'a, A: Action> SharedWords<'a, A> {
         &self.rules
     }
 
-    /// There are 1 to 16 rooms.
+    /// There are some rooms, and no more than seats.
     pub fn has_rooms(&self)
         ensures { HasSomeRooms self.now.rooms }
     {

@@ -1,5 +1,6 @@
 ghost use Rattle.std.specs.Prelude.{◌≡◌, ◌<◌, ◌≤◌, true, [], map, length, All, IfOk};
 ghost use Rattle.std.specs.List.{range_with_len};
+ghost use Rattle.core_steps.specs.declared.sizes.TheConstants.{MOST_SEATS};
 ghost use Rattle.world_tree.specs.Live.{live_in};
 ghost use Rattle.world_tree.specs.Worlds.{IsLinked};
 ghost use Rattle.ruled_words.specs.Passes.{fixed_in, IsPassOf, IsOwn};
@@ -37,7 +38,7 @@ impl<'a, A: Action> Shared<'a, A> {
         world: &World,
         room: &[u32],
     ) -> Result<(Shared<'a, A>, PassList<A>), AllocError>
-        requires rooms { (0 < length room.now) × (length room.now ≤ 16) }
+        requires rooms { (0 < length room.now) × (length room.now ≤ MOST_SEATS) }
         requires taken { All (λ r. (A.meaning action.now).takes r ≡ true) (live_in world.now.records) }
         ensures shared { IfOk result (λ r. (r.0.action ≡ action.now) × (r.0.world ≡ world.now)
             × (r.0.rooms ≡ room.now)) }

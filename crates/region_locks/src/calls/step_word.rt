@@ -19,7 +19,7 @@ impl<'a, A: Action> NodeTable<'a, A> {
     pub(crate) fn step_word(&self, pass: &mut Pass<A>, word: usize, step: WordStep) -> u64
         requires own { IsOwn A.meaning self.now pass.old }
         requires comes { is_some (next_in A.meaning self.now pass.old) ≡ true }
-        requires index { word ≡ index_of 31 pass.old.view (the_next (next_in A.meaning self.now pass.old)) }
+        requires index { word ≡ index_of pass.old.view (the_next (next_in A.meaning self.now pass.old)) }
         requires left { (found : ℕ) → word_after (fixed_in A.meaning self.now) pass.old found ≡ word_by step found }
         requires may { MayBe step (fixed_in A.meaning self.now) pass.old.view
             (the_next (next_in A.meaning self.now pass.old)) word }

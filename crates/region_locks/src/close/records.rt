@@ -5,9 +5,8 @@ ghost use Rattle.world_tree.specs.Live.{IsEntry};
 ghost use Rattle.world_tree.specs.Worlds.{record_of, IsLinked};
 ghost use Rattle.ruled_words.specs.Ends.{body_in, record_in};
 
-use core_steps::{FIRST_RECORD_WORD, FIRST_STATE_WORD, PlayerWords, decode};
-use entity_recs::Rec;
-use ruled_words::TABLE_WORDS;
+use core_steps::{FIRST_RECORD_WORD, FIRST_STATE_WORD, PlayerWords, TABLE_WORDS, decode};
+use entity_recs::{IDS, Rec};
 use world_tree::World;
 
 /// The five words of the record of the player in this slot.
@@ -27,7 +26,7 @@ fn body_in(words: &[u64; TABLE_WORDS], slot: usize) -> PlayerWords
 
 /// The record that the words have in place of this one: a player's is decoded, another's has a new state.
 fn record_in(words: &[u64; TABLE_WORDS], r: &Rec) -> Rec
-    requires { r.now.id < 256 }
+    requires { r.now.id < IDS }
     ensures { result ≡ record_in words.now r.now }
 {
     let id = usize::from(r.id);
@@ -61,7 +60,7 @@ pub(crate) fn relink_all(words: &[u64; TABLE_WORDS], world: &mut World)
     ensures tree { world.new.tree ≡ world.old.tree }
     ensures linked { IsLinked world.new }
 {
-    for id in 0..256u16 {
+    for id in 0..IDS as u16 {
         relink(words, world, id);
     }
 }

@@ -30,7 +30,7 @@ pub(crate) fn bit_owed(seat: &Seat) -> u8
 
 /// The index of a word of a record in the table.
 fn index_of_cell(cell: Cell) -> usize
-    ensures { result ≡ cell_index 31 (cell_in cell) }
+    ensures { result ≡ cell_index (cell_in cell) }
 {
     match cell {
         Cell::Body(slot, k) => usize::from(record_word(slot)) + usize::from(k),

@@ -9,7 +9,9 @@ pub(crate) struct Held {
     /// Where the move may read and write.
     pub(crate) region: Region,
     /// The leaves of the region, bit i for leaf i.
-    pub(crate) leaves: u16,
+    pub(crate) leaves: u32,
+    /// The inner nodes that are visited for these leaves, bit i for node i.
+    pub(crate) inner: u32,
     /// Their nodes, rising.
     pub(crate) wanted: NodeQueue,
 }

@@ -15,7 +15,6 @@ use crate::gate::{Gate, Moment, show_moment};
 use crate::moving::held::Held;
 use crate::pass::Pass;
 use crate::table::NodeTable;
-use areanode::visited;
 use core_seats::{Refusals, read_record};
 use entity_recs::{Action, Cmd, Effect, Entry};
 use move_journal::{same_entry, same_reply};
@@ -56,7 +55,7 @@ fn hold_leaves<A: Action, R: Wait, G: Gate>(
     let own = words.own_words(hand, cmd);
     let region = words.region_of(hand, cmd, &own);
     let rules = words.rules();
-    let leaves = rules.leaf_bits(&region);
+    let (leaves, inner) = rules.node_bits(&region);
     let wanted = rules.nodes_of(leaves);
     words.take_leaves(rt, hand, refusals, &own, &wanted, leaves);
     gate.at(&Moment::at_leaves(hand, cmd));
@@ -64,6 +63,7 @@ fn hold_leaves<A: Action, R: Wait, G: Gate>(
         own,
         region,
         leaves,
+        inner,
         wanted,
     }
 }
@@ -91,7 +91,6 @@ fn read_region<A: Action, R: Wait, G: Gate>(
     ensures read { HasReadAll (fixed_in A.meaning words.now) result hand.old hand.new }
     ensures refusals { AreRefusals refusals.old hand.old.view → AreRefusals refusals.new hand.new.view }
 {
-    let inner = (visited(held.leaves) % (1 << 15)) as u16;
     let mut six = [[0; 6]; 64];
     let seen = words.read_nodes(
         rt,
@@ -100,7 +99,7 @@ fn read_region<A: Action, R: Wait, G: Gate>(
         &held.own,
         &held.wanted,
         held.leaves,
-        inner,
+        held.inner,
         cmd.slot,
         &mut six,
     );

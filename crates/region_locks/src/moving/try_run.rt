@@ -11,6 +11,7 @@ use crate::gate::Gate;
 use crate::pass::Pass;
 use crate::table::NodeTable;
 use crate::went::RefusedTake;
+use areanode::FIRST_LEAF;
 use entity_recs::{Action, Cmd, Entry};
 
 /// Why a move wasn't run, by the take that was refused.
@@ -18,9 +19,9 @@ fn again_after(refusal: RefusedTake) -> Again
     ensures { (F : Fixed) (passes own : ℕ) (c : Command) (r : Refused) → r.node ≡ refusal.node
         → IsRefusedBy F passes own c r refusal.holder.number refusal.holder.leaves → IsCause F passes own c r result }
 {
-    if refusal.node >= 15 {
+    if usize::from(refusal.node) >= FIRST_LEAF {
         Again::Held {
-            leaf: refusal.node - 15,
+            leaf: refusal.node - FIRST_LEAF as u8,
             holder: refusal.holder.number,
             leaves: refusal.holder.leaves,
         }

@@ -6,6 +6,7 @@ ghost use Rattle.ruled_words.specs.Straight.{in_view};
 use crate::hand::Hand;
 use crate::shared_words::SharedWords;
 use crate::word_step::WordStep;
+use areanode::FIRST_LEAF;
 use core_seats::{lowest_bit, without_bit};
 use core_steps::node_word;
 use entity_recs::Action;
@@ -35,7 +36,7 @@ impl<'a, A: Action> SharedWords<'a, A> {
     }
 
     /// Gives back the leaves of the command, bit i for leaf i, after the write nodes: the command is done.
-    pub fn return_leaves(&self, hand: &mut Hand, leaves: u16)
+    pub fn return_leaves(&self, hand: &mut Hand, leaves: u32)
         requires own { IsOwn A.meaning self.now hand.old }
         requires at { hand.old.view.point ≡ Releasing [] }
         requires leaves { leaves ≡ leaf_word (fixed_in A.meaning self.now) hand.old.view.wanted }
@@ -47,7 +48,7 @@ impl<'a, A: Action> SharedWords<'a, A> {
         while rest != 0 {
             let leaf = lowest_bit(rest);
             rest = without_bit(rest, leaf);
-            self.give_on(hand, 15 + leaf);
+            self.give_on(hand, FIRST_LEAF as u8 + leaf);
         }
     }
 }

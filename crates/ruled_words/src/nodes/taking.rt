@@ -11,8 +11,9 @@ ghost use Rattle.ruled_words.specs.WordSteps.{word_by};
 use crate::hand::Hand;
 use crate::shared_words::SharedWords;
 use crate::word_step::WordStep;
+use areanode::FIRST_LEAF;
 use core_seats::{NodeQueue, Refusals, lowest_bit, without_bit};
-use core_steps::node_word;
+use core_steps::{NODE_HOLDERS, node_word};
 use entity_recs::Action;
 use std::sync::Wait;
 use std::thread;
@@ -105,7 +106,7 @@ impl<'a, A: Action> SharedWords<'a, A> {
         refusals: &mut Refusals,
         own: &[u64; 6],
         wanted: &NodeQueue,
-        leaves: u16,
+        leaves: u32,
     )
         requires own { IsOwn A.meaning self.now hand.old }
         requires at { hand.old.view.point ≡ Taking [] hand.old.view.wanted }
@@ -119,12 +120,20 @@ impl<'a, A: Action> SharedWords<'a, A> {
     {
         hand.is_plain();
         // The word of a leaf that is held names the pass and the leaves of its command.
-        let new = u64::from(hand.number) + 256 * u64::from(leaves) + 1;
+        let new = u64::from(hand.number) + NODE_HOLDERS * u64::from(leaves) + 1;
         let mut rest = u64::from(leaves);
         while rest != 0 {
             let leaf = lowest_bit(rest);
             rest = without_bit(rest, leaf);
-            self.take_node(rt, hand, refusals, own, wanted, 15 + leaf, new);
+            self.take_node(
+                rt,
+                hand,
+                refusals,
+                own,
+                wanted,
+                FIRST_LEAF as u8 + leaf,
+                new,
+            );
         }
     }
 }

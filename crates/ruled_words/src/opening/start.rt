@@ -1,14 +1,10 @@
 ghost use Rattle.std.specs.Prelude.{◌≡◌, ℕ, Bool, ◌&&◌, ◌==◌, ◌<◌, if◌then◌else◌, Some, None, IfOk};
-ghost use Rattle.areanode.specs.Words.{word_of};
-ghost use Rattle.core_steps.specs.Encoding.{words_of, nth_word};
-ghost use Rattle.core_steps.specs.Stands.{is_player};
-ghost use Rattle.core_steps.specs.Views.{home};
-ghost use Rattle.ruled_words.specs.Starts.{world_at_start, fixed_of_world, home_of, AreHomes, start_word_at};
+ghost use Rattle.core_steps.specs.Stands.{start_words};
+ghost use Rattle.ruled_words.specs.Starts.{fixed_of_world, home_of, AreHomes, start_word_at};
 ghost use Rattle.ruled_words.specs.Starts.{AreStartWords};
 
-use crate::shared_words::TABLE_WORDS;
 use core_seats::with_top_bit;
-use core_steps::{FIRST_LIST_WORD, FIRST_RECORD_WORD, FIRST_STATE_WORD, encode};
+use core_steps::{FIRST_LIST_WORD, FIRST_RECORD_WORD, FIRST_STATE_WORD, TABLE_WORDS, encode};
 use entity_recs::abs_box;
 use std::alloc::{AllocError, Global};
 use world_tree::World;
@@ -51,8 +47,7 @@ fn is_home(home: Option<u8>, node: u8) -> bool
 /// The list word of a node at the start: bit p is set where player p is live and linked there.
 fn links_at_start(world: &World, homes: &[Option<u8>; SLOTS], node: u8) -> u64
     requires homes { AreHomes world.now homes.now }
-    ensures { result ≡ word_of 64 (λ slot. is_player (fixed_of_world world.now) slot &&
-        (node == home (fixed_of_world world.now) ((world_at_start world.now).record_of slot))) }
+    ensures { result ≡ (start_words (fixed_of_world world.now)).links node }
 {
     // The clauses speak of the world alone: what the word says is known from the nodes of its players.
     let _ = world;
@@ -65,8 +60,9 @@ fn links_at_start(world: &World, homes: &[Option<u8>; SLOTS], node: u8) -> u64
 
 /// One of a player's five words at the start, 0 where the player isn't live.
 fn body_at_start(world: &World, slot: u8, k: usize) -> u64
+    requires slot { slot < 64 }
     requires word { k < 5 }
-    ensures { result ≡ nth_word (words_of ((world_at_start world.now).record_of slot)) k }
+    ensures { result ≡ (start_words (fixed_of_world world.now)).body slot k }
 {
     match world.get(u16::from(slot)) {
         Some(r) => encode(&r)[k],
@@ -76,7 +72,7 @@ fn body_at_start(world: &World, slot: u8, k: usize) -> u64
 
 /// The state word of an id at the start, 0 where the id isn't live.
 fn state_at_start(world: &World, id: u16) -> u64
-    ensures { result ≡ ((world_at_start world.now).record_of id).state }
+    ensures { result ≡ (start_words (fixed_of_world world.now)).state id }
 {
     match world.get(id) {
         Some(r) => r.state,
@@ -87,7 +83,7 @@ fn state_at_start(world: &World, id: u16) -> u64
 /// The word at an index of the table at the start.
 fn word_at_start(world: &World, homes: &[Option<u8>; SLOTS], index: usize) -> u64
     requires homes { AreHomes world.now homes.now }
-    requires index { index < 639 }
+    requires index { index < TABLE_WORDS }
     ensures { result ≡ start_word_at world.now index }
 {
     let lists = usize::from(FIRST_LIST_WORD);

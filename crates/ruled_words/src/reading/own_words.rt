@@ -20,12 +20,12 @@ use entity_recs::{Action, Cmd};
 /// The index of the `k`-th of the six words of a player's record: its five words, and after them its state word.
 pub fn index_of_word(slot: u8, k: usize) -> usize
     requires { k < 6 }
-    ensures { result ≡ cell_index 31 (cell_of slot k) }
+    ensures { result ≡ cell_index (cell_of slot k) }
 {
     if k < 5 {
         usize::from(record_word(slot)) + k
     } else {
-        usize::from(state_word(slot))
+        usize::from(state_word(u16::from(slot)))
     }
 }
 

@@ -1,5 +1,6 @@
 ghost use Rattle.std.specs.Prelude.{◌≡◌, ◌<◌, ◌%◌, ◌^◌, ℕ, [], bit_or};
 ghost use Rattle.areanode.specs.Trees.{leaves_of, visited_of};
+ghost use Rattle.areanode.specs.declared.sizes.TheConstants.{DEPTH};
 ghost use Rattle.core_steps.specs.Steps.{visiting};
 ghost use Rattle.core_steps.specs.Views.{Entering, Entered, Leaving, inner_visited, plan_of, region_in};
 ghost use Rattle.core_seats.specs.Refusals.{AreRefusals};
@@ -10,6 +11,7 @@ ghost use Rattle.ruled_words.specs.Visits.{plan_left, read_until, under_until, v
 use crate::hand::Hand;
 use crate::shared_words::SharedWords;
 use crate::word_step::WordStep;
+use areanode::FIRST_LEAF;
 use core_seats::{NodeQueue, Refusals, lowest_bit, without_bit};
 use core_steps::list_word;
 use entity_recs::Action;
@@ -47,7 +49,7 @@ impl<'a, A: Action> SharedWords<'a, A> {
     pub(crate) fn read_leaves(
         &self,
         hand: &mut Hand,
-        leaves: u16,
+        leaves: u32,
         slot: u8,
         six: &mut SixBySlot,
     ) -> u64
@@ -69,7 +71,7 @@ impl<'a, A: Action> SharedWords<'a, A> {
         while rest != 0 {
             let leaf = lowest_bit(rest);
             rest = without_bit(rest, leaf);
-            seen |= self.read_under(hand, 15 + leaf, slot, six);
+            seen |= self.read_under(hand, FIRST_LEAF as u8 + leaf, slot, six);
         }
         seen
     }
@@ -100,7 +102,7 @@ impl<'a, A: Action> SharedWords<'a, A> {
     ) -> u64
         requires own { IsOwn A.meaning self.now hand.old }
         requires at { hand.old.view.point ≡ Entering node (plan_left hand.old.view.point) }
-        requires inner { node < 15 }
+        requires inner { node < FIRST_LEAF }
         requires own_is { own.now ≡ hand.old.view.own }
         requires wanted_is { wanted.now.items ≡ hand.old.view.wanted }
         requires slot { slot ≡ hand.old.view.cmd.slot }
@@ -130,7 +132,7 @@ impl<'a, A: Action> SharedWords<'a, A> {
         refusals: &mut Refusals,
         own: &[u64; 6],
         wanted: &NodeQueue,
-        inner: u16,
+        inner: u32,
         slot: u8,
         six: &mut SixBySlot,
     ) -> u64
@@ -138,7 +140,7 @@ impl<'a, A: Action> SharedWords<'a, A> {
         requires at { let F = fixed_in A.meaning self.now in let v = hand.old.view in
             v.point ≡ visiting F v (inner_visited F (region_in F v.cmd v.own)) }
         requires inner { let F = fixed_in A.meaning self.now in let v = hand.old.view in
-            inner ≡ visited_of 4 (leaves_of F.tree (region_in F v.cmd v.own)) % 2 ^ 15 }
+            inner ≡ visited_of DEPTH (leaves_of F.tree (region_in F v.cmd v.own)) % 2 ^ FIRST_LEAF }
         requires own_is { own.now ≡ hand.old.view.own }
         requires wanted_is { wanted.now.items ≡ hand.old.view.wanted }
         requires slot { slot ≡ hand.old.view.cmd.slot }
@@ -170,8 +172,8 @@ impl<'a, A: Action> SharedWords<'a, A> {
         refusals: &mut Refusals,
         own: &[u64; 6],
         wanted: &NodeQueue,
-        leaves: u16,
-        inner: u16,
+        leaves: u32,
+        inner: u32,
         slot: u8,
         six: &mut SixBySlot,
     ) -> u64
@@ -181,7 +183,7 @@ impl<'a, A: Action> SharedWords<'a, A> {
         requires others { hand.old.view.others ≡ [] }
         requires leaves { let F = fixed_in A.meaning self.now in let v = hand.old.view in
             leaves ≡ leaves_of F.tree (region_in F v.cmd v.own) }
-        requires inner { inner ≡ visited_of 4 leaves % 2 ^ 15 }
+        requires inner { inner ≡ visited_of DEPTH leaves % 2 ^ FIRST_LEAF }
         requires own_is { own.now ≡ hand.old.view.own }
         requires wanted_is { wanted.now.items ≡ hand.old.view.wanted }
         requires slot { slot ≡ hand.old.view.cmd.slot }

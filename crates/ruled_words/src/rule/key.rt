@@ -1,6 +1,7 @@
 use crate::rule::sight::Sight;
 use arrayvec::ArrayVec;
 use atomic_table::{Seat, Shared, TableRule};
+use core_steps::MOST_SEATS;
 use entity_recs::Action;
 use std::marker::PhantomData;
 use std::snapshot::Snapshot;
@@ -14,7 +15,7 @@ pub struct Key<A> {
     /// The world at the start, which only clauses read.
     pub world: Snapshot<World>,
     /// How many entries each pass has room for.
-    pub rooms: ArrayVec<u32, 16>,
+    pub rooms: ArrayVec<u32, MOST_SEATS>,
 }
 
 /// The rule of the table.

@@ -25,7 +25,7 @@ impl<'a, A: Action> SharedWords<'a, A> {
     pub(crate) fn step_hand(&self, hand: &mut Hand, word: usize, step: WordStep) -> u64
         requires own { IsOwn A.meaning self.now hand.old }
         requires comes { is_some (next_in A.meaning self.now hand.old) ≡ true }
-        requires index { word ≡ index_of 31 hand.old.view (the_next (next_in A.meaning self.now hand.old)) }
+        requires index { word ≡ index_of hand.old.view (the_next (next_in A.meaning self.now hand.old)) }
         requires left { (found : ℕ) → word_after (fixed_in A.meaning self.now) hand.old found ≡ word_by step found }
         requires may { MayBe step (fixed_in A.meaning self.now) hand.old.view
             (the_next (next_in A.meaning self.now hand.old)) word }
@@ -69,7 +69,7 @@ impl<'a, A: Action> SharedWords<'a, A> {
     ) -> u64
         requires own { IsOwn A.meaning self.now (keeping hand.old effect.now) }
         requires comes { is_some (next_in A.meaning self.now (keeping hand.old effect.now)) ≡ true }
-        requires index { word ≡ index_of 31 hand.old.view
+        requires index { word ≡ index_of hand.old.view
             (the_next (next_in A.meaning self.now (keeping hand.old effect.now))) }
         requires left { (found : ℕ) → word_after (fixed_in A.meaning self.now) (keeping hand.old effect.now) found
             ≡ word_by step found }
@@ -104,7 +104,7 @@ impl<'a, A: Action> SharedWords<'a, A> {
         requires own { IsOwn A.meaning self.now (pass_view hand.old mirror.now effect.now) }
         requires mirrors { view_of mirror.now ≡ hand.old.view }
         requires comes { is_some (next_in A.meaning self.now (pass_view hand.old mirror.now effect.now)) ≡ true }
-        requires index { word ≡ index_of 31 (view_of mirror.now)
+        requires index { word ≡ index_of (view_of mirror.now)
             (the_next (next_in A.meaning self.now (pass_view hand.old mirror.now effect.now))) }
         requires left { (found : ℕ) → word_after (fixed_in A.meaning self.now)
             (pass_view hand.old mirror.now effect.now) found ≡ word_by step found }

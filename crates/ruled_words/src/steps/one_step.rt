@@ -1,5 +1,6 @@
 ghost use Rattle.std.specs.Prelude.{◌≡◌, ℕ, length};
 ghost use Rattle.core_seats.specs.Going.{word_left};
+ghost use Rattle.core_steps.specs.declared.sizes.TheConstants.{TABLE_WORDS};
 ghost use Rattle.core_steps.specs.Machine.{index_of};
 ghost use Rattle.ruled_words.specs.Starts.{fixed_by};
 ghost use Rattle.ruled_words.specs.Going.{MayGo};
@@ -20,12 +21,12 @@ pub(crate) fn step_as<A: Action, N: Planned, T>(
     word: usize,
     step: WordStep,
 ) -> u64
-    requires table { (seat.old.table_id ≡ words.now.table_id) × (words.now.table_id.words ≡ 639) }
+    requires table { (seat.old.table_id ≡ words.now.table_id) × (words.now.table_id.words ≡ TABLE_WORDS) }
     requires fixed { N.fixed ≡ fixed_by A.meaning words.now.key.action.value words.now.key.world.value }
     requires passes { N.passes ≡ length words.now.key.rooms.items }
     requires sound_sight { IsSoundSight N.fixed N.passes seat.old.me.0 }
     requires next { MayGo N.fixed N.passes seat.old.me.0.number seat.old.me.0.view N.given N.quits N.next }
-    requires word { word ≡ index_of 31 seat.old.me.0.view N.next }
+    requires word { word ≡ index_of seat.old.me.0.view N.next }
     requires left { (found : ℕ) → word_left N.fixed seat.old.me.0.number seat.old.me.0.view N.next found
         ≡ word_by step found }
     requires may { MayBe step N.fixed seat.old.me.0.view N.next word }

@@ -1,4 +1,5 @@
 ghost use Rattle.std.specs.Prelude.{◌≡◌, ◌<◌, [], length};
+ghost use Rattle.core_steps.specs.declared.sizes.TheConstants.{TABLE_WORDS};
 ghost use Rattle.ruled_words.specs.Starts.{fixed_by};
 ghost use Rattle.ruled_words.specs.Sights.{with_one_made, sight_made, with_one_ended};
 ghost use Rattle.ruled_words.specs.Going.{IsAtRest};
@@ -11,7 +12,7 @@ use std::marker::Brand;
 
 /// The seat looks at the count of commits, by a pick.
 fn look_as<A: Action, N: Planned>(words: &Words<A>, seat: &mut Place) -> u64
-    requires table { (seat.old.table_id ≡ words.now.table_id) × (words.now.table_id.words ≡ 639) }
+    requires table { (seat.old.table_id ≡ words.now.table_id) × (words.now.table_id.words ≡ TABLE_WORDS) }
     requires fixed { N.fixed ≡ (fixed_by A.meaning words.now.key.action.value
         words.now.key.world.value) }
     requires passes { N.passes ≡ length words.now.key.rooms.items }
@@ -24,7 +25,7 @@ fn look_as<A: Action, N: Planned>(words: &Words<A>, seat: &mut Place) -> u64
 
 /// A seat that rests looks at the count of commits.
 pub(crate) fn look<A: Action>(words: &Words<A>, seat: &mut Place) -> u64
-    requires table { (seat.old.table_id ≡ words.now.table_id) × (words.now.table_id.words ≡ 639) }
+    requires table { (seat.old.table_id ≡ words.now.table_id) × (words.now.table_id.words ≡ TABLE_WORDS) }
     requires rests { IsAtRest seat.old.me.0.view }
     ensures table { seat.new.table_id ≡ seat.old.table_id }
     ensures looked { SeatLooked (fixed_by A.meaning words.now.key.action.value
@@ -35,7 +36,7 @@ pub(crate) fn look<A: Action>(words: &Words<A>, seat: &mut Place) -> u64
 
 /// A seat is made from seat 0, by a pick.
 fn make_as<A: Action, N: Roomed>(words: &Words<A>, seat: &mut Place, room: u32) -> Place
-    requires table { (seat.old.table_id ≡ words.now.table_id) × (words.now.table_id.words ≡ 639) }
+    requires table { (seat.old.table_id ≡ words.now.table_id) × (words.now.table_id.words ≡ TABLE_WORDS) }
     requires room { N.room ≡ room }
     requires rests { IsAtRest seat.old.me.0.view }
     requires first { seat.old.me.0.number ≡ 0 }
@@ -51,7 +52,7 @@ fn make_as<A: Action, N: Roomed>(words: &Words<A>, seat: &mut Place, room: u32) 
 
 /// A seat with this room is made from seat 0, which rests.
 pub(crate) fn make<A: Action>(words: &Words<A>, seat: &mut Place, room: u32) -> Place
-    requires table { (seat.old.table_id ≡ words.now.table_id) × (words.now.table_id.words ≡ 639) }
+    requires table { (seat.old.table_id ≡ words.now.table_id) × (words.now.table_id.words ≡ TABLE_WORDS) }
     requires rests { IsAtRest seat.old.me.0.view }
     requires first { seat.old.me.0.number ≡ 0 }
     requires more { seat.old.me.0.view.made < length words.now.key.rooms.items }
@@ -65,7 +66,7 @@ pub(crate) fn make<A: Action>(words: &Words<A>, seat: &mut Place, room: u32) -> 
 /// Another seat that rests is ended into seat 0.
 pub(crate) fn end<A: Action>(words: &Words<A>, seat: &mut Place, other: Place)
     requires table { (seat.old.table_id ≡ words.now.table_id) × (other.table_id ≡ words.now.table_id)
-        × (words.now.table_id.words ≡ 639) }
+        × (words.now.table_id.words ≡ TABLE_WORDS) }
     requires rests { IsAtRest seat.old.me.0.view × IsAtRest other.me.0.view }
     requires first { seat.old.me.0.number ≡ 0 }
     requires carries { other.me.1 ≡ [] }

@@ -10,16 +10,16 @@ use crate::nodes::taking::note_refused;
 use crate::shared_words::SharedWords;
 use crate::word_step::WordStep;
 use core_seats::{NodeQueue, Refusals};
-use core_steps::node_word;
+use core_steps::{NODE_HOLDERS, node_word};
 use entity_recs::{Action, Effect};
 use std::sync::Wait;
 use std::thread;
 
 /// The word of an inner node that the pass with this number holds to write.
 fn writing_word(number: u8) -> u64
-    ensures { result ≡ suc (number + 256) }
+    ensures { result ≡ suc (number + NODE_HOLDERS) }
 {
-    u64::from(number) + 256 + 1
+    u64::from(number) + NODE_HOLDERS + 1
 }
 
 impl<'a, A: Action> SharedWords<'a, A> {

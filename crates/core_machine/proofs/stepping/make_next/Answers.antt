@@ -11,7 +11,7 @@ get-found-requires g c =
     let F = fixed_of g.A.Action.meaning c.args.rules.now in
     let s = c.args.seat.now in
     let N = the_next (next_with F (view_of s) (given_of s) s.quits c.args.effect.now) in
-    let at = index_is F (view_of s) N c.args.s c.from-index.result c.requires.ready.sound.depth c.requires.same c.from-index.ensures in
+    let at = index_is (view_of s) N c.args.s c.from-index.result c.requires.same c.from-index.ensures in
     index_in_table F (words_in c.args.words.now (start_words F)) (view_of s) N c.from-index.result c.requires.word at
 
 pub word_left-requires-after_bounds : goal.word_left-requires-after_bounds
@@ -20,7 +20,7 @@ word_left-requires-after_bounds g c κs within =
     let s = c.args.seat.now in
     let words = words_in c.args.words.now (start_words F) in
     let N = the_next (next_with F (view_of s) (given_of s) s.quits c.args.effect.now) in
-    let at = index_is F (view_of s) N c.args.s c.from-index.result c.requires.ready.sound.depth c.requires.same c.from-index.ensures in
+    let at = index_is (view_of s) N c.args.s c.from-index.result c.requires.same c.from-index.ensures in
     let is = found_is F words (view_of s) N c.from-index.result c.get-found.result c.requires.word at (c.get-found.ensures (start_words F)) in
     may_leave F words (view_of s) (given_of s) c.args.effect.now s.quits c.args.s c.get-found.result c.requires.ready.sound c.requires.comes c.requires.word c.requires.same is
 
@@ -29,7 +29,7 @@ set-requires g c =
     let F = fixed_of g.A.Action.meaning c.args.rules.now in
     let s = c.args.seat.now in
     let N = the_next (next_with F (view_of s) (given_of s) s.quits c.args.effect.now) in
-    let at = index_is F (view_of s) N c.args.s c.from-index.result c.requires.ready.sound.depth c.requires.same c.from-index.ensures in
+    let at = index_is (view_of s) N c.args.s c.from-index.result c.requires.same c.from-index.ensures in
     index_in_table F (words_in c.args.words.now (start_words F)) (view_of s) N c.from-index.result c.requires.word at
 
 pub go-requires-clause-after : goal.go-requires-clause-after
@@ -38,7 +38,7 @@ go-requires-clause-after g c κs within =
     let s = c.args.seat.now in
     let words = words_in c.args.words.now (start_words F) in
     let N = the_next (next_with F (view_of s) (given_of s) s.quits c.args.effect.now) in
-    let at = index_is F (view_of s) N c.args.s c.from-index.result c.requires.ready.sound.depth c.requires.same c.from-index.ensures in
+    let at = index_is (view_of s) N c.args.s c.from-index.result c.requires.same c.from-index.ensures in
     let is = found_is F words (view_of s) N c.from-index.result c.get-found.result c.requires.word at (c.get-found.ensures (start_words F)) in
     sound_after F words (view_of s) N c.get-found.result c.requires.word is
 
@@ -48,7 +48,7 @@ go-requires-clause-count g c κs within =
     let s = c.args.seat.now in
     let words = words_in c.args.words.now (start_words F) in
     let N = the_next (next_with F (view_of s) (given_of s) s.quits c.args.effect.now) in
-    let at = index_is F (view_of s) N c.args.s c.from-index.result c.requires.ready.sound.depth c.requires.same c.from-index.ensures in
+    let at = index_is (view_of s) N c.args.s c.from-index.result c.requires.same c.from-index.ensures in
     let is = found_is F words (view_of s) N c.from-index.result c.get-found.result c.requires.word at (c.get-found.ensures (start_words F)) in
     count_fits F words (view_of s) N c.get-found.result c.requires.word is
 
@@ -58,7 +58,7 @@ returns g c =
     let s = c.args.seat.now in
     let words = words_in c.args.words.now (start_words F) in
     let N = the_next (next_with F (view_of s) (given_of s) s.quits c.args.effect.now) in
-    let at = index_is F (view_of s) N c.args.s c.from-index.result c.requires.ready.sound.depth c.requires.same c.from-index.ensures in
+    let at = index_is (view_of s) N c.args.s c.from-index.result c.requires.same c.from-index.ensures in
     let is = found_is F words (view_of s) N c.from-index.result c.get-found.result c.requires.word at (c.get-found.ensures (start_words F)) in
     stepped F c.args.s words (words_in c.set.new.self (start_words F)) (view_of s) c.go.new.self N c.from-index.result c.get-found.result c.word_left.result c.is_done.result
     c.requires.same at is

@@ -34,7 +34,7 @@ make_next-requires-clause-same g c = λ κs within.
     let seat = c.args.seat.now in
     let words = words_in c.args.words.now (start_words F) in
     let comes = comes_next F seat c.resolved-effect.result c.args.s c.resolved-effect.ensures (sym c.next_step.ensures ∙ c.is_next.ensures.same c.if-is_next.true) in
-    ap (step_of F c.args.s.seat (view_of seat)) (ap the_next comes.is) ∙ comes.same
+    ap (step_of c.args.s.seat (view_of seat)) (ap the_next comes.is) ∙ comes.same
 
 pub returns-then-is_next : goal.returns-then-is_next
 returns-then-is_next g c =
@@ -56,7 +56,7 @@ returns-else-is_next g c =
     let seat = c.args.seat.now in
     inl (record {
       other = λ same. c.is_next.ensures.other c.if-is_next.false
-          (c.next_step.ensures ∙ ap (option_map (step_of F c.args.s.seat (view_of seat))) (seat_due F seat c.resolved-effect.result c.resolved-effect.ensures) ∙ same);
+          (c.next_step.ensures ∙ ap (option_map (step_of c.args.s.seat (view_of seat))) (seat_due F seat c.resolved-effect.result c.resolved-effect.ensures) ∙ same);
       words = refl;
       seat = refl;
       done = c.if-is_next.false;

@@ -1,4 +1,5 @@
 use Rattle.std.proofs.Common.{◌≡◌, ◌≤◌, ◌+◌, length, refl, arith}
+use Rattle.entity_recs.specs.declared.limits.TheConstants.{IDS}
 use Rattle.move_phase.proofs.SmallNumbers.{small_none, small_next, small_all}
 use Rattle.move_phase.proofs.numbers.look_at_all.Goals as goal
 
@@ -12,6 +13,6 @@ loop-id-preserved c =
 
 pub returns-clause-small : goal.returns-clause-small
 returns-clause-small c =
-    let places : length c.args.world.now.records ≡ 256 = c.tree-linked.ensures.linked.places in
+    let places : length c.args.world.now.records ≡ IDS = c.tree-linked.ensures.linked.places in
     let most : length c.args.world.now.records ≤ c.loop-id.id = omega (arith, places, c.loop-id-test.false) in
     small_all c.args.world.now.records c.loop-id.id most c.loop-id.invariant

@@ -11,7 +11,7 @@ invariant_of-result g c =
     subst (λ (rs : List Rec). IsRuledWith (fixed_of g.A.Action.meaning (record { action = c.args.action.now; tree = c.args.tree.now; start = rs })) rs c.player_bits.result c.count_players-first_thing.result c.of_things.result)
     (sym c.in_ok-from_slice.ensures.items)
     (record {
-      depth = c.has_depth_4.ensures;
+      depth = c.has_its_depth.ensures;
       start = c.requires;
       slots = c.player_bits.ensures;
       fits = c.count_players-first_thing.ensures.few;

@@ -1,4 +1,4 @@
-use Rattle.std.proofs.Common.{◌≡◌, ◌∙◌, sym, ap, map, ◌∷◌, List, refl}
+use Rattle.std.proofs.Common.{arith, ◌≡◌, ◌∙◌, sym, ap, map, ◌∷◌, List, refl}
 use Rattle.core_steps.specs.Views as views
 use Rattle.core_seats.specs.declared.point.Store.{Store}
 use Rattle.core_seats.specs.Points.{point_of, store_of}
@@ -12,7 +12,8 @@ pub state_step-requires : goal.state_step-requires
 state_step-requires g c = λ id rest is.
     let F = fixed_of g.A.Action.meaning c.args.rules.now in
     let ids : c.args.self.now.queues.ids.items ≡ id ∷ rest = sym c.as_slice-in-Sensing.ensures.value ∙ is in
-    sensed_in F (view_of c.args.self.now) id rest c.is_lawful.ensures c.is_ruled.ensures.start c.requires.sound (ap (point_of c.args.self.now.queues) c.in-Sensing.is ∙ ap views.Sensing ids)
+    let below = sensed_in F (view_of c.args.self.now) id rest c.is_lawful.ensures c.is_ruled.ensures.start c.requires.sound (ap (point_of c.args.self.now.queues) c.in-Sensing.is ∙ ap views.Sensing ids) in
+    omega arith
 
 pub resolved_step-requires-clause-before : goal.resolved_step-requires-clause-before
 resolved_step-requires-clause-before g c κs within =
@@ -37,15 +38,20 @@ returns-in-Loading g c =
     let F = fixed_of g.A.Action.meaning c.args.rules.now in
     let qs = c.args.self.now.queues in
     rw (c.player_step.ensures, c.as_slice-in-Loading.ensures.value, c.len-in-Loading.ensures.value, c.in-Loading.is)
-    (player_next F (view_of c.args.self.now) (given_of c.args.self.now) c.args.number c.in-Loading.node qs.part.items qs.players.items qs.plan.items c.requires.sound.depth)
+    (player_next F (view_of c.args.self.now) (given_of c.args.self.now) c.args.number c.in-Loading.node qs.part.items qs.players.items qs.plan.items)
 
 pub returns-in-Storing : goal.returns-in-Storing
 returns-in-Storing g c =
     let F = fixed_of g.A.Action.meaning c.args.rules.now in
-    rw (c.next_store_step.ensures F (view_of c.args.self.now) (given_of c.args.self.now) c.args.self.now.queues.got.items c.requires.sound.depth, c.as_slice-in-Storing.ensures.value, c.in-Storing.is) refl
+    rw (c.next_store_step.ensures F (view_of c.args.self.now) (given_of c.args.self.now) c.args.self.now.queues.got.items, c.as_slice-in-Storing.ensures.value, c.in-Storing.is) refl
 
 pub returns-in-Sensing : goal.returns-in-Sensing
 returns-in-Sensing g c =
     let F = fixed_of g.A.Action.meaning c.args.rules.now in
     rw (c.state_step.ensures, c.as_slice-in-Sensing.ensures.value, c.in-Sensing.is)
-    (state_next F (view_of c.args.self.now) (given_of c.args.self.now) c.args.number c.args.self.now.queues.ids.items c.requires.sound.depth)
+    (state_next F (view_of c.args.self.now) (given_of c.args.self.now) c.args.number c.args.self.now.queues.ids.items)
+
+pub returns-in-Claiming : goal.returns-in-Claiming
+returns-in-Claiming g c =
+    let F = fixed_of g.A.Action.meaning c.args.rules.now in
+    rw (c.claim_step.ensures F c.args.self.now.queues.got.items, c.as_slice-in-Claiming.ensures.value, c.in-Claiming.is) refl

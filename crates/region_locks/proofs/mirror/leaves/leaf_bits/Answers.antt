@@ -1,4 +1,5 @@
 use Rattle.std.proofs.Common.{arith, rules, ◌≡◌, sym, ◌∙◌, ap, subst, ℕ, Bool, ◌<◌, ◌^◌, ◌+◌, if◌then◌else◌}
+use Rattle.areanode.specs.declared.sizes.TheConstants.{LEAVES, FIRST_LEAF}
 use Rattle.areanode.specs.Words.{word_of}
 use Rattle.areanode.proofs.Words.{word_of-below}
 use Rattle.core_steps.specs.Views.{has}
@@ -13,7 +14,7 @@ loop-leaf-init c = word_none _
 
 pub loop-leaf-preserved : goal.loop-leaf-preserved
 loop-leaf-preserved c =
-    let test : ℕ → Bool = λ leaf. has c.args.nodes.now (15 + leaf) in
+    let test : ℕ → Bool = λ leaf. has c.args.nodes.now (FIRST_LEAF + leaf) in
     c.with_top_bit-word.ensures
     ∙ ap (λ (b : Bool). (if b then 2 ^ c.loop-leaf.leaf else 0) + c.loop-leaf.word) c.is_among.ensures
     ∙ ap (λ (n : ℕ). (if test c.loop-leaf.leaf then 2 ^ c.loop-leaf.leaf else 0) + n) c.loop-leaf.invariant
@@ -21,8 +22,8 @@ loop-leaf-preserved c =
 
 pub overflow_cast-result : goal.overflow_cast-result
 overflow_cast-result c =
-    let test : ℕ → Bool = λ leaf. has c.args.nodes.now (15 + leaf) in
-    let all : c.loop-leaf.leaf ≡ 16 = omega (arith, c.loop-leaf.auto.leaf-end, c.loop-leaf-test.false) in
-    let word : c.loop-leaf.word ≡ word_of 16 test = c.loop-leaf.invariant ∙ ap (λ (k : ℕ). word_of k test) all in
-    let small : c.loop-leaf.word < 2 ^ 16 = subst (λ (n : ℕ). n < 2 ^ 16) (sym word) (word_of-below 16 test) in
+    let test : ℕ → Bool = λ leaf. has c.args.nodes.now (FIRST_LEAF + leaf) in
+    let all : c.loop-leaf.leaf ≡ LEAVES = omega (arith, c.loop-leaf.auto.leaf-end, c.loop-leaf-test.false) in
+    let word : c.loop-leaf.word ≡ word_of LEAVES test = c.loop-leaf.invariant ∙ ap (λ (k : ℕ). word_of k test) all in
+    let small : c.loop-leaf.word < 2 ^ LEAVES = subst (λ (n : ℕ). n < 2 ^ LEAVES) (sym word) (word_of-below LEAVES test) in
     search rules

@@ -1,4 +1,5 @@
 use Rattle.std.proofs.Common.{sym, ap, ◌∙◌, ℕ, ◌+◌}
+use Rattle.core_steps.specs.declared.sizes.TheConstants.{FIRST_LIST_WORD}
 use Rattle.core_steps.specs.Cells.{with_bit}
 use Rattle.core_steps.specs.Views.{stores_owed}
 use Rattle.ruled_words.specs.Passes.{PassView, fixed_in}
@@ -11,7 +12,7 @@ step_word-requires-clause-comes g c κs within = link_there _ c.requires.next
 
 pub step_word-requires-clause-index : goal.step_word-requires-clause-index
 step_word-requires-clause-index g c κs within =
-    c.from.ensures ∙ c.list_word-word.ensures ∙ ap (λ (n : ℕ). 32 + n) (c.bit_owed.ensures ∙ ap (λ (q : PassView). bit_owed (stores_owed q.view.point)) c.pass.view_is)
+    c.from.ensures ∙ c.list_word-word.ensures ∙ ap (λ (n : ℕ). FIRST_LIST_WORD + n) (c.bit_owed.ensures ∙ ap (λ (q : PassView). bit_owed (stores_owed q.view.point)) c.pass.view_is)
     ∙ sym (links_next (fixed_in g.A.Action.meaning c.args.self.now) c.args.pass.now c.requires.next).index
 
 pub step_word-requires-clause-left : goal.step_word-requires-clause-left

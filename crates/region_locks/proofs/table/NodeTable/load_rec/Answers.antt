@@ -10,7 +10,7 @@ pub step_word-requires-clause-index : goal.step_word-requires-clause-index
 step_word-requires-clause-index g c κs within =
     let is = c.loop-k.invariant in
     let below : length c.loop-k.words.items < 6 = omega (arith, is.1, c.loop-k-test.true) in
-    c.index_of_word.ensures ∙ ap (λ (k : ℕ). cell_index 31 (cell_of c.args.slot k)) (sym is.1) ∙ sym (load_next (fixed_in g.A.Action.meaning c.args.self.now) c.loop-k.pass _ (is.0.next below)).index
+    c.index_of_word.ensures ∙ ap (λ (k : ℕ). cell_index (cell_of c.args.slot k)) (sym is.1) ∙ sym (load_next (fixed_in g.A.Action.meaning c.args.self.now) c.loop-k.pass _ (is.0.next below)).index
 
 pub step_word-requires-clause-left : goal.step_word-requires-clause-left
 step_word-requires-clause-left g c κs within =

@@ -1,4 +1,5 @@
 use Rattle.std.proofs.Common.{sym, ap, subst, ◌∙◌, ◌<◌, ◌==◌, length, ℕ, if◌then◌else◌, All}
+use Rattle.areanode.specs.declared.sizes.TheConstants.{NODES}
 use Rattle.core_seats.specs.Shown.{fixed_of}
 use Rattle.ruled_words.specs.Hands.{pass_view}
 use Rattle.ruled_words.specs.Passes.{PassView, fixed_in}
@@ -25,7 +26,7 @@ step_word-found-requires-clause-left g c κs within found =
 
 pub held_word-new-requires-clause-nodes : goal.held_word-new-requires-clause-nodes
 held_word-new-requires-clause-nodes g c κs within =
-    subst (All (λ n. n < 31)) (sym (c.as_slice-wanted.ensures.value ∙ ap (λ (q : PassView). q.view.wanted) c.pass.view_is))
+    subst (All (λ n. n < NODES)) (sym (c.as_slice-wanted.ensures.value ∙ ap (λ (q : PassView). q.view.wanted) c.pass.view_is))
     (wanted_below _ _ _ c.args.pass.now c.args.node _ c.requires.own (takes_next (fixed_in g.A.Action.meaning c.args.self.now) (length c.args.self.now.rooms) c.args.self.now.table c.args.pass.now c.args.node c.requires.own c.requires.next))
 
 pub returns-else-found-eq0-clause-err : goal.returns-else-found-eq0-clause-err

@@ -15,7 +15,7 @@ pub step_hand-requires-clause-index : goal.step_hand-requires-clause-index
 step_hand-requires-clause-index g c κs within =
     let is = c.loop-k.invariant in
     let below : length c.loop-k.words.items < 6 = omega (arith, is.1, c.loop-k-test.true) in
-    c.index_of_word.ensures ∙ ap (λ (k : ℕ). cell_index 31 (cell_of c.args.slot k)) (sym is.1) ∙ sym (load_next (fixed_in g.A.Action.meaning c.args.self.now) c.loop-k.hand _ (is.0.next below)).index
+    c.index_of_word.ensures ∙ ap (λ (k : ℕ). cell_index (cell_of c.args.slot k)) (sym is.1) ∙ sym (load_next (fixed_in g.A.Action.meaning c.args.self.now) c.loop-k.hand _ (is.0.next below)).index
 
 pub step_hand-requires-clause-left : goal.step_hand-requires-clause-left
 step_hand-requires-clause-left g c κs within =

@@ -1,4 +1,5 @@
 use Rattle.std.proofs.Common.{sym, ap, ◌∙◌, ◌+◌, length, ℕ}
+use Rattle.core_steps.specs.declared.sizes.TheConstants.{FIRST_STATE_WORD}
 use Rattle.ruled_words.specs.Passes.{fixed_in, next_of_pass}
 use Rattle.ruled_words.proofs.Gives.{states_next, state_there}
 use Rattle.ruled_words.proofs.StateSteps.{thing_next, thing_loaded}
@@ -13,7 +14,7 @@ pub step_hand-state-requires-clause-index : goal.step_hand-state-requires-clause
 step_hand-state-requires-clause-index g c κs within =
     let F = fixed_in g.A.Action.meaning c.args.self.now in
     let next = thing_next F c.args.hand.now c.args.r.now.id c.is_plain.ensures c.requires.at in
-    ap (λ (n : ℕ). n + c.from-2.result) c.from.ensures ∙ ap (λ (n : ℕ). 383 + n) c.from-2.ensures
+    ap (λ (n : ℕ). n + c.from-2.result) c.from.ensures ∙ ap (λ (n : ℕ). FIRST_STATE_WORD + n) c.from-2.ensures
     ∙ sym (states_next F (length c.args.self.now.rooms) c.args.self.now.table c.args.hand.now c.args.r.now.id c.requires.own next).index
 
 pub step_hand-state-requires-clause-left : goal.step_hand-state-requires-clause-left

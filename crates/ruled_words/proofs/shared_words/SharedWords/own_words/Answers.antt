@@ -20,8 +20,8 @@ step_hand-requires-clause-index g c κs within =
     let is = c.loop-k.invariant in
     let F = fixed_in g.A.Action.meaning c.args.self.now in
     let below : length c.loop-k.words.items < 6 = omega (arith, is.2, c.loop-k-test.true) in
-    c.index_of_word.ensures ∙ ap (λ (k : ℕ). cell_index 31 (cell_of c.args.cmd.now.slot k)) (sym is.2)
-    ∙ sym (ap (λ (q : PassView). index_of 31 q.view (the_next (next_of_pass F q))) is.1 ∙ own_index F c.args.hand.now (command_of c.args.cmd.now) c.loop-k.words.items below)
+    c.index_of_word.ensures ∙ ap (λ (k : ℕ). cell_index (cell_of c.args.cmd.now.slot k)) (sym is.2)
+    ∙ sym (ap (λ (q : PassView). index_of q.view (the_next (next_of_pass F q))) is.1 ∙ own_index F c.args.hand.now (command_of c.args.cmd.now) c.loop-k.words.items below)
 
 pub step_hand-requires-clause-left : goal.step_hand-requires-clause-left
 step_hand-requires-clause-left g c κs within found =

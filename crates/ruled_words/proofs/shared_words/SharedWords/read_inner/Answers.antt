@@ -1,4 +1,5 @@
 use Rattle.std.proofs.Common.{◌≡◌, ℕ, sym, ap, ◌∙◌, subst, arith, refl, bit_or}
+use Rattle.areanode.specs.declared.sizes.TheConstants.{FIRST_LEAF}
 use Rattle.core_steps.specs.Views.{region_in}
 use Rattle.core_steps.specs.Steps.{visiting}
 use Rattle.ruled_words.specs.Passes.{PassView, fixed_in}
@@ -24,14 +25,14 @@ pub visit_inner-seen-requires-clause-inner : goal.visit_inner-seen-requires-clau
 visit_inner-seen-requires-clause-inner g c κs within =
     let few = c.loop-rest.invariant.3 in
     let cut = c.requires.inner in
-    bit_below 15 c.loop-rest.rest c.lowest_bit-node.result (omega (arith, few, cut)) c.lowest_bit-node.ensures.there
+    bit_below FIRST_LEAF c.loop-rest.rest c.lowest_bit-node.result (omega (arith, few, cut)) c.lowest_bit-node.ensures.there
 
 pub visit_inner-seen-requires-clause-at : goal.visit_inner-seen-requires-clause-at
 visit_inner-seen-requires-clause-at g c κs within =
     let few = c.loop-rest.invariant.3 in
     let cut = c.requires.inner in
-    let below = bit_below 15 c.loop-rest.rest c.lowest_bit-node.result (omega (arith, few, cut)) c.lowest_bit-node.ensures.there in
-    let first = bits_first 15 c.loop-rest.rest c.without_bit-rest.result c.lowest_bit-node.result below (omega arith) c.lowest_bit-node.ensures.there c.lowest_bit-node.ensures.first c.without_bit-rest.ensures.bits in
+    let below = bit_below FIRST_LEAF c.loop-rest.rest c.lowest_bit-node.result (omega (arith, few, cut)) c.lowest_bit-node.ensures.there in
+    let first = bits_first FIRST_LEAF c.loop-rest.rest c.without_bit-rest.result c.lowest_bit-node.result below (omega arith) c.lowest_bit-node.ensures.there c.lowest_bit-node.ensures.first c.without_bit-rest.ensures.bits in
     now_entering (fixed_in g.A.Action.meaning c.args.self.now) c.args.hand.now c.requires.own.sound_sight.sound.depth c.loop-rest.rest c.without_bit-rest.result c.lowest_bit-node.result below first c.loop-rest.hand c.loop-rest.invariant.1
 
 pub visit_inner-seen-requires-clause-own_is : goal.visit_inner-seen-requires-clause-own_is
@@ -47,8 +48,8 @@ pub loop-rest-preserved : goal.loop-rest-preserved
 loop-rest-preserved g c =
     let few = c.loop-rest.invariant.3 in
     let cut = c.requires.inner in
-    let below = bit_below 15 c.loop-rest.rest c.lowest_bit-node.result (omega (arith, few, cut)) c.lowest_bit-node.ensures.there in
-    let first = bits_first 15 c.loop-rest.rest c.without_bit-rest.result c.lowest_bit-node.result below (omega arith) c.lowest_bit-node.ensures.there c.lowest_bit-node.ensures.first c.without_bit-rest.ensures.bits in
+    let below = bit_below FIRST_LEAF c.loop-rest.rest c.lowest_bit-node.result (omega (arith, few, cut)) c.lowest_bit-node.ensures.there in
+    let first = bits_first FIRST_LEAF c.loop-rest.rest c.without_bit-rest.result c.lowest_bit-node.result below (omega arith) c.lowest_bit-node.ensures.there c.lowest_bit-node.ensures.first c.without_bit-rest.ensures.bits in
     let less = c.without_bit-rest.ensures.less c.lowest_bit-node.ensures.there in (
       c.visit_inner-seen.ensures.own,
       inner_more (fixed_in g.A.Action.meaning c.args.self.now) c.args.hand.now c.requires.own.sound_sight.sound.depth c.loop-rest.rest c.without_bit-rest.result c.lowest_bit-node.result below first c.loop-rest.hand c.loop-rest.invariant.1 c.visit_inner-seen.new.hand c.visit_inner-seen.ensures.view,

@@ -1,6 +1,8 @@
 use Rattle.std.proofs.Common.{◌≡◌, ℕ, sym, ap, ◌∙◌, subst, arith, bit_or}
+use Rattle.areanode.specs.declared.sizes.TheConstants.{LEAVES}
 use Rattle.ruled_words.specs.Passes.{PassView, fixed_in}
 use Rattle.ruled_words.proofs.BitWalks.{bits_first, bit_below}
+use Rattle.ruled_words.proofs.LeafWords.{leaves_small}
 use Rattle.ruled_words.proofs.VisitedNodes.{leaves_until, reading_start, reading_end, leaf_entered, leaf_read, none_kept_yet, kept_after}
 use Rattle.ruled_words.proofs.shared_words.SharedWords.read_leaves.Goals as goal
 
@@ -17,9 +19,9 @@ loop-rest-init g c =
 pub read_under-seen-requires-clause-at : goal.read_under-seen-requires-clause-at
 read_under-seen-requires-clause-at g c κs within =
     let few = c.loop-rest.invariant.3 in
-    let range = c.ranges.leaves.fits in
-    let below = bit_below 16 c.loop-rest.rest c.lowest_bit-leaf.result (omega (arith, few, range)) c.lowest_bit-leaf.ensures.there in
-    let first = bits_first 16 c.loop-rest.rest c.without_bit-rest.result c.lowest_bit-leaf.result below (omega arith) c.lowest_bit-leaf.ensures.there c.lowest_bit-leaf.ensures.first c.without_bit-rest.ensures.bits in
+    let range = leaves_small (fixed_in g.A.Action.meaning c.args.self.now) _ c.args.leaves c.requires.own.sound_sight.sound.depth c.requires.leaves in
+    let below = bit_below LEAVES c.loop-rest.rest c.lowest_bit-leaf.result (omega (arith, few, range)) c.lowest_bit-leaf.ensures.there in
+    let first = bits_first LEAVES c.loop-rest.rest c.without_bit-rest.result c.lowest_bit-leaf.result below (omega arith) c.lowest_bit-leaf.ensures.there c.lowest_bit-leaf.ensures.first c.without_bit-rest.ensures.bits in
     leaf_entered (fixed_in g.A.Action.meaning c.args.self.now) c.args.hand.now c.requires.own.sound_sight.sound.depth c.loop-rest.rest c.without_bit-rest.result c.lowest_bit-leaf.result first c.loop-rest.hand c.loop-rest.invariant.1
 
 pub read_under-seen-requires-clause-slot : goal.read_under-seen-requires-clause-slot
@@ -28,9 +30,9 @@ read_under-seen-requires-clause-slot g c κs within = c.requires.slot ∙ sym (a
 pub loop-rest-preserved : goal.loop-rest-preserved
 loop-rest-preserved g c =
     let few = c.loop-rest.invariant.3 in
-    let range = c.ranges.leaves.fits in
-    let below = bit_below 16 c.loop-rest.rest c.lowest_bit-leaf.result (omega (arith, few, range)) c.lowest_bit-leaf.ensures.there in
-    let first = bits_first 16 c.loop-rest.rest c.without_bit-rest.result c.lowest_bit-leaf.result below (omega arith) c.lowest_bit-leaf.ensures.there c.lowest_bit-leaf.ensures.first c.without_bit-rest.ensures.bits in
+    let range = leaves_small (fixed_in g.A.Action.meaning c.args.self.now) _ c.args.leaves c.requires.own.sound_sight.sound.depth c.requires.leaves in
+    let below = bit_below LEAVES c.loop-rest.rest c.lowest_bit-leaf.result (omega (arith, few, range)) c.lowest_bit-leaf.ensures.there in
+    let first = bits_first LEAVES c.loop-rest.rest c.without_bit-rest.result c.lowest_bit-leaf.result below (omega arith) c.lowest_bit-leaf.ensures.there c.lowest_bit-leaf.ensures.first c.without_bit-rest.ensures.bits in
     let less = c.without_bit-rest.ensures.less c.lowest_bit-leaf.ensures.there in (
       c.read_under-seen.ensures.own,
       leaf_read (fixed_in g.A.Action.meaning c.args.self.now) c.args.hand.now c.requires.own.sound_sight.sound.depth c.loop-rest.rest c.without_bit-rest.result c.lowest_bit-leaf.result first c.loop-rest.hand c.loop-rest.invariant.1 c.read_under-seen.new.hand c.read_under-seen.ensures.view,

@@ -1,4 +1,5 @@
 use Rattle.std.proofs.Common.{ℕ, ◌%◌, ◌^◌, sym, ap, ◌∙◌, subst, bit_or}
+use Rattle.areanode.specs.declared.sizes.TheConstants.{DEPTH, FIRST_LEAF}
 use Rattle.areanode.specs.Trees.{visited_of}
 use Rattle.ruled_words.specs.Passes.{PassView, fixed_in}
 use Rattle.ruled_words.specs.Straight.{IsTriedOn}
@@ -11,7 +12,7 @@ read_inner-over-requires-clause-at g c κs within = read_at (fixed_in g.A.Action
 
 pub read_inner-over-requires-clause-inner : goal.read_inner-over-requires-clause-inner
 read_inner-over-requires-clause-inner g c κs within =
-    c.requires.inner ∙ ap (λ (n : ℕ). visited_of 4 n % 2 ^ 15) (c.requires.leaves ∙ sym (read_leaves_of (fixed_in g.A.Action.meaning c.args.self.now) c.args.hand.now c.read_leaves-outer.new.hand c.read_leaves-outer.ensures.view))
+    c.requires.inner ∙ ap (λ (n : ℕ). visited_of DEPTH n % 2 ^ FIRST_LEAF) (c.requires.leaves ∙ sym (read_leaves_of (fixed_in g.A.Action.meaning c.args.self.now) c.args.hand.now c.read_leaves-outer.new.hand c.read_leaves-outer.ensures.view))
 
 pub read_inner-over-requires-clause-own_is : goal.read_inner-over-requires-clause-own_is
 read_inner-over-requires-clause-own_is g c κs within = c.requires.own_is ∙ sym (ap (λ (q : PassView). q.view.own) c.read_leaves-outer.ensures.view)

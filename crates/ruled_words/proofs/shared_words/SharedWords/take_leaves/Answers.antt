@@ -1,4 +1,6 @@
 use Rattle.std.proofs.Common.{◌≡◌, ℕ, ◌+◌, ◌*◌, length, sym, ap, ◌∙◌, subst, arith}
+use Rattle.areanode.specs.declared.sizes.TheConstants.{LEAVES}
+use Rattle.core_steps.specs.declared.sizes.TheConstants.{NODE_HOLDERS}
 use Rattle.ruled_words.specs.Passes.{PassView, fixed_in}
 use Rattle.ruled_words.proofs.BitWalks.{bits_first, bit_below}
 use Rattle.ruled_words.proofs.TriedTakes.{wants_leaves, leaves_start, leaves_end, leaf_comes, leaf_left, leaf_taken, left_until, not_tried, tried_again}
@@ -19,32 +21,32 @@ pub take_node-requires-clause-next : goal.take_node-requires-clause-next
 take_node-requires-clause-next g c κs within =
     let wants = wants_leaves (fixed_in g.A.Action.meaning c.args.self.now) (length c.args.self.now.rooms) c.args.self.now.table c.args.hand.now c.args.leaves c.requires.own c.requires.at c.requires.leaves in
     let few = c.loop-rest.invariant.4 in
-    let range = c.ranges.leaves.fits in
-    let below = bit_below 16 c.loop-rest.rest c.lowest_bit-leaf.result (omega (arith, few, range)) c.lowest_bit-leaf.ensures.there in
-    let first = bits_first 16 c.loop-rest.rest c.without_bit-rest.result c.lowest_bit-leaf.result below (omega arith) c.lowest_bit-leaf.ensures.there c.lowest_bit-leaf.ensures.first c.without_bit-rest.ensures.bits in
+    let range = wants.small in
+    let below = bit_below LEAVES c.loop-rest.rest c.lowest_bit-leaf.result (omega (arith, few, range)) c.lowest_bit-leaf.ensures.there in
+    let first = bits_first LEAVES c.loop-rest.rest c.without_bit-rest.result c.lowest_bit-leaf.result below (omega arith) c.lowest_bit-leaf.ensures.there c.lowest_bit-leaf.ensures.first c.without_bit-rest.ensures.bits in
     leaf_comes (fixed_in g.A.Action.meaning c.args.self.now) c.args.hand.now c.args.leaves c.is_plain.ensures wants c.loop-rest.rest c.without_bit-rest.result c.lowest_bit-leaf.result first c.loop-rest.hand c.loop-rest.invariant.1
 
 pub take_node-requires-clause-word : goal.take_node-requires-clause-word
 take_node-requires-clause-word g c κs within found =
     let wants = wants_leaves (fixed_in g.A.Action.meaning c.args.self.now) (length c.args.self.now.rooms) c.args.self.now.table c.args.hand.now c.args.leaves c.requires.own c.requires.at c.requires.leaves in
     let few = c.loop-rest.invariant.4 in
-    let range = c.ranges.leaves.fits in
-    let below = bit_below 16 c.loop-rest.rest c.lowest_bit-leaf.result (omega (arith, few, range)) c.lowest_bit-leaf.ensures.there in
-    let first = bits_first 16 c.loop-rest.rest c.without_bit-rest.result c.lowest_bit-leaf.result below (omega arith) c.lowest_bit-leaf.ensures.there c.lowest_bit-leaf.ensures.first c.without_bit-rest.ensures.bits in
+    let range = wants.small in
+    let below = bit_below LEAVES c.loop-rest.rest c.lowest_bit-leaf.result (omega (arith, few, range)) c.lowest_bit-leaf.ensures.there in
+    let first = bits_first LEAVES c.loop-rest.rest c.without_bit-rest.result c.lowest_bit-leaf.result below (omega arith) c.lowest_bit-leaf.ensures.there c.lowest_bit-leaf.ensures.first c.without_bit-rest.ensures.bits in
     let number : c.hand.inside.number ≡ c.args.hand.now.number = ap (λ (q : PassView). q.number) c.hand.view_is in
     let one = c.from.ensures in
     let two = c.from-2.ensures in
     let word = c.requires.leaves in
     leaf_left (fixed_in g.A.Action.meaning c.args.self.now) c.args.hand.now c.args.leaves c.is_plain.ensures wants c.loop-rest.rest c.without_bit-rest.result c.lowest_bit-leaf.result first c.loop-rest.hand c.loop-rest.invariant.1
-    (c.from.result + 256 * c.from-2.result + 1) (omega (arith, number, one, two, word)) found
+    (c.from.result + NODE_HOLDERS * c.from-2.result + 1) (omega (arith, number, one, two, word)) found
 
 pub loop-rest-preserved : goal.loop-rest-preserved
 loop-rest-preserved g c =
     let wants = wants_leaves (fixed_in g.A.Action.meaning c.args.self.now) (length c.args.self.now.rooms) c.args.self.now.table c.args.hand.now c.args.leaves c.requires.own c.requires.at c.requires.leaves in
     let few = c.loop-rest.invariant.4 in
-    let range = c.ranges.leaves.fits in
-    let below = bit_below 16 c.loop-rest.rest c.lowest_bit-leaf.result (omega (arith, few, range)) c.lowest_bit-leaf.ensures.there in
-    let first = bits_first 16 c.loop-rest.rest c.without_bit-rest.result c.lowest_bit-leaf.result below (omega arith) c.lowest_bit-leaf.ensures.there c.lowest_bit-leaf.ensures.first c.without_bit-rest.ensures.bits in
+    let range = wants.small in
+    let below = bit_below LEAVES c.loop-rest.rest c.lowest_bit-leaf.result (omega (arith, few, range)) c.lowest_bit-leaf.ensures.there in
+    let first = bits_first LEAVES c.loop-rest.rest c.without_bit-rest.result c.lowest_bit-leaf.result below (omega arith) c.lowest_bit-leaf.ensures.there c.lowest_bit-leaf.ensures.first c.without_bit-rest.ensures.bits in
     let less = c.without_bit-rest.ensures.less c.lowest_bit-leaf.ensures.there in (
       c.take_node.ensures.own,
       leaf_taken (fixed_in g.A.Action.meaning c.args.self.now) c.args.hand.now c.args.leaves c.is_plain.ensures wants c.loop-rest.rest c.without_bit-rest.result c.lowest_bit-leaf.result first c.loop-rest.hand c.loop-rest.invariant.1 c.take_node.new.hand c.take_node.ensures.view,

@@ -1,4 +1,5 @@
 use Rattle.std.proofs.Common.{◌∙◌, ◌+◌, ◌==◌, ℕ, if◌then◌else◌, suc, ap, sym, length, refl}
+use Rattle.core_steps.specs.declared.sizes.TheConstants.{NODE_HOLDERS}
 use Rattle.core_steps.specs.Steps.{view_after_claim}
 use Rattle.ruled_words.specs.Passes.{PassView, fixed_in}
 use Rattle.ruled_words.specs.Hands.{keeping}
@@ -21,7 +22,7 @@ step_resolved-found-requires-clause-index g c κs within =
 pub step_resolved-found-requires-clause-left : goal.step_resolved-found-requires-clause-left
 step_resolved-found-requires-clause-left g c κs within found =
     first_left (fixed_in g.A.Action.meaning c.args.self.now) c.args.hand.now c.args.effect.now c.args.node c.is_plain.ensures c.requires.at c.requires.next found
-    ∙ ap (λ (w : ℕ). if found == 0 then w else found) (ap (λ (q : PassView). suc (q.number + 256)) (sym c.hand.view_is) ∙ sym c.writing_word-new.ensures)
+    ∙ ap (λ (w : ℕ). if found == 0 then w else found) (ap (λ (q : PassView). suc (q.number + NODE_HOLDERS)) (sym c.hand.view_is) ∙ sym c.writing_word-new.ensures)
 
 pub returns-clause-own : goal.returns-clause-own
 returns-clause-own g c = dropped_own (fixed_in g.A.Action.meaning c.args.self.now) (length c.args.self.now.rooms) c.args.self.now.table c.step_resolved-found.new.hand _ c.step_resolved-found.ensures.own c.is_plain-2.ensures.effect

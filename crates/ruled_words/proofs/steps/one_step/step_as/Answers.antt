@@ -1,4 +1,5 @@
 use Rattle.std.proofs.Common.{ℕ, ◌<◌, sym, subst}
+use Rattle.core_steps.specs.declared.sizes.TheConstants.{TABLE_WORDS}
 use Rattle.ruled_words.proofs.Allowed.{asked_as, allowed, allowed_store, allowed_from_0, allowed_add, allowed_clear, allowed_set}
 use Rattle.ruled_words.proofs.steps.one_step.step_as.Goals as goal
 
@@ -7,7 +8,7 @@ load-requires g c =
     let here = c.requires in
     let asked = asked_as _ _ _ _ _ _ _ c.in-Load.is (record { left = here.left; may = here.may }) in (
       here.table.0,
-      subst (λ (n : ℕ). c.args.word < n) (sym here.table.1) (subst (λ (n : ℕ). n < 639) (sym here.word) (here.sound_sight.in_table _ _ _ here.next)),
+      subst (λ (n : ℕ). c.args.word < n) (sym here.table.1) (subst (λ (n : ℕ). n < TABLE_WORDS) (sym here.word) (here.sound_sight.in_table _ _ _ here.next)),
       allowed _ _ _ _ _ _ _ _ _ _ _ (λ n. n) here.fixed here.passes here.word here.next (λ found small. sym (asked.left found)),
     )
 
@@ -16,7 +17,7 @@ store-requires g c =
     let here = c.requires in
     let asked = asked_as _ _ _ _ _ _ _ c.in-Store.is (record { left = here.left; may = here.may }) in (
       here.table.0,
-      subst (λ (n : ℕ). c.args.word < n) (sym here.table.1) (subst (λ (n : ℕ). n < 639) (sym here.word) (here.sound_sight.in_table _ _ _ here.next)),
+      subst (λ (n : ℕ). c.args.word < n) (sym here.table.1) (subst (λ (n : ℕ). n < TABLE_WORDS) (sym here.word) (here.sound_sight.in_table _ _ _ here.next)),
       allowed_store _ _ _ _ _ _ _ _ _ _ _ _ here.fixed here.passes here.word here.next asked.left asked.may,
     )
 
@@ -25,7 +26,7 @@ compare_exchange-requires g c =
     let here = c.requires in
     let asked = asked_as _ _ _ _ _ _ _ c.in-Take.is (record { left = here.left; may = here.may }) in (
       here.table.0,
-      subst (λ (n : ℕ). c.args.word < n) (sym here.table.1) (subst (λ (n : ℕ). n < 639) (sym here.word) (here.sound_sight.in_table _ _ _ here.next)),
+      subst (λ (n : ℕ). c.args.word < n) (sym here.table.1) (subst (λ (n : ℕ). n < TABLE_WORDS) (sym here.word) (here.sound_sight.in_table _ _ _ here.next)),
       allowed_from_0 _ _ _ _ _ _ _ _ _ _ _ _ here.fixed here.passes here.word here.next asked.left,
     )
 
@@ -34,7 +35,7 @@ fetch_add-requires g c =
     let here = c.requires in
     let asked = asked_as _ _ _ _ _ _ _ c.in-Count.is (record { left = here.left; may = here.may }) in (
       here.table.0,
-      subst (λ (n : ℕ). c.args.word < n) (sym here.table.1) (subst (λ (n : ℕ). n < 639) (sym here.word) (here.sound_sight.in_table _ _ _ here.next)),
+      subst (λ (n : ℕ). c.args.word < n) (sym here.table.1) (subst (λ (n : ℕ). n < TABLE_WORDS) (sym here.word) (here.sound_sight.in_table _ _ _ here.next)),
       allowed_add _ _ _ _ _ _ _ _ _ _ _ here.fixed here.passes here.word asked.may here.next asked.left,
     )
 
@@ -43,7 +44,7 @@ fetch_and-requires g c =
     let here = c.requires in
     let asked = asked_as _ _ _ _ _ _ _ c.in-Clear.is (record { left = here.left; may = here.may }) in (
       here.table.0,
-      subst (λ (n : ℕ). c.args.word < n) (sym here.table.1) (subst (λ (n : ℕ). n < 639) (sym here.word) (here.sound_sight.in_table _ _ _ here.next)),
+      subst (λ (n : ℕ). c.args.word < n) (sym here.table.1) (subst (λ (n : ℕ). n < TABLE_WORDS) (sym here.word) (here.sound_sight.in_table _ _ _ here.next)),
       allowed_clear _ _ _ _ _ _ _ _ _ _ _ c.in-Clear.slot here.fixed here.passes here.word here.next asked.may asked.left,
     )
 
@@ -52,6 +53,6 @@ fetch_or-requires g c =
     let here = c.requires in
     let asked = asked_as _ _ _ _ _ _ _ c.in-Set.is (record { left = here.left; may = here.may }) in (
       here.table.0,
-      subst (λ (n : ℕ). c.args.word < n) (sym here.table.1) (subst (λ (n : ℕ). n < 639) (sym here.word) (here.sound_sight.in_table _ _ _ here.next)),
+      subst (λ (n : ℕ). c.args.word < n) (sym here.table.1) (subst (λ (n : ℕ). n < TABLE_WORDS) (sym here.word) (here.sound_sight.in_table _ _ _ here.next)),
       allowed_set _ _ _ _ _ _ _ _ _ _ _ c.in-Set.slot here.fixed here.passes here.word here.next asked.may asked.left,
     )
