@@ -32,6 +32,7 @@ pub mod Reading
 pub mod Ranges
 pub mod Collecting
 pub mod Output
+pub mod Feeds
 pub mod OneTaker
 pub mod ToLines
 pub mod PacketLines

@@ -1,6 +1,7 @@
 ghost use Rattle.std.specs.Prelude.{◌≡◌, ◌+◌, ◌≤◌, [], ◌++◌, length, map, All, IfOk, OnOk, OnErr, IsOk};
 ghost use Rattle.out_text.specs.OutLines.{printed, text_of};
 ghost use Rattle.out_text.specs.FrameLines.{reply_lines, given_lines};
+ghost use Rattle.out_text.specs.Feeds.{AreWithin, from_line, in_order, with_froms};
 ghost use Rattle.out_text.specs.Printing.{line_of};
 ghost use Rattle.out_text.specs.Printers.{Prints, FailsIn};
 ghost use Rattle.out_text.specs.Ranges.{HasRoom};
@@ -11,6 +12,7 @@ use crate::printing::print_line;
 use client_ports::Received;
 use edge_io::{Failed, LineBuf, Sink};
 use entity_recs::Entry;
+use packet_read::Arrival;
 use snapshot_write::ReplyBuf;
 use std::alloc::{AllocError, Global};
 use std::marker::Model;
@@ -84,6 +86,34 @@ impl Printer {
         Ok(())
     }
 
+    /// Prints the line of each of these packets, in this order of their places.
+    fn print_froms<K: Sink>(
+        &mut self,
+        arrivals: &[Arrival],
+        order: &[u32],
+        sink: &mut K,
+    ) -> Result<(), Failed>
+        requires { AreWithin (length arrivals.now) order.now }
+        ensures ok { OnOk result (Prints K.taken K.faults K.room sink.old sink.new self.old self.new
+            (text_of (map from_line (in_order order.now arrivals.now)))) }
+        ensures err { OnErr result (FailsIn K.taken K.faults sink.old sink.new
+            (self.old ++ text_of (map from_line (in_order order.now arrivals.now)))) }
+        ensures sure { length self.old + length (text_of (map from_line (in_order order.now arrivals.now)))
+            ≤ K.room sink.old
+            → IsOk result }
+        ensures emptied { OnErr result (self.new ≡ []) }
+    {
+        for place in order {
+            let arrival = &arrivals[*place as usize];
+            let line = OutLine::From {
+                port: arrival.port,
+                bytes: arrival.bytes.as_slice(),
+            };
+            self.print(&line, sink)?;
+        }
+        Ok(())
+    }
+
     /// Prints the line of the reply to each of these slots.
     fn print_replies<K: Sink>(
         &mut self,
@@ -133,6 +163,42 @@ impl Printer {
         ensures emptied { OnErr result (self.new ≡ []) }
     {
         self.print(&OutLine::Frame(frame), sink)?;
+        self.print_each(received.refused(), sink)?;
+        self.print_each(received.joined(), sink)?;
+        self.print_each(journal, sink)?;
+        self.print_replies(slots, replies, sink)
+    }
+
+    /// Prints the lines of a frame as [`Printer::print_frame`] does, with those of its packets after the first, in this
+    /// order of their places.
+    pub fn print_fed_frame<K: Sink>(
+        &mut self,
+        frame: u32,
+        arrivals: &[Arrival],
+        order: &[u32],
+        received: &Received,
+        journal: &[Entry],
+        slots: &[u8],
+        replies: &[ReplyBuf],
+        sink: &mut K,
+    ) -> Result<(), Failed>
+        requires places { AreWithin (length arrivals.now) order.now }
+        requires one_each { length slots.now ≡ length replies.now }
+        requires some { All (λ bytes. 1 ≤ length bytes) replies.now }
+        ensures ok { OnOk result (Prints K.taken K.faults K.room sink.old sink.new self.old self.new
+            (text_of (with_froms (in_order order.now arrivals.now)
+            (given_lines frame received.now.lists journal.now slots.now replies.now)))) }
+        ensures err { OnErr result (FailsIn K.taken K.faults sink.old sink.new
+            (self.old ++ text_of (with_froms (in_order order.now arrivals.now)
+            (given_lines frame received.now.lists journal.now slots.now replies.now)))) }
+        ensures sure { length self.old
+            + length (text_of (with_froms (in_order order.now arrivals.now)
+            (given_lines frame received.now.lists journal.now slots.now replies.now))) ≤ K.room sink.old
+            → IsOk result }
+        ensures emptied { OnErr result (self.new ≡ []) }
+    {
+        self.print(&OutLine::Frame(frame), sink)?;
+        self.print_froms(arrivals, order, sink)?;
         self.print_each(received.refused(), sink)?;
         self.print_each(received.joined(), sink)?;
         self.print_each(journal, sink)?;
