@@ -140,12 +140,19 @@ left_of_replies slots replies i d e inside same =
     (λ k. text_of (reply_lines (drop-cons slots i d inside k) (drop-cons replies i e inside' k)))
     ∙ (λ k. printed (ToLine (get_or slots i d) (get_or replies i e)) ++ text_of (reply_lines (sym next k) (sym next' k)))
 
--- the text of a frame's line and four lists of lines
-pub text_of-frame : (first : OutLine) (a b c d : List OutLine) → text_of (first ∷ (a ++ b ++ c ++ d)) ≡ printed first ++ (text_of a ++ (text_of b ++ (text_of c ++ (text_of d ++ []))))
-text_of-frame first a b c d =
-    ap (λ l. printed first ++ l)
-    (flat_map-append printed (a ++ b ++ c) d
+-- the text of four lists of lines
+pub text_of-answers : (a b c d : List OutLine) → text_of (a ++ b ++ c ++ d) ≡ text_of a ++ (text_of b ++ (text_of c ++ (text_of d ++ [])))
+text_of-answers a b c d =
+    flat_map-append printed (a ++ b ++ c) d
     ∙ ap (λ l. l ++ text_of d) (flat_map-append printed (a ++ b) c ∙ ap (λ l. l ++ text_of c) (flat_map-append printed a b))
     ∙ append_assoc (text_of a ++ text_of b) (text_of c) (text_of d)
     ∙ append_assoc (text_of a) (text_of b) (text_of c ++ text_of d)
-    ∙ ap (λ l. text_of a ++ (text_of b ++ (text_of c ++ l))) (sym (append-nil (text_of d))))
+    ∙ ap (λ l. text_of a ++ (text_of b ++ (text_of c ++ l))) (sym (append-nil (text_of d)))
+
+-- of a line and a list of lines
+pub text_of-two : (first : OutLine) (a : List OutLine) → text_of (first ∷ a) ≡ printed first ++ (text_of a ++ [])
+text_of-two first a = ap (λ l. printed first ++ l) (sym (append-nil (text_of a)))
+
+-- and of a line and two lists
+pub text_of-three : (first : OutLine) (a b : List OutLine) → text_of (first ∷ (a ++ b)) ≡ printed first ++ (text_of a ++ (text_of b ++ []))
+text_of-three first a b = ap (λ l. printed first ++ l) (flat_map-append printed a b ∙ ap (λ l. text_of a ++ l) (sym (append-nil (text_of b))))

@@ -48,11 +48,15 @@ frame_lines frame lists journal records =
     FrameLine frame ∷ (map no_line lists.refused ++ map joined_line lists.joined ++ map did_line journal
     ++ to_lines frame records)
 
--- the same, from what the frame gave out: the live slots after its moves, and the bytes of the reply to each
+-- the lines after the first, from what the frame gave out: the live slots after its moves, and the bytes of the reply to
+-- each
+abbrev pub answer_lines : Lists → List Entry → List ℕ → List (List ℕ) → List OutLine
+answer_lines lists journal slots replies =
+    map no_line lists.refused ++ map joined_line lists.joined ++ map did_line journal ++ reply_lines slots replies
+
+-- all of them, from the same
 abbrev pub given_lines : ℕ → Lists → List Entry → List ℕ → List (List ℕ) → List OutLine
-given_lines frame lists journal slots replies =
-    FrameLine frame ∷ (map no_line lists.refused ++ map joined_line lists.joined ++ map did_line journal
-    ++ reply_lines slots replies)
+given_lines frame lists journal slots replies = FrameLine frame ∷ answer_lines lists journal slots replies
 
 -- the lines of a frame with this journal: the snapshots show the world after its moves, in which those that leave are
 -- still there

@@ -1,7 +1,7 @@
 ghost use Rattle.std.specs.Prelude.{◌≡◌, ◌+◌, ◌≤◌, [], ◌++◌, length, map, All, IfOk, OnOk, OnErr, IsOk};
 ghost use Rattle.out_text.specs.OutLines.{printed, text_of};
-ghost use Rattle.out_text.specs.FrameLines.{reply_lines, given_lines};
-ghost use Rattle.out_text.specs.Feeds.{AreWithin, from_line, in_order, with_froms};
+ghost use Rattle.out_text.specs.FrameLines.{reply_lines, answer_lines, given_lines};
+ghost use Rattle.out_text.specs.Feeds.{from_line, with_froms};
 ghost use Rattle.out_text.specs.Printing.{line_of};
 ghost use Rattle.out_text.specs.Printers.{Prints, FailsIn};
 ghost use Rattle.out_text.specs.Ranges.{HasRoom};
@@ -86,30 +86,20 @@ impl Printer {
         Ok(())
     }
 
-    /// Prints the line of each of these packets, in this order of their places.
-    fn print_froms<K: Sink>(
-        &mut self,
-        arrivals: &[Arrival],
-        order: &[u32],
-        sink: &mut K,
-    ) -> Result<(), Failed>
-        requires { AreWithin (length arrivals.now) order.now }
+    /// Prints the line of each of these packets.
+    fn print_froms<K: Sink>(&mut self, arrivals: &[Arrival], sink: &mut K) -> Result<(), Failed>
         ensures ok { OnOk result (Prints K.taken K.faults K.room sink.old sink.new self.old self.new
-            (text_of (map from_line (in_order order.now arrivals.now)))) }
-        ensures err { OnErr result (FailsIn K.taken K.faults sink.old sink.new
-            (self.old ++ text_of (map from_line (in_order order.now arrivals.now)))) }
-        ensures sure { length self.old + length (text_of (map from_line (in_order order.now arrivals.now)))
-            ≤ K.room sink.old
+            (text_of (map from_line arrivals.now))) }
+        ensures err { OnErr result
+            (FailsIn K.taken K.faults sink.old sink.new (self.old ++ text_of (map from_line arrivals.now))) }
+        ensures sure { length self.old + length (text_of (map from_line arrivals.now)) ≤ K.room sink.old
             → IsOk result }
         ensures emptied { OnErr result (self.new ≡ []) }
     {
-        for place in order {
-            let arrival = &arrivals[*place as usize];
-            let line = OutLine::From {
-                port: arrival.port,
-                bytes: arrival.bytes.as_slice(),
-            };
-            self.print(&line, sink)?;
+        for arrival in arrivals {
+            let bytes = arrival.bytes.as_slice();
+            let port = arrival.port;
+            self.print(&OutLine::From { port, bytes }, sink)?;
         }
         Ok(())
     }
@@ -138,6 +128,33 @@ impl Printer {
         Ok(())
     }
 
+    /// Prints the lines of a frame after the first, from what it gave out: its refusals, its joins, its journal, and the
+    /// reply to each live slot.
+    fn print_answers<K: Sink>(
+        &mut self,
+        received: &Received,
+        journal: &[Entry],
+        slots: &[u8],
+        replies: &[ReplyBuf],
+        sink: &mut K,
+    ) -> Result<(), Failed>
+        requires one_each { length slots.now ≡ length replies.now }
+        requires some { All (λ bytes. 1 ≤ length bytes) replies.now }
+        ensures ok { OnOk result (Prints K.taken K.faults K.room sink.old sink.new self.old self.new
+            (text_of (answer_lines received.now.lists journal.now slots.now replies.now))) }
+        ensures err { OnErr result (FailsIn K.taken K.faults sink.old sink.new
+            (self.old ++ text_of (answer_lines received.now.lists journal.now slots.now replies.now))) }
+        ensures sure { length self.old
+            + length (text_of (answer_lines received.now.lists journal.now slots.now replies.now)) ≤ K.room sink.old
+            → IsOk result }
+        ensures emptied { OnErr result (self.new ≡ []) }
+    {
+        self.print_each(received.refused(), sink)?;
+        self.print_each(received.joined(), sink)?;
+        self.print_each(journal, sink)?;
+        self.print_replies(slots, replies, sink)
+    }
+
     /// Prints the lines of a frame, from what it gave out: its refusals, its joins, its journal, and the reply to each
     /// live slot. There are as many replies as slots, and each has at least one byte. At a fault what wasn't written is
     /// gone.
@@ -163,45 +180,37 @@ impl Printer {
         ensures emptied { OnErr result (self.new ≡ []) }
     {
         self.print(&OutLine::Frame(frame), sink)?;
-        self.print_each(received.refused(), sink)?;
-        self.print_each(received.joined(), sink)?;
-        self.print_each(journal, sink)?;
-        self.print_replies(slots, replies, sink)
+        self.print_answers(received, journal, slots, replies, sink)
     }
 
     /// Prints the lines of a frame as [`Printer::print_frame`] does, with those of its packets after the first, in this
-    /// order of their places.
+    /// order.
     pub fn print_fed_frame<K: Sink>(
         &mut self,
         frame: u32,
         arrivals: &[Arrival],
-        order: &[u32],
         received: &Received,
         journal: &[Entry],
         slots: &[u8],
         replies: &[ReplyBuf],
         sink: &mut K,
     ) -> Result<(), Failed>
-        requires places { AreWithin (length arrivals.now) order.now }
         requires one_each { length slots.now ≡ length replies.now }
         requires some { All (λ bytes. 1 ≤ length bytes) replies.now }
         ensures ok { OnOk result (Prints K.taken K.faults K.room sink.old sink.new self.old self.new
-            (text_of (with_froms (in_order order.now arrivals.now)
+            (text_of (with_froms arrivals.now
             (given_lines frame received.now.lists journal.now slots.now replies.now)))) }
         ensures err { OnErr result (FailsIn K.taken K.faults sink.old sink.new
-            (self.old ++ text_of (with_froms (in_order order.now arrivals.now)
+            (self.old ++ text_of (with_froms arrivals.now
             (given_lines frame received.now.lists journal.now slots.now replies.now)))) }
         ensures sure { length self.old
-            + length (text_of (with_froms (in_order order.now arrivals.now)
+            + length (text_of (with_froms arrivals.now
             (given_lines frame received.now.lists journal.now slots.now replies.now))) ≤ K.room sink.old
             → IsOk result }
         ensures emptied { OnErr result (self.new ≡ []) }
     {
         self.print(&OutLine::Frame(frame), sink)?;
-        self.print_froms(arrivals, order, sink)?;
-        self.print_each(received.refused(), sink)?;
-        self.print_each(received.joined(), sink)?;
-        self.print_each(journal, sink)?;
-        self.print_replies(slots, replies, sink)
+        self.print_froms(arrivals, sink)?;
+        self.print_answers(received, journal, slots, replies, sink)
     }
 }
