@@ -1,5 +1,5 @@
 -- What holds of each line of a recording, by whether it is ignored, refused or taken.
-use Rattle.std.proofs.Common.{◌≡◌, ℕ, ◌<◌, Bool, true, false, List, [], Option, Some, None, Result, Ok, Err, IfSome, IfOk, cond, refl, sym, subst, arith, length}
+use Rattle.std.proofs.Common.{◌≡◌, ℕ, ◌<◌, ◌≤◌, Bool, true, false, List, [], Option, Some, None, Result, Ok, Err, IfSome, IfOk, cond, refl, sym, subst, arith, length}
 use Rattle.std.proofs.lemmas.Bool.Decides.{nat_tests}
 use Rattle.demo_lines.specs.declared.stage.Stage.TheVariants.{Refused}
 use Rattle.demo_lines.specs.declared.line.Line.{Line}
@@ -16,11 +16,13 @@ use Rattle.demo_lines.proofs.OnePass.{fault_said, fault-said, line-said}
 use Rattle.demo_lines.proofs.Taking.{IsTaken}
 use Rattle.demo_lines.proofs.MapGiven.{line_said-taken}
 use Rattle.out_text.proofs.Saying.{IsSound, line_in-sound}
+use Rattle.out_text.proofs.Fitting.{FitsLine, line_in-fits}
 
 -- a line that is taken: the recording isn't over, and the line is sound, allowed at its stage and without a fault there
 pub record IsTakenBy (r : Reading) (line : Line) : Type 0 where
   pub going : is_over r.stage ≡ false
   pub sound : IsSound line
+  pub fits : FitsLine line
   pub taken : IsTaken r.stage line
   pub faultless : place_fault r line ≡ None
 
@@ -31,25 +33,26 @@ module _ (P : Reading → Reading → List Event → Type 0) (ignored : (r : Rea
   abbrev Holds : Reading → Option LineFault → Option Line → Type 0
   Holds r fault line = P r (after_test r fault line) (events_of_test fault line)
 
-  by_place : (r : Reading) (line : Line) (fault : Option LineFault) → is_over r.stage ≡ false → IsSound line → IsTaken r.stage line → place_fault r line ≡ fault
+  by_place : (r : Reading) (line : Line) (fault : Option LineFault) → is_over r.stage ≡ false → IsSound line → FitsLine line → IsTaken r.stage line → place_fault r line ≡ fault
       → Holds r fault (Some line)
-  by_place r line None going sound is none = taken r line (record { going = going; sound = sound; taken = is; faultless = none })
-  by_place r line (Some why) going sound is some = refused r why
+  by_place r line None going sound fits is none = taken r line (record { going = going; sound = sound; fits = fits; taken = is; faultless = none })
+  by_place r line (Some why) going sound fits is some = refused r why
 
   by_saying : (r : Reading) (fault : Option LineFault) (line : Option Line) (said : Result Line LineFault) → is_over r.stage ≡ false → fault ≡ fault_said r said
-      → ((l : Line) → said ≡ Ok l → line ≡ Some l) → IfSome line IsSound → IfOk said (IsTaken r.stage) → Holds r fault line
-  by_saying r fault line (Ok l) going is says sound taken_there =
+      → ((l : Line) → said ≡ Ok l → line ≡ Some l) → IfSome line IsSound → IfSome line FitsLine → IfOk said (IsTaken r.stage) → Holds r fault line
+  by_saying r fault line (Ok l) going is says sound fits taken_there =
       let here = says l refl in
       let known : IsSound l = subst (λ o. IfSome o IsSound) here sound in
-      subst (λ f. Holds r f line) (sym is) (subst (Holds r (place_fault r l)) (sym here) (by_place r l (place_fault r l) going known taken_there refl))
-  by_saying r fault line (Err why) going is says sound taken_there = subst (λ f. Holds r f line) (sym is) (refused r why)
+      let short : FitsLine l = subst (λ o. IfSome o FitsLine) here fits in
+      subst (λ f. Holds r f line) (sym is) (subst (Holds r (place_fault r l)) (sym here) (by_place r l (place_fault r l) going known short taken_there refl))
+  by_saying r fault line (Err why) going is says sound fits taken_there = subst (λ f. Holds r f line) (sym is) (refused r why)
 
   by_length : (r : Reading) (raw : List ℕ) (long : Bool) → is_over r.stage ≡ false → is_long raw ≡ long → Holds r (fault_of r false raw) (line_in raw)
   by_length r raw true going is =
       let far : 512 < length raw = grind (arith, nat_tests) in
       subst (λ f. Holds r f (line_in raw)) (sym (fault_of-long r false raw far)) (refused r faults.Long)
   by_length r raw false going is =
-      by_saying r (fault_of r false raw) (line_in raw) (line_said r.stage raw) going (fault-said r raw is) (λ l h. line-said r.stage raw l h) (line_in-sound raw)
+      by_saying r (fault_of r false raw) (line_in raw) (line_said r.stage raw) going (fault-said r raw is) (λ l h. line-said r.stage raw l h) (line_in-sound raw) (line_in-fits raw (let short : length raw ≤ 512 = grind (arith, nat_tests) in short))
       (line_said-taken r.stage raw)
 
   by_stage : (r : Reading) (raw : List ℕ) (over : Bool) → is_over r.stage ≡ over

@@ -9,6 +9,7 @@ pub mod ReadBack
 pub mod Reporting
 pub mod Growing
 pub mod Saying
+pub mod Fitting
 pub mod Digits
 pub mod EachLine
 pub mod Agreement
@@ -23,6 +24,8 @@ pub mod Ids
 pub mod HexTexts
 pub mod LinesRead
 pub mod SmallFrames
+pub mod FedReadBack
+pub mod FedRuns
 pub mod Lengths
 pub mod Bounded
 pub mod OneReply

@@ -69,7 +69,7 @@ reads_back place e is =
       fits = is_reportable-entry place e is;
     }
 
-each_reads_back : (place : ℕ) (es : List Entry) → AreReported place es → AllByRecursion (λ e. CanBeRead (did_of e)) es
+pub each_reads_back : (place : ℕ) (es : List Entry) → AreReported place es → AllByRecursion (λ e. CanBeRead (did_of e)) es
 each_reads_back place [] are = tt
 each_reads_back place (e ∷ es) are = (reads_back place e are.0, each_reads_back (place + 1) es are.1)
 
@@ -81,7 +81,7 @@ journal_from-reported place (e ∷ es) are =
     ap (λ n. record { place = n; slot = e.slot; seq = e.seq; reply = e.reply } ∷ journal_from (place + 1) (map did_of es)) (sym same)
     ∙ ap (λ js. e ∷ js) (journal_from-reported (place + 1) es are.1)
 
-all_from-reported : (js : List (List Entry)) → AreAllReported js → map (journal_from 0) (map (map did_of) js) ≡ js
+pub all_from-reported : (js : List (List Entry)) → AreAllReported js → map (journal_from 0) (map (map did_of) js) ≡ js
 all_from-reported [] are = refl
 all_from-reported (j ∷ js) are =
     ap (λ x. x ∷ map (journal_from 0) (map (map did_of) js)) (journal_from-reported 0 j are.0) ∙ ap (λ xs. j ∷ xs) (all_from-reported js are.1)

@@ -1,4 +1,4 @@
--- A recording's frames have at most 512 packets each, from ports of 16 bits.
+-- A recording's frames have at most 512 packets each, from ports of 16 bits and with at most 252 bytes.
 use Rattle.std.proofs.Common.{◌≡◌, ℕ, ◌<◌, ◌≤◌, Bool, true, false, cond, nat_le, All, List, [], ◌∷◌, ◌++◌, length, Option, Some, None, IfSome, option_map, refl, sym, subst, arith, length-append}
 use Rattle.std.specs.List.{AllByRecursion}
 use Rattle.std.proofs.lemmas.Bool.Decides.{nat_tests}
@@ -20,6 +20,7 @@ use Rattle.demo_lines.proofs.Machines.{run_of-append}
 use Rattle.demo_lines.proofs.Taking.{IsTaken}
 use Rattle.out_text.specs.Collecting.{Frames, collect, closing, no_frames, frames_of}
 use Rattle.out_text.proofs.Saying.{IsSound}
+use Rattle.out_text.proofs.Fitting.{IsShort, FitsLine}
 use Rattle.out_text.proofs.EachLine.{of_each_line}
 use Rattle.out_text.proofs.Growing.{GoesOnWith}
 use Rattle.out_text.proofs.Agreement.{NoneYet, OneOpen, AgreesAt, Agrees, agrees_line}
@@ -32,6 +33,7 @@ HasPort a = a.port < 65536
 pub record IsSmallFrame (arrivals : List Arrival) : Type 0 where
   pub few : length arrivals ≤ 512
   pub ports : All HasPort arrivals
+  pub short : All IsShort arrivals
 
 abbrev pub AreSmallFrames : List (List Arrival) → Type 0
 AreSmallFrames frames = AllByRecursion IsSmallFrame frames
@@ -50,7 +52,7 @@ closing_small None p = tt
 closing_small (Some arrivals) p = (p, tt)
 
 empty_is_small : IsSmallFrame []
-empty_is_small = record { few = omega arith; ports = All-nil HasPort }
+empty_is_small = record { few = omega arith; ports = All-nil HasPort; short = All-nil IsShort }
 
 small_next : (f : Frames) → AreSmall f → AreSmall (collect f events.Frame)
 small_next f p = record { closed = small_both f.closed (closing f.opened) p.closed (closing_small f.opened p.opened); opened = empty_is_small }
@@ -59,10 +61,14 @@ small_ended : (f : Frames) → AreSmall f → AreSmall (collect f events.End)
 small_ended f p = record { closed = small_both f.closed (closing f.opened) p.closed (closing_small f.opened p.opened); opened = tt }
 
 -- one packet more, where there are fewer than 512
-opened_with : (o : Option (List Arrival)) (a : Arrival) → IfSome o (λ arrivals. length arrivals < 512) → HasPort a → IfSome o IsSmallFrame
+opened_with : (o : Option (List Arrival)) (a : Arrival) → IfSome o (λ arrivals. length arrivals < 512) → HasPort a → IsShort a → IfSome o IsSmallFrame
     → IfSome (option_map (λ arrivals. arrivals ++ a ∷ []) o) IsSmallFrame
-opened_with None a below port small = tt
-opened_with (Some arrivals) a below port small = record { few = omega (arith, length-append arrivals (a ∷ []), below); ports = All-push HasPort arrivals a small.ports port }
+opened_with None a below port few small = tt
+opened_with (Some arrivals) a below port few small = record {
+  few = omega (arith, length-append arrivals (a ∷ []), below);
+  ports = All-push HasPort arrivals a small.ports port;
+  short = All-push IsShort arrivals a small.short few;
+}
 
 -- a packet that is taken without a fault is one of the 512
 arrival_below : (r : Reading) (a : Arrival) → place_fault r (lines.From a) ≡ None → r.arrivals < 512
@@ -72,34 +78,34 @@ arrival_below r a none = by (nat_le 512 r.arrivals) refl none
     by true is h = cc
     by false is h = grind (arith, nat_tests)
 
-small_arrived : (r : Reading) (f : Frames) (a : Arrival) → OneOpen r f → r.arrivals < 512 → HasPort a → AreSmall f → AreSmall (collect f (events.From a))
-small_arrived r f a one below port small =
+small_arrived : (r : Reading) (f : Frames) (a : Arrival) → OneOpen r f → r.arrivals < 512 → HasPort a → IsShort a → AreSmall f → AreSmall (collect f (events.From a))
+small_arrived r f a one below port few small =
     let fewer : length one.arrivals < 512 = omega (arith, one.count, below) in
     let P : Option (List Arrival) → Type 0 = λ o. IfSome o (λ arrivals. length arrivals < 512) in
-    record { closed = small.closed; opened = opened_with f.opened a (subst P (sym one.opened) fewer) port small.opened }
+    record { closed = small.closed; opened = opened_with f.opened a (subst P (sym one.opened) fewer) port few small.opened }
 
 -- after a line that is taken
-taken_small : (stage : Stage) (r : Reading) (line : Line) (f : Frames) → is_over stage ≡ false → IsTaken stage line → IsSound line → place_fault r line ≡ None → AgreesAt stage r f → AreSmall f
+taken_small : (stage : Stage) (r : Reading) (line : Line) (f : Frames) → is_over stage ≡ false → IsTaken stage line → IsSound line → FitsLine line → place_fault r line ≡ None → AgreesAt stage r f → AreSmall f
     → AreSmall (run_of collect f (event_of (Some line)))
-taken_small Start r (lines.OfMap line) f going is sound none agrees small = small
-taken_small Start r lines.Frame f going is sound none agrees small = cc
-taken_small Start r (lines.From a) f going is sound none agrees small = cc
-taken_small Start r lines.End f going is sound none agrees small = cc
-taken_small Map r (lines.OfMap line) f going is sound none agrees small = small
-taken_small Map r lines.Frame f going is sound none agrees small = small_next f small
-taken_small Map r (lines.From a) f going is sound none agrees small = cc
-taken_small Map r lines.End f going is sound none agrees small = small_ended f small
-taken_small Playing r (lines.OfMap line) f going is sound none agrees small = small
-taken_small Playing r lines.Frame f going is sound none agrees small = small_next f small
-taken_small Playing r (lines.From a) f going is sound none agrees small = small_arrived r f a agrees (arrival_below r a none) sound.port small
-taken_small Playing r lines.End f going is sound none agrees small = small_ended f small
-taken_small Ended r line f going is sound none agrees small = cc
-taken_small (Refused why) r line f going is sound none agrees small = cc
+taken_small Start r (lines.OfMap line) f going is sound fits none agrees small = small
+taken_small Start r lines.Frame f going is sound fits none agrees small = cc
+taken_small Start r (lines.From a) f going is sound fits none agrees small = cc
+taken_small Start r lines.End f going is sound fits none agrees small = cc
+taken_small Map r (lines.OfMap line) f going is sound fits none agrees small = small
+taken_small Map r lines.Frame f going is sound fits none agrees small = small_next f small
+taken_small Map r (lines.From a) f going is sound fits none agrees small = cc
+taken_small Map r lines.End f going is sound fits none agrees small = small_ended f small
+taken_small Playing r (lines.OfMap line) f going is sound fits none agrees small = small
+taken_small Playing r lines.Frame f going is sound fits none agrees small = small_next f small
+taken_small Playing r (lines.From a) f going is sound fits none agrees small = small_arrived r f a agrees (arrival_below r a none) sound.port fits small
+taken_small Playing r lines.End f going is sound fits none agrees small = small_ended f small
+taken_small Ended r line f going is sound fits none agrees small = cc
+taken_small (Refused why) r line f going is sound fits none agrees small = cc
 
 small_line : (r : Reading) (raw : List ℕ) (f : Frames) → Agrees r f → AreSmall f → AreSmall (run_of collect f (events_of_line r raw))
 small_line =
     of_each_line (λ r s es. (f : Frames) → Agrees r f → AreSmall f → AreSmall (run_of collect f es)) (λ r f agrees small. small) (λ r why f agrees small. small)
-    (λ r line is f agrees small. taken_small r.stage r line f is.going is.taken is.sound is.faultless agrees small)
+    (λ r line is f agrees small. taken_small r.stage r line f is.going is.taken is.sound is.fits is.faultless agrees small)
 
 small_lines : (r : Reading) (ls : List (List ℕ)) (f : Frames) → Agrees r f → AreSmall f → AreSmall (run_of collect f (events_of r ls))
 small_lines r [] f agrees small = small
