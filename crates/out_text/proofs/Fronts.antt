@@ -48,10 +48,10 @@ first_are_run workers arena k frames js run = record {
   order = λ one. in_order-take arena 0 (opening arena) k frames js (run.order one);
 }
 
-right_in : (m : Option MapView) (arena : MapView) (frames : List (List Arrival)) (js : List (List Entry)) → m ≡ Some arena → AreRight arena 0 (opening arena) frames js → AreRightIn m frames js
+pub right_in : (m : Option MapView) (arena : MapView) (frames : List (List Arrival)) (js : List (List Entry)) → m ≡ Some arena → AreRight arena 0 (opening arena) frames js → AreRightIn m frames js
 right_in m arena frames js is right = let P : Option MapView → Type 0 = λ n. AreRightIn n frames js in subst P (sym is) right
 
-in_order_in : (m : Option MapView) (arena : MapView) (frames : List (List Arrival)) (js : List (List Entry)) → m ≡ Some arena → AreInOrder arena 0 (opening arena) frames js → AreInOrderIn m frames js
+pub in_order_in : (m : Option MapView) (arena : MapView) (frames : List (List Arrival)) (js : List (List Entry)) → m ≡ Some arena → AreInOrder arena 0 (opening arena) frames js → AreInOrderIn m frames js
 in_order_in m arena frames js is order = let P : Option MapView → Type 0 = λ n. AreInOrderIn n frames js in subst P (sym is) order
 
 -- the last of journals with one more
@@ -82,13 +82,13 @@ no_front workers bytes = record {
     none_are_in_order (Some arena) = tt
 
 -- the frames but the last are the first of all
-but_last_go_on : (longer all : List (List Arrival)) (k : ℕ) → GoesOnWith longer all → GoesOnWith (take k longer) all
+pub but_last_go_on : (longer all : List (List Arrival)) (k : ℕ) → GoesOnWith longer all → GoesOnWith (take k longer) all
 but_last_go_on longer all k on = record {
   rest = drop k longer ++ on.rest;
   is = on.is ∙ ap (λ fs. fs ++ on.rest) (sym (take-append-drop k longer)) ∙ append_assoc (take k longer) (drop k longer) on.rest;
 }
 
-take-but_last : (closed : List (List Arrival)) (arrivals : List Arrival) → take (length (closed ++ arrivals ∷ []) - 1) (closed ++ arrivals ∷ []) ≡ closed
+pub take-but_last : (closed : List (List Arrival)) (arrivals : List Arrival) → take (length (closed ++ arrivals ∷ []) - 1) (closed ++ arrivals ∷ []) ≡ closed
 take-but_last closed arrivals =
     let one_less : length (closed ++ arrivals ∷ []) - 1 ≡ length closed = omega (arith, length-append closed (arrivals ∷ [])) in
     ap (λ k. take k (closed ++ arrivals ∷ [])) one_less ∙ take-append_seam closed (arrivals ∷ [])

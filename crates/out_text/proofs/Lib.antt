@@ -26,6 +26,7 @@ pub mod LinesRead
 pub mod SmallFrames
 pub mod FedReadBack
 pub mod FedRuns
+pub mod FedFronts
 pub mod Lengths
 pub mod Bounded
 pub mod OneReply
