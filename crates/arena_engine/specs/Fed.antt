@@ -9,9 +9,14 @@ use Rattle.out_text.specs.OneTaker.{HasOneTakerEach}
 use Rattle.arena_engine.specs.declared.report.Report.{Report}
 use Rattle.arena_engine.specs.Endings.{IsOrMemory}
 use Rattle.arena_engine.specs.Output.{Writes, ReadsToEnd, ReadsToRefusal}
+use Rattle.arena_engine.specs.FedGames.{Last}
 use Rattle.arena_engine.specs.FedOutput.{ReadsSomeFed, HasFedRoom}
 use Rattle.arena_engine.specs.Reports.{refusal_of, last_in}
 use Rattle.arena_engine.specs.Serving.{NothingFailed}
+
+-- the order of arrival and the journal of the last frame
+abbrev pub last_fed_in : Report → Last
+last_fed_in r = record { order = r.order; journal = last_in r }
 
 -- a recording from this source was played on these workers, in an order of arrival from client threads, and its output was
 -- written to this sink

@@ -43,6 +43,9 @@ pub mod Reports
 pub mod Serving
 pub mod Played
 pub mod FedOutput
+pub mod FedGames
+pub mod FedPlayEnds
+pub mod FedProgress
 pub mod Fed
 pub mod Planned
 pub mod MapReads
