@@ -26,7 +26,7 @@ use Rattle.arena_engine.specs.FedProgress.{IsLastOf}
 use Rattle.demo_lines.proofs.MapGiven.{after-whole, after-kept}
 use Rattle.out_text.proofs.Fronts.{AreRun}
 use Rattle.out_text.proofs.FedFronts.{fed_text_with, no_fed_front, no_fed_last, is_fed_front, is_fed_frames, fed_front_has_last}
-use Rattle.arena_engine.proofs.Continuing.{continues, continues_lines, cut_after_lines, map_of-whole, frames_of-all, goes_on_frames}
+use Rattle.arena_engine.proofs.Continuing.{IsCutAt, continues, continues_lines, cut_after_lines, map_of-whole, frames_of-all, goes_on_frames}
 use Rattle.arena_engine.proofs.Exits.{frames_of-none, lines_of-whole, going_before}
 
 -- ---- before the first event

@@ -6,6 +6,7 @@ pub mod Printed
 pub mod Continuing
 pub mod Taken
 pub mod Exits
+pub mod FedClosing
 pub mod FedExits
 pub mod Playing
 pub mod FedPlaying

@@ -1,17 +1,18 @@
 -- The game of a recording whose packets client threads send: what an event closes, and how the game goes on.
-use Rattle.std.specs.Prelude.{◌≡◌, ℕ, ◌<◌, ◌≤◌, List, [], ◌∷◌, ◌++◌, length, Option, Some, None, option_map, IfSome, ⊤}
+use Rattle.std.specs.Prelude.{◌≡◌, ℕ, ◌<◌, ◌≤◌, Bool, if◌then◌else◌, List, [], ◌∷◌, ◌++◌, length, Option, Some, None, option_map, IfSome, ⊤}
 use Rattle.entity_recs.specs.declared.effect.Entry.{Entry}
 use Rattle.arena_map.specs.Maps.{MapView}
 use Rattle.packet_read.specs.declared.arrival.Arrival.{Arrival}
 use Rattle.plain_server.specs.Frames.{received_in}
+use Rattle.frame_phases.specs.declared.frame_out.FrameOut.{FrameOut}
 use Rattle.frame_phases.specs.Servers.{ServerView}
 use Rattle.demo_lines.specs.declared.event.Event.{Event}
 use Rattle.demo_lines.specs.declared.event.Event.TheVariants.{Frame, From, End}
 use Rattle.out_text.specs.OutLines.{OutLine, EndLine}
-use Rattle.out_text.specs.FrameLines.{lines_with}
+use Rattle.out_text.specs.FrameLines.{given_lines, lines_with}
 use Rattle.out_text.specs.Feeds.{IsFeedOf, in_order, with_froms}
-use Rattle.playback.specs.Playbacks.{Course, new_course, RunsFrame}
-use Rattle.arena_engine.specs.Games.{newest}
+use Rattle.playback.specs.Playbacks.{Course, PlaybackView, new_course, RunsFrame}
+use Rattle.arena_engine.specs.Games.{newest, lines_if}
 
 -- the order of arrival and the journal of the last frame that was run, None before the first one
 pub record Last : Type 0 where
@@ -132,3 +133,42 @@ abbrev pub IsFedReady : FedView → Event → Type 0
 IsFedReady g Frame = MayCloseFed g
 IsFedReady g (From a) = ⊤
 IsFedReady g End = MayCloseFed g
+
+-- ---- how a frame's packets are handed to the playback
+
+-- the packets were handed over in this order, those of each port as they were sent
+pub record HandsPackets (arrivals : List Arrival) (old new : Course) (fed : List Arrival) (order : List ℕ) : Type 0 where
+  pub feed : IsFeedOf arrivals (in_order order arrivals)
+  pub few : length (in_order order arrivals) ≤ length arrivals
+  pub fed_is : fed ≡ in_order order arrivals
+  pub course : new ≡ record { server = old.server; opened = Some (in_order order arrivals) }
+
+-- those of the open frame were, if one is open
+abbrev pub HandsOver : Option (List Arrival) → Course → Course → List Arrival → Option (List ℕ) → Type 0
+HandsOver None old new fed None = new ≡ old
+HandsOver None old new fed (Some order) = ⊥
+HandsOver (Some arrivals) old new fed None = ⊥
+HandsOver (Some arrivals) old new fed (Some order) = HandsPackets arrivals old new fed order
+
+-- the packets of the frame that is open, if one is
+abbrev pub packets_if : Bool → List Arrival → Option (List Arrival)
+packets_if is_open arrivals = if is_open then Some arrivals else None
+
+-- the event closes the frame that is open
+abbrev pub IsClosing : Event → Type 0
+IsClosing Frame = ⊤
+IsClosing (From a) = ⊥
+IsClosing End = ⊤
+
+-- ---- what is printed
+
+-- the lines of what a frame gave out with this journal, if one was closed, whose packets arrived so
+abbrev pub fed_closed_lines : Option (List Entry) → List Arrival → FrameOut → List OutLine
+fed_closed_lines None fed out = []
+fed_closed_lines (Some journal) fed out =
+    with_froms fed (given_lines out.frame out.received.lists journal out.slots out.replies)
+
+-- what is to be printed after an event that closed a frame with this journal, if it closed one
+abbrev pub fed_due_lines : Bool → Option (List Entry) → List Arrival → PlaybackView → List OutLine
+fed_due_lines ends closed fed p =
+    fed_closed_lines closed fed p.out ++ lines_if ends (EndLine p.course.server.frames ∷ [])

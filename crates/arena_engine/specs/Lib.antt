@@ -44,6 +44,7 @@ pub mod Serving
 pub mod Played
 pub mod FedOutput
 pub mod FedGames
+pub mod FedEnds
 pub mod FedPlayEnds
 pub mod FedProgress
 pub mod Fed

@@ -1,3 +1,7 @@
+ghost use Rattle.arena_engine.specs.FedEnds.{last_of};
+ghost use Rattle.arena_engine.specs.FedPlayEnds.{FedPlaysTo};
+ghost use Rattle.arena_engine.specs.FedProgress.{MayFeedOn, FeedsOn};
+
 use crate::fed_game::FedGame;
 use crate::game::is_end;
 use crate::stop::Stop;
@@ -22,8 +26,15 @@ pub struct Fed {
 }
 
 impl Fed {
+    ghost use Rattle.std.specs.Prelude.{◌≡◌, Err};
+    ghost use Rattle.arena_engine.specs.FedGames.{no_last};
+    ghost use Rattle.arena_engine.specs.FedEnds.{last_of};
+
     /// It stopped before there was a game.
-    fn before_frames(stop: Stop) -> Fed {
+    fn before_frames(stop: Stop) -> Fed
+        ensures ended { result.ended ≡ Err stop }
+        ensures last { last_of result ≡ no_last }
+    {
         Fed {
             ended: Err(stop),
             last: None,
@@ -32,8 +43,11 @@ impl Fed {
     }
 
     /// It ended so, with this game.
-    fn with_game(game: FedGame, ended: Result<(), Stop>) -> Fed {
-        let (last, order) = game.into_last();
+    fn with_game(game: FedGame, ended: Result<(), Stop>) -> Fed
+        ensures ended { result.ended ≡ ended }
+        ensures last { last_of result ≡ game.last }
+    {
+        let (order, last) = game.into_last();
         Fed { ended, last, order }
     }
 }
@@ -46,7 +60,11 @@ fn feed_events<R: Threads + Wait + Sync, S: Source, K: Sink, G: Gate>(
     first: Event,
     source: &mut S,
     sink: &mut K,
-) -> Result<(), Stop> {
+) -> Result<(), Stop>
+    requires { MayFeedOn S.Source K.Sink host.now.workers source.old sink.old demo.old game.old first }
+    ensures { FeedsOn S.Source K.Sink host.now.workers source.old source.new sink.old sink.new demo.old game.old first
+        game.new.last result }
+{
     let mut event = first;
     'events: loop {
         let is_last = is_end(&event);
@@ -65,7 +83,10 @@ pub fn feed<R: Threads + Wait + Sync, S: Source, K: Sink, G: Gate>(
     host: &Host<R, G>,
     source: &mut S,
     sink: &mut K,
-) -> Fed {
+) -> Fed
+    ensures { FedPlaysTo S.Source K.Sink host.now.workers source.old source.new sink.old sink.new (last_of result)
+        result.ended }
+{
     let mut demo = match DemoReader::new(host.alloc) {
         Ok(demo) => demo,
         Err(error) => return Fed::before_frames(error.into()),

@@ -25,15 +25,13 @@ pub fn feed_recording<R: Threads + Wait + Sync, S: Source, K: Sink, G: Gate>(
 {
     let all = JournalList::new(host.alloc);
     let Fed { ended, last, order } = feed(host, source, sink);
-    let mut report = match ended {
-        Ok(()) => Report::of_status(0, last, all),
+    match ended {
+        Ok(()) => Report::of_status(0, last, all).with_order(order),
         Err(Stop::Refused { line, fault, rule }) => {
-            Report::of_refusal(line, fault, rule, last, all)
+            Report::of_refusal(line, fault, rule, last, all).with_order(order)
         }
-        Err(Stop::ReadFault) => Report::of_status(3, last, all),
-        Err(Stop::WriteFault) => Report::of_status(4, last, all),
-        Err(Stop::Memory) => Report::of_status(5, last, all),
-    };
-    report.order = order;
-    report
+        Err(Stop::ReadFault) => Report::of_status(3, last, all).with_order(order),
+        Err(Stop::WriteFault) => Report::of_status(4, last, all).with_order(order),
+        Err(Stop::Memory) => Report::of_status(5, last, all).with_order(order),
+    }
 }

@@ -102,4 +102,32 @@ impl Report {
             all,
         }
     }
+
+    /// The same report, with this order of arrival.
+    pub(crate) fn with_order(self, order: Option<PlaceList>) -> Report
+        ensures status { result.status ≡ self.status }
+        ensures place { (result.line ≡ self.line) × (result.fault ≡ self.fault) × (result.rule ≡ self.rule) }
+        ensures last { result.last ≡ self.last }
+        ensures order { result.order ≡ order }
+        ensures all { result.all ≡ self.all }
+    {
+        let Report {
+            status,
+            line,
+            fault,
+            rule,
+            last,
+            order: _order,
+            all,
+        } = self;
+        Report {
+            status,
+            line,
+            fault,
+            rule,
+            last,
+            order,
+            all,
+        }
+    }
 }

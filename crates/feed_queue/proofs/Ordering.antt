@@ -1,5 +1,5 @@
 -- What an order of arrival has, and what it keeps.
-use Rattle.std.proofs.Common.{◌≡◌, ℕ, zero, suc, ◌+◌, ◌%◌, ◌==◌, ◌<◌, ◌≤◌, Bool, true, false, cond, List, [], ◌∷◌, ◌++◌, length, sym, refl, ap, ◌∙◌, subst, append_assoc, length-append, true≢false, arith, slice_index, slice_get, Option, Some, None}
+use Rattle.std.proofs.Common.{◌≡◌, ℕ, zero, suc, ◌+◌, ◌%◌, ◌==◌, ◌<◌, ◌≤◌, Bool, true, false, cond, List, [], ◌∷◌, ◌++◌, length, sym, refl, ap, ◌∙◌, subst, append_assoc, length-append, true≢false, arith, slice_index, slice_get, Option, Some, None, take, get_or, nat_lt}
 use Rattle.std.specs.List.{filter, cons_option, range_with_len}
 use Rattle.std.proofs.lemmas.Option.{none-some, same_Some}
 use Rattle.std.specs.List.Sorted.{IsStrictlyIncreasing}
@@ -148,3 +148,67 @@ each_port_kept arrivals order port o =
     ∙ ap (λ (l : List ℕ). in_order l arrivals) (by_parity (ports_of arrivals) order (at_port arrivals port) (port % 2) (omega arith) (same_port (ports_of arrivals) port) o)
     ∙ sym (from_port arrivals port (range_with_len 0 (length (ports_of arrivals))))
     ∙ ap (filter (is_from port)) (own_order arrivals)
+
+-- ---- what a caller needs of an order to go through it
+
+-- a number of a list is found in it
+found_there : (k : ℕ) (xs : List ℕ) (i : ℕ) → i < length xs → slice_index xs i ≡ k → filter (λ j. j == k) xs ≡ [] → ⊥
+found_there k [] i lt is none = omega arith
+found_there k (x ∷ xs) zero lt is none = let yes : (x == k) ≡ true = grind (arith, nat_tests, is) in
+    let more : x ∷ filter (λ j. j == k) xs ≡ [] = sym (ap (λ (b : Bool). cond b (x ∷ filter (λ j. j == k) xs) (filter (λ j. j == k) xs)) yes) ∙ none in cc
+found_there k (x ∷ xs) (suc i) lt is none = found_there k xs i (omega arith) is (rest (x == k) none)
+  where
+    rest : (b : Bool) → cond b (x ∷ filter (λ j. j == k) xs) (filter (λ j. j == k) xs) ≡ [] → filter (λ j. j == k) xs ≡ []
+    rest true h = cc
+    rest false h = h
+
+not_within : (ports order : List ℕ) (i : ℕ) → IsOrder ports order → i < length order → length ports ≤ slice_index order i → ⊥
+not_within ports order i o lt le = found_there (slice_index order i) order i lt refl ((each_place_once ports order o).no_other (slice_index order i) le)
+
+-- each place of an order is that of a packet
+pub places_are_within : (ports order : List ℕ) (i : ℕ) → IsOrder ports order → i < length order → slice_index order i < length ports
+places_are_within ports order i o lt = by (nat_lt (slice_index order i) (length ports)) refl
+  where
+    by : (b : Bool) → nat_lt (slice_index order i) (length ports) ≡ b → slice_index order i < length ports
+    by true is = grind (arith, nat_tests, is)
+    by false is = let le : length ports ≤ slice_index order i = grind (arith, nat_tests, is) in absurd (not_within ports order i o lt le)
+
+-- there are no more packets in an order than there are packets
+short_order : (order : List ℕ) (arrivals : List Arrival) → length (in_order order arrivals) ≤ length order
+short_order [] arrivals = omega arith
+short_order (x ∷ xs) arrivals = by (slice_get arrivals x) (short_order xs arrivals)
+  where
+    by : (o : Option Arrival) → length (in_order xs arrivals) ≤ length xs → length (cons_option o (in_order xs arrivals)) ≤ suc (length xs)
+    by None rest = omega (arith, rest)
+    by (Some a) rest = omega (arith, rest)
+
+pub no_more_packets : (arrivals : List Arrival) (order : List ℕ) → IsOrder (ports_of arrivals) order → length (in_order order arrivals) ≤ length arrivals
+no_more_packets arrivals order o =
+    omega (arith, short_order order arrivals, (each_place_once (ports_of arrivals) order o).count, length-map arrivals (λ (a : Arrival). a.port))
+
+-- one place more in an order is one packet more
+in_order-append : (xs ys : List ℕ) (arrivals : List Arrival) → in_order (xs ++ ys) arrivals ≡ in_order xs arrivals ++ in_order ys arrivals
+in_order-append [] ys arrivals = refl
+in_order-append (x ∷ xs) ys arrivals = by (slice_get arrivals x) (in_order-append xs ys arrivals)
+  where
+    by : (o : Option Arrival) → in_order (xs ++ ys) arrivals ≡ in_order xs arrivals ++ in_order ys arrivals
+        → cons_option o (in_order (xs ++ ys) arrivals) ≡ cons_option o (in_order xs arrivals) ++ in_order ys arrivals
+    by None rest = rest
+    by (Some a) rest = ap (λ l. a ∷ l) rest
+
+get_there : (arrivals : List Arrival) (k : ℕ) (d : Arrival) → k < length arrivals → slice_get arrivals k ≡ Some (get_or arrivals k d)
+get_there [] k d lt = absurd (omega arith)
+get_there (x ∷ xs) zero d lt = refl
+get_there (x ∷ xs) (suc k) d lt = get_there xs k d (omega arith)
+
+take_one_more : (xs : List ℕ) (i : ℕ) → i < length xs → take (i + 1) xs ≡ take i xs ++ slice_index xs i ∷ []
+take_one_more [] i lt = absurd (omega arith)
+take_one_more (x ∷ xs) zero lt = refl
+take_one_more (x ∷ xs) (suc i) lt = let e : suc i + 1 ≡ suc (i + 1) = omega arith in ap (λ n. take n (x ∷ xs)) e ∙ ap (λ l. x ∷ l) (take_one_more xs i (omega arith))
+
+pub in_order-more : (order : List ℕ) (arrivals : List Arrival) (i : ℕ) (d : Arrival) → i < length order → slice_index order i < length arrivals
+    → in_order (take (i + 1) order) arrivals ≡ in_order (take i order) arrivals ++ get_or arrivals (slice_index order i) d ∷ []
+in_order-more order arrivals i d lt within =
+    ap (λ (l : List ℕ). in_order l arrivals) (take_one_more order i lt)
+    ∙ in_order-append (take i order) (slice_index order i ∷ []) arrivals
+    ∙ ap (λ (o : Option Arrival). in_order (take i order) arrivals ++ cons_option o []) (get_there arrivals (slice_index order i) d within)
