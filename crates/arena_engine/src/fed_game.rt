@@ -111,7 +111,7 @@ fn feed_open<R: Threads + Wait + Sync, G: Gate>(
     fed: &mut Vec<Arrival>,
     playback: &mut Playback,
 ) -> Result<Option<PlaceList>, AllocError>
-    requires few { length waiting.now ≤ 512 }
+    requires few { IfSome (packets_if is_open waiting.now) (λ arrivals. length arrivals ≤ 512) }
     requires opened { playback.old.course.opened ≡ games.none_handed (packets_if is_open waiting.now) }
     requires empty { fed.old.items ≡ [] }
     ensures { IfOk result

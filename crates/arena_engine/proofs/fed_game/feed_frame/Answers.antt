@@ -8,7 +8,7 @@ use Rattle.playback.specs.Playbacks.{Course}
 use Rattle.arena_engine.proofs.fed_game.feed_frame.Goals as goal
 
 pub hand_over-requires-clause-within : goal.hand_over-requires-clause-within
-hand_over-requires-clause-within g c =
+hand_over-requires-clause-within g c κs inside =
     let order = c.in_ok-order.order in
     let waiting = c.args.waiting.now in
     let P : List ℕ → Type 0 = λ l. (k : ℕ) → k < length l → slice_index l k < length waiting in
