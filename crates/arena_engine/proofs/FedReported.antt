@@ -1,12 +1,15 @@
 -- What a report says of a recording that was played whose packets client threads sent, by how that ended.
-use Rattle.std.proofs.Common.{◌≡◌, ℕ, true, false, List, [], Option, Some, None, IfSome, IsSomeAnd, IsSome, ◌≤◌, inl, inr, subst, arith}
+use Rattle.std.proofs.Common.{◌≡◌, ℕ, true, false, List, [], Option, Some, None, IfSome, IsSomeAnd, IsSome, ◌≤◌, inl, inr, subst, ◌∙◌, arith}
 use Rattle.edge_io.specs.declared.source.Source as sources
 use Rattle.edge_io.specs.declared.sink.Sink as sinks
 use Rattle.edge_io.specs.Counts.{HasRisen}
 use Rattle.entity_recs.specs.declared.effect.Entry.{Entry}
 use Rattle.demo_lines.specs.Bytes.{LineRefusal, fault}
 use Rattle.out_text.specs.Feeds.{HasLastFed, IsFedOutput, IsFedRefused}
+use Rattle.playback.specs.Playbacks.{entries_if}
 use Rattle.arena_engine.specs.declared.report.Report.{Report}
+use Rattle.arena_engine.specs.declared.feed.Fed.{Fed}
+use Rattle.arena_engine.specs.FedEnds.{last_of}
 use Rattle.arena_engine.specs.Endings.{Ends}
 use Rattle.arena_engine.specs.Output.{Writes}
 use Rattle.arena_engine.specs.FedOutput.{HasFedRoom}
@@ -16,6 +19,19 @@ use Rattle.arena_engine.specs.FedPlayEnds.{FedPlaysAll, FedStopsAtRefusal, FedSt
 use Rattle.arena_engine.specs.Reports.{refusal_of}
 use Rattle.arena_engine.proofs.Taken.{taken_in_all_fed, taken_in_some_fed, taken_before_refusal_fed}
 use Rattle.arena_engine.proofs.Reported.{first_of, second_of, uncounted_in, counted_in, ends_by}
+
+-- a report of the same order and journal has the same last frame
+pub last_same : (r : Report) (fed : Fed) → r.order ≡ fed.order → r.last ≡ fed.last → last_fed_in r ≡ last_of fed
+last_same r fed order_is journal_is = λ i. record { order = order_is i; journal = entries_if (journal_is i) }
+
+-- one of the same place says the same of the refused line
+pub refusal_same : (old new : Report) → (new.line ≡ old.line) × (new.fault ≡ old.fault) × (new.rule ≡ old.rule) → refusal_of new ≡ refusal_of old
+refusal_same old new same = λ i. record { line = same.0 i; fault = same.1 i; rule = same.2 i }
+
+-- and has no place where that one had none
+pub places_same : (old new : Report) → (new.line ≡ old.line) × (new.fault ≡ old.fault) × (new.rule ≡ old.rule) → (old.line ≡ 0) × (old.fault ≡ 0) × (old.rule ≡ 0)
+    → (new.line ≡ 0) × (new.fault ≡ 0) × (new.rule ≡ 0)
+places_same old new same none = (same.0 ∙ none.0, same.1 ∙ none.1, same.2 ∙ none.2)
 
 -- a recording that was refused isn't without a fault
 not_faultless : (workers : ℕ) (a t0 t1 : Option (List ℕ)) (last : Last) (why : LineRefusal) → IfSome a (λ bytes. Writes t0 t1 (HasLastFed (IsFedRefused workers bytes why) bytes last.order last.journal))
