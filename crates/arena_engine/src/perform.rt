@@ -6,6 +6,7 @@ ghost use Rattle.arena_engine.specs.Served.{IsServed};
 use crate::bots::plan_recording;
 use crate::checked::check_transcript;
 use crate::command::Command;
+use crate::feeding::feed_recording;
 use crate::made::{write_made, write_resent};
 use crate::matched::play_and_sum;
 use crate::recording::play_recording;
@@ -41,6 +42,15 @@ pub fn perform<R: Threads + Wait + Sync, S: Source, K: Sink, G: Gate>(
                 gate,
             };
             play_recording(&host, source, sink)
+        }
+        Some(Command::Feed { workers }) => {
+            let host = Host {
+                rt,
+                alloc,
+                workers,
+                gate,
+            };
+            feed_recording(&host, source, sink)
         }
         Some(
             Command::Make {
