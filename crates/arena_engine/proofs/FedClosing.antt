@@ -100,7 +100,7 @@ module _ (workers : ℕ) (old : FedView) (course : Course) (fed : List Arrival) 
   fed_plays Frame ends closing ends_is goes waiting_is holds =
       let c = seen goes.closes in
       let same : fed_due_lines ends journal fed new ≡ fed_closing_lines old.course.server old.waiting (combine order journal) =
-              ap (λ (b : Bool). fed_due_lines b journal fed new) ends_is ∙ append-nil (fed_closed_lines journal fed new.out) ∙ c.lines in
+      ap (λ (b : Bool). fed_due_lines b journal fed new) ends_is ∙ append-nil (fed_closed_lines journal fed new.out) ∙ c.lines in
       record {
         closed = combine order journal;
         advances = record {
@@ -117,8 +117,8 @@ module _ (workers : ℕ) (old : FedView) (course : Course) (fed : List Arrival) 
   fed_plays End ends closing ends_is goes waiting_is holds =
       let c = seen goes.closes in
       let same : fed_due_lines ends journal fed new ≡ fed_closing_lines old.course.server old.waiting (combine order journal) ++ EndLine view.course.server.frames ∷ [] =
-              ap (λ (b : Bool). fed_due_lines b journal fed new) ends_is ∙ ap (λ (ls : List OutLine). ls ++ EndLine new.course.server.frames ∷ []) c.lines
-              ∙ ap (λ (x : Course). fed_closing_lines old.course.server old.waiting (combine order journal) ++ EndLine x.server.frames ∷ []) (sym course_is) in
+      ap (λ (b : Bool). fed_due_lines b journal fed new) ends_is ∙ ap (λ (ls : List OutLine). ls ++ EndLine new.course.server.frames ∷ []) c.lines
+      ∙ ap (λ (x : Course). fed_closing_lines old.course.server old.waiting (combine order journal) ++ EndLine x.server.frames ∷ []) (sym course_is) in
       record {
         closed = combine order journal;
         advances = record {

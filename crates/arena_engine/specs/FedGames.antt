@@ -1,7 +1,9 @@
 -- The game of a recording whose packets client threads send: what an event closes, and how the game goes on.
 use Rattle.std.specs.Prelude.{◌≡◌, ℕ, ◌<◌, ◌≤◌, Bool, if◌then◌else◌, List, [], ◌∷◌, ◌++◌, length, Option, Some, None, option_map, IfSome, ⊤}
 use Rattle.entity_recs.specs.declared.effect.Entry.{Entry}
+use Rattle.arena_map.specs.declared.limits.TheConstants.{MOST_FRAMES}
 use Rattle.arena_map.specs.Maps.{MapView}
+use Rattle.packet_read.specs.declared.arrival.TheConstants.{MOST_ARRIVALS}
 use Rattle.packet_read.specs.declared.arrival.Arrival.{Arrival}
 use Rattle.plain_server.specs.Frames.{received_in}
 use Rattle.frame_phases.specs.declared.frame_out.FrameOut.{FrameOut}
@@ -124,8 +126,8 @@ pub record FedPlays (workers : ℕ) (old new : FedView) (e : Event) (P : List Ou
 
 -- a frame that is open may be closed: it has few packets, of which the playback has none yet, and there are few frames
 pub record MayCloseFed (g : FedView) : Type 0 where
-  pub few : IfSome g.waiting (λ arrivals. length arrivals ≤ 512)
-  pub frames : IfSome g.waiting (λ _. g.course.server.frames < 100000)
+  pub few : IfSome g.waiting (λ arrivals. length arrivals ≤ MOST_ARRIVALS)
+  pub frames : IfSome g.waiting (λ _. g.course.server.frames < MOST_FRAMES)
   pub opened : g.course.opened ≡ none_handed g.waiting
 
 -- this event may come

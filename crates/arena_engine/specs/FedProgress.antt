@@ -5,7 +5,9 @@ use Rattle.entity_recs.specs.declared.effect.Entry.{Entry}
 use Rattle.edge_io.specs.declared.source.Source as sources
 use Rattle.edge_io.specs.declared.sink.Sink as sinks
 use Rattle.edge_io.specs.Lines.{ahead, HasNotReadAhead}
+use Rattle.arena_map.specs.declared.limits.TheConstants.{MOST_FRAMES}
 use Rattle.arena_map.specs.Maps.{MapView, IsMap}
+use Rattle.packet_read.specs.declared.arrival.TheConstants.{MOST_ARRIVALS}
 use Rattle.packet_read.specs.declared.arrival.Arrival.{Arrival}
 use Rattle.demo_lines.specs.declared.event.Event.{Event}
 use Rattle.demo_lines.specs.declared.event.Event.TheVariants.{End}
@@ -32,11 +34,11 @@ pub record FedProgress (workers : ℕ) (arena : MapView) (reading : Reading) (be
   pub events : List Event
   pub reads : Reads start reading before later (events ++ event ∷ [])
   pub stage : reading.stage ≡ stage_after event
-  pub frames : reading.frames ≤ 100000
-  pub arrivals : reading.arrivals ≤ 512
+  pub frames : reading.frames ≤ MOST_FRAMES
+  pub arrivals : reading.arrivals ≤ MOST_ARRIVALS
   pub map : reading.map ≡ Some arena
   pub is_map : IsMap arena
-  pub few : IfSome (collected events).opened (λ arrivals. length arrivals ≤ 512)
+  pub few : IfSome (collected events).opened (λ arrivals. length arrivals ≤ MOST_ARRIVALS)
   pub feeds : List (List Arrival)
   pub fed : AreFeedsOf (collected events).closed feeds
   pub journals : List (List Entry)

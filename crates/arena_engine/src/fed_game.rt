@@ -1,4 +1,5 @@
 ghost use Rattle.std.specs.Prelude.{◌≡◌, ℕ, ◌<◌, ◌≤◌, Some, None, [], length, slice_index, All, IfOk, IfSome, OnOk};
+ghost use Rattle.packet_read.specs.declared.arrival.TheConstants.{MOST_ARRIVALS};
 ghost use Rattle.out_text.specs.Feeds.{in_order};
 ghost use Rattle.playback.specs.Playbacks.{entries_if};
 ghost use Rattle.arena_engine.specs.FedGames as games;
@@ -93,7 +94,7 @@ fn feed_frame<R: Threads + Wait + Sync, G: Gate>(
     fed: &mut Vec<Arrival>,
     playback: &mut Playback,
 ) -> Result<PlaceList, AllocError>
-    requires few { length waiting.now ≤ 512 }
+    requires few { length waiting.now ≤ MOST_ARRIVALS }
     requires opened { playback.old.course.opened ≡ Some [] }
     requires empty { fed.old.items ≡ [] }
     ensures { IfOk result (HandsPackets waiting.now playback.old.course playback.new.course fed.new.items) }
@@ -111,7 +112,7 @@ fn feed_open<R: Threads + Wait + Sync, G: Gate>(
     fed: &mut Vec<Arrival>,
     playback: &mut Playback,
 ) -> Result<Option<PlaceList>, AllocError>
-    requires few { IfSome (packets_if is_open waiting.now) (λ arrivals. length arrivals ≤ 512) }
+    requires few { IfSome (packets_if is_open waiting.now) (λ arrivals. length arrivals ≤ MOST_ARRIVALS) }
     requires opened { playback.old.course.opened ≡ games.none_handed (packets_if is_open waiting.now) }
     requires empty { fed.old.items ≡ [] }
     ensures { IfOk result

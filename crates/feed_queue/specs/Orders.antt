@@ -1,6 +1,7 @@
 -- The order in which the packets of a frame arrive from two feeders.
 use Rattle.std.specs.Prelude.{◌≡◌, ℕ, ◌%◌, ◌≤◌, ◌==◌, Bool, List, length, map, filter_map, slice_get, slice_index}
 use Rattle.std.specs.List.{filter, range_with_len}
+use Rattle.packet_read.specs.declared.arrival.TheConstants.{MOST_ARRIVALS}
 use Rattle.packet_read.specs.declared.arrival.Arrival.{Arrival}
 
 -- the ports of packets, in their order
@@ -19,7 +20,7 @@ places_below ports feeder n = filter (is_of ports feeder) (range_with_len 0 n)
 pub record Fit (ports : List ℕ) (capacity : ℕ) (arrivals : List Arrival) : Type 0 where
   pub ports_are : ports ≡ ports_of arrivals
   pub room : length ports ≤ capacity
-  pub few : length arrivals ≤ 512
+  pub few : length arrivals ≤ MOST_ARRIVALS
 
 -- the places of each feeder stand in this order as they rise, each once, and no other place does
 pub record IsOrder (ports order : List ℕ) : Type 0 where

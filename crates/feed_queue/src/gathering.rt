@@ -1,4 +1,5 @@
 ghost use Rattle.std.specs.Prelude.{◌≡◌, ◌≤◌, Some, [], length, IfOk};
+ghost use Rattle.packet_read.specs.declared.arrival.TheConstants.{MOST_ARRIVALS};
 ghost use Rattle.crossbeam_queue.specs.Passes.{view, IsPassOf, ruled_capacity};
 ghost use Rattle.feed_queue.specs.Hands.{hand, feeder_hand};
 ghost use Rattle.feed_queue.specs.Orders.{ports_of, places_below, Fit, IsOrder};
@@ -26,7 +27,7 @@ fn read_all<N: Ported, R: Wait>(
     requires fed { view pass ≡ hand (Some (places_below N.ports 0 (length N.ports)))
         (Some (places_below N.ports 1 (length N.ports))) (Some []) }
     requires count { count ≡ length N.ports }
-    requires few { count ≤ 512 }
+    requires few { count ≤ MOST_ARRIVALS }
     ensures { IsOrder N.ports result }
 {
     let mut order = PlaceList::new();
@@ -48,7 +49,7 @@ fn gather_as<N: Ported + Send + Sync, R: Threads + Wait + Sync, F: FeedGate>(
     gate: &F,
 ) -> Result<PlaceList, AllocError>
     requires ports { N.ports ≡ ports_of arrivals.now }
-    requires few { length arrivals.now ≤ 512 }
+    requires few { length arrivals.now ≤ MOST_ARRIVALS }
     ensures { IfOk result (IsOrder N.ports) }
 {
     let (queue, mut pass) = Line::<N>::ruled(alloc, arrivals.len().max(1))?;
@@ -87,7 +88,7 @@ pub fn gather<R: Threads + Wait + Sync, F: FeedGate>(
     arrivals: &[Arrival],
     gate: &F,
 ) -> Result<PlaceList, AllocError>
-    requires { length arrivals.now ≤ 512 }
+    requires { length arrivals.now ≤ MOST_ARRIVALS }
     ensures { IfOk result (IsOrder (ports_of arrivals.now)) }
 {
     gather_as::<Brand, R, F>(rt, alloc, arrivals, gate)
