@@ -1,14 +1,14 @@
-use Rattle.std.proofs.Common.{◌≡◌, ℕ, ◌≤◌, Bool, not, List, [], ◌++◌, length, Option, refl, ap, sym, ◌∙◌, subst, arith}
+use Rattle.std.proofs.Common.{◌≡◌, ℕ, ◌≤◌, not, List, [], ◌++◌, length, Option, refl, ap, ◌∙◌, subst, arith}
 use Rattle.std.proofs.lemmas.Result.{err_from_is_err_and}
 use Rattle.packet_read.specs.declared.arrival.Arrival.{Arrival}
 use Rattle.move_journal.specs.Logs.{JournalView}
 use Rattle.out_text.specs.OutLines.{OutLine, text_of}
 use Rattle.out_text.specs.Printers.{Prints, FailsIn}
 use Rattle.out_text.proofs.Buffering.{not_failed}
-use Rattle.playback.specs.Playbacks.{Course, entries_if}
+use Rattle.playback.specs.Playbacks.{entries_if}
 use Rattle.arena_engine.specs.Games.{newest}
-use Rattle.arena_engine.specs.FedGames.{FedView, MayCloseFed, FedPlays, HandsOver, newest_order, fed_due_lines, packets_if}
-use Rattle.arena_engine.proofs.FedClosing.{ready_after, fed_plays}
+use Rattle.arena_engine.specs.FedGames.{FedView, HandsOver, newest_order, fed_due_lines, packets_if}
+use Rattle.arena_engine.proofs.FedClosing.{fed_plays}
 use Rattle.arena_engine.proofs.fed_game.FedGame.close.Goals as goal
 
 pub returns-clause-next : goal.returns-clause-next
@@ -25,7 +25,7 @@ returns-clause-next g c =
     let journal_is = c.newest.ensures ∙ ap (λ (o : Option JournalView). newest journal (entries_if o)) c.take-2.ensures.value ∙ ap (λ (v : FedView). newest journal v.last.journal) c.self.view_is in
     let waiting_is = ap (λ (l : List Arrival). packets_if (not c.is_end-ends.result) l) c.clear-2.ensures.items in
     let prints = subst (λ (p : List ℕ). Prints g.K.Sink.taken g.K.Sink.faults g.K.Sink.room c.args.sink.now c.print_fed_event-printed.new.sink p [] (text_of (fed_due_lines c.is_end-ends.result journal fed c.take.new.self))) c.self.invariant
-            (subst (λ (l : List Arrival). Prints g.K.Sink.taken g.K.Sink.faults g.K.Sink.room c.args.sink.now c.print_fed_event-printed.new.sink old.printer [] (text_of (fed_due_lines c.is_end-ends.result journal l c.take.new.self))) c.as_slice-2.ensures.value c.in_ok-printed.ensures.ok) in
+    (subst (λ (l : List Arrival). Prints g.K.Sink.taken g.K.Sink.faults g.K.Sink.room c.args.sink.now c.print_fed_event-printed.new.sink old.printer [] (text_of (fed_due_lines c.is_end-ends.result journal l c.take.new.self))) c.as_slice-2.ensures.value c.in_ok-printed.ensures.ok) in
     (fed_plays w c.args.self.now course fed order c.take.new.self journal _ P c.requires.ready hands c.in_ok-closed.ensures.given refl order_is journal_is c.args.event c.is_end-ends.result c.requires.closing c.is_end-ends.ensures c.in_ok-closed.ensures.next waiting_is prints)
 
 pub returns-in_err-printed-clause-write_fault : goal.returns-in_err-printed-clause-write_fault
@@ -42,7 +42,7 @@ returns-in_err-printed-clause-write_fault g c =
     let journal_is = c.newest.ensures ∙ ap (λ (o : Option JournalView). newest journal (entries_if o)) c.take-2.ensures.value ∙ ap (λ (v : FedView). newest journal v.last.journal) c.self.view_is in
     let waiting_is = ap (λ (l : List Arrival). packets_if (not c.is_end-ends.result) l) c.clear-2.ensures.items in
     let fails = subst (λ (p : List ℕ). FailsIn g.K.Sink.taken g.K.Sink.faults c.args.sink.now c.print_fed_event-printed.new.sink (p ++ text_of (fed_due_lines c.is_end-ends.result journal fed c.take.new.self))) c.self.invariant
-            (subst (λ (l : List Arrival). FailsIn g.K.Sink.taken g.K.Sink.faults c.args.sink.now c.print_fed_event-printed.new.sink (old.printer ++ text_of (fed_due_lines c.is_end-ends.result journal l c.take.new.self))) c.as_slice-2.ensures.value c.in_err-printed.ensures.err) in
+    (subst (λ (l : List Arrival). FailsIn g.K.Sink.taken g.K.Sink.faults c.args.sink.now c.print_fed_event-printed.new.sink (old.printer ++ text_of (fed_due_lines c.is_end-ends.result journal l c.take.new.self))) c.as_slice-2.ensures.value c.in_err-printed.ensures.err) in
     let p = err_from_is_err_and c.from_residual-in_err-printed.result c.from_residual-in_err-printed.ensures.1 in
     rw (p.1, p.2)
     (fed_plays w c.args.self.now course fed order c.take.new.self journal _ P c.requires.ready hands c.in_ok-closed.ensures.given refl order_is journal_is c.args.event c.is_end-ends.result c.requires.closing c.is_end-ends.ensures c.in_ok-closed.ensures.next waiting_is fails)
@@ -62,7 +62,7 @@ returns-in_err-printed-clause-sure g c =
     let waiting_is = ap (λ (l : List Arrival). packets_if (not c.is_end-ends.result) l) c.clear-2.ensures.items in
     let none : length old.printer ≡ 0 = ap length c.self.invariant in
     let same : length (text_of (fed_due_lines c.is_end-ends.result journal c.as_slice-2.result.now c.take.new.self)) ≡ length (text_of (fed_due_lines c.is_end-ends.result journal fed c.take.new.self)) =
-            ap (λ (l : List Arrival). length (text_of (fed_due_lines c.is_end-ends.result journal l c.take.new.self))) c.as_slice-2.ensures.value in
+    ap (λ (l : List Arrival). length (text_of (fed_due_lines c.is_end-ends.result journal l c.take.new.self))) c.as_slice-2.ensures.value in
     let p = err_from_is_err_and c.from_residual-in_err-printed.result c.from_residual-in_err-printed.ensures.1 in
     rw (p.1, p.2)
     (fed_plays w c.args.self.now course fed order c.take.new.self journal _ P c.requires.ready hands c.in_ok-closed.ensures.given refl order_is journal_is c.args.event c.is_end-ends.result c.requires.closing c.is_end-ends.ensures c.in_ok-closed.ensures.next waiting_is
