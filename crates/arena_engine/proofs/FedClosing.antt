@@ -1,5 +1,5 @@
 -- A frame that an event closed whose packets client threads sent: what it gave out prints its lines.
-use Rattle.std.proofs.Common.{◌≡◌, ℕ, ◌<◌, ◌≤◌, Bool, true, false, not, List, [], ◌∷◌, ◌++◌, length, Option, Some, None, IfSome, refl, sym, ap, ◌∙◌, subst, append-nil, arith}
+use Rattle.std.proofs.Common.{◌≡◌, ℕ, ◌<◌, ◌≤◌, Bool, not, List, [], ◌∷◌, ◌++◌, length, Option, Some, None, IfSome, refl, sym, ap, ◌∙◌, subst, append-nil, arith}
 use Rattle.entity_recs.specs.declared.effect.Entry.{Entry}
 use Rattle.packet_read.specs.declared.arrival.Arrival.{Arrival}
 use Rattle.frame_phases.specs.declared.frame_out.FrameOut.{FrameOut}
@@ -7,10 +7,10 @@ use Rattle.frame_phases.specs.Servers.{ServerView}
 use Rattle.demo_lines.specs.declared.event.Event.{Event}
 use Rattle.demo_lines.specs.declared.event.Event.TheVariants.{Frame, From, End}
 use Rattle.out_text.specs.OutLines.{OutLine, EndLine}
-use Rattle.out_text.specs.Feeds.{IsFeedOf, in_order, with_froms}
+use Rattle.out_text.specs.Feeds.{in_order, with_froms}
 use Rattle.playback.specs.Playbacks.{Course, PlaybackView, IsGivenIf, Closes, GoesOn, MayClose, IsReady}
-use Rattle.arena_engine.specs.Games.{is_end, newest, lines_if}
-use Rattle.arena_engine.specs.FedGames.{Last, FedView, Closing, order_if, journal_if, ClosesFed, FedPlays, none_handed, newest_order, newest_last, fed_closing_lines, fed_event_lines, fed_closed_lines, fed_due_lines, MayCloseFed, HandsOver, packets_if, IsClosing}
+use Rattle.arena_engine.specs.Games.{is_end, newest}
+use Rattle.arena_engine.specs.FedGames.{FedView, Closing, order_if, journal_if, ClosesFed, FedPlays, none_handed, newest_order, newest_last, fed_closing_lines, fed_closed_lines, fed_due_lines, MayCloseFed, HandsOver, packets_if, IsClosing}
 use Rattle.arena_engine.proofs.Closing.{lines-are}
 
 -- ---- before the frame is run

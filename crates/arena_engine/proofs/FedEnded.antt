@@ -1,18 +1,14 @@
 -- How the playing of a recording whose packets client threads send ends, and how it goes on, seen from any start.
-use Rattle.std.proofs.Common.{◌≡◌, ℕ, ◌≤◌, true, false, List, [], ◌∷◌, length, Option, Some, None, Result, Ok, Err, ◌⊎◌, IfSome, refl, sym, ap, ◌∙◌, subst}
+use Rattle.std.proofs.Common.{◌≡◌, ℕ, ◌≤◌, true, false, List, [], length, Option, Some, Result, Ok, Err, refl, sym, ap, ◌∙◌, subst}
 use Rattle.edge_io.specs.declared.source.Source as sources
 use Rattle.edge_io.specs.declared.sink.Sink as sinks
 use Rattle.edge_io.specs.Counts.{HasRisen}
-use Rattle.edge_io.specs.Lines.{ahead, HasNotReadAhead}
-use Rattle.entity_recs.specs.declared.effect.Entry.{Entry}
+use Rattle.edge_io.specs.Lines.{ahead}
 use Rattle.arena_map.specs.Maps.{MapView, IsMap}
 use Rattle.demo_lines.specs.declared.event.Event.{Event}
-use Rattle.demo_lines.specs.declared.event.Event.TheVariants.{End}
 use Rattle.demo_lines.specs.declared.demo_stop.DemoStop.{DemoStop}
 use Rattle.demo_lines.specs.declared.demo_stop.DemoStop.TheVariants as demo_stop
-use Rattle.demo_lines.specs.Readings.{IsReading}
-use Rattle.demo_lines.specs.Reads.{DemoReaderView, fresh_reader, map_taken, IsOpen, Reads, ReadsFront, Refuses, TakesCutEnd, EndsAt, stage_after}
-use Rattle.demo_lines.specs.Reads as reads_of
+use Rattle.demo_lines.specs.Reads.{DemoReaderView, fresh_reader, map_taken, IsOpen}
 use Rattle.out_text.specs.OutLines.{text_of}
 use Rattle.out_text.specs.Printers.{Prints, FailsIn}
 use Rattle.arena_engine.specs.declared.stop.Stop.{Stop}

@@ -1,6 +1,5 @@
 -- How the playing of a recording ends whose packets client threads send, and what was written then.
-use Rattle.std.proofs.Common.{◌≡◌, ℕ, Bool, true, false, List, [], ◌∷◌, ◌++◌, length, Option, Some, None, IfSome, refl, sym, ap, ◌∙◌, subst, append_assoc, append-nil}
-use Rattle.std.specs.List.{AllByRecursion}
+use Rattle.std.proofs.Common.{◌≡◌, ℕ, true, List, [], ◌∷◌, ◌++◌, length, Option, Some, None, IfSome, refl, sym, ap, ◌∙◌, subst, append_assoc, append-nil}
 use Rattle.std.specs.Io.KnownBytes.{Appends, Consumes}
 use Rattle.std.proofs.lemmas.Grind.{flat_map-append}
 use Rattle.std.proofs.KnownBytes.{Appends-nil, Consumes-trans}
@@ -12,12 +11,12 @@ use Rattle.demo_lines.specs.declared.event.Event.{Event}
 use Rattle.demo_lines.specs.Recording.{next, events_of_line, after, events_of}
 use Rattle.edge_io.specs.Lines.{HasNoLineFeed}
 use Rattle.edge_io.specs.WholeLines.{unlines}
-use Rattle.demo_lines.specs.Bytes.{LineRefusal, lines_of, events}
+use Rattle.demo_lines.specs.Bytes.{LineRefusal, events}
 use Rattle.demo_lines.specs.Reads.{Reads, ReadsFront, EndsAt}
 use Rattle.demo_lines.proofs.Machines.{run_of-append, outputs_of-append}
 use Rattle.demo_lines.proofs.Joins.{whole_text}
 use Rattle.edge_io.proofs.Feeds.{each_of_both}
-use Rattle.out_text.specs.Collecting.{collected, frames_of}
+use Rattle.out_text.specs.Collecting.{collected}
 use Rattle.out_text.specs.Feeds.{AreFeedsOf, HasLastFed, IsFedFront, IsFedFrames, IsFedRefused, IsFedSome}
 use Rattle.arena_engine.specs.Output.{Writes}
 use Rattle.arena_engine.specs.FedOutput.{ReadsSomeFed}

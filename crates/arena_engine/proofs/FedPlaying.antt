@@ -7,40 +7,36 @@ use Rattle.edge_io.specs.Writes.{AppendsPart}
 use Rattle.entity_recs.specs.declared.effect.Entry.{Entry}
 use Rattle.arena_map.specs.Maps.{MapView, IsMap}
 use Rattle.packet_read.specs.declared.arrival.Arrival.{Arrival}
-use Rattle.client_ports.specs.States.{State}
 use Rattle.plain_server.specs.RecordsById.{opening}
-use Rattle.plain_server.specs.Frames.{received_in, state_played, journals_of}
+use Rattle.plain_server.specs.Frames.{state_played, journals_of}
 use Rattle.plain_server.proofs.Frames.{right_in_order, order_in_order}
 use Rattle.frame_phases.specs.Servers.{ServerView}
-use Rattle.demo_lines.specs.declared.stage.Stage.{Stage}
 use Rattle.demo_lines.specs.declared.stage.Stage.TheVariants.{Playing, Ended}
 use Rattle.demo_lines.specs.declared.event.Event.{Event}
 use Rattle.demo_lines.specs.declared.event.Event.TheVariants.{Frame, From, End}
 use Rattle.demo_lines.specs.Known.{Reading, start, is_map_whole, is_over}
-use Rattle.demo_lines.specs.Recording.{after}
-use Rattle.demo_lines.specs.Bytes.{fault, map_of}
+use Rattle.demo_lines.specs.Bytes.{fault}
 use Rattle.demo_lines.specs.Reads.{Reads, IsTextOf, TakesCutEnd, stage_after}
 use Rattle.demo_lines.proofs.Joins.{Reads-trans}
 use Rattle.demo_lines.proofs.MapGiven.{after-kept}
 use Rattle.demo_lines.proofs.Walks.{whole_after}
 use Rattle.out_text.specs.OutLines.{OutLine, EndLine, text_of}
-use Rattle.out_text.specs.FrameLines.{lines_with}
-use Rattle.out_text.specs.Collecting.{Frames, closing, collect, collected, no_frames, frames_of}
-use Rattle.out_text.specs.Output.{last_of, AreRightIn, AreInOrderIn}
-use Rattle.out_text.specs.Feeds.{AreFeedsOf, IsFeedOf, IsLastOrder, in_order, last_fed, last_ordered, with_froms, fed_lines, HasLastFed, IsFedOutput, IsFedCut, IsFedSome}
+use Rattle.out_text.specs.Collecting.{Frames, closing, collect, collected, frames_of}
+use Rattle.out_text.specs.Output.{last_of}
+use Rattle.out_text.specs.Feeds.{AreFeedsOf, IsLastOrder, in_order, last_fed, with_froms, fed_lines, HasLastFed, IsFedOutput, IsFedCut, IsFedSome}
 use Rattle.out_text.proofs.Growing.{GoesOnWith}
 use Rattle.out_text.proofs.Agreement.{Agrees}
 use Rattle.out_text.proofs.Runs.{length-right, right-append, in_order-append, text_of-append}
 use Rattle.out_text.proofs.Fronts.{AreRun, IsPlayed, none_are_run, last_of-push}
 use Rattle.out_text.proofs.FedRuns.{length-feeds, feeds-push, feeds-append, feeds-own, fed_lines-append, fed_lines-push}
 use Rattle.out_text.proofs.FedFronts.{fed_lines_of, fed_text_with, fed_whole, fed_front_has_last, fed_out_has_last, fed_output-is, fed_right, fed_in_turn, is_fed_front, is_fed_output, fed_frame_cut, fed_end_cut, fed_last_cut}
-use Rattle.arena_engine.specs.Games.{newest, is_end}
-use Rattle.arena_engine.specs.FedGames.{Last, no_last, FedView, new_fed_game, Closing, order_if, journal_if, RunsFed, ClosesFed, none_handed, FedAdvances, newest_order, newest_last, fed_closing_lines, fed_event_lines, MayCloseFed, IsFedReady}
+use Rattle.arena_engine.specs.Games.{is_end}
+use Rattle.arena_engine.specs.FedGames.{Last, FedView, new_fed_game, Closing, ClosesFed, none_handed, FedAdvances, newest_last, fed_closing_lines, fed_event_lines, MayCloseFed, IsFedReady}
 use Rattle.arena_engine.specs.Progress.{IsServerAt}
 use Rattle.arena_engine.specs.FedProgress.{IsLastOf, FedProgress}
 use Rattle.arena_engine.specs.Output.{Writes, ReadsToEnd}
 use Rattle.arena_engine.specs.FedOutput.{HasFedRoom}
-use Rattle.arena_engine.proofs.Continuing.{Continues, continues, map_of-whole, frames_of-all, goes_on_frames, goes_on_events}
+use Rattle.arena_engine.proofs.Continuing.{Continues, continues, map_of-whole, goes_on_frames, goes_on_events}
 use Rattle.arena_engine.proofs.Playing.{collected-push, one_more, fault-at_end, frames-at_end, few_after, agrees_from_start, room_before, stage_of, some_and, not_over}
 use Rattle.arena_engine.proofs.FedExits.{FedPlayed}
 

@@ -1,9 +1,7 @@
 -- What a report says of a recording that was played whose packets client threads sent, by how that ended.
-use Rattle.std.proofs.Common.{◌≡◌, ℕ, true, false, List, [], Option, Some, None, IfSome, IsSomeAnd, IsSome, ◌≤◌, inl, inr, subst, ◌∙◌, arith}
+use Rattle.std.proofs.Common.{◌≡◌, ℕ, true, false, List, [], Option, Some, None, IfSome, IsSomeAnd, IsSome, inl, inr, subst, ◌∙◌, arith}
 use Rattle.edge_io.specs.declared.source.Source as sources
 use Rattle.edge_io.specs.declared.sink.Sink as sinks
-use Rattle.edge_io.specs.Counts.{HasRisen}
-use Rattle.entity_recs.specs.declared.effect.Entry.{Entry}
 use Rattle.demo_lines.specs.Bytes.{LineRefusal, fault}
 use Rattle.out_text.specs.Feeds.{HasLastFed, IsFedOutput, IsFedRefused}
 use Rattle.playback.specs.Playbacks.{entries_if}

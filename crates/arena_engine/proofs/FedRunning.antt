@@ -1,31 +1,28 @@
 -- The loop that plays a recording whose packets client threads send, and its exits.
-use Rattle.std.proofs.Common.{◌≡◌, ℕ, ◌+◌, ◌≤◌, Bool, true, false, List, [], ◌∷◌, ◌++◌, length, Option, Some, None, IfSome, IsSomeAnd, ◌⊎◌, inl, inr, refl, sym, ap, ◌∙◌, subst, arith, length-append, append-nil}
+use Rattle.std.proofs.Common.{◌≡◌, ℕ, ◌+◌, ◌≤◌, Bool, true, false, List, [], ◌∷◌, ◌++◌, length, Option, Some, None, IfSome, IsSomeAnd, ◌⊎◌, inl, inr, refl, sym, ap, ◌∙◌, subst, arith, length-append}
 use Rattle.std.specs.Io.KnownBytes.{Appends}
 use Rattle.std.proofs.KnownBytes.{prepend_known-nil}
 use Rattle.edge_io.specs.Counts.{HasRisen}
 use Rattle.edge_io.specs.Lines.{ahead, HasNotReadAhead}
 use Rattle.edge_io.proofs.ReadingAhead.{HasNotReadAhead-trans}
 use Rattle.edge_io.specs.Writes.{AppendsPart}
-use Rattle.entity_recs.specs.declared.effect.Entry.{Entry}
 use Rattle.arena_map.specs.Maps.{MapView, IsMap}
 use Rattle.demo_lines.specs.declared.event.Event.{Event}
-use Rattle.demo_lines.specs.declared.event.Event.TheVariants.{Frame, From, End}
+use Rattle.demo_lines.specs.declared.event.Event.TheVariants.{End}
 use Rattle.demo_lines.specs.declared.demo_stop.DemoStop.{DemoStop}
-use Rattle.demo_lines.specs.declared.demo_stop.DemoStop.TheVariants as demo_stop
 use Rattle.demo_lines.specs.Known.{Reading, start, is_over, is_map_whole, without_map, having_map}
 use Rattle.demo_lines.specs.Bytes.{LineRefusal}
 use Rattle.demo_lines.specs.Readings.{IsReading}
 use Rattle.demo_lines.specs.Reads.{DemoReaderView, fresh_reader, map_taken, IsOpen, Reads, ReadsFront, TakesCutEnd, Refuses, EndsAt, stage_after}
 use Rattle.demo_lines.specs.Reads as reads_of
-use Rattle.demo_lines.proofs.Walks.{whole_after}
 use Rattle.demo_lines.proofs.Given.{Reads-given, Reads-no_map, ReadsFront-given, EndsAt-given, Refuses-given}
 use Rattle.out_text.specs.OutLines.{text_of}
 use Rattle.out_text.specs.Feeds.{HasLastFed, IsFedOutput, IsFedRefused, IsFedCut, IsFedSome}
 use Rattle.arena_engine.specs.declared.stop.Stop.{Stop}
 use Rattle.arena_engine.specs.declared.stop.Stop.TheVariants.{Refused, ReadFault, WriteFault, Memory}
 use Rattle.arena_engine.specs.StopOf.{stop_of}
-use Rattle.arena_engine.specs.Stops.{OnRefused, OnReadFault, OnWriteFault, OnMemory, ButOnReadFault, ButOnWriteFault, IsGameStop}
-use Rattle.out_text.specs.Printers.{Prints, FailsIn}
+use Rattle.arena_engine.specs.Stops.{OnRefused, OnReadFault, OnWriteFault, OnMemory}
+use Rattle.out_text.specs.Printers.{FailsIn}
 use Rattle.arena_engine.specs.Games.{is_end}
 use Rattle.arena_engine.specs.FedGames.{Last, no_last, FedView, new_fed_game, Closing, FedAdvances, FedPlays, fed_event_lines, IsFedReady}
 use Rattle.arena_engine.specs.Progress.{ReadsAsNeeded}

@@ -1,18 +1,17 @@
 -- How far a recording was played whose packets client threads send: what holds between two of its events.
-use Rattle.std.specs.Prelude.{◌≡◌, ◌⊎◌, ℕ, ◌+◌, ◌≤◌, Bool, true, List, [], ◌∷◌, ◌++◌, length, Option, Some, None, Result, IfSome}
+use Rattle.std.specs.Prelude.{◌≡◌, ℕ, ◌+◌, ◌≤◌, List, [], ◌∷◌, ◌++◌, length, Option, Some, None, Result, IfSome}
 use Rattle.std.specs.Io.KnownBytes.{Appends}
 use Rattle.entity_recs.specs.declared.effect.Entry.{Entry}
 use Rattle.edge_io.specs.declared.source.Source as sources
 use Rattle.edge_io.specs.declared.sink.Sink as sinks
-use Rattle.edge_io.specs.Lines.{ahead, HasNotReadAhead}
+use Rattle.edge_io.specs.Lines.{ahead}
 use Rattle.arena_map.specs.declared.limits.TheConstants.{MOST_FRAMES}
 use Rattle.arena_map.specs.Maps.{MapView, IsMap}
 use Rattle.packet_read.specs.declared.arrival.TheConstants.{MOST_ARRIVALS}
 use Rattle.packet_read.specs.declared.arrival.Arrival.{Arrival}
 use Rattle.demo_lines.specs.declared.event.Event.{Event}
-use Rattle.demo_lines.specs.declared.event.Event.TheVariants.{End}
 use Rattle.demo_lines.specs.Known.{Reading, start, without_map}
-use Rattle.demo_lines.specs.Reads.{DemoReaderView, Reads, TakesCutEnd, stage_after}
+use Rattle.demo_lines.specs.Reads.{DemoReaderView, Reads, stage_after}
 use Rattle.out_text.specs.Collecting.{collected}
 use Rattle.out_text.specs.Output.{last_of}
 use Rattle.out_text.specs.Feeds.{AreFeedsOf, IsLastOrder}

@@ -1,10 +1,9 @@
-use Rattle.std.proofs.Common.{◌≡◌, ◌∙◌, sym, ap, subst, ℕ, ◌<◌, List, length, slice_index, Some, arith}
+use Rattle.std.proofs.Common.{◌∙◌, sym, ap, subst, ℕ, ◌<◌, List, length, slice_index, Some, arith}
 use Rattle.std.proofs.lemmas.List.{length-map}
 use Rattle.packet_read.specs.declared.arrival.Arrival.{Arrival}
 use Rattle.feed_queue.specs.Orders.{ports_of}
 use Rattle.feed_queue.proofs.Ordering.{places_are_within, no_more_packets, each_port_kept}
 use Rattle.out_text.specs.Feeds.{in_order}
-use Rattle.playback.specs.Playbacks.{Course}
 use Rattle.arena_engine.proofs.fed_game.feed_frame.Goals as goal
 
 pub hand_over-requires-clause-within : goal.hand_over-requires-clause-within

@@ -1,4 +1,4 @@
-use Rattle.std.proofs.Common.{◌≡◌, ◌+◌, ℕ, List, [], ◌∷◌, ◌++◌, Option, Some, option_map, take, get_or, slice_index, sym, ap, ◌∙◌}
+use Rattle.std.proofs.Common.{◌≡◌, ◌+◌, List, [], ◌∷◌, ◌++◌, Some, option_map, take, get_or, slice_index, sym, ap, ◌∙◌}
 use Rattle.packet_read.specs.declared.arrival.Arrival.{Arrival}
 use Rattle.out_text.specs.Feeds.{in_order}
 use Rattle.playback.specs.Playbacks.{Course}

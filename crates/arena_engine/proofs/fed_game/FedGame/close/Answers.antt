@@ -1,14 +1,14 @@
-use Rattle.std.proofs.Common.{◌≡◌, ℕ, ◌≤◌, Bool, not, List, [], ◌++◌, length, Option, refl, ap, sym, ◌∙◌, subst, arith}
+use Rattle.std.proofs.Common.{◌≡◌, ℕ, ◌≤◌, not, List, [], ◌++◌, length, Option, refl, ap, ◌∙◌, subst, arith}
 use Rattle.std.proofs.lemmas.Result.{err_from_is_err_and}
 use Rattle.packet_read.specs.declared.arrival.Arrival.{Arrival}
 use Rattle.move_journal.specs.Logs.{JournalView}
 use Rattle.out_text.specs.OutLines.{OutLine, text_of}
 use Rattle.out_text.specs.Printers.{Prints, FailsIn}
 use Rattle.out_text.proofs.Buffering.{not_failed}
-use Rattle.playback.specs.Playbacks.{Course, entries_if}
+use Rattle.playback.specs.Playbacks.{entries_if}
 use Rattle.arena_engine.specs.Games.{newest}
-use Rattle.arena_engine.specs.FedGames.{FedView, MayCloseFed, FedPlays, HandsOver, newest_order, fed_due_lines, packets_if}
-use Rattle.arena_engine.proofs.FedClosing.{ready_after, fed_plays}
+use Rattle.arena_engine.specs.FedGames.{FedView, HandsOver, newest_order, fed_due_lines, packets_if}
+use Rattle.arena_engine.proofs.FedClosing.{fed_plays}
 use Rattle.arena_engine.proofs.fed_game.FedGame.close.Goals as goal
 
 pub returns-clause-next : goal.returns-clause-next
