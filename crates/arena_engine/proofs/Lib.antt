@@ -13,3 +13,4 @@ pub mod Reported
 pub mod Summing
 pub mod MapRead
 pub mod WaysReported
+pub mod CheckedReported
