@@ -15,10 +15,11 @@ use Rattle.arena_engine.specs.Reports.{last_in}
 use Rattle.edge_io.specs.declared.source.Source as sources
 use Rattle.edge_io.specs.declared.sink.Sink as sinks
 use Rattle.arena_engine.specs.declared.command.Command.{Command}
-use Rattle.arena_engine.specs.declared.command.Command.TheVariants.{Play, Make, Resend, Match, Bots}
+use Rattle.arena_engine.specs.declared.command.Command.TheVariants.{Play, Make, Resend, Match, Bots, Check}
 use Rattle.arena_engine.specs.Making.{IsMade, IsResent, IsMatched}
 use Rattle.arena_engine.specs.Played.{IsPlayed}
 use Rattle.arena_engine.specs.Planned.{IsPlanned}
+use Rattle.arena_engine.specs.Checked.{IsChecked}
 use Rattle.arena_engine.specs.Served.{Unread, IsServed}
 
 pub taken_in_nothing : (a before after : Option (List ℕ)) → after ≡ before → IfSome a (λ bytes. Writes before after (λ text. HasOneTakerEach (map_of bytes) (dids text)))
@@ -56,3 +57,5 @@ module _ {S K : Type 0} (s : sources.Ghosts S) (k : sinks.Ghosts K) (source sour
       let is : Unread source source' (IsMatched k seed players frames workers sink sink' r) = search (rules, unread, same, five, place, last, all) in is
   not_served (Bots target) =
       let is : IsPlanned s k target source source' sink sink' r = search (rules, same, five, last, all) in is
+  not_served Check =
+      let is : IsChecked s k source source' sink sink' r = search (rules, same, five, last, all) in is

@@ -19,3 +19,4 @@ pub mod FedReported
 pub mod Summing
 pub mod MapRead
 pub mod WaysReported
+pub mod CheckedReported

@@ -7,7 +7,7 @@ use Rattle.entity_recs.specs.declared.effect.Entry.{Entry}
 use Rattle.demo_lines.specs.Bytes.{LineRefusal, fault}
 use Rattle.out_text.specs.Output.{HasLast, IsOutput, IsRefused}
 use Rattle.arena_engine.specs.declared.report.Report.{Report}
-use Rattle.arena_engine.specs.Endings.{Counts, Ends}
+use Rattle.arena_engine.specs.Endings.{EndsEarly, Counts, Ends}
 use Rattle.arena_engine.specs.Output.{Writes, HasRoom}
 use Rattle.arena_engine.specs.Played.{IsPlayed}
 use Rattle.arena_engine.specs.PlayEnds.{PlaysAll, StopsAtRefusal, StopsAtReadFault, StopsAtWriteFault, StopsAtMemory}
@@ -141,11 +141,12 @@ module _ {S K : Type 0} (s : sources.Ghosts S) (k : sinks.Ghosts K) (workers : �
   IsPlaceless = (r.line ≡ 0) × (r.fault ≡ 0) × (r.rule ≡ 0)
 
   -- a call whose words were those of a command ended
-  pub ends_by : r.status ≤ 5 → (r.status ≡ 2 → ⊥) → ((r.status ≡ 1 → ⊥) → IsPlaceless) → Counts 3 (s.faults source) (s.faults source') r.status → Counts 4 (k.faults sink) (k.faults sink') r.status
-      → (r.status ≡ 3 → s.ended source' ≡ s.ended source) → (s.never_fails source → r.status ≡ 3 → ⊥) → Ends s k source source' sink sink' r
-  ends_by known words place reads writes before_end sure = record {
-    known = inl known;
-    place = λ no. ((place no).0, (place no).2);
+  pub ends_of : r.status ≤ 5 → (r.status ≡ 2 → ⊥) → ((r.status ≡ 1 → ⊥) → IsPlaceless) → Counts 3 (s.faults source) (s.faults source') r.status → Counts 4 (k.faults sink) (k.faults sink') r.status
+      → (s.never_fails source → r.status ≡ 3 → ⊥) → Ends s k source source' sink sink' r
+  ends_of known words place reads writes sure = record {
+    known = omega (arith, known);
+    place = λ no right. (place no).0;
+    rule = λ no. (place no).2;
     fault = λ no found. (place no).1;
     no_way = λ is. absurd (omega (arith, is, known));
     untouched = λ is. absurd (words is);
@@ -153,35 +154,39 @@ module _ {S K : Type 0} (s : sources.Ghosts S) (k : sinks.Ghosts K) (workers : �
     no_journals = λ is. absurd (words is);
     reads = reads;
     writes = writes;
-    before_end = before_end;
     sure_reads = sure;
   }
 
-  pub all_ends : r.status ≡ 0 → IsPlaceless → PlaysAll s k workers source source' sink sink' (last_in r) → Ends s k source source' sink sink' r
+  -- and a read that failed was before the end
+  pub ends_by : r.status ≤ 5 → (r.status ≡ 2 → ⊥) → ((r.status ≡ 1 → ⊥) → IsPlaceless) → Counts 3 (s.faults source) (s.faults source') r.status → Counts 4 (k.faults sink) (k.faults sink') r.status
+      → (r.status ≡ 3 → s.ended source' ≡ s.ended source) → (s.never_fails source → r.status ≡ 3 → ⊥) → EndsEarly s k source source' sink sink' r
+  ends_by known words place reads writes before_end sure = record { ends = ends_of known words place reads writes sure; before_end = before_end }
+
+  pub all_ends : r.status ≡ 0 → IsPlaceless → PlaysAll s k workers source source' sink sink' (last_in r) → EndsEarly s k source source' sink sink' r
   all_ends status place played =
       ends_by (omega (arith, status)) (λ is. omega (arith, is, status)) (λ no. place)
       (uncounted_in 3 _ _ r.status played.reads (λ is. omega (arith, is, status))) (uncounted_in 4 _ _ r.status played.writes (λ is. omega (arith, is, status)))
       (λ is. absurd (omega (arith, is, status))) (λ sure is. omega (arith, is, status))
 
-  pub refusal_ends : r.status ≡ 1 → StopsAtRefusal s k workers source source' sink sink' (last_in r) (refusal_of r) → Ends s k source source' sink sink' r
+  pub refusal_ends : r.status ≡ 1 → StopsAtRefusal s k workers source source' sink sink' (last_in r) (refusal_of r) → EndsEarly s k source source' sink sink' r
   refusal_ends status stopped =
       ends_by (omega (arith, status)) (λ is. omega (arith, is, status)) (λ no. absurd (no status))
       (uncounted_in 3 _ _ r.status stopped.reads (λ is. omega (arith, is, status))) (uncounted_in 4 _ _ r.status stopped.writes (λ is. omega (arith, is, status)))
       (λ is. absurd (omega (arith, is, status))) (λ sure is. omega (arith, is, status))
 
-  pub read_fault_ends : r.status ≡ 3 → IsPlaceless → StopsAtReadFault s k workers source source' sink sink' (last_in r) → Ends s k source source' sink sink' r
+  pub read_fault_ends : r.status ≡ 3 → IsPlaceless → StopsAtReadFault s k workers source source' sink sink' (last_in r) → EndsEarly s k source source' sink sink' r
   read_fault_ends status place stopped =
       ends_by (omega (arith, status)) (λ is. omega (arith, is, status)) (λ no. place)
       (counted_in 3 _ _ r.status status stopped.later stopped.cause) (uncounted_in 4 _ _ r.status stopped.writes (λ is. omega (arith, is, status)))
       (λ is. stopped.same_end) (λ sure is. stopped.fails sure)
 
-  pub write_fault_ends : r.status ≡ 4 → IsPlaceless → StopsAtWriteFault s k workers source source' sink sink' (last_in r) → Ends s k source source' sink sink' r
+  pub write_fault_ends : r.status ≡ 4 → IsPlaceless → StopsAtWriteFault s k workers source source' sink sink' (last_in r) → EndsEarly s k source source' sink sink' r
   write_fault_ends status place stopped =
       ends_by (omega (arith, status)) (λ is. omega (arith, is, status)) (λ no. place)
       (uncounted_in 3 _ _ r.status stopped.reads (λ is. omega (arith, is, status))) (counted_in 4 _ _ r.status status stopped.later stopped.cause)
       (λ is. absurd (omega (arith, is, status))) (λ sure is. omega (arith, is, status))
 
-  pub memory_ends : r.status ≡ 5 → IsPlaceless → StopsAtMemory s k workers source source' sink sink' (last_in r) → Ends s k source source' sink sink' r
+  pub memory_ends : r.status ≡ 5 → IsPlaceless → StopsAtMemory s k workers source source' sink sink' (last_in r) → EndsEarly s k source source' sink sink' r
   memory_ends status place stopped =
       ends_by (omega (arith, status)) (λ is. omega (arith, is, status)) (λ no. place)
       (uncounted_in 3 _ _ r.status stopped.reads (λ is. omega (arith, is, status))) (uncounted_in 4 _ _ r.status stopped.writes (λ is. omega (arith, is, status)))

@@ -14,7 +14,7 @@ use Rattle.bot_ways.specs.Ways.{IsWay, IsCertificate}
 use Rattle.bot_ways.specs.PlanTexts.{plan_text}
 use Rattle.demo_lines.specs.Bytes.{LineRefusal, fault, map_of}
 use Rattle.arena_engine.specs.declared.report.Report.{Report}
-use Rattle.arena_engine.specs.Endings.{Ends}
+use Rattle.arena_engine.specs.Endings.{Ends, EndsEarly}
 use Rattle.arena_engine.specs.Reports.{refusal_of}
 use Rattle.arena_engine.specs.Planned.{IsPlanned, HasMap, ShowsWay, ShowsWays, HasRoomForWays}
 use Rattle.arena_engine.specs.MapReads.{GivesMap, GivesRefusal, GivesReadFault, WritesWay, WritesNothing, WritesLeast, WritesCut, WritesStop}
@@ -220,18 +220,18 @@ module _ {S K : Type 0} (s : sources.Ghosts S) (k : sinks.Ghosts K) (target : �
 module _ {S K : Type 0} (s : sources.Ghosts S) (k : sinks.Ghosts K) (source source' : S) (sink sink' : K) (r : Report) where
   -- nothing failed
   pub quiet_ends : r.status ≤ 5 → (r.status ≡ 2 → ⊥) → (r.status ≡ 3 → ⊥) → (r.status ≡ 4 → ⊥) → ((r.status ≡ 1 → ⊥) → (r.line ≡ 0) × (r.fault ≡ 0) × (r.rule ≡ 0))
-      → s.faults source' ≡ s.faults source → k.faults sink' ≡ k.faults sink → Ends s k source source' sink sink' r
+      → s.faults source' ≡ s.faults source → k.faults sink' ≡ k.faults sink → EndsEarly s k source source' sink sink' r
   quiet_ends known words no_read no_write place reads writes =
       ends_by s k 1 source source' sink sink' r known words place (uncounted_in 3 _ _ r.status reads no_read) (uncounted_in 4 _ _ r.status writes no_write)
       (λ is. absurd (no_read is)) (λ sure is. no_read is)
 
-  pub way_read_fault_ends : r.status ≡ 3 → (r.line ≡ 0) × (r.fault ≡ 0) × (r.rule ≡ 0) → sink' ≡ sink → GivesReadFault s source source' → Ends s k source source' sink sink' r
+  pub way_read_fault_ends : r.status ≡ 3 → (r.line ≡ 0) × (r.fault ≡ 0) × (r.rule ≡ 0) → sink' ≡ sink → GivesReadFault s source source' → EndsEarly s k source source' sink sink' r
   way_read_fault_ends status place same given =
       ends_by s k 1 source source' sink sink' r (omega (arith, status)) (λ is. omega (arith, is, status)) (λ no. place)
       (counted_in 3 _ _ r.status status given.later given.cause) (uncounted_in 4 _ _ r.status (ap k.faults same) (λ is. omega (arith, is, status)))
       (λ is. given.same_end) (λ sure is. given.fails sure)
 
-  pub way_cut_ends : (m : MapView) (target : ℕ) → r.status ≡ 4 → (r.line ≡ 0) × (r.fault ≡ 0) × (r.rule ≡ 0) → s.faults source' ≡ s.faults source → WritesCut k m target sink sink' → Ends s k source source' sink sink' r
+  pub way_cut_ends : (m : MapView) (target : ℕ) → r.status ≡ 4 → (r.line ≡ 0) × (r.fault ≡ 0) × (r.rule ≡ 0) → s.faults source' ≡ s.faults source → WritesCut k m target sink sink' → EndsEarly s k source source' sink sink' r
   way_cut_ends m target status place reads cuts =
       ends_by s k 1 source source' sink sink' r (omega (arith, status)) (λ is. omega (arith, is, status)) (λ no. place)
       (uncounted_in 3 _ _ r.status reads (λ is. omega (arith, is, status))) (counted_in 4 _ _ r.status status cuts.later cuts.cause)
@@ -239,17 +239,20 @@ module _ {S K : Type 0} (s : sources.Ghosts S) (k : sinks.Ghosts K) (source sour
 
   -- there is no way, for this reason
   pub no_way_ends : (fault : ℕ) → (fault ≡ 1) ⊎ (fault ≡ 2) → r.status ≡ 7 → (r.line ≡ 0) × (r.fault ≡ fault) × (r.rule ≡ 0) → s.faults source' ≡ s.faults source → k.faults sink' ≡ k.faults sink
-      → Ends s k source source' sink sink' r
+      → EndsEarly s k source source' sink sink' r
   no_way_ends fault which status place reads writes = record {
-    known = inr status;
-    place = λ no. (place.0, place.2);
-    fault = λ no found. absurd (found status);
-    no_way = λ is. subst (λ n. (n ≡ 1) ⊎ (n ≡ 2)) (sym place.1) which;
-    untouched = λ is. absurd (omega (arith, is, status));
-    no_frame = λ is. absurd (omega (arith, is, status));
-    no_journals = λ is. absurd (omega (arith, is, status));
-    reads = uncounted_in 3 _ _ r.status reads (λ is. omega (arith, is, status));
-    writes = uncounted_in 4 _ _ r.status writes (λ is. omega (arith, is, status));
+    ends = record {
+      known = omega (arith, status);
+      place = λ no right. place.0;
+      rule = λ no. place.2;
+      fault = λ no found. absurd (found status);
+      no_way = λ is. subst (λ n. (n ≡ 1) ⊎ (n ≡ 2)) (sym place.1) which;
+      untouched = λ is. absurd (omega (arith, is, status));
+      no_frame = λ is. absurd (omega (arith, is, status));
+      no_journals = λ is. absurd (omega (arith, is, status));
+      reads = uncounted_in 3 _ _ r.status reads (λ is. omega (arith, is, status));
+      writes = uncounted_in 4 _ _ r.status writes (λ is. omega (arith, is, status));
+      sure_reads = λ sure is. omega (arith, is, status);
+    };
     before_end = λ is. absurd (omega (arith, is, status));
-    sure_reads = λ sure is. omega (arith, is, status);
   }

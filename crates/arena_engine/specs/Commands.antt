@@ -1,11 +1,11 @@
 -- The commands that words ask for.
-use Rattle.std.specs.Prelude.{◌≡◌, ℕ, ◌<◌, ◌≤◌, ◌^◌, List, [], ◌∷◌, map, codes, decimal}
+use Rattle.std.specs.Prelude.{◌≡◌, ℕ, ◌<◌, ◌≤◌, ◌^◌, List, [], ◌∷◌, map, codes, decimal, ⊤}
 use Rattle.std.specs.Borrow.{Bor}
 use Rattle.move_phase.specs.Serving.{AreWorkers}
 use Rattle.demo_make.specs.GeneratedFrames.{IsInRange}
 use Rattle.match_play.specs.Matches.{IsMatch}
 use Rattle.arena_engine.specs.declared.command.Command.{Command}
-use Rattle.arena_engine.specs.declared.command.Command.TheVariants.{Play, Feed, Make, Resend, Match, Bots}
+use Rattle.arena_engine.specs.declared.command.Command.TheVariants.{Play, Feed, Make, Resend, Match, Bots, Check}
 
 -- the texts of words
 abbrev pub contents : List (Bor (List ℕ)) → List (List ℕ)
@@ -22,6 +22,7 @@ words_of (Resend seed players frames) =
 words_of (Match seed players frames workers) =
     codes "match" ∷ decimal seed ∷ decimal players ∷ decimal frames ∷ decimal workers ∷ []
 words_of (Bots target) = codes "bots" ∷ decimal target ∷ []
+words_of Check = codes "check" ∷ []
 
 -- a seed of 64 bits
 abbrev pub IsSeed : ℕ → Type 0
@@ -39,6 +40,7 @@ HasRanges (Make seed players frames) = IsSeed seed × IsInRange players frames
 HasRanges (Resend seed players frames) = IsSeed seed × IsInRange players frames
 HasRanges (Match seed players frames workers) = IsSeed seed × IsMatch players frames × AreWorkers workers
 HasRanges (Bots target) = IsTarget target
+HasRanges Check = ⊤
 
 -- these words ask for this command
 pub record Spells (words : List (List ℕ)) (c : Command) : Type 0 where

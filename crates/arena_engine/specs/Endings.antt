@@ -19,10 +19,12 @@ pub record Counts (of_fault before after status : ℕ) : Type 0 where
 -- a call with this source and this sink ended as the report says
 pub record Ends {S K : Type 0} (s : sources.Ghosts S) (k : sinks.Ghosts K) (source source' : S) (sink sink' : K) (r : Report)
     : Type 0 where
-  -- there are seven statuses: one more, 6, has no use yet
-  pub known : (r.status ≤ 5) ⊎ (r.status ≡ 7)
-  -- only a refusal names a line of a recording
-  pub place : (r.status ≡ 1 → ⊥) → (r.line ≡ 0) × (r.rule ≡ 0)
+  -- there are eight statuses
+  pub known : r.status ≤ 7
+  -- only a refusal names a line: of a recording, or of a transcript
+  pub place : (r.status ≡ 1 → ⊥) → (r.status ≡ 6 → ⊥) → r.line ≡ 0
+  -- and only that of a recording a rule of the map
+  pub rule : (r.status ≡ 1 → ⊥) → r.rule ≡ 0
   -- only a refusal and a way that isn't there have a fault
   pub fault : (r.status ≡ 1 → ⊥) → (r.status ≡ 7 → ⊥) → r.fault ≡ 0
   -- and that of a way is 1 or 2
@@ -37,7 +39,11 @@ pub record Ends {S K : Type 0} (s : sources.Ghosts S) (k : sinks.Ghosts K) (sour
   pub reads : Counts 3 (s.faults source) (s.faults source') r.status
   -- the sink failed exactly where the status says so
   pub writes : Counts 4 (k.faults sink) (k.faults sink') r.status
-  -- a read that failed was before the end
-  pub before_end : r.status ≡ 3 → s.ended source' ≡ s.ended source
   -- a source that never fails didn't
   pub sure_reads : s.never_fails source → r.status ≡ 3 → ⊥
+
+-- it ended so, and a read that failed was before the end
+pub record EndsEarly {S K : Type 0} (s : sources.Ghosts S) (k : sinks.Ghosts K) (source source' : S) (sink sink' : K)
+    (r : Report) : Type 0 where
+  pub ends : Ends s k source source' sink sink' r
+  pub before_end : r.status ≡ 3 → s.ended source' ≡ s.ended source

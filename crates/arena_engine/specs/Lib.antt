@@ -25,6 +25,7 @@ pub use Rattle.demo_make.specs.GeneratedMap
 pub use Rattle.demo_make.specs.GeneratedFrames
 pub use Rattle.demo_make.specs.ResentFrames
 pub use Rattle.match_play.specs.Matches
+pub use Rattle.transcript_check.specs.Verdicts
 pub use Rattle.bot_ways.specs.Walks as BotWalks
 pub use Rattle.bot_ways.specs.Ways as BotWays
 pub use Rattle.bot_ways.specs.PlanTexts
@@ -49,5 +50,6 @@ pub mod FedPlayEnds
 pub mod FedProgress
 pub mod Fed
 pub mod Planned
+pub mod Checked
 pub mod MapReads
 pub mod Served

@@ -3,12 +3,13 @@ use Rattle.std.specs.Prelude.{◌≡◌}
 use Rattle.edge_io.specs.declared.source.Source as sources
 use Rattle.edge_io.specs.declared.sink.Sink as sinks
 use Rattle.arena_engine.specs.declared.command.Command.{Command}
-use Rattle.arena_engine.specs.declared.command.Command.TheVariants.{Play, Feed, Make, Resend, Match, Bots}
+use Rattle.arena_engine.specs.declared.command.Command.TheVariants.{Play, Feed, Make, Resend, Match, Bots, Check}
 use Rattle.arena_engine.specs.declared.report.Report.{Report}
 use Rattle.arena_engine.specs.Making.{IsMade, IsResent, IsMatched}
 use Rattle.arena_engine.specs.Played.{IsPlayed}
 use Rattle.arena_engine.specs.Fed.{IsFed}
 use Rattle.arena_engine.specs.Planned.{IsPlanned}
+use Rattle.arena_engine.specs.Checked.{IsChecked}
 
 -- P, and nothing was read
 pub record Unread {S : Type 0} (source source' : S) (P : Type 0) : Type 0 where
@@ -25,3 +26,4 @@ IsServed s k source source' sink sink' r (Resend seed players frames) =
 IsServed s k source source' sink sink' r (Match seed players frames workers) =
     Unread source source' (IsMatched k seed players frames workers sink sink' r)
 IsServed s k source source' sink sink' r (Bots target) = IsPlanned s k target source source' sink sink' r
+IsServed s k source source' sink sink' r Check = IsChecked s k source source' sink sink' r

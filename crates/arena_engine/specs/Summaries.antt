@@ -1,4 +1,4 @@
--- The line that a match prints.
+-- The lines that a match and a right transcript print.
 use Rattle.std.specs.Prelude.{ℕ, List, [], ◌∷◌, ◌++◌, codes, decimal}
 use Rattle.match_play.specs.declared.totals.Totals.{Totals}
 
@@ -12,3 +12,7 @@ summary_text t =
     ++ codes " items " ++ decimal t.items
     ++ codes " scores " ++ decimal t.score
     ++ 10 ∷ []
+
+-- how many frames a right transcript has, and how many moves were received in them, with a line feed
+abbrev pub right_text : ℕ → ℕ → List ℕ
+right_text frames moves = codes "right frames " ++ decimal frames ++ codes " moves " ++ decimal moves ++ 10 ∷ []

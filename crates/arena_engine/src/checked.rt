@@ -1,38 +1,68 @@
+ghost use Rattle.std.specs.Prelude.{◌≡◌, ◌≤◌, ◌⊎◌, [], IfOk, IfErr};
+ghost use Rattle.std.specs.Io.KnownBytes.{Appends};
+ghost use Rattle.edge_io.specs.Writes.{AppendsPart};
+ghost use Rattle.transcript_check.specs.Verdicts.{Judges, StopsChecking};
+ghost use Rattle.arena_engine.specs.Checked.{IsChecked};
+ghost use Rattle.arena_engine.specs.Endings.{Counts, Ends};
+ghost use Rattle.arena_engine.specs.Making.{IsBare};
+ghost use Rattle.arena_engine.specs.Summaries.{right_text};
+
 use crate::report::Report;
+use crate::summary::push_right;
 use demo_lines::{DemoReader, DemoStop};
 use edge_io::{LineBuf, Sink, Source, write_whole};
-use itoa::Buffer;
 use move_journal::JournalList;
 use std::alloc::Global;
 use transcript_check::{Verdict, check};
 
 /// The most frames of a recording whose output is checked.
-const MOST_CHECKED_FRAMES: u32 = 2_000;
+pub const MOST_CHECKED_FRAMES: u32 = 2_000;
 
-/// Reads a recording and its output.
-fn verdict_of<S: Source>(alloc: Global, source: &mut S) -> Result<Verdict, DemoStop> {
+/// Reads a recording, and compares what follows it with its output.
+fn verdict_of<S: Source>(alloc: Global, source: &mut S) -> Result<Verdict, DemoStop>
+    ensures ok { IfOk result (Judges S.Source MOST_CHECKED_FRAMES source.old source.new) }
+    ensures err { IfErr result (StopsChecking S.Source MOST_CHECKED_FRAMES source.old source.new) }
+{
     let mut reader = DemoReader::limited(alloc, MOST_CHECKED_FRAMES)?;
     check(alloc, &mut reader, source)
 }
 
-/// Reads a recording and its output from the source, and writes what was found.
-pub fn check_transcript<S: Source, K: Sink>(alloc: Global, source: &mut S, sink: &mut K) -> Report {
+/// Writes the line of a right transcript, whose buffer is empty.
+fn write_right<K: Sink>(
+    alloc: Global,
+    frames: u32,
+    moves: u64,
+    line: &mut LineBuf,
+    sink: &mut K,
+) -> Report
+    requires { line.old ≡ [] }
+    ensures status { (result.status ≡ 0) ⊎ (result.status ≡ 4) }
+    ensures done { result.status ≡ 0 → Appends (K.taken sink.old) (K.taken sink.new) (right_text frames moves) }
+    ensures cut { result.status ≡ 4 → AppendsPart (K.taken sink.old) (K.taken sink.new) (right_text frames moves) }
+    ensures counts { Counts 4 (K.faults sink.old) (K.faults sink.new) result.status }
+    ensures sure { 300 ≤ K.room sink.old → result.status ≡ 4 → ⊥ }
+    ensures bare { IsBare result }
+    ensures all { result.all ≡ [] }
+{
+    push_right(frames, moves, line);
+    match write_whole(sink, line.as_slice()) {
+        Ok(()) => Report::unserved(alloc, 0),
+        Err(_) => Report::unserved(alloc, 4),
+    }
+}
+
+/// Reads a recording, compares what follows it with its output, and writes what was found, where that is right. The
+/// report has how that ended.
+pub fn check_transcript<S: Source, K: Sink>(alloc: Global, source: &mut S, sink: &mut K) -> Report
+    ensures checked { IsChecked S.Source K.Sink source.old source.new sink.old sink.new result }
+    ensures ends { Ends S.Source K.Sink source.old source.new sink.old sink.new result }
+    ensures served { result.status ≡ 2 → ⊥ }
+{
     let Ok(mut line) = LineBuf::new(alloc) else {
         return Report::unserved(alloc, 5);
     };
     match verdict_of(alloc, source) {
-        Ok(Verdict::Right { frames, moves }) => {
-            let mut buffer = Buffer::new();
-            line.extend(b"right frames ");
-            line.extend(buffer.format(frames).as_bytes());
-            line.extend(b" moves ");
-            line.extend(buffer.format(moves).as_bytes());
-            line.extend(b"\n");
-            match write_whole(sink, line.as_slice()) {
-                Ok(()) => Report::unserved(alloc, 0),
-                Err(_) => Report::unserved(alloc, 4),
-            }
-        }
+        Ok(Verdict::Right { frames, moves }) => write_right(alloc, frames, moves, &mut line, sink),
         Ok(Verdict::Wrong { line }) => Report::of_wrong_line(alloc, line),
         Err(DemoStop::Refused { line, fault, rule }) => {
             Report::of_refusal(line, fault, rule, None, JournalList::new(alloc))

@@ -1,4 +1,5 @@
-ghost use Rattle.std.specs.Prelude.{◌≡◌, ◌↔◌, IfSome, None};
+ghost use Rattle.std.specs.Prelude.{◌≡◌, ◌↔◌, IfSome, None, Some};
+ghost use Rattle.arena_engine.specs.declared.command.Command.TheVariants.{Check};
 ghost use Rattle.arena_engine.specs.Commands.{HasRanges};
 ghost use Rattle.arena_engine.specs.Endings.{Ends};
 ghost use Rattle.arena_engine.specs.Served.{IsServed};
@@ -31,6 +32,7 @@ pub fn perform<R: Threads + Wait + Sync, S: Source, K: Sink, G: Gate>(
     ensures served { IfSome command (IsServed S.Source K.Sink source.old source.new sink.old sink.new result) }
     ensures words { (result.status ≡ 2) ↔ (command ≡ None) }
     ensures ends { Ends S.Source K.Sink source.old source.new sink.old sink.new result }
+    ensures before_end { (command ≡ Some Check → ⊥) → result.status ≡ 3 → S.ended source.new ≡ S.ended source.old }
 {
     match command {
         None => Report::unserved(alloc, 2),

@@ -1,5 +1,5 @@
 ghost use Rattle.std.specs.Prelude.{◌≡◌};
-ghost use Rattle.arena_engine.specs.Endings.{Ends};
+ghost use Rattle.arena_engine.specs.Endings.{EndsEarly};
 ghost use Rattle.arena_engine.specs.Played.{IsPlayed};
 
 use crate::play::play;
@@ -21,7 +21,7 @@ pub fn play_recording<R: Threads + Wait + Sync, S: Source, K: Sink, G: Gate>(
     sink: &mut K,
 ) -> Report
     ensures played { IsPlayed S.Source K.Sink host.now.workers source.old source.new sink.old sink.new result }
-    ensures ends { Ends S.Source K.Sink source.old source.new sink.old sink.new result }
+    ensures ends { EndsEarly S.Source K.Sink source.old source.new sink.old sink.new result }
     ensures served { result.status ≡ 2 → ⊥ }
 {
     let all = JournalList::new(host.alloc);

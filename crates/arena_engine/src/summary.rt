@@ -1,6 +1,6 @@
 ghost use Rattle.std.specs.Prelude.{◌≡◌, ◌+◌, ◌≤◌, [], ◌++◌, length, decimal};
 ghost use Rattle.edge_io.specs.declared.line_buf.TheConstants.{ROOM};
-ghost use Rattle.arena_engine.specs.Summaries.{summary_text};
+ghost use Rattle.arena_engine.specs.Summaries.{right_text, summary_text};
 
 use edge_io::LineBuf;
 use itoa::Buffer;
@@ -28,5 +28,16 @@ pub fn push_summary(totals: &Totals, line: &mut LineBuf)
     push_count(line, " refused ", u64::from(totals.refused));
     push_count(line, " items ", u64::from(totals.items));
     push_count(line, " scores ", totals.score);
+    let _ = line.push(b'\n');
+}
+
+/// Puts the line of a right transcript, with its line feed, into an empty buffer.
+pub fn push_right(frames: u32, moves: u64, line: &mut LineBuf)
+    requires { line.old ≡ [] }
+    ensures text { line.new ≡ right_text frames moves }
+    ensures short { length line.new ≤ 300 }
+{
+    push_count(line, "right frames ", u64::from(frames));
+    push_count(line, " moves ", moves);
     let _ = line.push(b'\n');
 }

@@ -17,3 +17,4 @@ pub mod FrameTaken
 pub mod FramesRead
 pub mod Judged
 pub mod NextFrames
+pub mod OutputsChecked

@@ -10,3 +10,4 @@ pub mod Pieces
 pub mod Moves
 pub mod Verdicts
 pub mod Recorded
+pub mod Laws

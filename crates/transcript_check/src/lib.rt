@@ -2,10 +2,12 @@
 #![tactic(auto)]
 
 pub use checking::check;
+pub use laws::{outputs_are_right, right_ones_are_outputs, verdicts_exclude_each_other};
 pub use verdict::Verdict;
 
 mod checker;
 mod checking;
+mod laws;
 mod lines;
 mod mover;
 mod pending;

@@ -1,0 +1,49 @@
+-- A recording and what follows it were read, and that was compared with the output of the recording.
+use Rattle.std.specs.Prelude.{◌≡◌, ◌≤◌, ◌⊎◌, ℕ, List, [], Option, Some, None, IfSome, IsSome, IsSomeAnd}
+use Rattle.std.specs.Io.KnownBytes.{Appends}
+use Rattle.edge_io.specs.declared.source.Source as sources
+use Rattle.edge_io.specs.declared.sink.Sink as sinks
+use Rattle.edge_io.specs.Writes.{AppendsPart}
+use Rattle.demo_lines.specs.Bytes.{fault_within}
+use Rattle.transcript_check.specs.declared.verdict.Verdict.TheVariants.{Right, Wrong}
+use Rattle.transcript_check.specs.Verdicts.{IsJudged}
+use Rattle.arena_engine.specs.declared.checked.TheConstants.{MOST_CHECKED_FRAMES}
+use Rattle.arena_engine.specs.declared.report.Report.{Report}
+use Rattle.arena_engine.specs.Endings.{IsOrMemory}
+use Rattle.arena_engine.specs.Reports.{refusal_of}
+use Rattle.arena_engine.specs.Serving.{NothingFailed}
+use Rattle.arena_engine.specs.Summaries.{right_text}
+
+-- the bytes are a recording and a right transcript, with so many frames and moves, and P of the line that says so
+pub record FindsRight (left : Option (List ℕ)) (P : List ℕ → Type 0) : Type 0 where
+  pub frames : ℕ
+  pub moves : ℕ
+  pub judged : IfSome left (IsJudged MOST_CHECKED_FRAMES (Right frames moves))
+  pub line : P (right_text frames moves)
+
+-- what follows a recording from this source was compared with its output, and what was found was written to this sink
+pub record IsChecked {S K : Type 0} (s : sources.Ghosts S) (k : sinks.Ghosts K) (source source' : S) (sink sink' : K) (r : Report)
+    : Type 0 where
+  -- the transcript is right, and the line that says so was written
+  pub done : r.status ≡ 0 → FindsRight (s.left source) (Appends (k.taken sink) (k.taken sink'))
+  -- it is wrong, and the report has the first line of the first wrong piece
+  pub wrong : r.status ≡ 6 → IfSome (s.left source) (IsJudged MOST_CHECKED_FRAMES (Wrong r.line))
+  -- the recording has a fault, and the report has that line and its fault
+  pub refused : r.status ≡ 1
+      → IfSome (s.left source) (λ bytes. fault_within MOST_CHECKED_FRAMES bytes ≡ Some (refusal_of r))
+  -- the transcript is right, and a proper part of the line was written
+  pub cut : r.status ≡ 4 → FindsRight (s.left source) (AppendsPart (k.taken sink) (k.taken sink'))
+  -- nothing was written
+  pub nothing : (r.status ≡ 1) ⊎ (r.status ≡ 3) ⊎ (r.status ≡ 5) ⊎ (r.status ≡ 6) → sink' ≡ sink
+  -- no frame was run at the same time as another: no journal is reported
+  pub no_frame : r.last ≡ None
+  pub no_journals : r.all ≡ []
+  -- no write fails where there is room
+  pub sure_writes : 300 ≤ k.room sink → r.status ≡ 4 → ⊥
+  -- where nothing failed, what follows a recording without a fault was judged, unless memory was refused
+  pub complete : IsSomeAnd (s.left source) (λ bytes. fault_within MOST_CHECKED_FRAMES bytes ≡ None)
+      → NothingFailed (s.faults source) (s.faults source') (k.faults sink) (k.faults sink')
+      → IsOrMemory r.status 0 ⊎ (r.status ≡ 6)
+  -- where nothing failed, a recording with a fault was refused, unless memory was
+  pub complete_refusal : IsSomeAnd (s.left source) (λ bytes. IsSome (fault_within MOST_CHECKED_FRAMES bytes))
+      → NothingFailed (s.faults source) (s.faults source') (k.faults sink) (k.faults sink') → IsOrMemory r.status 1

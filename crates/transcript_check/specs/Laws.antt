@@ -1,0 +1,33 @@
+-- What holds of all transcripts.
+use Rattle.std.specs.Prelude.{◌≡◌, ℕ, List, Some, None}
+use Rattle.arena_map.specs.Maps.{MapView}
+use Rattle.packet_read.specs.declared.arrival.Arrival.{Arrival}
+use Rattle.demo_lines.specs.Bytes.{fault, map_of}
+use Rattle.out_text.specs.Collecting.{frames_of}
+use Rattle.out_text.specs.Output.{IsOutput}
+use Rattle.out_text.specs.Transcripts.{BeginsWith, IsTranscript}
+use Rattle.transcript_check.specs.Verdicts.{IsRight, IsWrongAt}
+
+-- the bytes begin with an output of a recording
+pub record BeginsWithOutput (workers : ℕ) (recording bytes : List ℕ) : Type 0 where
+  pub text : List ℕ
+  pub output : IsOutput workers recording text
+  pub begins : BeginsWith bytes text
+
+-- no transcript is both right and wrong
+pub VerdictsExclude : Type 0
+VerdictsExclude =
+    (map : MapView) (frames : List (List Arrival)) (rest : List ℕ) (count moves before line : ℕ)
+    → IsRight map frames rest count moves → IsWrongAt map frames rest before line → ⊥
+
+-- what begins with an output of a recording, whatever number of workers played it, is a right transcript of it
+pub OutputsAreRight : Type 0
+OutputsAreRight =
+    (workers : ℕ) (recording : List ℕ) (map : MapView) (rest : List ℕ) → map_of recording ≡ Some map
+    → BeginsWithOutput workers recording rest → IsTranscript map (frames_of recording) rest
+
+-- and a right transcript of a recording without a fault begins with an output that more than one worker may write
+pub RightOnesAreOutputs : Type 0
+RightOnesAreOutputs =
+    (workers : ℕ) (recording : List ℕ) (map : MapView) (rest : List ℕ) → (workers ≡ 1 → ⊥) → fault recording ≡ None
+    → map_of recording ≡ Some map → IsTranscript map (frames_of recording) rest → BeginsWithOutput workers recording rest

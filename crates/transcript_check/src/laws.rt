@@ -1,0 +1,18 @@
+ghost use Rattle.transcript_check.specs.Laws.{VerdictsExclude, OutputsAreRight, RightOnesAreOutputs};
+
+/// No transcript is both right and wrong: where a verdict was given, a right transcript was called right and a wrong one
+/// wrong.
+pub fn verdicts_exclude_each_other()
+    ensures { VerdictsExclude }
+{}
+
+/// What begins with an output of a recording, whatever number of workers played it, is a right transcript of it.
+pub fn outputs_are_right()
+    ensures { OutputsAreRight }
+{}
+
+/// A right transcript of a recording without a fault begins with an output of it, one that more than one worker may
+/// write.
+pub fn right_ones_are_outputs()
+    ensures { RightOnesAreOutputs }
+{}
