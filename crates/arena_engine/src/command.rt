@@ -142,8 +142,8 @@ fn bots(target: &str) -> Option<Command>
 }
 
 /// The command that the words ask for, and `None` exactly where they are those of no command: `play N`, `feed N`,
-/// `make SEED PLAYERS FRAMES`, `resend SEED PLAYERS FRAMES`, `match SEED PLAYERS FRAMES N`, `bots TARGET` or `check`, where each
-/// number is in its range, in decimal digits without a sign and without a leading zero, 0 itself excepted.
+/// `make SEED PLAYERS FRAMES`, `resend SEED PLAYERS FRAMES`, `match SEED PLAYERS FRAMES N`, `bots TARGET` or `check`,
+/// where each number is in its range, in decimal digits without a sign and without a leading zero, 0 itself excepted.
 pub fn command_of(words: &[&str]) -> Option<Command>
     ensures some { IfSome result (Spells (contents words.now)) }
     ensures only { (c : Command) → Spells (contents words.now) c → result ≡ Some c }
