@@ -1,5 +1,7 @@
 use arena_geo::Vec3;
-use core_steps::{COUNT_WORD, TABLE_WORDS, decode, encode, list_word, node_word, record_word, state_word};
+use core_steps::{
+    COUNT_WORD, TABLE_WORDS, decode, encode, list_word, node_word, record_word, state_word,
+};
 use entity_recs::{Kind, PLAYER_MAXS, PLAYER_MINS, Rec};
 use std::test::Fail;
 

@@ -125,7 +125,15 @@ impl<'a, A: Action> SharedWords<'a, A> {
         while rest != 0 {
             let leaf = lowest_bit(rest);
             rest = without_bit(rest, leaf);
-            self.take_node(rt, hand, refusals, own, wanted, FIRST_LEAF as u8 + leaf, new);
+            self.take_node(
+                rt,
+                hand,
+                refusals,
+                own,
+                wanted,
+                FIRST_LEAF as u8 + leaf,
+                new,
+            );
         }
     }
 }
