@@ -12,8 +12,7 @@ use Rattle.atomic_table.specs.Table.{State}
 use Rattle.entity_recs.specs.declared.effect.Effect.{Effect}
 use Rattle.entity_recs.specs.Commands.{Command}
 use Rattle.areanode.specs.Words.{has_bit}
-use Rattle.areanode.specs.Trees.{leaves_of, region_has_leaf}
-use Rattle.areanode.proofs.Words.{word_of-below}
+use Rattle.areanode.specs.Trees.{leaves_of}
 use Rattle.core_steps.specs.Cells.{Words}
 use Rattle.core_steps.specs.Views.{Fixed, Point, Idle, Owning, Taking, Checking, Entering, Entered, Loading, Leaving, Sensing, Resolving, Claiming, Storing, Releasing, Returning, Yielding, View, stage_of, is_busy, is_whole, is_writing, has, is_leaf, inner_nodes, leaf_nodes, leaf_word, region_in, holds, inner_held, leaves_held, record_read, write_nodes, effect_loaded}
 use Rattle.core_steps.specs.Steps.{first, first_yield, next_give, next_node_at}

@@ -36,6 +36,7 @@ pub mod Readings
 pub mod Closing
 pub mod Starting
 pub mod Worlds
+pub mod StartLinks
 pub mod Openings
 pub mod Loads
 pub mod TableCopies

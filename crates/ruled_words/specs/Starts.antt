@@ -1,5 +1,5 @@
 -- The world that a table begins with, as histories see it.
-use Rattle.std.specs.Prelude.{◌≡◌, ℕ, ◌<◌, true, List, [], if◌then◌else◌, length, slice_index, slice_index_or}
+use Rattle.std.specs.Prelude.{◌≡◌, ℕ, ◌<◌, true, List, [], if◌then◌else◌, length, slice_index}
 use Rattle.std.specs.Prelude.{Option, Some, None}
 use Rattle.core_steps.specs.declared.sizes.TheConstants.{TABLE_WORDS}
 use Rattle.entity_recs.specs.Actions.{Meaning}
@@ -43,11 +43,6 @@ home_of world slot =
     if is_player (fixed_of_world world) slot
     then Some (home (fixed_of_world world) ((world_at_start world).record_of slot))
     else None
-
--- the nodes of all slots
-pub record AreHomes (world : WorldView) (homes : List (Option ℕ)) : Type 0 where
-  pub count : length homes ≡ 64
-  pub each : (slot : ℕ) (d : Option ℕ) → slot < 64 → slice_index_or homes slot d ≡ home_of world slot
 
 -- the words of the table at the start, in the flat table
 abbrev pub start_word_at : WorldView → ℕ → ℕ

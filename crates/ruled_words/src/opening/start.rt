@@ -1,10 +1,13 @@
-ghost use Rattle.std.specs.Prelude.{◌≡◌, ℕ, Bool, ◌&&◌, ◌==◌, ◌<◌, if◌then◌else◌, Some, None, IfOk};
+ghost use Rattle.std.specs.Prelude.{◌≡◌, ℕ, ◌<◌, slice_index_or, Some, IfOk};
 ghost use Rattle.core_steps.specs.Stands.{start_words};
-ghost use Rattle.ruled_words.specs.Starts.{fixed_of_world, home_of, AreHomes, start_word_at};
+ghost use Rattle.ruled_words.specs.Starts.{fixed_of_world, home_of, start_word_at};
 ghost use Rattle.ruled_words.specs.Starts.{AreStartWords};
 
+use areanode::NODES;
 use core_seats::with_top_bit;
-use core_steps::{FIRST_LIST_WORD, FIRST_RECORD_WORD, FIRST_STATE_WORD, TABLE_WORDS, encode};
+use core_steps::{
+    FIRST_LIST_WORD, FIRST_RECORD_WORD, FIRST_STATE_WORD, TABLE_NODES, TABLE_WORDS, encode,
+};
 use entity_recs::abs_box;
 use std::alloc::{AllocError, Global};
 use world_tree::World;
@@ -15,7 +18,8 @@ const SLOTS: usize = 64;
 /// The node at which the player of this slot is linked, if it is live.
 fn home_at_start(world: &World, slot: u8) -> Option<u8>
     requires slot { slot < 64 }
-    ensures { result ≡ home_of world.now slot }
+    ensures home { result ≡ home_of world.now slot }
+    ensures in_range { (node : ℕ) → result ≡ Some node → node < NODES }
 {
     match world.get(u16::from(slot)) {
         Some(r) => Some(world.tree().node_of(&abs_box(&r))),
@@ -23,39 +27,19 @@ fn home_at_start(world: &World, slot: u8) -> Option<u8>
     }
 }
 
-/// The nodes of all slots.
-fn homes_at_start(world: &World) -> [Option<u8>; SLOTS]
-    ensures { AreHomes world.now result }
+/// The list words of the nodes at the start: bit p is set where player p is live and linked there.
+fn links_at_start(world: &World) -> [u64; TABLE_NODES]
+    ensures { (node : ℕ) → node < TABLE_NODES
+        → slice_index_or result node 0 ≡ (start_words (fixed_of_world world.now)).links node }
 {
-    let mut homes = [None; SLOTS];
-    for slot in 0..SLOTS {
-        homes[slot] = home_at_start(world, slot as u8);
+    let mut links = [0; TABLE_NODES];
+    for slot in 0..SLOTS as u8 {
+        if let Some(home) = home_at_start(world, slot) {
+            let node = usize::from(home);
+            links[node] = with_top_bit(links[node], slot, true);
+        }
     }
-    homes
-}
-
-/// Whether this is the player's node.
-fn is_home(home: Option<u8>, node: u8) -> bool
-    ensures { (b : Bool) (x : ℕ) → home ≡ (if b then Some x else None) → result ≡ b && (node == x) }
-{
-    match home {
-        Some(home) => node == home,
-        None => false,
-    }
-}
-
-/// The list word of a node at the start: bit p is set where player p is live and linked there.
-fn links_at_start(world: &World, homes: &[Option<u8>; SLOTS], node: u8) -> u64
-    requires homes { AreHomes world.now homes.now }
-    ensures { result ≡ (start_words (fixed_of_world world.now)).links node }
-{
-    // The clauses speak of the world alone: what the word says is known from the nodes of its players.
-    let _ = world;
-    let mut word = 0;
-    for slot in 0..SLOTS {
-        word = with_top_bit(word, slot as u8, is_home(homes[slot], node));
-    }
-    word
+    links
 }
 
 /// One of a player's five words at the start, 0 where the player isn't live.
@@ -81,8 +65,9 @@ fn state_at_start(world: &World, id: u16) -> u64
 }
 
 /// The word at an index of the table at the start.
-fn word_at_start(world: &World, homes: &[Option<u8>; SLOTS], index: usize) -> u64
-    requires homes { AreHomes world.now homes.now }
+fn word_at_start(world: &World, links: &[u64; TABLE_NODES], index: usize) -> u64
+    requires links { (node : ℕ) → node < TABLE_NODES
+        → slice_index_or links.now node 0 ≡ (start_words (fixed_of_world world.now)).links node }
     requires index { index < TABLE_WORDS }
     ensures { result ≡ start_word_at world.now index }
 {
@@ -92,7 +77,7 @@ fn word_at_start(world: &World, homes: &[Option<u8>; SLOTS], index: usize) -> u6
     if index < lists {
         0
     } else if index < records {
-        links_at_start(world, homes, (index - lists) as u8)
+        links[index - lists]
     } else if index < states {
         body_at_start(world, ((index - records) / 5) as u8, (index - records) % 5)
     } else {
@@ -104,10 +89,10 @@ fn word_at_start(world: &World, homes: &[Option<u8>; SLOTS], index: usize) -> u6
 pub(crate) fn words_at_start(alloc: Global, world: &World) -> Result<Vec<u64>, AllocError>
     ensures { IfOk result (λ v. AreStartWords world.now v.items) }
 {
-    let homes = homes_at_start(world);
+    let links = links_at_start(world);
     let mut words = Vec::with_capacity(alloc, TABLE_WORDS)?;
     for index in 0..TABLE_WORDS {
-        words.push(word_at_start(world, &homes, index))?;
+        words.push(word_at_start(world, &links, index))?;
     }
     Ok(words)
 }

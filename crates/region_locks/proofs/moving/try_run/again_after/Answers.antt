@@ -1,4 +1,4 @@
-use Rattle.std.proofs.Common.{◌≡◌, ◌≤◌, subst, arith}
+use Rattle.std.proofs.Common.{◌≤◌, arith}
 use Rattle.areanode.specs.declared.sizes.TheConstants.{FIRST_LEAF}
 use Rattle.region_locks.proofs.Running.{is_leaf_held}
 use Rattle.region_locks.proofs.moving.try_run.again_after.Goals as goal

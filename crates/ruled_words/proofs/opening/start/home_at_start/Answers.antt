@@ -10,14 +10,14 @@ use Rattle.ruled_words.proofs.opening.start.home_at_start.Goals as goal
 pub abs_box-requires : goal.abs_box-requires
 abs_box-requires c = (c.get.ensures.linked.entries c.from.result c.in-Some.r (sym c.get.ensures.record ∙ c.in-Some.is)).is_record
 
-pub returns-in-Some : goal.returns-in-Some
-returns-in-Some c =
+pub returns-in-Some-clause-home : goal.returns-in-Some-clause-home
+returns-in-Some-clause-home c =
     let w = c.args.world.now in
     let is = ap (record_of w) (sym c.from.ensures) ∙ sym c.get.ensures.record ∙ c.in-Some.is in
     let node = c.node_of.ensures.node ∙ ap (λ (t : TreeView). node_of t c.abs_box.result) c.tree.ensures.tree ∙ ap (λ (b : Bounds). node_of w.tree b) c.abs_box.ensures in
     ap (λ (n : ℕ). Some n) node ∙ home_some w c.args.slot c.in-Some.r c.get.ensures.linked (same_has (ids_of w.records) c.args.slot ∙ live_ids_have_records w c.get.ensures.linked c.args.slot) c.requires.slot is
 
-pub returns-in-None : goal.returns-in-None
-returns-in-None c =
+pub returns-in-None-clause-home : goal.returns-in-None-clause-home
+returns-in-None-clause-home c =
     let w = c.args.world.now in
     home_none w c.args.slot (same_has (ids_of w.records) c.args.slot ∙ live_ids_have_records w c.get.ensures.linked c.args.slot) (ap (record_of w) (sym c.from.ensures) ∙ sym c.get.ensures.record ∙ c.in-None.is)
