@@ -85,6 +85,7 @@ impl Report {
         ensures line { result.line ≡ line }
         ensures place { (result.fault ≡ 0) × (result.rule ≡ 0) }
         ensures last { result.last ≡ None }
+        ensures order { result.order ≡ None }
         ensures all { result.all ≡ [] }
     {
         Report {
@@ -93,6 +94,7 @@ impl Report {
             fault: 0,
             rule: 0,
             last: None,
+            order: None,
             all: JournalList::new(alloc),
         }
     }
