@@ -14,7 +14,7 @@ use Rattle.playback.specs.Playbacks.{Course, PlaybackView, IsGiven, IsGivenIf, C
 use Rattle.arena_engine.specs.Games.{GameView, Plays, closed_lines, closing_lines, event_lines, due_lines, is_end, newest}
 
 -- the lines that the code prints are those of the frame
-lines-are : (t : ServerView) (arrivals : List Arrival) (journal : List Entry) (out : FrameOut) → IsGiven t arrivals journal out
+pub lines-are : (t : ServerView) (arrivals : List Arrival) (journal : List Entry) (out : FrameOut) → IsGiven t arrivals journal out
     → closed_lines (Some journal) out ≡ lines_with t.map t.frames (received_in t.map t.frames t.state arrivals) journal
 lines-are t arrivals journal out given =
     (λ i. given_lines (given.frame_is i) (given.lists_are i) journal (given.slots_are i) (given.replies_are i))

@@ -43,7 +43,7 @@ memory_at_first workers (Some bytes) t last none = record {
   holds = record { holds = record { k = 0; front = no_front workers bytes }; last_is = none ∙ none_in_no_text };
 }
 
-frames_of-none : (bytes : List ℕ) → events bytes ≡ [] → frames_of bytes ≡ []
+pub frames_of-none : (bytes : List ℕ) → events bytes ≡ [] → frames_of bytes ≡ []
 frames_of-none bytes none = ap (λ es. (collected es).closed) none
 
 all_of_none : (workers : ℕ) (bytes : List ℕ) → events bytes ≡ [] → IsAllFrames workers bytes []
@@ -61,7 +61,7 @@ refused_at_first workers (Some bytes) t why last none ends = record {
 }
 
 -- the lines of a text in which each has its line feed
-lines_of-whole : (lines : List (List ℕ)) → AllByRecursion HasNoLineFeed lines → lines_of (unlines lines) ≡ lines
+pub lines_of-whole : (lines : List (List ℕ)) → AllByRecursion HasNoLineFeed lines → lines_of (unlines lines) ≡ lines
 lines_of-whole lines each = ap lines_of (sym (append-nil (unlines lines))) ∙ lines_of-unlines lines [] each ∙ append-nil lines
 
 -- the source failed before the first event

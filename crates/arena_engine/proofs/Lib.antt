@@ -6,10 +6,16 @@ pub mod Printed
 pub mod Continuing
 pub mod Taken
 pub mod Exits
+pub mod FedClosing
+pub mod FedExits
 pub mod Playing
+pub mod FedPlaying
 pub mod Running
+pub mod FedRunning
 pub mod Ended
+pub mod FedEnded
 pub mod Reported
+pub mod FedReported
 pub mod Summing
 pub mod MapRead
 pub mod WaysReported

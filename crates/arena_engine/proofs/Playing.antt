@@ -40,7 +40,7 @@ use Rattle.arena_engine.specs.Output.{HasRoom, Writes, ReadsToEnd}
 use Rattle.arena_engine.proofs.Continuing.{Continues, continues, map_of-whole, frames_of-all, goes_on_frames, goes_on_events}
 use Rattle.arena_engine.proofs.Exits.{Played}
 
-collected-push : (es : List Event) (e : Event) → collected (es ++ e ∷ []) ≡ collect (collected es) e
+pub collected-push : (es : List Event) (e : Event) → collected (es ++ e ∷ []) ≡ collect (collected es) e
 collected-push es e = collected-append es (e ∷ [])
 
 -- ---- a server that has run frames
@@ -59,7 +59,7 @@ same_server arena closed js server at =
     let count : server.frames ≡ 0 + length closed = omega (arith, at.frames) in
     λ i. record { map = at.map i; state = at.state i; frames = count i }
 
-one_more : (workers : ℕ) (arena : MapView) (closed : List (List Arrival)) (js : List (List Entry)) (arrivals : List Arrival) (old new : ServerView) (j : List Entry) → AreRun workers arena closed js
+pub one_more : (workers : ℕ) (arena : MapView) (closed : List (List Arrival)) (js : List (List Entry)) (arrivals : List Arrival) (old new : ServerView) (j : List Entry) → AreRun workers arena closed js
     → IsServerAt arena closed js old → RunsFrame workers old new arrivals j
     → OneMore workers arena closed js arrivals new j (lines_with old.map old.frames (received_in old.map old.frames old.state arrivals) j)
 one_more workers arena closed js arrivals old new j run at runs =
@@ -258,11 +258,11 @@ module _ (workers : ℕ) (bytes : List ℕ) (arena : MapView) (played : IsPlayed
 
 -- ---- where the recording is
 
-fault-at_end : (r : Reading) (es : List Event) (bytes rest : List ℕ) → Continues r es bytes rest → r.stage ≡ Ended → fault bytes ≡ None
+pub fault-at_end : (r : Reading) (es : List Event) (bytes rest : List ℕ) → Continues r es bytes rest → r.stage ≡ Ended → fault bytes ≡ None
 fault-at_end r es bytes rest so ended =
     so.fault_is ∙ ap (λ t. refused_where t (last_part rest)) (after-over r (lines_in rest) (ap is_over ended)) ∙ ap (λ stage. refused_at stage r (last_part rest)) ended
 
-frames-at_end : (r : Reading) (es : List Event) (bytes rest : List ℕ) → Continues r (es ++ End ∷ []) bytes rest → r.stage ≡ Ended
+pub frames-at_end : (r : Reading) (es : List Event) (bytes rest : List ℕ) → Continues r (es ++ End ∷ []) bytes rest → r.stage ≡ Ended
     → frames_of bytes ≡ (collected es).closed ++ closing (collected es).opened
 frames-at_end r es bytes rest so ended =
     frames_of-all r (es ++ End ∷ []) bytes rest so (events_of-over r (lines_in rest) (ap is_over ended)) ∙ ap (λ (f : Frames). f.closed) (collected-push es End)
@@ -273,7 +273,7 @@ not_over Frame h = refl
 not_over (From a) h = refl
 not_over End h = cc
 
-few_after : (r : Reading) (f : Frames) (stage : Stage) → r.arrivals ≤ 512 → AgreesAt stage r f → (stage ≡ Playing) ⊎ (stage ≡ Ended) → IfSome f.opened (λ arrivals. length arrivals ≤ 512)
+pub few_after : (r : Reading) (f : Frames) (stage : Stage) → r.arrivals ≤ 512 → AgreesAt stage r f → (stage ≡ Playing) ⊎ (stage ≡ Ended) → IfSome f.opened (λ arrivals. length arrivals ≤ 512)
 few_after r f stage fits agrees (inl playing) = few_open r f fits (let P : Stage → Type 0 = λ s. AgreesAt s r f in subst P playing agrees)
   where
     few_open : (r : Reading) (f : Frames) → r.arrivals ≤ 512 → OneOpen r f → IfSome f.opened (λ arrivals. length arrivals ≤ 512)
@@ -285,7 +285,7 @@ few_after r f stage fits agrees (inr ended) =
     let closed : AllClosed r f = subst P ended agrees in
     let Q : Option (List Arrival) → Type 0 = λ o. IfSome o (λ arrivals. length arrivals ≤ 512) in subst Q (sym closed.opened) tt
 
-agrees_from_start : (r : Reading) (a b : Option (List ℕ)) (es : List Event) → Reads start r a b es → Agrees r (collected es)
+pub agrees_from_start : (r : Reading) (a b : Option (List ℕ)) (es : List Event) → Reads start r a b es → Agrees r (collected es)
 agrees_from_start r a b es reads =
     let none : NoneYet start no_frames = record { closed = refl; opened = refl; frames = refl } in
     let here = agrees_lines start reads.lines no_frames none in
@@ -301,7 +301,7 @@ room_open : (closed : List (List Arrival)) (o : Option (List Arrival)) → lengt
 room_open closed None fits = tt
 room_open closed (Some arrivals) fits = omega arith
 
-room_before : (r : Reading) (f : Frames) (e : Event) → r.frames ≤ 100000 → r.stage ≡ stage_after e → Agrees r (collect f e) → IfSome f.opened (λ _. length f.closed < 100000)
+pub room_before : (r : Reading) (f : Frames) (e : Event) → r.frames ≤ 100000 → r.stage ≡ stage_after e → Agrees r (collect f e) → IfSome f.opened (λ _. length f.closed < 100000)
 room_before r f Frame fits stage agrees =
     let P : Stage → Type 0 = λ s. AgreesAt s r (collect f Frame) in
     let one : OneOpen r (collect f Frame) = subst P stage agrees in
@@ -315,7 +315,7 @@ room_before r f End fits stage agrees =
     let all : AllClosed r (collect f End) = subst P stage agrees in
     let enough : length (f.closed ++ closing f.opened) + 0 ≤ 100000 = omega (arith, all.frames) in room f.closed f.opened 0 enough (inr refl)
 
-stage_of : (e : Event) → (stage_after e ≡ Playing) ⊎ (stage_after e ≡ Ended)
+pub stage_of : (e : Event) → (stage_after e ≡ Playing) ⊎ (stage_after e ≡ Ended)
 stage_of Frame = inl refl
 stage_of (From a) = inl refl
 stage_of End = inr refl
@@ -340,7 +340,7 @@ begins workers arena r a b t g e reads stage frames arrivals has is_map is = rec
   written = Appends-nil t;
 }
 
-some_and : (a : Option (List ℕ)) (P : List ℕ → Type 0) (X : Type 0) → IsSomeAnd a P → IfSome a (λ bytes. P bytes → X) → X
+pub some_and : (a : Option (List ℕ)) (P : List ℕ → Type 0) (X : Type 0) → IsSomeAnd a P → IfSome a (λ bytes. P bytes → X) → X
 some_and None P X has each = absurd has
 some_and (Some bytes) P X has each = each has
 

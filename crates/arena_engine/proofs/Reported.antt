@@ -27,11 +27,11 @@ not_faulty workers None t0 t1 last written some = absurd some
 not_faulty workers (Some bytes) t0 t1 last written some = let never : false ≡ true = subst IsSome written.holds.holds.accepted some in cc
 
 -- the first of two facts, and the second
-first_of : (a : Option (List ℕ)) (P Q : List ℕ → Type 0) → IsSomeAnd a (λ bytes. P bytes × Q bytes) → IsSomeAnd a P
+pub first_of : (a : Option (List ℕ)) (P Q : List ℕ → Type 0) → IsSomeAnd a (λ bytes. P bytes × Q bytes) → IsSomeAnd a P
 first_of None P Q both = absurd both
 first_of (Some bytes) P Q both = both.0
 
-second_of : (a : Option (List ℕ)) (P Q : List ℕ → Type 0) → IsSomeAnd a (λ bytes. P bytes × Q bytes) → IsSomeAnd a Q
+pub second_of : (a : Option (List ℕ)) (P Q : List ℕ → Type 0) → IsSomeAnd a (λ bytes. P bytes × Q bytes) → IsSomeAnd a Q
 second_of None P Q both = absurd both
 second_of (Some bytes) P Q both = both.1
 

@@ -45,24 +45,24 @@ needed_going e P Q R going (inr (is, q, r)) = let last : is_end e ≡ true = ap 
 pub fresh_is_open : IsOpen fresh_reader
 fresh_is_open = record { no_stop = refl; not_over = refl }
 
-read_fault_of : (d : DemoStop) (P Q : Type 0) → (P → Q) → reads_of.OnReadFault d P → OnReadFault (stop_of d) Q
+pub read_fault_of : (d : DemoStop) (P Q : Type 0) → (P → Q) → reads_of.OnReadFault d P → OnReadFault (stop_of d) Q
 read_fault_of (demo_stop.Refused line fault rule) P Q f p = tt
 read_fault_of demo_stop.ReadFault P Q f p = f p
 read_fault_of demo_stop.NoMemory P Q f p = tt
 
-refused_of : (d : DemoStop) (P Q : LineRefusal → Type 0) → ((why : LineRefusal) → P why → Q why) → reads_of.OnRefused d P → OnRefused (stop_of d) Q
+pub refused_of : (d : DemoStop) (P Q : LineRefusal → Type 0) → ((why : LineRefusal) → P why → Q why) → reads_of.OnRefused d P → OnRefused (stop_of d) Q
 refused_of (demo_stop.Refused line fault rule) P Q f p = f _ p
 refused_of demo_stop.ReadFault P Q f p = tt
 refused_of demo_stop.NoMemory P Q f p = tt
 
 -- a reader's stop is lack of memory, where P holds
-no_memory_of : (d : DemoStop) (P : Type 0) → P → OnMemory (stop_of d) P
+pub no_memory_of : (d : DemoStop) (P : Type 0) → P → OnMemory (stop_of d) P
 no_memory_of (demo_stop.Refused line fault rule) P p = tt
 no_memory_of demo_stop.ReadFault P p = tt
 no_memory_of demo_stop.NoMemory P p = p
 
 -- it is a read fault, where P holds
-any_read_fault : (d : DemoStop) (P : Type 0) → P → OnReadFault (stop_of d) P
+pub any_read_fault : (d : DemoStop) (P : Type 0) → P → OnReadFault (stop_of d) P
 any_read_fault (demo_stop.Refused line fault rule) P p = tt
 any_read_fault demo_stop.ReadFault P p = p
 any_read_fault demo_stop.NoMemory P p = tt
@@ -104,7 +104,7 @@ map_is_given r e stage = ap is_map_whole stage ∙ whole_after e
 
 -- ---- in the loop
 
-on_write_fault : (s : Stop) (P Q : Type 0) → (P → Q) → OnWriteFault s P → OnWriteFault s Q
+pub on_write_fault : (s : Stop) (P Q : Type 0) → (P → Q) → OnWriteFault s P → OnWriteFault s Q
 on_write_fault (Refused line fault rule) P Q f p = tt
 on_write_fault ReadFault P Q f p = tt
 on_write_fault WriteFault P Q f p = f p

@@ -5,7 +5,9 @@ use Rattle.demo_lines.specs.Bytes.{LineRefusal, map_of}
 use Rattle.out_text.specs.Journals.{dids}
 use Rattle.out_text.specs.Output.{HasLast, IsOutput, IsRefused, IsSomeFrames}
 use Rattle.out_text.specs.OneTaker.{HasOneTakerEach}
-use Rattle.out_text.proofs.OneTaker.{taken_in_output, taken_in_front}
+use Rattle.out_text.specs.Feeds.{froms, HasLastFed, IsFedOutput, IsFedRefused, IsFedSome}
+use Rattle.out_text.proofs.OneTaker.{taken_in_output, taken_in_front, one_taker_each}
+use Rattle.arena_engine.specs.FedGames.{Last}
 use Rattle.arena_engine.specs.declared.stop.Stop.{Stop}
 use Rattle.arena_engine.specs.declared.stop.Stop.TheVariants.{Refused, ReadFault, Memory}
 use Rattle.arena_engine.specs.Stops.{OnRefused, OnReadFault, OnMemory}
@@ -28,6 +30,16 @@ module _ (workers : ℕ) (a t0 t1 : Option (List ℕ)) (last : Option (List Entr
 
   pub taken_before_refusal : (why : LineRefusal) → IfSome a (λ bytes. Writes t0 t1 (HasLast (IsRefused workers bytes why) last)) → IfSome a (λ bytes. Writes t0 t1 (IsTakenOnce bytes))
   taken_before_refusal why = on_each (λ bytes. HasLast (IsRefused workers bytes why) last) IsTakenOnce a t0 t1 (λ bytes text is. taken_in_front workers bytes text _ is.holds.frames)
+
+module _ (workers : ℕ) (a t0 t1 : Option (List ℕ)) (last : Last) where
+  pub taken_in_all_fed : IfSome a (λ bytes. Writes t0 t1 (HasLastFed (IsFedOutput workers bytes) bytes last.order last.journal)) → IfSome a (λ bytes. Writes t0 t1 (IsTakenOnce bytes))
+  taken_in_all_fed = on_each (λ bytes. HasLastFed (IsFedOutput workers bytes) bytes last.order last.journal) IsTakenOnce a t0 t1 (λ bytes text is. one_taker_each bytes (froms text) (dids text) is.holds.right)
+
+  pub taken_in_some_fed : IfSome a (λ bytes. Writes t0 t1 (HasLastFed (IsFedSome workers bytes) bytes last.order last.journal)) → IfSome a (λ bytes. Writes t0 t1 (IsTakenOnce bytes))
+  taken_in_some_fed = on_each (λ bytes. HasLastFed (IsFedSome workers bytes) bytes last.order last.journal) IsTakenOnce a t0 t1 (λ bytes text is. one_taker_each bytes (froms text) (dids text) is.holds.front.right)
+
+  pub taken_before_refusal_fed : (why : LineRefusal) → IfSome a (λ bytes. Writes t0 t1 (HasLastFed (IsFedRefused workers bytes why) bytes last.order last.journal)) → IfSome a (λ bytes. Writes t0 t1 (IsTakenOnce bytes))
+  taken_before_refusal_fed why = on_each (λ bytes. HasLastFed (IsFedRefused workers bytes why) bytes last.order last.journal) IsTakenOnce a t0 t1 (λ bytes text is. one_taker_each bytes (froms text) (dids text) is.holds.frames.right)
 
 -- ---- what is said of a stop that is known
 

@@ -5,7 +5,7 @@ use Rattle.move_phase.specs.Serving.{AreWorkers}
 use Rattle.demo_make.specs.GeneratedFrames.{IsInRange}
 use Rattle.match_play.specs.Matches.{IsMatch}
 use Rattle.arena_engine.specs.declared.command.Command.{Command}
-use Rattle.arena_engine.specs.declared.command.Command.TheVariants.{Play, Make, Resend, Match, Bots}
+use Rattle.arena_engine.specs.declared.command.Command.TheVariants.{Play, Feed, Make, Resend, Match, Bots}
 
 -- the texts of words
 abbrev pub contents : List (Bor (List ℕ)) → List (List ℕ)
@@ -14,6 +14,7 @@ contents words = map (λ word. word.now) words
 -- the words of a command: its name, and its numbers in decimal digits
 abbrev pub words_of : Command → List (List ℕ)
 words_of (Play workers) = codes "play" ∷ decimal workers ∷ []
+words_of (Feed workers) = codes "feed" ∷ decimal workers ∷ []
 words_of (Make seed players frames) =
     codes "make" ∷ decimal seed ∷ decimal players ∷ decimal frames ∷ []
 words_of (Resend seed players frames) =
@@ -33,6 +34,7 @@ IsTarget target = target ≤ 63
 -- the numbers of a command are in their ranges
 abbrev pub HasRanges : Command → Type 0
 HasRanges (Play workers) = AreWorkers workers
+HasRanges (Feed workers) = AreWorkers workers
 HasRanges (Make seed players frames) = IsSeed seed × IsInRange players frames
 HasRanges (Resend seed players frames) = IsSeed seed × IsInRange players frames
 HasRanges (Match seed players frames workers) = IsSeed seed × IsMatch players frames × AreWorkers workers

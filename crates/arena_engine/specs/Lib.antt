@@ -19,6 +19,7 @@ pub use Rattle.out_text.specs.FrameLines
 pub use Rattle.out_text.specs.Journals
 pub use Rattle.out_text.specs.Collecting
 pub use Rattle.out_text.specs.Output as Outputs
+pub use Rattle.out_text.specs.Feeds
 pub use Rattle.out_text.specs.OneTaker
 pub use Rattle.demo_make.specs.GeneratedMap
 pub use Rattle.demo_make.specs.GeneratedFrames
@@ -41,6 +42,12 @@ pub mod Progress
 pub mod Reports
 pub mod Serving
 pub mod Played
+pub mod FedOutput
+pub mod FedGames
+pub mod FedEnds
+pub mod FedPlayEnds
+pub mod FedProgress
+pub mod Fed
 pub mod Planned
 pub mod MapReads
 pub mod Served

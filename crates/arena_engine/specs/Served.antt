@@ -3,10 +3,11 @@ use Rattle.std.specs.Prelude.{◌≡◌}
 use Rattle.edge_io.specs.declared.source.Source as sources
 use Rattle.edge_io.specs.declared.sink.Sink as sinks
 use Rattle.arena_engine.specs.declared.command.Command.{Command}
-use Rattle.arena_engine.specs.declared.command.Command.TheVariants.{Play, Make, Resend, Match, Bots}
+use Rattle.arena_engine.specs.declared.command.Command.TheVariants.{Play, Feed, Make, Resend, Match, Bots}
 use Rattle.arena_engine.specs.declared.report.Report.{Report}
 use Rattle.arena_engine.specs.Making.{IsMade, IsResent, IsMatched}
 use Rattle.arena_engine.specs.Played.{IsPlayed}
+use Rattle.arena_engine.specs.Fed.{IsFed}
 use Rattle.arena_engine.specs.Planned.{IsPlanned}
 
 -- P, and nothing was read
@@ -17,6 +18,7 @@ pub record Unread {S : Type 0} (source source' : S) (P : Type 0) : Type 0 where
 -- this command was served
 abbrev pub IsServed : {S K : Type 0} → sources.Ghosts S → sinks.Ghosts K → S → S → K → K → Report → Command → Type 0
 IsServed s k source source' sink sink' r (Play workers) = IsPlayed s k workers source source' sink sink' r
+IsServed s k source source' sink sink' r (Feed workers) = IsFed s k workers source source' sink sink' r
 IsServed s k source source' sink sink' r (Make seed players frames) = Unread source source' (IsMade k seed players frames sink sink' r)
 IsServed s k source source' sink sink' r (Resend seed players frames) =
     Unread source source' (IsResent k seed players frames sink sink' r)

@@ -23,6 +23,11 @@ pub enum Command {
         /// How many workers run its moves, 1 to 16.
         workers: u8,
     },
+    /// Plays a recording from the source, whose packets client threads send.
+    Feed {
+        /// How many workers run its moves, 1 to 16.
+        workers: u8,
+    },
     /// Writes the recording of a seed.
     Make {
         /// The seed.
@@ -65,6 +70,16 @@ fn play(workers: &str) -> Option<Command>
     ensures only { (c : Command) → Spells (codes "play" ∷ workers.now ∷ []) c → result ≡ Some c }
 {
     Some(Command::Play {
+        workers: number_up_to(workers, MOST_WORKERS)? as u8,
+    })
+}
+
+/// The command `feed` with this word.
+fn feed(workers: &str) -> Option<Command>
+    ensures some { IfSome result (Spells (codes "feed" ∷ workers.now ∷ [])) }
+    ensures only { (c : Command) → Spells (codes "feed" ∷ workers.now ∷ []) c → result ≡ Some c }
+{
+    Some(Command::Feed {
         workers: number_up_to(workers, MOST_WORKERS)? as u8,
     })
 }
@@ -124,7 +139,7 @@ fn bots(target: &str) -> Option<Command>
     })
 }
 
-/// The command that the words ask for, and `None` exactly where they are those of no command: `play N`,
+/// The command that the words ask for, and `None` exactly where they are those of no command: `play N`, `feed N`,
 /// `make SEED PLAYERS FRAMES`, `resend SEED PLAYERS FRAMES`, `match SEED PLAYERS FRAMES N` or `bots TARGET`, where each
 /// number is in its range, in decimal digits without a sign and without a leading zero, 0 itself excepted.
 pub fn command_of(words: &[&str]) -> Option<Command>
@@ -133,6 +148,7 @@ pub fn command_of(words: &[&str]) -> Option<Command>
 {
     match *words {
         ["play", workers] => play(workers),
+        ["feed", workers] => feed(workers),
         ["make", seed, players, frames] => make(seed, players, frames),
         ["resend", seed, players, frames] => resend(seed, players, frames),
         ["match", seed, players, frames, workers] => match_of(seed, players, frames, workers),

@@ -47,7 +47,7 @@ pub fn is_end(event: &Event) -> bool
 }
 
 /// The journal of the frame that was closed, if one was, and else the one before it.
-fn newest(closed: Option<Journal>, before: Option<Journal>) -> Option<Journal>
+pub fn newest(closed: Option<Journal>, before: Option<Journal>) -> Option<Journal>
     ensures { entries_if result ≡ games.newest (entries_if closed) (entries_if before) }
 {
     match closed {

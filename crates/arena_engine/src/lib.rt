@@ -18,6 +18,10 @@ use std::thread::Threads;
 
 mod bots;
 mod command;
+mod fed_game;
+mod fed_printing;
+mod feed;
+mod feeding;
 mod game;
 mod made;
 mod matched;
@@ -35,6 +39,8 @@ mod summary;
 ///
 /// `play N` reads a recording from the source, plays it on N workers, 1 to 16, and writes the output to the sink: for
 /// each frame its text before the next line is read, and at last the line `end`. The rest of the input is ignored.
+/// `feed N` does the same, with packets that two client threads send: after the line of a frame come those of its packets
+/// in the order of their arrival.
 /// `make SEED PLAYERS FRAMES` writes the recording of a seed, and `resend SEED PLAYERS FRAMES` that in which packets are
 /// lost and commands are resent. `match SEED PLAYERS FRAMES N` plays the recording of a seed on N workers without writing
 /// it, and writes one line of what its frames came to. None of the three reads. `bots TARGET` reads a recording from the

@@ -5,6 +5,7 @@ ghost use Rattle.arena_engine.specs.Served.{IsServed};
 
 use crate::bots::plan_recording;
 use crate::command::Command;
+use crate::feeding::feed_recording;
 use crate::made::{write_made, write_resent};
 use crate::matched::play_and_sum;
 use crate::recording::play_recording;
@@ -40,6 +41,15 @@ pub fn perform<R: Threads + Wait + Sync, S: Source, K: Sink, G: Gate>(
                 gate,
             };
             play_recording(&host, source, sink)
+        }
+        Some(Command::Feed { workers }) => {
+            let host = Host {
+                rt,
+                alloc,
+                workers,
+                gate,
+            };
+            feed_recording(&host, source, sink)
         }
         Some(
             Command::Make {

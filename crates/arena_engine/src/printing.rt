@@ -41,7 +41,7 @@ fn print_closed<K: Sink>(
 }
 
 /// Prints the last line, after so many frames, where it is due.
-fn print_end<K: Sink>(
+pub fn print_end<K: Sink>(
     is_due: bool,
     frames: u32,
     printer: &mut Printer,

@@ -1,5 +1,6 @@
 ghost use Rattle.std.specs.Prelude.{◌≡◌, [], None};
 
+use feed_queue::PlaceList;
 use move_journal::{Journal, JournalList};
 use std::alloc::Global;
 
@@ -18,6 +19,9 @@ pub struct Report {
     pub rule: u8,
     /// The journal of the last frame that was run, where a recording was played and a frame was run.
     pub last: Option<Journal>,
+    /// The order of arrival of the packets of the last frame that was run, as places in the order of the recording, where
+    /// client threads sent them and a frame was run.
+    pub order: Option<PlaceList>,
     /// The journals of all frames that were run, for `match`; none for the other commands.
     pub all: JournalList,
 }
@@ -30,6 +34,7 @@ impl Report {
         ensures status { result.status ≡ status }
         ensures place { (result.line ≡ 0) × (result.fault ≡ 0) × (result.rule ≡ 0) }
         ensures last { result.last ≡ None }
+        ensures order { result.order ≡ None }
         ensures all { result.all ≡ [] }
     {
         Report::of_status(status, None, JournalList::new(alloc))
@@ -40,6 +45,7 @@ impl Report {
         ensures status { result.status ≡ status }
         ensures place { (result.line ≡ 0) × (result.fault ≡ 0) × (result.rule ≡ 0) }
         ensures last { result.last ≡ last }
+        ensures order { result.order ≡ None }
         ensures all { result.all ≡ all }
     {
         Report {
@@ -48,6 +54,7 @@ impl Report {
             fault: 0,
             rule: 0,
             last,
+            order: None,
             all,
         }
     }
@@ -57,6 +64,7 @@ impl Report {
         ensures status { result.status ≡ 7 }
         ensures place { (result.line ≡ 0) × (result.fault ≡ fault) × (result.rule ≡ 0) }
         ensures last { result.last ≡ None }
+        ensures order { result.order ≡ None }
         ensures all { result.all ≡ [] }
     {
         Report {
@@ -65,6 +73,7 @@ impl Report {
             fault,
             rule: 0,
             last: None,
+            order: None,
             all: JournalList::new(alloc),
         }
     }
@@ -80,6 +89,7 @@ impl Report {
         ensures status { result.status ≡ 1 }
         ensures place { refusal_of result ≡ record { line = line; fault = fault; rule = rule } }
         ensures last { result.last ≡ last }
+        ensures order { result.order ≡ None }
         ensures all { result.all ≡ all }
     {
         Report {
@@ -88,6 +98,35 @@ impl Report {
             fault,
             rule,
             last,
+            order: None,
+            all,
+        }
+    }
+
+    /// The same report, with this order of arrival.
+    pub(crate) fn with_order(self, order: Option<PlaceList>) -> Report
+        ensures status { result.status ≡ self.status }
+        ensures place { (result.line ≡ self.line) × (result.fault ≡ self.fault) × (result.rule ≡ self.rule) }
+        ensures last { result.last ≡ self.last }
+        ensures order { result.order ≡ order }
+        ensures all { result.all ≡ self.all }
+    {
+        let Report {
+            status,
+            line,
+            fault,
+            rule,
+            last,
+            order: _order,
+            all,
+        } = self;
+        Report {
+            status,
+            line,
+            fault,
+            rule,
+            last,
+            order,
             all,
         }
     }

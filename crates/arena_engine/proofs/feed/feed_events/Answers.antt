@@ -1,0 +1,58 @@
+use Rattle.std.proofs.Common.{Err, refl, sym, ap, ◌∙◌}
+use Rattle.std.proofs.lemmas.Result.{err_from_is_err_and}
+use Rattle.arena_engine.specs.StopOf.{stop_of}
+use Rattle.arena_engine.proofs.FedEnded.{game_stopped, all_played, reader_stopped, goes_further, ready_next, open_reader, ends_same}
+use Rattle.arena_engine.proofs.feed.feed_events.Goals as goal
+
+pub events-init : goal.events-init
+events-init g c = record { may = c.requires; each = λ first_source first_sink begun. begun }
+
+pub take-requires-after_bounds : goal.take-requires-after_bounds
+take-requires-after_bounds g c κs within = ready_next _ _ _ _ _ _ _ _ c.events.invariant.may
+
+pub events-smaller : goal.events-smaller
+events-smaller g c =
+    let going = sym c.is_end-is_last.ensures ∙ c.if-is_last.false in
+    c.in_ok-event.ensures.fewer (open_reader _ _ _ _ _ _ _ _ c.events.invariant.may going)
+
+pub returns-in_err-take : goal.returns-in_err-take
+returns-in_err-take g c =
+    let p = err_from_is_err_and c.from_residual.result c.from_residual.ensures.1 in
+    λ first_source first_sink begun.
+    ends_same g.S.Source g.K.Sink c.args.host.now.workers first_source c.events.source first_sink c.take.new.sink c.take.new.self.last c.take.new.self.last (Err c.in_err-take.field-0.0) c.from_residual.result refl (p.1 ∙ ap Err p.2)
+    (game_stopped g.S.Source g.K.Sink c.args.host.now.workers first_source c.events.source first_sink c.events.sink c.events.demo c.events.game c.events.event (c.events.invariant.each first_source first_sink begun)
+    c.take.new.sink c.take.new.self c.in_err-take.field-0.0 c.in_err-take.ensures.stops c.in_err-take.ensures.write_fault c.in_err-take.ensures.sure c.in_err-take.ensures.memory c.in_err-take.ensures.kept c.take.ensures.later)
+
+pub returns-then-is_last : goal.returns-then-is_last
+returns-then-is_last g c =
+    λ first_source first_sink begun.
+    all_played g.S.Source g.K.Sink c.args.host.now.workers first_source _ first_sink _ _ _ _ (c.events.invariant.each first_source first_sink begun) _ _
+    c.in_ok-take.ensures.next (sym c.is_end-is_last.ensures ∙ c.if-is_last.true)
+
+pub returns-in_err-event : goal.returns-in_err-event
+returns-in_err-event g c =
+    let going = sym c.is_end-is_last.ensures ∙ c.if-is_last.false in
+    let p = err_from_is_err_and c.from_residual-in_err-event.result c.from_residual-in_err-event.ensures.1 in
+    let stops = c.in_err-event.ensures in
+    λ first_source first_sink begun.
+    ends_same g.S.Source g.K.Sink c.args.host.now.workers first_source c.next.new.source first_sink c.take.new.sink c.take.new.self.last c.take.new.self.last (Err (stop_of c.in_err-event.field-0.0)) c.from_residual-in_err-event.result refl (p.1 ∙ ap Err p.2)
+    (reader_stopped g.S.Source g.K.Sink c.args.host.now.workers first_source c.events.source first_sink c.events.sink c.events.demo c.events.game c.events.event (c.events.invariant.each first_source first_sink begun)
+    c.take.new.sink c.take.new.self c.in_ok-take.ensures.next c.next.new.self c.next.new.source c.in_err-event.field-0.0 going (record {
+      refused = stops.refused;
+      taken = stops.taken;
+      read_fault = stops.read_fault;
+      no_end = stops.no_end;
+      cause = stops.cause;
+      sure = stops.sure;
+      later = stops.later;
+      uncounted_refusal = stops.uncounted_refusal;
+      uncounted_memory = stops.uncounted_memory;
+    }))
+
+pub events-preserved : goal.events-preserved
+events-preserved g c =
+    let going = sym c.is_end-is_last.ensures ∙ c.if-is_last.false in
+    let given = c.in_ok-event.ensures in
+    goes_further g.S.Source g.K.Sink c.args.host.now.workers c.args.source.now c.events.source c.next.new.source c.args.sink.now c.events.sink c.take.new.sink c.args.demo.now c.events.demo c.next.new.self
+    c.args.game.now c.events.game c.take.new.self c.args.first c.events.event c.in_ok-event.event c.events.invariant c.in_ok-take.ensures.next going
+    (record { event = given.event; stage = given.stage; needed = given.needed; uncounted = given.uncounted; keeps = given.keeps; ok = given.ok; holds = given.holds })
