@@ -1,5 +1,5 @@
 -- What is done for each command.
-use Rattle.std.specs.Prelude.{◌≡◌}
+use Rattle.std.specs.Prelude.{◌≡◌, None, ⊤}
 use Rattle.edge_io.specs.declared.source.Source as sources
 use Rattle.edge_io.specs.declared.sink.Sink as sinks
 use Rattle.arena_engine.specs.declared.command.Command.{Command}
@@ -27,3 +27,13 @@ IsServed s k source source' sink sink' r (Match seed players frames workers) =
     Unread source source' (IsMatched k seed players frames workers sink sink' r)
 IsServed s k source source' sink sink' r (Bots target) = IsPlanned s k target source source' sink sink' r
 IsServed s k source source' sink sink' r Check = IsChecked s k source source' sink sink' r
+
+-- no order of arrival is in the report of a command but `feed`
+abbrev pub HasNoOrder : Report → Command → Type 0
+HasNoOrder r (Play workers) = r.order ≡ None
+HasNoOrder r (Feed workers) = ⊤
+HasNoOrder r (Make seed players frames) = r.order ≡ None
+HasNoOrder r (Resend seed players frames) = r.order ≡ None
+HasNoOrder r (Match seed players frames workers) = r.order ≡ None
+HasNoOrder r (Bots target) = r.order ≡ None
+HasNoOrder r Check = r.order ≡ None

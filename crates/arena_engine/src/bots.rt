@@ -1,4 +1,4 @@
-ghost use Rattle.std.specs.Prelude.{◌≡◌, IfOk, IfErr};
+ghost use Rattle.std.specs.Prelude.{◌≡◌, None, IfOk, IfErr};
 ghost use Rattle.demo_lines.specs.Reads.{fresh_reader};
 ghost use Rattle.arena_engine.specs.Endings.{EndsEarly};
 ghost use Rattle.arena_engine.specs.MapReads.{GivesMap, GivesStop, WritesWays, WritesStop};
@@ -71,6 +71,7 @@ pub fn plan_recording<S: Source, K: Sink>(
     ensures planned { IsPlanned S.Source K.Sink target source.old source.new sink.old sink.new result }
     ensures ends { EndsEarly S.Source K.Sink source.old source.new sink.old sink.new result }
     ensures served { result.status ≡ 2 → ⊥ }
+    ensures orderless { result.order ≡ None }
 {
     let map = match read_map(alloc, source) {
         Ok(map) => map,

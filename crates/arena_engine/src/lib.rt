@@ -1,11 +1,11 @@
 //! The arena server's top call: it plays a recording and writes what each player sees.
 #![tactic(auto)]
 
-ghost use Rattle.std.specs.Prelude.{◌≡◌, ◌↔◌};
+ghost use Rattle.std.specs.Prelude.{◌≡◌, ◌↔◌, None};
 ghost use Rattle.arena_engine.specs.declared.command.Command.{Command};
 ghost use Rattle.arena_engine.specs.declared.command.Command.TheVariants.{Check};
 ghost use Rattle.arena_engine.specs.Endings.{Ends};
-ghost use Rattle.arena_engine.specs.Served.{IsServed};
+ghost use Rattle.arena_engine.specs.Served.{IsServed, HasNoOrder};
 ghost use Rattle.arena_engine.specs.Serving.{AskFor, AskForNothing};
 
 use command::command_of;
@@ -73,7 +73,7 @@ mod summary;
 /// the least lengths, which show it.
 ///
 /// The report has the journal of the last frame that was run from a recording, which is the last frame that was
-/// written, or the one whose text a failed write has cut. For `match` it has the journals of all frames that were run.
+/// written, or the one whose text a failed write has cut. For `feed` it has the order of arrival of this frame. For `match` it has the journals of all frames that were run.
 pub fn serve<R: Threads + Wait + Sync, S: Source, K: Sink, G: Gate>(
     rt: &R,
     alloc: Global,
@@ -85,6 +85,9 @@ pub fn serve<R: Threads + Wait + Sync, S: Source, K: Sink, G: Gate>(
     // What was read and written, and what the report has beside its status, by the command.
     ensures served { (command : Command) → AskFor words.now command
         → IsServed S.Source K.Sink source.old source.new sink.old sink.new result command }
+    // Only what client threads sent has an order of arrival.
+    ensures orders { (command : Command) → AskFor words.now command → HasNoOrder result command }
+    ensures no_order { result.status ≡ 2 → result.order ≡ None }
     // Status 2 is that of words that ask for nothing.
     ensures words { (result.status ≡ 2) ↔ AskForNothing words.now }
     // What holds of every command.

@@ -1,4 +1,4 @@
-ghost use Rattle.std.specs.Prelude.{◌≡◌, []};
+ghost use Rattle.std.specs.Prelude.{◌≡◌, None, []};
 ghost use Rattle.demo_make.specs.GeneratedFrames.{IsInRange};
 ghost use Rattle.arena_engine.specs.Endings.{Counts};
 ghost use Rattle.arena_engine.specs.Making.{IsMade, IsResent, IsBare, status_of};
@@ -13,6 +13,7 @@ fn report_of(alloc: Global, written: Result<(), MakeStop>) -> Report
     ensures status { result.status ≡ status_of written }
     ensures bare { IsBare result }
     ensures no_journals { result.all ≡ [] }
+    ensures orderless { result.order ≡ None }
 {
     let status = match written {
         Ok(()) => 0,
@@ -33,6 +34,7 @@ pub fn write_made<K: Sink>(
     requires { IsInRange players frames }
     ensures made { IsMade K.Sink seed players frames sink.old sink.new result }
     ensures counts { Counts 4 (K.faults sink.old) (K.faults sink.new) result.status }
+    ensures orderless { result.order ≡ None }
 {
     report_of(alloc, make(alloc, seed, players, frames, sink))
 }
@@ -48,6 +50,7 @@ pub fn write_resent<K: Sink>(
     requires { IsInRange players frames }
     ensures made { IsResent K.Sink seed players frames sink.old sink.new result }
     ensures counts { Counts 4 (K.faults sink.old) (K.faults sink.new) result.status }
+    ensures orderless { result.order ≡ None }
 {
     report_of(alloc, resend(alloc, seed, players, frames, sink))
 }

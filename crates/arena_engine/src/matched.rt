@@ -1,4 +1,4 @@
-ghost use Rattle.std.specs.Prelude.{◌≡◌, ◌≤◌, [], IsOk, IsOkAnd};
+ghost use Rattle.std.specs.Prelude.{◌≡◌, ◌≤◌, None, [], IsOk, IsOkAnd};
 ghost use Rattle.std.specs.Io.KnownBytes.{Appends};
 ghost use Rattle.edge_io.specs.Writes.{AppendsPart};
 ghost use Rattle.match_play.specs.Matches.{IsMatch};
@@ -36,6 +36,7 @@ fn sum_up<K: Sink>(
     ensures memory { result.status ≡ 5 → sink.new ≡ sink.old }
     ensures whole { (result.status ≡ 5 → ⊥) → IsOk ended }
     ensures counts { Counts 4 (K.faults sink.old) (K.faults sink.new) result.status }
+    ensures orderless { result.order ≡ None }
     ensures sure { 300 ≤ K.room sink.old → result.status ≡ 4 → ⊥ }
 {
     let all = game.into_journals();
@@ -61,6 +62,7 @@ pub fn play_and_sum<R: Threads + Wait + Sync, K: Sink, G: Gate>(
     requires { IsMatch players frames }
     ensures matched { IsMatched K.Sink seed players frames host.now.workers sink.old sink.new result }
     ensures counts { Counts 4 (K.faults sink.old) (K.faults sink.new) result.status }
+    ensures orderless { result.order ≡ None }
 {
     let Ok(mut line) = LineBuf::new(host.alloc) else {
         return Report::unserved(host.alloc, 5);

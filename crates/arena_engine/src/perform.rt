@@ -2,7 +2,7 @@ ghost use Rattle.std.specs.Prelude.{◌≡◌, ◌↔◌, IfSome, None, Some};
 ghost use Rattle.arena_engine.specs.declared.command.Command.TheVariants.{Check};
 ghost use Rattle.arena_engine.specs.Commands.{HasRanges};
 ghost use Rattle.arena_engine.specs.Endings.{Ends};
-ghost use Rattle.arena_engine.specs.Served.{IsServed};
+ghost use Rattle.arena_engine.specs.Served.{IsServed, HasNoOrder};
 
 use crate::bots::plan_recording;
 use crate::checked::check_transcript;
@@ -30,6 +30,8 @@ pub fn perform<R: Threads + Wait + Sync, S: Source, K: Sink, G: Gate>(
 ) -> Report
     requires { IfSome command HasRanges }
     ensures served { IfSome command (IsServed S.Source K.Sink source.old source.new sink.old sink.new result) }
+    ensures orders { IfSome command (HasNoOrder result) }
+    ensures no_order { result.status ≡ 2 → result.order ≡ None }
     ensures words { (result.status ≡ 2) ↔ (command ≡ None) }
     ensures ends { Ends S.Source K.Sink source.old source.new sink.old sink.new result }
     ensures before_end { (command ≡ Some Check → ⊥) → result.status ≡ 3 → S.ended source.new ≡ S.ended source.old }

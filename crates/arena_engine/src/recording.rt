@@ -1,4 +1,4 @@
-ghost use Rattle.std.specs.Prelude.{◌≡◌};
+ghost use Rattle.std.specs.Prelude.{◌≡◌, None};
 ghost use Rattle.arena_engine.specs.Endings.{EndsEarly};
 ghost use Rattle.arena_engine.specs.Played.{IsPlayed};
 
@@ -23,6 +23,7 @@ pub fn play_recording<R: Threads + Wait + Sync, S: Source, K: Sink, G: Gate>(
     ensures played { IsPlayed S.Source K.Sink host.now.workers source.old source.new sink.old sink.new result }
     ensures ends { EndsEarly S.Source K.Sink source.old source.new sink.old sink.new result }
     ensures served { result.status ≡ 2 → ⊥ }
+    ensures orderless { result.order ≡ None }
 {
     let all = JournalList::new(host.alloc);
     let Played { ended, last } = play(host, source, sink);

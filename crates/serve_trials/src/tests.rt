@@ -13,6 +13,7 @@ mod cut_input;
 mod every_worker;
 mod failing_reads;
 mod far;
+mod feeders;
 mod full;
 mod generated;
 mod known;
