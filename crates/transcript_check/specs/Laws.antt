@@ -15,19 +15,19 @@ pub record BeginsWithOutput (workers : ℕ) (recording bytes : List ℕ) : Type 
   pub begins : BeginsWith bytes text
 
 -- no transcript is both right and wrong
-pub VerdictsExclude : Type 0
+abbrev pub VerdictsExclude : Type 0
 VerdictsExclude =
     (map : MapView) (frames : List (List Arrival)) (rest : List ℕ) (count moves before line : ℕ)
     → IsRight map frames rest count moves → IsWrongAt map frames rest before line → ⊥
 
 -- what begins with an output of a recording, whatever number of workers played it, is a right transcript of it
-pub OutputsAreRight : Type 0
+abbrev pub OutputsAreRight : Type 0
 OutputsAreRight =
     (workers : ℕ) (recording : List ℕ) (map : MapView) (rest : List ℕ) → map_of recording ≡ Some map
     → BeginsWithOutput workers recording rest → IsTranscript map (frames_of recording) rest
 
 -- and a right transcript of a recording without a fault begins with an output that more than one worker may write
-pub RightOnesAreOutputs : Type 0
+abbrev pub RightOnesAreOutputs : Type 0
 RightOnesAreOutputs =
     (workers : ℕ) (recording : List ℕ) (map : MapView) (rest : List ℕ) → (workers ≡ 1 → ⊥) → fault recording ≡ None
     → map_of recording ≡ Some map → IsTranscript map (frames_of recording) rest → BeginsWithOutput workers recording rest
