@@ -8,7 +8,7 @@ use Rattle.playback.specs.Playbacks.{entries_if}
 use Rattle.arena_engine.specs.declared.report.Report.{Report}
 use Rattle.arena_engine.specs.declared.feed.Fed.{Fed}
 use Rattle.arena_engine.specs.FedEnds.{last_of}
-use Rattle.arena_engine.specs.Endings.{Ends}
+use Rattle.arena_engine.specs.Endings.{EndsEarly}
 use Rattle.arena_engine.specs.Output.{Writes}
 use Rattle.arena_engine.specs.FedOutput.{HasFedRoom}
 use Rattle.arena_engine.specs.FedGames.{Last}
@@ -138,31 +138,31 @@ module _ {S K : Type 0} (s : sources.Ghosts S) (k : sinks.Ghosts K) (workers : �
   abbrev IsPlaceless : Type 0
   IsPlaceless = (r.line ≡ 0) × (r.fault ≡ 0) × (r.rule ≡ 0)
 
-  pub all_fed_ends : r.status ≡ 0 → IsPlaceless → FedPlaysAll s k workers source source' sink sink' (last_fed_in r) → Ends s k source source' sink sink' r
+  pub all_fed_ends : r.status ≡ 0 → IsPlaceless → FedPlaysAll s k workers source source' sink sink' (last_fed_in r) → EndsEarly s k source source' sink sink' r
   all_fed_ends status place played =
       ends_by s k workers source source' sink sink' r (omega (arith, status)) (λ is. omega (arith, is, status)) (λ no. place)
       (uncounted_in 3 _ _ r.status played.reads (λ is. omega (arith, is, status))) (uncounted_in 4 _ _ r.status played.writes (λ is. omega (arith, is, status)))
       (λ is. absurd (omega (arith, is, status))) (λ sure is. omega (arith, is, status))
 
-  pub refusal_fed_ends : r.status ≡ 1 → FedStopsAtRefusal s k workers source source' sink sink' (last_fed_in r) (refusal_of r) → Ends s k source source' sink sink' r
+  pub refusal_fed_ends : r.status ≡ 1 → FedStopsAtRefusal s k workers source source' sink sink' (last_fed_in r) (refusal_of r) → EndsEarly s k source source' sink sink' r
   refusal_fed_ends status stopped =
       ends_by s k workers source source' sink sink' r (omega (arith, status)) (λ is. omega (arith, is, status)) (λ no. absurd (no status))
       (uncounted_in 3 _ _ r.status stopped.reads (λ is. omega (arith, is, status))) (uncounted_in 4 _ _ r.status stopped.writes (λ is. omega (arith, is, status)))
       (λ is. absurd (omega (arith, is, status))) (λ sure is. omega (arith, is, status))
 
-  pub read_fault_fed_ends : r.status ≡ 3 → IsPlaceless → FedStopsAtReadFault s k workers source source' sink sink' (last_fed_in r) → Ends s k source source' sink sink' r
+  pub read_fault_fed_ends : r.status ≡ 3 → IsPlaceless → FedStopsAtReadFault s k workers source source' sink sink' (last_fed_in r) → EndsEarly s k source source' sink sink' r
   read_fault_fed_ends status place stopped =
       ends_by s k workers source source' sink sink' r (omega (arith, status)) (λ is. omega (arith, is, status)) (λ no. place)
       (counted_in 3 _ _ r.status status stopped.later stopped.cause) (uncounted_in 4 _ _ r.status stopped.writes (λ is. omega (arith, is, status)))
       (λ is. stopped.same_end) (λ sure is. stopped.fails sure)
 
-  pub write_fault_fed_ends : r.status ≡ 4 → IsPlaceless → FedStopsAtWriteFault s k workers source source' sink sink' (last_fed_in r) → Ends s k source source' sink sink' r
+  pub write_fault_fed_ends : r.status ≡ 4 → IsPlaceless → FedStopsAtWriteFault s k workers source source' sink sink' (last_fed_in r) → EndsEarly s k source source' sink sink' r
   write_fault_fed_ends status place stopped =
       ends_by s k workers source source' sink sink' r (omega (arith, status)) (λ is. omega (arith, is, status)) (λ no. place)
       (uncounted_in 3 _ _ r.status stopped.reads (λ is. omega (arith, is, status))) (counted_in 4 _ _ r.status status stopped.later stopped.cause)
       (λ is. absurd (omega (arith, is, status))) (λ sure is. omega (arith, is, status))
 
-  pub memory_fed_ends : r.status ≡ 5 → IsPlaceless → FedStopsAtMemory s k workers source source' sink sink' (last_fed_in r) → Ends s k source source' sink sink' r
+  pub memory_fed_ends : r.status ≡ 5 → IsPlaceless → FedStopsAtMemory s k workers source source' sink sink' (last_fed_in r) → EndsEarly s k source source' sink sink' r
   memory_fed_ends status place stopped =
       ends_by s k workers source source' sink sink' r (omega (arith, status)) (λ is. omega (arith, is, status)) (λ no. place)
       (uncounted_in 3 _ _ r.status stopped.reads (λ is. omega (arith, is, status))) (uncounted_in 4 _ _ r.status stopped.writes (λ is. omega (arith, is, status)))

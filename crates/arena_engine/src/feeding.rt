@@ -1,5 +1,5 @@
 ghost use Rattle.std.specs.Prelude.{◌≡◌};
-ghost use Rattle.arena_engine.specs.Endings.{Ends};
+ghost use Rattle.arena_engine.specs.Endings.{EndsEarly};
 ghost use Rattle.arena_engine.specs.Fed.{IsFed};
 
 use crate::feed::{Fed, feed};
@@ -20,7 +20,7 @@ pub fn feed_recording<R: Threads + Wait + Sync, S: Source, K: Sink, G: Gate>(
     sink: &mut K,
 ) -> Report
     ensures fed { IsFed S.Source K.Sink host.now.workers source.old source.new sink.old sink.new result }
-    ensures ends { Ends S.Source K.Sink source.old source.new sink.old sink.new result }
+    ensures ends { EndsEarly S.Source K.Sink source.old source.new sink.old sink.new result }
     ensures served { result.status ≡ 2 → ⊥ }
 {
     let all = JournalList::new(host.alloc);
