@@ -41,11 +41,11 @@ module _ {S K : Type 0} (s : sources.Ghosts S) (k : sinks.Ghosts K) (source sour
     refused = λ is. absurd (neither 1 is (λ e. omega (arith, e)) (λ e. omega (arith, e)));
     cut = λ is. record { frames = frames; moves = moves; judged = judges.judged; line = part is };
     nothing = λ is. absurd (elim is [
-        inl e ↦ neither 1 e (λ x. omega (arith, x)) (λ x. omega (arith, x))
-        | inr more ↦ elim more [
-            inl e ↦ neither 3 e (λ x. omega (arith, x)) (λ x. omega (arith, x))
-            | inr others ↦ elim others [ inl e ↦ neither 5 e (λ x. omega (arith, x)) (λ x. omega (arith, x)) | inr e ↦ neither 6 e (λ x. omega (arith, x)) (λ x. omega (arith, x)) ]
-        ]
+      | inl e ↦ neither 1 e (λ x. omega (arith, x)) (λ x. omega (arith, x))
+      | inr more ↦ elim more [
+        | inl e ↦ neither 3 e (λ x. omega (arith, x)) (λ x. omega (arith, x))
+        | inr others ↦ elim others [ inl e ↦ neither 5 e (λ x. omega (arith, x)) (λ x. omega (arith, x)) | inr e ↦ neither 6 e (λ x. omega (arith, x)) (λ x. omega (arith, x)) ]
+      ]
     ]);
     no_frame = last;
     no_journals = all;

@@ -89,4 +89,3 @@ continues first r (Some bytes) None es P reads h = absurd reads.consumed
 continues first r (Some bytes) (Some rest) es P reads h =
     let cut = subst (λ bs. IsCutAt r reads.lines bs rest) (sym reads.consumed) (cut_by_text first r reads.lines reads.text rest reads.each reads.reached reads.spelled) in
     h bytes rest refl (continues_lines first r reads.lines es bytes rest cut reads.reached reads.events)
-

@@ -284,8 +284,10 @@ module _ {S : Type 0} (s : sources.Ghosts S) (map_view : MapView) (is_map : IsMa
       where
         right-of : (journal : List Entry) → RightFirst journal → Right journal
         right-of journal right = record { merge = right.merge; legal = legal_from_first (outcome_on map_view) (world_of start) (history_of moves journal) right.legal }
+
         first-of : (journal : List Entry) → Right journal → RightFirst journal
         first-of journal right = record { merge = right.merge; legal = legal_at_first (outcome_on map_view) (world_of start) (history_of moves journal) right.legal }
+
         only-one : (other : List Entry) → GoesOnWith records pending so.front other → other ≡ so.front
         only-one other goes =
             goes.is ∙ ap (λ r. so.front ++ r) (right-empty map_view moves (length so.front) records goes.rest (subst (λ p. IsRightFrom map_view moves (length so.front) records p goes.rest) none goes.right)) ∙ append-nil so.front

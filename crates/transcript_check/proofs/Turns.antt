@@ -258,8 +258,10 @@ module _ (map_view : MapView) (is_map : IsMap map_view) (moves : List Command) w
     where
       entry-own : (slot : ℕ) → (has.c.slot == slot) ≡ true → reported_numbers slot (e ∷ rest) ≡ e.seq ∷ reported_numbers slot rest
       entry-own slot own = let here : (e.slot == slot) ≡ true = subst (λ n. (n == slot) ≡ true) has.slot_is own in rw here refl
+
       entry-other : (slot : ℕ) → (has.c.slot == slot) ≡ false → reported_numbers slot (e ∷ rest) ≡ reported_numbers slot rest
       entry-other slot other = let here : (e.slot == slot) ≡ false = subst (λ n. (n == slot) ≡ false) has.slot_is other in rw here refl
+
       by_slot : (slot : ℕ) (own : Bool) → (has.c.slot == slot) ≡ own → reported_numbers slot rest ≡ sent_numbers slot has.left
       by_slot slot true own =
           rest-numbers e.seq has.c.seq (reported_numbers slot rest) (sent_numbers slot has.left)

@@ -58,7 +58,12 @@ fn run_for_line(mover: &mut Mover, world: &mut World, cmd: &Cmd) -> OutLine<'sta
 
 /// Whether the line that was read last reports a move that is the next one of its player, and what running it on the
 /// world comes to.
-fn is_next_move(mover: &mut Mover, world: &mut World, pending: &mut Pending, lines: &mut Lines) -> bool
+fn is_next_move(
+    mover: &mut Mover,
+    world: &mut World,
+    pending: &mut Pending,
+    lines: &mut Lines,
+) -> bool
     requires valid { IsValidWorld mover.old.action.map world.old.records }
     requires live { AllByRecursion (HasLivePlayer world.old.records) pending.old }
     ensures ok { OnTrue result (specs.ReportsMove mover.old.action.map lines.old.given world.old.records

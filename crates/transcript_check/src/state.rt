@@ -44,13 +44,7 @@ impl State {
 
     /// The tick of a frame and its receive pass. It takes no memory.
     #[tactic(auto, using(crate::proofs::Openings::ticked_live))]
-    pub fn receive(
-        &mut self,
-        map: &ArenaMap,
-        frame: u32,
-        arrivals: &[Arrival],
-        out: &mut Received,
-    )
+    pub fn receive(&mut self, map: &ArenaMap, frame: u32, arrivals: &[Arrival], out: &mut Received)
         requires fits { IsServerState map.now (state_of self.old.ports self.old.world.records) }
         requires empty { out.old.lists ≡ no_lists }
         requires room { IsRoomFor (length arrivals.now) out.old.room }
