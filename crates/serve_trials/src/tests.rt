@@ -28,6 +28,7 @@ mod rooms;
 mod statuses;
 mod things;
 mod totals;
+mod transcripts;
 mod ways;
 mod workers;
 
