@@ -27,9 +27,9 @@ use Rattle.ruled_words.specs.Hands.{IsPlain}
 use Rattle.ruled_words.specs.Straight.{in_view}
 use Rattle.ruled_words.specs.Sensing.{after_thing, sensed_to}
 
-none_stays : (b : Bool) (none : Option Effect) → (if b then none else none) ≡ none
-none_stays true none = refl
-none_stays false none = refl
+none_stays : (b : Bool) (kept : Option Effect) → (if b then kept else kept) ≡ kept
+none_stays true kept = refl
+none_stays false kept = refl
 
 -- a pass that nothing but its view speaks of
 pub held_in_view : (p : PassView) → IsPlain p → p ≡ in_view p p.view
