@@ -73,7 +73,8 @@ mod summary;
 /// the least lengths, which show it.
 ///
 /// The report has the journal of the last frame that was run from a recording, which is the last frame that was
-/// written, or the one whose text a failed write has cut. For `feed` it has the order of arrival of this frame. For `match` it has the journals of all frames that were run.
+/// written, or the one whose text a failed write has cut. For `feed` it has the order of arrival of this frame. For
+/// `match` it has the journals of all frames that were run.
 pub fn serve<R: Threads + Wait + Sync, S: Source, K: Sink, G: Gate>(
     rt: &R,
     alloc: Global,
@@ -92,7 +93,7 @@ pub fn serve<R: Threads + Wait + Sync, S: Source, K: Sink, G: Gate>(
     ensures words { (result.status ≡ 2) ↔ AskForNothing words.now }
     // What holds of every command.
     ensures ends { Ends S.Source K.Sink source.old source.new sink.old sink.new result }
-    // Where a read failed, it was before the input's end.
+    // Where a read failed, it was before the input's end, but for `check`, which reads on after a recording.
     ensures before_end { (AskFor words.now Check → ⊥) → result.status ≡ 3 → S.ended source.new ≡ S.ended source.old }
 {
     perform(rt, alloc, command_of(words), source, sink, gate)

@@ -35,14 +35,15 @@ abbrev pub ServesItsSlots : ℕ → Core → Type 0
 ServesItsSlots passes core = (k : ℕ) → is_busy (stage_of (core.view k).point) ≡ true
     → (core.view k).cmd.slot % passes ≡ k
 
--- no more seats are made than there are rooms, at most 16, and each room is a number of 32 bits
+-- no more seats are made than there are rooms, of which there are no more than there may be seats, and each room is a
+-- number of 32 bits
 pub record HasRooms (rooms : List ℕ) (core : Core) : Type 0 where
   pub few : length rooms ≤ MOST_SEATS
   pub made : (core.view 0).made ≤ length rooms
   pub room : (k : ℕ) → (core.view k).room < 2 ^ 32
   pub ended : All (λ (e : Ended). e.room < 2 ^ 32) (core.view 0).ended
 
--- there are 1 to 16 rooms
+-- there are some rooms, and no more than there may be seats
 pub record HasSomeRooms (rooms : List ℕ) : Type 0 where
   pub some : 0 < length rooms
   pub few : length rooms ≤ MOST_SEATS
