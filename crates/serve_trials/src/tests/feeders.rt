@@ -23,7 +23,7 @@ fn packets_that_arrive_are_printed(rt: HostRuntime) -> Result<(), Fail> {
         let Some(order) = &report.order else {
             return Err("no order".into());
         };
-        assert_eq!(rt; order.as_slice(), &[0]);
+        assert_eq!(rt; order.as_slice(), [0].as_slice());
     }
     Ok(())
 }
@@ -38,10 +38,10 @@ fn first_that_arrives_joins(rt: HostRuntime) -> Result<(), Fail> {
         return Err("no order".into());
     };
     let [first, second] = FIRST_OR_SECOND;
-    if order.as_slice() == [0, 1] {
+    if order.as_slice() == [0, 1].as_slice() {
         assert_eq!(rt; sink.bytes(), first.as_bytes());
     } else {
-        assert_eq!(rt; order.as_slice(), &[1, 0]);
+        assert_eq!(rt; order.as_slice(), [1, 0].as_slice());
         assert_eq!(rt; sink.bytes(), second.as_bytes());
     }
     Ok(())
