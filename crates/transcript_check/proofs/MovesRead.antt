@@ -21,7 +21,7 @@ use Rattle.plain_server.proofs.Moves.{moved-none, moved-records}
 use Rattle.demo_lines.specs.Reads.{DemoReaderView}
 use Rattle.demo_lines.specs.Rest.{HasRest, HasNoRestLine}
 use Rattle.out_text.specs.FrameLines.{did_line}
-use Rattle.out_text.specs.OutLines.{OutLine, FrameLine, NoLine, JoinedLine, DidLine, ToLine, EndLine, spelled, printed, text_of}
+use Rattle.out_text.specs.OutLines.{OutLine, FrameLine, FromLine, NoLine, JoinedLine, DidLine, ToLine, EndLine, spelled, printed, text_of}
 use Rattle.out_text.specs.Dids.{Did}
 use Rattle.out_text.specs.Transcripts.{BeginsWith}
 use Rattle.out_text.proofs.Runs.{text_of-append}
@@ -111,6 +111,7 @@ same-slot map_view records c d is also same = ap slot_of (lines_read.one_line (m
     slot_of : OutLine → ℕ
     slot_of (DidLine did) = did.slot
     slot_of (FrameLine frame) = 0
+    slot_of (FromLine port bytes) = 0
     slot_of (NoLine place why) = 0
     slot_of (JoinedLine port slot) = 0
     slot_of (ToLine slot bytes) = 0
