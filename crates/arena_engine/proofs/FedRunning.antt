@@ -68,7 +68,7 @@ pub first_event : (workers : ℕ) (demo : DemoReaderView) (r : Reading) (l b t :
 first_event workers demo r l b t e arena g is h stage holds has is_map sets =
     let P : DemoReaderView → Type 0 = λ x. IsOpen x → Reads x.reading r (ahead x.pending l) b (e ∷ []) in
     let Q : Option (List ℕ) → Type 0 = λ o. Reads start r o b (e ∷ []) in
-    begins workers arena r l b t g e (subst Q (prepend_known-nil l) (subst P is h fresh_is_open)) stage holds.frames holds.arrivals has is_map sets
+    begins workers arena r l b t g e (subst Q (prepend_known-nil l) (subst P is h fresh_is_open)) stage (let few = holds.frames in let most = holds.limit in omega (arith, few, most)) holds.arrivals has is_map sets
 
 module _ (workers : ℕ) (demo : DemoReaderView) (a b t0 t1 : Option (List ℕ)) (g : FedView) (e : Event) (m0 m1 n0 n1 k0 k1 : ℕ) (runs : FedRuns workers demo a b t0 t1 g e m0 m1 n0 n1 k0 k1) where
   pub game_is_ready : IsFedReady g e
@@ -202,7 +202,7 @@ module _ (workers : ℕ) (demo : DemoReaderView) (a b t0 t1 : Option (List ℕ))
         let here : Reads (without_map runs.full) demo'.reading b b' (e' ∷ []) =
         let R : Reading → Type 0 = λ r. Reads r demo'.reading b b' (e' ∷ []) in subst R runs.given (reads (reader_is_open going)) in
         let next = goes_on workers runs.arena runs.full a b t0 t1 g e runs.progress g2 closed goes (having_map runs.full.map demo'.reading) b' t2 e' going written
-        (Reads-given runs.full map_is_whole demo'.reading b b' (e' ∷ []) here) stage holds.frames holds.arrivals in
+        (Reads-given runs.full map_is_whole demo'.reading b b' (e' ∷ []) here) stage (let few = holds.frames in let most = holds.limit in omega (arith, few, most)) holds.arrivals in
         let text = ap length next.text ∙ length-append so_far (text_of (fed_event_lines g g2 e closed)) in
         record {
           arena = runs.arena;
