@@ -1,4 +1,4 @@
-ghost use Rattle.std.specs.Prelude.{◌≡◌, ◌≤◌, ◌⊎◌, [], IfOk, IfErr};
+ghost use Rattle.std.specs.Prelude.{◌≡◌, ◌≤◌, ◌⊎◌, [], IfOk, IfErr, None};
 ghost use Rattle.std.specs.Io.KnownBytes.{Appends};
 ghost use Rattle.edge_io.specs.Writes.{AppendsPart};
 ghost use Rattle.transcript_check.specs.Verdicts.{Judges, StopsChecking};
@@ -42,6 +42,7 @@ fn write_right<K: Sink>(
     ensures counts { Counts 4 (K.faults sink.old) (K.faults sink.new) result.status }
     ensures sure { 300 ≤ K.room sink.old → result.status ≡ 4 → ⊥ }
     ensures bare { IsBare result }
+    ensures order { result.order ≡ None }
     ensures all { result.all ≡ [] }
 {
     push_right(frames, moves, line);
@@ -57,6 +58,7 @@ pub fn check_transcript<S: Source, K: Sink>(alloc: Global, source: &mut S, sink:
     ensures checked { IsChecked S.Source K.Sink source.old source.new sink.old sink.new result }
     ensures ends { Ends S.Source K.Sink source.old source.new sink.old sink.new result }
     ensures served { result.status ≡ 2 → ⊥ }
+    ensures orderless { result.order ≡ None }
 {
     let Ok(mut line) = LineBuf::new(alloc) else {
         return Report::unserved(alloc, 5);

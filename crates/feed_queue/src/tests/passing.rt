@@ -69,8 +69,7 @@ fn gathered(
     rt: &(impl AllocGlobal + Threads + Wait + Sync),
     gate: &HoldingGate,
 ) -> Result<PlaceList, AllocError> {
-    let held = 2 + u16::from(gate.held);
-    let other = 3 - u16::from(gate.held);
+    let (held, other) = if gate.held == 0 { (2, 3) } else { (3, 2) };
     let arrivals = [arrival(held), arrival(held), arrival(other), arrival(other)];
     gather(rt, rt.alloc(), &arrivals, gate)
 }
