@@ -1,4 +1,4 @@
-use super::{CROWDED, FAULTY, ONE_JOIN, report_of};
+use super::{CROWDED, ONE_JOIN, report_of};
 use edge_io::{MemSink, MemSource};
 use std::test::Fail;
 
@@ -66,17 +66,21 @@ fn only_one_to_sixteen_workers_are_fed(rt: HostRuntime) -> Result<(), Fail> {
     Ok(())
 }
 
+/// A recording whose fifth line is no line of one.
+const UNKNOWN_WORD: &str =
+    "arena -131072 -131072 0 131072 131072 65536\nspawn 0 0 6144\nframe\nfrom 7 0101\nfrob\n";
+
 #[test]
 fn faulty_recordings_are_refused_as_by_play(rt: HostRuntime) -> Result<(), Fail> {
-    let mut source = MemSource::new(FAULTY.as_bytes(), 1_000, &[]);
-    let mut sink = MemSink::new(rt.alloc(), 10_000, 1_000)?;
-    let played = report_of(&rt, &["play", "1"], &mut source, &mut sink);
-    let mut source = MemSource::new(FAULTY.as_bytes(), 1_000, &[]);
-    let mut sink = MemSink::new(rt.alloc(), 10_000, 1_000)?;
-    let fed = report_of(&rt, &["feed", "1"], &mut source, &mut sink);
-    assert_eq!(rt; fed.status, 1);
-    assert_eq!(rt; fed.line, played.line);
-    assert_eq!(rt; fed.fault, played.fault);
-    assert_eq!(rt; fed.rule, played.rule);
+    for words in [["play", "1"], ["feed", "1"]] {
+        let mut source = MemSource::new(UNKNOWN_WORD.as_bytes(), 1_000, &[]);
+        let mut sink = MemSink::new(rt.alloc(), 10_000, 1_000)?;
+        let report = report_of(&rt, &words, &mut source, &mut sink);
+        assert_eq!(rt;
+            (report.status, report.line, report.fault, report.rule),
+            (1, 5, 3, 0)
+        );
+        assert!(rt; sink.bytes().is_empty());
+    }
     Ok(())
 }
