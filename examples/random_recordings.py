@@ -17,14 +17,29 @@ FAULTY = [
     (b"spawn 0 0 06144", 4, False),
     (b"from 7", 4, False),
     (b"from -0 -", 4, False),
+    (b"depth 03", 4, False),
+    (b"depth 3 4", 4, False),
+    (b"shots 1", 4, False),
     (b"spawn 0 0 6144", 5, True),
+    (b"depth 3", 5, True),
+    (b"depth 6", 5, True),
+    (b"shots", 5, True),
     (b"from 65536 -", 6, True),
     (b"from 7 010", 8, True),
     (b"from 7 01g1", 8, True),
     (b"from 7 ", 8, True),
+    (b"depth", 4, False),
 ]
-# Map lines that break a rule of the map, whatever comes before them.
-BROKEN_RULES = [b"block 0 0 0 0 10 10", b"spawn 0 0 6143", b"item 0 0 -1 gem 5", b"teleport 0 0 0 9 9 9 0 0 0", b"lift 0 0 0 9 9 9 1048576 1"]
+# Lines among those of the map, and the fault that each has there, whatever comes before it.
+FAULTY_IN_MAP = [
+    (b"block 0 0 0 0 10 10", 7),
+    (b"spawn 0 0 6143", 7),
+    (b"item 0 0 -1 gem 5", 7),
+    (b"teleport 0 0 0 9 9 9 0 0 0", 7),
+    (b"lift 0 0 0 9 9 9 1048576 1", 7),
+    (b"depth 2", 6),
+    (b"depth 6", 6),
+]
 
 
 def line(word, *fields):
@@ -82,12 +97,26 @@ class Maker:
             return line("lift", *self.wide_box(cell, 2560), rng.choice([1, 2560, 30000]), rng.choice([1, 512, 2560]))
         return None
 
+    def items(self, lines):
+        """Items anywhere on the floor, as many as a map may still have, or fewer."""
+        rng = self.rng
+        count = 400 - sum(line.startswith(b"item ") for line in lines)
+        for _ in range(rng.choice([count, count, rng.randrange(count)])):
+            at = [rng.randrange(-self.half, self.half - size) for size in ITEM[:2]]
+            yield line("item", *at, 0, rng.choice(["ammo", "ammo", "gem"]), rng.choice([1, 2, 10, 65535]))
+
     def map_lines(self):
         cells = list(range(self.cells**2))
         self.rng.shuffle(cells)
         lines = [line("arena", -self.half, -self.half, 0, self.half, self.half, HEIGHT)]
         lines += [line("spawn", *self.place(cells.pop())) for _ in range(self.rng.choice([1, 2, 6]))]
         lines += [thing for thing in map(self.thing, cells) if thing is not None]
+        if self.rng.randrange(6) == 0:
+            lines += self.items(lines)
+        if self.rng.randrange(2) == 0:
+            lines.append(line("depth", self.rng.choice([3, 3, 4, 5, 5])))
+        if self.rng.randrange(2) == 0:
+            lines.append(b"shots")
         lines[1:] = self.rng.sample(lines[1:], len(lines) - 1)
         return lines
 
@@ -114,7 +143,7 @@ class Maker:
         for _ in range(min(count, 3)):
             packet += bytes([rng.choice([50] * 40 + [1, 17, 0, 51])])
             packet += b"".join(rng.choice([0, 320, -320, rng.randrange(-32768, 32768)]).to_bytes(2, "little", signed=True) for _ in range(2))
-            packet += bytes([rng.choice([0] * 20 + [1] * 8 + [2, 3, 4])])
+            packet += bytes([rng.choice([0] * 20 + [1] * 8 + [2] * 8 + [3, 3, 4])])
         return packet.hex().encode()
 
     def garbage(self):
@@ -175,7 +204,8 @@ def with_fault(rng, lines):
     faulty, fault, needs_frame = rng.choice(FAULTY)
     place = rng.randrange(first + 1 if needs_frame else 1, len(lines))
     if rng.randrange(4) == 0:
-        faulty, fault, place = rng.choice(BROKEN_RULES), 7, rng.randrange(1, first + 1)
+        faulty, fault = rng.choice(FAULTY_IN_MAP)
+        place = rng.randrange(1, first + 1)
     return joined(rng, lines[:place] + [faulty] + lines[place:]), place + 1, fault
 
 

@@ -1,12 +1,12 @@
 -- The areas of the nodes, by number.
-use Rattle.std.specs.Prelude.{◌≡◌, ℕ, zero, suc, ◌+◌, ◌*◌, ◌%◌, ◌^◌, ◌<◌, ◌≤◌, ◌==◌, if◌then◌else◌}
+use Rattle.std.specs.Prelude.{◌≡◌, ℕ, zero, suc, ◌+◌, ◌*◌, ◌%◌, ◌^◌, ◌<◌, ◌≤◌, ◌==◌, nat_lt, if◌then◌else◌}
 use Rattle.std.specs.Prelude.{List, length, map, slice_index_or}
 use Rattle.std.specs.List.{range_with_len}
 use Rattle.arena_geo.specs.Vectors.{zero_vector}
 use Rattle.arena_geo.specs.Bounds.{Bounds, bounds}
 use Rattle.areanode.specs.Cuts.{part_above, part_below}
-use Rattle.areanode.specs.declared.sizes.TheConstants.{DEPTH, LEAVES, NODES, FIRST_LEAF}
-use Rattle.areanode.specs.Trees.{child_above, child_below, parent}
+use Rattle.areanode.specs.declared.sizes.TheConstants.{MOST_NODES}
+use Rattle.areanode.specs.Trees.{TreeView, IsTreeDepth, leaves_in, inner_in, nodes_in, child_above, child_below, parent}
 
 -- the area of a node, and a point where there is no such node
 abbrev pub area_at : List Bounds → ℕ → Bounds
@@ -18,15 +18,17 @@ pub record HasParts (areas : List Bounds) (node : ℕ) : Type 0 where
   pub above : area_at areas (child_above node) ≡ part_above (area_at areas node)
   pub below : area_at areas (child_below node) ≡ part_below (area_at areas node)
 
--- the areas of all nodes, of which those before the leaves are cut in two
-pub record AreCut (areas : List Bounds) : Type 0 where
-  pub number : length areas ≡ NODES
-  pub parts : (node : ℕ) → node < FIRST_LEAF → HasParts areas node
+-- the areas of all nodes of a tree of this depth, of which the inner ones are cut in two; beyond them is the root's
+pub record AreCut (depth : ℕ) (areas : List Bounds) : Type 0 where
+  pub is_depth : IsTreeDepth depth
+  pub number : length areas ≡ MOST_NODES
+  pub parts : (node : ℕ) → node < inner_in depth → HasParts areas node
+  pub beyond : (node : ℕ) → nodes_in depth ≤ node → node < MOST_NODES → area_at areas node ≡ area_at areas 0
 
--- the node has this many levels below it, in the tree
-pub record IsAtLevel (levels node : ℕ) : Type 0 where
-  pub least : LEAVES ≤ (node + 1) * 2 ^ levels
-  pub most : (node + 2) * 2 ^ levels ≤ 2 * LEAVES
+-- the node has this many levels below it, in a tree of this depth
+pub record IsAtLevel (depth levels node : ℕ) : Type 0 where
+  pub least : leaves_in depth ≤ (node + 1) * 2 ^ levels
+  pub most : (node + 2) * 2 ^ levels ≤ 2 * leaves_in depth
 
 -- the area of a node at most this many levels below the root: the part of its parent's area on its side
 unfoldable pub area_of : ℕ → Bounds → ℕ → Bounds
@@ -35,6 +37,10 @@ area_of (suc levels) bounds node =
     let up = area_of levels bounds (parent node) in
     if node == 0 then bounds else (if node % 2 == 1 then part_above up else part_below up)
 
--- the areas of the nodes of the tree over these bounds
-abbrev pub areas_of : Bounds → List Bounds
-areas_of bounds = map (area_of DEPTH bounds) (range_with_len 0 NODES)
+-- the area of a node of the tree of this depth, and all of the bounds where it has no such node
+abbrev pub area_or_bounds : ℕ → Bounds → ℕ → Bounds
+area_or_bounds depth bounds node = if nat_lt node (nodes_in depth) then area_of depth bounds node else bounds
+
+-- the areas of the nodes of a tree, in room for those of the greatest depth
+unfoldable pub areas_of : TreeView → List Bounds
+areas_of tree = map (area_or_bounds tree.depth tree.bounds) (range_with_len 0 MOST_NODES)

@@ -3,11 +3,19 @@ use Rattle.std.specs.Prelude.{◌≡◌, ℕ, ◌+◌, ◌^◌, ◌<◌, ◌≤�
 use Rattle.arena_geo.specs.Bounds.{Bounds, IsOrdered}
 use Rattle.arena_geo.specs.Boxes.{touches}
 use Rattle.arena_geo.specs.Regions.{touches_region, is_inside}
+use Rattle.areanode.specs.declared.sizes.TheConstants.{LEAST_DEPTH, MOST_DEPTH, MOST_LEAVES, MOST_NODES}
 use Rattle.areanode.specs.Words.{word_of, has_bit}
 use Rattle.areanode.specs.Cuts.{cut_of}
 use Rattle.areanode.specs.Trees.{TreeView, leaf_node, node_of, has_leaf, region_has_leaf}
 use Rattle.areanode.specs.Trees.{leaves_of, is_over, visited_of}
 use Rattle.areanode.specs.Sides.{IsCutInHalf, HasPartsAtCut, GoesToItsSide, IsOnItsSide, HasLeavesOnItsSide}
+
+-- the depths of trees, and the most leaves and nodes, have these values
+pub record SizesAreKnown : Type 0 where
+  pub least_depth : LEAST_DEPTH ≡ 3
+  pub most_depth : MOST_DEPTH ≡ 5
+  pub most_leaves : MOST_LEAVES ≡ 32
+  pub most_nodes : MOST_NODES ≡ 63
 
 -- some number below n passes
 pub record SomeBelow (n : ℕ) (test : ℕ → Bool) : Type 0 where

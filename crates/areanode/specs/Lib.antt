@@ -5,6 +5,7 @@ pub use Rattle.arena_geo.specs.Regions
 pub mod Words
 pub mod Cuts
 pub mod Trees
+pub mod Depths
 pub mod Areas
 pub mod Rebuilt
 pub mod Sides

@@ -1,9 +1,27 @@
 -- The areanode tree: the node of a box, the leaves of a box and of a region, and the nodes above leaves.
-use Rattle.std.specs.Prelude.{ℕ, zero, suc, ◌+◌, ◌-◌, ◌*◌, ◌/◌, ◌^◌, ◌==◌, Bool, ◌&&◌, ◌||◌, if◌then◌else◌, List}
+use Rattle.std.specs.Prelude.{ℕ, zero, suc, ◌+◌, ◌-◌, ◌*◌, ◌/◌, ◌^◌, ◌≤◌, ◌==◌, Bool, ◌&&◌, ◌||◌, if◌then◌else◌, List}
 use Rattle.std.specs.List.{list_any}
 use Rattle.arena_geo.specs.Bounds.{Bounds}
+use Rattle.areanode.specs.declared.sizes.TheConstants.{LEAST_DEPTH, MOST_DEPTH}
 use Rattle.areanode.specs.Words.{any_below, word_of, has_bit}
 use Rattle.areanode.specs.Cuts.{cut_of, part_above, part_below, is_above, is_below, reaches_above, reaches_below}
+
+-- a depth that a tree may have
+pub record IsTreeDepth (depth : ℕ) : Type 0 where
+  pub least : LEAST_DEPTH ≤ depth
+  pub most : depth ≤ MOST_DEPTH
+
+-- the number of leaves of a tree of this depth
+abbrev pub leaves_in : ℕ → ℕ
+leaves_in depth = 2 ^ depth
+
+-- the number of its inner nodes, which is also the node of its first leaf
+abbrev pub inner_in : ℕ → ℕ
+inner_in depth = 2 ^ depth - 1
+
+-- the number of its nodes
+abbrev pub nodes_in : ℕ → ℕ
+nodes_in depth = 2 ^ (depth + 1) - 1
 
 -- the tree that cuts these bounds in two, and each part again, down to this depth
 pub record TreeView : Type 0 where

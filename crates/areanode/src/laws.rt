@@ -1,7 +1,7 @@
 ghost use Rattle.areanode.specs.Laws.{AreasAreCutInHalf, AreasHaveTheirParts, BoxGoesToItsSide, NodeIsOnItsSide};
 ghost use Rattle.areanode.specs.Laws.{LeavesAreOnItsSide, NodeIsOverLeaves, TouchingBoxesShareALeaf, TouchedNodeIsVisited, BoxHasALeaf};
 ghost use Rattle.areanode.specs.Laws.{TouchedLeafIsListed, InsideAndTouchedShareALeaf, LeavesAreInRange, NodeIsInRange};
-ghost use Rattle.areanode.specs.Laws.{LeafOverLeaf, WordHasItsBits, WordFits};
+ghost use Rattle.areanode.specs.Laws.{LeafOverLeaf, WordHasItsBits, WordFits, SizesAreKnown};
 
 /// An area is cut halfway on the longer of the axes x and y, and on y where neither is longer: it reaches as far beyond
 /// the cut as before it, or farther by 1.
@@ -83,4 +83,9 @@ pub fn word_has_its_bits()
 /// The word of a set of numbers below n is below 2 to the power of n.
 pub fn word_fits()
     ensures { WordFits }
+{}
+
+/// A tree has depth 3, 4 or 5. One of depth 5 has the most leaves, 32, and the most nodes, 63.
+pub fn sizes_are_known()
+    ensures { SizesAreKnown }
 {}

@@ -2,14 +2,14 @@
 //! them.
 #![tactic(auto)]
 
-pub use ancestors::visited;
 pub use laws::{
     areas_are_cut_in_half, areas_have_their_parts, box_goes_to_its_side, box_has_a_leaf,
     inside_and_touched_share_a_leaf, leaf_over_leaf, leaves_are_in_range, leaves_are_on_its_side,
-    node_is_in_range, node_is_on_its_side, node_is_over_leaves, touched_leaf_is_listed,
-    touched_node_is_visited, touching_boxes_share_a_leaf, word_fits, word_has_its_bits,
+    node_is_in_range, node_is_on_its_side, node_is_over_leaves, sizes_are_known,
+    touched_leaf_is_listed, touched_node_is_visited, touching_boxes_share_a_leaf, word_fits,
+    word_has_its_bits,
 };
-pub use sizes::{DEPTH, FIRST_LEAF, LEAVES, NODES};
+pub use sizes::{LEAST_DEPTH, MOST_DEPTH, MOST_LEAVES, MOST_NODES};
 pub use tree::Tree;
 
 mod ancestors;

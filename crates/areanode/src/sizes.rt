@@ -1,11 +1,11 @@
-/// The depth of the leaves, where the root has depth 0.
-pub const DEPTH: u8 = 4;
+/// The least depth of a tree: the depth of its leaves, where the root has depth 0.
+pub const LEAST_DEPTH: u8 = 3;
 
-/// The number of leaves.
-pub const LEAVES: usize = 16;
+/// The greatest depth of a tree.
+pub const MOST_DEPTH: u8 = 5;
 
-/// The number of nodes, the leaves among them.
-pub const NODES: usize = 31;
+/// The number of leaves of a tree of the greatest depth.
+pub const MOST_LEAVES: usize = 32;
 
-/// The first leaf's node, which is also the number of inner nodes.
-pub const FIRST_LEAF: usize = 15;
+/// The number of nodes of a tree of the greatest depth, the leaves among them.
+pub const MOST_NODES: usize = 63;

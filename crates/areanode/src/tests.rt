@@ -1,4 +1,4 @@
-use crate::{DEPTH, Tree, visited};
+use crate::{LEAST_DEPTH, MOST_DEPTH, Tree};
 use arena_geo::{Aabb, Region, Vec3};
 use std::process::Abort;
 use std::test::Fail;
@@ -6,19 +6,21 @@ use std::test::Fail;
 /// The arena of the rows.
 const ARENA: [i32; 6] = [-131_072, -131_072, 0, 131_072, 131_072, 65_536];
 
-/// An arena, boxes, the node of the first, the leaves of all, and the nodes visited for them, as computed by a program
-/// that was written apart from this one.
+/// A depth, an arena, boxes, the node of the first, the leaves of all, and the nodes visited for them, as computed by a
+/// program that was written apart from this one.
 #[derive(Clone, Copy)]
 struct Row {
+    depth: u8,
     arena: [i32; 6],
     boxes: [[i32; 6]; 3],
     node: u8,
-    leaves: u16,
-    nodes: u32,
+    leaves: u32,
+    nodes: u64,
 }
 
-const ROWS: [Row; 8] = [
+const ROWS: [Row; 15] = [
     Row {
+        depth: 4,
         arena: [271, 138, 0, 903, 472, 99],
         boxes: [
             [861, 1_054, 573, 1_430, 1_703, 1_365],
@@ -30,6 +32,7 @@ const ROWS: [Row; 8] = [
         nodes: 1_073_791_183,
     },
     Row {
+        depth: 4,
         arena: [-118, -44, 0, 136, 464, 99],
         boxes: [
             [580, 209, -482, 600, 360, 394],
@@ -41,6 +44,7 @@ const ROWS: [Row; 8] = [
         nodes: 2_144_960_255,
     },
     Row {
+        depth: 4,
         arena: [-134, 110, 0, 651, 621, 99],
         boxes: [
             [259, -148, -506, 279, -123, -467],
@@ -52,6 +56,7 @@ const ROWS: [Row; 8] = [
         nodes: 1_681_937_527,
     },
     Row {
+        depth: 4,
         arena: [-50, -65, 0, 180, 796, 99],
         boxes: [
             [1_063, 320, 564, 1_089, 365, 571],
@@ -63,6 +68,7 @@ const ROWS: [Row; 8] = [
         nodes: 1_351_641_719,
     },
     Row {
+        depth: 4,
         arena: [-108, 23, 0, 747, 694, 99],
         boxes: [
             [-645, -134, -343, -257, 649, 296],
@@ -74,6 +80,7 @@ const ROWS: [Row; 8] = [
         nodes: 1_716_541_047,
     },
     Row {
+        depth: 4,
         arena: [62, -201, 0, 775, 669, 99],
         boxes: [
             [994, 235, 136, 996, 240, 138],
@@ -85,6 +92,7 @@ const ROWS: [Row; 8] = [
         nodes: 1_879_204_175,
     },
     Row {
+        depth: 4,
         arena: [-20, 285, 0, 965, 738, 99],
         boxes: [
             [1_146, 490, -941, 1_889, 634, -753],
@@ -96,6 +104,7 @@ const ROWS: [Row; 8] = [
         nodes: 399_687_679,
     },
     Row {
+        depth: 4,
         arena: [-52, -167, 0, 510, 770, 99],
         boxes: [
             [-996, 296, -775, -994, 300, -773],
@@ -105,6 +114,90 @@ const ROWS: [Row; 8] = [
         node: 28,
         leaves: 8_224,
         nodes: 269_492_823,
+    },
+    Row {
+        depth: 3,
+        arena: [258, -287, 0, 507, 168, 99],
+        boxes: [
+            [601, 880, 643, 602, 883, 644],
+            [-935, -293, -472, -918, -273, -434],
+            [-977, 472, -818, -919, 516, -764],
+        ],
+        node: 7,
+        leaves: 133,
+        nodes: 17_119,
+    },
+    Row {
+        depth: 3,
+        arena: [-129, -237, 0, 422, -144, 99],
+        boxes: [
+            [-626, 773, 957, 187, 1_469, 1_410],
+            [-1_058, 463, 312, -970, 667, 539],
+            [142, -876, 99, 146, -782, 105],
+        ],
+        node: 0,
+        leaves: 248,
+        nodes: 31_863,
+    },
+    Row {
+        depth: 3,
+        arena: [-65, 89, 0, 155, 802, 99],
+        boxes: [
+            [-820, -197, 994, -816, -195, 996],
+            [-738, 1_073, 125, -723, 1_146, 179],
+            [-738, 1_073, 125, -723, 1_146, 179],
+        ],
+        node: 14,
+        leaves: 130,
+        nodes: 16_719,
+    },
+    Row {
+        depth: 5,
+        arena: [83, -16, 0, 528, 152, 99],
+        boxes: [
+            [303, -771, -168, 304, -768, -164],
+            [676, 651, -387, 1_508, 691, 404],
+            [676, 651, -387, 1_508, 691, 404],
+        ],
+        node: 52,
+        leaves: 2_097_153,
+        nodes: 4_503_601_808_445_615,
+    },
+    Row {
+        depth: 5,
+        arena: [-22, 46, 0, 972, 558, 99],
+        boxes: [
+            [-539, -696, -841, -496, -616, -742],
+            [420, -205, 856, 510, -110, 878],
+            [-357, -695, 115, 476, 114, 229],
+        ],
+        node: 62,
+        leaves: 3_422_584_832,
+        nodes: 7_349_944_961_959_224_407,
+    },
+    Row {
+        depth: 5,
+        arena: [-137, 32, 0, 799, 520, 99],
+        boxes: [
+            [206, -1_161, 32, 331, -1_112, 576],
+            [206, -1_161, 32, 331, -1_112, 576],
+            [206, -1_161, 32, 331, -1_112, 576],
+        ],
+        node: 0,
+        leaves: 201_359_360,
+        nodes: 432_415_933_244_384_343,
+    },
+    Row {
+        depth: 5,
+        arena: [143, -266, 0, 845, -156, 99],
+        boxes: [
+            [-51, 926, 599, -22, 970, 650],
+            [494, -801, 1_145, 510, -755, 1_205],
+            [476, 662, -325, 494, 672, -271],
+        ],
+        node: 60,
+        leaves: 537_239_552,
+        nodes: 1_153_713_153_547_193_463,
     },
 ];
 
@@ -118,32 +211,60 @@ fn box_of(corners: [i32; 6]) -> Option<Aabb> {
     Aabb::new(Vec3 { x, y, z }, hi)
 }
 
+/// The tree of a depth over an arena.
+fn tree_of(arena: [i32; 6], depth: u8) -> Result<Tree, &'static str> {
+    if depth < LEAST_DEPTH || depth > MOST_DEPTH {
+        return Err("a depth");
+    }
+    Ok(Tree::new(&box_of(arena).ok_or("a box")?, depth))
+}
+
 #[test]
 fn boxes_are_linked_where_they_touch_no_deeper_cut(rt: HostRuntime) -> Result<(), Fail> {
-    let tree = Tree::new(&box_of(ARENA).ok_or("a box")?);
     // the absolute boxes of players at (0, -4352, 6144), which ends on the root's cut, and at (0, -4353, 6144)
-    for (corners, node) in [
-        ([-4_352, -8_704, -256, 4_352, 0, 14_592], 0),
-        ([-4_352, -8_705, -256, 4_352, -1, 14_592], 2),
-    ] {
-        let b = box_of(corners).ok_or("a box")?;
-        assert_eq!(rt; tree.node_of(&b), node, "{corners:?}");
+    for depth in [3, 4, 5] {
+        let tree = tree_of(ARENA, depth)?;
+        for (corners, node) in [
+            ([-4_352, -8_704, -256, 4_352, 0, 14_592], 0),
+            ([-4_352, -8_705, -256, 4_352, -1, 14_592], 2),
+        ] {
+            let b = box_of(corners).ok_or("a box")?;
+            assert_eq!(rt; tree.node_of(&b), node, "{depth} {corners:?}");
+        }
     }
     Ok(())
 }
 
 #[test]
 fn a_box_has_leaves_on_both_sides_of_its_cuts(rt: HostRuntime) -> Result<(), Fail> {
-    let tree = Tree::new(&box_of(ARENA).ok_or("a box")?);
-    // the region of a player at rest in the middle, and a box that ends on the root's cut
-    for (corners, leaves) in [
-        ([-25_088, -25_088, -25_600, 25_088, 25_088, 39_936], 4_680),
-        ([4_096, -8_192, 0, 8_192, 0, 8_192], 520),
+    // the region of a player at rest in the middle
+    let b = box_of([-25_088, -25_088, -25_600, 25_088, 25_088, 39_936]).ok_or("a box")?;
+    for (depth, leaves, nodes) in [
+        (3, 90, 11_647),
+        (4, 4_680, 153_365_887),
+        (5, 17_047_680, 36_609_614_189_702_527),
     ] {
-        let b = box_of(corners).ok_or("a box")?;
-        assert_eq!(rt; tree.leaves_of(&Region::one(b)), leaves, "{corners:?}");
+        let tree = tree_of(ARENA, depth)?;
+        let found = tree.leaves_of(&Region::one(b));
+        assert_eq!(rt; found, leaves, "{depth}");
+        assert_eq!(rt; tree.visited(found), nodes, "{depth}");
     }
-    assert_eq!(rt; visited(4_680), 153_365_887);
+    // a box that ends on the root's cut
+    let b = box_of([4_096, -8_192, 0, 8_192, 0, 8_192]).ok_or("a box")?;
+    let tree = tree_of(ARENA, 4)?;
+    assert_eq!(rt; tree.leaves_of(&Region::one(b)), 520);
+    Ok(())
+}
+
+#[test]
+fn a_tree_has_a_level_of_leaves_at_its_depth(rt: HostRuntime) -> Result<(), Fail> {
+    for (depth, leaves, first_leaf, nodes) in [(3, 8, 7, 15), (4, 16, 15, 31), (5, 32, 31, 63)] {
+        let tree = tree_of(ARENA, depth)?;
+        assert_eq!(rt; tree.depth(), depth);
+        assert_eq!(rt; tree.leaves(), leaves);
+        assert_eq!(rt; tree.first_leaf(), first_leaf);
+        assert_eq!(rt; tree.nodes(), nodes);
+    }
     Ok(())
 }
 
@@ -159,12 +280,13 @@ fn region_of(boxes: [[i32; 6]; 3]) -> Result<Region, &'static str> {
 /// Expects the node, the leaves and the visited nodes of a row.
 fn expect_row(rt: &impl Abort, row: &Row) -> Result<(), Fail> {
     let arena = row.arena;
-    let tree = Tree::new(&box_of(arena).ok_or("a box")?);
+    let tree = tree_of(arena, row.depth)?;
     let first = box_of(row.boxes[0]).ok_or("a box")?;
     let region = region_of(row.boxes)?;
     assert_eq!(rt; tree.node_of(&first), row.node, "{arena:?}");
-    assert_eq!(rt; tree.leaves_of(&region), row.leaves, "{arena:?}");
-    assert_eq!(rt; visited(row.leaves), row.nodes, "{arena:?}");
+    let leaves = tree.leaves_of(&region);
+    assert_eq!(rt; leaves, row.leaves, "{arena:?}");
+    assert_eq!(rt; tree.visited(leaves), row.nodes, "{arena:?}");
     Ok(())
 }
 
@@ -180,7 +302,7 @@ fn regions_have_the_leaves_of_their_boxes(rt: HostRuntime) -> Result<(), Fail> {
 #[derive(Clone, Copy)]
 struct Found {
     node: u8,
-    leaves: u16,
+    leaves: u32,
 }
 
 /// Cuts the rectangle from `lo` to `hi` in two, and each part again, `levels` times.
@@ -234,7 +356,14 @@ fn expect_as_plain(
     let to_y = y.saturating_add(size);
     let b = box_of([x, y, 0, to_x, to_y, 1]).ok_or("a box")?;
     let from = [i64::from(x), i64::from(y)];
-    let want = plain(0, DEPTH, lo, hi, from, [i64::from(to_x), i64::from(to_y)]);
+    let want = plain(
+        0,
+        tree.depth(),
+        lo,
+        hi,
+        from,
+        [i64::from(to_x), i64::from(to_y)],
+    );
     assert_eq!(rt; tree.node_of(&b), want.node, "{x} {y} {size}");
     assert_eq!(rt;
         tree.leaves_of(&Region::one(b)),
@@ -244,19 +373,27 @@ fn expect_as_plain(
     Ok(())
 }
 
-#[test]
-fn tree_agrees_with_a_plain_recursion(rt: HostRuntime) -> Result<(), Fail> {
+/// Expects that the tree of a depth over an arena and the plain recursion answer alike for boxes in and beyond it.
+fn expect_all_as_plain(rt: &impl Abort, arena: [i32; 6], depth: u8) -> Result<(), Fail> {
     let ends: [i32; 9] = [
         -200_000, -131_072, -65_537, -32_768, -1, 0, 40_000, 98_304, 131_073,
     ];
-    for arena in [ARENA, [-101, -7, 0, 100, 300, 9], [5, 5, 5, 5, 5, 5]] {
-        let tree = Tree::new(&box_of(arena).ok_or("a box")?);
-        for x in ends {
-            for y in ends {
-                for size in [0i32, 32_768, 150_000] {
-                    expect_as_plain(&rt, &tree, arena, x, y, size)?;
-                }
+    let tree = tree_of(arena, depth)?;
+    for x in ends {
+        for y in ends {
+            for size in [0i32, 32_768, 150_000] {
+                expect_as_plain(rt, &tree, arena, x, y, size)?;
             }
+        }
+    }
+    Ok(())
+}
+
+#[test]
+fn tree_agrees_with_a_plain_recursion(rt: HostRuntime) -> Result<(), Fail> {
+    for arena in [ARENA, [-101, -7, 0, 100, 300, 9], [5, 5, 5, 5, 5, 5]] {
+        for depth in [3, 4, 5] {
+            expect_all_as_plain(&rt, arena, depth)?;
         }
     }
     Ok(())

@@ -3,6 +3,7 @@ use Rattle.std.proofs.Common.{◌≡◌, ℕ, zero, suc, ◌+◌, ◌<◌, ◌�
 use Rattle.std.specs.List.Sorted.{IsStrictlyIncreasing}
 use Rattle.std.proofs.lemmas.List.{length-map}
 use Rattle.std.proofs.lemmas.List.Elements.{All-get_or, All-map, All-weaker}
+use Rattle.entity_recs.specs.declared.limits.TheConstants.{IDS}
 use Rattle.entity_recs.specs.declared.kind.Kind.{Kind}
 use Rattle.entity_recs.specs.declared.kind.Kind.TheVariants.{Player, Ammo, Gem, Teleporter, Goal, Lift}
 use Rattle.entity_recs.specs.declared.rec.Rec.{Rec}
@@ -18,8 +19,8 @@ rises xs (suc k) rise below =
     let next : slice_index xs k < slice_index xs (suc k) = subst (λ (j : ℕ). slice_index xs k < slice_index xs j) e more in
     omega (arith, before, next)
 
--- the ids of records are below 256
-id_is_small : (kind : Kind) (id : ℕ) → IsIdOf kind id → id < 256
+-- the ids of records are among the ids
+id_is_small : (kind : Kind) (id : ℕ) → IsIdOf kind id → id < IDS
 id_is_small Player id is = omega (arith, is)
 id_is_small Ammo id is = omega (arith, is.most)
 id_is_small Gem id is = omega (arith, is.most)
@@ -27,16 +28,16 @@ id_is_small Teleporter id is = omega (arith, is.most)
 id_is_small Goal id is = omega (arith, is.most)
 id_is_small Lift id is = omega (arith, is.most)
 
--- records in rising id are at most 256
-pub few_records : (near : List Rec) → All IsRecord near → IsStrictlyIncreasing (map (λ r. r.id) near) → length near ≤ 256
+-- records in rising id are no more than there are ids
+pub few_records : (near : List Rec) → All IsRecord near → IsStrictlyIncreasing (map (λ r. r.id) near) → length near ≤ IDS
 few_records [] records rise = omega arith
 few_records (r ∷ near) records rise =
     let ids = map (λ (s : Rec). s.id) (r ∷ near) in
     let long : length ids ≡ length near + 1 = ap suc (length-map near (λ (s : Rec). s.id)) ∙ add_one (length near) in
     let last : length near ≤ slice_index ids (length near) = rises ids (length near) rise (omega (arith, long)) in
-    let small : slice_index ids (length near) < 256 =
-    All-get_or (λ (id : ℕ). id < 256) ids (length near) 0 (omega (arith, long))
-    (All-map (λ (id : ℕ). id < 256) (λ (s : Rec). s.id) (r ∷ near) (All-weaker IsRecord (λ (s : Rec). s.id < 256) (λ s is. id_is_small s.kind s.id is.id) (r ∷ near) records)) in
+    let small : slice_index ids (length near) < IDS =
+    All-get_or (λ (id : ℕ). id < IDS) ids (length near) 0 (omega (arith, long))
+    (All-map (λ (id : ℕ). id < IDS) (λ (s : Rec). s.id) (r ∷ near) (All-weaker IsRecord (λ (s : Rec). s.id < IDS) (λ s is. id_is_small s.kind s.id is.id) (r ∷ near) records)) in
     omega (arith, last, small)
   where
     add_one : (n : ℕ) → suc n ≡ n + 1

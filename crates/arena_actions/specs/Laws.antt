@@ -1,4 +1,4 @@
--- What holds of every move in an arena.
+-- What holds of every move in an arena, but for shots.
 use Rattle.std.specs.Prelude.{◌≡◌, ◌≢◌, ℕ, ◌+◌, ◌*◌, ◌/◌, min, ℤ, pos, unsigned_abs, true, false, List, [], map, All}
 use Rattle.std.specs.Prelude.{Contains, Some}
 use Rattle.std.specs.List.{IsDistinct}
@@ -18,7 +18,7 @@ use Rattle.player_move.specs.Moves.{move_of}
 use Rattle.trigger_rules.specs.Touching.{touched_by, solids_among, Walk, touched}
 use Rattle.trigger_rules.specs.Laws.{IsPlayerOn, AreTaken, is_same_record}
 use Rattle.arena_actions.specs.Outcomes.{asked, flags_of, after_move, moved_among, outcome_in}
-use Rattle.arena_actions.specs.Regions.{region_in}
+use Rattle.arena_actions.specs.Regions.{region_in, shot_region}
 
 -- a player on a map is one after its move
 abbrev pub PlayersStayOnMaps : Type 0
@@ -137,18 +137,21 @@ box_around me ms flat high =
     (pos (farthest_on me.vel.x ms + flat)) (pos (farthest_on me.vel.y ms + flat))
     (pos (farthest_on me.vel.z ms + high)))
 
--- a box is near a player
-pub data IsNearPlayer (arena : MapView) (me : Rec) (ms : ℕ) (box : Bounds) : Type 0 where
-  -- it lies around the player, no farther than the player may go and 16,640 more, on z 21,248 more
-  IsAround : contains (box_around me ms 16640 21248) box ≡ true → IsNearPlayer arena me ms box
+-- a box is near a player, with so much room
+pub data IsNearPlayer (room : ℕ) (arena : MapView) (me : Rec) (ms : ℕ) (box : Bounds) : Type 0 where
+  -- it lies around the player, no farther than the player may go, the room and 256 more, on z 4,864 more
+  IsAround : contains (box_around me ms (256 + room) (4864 + room)) box ≡ true → IsNearPlayer room arena me ms box
   -- it lies around the place where a teleporter puts the player, no farther than 16,384; and the teleporter touches what
   -- lies around the player, no farther than it may go and 256 more, on z 4,864 more
   IsLanding : (teleporter : Rec) (dest : Vec3) → Contains (entities_of arena) teleporter
       → dest_of arena teleporter.id ≡ Some dest
       → touches (abs_of teleporter) (box_around me ms 256 4864) ≡ true
       → contains (grown (abs_of (record me { origin = dest })) (vector (pos 16384) (pos 16384) (pos 16384))) box ≡ true
-      → IsNearPlayer arena me ms box
+      → IsNearPlayer room arena me ms box
 
 -- each box of the region of a move is near its player
-abbrev pub RegionsAreNear : Type 0
-RegionsAreNear = (arena : MapView) (me : Rec) (c : Command) → All (IsNearPlayer arena me c.ms) (region_in arena me c)
+pub record RegionsAreNear : Type 0 where
+  pub plain : (arena : MapView) (me : Rec) (c : Command)
+      → All (IsNearPlayer 16384 arena me c.ms) (region_in arena me c)
+  pub shots : (arena : MapView) (me : Rec) (c : Command)
+      → All (IsNearPlayer 81920 arena me c.ms) (shot_region arena me c)

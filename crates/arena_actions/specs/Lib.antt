@@ -8,6 +8,8 @@ pub use Rattle.entity_recs.specs.Commands
 pub use Rattle.entity_recs.specs.Histories
 pub use Rattle.arena_map.specs.Maps
 pub use Rattle.trigger_rules.specs.Touching
+pub use Rattle.shot_rules.specs.Targets
+pub use Rattle.shot_rules.specs.Shots
 pub mod Outcomes
 pub mod Props
 pub mod Regions
@@ -17,5 +19,7 @@ pub mod Takes
 pub mod Meanings
 pub mod Worlds
 pub mod Lawful
+pub mod MapActions
 pub mod Laws
+pub mod ShotLaws
 pub mod Flags

@@ -2,7 +2,7 @@
 use Rattle.std.specs.Prelude.{◌≡◌, List}
 use Rattle.std.proofs.Props.{props}
 use Rattle.arena_map.specs.declared.map_line.MapLine.{MapLine}
-use Rattle.arena_map.specs.declared.map_line.MapLine.TheVariants.{Arena, Block, Spawn, Item, Teleport, Goal, Lift}
+use Rattle.arena_map.specs.declared.map_line.MapLine.TheVariants.{Arena, Depth, Shots, Block, Spawn, Item, Teleport, Goal, Lift}
 use Rattle.arena_map.specs.MapLines.{IsWithinLimits}
 use Rattle.arena_geo.specs.Bounds.{Bounds}
 use Rattle.arena_map.specs.Maps.{MapView, IsMap}
@@ -13,6 +13,8 @@ use Rattle.arena_actions.specs.Leaps.{leaps_of}
 
 pub IsWithinLimits-prop : (line : MapLine) → IsProp (IsWithinLimits line)
 IsWithinLimits-prop (Arena lo hi) = hlevel props
+IsWithinLimits-prop (Depth depth) = hlevel props
+IsWithinLimits-prop Shots = hlevel props
 IsWithinLimits-prop (Block lo hi) = hlevel props
 IsWithinLimits-prop (Spawn at) = hlevel props
 IsWithinLimits-prop (Item at kind delay) = hlevel props

@@ -10,6 +10,7 @@ use Rattle.entity_recs.specs.Bodies.{abs_of}
 use Rattle.entity_recs.specs.Commands.{Command}
 use Rattle.player_move.specs.Laws.{reach_on}
 use Rattle.arena_map.specs.Maps.{MapView, entities_of, dest_of}
+use Rattle.arena_actions.specs.declared.sizes.TheConstants.{ROOM, SHOT_ROOM}
 
 -- by how much the reach is larger than the absolute box: how far the move goes on each axis, with 256 to spare, and on
 -- z the height of a stair more
@@ -21,13 +22,13 @@ reach_growth me ms =
 abbrev pub reach_of : Rec → ℕ → Bounds
 reach_of me ms = grown (abs_of me) (reach_growth me ms)
 
--- no item's absolute box is longer than this on an axis
-abbrev pub room : Vec3
-room = vector (pos 16384) (pos 16384) (pos 16384)
+-- so much on each axis
+abbrev pub room_of : ℕ → Vec3
+room_of room = vector (pos room) (pos room) (pos room)
 
--- the reach with room around it
-abbrev pub first_box : Rec → ℕ → Bounds
-first_box me ms = grown (reach_of me ms) room
+-- the reach with so much room around it
+abbrev pub first_box : ℕ → Rec → ℕ → Bounds
+first_box room me ms = grown (reach_of me ms) (room_of room)
 
 -- the player at another place
 abbrev pub elsewhere : Rec → Vec3 → Rec
@@ -35,15 +36,27 @@ elsewhere me origin = record me { origin = origin }
 
 -- the room around the player's absolute box at this place
 abbrev pub landing_at : Rec → Vec3 → Bounds
-landing_at me dest = grown (abs_of (elsewhere me dest)) room
+landing_at me dest = grown (abs_of (elsewhere me dest)) (room_of ROOM)
 
 -- the room at the destination of a thing of the map, if it is a teleporter whose absolute box touches the reach
 abbrev pub landing_of : MapView → Rec → Bounds → Rec → Option Bounds
 landing_of map me reach thing =
     if touches (abs_of thing) reach then option_map (landing_at me) (dest_of map thing.id) else None
 
--- the region of a move: the reach with room around it, and the room at the destination of each teleporter that touches
--- the reach, in rising id
-unfoldable pub region_in : MapView → Rec → Command → List Bounds
-region_in map me c =
-    first_box me c.ms ∷ filter_map (landing_of map me (reach_of me c.ms)) (entities_of map)
+-- the reach with so much room around it, and the room at the destination of each teleporter that touches the reach, in
+-- rising id
+unfoldable pub region_with : ℕ → MapView → Rec → Command → List Bounds
+region_with room map me c =
+    first_box room me c.ms ∷ filter_map (landing_of map me (reach_of me c.ms)) (entities_of map)
+
+-- the region of a move: there is room for what it takes
+abbrev pub region_in : MapView → Rec → Command → List Bounds
+region_in map = region_with ROOM map
+
+-- the region of a move that may shoot: there is room for a shot, and for whom it hits
+abbrev pub shot_region : MapView → Rec → Command → List Bounds
+shot_region map = region_with SHOT_ROOM map
+
+-- the region of a move on a map, as the map decides
+abbrev pub region_on : MapView → Rec → Command → List Bounds
+region_on map = if map.shots then shot_region map else region_in map

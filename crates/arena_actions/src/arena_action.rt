@@ -17,11 +17,11 @@ use trigger_rules::touch_all;
 pub struct ArenaAction {
     /// The map of the arena.
     pub map: ArenaMap,
-    index: SolidIndex,
+    pub(crate) index: SolidIndex,
     pub(crate) leaps: Leaps,
     pub ghost is_map: { IsMap map } by { IsMap-prop map },
     ghost are_leaps: { leaps ≡ leaps_of map } by { AreLeaps-prop leaps map },
-    ghost misses_none: { IsIndexOf index (solids_of map) } by { IsIndexOf-prop index (solids_of map) },
+    pub ghost misses_none: { IsIndexOf index (solids_of map) } by { IsIndexOf-prop index (solids_of map) },
 }
 
 impl ArenaAction {

@@ -4,6 +4,9 @@ ghost use Rattle.arena_actions.specs.Laws.{MovesTakeWhatIsThere, NewStatesAreApa
 ghost use Rattle.arena_actions.specs.Laws.{RepliesHaveTheOrigin, MovesAreMade, PlayersAreWhereTheyMoved};
 ghost use Rattle.arena_actions.specs.Laws.{TouchingFollowsMoves, RegionsAreNear};
 ghost use Rattle.arena_actions.specs.Flags.{FlagsAreKnown};
+ghost use Rattle.arena_actions.specs.ShotLaws.{RoomsAreKnown, DownPlayersLie, DownPlayersRise, ShotsFollowMoves};
+ghost use Rattle.arena_actions.specs.ShotLaws.{MapsDecide, MoversStayThemselves, MoversStayOnMaps, MoversStayFree};
+ghost use Rattle.arena_actions.specs.ShotLaws.{RepliesAreShort};
 
 /// A player's record stays within its bounds, and its body inside the arena.
 pub fn players_stay_on_maps()
@@ -76,7 +79,54 @@ pub fn taken_records_are_valid()
 {}
 
 /// Each box of the region of a move is near its player: it lies around it, as far as the player may go in the time and
-/// a little more, or around the place where a teleporter as near puts it.
+/// the room more that there is, or around the place where a teleporter as near puts it.
 pub fn regions_are_near()
     ensures { RegionsAreNear }
+{}
+
+/// The room around where a player may be is 16,384, and where players shoot 65,536 more.
+pub fn rooms_are_known()
+    ensures { RoomsAreKnown }
+{}
+
+/// Where players shoot, one that is down neither moves nor takes nor shoots until its frame comes: it stays where it is, at
+/// rest, drops what it carries, and keeps all else.
+pub fn down_players_lie()
+    ensures { DownPlayersLie }
+{}
+
+/// From its frame on a player that was down moves as one without damage.
+pub fn down_players_rise()
+    ensures { DownPlayersRise }
+{}
+
+/// Where players shoot, one that isn't down moves and touches things as in each arena, and then its shot follows, if it
+/// fires one. It keeps its damage.
+pub fn shots_follow_moves()
+    ensures { ShotsFollowMoves }
+{}
+
+/// The map says which moves and regions it has: those with shots or those without.
+pub fn maps_decide()
+    ensures { MapsDecide }
+{}
+
+/// On each map a player keeps its id, its kind and its shape, and has the number of the command; the reply has its origin.
+pub fn movers_stay_themselves()
+    ensures { MoversStayThemselves }
+{}
+
+/// On each map a player's record stays within its bounds, and its body inside the arena.
+pub fn movers_stay_on_maps()
+    ensures { MoversStayOnMaps }
+{}
+
+/// On each map a player whose body overlaps no wall, no block and no body of another solid overlaps none after its move.
+pub fn movers_stay_free()
+    ensures { MoversStayFree }
+{}
+
+/// On each map the ids in a reply rise and are at most 8, and no record gets two new states.
+pub fn replies_are_short()
+    ensures { RepliesAreShort }
 {}

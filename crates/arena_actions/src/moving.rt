@@ -21,7 +21,7 @@ use entity_recs::{Cmd, IDS, Rec};
 use player_move::{Moved, move_player};
 
 /// How many solids are kept at first: as many as a move looks at in all but the most crowded places.
-const FEW_SOLIDS: usize = 64;
+pub const FEW_SOLIDS: usize = 64;
 
 /// The most solids that there may be: the walls and blocks of a map, and the bodies of all live records.
 const MOST_SOLIDS: usize = WALLS + MOST_BLOCKS + IDS;

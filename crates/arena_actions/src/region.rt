@@ -6,20 +6,18 @@ ghost use Rattle.entity_recs.specs.Records.{IsRecord};
 ghost use Rattle.entity_recs.specs.Commands.{command_of};
 ghost use Rattle.arena_map.specs.Maps.{MapView};
 ghost use Rattle.arena_actions.specs.Regions as regions;
-ghost use Rattle.arena_actions.specs.Regions.{region_in};
+ghost use Rattle.arena_actions.specs.Regions.{region_with};
 ghost use Rattle.arena_actions.specs.Leaps.{IsNearLeap, leaps_of, landing_by};
 
 use crate::leaps::{Leap, Leaps};
 use crate::reaching::{amount, reach_on};
+use crate::sizes::ROOM;
 use arena_geo::{Aabb, Region, Vec3};
 use entity_recs::{Cmd, Rec, abs_box};
 use player_move::STAIR_HEIGHT;
 
 /// How much the reach has to spare on each axis, in sub-units.
 const SPARE: u32 = 256;
-
-/// No item's absolute box is longer than this on an axis, in sub-units.
-const ROOM: u32 = 16_384;
 
 /// The reach of a move of so many milliseconds: where the player's absolute box may come without a leap. It is the
 /// absolute box, larger on each axis by how far the move goes, on z by the height of a stair more, and by [`SPARE`].
@@ -36,13 +34,14 @@ fn reach_of(me: &Rec, ms: u8) -> Aabb
     abs_box(me).grown(by)
 }
 
-/// The reach, with room around it.
-fn reach_with_room(me: &Rec, ms: u8) -> Aabb
+/// The reach, with so much room around it.
+fn reach_with_room(me: &Rec, ms: u8, room: u32) -> Aabb
     requires record { IsRecord me.now }
     requires short { ms ≤ 50 }
-    ensures { result ≡ regions.first_box me.now ms }
+    requires room { room ≤ 100000 }
+    ensures { result ≡ regions.first_box room me.now ms }
 {
-    reach_of(me, ms).grown(amount(ROOM, ROOM, ROOM))
+    reach_of(me, ms).grown(amount(room, room, room))
 }
 
 /// The room around the player's absolute box at this place.
@@ -84,15 +83,16 @@ fn push_landing(region: &mut Region, landing: Option<Aabb>)
     }
 }
 
-/// The region of a player's move: the reach with room around it, and the room at the destination of each teleporter
-/// that touches the reach, in rising id.
-pub fn region_of(leaps: &Leaps, me: &Rec, cmd: &Cmd) -> Region
+/// The region of a player's move: the reach with so much room around it, and [`ROOM`] at the destination of each
+/// teleporter that touches the reach, in rising id.
+pub fn region_of(leaps: &Leaps, me: &Rec, cmd: &Cmd, room: u32) -> Region
     requires player { me.now.kind ≡ Player }
     requires record { IsRecord me.now }
-    ensures { (map : MapView) → leaps.now ≡ leaps_of map → result ≡ region_in map me.now (command_of cmd.now) }
+    requires room { room ≤ 100000 }
+    ensures { (map : MapView) → leaps.now ≡ leaps_of map → result ≡ region_with room map me.now (command_of cmd.now) }
 {
     let reach = reach_of(me, cmd.ms);
-    let mut region = Region::one(reach_with_room(me, cmd.ms));
+    let mut region = Region::one(reach_with_room(me, cmd.ms, room));
     for leap in leaps.as_slice() {
         push_landing(&mut region, landing_of(me, &reach, leap));
     }

@@ -7,7 +7,7 @@ ghost use Rattle.entity_recs.specs.Actions.{IsCall, IsCommand};
 ghost use Rattle.arena_map.specs.MapLines.{IsWithinLimits, is_arena, is_added};
 
 use crate::ArenaAction;
-use areanode::{Tree, visited};
+use areanode::Tree;
 use arena_geo::{Aabb, Region, Vec3};
 use arena_map::{ArenaMap, MapLine, MapRefusal};
 use entity_recs::{
@@ -300,14 +300,11 @@ fn a_player_at_rest_reaches_four_leaves(rt: HostRuntime) -> Result<(), Fail> {
     let reached = Aabb::new(at(-25_088, -25_088, -25_600), at(25_088, 25_088, 39_936));
     assert_eq!(rt; region.boxes().len(), 1);
     assert_eq!(rt; region.boxes().first().copied(), reached);
-    let tree = Tree::new(action.map().bounds());
-    assert_eq!(rt; tree.leaves_of(&region), 4_680);
+    let tree = Tree::new(action.map().bounds(), action.map().depth());
+    let leaves = tree.leaves_of(&region);
+    assert_eq!(rt; leaves, 4_680);
+    assert_eq!(rt; tree.visited(leaves), 153_365_887);
     Ok(())
-}
-
-#[test]
-fn four_leaves_have_their_nodes_above(rt: HostRuntime) {
-    assert_eq!(rt; visited(4_680), 153_365_887);
 }
 
 #[test]

@@ -7,7 +7,8 @@ use Rattle.frame_phases.specs.Servers.{ServerView}
 use Rattle.demo_lines.specs.declared.event.Event.{Event}
 use Rattle.demo_lines.specs.declared.event.Event.TheVariants.{Frame, From, End}
 use Rattle.out_text.specs.OutLines.{OutLine, EndLine}
-use Rattle.out_text.specs.Feeds.{in_order, with_froms}
+use Rattle.packet_read.specs.Orders.{in_order}
+use Rattle.out_text.specs.Feeds.{with_froms}
 use Rattle.playback.specs.Playbacks.{Course, PlaybackView, IsGivenIf, Closes, GoesOn, MayClose, IsReady}
 use Rattle.arena_engine.specs.Games.{is_end, newest}
 use Rattle.arena_engine.specs.FedGames.{FedView, Closing, order_if, journal_if, ClosesFed, FedPlays, none_handed, newest_order, newest_last, fed_closing_lines, fed_closed_lines, fed_due_lines, MayCloseFed, HandsOver, packets_if, IsClosing}
@@ -71,7 +72,7 @@ facts workers (Some arrivals) old new fed (Some order) server' journal out hands
         → CloseFacts workers old.server server' (Some arrivals) fed (Some order) j out
     go None never given = absurd never
     go (Some j) runs given = record {
-      closes = record { feed = hands.feed; runs = runs };
+      closes = record { places = hands.places; feed = hands.feed; runs = runs };
       order_is = refl;
       journal_is = refl;
       lines = ap (λ (f : List Arrival). fed_closed_lines (Some j) f out) hands.fed_is ∙ ap (with_froms (in_order order arrivals)) (lines-are old.server (in_order order arrivals) j out given);

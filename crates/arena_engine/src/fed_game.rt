@@ -1,6 +1,6 @@
 ghost use Rattle.std.specs.Prelude.{◌≡◌, ℕ, ◌<◌, ◌≤◌, Some, None, [], length, slice_index, All, IfOk, IfSome, OnOk};
 ghost use Rattle.packet_read.specs.declared.arrival.TheConstants.{MOST_ARRIVALS};
-ghost use Rattle.out_text.specs.Feeds.{in_order};
+ghost use Rattle.packet_read.specs.Orders.{in_order};
 ghost use Rattle.playback.specs.Playbacks.{entries_if};
 ghost use Rattle.arena_engine.specs.FedGames as games;
 ghost use Rattle.arena_engine.specs.FedGames.{HandsPackets, HandsOver, packets_if};

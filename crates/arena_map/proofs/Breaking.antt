@@ -1,5 +1,5 @@
 -- That a line passes the test of each rule that the map with it keeps.
-use Rattle.std.proofs.Common.{◌≡◌, ℕ, ◌+◌, ◌<◌, ◌≤◌, Bool, true, false, not, cond, ◌||◌, nat_lt, List, [], ◌∷◌, ◌++◌, length, Some, None, All, AllPairs, count_by, get_or, refl, sym, ap, ◌∙◌, subst, arith, length-append}
+use Rattle.std.proofs.Common.{◌≡◌, ℕ, ◌+◌, ◌<◌, ◌≤◌, ◌==◌, Bool, true, false, not, cond, ◌||◌, nat_lt, List, [], ◌∷◌, ◌++◌, length, Some, None, All, AllPairs, count_by, get_or, refl, sym, ap, ◌∙◌, subst, arith, length-append}
 use Rattle.std.specs.List.{list_any}
 use Rattle.std.proofs.lemmas.Bool.Decides.{nat_tests}
 use Rattle.std.proofs.lemmas.List.Elements.{filter_map-append}
@@ -10,14 +10,15 @@ use Rattle.std.specs.Cmp.Derive.{both_true}
 use Rattle.arena_geo.specs.declared.vec3.Vec3.{Vec3}
 use Rattle.arena_geo.specs.Bounds.{Bounds, bounds}
 use Rattle.arena_geo.specs.Boxes.{overlaps, is_blocked}
+use Rattle.arena_map.specs.declared.limits.TheConstants.{MOST_BLOCKS, MOST_BOXES, MOST_ITEMS, MOST_SPAWNS}
 use Rattle.arena_map.specs.declared.map_fault.MapFault.{MapFault}
 use Rattle.arena_map.specs.declared.map_fault.MapFault.TheVariants as fault
 use Rattle.arena_map.specs.declared.map_line.MapLine.{MapLine}
-use Rattle.arena_map.specs.declared.map_line.MapLine.TheVariants.{Arena, Block, Spawn, Item, Teleport, Goal, Lift}
+use Rattle.arena_map.specs.declared.map_line.MapLine.TheVariants.{Arena, Block, Spawn, Item, Teleport, Goal, Lift, Depth, Shots}
 use Rattle.arena_map.specs.MapLines.{is_thing_line, is_item_line, is_teleport_line, is_goal_line, is_lift_line}
 use Rattle.arena_map.specs.Places.{is_box_inside, is_player_inside, shaft, shaft_of, keeps_box, keeps_stand, keeps_item, keeps_travel}
 use Rattle.arena_map.specs.Maps.{MapView, shafts_of, IsMap}
-use Rattle.arena_map.specs.Rules.{broken_by_arena, bare_map, keeps_count, meets_shaft, keeps_shafts, broken_rule, with_block, with_spawn, with_thing, with_line}
+use Rattle.arena_map.specs.Rules.{broken_by_arena, bare_map, keeps_count, meets_shaft, keeps_shafts, broken_rule, with_block, with_spawn, with_thing, with_depth, with_shots, with_line}
 use Rattle.arena_map.specs.KeptRules.{HasFew, HasClearShafts, KeepsRule}
 use Rattle.arena_map.proofs.Keeping.{first_broken, count-push}
 
@@ -94,7 +95,7 @@ arena-passes map lo hi fault.Shaft = refl
 block-passes : (map : MapView) (lo hi : Vec3) (rule : MapFault) → KeepsRule (with_block map (bounds lo hi)) rule → passes map (Block lo hi) rule ≡ true
 block-passes map lo hi fault.Arena keeps = refl
 block-passes map lo hi fault.Box keeps = all-last (λ block. is_box_inside map.bounds block.lo block.hi ≡ true) map.blocks (bounds lo hi) keeps.0
-block-passes map lo hi fault.Count keeps = room-of map.blocks (bounds lo hi) 1024 keeps.blocks
+block-passes map lo hi fault.Count keeps = room-of map.blocks (bounds lo hi) MOST_BLOCKS keeps.blocks
 block-passes map lo hi fault.Stand keeps = refl
 block-passes map lo hi fault.Item keeps = refl
 block-passes map lo hi fault.Travel keeps = refl
@@ -108,7 +109,7 @@ block-passes map lo hi fault.Shaft keeps =
 spawn-passes : (map : MapView) (at : Vec3) (rule : MapFault) → KeepsRule (with_spawn map at) rule → passes map (Spawn at) rule ≡ true
 spawn-passes map at fault.Arena keeps = refl
 spawn-passes map at fault.Box keeps = refl
-spawn-passes map at fault.Count keeps = room-of map.spawns at 64 keeps.spawns
+spawn-passes map at fault.Count keeps = room-of map.spawns at MOST_SPAWNS keeps.spawns
 spawn-passes map at fault.Stand keeps = all-last (λ at. is_player_inside map.bounds at ≡ true) map.spawns at keeps.0
 spawn-passes map at fault.Item keeps = refl
 spawn-passes map at fault.Travel keeps = refl
@@ -119,10 +120,12 @@ thing-room : (map : MapView) (line : MapLine) → is_thing_line line ≡ true �
 thing-room map (Arena lo hi) is few = refl
 thing-room map (Block lo hi) is few = cc
 thing-room map (Spawn at) is few = cc
-thing-room map (Item at kind delay) is few = room-before is_item_line 144 map.things (Item at kind delay) refl few.items
-thing-room map (Teleport lo hi dest) is few = room-before is_teleport_line 16 map.things (Teleport lo hi dest) refl few.teleporters
-thing-room map (Goal lo hi) is few = room-before is_goal_line 16 map.things (Goal lo hi) refl few.goals
-thing-room map (Lift lo hi rise speed) is few = room-before is_lift_line 16 map.things (Lift lo hi rise speed) refl few.lifts
+thing-room map (Item at kind delay) is few = room-before is_item_line MOST_ITEMS map.things (Item at kind delay) refl few.items
+thing-room map (Teleport lo hi dest) is few = room-before is_teleport_line MOST_BOXES map.things (Teleport lo hi dest) refl few.teleporters
+thing-room map (Goal lo hi) is few = room-before is_goal_line MOST_BOXES map.things (Goal lo hi) refl few.goals
+thing-room map (Depth depth) is few = cc
+thing-room map Shots is few = cc
+thing-room map (Lift lo hi rise speed) is few = room-before is_lift_line MOST_BOXES map.things (Lift lo hi rise speed) refl few.lifts
 
 -- a lift's shaft meets no block and no earlier shaft
 lift-clear : (map : MapView) (lo hi : Vec3) (rise speed : _) → HasClearShafts (with_thing map (Lift lo hi rise speed)) → keeps_shafts map (Lift lo hi rise speed) ≡ true
@@ -141,6 +144,8 @@ thing-clear map (Spawn at) is has = refl
 thing-clear map (Item at kind delay) is has = refl
 thing-clear map (Teleport lo hi dest) is has = refl
 thing-clear map (Goal lo hi) is has = refl
+thing-clear map (Depth depth) is has = refl
+thing-clear map Shots is has = refl
 thing-clear map (Lift lo hi rise speed) is has = lift-clear map lo hi rise speed has
 
 thing-passes : (map : MapView) (line : MapLine) → is_thing_line line ≡ true → (rule : MapFault) → KeepsRule (with_thing map line) rule → passes map line rule ≡ true
@@ -153,6 +158,30 @@ thing-passes map line is fault.Travel keeps = all-last (λ l. keeps_travel map.b
 thing-passes map line is fault.NoSpawn keeps = refl
 thing-passes map line is fault.Shaft keeps = thing-clear map line is keeps
 
+-- there was no line of a setting, where there is at most one with this one
+none-before : (n : ℕ) → n + 1 ≤ 1 → (n == 0) ≡ true
+none-before n few = grind (arith, nat_tests)
+
+depth-passes : (map : MapView) (depth : ℕ) (rule : MapFault) → KeepsRule (with_depth map depth) rule → passes map (Depth depth) rule ≡ true
+depth-passes map depth fault.Arena keeps = refl
+depth-passes map depth fault.Box keeps = refl
+depth-passes map depth fault.Count keeps = none-before map.depth_lines keeps.depth_lines
+depth-passes map depth fault.Stand keeps = refl
+depth-passes map depth fault.Item keeps = refl
+depth-passes map depth fault.Travel keeps = refl
+depth-passes map depth fault.NoSpawn keeps = refl
+depth-passes map depth fault.Shaft keeps = refl
+
+shots-passes : (map : MapView) (rule : MapFault) → KeepsRule (with_shots map) rule → passes map Shots rule ≡ true
+shots-passes map fault.Arena keeps = refl
+shots-passes map fault.Box keeps = refl
+shots-passes map fault.Count keeps = none-before map.shots_lines keeps.shots_lines
+shots-passes map fault.Stand keeps = refl
+shots-passes map fault.Item keeps = refl
+shots-passes map fault.Travel keeps = refl
+shots-passes map fault.NoSpawn keeps = refl
+shots-passes map fault.Shaft keeps = refl
+
 -- a line passes the test of each rule that the map with it keeps
 pub line-passes : (map : MapView) (line : MapLine) (rule : MapFault) → KeepsRule (with_line map line) rule → passes map line rule ≡ true
 line-passes map (Arena lo hi) rule keeps = arena-passes map lo hi rule
@@ -162,8 +191,15 @@ line-passes map (Item at kind delay) rule keeps = thing-passes map (Item at kind
 line-passes map (Teleport lo hi dest) rule keeps = thing-passes map (Teleport lo hi dest) refl rule keeps
 line-passes map (Goal lo hi) rule keeps = thing-passes map (Goal lo hi) refl rule keeps
 line-passes map (Lift lo hi rise speed) rule keeps = thing-passes map (Lift lo hi rise speed) refl rule keeps
+line-passes map (Depth depth) rule keeps = depth-passes map depth rule keeps
+line-passes map Shots rule keeps = shots-passes map rule keeps
 
 -- ---- maps that keep the rules
+
+-- at most one line says that players can shoot
+few-shots : (shots : Bool) (n : ℕ) → n ≡ cond shots 1 0 → n ≤ 1
+few-shots true n is = omega (arith, is)
+few-shots false n is = omega (arith, is)
 
 -- such a map keeps each of them
 pub map-keeps : (map : MapView) → IsMap map → (rule : MapFault) → KeepsRule map rule
@@ -177,6 +213,8 @@ map-keeps map is fault.Count = record {
   teleporters = is.few_teleporters;
   goals = is.few_goals;
   lifts = is.few_lifts;
+  depth_lines = is.few_depth_lines;
+  shots_lines = few-shots map.shots map.shots_lines is.shots_line;
 }
 map-keeps map is fault.Stand = (λ i d within. (is.spawns i d within).inside, λ i d within. (is.things i d within).stand)
 map-keeps map is fault.Item = λ i d within. (is.things i d within).item

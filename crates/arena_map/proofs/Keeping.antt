@@ -1,5 +1,5 @@
 -- That lines which break no rule give maps that keep the rules.
-use Rattle.std.proofs.Common.{◌≡◌, ℕ, ◌+◌, ◌<◌, ◌≤◌, Bool, true, false, not, ◌||◌, cond, if◌then◌else◌, nat_lt, List, [], ◌∷◌, ◌++◌, Option, Some, None, All, AllPairs, count_by, filter_map, get_or, refl, sym, ◌∙◌, subst, arith, length-append, append-nil}
+use Rattle.std.proofs.Common.{◌≡◌, ℕ, ◌+◌, ◌<◌, ◌≤◌, ◌==◌, Bool, true, false, not, ◌||◌, cond, if◌then◌else◌, nat_lt, List, [], ◌∷◌, ◌++◌, Option, Some, None, All, AllPairs, count_by, filter_map, get_or, refl, sym, ap, ◌∙◌, subst, arith, length-append, append-nil}
 use Rattle.std.specs.List.{list_any}
 use Rattle.std.proofs.lemmas.Bool.Decides.{nat_tests}
 use Rattle.std.proofs.lemmas.List.Elements.{All-append, All-from_recursion, filter_map-append}
@@ -10,14 +10,16 @@ use Rattle.arena_geo.specs.declared.vec3.Vec3.{Vec3}
 use Rattle.arena_geo.specs.Vectors.{IsNear}
 use Rattle.arena_geo.specs.Bounds.{Bounds, bounds}
 use Rattle.arena_geo.specs.Boxes.{contains, overlaps, is_blocked}
+use Rattle.areanode.specs.Trees.{IsTreeDepth}
+use Rattle.arena_map.specs.declared.limits.TheConstants.{MOST_BOXES, MOST_ITEMS}
 use Rattle.arena_map.specs.declared.map_fault.MapFault.{MapFault}
 use Rattle.arena_map.specs.declared.map_fault.MapFault.TheVariants as fault
 use Rattle.arena_map.specs.declared.map_line.MapLine.{MapLine}
-use Rattle.arena_map.specs.declared.map_line.MapLine.TheVariants.{Arena, Block, Spawn, Item, Teleport, Goal, Lift}
+use Rattle.arena_map.specs.declared.map_line.MapLine.TheVariants.{Arena, Block, Spawn, Item, Teleport, Goal, Lift, Depth, Shots}
 use Rattle.arena_map.specs.MapLines.{IsWithinLimits, is_thing_line, is_item_line, is_teleport_line, is_goal_line, is_lift_line}
 use Rattle.arena_map.specs.Places.{is_wide, is_thick, shaft, shaft_of, has_thick_lift, keeps_box, keeps_stand, keeps_item, keeps_travel}
 use Rattle.arena_map.specs.Maps.{MapView, shafts_of, IsSpawn, IsBlock, IsThingInside, IsMap}
-use Rattle.arena_map.specs.Rules.{broken_by_arena, bare_map, keeps_count, meets_shaft, keeps_shafts, broken_rule, with_block, with_spawn, with_thing, with_line}
+use Rattle.arena_map.specs.Rules.{broken_by_arena, bare_map, keeps_count, meets_shaft, keeps_shafts, broken_rule, with_block, with_spawn, with_thing, with_depth, with_shots, with_line}
 use Rattle.arena_map.proofs.Boxes.{both_parts, near_box, wide_ordered, thick_box}
 
 -- ---- lists
@@ -104,6 +106,10 @@ bare_map-is_map lo hi low high wide = record {
   few_lifts = omega arith;
   clear_shafts = All-from_recursion (λ shaft. is_blocked shaft [] ≡ false) [] tt;
   shafts_apart = λ i j d lt within. absurd (omega (arith, within));
+  depth = record { least = omega arith; most = omega arith };
+  few_depth_lines = omega arith;
+  default_depth = λ none. refl;
+  shots_line = refl;
 }
 
 -- the map that an arena begins without breaking a rule
@@ -154,6 +160,10 @@ with_block-is_map map lo hi is near keeps = record {
   few_lifts = is.few_lifts;
   clear_shafts = clear-more (shafts_of map) map.blocks (bounds lo hi) is.clear_shafts (not-true _ keeps.shafts);
   shafts_apart = is.shafts_apart;
+  depth = is.depth;
+  few_depth_lines = is.few_depth_lines;
+  default_depth = is.default_depth;
+  shots_line = is.shots_line;
 }
 
 pub with_spawn-is_map : (map : MapView) (at : Vec3) → IsMap map → IsWithinLimits (Spawn at) → KeepsAll map (Spawn at) → IsMap (with_spawn map at)
@@ -173,6 +183,10 @@ with_spawn-is_map map at is near keeps = record {
   few_lifts = is.few_lifts;
   clear_shafts = is.clear_shafts;
   shafts_apart = is.shafts_apart;
+  depth = is.depth;
+  few_depth_lines = is.few_depth_lines;
+  default_depth = is.default_depth;
+  shots_line = is.shots_line;
 }
 
 -- ---- things
@@ -192,19 +206,19 @@ few-more p most lines line few room = by (p line) refl (count-push p lines line)
     by true e count = let less = room e in omega (arith, count, less)
     by false e count = omega (arith, count, few)
 
-pub item-room : (map : MapView) (line : MapLine) → keeps_count map line ≡ true → is_item_line line ≡ true → count_by is_item_line map.things < 144
+pub item-room : (map : MapView) (line : MapLine) → keeps_count map line ≡ true → is_item_line line ≡ true → count_by is_item_line map.things < MOST_ITEMS
 item-room map (Item at kind delay) room is = lt-from _ _ room
 item-room map line room is = cc
 
-pub teleporter-room : (map : MapView) (line : MapLine) → keeps_count map line ≡ true → is_teleport_line line ≡ true → count_by is_teleport_line map.things < 16
+pub teleporter-room : (map : MapView) (line : MapLine) → keeps_count map line ≡ true → is_teleport_line line ≡ true → count_by is_teleport_line map.things < MOST_BOXES
 teleporter-room map (Teleport lo hi dest) room is = lt-from _ _ room
 teleporter-room map line room is = cc
 
-pub goal-room : (map : MapView) (line : MapLine) → keeps_count map line ≡ true → is_goal_line line ≡ true → count_by is_goal_line map.things < 16
+pub goal-room : (map : MapView) (line : MapLine) → keeps_count map line ≡ true → is_goal_line line ≡ true → count_by is_goal_line map.things < MOST_BOXES
 goal-room map (Goal lo hi) room is = lt-from _ _ room
 goal-room map line room is = cc
 
-pub lift-room : (map : MapView) (line : MapLine) → keeps_count map line ≡ true → is_lift_line line ≡ true → count_by is_lift_line map.things < 16
+pub lift-room : (map : MapView) (line : MapLine) → keeps_count map line ≡ true → is_lift_line line ≡ true → count_by is_lift_line map.things < MOST_BOXES
 lift-room map (Lift lo hi rise speed) room is = lt-from _ _ room
 lift-room map line room is = cc
 
@@ -235,6 +249,8 @@ shafts-more map (Spawn at) has keeps = shafts-same map.blocks (shafts_of map) ha
 shafts-more map (Item at kind delay) has keeps = shafts-same map.blocks (shafts_of map) has
 shafts-more map (Teleport lo hi dest) has keeps = shafts-same map.blocks (shafts_of map) has
 shafts-more map (Goal lo hi) has keeps = shafts-same map.blocks (shafts_of map) has
+shafts-more map (Depth depth) has keeps = shafts-same map.blocks (shafts_of map) has
+shafts-more map Shots has keeps = shafts-same map.blocks (shafts_of map) has
 
 pub with_thing-is_map : (map : MapView) (line : MapLine) → IsMap map → is_thing_line line ≡ true → IsWithinLimits line → KeepsAll map line → IsMap (with_thing map line)
 with_thing-is_map map line is thing limits keeps =
@@ -257,13 +273,72 @@ with_thing-is_map map line is thing limits keeps =
         item = keeps.item;
         travel = keeps.travel;
       });
-      few_items = few-more is_item_line 144 map.things line is.few_items (item-room map line keeps.count);
-      few_teleporters = few-more is_teleport_line 16 map.things line is.few_teleporters (teleporter-room map line keeps.count);
-      few_goals = few-more is_goal_line 16 map.things line is.few_goals (goal-room map line keeps.count);
-      few_lifts = few-more is_lift_line 16 map.things line is.few_lifts (lift-room map line keeps.count);
+      few_items = few-more is_item_line MOST_ITEMS map.things line is.few_items (item-room map line keeps.count);
+      few_teleporters = few-more is_teleport_line MOST_BOXES map.things line is.few_teleporters (teleporter-room map line keeps.count);
+      few_goals = few-more is_goal_line MOST_BOXES map.things line is.few_goals (goal-room map line keeps.count);
+      few_lifts = few-more is_lift_line MOST_BOXES map.things line is.few_lifts (lift-room map line keeps.count);
       clear_shafts = has.clear;
       shafts_apart = has.apart;
+      depth = is.depth;
+      few_depth_lines = is.few_depth_lines;
+      default_depth = is.default_depth;
+      shots_line = is.shots_line;
     }
+
+-- ---- settings
+
+-- where it is no more than 0 it is 0
+none_yet : (n : ℕ) → (n == 0) ≡ true → n ≡ 0
+none_yet n h = grind (arith, nat_tests)
+
+pub first-line : (n : ℕ) → (n == 0) ≡ true → n + 1 ≤ 1
+first-line n h = let none = none_yet n h in omega (arith, none)
+
+pub with_depth-is_map : (map : MapView) (depth : ℕ) → IsMap map → IsTreeDepth depth → KeepsAll map (Depth depth) → IsMap (with_depth map depth)
+with_depth-is_map map depth is range keeps = record {
+  is_box = is.is_box;
+  lo = is.lo;
+  hi = is.hi;
+  wide = is.wide;
+  blocks = is.blocks;
+  few_blocks = is.few_blocks;
+  spawns = is.spawns;
+  few_spawns = is.few_spawns;
+  things = is.things;
+  few_items = is.few_items;
+  few_teleporters = is.few_teleporters;
+  few_goals = is.few_goals;
+  few_lifts = is.few_lifts;
+  clear_shafts = is.clear_shafts;
+  shafts_apart = is.shafts_apart;
+  depth = range;
+  few_depth_lines = first-line map.depth_lines keeps.count;
+  default_depth = λ none. absurd (omega (arith, none));
+  shots_line = is.shots_line;
+}
+
+pub with_shots-is_map : (map : MapView) → IsMap map → KeepsAll map Shots → IsMap (with_shots map)
+with_shots-is_map map is keeps = record {
+  is_box = is.is_box;
+  lo = is.lo;
+  hi = is.hi;
+  wide = is.wide;
+  blocks = is.blocks;
+  few_blocks = is.few_blocks;
+  spawns = is.spawns;
+  few_spawns = is.few_spawns;
+  things = is.things;
+  few_items = is.few_items;
+  few_teleporters = is.few_teleporters;
+  few_goals = is.few_goals;
+  few_lifts = is.few_lifts;
+  clear_shafts = is.clear_shafts;
+  shafts_apart = is.shafts_apart;
+  depth = is.depth;
+  few_depth_lines = is.few_depth_lines;
+  default_depth = is.default_depth;
+  shots_line = ap (λ n. n + 1) (none_yet map.shots_lines keeps.count);
+}
 
 -- ---- any line
 
@@ -276,3 +351,5 @@ with_line-is_map map (Item at kind delay) is near none = with_thing-is_map map (
 with_line-is_map map (Teleport lo hi dest) is near none = with_thing-is_map map (Teleport lo hi dest) is refl near (keeps_all map (Teleport lo hi dest) none)
 with_line-is_map map (Goal lo hi) is near none = with_thing-is_map map (Goal lo hi) is refl near (keeps_all map (Goal lo hi) none)
 with_line-is_map map (Lift lo hi rise speed) is near none = with_thing-is_map map (Lift lo hi rise speed) is refl near (keeps_all map (Lift lo hi rise speed) none)
+with_line-is_map map (Depth depth) is near none = with_depth-is_map map depth is near (keeps_all map (Depth depth) none)
+with_line-is_map map Shots is near none = with_shots-is_map map is (keeps_all map Shots none)

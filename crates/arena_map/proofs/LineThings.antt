@@ -9,7 +9,7 @@ use Rattle.arena_geo.specs.Bounds.{bounds}
 use Rattle.entity_recs.specs.declared.kind.Kind.{Kind}
 use Rattle.entity_recs.specs.declared.kind.Kind.TheVariants as kinds
 use Rattle.arena_map.specs.declared.map_line.MapLine.{MapLine}
-use Rattle.arena_map.specs.declared.map_line.MapLine.TheVariants.{Arena, Block, Spawn, Item, Teleport, Goal, Lift}
+use Rattle.arena_map.specs.declared.map_line.MapLine.TheVariants.{Arena, Block, Spawn, Item, Teleport, Goal, Lift, Depth, Shots}
 use Rattle.arena_map.specs.Things.{record_of, records_from, dest_in, delay_in, lift_data}
 use Rattle.arena_map.specs.Maps.{MapView, entities_of, thing_of}
 use Rattle.arena_map.specs.LineThings.{IsThingBetween, HasThing, HasOnly, item_end, GivesAs, PutsThingsLast, LinesGiveTheirThings}
@@ -134,6 +134,8 @@ gives : (map : MapView) (place : ℕ) (line : MapLine) → slice_get map.things 
 gives map place (Arena lo hi) at = tt
 gives map place (Block lo hi) at = tt
 gives map place (Spawn to) at = tt
+gives map place (Depth depth) at = tt
+gives map place Shots at = tt
 gives map place (Item to kind delay) at =
     (thing-at map place (Item to kind delay) at kind to (item_end to) (item-between (64 + place) delay kind to), data-of map place (Item to kind delay) at)
 gives map place (Teleport lo hi dest) at =
@@ -171,6 +173,8 @@ puts-last map (Item at kind delay) = record { thing = λ e. refl; other = λ e. 
 puts-last map (Teleport lo hi dest) = record { thing = λ e. refl; other = λ e. cc }
 puts-last map (Goal lo hi) = record { thing = λ e. refl; other = λ e. cc }
 puts-last map (Lift lo hi rise speed) = record { thing = λ e. refl; other = λ e. cc }
+puts-last map (Depth depth) = record { thing = λ e. cc; other = λ e. refl }
+puts-last map Shots = record { thing = λ e. cc; other = λ e. refl }
 
 pub lines_give_their_things : LinesGiveTheirThings
 lines_give_their_things =

@@ -1,6 +1,7 @@
 -- A line that was printed is read as that line.
-use Rattle.std.proofs.Common.{◌≡◌, ℕ, zero, suc, ◌≤◌, true, List, [], ◌++◌, Option, Some, Ok, Err, ok_or, cond, refl, sym, ap, ◌∙◌, arith, ℤ, pos, negsuc, ◌≤ℤ◌, unsigned_abs, decimal, append_assoc, append-nil, rules}
+use Rattle.std.proofs.Common.{◌≡◌, ℕ, zero, suc, ◌≤◌, nat_le, true, List, [], ◌++◌, Option, Some, None, Ok, Err, ok_or, cond, refl, sym, ap, ◌∙◌, arith, ℤ, pos, negsuc, ◌≤ℤ◌, unsigned_abs, decimal, append_assoc, append-nil, rules}
 use Rattle.std.specs.Fmt.{signed_decimal}
+use Rattle.std.proofs.lemmas.Bool.Decides.{nat_tests}
 use Rattle.std.proofs.lemmas.Int.{ints}
 use Rattle.arena_geo.specs.declared.vec3.Vec3.{Vec3}
 use Rattle.arena_geo.specs.Vectors.{IsNear}
@@ -11,13 +12,15 @@ use Rattle.edge_io.specs.Fields.{◌>>=◌, field_text}
 use Rattle.edge_io.proofs.Decimals.{natural-decimal, integer-decimal}
 use Rattle.edge_io.proofs.FieldTexts.{AreAbove, IsEnd, decimal_above, signed_above, cut-field, field_at-field}
 use Rattle.entity_recs.specs.Kinds.{is_item}
+use Rattle.areanode.specs.declared.sizes.TheConstants.{LEAST_DEPTH, MOST_DEPTH}
+use Rattle.areanode.specs.Trees.{IsTreeDepth}
 use Rattle.arena_map.specs.declared.map_line.MapLine.{MapLine}
-use Rattle.arena_map.specs.declared.map_line.MapLine.TheVariants.{Arena, Block, Spawn, Item, Teleport, Goal, Lift}
+use Rattle.arena_map.specs.declared.map_line.MapLine.TheVariants.{Arena, Block, Spawn, Item, Teleport, Goal, Lift, Depth, Shots}
 use Rattle.arena_map.specs.declared.map_word.MapWord.{MapWord}
 use Rattle.arena_map.specs.declared.map_word.MapWord.TheVariants as words
 use Rattle.arena_map.specs.MapLines.{IsWithinLimits}
 use Rattle.arena_map.specs.Words.{word_text, map_word, kind_text, item_kind}
-use Rattle.arena_map.specs.Reading.{coordinate_at, point_at, above_zero, count_at, kind_at, alone, corners_at, line_within, line_of_word, line_of_first, map_line_of}
+use Rattle.arena_map.specs.Reading.{coordinate_at, point_at, above_zero, count_at, kind_at, alone, corners_at, at_least, number_between, line_within, line_of_word, line_of_first, map_line_of}
 use Rattle.arena_map.specs.Spelling.{word_of, point_text, fields_text, map_line_text}
 use Rattle.arena_map.proofs.LinesSound.{within-form}
 
@@ -137,6 +140,28 @@ lift-back lo hi (pos rise) (pos speed) limits =
 lift-back lo hi (negsuc rise) speed limits = let least = limits.2 in absurd (omega (arith, ints, least))
 lift-back lo hi (pos rise) (negsuc speed) limits = let least = limits.4 in absurd (omega (arith, ints, least))
 
+some-at_least : (least n : ℕ) → least ≤ n → at_least least n ≡ Some n
+some-at_least least n h =
+    let reached : nat_le least n ≡ true = grind (arith, nat_tests) in
+    ap (λ b. cond b (Some n) None) reached
+
+between-back : (least most n : ℕ) (rest : List ℕ) → least ≤ n → n ≤ most → most ≤ 1048576 → IsEnd rest
+    → number_between least most (field_text (decimal n) ++ rest) ≡ Some (n, rest)
+between-back least most n rest low few small ends =
+    let Read : Option (List ℕ × List ℕ) → Option (ℕ × List ℕ) =
+    λ f. f >>= (λ field. natural_up_to most field.0 >>= (λ m. at_least least m >>= (λ number. Some (number, field.1)))) in
+    let Value : Option ℕ → Option (ℕ × List ℕ) = λ y. y >>= (λ m. at_least least m >>= (λ number. Some (number, rest))) in
+    let Reached : Option ℕ → Option (ℕ × List ℕ) = λ y. y >>= (λ number. Some (number, rest)) in
+    ap Read (field_at-field (decimal n) rest (decimal_above n (omega (arith, few, small))) ends)
+    ∙ ap Value (natural-decimal most n (omega (arith, few, small)) few)
+    ∙ ap Reached (some-at_least least n low)
+
+depth-back : (depth : ℕ) → IsTreeDepth depth → line_within words.Depth (fields_text (Depth depth)) ≡ Some (Depth depth)
+depth-back depth range =
+    let Line : Option (ℕ × List ℕ) → Option MapLine = λ o. o >>= (λ d. alone (Depth d.0) d.1) in
+    ap (line_within words.Depth) (sym (append-nil (field_text (decimal depth))))
+    ∙ ap Line (between-back LEAST_DEPTH MOST_DEPTH depth [] range.least range.most (omega arith) tt)
+
 within-back : (l : MapLine) → IsWithinLimits l → line_within (word_of l) (fields_text l) ≡ Some l
 within-back (Arena lo hi) limits =
     let Line : Option (Vec3 × Vec3 × List ℕ) → Option MapLine = λ o. o >>= (λ c. alone (Arena c.0 c.1) c.2) in
@@ -153,6 +178,8 @@ within-back (Goal lo hi) limits =
     let Line : Option (Vec3 × Vec3 × List ℕ) → Option MapLine = λ o. o >>= (λ c. alone (Goal c.0 c.1) c.2) in
     ap Line (last-corners lo hi limits.0 limits.1)
 within-back (Lift lo hi rise speed) limits = lift-back lo hi rise speed limits
+within-back (Depth depth) limits = depth-back depth limits
+within-back Shots limits = refl
 
 -- ---- the whole line
 
@@ -164,6 +191,8 @@ word-above words.Item = search rules
 word-above words.Teleport = search rules
 word-above words.Goal = search rules
 word-above words.Lift = search rules
+word-above words.Depth = search rules
+word-above words.Shots = search rules
 
 pub map_word-back : (word : MapWord) → map_word (word_text word) ≡ Some word
 map_word-back words.Arena = refl
@@ -173,6 +202,8 @@ map_word-back words.Item = refl
 map_word-back words.Teleport = refl
 map_word-back words.Goal = refl
 map_word-back words.Lift = refl
+map_word-back words.Depth = refl
+map_word-back words.Shots = refl
 
 -- the fields begin with a space
 fields-end : (l : MapLine) → IsEnd (fields_text l)
@@ -183,6 +214,8 @@ fields-end (Item at kind delay) = refl
 fields-end (Teleport lo hi dest) = refl
 fields-end (Goal lo hi) = refl
 fields-end (Lift lo hi rise speed) = refl
+fields-end (Depth depth) = refl
+fields-end Shots = tt
 
 word-back : (word : MapWord) (rest : List ℕ) (l : MapLine) → line_within word rest ≡ Some l → line_of_word word rest ≡ Ok l
 word-back word rest l h =

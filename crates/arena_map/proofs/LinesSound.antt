@@ -1,7 +1,8 @@
 -- A text that is read as a line is the text of that line, has the form of its word, and its numbers are within their limits.
-use Rattle.std.proofs.Common.{◌≡◌, ℕ, zero, suc, ◌≤◌, Bool, true, false, ◌&&◌, List, [], ◌∷◌, ◌++◌, Option, Some, None, Result, Ok, Err, ok_or, unwrap_or, cond, codes, bytes_eq, refl, sym, ap, ◌∙◌, subst, arith, ℤ, pos, ◌≤ℤ◌, unsigned_abs, decimal, append_assoc, append-nil}
+use Rattle.std.proofs.Common.{◌≡◌, ℕ, zero, suc, ◌≤◌, nat_le, Bool, true, false, ◌&&◌, List, [], ◌∷◌, ◌++◌, Option, Some, None, Result, Ok, Err, ok_or, unwrap_or, cond, codes, bytes_eq, refl, sym, ap, ◌∙◌, subst, arith, ℤ, pos, ◌≤ℤ◌, unsigned_abs, decimal, append_assoc, append-nil}
 use Rattle.std.specs.Fmt.{signed_decimal}
 use Rattle.std.proofs.lemmas.Slice.Eq.{bytes_eq-Decides}
+use Rattle.std.proofs.lemmas.Bool.Decides.{nat_tests}
 use Rattle.std.proofs.lemmas.Int.{ints}
 use Rattle.arena_geo.specs.declared.vec3.Vec3.{Vec3}
 use Rattle.arena_geo.specs.Vectors.{IsNear}
@@ -12,15 +13,16 @@ use Rattle.edge_io.specs.Fields.{◌>>=◌, cut, field_at, field_text}
 use Rattle.edge_io.proofs.Decimals.{natural-spelled, integer-spelled, integer-form, natural-integer}
 use Rattle.edge_io.proofs.FieldTexts.{cut-whole, field_at-whole}
 use Rattle.entity_recs.specs.Kinds.{is_item}
+use Rattle.areanode.specs.declared.sizes.TheConstants.{LEAST_DEPTH, MOST_DEPTH}
 use Rattle.arena_map.specs.declared.map_line.MapLine.{MapLine}
-use Rattle.arena_map.specs.declared.map_line.MapLine.TheVariants.{Arena, Block, Spawn, Item, Teleport, Goal, Lift}
+use Rattle.arena_map.specs.declared.map_line.MapLine.TheVariants.{Arena, Block, Spawn, Item, Teleport, Goal, Lift, Depth, Shots}
 use Rattle.arena_map.specs.declared.map_word.MapWord.{MapWord}
 use Rattle.arena_map.specs.declared.map_word.MapWord.TheVariants as words
 use Rattle.arena_map.specs.declared.map_word.MapField.{MapField}
 use Rattle.arena_map.specs.declared.map_word.MapField.TheVariants.{Number, ItemKind}
 use Rattle.arena_map.specs.MapLines.{IsWithinLimits}
 use Rattle.arena_map.specs.Words.{word_text, map_word, kind_text, item_kind, numbers, fields_of}
-use Rattle.arena_map.specs.Reading.{is_field_first, has_fields, coordinate_at, point_at, above_zero, count_at, kind_at, alone, corners_at, arena_in, block_in, spawn_in, item_in, teleport_in, goal_in, lift_in, line_within, line_of_word, line_of_first, map_line_of}
+use Rattle.arena_map.specs.Reading.{is_field_first, has_fields, coordinate_at, point_at, above_zero, count_at, kind_at, at_least, number_between, depth_in, alone, corners_at, arena_in, block_in, spawn_in, item_in, teleport_in, goal_in, lift_in, line_within, line_of_word, line_of_first, map_line_of}
 use Rattle.arena_map.specs.Spelling.{word_of, point_text, fields_text, map_line_text}
 
 -- ---- steps
@@ -219,6 +221,37 @@ teleport-read rest l h =
     let read = read-then (numbers 6) (numbers 3) _ _ rest c.at.2 dest.at.1 read_c.2 read_dest.1 in
     alone-read words.Teleport (Teleport c.at.0 c.at.1 dest.at.0) l rest dest.at.1 refl (read_c.0, read_c.1, read_dest.0) read dest.gives
 
+-- a number in a range was read
+abbrev ReadsBetween : ℕ → ℕ → List ℕ → ℕ × List ℕ → Type 0
+ReadsBetween least most rest c = (least ≤ c.0) × (c.0 ≤ most) × IsRead (numbers 1) (field_text (decimal c.0)) rest c.1
+
+reached : (least n c : ℕ) → at_least least n ≡ Some c → (least ≤ n) × (n ≡ c)
+reached least n c h = by (nat_le least n) refl h
+  where
+    by : (b : Bool) → nat_le least n ≡ b → cond b (Some n) None ≡ Some c → (least ≤ n) × (n ≡ c)
+    by true is e = (grind (arith, nat_tests), same n c e)
+    by false is e = cc
+
+between-read : (least most : ℕ) (rest : List ℕ) (c : ℕ × List ℕ) → most ≤ 1048576 → number_between least most rest ≡ Some c → ReadsBetween least most rest c
+between-read least most rest c small h =
+    let field = binds (field_at rest) _ c h in
+    let n = binds (natural_up_to most field.at.0) _ c field.gives in
+    let number = binds (at_least least n.at) _ c n.gives in
+    let spelled = natural-spelled most n.at field.at.0 (omega (arith, small)) n.is in
+    let low = reached least n.at number.at number.is in
+    let read = field-read Number rest field.at field.is (number-first field.at (natural-integer most n.at field.at.0 n.is (omega (arith, small)))) in
+    let Text : List ℕ → Type 0 = λ text. IsRead (numbers 1) (field_text text) rest field.at.1 in
+    let P : ℕ × List ℕ → Type 0 = ReadsBetween least most rest in
+    subst P (same (number.at, field.at.1) c number.gives)
+    (omega (arith, low.0, low.1), omega (arith, spelled.1, low.1), subst Text (spelled.0 ∙ ap decimal low.1) read)
+
+depth-read : (rest : List ℕ) (l : MapLine) → depth_in rest ≡ Some l → ReadsLine words.Depth rest l
+depth-read rest l h =
+    let d = binds (number_between LEAST_DEPTH MOST_DEPTH rest) _ l h in
+    let read = between-read LEAST_DEPTH MOST_DEPTH rest d.at (omega arith) d.is in
+    let limits : IsWithinLimits (Depth d.at.0) = record { least = read.0; most = read.1 } in
+    alone-read words.Depth (Depth d.at.0) l rest d.at.1 refl limits read.2 d.gives
+
 int-least : (n : ℕ) → 1 ≤ n → pos 1 ≤ℤ pos n
 int-least n h = omega (arith, ints, h)
 
@@ -253,6 +286,8 @@ within-read words.Item rest l h = item-read rest l h
 within-read words.Teleport rest l h = teleport-read rest l h
 within-read words.Goal rest l h = goal-read rest l h
 within-read words.Lift rest l h = lift-read rest l h
+within-read words.Depth rest l h = depth-read rest l h
+within-read words.Shots rest l h = alone-read words.Shots Shots l rest rest refl tt (record { spelled = refl; form = λ more. refl }) h
 
 -- what is read has the form of its word
 pub within-form : (word : MapWord) (rest : List ℕ) (l : MapLine) → line_within word rest ≡ Some l → has_fields (fields_of word) rest ≡ true
@@ -283,7 +318,9 @@ word-spelled text v =
     word-choice text words.Item v _ (
     word-choice text words.Teleport v _ (
     word-choice text words.Goal v _ (
-    word-choice text words.Lift v _ (no-word text v)))))))
+    word-choice text words.Lift v _ (
+    word-choice text words.Depth v _ (
+    word-choice text words.Shots v _ (no-word text v)))))))))
 
 -- ---- the whole line
 

@@ -12,10 +12,10 @@ use Rattle.entity_recs.specs.Records.{IsMapId}
 use Rattle.entity_recs.specs.Kinds.{is_item}
 use Rattle.arena_map.specs.declared.lift.Lift as lifts
 use Rattle.arena_map.specs.declared.map_line.MapLine.{MapLine}
-use Rattle.arena_map.specs.declared.map_line.MapLine.TheVariants.{Arena, Block, Spawn, Item, Teleport, Goal, Lift}
+use Rattle.arena_map.specs.declared.map_line.MapLine.TheVariants.{Arena, Block, Spawn, Item, Teleport, Goal, Lift, Depth, Shots}
 use Rattle.arena_map.specs.Things.{record_of, records_from, lift_data}
 use Rattle.arena_map.specs.Maps.{MapView, entities_of, lift_of, IsThingInside, IsMap}
-use Rattle.arena_map.specs.Validity.{IsAsItsLine, IsThing, IsStateOn, IsValidRecord}
+use Rattle.arena_map.specs.Validity.{IsAsItsLine, IsThing, IsPlayerState, IsPlayerStateOn, IsStateOn, IsValidRecord}
 use Rattle.arena_map.specs.Laws.{OpeningWorldIsValid}
 use Rattle.arena_map.proofs.Kept.{each-of, few_things}
 use Rattle.arena_map.proofs.ThingRecords.{own-id, thing-is_record}
@@ -96,6 +96,8 @@ at-start arena id (Goal lo hi) inside = record { kind = refl; origin = refl; min
 at-start arena id (Arena lo hi) inside = let no = inside.thing in cc
 at-start arena id (Block lo hi) inside = let no = inside.thing in cc
 at-start arena id (Spawn at) inside = let no = inside.thing in cc
+at-start arena id (Depth depth) inside = let no = inside.thing in cc
+at-start arena id Shots inside = let no = inside.thing in cc
 
 item-state : (map : MapView) (kind : Kind) → is_item kind ≡ true → IsStateOn map kind 0
 item-state map kinds.Ammo h = tt
@@ -110,6 +112,8 @@ state-at-start map id (Lift lo hi rise speed) inside = omega arith
 state-at-start map id (Arena lo hi) inside = let no = inside.thing in cc
 state-at-start map id (Block lo hi) inside = let no = inside.thing in cc
 state-at-start map id (Spawn at) inside = let no = inside.thing in cc
+state-at-start map id (Depth depth) inside = let no = inside.thing in cc
+state-at-start map id Shots inside = let no = inside.thing in cc
 
 no-player : (kind : Kind) → is_item kind ≡ true → kind ≡ kinds.Player → ⊥
 no-player kind h e = let P : Kind → Type 0 = λ k. is_item k ≡ true in let no : is_item kinds.Player ≡ true = subst P e h in cc
@@ -122,6 +126,8 @@ player-at-start arena id (Lift lo hi rise speed) inside e = cc
 player-at-start arena id (Arena lo hi) inside e = let no = inside.thing in cc
 player-at-start arena id (Block lo hi) inside e = let no = inside.thing in cc
 player-at-start arena id (Spawn at) inside e = let no = inside.thing in cc
+player-at-start arena id (Depth depth) inside e = let no = inside.thing in cc
+player-at-start arena id Shots inside e = let no = inside.thing in cc
 
 valid-at-start : (map : MapView) (id : ℕ) (thing : Rec) → IsMap map → IsFound map.bounds 64 map.things id thing → IsValidRecord map id thing
 valid-at-start map id thing is found =
@@ -162,3 +168,11 @@ no-thing-below map slot is below = by (find (λ t. t.id == slot) (entities_of ma
     by : (o : Option Rec) → find (λ t. t.id == slot) (entities_of map) ≡ o → o ≡ None
     by None h = refl
     by (Some thing) h = let found = found-in map slot thing is h in absurd (omega (arith, below, found.low))
+
+-- 0 is a player's state on each map
+pub begins_unhurt : (map : MapView) → IsPlayerStateOn map 0
+begins_unhurt map = by map.shots
+  where
+    by : (shots : Bool) → IsPlayerState shots 0
+    by false = refl
+    by true = tt

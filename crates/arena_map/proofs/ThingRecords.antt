@@ -11,11 +11,12 @@ use Rattle.arena_geo.specs.Bounds.{Bounds, bounds}
 use Rattle.arena_geo.specs.Boxes.{contains}
 use Rattle.entity_recs.specs.declared.kind.Kind.{Kind}
 use Rattle.entity_recs.specs.declared.kind.Kind.TheVariants as kinds
+use Rattle.entity_recs.specs.declared.limits.TheConstants.{IDS}
 use Rattle.entity_recs.specs.declared.rec.Rec.{Rec}
 use Rattle.entity_recs.specs.Records.{IsMapId, IsAboveZero, IsMapBox, IsRecord}
 use Rattle.entity_recs.specs.Kinds.{is_item}
 use Rattle.arena_map.specs.declared.map_line.MapLine.{MapLine}
-use Rattle.arena_map.specs.declared.map_line.MapLine.TheVariants.{Arena, Block, Spawn, Item, Teleport, Goal, Lift}
+use Rattle.arena_map.specs.declared.map_line.MapLine.TheVariants.{Arena, Block, Spawn, Item, Teleport, Goal, Lift, Depth, Shots}
 use Rattle.arena_map.specs.MapLines.{is_thing_line}
 use Rattle.arena_map.specs.Places.{is_thick}
 use Rattle.arena_map.specs.Things.{record_of, records_from}
@@ -105,8 +106,10 @@ thing-is_record arena id (Lift lo hi rise speed) own inside = record {
 thing-is_record arena id (Arena lo hi) own inside = let no = inside.thing in cc
 thing-is_record arena id (Block lo hi) own inside = let no = inside.thing in cc
 thing-is_record arena id (Spawn at) own inside = let no = inside.thing in cc
+thing-is_record arena id (Depth depth) own inside = let no = inside.thing in cc
+thing-is_record arena id Shots own inside = let no = inside.thing in cc
 
-records-are : (arena : Bounds) (first : ℕ) (things : List MapLine) → 64 ≤ first → first + length things ≤ 256 → AllByRecursion (IsThingInside arena) things
+records-are : (arena : Bounds) (first : ℕ) (things : List MapLine) → 64 ≤ first → first + length things ≤ IDS → AllByRecursion (IsThingInside arena) things
     → AllByRecursion IsRecord (records_from first things)
 records-are arena first [] low high each = tt
 records-are arena first (line ∷ things) low high each = (

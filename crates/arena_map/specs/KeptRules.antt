@@ -16,7 +16,7 @@ use Rattle.arena_map.specs.Maps.{MapView, shafts_of}
 abbrev pub AllThings : (Bounds → MapLine → Bool) → MapView → Type 0
 AllThings test map = All (λ line. test map.bounds line ≡ true) map.things
 
--- the map has no more of each kind than it may
+-- the map has no more of each kind than it may, and at most one line of each setting
 pub record HasFew (map : MapView) : Type 0 where
   pub blocks : length map.blocks ≤ MOST_BLOCKS
   pub spawns : length map.spawns ≤ MOST_SPAWNS
@@ -24,6 +24,8 @@ pub record HasFew (map : MapView) : Type 0 where
   pub teleporters : count_by is_teleport_line map.things ≤ MOST_BOXES
   pub goals : count_by is_goal_line map.things ≤ MOST_BOXES
   pub lifts : count_by is_lift_line map.things ≤ MOST_BOXES
+  pub depth_lines : map.depth_lines ≤ 1
+  pub shots_lines : map.shots_lines ≤ 1
 
 -- no lift's shaft overlaps a block or another shaft
 pub record HasClearShafts (map : MapView) : Type 0 where

@@ -2,6 +2,7 @@
 pub use Rattle.arena_geo.specs.Vectors
 pub use Rattle.arena_geo.specs.Bounds
 pub use Rattle.arena_geo.specs.Boxes
+pub use Rattle.areanode.specs.Trees
 pub use Rattle.box_trace.specs.Walls
 pub use Rattle.entity_recs.specs.Kinds
 pub use Rattle.entity_recs.specs.Bodies

@@ -1,11 +1,12 @@
 -- The limits of the numbers of a map line, and what kinds of lines there are.
-use Rattle.std.specs.Prelude.{◌≡◌, ◌≤◌, Bool, true, false, not, pos, ◌≤ℤ◌}
+use Rattle.std.specs.Prelude.{◌≡◌, ⊤, ◌≤◌, Bool, true, false, not, pos, ◌≤ℤ◌}
 use Rattle.arena_geo.specs.Vectors.{IsNear}
+use Rattle.areanode.specs.Trees.{IsTreeDepth}
 use Rattle.entity_recs.specs.declared.kind.Kind.{Kind}
 use Rattle.entity_recs.specs.declared.kind.Kind.TheVariants as kinds
 use Rattle.entity_recs.specs.Kinds.{is_item}
 use Rattle.arena_map.specs.declared.map_line.MapLine.{MapLine}
-use Rattle.arena_map.specs.declared.map_line.MapLine.TheVariants.{Arena, Block, Spawn, Item, Teleport, Goal, Lift}
+use Rattle.arena_map.specs.declared.map_line.MapLine.TheVariants.{Arena, Block, Spawn, Item, Teleport, Goal, Lift, Depth, Shots}
 
 -- the kind is a teleporter's
 abbrev pub is_teleporter : Kind → Bool
@@ -28,6 +29,8 @@ IsWithinLimits (Goal lo hi) = IsNear 1048576 lo × IsNear 1048576 hi
 IsWithinLimits (Lift lo hi rise speed) =
     IsNear 1048576 lo × IsNear 1048576 hi × (pos 1 ≤ℤ rise) × (rise ≤ℤ pos 1048576) × (pos 1 ≤ℤ speed)
     × (speed ≤ℤ pos 2560)
+IsWithinLimits (Depth depth) = IsTreeDepth depth
+IsWithinLimits Shots = ⊤
 
 -- the line is that of the arena, with which a map begins
 abbrev pub is_arena : MapLine → Bool
@@ -63,4 +66,6 @@ abbrev pub is_thing_line : MapLine → Bool
 is_thing_line (Arena lo hi) = false
 is_thing_line (Block lo hi) = false
 is_thing_line (Spawn at) = false
+is_thing_line (Depth depth) = false
+is_thing_line Shots = false
 is_thing_line _ = true

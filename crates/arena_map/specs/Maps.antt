@@ -1,17 +1,21 @@
--- A map as contracts see it: its bounds, its blocks, its spawns, and the lines of its things, each in line order.
+-- A map as contracts see it: its bounds, its blocks, its spawns, the lines of its things, each in line order, and its
+-- settings.
 use Rattle.std.specs.Prelude.{◌≡◌, ℕ, ◌-◌, ◌≤◌, ◌==◌, Bool, true, false, List, ◌++◌, length, Option, None}
 use Rattle.std.specs.Prelude.{option_and_then, All, AllPairs, count_by, filter_map, pos, ◌+ℤ◌, ◌≤ℤ◌, nat_lt, nat_le, unsigned_abs}
-use Rattle.std.specs.Prelude.{slice_get, drop, if◌then◌else◌}
+use Rattle.std.specs.Prelude.{slice_get, drop, cond, if◌then◌else◌}
 use Rattle.std.specs.List.{find}
 use Rattle.std.specs.Option.{option_map_or}
 use Rattle.arena_geo.specs.declared.vec3.Vec3.{Vec3}
 use Rattle.arena_geo.specs.Vectors.{IsNear}
 use Rattle.arena_geo.specs.Bounds.{Bounds, IsBox}
 use Rattle.arena_geo.specs.Boxes.{contains, overlaps, is_blocked}
+use Rattle.areanode.specs.Trees.{IsTreeDepth}
 use Rattle.box_trace.specs.Walls.{walls_of}
 use Rattle.entity_recs.specs.declared.kind.Kind.{Kind}
 use Rattle.entity_recs.specs.declared.rec.Rec.{Rec}
-use Rattle.arena_map.specs.declared.limits.TheConstants.{MOST_BLOCKS, MOST_BOXES, MOST_ITEMS, MOST_SPAWNS}
+use Rattle.arena_map.specs.declared.limits.TheConstants.{DEFAULT_DEPTH, MOST_BLOCKS, MOST_BOXES, MOST_ITEMS}
+use Rattle.arena_map.specs.declared.limits.TheConstants.{MOST_SPAWNS}
+use Rattle.arena_map.specs.declared.settings.Settings.{Settings}
 use Rattle.arena_map.specs.declared.lift.Lift.{Lift}
 use Rattle.arena_map.specs.declared.map_line.MapLine.{MapLine}
 use Rattle.arena_map.specs.MapLines.{IsWithinLimits, is_thing_line, is_item_line, is_teleport_line, is_goal_line}
@@ -20,16 +24,35 @@ use Rattle.arena_map.specs.Places.{is_wide, is_thick, is_player_inside, shaft_of
 use Rattle.arena_map.specs.Places.{keeps_travel}
 use Rattle.arena_map.specs.Things.{records_from, dest_in, delay_in, lift_data}
 
--- the arena, the blocks, the spawns, and the lines of items, teleporters, goals and lifts
+-- the arena, the blocks, the spawns, and the lines of items, teleporters, goals and lifts; how deep the tree of areanodes
+-- is and how many lines name that; whether players can shoot and how many lines say so
 pub record MapView : Type 0 where
   pub bounds : Bounds
   pub blocks : List Bounds
   pub spawns : List Vec3
   pub things : List MapLine
+  pub depth : ℕ
+  pub depth_lines : ℕ
+  pub shots : Bool
+  pub shots_lines : ℕ
 
--- the map with these parts
-abbrev pub map_of : Bounds → List Bounds → List Vec3 → List MapLine → MapView
-map_of bounds blocks spawns things = record { bounds = bounds; blocks = blocks; spawns = spawns; things = things }
+-- the map with these parts and settings
+abbrev pub map_of : Bounds → List Bounds → List Vec3 → List MapLine → Settings → MapView
+map_of bounds blocks spawns things settings = record {
+  bounds = bounds;
+  blocks = blocks;
+  spawns = spawns;
+  things = things;
+  depth = settings.depth;
+  depth_lines = cond settings.names_depth 1 0;
+  shots = settings.shots;
+  shots_lines = cond settings.shots 1 0;
+}
+
+-- the map with these parts, where no line names a depth or lets players shoot
+abbrev pub plain_map : Bounds → List Bounds → List Vec3 → List MapLine → MapView
+plain_map bounds blocks spawns things =
+    map_of bounds blocks spawns things (record { depth = DEFAULT_DEPTH; names_depth = false; shots = false })
 
 -- ---- what a map gives
 
@@ -123,12 +146,16 @@ pub record IsMap (map : MapView) : Type 0 where
   pub few_lifts : count_by is_lift_line map.things ≤ MOST_BOXES
   pub clear_shafts : All (λ shaft. is_blocked shaft map.blocks ≡ false) (shafts_of map)
   pub shafts_apart : AllPairs (λ one other. overlaps one other ≡ false) (shafts_of map)
+  pub depth : IsTreeDepth map.depth
+  pub few_depth_lines : map.depth_lines ≤ 1
+  pub default_depth : map.depth_lines ≡ 0 → map.depth ≡ DEFAULT_DEPTH
+  pub shots_line : map.shots_lines ≡ cond map.shots 1 0
 
--- a map is kept as its bounds, its solids, its spawns, the lines of its things, the records that these give, and the
--- shafts of its lifts: the blocks are the solids after the six walls
+-- a map is kept as its bounds, its solids, its spawns, the lines of its things, the records that these give, the shafts of
+-- its lifts, and its settings: the blocks are the solids after the six walls
 pub record IsKept (bounds : Bounds) (solids : List Bounds) (spawns : List Vec3) (things : List MapLine)
-    (entities : List Rec) (shafts : List Bounds) : Type 0 where
-  pub solids_are : solids ≡ solids_of (map_of bounds (drop 6 solids) spawns things)
+    (entities : List Rec) (shafts : List Bounds) (settings : Settings) : Type 0 where
+  pub solids_are : solids ≡ solids_of (map_of bounds (drop 6 solids) spawns things settings)
   pub entities_are : entities ≡ records_from 64 things
   pub shafts_are : shafts ≡ filter_map shaft_of things
-  pub is_map : IsMap (map_of bounds (drop 6 solids) spawns things)
+  pub is_map : IsMap (map_of bounds (drop 6 solids) spawns things settings)

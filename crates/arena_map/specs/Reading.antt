@@ -1,14 +1,15 @@
 -- What a map line says: its word, then whether its fields have the form that the word wants, and then their values
 -- within the limits.
 use Rattle.std.specs.Prelude.{ℕ, zero, suc, Bool, true, false, ◌&&◌, List, [], ◌∷◌, Option, Some, None, is_some, ok_or}
-use Rattle.std.specs.Prelude.{Result, Err, ℤ, pos, codes, bytes_eq, ◌||◌, if◌then◌else◌}
+use Rattle.std.specs.Prelude.{Result, Err, ℤ, pos, codes, bytes_eq, ◌||◌, nat_le, if◌then◌else◌}
 use Rattle.arena_geo.specs.declared.vec3.Vec3.{Vec3}
 use Rattle.arena_geo.specs.Vectors.{vector}
 use Rattle.entity_recs.specs.declared.kind.Kind.{Kind}
+use Rattle.areanode.specs.declared.sizes.TheConstants.{LEAST_DEPTH, MOST_DEPTH}
 use Rattle.edge_io.specs.Numbers.{natural_up_to, integer_up_to, is_integer}
 use Rattle.edge_io.specs.Fields.{◌>>=◌, cut, field_at}
 use Rattle.arena_map.specs.declared.map_line.MapLine.{MapLine}
-use Rattle.arena_map.specs.declared.map_line.MapLine.TheVariants.{Arena, Block, Spawn, Item, Teleport, Goal, Lift}
+use Rattle.arena_map.specs.declared.map_line.MapLine.TheVariants.{Arena, Block, Spawn, Item, Teleport, Goal, Lift, Depth, Shots}
 use Rattle.arena_map.specs.declared.map_word.MapWord.{MapWord}
 use Rattle.arena_map.specs.declared.map_word.MapWord.TheVariants as words
 use Rattle.arena_map.specs.declared.map_word.MapField.{MapField}
@@ -129,6 +130,24 @@ lift_in rest = do
   speed ← count_at 2560 rise.1
   alone (Lift corners.0 corners.1 (pos rise.0) (pos speed.0)) speed.1
 
+-- the number, where it is at least this
+abbrev pub at_least : ℕ → ℕ → Option ℕ
+at_least least n = if nat_le least n then Some n else None
+
+-- a number from the least to the most, and the rest
+abbrev pub number_between : ℕ → ℕ → List ℕ → Option (ℕ × List ℕ)
+number_between least most rest = do
+  field ← field_at rest
+  n ← natural_up_to most field.0
+  number ← at_least least n
+  Some (number, field.1)
+
+-- how deep the tree of areanodes is: 3 to 5
+abbrev pub depth_in : List ℕ → Option MapLine
+depth_in rest = do
+  depth ← number_between LEAST_DEPTH MOST_DEPTH rest
+  alone (Depth depth.0) depth.1
+
 -- the line with these fields, each number within its limit
 abbrev pub line_within : MapWord → List ℕ → Option MapLine
 line_within words.Arena rest = arena_in rest
@@ -138,6 +157,8 @@ line_within words.Item rest = item_in rest
 line_within words.Teleport rest = teleport_in rest
 line_within words.Goal rest = goal_in rest
 line_within words.Lift rest = lift_in rest
+line_within words.Depth rest = depth_in rest
+line_within words.Shots rest = alone Shots rest
 
 -- ---- the line
 

@@ -1,5 +1,5 @@
 -- The rules of a map: the first that a line breaks, and the map with a line that breaks none.
-use Rattle.std.specs.Prelude.{Bool, true, not, ◌&&◌, nat_lt, List, [], ◌∷◌, ◌++◌, length, count_by, Option, Some, None}
+use Rattle.std.specs.Prelude.{ℕ, ◌+◌, ◌==◌, Bool, true, not, ◌&&◌, nat_lt, List, [], ◌∷◌, ◌++◌, length, count_by, Option, Some, None}
 use Rattle.std.specs.Prelude.{if◌then◌else◌}
 use Rattle.std.specs.List.{list_any}
 use Rattle.arena_geo.specs.declared.vec3.Vec3.{Vec3}
@@ -9,10 +9,10 @@ use Rattle.arena_map.specs.declared.limits.TheConstants.{MOST_BLOCKS, MOST_BOXES
 use Rattle.arena_map.specs.declared.map_fault.MapFault.{MapFault}
 use Rattle.arena_map.specs.declared.map_fault.MapFault.TheVariants as fault
 use Rattle.arena_map.specs.declared.map_line.MapLine.{MapLine}
-use Rattle.arena_map.specs.declared.map_line.MapLine.TheVariants.{Arena, Block, Spawn, Item, Teleport, Goal, Lift}
+use Rattle.arena_map.specs.declared.map_line.MapLine.TheVariants.{Arena, Block, Spawn, Item, Teleport, Goal, Lift, Depth, Shots}
 use Rattle.arena_map.specs.MapLines.{is_item_line, is_teleport_line, is_goal_line, is_lift_line}
 use Rattle.arena_map.specs.Places.{is_wide, shaft, keeps_box, keeps_stand, keeps_item, keeps_travel}
-use Rattle.arena_map.specs.Maps.{MapView, map_of, shafts_of}
+use Rattle.arena_map.specs.Maps.{MapView, plain_map, shafts_of}
 
 -- ---- the arena
 
@@ -27,7 +27,7 @@ broken_at_first _ = None
 
 -- the map of an arena, with nothing in it
 abbrev pub bare_map : Vec3 → Vec3 → MapView
-bare_map lo hi = map_of (bounds lo hi) [] [] []
+bare_map lo hi = plain_map (bounds lo hi) [] [] []
 
 -- the map that the line of an arena begins
 abbrev pub begun_map : MapLine → Option MapView
@@ -45,6 +45,8 @@ keeps_count map (Item at kind delay) = nat_lt (count_by is_item_line map.things)
 keeps_count map (Teleport lo hi dest) = nat_lt (count_by is_teleport_line map.things) MOST_BOXES
 keeps_count map (Goal lo hi) = nat_lt (count_by is_goal_line map.things) MOST_BOXES
 keeps_count map (Lift lo hi rise speed) = nat_lt (count_by is_lift_line map.things) MOST_BOXES
+keeps_count map (Depth depth) = map.depth_lines == 0
+keeps_count map Shots = map.shots_lines == 0
 
 -- the shaft of an earlier lift overlaps the box
 abbrev pub meets_shaft : List Bounds → Bounds → Bool
@@ -70,13 +72,19 @@ broken_rule map line =
 
 -- the map with one more of its parts
 abbrev pub with_block : MapView → Bounds → MapView
-with_block map block = map_of map.bounds (map.blocks ++ block ∷ []) map.spawns map.things
+with_block map block = record map { blocks = map.blocks ++ block ∷ [] }
 
 abbrev pub with_spawn : MapView → Vec3 → MapView
-with_spawn map at = map_of map.bounds map.blocks (map.spawns ++ at ∷ []) map.things
+with_spawn map at = record map { spawns = map.spawns ++ at ∷ [] }
 
 abbrev pub with_thing : MapView → MapLine → MapView
-with_thing map line = map_of map.bounds map.blocks map.spawns (map.things ++ line ∷ [])
+with_thing map line = record map { things = map.things ++ line ∷ [] }
+
+abbrev pub with_depth : MapView → ℕ → MapView
+with_depth map depth = record map { depth = depth; depth_lines = map.depth_lines + 1 }
+
+abbrev pub with_shots : MapView → MapView
+with_shots map = record map { shots = true; shots_lines = map.shots_lines + 1 }
 
 -- the map with a line that breaks no rule
 abbrev pub with_line : MapView → MapLine → MapView
@@ -87,3 +95,5 @@ with_line map (Item at kind delay) = with_thing map (Item at kind delay)
 with_line map (Teleport lo hi dest) = with_thing map (Teleport lo hi dest)
 with_line map (Goal lo hi) = with_thing map (Goal lo hi)
 with_line map (Lift lo hi rise speed) = with_thing map (Lift lo hi rise speed)
+with_line map (Depth depth) = with_depth map depth
+with_line map Shots = with_shots map

@@ -1,6 +1,6 @@
 -- Which worlds are valid for a map: records by id, each within its bounds, the things as their lines say, and the
 -- players inside the arena.
-use Rattle.std.specs.Prelude.{◌≡◌, ◌≢◌, ℕ, ◌≤◌, ◌==◌, true, false, List, Option, Some, None, ⊤, ◌+ℤ◌, ◌≤ℤ◌}
+use Rattle.std.specs.Prelude.{◌≡◌, ◌≢◌, ℕ, ◌≤◌, ◌==◌, Bool, true, false, List, Option, Some, None, ⊤, ◌+ℤ◌, ◌≤ℤ◌}
 use Rattle.std.specs.Prelude.{slice_index_or}
 use Rattle.std.specs.List.{find}
 use Rattle.arena_geo.specs.Boxes.{contains, overlaps, is_blocked}
@@ -42,9 +42,15 @@ IsThing map None (Some r) = ⊥
 IsThing map (Some thing) None = ⊥
 IsThing map (Some thing) (Some r) = IsAsItsLine (lift_of map thing.id) thing r
 
--- the states of a player on a map: 0 on each
+-- the states of a player where nobody shoots: 0; and where players shoot: up to 99 it is the damage, and from there on 100
+-- and the frame in which the player moves again, so each number is one
+abbrev pub IsPlayerState : Bool → ℕ → Type 0
+IsPlayerState false state = IsStateOf Player state
+IsPlayerState true state = Unit {0}
+
+-- the states of a player on a map, which says whether players shoot
 abbrev pub IsPlayerStateOn : MapView → ℕ → Type 0
-IsPlayerStateOn map state = IsStateOf Player state
+IsPlayerStateOn map state = IsPlayerState map.shots state
 
 -- the states of a kind on a map: the map decides which are a player's
 abbrev pub IsStateOn : MapView → Kind → ℕ → Type 0

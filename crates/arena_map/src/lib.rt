@@ -8,7 +8,8 @@ pub use laws::{
 };
 pub use lift::Lift;
 pub use limits::{
-    LEAST_SIDE, MOST_BLOCKS, MOST_BOXES, MOST_FRAMES, MOST_ITEMS, MOST_SPAWNS, MOST_THINGS,
+    DEFAULT_DEPTH, LEAST_SIDE, MOST_BLOCKS, MOST_BOXES, MOST_FRAMES, MOST_ITEMS, MOST_SPAWNS,
+    MOST_THINGS,
 };
 pub use map::ArenaMap;
 pub use map_fault::{MapFault, MapRefusal};
@@ -26,5 +27,6 @@ mod map_line;
 mod map_word;
 mod reading;
 mod rules;
+mod settings;
 mod spelling;
 mod things;

@@ -8,13 +8,16 @@ pub const MOST_BLOCKS: usize = 1_024;
 pub const MOST_SPAWNS: usize = 64;
 
 /// The most items of a map.
-pub const MOST_ITEMS: usize = 144;
+pub const MOST_ITEMS: usize = 400;
 
 /// The most teleporters of a map, the most goals, and the most lifts.
 pub const MOST_BOXES: usize = 16;
 
 /// The most things of a map: items, teleporters, goals and lifts.
 pub const MOST_THINGS: usize = MOST_ITEMS + 3 * MOST_BOXES;
+
+/// The depth of the tree of areanodes of a map whose lines name none.
+pub const DEFAULT_DEPTH: u8 = 4;
 
 /// The most frames of a recording, and so the most that a server runs.
 pub const MOST_FRAMES: u32 = 100_000;

@@ -3,12 +3,13 @@ ghost use Rattle.std.specs.Prelude.{Some, None, Err, true, All, IfOk, IfSome, On
 ghost use Rattle.std.specs.List.{IsDistinct};
 ghost use Rattle.arena_geo.specs.Vectors.{IsNear};
 ghost use Rattle.arena_geo.specs.Bounds.{bounds};
+ghost use Rattle.areanode.specs.Trees.{IsTreeDepth};
 ghost use Rattle.entity_recs.specs.Records.{IsRecord};
 ghost use Rattle.entity_recs.specs.Kinds.{is_item};
 ghost use Rattle.arena_map.specs.declared.limits.TheConstants.{MOST_THINGS};
 ghost use Rattle.arena_map.specs.declared.map_fault.MapFault.{MapFault};
 ghost use Rattle.arena_map.specs.declared.map_fault.MapRefusal.TheVariants.{Rule};
-ghost use Rattle.arena_map.specs.declared.map_line.MapLine.TheVariants.{Block, Spawn};
+ghost use Rattle.arena_map.specs.declared.map_line.MapLine.TheVariants.{Block, Spawn, Depth, Shots};
 ghost use Rattle.arena_map.specs.Places as places;
 ghost use Rattle.arena_map.specs.Maps as maps;
 ghost use Rattle.arena_map.specs.Maps.{IsMap, IsSpawn, IsDelay, IsLift, solids_of, entities_of, has_thing};
@@ -19,10 +20,11 @@ ghost use Rattle.arena_map.specs.Rules as rules;
 ghost use Rattle.arena_map.specs.Rules.{broken_at_first, begun_map, broken_rule, with_line, with_thing};
 
 use crate::lift::Lift;
-use crate::limits::{MOST_BLOCKS, MOST_BOXES, MOST_ITEMS, MOST_SPAWNS};
+use crate::limits::{DEFAULT_DEPTH, MOST_BLOCKS, MOST_BOXES, MOST_ITEMS, MOST_SPAWNS};
 use crate::map_fault::{MapFault, MapRefusal};
 use crate::map_line::MapLine;
 use crate::rules::{box_between, is_wide, keeps_box, keeps_item, keeps_stand, keeps_travel, shaft};
+use crate::settings::Settings;
 use crate::things::{delay_in, dest_in, lift_data, push_shaft, record_of};
 use arena_geo::{Aabb, Vec3};
 use box_trace::{WALLS, arena_walls};
@@ -32,6 +34,13 @@ use std::marker::Model;
 
 /// The id of the first thing.
 const FIRST_THING: u16 = 64;
+
+/// The settings of a map whose lines say nothing of them.
+const NO_SETTINGS: Settings = Settings {
+    depth: DEFAULT_DEPTH,
+    names_depth: false,
+    shots: false,
+};
 
 /// The map of an arena, made of its lines. It keeps the rules: each side of the arena is at least
 /// [`LEAST_SIDE`](crate::LEAST_SIDE) long; each block has an inside and is inside the arena; a player at a spawn or at
@@ -45,19 +54,20 @@ pub struct ArenaMap {
     things: Vec<MapLine>,
     entities: Vec<Rec>,
     shafts: Vec<Aabb>,
+    settings: Settings,
 }
 
-// Clauses see the bounds, the blocks, the spawns and the lines of the things.
+// Clauses see the bounds, the blocks, the spawns, the lines of the things and the settings.
 impl Model for ArenaMap {
     ghost use Rattle.std.specs.Prelude.{drop};
     ghost use Rattle.arena_map.specs.Maps.{MapView, map_of, IsKept};
 
     ghost Value = { MapView };
 
-    ghost view = { λ m. map_of m.bounds (drop 6 m.solids.items) m.spawns.items m.things.items };
+    ghost view = { λ m. map_of m.bounds (drop 6 m.solids.items) m.spawns.items m.things.items m.settings };
 
     ghost invariant = { λ m. IsKept m.bounds m.solids.items m.spawns.items m.things.items m.entities.items
-        m.shafts.items };
+        m.shafts.items m.settings };
 }
 
 impl ArenaMap {
@@ -85,6 +95,7 @@ impl ArenaMap {
             things: Vec::new(alloc),
             entities: Vec::new(alloc),
             shafts: Vec::new(alloc),
+            settings: NO_SETTINGS,
         })
     }
 
@@ -137,6 +148,8 @@ impl ArenaMap {
             MapLine::Teleport { .. } => self.teleporters() < MOST_BOXES,
             MapLine::Goal { .. } => self.goals() < MOST_BOXES,
             MapLine::Lift { .. } => self.shafts.len() < MOST_BOXES,
+            MapLine::Depth(_) => !self.settings.names_depth,
+            MapLine::Shots => !self.settings.shots,
         }
     }
 
@@ -211,6 +224,14 @@ impl ArenaMap {
             | MapLine::Teleport { .. }
             | MapLine::Goal { .. }
             | MapLine::Lift { .. } => self.put_thing(l),
+            MapLine::Depth(depth) => {
+                self.put_depth(depth);
+                Ok(())
+            }
+            MapLine::Shots => {
+                self.put_shots();
+                Ok(())
+            }
         }
     }
 
@@ -255,6 +276,24 @@ impl ArenaMap {
         Ok(())
     }
 
+    /// Sets the depth that a line names.
+    fn put_depth(&mut self, depth: u8)
+        requires limits { IsTreeDepth depth }
+        requires kept { broken_rule self.old (Depth depth) ≡ None }
+        ensures { self.new ≡ rules.with_depth self.old depth }
+    {
+        self.settings.depth = depth;
+        self.settings.names_depth = true;
+    }
+
+    /// Lets players shoot.
+    fn put_shots(&mut self)
+        requires { broken_rule self.old Shots ≡ None }
+        ensures { self.new ≡ rules.with_shots self.old }
+    {
+        self.settings.shots = true;
+    }
+
     /// The arena's inside.
     pub fn bounds(&self) -> &Aabb
         ensures value { result.now ≡ self.now.bounds }
@@ -285,6 +324,24 @@ impl ArenaMap {
         ensures rules { IsMap self.now }
     {
         self.spawns.as_slice()
+    }
+
+    /// The depth of the tree of areanodes, 3 to 5: that of its leaves, where the root has depth 0. It is
+    /// [`DEFAULT_DEPTH`] where no line names it.
+    pub fn depth(&self) -> u8
+        ensures value { result ≡ self.now.depth }
+        ensures range { IsTreeDepth self.now.depth }
+        ensures rules { IsMap self.now }
+    {
+        self.settings.depth
+    }
+
+    /// Whether players can shoot.
+    pub fn shots(&self) -> bool
+        ensures value { result ≡ self.now.shots }
+        ensures rules { IsMap self.now }
+    {
+        self.settings.shots
     }
 
     /// The things of the map at the start, by id from 64 in the order of their lines.

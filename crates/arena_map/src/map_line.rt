@@ -44,4 +44,8 @@ pub enum MapLine {
         rise: i32,
         speed: i32,
     },
+    /// The depth of the tree of areanodes: that of its leaves, where the root has depth 0.
+    Depth(u8),
+    /// Players can shoot.
+    Shots,
 }

@@ -15,6 +15,8 @@ pub enum MapWord {
     Teleport,
     Goal,
     Lift,
+    Depth,
+    Shots,
 }
 
 /// What a field after the word is.
@@ -47,6 +49,10 @@ impl MapWord {
             Some(MapWord::Goal)
         } else if text == b"lift".as_slice() {
             Some(MapWord::Lift)
+        } else if text == b"depth".as_slice() {
+            Some(MapWord::Depth)
+        } else if text == b"shots".as_slice() {
+            Some(MapWord::Shots)
         } else {
             None
         }
@@ -65,6 +71,8 @@ impl MapWord {
             MapWord::Teleport => b"teleport",
             MapWord::Goal => b"goal",
             MapWord::Lift => b"lift",
+            MapWord::Depth => b"depth",
+            MapWord::Shots => b"shots",
         }
     }
 
@@ -78,6 +86,8 @@ impl MapWord {
             MapWord::Item => &[Number, Number, Number, ItemKind, Number],
             MapWord::Teleport => &[Number; 9],
             MapWord::Lift => &[Number; 8],
+            MapWord::Depth => &[Number],
+            MapWord::Shots => &[],
         }
     }
 }
@@ -94,6 +104,8 @@ pub fn word_of(l: &MapLine) -> MapWord
         MapLine::Teleport { .. } => MapWord::Teleport,
         MapLine::Goal { .. } => MapWord::Goal,
         MapLine::Lift { .. } => MapWord::Lift,
+        MapLine::Depth(_) => MapWord::Depth,
+        MapLine::Shots => MapWord::Shots,
     }
 }
 

@@ -9,6 +9,7 @@ ghost use Rattle.arena_map.specs.Causes.{HasNoWord, HasNoForm, IsOutOfLimit};
 
 use crate::map_line::MapLine;
 use crate::map_word::{MapField, MapWord, item_kind};
+use areanode::{LEAST_DEPTH, MOST_DEPTH};
 use arena_geo::Vec3;
 use edge_io::{cut, field_at, integer, is_integer, natural};
 use entity_recs::Kind;
@@ -200,6 +201,29 @@ fn lift_in(rest: &[u8]) -> Option<MapLine>
     )
 }
 
+/// A number from `least` to `most`, and the rest.
+fn number_between(rest: &[u8], least: u8, most: u8) -> Option<(u8, &[u8])>
+    ensures value { option_map (λ n. (n.0, n.1.now)) result ≡ reading.number_between least most rest.now }
+    ensures least { IfSome result (λ n. least ≤ n.0) }
+    ensures most { IfSome result (λ n. n.0 ≤ most) }
+{
+    let (field, rest) = field_at(rest)?;
+    let number = natural(field, u64::from(most))? as u8;
+    if number < least {
+        return None;
+    }
+    Some((number, rest))
+}
+
+/// How deep the tree of areanodes is.
+fn depth_in(rest: &[u8]) -> Option<MapLine>
+    ensures value { result ≡ reading.depth_in rest.now }
+    ensures limits { IfSome result IsWithinLimits }
+{
+    let (depth, rest) = number_between(rest, LEAST_DEPTH, MOST_DEPTH)?;
+    alone(MapLine::Depth(depth), rest)
+}
+
 /// The line with these fields, where each number is within its limit.
 fn line_within(word: MapWord, rest: &[u8]) -> Option<MapLine>
     ensures value { result ≡ reading.line_within word rest.now }
@@ -213,6 +237,8 @@ fn line_within(word: MapWord, rest: &[u8]) -> Option<MapLine>
         MapWord::Teleport => teleport_in(rest),
         MapWord::Goal => goal_in(rest),
         MapWord::Lift => lift_in(rest),
+        MapWord::Depth => depth_in(rest),
+        MapWord::Shots => alone(MapLine::Shots, rest),
     }
 }
 

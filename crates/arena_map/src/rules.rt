@@ -113,7 +113,11 @@ pub fn keeps_box(arena: &Aabb, l: &MapLine) -> bool
         | MapLine::Teleport { lo, hi, .. }
         | MapLine::Goal { lo, hi }
         | MapLine::Lift { lo, hi, .. } => is_box_inside(arena, lo, hi),
-        MapLine::Arena { .. } | MapLine::Spawn { .. } | MapLine::Item { .. } => true,
+        MapLine::Arena { .. }
+        | MapLine::Spawn { .. }
+        | MapLine::Item { .. }
+        | MapLine::Depth(_)
+        | MapLine::Shots => true,
     }
 }
 

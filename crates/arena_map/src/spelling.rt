@@ -72,6 +72,8 @@ fn push_fields(out: &mut LineBuf, l: &MapLine)
             push_number(out, rise);
             push_number(out, speed);
         }
+        MapLine::Depth(depth) => push_number(out, i32::from(depth)),
+        MapLine::Shots => {}
     }
 }
 

@@ -40,7 +40,11 @@ pub fn record_of(id: u16, l: &MapLine) -> Rec
         MapLine::Teleport { lo, hi, .. } => at_rest(id, Kind::Teleporter, lo, Vec3::ZERO, hi - lo),
         MapLine::Goal { lo, hi } => at_rest(id, Kind::Goal, lo, Vec3::ZERO, hi - lo),
         MapLine::Lift { lo, hi, .. } => at_rest(id, Kind::Lift, lo, Vec3::ZERO, hi - lo),
-        MapLine::Arena { .. } | MapLine::Block { .. } | MapLine::Spawn { .. } => unreachable!(),
+        MapLine::Arena { .. }
+        | MapLine::Block { .. }
+        | MapLine::Spawn { .. }
+        | MapLine::Depth(_)
+        | MapLine::Shots => unreachable!(),
     }
 }
 

@@ -28,7 +28,7 @@ use Rattle.demo_lines.proofs.RecordingsRead.{read_in_turn}
 use Rattle.bot_ways.specs.declared.plan.Plan.{Plan}
 use Rattle.bot_ways.specs.Edges.{distance}
 use Rattle.bot_ways.specs.Moves.{place_of, places_of, move_towards, moves_between, sent, move_frame, frames_between, frames_through, bot_frames}
-use Rattle.bot_ways.specs.PlanTexts.{IsPlan, frames_text, added_lines, map_text, walk_text, certificate_text, plan_text}
+use Rattle.bot_ways.specs.PlanTexts.{IsPlan, frames_text, added_lines, as_written, map_text, walk_text, certificate_text, plan_text}
 use Rattle.bot_ways.specs.Walking.{IsSomeWalk}
 use Rattle.bot_ways.specs.Laws.{PlansAreRecordings, LengthsAreWritten, MovesAreKnown}
 use Rattle.bot_ways.proofs.MapsBefore.{map-again, lines-accepted}
@@ -116,7 +116,7 @@ is-built m plan is planned =
       spawn = λ _. ap is_ready (map-again m is) ∙ ready;
     }
 
-walk-read : (m : MapView) (plan : Plan) → IsMap m → IsPlan m plan → IsTextOf m (bot_frames m plan.way) (walk_text m plan.way)
+walk-read : (m : MapView) (plan : Plan) → IsMap m → IsPlan m plan → IsTextOf (as_written m) (bot_frames m plan.way) (walk_text m plan.way)
 walk-read m plan is planned =
     let frames = bot_frames m plan.way in
     let P : MapView → Type 0 = λ n. IsTextOf n frames (walk_text m plan.way) in

@@ -14,7 +14,7 @@ use Rattle.bot_ways.specs.Edges.{distance, edge}
 use Rattle.bot_ways.specs.Walks.{IsWalk, HasLeast}
 use Rattle.bot_ways.specs.Ways.{IsCertificate, IsWay}
 use Rattle.bot_ways.specs.Moves.{places_of, length_through, wish_along, move_towards, moves_between, sent, bot_frames}
-use Rattle.bot_ways.specs.PlanTexts.{IsPlan, plan_text}
+use Rattle.bot_ways.specs.PlanTexts.{IsPlan, as_written, plan_text}
 
 -- an edge of length n leads from u to v: they have one height, are apart, and at most 65,536 from each other on each axis,
 -- no wall or block overlaps a player's body at u or at a step of its way to v, and n is the greater of the distances on
@@ -47,11 +47,11 @@ WaysAreUnique =
     → IsWay map least v one → IsWay map least v other → one ≡ other
 
 -- what is written of a plan is, up to its line `end`, a recording of the map in which the bot joins and walks along the way:
--- it has no fault, and gives this map and these frames
+-- it has no fault, and gives this map, but for a line that names the depth which a map has anyway, and these frames
 abbrev pub PlansAreRecordings : Type 0
 PlansAreRecordings =
     (map : MapView) (plan : Plan) → IsMap map → IsPlan map plan
-    → IsTextOf map (bot_frames map plan.way) (plan_text map plan)
+    → IsTextOf (as_written map) (bot_frames map plan.way) (plan_text map plan)
 
 -- the length that is written of a way is that of its walk
 abbrev pub LengthsAreWritten : Type 0

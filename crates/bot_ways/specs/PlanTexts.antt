@@ -1,14 +1,15 @@
 -- What is written of a plan: a recording in which a bot walks, and after its end the certificate.
-use Rattle.std.specs.Prelude.{◌≡◌, ℕ, ◌≤◌, List, [], ◌∷◌, ◌++◌, length, map, flat_map, codes, decimal, Option, Some, None}
+use Rattle.std.specs.Prelude.{◌≡◌, ℕ, ◌≤◌, ◌==◌, if◌then◌else◌, List, [], ◌∷◌, ◌++◌, length, map, flat_map, codes, decimal, Option, Some, None}
 use Rattle.edge_io.specs.Fields.{field_text}
 use Rattle.edge_io.specs.WholeLines.{unlines}
 use Rattle.arena_geo.specs.Bounds.{Bounds}
+use Rattle.arena_map.specs.declared.limits.TheConstants.{DEFAULT_DEPTH}
 use Rattle.arena_map.specs.declared.map_line.MapLine.{MapLine}
-use Rattle.arena_map.specs.declared.map_line.MapLine.TheVariants.{Arena, Block, Spawn}
+use Rattle.arena_map.specs.declared.map_line.MapLine.TheVariants.{Arena, Block, Spawn, Depth}
 use Rattle.arena_map.specs.Maps.{MapView}
 use Rattle.arena_map.specs.Spelling.{map_line_text}
 use Rattle.packet_read.specs.declared.arrival.Arrival.{Arrival}
-use Rattle.demo_lines.specs.Spelling.{line_text, frame_lines}
+use Rattle.demo_lines.specs.Spelling.{line_text, frame_lines, shots_lines_of}
 use Rattle.demo_lines.specs.InTurn.{text_in_turn}
 use Rattle.bot_ways.specs.declared.plan.Plan.{Plan}
 use Rattle.bot_ways.specs.Walks.{IsWalk, length_to}
@@ -44,18 +45,32 @@ frame_text arrivals = unlines (map line_text (frame_lines arrivals))
 abbrev pub frames_text : List (List Arrival) → List ℕ
 frames_text frames = flat_map frame_text frames
 
--- the lines of a map after that of its arena: the blocks, the spawns and then the things by id. A line that says how deep
--- the tree is, or that there are shots, will stand before the blocks
+-- the line of the depth, where it isn't the one that a map has anyway
+abbrev pub depth_lines_of : MapView → List MapLine
+depth_lines_of m = if m.depth == DEFAULT_DEPTH then [] else Depth m.depth ∷ []
+
+-- the lines of a map after that of its arena: the depth, shots, the blocks, the spawns and then the things by id
 abbrev pub added_lines : MapView → List MapLine
-added_lines m = map block_of m.blocks ++ (map Spawn m.spawns ++ m.things)
+added_lines m =
+    depth_lines_of m ++ (shots_lines_of m ++ (map block_of m.blocks ++ (map Spawn m.spawns ++ m.things)))
+
+-- the map of these lines: the same, without a line that names the depth which a map has anyway
+abbrev pub as_written : MapView → MapView
+as_written m = record m { depth_lines = if m.depth == DEFAULT_DEPTH then 0 else 1 }
 
 -- map lines, each with its line feed
 abbrev pub lines_text : List MapLine → List ℕ
 lines_text lines = unlines (map map_line_text lines)
 
--- the lines of the arena, of the blocks, of the spawns and of the things
+-- the lines of the arena, of the depth, of shots, of the blocks, of the spawns and of the things
 abbrev pub arena_text : MapView → List ℕ
 arena_text m = lines_text (Arena m.bounds.lo m.bounds.hi ∷ [])
+
+abbrev pub depth_text : MapView → List ℕ
+depth_text m = lines_text (depth_lines_of m)
+
+abbrev pub shots_text : MapView → List ℕ
+shots_text m = lines_text (shots_lines_of m)
 
 abbrev pub blocks_text : MapView → List ℕ
 blocks_text m = lines_text (map block_of m.blocks)
@@ -68,7 +83,7 @@ things_text m = lines_text m.things
 
 -- the lines of a map
 abbrev pub map_text : MapView → List ℕ
-map_text m = arena_text m ++ (blocks_text m ++ (spawns_text m ++ things_text m))
+map_text m = arena_text m ++ (depth_text m ++ (shots_text m ++ (blocks_text m ++ (spawns_text m ++ things_text m))))
 
 -- the recording of a walk: the map, the frame in which the bot joins, a frame for each of its moves, and the end
 abbrev pub walk_text : MapView → List ℕ → List ℕ

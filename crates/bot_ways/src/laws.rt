@@ -19,8 +19,8 @@ pub fn ways_are_unique()
     ensures { WaysAreUnique }
 {}
 
-/// What is written of a plan is, up to its line `end`, a recording without a fault: it gives the map, and the frames in
-/// which the bot joins and walks along the way.
+/// What is written of a plan is, up to its line `end`, a recording without a fault: it gives the map, but for a
+/// line that names the depth which a map has anyway, and the frames in which the bot joins and walks along the way.
 pub fn plans_are_recordings()
     ensures { PlansAreRecordings }
 {}

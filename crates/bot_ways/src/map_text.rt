@@ -7,7 +7,7 @@ ghost use Rattle.bot_ways.specs.Things as things;
 
 use crate::plan_text::PlanText;
 use arena_geo::Aabb;
-use arena_map::{ArenaMap, MapLine};
+use arena_map::{ArenaMap, DEFAULT_DEPTH, MapLine};
 use box_trace::WALLS;
 use entity_recs::{Rec, body_box};
 use std::alloc::AllocError;
@@ -103,11 +103,34 @@ fn push_arena(text: &mut PlanText, map: &ArenaMap) -> Result<(), AllocError>
     })
 }
 
-/// Puts the lines of a map last: the arena, the blocks, the spawns, and the things by their ids.
+/// Puts the line of the depth last, where it isn't the one that a map has anyway.
+fn push_depth(text: &mut PlanText, map: &ArenaMap) -> Result<(), AllocError>
+    ensures { OnOk result (text.new ≡ text.old ++ texts.depth_text map.now) }
+{
+    let depth = map.depth();
+    if depth == DEFAULT_DEPTH {
+        return Ok(());
+    }
+    text.push_line(&MapLine::Depth(depth))
+}
+
+/// Puts the line that lets players shoot last, where they can.
+fn push_shots(text: &mut PlanText, map: &ArenaMap) -> Result<(), AllocError>
+    ensures { OnOk result (text.new ≡ text.old ++ texts.shots_text map.now) }
+{
+    if !map.shots() {
+        return Ok(());
+    }
+    text.push_line(&MapLine::Shots)
+}
+
+/// Puts the lines of a map last: the arena, the depth, shots, the blocks, the spawns, and the things by their ids.
 pub fn push_map(text: &mut PlanText, map: &ArenaMap) -> Result<(), AllocError>
     ensures { OnOk result (text.new ≡ text.old ++ texts.map_text map.now) }
 {
     push_arena(text, map)?;
+    push_depth(text, map)?;
+    push_shots(text, map)?;
     push_blocks(text, map)?;
     push_spawns(text, map)?;
     push_things(text, map)

@@ -2,6 +2,7 @@
 use Rattle.std.proofs.Common.{◌≡◌, ◌≢◌, ℕ, zero, suc, ◌<◌, ◌≤◌, Bool, true, false, if◌then◌else◌, List, length, Option, Some, None, slice_set, sym, refl, ap, ◌∙◌, subst, inl, inr, arith, get_or-set_same, get_or-set_other}
 use Rattle.std.proofs.lemmas.Bool.{cases_eq, cases_lt}
 use Rattle.std.proofs.lemmas.List.{get_or_past, length-set}
+use Rattle.entity_recs.specs.declared.limits.TheConstants.{IDS}
 use Rattle.entity_recs.specs.declared.rec.Rec.{Rec}
 use Rattle.world_tree.specs.Live.{record_at}
 use Rattle.client_ports.specs.declared.client.Client.{Client}
@@ -17,7 +18,7 @@ record_after place r = if is_leaver place then None else r
 -- the slots below some are finished, and the others are as they were
 record IsUpTo (old new : State) (n : ℕ) : Type 0 where
   clients_count : length new.clients ≡ 64
-  records_count : length new.records ≡ 256
+  records_count : length new.records ≡ IDS
   below : (id : ℕ) → id < n → (client_at new.clients id ≡ finished_client (client_at old.clients id)) × (record_at new.records id ≡ record_after (client_at old.clients id) (record_at old.records id))
   above : (id : ℕ) → n ≤ id → (client_at new.clients id ≡ client_at old.clients id) × (record_at new.records id ≡ record_at old.records id)
 
@@ -74,7 +75,7 @@ up_to-next old new n few is = record {
     here : (id : ℕ) → id ≡ n → (client_at (finished_at new n).clients id ≡ finished_client (client_at old.clients id)) × (record_at (finished_at new n).records id ≡ record_after (client_at old.clients id) (record_at old.records id))
     here id same = subst (λ (k : ℕ). (client_at (finished_at new n).clients k ≡ finished_client (client_at old.clients k)) × (record_at (finished_at new n).records k ≡ record_after (client_at old.clients k) (record_at old.records k))) (sym same) at
 
-up_to : (state : State) → length state.clients ≡ 64 → length state.records ≡ 256 → (n : ℕ) → n ≤ 64 → IsUpTo state (finished_up_to state n) n
+up_to : (state : State) → length state.clients ≡ 64 → length state.records ≡ IDS → (n : ℕ) → n ≤ 64 → IsUpTo state (finished_up_to state n) n
 unfolding finished_up_to
 up_to state few many zero most = record {
   clients_count = few;
@@ -85,7 +86,7 @@ up_to state few many zero most = record {
 up_to state few many (suc n) most = up_to-next state (finished_up_to state n) n (omega (arith, most)) (up_to state few many n (omega (arith, most)))
 
 -- the end of a frame takes out the clients that leave, with their players, and no other
-pub leavers_out : (state : State) → length state.clients ≡ 64 → length state.records ≡ 256 → (id : ℕ)
+pub leavers_out : (state : State) → length state.clients ≡ 64 → length state.records ≡ IDS → (id : ℕ)
     → (client_at (finished state).clients id ≡ finished_client (client_at state.clients id))
     × (record_at (finished state).records id ≡ (if is_leaver (client_at state.clients id) then None else record_at state.records id))
 unfolding finished

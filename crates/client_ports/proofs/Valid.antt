@@ -3,11 +3,12 @@ use Rattle.std.proofs.Common.{◌≡◌, ◌≢◌, ℕ, ◌<◌, ◌≤◌, ◌
 use Rattle.std.specs.List.{find}
 use Rattle.std.proofs.lemmas.Option.{none-some, same_Some}
 use Rattle.arena_geo.specs.declared.vec3.Vec3.{Vec3}
+use Rattle.entity_recs.specs.declared.limits.TheConstants.{IDS}
 use Rattle.entity_recs.specs.declared.rec.Rec.{Rec}
 use Rattle.entity_recs.specs.Records.{IsRecord}
 use Rattle.arena_map.specs.Maps.{MapView, IsSpawn, IsMap, entities_of}
 use Rattle.arena_map.specs.Validity.{IsThing, IsValidRecord, IsOpeningWorld, IsValidWorld}
-use Rattle.arena_map.proofs.Opening.{no-thing-below, opening-is_valid}
+use Rattle.arena_map.proofs.Opening.{no-thing-below, opening-is_valid, begins_unhurt}
 use Rattle.world_tree.specs.Live.{record_at}
 use Rattle.client_ports.specs.declared.client.Client.{Client}
 use Rattle.std.proofs.lemmas.List.{get_or-replicate}
@@ -68,13 +69,13 @@ pub newcomer-is_valid : (map : MapView) (slot : ℕ) (at : Vec3) → slot < 64 �
 newcomer-is_valid map slot at below spawn = record {
   is_record = newcomer-is_record map slot at below spawn;
   own_id = refl;
-  state = refl;
+  state = begins_unhurt map;
   inside = λ _. spawn.inside;
 }
 
 -- a player that joins at a spawn, in a free slot, leaves a state that fits the map
 pub state-joined : (map : MapView) (clients : List (Option Client)) (records : List (Option Rec)) (port slot : ℕ) (at : Vec3)
-    → length clients ≡ 64 → length records ≡ 256 → slot < 64 → IsSpawn map.bounds at → IsState map (state_of clients records)
+    → length clients ≡ 64 → length records ≡ IDS → slot < 64 → IsSpawn map.bounds at → IsState map (state_of clients records)
     → IsState map (with_newcomer (state_of clients records) port slot at)
 state-joined map clients records port slot at few many below spawn is = record {
   live = live-written clients records slot (Some (new_client port)) (Some (newcomer slot at)) (omega (arith, below, few)) (omega (arith, below, many)) refl is.live;
@@ -89,5 +90,5 @@ opening-fits map records is opening = record {
 }
 
 -- and is a server's
-pub opening-is_server : (map : MapView) (records : List (Option Rec)) → IsMap map → length records ≡ 256 → IsOpeningWorld map records → IsServerState map (state_of no_clients records)
+pub opening-is_server : (map : MapView) (records : List (Option Rec)) → IsMap map → length records ≡ IDS → IsOpeningWorld map records → IsServerState map (state_of no_clients records)
 opening-is_server map records is places opening = record { clients = no_clients-are_ports.clients_are; places = places; fits = opening-fits map records is opening }

@@ -106,7 +106,7 @@ fn map_with(alloc: Global, spawns: u8) -> Result<ArenaMap, MapRefusal>
 fn opening(alloc: Global, map: &ArenaMap) -> Result<World, AllocError>
     ensures { IfOk result (λ w. IsState map.now (state_of no_clients w.records)) }
 {
-    World::new(alloc, map.bounds(), map.entities())
+    World::new(alloc, map.bounds(), map.depth(), map.entities())
 }
 
 /// The joins of ports 1 to 65.

@@ -8,7 +8,7 @@ use Rattle.entity_recs.specs.Worlds.{World}
 use Rattle.entity_recs.specs.Histories.{Item}
 use Rattle.core_steps.specs.declared.step.Step.{Step}
 use Rattle.core_steps.specs.declared.step.StepKind.TheVariants.{Take, Commit}
-use Rattle.areanode.specs.declared.sizes.TheConstants.{DEPTH}
+use Rattle.areanode.specs.Trees.{IsTreeDepth}
 use Rattle.core_steps.specs.declared.sizes.TheConstants.{TABLE_NODES}
 use Rattle.core_steps.specs.Cells as cells
 use Rattle.core_steps.specs.Views.{Fixed, Store, Clear, Put, Link, View}
@@ -81,7 +81,7 @@ take_word view (GiveNode n) is e = cc
 take_word view (YieldNode n) is e = cc
 take_word view YieldCount is e = cc
 
-module _ (F : Fixed) (m : Machine) (history : List Item) (now : World) (n : ℕ) (lawful : IsLawful F) (start : IsStart F) (depth : F.tree.depth ≡ DEPTH) (is : MachineStands F m history now) (rooms : HasRooms m.core.view) where
+module _ (F : Fixed) (m : Machine) (history : List Item) (now : World) (n : ℕ) (lawful : IsLawful F) (start : IsStart F) (depth : IsTreeDepth F.tree.depth) (is : MachineStands F m history now) (rooms : HasRooms m.core.view) where
   on_word : (next : Next) → next_of F m n ≡ Some next → IsOnWord F m.core.words (m.core.view n) next
   on_word next comes =
       let fits = fits_table F depth in

@@ -13,7 +13,7 @@ use Rattle.entity_recs.specs.Histories.{Item}
 use Rattle.core_steps.specs.Cells as cells
 use Rattle.core_steps.specs.Cells.{put}
 use Rattle.core_steps.specs.Views.{Fixed, Point, Resolving, View, effect_loaded}
-use Rattle.areanode.specs.declared.sizes.TheConstants.{DEPTH}
+use Rattle.areanode.specs.Trees.{IsTreeDepth}
 use Rattle.core_steps.specs.Steps.{Core, first_yield, is_taking}
 use Rattle.core_steps.specs.Stands.{IsLawful, IsStart, start_words}
 use Rattle.core_steps.specs.Machine.{Machine, Next, next_of, next_step_of, step_of, quitting, core_after, machine_after, word_of_next, MachineStands}
@@ -153,7 +153,7 @@ due_is F view point e at is =
     cc
 
 -- each seat of a machine that stands may make its next step
-pub ready_here : (F : Fixed) (m : Machine) (history : List Item) (now : World) (i : ℕ) → IsLawful F → IsStart F → F.tree.depth ≡ DEPTH → MachineStands F m history now
+pub ready_here : (F : Fixed) (m : Machine) (history : List Item) (now : World) (i : ℕ) → IsLawful F → IsStart F → IsTreeDepth F.tree.depth → MachineStands F m history now
     → IsReady F (m.core.view i) (m.given i) (m.quits i) (effect_due F (m.core.view i))
 ready_here F m history now i lawful start depth is = record {
   sound = sound_here F m history now i lawful start is depth;

@@ -48,7 +48,7 @@ sound_after F words view next found on is = subst (λ (n : ℕ). IsSound F (view
 pub may_leave : (F : Fixed) (words : Words) (view : View) (given : Option Command) (effect : Option Effect) (quits : Bool) (s : Step) (found : ℕ) → IsSound F view
     → is_some (next_with F view given quits effect) ≡ true → IsOnWord F words view (the_next (next_with F view given quits effect))
     → step_of s.seat view (the_next (next_with F view given quits effect)) ≡ s
-    → found ≡ word_of_next words view (the_next (next_with F view given quits effect)) → MayLeave view s.kind s.word found
+    → found ≡ word_of_next words view (the_next (next_with F view given quits effect)) → MayLeave F view s.kind s.word found
 may_leave F words view given effect quits s found sound some on same is =
     let next = the_next (next_with F view given quits effect) in
     let kind : kind_of next ≡ s.kind = ap (λ (t : Step). t.kind) same in

@@ -2,13 +2,13 @@
 use Rattle.std.specs.Prelude.{ℕ, suc, ◌≡◌, ◌≤◌, ◌<◌, ◌+◌, ◌-◌, ◌*◌, ◌^◌, ◌==◌, Bool, true, false, if◌then◌else◌}
 use Rattle.std.specs.Prelude.{List, [], ◌∷◌, length, All}
 use Rattle.entity_recs.specs.Actions.{IsCommand}
-use Rattle.areanode.specs.declared.sizes.TheConstants.{NODES}
+use Rattle.areanode.specs.declared.sizes.TheConstants.{MOST_NODES}
 use Rattle.core_steps.specs.declared.sizes.TheConstants.{TABLE_NODES, NODE_HOLDERS}
 use Rattle.core_steps.specs.declared.step.StepKind.{StepKind}
 use Rattle.core_steps.specs.declared.step.StepKind.TheVariants.{Take, GiveBack, Commit, Bit, Store}
 use Rattle.core_steps.specs.Views as views
 use Rattle.core_steps.specs.Views.{Fixed, View, Point, Resolving, Claiming, stage_of, is_storing, stores_owed}
-use Rattle.core_steps.specs.Views.{is_leaf, leaf_word}
+use Rattle.core_steps.specs.Views.{is_leaf, leaf_word, nodes_of}
 use Rattle.core_seats.specs.Going.{word_stored}
 
 -- the word of the table is that of a node
@@ -42,15 +42,15 @@ word_by_kind F i view Bit index found = first_stored view.cmd.slot (stores_owed 
 word_by_kind F i view Store index found = first_stored view.cmd.slot (stores_owed view.point) found
 word_by_kind F i view _ index found = found
 
--- a take may be made at this index: it is a node's, and the leaves that are wanted are nodes
-pub record MayTake (view : View) (index : ℕ) : Type 0 where
+-- a take may be made at this index: it is a node's, and the leaves that are wanted are nodes of the tree
+pub record MayTake (F : Fixed) (view : View) (index : ℕ) : Type 0 where
   pub node : IsNodeWord index
-  pub wanted : All (λ n. n < NODES) view.wanted
-  pub few : length view.wanted ≤ NODES
+  pub wanted : All (λ n. n < nodes_of F) view.wanted
+  pub few : length view.wanted ≤ MOST_NODES
 
 -- a step of this kind may be made at this index, where this word was found: the count doesn't reach its end, and stores
 -- are of a command in hand
-pub record MayLeave (view : View) (kind : StepKind) (index found : ℕ) : Type 0 where
-  pub take : kind ≡ Take → MayTake view index
+pub record MayLeave (F : Fixed) (view : View) (kind : StepKind) (index found : ℕ) : Type 0 where
+  pub take : kind ≡ Take → MayTake F view index
   pub count : kind ≡ Commit → found + 1 < 2 ^ 64
   pub hand : is_storing (stage_of view.point) ≡ true → IsCommand view.cmd

@@ -64,7 +64,7 @@ fn takes_to_write(seat: &Seat) -> bool
 
 /// The word of a node that is taken by this step of the seat.
 fn word_taken<A: Action>(rules: &Rules<A>, seat: &Seat, s: Step) -> u64
-    requires { MayTake (view_of seat.now) s.word }
+    requires { MayTake (fixed_of A.meaning rules.now) (view_of seat.now) s.word }
     ensures { let F = fixed_of A.meaning rules.now in result ≡ left.word_taken F s.seat (view_of seat.now) s.word }
 {
     let node = (s.word - FIRST_NODE_WORD) as u8;
@@ -73,7 +73,7 @@ fn word_taken<A: Action>(rules: &Rules<A>, seat: &Seat, s: Step) -> u64
 
 /// The word that the seat's next step leaves, which is `s`, where this word was found.
 pub fn word_left<A: Action>(rules: &Rules<A>, seat: &Seat, s: Step, found: u64) -> u64
-    requires { MayLeave (view_of seat.now) s.kind s.word found }
+    requires { MayLeave (fixed_of A.meaning rules.now) (view_of seat.now) s.kind s.word found }
     ensures { let F = fixed_of A.meaning rules.now in
         result ≡ word_by_kind F s.seat (view_of seat.now) s.kind s.word found }
 {

@@ -9,6 +9,8 @@ pub mod SlotBits
 pub mod ThingsLoaded
 pub mod SlotLists
 pub mod ThingPlaces
+pub mod PlaceBits
+pub mod NextThings
 pub mod Changing
 pub mod SoundViews
 pub mod StepsLeft

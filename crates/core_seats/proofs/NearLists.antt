@@ -13,6 +13,7 @@ use Rattle.std.proofs.lemmas.List.Elements.{All-get_or, filter_map-append}
 use Rattle.std.proofs.lemmas.List.Kept.{AllPairs-from_increasing}
 use Rattle.arena_geo.specs.Bounds.{Bounds}
 use Rattle.arena_geo.specs.Regions.{touches_region}
+use Rattle.entity_recs.specs.declared.limits.TheConstants.{IDS}
 use Rattle.entity_recs.specs.declared.kind.Kind.{Kind}
 use Rattle.entity_recs.specs.declared.kind.Kind.TheVariants.{Player, Ammo, Gem, Teleporter, Goal, Lift}
 use Rattle.entity_recs.specs.declared.rec.Rec.{Rec}
@@ -105,7 +106,7 @@ near_are F region slot others states (r ∷ rs) found =
 
 -- ---- how many records there are at most
 
-pub id_small : (k : Kind) (id : ℕ) → IsIdOf k id → id < 256
+pub id_small : (k : Kind) (id : ℕ) → IsIdOf k id → id < IDS
 id_small Player id is = omega arith
 id_small Ammo id is = omega (arith, is.most)
 id_small Gem id is = omega (arith, is.most)
@@ -121,19 +122,19 @@ at_least xs (suc i) rising below =
     let less : get_or xs i 0 < get_or xs (suc i) 0 = subst (λ (n : ℕ). get_or xs i 0 < get_or xs n 0) e (rising i (omega arith)) in
     omega arith
 
--- there are at most 256 live ids
-pub few_ids : (F : Fixed) → HasValidity F.takes F.effect_of → IsStart F → length F.start.ids ≤ 256
-few_ids F validity start = elim (cases_Bool (nat_le (length F.start.ids) 256)) [
-  | inl few ↦ leb-true (length F.start.ids) 256 few
+-- there are at most as many live ids as there are ids
+pub few_ids : (F : Fixed) → HasValidity F.takes F.effect_of → IsStart F → length F.start.ids ≤ IDS
+few_ids F validity start = elim (cases_Bool (nat_le (length F.start.ids) IDS)) [
+  | inl few ↦ leb-true (length F.start.ids) IDS few
   | inr many ↦
-      let over = leb-false (length F.start.ids) 256 many in
-      let id = get_or F.start.ids 256 0 in
-      let there : 256 < length F.start.ids = omega arith in
-      let high = at_least F.start.ids 256 start.rising there in
+      let over = leb-false (length F.start.ids) IDS many in
+      let id = get_or F.start.ids IDS 0 in
+      let there : IDS < length F.start.ids = omega arith in
+      let high = at_least F.start.ids IDS start.rising there in
       let sized = length-map F.start.ids F.start.record_of in
-      let all_taken = All-get_or (λ (r : Rec). F.takes r ≡ true) (map F.start.record_of F.start.ids) 256 (F.start.record_of 0) (omega (arith, sized)) start.taken in
-      let taken : F.takes (F.start.record_of id) ≡ true = ap F.takes (sym (get_or-map F.start.record_of F.start.ids 256 0)) ∙ all_taken in
-      let own : (F.start.record_of id).id ≡ id = All-get_or (λ (n : ℕ). (F.start.record_of n).id ≡ n) F.start.ids 256 0 there start.own in
+      let all_taken = All-get_or (λ (r : Rec). F.takes r ≡ true) (map F.start.record_of F.start.ids) IDS (F.start.record_of 0) (omega (arith, sized)) start.taken in
+      let taken : F.takes (F.start.record_of id) ≡ true = ap F.takes (sym (get_or-map F.start.record_of F.start.ids IDS 0)) ∙ all_taken in
+      let own : (F.start.record_of id).id ≡ id = All-get_or (λ (n : ℕ). (F.start.record_of n).id ≡ n) F.start.ids IDS 0 there start.own in
       let small = id_small (F.start.record_of id).kind (F.start.record_of id).id (validity.keepable (F.start.record_of id) taken).bounds.id in
       absurd (omega arith)
 ]

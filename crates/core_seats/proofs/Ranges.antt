@@ -30,7 +30,7 @@ kept_same test n fails =
     ∙ ap (λ (xs : List ℕ). filter test (range_with_len 0 n) ++ xs) (cond-false (test n) (n ∷ []) [] fails)
     ∙ append-nil (filter test (range_with_len 0 n))
 
-pub mapped_more : (test : ℕ → Bool) (n : ℕ) → test n ≡ true
-    → map (leaf_node 4) (filter test (range_with_len 0 (n + 1))) ≡ map (leaf_node 4) (filter test (range_with_len 0 n)) ++ (15 + n) ∷ []
-mapped_more test n passes =
-    ap (map (leaf_node 4)) (kept_more test n passes) ∙ map-append (leaf_node 4) (filter test (range_with_len 0 n)) (n ∷ [])
+pub mapped_more : (depth : ℕ) (test : ℕ → Bool) (n : ℕ) → test n ≡ true
+    → map (leaf_node depth) (filter test (range_with_len 0 (n + 1))) ≡ map (leaf_node depth) (filter test (range_with_len 0 n)) ++ leaf_node depth n ∷ []
+mapped_more depth test n passes =
+    ap (map (leaf_node depth)) (kept_more test n passes) ∙ map-append (leaf_node depth) (filter test (range_with_len 0 n)) (n ∷ [])

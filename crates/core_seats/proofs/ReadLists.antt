@@ -3,9 +3,11 @@ use Rattle.std.proofs.Common.{◌≡◌, ℕ, ◌+◌, ◌*◌, ◌<◌, ◌≤�
 use Rattle.std.specs.Prelude.{filter, not, is_some, Some, if◌then◌else◌}
 use Rattle.std.specs.Prelude.{All, ◌^◌, ◌%◌, ◌-◌}
 use Rattle.std.proofs.lemmas.Nat.{pow_below}
-use Rattle.std.proofs.Math.Nat.{pow-le-pow_right}
 use Rattle.std.proofs.lemmas.List.{map-append, take_more}
 use Rattle.std.proofs.lemmas.List.Elements.{All-get_or}
+use Rattle.areanode.specs.Trees.{IsTreeDepth, inner_in, nodes_in}
+use Rattle.areanode.specs.Depths.{sizes_of_depth}
+use Rattle.areanode.specs.declared.sizes.TheConstants.{MOST_LEAVES}
 use Rattle.entity_recs.specs.declared.effect.NewState.{NewState}
 use Rattle.core_steps.specs.Views.{state_at, player_at, bits_of_leaves, without_player}
 use Rattle.core_seats.specs.declared.seat.PlayerRead.{PlayerRead}
@@ -34,33 +36,37 @@ without_mapped slot (x ∷ xs) = by_test (x.slot == slot) (without_mapped slot x
     by_test true rest = rest
     by_test false rest = ap (λ rs. player_read_of x ∷ rs) rest
 
-low_leaf : (s : ℕ) → s ≤ 15 → 1 * 2 ^ s % 2 ^ 64 ≡ 2 ^ s
-low_leaf s low = let small = pow_below s 16 (omega arith) in omega arith
+low_leaf : (s : ℕ) → s < MOST_LEAVES → 1 * 2 ^ s % 2 ^ 64 ≡ 2 ^ s
+low_leaf s low = let small = pow_below s MOST_LEAVES low in omega arith
 
-small_leaf : (s : ℕ) → s ≤ 15 → 2 ^ s ≤ 32768
-small_leaf s low = pow-le-pow_right {n = 2} (omega arith) low
+-- the leaf of a node of the tree
+leaf_low : (depth : ℕ) (nodes : List ℕ) (k s : ℕ) → IsTreeDepth depth → k < length nodes → All (λ n. n < nodes_in depth) nodes → s ≡ get_or nodes k 0 - inner_in depth → s < MOST_LEAVES
+leaf_low depth nodes k s is_depth below all is =
+    let small : get_or nodes k 0 < nodes_in depth = All-get_or (λ n. n < nodes_in depth) nodes k 0 below all in
+    let sizes = sizes_of_depth depth is_depth in
+    let few = sizes.leaves in
+    let some = sizes.some in
+    let double = sizes.double in
+    omega (arith, is, small, few, some, double)
 
-leaf_low : (nodes : List ℕ) (k s : ℕ) → k < length nodes → All (λ n. n < 31) nodes → s ≡ get_or nodes k 0 - 15 → s ≤ 15
-leaf_low nodes k s below all is =
-    let small : get_or nodes k 0 < 31 = All-get_or (λ n. n < 31) nodes k 0 below all in
-    omega (arith, is)
-
-pub leaf_bits : (nodes : List ℕ) (k word s : ℕ) → k < length nodes → All (λ n. n < 31) nodes → s ≡ get_or nodes k 0 - 15
-    → word ≡ bits_of_leaves (map (λ n. n - 15) (take k nodes))
-    → word + 1 * 2 ^ s % 2 ^ 64 ≡ bits_of_leaves (map (λ n. n - 15) (take (k + 1) nodes))
-leaf_bits nodes k word s below all is made =
-    let low = low_leaf s (leaf_low nodes k s below all is) in
-    let more = ap (λ ns. bits_of_leaves (map (λ n. n - 15) ns)) (take_more nodes k 0 below) in
-    let split = ap bits_of_leaves (map-append (λ n. n - 15) (take k nodes) (get_or nodes k 0 ∷ [])) in
-    let two = bits_more (map (λ n. n - 15) (take k nodes)) ((get_or nodes k 0 - 15) ∷ []) in
+pub leaf_bits : (depth : ℕ) (nodes : List ℕ) (k word s : ℕ) → IsTreeDepth depth → k < length nodes → All (λ n. n < nodes_in depth) nodes → s ≡ get_or nodes k 0 - inner_in depth
+    → word ≡ bits_of_leaves (map (λ n. n - inner_in depth) (take k nodes))
+    → word + 1 * 2 ^ s % 2 ^ 64 ≡ bits_of_leaves (map (λ n. n - inner_in depth) (take (k + 1) nodes))
+leaf_bits depth nodes k word s is_depth below all is made =
+    let low = low_leaf s (leaf_low depth nodes k s is_depth below all is) in
+    let more = ap (λ ns. bits_of_leaves (map (λ n. n - inner_in depth) ns)) (take_more nodes k 0 below) in
+    let split = ap bits_of_leaves (map-append (λ n. n - inner_in depth) (take k nodes) (get_or nodes k 0 ∷ [])) in
+    let two = bits_more (map (λ n. n - inner_in depth) (take k nodes)) ((get_or nodes k 0 - inner_in depth) ∷ []) in
     let last = ap (λ n. 2 ^ n) is in
     omega (arith, low, more, split, two, last, made)
 
-pub leaf_small : (nodes : List ℕ) (k word s : ℕ) → k < length nodes → All (λ n. n < 31) nodes → s ≡ get_or nodes k 0 - 15
-    → word ≤ 32768 * k → word + 1 * 2 ^ s % 2 ^ 64 ≤ 32768 * (k + 1)
-leaf_small nodes k word s below all is small =
-    let low = leaf_low nodes k s below all is in
-    omega (arith, low_leaf s low, small_leaf s low)
+pub leaf_small : (depth : ℕ) (nodes : List ℕ) (k word s : ℕ) → IsTreeDepth depth → k < length nodes → All (λ n. n < nodes_in depth) nodes → s ≡ get_or nodes k 0 - inner_in depth
+    → word ≤ 2 ^ MOST_LEAVES * k → word + 1 * 2 ^ s % 2 ^ 64 ≤ 2 ^ MOST_LEAVES * (k + 1)
+leaf_small depth nodes k word s is_depth below all is small =
+    let low = leaf_low depth nodes k s is_depth below all is in
+    let bit = low_leaf s low in
+    let fits = pow_below s MOST_LEAVES low in
+    omega (arith, bit, fits)
 
 -- without what was loaded of a player of whom nothing was, the list is the same
 pub none_dropped : (slot : ℕ) (xs : List PlayerRead) → is_some (player_at (map player_read_of xs) slot) ≡ false

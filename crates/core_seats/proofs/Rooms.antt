@@ -7,6 +7,9 @@ use Rattle.std.proofs.lemmas.List.{length-map, length-append}
 use Rattle.std.proofs.lemmas.List.FromFn.{length-range_with_len}
 use Rattle.std.proofs.lemmas.List.Elements.{All-from_recursion}
 use Rattle.std.proofs.lemmas.Map.Steps.{length-le_from_distinct_below}
+use Rattle.areanode.specs.Depths.{sizes_of_depth}
+use Rattle.areanode.specs.declared.sizes.TheConstants.{MOST_NODES}
+use Rattle.entity_recs.specs.declared.limits.TheConstants.{IDS}
 use Rattle.entity_recs.specs.declared.effect.Effect.{Effect}
 use Rattle.entity_recs.specs.Records.{IsRecord}
 use Rattle.entity_recs.specs.Actions.{HasPlayer, IsCommand, HasValidity}
@@ -56,15 +59,6 @@ others_room slot others own once below =
     let size = length-map (without_player slot others) (λ (read : PlayerRead). read.slot) in
     omega (arith, few, same, size)
 
-nodes_at : (d : ℕ) → d ≡ 4 → 2 ^ (d + 1) - 1 ≡ 31
-nodes_at d depth = rw depth refl
-
-leaves_at : (d : ℕ) → d ≡ 4 → 2 ^ d ≡ 16
-leaves_at d depth = rw depth refl
-
-inner_at : (d : ℕ) → d ≡ 4 → 2 ^ d - 1 ≡ 15
-inner_at d depth = rw depth refl
-
 filter_few : (test : ℕ → Bool) (xs : List ℕ) → length (filter test xs) ≤ length xs
 filter_few test [] = omega arith
 filter_few test (x ∷ xs) =
@@ -110,10 +104,10 @@ module _ (F : Fixed) (view : View) (sound : IsSound F view) where
   at_here : (point : Point) → view.point ≡ point → IsAt F view.cmd view.own view.wanted view.again view.lists view.others view.states view.effect point
   at_here point at = subst (IsAt F view.cmd view.own view.wanted view.again view.lists view.others view.states view.effect) at sound.at
 
-  pub lists_room : (node : ℕ) (plan : List ℕ) → view.point ≡ Entered node plan → length view.lists < 31
+  pub lists_room : (node : ℕ) (plan : List ℕ) → view.point ≡ Entered node plan → length view.lists < MOST_NODES
   lists_room node plan at =
       let few : length view.lists + lists_ahead F (Entered node plan) ≤ nodes_of F = subst (λ (p : Point). length view.lists + lists_ahead F p ≤ nodes_of F) at sound.fits.few_lists in
-      let nodes = nodes_at F.tree.depth sound.depth in
+      let nodes = (sizes_of_depth F.tree.depth sound.depth).nodes in
       omega (arith, few, nodes)
 
   pub others_few : (node slot : ℕ) (part players plan : List ℕ) → view.point ≡ Loading node part (slot ∷ players) plan → length (without_player slot view.others) < 64
@@ -134,7 +128,7 @@ module _ (F : Fixed) (view : View) (sound : IsSound F view) where
   pub things_left : (ids : List ℕ) → view.point ≡ Sensing ids → 0 < length ids
   things_left ids at = subst (λ (p : Point). SomeIsLeft p view.wanted) at sound.next.left
 
-  pub states_room : (ids : List ℕ) → HasValidity F.takes F.effect_of → IsStart F → view.point ≡ Sensing ids → length view.states < 256
+  pub states_room : (ids : List ℕ) → HasValidity F.takes F.effect_of → IsStart F → view.point ≡ Sensing ids → length view.states < IDS
   states_room ids validity start at =
       let few : length view.states + states_ahead F (Sensing ids) ≤ length F.start.ids = subst (λ (p : Point). length view.states + states_ahead F p ≤ length F.start.ids) at sound.fits.few_states in
       let some = things_left ids at in
@@ -146,13 +140,13 @@ module _ (F : Fixed) (view : View) (sound : IsSound F view) where
       let here : IsChecking view.again view.lists view.others view.states = at_here Checking at in
       here.part
 
-  pub leaves_room : (got rest : List ℕ) → view.point ≡ Taking got rest → length got < 31
+  pub leaves_room : (got rest : List ℕ) → view.point ≡ Taking got rest → length got < MOST_NODES
   leaves_room got rest at =
       let here : IsTaking got rest view.wanted = at_here (Taking got rest) at in
       let wanted = ap length (here.all ∙ sound.whole (ap (λ (p : Point). is_whole (stage_of p)) at)) in
       let size = length-append got rest in
       let few = leaf_nodes_length F (region_in F view.cmd view.own) in
-      let leaves = leaves_at F.tree.depth sound.depth in
+      let leaves = (sizes_of_depth F.tree.depth sound.depth).leaves in
       omega (arith, wanted, size, few, leaves)
 
   pub leaves_left : (got rest : List ℕ) → view.point ≡ Taking got rest → 0 < length rest
@@ -166,32 +160,33 @@ module _ (F : Fixed) (view : View) (sound : IsSound F view) where
       at_here (Claiming got rest) at in
       here.claim
 
-  pub nodes_room : (got rest : List ℕ) → view.point ≡ Claiming got rest → length got < 31
+  pub nodes_room : (got rest : List ℕ) → view.point ≡ Claiming got rest → length got < MOST_NODES
   nodes_room got rest at =
       let here = claimed got rest at in
       let size = length-append got rest in
       let same = ap length here.nodes in
       let few = writes_few F (home F (record_read view.cmd.slot view.again)) (home F here.e.me) in
-      let inner = inner_at F.tree.depth sound.depth in
-      omega (arith, size, same, few, inner)
+      let leaves = (sizes_of_depth F.tree.depth sound.depth).leaves in
+      omega (arith, size, same, few, leaves)
 
   pub stores_left : (nodes : List ℕ) (stores : List Store) → view.point ≡ Storing nodes stores → 0 < length stores
   stores_left nodes stores at =
       let here : IsStoring F view.cmd.slot (record_read view.cmd.slot view.again) view.effect nodes stores = at_here (Storing nodes stores) at in
       here.left
 
-  pub wanted_in : (point : Point) → view.point ≡ point → is_whole (stage_of point) ≡ true → All (λ (n : ℕ). n < 31) view.wanted
+  pub wanted_in : (point : Point) → view.point ≡ point → is_whole (stage_of point) ≡ true → All (λ (n : ℕ). n < nodes_of F) view.wanted
   wanted_in point at whole =
       let leaves = sound.whole (ap (λ (p : Point). is_whole (stage_of p)) at ∙ whole) in
-      let nodes = leaves_at F.tree.depth sound.depth in
-      let inner = inner_at F.tree.depth sound.depth in
-      All-from_recursion (λ (n : ℕ). n < 31) view.wanted (all_from_has (λ (n : ℕ). n < 31) view.wanted (λ v there.
+      let sizes = sizes_of_depth F.tree.depth sound.depth in
+      let some = sizes.some in
+      let double = sizes.double in
+      All-from_recursion (λ (n : ℕ). n < nodes_of F) view.wanted (all_from_has (λ (n : ℕ). n < nodes_of F) view.wanted (λ v there.
       let below = leaf_below F (region_in F view.cmd view.own) v (subst (λ (ns : List ℕ). has ns v ≡ true) leaves there) in
-      omega (arith, below, nodes, inner)))
+      omega (arith, below, some, double)))
 
-  pub wanted_few : (point : Point) → view.point ≡ point → is_whole (stage_of point) ≡ true → length view.wanted ≤ 31
+  pub wanted_few : (point : Point) → view.point ≡ point → is_whole (stage_of point) ≡ true → length view.wanted ≤ MOST_NODES
   wanted_few point at whole =
       let wanted = ap length (sound.whole (ap (λ (p : Point). is_whole (stage_of p)) at ∙ whole)) in
       let few = leaf_nodes_length F (region_in F view.cmd view.own) in
-      let leaves = leaves_at F.tree.depth sound.depth in
+      let leaves = (sizes_of_depth F.tree.depth sound.depth).leaves in
       omega (arith, wanted, few, leaves)

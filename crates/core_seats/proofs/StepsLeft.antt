@@ -6,6 +6,7 @@ use Rattle.std.proofs.lemmas.Bool.{cases_Bool, true≢false, eqb-true, or_parts}
 use Rattle.std.proofs.lemmas.List.{length-map, length-append}
 use Rattle.std.proofs.lemmas.List.FromFn.{length-range_with_len}
 use Rattle.areanode.specs.Words.{has_bit}
+use Rattle.areanode.specs.Depths.{sizes_of_depth}
 use Rattle.entity_recs.specs.declared.rec.Rec.{Rec}
 use Rattle.entity_recs.specs.declared.effect.Effect.{Effect}
 use Rattle.entity_recs.specs.declared.effect.NewState.{NewState}
@@ -120,8 +121,8 @@ module _ (F : Fixed) (effect : Option Effect) (view : View) (counting : IsCounti
       elim (cases_Bool (length (view.own ++ found ∷ []) == 6)) [
         | inl whole ↦
             let leaves = leaf_nodes_length F (region_in F view.cmd (view.own ++ found ∷ [])) in
-            let sixteen : 2 ^ F.tree.depth ≡ 16 = rw counting.depth refl in
-            rw whole (omega (arith, leaves, sixteen, few))
+            let most = (sizes_of_depth F.tree.depth counting.depth).leaves in
+            rw whole (omega (arith, leaves, most, few))
         | inr part ↦ rw (part, e) (omega (arith, few, grown))
       ]
 
@@ -135,8 +136,8 @@ module _ (F : Fixed) (effect : Option Effect) (view : View) (counting : IsCounti
             let plan = plan_of F (region_in F view.cmd view.own) in
             let visits = left_visiting F effect (length view.own) (length (view.again ++ found ∷ [])) (length view.wanted) after plan in
             let all = plan_length F (region_in F view.cmd view.own) in
-            let nodes : 2 ^ (F.tree.depth + 1) ≡ 32 = rw counting.depth refl in
-            rw whole (omega (arith, visits, all, nodes, few))
+            let most = (sizes_of_depth F.tree.depth counting.depth).nodes in
+            rw whole (omega (arith, visits, all, most, few))
         | inr part ↦ rw (part, e) (omega (arith, few, grown))
       ]
 

@@ -1,5 +1,5 @@
--- The columns of things miss none of those that touch a region.
-use Rattle.std.proofs.Common.{◌≡◌, ℕ, zero, suc, ◌+◌, ◌/◌, ◌%◌, ◌^◌, ◌<◌, ◌≤◌, min, Bool, true, false, ◌&&◌, ◌||◌, List, [], ◌∷◌, ◌++◌, length, take, get_or, bit_and, bit_or, ℤ, ◌≤ℤ◌, ◌-ℤ◌, pos, neg_ℤ, unsigned_abs, refl, sym, ap, ◌∙◌, subst, arith, inl, inr, max, ◌==◌, w32, w64}
+-- The strips of things miss none of those that touch a region.
+use Rattle.std.proofs.Common.{◌≡◌, ℕ, zero, suc, ◌+◌, ◌-◌, ◌*◌, ◌/◌, ◌%◌, ◌^◌, ◌<◌, ◌≤◌, min, Bool, true, false, ◌&&◌, ◌||◌, List, [], ◌∷◌, ◌++◌, length, take, get_or, bit_and, bit_or, ℤ, ◌≤ℤ◌, ◌-ℤ◌, unsigned_abs, refl, sym, ap, ◌∙◌, subst, arith, inl, inr, max, ◌==◌, w32, w64}
 use Rattle.std.proofs.Math.Nat.{div-mul-le_self}
 use Rattle.std.specs.Int.{bit_at, int_max}
 use Rattle.std.proofs.lemmas.Nat.{pow_pos, le-div}
@@ -8,18 +8,20 @@ use mir.Val.{to_z, of_z}
 use Rattle.std.proofs.lemmas.Int.{ints, to_z-of_z, fits_signed_from_abs}
 use Rattle.arena_geo.specs.declared.vec3.Vec3.{Vec3}
 use Rattle.arena_geo.specs.Vectors.{IsNear}
-use Rattle.std.proofs.lemmas.Bool.{cases_Bool, false≢true}
+use Rattle.std.proofs.lemmas.Bool.{cases_Bool, cases_lt, false≢true}
 use Rattle.std.proofs.lemmas.List.{take_more}
-use Rattle.arena_geo.specs.Bounds.{Bounds}
+use Rattle.arena_geo.specs.Bounds.{Bounds, IsOrdered}
 use Rattle.arena_geo.specs.Boxes.{touches_on, touches}
 use Rattle.arena_geo.specs.Regions.{touches_region}
 use Rattle.arena_geo.proofs.Containment.{three_pass}
 use Rattle.entity_recs.specs.declared.rec.Rec.{Rec}
 use Rattle.entity_recs.specs.Bodies.{abs_of}
 use Rattle.areanode.specs.Words.{has_bit}
-use Rattle.core_seats.specs.declared.columns.Columns.{Columns}
-use Rattle.core_seats.specs.ThingColumns.{column_of, HasThing, HasThings, KeepsThings}
-use Rattle.core_seats.proofs.SlotLists.{both_bits}
+use Rattle.core_seats.specs.declared.strips.Strips.{Strips}
+use Rattle.core_seats.specs.declared.strips.ThingIndex.{ThingIndex}
+use Rattle.core_seats.specs.declared.strips.TheConstants.{STRIPS}
+use Rattle.core_seats.specs.ThingBits.{has_place, KeepsPlaces}
+use Rattle.core_seats.specs.ThingStrips.{strip_of, IsInStrips, KeepsStrips, KeepsIndex, HasThing, HasThings}
 
 shr-mono : (a b k : ℕ) → a ≤ b → a / 2 ^ k ≤ b / 2 ^ k
 shr-mono a b k less = le-div (a / 2 ^ k) b (2 ^ k) (pow_pos k) (omega (arith, less, div-mul-le_self a (2 ^ k)))
@@ -30,9 +32,9 @@ past-mono from a b less = grind (arith, ints)
 min-mono : (a b c : ℕ) → a ≤ b → min a c ≤ min b c
 min-mono a b c less = omega (arith, less)
 
--- a place after another lies in no column before the other's
-columns_rise : (a b : ℤ) → a ≤ℤ b → column_of a ≤ column_of b
-columns_rise a b less = min-mono _ _ 63 (shr-mono _ _ 15 (past-mono (neg_ℤ (pos 1048576)) a b less))
+-- a place after another lies in no strip before the other's
+strips_rise : (s : Strips) (a b : ℤ) → a ≤ℤ b → strip_of s a ≤ strip_of s b
+strips_rise s a b less = min-mono _ _ (STRIPS - 1) (shr-mono _ _ (s.shift % 64) (past-mono s.from a b less))
 
 begins_before : (lo hi other_lo other_hi : ℤ) → touches_on lo hi other_lo other_hi ≡ true → lo ≤ℤ other_hi
 begins_before lo hi other_lo other_hi h = grind (arith, ints)
@@ -40,46 +42,105 @@ begins_before lo hi other_lo other_hi h = grind (arith, ints)
 ends_after : (lo hi other_lo other_hi : ℤ) → touches_on lo hi other_lo other_hi ≡ true → other_lo ≤ℤ hi
 ends_after lo hi other_lo other_hi h = grind (arith, ints)
 
-both_true : (a b : Bool) → a ≡ true → b ≡ true → (a && b) ≡ true
+pub both_true : (a b : Bool) → a ≡ true → b ≡ true → (a && b) ≡ true
 both_true true true here there = refl
 both_true true false here there = there
 both_true false b here there = here
 
--- a thing that touches a box is among those that begin before its end and end after its begin
-pub touching_is_marked : (columns : Columns) (r : Rec) (one : Bounds) (first last d e : ℕ) → HasThing columns r → touches (abs_of r) one ≡ true
-    → first ≡ column_of one.lo.x → last ≡ column_of one.hi.x → last < 64
-    → has_bit (bit_and (get_or columns.begun last d) (get_or columns.ended first e)) (r.id % 64) ≡ true
-touching_is_marked columns r one first last d e has h first_is last_is below =
-    let on = three_pass _ _ _ h in
-    let begins : column_of (abs_of r).lo.x ≤ last = subst (λ (n : ℕ). column_of (abs_of r).lo.x ≤ n) (sym last_is) (columns_rise _ _ (begins_before (abs_of r).lo.x (abs_of r).hi.x one.lo.x one.hi.x on.x)) in
-    let ends : first ≤ column_of (abs_of r).hi.x = subst (λ (n : ℕ). n ≤ column_of (abs_of r).hi.x) (sym first_is) (columns_rise _ _ (ends_after (abs_of r).lo.x (abs_of r).hi.x one.lo.x one.hi.x on.x)) in
-    both_bits (get_or columns.begun last d) (get_or columns.ended first e) (r.id % 64)
-    ∙ both_true _ _ (has.begun last d below begins) (has.ended first e ends)
+-- a strip that a thing and a box have, in which the thing has its bit
+record CommonStrip (s : Strips) (place : ℕ) (low high : ℤ) : Type 0 where
+  strip : ℕ
+  least : strip_of s low ≤ strip
+  most : strip ≤ strip_of s high
+  has : (d : List ℕ) → has_place (get_or s.rows strip d) place ≡ true
+
+common_strip : (s : Strips) (place : ℕ) (begin end low high : ℤ) → low ≤ℤ high → begin ≤ℤ end → IsInStrips s place begin end → touches_on begin end low high ≡ true → CommonStrip s place low high
+common_strip s place begin end low high box thing is h =
+    let first = strips_rise s begin high (begins_before begin end low high h) in
+    let last = strips_rise s low end (ends_after begin end low high h) in
+    let wide = strips_rise s low high box in
+    let long = strips_rise s begin end thing in
+    elim (cases_lt (strip_of s begin) (strip_of s low)) [
+      | inl before ↦ record { strip = strip_of s low; least = omega arith; most = wide; has = λ d. is (strip_of s low) d (lt_le _ _ before) last }
+      | inr after ↦ record { strip = strip_of s begin; least = after; most = first; has = λ d. is (strip_of s begin) d (le_refl _) long }
+    ]
+  where
+    lt_le : (a b : ℕ) → a < b → a ≤ b
+    lt_le a b less = omega (arith, less)
+
+    le_refl : (a : ℕ) → a ≤ a
+    le_refl a = omega arith
+
+-- the rows so far are among the bits
+abbrev pub AreAmong : Strips → List ℕ → (first to : ℕ) → Type 0
+AreAmong s bits first to = (strip : ℕ) → first ≤ strip → strip < to → KeepsPlaces (get_or s.rows strip []) bits
+
+pub among_more : (s : Strips) (bits new : List ℕ) (first to : ℕ) → AreAmong s bits first to → KeepsPlaces bits new → KeepsPlaces (get_or s.rows to []) new → AreAmong s new first (to + 1)
+among_more s bits new first to are keeps here strip least less place there = elim (cases_lt strip to) [
+  | inl before ↦ keeps place (are strip least before place there)
+  | inr after ↦
+      let same : strip ≡ to = omega (arith, less, after) in
+      here place (ap (λ (n : ℕ). has_place (get_or s.rows n []) place) (sym same) ∙ there)
+]
+
+-- a thing that meets the interval has its bit
+pub among_touching : (s : Strips) (bits : List ℕ) (first last to : ℕ) (low high : ℤ) → first ≡ strip_of s low → last ≡ strip_of s high → last + 1 ≤ to → AreAmong s bits first to
+    → (place : ℕ) (begin end : ℤ) → low ≤ℤ high → begin ≤ℤ end → IsInStrips s place begin end → touches_on begin end low high ≡ true → has_place bits place ≡ true
+among_touching s bits first last to low high first_is last_is end_is are place begin end box thing is h =
+    let common = common_strip s place begin end low high box thing is h in
+    let some : first ≤ common.strip = subst (λ (n : ℕ). n ≤ common.strip) (sym first_is) common.least in
+    let most : common.strip ≤ last = subst (λ (n : ℕ). common.strip ≤ n) (sym last_is) common.most in
+    are common.strip some (omega (arith, most, end_is)) place (common.has [])
+
+-- the strips between the same ends
+pub same_strips : (s : Strips) (place : ℕ) (low high begin end : ℤ) → low ≡ begin → high ≡ end → IsInStrips s place low high → IsInStrips s place begin end
+same_strips s place low high begin end first last is =
+    subst (λ (a : ℤ). IsInStrips s place a end) first (subst (λ (b : ℤ). IsInStrips s place low b) last is)
 
 -- ---- one thing more
 
-kept_thing : (old new : Columns) (r : Rec) → r.id % 64 < 64 → KeepsThings old new → HasThing old r → HasThing new r
-kept_thing old new r small keeps has = record {
-  begun = λ column d below least. keeps.begun column d (r.id % 64) small (has.begun column d below least);
-  ended = λ column d most. keeps.ended column d (r.id % 64) small (has.ended column d most);
+same_strip : (old new : Strips) (at : ℤ) → KeepsStrips old new → strip_of new at ≡ strip_of old at
+same_strip old new at keeps =
+    ap (λ (f : ℤ). min (unsigned_abs (int_max at f -ℤ f) / 2 ^ (new.shift % 64)) (STRIPS - 1)) keeps.from
+    ∙ ap (λ (n : ℕ). min (unsigned_abs (int_max at old.from -ℤ old.from) / 2 ^ (n % 64)) (STRIPS - 1)) keeps.shift
+
+kept_strips : (old new : Strips) (place : ℕ) (low high : ℤ) → KeepsStrips old new → IsInStrips old place low high → IsInStrips new place low high
+kept_strips old new place low high keeps is strip d least most =
+    keeps.rows strip d place
+    (is strip d (subst (λ (n : ℕ). n ≤ strip) (same_strip old new low keeps) least) (subst (λ (n : ℕ). strip ≤ n) (same_strip old new high keeps) most))
+
+kept_thing : (old new : ThingIndex) (place : ℕ) (r : Rec) → KeepsIndex old new → HasThing old place r → HasThing new place r
+kept_thing old new place r keeps has = record {
+  x = kept_strips old.x new.x place (abs_of r).lo.x (abs_of r).hi.x keeps.x has.x;
+  y = kept_strips old.y new.y place (abs_of r).lo.y (abs_of r).hi.y keeps.y has.y;
 }
 
-kept_things : (old new : Columns) (rs : List Rec) → KeepsThings old new → HasThings old rs → HasThings new rs
-kept_things old new [] keeps has = tt
-kept_things old new (r ∷ rs) keeps has = (kept_thing old new r (omega arith) keeps has.0, kept_things old new rs keeps has.1)
+pub one_thing_more : (old new : ThingIndex) (things : List Rec) (n : ℕ) → KeepsIndex old new → HasThings old things n → ((d : Rec) → HasThing new n (get_or things n d)) → HasThings new things (n + 1)
+one_thing_more old new things n keeps has here k d less = elim (cases_lt k n) [
+  | inl before ↦ kept_thing old new k (get_or things k d) keeps (has k d before)
+  | inr after ↦
+      let same : n ≡ k = omega (arith, less, after) in
+      subst (λ (j : ℕ). HasThing new j (get_or things j d)) same (here d)
+]
 
-last_thing : (columns : Columns) (rs : List Rec) (r : Rec) → HasThings columns rs → HasThing columns r → HasThings columns (rs ++ r ∷ [])
-last_thing columns [] r has here = (here, tt)
-last_thing columns (x ∷ rs) r has here = (has.0, last_thing columns rs r has.1 here)
+-- the bits have each thing that meets the interval
+abbrev pub HasMeeting : Strips → List ℕ → (low high : ℤ) → Type 0
+HasMeeting s bits low high = (place : ℕ) (begin end : ℤ) → low ≤ℤ high → begin ≤ℤ end → IsInStrips s place begin end → touches_on begin end low high ≡ true → has_place bits place ≡ true
 
-pub one_thing_more : (old new : Columns) (things : List Rec) (k : ℕ) (d : Rec) → k < length things → KeepsThings old new → HasThings old (take k things) → HasThing new (get_or things k d)
-    → HasThings new (take (k + 1) things)
-one_thing_more old new things k d there keeps has here =
-    subst (HasThings new) (sym (take_more things k d there)) (last_thing new (take k things) (get_or things k d) (kept_things old new (take k things) keeps has) here)
+pub same_interval : (s : Strips) (bits : List ℕ) (low high begin end : ℤ) → low ≡ begin → high ≡ end → HasMeeting s bits low high → HasMeeting s bits begin end
+same_interval s bits low high begin end first last meeting =
+    subst (λ (a : ℤ). HasMeeting s bits a end) first (subst (λ (b : ℤ). HasMeeting s bits low b) last meeting)
+
+-- a thing that touches a box meets its intervals
+pub meets_both : (index : ThingIndex) (place : ℕ) (r : Rec) (one : Bounds) (in_x in_y : List ℕ) → IsOrdered one → IsOrdered (abs_of r) → HasThing index place r → touches (abs_of r) one ≡ true
+    → HasMeeting index.x in_x one.lo.x one.hi.x → HasMeeting index.y in_y one.lo.y one.hi.y → (has_place in_x place ≡ true) × (has_place in_y place ≡ true)
+meets_both index place r one in_x in_y box thing has h along_x along_y =
+    let on = three_pass _ _ _ h in
+    (along_x place (abs_of r).lo.x (abs_of r).hi.x box.x thing.x has.x on.x, along_y place (abs_of r).lo.y (abs_of r).hi.y box.y thing.y has.y on.y)
 
 -- ---- one box more
 
-either_bits : (a b i : ℕ) → has_bit (bit_or a b) i ≡ (has_bit a i || has_bit b i)
+pub either_bits : (a b i : ℕ) → has_bit (bit_or a b) i ≡ (has_bit a i || has_bit b i)
 either_bits a b i = ap (λ (n : ℕ). n == 1) (bit_at_or a b i) ∙ by_bits (bit_at a i) (bit_at b i) (bit_at-lt a i) (bit_at-lt b i)
   where
     by_bits : (x y : ℕ) → x < 2 → y < 2 → (max x y == 1) ≡ ((x == 1) || (y == 1))
@@ -91,11 +152,11 @@ either_bits a b i = ap (λ (n : ℕ). n == 1) (bit_at_or a b i) ∙ by_bits (bit
     by_bits zero (suc (suc y)) less small = absurd (omega (arith, small))
     by_bits (suc zero) (suc (suc y)) less small = absurd (omega (arith, small))
 
-either_left : (a b : Bool) → a ≡ true → (a || b) ≡ true
+pub either_left : (a b : Bool) → a ≡ true → (a || b) ≡ true
 either_left true b here = refl
 either_left false b here = absurd (false≢true here)
 
-either_right : (a b : Bool) → b ≡ true → (a || b) ≡ true
+pub either_right : (a b : Bool) → b ≡ true → (a || b) ≡ true
 either_right true b here = refl
 either_right false b here = here
 
@@ -108,15 +169,13 @@ touches_last place (x ∷ boxes) one h apart = by_test (touches place x) h (λ r
     by_test true h more = refl
     by_test false h more = more h
 
-pub one_box_more : (place : Bounds) (boxes : List Bounds) (k bit old found : ℕ) (d : Bounds) → k < length boxes
-    → (touches_region place (take k boxes) ≡ true → has_bit old bit ≡ true) → (touches place (get_or boxes k d) ≡ true → has_bit found bit ≡ true)
-    → touches_region place (take (k + 1) boxes) ≡ true → has_bit (bit_or old found) bit ≡ true
-one_box_more place boxes k bit old found d there before here h =
-    either_bits old found bit ∙ elim (cases_Bool (touches place (get_or boxes k d))) [
-      | inl touch ↦ either_right (has_bit old bit) (has_bit found bit) (here touch)
-      | inr apart ↦ either_left (has_bit old bit) (has_bit found bit)
-          (before (touches_last place (take k boxes) (get_or boxes k d) (ap (touches_region place) (sym (take_more boxes k d there)) ∙ h) apart))
-    ]
+pub one_box_more : (place : Bounds) (boxes : List Bounds) (k at : ℕ) (old found new : List ℕ) (d : Bounds) → k < length boxes
+    → (touches_region place (take k boxes) ≡ true → has_place old at ≡ true) → (touches place (get_or boxes k d) ≡ true → has_place found at ≡ true)
+    → KeepsPlaces old new → KeepsPlaces found new → touches_region place (take (k + 1) boxes) ≡ true → has_place new at ≡ true
+one_box_more place boxes k at old found new d there before here keeps adds h = elim (cases_Bool (touches place (get_or boxes k d))) [
+  | inl touch ↦ adds at (here touch)
+  | inr apart ↦ keeps at (before (touches_last place (take k boxes) (get_or boxes k d) (ap (touches_region place) (sym (take_more boxes k d there)) ∙ h) apart))
+]
 
 -- ---- a coordinate that is read is that coordinate
 
@@ -132,3 +191,10 @@ long_back v near = to_z-of_z w64 v (fits_signed_from_abs w64 v (omega (arith, ne
 pub read_long : (long : ℤ) (result corner : Vec3) → long ≡ to_z w32 (of_z w32 result.x) → result ≡ corner → IsNear 2097152 corner → to_z w64 (of_z w64 long) ≡ corner.x
 read_long long result corner long_is is near =
     ap (λ (v : ℤ). to_z w64 (of_z w64 v)) (long_is ∙ read_x result corner is near) ∙ long_back corner.x near.x
+
+read_y : (result corner : Vec3) → result ≡ corner → IsNear 2097152 corner → to_z w32 (of_z w32 result.y) ≡ corner.y
+read_y result corner is near = ap (λ (v : Vec3). to_z w32 (of_z w32 v.y)) is ∙ read_back corner.y near.y
+
+pub read_long_y : (long : ℤ) (result corner : Vec3) → long ≡ to_z w32 (of_z w32 result.y) → result ≡ corner → IsNear 2097152 corner → to_z w64 (of_z w64 long) ≡ corner.y
+read_long_y long result corner long_is is near =
+    ap (λ (v : ℤ). to_z w64 (of_z w64 v)) (long_is ∙ read_y result corner is near) ∙ long_back corner.y near.y

@@ -6,8 +6,9 @@ use Rattle.std.specs.List.Sorted.{IsStrictlyIncreasing}
 use Rattle.std.proofs.lemmas.Bool.{cases_Bool, false≢true, cond-true, cond-false, eqb-true, eq-eqb, ne_eqb, leb-true}
 use Rattle.std.proofs.lemmas.List.{length-map, length-drop, take_all, take_more, drop_more}
 use Rattle.std.proofs.lemmas.List.Elements.{All-get_or, filter_map-append}
-use Rattle.arena_geo.specs.Bounds.{Bounds}
+use Rattle.arena_geo.specs.Bounds.{Bounds, IsOrdered}
 use Rattle.arena_geo.specs.Regions.{touches_region}
+use Rattle.entity_recs.specs.declared.limits.TheConstants.{IDS}
 use Rattle.entity_recs.specs.declared.rec.Rec.{Rec}
 use Rattle.entity_recs.specs.declared.effect.NewState.{NewState}
 use Rattle.entity_recs.specs.Bodies.{abs_of}
@@ -15,11 +16,13 @@ use Rattle.entity_recs.specs.Records.{with_state}
 use Rattle.core_steps.specs.Views.{Fixed, has, state_at, thing_of, things_in}
 use Rattle.core_seats.specs.NearKept.{AreAtIds, AreThings, thing_with, touching, things_loaded}
 use Rattle.entity_recs.specs.Actions.{Meaning, HasValidity}
-use Rattle.core_steps.specs.Stands.{IsStart}
+use Rattle.core_steps.specs.Stands.{IsLawful, IsStart}
 use Rattle.std.proofs.Math.ListN.{get_or-map}
-use Rattle.core_seats.specs.declared.columns.Columns.{Columns}
-use Rattle.core_seats.specs.ThingColumns.{HasThing, HasThings}
-use Rattle.areanode.specs.Words.{has_bit}
+use Rattle.core_seats.specs.declared.strips.ThingIndex.{ThingIndex}
+use Rattle.core_seats.specs.ThingBits.{has_place, AreMarked}
+use Rattle.core_seats.specs.ThingStrips.{MarksThings}
+use Rattle.core_steps.proofs.Lists.{has_filter}
+use Rattle.core_steps.proofs.Runs.{live_ordered, start_world}
 use Rattle.core_seats.specs.Shown.{RulesView, fixed_of, IsRuledWith}
 use Rattle.core_seats.proofs.NearLists.{AreFound, found_at_ids, id_small}
 use Rattle.core_seats.proofs.KeptNear.{IsBelowAll, AreRising, are_rising}
@@ -72,9 +75,9 @@ all_high s (id ∷ ids) = elim (cases_Bool (nat_le (suc s) id)) [
   | inr low ↦ rw low (all_high s ids)
 ]
 
-pub few_things : (ids : List ℕ) → AreRising ids → AreBelow 256 ids → length (filter (nat_le 64) ids) ≤ 192
+pub few_things : (ids : List ℕ) → AreRising ids → AreBelow IDS ids → length (filter (nat_le 64) ids) + 64 ≤ IDS
 few_things ids rising below =
-    let few = spread 256 63 (filter (nat_le 64) ids) (all_high 63 ids) (rising_kept (nat_le 64) ids rising) (below_high 64 256 ids below) (omega arith) in
+    let few = spread IDS 63 (filter (nat_le 64) ids) (all_high 63 ids) (rising_kept (nat_le 64) ids rising) (below_high 64 IDS ids below) (omega arith) in
     omega (arith, few)
 
 -- ---- the things of a region
@@ -248,8 +251,8 @@ are_below : (n : ℕ) (ids : List ℕ) → ((j : ℕ) → j < length ids → get
 are_below n [] each = tt
 are_below n (id ∷ ids) each = (each 0 (omega arith), are_below n ids (λ j there. each (suc j) (omega (arith, there))))
 
--- each live id is below 256
-id_below : (F : Fixed) → HasValidity F.takes F.effect_of → IsStart F → (j : ℕ) → j < length F.start.ids → get_or F.start.ids j 0 < 256
+-- each live id is one that there is
+id_below : (F : Fixed) → HasValidity F.takes F.effect_of → IsStart F → (j : ℕ) → j < length F.start.ids → get_or F.start.ids j 0 < IDS
 id_below F validity start j there =
     let id = get_or F.start.ids j 0 in
     let sized = length-map F.start.ids F.start.record_of in
@@ -259,18 +262,25 @@ id_below F validity start j there =
     let small = id_small (F.start.record_of id).kind (F.start.record_of id).id (validity.keepable (F.start.record_of id) taken).bounds.id in
     omega (arith, own, small)
 
+-- there are few things
+pub few_high : {A : Type 0} (meaning : A → Meaning) (rules : RulesView A) → HasValidity (fixed_of meaning rules).takes (fixed_of meaning rules).effect_of → IsStart (fixed_of meaning rules)
+    → length (filter (λ (r : Rec). nat_le 64 r.id) rules.start) + 64 ≤ IDS
+few_high meaning rules validity start =
+    let F = fixed_of meaning rules in
+    let few = few_things F.start.ids (are_rising F.start.ids start.rising) (are_below IDS F.start.ids (id_below F validity start)) in
+    let sized = length-map (filter (λ (r : Rec). nat_le 64 r.id) rules.start) (λ (r : Rec). r.id) in
+    let same = ap (λ (ns : List ℕ). length ns) (high_ids rules.start) in
+    omega (arith, few, sized, same)
+
 -- the things at the start, where the records of players are left out
-pub are_things : {A : Type 0} (meaning : A → Meaning) (rules : RulesView A) (bits first : ℕ) (columns : Columns) → HasValidity (fixed_of meaning rules).takes (fixed_of meaning rules).effect_of
-    → IsRuledWith (fixed_of meaning rules) rules.start bits first columns → AreThings (fixed_of meaning rules) (drop first rules.start)
-are_things meaning rules bits first columns validity ruled =
+pub are_things : {A : Type 0} (meaning : A → Meaning) (rules : RulesView A) (bits first : ℕ) (index : ThingIndex) → HasValidity (fixed_of meaning rules).takes (fixed_of meaning rules).effect_of
+    → IsRuledWith (fixed_of meaning rules) rules.start bits first index → AreThings (fixed_of meaning rules) (drop first rules.start)
+are_things meaning rules bits first index validity ruled =
     let F = fixed_of meaning rules in
     subst (AreThings F) (sym ruled.things) (record {
       ids = high_ids rules.start;
       found = high_found F.start.record_of rules.start (found_at_ids rules.start ruled.start.rising);
-      few = let few = few_things F.start.ids (are_rising F.start.ids ruled.start.rising) (are_below 256 F.start.ids (id_below F validity ruled.start)) in
-          let sized = length-map (filter (λ (r : Rec). nat_le 64 r.id) rules.start) (λ (r : Rec). r.id) in
-          let same = ap (λ (ns : List ℕ). length ns) (high_ids rules.start) in
-          omega (arith, few, sized, same);
+      few = few_high meaning rules validity ruled.start;
     })
 
 pub whole_rest : (n : ℕ) (rs : List Rec) → take (length rs - n) (drop n rs) ≡ drop n rs
@@ -292,16 +302,32 @@ touching_has region (r ∷ rs) (suc k) d there touch = by_test (touches_region (
     by_test true rest = ap (λ (b : Bool). (r.id == (get_or rs k d).id) || b) rest ∙ or_right (r.id == (get_or rs k d).id)
     by_test false rest = rest
 
-pub all_marked : (columns : Columns) (region : List Bounds) (bits : ℕ) → ((r : Rec) → HasThing columns r → touches_region (abs_of r) region ≡ true → has_bit bits (r.id % 64) ≡ true)
-    → (rs : List Rec) → HasThings columns rs → (id : ℕ) → has (map (λ (r : Rec). r.id) (touching region rs)) id ≡ true → has_bit bits (id % 64) ≡ true
-all_marked columns region bits each [] placed id there = absurd (false≢true there)
-all_marked columns region bits each (r ∷ rs) placed id there = by_test (touches_region (abs_of r) region) refl there (all_marked columns region bits each rs placed.1 id)
-  where
-    by_test : (b : Bool) → touches_region (abs_of r) region ≡ b → has (map (λ (q : Rec). q.id) (if b then r ∷ touching region rs else touching region rs)) id ≡ true
-        → (has (map (λ (q : Rec). q.id) (touching region rs)) id ≡ true → has_bit bits (id % 64) ≡ true) → has_bit bits (id % 64) ≡ true
-    by_test false is there rest = rest there
-    by_test true is there rest = by_id (r.id == id) refl there
-      where
-        by_id : (b : Bool) → (r.id == id) ≡ b → (b || has (map (λ (q : Rec). q.id) (touching region rs)) id) ≡ true → has_bit bits (id % 64) ≡ true
-        by_id true same there = subst (λ (n : ℕ). has_bit bits (n % 64) ≡ true) (eqb-true r.id id same) (each r placed.0 is)
-        by_id false other there = rest there
+-- each of the records is where its id is
+at_id : (f : ℕ → Rec) (rs : List Rec) (k : ℕ) (d : Rec) → AreAtIds f rs → k < length rs → f (get_or rs k d).id ≡ get_or rs k d
+at_id f [] k d at there = absurd (omega (arith, there))
+at_id f (r ∷ rs) zero d at there = at.0
+at_id f (r ∷ rs) (suc k) d at there = at_id f rs k d at.1 (omega (arith, there))
+
+all_at_ids : (f : ℕ → Rec) (rs : List Rec) → AreAtIds f rs → map f (map (λ (r : Rec). r.id) rs) ≡ rs
+all_at_ids f [] at = refl
+all_at_ids f (r ∷ rs) at = ap (λ (q : Rec). q ∷ map f (map (λ (r : Rec). r.id) rs)) at.0 ∙ ap (λ (qs : List Rec). r ∷ qs) (all_at_ids f rs at.1)
+
+-- there is one list of the things of the map
+same_things : (F : Fixed) (one two : List Rec) → AreThings F one → AreThings F two → one ≡ two
+same_things F one two a b =
+    sym (all_at_ids F.start.record_of one a.found) ∙ ap (map F.start.record_of) (a.ids ∙ sym b.ids) ∙ all_at_ids F.start.record_of two b.found
+
+-- bits that the things have which a region touches
+pub things_marked : (F : Fixed) (things : List Rec) (region : List Bounds) (bits : List ℕ) → IsLawful F → IsStart F → AreThings F things
+    → ((k : ℕ) (d : Rec) → k < length things → IsOrdered (abs_of (get_or things k d)) → touches_region (abs_of (get_or things k d)) region ≡ true → has_place bits k ≡ true)
+    → MarksThings F region bits
+things_marked F things region bits lawful start are each others are_others =
+    subst (λ (xs : List Rec). AreMarked region xs bits) (same_things F things others are are_others) (record {
+      few = let few = are.few in omega (arith, few);
+      each = λ k d within touch.
+          let thing = get_or things k d in
+          let near : has (things_in F region) thing.id ≡ true = ap (λ (ids : List ℕ). has ids thing.id) (things_of_region F things region are) ∙ touching_has region things k d within touch in
+          let listed = (has_filter (λ id. nat_le 64 id && touches_region (abs_of (F.start.record_of id)) region) F.start.ids thing.id near).listed in
+          let ordered = live_ordered F F.start thing.id lawful (start_world F start) listed in
+          each k d within (subst (λ (r : Rec). IsOrdered (abs_of r)) (at_id F.start.record_of things k d are.found within) ordered) touch;
+    })

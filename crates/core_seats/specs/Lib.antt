@@ -12,7 +12,8 @@ pub mod Seats
 pub mod Shown
 pub mod NearRecords
 pub mod NearKept
-pub mod ThingColumns
+pub mod ThingBits
+pub mod ThingStrips
 pub mod Going
 pub mod Sound
 pub mod Nexts

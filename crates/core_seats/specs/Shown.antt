@@ -1,15 +1,14 @@
 -- What doesn't change in the core of the code, as the definitions have it.
-use Rattle.std.specs.Prelude.{◌≡◌, ◌<◌, ◌≤◌, ℕ, nat_le, List, length, drop, filter}
+use Rattle.std.specs.Prelude.{◌≡◌, ◌<◌, ◌≤◌, ◌-◌, ℕ, nat_le, List, length, drop, filter}
 use Rattle.areanode.specs.Words.{has_bit}
-use Rattle.areanode.specs.Trees.{TreeView}
-use Rattle.areanode.specs.declared.sizes.TheConstants.{DEPTH}
+use Rattle.areanode.specs.Trees.{TreeView, IsTreeDepth}
 use Rattle.entity_recs.specs.declared.rec.Rec.{Rec}
 use Rattle.entity_recs.specs.Worlds.{world_of}
 use Rattle.entity_recs.specs.Actions.{Meaning}
 use Rattle.core_steps.specs.Views.{Fixed, has}
 use Rattle.core_steps.specs.Stands.{IsStart}
-use Rattle.core_seats.specs.declared.columns.Columns.{Columns}
-use Rattle.core_seats.specs.ThingColumns.{HasThings}
+use Rattle.core_seats.specs.declared.strips.ThingIndex.{ThingIndex}
+use Rattle.core_seats.specs.ThingStrips.{HasThings}
 
 -- an action, the tree, and the records of the world at the start
 pub record RulesView (A : Type 0) : Type 0 where
@@ -27,17 +26,18 @@ fixed_of meaning rules = record {
   start = world_of rules.start;
 }
 
--- the tree has its depth, for which the table has words, and the action takes the records of the start, whose ids rise
+-- the tree has a depth that it may have, for which the table has words, and the action takes the records of the start,
+-- whose ids rise
 pub record IsRuled (F : Fixed) : Type 0 where
-  pub depth : F.tree.depth ≡ DEPTH
+  pub depth : IsTreeDepth F.tree.depth
   pub start : IsStart F
 
 -- the same, with the slots of the live players as the bits of a word, and the things of the map from a place on and by
--- columns
-pub record IsRuledWith (F : Fixed) (records : List Rec) (bits first : ℕ) (columns : Columns) : Type 0 where
-  pub depth : F.tree.depth ≡ DEPTH
+-- strips
+pub record IsRuledWith (F : Fixed) (records : List Rec) (bits first : ℕ) (index : ThingIndex) : Type 0 where
+  pub depth : IsTreeDepth F.tree.depth
   pub start : IsStart F
   pub slots : (slot : ℕ) → slot < 64 → has_bit bits slot ≡ has F.start.ids slot
   pub fits : first ≤ length records
   pub things : drop first records ≡ filter (λ (r : Rec). nat_le 64 r.id) records
-  pub placed : HasThings columns (drop first records)
+  pub placed : HasThings index (drop first records) (length records - first)

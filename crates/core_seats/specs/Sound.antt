@@ -2,7 +2,7 @@
 use Rattle.std.specs.Prelude.{◌≡◌, ◌<◌, true, length, List, ◌∷◌, Some}
 use Rattle.entity_recs.specs.declared.effect.Effect.{Effect}
 use Rattle.entity_recs.specs.Actions.{HasPlayer, IsCall}
-use Rattle.areanode.specs.declared.sizes.TheConstants.{DEPTH}
+use Rattle.areanode.specs.Trees.{IsTreeDepth}
 use Rattle.core_steps.specs.declared.sizes.TheConstants.{TABLE_WORDS}
 use Rattle.core_steps.specs.Views.{Fixed, Store, Resolving, stage_of, is_busy, is_open, is_owning, is_whole}
 use Rattle.core_steps.specs.Views.{is_settled, is_read_again, stores_owed, View}
@@ -12,7 +12,7 @@ use Rattle.core_steps.specs.Machine.{HasNext, ViewFits, index_of_store}
 
 -- what a core that stands says of one view alone
 pub record IsSound (F : Fixed) (view : View) : Type 0 where
-  pub depth : F.tree.depth ≡ DEPTH
+  pub depth : IsTreeDepth F.tree.depth
   pub own_part : is_owning (stage_of view.point) ≡ true → length view.own < 6
   pub own_whole : is_whole (stage_of view.point) ≡ true → length view.own ≡ 6
   pub again_whole : is_read_again (stage_of view.point) ≡ true → length view.again ≡ 6

@@ -1,7 +1,8 @@
 -- How many steps a seat has left at most, where no take is refused.
 use Rattle.std.specs.Prelude.{ℕ, ◌+◌, ◌*◌, ◌-◌, ◌<◌, ◌≡◌, ◌==◌, Bool, true, false, List, length, Option, Some, None}
 use Rattle.std.specs.Prelude.{is_some}
-use Rattle.areanode.specs.declared.sizes.TheConstants.{DEPTH, LEAVES, NODES}
+use Rattle.areanode.specs.Trees.{IsTreeDepth}
+use Rattle.areanode.specs.declared.sizes.TheConstants.{MOST_LEAVES, MOST_NODES}
 use Rattle.entity_recs.specs.declared.effect.Effect.{Effect}
 use Rattle.core_steps.specs.Views.{Fixed, Point, Idle, Owning, Taking, Checking, Entering, Entered, Loading, Leaving}
 use Rattle.core_steps.specs.Views.{Sensing, Resolving, Claiming, Storing, Releasing, Returning, Yielding, View}
@@ -33,14 +34,14 @@ after_visits F effect wanted = length F.start.ids + 1 + after_reading effect wan
 
 -- the steps after the leaves are taken: the own record is loaded again, and all nodes are visited
 abbrev pub after_leaves : Fixed → Option Effect → ℕ → ℕ
-after_leaves F effect wanted = 6 + NODES * VISIT + after_visits F effect wanted
+after_leaves F effect wanted = 6 + MOST_NODES * VISIT + after_visits F effect wanted
 
 -- the steps that are left at this point, where so many words of the own record are loaded and loaded again
 abbrev pub left_at : Fixed → Option Effect → (own again wanted : ℕ) → Point → ℕ
 left_at F effect own again wanted Idle = 0
-left_at F effect own again wanted Owning = (6 - own) + LEAVES + after_leaves F effect LEAVES
+left_at F effect own again wanted Owning = (6 - own) + MOST_LEAVES + after_leaves F effect MOST_LEAVES
 left_at F effect own again wanted (Taking got rest) = length rest + after_leaves F effect wanted
-left_at F effect own again wanted Checking = (6 - again) + NODES * VISIT + after_visits F effect wanted
+left_at F effect own again wanted Checking = (6 - again) + MOST_NODES * VISIT + after_visits F effect wanted
 left_at F effect own again wanted (Entering node plan) = VISIT + VISIT * length plan + after_visits F effect wanted
 left_at F effect own again wanted (Entered node plan) = 386 + VISIT * length plan + after_visits F effect wanted
 left_at F effect own again wanted (Loading node part players plan) =
@@ -68,7 +69,7 @@ is_served _ _ = true
 -- what a view says for its steps to lower how many are left: the loads are in part, leaves are wanted, and the effect
 -- in view is the one that is kept
 pub record IsCounting (F : Fixed) (effect : Option Effect) (view : View) : Type 0 where
-  pub depth : F.tree.depth ≡ DEPTH
+  pub depth : IsTreeDepth F.tree.depth
   pub own : view.point ≡ Owning → length view.own < 6
   pub again : view.point ≡ Checking → length view.again < 6
   pub part : (node : ℕ) (part players plan : List ℕ) → view.point ≡ Loading node part players plan → length part < 6

@@ -21,7 +21,7 @@ fn first_of(nodes: &NodeQueue) -> Option<u8>
 
 impl Seat {
     ghost use Rattle.std.specs.Prelude.{◌≡◌, ◌<◌, ◌+◌, ◌^◌, ◌==◌, ◌∷◌, ◌++◌, [], ℕ, List, Some, length, if◌then◌else◌};
-    ghost use Rattle.areanode.specs.declared.sizes.TheConstants.{NODES};
+    ghost use Rattle.areanode.specs.declared.sizes.TheConstants.{MOST_NODES};
     ghost use Rattle.entity_recs.specs.declared.effect.Effect.{Effect};
     ghost use Rattle.entity_recs.specs.Actions.{IsCommand};
     ghost use Rattle.entity_recs.specs.Records.{IsRecord};
@@ -57,7 +57,7 @@ impl Seat {
 
     /// The node is got, and the first of the rest no longer to be taken.
     fn got_first(&mut self, node: u8)
-        requires { length self.old.queues.got.items < NODES }
+        requires { length self.old.queues.got.items < MOST_NODES }
         ensures got { self.new.queues.got.items ≡ self.old.queues.got.items ++ node ∷ [] }
         ensures rest { self.new.queues.rest.items ≡ steps.rest_of self.old.queues.rest.items }
         ensures view { (point : views.Point) → record (view_of self.new) { point = point } ≡ record
@@ -71,8 +71,8 @@ impl Seat {
 
     /// The node that comes next, which was free, is taken.
     fn taken(&mut self, node: u8)
-        requires leaves { (got rest : List ℕ) → (view_of self.old).point ≡ views.Taking got rest → length got < NODES }
-        requires nodes { (got rest : List ℕ) → (view_of self.old).point ≡ views.Claiming got rest → length got < NODES }
+        requires leaves { (got rest : List ℕ) → (view_of self.old).point ≡ views.Taking got rest → length got < MOST_NODES }
+        requires nodes { (got rest : List ℕ) → (view_of self.old).point ≡ views.Claiming got rest → length got < MOST_NODES }
         ensures { view_of self.new ≡ steps.view_after_take node (view_of self.old) }
     {
         match self.point {
@@ -88,8 +88,8 @@ impl Seat {
 
     /// The node that comes next is taken where its word was 0, and its take is refused where it wasn't.
     pub(crate) fn take_next(&mut self, found: u64)
-        requires leaves { (got rest : List ℕ) → (view_of self.old).point ≡ views.Taking got rest → length got < NODES }
-        requires nodes { (got rest : List ℕ) → (view_of self.old).point ≡ views.Claiming got rest → length got < NODES }
+        requires leaves { (got rest : List ℕ) → (view_of self.old).point ≡ views.Taking got rest → length got < MOST_NODES }
+        requires nodes { (got rest : List ℕ) → (view_of self.old).point ≡ views.Claiming got rest → length got < MOST_NODES }
         ensures { (node : ℕ) → steps.next_take (view_of self.old).point ≡ Some node → view_of self.new ≡ (if found == 0
             then steps.view_after_take node (view_of self.old)
             else steps.view_after_refusal node found (view_of self.old)) }

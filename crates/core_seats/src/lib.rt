@@ -4,18 +4,18 @@
 pub use laws::served_steps_leave_fewer;
 pub use lists::with_top_bit;
 pub use log::SeatLog;
-pub use near_kept::{is_thing_near, lowest_bit, without_bit};
+pub use near_kept::{lowest_bit, without_bit};
 pub use point::{Cell, IdQueue, NodeQueue, Point, Queues, SlotQueue, Store, StoreQueue, WordList};
 pub use queue::Queue;
 pub use reading::read_record;
 pub use refusals::{Refusals, Refused};
 pub use rules::Rules;
 pub use seat::{ListRead, PlayerRead, Seat};
+pub use thing_bits::{THING_WORDS, ThingBits, next_thing};
 pub use word_steps::first_of_two;
 
 mod boxes;
 mod claiming;
-mod columns;
 mod committing;
 mod giving;
 mod go;
@@ -35,5 +35,7 @@ mod records;
 mod refusals;
 mod rules;
 mod seat;
+mod strips;
 mod taking;
+mod thing_bits;
 mod word_steps;

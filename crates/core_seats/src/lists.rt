@@ -3,13 +3,12 @@ ghost use Rattle.std.specs.Prelude.{length, filter, map, not, drop, if◌then◌
 ghost use Rattle.core_steps.specs.Steps.{rest_of};
 ghost use Rattle.std.specs.List.{range_with_len};
 ghost use Rattle.areanode.specs.Words.{has_bit};
-ghost use Rattle.areanode.specs.Trees.{leaf_node};
-ghost use Rattle.areanode.specs.declared.sizes.TheConstants.{DEPTH};
+ghost use Rattle.areanode.specs.Trees.{IsTreeDepth, leaf_node, inner_in, leaves_in, nodes_in};
 ghost use Rattle.core_steps.specs.Views.{players_in, bits_of_leaves};
 
 use crate::point::{NodeQueue, SlotQueue, WordList};
 use crate::queue::Queue;
-use areanode::{FIRST_LEAF, LEAVES, NODES};
+use areanode::{MOST_LEAVES, MOST_NODES, Tree};
 use arrayvec::ArrayVec;
 
 /// Whether a bit of a word is set.
@@ -37,7 +36,7 @@ fn is_either(node: u8, a: u8, b: u8) -> bool
 
 /// The numbers below `n` whose bit is set, rising.
 pub fn bits_below(word: u64, n: u8) -> NodeQueue
-    requires { n ≤ NODES }
+    requires { n ≤ MOST_NODES }
     ensures numbers { result.items ≡ filter (has_bit word) (range_with_len 0 n) }
     ensures few { length result.items ≤ n }
 {
@@ -59,26 +58,48 @@ pub fn with_top_bit(word: u64, slot: u8, is_set: bool) -> u64
     if is_set { word + (1 << slot) } else { word }
 }
 
-/// The nodes of these leaves, bit i for leaf i, rising.
-pub fn leaf_nodes(leaves: u64) -> NodeQueue
-    ensures nodes { result.items ≡ map (leaf_node DEPTH) (filter (has_bit leaves) (range_with_len 0 LEAVES)) }
-    ensures few { length result.items ≤ LEAVES }
+/// The first leaf's node, which is also the number of inner nodes.
+pub fn first_leaf(tree: &Tree) -> u8
+    ensures value { result ≡ inner_in tree.now.depth }
+    ensures few { result < MOST_LEAVES }
+    ensures depth { IsTreeDepth tree.now.depth }
 {
+    tree.first_leaf()
+}
+
+/// How many leaves a tree has.
+fn count_leaves(tree: &Tree) -> u8
+    ensures value { result ≡ leaves_in tree.now.depth }
+    ensures few { result ≤ MOST_LEAVES }
+{
+    tree.leaves()
+}
+
+/// The nodes of these leaves of a tree, bit i for leaf i, rising.
+pub fn leaf_nodes(tree: &Tree, leaves: u64) -> NodeQueue
+    ensures nodes { result.items ≡ map (leaf_node tree.now.depth)
+        (filter (has_bit leaves) (range_with_len 0 (leaves_in tree.now.depth))) }
+    ensures few { length result.items ≤ MOST_LEAVES }
+{
+    let first = first_leaf(tree);
+    let count = count_leaves(tree);
     let mut nodes = Queue::new();
-    for leaf in 0..LEAVES as u8 {
+    for leaf in 0..count {
         if is_set(leaves, leaf) {
-            nodes.push(FIRST_LEAF as u8 + leaf);
+            nodes.push(first + leaf);
         }
     }
     nodes
 }
 
-/// The inner ones among two nodes, rising, without repeats.
-pub fn inner_among(a: u8, b: u8) -> NodeQueue
-    ensures { result.items ≡ filter (λ node. (node == a) || (node == b)) (range_with_len 0 FIRST_LEAF) }
+/// The inner ones among two nodes of a tree, rising, without repeats.
+pub fn inner_among(tree: &Tree, a: u8, b: u8) -> NodeQueue
+    ensures { result.items ≡ filter (λ node. (node == a) || (node == b))
+        (range_with_len 0 (inner_in tree.now.depth)) }
 {
+    let first = first_leaf(tree);
     let mut nodes = Queue::new();
-    for node in 0..FIRST_LEAF as u8 {
+    for node in 0..first {
         if is_either(node, a, b) {
             nodes.push(node);
         }
@@ -104,7 +125,7 @@ pub fn players_of(word: u64, own: u8) -> SlotQueue
 
 /// One list of nodes after another.
 pub fn joined(front: NodeQueue, back: &NodeQueue) -> NodeQueue
-    requires { length front.items + length back.now.items ≤ NODES }
+    requires { length front.items + length back.now.items ≤ MOST_NODES }
     ensures { result.items ≡ front.items ++ back.now.items }
 {
     let mut nodes = front;
@@ -114,16 +135,17 @@ pub fn joined(front: NodeQueue, back: &NodeQueue) -> NodeQueue
     nodes
 }
 
-/// The leaves of these nodes, bit i for leaf i.
-pub fn leaf_word(nodes: &[u8]) -> u64
-    requires nodes { All (λ n. n < NODES) nodes.now }
-    requires few { length nodes.now ≤ NODES }
-    ensures word { result ≡ bits_of_leaves (map (λ n. n - FIRST_LEAF) nodes.now) }
-    ensures small { result ≤ 2 ^ LEAVES * length nodes.now }
+/// The leaves of these nodes of a tree, bit i for leaf i.
+pub fn leaf_word(tree: &Tree, nodes: &[u8]) -> u64
+    requires nodes { All (λ n. n < nodes_in tree.now.depth) nodes.now }
+    requires few { length nodes.now ≤ MOST_NODES }
+    ensures word { result ≡ bits_of_leaves (map (λ n. n - inner_in tree.now.depth) nodes.now) }
+    ensures small { result ≤ 2 ^ MOST_LEAVES * length nodes.now }
 {
+    let first = first_leaf(tree);
     let mut word = 0;
     for node in nodes {
-        word += 1 << node.saturating_sub(FIRST_LEAF as u8);
+        word += 1 << node.saturating_sub(first);
     }
     word
 }

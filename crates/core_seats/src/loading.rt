@@ -46,7 +46,7 @@ fn drop_read(others: &mut ArrayVec<PlayerRead, 64>, slot: u8)
 
 impl Seat {
     ghost use Rattle.std.specs.Prelude.{◌≡◌, ◌<◌, ◌∷◌, [], ◌++◌, ◌==◌, ℕ, List, Some, not, filter, length, slice_index};
-    ghost use Rattle.areanode.specs.declared.sizes.TheConstants.{NODES};
+    ghost use Rattle.areanode.specs.declared.sizes.TheConstants.{MOST_NODES};
     ghost use Rattle.entity_recs.specs.declared.limits.TheConstants.{IDS};
     ghost use Rattle.entity_recs.specs.Commands.{Command, command_of};
     ghost use Rattle.entity_recs.specs.Actions.{HasPlayer, IsCommand};
@@ -115,7 +115,7 @@ impl Seat {
 
     /// The list word of the entered node was loaded.
     fn load_list<A: Action>(&mut self, rules: &Rules<A>, node: u8, word: u64)
-        requires room { length self.old.lists.items < NODES }
+        requires room { length self.old.lists.items < MOST_NODES }
         requires player { HasPlayer ((A.meaning rules.now.action).takes)
             (record_read (hand_of self.old.cmd).slot self.old.own.items) (hand_of self.old.cmd) }
         ensures { view_of self.new ≡ steps.view_after_list (fixed_of A.meaning rules.now) node
@@ -162,7 +162,7 @@ impl Seat {
 
     /// The list word of the entered node was loaded.
     pub(crate) fn read_list<A: Action>(&mut self, rules: &Rules<A>, word: u64)
-        requires room { length self.old.lists.items < NODES }
+        requires room { length self.old.lists.items < MOST_NODES }
         requires player { HasPlayer ((A.meaning rules.now.action).takes)
             (record_read (hand_of self.old.cmd).slot self.old.own.items) (hand_of self.old.cmd) }
         ensures { (node : ℕ) (plan : List ℕ) → (view_of self.old).point ≡ views.Entered node plan → view_of self.new

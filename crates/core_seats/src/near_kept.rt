@@ -1,16 +1,15 @@
-ghost use Rattle.std.specs.Prelude.{◌≡◌, ◌<◌, ◌≤◌, ◌==◌, ◌||◌, ◌&&◌, ◌%◌, not, ℕ, true, false, [], nat_lt, map};
+ghost use Rattle.std.specs.Prelude.{◌≡◌, ◌<◌, ◌≤◌, ◌==◌, ◌||◌, ◌&&◌, not, ℕ, true, false, [], nat_lt, map};
 ghost use Rattle.std.specs.Prelude.{filter, length};
 ghost use Rattle.std.specs.List.{filter_map, range_with_len};
 ghost use Rattle.core_seats.specs.NearKept.{near_player};
 ghost use Rattle.areanode.specs.Words.{has_bit};
-ghost use Rattle.arena_geo.specs.Regions.{touches_region};
-ghost use Rattle.entity_recs.specs.Bodies.{abs_of};
 ghost use Rattle.core_steps.specs.Views.{has};
 ghost use Rattle.entity_recs.specs.declared.rec.Rec.{Rec};
 
 use crate::boxes::touches_region;
 use crate::reading::read_record;
 use crate::rules::Rules;
+use crate::thing_bits::ThingBits;
 use arena_geo::Region;
 use entity_recs::{Action, Rec};
 use world_tree::NearList;
@@ -109,26 +108,10 @@ fn put_slots(slots: u64, six: &[[u64; 6]; 64], region: &Region, list: &mut NearL
     }
 }
 
-/// Whether the bit of the slot is set.
-fn has_slot(word: u64, slot: u16) -> bool
-    requires { slot < 64 }
-    ensures { result ≡ has_bit word slot }
-{
-    word >> slot & 1 == 1
-}
-
-/// Whether the absolute box of a thing of the map touches a region, where these are bits of all the things that do.
-pub fn is_thing_near(bits: u64, r: &Rec, region: &Region) -> bool
-    requires { touches_region (abs_of r.now) region.now ≡ true → has_bit bits (r.now.id % 64) ≡ true }
-    ensures { result ≡ touches_region (abs_of r.now) region.now }
-{
-    has_slot(bits, r.id % 64) && touches_region(r, region)
-}
-
 impl<'a, A: Action> Rules<'a, A> {
     ghost use Rattle.std.specs.Prelude.{◌≡◌, ◌<◌, ◌≤◌, [], length};
     ghost use Rattle.core_seats.specs.NearKept.{AreThings, players_kept};
-    ghost use Rattle.core_seats.specs.ThingColumns.{MarksThings};
+    ghost use Rattle.core_seats.specs.ThingStrips.{MarksThings};
     ghost use Rattle.core_seats.specs.Shown.{fixed_of};
 
     /// Puts the records of the words kept of live players but this one that touch a region into an empty list, in rising
@@ -156,10 +139,12 @@ impl<'a, A: Action> Rules<'a, A> {
     {
         &self.start.as_slice()[self.first_thing..]
     }
-    /// Bits of the things of the map that touch a region, each by its id modulo 64; those of others may be among them.
-    pub fn thing_bits(&self, region: &Region) -> u64
+
+    /// The bits of the things of the map that touch a region, each by its place among the things; those of others may be
+    /// among them.
+    pub fn thing_bits(&self, region: &Region) -> ThingBits
         ensures { MarksThings (fixed_of A.meaning self.now) region.now result }
     {
-        self.columns.near(region)
+        self.index.near(region)
     }
 }

@@ -1,10 +1,10 @@
 use crate::queue::Queue;
-use areanode::NODES;
+use areanode::MOST_NODES;
 use arrayvec::ArrayVec;
 use entity_recs::IDS;
 
 /// A list of nodes, each at most once.
-pub type NodeQueue = Queue<u8, NODES>;
+pub type NodeQueue = Queue<u8, MOST_NODES>;
 
 /// A list of players' slots, each at most once.
 pub type SlotQueue = Queue<u8, 64>;

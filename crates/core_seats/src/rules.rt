@@ -1,16 +1,16 @@
 ghost use Rattle.std.specs.Prelude.{◌≡◌};
-ghost use Rattle.areanode.specs.declared.sizes.TheConstants.{DEPTH};
+ghost use Rattle.areanode.specs.Trees.{IsTreeDepth};
 
-use crate::columns::Columns;
-use crate::lists::{bits_below, inner_among, joined, leaf_nodes, leaf_word};
+use crate::lists::{bits_below, first_leaf, inner_among, joined, leaf_nodes, leaf_word};
 use crate::near::{put_near, things_of};
 use crate::near_kept::{count_players, player_bits};
 use crate::point::{IdQueue, NodeQueue};
 use crate::reading::read_record;
 use crate::records::find_record;
 use crate::seat::PlayerRead;
-use areanode::{FIRST_LEAF, NODES, Tree, visited};
-use arena_geo::{Aabb, Region, Vec3};
+use crate::strips::ThingIndex;
+use areanode::Tree;
+use arena_geo::Region;
 use core_steps::NODE_HOLDERS;
 use entity_recs::{Action, Cmd, Effect, NewState, Rec, abs_box};
 use std::alloc::{AllocError, Global};
@@ -28,7 +28,7 @@ pub struct Rules<'a, A: Action> {
     /// How many of the records are players'. The things of the map come after them.
     pub(crate) first_thing: usize,
     /// Where the things lie.
-    pub(crate) columns: Columns,
+    pub(crate) index: ThingIndex,
 }
 
 impl<'a, A: Action> Model for Rules<'a, A> {
@@ -40,17 +40,15 @@ impl<'a, A: Action> Model for Rules<'a, A> {
 
     ghost invariant = { λ r. IsRuledWith (fixed_of A.meaning
         (record { action = r.action.now; tree = r.tree; start = r.start.items }))
-        r.start.items r.players r.first_thing r.columns };
+        r.start.items r.players r.first_thing r.index };
 }
 
-/// The depth of a tree.
+/// A tree has a depth that it may have.
 fn has_its_depth(tree: &Tree)
-    ensures { tree.now.depth ≡ DEPTH }
+    ensures { IsTreeDepth tree.now.depth }
 {
-    // To ask for a node is to know the depth.
-    if let Some(point) = Aabb::new(Vec3::ZERO, Vec3::ZERO) {
-        let _node = tree.node_of(&point);
-    }
+    // To ask for the depth is to know its range.
+    let _depth = tree.depth();
 }
 
 impl<'a, A: Action> Rules<'a, A> {
@@ -59,12 +57,12 @@ impl<'a, A: Action> Rules<'a, A> {
     ghost use Rattle.entity_recs.specs.Actions.{HasPlayer, IsCall};
     ghost use Rattle.entity_recs.specs.Records.{IsRecord};
     ghost use Rattle.entity_recs.specs.Commands.{command_of};
-    ghost use Rattle.core_steps.specs.Views.{region_in, is_leaf, leaf_nodes, inner_visited, plan_of, inner_of_two};
-    ghost use Rattle.core_steps.specs.Views.{things_in, home, record_read, near_loaded, leaf_word};
+    ghost use Rattle.core_steps.specs.Views.{region_in, is_leaf, inner_nodes, leaf_nodes, inner_visited, plan_of};
+    ghost use Rattle.core_steps.specs.Views.{inner_of_two, things_in, home, record_read, near_loaded, leaf_word};
     ghost use Rattle.core_steps.specs.Stands.{IsLawful, IsStart};
     ghost use Rattle.core_seats.specs.Seats.{player_read_of};
-    ghost use Rattle.areanode.specs.Trees.{leaves_of, visited_of};
-    ghost use Rattle.core_steps.specs.declared.sizes.TheConstants.{TABLE_LEAVES};
+    ghost use Rattle.areanode.specs.Trees.{leaves_of, visited_of, inner_in, leaves_in, nodes_in};
+    ghost use Rattle.areanode.specs.declared.sizes.TheConstants.{MOST_LEAVES, MOST_NODES};
     ghost use Rattle.arena_geo.specs.Bounds.{Bounds};
     ghost use Rattle.core_seats.specs.Starts.{record_at};
     ghost use Rattle.core_seats.specs.Shown.{fixed_of, IsRuled};
@@ -88,7 +86,7 @@ impl<'a, A: Action> Rules<'a, A> {
             start: Vec::from_slice(alloc, start)?,
             players: player_bits(start),
             first_thing,
-            columns: Columns::of_things(&start[first_thing..]),
+            index: ThingIndex::of_things(&start[first_thing..]),
         })
     }
 
@@ -115,13 +113,34 @@ impl<'a, A: Action> Rules<'a, A> {
         find_record(self.start.as_slice(), id)
     }
 
+    /// The depth of the tree.
+    pub fn depth(&self) -> u8
+        ensures value { result ≡ self.now.tree.depth }
+        ensures range { IsTreeDepth self.now.tree.depth }
+    {
+        self.tree.depth()
+    }
+
+    /// How many records live at the start.
+    pub fn count_records(&self) -> usize
+        ensures { result ≡ length (fixed_of A.meaning self.now).start.ids }
+    {
+        self.start.len()
+    }
+
+    /// The first leaf's node, which is also the number of inner nodes.
+    pub fn first_leaf(&self) -> u8
+        ensures value { result ≡ inner_nodes (fixed_of A.meaning self.now) }
+        ensures few { result < MOST_LEAVES }
+    {
+        first_leaf(&self.tree)
+    }
+
     /// Whether the node is a leaf.
     pub fn is_leaf(&self, node: u8) -> bool
         ensures { result ≡ is_leaf (fixed_of A.meaning self.now) node }
     {
-        // To read a part of the rules is to know what their type keeps.
-        let _tree = &self.tree;
-        usize::from(node) >= FIRST_LEAF
+        node >= self.first_leaf()
     }
 
     /// The region of a command whose own record was loaded so.
@@ -136,16 +155,26 @@ impl<'a, A: Action> Rules<'a, A> {
     pub fn leaves(&self, region: &Region) -> NodeQueue
         ensures { result.items ≡ leaf_nodes (fixed_of A.meaning self.now) region.now }
     {
-        leaf_nodes(u64::from(self.tree.leaves_of(region)))
+        leaf_nodes(&self.tree, u64::from(self.tree.leaves_of(region)))
     }
 
     /// The leaves of a region, bit i for leaf i, and the inner nodes that are visited for them, bit i for node i.
     pub fn node_bits(&self, region: &Region) -> (u32, u32)
         ensures leaves { result.0 ≡ leaves_of self.now.tree region.now }
-        ensures inner { result.1 ≡ visited_of DEPTH result.0 % 2 ^ FIRST_LEAF }
+        ensures inner { let depth = self.now.tree.depth in
+            result.1 ≡ visited_of depth result.0 % 2 ^ inner_in depth }
     {
         let leaves = self.tree.leaves_of(region);
-        (u32::from(leaves), visited(leaves) % (1 << FIRST_LEAF))
+        (leaves, self.inner_bits(leaves))
+    }
+
+    /// The inner nodes that are visited for these leaves, bit i for node i.
+    fn inner_bits(&self, leaves: u32) -> u32
+        requires { leaves < 2 ^ leaves_in self.now.tree.depth }
+        ensures { let depth = self.now.tree.depth in result ≡ visited_of depth leaves % 2 ^ inner_in depth }
+    {
+        let first = first_leaf(&self.tree);
+        (self.tree.visited(leaves) % (1 << first)) as u32
     }
 
     /// The nodes of a region's leaves, rising, where these are its leaves, bit i for leaf i.
@@ -153,9 +182,7 @@ impl<'a, A: Action> Rules<'a, A> {
         ensures { (region : List Bounds) → leaves ≡ leaves_of self.now.tree region
             → result.items ≡ leaf_nodes (fixed_of A.meaning self.now) region }
     {
-        // To read a part of the rules is to know what their type keeps.
-        let _tree = &self.tree;
-        leaf_nodes(u64::from(leaves))
+        leaf_nodes(&self.tree, u64::from(leaves))
     }
 
     /// The nodes that are read for a region: its leaves, then the inner nodes that are visited, each rising.
@@ -163,8 +190,8 @@ impl<'a, A: Action> Rules<'a, A> {
         ensures { result.items ≡ plan_of (fixed_of A.meaning self.now) region.now }
     {
         let leaves = self.tree.leaves_of(region);
-        let plan = leaf_nodes(u64::from(leaves));
-        let inner = bits_below(u64::from(visited(leaves)), FIRST_LEAF as u8);
+        let plan = leaf_nodes(&self.tree, u64::from(leaves));
+        let inner = bits_below(self.tree.visited(leaves), first_leaf(&self.tree));
         joined(plan, &inner)
     }
 
@@ -172,7 +199,7 @@ impl<'a, A: Action> Rules<'a, A> {
     pub fn home(&self, r: &Rec) -> u8
         requires { IsRecord r.now }
         ensures node { result ≡ home (fixed_of A.meaning self.now) r.now }
-        ensures in_range { result < NODES }
+        ensures in_range { result < nodes_in self.now.tree.depth }
     {
         self.tree.node_of(&abs_box(r))
     }
@@ -181,9 +208,7 @@ impl<'a, A: Action> Rules<'a, A> {
     pub fn inner_of_two(&self, a: u8, b: u8) -> NodeQueue
         ensures { result.items ≡ inner_of_two (fixed_of A.meaning self.now) a b }
     {
-        // To read a part of the rules is to know what their type keeps.
-        let _tree = &self.tree;
-        inner_among(a, b)
+        inner_among(&self.tree, a, b)
     }
 
     /// The ids of the things of the map whose absolute box touches a region, rising.
@@ -220,16 +245,14 @@ impl<'a, A: Action> Rules<'a, A> {
     /// What a held node's word has beside the seat's number: for a leaf the leaves of the command, for an inner node 1
     /// where it is held to write.
     fn mark(&self, writing: bool, wanted: &[u8], node: u8) -> u64
-        requires nodes { All (λ n. n < NODES) wanted.now }
-        requires few { length wanted.now ≤ NODES }
+        requires nodes { All (λ n. n < nodes_in self.now.tree.depth) wanted.now }
+        requires few { length wanted.now ≤ MOST_NODES }
         ensures mark { result ≡ (let F = fixed_of A.meaning self.now in
             if is_leaf F node then leaf_word F wanted.now else (if writing then 1 else 0)) }
-        ensures small { result < 2 ^ TABLE_LEAVES }
+        ensures small { result ≤ 2 ^ MOST_LEAVES * MOST_NODES }
     {
-        // To read a part of the rules is to know what their type keeps.
-        let _tree = &self.tree;
         if self.is_leaf(node) {
-            leaf_word(wanted)
+            leaf_word(&self.tree, wanted)
         } else if writing {
             1
         } else {
@@ -239,8 +262,8 @@ impl<'a, A: Action> Rules<'a, A> {
 
     /// The node's word while this seat holds it: the seat's number plus 1, and the mark above it.
     pub fn held_word(&self, number: u8, writing: bool, wanted: &[u8], node: u8) -> u64
-        requires nodes { All (λ n. n < NODES) wanted.now }
-        requires few { length wanted.now ≤ NODES }
+        requires nodes { All (λ n. n < nodes_in self.now.tree.depth) wanted.now }
+        requires few { length wanted.now ≤ MOST_NODES }
         ensures { result ≡ (let F = fixed_of A.meaning self.now in
             suc (number + NODE_HOLDERS * (if is_leaf F node then leaf_word F wanted.now else (if writing then 1 else 0)))) }
     {

@@ -2,7 +2,7 @@ use crate::log::SeatLog;
 use crate::point::{NodeQueue, Point, Queues, WordList};
 use crate::queue::Queue;
 use crate::refusals::Refusals;
-use areanode::NODES;
+use areanode::MOST_NODES;
 use arrayvec::ArrayVec;
 use entity_recs::{Cmd, Effect, Entry, IDS, NewState};
 use std::alloc::{AllocError, Global};
@@ -50,7 +50,7 @@ pub struct Seat {
     /// The words of the own record that are loaded again, once all leaves are held.
     pub again: WordList,
     /// The list words that are loaded.
-    pub lists: ArrayVec<ListRead, NODES>,
+    pub lists: ArrayVec<ListRead, MOST_NODES>,
     /// The words of other players that are loaded.
     pub others: ArrayVec<PlayerRead, 64>,
     /// The states of things of the map that are loaded.

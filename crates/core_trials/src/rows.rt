@@ -102,7 +102,7 @@ fn begun_at_the_leaf<'a>(
 ) -> Result<Core<'a, Staying>, Fail>
     ensures { IfOk result (λ c. length c.seats ≡ 2) }
 {
-    let mut core = begun(rt.alloc(), action, &[FIRST, NEAR], &[1, 1], 0)?;
+    let mut core = begun(rt.alloc(), action, 4, &[FIRST, NEAR], &[1, 1], 0)?;
     assert!(rt; make_steps(&mut core, 1, 6));
     assert!(rt; make_steps(&mut core, 0, 7));
     Ok(core)
@@ -151,7 +151,7 @@ fn begun_at_the_middle<'a>(
     ensures seats { IfOk result (λ c. length c.seats ≡ 2) }
     ensures own { IfOk result (λ c. HasOwnCommands c) }
 {
-    let mut core = begun(rt.alloc(), action, &[LOW, MIDDLE_AT_ONE], &[1, 1], 0)?;
+    let mut core = begun(rt.alloc(), action, 4, &[LOW, MIDDLE_AT_ONE], &[1, 1], 0)?;
     assert!(rt; make_steps(&mut core, 0, 7));
     assert!(rt; make_steps(&mut core, 1, 9));
     Ok(core)
@@ -201,7 +201,7 @@ fn expect_at_rest<A: Action>(rt: &impl Abort, core: &Core<A>)
 
 #[test]
 fn far_seats_take_turns(rt: HostRuntime) -> Result<(), Fail> {
-    let mut core = begun(rt.alloc(), &Staying, &[FIRST, FAR_AT_ONE], &[1, 1], 0)?;
+    let mut core = begun(rt.alloc(), &Staying, 4, &[FIRST, FAR_AT_ONE], &[1, 1], 0)?;
     take_turns(&mut core);
     expect_at_rest(&rt, &core);
     expect_in_turn(&rt, &core, FIRST.origin, FAR_AT_ONE.origin);

@@ -2,7 +2,7 @@ ghost use Rattle.std.specs.Prelude.{◌≡◌, ◌<◌, ◌≤◌, ℕ, true, le
 ghost use Rattle.entity_recs.specs.declared.rec.Rec.{Rec};
 ghost use Rattle.entity_recs.specs.Commands.{command_of};
 ghost use Rattle.entity_recs.specs.Actions.{IsCommand};
-ghost use Rattle.areanode.specs.Trees.{TreeView};
+ghost use Rattle.areanode.specs.Trees.{TreeView, IsTreeDepth};
 ghost use Rattle.core_steps.specs.declared.sizes.TheConstants.{MOST_SEATS};
 ghost use Rattle.core_steps.specs.Views.{has};
 ghost use Rattle.core_steps.specs.Stands.{IsStart};
@@ -35,8 +35,10 @@ pub fn command(slot: u8, buttons: u8) -> Cmd
     }
 }
 
-/// The tree over an arena from (-131072, -131072, 0) to (131072, 131072, 65536).
-fn arena_tree() -> Result<Tree, Fail> {
+/// The tree of this depth over an arena from (-131072, -131072, 0) to (131072, 131072, 65536).
+fn arena_tree(depth: u8) -> Result<Tree, Fail>
+    requires { IsTreeDepth depth }
+{
     let lo = Vec3 {
         x: -131_072,
         y: -131_072,
@@ -47,18 +49,20 @@ fn arena_tree() -> Result<Tree, Fail> {
         y: 131_072,
         z: 65_536,
     };
-    Ok(Tree::new(&Aabb::new(lo, hi).ok_or("a box")?))
+    Ok(Tree::new(&Aabb::new(lo, hi).ok_or("a box")?, depth))
 }
 
-/// A core over these records with a seat for each of the first players, to which a command of its player is given. Bit
-/// i of `away` says whether player i asks for the teleporter.
+/// A core over these records and a tree of this depth, with a seat for each of the first players, to which a command of
+/// its player is given. Bit i of `away` says whether player i asks for the teleporter.
 pub fn begun<'a, A: Action>(
     alloc: Global,
     action: &'a A,
+    depth: u8,
     start: &[Rec],
     room: &[u32],
     away: u8,
 ) -> Result<Core<'a, A>, Fail>
+    requires depth { IsTreeDepth depth }
     requires start { (tree : TreeView) → IsStart (fixed_of A.meaning (record
         { action = action.now; tree = tree; start = start.now })) }
     requires live { (slot : ℕ) → slot < length room.now → has (map (λ (r : Rec). r.id) start.now) slot ≡ true }
@@ -68,7 +72,7 @@ pub fn begun<'a, A: Action>(
     ensures seats { IfOk result (λ c. length c.seats ≡ length room.now) }
     ensures own { IfOk result (λ c. HasOwnCommands c) }
 {
-    let tree = arena_tree()?;
+    let tree = arena_tree(depth)?;
     let mut core = Core::new(alloc, action, &tree, start, room)?;
     for slot in 0..room.len() as u8 {
         core.give(slot, command(slot, buttons_of(slot, away)));

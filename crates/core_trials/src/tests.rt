@@ -1,4 +1,5 @@
 ghost use Rattle.std.specs.Prelude.{◌≡◌, ◌<◌, length, IfSome};
+ghost use Rattle.areanode.specs.Trees.{IsTreeDepth};
 
 use crate::plain::{outcome_in, put_effect};
 use crate::players::{FAR, FIRST, MIDDLE, NEAR};
@@ -75,20 +76,39 @@ fn check_places<A: Action>(alloc: Global, core: &Core<A>, away: u8) -> Result<()
     Ok(())
 }
 
-/// Runs one random schedule to its end, and compares its replies with those of the commands in a row.
-fn try_schedule(alloc: Global, number: u64) -> Result<u64, Fail> {
+/// Runs one random schedule over a tree of this depth to its end, and compares its replies with those of the commands in a row.
+fn try_schedule(alloc: Global, depth: u8, number: u64) -> Result<u64, Fail>
+    requires { IsTreeDepth depth }
+{
     let away = ((number >> 40) % 16) as u8;
-    let mut core = begun(alloc, &Errand, &WORLD, &[1, 1, 1, 1], away)?;
+    let mut core = begun(alloc, &Errand, depth, &WORLD, &[1, 1, 1, 1], away)?;
     let number = run_at_random(&mut core, number)?;
     check_places(alloc, &core, away)?;
     Ok(number)
 }
 
-#[test]
-fn random_schedules_reply_as_commands_in_a_row(rt: HostRuntime) -> Result<(), Fail> {
+/// Runs so many random schedules over a tree of this depth.
+fn try_schedules(alloc: Global, depth: u8, count: u32) -> Result<(), Fail>
+    requires { IsTreeDepth depth }
+{
     let mut number = 7;
-    for _ in 0..1_000 {
-        number = try_schedule(rt.alloc(), number)?;
+    for _ in 0..count {
+        number = try_schedule(alloc, depth, number)?;
     }
     Ok(())
+}
+
+#[test]
+fn random_schedules_reply_as_commands_in_a_row(rt: HostRuntime) -> Result<(), Fail> {
+    try_schedules(rt.alloc(), 4, 1_000)
+}
+
+#[test]
+fn random_schedules_over_8_leaves_reply_as_commands_in_a_row(rt: HostRuntime) -> Result<(), Fail> {
+    try_schedules(rt.alloc(), 3, 100)
+}
+
+#[test]
+fn random_schedules_over_32_leaves_reply_as_commands_in_a_row(rt: HostRuntime) -> Result<(), Fail> {
+    try_schedules(rt.alloc(), 5, 100)
 }

@@ -1,5 +1,5 @@
 -- The lines of a recording that are read are counted.
-use Rattle.std.proofs.Common.{◌≡◌, ℕ, ◌+◌, Bool, true, false, List, [], ◌∷◌, length, refl, sym, ap, ◌∙◌, arith}
+use Rattle.std.proofs.Common.{◌≡◌, ℕ, ◌+◌, Bool, true, false, List, [], ◌∷◌, length, refl, ap, ◌∙◌, arith}
 use Rattle.edge_io.specs.WholeLines.{all_but_last}
 use Rattle.demo_lines.specs.Known.{Reading, is_over}
 use Rattle.demo_lines.specs.Recording.{next, after}

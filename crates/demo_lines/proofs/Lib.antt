@@ -25,3 +25,4 @@ pub mod RestLines
 pub mod Limits
 pub mod Continuing
 pub mod Counting
+pub mod Limited

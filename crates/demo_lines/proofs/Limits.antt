@@ -1,16 +1,10 @@
 -- A limit of frames decides which frame is one too many, and nothing else.
-use Rattle.std.proofs.Common.{◌≡◌, ℕ, ◌+◌, ◌≤◌, ◌<◌, Bool, true, false, nat_le, List, [], ◌∷◌, ◌++◌, Option, Some, None, Result, Ok, Err, IfOk, option_map, cond, ◌⊎◌, inl, inr, refl, sym, ap, ◌∙◌, subst, arith}
-use Rattle.std.specs.Option.{option_or}
-use Rattle.std.proofs.lemmas.Bool.Decides.{nat_tests}
-use Rattle.arena_map.specs.declared.map_fault.MapFault.{MapFault}
-use Rattle.demo_lines.specs.declared.stage.Stage.TheVariants.{Refused}
+use Rattle.std.proofs.Common.{◌≡◌, ℕ, false, List, [], ◌∷◌, Option, Some, None, Result, Ok, Err, IfOk, refl, ◌∙◌}
 use Rattle.demo_lines.specs.declared.line.Line.{Line}
 use Rattle.demo_lines.specs.declared.line.Line.TheVariants.{OfMap, Frame, From, End}
 use Rattle.demo_lines.specs.declared.line_fault.LineFault.{LineFault}
-use Rattle.demo_lines.specs.declared.line_fault.LineFault.TheVariants as faults
-use Rattle.demo_lines.specs.Known.{Reading, is_over, is_refused, at_stage}
-use Rattle.demo_lines.specs.Faults.{broken_by_frame}
-use Rattle.demo_lines.specs.Recording.{next, after_line, after_test, after}
+use Rattle.demo_lines.specs.Known.{Reading, is_over}
+use Rattle.demo_lines.specs.Recording.{next, after_test, after}
 use Rattle.demo_lines.specs.Said.{place_fault, after_said}
 use Rattle.demo_lines.proofs.Taking.{IsTaken}
 use Rattle.demo_lines.proofs.MapGiven.{after_any_line}

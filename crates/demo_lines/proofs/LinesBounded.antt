@@ -4,7 +4,7 @@ use Rattle.std.proofs.lemmas.Bool.Decides.{nat_tests}
 use Rattle.demo_lines.specs.declared.line_fault.LineFault.TheVariants as faults
 use Rattle.demo_lines.specs.Known.{Reading, start, is_over}
 use Rattle.demo_lines.specs.Faults.{is_long}
-use Rattle.demo_lines.specs.Recording.{next, after, lines_left}
+use Rattle.demo_lines.specs.Recording.{next, after, lines_left, most_lines}
 use Rattle.demo_lines.specs.Said.{line_said}
 use Rattle.demo_lines.specs.Readings.{IsReading}
 use Rattle.demo_lines.proofs.Ends.{after-over, next-counts, next-long}
@@ -40,7 +40,7 @@ counted r (line ∷ lines) holds going = by (is_over r.stage) refl (λ one. coun
         let rest = more one.holds in
         record { holds = rest.holds; counted = omega (arith, rest.counted, next-counts r line here) }
 
-pub lines_bounded : (lines : List (List ℕ)) → is_over (after start lines).stage ≡ false → length lines < 51301282
+pub lines_bounded : (lines : List (List ℕ)) → is_over (after start lines).stage ≡ false → length lines < most_lines
 lines_bounded lines going =
     let all = counted start lines start-holds going in
     omega (arith, all.counted, all.holds.lines, some_lines_left (after start lines) going)

@@ -12,6 +12,7 @@ use Rattle.arena_geo.specs.declared.vec3.Vec3.{Vec3}
 use Rattle.arena_geo.specs.Bounds.{Bounds}
 use Rattle.arena_geo.specs.Boxes.{overlaps, overlaps_on, is_blocked}
 use Rattle.entity_recs.specs.declared.kind.Kind.TheVariants.{Gem}
+use Rattle.arena_map.specs.declared.limits.TheConstants.{DEFAULT_DEPTH, MOST_ITEMS, MOST_THINGS}
 use Rattle.arena_map.specs.declared.map_line.MapLine.{MapLine}
 use Rattle.arena_map.specs.declared.map_line.MapLine.TheVariants.{Item, Teleport, Goal, Lift}
 use Rattle.arena_map.specs.MapLines.{is_item_line, is_teleport_line, is_goal_line, is_lift_line}
@@ -19,7 +20,8 @@ use Rattle.arena_map.specs.Places.{shaft, shaft_of}
 use Rattle.arena_map.specs.Maps.{MapView, IsSpawn, IsBlock, IsThingInside, IsMap, map_of}
 use Rattle.packet_read.specs.declared.arrival.Arrival.{Arrival}
 use Rattle.demo_lines.specs.declared.line.Line.TheVariants.{OfMap, From, End}
-use Rattle.demo_lines.specs.Spelling.{IsArrival, IsFrame, IsRecording, frame_lines, map_lines, recording_lines, block_line, spawn_line, small_map}
+use Rattle.demo_lines.specs.Spelling.{IsArrival, IsFrame, IsRecording, frame_lines, map_lines, recording_lines, setting_lines, block_line, spawn_line, small_map}
+use Rattle.demo_lines.specs.Recording.{most_lines}
 use Rattle.demo_lines.specs.Laws.{LinesAreBounded}
 use Rattle.demo_lines.proofs.SmallRecording.{small_is_map, small_spawn, small_spawn_is, small_block, small_block_is, small_arrival, small_arrival_is}
 use Rattle.demo_lines.proofs.LinesBounded.{lines_bounded}
@@ -215,38 +217,38 @@ abbrev boxes : List MapLine
 boxes = copies 16 some_teleport ++ (copies 16 some_goal ++ lifts 16)
 
 abbrev most_things : List MapLine
-most_things = copies 144 some_item ++ boxes
+most_things = copies MOST_ITEMS some_item ++ boxes
 
 things-inside : AllByRecursion (IsThingInside small_map.bounds) most_things
 things-inside =
     let P : MapLine → Type 0 = IsThingInside small_map.bounds in
-    each_of_both P (copies 144 some_item) boxes (all-copies P 144 some_item item_inside)
+    each_of_both P (copies MOST_ITEMS some_item) boxes (all-copies P MOST_ITEMS some_item item_inside)
     (each_of_both P (copies 16 some_teleport) (copies 16 some_goal ++ lifts 16) (all-copies P 16 some_teleport teleport_inside)
     (each_of_both P (copies 16 some_goal) (lifts 16) (all-copies P 16 some_goal goal_inside) (all-lifts P 16 lift_inside)))
 
 -- how many of a kind there are, where so many of each part are
 count-things : (p : MapLine → Bool) (i t g l : ℕ) → cond (p some_item) 1 0 ≡ i → cond (p some_teleport) 1 0 ≡ t → cond (p some_goal) 1 0 ≡ g
-    → ((k : ℕ) → cond (p (lift_at k)) 1 0 ≡ l) → count_by p most_things ≡ 144 * i + (16 * t + (16 * g + 16 * l))
+    → ((k : ℕ) → cond (p (lift_at k)) 1 0 ≡ l) → count_by p most_things ≡ MOST_ITEMS * i + (16 * t + (16 * g + 16 * l))
 count-things p i t g l items teleports goals each =
     omega (
       arith,
-      count-both p (copies 144 some_item) boxes,
+      count-both p (copies MOST_ITEMS some_item) boxes,
       count-both p (copies 16 some_teleport) (copies 16 some_goal ++ lifts 16),
       count-both p (copies 16 some_goal) (lifts 16),
-      count-copies p 144 some_item i items,
+      count-copies p MOST_ITEMS some_item i items,
       count-copies p 16 some_teleport t teleports,
       count-copies p 16 some_goal g goals,
       count-lifts p 16 l each,
     )
 
-length-things : length most_things ≡ 192
+length-things : length most_things ≡ MOST_THINGS
 length-things =
     omega (
       arith,
-      length-append (copies 144 some_item) boxes,
+      length-append (copies MOST_ITEMS some_item) boxes,
       length-append (copies 16 some_teleport) (copies 16 some_goal ++ lifts 16),
       length-append (copies 16 some_goal) (lifts 16),
-      length-copies 144 some_item,
+      length-copies MOST_ITEMS some_item,
       length-copies 16 some_teleport,
       length-copies 16 some_goal,
       length-lifts 16,
@@ -254,17 +256,19 @@ length-things =
 
 shafts-of-things : filter_map shaft_of most_things ≡ shafts 16
 shafts-of-things =
-    filter_map-append shaft_of (copies 144 some_item) boxes
-    ∙ ap (λ xs. xs ++ filter_map shaft_of boxes) (no_shafts 144 some_item refl)
+    filter_map-append shaft_of (copies MOST_ITEMS some_item) boxes
+    ∙ ap (λ xs. xs ++ filter_map shaft_of boxes) (no_shafts MOST_ITEMS some_item refl)
     ∙ filter_map-append shaft_of (copies 16 some_teleport) (copies 16 some_goal ++ lifts 16)
     ∙ ap (λ xs. xs ++ filter_map shaft_of (copies 16 some_goal ++ lifts 16)) (no_shafts 16 some_teleport refl)
     ∙ filter_map-append shaft_of (copies 16 some_goal) (lifts 16)
     ∙ ap (λ xs. xs ++ filter_map shaft_of (lifts 16)) (no_shafts 16 some_goal refl)
     ∙ shafts-are 16
 
--- the least arena, and as many blocks, spawns and things as there may be
+-- the least arena, as many blocks, spawns and things as there may be, a line that names the depth and one that lets players
+-- shoot
 longest_map : MapView
-longest_map = map_of small_map.bounds (copies 1024 small_block) (copies 64 small_spawn) most_things
+longest_map =
+    map_of small_map.bounds (copies 1024 small_block) (copies 64 small_spawn) most_things (record { depth = DEFAULT_DEPTH; names_depth = true; shots = true })
 
 -- as many frames as there may be, each with as many packets as it may have, all of them the same
 longest_frames : List (List Arrival)
@@ -290,6 +294,10 @@ longest_is_map = record {
       (All-from_recursion (λ s. is_blocked s (copies 1024 small_block) ≡ false) (shafts 16)
       (all-shafts (λ s. is_blocked s (copies 1024 small_block) ≡ false) 16 (λ k below. free-copies 1024 (shaft_at k) small_block (free_of_block k))));
   shafts_apart = subst (AllPairs (λ one other. overlaps one other ≡ false)) (sym shafts-of-things) (shafts_apart 16);
+  depth = record { least = omega arith; most = omega arith };
+  few_depth_lines = omega arith;
+  default_depth = λ none. refl;
+  shots_line = refl;
 }
 
 frame_is : IsFrame (copies 512 small_arrival)
@@ -307,7 +315,7 @@ longest_is = record {
   spawn = λ h. ready;
 }
 
-longest_lines : length (recording_lines longest_map longest_frames) ≡ 51301282
+longest_lines : length (recording_lines longest_map longest_frames) ≡ most_lines
 unfolding longest_map longest_frames
 longest_lines =
     let frames = flat_map frame_lines longest_frames in
@@ -321,6 +329,7 @@ longest_lines =
       length-flat_map-copies frame_lines 100000 (copies 512 small_arrival),
       length-map (copies 512 small_arrival) From,
       length-copies 512 small_arrival,
+      length-append (setting_lines longest_map) (spawns ++ (blocks ++ things)),
       length-append spawns (blocks ++ things),
       length-append blocks things,
       length-map (copies 64 small_spawn) spawn_line,

@@ -3,7 +3,7 @@ use Rattle.std.proofs.Common.{◌≡◌, ℕ, Bool, true, false, not, List, [], 
 use Rattle.std.specs.Option.{ok_or}
 use Rattle.edge_io.specs.Fields.{◌>>=◌}
 use Rattle.arena_map.specs.declared.map_line.MapLine.{MapLine}
-use Rattle.arena_map.specs.declared.map_line.MapLine.TheVariants.{Arena, Block, Spawn, Item, Teleport, Goal, Lift}
+use Rattle.arena_map.specs.declared.map_line.MapLine.TheVariants.{Arena, Block, Spawn, Item, Teleport, Goal, Lift, Depth, Shots}
 use Rattle.arena_map.specs.declared.map_word.MapWord.{MapWord}
 use Rattle.arena_map.specs.declared.map_word.MapWord.TheVariants as map_words
 use Rattle.arena_map.specs.MapLines.{is_arena}
@@ -55,6 +55,9 @@ within-kind map_words.Lift rest =
     (λ c. then-kind (count_at 1048576 c.2) (λ rise. count_at 2560 rise.1 >>= (λ speed. alone (Lift c.0 c.1 (pos rise.0) (pos speed.0)) speed.1)) false
     (λ rise. then-kind (count_at 2560 rise.1) (λ speed. alone (Lift c.0 c.1 (pos rise.0) (pos speed.0)) speed.1) false
     (λ speed. alone-kind (Lift c.0 c.1 (pos rise.0) (pos speed.0)) speed.1 false refl)))
+within-kind map_words.Depth rest =
+    then-kind _ (λ (d : ℕ × List ℕ). alone (Depth d.0) d.1) false (λ d. alone-kind (Depth d.0) d.1 false refl)
+within-kind map_words.Shots rest = alone-kind Shots rest false refl
 
 arena-here : (stage : Stage) (word : MapWord) (line : MapLine) → is_allowed stage (words.OfMap word) ≡ true → is_arena line ≡ is_arena_word word → IsOfMap stage line
 arena-here Start word line here kind = kind ∙ here

@@ -1,5 +1,5 @@
 -- A recording that was written is read as what was written.
-use Rattle.std.proofs.Common.{◌≡◌, ℕ, ◌+◌, ◌≤◌, ◌<◌, ◌≤ℤ◌, Bool, true, false, not, ◌&&◌, nat_le, nat_lt, List, [], ◌∷◌, ◌++◌, length, fold, map, flat_map, filter_map, count_by, Some, None, option_map, cond, refl, sym, ap, ◌∙◌, subst, arith, ℤ, unsigned_abs, append_assoc, append-nil, length-append, All}
+use Rattle.std.proofs.Common.{◌≡◌, ℕ, ◌+◌, ◌≤◌, ◌<◌, ◌≤ℤ◌, ◌==◌, Bool, true, false, not, ◌&&◌, nat_le, nat_lt, List, [], ◌∷◌, ◌++◌, length, fold, map, flat_map, filter_map, count_by, Some, None, option_map, cond, refl, sym, ap, ◌∙◌, subst, arith, ℤ, unsigned_abs, append_assoc, append-nil, length-append, All}
 use Rattle.std.specs.Option.{option_or}
 use Rattle.std.specs.Result.{result_ok}
 use Rattle.std.specs.List.{AllByRecursion, AllPairs}
@@ -19,12 +19,13 @@ use Rattle.arena_geo.specs.Vectors.{IsNear}
 use Rattle.arena_geo.specs.Bounds.{Bounds}
 use Rattle.arena_geo.specs.Boxes.{contains, contains_on, overlaps, is_blocked}
 use Rattle.arena_geo.proofs.Containment.{three_pass}
+use Rattle.arena_map.specs.declared.limits.TheConstants.{MOST_BLOCKS, MOST_BOXES, MOST_ITEMS, MOST_SPAWNS}
 use Rattle.arena_map.specs.declared.map_line.MapLine.{MapLine}
-use Rattle.arena_map.specs.declared.map_line.MapLine.TheVariants.{Arena, Block, Spawn, Item, Teleport, Goal, Lift}
+use Rattle.arena_map.specs.declared.map_line.MapLine.TheVariants.{Arena, Block, Spawn, Item, Teleport, Goal, Lift, Depth, Shots}
 use Rattle.arena_map.specs.declared.map_fault.MapFault.TheVariants as fault
 use Rattle.arena_map.specs.Places.{is_thick, shaft, shaft_of, keeps_box, keeps_stand, keeps_item, keeps_travel}
 use Rattle.arena_map.specs.MapLines.{is_thing_line, is_arena, is_item_line, is_teleport_line, is_goal_line, is_lift_line}
-use Rattle.arena_map.specs.Maps.{MapView, map_of, IsMap, IsBlock, IsSpawn, IsThingInside, is_ready}
+use Rattle.arena_map.specs.Maps.{MapView, plain_map, IsMap, IsBlock, IsSpawn, IsThingInside, is_ready}
 use Rattle.arena_map.specs.Rules.{with_line, broken_rule, keeps_count, keeps_shafts, meets_shaft}
 use Rattle.arena_map.proofs.Keeping.{KeepsAll}
 use Rattle.packet_read.specs.declared.arrival.Arrival.{Arrival}
@@ -38,7 +39,7 @@ use Rattle.demo_lines.specs.Known.{Reading, start, is_over, is_refused, with_fra
 use Rattle.demo_lines.specs.Recording.{next, after_line, after_test, event_of, events_of_line, after, events_of}
 use Rattle.demo_lines.specs.Said.{place_fault, after_said}
 use Rattle.demo_lines.specs.Bytes.{last_part, lines_of, refused_where}
-use Rattle.demo_lines.specs.Spelling.{line_text, IsArrival, IsLine, arena_line, block_line, spawn_line, map_lines, frame_lines, recording_lines, recording_text, frame_events, recording_events, IsFrame, IsRecording}
+use Rattle.demo_lines.specs.Spelling.{line_text, IsArrival, IsLine, arena_line, block_line, spawn_line, depth_lines_of, shots_lines_of, setting_lines, map_lines, frame_lines, recording_lines, recording_text, frame_events, recording_events, IsFrame, IsRecording}
 use Rattle.demo_lines.specs.InTurn.{AreAccepted, map_in_turn, lines_in_turn, text_in_turn, IsBuilt}
 use Rattle.demo_lines.specs.Laws.{IsTextOf}
 use Rattle.demo_lines.proofs.Machines.{run_of-append, outputs_of-append}
@@ -105,6 +106,10 @@ playing m frames at = record { stage = Playing; map = Some m; limit = 100000; fr
 -- after the end
 abbrev ended : MapView → ℕ × ℕ × ℕ → Reading
 ended m at = record { stage = Ended; map = Some m; limit = 100000; frames = at.0; arrivals = at.1; lines = at.2 }
+
+-- the map with these parts alone, and with its settings
+abbrev filled : MapView → List Bounds → List Vec3 → List MapLine → MapView
+filled full blocks spawns things = record full { blocks = blocks; spawns = spawns; things = things }
 
 -- ---- the map
 
@@ -174,66 +179,130 @@ all-at P xs s ys all =
     let longer : length xs < length (xs ++ s ∷ ys) = omega (arith, length-append xs (s ∷ ys)) in
     rw (get_or-append_seam xs s ys s) at (all (length xs) s longer)
 
-module _ (arena : Bounds) (lo : IsNear 1048576 arena.lo) (hi : IsNear 1048576 arena.hi) where
-  goes_block : (spawns : List Vec3) (done : List Bounds) (b : Bounds) (n : ℕ) → IsBlock arena b → length done < 1024
-      → Goes (mapping (map_of arena done spawns []) n) (block_line b ∷ []) (mapping (map_of arena (done ++ b ∷ []) spawns [])) []
+module _ (full : MapView) (lo : IsNear 1048576 full.bounds.lo) (hi : IsNear 1048576 full.bounds.hi) where
+  goes_block : (spawns : List Vec3) (done : List Bounds) (b : Bounds) (n : ℕ) → IsBlock full.bounds b → length done < MOST_BLOCKS
+      → Goes (mapping (filled full done spawns []) n) (block_line b ∷ []) (mapping (filled full (done ++ b ∷ []) spawns [])) []
   goes_block spawns done b n is few =
-      let m = map_of arena done spawns [] in
+      let m = filled full done spawns [] in
       let keeps : KeepsAll m (Block b.lo b.hi) = record {
-        inside = both (is_thick b.lo b.hi) (contains arena b) is.thick is.inside;
-        count = below (length done) 1024 few;
+        inside = both (is_thick b.lo b.hi) (contains full.bounds b) is.thick is.inside;
+        count = below (length done) MOST_BLOCKS few;
         stand = refl;
         item = refl;
         travel = refl;
         shafts = refl;
       } in
-      goes-line (mapping m n) (block_line b) (mapping (map_of arena (done ++ b ∷ []) spawns [])) (n + 1) (block_near arena b lo hi is) refl refl
+      goes-line (mapping m n) (block_line b) (mapping (filled full (done ++ b ∷ []) spawns [])) (n + 1) (block_near full.bounds b lo hi is) refl refl
       (kept-fault m (Block b.lo b.hi) keeps) refl
 
-  goes_blocks : (spawns : List Vec3) (done blocks : List Bounds) (n : ℕ) → AllByRecursion (IsBlock arena) blocks → length done + length blocks ≤ 1024
-      → Goes (mapping (map_of arena done spawns []) n) (map block_line blocks) (mapping (map_of arena (done ++ blocks) spawns [])) []
+  goes_blocks : (spawns : List Vec3) (done blocks : List Bounds) (n : ℕ) → AllByRecursion (IsBlock full.bounds) blocks → length done + length blocks ≤ MOST_BLOCKS
+      → Goes (mapping (filled full done spawns []) n) (map block_line blocks) (mapping (filled full (done ++ blocks) spawns [])) []
   goes_blocks spawns done [] n each few =
-      let P : List Bounds → Type 0 = λ bs. Goes (mapping (map_of arena done spawns []) n) [] (mapping (map_of arena bs spawns [])) [] in
+      let P : List Bounds → Type 0 = λ bs. Goes (mapping (filled full done spawns []) n) [] (mapping (filled full bs spawns [])) [] in
       subst P (sym (append-nil done)) (record { at = n; each = tt; reached = refl; events = refl })
   goes_blocks spawns done (b ∷ blocks) n each few =
-      let r = mapping (map_of arena done spawns []) n in
-      let P : List Bounds → Type 0 = λ bs. Goes r (map block_line (b ∷ blocks)) (mapping (map_of arena bs spawns [])) [] in
-      let fewer : length (done ++ b ∷ []) + length blocks ≤ 1024 = grind (arith, length-append) in
+      let r = mapping (filled full done spawns []) n in
+      let P : List Bounds → Type 0 = λ bs. Goes r (map block_line (b ∷ blocks)) (mapping (filled full bs spawns [])) [] in
+      let fewer : length (done ++ b ∷ []) + length blocks ≤ MOST_BLOCKS = grind (arith, length-append) in
       subst P (append_assoc done (b ∷ []) blocks)
-      (goes-then r (block_line b ∷ []) (map block_line blocks) (mapping (map_of arena (done ++ b ∷ []) spawns [])) (mapping (map_of arena (done ++ b ∷ [] ++ blocks) spawns [])) [] []
+      (goes-then r (block_line b ∷ []) (map block_line blocks) (mapping (filled full (done ++ b ∷ []) spawns [])) (mapping (filled full (done ++ b ∷ [] ++ blocks) spawns [])) [] []
       (goes_block spawns done b n each.0 (omega arith)) (λ k. goes_blocks spawns (done ++ b ∷ []) blocks k each.1 fewer))
 
-  goes_spawn : (done : List Vec3) (at : Vec3) (n : ℕ) → IsSpawn arena at → length done < 64
-      → Goes (mapping (map_of arena [] done []) n) (spawn_line at ∷ []) (mapping (map_of arena [] (done ++ at ∷ []) [])) []
+  goes_spawn : (done : List Vec3) (at : Vec3) (n : ℕ) → IsSpawn full.bounds at → length done < MOST_SPAWNS
+      → Goes (mapping (filled full [] done []) n) (spawn_line at ∷ []) (mapping (filled full [] (done ++ at ∷ []) [])) []
   goes_spawn done at n is few =
-      let m = map_of arena [] done [] in
-      let keeps : KeepsAll m (Spawn at) = record { inside = refl; count = below (length done) 64 few; stand = is.inside; item = refl; travel = refl; shafts = refl } in
-      goes-line (mapping m n) (spawn_line at) (mapping (map_of arena [] (done ++ at ∷ []) [])) (n + 1) is.near refl refl (kept-fault m (Spawn at) keeps) refl
+      let m = filled full [] done [] in
+      let keeps : KeepsAll m (Spawn at) = record { inside = refl; count = below (length done) MOST_SPAWNS few; stand = is.inside; item = refl; travel = refl; shafts = refl } in
+      goes-line (mapping m n) (spawn_line at) (mapping (filled full [] (done ++ at ∷ []) [])) (n + 1) is.near refl refl (kept-fault m (Spawn at) keeps) refl
 
-  goes_spawns : (done spawns : List Vec3) (n : ℕ) → AllByRecursion (IsSpawn arena) spawns → length done + length spawns ≤ 64
-      → Goes (mapping (map_of arena [] done []) n) (map spawn_line spawns) (mapping (map_of arena [] (done ++ spawns) [])) []
+  goes_spawns : (done spawns : List Vec3) (n : ℕ) → AllByRecursion (IsSpawn full.bounds) spawns → length done + length spawns ≤ MOST_SPAWNS
+      → Goes (mapping (filled full [] done []) n) (map spawn_line spawns) (mapping (filled full [] (done ++ spawns) [])) []
   goes_spawns done [] n each few =
-      let P : List Vec3 → Type 0 = λ ss. Goes (mapping (map_of arena [] done []) n) [] (mapping (map_of arena [] ss [])) [] in
+      let P : List Vec3 → Type 0 = λ ss. Goes (mapping (filled full [] done []) n) [] (mapping (filled full [] ss [])) [] in
       subst P (sym (append-nil done)) (record { at = n; each = tt; reached = refl; events = refl })
   goes_spawns done (at ∷ spawns) n each few =
-      let r = mapping (map_of arena [] done []) n in
-      let P : List Vec3 → Type 0 = λ ss. Goes r (map spawn_line (at ∷ spawns)) (mapping (map_of arena [] ss [])) [] in
-      let fewer : length (done ++ at ∷ []) + length spawns ≤ 64 = grind (arith, length-append) in
+      let r = mapping (filled full [] done []) n in
+      let P : List Vec3 → Type 0 = λ ss. Goes r (map spawn_line (at ∷ spawns)) (mapping (filled full [] ss [])) [] in
+      let fewer : length (done ++ at ∷ []) + length spawns ≤ MOST_SPAWNS = grind (arith, length-append) in
       subst P (append_assoc done (at ∷ []) spawns)
-      (goes-then r (spawn_line at ∷ []) (map spawn_line spawns) (mapping (map_of arena [] (done ++ at ∷ []) [])) (mapping (map_of arena [] (done ++ at ∷ [] ++ spawns) [])) [] []
+      (goes-then r (spawn_line at ∷ []) (map spawn_line spawns) (mapping (filled full [] (done ++ at ∷ []) [])) (mapping (filled full [] (done ++ at ∷ [] ++ spawns) [])) [] []
       (goes_spawn done at n each.0 (omega arith)) (λ k. goes_spawns (done ++ at ∷ []) spawns k each.1 fewer))
+
+-- ---- the settings
+
+-- the map of an arena with these settings and nothing in it
+abbrev set : Bounds → ℕ → ℕ → Bool → ℕ → MapView
+set arena depth depth_lines shots shots_lines =
+    record (plain_map arena [] [] []) { depth = depth; depth_lines = depth_lines; shots = shots; shots_lines = shots_lines }
+
+-- with the depth alone
+abbrev deep : MapView → MapView
+deep full = set full.bounds full.depth full.depth_lines false 0
+
+no-line : (n : ℕ) → (n == 0) ≡ true → n ≡ 0
+no-line n h = grind (arith, nat_tests)
+
+one-line : (n : ℕ) → n ≤ 1 → (n == 0) ≡ false → 1 ≡ n
+one-line n few h = grind (arith, nat_tests)
+
+goes_depth : (full : MapView) (n : ℕ) → IsMap full
+    → Goes (mapping (plain_map full.bounds [] [] []) n) (map OfMap (depth_lines_of full)) (mapping (deep full)) []
+goes_depth full n is = by (full.depth_lines == 0) refl
+  where
+    by : (none : Bool) → (full.depth_lines == 0) ≡ none
+        → Goes (mapping (plain_map full.bounds [] [] []) n) (map OfMap (cond none [] (Depth full.depth ∷ []))) (mapping (deep full)) []
+    by true h =
+        let none = no-line full.depth_lines h in
+        let P : MapView → Type 0 = λ m. Goes (mapping (plain_map full.bounds [] [] []) n) [] (mapping m) [] in
+        let same : plain_map full.bounds [] [] [] ≡ deep full =
+        ap (λ d. set full.bounds d 0 false 0) (sym (is.default_depth none)) ∙ ap (λ l. set full.bounds full.depth l false 0) (sym none) in
+        subst P same (record { at = n; each = tt; reached = refl; events = refl })
+    by false h =
+        let bare = plain_map full.bounds [] [] [] in
+        let line = Depth full.depth in
+        let keeps : KeepsAll bare line = record { inside = refl; count = refl; stand = refl; item = refl; travel = refl; shafts = refl } in
+        goes-line (mapping bare n) (OfMap line) (mapping (deep full)) (n + 1) is.depth refl refl (kept-fault bare line keeps)
+        (ap (λ l. mapping (set full.bounds full.depth l false 0) (n + 1)) (one-line full.depth_lines is.few_depth_lines h))
+
+goes_shots : (full : MapView) (n : ℕ) → IsMap full
+    → Goes (mapping (deep full) n) (map OfMap (shots_lines_of full)) (mapping (filled full [] [] [])) []
+goes_shots full n is = by full.shots refl
+  where
+    settings_are : (shots : Bool) → full.shots ≡ shots
+        → set full.bounds full.depth full.depth_lines shots (cond shots 1 0) ≡ filled full [] [] []
+    settings_are shots h =
+        ap (λ b. set full.bounds full.depth full.depth_lines b (cond b 1 0)) (sym h)
+        ∙ ap (λ l. set full.bounds full.depth full.depth_lines full.shots l) (sym is.shots_line)
+
+    by : (shots : Bool) → full.shots ≡ shots
+        → Goes (mapping (deep full) n) (map OfMap (cond shots (Shots ∷ []) [])) (mapping (filled full [] [] [])) []
+    by true h =
+        let keeps : KeepsAll (deep full) Shots = record { inside = refl; count = refl; stand = refl; item = refl; travel = refl; shafts = refl } in
+        goes-line (mapping (deep full) n) (OfMap Shots) (mapping (filled full [] [] [])) (n + 1) tt refl refl (kept-fault (deep full) Shots keeps)
+        (ap (λ m. mapping m (n + 1)) (settings_are true h))
+    by false h =
+        let P : MapView → Type 0 = λ m. Goes (mapping (deep full) n) [] (mapping m) [] in
+        subst P (settings_are false h) (record { at = n; each = tt; reached = refl; events = refl })
+
+goes_settings : (full : MapView) (n : ℕ) → IsMap full
+    → Goes (mapping (plain_map full.bounds [] [] []) n) (setting_lines full) (mapping (filled full [] [] [])) []
+goes_settings full n is =
+    goes-then (mapping (plain_map full.bounds [] [] []) n) (map OfMap (depth_lines_of full)) (map OfMap (shots_lines_of full)) (mapping (deep full))
+    (mapping (filled full [] [] [])) [] [] (goes_depth full n is) (λ k. goes_shots full k is)
 
 -- ---- the things
 
-added-thing : (arena : Bounds) (blocks : List Bounds) (spawns : List Vec3) (done : List MapLine) (line : MapLine) → is_thing_line line ≡ true
-    → with_line (map_of arena blocks spawns done) line ≡ map_of arena blocks spawns (done ++ line ∷ [])
-added-thing arena blocks spawns done (Arena lo hi) thing = cc
-added-thing arena blocks spawns done (Block lo hi) thing = cc
-added-thing arena blocks spawns done (Spawn at) thing = cc
-added-thing arena blocks spawns done (Item at kind delay) thing = refl
-added-thing arena blocks spawns done (Teleport lo hi dest) thing = refl
-added-thing arena blocks spawns done (Goal lo hi) thing = refl
-added-thing arena blocks spawns done (Lift lo hi rise speed) thing = refl
+added-thing : (full : MapView) (done : List MapLine) (line : MapLine) → is_thing_line line ≡ true
+    → with_line (filled full full.blocks full.spawns done) line ≡ filled full full.blocks full.spawns (done ++ line ∷ [])
+added-thing full done (Arena lo hi) thing = cc
+added-thing full done (Block lo hi) thing = cc
+added-thing full done (Spawn at) thing = cc
+added-thing full done (Item at kind delay) thing = refl
+added-thing full done (Teleport lo hi dest) thing = refl
+added-thing full done (Goal lo hi) thing = refl
+added-thing full done (Lift lo hi rise speed) thing = refl
+added-thing full done (Depth depth) thing = cc
+added-thing full done Shots thing = cc
 
 thing-added : (line : MapLine) → is_thing_line line ≡ true → not (is_arena line) ≡ true
 thing-added (Arena lo hi) thing = cc
@@ -243,44 +312,50 @@ thing-added (Item at kind delay) thing = refl
 thing-added (Teleport lo hi dest) thing = refl
 thing-added (Goal lo hi) thing = refl
 thing-added (Lift lo hi rise speed) thing = refl
+thing-added (Depth depth) thing = cc
+thing-added Shots thing = cc
 
-module _ (arena : Bounds) (blocks : List Bounds) (spawns : List Vec3) (all : List MapLine) (is : IsMap (map_of arena blocks spawns all)) where
-  thing-count : (done rest : List MapLine) (line : MapLine) → done ++ line ∷ rest ≡ all → is_thing_line line ≡ true → keeps_count (map_of arena blocks spawns done) line ≡ true
+module _ (full : MapView) (is : IsMap full) where
+  thing-count : (done rest : List MapLine) (line : MapLine) → done ++ line ∷ rest ≡ full.things → is_thing_line line ≡ true → keeps_count (filled full full.blocks full.spawns done) line ≡ true
   thing-count done rest (Arena lo hi) whole thing = cc
   thing-count done rest (Block lo hi) whole thing = cc
   thing-count done rest (Spawn at) whole thing = cc
+  thing-count done rest (Depth depth) whole thing = cc
+  thing-count done rest Shots whole thing = cc
   thing-count done rest (Item at kind delay) whole thing =
-      below (count_by is_item_line done) 144 (omega (arith, count-split is_item_line done rest (Item at kind delay), ap (count_by is_item_line) whole, is.few_items))
+      below (count_by is_item_line done) MOST_ITEMS (omega (arith, count-split is_item_line done rest (Item at kind delay), ap (count_by is_item_line) whole, is.few_items))
   thing-count done rest (Teleport lo hi dest) whole thing =
-      below (count_by is_teleport_line done) 16 (omega (arith, count-split is_teleport_line done rest (Teleport lo hi dest), ap (count_by is_teleport_line) whole, is.few_teleporters))
+      below (count_by is_teleport_line done) MOST_BOXES (omega (arith, count-split is_teleport_line done rest (Teleport lo hi dest), ap (count_by is_teleport_line) whole, is.few_teleporters))
   thing-count done rest (Goal lo hi) whole thing =
-      below (count_by is_goal_line done) 16 (omega (arith, count-split is_goal_line done rest (Goal lo hi), ap (count_by is_goal_line) whole, is.few_goals))
+      below (count_by is_goal_line done) MOST_BOXES (omega (arith, count-split is_goal_line done rest (Goal lo hi), ap (count_by is_goal_line) whole, is.few_goals))
   thing-count done rest (Lift lo hi rise speed) whole thing =
-      below (count_by is_lift_line done) 16 (omega (arith, count-split is_lift_line done rest (Lift lo hi rise speed), ap (count_by is_lift_line) whole, is.few_lifts))
+      below (count_by is_lift_line done) MOST_BOXES (omega (arith, count-split is_lift_line done rest (Lift lo hi rise speed), ap (count_by is_lift_line) whole, is.few_lifts))
 
-  lift-shafts : (done rest : List MapLine) (s : Bounds) → filter_map shaft_of all ≡ filter_map shaft_of done ++ s ∷ filter_map shaft_of rest
-      → (not (is_blocked s blocks) && not (meets_shaft (filter_map shaft_of done) s)) ≡ true
+  lift-shafts : (done rest : List MapLine) (s : Bounds) → filter_map shaft_of full.things ≡ filter_map shaft_of done ++ s ∷ filter_map shaft_of rest
+      → (not (is_blocked s full.blocks) && not (meets_shaft (filter_map shaft_of done) s)) ≡ true
   lift-shafts done rest s split =
-      let clear = all-at (λ own. is_blocked own blocks ≡ false) (filter_map shaft_of done) s (filter_map shaft_of rest)
-      (subst (All (λ own. is_blocked own blocks ≡ false)) split is.clear_shafts) in
+      let clear = all-at (λ own. is_blocked own full.blocks ≡ false) (filter_map shaft_of done) s (filter_map shaft_of rest)
+      (subst (All (λ own. is_blocked own full.blocks ≡ false)) split is.clear_shafts) in
       let apart = pairs-before (λ one other. overlaps one other ≡ false) (filter_map shaft_of done) s (filter_map shaft_of rest)
       (subst (AllPairs (λ one other. overlaps one other ≡ false)) split is.shafts_apart) in
       both _ _ (ap not clear) (ap not (list_any_none (λ own. overlaps own s) (filter_map shaft_of done) apart))
 
-  thing-shafts : (done rest : List MapLine) (line : MapLine) → done ++ line ∷ rest ≡ all → is_thing_line line ≡ true → keeps_shafts (map_of arena blocks spawns done) line ≡ true
+  thing-shafts : (done rest : List MapLine) (line : MapLine) → done ++ line ∷ rest ≡ full.things → is_thing_line line ≡ true → keeps_shafts (filled full full.blocks full.spawns done) line ≡ true
   thing-shafts done rest (Arena lo hi) whole thing = cc
   thing-shafts done rest (Block lo hi) whole thing = cc
   thing-shafts done rest (Spawn at) whole thing = cc
+  thing-shafts done rest (Depth depth) whole thing = cc
+  thing-shafts done rest Shots whole thing = cc
   thing-shafts done rest (Item at kind delay) whole thing = refl
   thing-shafts done rest (Teleport lo hi dest) whole thing = refl
   thing-shafts done rest (Goal lo hi) whole thing = refl
   thing-shafts done rest (Lift lo hi rise speed) whole thing =
       lift-shafts done rest (shaft lo hi rise) (ap (filter_map shaft_of) (sym whole) ∙ filter_map-append shaft_of done (Lift lo hi rise speed ∷ rest))
 
-  goes_thing : (done rest : List MapLine) (line : MapLine) (n : ℕ) → done ++ line ∷ rest ≡ all → IsThingInside arena line
-      → Goes (mapping (map_of arena blocks spawns done) n) (OfMap line ∷ []) (mapping (map_of arena blocks spawns (done ++ line ∷ []))) []
+  goes_thing : (done rest : List MapLine) (line : MapLine) (n : ℕ) → done ++ line ∷ rest ≡ full.things → IsThingInside full.bounds line
+      → Goes (mapping (filled full full.blocks full.spawns done) n) (OfMap line ∷ []) (mapping (filled full full.blocks full.spawns (done ++ line ∷ []))) []
   goes_thing done rest line n whole inside =
-      let m = map_of arena blocks spawns done in
+      let m = filled full full.blocks full.spawns done in
       let keeps : KeepsAll m line = record {
         inside = inside.inside;
         count = thing-count done rest line whole inside.thing;
@@ -289,22 +364,22 @@ module _ (arena : Bounds) (blocks : List Bounds) (spawns : List Vec3) (all : Lis
         travel = inside.travel;
         shafts = thing-shafts done rest line whole inside.thing;
       } in
-      goes-line (mapping m n) (OfMap line) (mapping (map_of arena blocks spawns (done ++ line ∷ []))) (n + 1) inside.limits refl (thing-added line inside.thing)
-      (kept-fault m line keeps) (ap (λ (x : MapView). mapping x (n + 1)) (added-thing arena blocks spawns done line inside.thing))
+      goes-line (mapping m n) (OfMap line) (mapping (filled full full.blocks full.spawns (done ++ line ∷ []))) (n + 1) inside.limits refl (thing-added line inside.thing)
+      (kept-fault m line keeps) (ap (λ (x : MapView). mapping x (n + 1)) (added-thing full done line inside.thing))
 
-  goes_things : (done things : List MapLine) (n : ℕ) → done ++ things ≡ all → AllByRecursion (IsThingInside arena) things
-      → Goes (mapping (map_of arena blocks spawns done) n) (map OfMap things) (mapping (map_of arena blocks spawns all)) []
+  goes_things : (done things : List MapLine) (n : ℕ) → done ++ things ≡ full.things → AllByRecursion (IsThingInside full.bounds) things
+      → Goes (mapping (filled full full.blocks full.spawns done) n) (map OfMap things) (mapping (filled full full.blocks full.spawns full.things)) []
   goes_things done [] n whole each =
-      let P : List MapLine → Type 0 = λ ts. Goes (mapping (map_of arena blocks spawns done) n) [] (mapping (map_of arena blocks spawns ts)) [] in
+      let P : List MapLine → Type 0 = λ ts. Goes (mapping (filled full full.blocks full.spawns done) n) [] (mapping (filled full full.blocks full.spawns ts)) [] in
       subst P (sym (append-nil done) ∙ whole) (record { at = n; each = tt; reached = refl; events = refl })
   goes_things done (line ∷ things) n whole each =
-      goes-then (mapping (map_of arena blocks spawns done) n) (OfMap line ∷ []) (map OfMap things) (mapping (map_of arena blocks spawns (done ++ line ∷ [])))
-      (mapping (map_of arena blocks spawns all)) [] [] (goes_thing done things line n whole each.0)
+      goes-then (mapping (filled full full.blocks full.spawns done) n) (OfMap line ∷ []) (map OfMap things) (mapping (filled full full.blocks full.spawns (done ++ line ∷ [])))
+      (mapping (filled full full.blocks full.spawns full.things)) [] [] (goes_thing done things line n whole each.0)
       (λ k. goes_things (done ++ line ∷ []) things k (append_assoc done (line ∷ []) things ∙ whole) each.1)
 
-goes_arena : (m : MapView) → IsMap m → Goes start (arena_line m.bounds ∷ []) (mapping (map_of m.bounds [] [] [])) []
+goes_arena : (m : MapView) → IsMap m → Goes start (arena_line m.bounds ∷ []) (mapping (plain_map m.bounds [] [] [])) []
 goes_arena m is =
-    goes-line start (arena_line m.bounds) (mapping (map_of m.bounds [] [] [])) 1 (is.lo, is.hi) refl refl (arena_passes _ is.wide) refl
+    goes-line start (arena_line m.bounds) (mapping (plain_map m.bounds [] [] [])) 1 (is.lo, is.hi) refl refl (arena_passes _ is.wide) refl
 
 -- ---- the frames
 
@@ -368,14 +443,17 @@ goes_tail m (x ∷ xs) n each few spawn =
 goes_map : (m : MapView) → IsMap m → Goes start (map_lines m) (mapping m) []
 goes_map m is =
     let arena = m.bounds in
+    let spawns = map spawn_line m.spawns in
     let blocks = map block_line m.blocks in
     let things = map OfMap m.things in
-    goes-then start (arena_line arena ∷ []) (map spawn_line m.spawns ++ (blocks ++ things)) (mapping (map_of arena [] [] [])) (mapping m) [] [] (goes_arena m is)
-    (λ n. goes-then (mapping (map_of arena [] [] []) n) (map spawn_line m.spawns) (blocks ++ things) (mapping (map_of arena [] m.spawns [])) (mapping m) [] []
-    (goes_spawns arena is.lo is.hi [] m.spawns n (recursion_from_All (IsSpawn arena) m.spawns is.spawns) (omega (arith, is.few_spawns)))
-    (λ k. goes-then (mapping (map_of arena [] m.spawns []) k) blocks things (mapping (map_of arena m.blocks m.spawns [])) (mapping m) [] []
-    (goes_blocks arena is.lo is.hi m.spawns [] m.blocks k (recursion_from_All (IsBlock arena) m.blocks is.blocks) (omega (arith, is.few_blocks)))
-    (λ j. goes_things arena m.blocks m.spawns m.things is [] m.things j refl (recursion_from_All (IsThingInside arena) m.things is.things))))
+    goes-then start (arena_line arena ∷ []) (setting_lines m ++ (spawns ++ (blocks ++ things))) (mapping (plain_map arena [] [] [])) (mapping m) [] [] (goes_arena m is)
+    (λ n. goes-then (mapping (plain_map arena [] [] []) n) (setting_lines m) (spawns ++ (blocks ++ things)) (mapping (filled m [] [] [])) (mapping m) [] []
+    (goes_settings m n is)
+    (λ i. goes-then (mapping (filled m [] [] []) i) spawns (blocks ++ things) (mapping (filled m [] m.spawns [])) (mapping m) [] []
+    (goes_spawns m is.lo is.hi [] m.spawns i (recursion_from_All (IsSpawn arena) m.spawns is.spawns) (omega (arith, is.few_spawns)))
+    (λ k. goes-then (mapping (filled m [] m.spawns []) k) blocks things (mapping (filled m m.blocks m.spawns [])) (mapping m) [] []
+    (goes_blocks m is.lo is.hi m.spawns [] m.blocks k (recursion_from_All (IsBlock arena) m.blocks is.blocks) (omega (arith, is.few_blocks)))
+    (λ j. goes_things m is [] m.things j refl (recursion_from_All (IsThingInside arena) m.things is.things)))))
 
 goes_recording : (m : MapView) (frames : List (List Arrival)) → IsRecording m frames → Goes start (recording_lines m frames) (ended m) (recording_events frames)
 goes_recording m frames is =
@@ -410,7 +488,7 @@ goes_accepted m (line ∷ more) n accepted =
 goes_in_turn : (arena : Bounds) (added : List MapLine) (frames : List (List Arrival)) → IsBuilt arena added frames
     → Goes start (lines_in_turn arena added frames) (ended (map_in_turn arena added)) (recording_events frames)
 goes_in_turn arena added frames is =
-    let bare = map_of arena [] [] [] in
+    let bare = plain_map arena [] [] [] in
     let m = map_in_turn arena added in
     goes-then start (arena_line arena ∷ []) (map OfMap added ++ tail_lines frames) (mapping bare) (ended m) [] (recording_events frames)
     (goes-line start (arena_line arena) (mapping bare) 1 is.near refl refl (arena_passes _ is.wide) refl)

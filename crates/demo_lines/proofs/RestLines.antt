@@ -1,13 +1,12 @@
 -- Parts of a line that follows a recording, read one after another.
-use Rattle.std.proofs.Common.{◌≡◌, ℕ, ◌+◌, ◌≤◌, ◌<◌, ◌==◌, true, false, List, [], ◌∷◌, ◌++◌, length, Option, Some, None, IfSome, refl, sym, ap, ◌∙◌, subst, append_assoc, length-append, arith}
-use Rattle.std.specs.Prelude.{All}
-use Rattle.std.specs.List.{AllByRecursion}
+use Rattle.std.proofs.Common.{◌≡◌, ℕ, ◌≤◌, ◌<◌, ◌==◌, true, false, List, [], ◌∷◌, ◌++◌, length, Option, Some, None, IfSome, sym, ap, ◌∙◌, subst, append_assoc, length-append, arith}
 use Rattle.std.specs.Io.KnownBytes.{Consumes, IsAtEnd, prepend_known}
 use Rattle.std.proofs.KnownBytes.{Consumes-trans, Consumes-nil}
 use Rattle.std.proofs.lemmas.List.Elements.{All-nil, All-append, All-head, All-tail}
 use Rattle.edge_io.specs.Lines.{HasNoLineFeed, GivesLine, GivesLongFront, GivesLastPart, OnWhole, OnLong, OnEnded}
 use Rattle.edge_io.specs.declared.line_reader.NextLine.{NextLine}
 use Rattle.edge_io.specs.declared.line_reader.NextLine.TheVariants.{Whole, Long, Ended}
+use Rattle.demo_lines.specs.declared.rest.TheConstants.{LONGEST_REST}
 use Rattle.demo_lines.specs.Rest.{GivesRestLine, HasNoRestLine}
 
 -- the front of a line was taken off what was ahead
@@ -29,7 +28,7 @@ longer_front a b c front part is consumed one_line = record {
 }
 
 -- the last part, and the line feed
-pub line_of : (a b c : Option (List ℕ)) (front part : List ℕ) → TakesFront a b front → Consumes b c (part ++ 10 ∷ []) → HasNoLineFeed part → length (front ++ part) ≤ 16500
+pub line_of : (a b c : Option (List ℕ)) (front part : List ℕ) → TakesFront a b front → Consumes b c (part ++ 10 ∷ []) → HasNoLineFeed part → length (front ++ part) ≤ LONGEST_REST
     → GivesRestLine a c (front ++ part)
 line_of a b c front part is consumed one_line fits = record {
   consumed = subst (Consumes a c) (sym (append_assoc front part (10 ∷ []))) (Consumes-trans a b c front (part ++ 10 ∷ []) is.consumed consumed);
@@ -51,12 +50,12 @@ front_within (b ∷ front) rest (x ∷ line) after one_line is =
     omega (arith, shorter)
 
 -- the line is too long
-pub too_long : (a b : Option (List ℕ)) (front : List ℕ) → TakesFront a b front → 16500 < length front → IfSome a HasNoRestLine
+pub too_long : (a b : Option (List ℕ)) (front : List ℕ) → TakesFront a b front → LONGEST_REST < length front → IfSome a HasNoRestLine
 too_long None b front is long = tt
 too_long (Some bytes) None front is long = absurd is.consumed
 too_long (Some bytes) (Some left) front is long = λ line after one_line fits same.
     let within = front_within front left line after is.one_line (sym is.consumed ∙ same) in
-    let never : 16500 < 16500 = omega (arith, long, fits, within) in
+    let never : LONGEST_REST < LONGEST_REST = omega (arith, long, fits, within) in
     absurd (omega (arith, never))
 
 longer-than : (line after : List ℕ) → length line < length (line ++ 10 ∷ after)
@@ -92,6 +91,6 @@ part_taken Long a b part pending whole long ended = record { left = b; consumed 
 part_taken Ended a b part pending whole long ended = record { left = b; consumed = ended.front.consumed; one_line = ended.front.one_line }
 
 -- with the part the line is too long
-pub part_too_long : (a b : Option (List ℕ)) (front part : List ℕ) → TakesFront a b front → TakesPart b part → 16500 < length (front ++ part) → IfSome a HasNoRestLine
+pub part_too_long : (a b : Option (List ℕ)) (front part : List ℕ) → TakesFront a b front → TakesPart b part → LONGEST_REST < length (front ++ part) → IfSome a HasNoRestLine
 part_too_long a b front part is takes long =
     too_long a takes.left (front ++ part) (longer_front a b takes.left front part is takes.consumed takes.one_line) long

@@ -79,6 +79,10 @@ small_is_map = record {
   few_lifts = omega arith;
   clear_shafts = All-nil (λ shaft. is_blocked shaft small_map.blocks ≡ false);
   shafts_apart = λ i j d below within. absurd (omega arith);
+  depth = record { least = omega arith; most = omega arith };
+  few_depth_lines = omega arith;
+  default_depth = λ none. absurd (omega (arith, none));
+  shots_line = refl;
 }
 
 -- ---- its frames
@@ -109,7 +113,7 @@ small_is = record {
   spawn = λ h. refl;
 }
 
--- its map's lines, the block first
+-- its map's lines, the block first and the depth last
 block_near : IsNear 1048576 small_block.lo × IsNear 1048576 small_block.hi
 block_near = (record { x = omega arith; y = omega arith; z = omega arith }, record { x = omega arith; y = omega arith; z = omega arith })
 
@@ -119,7 +123,16 @@ small_built = record {
   wide = refl;
   accepted = (
     record { limits = block_near; added = refl; rules = refl },
-    (record { limits = small_spawn_is.near; added = refl; rules = refl }, (record { limits = other_spawn_is.near; added = refl; rules = refl }, tt)),
+    (
+      record { limits = small_spawn_is.near; added = refl; rules = refl },
+      (
+        record { limits = tt; added = refl; rules = refl },
+        (
+          record { limits = other_spawn_is.near; added = refl; rules = refl },
+          (record { limits = record { least = omega arith; most = omega arith }; added = refl; rules = refl }, tt),
+        ),
+      ),
+    ),
   );
   few = small_is.few;
   each = small_is.each;

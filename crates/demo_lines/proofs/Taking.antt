@@ -1,11 +1,12 @@
 -- What is known after a line holds again, and fewer lines can follow.
-use Rattle.std.proofs.Common.{◌≡◌, ℕ, ◌+◌, ◌≤◌, ◌<◌, Bool, true, false, not, nat_le, nat_lt, List, [], ◌∷◌, ◌++◌, length, count_by, Option, Some, None, Result, Ok, Err, IfOk, OnOk, OnErr, IfSome, IsSome, option_map, cond, refl, sym, ap, ◌∙◌, subst, arith, length-append}
+use Rattle.std.proofs.Common.{◌≡◌, ℕ, ◌+◌, ◌≤◌, ◌<◌, ◌==◌, Bool, true, false, not, nat_le, nat_lt, List, [], ◌∷◌, ◌++◌, length, count_by, Option, Some, None, Result, Ok, Err, IfOk, OnOk, OnErr, IfSome, IsSome, option_map, cond, refl, sym, ap, ◌∙◌, subst, arith, length-append}
 use Rattle.std.specs.Option.{option_or}
 use Rattle.std.proofs.lemmas.Bool.Decides.{nat_tests}
 use Rattle.std.proofs.lemmas.List.Sums.{sum_by-append, sum_by-cons}
 use Rattle.arena_geo.specs.Bounds.{bounds}
+use Rattle.arena_map.specs.declared.limits.TheConstants.{MOST_BLOCKS, MOST_BOXES, MOST_ITEMS, MOST_SPAWNS}
 use Rattle.arena_map.specs.declared.map_line.MapLine.{MapLine}
-use Rattle.arena_map.specs.declared.map_line.MapLine.TheVariants.{Arena, Block, Spawn, Item, Teleport, Goal, Lift}
+use Rattle.arena_map.specs.declared.map_line.MapLine.TheVariants.{Arena, Block, Spawn, Item, Teleport, Goal, Lift, Depth, Shots}
 use Rattle.arena_map.specs.declared.map_fault.MapFault.{MapFault}
 use Rattle.arena_map.specs.declared.map_fault.MapFault.TheVariants as rules
 use Rattle.arena_map.specs.Maps.{MapView, is_ready}
@@ -22,7 +23,7 @@ use Rattle.demo_lines.specs.declared.line_fault.LineFault.TheVariants as faults
 use Rattle.demo_lines.specs.Known.{Reading, is_over, is_map_whole, at_stage, with_map}
 use Rattle.demo_lines.specs.Words.{is_allowed}
 use Rattle.demo_lines.specs.Faults.{broken_by_line, broken_by_frame, has_spawn}
-use Rattle.demo_lines.specs.Recording.{after_line, after_test, with_map_line, map_lines_left, left_at, lines_left}
+use Rattle.demo_lines.specs.Recording.{after_line, after_test, with_map_line, map_lines_left, left_at, lines_left, most_lines}
 use Rattle.demo_lines.specs.Said.{place_fault, after_said}
 use Rattle.demo_lines.specs.Readings.{IsReading, IsOfMap, IsPlaced, HasMap}
 
@@ -60,15 +61,18 @@ kept-count false count rest h = cc
 room : (n limit : ℕ) → nat_lt n limit ≡ true → n < limit
 room n limit h = grind (arith, nat_tests)
 
+none-yet : (n : ℕ) → (n == 0) ≡ true → n ≡ 0
+none-yet n h = grind (arith, nat_tests)
+
 added-fewer : (map : MapView) (line : MapLine) → is_added line ≡ true → keeps_count map line ≡ true → map_lines_left (Some (with_line map line)) < map_lines_left (Some map)
 added-fewer map (Arena lo hi) added count = cc
-added-fewer map (Block lo hi) added count = omega (arith, room (length map.blocks) 1024 count, length-append map.blocks (bounds lo hi ∷ []))
-added-fewer map (Spawn at) added count = omega (arith, room (length map.spawns) 64 count, length-append map.spawns (at ∷ []))
+added-fewer map (Block lo hi) added count = omega (arith, room (length map.blocks) MOST_BLOCKS count, length-append map.blocks (bounds lo hi ∷ []))
+added-fewer map (Spawn at) added count = omega (arith, room (length map.spawns) MOST_SPAWNS count, length-append map.spawns (at ∷ []))
 added-fewer map (Item at kind delay) added count =
     let line = Item at kind delay in
     omega (
       arith,
-      room (count_by is_item_line map.things) 144 count,
+      room (count_by is_item_line map.things) MOST_ITEMS count,
       count-push is_item_line map.things line,
       count-push is_teleport_line map.things line,
       count-push is_goal_line map.things line,
@@ -78,7 +82,7 @@ added-fewer map (Teleport lo hi dest) added count =
     let line = Teleport lo hi dest in
     omega (
       arith,
-      room (count_by is_teleport_line map.things) 16 count,
+      room (count_by is_teleport_line map.things) MOST_BOXES count,
       count-push is_item_line map.things line,
       count-push is_teleport_line map.things line,
       count-push is_goal_line map.things line,
@@ -88,7 +92,7 @@ added-fewer map (Goal lo hi) added count =
     let line = Goal lo hi in
     omega (
       arith,
-      room (count_by is_goal_line map.things) 16 count,
+      room (count_by is_goal_line map.things) MOST_BOXES count,
       count-push is_item_line map.things line,
       count-push is_teleport_line map.things line,
       count-push is_goal_line map.things line,
@@ -98,14 +102,16 @@ added-fewer map (Lift lo hi rise speed) added count =
     let line = Lift lo hi rise speed in
     omega (
       arith,
-      room (count_by is_lift_line map.things) 16 count,
+      room (count_by is_lift_line map.things) MOST_BOXES count,
       count-push is_item_line map.things line,
       count-push is_teleport_line map.things line,
       count-push is_goal_line map.things line,
       count-push is_lift_line map.things line,
     )
+added-fewer map (Depth depth) added count = omega (arith, none-yet map.depth_lines count)
+added-fewer map Shots added count = omega (arith, none-yet map.shots_lines count)
 
-begun-goes_on : (r : Reading) (line : MapLine) → r.limit ≤ 100000 → r.frames ≡ 0 → r.arrivals ≡ 0 → r.lines + left_at Start r ≤ 51301282 → is_arena line ≡ true
+begun-goes_on : (r : Reading) (line : MapLine) → r.limit ≤ 100000 → r.frames ≡ 0 → r.arrivals ≡ 0 → r.lines + left_at Start r ≤ most_lines → is_arena line ≡ true
     → GoesOn (left_at Start r) (with_map r (begun_map line))
 begun-goes_on r (Arena lo hi) limit frames arrivals lines arena = record {
   holds = record { map = (refl, frames, arrivals); limit = limit; frames = omega arith; arrivals = omega arith; lines = omega arith };
@@ -117,8 +123,10 @@ begun-goes_on r (Item at kind delay) limit frames arrivals lines arena = cc
 begun-goes_on r (Teleport lo hi dest) limit frames arrivals lines arena = cc
 begun-goes_on r (Goal lo hi) limit frames arrivals lines arena = cc
 begun-goes_on r (Lift lo hi rise speed) limit frames arrivals lines arena = cc
+begun-goes_on r (Depth depth) limit frames arrivals lines arena = cc
+begun-goes_on r Shots limit frames arrivals lines arena = cc
 
-added-goes_on : (r : Reading) (map : Option MapView) (line : MapLine) → r.map ≡ map → IsSome map → r.limit ≤ 100000 → r.frames ≡ 0 → r.arrivals ≡ 0 → r.lines + left_at Map r ≤ 51301282
+added-goes_on : (r : Reading) (map : Option MapView) (line : MapLine) → r.map ≡ map → IsSome map → r.limit ≤ 100000 → r.frames ≡ 0 → r.arrivals ≡ 0 → r.lines + left_at Map r ≤ most_lines
     → is_added line ≡ true → broken_by_line map line ≡ None → GoesOn (left_at Map r) (with_map r (with_map_line map line))
 added-goes_on r None line is there limit frames arrivals lines added none = cc
 added-goes_on r (Some map) line is there limit frames arrivals lines added none =
@@ -167,13 +175,13 @@ first_frame r here none =
 
 -- ---- one line
 
-refused-goes_on : (n : ℕ) (r : Reading) (why : LineFault) → IsReading r → r.lines + n ≤ 51301282 → 0 < n → GoesOn n (at_stage (Refused why) r)
+refused-goes_on : (n : ℕ) (r : Reading) (why : LineFault) → IsReading r → r.lines + n ≤ most_lines → 0 < n → GoesOn n (at_stage (Refused why) r)
 refused-goes_on n r why holds lines some = record {
   holds = record { map = tt; limit = holds.limit; frames = holds.frames; arrivals = holds.arrivals; lines = omega arith };
   fewer = some;
 }
 
-test-goes_on : (n : ℕ) (r : Reading) (fault : Option LineFault) (line : Line) → IsReading r → r.lines + n ≤ 51301282 → 0 < n
+test-goes_on : (n : ℕ) (r : Reading) (fault : Option LineFault) (line : Line) → IsReading r → r.lines + n ≤ most_lines → 0 < n
     → (fault ≡ None → GoesOn n (after_line r (Some line))) → GoesOn n (after_test r fault (Some line))
 test-goes_on n r None line holds lines some taken = taken refl
 test-goes_on n r (Some why) line holds lines some taken = refused-goes_on n r why holds lines some
@@ -185,14 +193,14 @@ some_left Playing r going = omega arith
 some_left Ended r going = cc
 some_left (Refused why) r going = cc
 
-ended-goes_on : (n : ℕ) (r : Reading) → IsReading r → r.lines + n ≤ 51301282 → 0 < n → GoesOn n (at_stage Ended r)
+ended-goes_on : (n : ℕ) (r : Reading) → IsReading r → r.lines + n ≤ most_lines → 0 < n → GoesOn n (at_stage Ended r)
 ended-goes_on n r holds lines some = record {
   holds = record { map = tt; limit = holds.limit; frames = holds.frames; arrivals = holds.arrivals; lines = omega arith };
   fewer = some;
 }
 
 -- after a line without a fault at its place
-taken-goes_on : (stage : Stage) (r : Reading) (line : Line) → r.stage ≡ stage → IsReading r → HasMap stage r → r.lines + left_at stage r ≤ 51301282
+taken-goes_on : (stage : Stage) (r : Reading) (line : Line) → r.stage ≡ stage → IsReading r → HasMap stage r → r.lines + left_at stage r ≤ most_lines
     → is_over stage ≡ false → IsTaken stage line → place_fault r line ≡ None → GoesOn (left_at stage r) (after_line r (Some line))
 taken-goes_on Start r (OfMap line) here holds has lines going taken none =
     subst (λ m. GoesOn (left_at Start r) (with_map r (with_map_line m line))) (sym has.0) (begun-goes_on r line holds.limit has.1 has.2 lines taken)

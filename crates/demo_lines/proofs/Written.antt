@@ -14,7 +14,7 @@ use Rattle.edge_io.proofs.FieldTexts.{decimal_above, cut-field, field_at-field}
 use Rattle.arena_geo.specs.declared.vec3.Vec3.{Vec3}
 use Rattle.arena_geo.specs.Vectors.{IsNear}
 use Rattle.arena_map.specs.declared.map_line.MapLine.{MapLine}
-use Rattle.arena_map.specs.declared.map_line.MapLine.TheVariants.{Arena, Block, Spawn, Item, Teleport, Goal, Lift}
+use Rattle.arena_map.specs.declared.map_line.MapLine.TheVariants.{Arena, Block, Spawn, Item, Teleport, Goal, Lift, Depth, Shots}
 use Rattle.arena_map.specs.declared.map_word.MapWord.{MapWord}
 use Rattle.arena_map.specs.declared.map_word.MapWord.TheVariants as map_words
 use Rattle.entity_recs.specs.declared.kind.Kind.{Kind}
@@ -104,6 +104,8 @@ fields-long (Lift lo hi rise speed) is =
       number-long rise (small rise 1048576 is.2 is.3 (omega arith)),
       number-long speed (small speed 2560 is.4 is.5 (omega arith)),
     )
+fields-long (Depth depth) is = omega (arith, length-decimal-le 1 depth (omega arith) (omega (arith, is.most)) (omega (arith, is.most)))
+fields-long Shots is = omega arith
 
 word-long : (word : MapWord) → length (word_text word) ≤ 8
 word-long map_words.Arena = omega arith
@@ -113,6 +115,8 @@ word-long map_words.Item = omega arith
 word-long map_words.Teleport = omega arith
 word-long map_words.Goal = omega arith
 word-long map_words.Lift = omega arith
+word-long map_words.Depth = omega arith
+word-long map_words.Shots = omega arith
 
 map_line-long : (line : MapLine) → IsWithinLimits line → length (map_line_text line) ≤ 512
 map_line-long line is = omega (arith, length-append (word_text (word_of line)) (fields_text line), word-long (word_of line), fields-long line is)

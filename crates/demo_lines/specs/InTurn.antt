@@ -7,7 +7,7 @@ use Rattle.arena_map.specs.declared.limits.TheConstants.{MOST_FRAMES}
 use Rattle.arena_map.specs.declared.map_line.MapLine.{MapLine}
 use Rattle.arena_map.specs.declared.map_line.MapLine.TheVariants.{Arena}
 use Rattle.arena_map.specs.MapLines.{IsWithinLimits, is_added}
-use Rattle.arena_map.specs.Maps.{MapView, map_of, is_ready}
+use Rattle.arena_map.specs.Maps.{MapView, plain_map, is_ready}
 use Rattle.arena_map.specs.Places.{is_wide}
 use Rattle.arena_map.specs.Rules.{with_line, broken_rule}
 use Rattle.packet_read.specs.declared.arrival.Arrival.{Arrival}
@@ -28,7 +28,7 @@ AreAccepted m (line ∷ more) = IsAccepted m line × AreAccepted (with_line m li
 
 -- the map of an arena with these lines, added one after another
 abbrev pub map_in_turn : Bounds → List MapLine → MapView
-map_in_turn arena added = fold with_line (map_of arena [] [] []) added
+map_in_turn arena added = fold with_line (plain_map arena [] [] []) added
 
 -- the lines of its recording: the arena, these lines, the frames with their packets, and the end
 abbrev pub lines_in_turn : Bounds → List MapLine → List (List Arrival) → List Line
@@ -44,7 +44,7 @@ text_in_turn arena added frames = unlines (map line_text (lines_in_turn arena ad
 pub record IsBuilt (arena : Bounds) (added : List MapLine) (frames : List (List Arrival)) : Type 0 where
   pub near : IsWithinLimits (Arena arena.lo arena.hi)
   pub wide : is_wide arena.lo arena.hi ≡ true
-  pub accepted : AreAccepted (map_of arena [] [] []) added
+  pub accepted : AreAccepted (plain_map arena [] [] []) added
   pub few : length frames ≤ MOST_FRAMES
   pub each : AllByRecursion IsFrame frames
   pub spawn : 0 < length frames → is_ready (map_in_turn arena added) ≡ true

@@ -1,6 +1,6 @@
 -- What holds of all recordings, and of the packets on their lines.
 use Rattle.std.specs.Prelude.{◌≡◌, ◌↔◌, ℕ, ◌+◌, ◌≤◌, ◌<◌, Bool, true, false, List, [], ◌∷◌, ◌++◌, length, Option, Some, None}
-use Rattle.std.specs.Prelude.{codes}
+use Rattle.std.specs.Prelude.{codes, count_by}
 use Rattle.std.specs.List.{slice_split}
 use Rattle.edge_io.specs.Lines.{AreBytes}
 use Rattle.hex.specs.Hex.{encode_lower, encode_upper}
@@ -20,20 +20,20 @@ use Rattle.demo_lines.specs.declared.word.Word.{Word}
 use Rattle.demo_lines.specs.Words.{has_form}
 use Rattle.demo_lines.specs.Lines.{text_of, are_printable, first_word, rest_of, line_in}
 use Rattle.demo_lines.specs.Faults.{is_long, fault_of}
-use Rattle.demo_lines.specs.Recording.{after, events_of, most_lines}
+use Rattle.demo_lines.specs.Recording.{after, opens_frame, events_of, most_lines}
 use Rattle.demo_lines.specs.Reads.{ReadsQuietly}
 use Rattle.demo_lines.specs.Spelling.{line_text, IsLine, recording_lines, recording_text, recording_events, IsRecording}
 use Rattle.demo_lines.specs.Spelling.{small_map, small_lines, small_frames, small_text}
 use Rattle.demo_lines.specs.InTurn.{IsBuilt, map_in_turn, text_in_turn}
 use Rattle.edge_io.specs.WholeLines.{is_line_feed, whole_lines}
-use Rattle.demo_lines.specs.Bytes.{LineRefusal, refusal, events, fault, map_of}
+use Rattle.demo_lines.specs.Bytes.{LineRefusal, refusal, events_within, fault_within, map_within, events, fault, map_of}
 
 -- the most frames of a recording, packets of a frame, bytes of a packet, and lines of a recording
 pub record LimitsAreKnown : Type 0 where
   pub frames : MOST_FRAMES ≡ 100000
   pub arrivals : MOST_ARRIVALS ≡ 512
   pub bytes : MOST_BYTES ≡ 252
-  pub lines : most_lines ≡ 51301282
+  pub lines : most_lines ≡ 51301540
 
 -- a packet is read back from its bytes as two hexadecimal digits each, in either case, and an empty one from a dash
 pub record PacketReadsBack : Type 0 where
@@ -121,8 +121,8 @@ pub record IsTextOf (m : MapView) (frames : List (List Arrival)) (text : List �
   pub map : map_of text ≡ Some m
   pub events : events text ≡ recording_events frames
 
--- a recording that can be written is read as what was written: with the spawns of its map first, then the blocks and
--- then the things, and with its map's lines in any order in which each is accepted in turn
+-- a recording that can be written is read as what was written: with the settings of its map first, then the spawns, then
+-- the blocks and then the things, and with its map's lines in any order in which each is accepted in turn
 pub record RecordingsReadBack : Type 0 where
   pub in_order : (m : MapView) (frames : List (List Arrival)) → IsRecording m frames
       → IsTextOf m frames (recording_text m frames)
@@ -143,9 +143,22 @@ pub record HasLines (count : ℕ) : Type 0 where
   pub is : IsRecording map frames
   pub lines : length (recording_lines map frames) ≡ count
 
--- up to its end or its refused line a recording has at most 1 line with the arena, 64 with spawns, 1,024 with blocks,
--- 192 with things, 100,000 times 1 that opens a frame and 512 with its packets, and 1 that ends it or is refused; and
--- some have so many
+-- up to its end or its refused line a recording has at most 1 line with the arena, 1 that names the depth, 1 that lets
+-- players shoot, 64 with spawns, 1,024 with blocks, 448 with things, 100,000 times 1 that opens a frame and 512 with its
+-- packets, and 1 that ends it or is refused; and some have so many
 pub record LinesAreBounded : Type 0 where
   pub bound : (lines : List (List ℕ)) → is_over (after start lines).stage ≡ false → length lines < most_lines
   pub longest : HasLines most_lines
+
+-- the recording has no fault, and the map and the events that it has with this limit of frames
+pub record IsSameRecording (limit : ℕ) (bytes : List ℕ) : Type 0 where
+  pub accepted : fault bytes ≡ None
+  pub map : map_of bytes ≡ map_within limit bytes
+  pub events : events bytes ≡ events_within limit bytes
+
+-- a recording without a fault where there may be only so many frames is the same where there may be as many as in any, and
+-- one that has no more frames has no fault with the limit
+pub record LimitsCutNothing : Type 0 where
+  pub same : (limit : ℕ) (bytes : List ℕ) → limit ≤ MOST_FRAMES → fault_within limit bytes ≡ None → IsSameRecording limit bytes
+  pub few : (limit : ℕ) (bytes : List ℕ) → fault bytes ≡ None → count_by opens_frame (events bytes) ≤ limit
+      → fault_within limit bytes ≡ None

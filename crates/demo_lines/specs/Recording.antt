@@ -1,5 +1,5 @@
 -- A recording as a machine over lines: what is known after each, the events of each, and how many more can follow.
-use Rattle.std.specs.Prelude.{ℕ, ◌+◌, ◌-◌, ◌*◌, false, List, [], ◌∷◌, length, Option, Some, None, count_by}
+use Rattle.std.specs.Prelude.{ℕ, ◌+◌, ◌-◌, ◌*◌, Bool, true, false, List, [], ◌∷◌, length, Option, Some, None, count_by}
 use Rattle.std.specs.Prelude.{if◌then◌else◌}
 use Rattle.packet_read.specs.declared.arrival.TheConstants.{MOST_ARRIVALS}
 use Rattle.arena_map.specs.declared.limits.TheConstants.{MOST_BLOCKS, MOST_BOXES, MOST_FRAMES, MOST_ITEMS, MOST_SPAWNS, MOST_THINGS}
@@ -50,6 +50,12 @@ event_of (Some Frame) = events.Frame ∷ []
 event_of (Some (From a)) = events.From a ∷ []
 event_of (Some End) = events.End ∷ []
 
+-- the event opens a frame
+abbrev pub opens_frame : Event → Bool
+opens_frame events.Frame = true
+opens_frame (events.From a) = false
+opens_frame events.End = false
+
 -- the events of a line with this fault, or with none
 abbrev pub events_of_test : Option LineFault → Option Line → List Event
 events_of_test None line = event_of line
@@ -77,10 +83,15 @@ things_left things =
     (MOST_ITEMS - count_by is_item_line things) + (MOST_BOXES - count_by is_teleport_line things) + (MOST_BOXES - count_by is_goal_line things)
     + (MOST_BOXES - count_by is_lift_line things)
 
+-- at most so many more lines of settings can be added to a map: one that names the depth, and one that lets players shoot
+abbrev pub settings_left : MapView → ℕ
+settings_left map = (1 - map.depth_lines) + (1 - map.shots_lines)
+
 -- at most so many more lines can be added to a map
 abbrev pub map_lines_left : Option MapView → ℕ
-map_lines_left None = MOST_BLOCKS + MOST_SPAWNS + MOST_THINGS
-map_lines_left (Some map) = (MOST_BLOCKS - length map.blocks) + (MOST_SPAWNS - length map.spawns) + things_left map.things
+map_lines_left None = MOST_BLOCKS + MOST_SPAWNS + MOST_THINGS + 2
+map_lines_left (Some map) =
+    (MOST_BLOCKS - length map.blocks) + (MOST_SPAWNS - length map.spawns) + things_left map.things + settings_left map
 
 -- at most so many more lines can follow at this stage, the end or a refused line among them
 abbrev pub left_at : Stage → Reading → ℕ

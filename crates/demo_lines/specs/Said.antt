@@ -4,7 +4,6 @@ use Rattle.std.specs.Prelude.{if◌then◌else◌}
 use Rattle.edge_io.specs.Numbers.{natural_up_to}
 use Rattle.std.specs.Option.{option_or}
 use Rattle.packet_read.specs.declared.arrival.TheConstants.{MOST_ARRIVALS}
-use Rattle.arena_map.specs.declared.limits.TheConstants.{MOST_FRAMES}
 use Rattle.arena_map.specs.declared.map_word.MapWord.{MapWord}
 use Rattle.arena_map.specs.declared.map_line.MapLine.{MapLine}
 use Rattle.arena_map.specs.Words.{fields_of}

@@ -1,5 +1,5 @@
 -- The text of a recording: how each line is written, and the lines of a map and of frames in their order.
-use Rattle.std.specs.Prelude.{◌≡◌, ℕ, ◌≤◌, ◌<◌, true, List, [], ◌∷◌, ◌++◌, length, codes, map, flat_map, pos, negsuc}
+use Rattle.std.specs.Prelude.{◌≡◌, ℕ, ◌≤◌, ◌<◌, ◌==◌, true, if◌then◌else◌, List, [], ◌∷◌, ◌++◌, length, codes, map, flat_map, pos, negsuc}
 use Rattle.std.specs.Prelude.{decimal, ⊤}
 use Rattle.std.specs.List.{AllByRecursion}
 use Rattle.hex.specs.Hex.{encode_lower}
@@ -9,7 +9,7 @@ use Rattle.arena_geo.specs.declared.vec3.Vec3.{Vec3}
 use Rattle.arena_geo.specs.Bounds.{Bounds, bounds}
 use Rattle.arena_map.specs.declared.limits.TheConstants.{MOST_FRAMES}
 use Rattle.arena_map.specs.declared.map_line.MapLine.{MapLine}
-use Rattle.arena_map.specs.declared.map_line.MapLine.TheVariants.{Arena, Block, Spawn}
+use Rattle.arena_map.specs.declared.map_line.MapLine.TheVariants.{Arena, Block, Spawn, Depth, Shots}
 use Rattle.arena_map.specs.Maps.{MapView, IsMap, is_ready, map_of}
 use Rattle.arena_map.specs.MapLines.{IsWithinLimits}
 use Rattle.arena_map.specs.Spelling.{map_line_text}
@@ -58,9 +58,23 @@ block_line b = OfMap (Block b.lo b.hi)
 abbrev pub spawn_line : Vec3 → Line
 spawn_line at = OfMap (Spawn at)
 
--- the lines of a map: the arena, the spawns, the blocks and the things, each in their order
+-- the line that names the depth of a map, if one does
+abbrev pub depth_lines_of : MapView → List MapLine
+depth_lines_of m = if m.depth_lines == 0 then [] else Depth m.depth ∷ []
+
+-- the line that lets players shoot, if they can
+abbrev pub shots_lines_of : MapView → List MapLine
+shots_lines_of m = if m.shots then Shots ∷ [] else []
+
+-- the lines of a map's settings
+abbrev pub setting_lines : MapView → List Line
+setting_lines m = map OfMap (depth_lines_of m) ++ map OfMap (shots_lines_of m)
+
+-- the lines of a map: the arena, the settings, the spawns, the blocks and the things, each in their order
 abbrev pub map_lines : MapView → List Line
-map_lines m = arena_line m.bounds ∷ map spawn_line m.spawns ++ (map block_line m.blocks ++ map OfMap m.things)
+map_lines m =
+    arena_line m.bounds
+    ∷ setting_lines m ++ (map spawn_line m.spawns ++ (map block_line m.blocks ++ map OfMap m.things))
 
 -- the lines of a frame: the line that opens it, and its packets
 abbrev pub frame_lines : List Arrival → List Line
@@ -94,7 +108,7 @@ pub record IsRecording (m : MapView) (frames : List (List Arrival)) : Type 0 whe
   pub each : AllByRecursion IsFrame frames
   pub spawn : 0 < length frames → is_ready m ≡ true
 
--- a small map: the least arena, a block and two spawns
+-- a small map: the least arena, a block, two spawns, a tree of depth 5, and shots
 abbrev pub small_map : MapView
 small_map = map_of
     (bounds
@@ -104,12 +118,16 @@ small_map = map_of
     ∷ [])
     (record { x = pos 0; y = pos 4096; z = pos 6144 } ∷ record { x = pos 12288; y = pos 4096; z = pos 6144 } ∷ [])
     []
+    (record { depth = 5; names_depth = true; shots = true })
 
--- the lines of this map after its arena, with the block first
+-- the lines of this map after its arena, with the block first and the depth last
 abbrev pub small_lines : List MapLine
 small_lines =
     Block (record { x = pos 1; y = pos 20; z = pos 300 }) (record { x = pos 4000; y = pos 30000; z = pos 32768 })
-    ∷ Spawn (record { x = pos 0; y = pos 4096; z = pos 6144 }) ∷ Spawn (record { x = pos 12288; y = pos 4096; z = pos 6144 })
+    ∷ Spawn (record { x = pos 0; y = pos 4096; z = pos 6144 })
+    ∷ Shots
+    ∷ Spawn (record { x = pos 12288; y = pos 4096; z = pos 6144 })
+    ∷ Depth 5
     ∷ []
 
 -- its two frames, of two packets and of none
@@ -119,5 +137,6 @@ small_frames = (record { port = 7; bytes = 1 ∷ 175 ∷ [] } ∷ record { port 
 -- its text
 abbrev pub small_text : List ℕ
 small_text =
-    codes "arena -16384 0 0 16384 32768 32768\nspawn 0 4096 6144\nspawn 12288 4096 6144\nblock 1 20 300 4000 30000 32768\n"
+    codes "arena -16384 0 0 16384 32768 32768\ndepth 5\nshots\n"
+    ++ codes "spawn 0 4096 6144\nspawn 12288 4096 6144\nblock 1 20 300 4000 30000 32768\n"
     ++ codes "frame\nfrom 7 01af\nfrom 65535 -\nframe\nend\n"

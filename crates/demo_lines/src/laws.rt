@@ -1,6 +1,6 @@
 ghost use Rattle.demo_lines.specs.Laws.{LimitsAreKnown, PacketReadsBack, NothingAfterTheEnd, NothingAfterARefusal};
 ghost use Rattle.demo_lines.specs.Laws.{NothingNeedsTheMap, LinesReadBack, LinesAreBounded, PacketsHaveRoom};
-ghost use Rattle.demo_lines.specs.Laws.{RecordingsReadBack, SmallRecording, FaultsAreTheFirst, MemoryIsForTheMap};
+ghost use Rattle.demo_lines.specs.Laws.{RecordingsReadBack, SmallRecording, FaultsAreTheFirst, MemoryIsForTheMap, LimitsCutNothing};
 
 /// The constants of this crate have the values that they say.
 pub fn limits_are_known()
@@ -65,7 +65,13 @@ pub fn small_recording_can_be_written()
     ensures { SmallRecording }
 {}
 
-/// A recording has at most 51,301,282 lines up to its end or its refused line, and some have so many.
+/// A recording has at most 51,301,540 lines up to its end or its refused line, and some have so many.
 pub fn lines_are_bounded()
     ensures { LinesAreBounded }
+{}
+
+/// A recording without a fault, where it may have only so many frames, is the same as where it may have as many as any:
+/// it has no fault, the same map and the same events. One that has no more frames has no fault with the limit either.
+pub fn limits_cut_nothing()
+    ensures { LimitsCutNothing }
 {}

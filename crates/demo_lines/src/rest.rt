@@ -5,10 +5,10 @@ ghost use Rattle.edge_io.specs.Lines.{ahead};
 ghost use Rattle.demo_lines.specs.Rest.{GivesRestLine, HasNoRestLine};
 
 use byte_lists::ByteBuf;
-use edge_io::{Failed, LineBuf, LineReader, NextLine, Source};
+use edge_io::{Failed, LineBuf, LineReader, NextLine, ROOM, Source};
 
-/// How many bytes the longest line after a recording has, its line feed not counted.
-pub const LONGEST_REST: usize = 16_500;
+/// How many bytes the longest line after a recording has, its line feed not counted: those of the longest line of output.
+pub const LONGEST_REST: usize = ROOM;
 
 /// The bytes of a line after a recording.
 pub type RestBuf = ByteBuf<LONGEST_REST>;

@@ -6,6 +6,7 @@ use Rattle.std.proofs.lemmas.Bool.{cases_lt}
 use Rattle.std.proofs.lemmas.Bool.Decides.{nat_tests}
 use Rattle.std.proofs.lemmas.List.{length-map}
 use Rattle.std.proofs.lemmas.List.FromFn.{length-map-range_with_len}
+use Rattle.entity_recs.specs.declared.limits.TheConstants.{IDS}
 use Rattle.entity_recs.specs.declared.rec.Rec.{Rec}
 use Rattle.entity_slots.specs.Ports.{AreSlots, port_at}
 use Rattle.entity_slots.proofs.Found.{found-only}
@@ -226,7 +227,7 @@ unfolding finished
 finished-length state = length-finished state 64
 
 plays-on : (players last seq : ℕ) (state : State) (records : List (Option Rec)) → AreMoved players last seq players state.clients
-    → length records ≡ 256 → ArePlaying players seq (finished (state_of state.clients records)).clients
+    → length records ≡ IDS → ArePlaying players seq (finished (state_of state.clients records)).clients
 plays-on players last seq state records are many = record {
   slots = finished-length (state_of state.clients records) ∙ are.slots;
   joined = λ slot below. (leavers_out (state_of state.clients records) are.slots many slot).0 ∙ ap finished_client (are.done slot below);
@@ -252,7 +253,7 @@ moves-played seed players last frame joins r place are few rises small none join
           (subst (λ j. AreMoved players last (frame + 1) j next.state.clients) all run.clients) many;
     }
 
-first-frame : (seed players : ℕ) (state : State) → players ≤ 64 → ArePlaying 0 0 state.clients → length state.records ≡ 256
+first-frame : (seed players : ℕ) (state : State) → players ≤ 64 → ArePlaying 0 0 state.clients → length state.records ≡ IDS
     → AreClearOfSpawns state.records → IsPlayed players players 1 (received generated_map 0 state (arrivals_in seed players 0))
 unfolding received
 first-frame seed players state few nobody many clear =
@@ -283,7 +284,7 @@ first-frame seed players state few nobody many clear =
     (moves-played seed players 0 0 players after (0 + length joins) waiting few (omega arith) (lit< tt) run.lists.refused joined run.lists.moves)
 
 later-frame : (seed players frame : ℕ) (state : State) → players ≤ 64 → 0 < frame → frame + 1 < 2 ^ 32
-    → ArePlaying players frame state.clients → length state.records ≡ 256
+    → ArePlaying players frame state.clients → length state.records ≡ IDS
     → IsPlayed players 0 (frame + 1) (received generated_map frame state (arrivals_in seed players frame))
 unfolding received
 later-frame seed players frame state few later small playing many =

@@ -11,6 +11,7 @@ use Rattle.std.proofs.lemmas.List.Sums.{position_or_len_is}
 use Rattle.arena_geo.specs.declared.vec3.Vec3.{Vec3}
 use Rattle.arena_geo.specs.Bounds.{Bounds}
 use Rattle.arena_geo.specs.Boxes.{overlaps, is_blocked}
+use Rattle.entity_recs.specs.declared.limits.TheConstants.{IDS}
 use Rattle.entity_recs.specs.declared.rec.Rec.{Rec}
 use Rattle.entity_recs.specs.Bodies.{body_of, player_body}
 use Rattle.entity_recs.specs.Kinds.{is_solid}
@@ -34,7 +35,7 @@ pub record AreJoined (k : ℕ) (state : State) : Type 0 where
   pub slots : length state.clients ≡ 64
   pub joined : (slot : ℕ) → slot < k → client_at state.clients slot ≡ Some (client (slot + 1) 0 false 0)
   pub free : (slot : ℕ) → k ≤ slot → client_at state.clients slot ≡ None
-  pub places : length state.records ≡ 256
+  pub places : length state.records ≡ IDS
   pub players : (slot : ℕ) → slot < k → record_at state.records slot ≡ Some (newcomer slot (spawn_at slot))
   pub others : (id : ℕ) → k ≤ id → (r : Rec) → record_at state.records id ≡ Some r → is_solid r.kind ≡ true → IsClearOfSpawns r
 

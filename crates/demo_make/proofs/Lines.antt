@@ -6,6 +6,7 @@ use Rattle.std.proofs.lemmas.Int.{ints}
 use Rattle.std.proofs.lemmas.List.{map-append}
 use Rattle.std.proofs.lemmas.List.Concat.{flat_map-append}
 use Rattle.arena_geo.specs.Vectors.{IsNear}
+use Rattle.edge_io.specs.declared.line_buf.TheConstants.{ROOM}
 use Rattle.edge_io.specs.WholeLines.{unlines}
 use Rattle.arena_map.specs.declared.map_line.MapLine.{MapLine}
 use Rattle.entity_recs.specs.declared.kind.Kind.TheVariants.{Ammo, Gem}
@@ -149,12 +150,13 @@ length-before (x ∷ xs) (suc i) =
       length-before xs i,
     )
 
+-- the lines of the map are few enough for the buffer
 pub whole-fits : length (unlines (map map_line_text generated_lines)) ≤ 8300
 unfolding digits
 whole-fits = lit≤ tt
 
 pub line-fits : (i : ℕ) (line : MapLine) → slice_get generated_lines i ≡ Some line
-    → length (text_before i) + length (map_line_text line) + 1 ≤ 8300
+    → length (text_before i) + length (map_line_text line) + 1 ≤ ROOM
 line-fits i line h =
     omega (
       arith,

@@ -130,6 +130,10 @@ generated_is_map = record {
   few_lifts = lit≤ tt;
   clear_shafts = All-cons (λ shaft. is_blocked shaft generated_map.blocks ≡ false) _ [] refl (All-nil (λ shaft. is_blocked shaft generated_map.blocks ≡ false));
   shafts_apart = λ i j d below within. absurd (omega arith);
+  depth = record { least = omega arith; most = omega arith };
+  few_depth_lines = omega arith;
+  default_depth = λ none. refl;
+  shots_line = refl;
 }
 
 pub map_is_known : MapIsKnown
@@ -143,4 +147,6 @@ map_is_known = record {
   teleporters = refl;
   goals = refl;
   lifts = refl;
+  depth = refl;
+  shots = refl;
 }

@@ -6,6 +6,7 @@ use Rattle.std.proofs.lemmas.Bool.{cases_lt, cases_eq, ne_eqb, eq-eqb}
 use Rattle.std.proofs.lemmas.Bool.Decides.{nat_tests}
 use Rattle.std.proofs.lemmas.List.{length-map}
 use Rattle.std.proofs.lemmas.List.Elements.{filter-append}
+use Rattle.entity_recs.specs.declared.limits.TheConstants.{IDS}
 use Rattle.entity_recs.specs.declared.rec.Rec.{Rec}
 use Rattle.entity_recs.specs.Commands.{Command}
 use Rattle.entity_slots.specs.Ports.{AreSlots, port_at}
@@ -279,7 +280,7 @@ module _ (seed players frames frame : ℕ) where
   -- ---- a frame
 
   -- the players go on, with the last number that came
-  plays-on : (state : State) (records : List (Option Rec)) → Heard players state.clients → length records ≡ 256
+  plays-on : (state : State) (records : List (Option Rec)) → Heard players state.clients → length records ≡ IDS
       → ArePlayingUpTo players (λ slot. last_before frames (slot + 1) (frame + 1)) (finished (state_of state.clients records)).clients
   plays-on state records are many = record {
     slots = finished-length (state_of state.clients records) ∙ are.slots;
@@ -307,7 +308,7 @@ module _ (seed players frames frame : ℕ) where
         plays_on = λ records many. plays-on next.state records (subst (λ j. Heard j next.state.clients) all run.clients) many;
       }
 
-first-frame : (seed players frames : ℕ) (state : State) → players ≤ 64 → ArePlaying 0 0 state.clients → length state.records ≡ 256
+first-frame : (seed players frames : ℕ) (state : State) → players ≤ 64 → ArePlaying 0 0 state.clients → length state.records ≡ IDS
     → AreClearOfSpawns state.records → OnlyNewAreAccepted seed players frames 0 (received generated_map 0 state (resent_in seed players frames 0))
 unfolding received
 first-frame seed players frames state few nobody many clear =
@@ -336,7 +337,7 @@ first-frame seed players frames state few nobody many clear =
     (come-once seed players frames 0 after (0 + length joins) waiting few (lit< tt) run.lists.refused run.lists.joined run.lists.moves)
 
 later-frame : (seed players frames frame : ℕ) (state : State) → players ≤ 64 → 0 < frame → frame + 1 < 2 ^ 32
-    → ArePlayingUpTo players (λ slot. last_before frames (slot + 1) frame) state.clients → length state.records ≡ 256
+    → ArePlayingUpTo players (λ slot. last_before frames (slot + 1) frame) state.clients → length state.records ≡ IDS
     → OnlyNewAreAccepted seed players frames frame (received generated_map frame state (resent_in seed players frames frame))
 unfolding received
 later-frame seed players frames frame state few later small playing many =

@@ -8,7 +8,7 @@ use Rattle.entity_recs.specs.declared.kind.Kind.{Kind}
 use Rattle.entity_recs.specs.declared.kind.Kind.TheVariants.{Ammo, Gem}
 use Rattle.arena_map.specs.declared.map_line.MapLine.{MapLine}
 use Rattle.arena_map.specs.declared.map_line.MapLine.TheVariants.{Arena, Block, Spawn, Item, Teleport, Goal, Lift}
-use Rattle.arena_map.specs.Maps.{MapView, map_of}
+use Rattle.arena_map.specs.Maps.{MapView, plain_map}
 
 -- so far below 0
 abbrev pub below : ℕ → ℤ
@@ -80,7 +80,7 @@ things = map item_line (range_with_len 0 16) ++ low_teleport ∷ high_teleport �
 
 -- the map
 abbrev pub generated_map : MapView
-generated_map = map_of arena (map block_at (range_with_len 0 16)) (map spawn_at (range_with_len 0 64)) things
+generated_map = plain_map arena (map block_at (range_with_len 0 16)) (map spawn_at (range_with_len 0 64)) things
 
 -- ---- its lines
 

@@ -1,11 +1,12 @@
 -- What holds of all generated recordings.
-use Rattle.std.specs.Prelude.{◌≡◌, ℕ, ◌+◌, ◌*◌, ◌^◌, ◌≤◌, ◌<◌, List, [], ◌∷◌, ◌++◌, length, map, count_by, Some, None, Ok}
+use Rattle.std.specs.Prelude.{◌≡◌, ℕ, ◌+◌, ◌*◌, ◌^◌, ◌≤◌, ◌<◌, false, List, [], ◌∷◌, ◌++◌, length, map, count_by, Some, None, Ok}
 use Rattle.std.specs.List.{range_with_len}
 use Rattle.std.specs.Int.{w64, from_le_bytes, to_le_bytes}
 use Rattle.rand_core.specs.Steps.{first_words}
 use Rattle.rand_xoshiro.specs.SplitMix64.{mix_u64}
 use Rattle.packet_read.specs.declared.packet.Packet.TheVariants.{Join, Step, Steps}
 use Rattle.packet_read.specs.Reading.{reading}
+use Rattle.arena_map.specs.declared.limits.TheConstants.{DEFAULT_DEPTH}
 use Rattle.arena_map.specs.Maps.{IsMap}
 use Rattle.arena_map.specs.MapLines.{is_item_line, is_teleport_line, is_goal_line, is_lift_line}
 use Rattle.demo_lines.specs.declared.event.Event.{Event}
@@ -36,7 +37,8 @@ ResentRecordingsReadBack =
     (seed players frames : ℕ) → IsInRange players frames
     → IsReadAs (resent_text seed players frames) (resent_events seed players frames)
 
--- the map keeps the rules of maps, and has so many of each
+-- the map keeps the rules of maps, and has so many of each; its tree is as deep as one is without a line that names it,
+-- and players can't shoot
 pub record MapIsKnown : Type 0 where
   pub is_map : IsMap generated_map
   pub lines : length generated_lines ≡ 101
@@ -47,6 +49,8 @@ pub record MapIsKnown : Type 0 where
   pub teleporters : count_by is_teleport_line things ≡ 2
   pub goals : count_by is_goal_line things ≡ 1
   pub lifts : count_by is_lift_line things ≡ 1
+  pub depth : generated_map.depth ≡ DEFAULT_DEPTH
+  pub shots : generated_map.shots ≡ false
 
 -- frame 0 has a join of each player and then a move of each, and each later frame a move of each; with the map and the
 -- end these are so many lines

@@ -17,7 +17,8 @@ pub fn resent_recordings_read_back()
 {}
 
 /// The map of generated recordings keeps the rules of maps. It has 101 lines: the arena, 64 spawns, 16 blocks,
-/// 16 items, 2 teleporters, a goal and a lift.
+/// 16 items, 2 teleporters, a goal and a lift. So its tree has the depth of a map without a line of it, and players can't
+/// shoot.
 pub fn map_is_known()
     ensures { MapIsKnown }
 {}

@@ -7,7 +7,7 @@ use Rattle.edge_io.specs.Numbers.{natural_up_to, integer_up_to, is_integer}
 
 -- how many bytes a line buffer has room for, and how many the longest line of input has
 pub record LimitsAreKnown : Type 0 where
-  pub room : ROOM ≡ 8300
+  pub room : ROOM ≡ 16500
   pub longest : LONGEST ≡ 512
 
 -- a field is a number exactly where it is that number in decimal, and the number is within the limit

@@ -1,6 +1,6 @@
 ghost use Rattle.edge_io.specs.Laws.{LimitsAreKnown, NaturalIsDecimal, IntegerIsDecimal, IntegersHaveForm};
 
-/// A line buffer has room for 8,300 bytes, and the longest line of input has 512, its line feed not counted.
+/// A line buffer has room for 16,500 bytes, and the longest line of input has 512, its line feed not counted.
 pub fn limits_are_known()
     ensures { LimitsAreKnown }
 {}

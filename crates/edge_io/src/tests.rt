@@ -281,13 +281,13 @@ fn a_text_is_written_whole_or_in_part(rt: HostRuntime) -> Result<(), Fail> {
     Ok(())
 }
 
-/// Expects that a buffer which isn't empty takes one byte more, has then 8,300, takes no other, and can be cleared.
+/// Expects that a buffer which isn't empty takes one byte more, has then 16,500, takes no other, and can be cleared.
 fn expect_room_for_one(rt: &impl Abort, line: &mut LineBuf) {
     assert!(rt; !line.is_empty());
     let last = line.push(b'b');
     let over = line.push(b'c');
     assert_eq!(rt; (last, over), (true, false));
-    assert_eq!(rt; line.len(), 8_300);
+    assert_eq!(rt; line.len(), 16_500);
     line.clear();
     assert_eq!(rt; line.as_slice(), b"".as_slice());
 }
@@ -295,7 +295,7 @@ fn expect_room_for_one(rt: &impl Abort, line: &mut LineBuf) {
 #[test]
 fn a_line_buffer_is_full_at_its_room(rt: HostRuntime) -> Result<(), Fail> {
     let mut line = LineBuf::new(rt.alloc())?;
-    line.extend(&[b'a'; 8_299]);
+    line.extend(&[b'a'; 16_499]);
     expect_room_for_one(&rt, &mut line);
     Ok(())
 }

@@ -54,7 +54,7 @@ pub record IsRecord (r : Rec) : Type 0 where
   pub ammo : r.ammo ≤ 100
   pub carry : r.carry ≤ 8
 
--- the states of a kind: any frame for an item, 0 or 1 for a lift, and 0 for the others
+-- the states of a kind where nobody shoots: any frame for an item, 0 or 1 for a lift, and 0 for the others
 abbrev pub IsStateOf : Kind → ℕ → Type 0
 IsStateOf Player state = state ≡ 0
 IsStateOf Ammo state = Unit {0}

@@ -15,7 +15,7 @@ pub struct Cmd {
     pub wish_x: i16,
     /// The speed that the player wishes on y, in Quake units a second.
     pub wish_y: i16,
-    /// Bit 0: jump.
+    /// Bit 0: jump. Bit 1: fire.
     pub buttons: u8,
     pub ghost slot_is_known: { slot < 64 },
     pub ghost takes_time: { 1 ≤ ms },

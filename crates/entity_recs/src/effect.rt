@@ -16,7 +16,7 @@ pub struct NewState {
 pub struct Reply {
     /// Where the player is after it, in sub-units.
     pub origin: Vec3,
-    /// The items that it took, in rising id.
+    /// What it got, in rising id: a player that it hit, and the items that it took.
     pub got: IdList,
 }
 

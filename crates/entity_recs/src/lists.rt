@@ -48,6 +48,15 @@ impl IdList {
     {
         self.ids.try_push(id).is_ok()
     }
+
+    /// Puts an id first. `false` exactly where there are [`LIST_LEN`] already; the list is then unchanged.
+    pub fn push_first(&mut self, id: u16) -> bool
+        ensures room { IsTrue result ↔ (length self.old < 8) }
+        ensures pushed { OnTrue result (self.new ≡ id ∷ self.old) }
+        ensures unchanged { OnFalse result (self.new ≡ self.old) }
+    {
+        self.ids.try_insert(0, id).is_ok()
+    }
 }
 
 /// A list of at most [`LIST_LEN`] new states, which lie in the value itself and take no memory.
@@ -113,6 +122,17 @@ mod tests {
         assert!(rt; !states.push(NewState { id: 72, state: 0 }));
         assert_eq!(rt; ids.as_slice(), [64, 65, 66, 67, 68, 69, 70, 71].as_slice());
         assert_eq!(rt; states.as_slice().len(), 8);
+        Ok(())
+    }
+
+    #[test]
+    fn an_id_is_put_first(rt: HostRuntime) -> Result<(), Fail> {
+        let mut ids = IdList::new();
+        for id in [7, 6, 5, 4, 3, 2, 1, 0] {
+            assert!(rt; ids.push_first(id));
+        }
+        assert!(rt; !ids.push_first(8));
+        assert_eq!(rt; ids.as_slice(), [0, 1, 2, 3, 4, 5, 6, 7].as_slice());
         Ok(())
     }
 }

@@ -26,11 +26,12 @@ pub struct Rec {
     pub ammo: u8,
     /// The gems that a player carries, at most 8.
     pub carry: u8,
-    /// The gems that a player has brought to a goal.
+    /// The gems that a player has brought to a goal, and the players that it has shot down.
     pub score: u32,
     /// The number of the last command that was done.
     pub seq: u32,
-    /// For a taken item the frame in which it returns; for a lift 0 where it rises and 1 where it falls; else 0.
+    /// For a taken item the frame in which it returns; for a lift 0 where it rises and 1 where it falls; for a player on a
+    /// map with shots its damage, below 100, or 100 and the frame from which on it moves again; else 0.
     pub state: u64,
 }
 

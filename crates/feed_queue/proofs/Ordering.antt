@@ -8,7 +8,8 @@ use Rattle.std.proofs.lemmas.List.{length-map}
 use Rattle.std.proofs.lemmas.List.FromFn.{length-range_with_len, get_or-range_with_len}
 use Rattle.std.proofs.lemmas.List.Kept.{IsStrictlyIncreasing-filter}
 use Rattle.packet_read.specs.declared.arrival.Arrival.{Arrival}
-use Rattle.feed_queue.specs.Orders.{ports_of, is_of, is_from, in_order, places_below, IsOrder}
+use Rattle.packet_read.specs.Orders.{is_from, in_order}
+use Rattle.feed_queue.specs.Orders.{ports_of, is_of, places_below, IsOrder}
 use Rattle.feed_queue.specs.Laws.{OrdersHaveEachPlaceOnce, OrdersKeepEachPort}
 use Rattle.feed_queue.proofs.Counting.{each_of_one, as_many_places}
 
@@ -82,8 +83,10 @@ rising n k lt =
 pub each_place_once : OrdersHaveEachPlaceOnce
 each_place_once ports order o = record {
   count = omega (arith, each_of_one ports order, ap length o.evens, ap length o.odds, as_many_places ports);
-  once = λ place lt. same_place ports order place o ∙ one_within 0 (length ports) place (omega arith) (omega arith);
-  no_other = λ k le. same_place ports order k o ∙ none_below 0 (length ports) k (omega arith);
+  places = record {
+    once = λ place lt. same_place ports order place o ∙ one_within 0 (length ports) place (omega arith) (omega arith);
+    no_other = λ k le. same_place ports order k o ∙ none_below 0 (length ports) k (omega arith);
+  };
   evens = subst IsStrictlyIncreasing (sym o.evens) (IsStrictlyIncreasing-filter (is_of ports 0) (range_with_len 0 (length ports)) (rising (length ports)));
   odds = subst IsStrictlyIncreasing (sym o.odds) (IsStrictlyIncreasing-filter (is_of ports 1) (range_with_len 0 (length ports)) (rising (length ports)));
 }
@@ -163,7 +166,7 @@ found_there k (x ∷ xs) (suc i) lt is none = found_there k xs i (omega arith) i
     rest false h = h
 
 not_within : (ports order : List ℕ) (i : ℕ) → IsOrder ports order → i < length order → length ports ≤ slice_index order i → ⊥
-not_within ports order i o lt le = found_there (slice_index order i) order i lt refl ((each_place_once ports order o).no_other (slice_index order i) le)
+not_within ports order i o lt le = found_there (slice_index order i) order i lt refl ((each_place_once ports order o).places.no_other (slice_index order i) le)
 
 -- each place of an order is that of a packet
 pub places_are_within : (ports order : List ℕ) (i : ℕ) → IsOrder ports order → i < length order → slice_index order i < length ports

@@ -1,15 +1,15 @@
 -- What holds of each order of arrival from two feeders.
-use Rattle.std.specs.Prelude.{◌≡◌, ℕ, ◌<◌, ◌≤◌, ◌==◌, List, [], ◌∷◌, length}
+use Rattle.std.specs.Prelude.{◌≡◌, ℕ, List, length}
 use Rattle.std.specs.List.{filter}
 use Rattle.std.specs.List.Sorted.{IsStrictlyIncreasing}
 use Rattle.packet_read.specs.declared.arrival.Arrival.{Arrival}
-use Rattle.feed_queue.specs.Orders.{ports_of, is_of, is_from, in_order, IsOrder}
+use Rattle.packet_read.specs.Orders.{is_from, in_order, AreEachOnce}
+use Rattle.feed_queue.specs.Orders.{ports_of, is_of, IsOrder}
 
 -- an order has the place of each packet once and no other number; the places of even ports rise, and those of odd ports do
 pub record HasEachPlaceOnce (ports order : List ℕ) : Type 0 where
   pub count : length order ≡ length ports
-  pub once : (place : ℕ) → place < length ports → filter (λ k. k == place) order ≡ place ∷ []
-  pub no_other : (k : ℕ) → length ports ≤ k → filter (λ n. n == k) order ≡ []
+  pub places : AreEachOnce (length ports) order
   pub evens : IsStrictlyIncreasing (filter (is_of ports 0) order)
   pub odds : IsStrictlyIncreasing (filter (is_of ports 1) order)
 

@@ -1,5 +1,5 @@
 -- The order in which the packets of a frame arrive from two feeders.
-use Rattle.std.specs.Prelude.{◌≡◌, ℕ, ◌%◌, ◌≤◌, ◌==◌, Bool, List, length, map, filter_map, slice_get, slice_index}
+use Rattle.std.specs.Prelude.{◌≡◌, ℕ, ◌%◌, ◌≤◌, ◌==◌, Bool, List, length, map, slice_index}
 use Rattle.std.specs.List.{filter, range_with_len}
 use Rattle.packet_read.specs.declared.arrival.TheConstants.{MOST_ARRIVALS}
 use Rattle.packet_read.specs.declared.arrival.Arrival.{Arrival}
@@ -26,11 +26,3 @@ pub record Fit (ports : List ℕ) (capacity : ℕ) (arrivals : List Arrival) : T
 pub record IsOrder (ports order : List ℕ) : Type 0 where
   pub evens : filter (is_of ports 0) order ≡ places_below ports 0 (length ports)
   pub odds : filter (is_of ports 1) order ≡ places_below ports 1 (length ports)
-
--- the packet comes from this port
-abbrev pub is_from : ℕ → Arrival → Bool
-is_from port a = a.port == port
-
--- the packets in this order
-abbrev pub in_order : List ℕ → List Arrival → List Arrival
-in_order order arrivals = filter_map (λ place. slice_get arrivals place) order

@@ -11,6 +11,7 @@ use Rattle.entity_recs.specs.Histories.{Item, run}
 use Rattle.move_journal.specs.Merges.{IsInOrder, IsRight, IsMerge, HasNumbersApart, history_of}
 use Rattle.move_journal.proofs.JournalLaws.{merges_have_whole_histories}
 use Rattle.arena_map.specs.Maps.{MapView, IsMap}
+use Rattle.arena_actions.specs.MapActions.{map_in}
 use Rattle.packet_read.specs.declared.arrival.Arrival.{Arrival}
 use Rattle.client_ports.specs.declared.client.Client.{Client}
 use Rattle.client_ports.specs.States.{State, state_of, HaveSameLive, IsServerState}
@@ -21,7 +22,7 @@ use Rattle.frame_phases.specs.Finishes.{IsReceived, IsBegun, IsFinished}
 use Rattle.move_phase.specs.Starting.{StartedView, AreStarted}
 use Rattle.plain_server.specs.Replies.{slots_of, replies_of}
 use Rattle.world_tree.specs.Worlds.{WorldView}
-use Rattle.arena_actions.specs.declared.arena_action.ArenaAction.{ArenaAction}
+use Rattle.arena_actions.specs.declared.map_action.MapAction.{MapAction}
 use Rattle.plain_server.specs.RecordsById.{world_of, records_in}
 use Rattle.arena_actions.specs.Outcomes.{outcome_on}
 use Rattle.plain_server.specs.Moving.{HasLivePlayer}
@@ -60,11 +61,11 @@ apart_moves map_view r moves is got = subst HasNumbersApart (sym is) got.pass.ap
 -- ---- a frame that is begun
 
 -- it is begun, where the memory for its moves was taken
-pub begun_if_started : {E : Type 0} (r : Result StartedView E) (action : ArenaAction) (world : WorldView) (got : Receiving) (moves : List Cmd) → IsMap action.map → IsReceived action.map got
+pub begun_if_started : {E : Type 0} (r : Result StartedView E) (action : MapAction) (world : WorldView) (got : Receiving) (moves : List Cmd) → IsMap (map_in action) → IsReceived (map_in action) got
     → map command_of moves ≡ got.lists.moves → IfOk r (λ s. s.action ≡ action) → IfOk r (AreStarted world (map command_of moves)) → IfOk r (λ s. IsBegun s world got)
 begun_if_started (Ok s) action world got moves is_map is moves_are same started = record {
-  is_map = subst (λ (a : ArenaAction). IsMap a.map) (sym same) is_map;
-  got = subst (λ (a : ArenaAction). IsReceived a.map got) (sym same) is;
+  is_map = subst (λ (a : MapAction). IsMap (map_in a)) (sym same) is_map;
+  got = subst (λ (a : MapAction). IsReceived (map_in a) got) (sym same) is;
   moves = subst (λ (cs : List Command). AreStarted world cs s) moves_are started;
 }
 begun_if_started (Err e) action world got moves is_map is moves_are same started = tt
@@ -132,15 +133,15 @@ frame_of t workers arrivals r next journal slots replies is r_is done =
     }
 
 -- from what the two halves of a frame ensure
-pub whole_frame : (server t : ServerView) (started : StartedView) (action : ArenaAction) (workers frames : ℕ) (arrivals : List Arrival) (r : Receiving) (next : State) (journal : List reports.Entry)
-    (slots : List ℕ) (replies : List (List ℕ)) → t ≡ server → IsServer t.map t.state → r ≡ received_in t.map t.frames t.state arrivals → action.map ≡ t.map → started.action ≡ action → started.workers ≡ workers
-    → frames ≡ t.frames → IsFinished started.action.map frames started.workers r next journal slots replies → IsFrameOf server workers arrivals next journal slots replies
+pub whole_frame : (server t : ServerView) (started : StartedView) (action : MapAction) (workers frames : ℕ) (arrivals : List Arrival) (r : Receiving) (next : State) (journal : List reports.Entry)
+    (slots : List ℕ) (replies : List (List ℕ)) → t ≡ server → IsServer t.map t.state → r ≡ received_in t.map t.frames t.state arrivals → (map_in action) ≡ t.map → started.action ≡ action → started.workers ≡ workers
+    → frames ≡ t.frames → IsFinished (map_in started.action) frames started.workers r next journal slots replies → IsFrameOf server workers arrivals next journal slots replies
 whole_frame server t started action workers frames arrivals r next journal slots replies view is r_is map_is action_is workers_are frames_are done =
     subst (λ (u : ServerView). IsFrameOf u workers arrivals next journal slots replies) view
     (frame_of t workers arrivals r next journal slots replies is r_is
-    (subst (λ (m : MapView). IsFinished m t.frames workers r next journal slots replies) (ap (λ (a : ArenaAction). a.map) action_is ∙ map_is)
-    (subst (λ (n : ℕ). IsFinished started.action.map n workers r next journal slots replies) frames_are
-    (subst (λ (n : ℕ). IsFinished started.action.map frames n r next journal slots replies) workers_are done))))
+    (subst (λ (m : MapView). IsFinished m t.frames workers r next journal slots replies) (ap (λ (a : MapAction). map_in a) action_is ∙ map_is)
+    (subst (λ (n : ℕ). IsFinished (map_in started.action) n workers r next journal slots replies) frames_are
+    (subst (λ (n : ℕ). IsFinished (map_in started.action) frames n r next journal slots replies) workers_are done))))
 
 -- the live slots are the live players still
 pub live_after : (map_view : MapView) (workers : ℕ) (r : Receiving) (moves : List Cmd) (new : List (Option Rec)) (journal : List reports.Entry) → IsMap map_view → IsReceived map_view r

@@ -1,5 +1,5 @@
 -- The world before the first frame.
-use Rattle.std.proofs.Common.{◌≡◌, List, [], ◌∷◌, fold, Option, refl, sym, ap, ◌∙◌, subst}
+use Rattle.std.proofs.Common.{◌≡◌, ℕ, List, [], ◌∷◌, fold, Option, refl, sym, ap, ◌∙◌, subst}
 use Rattle.arena_geo.specs.Bounds.{Bounds}
 use Rattle.entity_recs.specs.declared.rec.Rec.{Rec}
 use Rattle.arena_map.specs.Maps.{MapView, IsMap, entities_of}
@@ -17,14 +17,18 @@ records-with w [] = refl
 records-with w (r ∷ rs) = records-with (with_record w r) rs
 
 -- the world that the code makes of the map's parts
-pub made_so : (map : MapView) (bounds : Bounds) (things : List Rec) → bounds ≡ map.bounds → things ≡ entities_of map
-    → with_records (empty_world bounds) things ≡ with_records (empty_world map.bounds) (entities_of map)
-made_so map bounds things bounds_are things_are = ap (λ (b : Bounds). with_records (empty_world b) things) bounds_are ∙ ap (with_records (empty_world map.bounds)) things_are
+pub made_so : (map : MapView) (bounds : Bounds) (depth : ℕ) (things : List Rec) → bounds ≡ map.bounds → depth ≡ map.depth
+    → things ≡ entities_of map
+    → with_records (empty_world bounds depth) things ≡ with_records (empty_world map.bounds map.depth) (entities_of map)
+made_so map bounds depth things bounds_are depth_is things_are =
+    ap (λ (b : Bounds). with_records (empty_world b depth) things) bounds_are
+    ∙ ap (λ d. with_records (empty_world map.bounds d) things) depth_is
+    ∙ ap (with_records (empty_world map.bounds map.depth)) things_are
 
 -- it has the opening records
-pub opened : (map : MapView) (w : WorldView) → w ≡ with_records (empty_world map.bounds) (entities_of map) → w.records ≡ (opening map).records
+pub opened : (map : MapView) (w : WorldView) → w ≡ with_records (empty_world map.bounds map.depth) (entities_of map) → w.records ≡ (opening map).records
 unfolding opening
-opened map w is = ap (λ (v : WorldView). v.records) is ∙ records-with (empty_world map.bounds) (entities_of map)
+opened map w is = ap (λ (v : WorldView). v.records) is ∙ records-with (empty_world map.bounds map.depth) (entities_of map)
 
 -- before the first frame nobody is joined
 nobody-joined : (map : MapView) → (opening map).clients ≡ no_clients

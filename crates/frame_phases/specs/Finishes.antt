@@ -3,6 +3,7 @@ use Rattle.std.specs.Prelude.{◌≡◌, ℕ, ◌*◌, ◌≤◌, List, length}
 use Rattle.entity_recs.specs.declared.effect.Entry.{Entry}
 use Rattle.move_journal.specs.Merges.{IsInOrder}
 use Rattle.arena_map.specs.Maps.{MapView, IsMap}
+use Rattle.arena_actions.specs.MapActions.{map_in}
 use Rattle.client_ports.specs.States.{State}
 use Rattle.client_ports.specs.Receiving.{Receiving}
 use Rattle.world_tree.specs.Worlds.{WorldView}
@@ -18,8 +19,8 @@ pub record IsReceived (map : MapView) (r : Receiving) : Type 0 where
 
 -- these packets were received, and the moves that were accepted are started in this world
 pub record IsBegun (started : StartedView) (world : WorldView) (r : Receiving) : Type 0 where
-  pub is_map : IsMap started.action.map
-  pub got : IsReceived started.action.map r
+  pub is_map : IsMap (map_in started.action)
+  pub got : IsReceived (map_in started.action) r
   pub moves : AreStarted world r.lists.moves started
 
 -- a frame with this number was finished after these packets were received: its journal is right, with one worker has

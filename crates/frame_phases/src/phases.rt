@@ -1,3 +1,4 @@
+ghost use Rattle.arena_actions.specs.MapActions.{map_in, IsOfItsMap};
 ghost use Rattle.std.specs.Prelude.{◌≡◌, ◌+◌, ◌<◌, ◌≤◌, [], length, IfOk};
 ghost use Rattle.arena_map.specs.Maps.{IsMap, entities_of};
 ghost use Rattle.world_tree.specs.Worlds.{empty_world, with_records};
@@ -15,7 +16,7 @@ ghost use Rattle.frame_phases.specs.Finishes.{IsBegun, IsFinished};
 use crate::frame_out::FrameOut;
 use crate::shows::show_players;
 use crate::state::State;
-use arena_actions::ArenaAction;
+use arena_actions::MapAction;
 use arena_map::ArenaMap;
 use client_ports::Received;
 use move_phase::StartedMoves;
@@ -69,7 +70,7 @@ impl States {
 /// none of them. The only error is that memory is refused.
 pub fn begin_frame<'a>(
     alloc: Global,
-    action: &'a ArenaAction,
+    action: &'a MapAction,
     states: &mut States,
     arrivals: &[Arrival],
     workers: u8,
@@ -77,14 +78,15 @@ pub fn begin_frame<'a>(
 ) -> Result<StartedMoves<'a>, AllocError>
     requires few { length arrivals.now ≤ MOST_ARRIVALS }
     requires workers { AreWorkers workers }
-    requires server { IsServer action.now.map (state_of states.old.state.ports states.old.state.world.records) }
+    requires of_its_map { IsOfItsMap action.now }
+    requires server { IsServer (map_in action.now) (state_of states.old.state.ports states.old.state.world.records) }
     requires tree { states.old.next.world.tree ≡ states.old.state.world.tree }
     requires empty { received.old.lists ≡ no_lists }
     requires room { received.old.room ≡ room_for MOST_ARRIVALS }
     ensures begun { IfOk result (λ started. IsBegun started states.new.next.world
         (receiving_of (state_of states.new.next.ports states.new.next.world.records) received.new.lists)) }
     ensures received { receiving_of (state_of states.new.next.ports states.new.next.world.records) received.new.lists
-        ≡ received_in action.now.map states.old.frames
+        ≡ received_in (map_in action.now) states.old.frames
         (state_of states.old.state.ports states.old.state.world.records) arrivals.now }
     ensures action { IfOk result (λ started. started.action ≡ action.now) }
     ensures workers { IfOk result (λ started. started.workers ≡ workers) }
@@ -118,7 +120,7 @@ pub fn finish_frame<R: Threads + Wait + Sync, G: Gate>(
     requires no_reply { out.old.replies ≡ [] }
     ensures frame { out.new.frame ≡ states.old.frames }
     ensures received { out.new.received ≡ out.old.received }
-    ensures finished { IsFinished started.entry.action.map states.old.frames started.entry.workers
+    ensures finished { IsFinished (map_in started.entry.action) states.old.frames started.entry.workers
         (receiving_of (state_of states.old.next.ports states.old.next.world.records) out.old.received.lists)
         (state_of states.new.state.ports states.new.state.world.records) out.new.journal.entries out.new.slots
         out.new.replies }

@@ -12,7 +12,7 @@ ghost use Rattle.frame_phases.specs.FrameOuts.{IsEmpty};
 use crate::frame_out::FrameOut;
 use crate::phases::{States, begin_frame, finish_frame};
 use crate::scores::score_of;
-use arena_actions::ArenaAction;
+use arena_actions::MapAction;
 use arena_map::ArenaMap;
 use packet_read::Arrival;
 use shared_moves::Gate;
@@ -24,23 +24,24 @@ use std::thread::Threads;
 /// The server between two frames: the action of its map's arena, its state, and how many frames were run.
 #[derive(Drop)]
 pub struct Server {
-    action: ArenaAction,
+    action: MapAction,
     states: States,
 }
 
 // Clauses see the map, the clients by slot beside the records by id, and the number of frames.
 impl Model for Server {
+    ghost use Rattle.arena_actions.specs.MapActions.{map_in, IsOfItsMap};
     ghost use Rattle.std.specs.Prelude.{◌≡◌};
     ghost use Rattle.client_ports.specs.States.{state_of};
     ghost use Rattle.frame_phases.specs.Servers.{ServerView, server_view, IsServer};
 
     ghost Value = { ServerView };
 
-    ghost view = { λ s. server_view s.action.map (state_of s.states.state.ports s.states.state.world.records)
+    ghost view = { λ s. server_view (map_in s.action) (state_of s.states.state.ports s.states.state.world.records)
         s.states.frames };
 
-    ghost invariant = { λ s. IsServer s.action.map (state_of s.states.state.ports s.states.state.world.records)
-        × (s.states.next.world.tree ≡ s.states.state.world.tree) };
+    ghost invariant = { λ s. IsServer (map_in s.action) (state_of s.states.state.ports s.states.state.world.records)
+        × (s.states.next.world.tree ≡ s.states.state.world.tree) × (IsOfItsMap s.action) };
 }
 
 impl Server {
@@ -54,7 +55,7 @@ impl Server {
         ensures server { IfOk result (λ server. server ≡ new_server map) }
         ensures rules { OnOk result (IsMap map) }
     {
-        let action = ArenaAction::new(map);
+        let action = MapAction::new(map);
         let states = States::opening(alloc, action.map())?;
         Ok(Server { action, states })
     }

@@ -21,19 +21,20 @@ pub struct State {
     pub world: World,
 }
 
-/// The world before the first frame: the things of the map, each at its id.
+/// The world before the first frame: a tree of the map's depth over its bounds, and the things of the map, each at its
+/// id.
 fn opening_world(alloc: Global, map: &ArenaMap) -> Result<World, AllocError>
-    ensures made { IfOk result (λ w. w ≡ with_records (empty_world map.now.bounds) (entities_of map.now)) }
+    ensures made { IfOk result (λ w. w ≡ with_records (empty_world map.now.bounds map.now.depth) (entities_of map.now)) }
     ensures records { IfOk result (λ w. w.records ≡ (opening map.now).records) }
     ensures rules { IsMap map.now }
 {
-    World::new(alloc, map.bounds(), map.entities())
+    World::new(alloc, map.bounds(), map.depth(), map.entities())
 }
 
 impl State {
     /// The state before the first frame: the things of the map are there, and nobody is joined.
     pub fn opening(alloc: Global, map: &ArenaMap) -> Result<State, AllocError>
-        ensures world { IfOk result (λ s. s.world ≡ with_records (empty_world map.now.bounds) (entities_of map.now)) }
+        ensures world { IfOk result (λ s. s.world ≡ with_records (empty_world map.now.bounds map.now.depth) (entities_of map.now)) }
         ensures state { IfOk result (λ s. state_of s.ports s.world.records ≡ opening map.now) }
         ensures rules { IsMap map.now }
     {

@@ -209,10 +209,10 @@ mod tests {
 
     #[test]
     fn lists_of_a_world_are_as_many_as_its_nodes_ask_for(rt: HostRuntime) -> Result<(), Fail> {
-        let mut lists = Lists::new(rt.alloc(), 256, 62)?;
-        lists.insert(61, 255);
-        expect_where(&rt, &lists, 255, Some(61));
-        expect_first(&rt, &lists, 61, Some(255));
+        let mut lists = Lists::new(rt.alloc(), 512, 126)?;
+        lists.insert(125, 511);
+        expect_where(&rt, &lists, 511, Some(125));
+        expect_first(&rt, &lists, 125, Some(511));
         Ok(())
     }
 }

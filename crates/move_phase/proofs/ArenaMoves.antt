@@ -14,7 +14,9 @@ use Rattle.move_journal.specs.ByPlace.{IsByPlace}
 use Rattle.move_journal.specs.Merges.{IsRight, HasNumbersApart, history_of}
 use Rattle.arena_map.specs.Maps.{MapView, IsMap}
 use Rattle.arena_map.specs.Validity.{IsValidWorld}
-use Rattle.arena_actions.specs.declared.arena_action.ArenaAction.{ArenaAction}
+use Rattle.entity_recs.specs.Actions.{Meaning}
+use Rattle.arena_actions.specs.declared.map_action.MapAction.{MapAction}
+use Rattle.arena_actions.specs.MapActions.{map_in, meaning_in, IsOfItsMap, means_its_map}
 use Rattle.arena_actions.specs.Outcomes.{outcome_on}
 use Rattle.arena_actions.specs.Takes.{takes}
 use Rattle.arena_actions.specs.Lawful.Worlds.{valid_is_taken}
@@ -87,33 +89,49 @@ none_asked moves none = ap (map command_of) (no_items moves none)
 -- ---- where there are some
 
 -- what the shared world of started moves is, where there is one
-pub shared_of : (world : WorldView) (commands : List Command) (s : StartedView) (table : TableView ArenaAction) (passes : Vec PassView Global) → s.shared ≡ Some (table, passes) → AreStarted world commands s
+pub shared_of : (world : WorldView) (commands : List Command) (s : StartedView) (table : TableView MapAction) (passes : Vec PassView Global) → s.shared ≡ Some (table, passes) → AreStarted world commands s
     → IsSharedFor s.action s.workers world commands table passes.items
 shared_of world commands s table passes is started = subst (IsSharedForAny s.action s.workers world commands) is started.shared_for
 
 -- what was run on it was run in the world and by the workers that the moves were started for
-pub ran_as_started : (world new : WorldView) (commands : List Command) (s : StartedView) (table : TableView ArenaAction) (passes : List PassView) (workers : ℕ) (logs lent : List JournalView)
+pub ran_as_started : (world new : WorldView) (commands : List Command) (s : StartedView) (table : TableView MapAction) (passes : List PassView) (workers : ℕ) (logs lent : List JournalView)
     → IsSharedFor s.action s.workers world commands table passes → workers ≡ s.workers → lent ≡ logs
     → HaveRun (fixed_of_arena table.action table.world) workers commands logs new → HaveRun (fixed_of_arena s.action world) s.workers commands lent new
 ran_as_started world new commands s table passes workers logs lent shared workers_are lent_is ran =
     subst (λ (views : List JournalView). HaveRun (fixed_of_arena s.action world) s.workers commands views new) (sym lent_is)
     (subst (λ (n : ℕ). HaveRun (fixed_of_arena s.action world) n commands logs new) workers_are
     (subst (λ (w : WorldView). HaveRun (fixed_of_arena s.action w) workers commands logs new) shared.world_is
-    (subst (λ (a : ArenaAction). HaveRun (fixed_of_arena a table.world) workers commands logs new) shared.action_is ran)))
+    (subst (λ (a : MapAction). HaveRun (fixed_of_arena a table.world) workers commands logs new) shared.action_is ran)))
 
-module _ (action : ArenaAction) (old new : WorldView) (workers : ℕ) (commands : List Command) (logs : List JournalView)
+-- the live records of a valid world are those that the action of its map takes
+pub all_taken_by : (action : MapAction) (records : List (Option Rec)) → IsOfItsMap action → IsMap (map_in action) → IsValidWorld (map_in action) records → HaveSmallNumbers records
+    → All (λ (r : Rec). (meaning_in action).takes r ≡ true) (live_in records)
+all_taken_by action records of_its_map is_map valid small =
+    subst (λ (m : Meaning). All (λ (r : Rec). m.takes r ≡ true) (live_in records)) (sym (means_its_map action of_its_map)) (all_taken (map_in action) records is_map valid small)
+
+module _ (action : MapAction) (of_its_map : IsOfItsMap action) (old new : WorldView) (workers : ℕ) (commands : List Command) (logs : List JournalView)
     (ran : HaveRun (fixed_of_arena action old) workers commands logs new) (some : 0 < workers) (apart : HasNumbersApart commands)
     (linked_old : IsLinked old) (linked_new : IsLinked new) (journal : List Entry) (by_place : IsByPlace journal logs) where
-  pub arena_right : IsRight (outcome_on action.map) (world_of old.records) commands journal
-  arena_right =
-      subst (λ (w : World). IsRight (outcome_on action.map) w commands journal) (start_world_is old.records linked_old.entries)
+  abbrev act : Action
+  act = (meaning_in action).effect_of
+
+  right_by_it : IsRight act (world_of old.records) commands journal
+  right_by_it =
+      subst (λ (w : World). IsRight act w commands journal) (start_world_is old.records linked_old.entries)
       (journal_right (fixed_of_arena action old) workers commands logs new ran some apart journal by_place)
 
-  pub arena_moved : new.records ≡ records_in (run (outcome_on action.map) (world_of old.records) (history_of commands journal)) old.records
-  arena_moved =
+  pub arena_right : IsRight (outcome_on (map_in action)) (world_of old.records) commands journal
+  arena_right = subst (λ (m : Meaning). IsRight m.effect_of (world_of old.records) commands journal) (means_its_map action of_its_map) right_by_it
+
+  moved_by_it : new.records ≡ records_in (run act (world_of old.records) (history_of commands journal)) old.records
+  moved_by_it =
       let start = start_world_is old.records linked_old.entries in
       let history = history_is_run (fixed_of_arena action old) workers commands logs new ran some apart journal by_place in
-      records_are (outcome_on action.map) (fixed_of_arena action old).start ran.closed.history old.records new.records linked_old.entries
+      records_are act (fixed_of_arena action old).start ran.closed.history old.records new.records linked_old.entries
       linked_new.entries (linked_new.places ∙ sym linked_old.places) start ran.closed.run_is
-      ∙ ap (λ (w : World). records_in (run (outcome_on action.map) w ran.closed.history) old.records) start
-      ∙ ap (λ (items : List Item). records_in (run (outcome_on action.map) (world_of old.records) items) old.records) (sym history)
+      ∙ ap (λ (w : World). records_in (run act w ran.closed.history) old.records) start
+      ∙ ap (λ (items : List Item). records_in (run act (world_of old.records) items) old.records) (sym history)
+
+  pub arena_moved : new.records ≡ records_in (run (outcome_on (map_in action)) (world_of old.records) (history_of commands journal)) old.records
+  arena_moved =
+      subst (λ (m : Meaning). new.records ≡ records_in (run m.effect_of (world_of old.records) (history_of commands journal)) old.records) (means_its_map action of_its_map) moved_by_it

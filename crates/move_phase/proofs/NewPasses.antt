@@ -6,7 +6,8 @@ use Rattle.std.proofs.lemmas.List.FromFn.{get_or-map-range_with_len, length-map-
 use Rattle.atomic_table.specs.Seated.{TableId}
 use Rattle.entity_recs.specs.Commands.{Command}
 use Rattle.core_steps.specs.Views.{Fixed, Idle}
-use Rattle.ruled_words.specs.Passes.{PassView, IsPassOf}
+use Rattle.ruled_words.specs.Passes.{PassView, IsPassOf, setting_of}
+use Rattle.ruled_words.specs.declared.setting.Setting.{Setting}
 use Rattle.region_locks.specs.NewPasses.{new_passes, other_pass}
 use Rattle.move_phase.specs.Serving.{served_by}
 use Rattle.move_phase.specs.Running.{MayServe, HaveRoom}
@@ -20,26 +21,26 @@ pub record IsNew (rooms : List ℕ) (i : ℕ) (p : PassView) : Type 0 where
   pub room : p.view.room ≡ slice_index rooms i
 
 -- each of the passes of a new table is so
-pub new_at : (table : TableId) (rooms : List ℕ) (i : ℕ) (d : PassView) → i < length rooms
-    → IsNew rooms i (slice_index_or (new_passes table rooms) i d)
-new_at table rooms zero d within = record { number = refl; given = refl; idle = refl; empty = refl; room = refl }
-new_at table rooms (suc k) d within =
-    let at : slice_index_or (map (other_pass table rooms) (range_with_len 1 (length rooms - 1))) k d ≡ other_pass table rooms (suc k) =
-    get_or-map-range_with_len (other_pass table rooms) 1 (length rooms - 1) k (suc k) d (omega (arith, within)) (omega arith) in
+pub new_at : (table : TableId) (setting : Setting) (rooms : List ℕ) (i : ℕ) (d : PassView) → i < length rooms
+    → IsNew rooms i (slice_index_or (new_passes table setting rooms) i d)
+new_at table setting rooms zero d within = record { number = refl; given = refl; idle = refl; empty = refl; room = refl }
+new_at table setting rooms (suc k) d within =
+    let at : slice_index_or (map (other_pass table setting rooms) (range_with_len 1 (length rooms - 1))) k d ≡ other_pass table setting rooms (suc k) =
+    get_or-map-range_with_len (other_pass table setting rooms) 1 (length rooms - 1) k (suc k) d (omega (arith, within)) (omega arith) in
     subst (IsNew rooms (suc k)) (sym at) (record { number = refl; given = refl; idle = refl; empty = refl; room = refl })
 
 -- there are as many as rooms
-pub new_count : (table : TableId) (rooms : List ℕ) → 0 < length rooms → length (new_passes table rooms) ≡ length rooms
-new_count table rooms some = omega (arith, some, length-map-range_with_len (other_pass table rooms) 1 (length rooms - 1))
+pub new_count : (table : TableId) (setting : Setting) (rooms : List ℕ) → 0 < length rooms → length (new_passes table setting rooms) ≡ length rooms
+new_count table setting rooms some = omega (arith, some, length-map-range_with_len (other_pass table setting rooms) 1 (length rooms - 1))
 
 -- a new pass may serve the commands that it has room for
-pub may_serve : (F : Fixed) (table : TableId) (commands : List Command) (rooms : List ℕ) (passes : List PassView) → passes ≡ new_passes table rooms
+pub may_serve : (F : Fixed) (table : TableId) (commands : List Command) (rooms : List ℕ) (passes : List PassView) → passes ≡ new_passes table (setting_of F) rooms
     → 0 < length rooms → All (IsPassOf F (length rooms) table) passes → HaveRoom (length rooms) commands rooms
     → (i : ℕ) (d : PassView) → i < length passes → MayServe F (length rooms) table commands (slice_index_or passes i d)
 may_serve F table commands rooms passes are some own room i d within =
-    let inside : i < length rooms = omega (arith, within, ap length are, new_count table rooms some) in
+    let inside : i < length rooms = omega (arith, within, ap length are, new_count table (setting_of F) rooms some) in
     let new : IsNew rooms i (slice_index_or passes i d) =
-    subst (λ (ps : List PassView). IsNew rooms i (slice_index_or ps i d)) (sym are) (new_at table rooms i d inside) in
+    subst (λ (ps : List PassView). IsNew rooms i (slice_index_or ps i d)) (sym are) (new_at table (setting_of F) rooms i d inside) in
     record {
       own = own i d within;
       rests = record { given = new.given; idle = new.idle };

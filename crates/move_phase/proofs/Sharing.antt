@@ -15,7 +15,7 @@ use Rattle.move_journal.specs.Logs.{JournalView}
 use Rattle.world_tree.specs.Worlds.{WorldView}
 use Rattle.core_steps.specs.Views.{Fixed}
 use Rattle.ruled_words.specs.Starts.{fixed_by}
-use Rattle.ruled_words.specs.Passes.{PassView, TableView, IsPassOf, fixed_in}
+use Rattle.ruled_words.specs.Passes.{PassView, TableView, IsPassOf, fixed_in, setting_of}
 use Rattle.region_locks.specs.NewPasses.{new_passes, first_pass}
 use Rattle.region_locks.specs.Closing.{HasNoCommand, IsClosed, log_from}
 use Rattle.move_phase.specs.Serving.{served_by, entries_from}
@@ -36,7 +36,7 @@ entries_same (p ∷ passes) = ap (λ (es : List (List _)). entries_from p.view.l
 
 -- passes of a new table, and what each has served since
 pub record AreServed (F : Fixed) (table : TableId) (commands : List Command) (rooms : List ℕ) (old new : List PassView) : Type 0 where
-  pub begun : old ≡ new_passes table rooms
+  pub begun : old ≡ new_passes table (setting_of F) rooms
   pub some : 0 < length rooms
   pub count : length new ≡ length old
   pub each : (i : ℕ) (d : PassView) → i < length old
@@ -47,13 +47,13 @@ from_zero i = omega arith
 
 module _ (F : Fixed) (table : TableId) (commands : List Command) (rooms : List ℕ) (old new : List PassView) (are : AreServed F table commands rooms old new) where
   pub as_many : length new ≡ length rooms
-  as_many = are.count ∙ ap length are.begun ∙ new_count table rooms are.some
+  as_many = are.count ∙ ap length are.begun ∙ new_count table (setting_of F) rooms are.some
 
   inside_old : (i : ℕ) → i < length rooms → i < length old
   inside_old i within = omega (arith, within, as_many, are.count)
 
   was_new : (i : ℕ) (d : PassView) → i < length rooms → IsNew rooms i (slice_index_or old i d)
-  was_new i d within = subst (λ (ps : List PassView). IsNew rooms i (slice_index_or ps i d)) (sym are.begun) (new_at table rooms i d within)
+  was_new i d within = subst (λ (ps : List PassView). IsNew rooms i (slice_index_or ps i d)) (sym are.begun) (new_at table (setting_of F) rooms i d within)
 
   inside : (i : ℕ) → i < length new → i < length rooms
   inside i within = omega (arith, within, as_many)
@@ -75,7 +75,7 @@ module _ (F : Fixed) (table : TableId) (commands : List Command) (rooms : List �
       ext_get_or 0 (map (λ (p : PassView). p.number) new) (range_with_len 0 (length rooms))
       (length-map new (λ (p : PassView). p.number) ∙ as_many ∙ sym (length-range_with_len 0 (length rooms)))
       (λ i within.
-      let first = first_pass table rooms in
+      let first = first_pass table (setting_of F) rooms in
       let within_new : i < length new = omega (arith, within, length-map new (λ (p : PassView). p.number)) in
       get_or-map (λ (p : PassView). p.number) new i first 0 within_new
       ∙ number_at i first (inside i within_new)
@@ -96,7 +96,7 @@ module _ (F : Fixed) (table : TableId) (commands : List Command) (rooms : List �
     views_are = entries_same new;
     count = length-map new (λ (p : PassView). p.view.log) ∙ as_many;
     served = λ i d within.
-        let first = first_pass table rooms in
+        let first = first_pass table (setting_of F) rooms in
         let within_new : i < length new = omega (arith, within, as_many) in
         ap commands_of (get_or-map (λ (p : PassView). p.view.log) new i first d within_new) ∙ log_at i first within;
     closed = closed;
@@ -104,17 +104,17 @@ module _ (F : Fixed) (table : TableId) (commands : List Command) (rooms : List �
 
 -- what a new table and its passes are ready for
 pub ready_for : (F : Fixed) (table : TableId) (workers k : ℕ) (commands : List Command) (all rooms : List ℕ) (passes : List PassView) → k ≡ workers → HaveRoom workers commands all → rooms ≡ take k all
-    → passes ≡ new_passes table (take k all) → All (IsPassOf F (length rooms) table) passes → AreOfLive F commands → IsReadyFor F workers commands table rooms passes
+    → passes ≡ new_passes table (setting_of F) (take k all) → All (IsPassOf F (length rooms) table) passes → AreOfLive F commands → IsReadyFor F workers commands table rooms passes
 ready_for F table workers k commands all rooms passes k_is room rooms_is begun own live =
     let are = rooms_are workers k commands all rooms k_is room rooms_is in
-    record { count = are.count; room = are.room; begun = begun ∙ ap (new_passes table) (sym rooms_is); own = own; live = live }
+    record { count = are.count; room = are.room; begun = begun ∙ ap (new_passes table (setting_of F)) (sym rooms_is); own = own; live = live }
 
 -- so they are, where the memory for them was taken
 pub ready_if_taken : {A E : Type 0} (meaning : A → Meaning) (action : A) (world : WorldView)
     (workers k : ℕ) (commands : List Command) (all : List ℕ) (r : Result (TableView A × Vec PassView Global) E) → k ≡ workers → HaveRoom workers commands all
     → AreOfLive (fixed_by meaning action world) commands
     → IfOk r (λ s. (s.0.action ≡ action) × (s.0.world ≡ world) × (s.0.rooms ≡ take k all))
-    → IfOk r (λ s. s.1.items ≡ new_passes s.0.table (take k all))
+    → IfOk r (λ s. s.1.items ≡ new_passes s.0.table (setting_of (fixed_in meaning s.0)) (take k all))
     → IfOk r (λ s. All (IsPassOf (fixed_in meaning s.0) (length s.0.rooms) s.0.table) s.1.items)
     → IfOk r (λ s. IsReadyFor (fixed_in meaning s.0) workers commands s.0.table s.0.rooms s.1.items)
 ready_if_taken meaning action world workers k commands all (Ok s) k_is room live shared begun own =

@@ -3,7 +3,7 @@ use Rattle.std.specs.Prelude.{◌≡◌, ℕ, List, length, All}
 use Rattle.atomic_table.specs.Seated.{TableId}
 use Rattle.entity_recs.specs.Commands.{Command}
 use Rattle.core_steps.specs.Views.{Fixed}
-use Rattle.ruled_words.specs.Passes.{PassView, IsPassOf}
+use Rattle.ruled_words.specs.Passes.{PassView, IsPassOf, setting_of}
 use Rattle.region_locks.specs.NewPasses.{new_passes}
 use Rattle.move_phase.specs.Running.{AreOfLive, HaveRoom}
 
@@ -13,6 +13,6 @@ pub record IsReadyFor (F : Fixed) (workers : ℕ) (commands : List Command) (tab
     (passes : List PassView) : Type 0 where
   pub count : length rooms ≡ workers
   pub room : HaveRoom (length rooms) commands rooms
-  pub begun : passes ≡ new_passes table rooms
+  pub begun : passes ≡ new_passes table (setting_of F) rooms
   pub own : All (IsPassOf F (length rooms) table) passes
   pub live : AreOfLive F commands

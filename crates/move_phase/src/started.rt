@@ -1,3 +1,4 @@
+ghost use Rattle.arena_actions.specs.MapActions.{map_in, IsOfItsMap};
 ghost use Rattle.std.specs.Prelude.{◌≡◌, ◌<◌, ◌≤◌, ◌^◌, length, map as map_list, All, IfOk};
 ghost use Rattle.entity_recs.specs.Commands.{command_of};
 ghost use Rattle.arena_map.specs.Validity.{IsValidWorld};
@@ -7,7 +8,7 @@ ghost use Rattle.move_phase.specs.Starting.{IsSharedForAny};
 
 use crate::numbers::look_at_all;
 use crate::workers::{run_on_workers, share};
-use arena_actions::ArenaAction;
+use arena_actions::MapAction;
 use entity_recs::Cmd;
 use move_journal::{Journal, LogList, merge};
 use region_locks::PassList;
@@ -19,18 +20,19 @@ use std::thread::Threads;
 use world_tree::World;
 
 /// A world that is shared, and the passes of the workers that run moves on it.
-type SharedWorld<'a> = (Shared<'a, ArenaAction>, PassList<ArenaAction>);
+type SharedWorld<'a> = (Shared<'a, MapAction>, PassList<MapAction>);
 
 /// Shares the world among the workers, where there are moves. A frame without moves takes no memory.
 fn share_for_any<'a>(
     alloc: Global,
-    action: &'a ArenaAction,
+    action: &'a MapAction,
     world: &World,
     moves: &[Cmd],
     workers: u8,
 ) -> Result<Option<SharedWorld<'a>>, AllocError>
     requires workers { AreWorkers workers }
-    requires valid { IsValidWorld action.now.map world.now.records }
+    requires of_its_map { IsOfItsMap action.now }
+    requires valid { IsValidWorld (map_in action.now) world.now.records }
     requires live { All (HasLivePlayer world.now.records) (map_list command_of moves.now) }
     requires few { length moves.now < 2 ^ 32 }
     ensures { IfOk result (IsSharedForAny action.now workers world.now (map_list command_of moves.now)) }
@@ -47,7 +49,7 @@ fn share_for_any<'a>(
 /// Moves that are started, and that nothing can refuse any more: all memory for them is taken, and none was run.
 #[derive(Drop)]
 pub struct StartedMoves<'a> {
-    action: &'a ArenaAction,
+    action: &'a MapAction,
     workers: u8,
     /// No log, in the place of those that the moves will give.
     logs: LogList,
@@ -61,7 +63,7 @@ impl<'a> Model for StartedMoves<'a> {
 
     ghost Value = { StartedView };
 
-    ghost use Rattle.arena_actions.specs.contracts.arena_action.ArenaAction as arena;
+    ghost use Rattle.arena_actions.specs.contracts.map_action.MapAction as arena;
     ghost use Rattle.std.specs.Coded.{codes};
 
     ghost coded = { Prim.hlevel (codes, arena.the_row.coded) };
@@ -72,6 +74,7 @@ impl<'a> Model for StartedMoves<'a> {
 }
 
 impl<'a> StartedMoves<'a> {
+    ghost use Rattle.arena_actions.specs.MapActions.{map_in, IsOfItsMap};
     ghost use Rattle.std.specs.Prelude.{◌≡◌, ◌<◌, ◌≤◌, ◌^◌, [], length, map as map_list, All, IfOk};
     ghost use Rattle.entity_recs.specs.Commands.{command_of};
     ghost use Rattle.entity_recs.specs.Histories.{run};
@@ -87,13 +90,14 @@ impl<'a> StartedMoves<'a> {
     /// read. The only error is that memory is refused.
     pub fn start(
         alloc: Global,
-        action: &'a ArenaAction,
+        action: &'a MapAction,
         world: &World,
         moves: &[Cmd],
         workers: u8,
     ) -> Result<StartedMoves<'a>, AllocError>
         requires workers { AreWorkers workers }
-        requires valid { IsValidWorld action.now.map world.now.records }
+        requires of_its_map { IsOfItsMap action.now }
+        requires valid { IsValidWorld (map_in action.now) world.now.records }
         requires live { All (HasLivePlayer world.now.records) (map_list command_of moves.now) }
         requires few { length moves.now < 2 ^ 32 }
         ensures action { IfOk result (λ s. s.action ≡ action.now) }
@@ -123,10 +127,10 @@ impl<'a> StartedMoves<'a> {
         requires apart { HasNumbersApart (map_list command_of moves.now) }
         requires empty { journal.old.entries ≡ [] }
         requires room { length moves.now ≤ journal.old.room }
-        ensures right { IsRight (outcome_on self.entry.action.map) (world_of world.old.records)
+        ensures right { IsRight (outcome_on (map_in self.entry.action)) (world_of world.old.records)
             (map_list command_of moves.now) journal.new.entries }
         ensures order { self.entry.workers ≡ 1 → IsInOrder journal.new.entries (map_list command_of moves.now) }
-        ensures moved { world.new.records ≡ records_in (run (outcome_on self.entry.action.map)
+        ensures moved { world.new.records ≡ records_in (run (outcome_on (map_in self.entry.action))
             (world_of world.old.records)
             (history_of (map_list command_of moves.now) journal.new.entries)) world.old.records }
         ensures room { journal.new.room ≡ journal.old.room }

@@ -9,7 +9,7 @@ ghost use Rattle.world_tree.specs.Worlds.{IsLinked};
 ghost use Rattle.move_phase.specs.Serving.{AreWorkers};
 
 use crate::StartedMoves;
-use arena_actions::ArenaAction;
+use arena_actions::MapAction;
 use arena_geo::Vec3;
 use arena_map::{ArenaMap, MapLine, MapRefusal};
 use client_ports::{Ports, Received};
@@ -88,7 +88,7 @@ fn opening(alloc: Global, map: &ArenaMap) -> Result<World, AllocError>
     ensures linked { IfOk result (λ w. IsLinked w) }
     ensures rules { IsMap map.now }
 {
-    World::new(alloc, map.bounds(), map.entities())
+    World::new(alloc, map.bounds(), map.depth(), map.entities())
 }
 
 /// A packet with these bytes.
@@ -144,7 +144,7 @@ fn reach(
     let mut received = Received::new(rt.alloc(), 4)?;
     receive(&map, &mut world, &mut received);
     let mut journal = Journal::new(rt.alloc(), 512)?;
-    let action = ArenaAction::new(map);
+    let action = MapAction::new(map);
     let moves = received.moves();
     let started = StartedMoves::start(rt.alloc(), &action, &world, moves, workers)?;
     started.run(rt, &mut world, moves, &NoGate, &mut journal);

@@ -1,9 +1,11 @@
--- The output of a recording has at most 600,000 bytes a frame, and a last line of at most 16.
+-- The output of a recording has at most 1,120,000 bytes a frame, and a last line of at most 16.
 use Rattle.std.proofs.Common.{◌≡◌, ◌⊎◌, ℕ, zero, suc, ◌+◌, ◌*◌, ◌<◌, ◌≤◌, Bool, true, false, cond, All, List, [], ◌∷◌, ◌++◌, length, map, filter, take, drop, Option, Some, None, refl, sym, ap, ◌∙◌, subst, inl, inr, arith, take-append-drop}
 use Rattle.std.specs.List.{AllByRecursion}
 use Rattle.std.proofs.lemmas.List.{length-map, length-set}
 use Rattle.std.proofs.lemmas.List.Elements.{All-head, All-tail}
 use Rattle.std.proofs.lemmas.List.Sorted.{length_permutation}
+use Rattle.edge_io.specs.declared.line_buf.TheConstants.{ROOM}
+use Rattle.entity_recs.specs.declared.limits.TheConstants.{IDS}
 use Rattle.entity_recs.specs.declared.rec.Rec.{Rec}
 use Rattle.entity_recs.specs.declared.effect.Entry.{Entry}
 use Rattle.entity_recs.specs.Histories.{Item}
@@ -122,32 +124,32 @@ live-few [] = omega arith
 live-few (None ∷ records) = omega (arith, live-few records)
 live-few (Some r ∷ records) = omega (arith, live-few records)
 
-live-below : (records : List (Option Rec)) → ((id : ℕ) (r : Rec) → record_at records id ≡ Some r → r.id < 256) → AllByRecursion (λ r. r.id < 256) (live_in records)
+live-below : (records : List (Option Rec)) → ((id : ℕ) (r : Rec) → record_at records id ≡ Some r → r.id < IDS) → AllByRecursion (λ r. r.id < IDS) (live_in records)
 live-below [] below = tt
 live-below (None ∷ records) below = live-below records (λ id r at. below (suc id) r at)
 live-below (Some r ∷ records) below = (below zero r refl, live-below records (λ id q at. below (suc id) q at))
 
-kept-below : (p : Rec → Bool) (rs : List Rec) → AllByRecursion (λ r. r.id < 256) rs → AllByRecursion (λ r. r.id < 256) (filter p rs)
+kept-below : (p : Rec → Bool) (rs : List Rec) → AllByRecursion (λ r. r.id < IDS) rs → AllByRecursion (λ r. r.id < IDS) (filter p rs)
 kept-below p [] below = tt
 kept-below p (r ∷ rs) below = by (p r) (filter p rs) (kept-below p rs below.1)
   where
-    by : (b : Bool) (l : List Rec) → AllByRecursion (λ q. q.id < 256) l → AllByRecursion (λ q. q.id < 256) (cond b (r ∷ l) l)
+    by : (b : Bool) (l : List Rec) → AllByRecursion (λ q. q.id < IDS) l → AllByRecursion (λ q. q.id < IDS) (cond b (r ∷ l) l)
     by true l rest = (below.0, rest)
     by false l rest = rest
 
 -- the lines of the snapshots of at most 64 players
-snapshots-long : (arena : MapView) (frame : ℕ) (records : List (Option Rec)) → length records ≡ 256 → IsValidWorld arena records → length (text_of (to_lines frame records)) ≤ 531200
+snapshots-long : (arena : MapView) (frame : ℕ) (records : List (Option Rec)) → length records ≡ IDS → IsValidWorld arena records → length (text_of (to_lines frame records)) ≤ ROOM * 64
 snapshots-long arena frame records places valid =
     let entries : AreEntries records = λ id r at. record { is_record = (valid.each id r at).is_record; own_id = (valid.each id r at).own_id } in
-    let below : AllByRecursion (λ r. r.id < 256) (players_in records) = kept-below _ (live_in records) (live-below records (λ id r at. id-below r (valid.each id r at).is_record)) in
-    let few : length (live_in records) ≤ 256 = omega (arith, live-few records, places) in
+    let below : AllByRecursion (λ r. r.id < IDS) (players_in records) = kept-below _ (live_in records) (live-below records (λ id r at. id-below r (valid.each id r at).is_record)) in
+    let few : length (live_in records) ≤ IDS = omega (arith, live-few records, places) in
     let count : length (players_in records) ≤ 64 = omega (arith, ap length (players_are_first records entries), few_first records 64) in
     omega (arith, to_lines-long frame (live_in records) (players_in records) few below, count)
 
 -- ---- frames
 
 frame-long : (arena : MapView) (frame : ℕ) (state : State) (arrivals : List Arrival) (journal : List Entry) → IsMap arena → IsServerState arena state → frame < 100000 → All HasBytes arrivals → IsSmallFrame arrivals
-    → IsRightAfter arena (received_in arena frame state arrivals) journal → length (text_of (lines_with arena frame (received_in arena frame state arrivals) journal)) ≤ 600000
+    → IsRightAfter arena (received_in arena frame state arrivals) journal → length (text_of (lines_with arena frame (received_in arena frame state arrivals) journal)) ≤ 1120000
 unfolding lists_size
 frame-long arena frame state arrivals journal is_map is below bytes small right =
     let r = received_in arena frame state arrivals in
@@ -176,7 +178,7 @@ frame-long arena frame state arrivals journal is_map is below bytes small right 
     )
 
 run-long : (arena : MapView) (frame : ℕ) (state : State) (frames : List (List Arrival)) (js : List (List Entry)) → IsMap arena → IsServerState arena state → frame + length frames ≤ 100000 → HaveBytes frames
-    → AreSmallFrames frames → AreRight arena frame state frames js → length (text_of (run_lines arena frame state frames js)) ≤ 600000 * length frames
+    → AreSmallFrames frames → AreRight arena frame state frames js → length (text_of (run_lines arena frame state frames js)) ≤ 1120000 * length frames
 run-long arena frame state [] js is_map is few bytes small right = omega arith
 run-long arena frame state (arrivals ∷ frames) [] is_map is few bytes small right = absurd right
 run-long arena frame state (arrivals ∷ frames) (j ∷ js) is_map is few bytes small right =
@@ -193,7 +195,7 @@ run-long arena frame state (arrivals ∷ frames) (j ∷ js) is_map is few bytes 
 -- ---- the output of a recording
 
 lines-long : (m : Option MapView) (frames : List (List Arrival)) (js : List (List Entry)) → ((arena : MapView) → m ≡ Some arena → IsMap arena) → length frames ≤ 100000 → HaveBytes frames
-    → AreSmallFrames frames → AreRightIn m frames js → length (text_of (lines_in m frames js)) ≤ 600000 * length frames
+    → AreSmallFrames frames → AreRightIn m frames js → length (text_of (lines_in m frames js)) ≤ 1120000 * length frames
 lines-long None frames js rules few bytes small right = omega arith
 lines-long (Some arena) frames js rules few bytes small right =
     let is_map = rules arena refl in

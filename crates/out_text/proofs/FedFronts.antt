@@ -1,5 +1,5 @@
 -- The texts of the first frames of a recording that is fed, and of all of them, with right journals.
-use Rattle.std.proofs.Common.{◌≡◌, ℕ, ◌+◌, ◌-◌, ◌<◌, ◌≤◌, List, [], ◌∷◌, ◌++◌, length, take, drop, Option, Some, None, option_map, refl, sym, ap, ◌∙◌, subst, append_assoc, append-nil, arith, length-append, take-append-drop}
+use Rattle.std.proofs.Common.{◌≡◌, ℕ, ◌+◌, ◌-◌, ◌<◌, ◌≤◌, List, [], ◌∷◌, ◌++◌, length, take, drop, Option, Some, None, option_map, IfSome, refl, sym, ap, ◌∙◌, subst, append_assoc, append-nil, arith, length-append, take-append-drop}
 use lib.Seq.{take-append-add, take-append_seam, length-take-le}
 use Rattle.entity_recs.specs.declared.effect.Entry.{Entry}
 use Rattle.arena_map.specs.Maps.{MapView, IsMap}
@@ -13,7 +13,8 @@ use Rattle.out_text.specs.FrameLines.{lines_with}
 use Rattle.out_text.specs.Journals.{dids}
 use Rattle.out_text.specs.Collecting.{frames_of}
 use Rattle.out_text.specs.Output.{AreRightIn, AreInOrderIn, last_of}
-use Rattle.out_text.specs.Feeds.{AreFeedsOf, IsFeedOf, in_order, last_fed, last_ordered, IsLastOrder, with_froms, fed_lines, fed_lines_in, fed_text, fed_output, froms, IsFedOutput, IsFedFront, IsFedFrames, IsFedPart, IsFedCutFrame, IsFedCutEnd, HasLastFed}
+use Rattle.packet_read.specs.Orders.{in_order, AreEachOnce}
+use Rattle.out_text.specs.Feeds.{AreFeedsOf, IsFeedOf, last_fed, last_ordered, IsLastOrder, with_froms, fed_lines, fed_lines_in, fed_text, fed_output, froms, IsFedOutput, IsFedFront, IsFedFrames, IsFedPart, IsFedCutFrame, IsFedCutEnd, HasLastFed}
 use Rattle.out_text.proofs.Runs.{length-right, text_of-append}
 use Rattle.out_text.proofs.ReadBack.{AreAllReported}
 use Rattle.out_text.proofs.Reporting.{right_are_reported}
@@ -69,6 +70,10 @@ no_fed_last Is bytes order last no_order none holds = record {
   holds = holds;
   order_is = record {
     none = λ _. no_order;
+    places =
+        let frames = take (length (froms [])) (frames_of bytes) in
+        let P : Option (List ℕ) → Type 0 = λ o. IfSome o (λ places. IfSome (last_fed frames) (λ sent. AreEachOnce (length sent) places)) in
+        subst P (sym no_order) tt;
     packets = ap (λ (o : Option (List ℕ)). last_ordered o (take (length (froms [])) (frames_of bytes))) no_order ∙ sym (ap last_fed froms-none);
   };
   last_is = none ∙ sym (ap last_of nothing_reported);

@@ -11,7 +11,8 @@ use Rattle.plain_server.specs.Entries.{HasBytes}
 use Rattle.plain_server.specs.Frames.{received_in, state_after, state_played}
 use Rattle.out_text.specs.OutLines.{OutLine, text_of}
 use Rattle.out_text.specs.FrameLines.{lines_with}
-use Rattle.out_text.specs.Feeds.{is_from, IsFeedOf, AreFeedsOf, with_froms, fed_lines}
+use Rattle.packet_read.specs.Orders.{is_from}
+use Rattle.out_text.specs.Feeds.{IsFeedOf, AreFeedsOf, with_froms, fed_lines}
 use Rattle.out_text.proofs.Reporting.{HaveBytes}
 use Rattle.out_text.proofs.Runs.{text_of-append}
 use Rattle.out_text.proofs.SmallFrames.{HasPort, IsSmallFrame, AreSmallFrames}

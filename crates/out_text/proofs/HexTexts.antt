@@ -10,6 +10,7 @@ use Rattle.hex.specs.Hex.{IsBytes, lower_digits, encode_with, encode_lower, deco
 use Rattle.hex.proofs.HexLemmas.{decode_of-encode_lower, decode_of-even, length-encode_with}
 use Rattle.edge_io.proofs.Decimals.{and_parts}
 use Rattle.edge_io.proofs.FieldTexts.{AreAbove}
+use Rattle.snapshot_write.specs.declared.reply_buf.TheConstants.{REPLY_ROOM}
 use Rattle.out_text.specs.Reading.{is_lower_digit, is_hex_text, without_error, bytes_in}
 
 -- ---- written, so read
@@ -48,12 +49,12 @@ bytes_at (b ∷ bytes) are zero = are.0
 bytes_at (b ∷ bytes) are (suc i) = bytes_at bytes are.1 i
 
 -- the digits of bytes are read as the bytes
-pub hex-back : (bytes : List ℕ) → 1 ≤ length bytes → length bytes ≤ 4123 → AllByRecursion (λ b. b < 2 ^ 8) bytes
+pub hex-back : (bytes : List ℕ) → 1 ≤ length bytes → length bytes ≤ REPLY_ROOM → AllByRecursion (λ b. b < 2 ^ 8) bytes
     → bytes_in (encode_lower bytes) ≡ Some bytes
 hex-back bytes some most are =
     let long = length-encode_with lower_digits bytes in
     let least : nat_le 2 (length (encode_lower bytes)) ≡ true = grind (arith, nat_tests, long, some) in
-    let fits : nat_le (length (encode_lower bytes)) 8246 ≡ true = grind (arith, nat_tests, long, most) in
+    let fits : nat_le (length (encode_lower bytes)) (2 * REPLY_ROOM) ≡ true = grind (arith, nat_tests, long, most) in
     rw (least, fits, lower_text bytes are, decode_of-encode_lower bytes (bytes_at bytes are)) refl
 
 -- ---- read, so written
@@ -167,7 +168,7 @@ even_text text bytes e = by (length text % 2 == 1) refl e
 pub record IsHexOf (text bytes : List ℕ) : Type 0 where
   pub spelled : text ≡ encode_lower bytes
   pub some : 1 ≤ length bytes
-  pub most : length bytes ≤ 4123
+  pub most : length bytes ≤ REPLY_ROOM
   pub are : AllByRecursion (λ b. b < 2 ^ 8) bytes
 
 pub hex-sound : (text bytes : List ℕ) → bytes_in text ≡ Some bytes → IsHexOf text bytes
@@ -180,10 +181,10 @@ hex-sound text bytes e = by (is_hex_text text) refl e
     by : (b : Bool) → is_hex_text text ≡ b → cond b (without_error (decode_of text)) None ≡ Some bytes → IsHexOf text bytes
     by false f g = absurd cc
     by true f g =
-        let parts = and_parts (nat_le 2 (length text) && nat_le (length text) 8246) (list_all is_lower_digit text) f in
-        let ends = and_parts (nat_le 2 (length text)) (nat_le (length text) 8246) parts.0 in
+        let parts = and_parts (nat_le 2 (length text) && nat_le (length text) (2 * REPLY_ROOM)) (list_all is_lower_digit text) f in
+        let ends = and_parts (nat_le 2 (length text)) (nat_le (length text) (2 * REPLY_ROOM)) parts.0 in
         let least = leb-true 2 (length text) ends.0 in
-        let most = leb-true (length text) 8246 ends.1 in
+        let most = leb-true (length text) (2 * REPLY_ROOM) ends.1 in
         let ok = decoded (decode_of text) g in
         let even = even_text text bytes ok in
         let is = text_of_pairs 0 text bytes parts.1 (sym (decode_of-even text even) ∙ ok) in

@@ -5,12 +5,15 @@ use Rattle.std.specs.Fmt.{signed_decimal}
 use Rattle.std.proofs.lemmas.Fmt.{length-decimal-le}
 use Rattle.hex.specs.Hex.{lower_digits, encode_lower}
 use Rattle.hex.proofs.HexLemmas.{length-encode_with}
+use Rattle.edge_io.specs.declared.line_buf.TheConstants.{ROOM}
+use Rattle.entity_recs.specs.declared.limits.TheConstants.{IDS}
 use Rattle.entity_recs.specs.declared.rec.Rec.{Rec}
 use Rattle.entity_recs.specs.declared.effect.Entry.{Entry}
 use Rattle.packet_read.specs.declared.packet_fault.PacketFault.{PacketFault}
 use Rattle.packet_read.specs.declared.packet_fault.PacketFault.TheVariants.{Empty, Version, Kind, Short, Long, Time, Buttons, Count}
 use Rattle.client_ports.specs.declared.refusal.Refusal.{Refusal}
 use Rattle.client_ports.specs.declared.refusal.Refusal.TheVariants.{Packet, Already, Full, Crowded, NotJoined, Leaving, Old, Many}
+use Rattle.snapshot_write.specs.declared.reply_buf.TheConstants.{BLOCK, REPLY_ROOM}
 use Rattle.snapshot_write.specs.Snapshots.{is_seen, entity_bytes, own_bytes, seen_by, seen_bytes, snapshot}
 use Rattle.plain_server.specs.Entries.{IsReported, AreReported}
 use Rattle.out_text.specs.OutLines.{OutLine, FrameLine, NoLine, JoinedLine, EndLine, fault_name_of, name_of, ids_text, printed, text_of}
@@ -149,13 +152,13 @@ seen-few me (r ∷ live) = by (is_seen me r) (seen_by me live) (seen-few me live
     by true l few = omega arith
     by false l few = omega arith
 
--- of at most 256 records
-snapshot-long : (frame : ℕ) (me : Rec) (live : List Rec) → length live ≤ 256 → length (snapshot frame me live) ≤ 4139
+-- of at most as many records as there are ids
+snapshot-long : (frame : ℕ) (me : Rec) (live : List Rec) → length live ≤ IDS → length (snapshot frame me live) ≤ REPLY_ROOM + BLOCK
 snapshot-long frame me live few =
     let seen = seen_by me live in
     omega (arith, length-append (own_bytes frame me) (seen_bytes seen), entities-long seen, seen-few me live, few)
 
-to_line-long : (frame : ℕ) (live : List Rec) (me : Rec) → length live ≤ 256 → me.id < 256 → length (printed (to_line frame live me)) ≤ 8300
+to_line-long : (frame : ℕ) (live : List Rec) (me : Rec) → length live ≤ IDS → me.id < IDS → length (printed (to_line frame live me)) ≤ ROOM
 to_line-long frame live me few below =
     let front = codes "to " ++ decimal me.id in
     let bytes = snapshot frame me live in
@@ -169,8 +172,8 @@ to_line-long frame live me few below =
       snapshot-long frame me live few,
     )
 
-pub to_lines-long : (frame : ℕ) (live players : List Rec) → length live ≤ 256 → AllByRecursion (λ r. r.id < 256) players
-    → length (text_of (map (to_line frame live) players)) ≤ 8300 * length players
+pub to_lines-long : (frame : ℕ) (live players : List Rec) → length live ≤ IDS → AllByRecursion (λ r. r.id < IDS) players
+    → length (text_of (map (to_line frame live) players)) ≤ ROOM * length players
 to_lines-long frame live [] few below = omega arith
 to_lines-long frame live (me ∷ players) few below =
     omega (arith, length-line (to_line frame live me) (map (to_line frame live) players), to_line-long frame live me few below.0, to_lines-long frame live players few below.1)

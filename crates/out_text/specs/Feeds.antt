@@ -1,11 +1,12 @@
 -- What the program writes for a recording whose packets come from client threads: after the line of each frame those of
 -- its packets, in the order in which they arrived, and then what it writes for a recording with this order.
-use Rattle.std.specs.Prelude.{◌≡◌, ℕ, ◌+◌, ◌-◌, ◌<◌, ◌≤◌, ◌==◌, ◌⊎◌, ⊤, Bool, List, [], ◌∷◌, ◌++◌, length, map, take, slice_get, Option, Some, None, option_map, All}
-use Rattle.std.specs.List.{filter, filter_map}
+use Rattle.std.specs.Prelude.{◌≡◌, ℕ, ◌+◌, ◌-◌, ◌<◌, ◌≤◌, ◌⊎◌, ⊤, List, [], ◌∷◌, ◌++◌, length, map, take, Option, Some, None, option_map, IfSome}
+use Rattle.std.specs.List.{filter}
 use Rattle.entity_recs.specs.declared.effect.Entry.{Entry}
 use Rattle.edge_io.specs.WholeLines.{whole_lines}
 use Rattle.arena_map.specs.Maps.{MapView}
 use Rattle.packet_read.specs.declared.arrival.Arrival.{Arrival}
+use Rattle.packet_read.specs.Orders.{is_from, in_order, AreEachOnce}
 use Rattle.client_ports.specs.States.{State}
 use Rattle.plain_server.specs.RecordsById.{opening}
 use Rattle.plain_server.specs.Frames.{received_in, state_after, first_of, rest_of}
@@ -18,10 +19,6 @@ use Rattle.out_text.specs.Collecting.{frames_of}
 use Rattle.out_text.specs.Output.{AreRightIn, AreInOrderIn, last_of}
 
 -- ---- the order of arrival
-
--- the packet comes from this port
-abbrev pub is_from : ℕ → Arrival → Bool
-is_from port a = a.port == port
 
 -- the packets of a frame arrived in this order: those of each port as they were sent, and no other
 abbrev pub IsFeedOf : List Arrival → List Arrival → Type 0
@@ -40,23 +37,16 @@ last_fed [] = None
 last_fed (fed ∷ []) = Some fed
 last_fed (fed ∷ next ∷ feeds) = last_fed (next ∷ feeds)
 
--- places in a list of this length
-abbrev pub AreWithin : ℕ → List ℕ → Type 0
-AreWithin n places = All (λ place. place < n) places
-
--- the packets in the order of these places
-abbrev pub in_order : List ℕ → List Arrival → List Arrival
-in_order order arrivals = filter_map (λ place. slice_get arrivals place) order
-
 -- the packets of the last frame in this order, where there is one
 abbrev pub last_ordered : Option (List ℕ) → List (List Arrival) → Option (List Arrival)
 last_ordered None frames = None
 last_ordered (Some order) frames = option_map (in_order order) (last_fed frames)
 
--- this is the order of the last of these frames, whose packets arrived as the last of the feeds has them; without a frame
--- there is none
+-- this is the order of the last of these frames: it has the place of each packet once, and in it the packets are those of
+-- the last of the feeds; without a frame there is none
 pub record IsLastOrder (order : Option (List ℕ)) (frames feeds : List (List Arrival)) : Type 0 where
   pub none : feeds ≡ [] → order ≡ None
+  pub places : IfSome order (λ places. IfSome (last_fed frames) (λ sent. AreEachOnce (length sent) places))
   pub packets : last_ordered order frames ≡ last_fed feeds
 
 -- ---- the lines

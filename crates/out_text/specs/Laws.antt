@@ -113,15 +113,15 @@ pub record OutputsHaveOneTaker : Type 0 where
       (last : Option (List Entry)) (text : List ℕ) (is : IsPart workers bytes k whole_with last text)
       → HasOneTakerEach (map_of bytes) is.journals
 
--- a recording has at most 100,000 frames; with right journals the text of its first frames has at most 600,000 bytes a
+-- a recording has at most 100,000 frames; with right journals the text of its first frames has at most 1,120,000 bytes a
 -- frame, and its whole output at most 16 more, whatever their order
 pub record OutputsAreBounded : Type 0 where
   pub few : (bytes : List ℕ) → length (frames_of bytes) ≤ MOST_FRAMES
   pub front : (bytes : List ℕ) (k : ℕ) (journals : List (List Entry))
       → AreRightIn (map_of bytes) (take k (frames_of bytes)) journals
-      → length (front_text bytes k journals) ≤ 600000 * length (take k (frames_of bytes))
+      → length (front_text bytes k journals) ≤ 1120000 * length (take k (frames_of bytes))
   pub whole : (bytes : List ℕ) (journals : List (List Entry)) → AreRightIn (map_of bytes) (frames_of bytes) journals
-      → length (out_text bytes journals) ≤ 600000 * length (frames_of bytes) + 16
+      → length (out_text bytes journals) ≤ 1120000 * length (frames_of bytes) + 16
 
 -- the lines of a frame have one `to` line for each slot that is live after the moves, with the snapshot of its player,
 -- in rising slot

@@ -1,5 +1,5 @@
 -- Which lines are in range: their numbers fit their types, at most 8 ids were got, a packet has at most 252 bytes, and a
--- snapshot has 1 to 4,123.
+-- snapshot has 1 to 8,219.
 use Rattle.std.specs.Prelude.{◌≡◌, ℕ, ◌^◌, ◌<◌, ◌≤◌, List, length}
 use Rattle.std.specs.List.{AllByRecursion}
 use Rattle.packet_read.specs.declared.arrival.TheConstants.{MOST_BYTES}

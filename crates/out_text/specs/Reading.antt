@@ -1,5 +1,5 @@
 -- What a line of the output is read as.
-use Rattle.std.specs.Prelude.{ℕ, ℤ, ◌==◌, Bool, ◌&&◌, ◌||◌, nat_le, List, [], ◌∷◌, length, map, find, Option, Some}
+use Rattle.std.specs.Prelude.{ℕ, ℤ, ◌*◌, ◌==◌, Bool, ◌&&◌, ◌||◌, nat_le, List, [], ◌∷◌, length, map, find, Option, Some}
 use Rattle.std.specs.Prelude.{None, Result, Ok, Err, codes, bytes_eq, if◌then◌else◌}
 use Rattle.std.specs.List.{list_all, slice_split}
 use Rattle.hex.specs.Hex.{decode_of}
@@ -11,6 +11,7 @@ use Rattle.client_ports.specs.declared.refusal.Refusal.TheVariants.{Packet, Alre
 use Rattle.client_ports.specs.declared.refusal.Refusal.TheVariants.{Old, Many}
 use Rattle.packet_read.specs.declared.packet_fault.PacketFault.TheVariants.{Empty, Version, Kind, Short, Long, Time}
 use Rattle.packet_read.specs.declared.packet_fault.PacketFault.TheVariants.{Buttons, Count}
+use Rattle.snapshot_write.specs.declared.reply_buf.TheConstants.{REPLY_ROOM}
 use Rattle.out_text.specs.OutLines.{OutLine, FrameLine, FromLine, NoLine, JoinedLine, DidLine, ToLine, EndLine, name_of}
 use Rattle.out_text.specs.Journals.{number_at, all_there, ids_in, alone, is_coordinate}
 
@@ -64,9 +65,9 @@ refusal_of name = find (λ why. bytes_eq (name_of why) name) refusals
 abbrev pub is_lower_digit : ℕ → Bool
 is_lower_digit b = (nat_le 48 b && nat_le b 57) || (nat_le 97 b && nat_le b 102)
 
--- the digits of 1 to 4,123 bytes, in lower case
+-- the digits of 1 to 8,219 bytes, in lower case
 abbrev pub is_hex_text : List ℕ → Bool
-is_hex_text text = (nat_le 2 (length text) && nat_le (length text) 8246) && list_all is_lower_digit text
+is_hex_text text = (nat_le 2 (length text) && nat_le (length text) (2 * REPLY_ROOM)) && list_all is_lower_digit text
 
 -- the value, where there is no error
 abbrev pub without_error : {X E : Type 0} → Result X E → Option X

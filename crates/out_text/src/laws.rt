@@ -58,7 +58,7 @@ pub fn outputs_have_one_taker()
     ensures { OutputsHaveOneTaker }
 {}
 
-/// A recording has at most 100,000 frames; with right journals the text of its first frames has at most 600,000 bytes a
+/// A recording has at most 100,000 frames; with right journals the text of its first frames has at most 1,120,000 bytes a
 /// frame, and its whole output at most 16 more.
 pub fn outputs_are_bounded()
     ensures { OutputsAreBounded }

@@ -197,7 +197,7 @@ fn are_lower_digits(text: &[u8]) -> bool
     text.iter().all(|b| is_lower_digit(*b))
 }
 
-/// Whether a text is the digits of 1 to 4,123 bytes, in lower case.
+/// Whether a text is the digits of 1 to [`REPLY_ROOM`] bytes, in lower case.
 fn is_hex_text(text: &[u8]) -> bool
     ensures { result ≡ reading.is_hex_text text.now }
 {
@@ -311,7 +311,7 @@ fn line_in<'a>(line: &[u8], bytes: &'a mut ReplyBuf) -> Option<OutLine<'a>>
 /// `bytes`, which is empty.
 ///
 /// There is none exactly where no line in range is printed so: numbers in decimal digits without a leading zero, single
-/// spaces, at most 8 ids, and 1 to 4,123 bytes of a snapshot or at most 252 of a packet in lower-case digits. It takes no
+/// spaces, at most 8 ids, and 1 to 8,219 bytes of a snapshot or at most 252 of a packet in lower-case digits. It takes no
 /// memory.
 pub fn read_line<'a>(line: &[u8], bytes: &'a mut ReplyBuf) -> Option<OutLine<'a>>
     requires { bytes.old ≡ [] }

@@ -4,3 +4,4 @@ pub mod Commands
 pub mod Cause
 pub mod Reading
 pub mod Laws
+pub mod Orders

@@ -1,7 +1,8 @@
 -- An item that is taken is away until its frame: commands leave it as it is, and take it no second time.
-use Rattle.std.proofs.Common.{◌≡◌, ◌≢◌, ℕ, zero, suc, ◌+◌, ◌<◌, ◌≤◌, ◌-◌, ◌==◌, true, false, nat_le, option_and_then, List, [], ◌∷◌, Option, Some, None, is_some, slice_get, inl, inr, refl, sym, ap, ◌∙◌, subst, arith, get_or-set_other}
+use Rattle.std.proofs.Common.{◌≡◌, ◌≢◌, ℕ, zero, suc, ◌+◌, ◌<◌, ◌≤◌, ◌-◌, ◌==◌, Bool, true, false, cond, nat_le, option_and_then, List, [], ◌∷◌, Option, Some, None, is_some, slice_get, inl, inr, refl, sym, ap, ◌∙◌, subst, arith, get_or-set_other}
 use Rattle.std.specs.Prelude.{All, Contains}
 use Rattle.std.specs.Prelude.{map as map_list}
+use Rattle.std.proofs.lemmas.Bool.Decides.{nat_tests}
 use Rattle.std.proofs.lemmas.Bool.{cases_Bool, eq-eqb, eqb-true, cond-true, cond-false}
 use Rattle.std.proofs.lemmas.List.Elements.{All-head, All-tail, All-weaker, All-map, All-contains}
 use Rattle.std.proofs.lemmas.Option.{none-some, same_Some}
@@ -9,7 +10,7 @@ use Rattle.entity_recs.specs.declared.effect.Effect.{Effect}
 use Rattle.entity_recs.specs.declared.effect.Entry.{Entry}
 use Rattle.entity_recs.specs.declared.effect.NewState.{NewState}
 use Rattle.entity_recs.specs.declared.kind.Kind.{Kind}
-use Rattle.entity_recs.specs.declared.kind.Kind.TheVariants.{Ammo, Gem}
+use Rattle.entity_recs.specs.declared.kind.Kind.TheVariants.{Player, Ammo, Gem}
 use Rattle.entity_recs.specs.declared.rec.Rec.{Rec}
 use Rattle.entity_recs.specs.Commands.{Command}
 use Rattle.entity_recs.specs.Records.{IsIdOf, with_state}
@@ -24,7 +25,8 @@ use Rattle.world_tree.specs.Live.{record_at}
 use Rattle.plain_server.specs.Moving.{HasLivePlayer, effect_among, with_new_states, records_after}
 use Rattle.plain_server.specs.Takers.{IsItemOf}
 use Rattle.plain_server.proofs.NewStates.{still_at, Lacks, new_state-lacks}
-use Rattle.plain_server.proofs.Takes.{IsTakenIn, taken_in, got_are}
+use Rattle.plain_server.specs.Laws.{IsGot, IsItem, IsHit}
+use Rattle.plain_server.proofs.Takes.{IsTakenIn, IsHurtIn, IsChange, Takes, Hurts, changed_in, got_among}
 use Rattle.plain_server.proofs.Moves.{after_all}
 use Rattle.plain_server.proofs.Runs.{entries_of, IsRun, first_live, entry_is, run_rest}
 use Rattle.plain_server.proofs.OfFrame.{IsOfFrame}
@@ -57,6 +59,8 @@ least_delay map id delay is_map is = by (thing_of map id) refl is
     of_line (lines.Arena lo hi) here e = absurd (none-some delay e)
     of_line (lines.Block lo hi) here e = absurd (none-some delay e)
     of_line (lines.Spawn at) here e = absurd (none-some delay e)
+    of_line (lines.Depth depth) here e = absurd (none-some delay e)
+    of_line lines.Shots here e = absurd (none-some delay e)
     of_line (lines.Teleport lo hi dest) here e = absurd (none-some delay e)
     of_line (lines.Goal lo hi) here e = absurd (none-some delay e)
     of_line (lines.Lift lo hi rise speed) here e = absurd (none-some delay e)
@@ -102,16 +106,48 @@ among_rest x xs id apart (zero, within, is) = absurd (differ (sym (eq-eqb x id i
     differ h = cc
 among_rest x xs id apart (suc k, within, is) = (k, omega (arith, within), is)
 
-first_of_id : (map : MapView) (records : List (Option Rec)) (frame : ℕ) (states : List NewState) (id : ℕ) → All (IsTakenIn map records frame) states
-    → Contains (map_list (λ (s : NewState). s.id) states) id → IsFirst map records frame states id
-first_of_id map records frame [] id all (k, within, is) = absurd (omega (arith, within))
-first_of_id map records frame (s ∷ states) id all has = elim (cases_Bool (s.id == id)) [
-  | inl e ↦ record { first = s; taken = All-head (IsTakenIn map records frame) s states all; same = eqb-true s.id id e; new = λ r. rw e refl }
+-- the change of a thing's state is that of an item that was taken
+thing_is_taken : (map : MapView) (records : List (Option Rec)) (frame : ℕ) (s : NewState) → ((h : NewState) → IsHurtIn map records h → h.id < 64) → 64 ≤ s.id
+    → IsChange map records frame s → IsTakenIn map records frame s
+thing_is_taken map records frame s low from (Takes t) = t
+thing_is_taken map records frame s low from (Hurts h) = absurd (omega (arith, low s h, from))
+
+first_of_id : (map : MapView) (records : List (Option Rec)) (frame : ℕ) (states : List NewState) (id : ℕ) → ((h : NewState) → IsHurtIn map records h → h.id < 64) → 64 ≤ id
+    → All (IsChange map records frame) states → Contains (map_list (λ (s : NewState). s.id) states) id → IsFirst map records frame states id
+first_of_id map records frame [] id low from all (k, within, is) = absurd (omega (arith, within))
+first_of_id map records frame (s ∷ states) id low from all has = elim (cases_Bool (s.id == id)) [
+  | inl e ↦
+      let same = eqb-true s.id id e in
+      let taken = thing_is_taken map records frame s low (omega (arith, from, same)) (All-head (IsChange map records frame) s states all) in
+      record { first = s; taken = taken; same = same; new = λ r. rw e refl }
   | inr e ↦
       let others = map_list (λ (t : NewState). t.id) states in
-      let rest = first_of_id map records frame states id (All-tail (IsTakenIn map records frame) s states all) (among_rest s.id others id e has) in
+      let rest = first_of_id map records frame states id low from (All-tail (IsChange map records frame) s states all) (among_rest s.id others id e has) in
       record { first = rest.first; taken = rest.taken; same = rest.same; new = λ r. rw e (rest.new r) }
 ]
+
+-- an id of an item is that of a thing
+item_is_thing : (map : MapView) (id : ℕ) → IsItemOf map id → 64 ≤ id
+item_is_thing map id item = by (nat_le 64 id) refl item
+  where
+    least : nat_le 64 id ≡ true → 64 ≤ id
+    least e = grind (arith, nat_tests)
+
+    by : (b : Bool) → nat_le 64 id ≡ b → is_some (option_and_then delay_in (cond b (slice_get map.things (id - 64)) None)) ≡ true → 64 ≤ id
+    by true e some = least e
+    by false e some = cc
+
+-- what is among the ids of changes is an item, or a player that was hit
+got_of_change : (map : MapView) (records : List (Option Rec)) (frame : ℕ) (states : List NewState) (id : ℕ) → ((h : NewState) → IsHurtIn map records h → h.id < 64)
+    → All (IsChange map records frame) states → Contains (map_list (λ (s : NewState). s.id) states) id → IsGot map id
+got_of_change map records frame [] id low all (k, within, is) = absurd (omega (arith, within))
+got_of_change map records frame (s ∷ states) id low all (zero, within, is) = of (All-head (IsChange map records frame) s states all)
+  where
+    of : IsChange map records frame s → IsGot map id
+    of (Takes t) = IsItem (ap is_some (ap (delay_of map) (sym is) ∙ t.delay_is))
+    of (Hurts h) = IsHit h.shots (omega (arith, low s h, is))
+got_of_change map records frame (s ∷ states) id low all (suc k, within, is) =
+    got_of_change map records frame states id low (All-tail (IsChange map records frame) s states all) (k, omega (arith, within), is)
 
 -- an item that a command took in a frame is away for its delay
 pub record IsAwayThen (map : MapView) (records : List (Option Rec)) (frame id : ℕ) : Type 0 where
@@ -126,15 +162,23 @@ module _ (map : MapView) (records : List (Option Rec)) (c : Command) (valid : Is
   abbrev e : Effect
   e = effect_among map records c
 
-  taken : All (IsTakenIn map records c.frame) e.states
-  taken = taken_in map records c own
+  changed : All (IsChange map records c.frame) e.states
+  changed = changed_in map records c own
+
+  -- a player that is hurt has the id of a slot
+  hurt_is_low : (s : NewState) → IsHurtIn map records s → s.id < 64
+  hurt_is_low s h =
+      let here = valid.each s.id h.player h.at in
+      let low : h.player.id < 64 = subst (λ (k : Kind). IsIdOf k h.player.id) h.kind here.is_record.id in
+      omega (arith, low, here.own_id)
 
   -- none of the new states is that of an item that is away
   lacks : (id until : ℕ) → 0 < until → IsAway records id until → Lacks e.states id
-  lacks id until later away = All-weaker (IsTakenIn map records c.frame) (λ (s : NewState). s.id ≢ id) other e.states taken
+  lacks id until later away = All-weaker (IsChange map records c.frame) (λ (s : NewState). s.id ≢ id) other e.states changed
     where
-      other : (s : NewState) → IsTakenIn map records c.frame s → s.id ≢ id
-      other s t same =
+      other : (s : NewState) → IsChange map records c.frame s → s.id ≢ id
+      other s (Hurts h) same = absurd (omega (arith, hurt_is_low s h, same, away_is_thing map records id until valid away))
+      other s (Takes t) same =
           let one : t.item ≡ away.item = same_Some t.item away.item (sym t.at ∙ ap (record_at records) same ∙ away.at) in
           let none : until ≡ 0 = sym away.state ∙ sym (ap (λ (r : Rec). r.state) one) ∙ t.there in
           absurd (omega (arith, later, none))
@@ -159,19 +203,17 @@ module _ (map : MapView) (records : List (Option Rec)) (c : Command) (valid : Is
   -- and isn't taken
   pub away_not_got : (id until : ℕ) → 0 < until → IsAway records id until → Contains e.reply.got id → ⊥
   away_not_got id until later away got =
-      All-contains (λ (k : ℕ). k ≢ id) e.reply.got id
-      (subst (All (λ (k : ℕ). k ≢ id)) (sym (got_are map records c own)) (All-map (λ (k : ℕ). k ≢ id) (λ (s : NewState). s.id) e.states (lacks id until later away))) got refl
+      All-contains (λ (k : ℕ). k ≢ id) (map_list (λ (s : NewState). s.id) e.states) id
+      (All-map (λ (k : ℕ). k ≢ id) (λ (s : NewState). s.id) e.states (lacks id until later away)) (got_among map records c own id got) refl
 
-  -- what is got is an item
-  pub got_is_item : (id : ℕ) → Contains e.reply.got id → IsItemOf map id
-  got_is_item id got =
-      let f = first_of_id map records c.frame e.states id taken (subst (λ (ids : List ℕ). Contains ids id) (got_are map records c own) got) in
-      ap is_some (ap (delay_of map) (sym f.same) ∙ f.taken.delay_is)
+  -- what is got is an item, or a player that was hit
+  pub got_is_one : (id : ℕ) → Contains e.reply.got id → IsGot map id
+  got_is_one id got = got_of_change map records c.frame e.states id hurt_is_low changed (got_among map records c own id got)
 
   -- an item that is taken is away then
   pub got_away : (id : ℕ) → IsItemOf map id → Contains e.reply.got id → IsAwayThen map (records_after map records c) c.frame id
   got_away id item got =
-      let f = first_of_id map records c.frame e.states id taken (subst (λ (ids : List ℕ). Contains ids id) (got_are map records c own) got) in
+      let f = first_of_id map records c.frame e.states id hurt_is_low (item_is_thing map id item) changed (got_among map records c own id got) in
       let t = f.taken in
       let at : record_at records id ≡ Some t.item = ap (record_at records) (sym f.same) ∙ t.at in
       let here = valid.each id t.item at in
@@ -213,14 +255,14 @@ nobody_got map place records (item ∷ items) id until (suc a) x is_map is later
     nobody_got map (place + 1) (records_after map records item.command) items id until a x is_map (run_rest map place records item items is_map is) later
     (away_after map records item.command is.valid (first_live map place records item items is) id until later away) at got
 
--- what an entry got is an item
-pub got_are_items : (map : MapView) (place : ℕ) (records : List (Option Rec)) (items : List Item) (id a : ℕ) (x : Entry) → IsMap map → IsRun map place records items
-    → slice_get (entries_of items) a ≡ Some x → Contains x.reply.got id → IsItemOf map id
-got_are_items map place records [] id a x is_map is at got = absurd (none-some x at)
-got_are_items map place records (item ∷ items) id zero x is_map is at got =
-    got_is_item map records item.command is.valid (first_live map place records item items is) id (first_got map place records item items x id is at got)
-got_are_items map place records (item ∷ items) id (suc a) x is_map is at got =
-    got_are_items map (place + 1) (records_after map records item.command) items id a x is_map (run_rest map place records item items is_map is) at got
+-- what an entry got is an item, or a player that was hit
+pub got_are_those : (map : MapView) (place : ℕ) (records : List (Option Rec)) (items : List Item) (id a : ℕ) (x : Entry) → IsMap map → IsRun map place records items
+    → slice_get (entries_of items) a ≡ Some x → Contains x.reply.got id → IsGot map id
+got_are_those map place records [] id a x is_map is at got = absurd (none-some x at)
+got_are_those map place records (item ∷ items) id zero x is_map is at got =
+    got_is_one map records item.command is.valid (first_live map place records item items is) id (first_got map place records item items x id is at got)
+got_are_those map place records (item ∷ items) id (suc a) x is_map is at got =
+    got_are_those map (place + 1) (records_after map records item.command) items id a x is_map (run_rest map place records item items is_map is) at got
 
 -- an item that an entry got is away after the run
 pub got_through : (map : MapView) (frame place : ℕ) (records : List (Option Rec)) (items : List Item) (id a : ℕ) (x : Entry) → IsMap map → IsItemOf map id → IsRun map place records items

@@ -10,10 +10,11 @@ use Rattle.entity_recs.specs.declared.effect.Effect.{Effect}
 use Rattle.entity_recs.specs.declared.effect.NewState.{NewState}
 use Rattle.entity_recs.specs.Worlds.{World, nobody, record_or_nobody}
 use Rattle.entity_recs.specs.Histories.{with_effect, with_new_state}
+use Rattle.arena_map.specs.Maps.{MapView}
 use Rattle.world_tree.specs.Live.{record_at, ids_of}
 use Rattle.plain_server.specs.RecordsById.{world_of, records_in}
 use Rattle.plain_server.specs.Moving.{with_new_states, records_with}
-use Rattle.plain_server.proofs.NewStates.{IsOfItem, same_id, record_at-restated, still_at, ids-restated, count-restated, new_state-lacks}
+use Rattle.plain_server.proofs.NewStates.{IsOfLive, same_id, record_at-restated, still_at, ids-restated, count-restated, new_state-lacks}
 
 -- another record of the same id leaves the live ids
 pub ids-set : (records : List (Option Rec)) (k : ℕ) (r me : Rec) → record_at records k ≡ Some r → me.id ≡ r.id
@@ -57,21 +58,21 @@ records_in-world_of records own =
     (λ k r at. ap (λ (id : ℕ). record_or_nobody (record_at records id)) (own k r at) ∙ ap record_or_nobody at)
 
 -- a record with no new state of its own
-unlisted : (records : List (Option Rec)) (states : List NewState) (id : ℕ) → record_at records id ≡ None → All (IsOfItem records) states → with_new_state states id nobody ≡ nobody
-unlisted records states id none items = new_state-lacks states id nobody (All-weaker (IsOfItem records) (λ (s : NewState). s.id ≢ id) other states items)
+unlisted : (map : MapView) (records : List (Option Rec)) (states : List NewState) (id : ℕ) → record_at records id ≡ None → All (IsOfLive map records) states → with_new_state states id nobody ≡ nobody
+unlisted map records states id none items = new_state-lacks states id nobody (All-weaker (IsOfLive map records) (λ (s : NewState). s.id ≢ id) other states items)
   where
-    other : (s : NewState) → IsOfItem records s → s.id ≢ id
-    other s item same = none-some item.item (sym none ∙ sym (ap (record_at records) same) ∙ item.at)
+    other : (s : NewState) → IsOfLive map records s → s.id ≢ id
+    other s own same = none-some own.owner (sym none ∙ sym (ap (record_at records) same) ∙ own.at)
 
 -- what a world of records with new states gives for an id
-restated_or_nobody : (records : List (Option Rec)) (states : List NewState) (id : ℕ) → ((k : ℕ) (r : Rec) → record_at records k ≡ Some r → r.id ≡ k) → All (IsOfItem records) states
+restated_or_nobody : (map : MapView) (records : List (Option Rec)) (states : List NewState) (id : ℕ) → ((k : ℕ) (r : Rec) → record_at records k ≡ Some r → r.id ≡ k) → All (IsOfLive map records) states
     → record_or_nobody (record_at (with_new_states states records) id) ≡ with_new_state states id (record_or_nobody (record_at records id))
-restated_or_nobody records states id own items = by (record_at records id) refl
+restated_or_nobody map records states id own items = by (record_at records id) refl
   where
     by : (o : Option Rec) → record_at records id ≡ o → record_or_nobody (record_at (with_new_states states records) id) ≡ with_new_state states id (record_or_nobody (record_at records id))
     by None e =
         ap record_or_nobody (record_at-restated states records id ∙ ap (option_map (λ (x : Rec). with_new_state states x.id x)) e)
-        ∙ sym (unlisted records states id e items)
+        ∙ sym (unlisted map records states id e items)
         ∙ sym (ap (λ (place : Option Rec). with_new_state states id (record_or_nobody place)) e)
     by (Some r) e =
         ap record_or_nobody (still_at states records id r e)
@@ -79,10 +80,10 @@ restated_or_nobody records states id own items = by (record_at records id) refl
         ∙ sym (ap (λ (place : Option Rec). with_new_state states id (record_or_nobody place)) e)
 
 -- the world of records after an effect is the world with that effect
-pub world_of-with : (records : List (Option Rec)) (slot : ℕ) (r : Rec) (e : Effect) → ((id : ℕ) (x : Rec) → record_at records id ≡ Some x → x.id ≡ id)
-    → slot < length records → record_at records slot ≡ Some r → e.me.id ≡ r.id → All (IsOfItem records) e.states
+pub world_of-with : (map : MapView) (records : List (Option Rec)) (slot : ℕ) (r : Rec) (e : Effect) → ((id : ℕ) (x : Rec) → record_at records id ≡ Some x → x.id ≡ id)
+    → slot < length records → record_at records slot ≡ Some r → e.me.id ≡ r.id → All (IsOfLive map records) e.states
     → world_of (records_with records slot e) ≡ with_effect (world_of records) slot e
-world_of-with records slot r e own below at mine items =
+world_of-with map records slot r e own below at mine items =
     let was = still_at e.states records slot r at in
     let ids = ids-set (with_new_states e.states records) slot (with_new_state e.states r.id r) e.me was (mine ∙ sym (same_id e.states r.id r)) ∙ ids-restated e.states records in
     λ i. record { ids = ids i; record_of = λ id. each id (cases_eq id slot) i }
@@ -102,5 +103,5 @@ world_of-with records slot r e own below at mine items =
         ∙ sym (cond-true (id == slot) e.me (with_new_state e.states id (record_or_nobody (record_at records id))) (eq-eqb id slot here))
     each id (inr apart) =
         ap record_or_nobody (get_or-set_other new slot id (Some e.me) None apart)
-        ∙ restated_or_nobody records e.states id own items
+        ∙ restated_or_nobody map records e.states id own items
         ∙ sym (cond-false (id == slot) e.me (with_new_state e.states id (record_or_nobody (record_at records id))) (ne_eqb id slot apart))

@@ -3,6 +3,7 @@ use Rattle.std.proofs.Common.{◌≡◌, ℕ, zero, suc, ◌+◌, ◌<◌, List,
 use Rattle.std.specs.Prelude.{map as map_list}
 use Rattle.std.proofs.lemmas.List.{length-replicate}
 use Rattle.std.proofs.lemmas.List.Elements.{All-weaker}
+use Rattle.entity_recs.specs.declared.limits.TheConstants.{IDS}
 use Rattle.entity_recs.specs.declared.rec.Rec.{Rec}
 use Rattle.entity_recs.specs.declared.effect.Entry.{Entry}
 use Rattle.entity_recs.specs.Records.{IsRecord}
@@ -130,19 +131,19 @@ one_journal_each map frame state (arrivals ∷ frames) (j ∷ js) right order =
     let rest = one_journal_each map (frame + 1) (state_after map r j) frames js right.1 order.1 in
     λ i. first i ∷ (rest ∙ ap (λ (k : List Entry). journals_of map (frame + 1) (state_after map r k) frames) first) i
 
--- there are 256 places at the start
-opening_places : (map : MapView) → length (opening map).records ≡ 256
+-- there is a place for each id at the start
+opening_places : (map : MapView) → length (opening map).records ≡ IDS
 unfolding opening
-opening_places map = placed-count (entities_of map) (replicate 256 None) ∙ length-replicate {A = Option Rec} 256 None
+opening_places map = placed-count (entities_of map) (replicate IDS None) ∙ length-replicate {A = Option Rec} IDS None
 
 -- and the things of the map are live there, each at its id
 pub opening_world : (map : MapView) → IsMap map → IsOpeningWorld map (opening map).records
 unfolding opening
 opening_world map is id =
-    let few = length-replicate {A = Option Rec} 256 None in
-    placed-at (entities_of map) (replicate 256 None) id (entities-apart map is)
-    (each-of IsRecord (λ r. r.id < length (replicate {A = Option Rec} 256 None)) (entities_of map) (λ r here. omega (arith, id-below r here, few)) (entities-are map is))
-    (record_at-empty 256 id)
+    let few = length-replicate {A = Option Rec} IDS None in
+    placed-at (entities_of map) (replicate IDS None) id (entities-apart map is)
+    (each-of IsRecord (λ r. r.id < length (replicate {A = Option Rec} IDS None)) (entities_of map) (λ r here. omega (arith, id-below r here, few)) (entities-are map is))
+    (record_at-empty IDS id)
 
 -- the opening state is a server's
 pub opening_is : (map : MapView) → IsMap map → IsServerState map (opening map)

@@ -20,7 +20,7 @@ use Rattle.plain_server.proofs.NewStates.{same_id, still_at, live-restated, coun
 use Rattle.plain_server.proofs.ById.{records_in-set, records_in-world_of, world_of-with}
 use Rattle.plain_server.proofs.OneMove.{valid_after_command}
 use Rattle.plain_server.proofs.Players.{live_record, live_below, slot_is_player}
-use Rattle.plain_server.proofs.Takes.{of_items}
+use Rattle.plain_server.proofs.Takes.{of_live}
 
 -- after its move a live player's record is valid
 pub moved_is_valid : (map : MapView) (records : List (Option Rec)) (c : Command) (r : Rec) → IsMap map → IsValidWorld map records → c.slot < 64
@@ -65,11 +65,11 @@ moved-more map old new commands c is_map has is =
     let me = moved_is_valid map new c r is_map is.valid has.slot at in
     let own : e.me.id ≡ r.id = me.own_id ∙ sym (is.valid.each c.slot r at).own_id in
     let ids = λ (id : ℕ) (x : Rec) (there : record_at new id ≡ Some x). (is.valid.each id x there).own_id in
-    let items = of_items map new c ids in
+    let items = of_live map new c ids in
     let states = with_new_states e.states new in
     let was = still_at e.states new c.slot r at in
     let same = own ∙ sym (same_id e.states r.id r) in
-    let step : world_of (records_after map new c) ≡ apply (outcome_on map) (world_of new) c = world_of-with new c.slot r e ids (live_below new c.slot r at) at own items in
+    let step : world_of (records_after map new c) ≡ apply (outcome_on map) (world_of new) c = world_of-with map new c.slot r e ids (live_below new c.slot r at) at own items in
     record {
       world = step ∙ ap (λ (w : World). apply (outcome_on map) w c) is.world ∙ sym (world_after-more map (world_of old) commands c);
       given = λ w. records_in-set w states c.slot (with_new_state e.states r.id r) e.me was same ∙ records_in-restated w e.states new ∙ is.given w;

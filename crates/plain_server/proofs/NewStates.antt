@@ -108,28 +108,28 @@ records_in-restated w states (Some r ∷ records) =
 
 -- ---- the world stays valid
 
--- the new state is that of an item among the records
-pub record IsOfItem (records : List (Option Rec)) (s : NewState) : Type 0 where
-  pub item : Rec
-  pub at : record_at records s.id ≡ Some item
-  pub kind : is_item item.kind ≡ true
+-- the new state is one of a live record's kind
+pub record IsOfLive (map : MapView) (records : List (Option Rec)) (s : NewState) : Type 0 where
+  pub owner : Rec
+  pub at : record_at records s.id ≡ Some owner
+  pub fits : IsStateOn map owner.kind s.state
 
-item_state : (map : MapView) (kind : Kind) (state : ℕ) → is_item kind ≡ true → IsStateOn map kind state
+pub item_state : (map : MapView) (kind : Kind) (state : ℕ) → is_item kind ≡ true → IsStateOn map kind state
 item_state map Ammo state item = tt
 item_state map Gem state item = tt
 item_state map kind state item = cc
 
 -- a new state is one of its record's kind
-pub state_fits : (map : MapView) (records : List (Option Rec)) (states : List NewState) (id : ℕ) (r : Rec) → record_at records id ≡ Some r → All (IsOfItem records) states → IsStateOn map r.kind r.state
+pub state_fits : (map : MapView) (records : List (Option Rec)) (states : List NewState) (id : ℕ) (r : Rec) → record_at records id ≡ Some r → All (IsOfLive map records) states → IsStateOn map r.kind r.state
     → IsStateOn map r.kind (with_new_state states id r).state
 state_fits map records [] id r at items is = is
 state_fits map records (s ∷ states) id r at items is =
-    let rest = state_fits map records states id r at (All-tail (IsOfItem records) s states items) is in
+    let rest = state_fits map records states id r at (All-tail (IsOfLive map records) s states items) is in
     elim (cases_Bool (s.id == id)) [
       | inl e ↦
-          let item = All-head (IsOfItem records) s states items in
-          let same : item.item ≡ r = same_Some item.item r (sym item.at ∙ ap (record_at records) (eqb-true s.id id e) ∙ at) in
-          rw e (item_state map r.kind s.state (ap (λ (x : Rec). is_item x.kind) (sym same) ∙ item.kind))
+          let own = All-head (IsOfLive map records) s states items in
+          let same : own.owner ≡ r = same_Some own.owner r (sym own.at ∙ ap (record_at records) (eqb-true s.id id e) ∙ at) in
+          rw e (subst (λ (x : Rec). IsStateOn map x.kind s.state) same own.fits)
       | inr e ↦ rw e rest
     ]
 
@@ -164,8 +164,8 @@ thing-restated map states (Some thing) (Some r) is =
     let after = restated states r.id r in
     subst (IsAsItsLine (lift_of map thing.id) thing) (sym after.is) (line-restated (lift_of map thing.id) thing r after.state is)
 
--- with new states of items a valid world is valid
-pub valid-restated : (map : MapView) (states : List NewState) (records : List (Option Rec)) → All (IsOfItem records) states → IsValidWorld map records → IsValidWorld map (with_new_states states records)
+-- with new states that fit a valid world is valid
+pub valid-restated : (map : MapView) (states : List NewState) (records : List (Option Rec)) → All (IsOfLive map records) states → IsValidWorld map records → IsValidWorld map (with_new_states states records)
 valid-restated map states records items valid = record {
   each = λ id r at.
       let before = was_at states records id r at in

@@ -14,6 +14,7 @@ use Rattle.plain_server.specs.Moving.{HasLivePlayer}
 use Rattle.plain_server.specs.Entries.{IsReception}
 use Rattle.plain_server.specs.Frames.{state_after_tick, received_in, moved_by, state_after, IsRightAfter, AreRight}
 use Rattle.plain_server.specs.Takers.{HasTaken, HasTakenIn, IsItemOf, IsSameEntry, HasOneTaker, HasItemsAway}
+use Rattle.plain_server.specs.Laws.{IsGot}
 use Rattle.plain_server.proofs.Commands.{history_has}
 use Rattle.plain_server.proofs.Moves.{after_all, after_all-are}
 use Rattle.plain_server.proofs.Runs.{entries_of, IsRun, journal_runs, run_entries}
@@ -21,7 +22,7 @@ use Rattle.plain_server.proofs.OfFrame.{IsOfFrame, moves_are_of_frame}
 use Rattle.plain_server.proofs.ThingsStay.{things_received, things_finished}
 use Rattle.plain_server.proofs.Ticking.{server_ticked, waits}
 use Rattle.plain_server.proofs.Frames.{moved_by_is, received_is, state_after_is}
-use Rattle.plain_server.proofs.Away.{IsAway, IsAwayThen, away_is_thing, away_through, nobody_got, got_are_items, got_through, one_got}
+use Rattle.plain_server.proofs.Away.{IsAway, IsAwayThen, away_is_thing, away_through, nobody_got, got_are_those, got_through, one_got}
 
 -- the record of one place instead of another, where they are the same
 away_there : (records other : List (Option Rec)) (id until : ℕ) → record_at other id ≡ record_at records id → IsAway records id until → IsAway other id until
@@ -79,9 +80,9 @@ module _ (map : MapView) (frame : ℕ) (state : State) (arrivals : List Arrival)
   not_taken id until place before away has =
       nobody_got map 0 r.state.records items id until place has.entry is_map runs (omega (arith, before)) (away_then id until before away) (in_history place has.entry has.in_place) has.got
 
-  -- what an entry has is an item
-  pub is_item_then : (id place : ℕ) → HasTaken journal place id → IsItemOf map id
-  is_item_then id place has = got_are_items map 0 r.state.records items id place has.entry is_map runs (in_history place has.entry has.in_place) has.got
+  -- what an entry has is an item, or a player that was hit
+  pub is_got_then : (id place : ℕ) → HasTaken journal place id → IsGot map id
+  is_got_then id place has = got_are_those map 0 r.state.records items id place has.entry is_map runs (in_history place has.entry has.in_place) has.got
 
   -- an item that an entry has is away after the frame
   pub away_later : (id place : ℕ) → IsItemOf map id → HasTaken journal place id → IsAwayThen map (state_after map r journal).records frame id
@@ -121,16 +122,16 @@ taken_first j js place id has = subst (λ (k : List Entry). HasTaken k place id)
 taken_later : (j : List Entry) (js : List (List Entry)) (frame place id : ℕ) → HasTakenIn (j ∷ js) (suc frame) place id → HasTakenIn js frame place id
 taken_later j js frame place id has = record { journal = has.journal; of_frame = has.of_frame; taken = has.taken }
 
-pub only_items : (map : MapView) (frame : ℕ) (state : State) (frames : List (List Arrival)) (journals : List (List Entry)) → IsMap map → IsServerState map state
-    → AreRight map frame state frames journals → (n place id : ℕ) → HasTakenIn journals n place id → IsItemOf map id
-only_items map frame state [] [] is_map is right n place id has = absurd (none-some has.journal has.of_frame)
-only_items map frame state [] (j ∷ js) is_map is right n place id has = absurd right
-only_items map frame state (arrivals ∷ frames) [] is_map is right n place id has = absurd right
-only_items map frame state (arrivals ∷ frames) (j ∷ js) is_map is right zero place id has =
-    is_item_then map frame state arrivals j is_map is right.0 id place (taken_first j js place id has)
-only_items map frame state (arrivals ∷ frames) (j ∷ js) is_map is right (suc n) place id has =
+pub only_got : (map : MapView) (frame : ℕ) (state : State) (frames : List (List Arrival)) (journals : List (List Entry)) → IsMap map → IsServerState map state
+    → AreRight map frame state frames journals → (n place id : ℕ) → HasTakenIn journals n place id → IsGot map id
+only_got map frame state [] [] is_map is right n place id has = absurd (none-some has.journal has.of_frame)
+only_got map frame state [] (j ∷ js) is_map is right n place id has = absurd right
+only_got map frame state (arrivals ∷ frames) [] is_map is right n place id has = absurd right
+only_got map frame state (arrivals ∷ frames) (j ∷ js) is_map is right zero place id has =
+    is_got_then map frame state arrivals j is_map is right.0 id place (taken_first j js place id has)
+only_got map frame state (arrivals ∷ frames) (j ∷ js) is_map is right (suc n) place id has =
     let r = received_in map frame state arrivals in
-    only_items map (frame + 1) (state_after map r j) frames js is_map (state_after_is map r j is_map (received_is map frame state arrivals is_map is)) right.1 n place id
+    only_got map (frame + 1) (state_after map r j) frames js is_map (state_after_is map r j is_map (received_is map frame state arrivals is_map is)) right.1 n place id
     (taken_later j js n place id has)
 
 pub one_in_each : (map : MapView) (frame : ℕ) (state : State) (frames : List (List Arrival)) (journals : List (List Entry)) → IsMap map → IsServerState map state

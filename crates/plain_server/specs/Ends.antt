@@ -1,8 +1,14 @@
 -- Where the moves of a frame leave the players: the last entry of each, and a record that is as an entry reports it.
 use Rattle.std.specs.Prelude.{◌≡◌, ◌≢◌, ℕ, ◌<◌, List, ◌∷◌, ◌++◌, Option, Some, All}
+use Rattle.std.specs.Option.{option_map}
 use Rattle.entity_recs.specs.declared.rec.Rec.{Rec}
+use Rattle.entity_recs.specs.Records.{with_state}
 use Rattle.entity_recs.specs.declared.effect.Entry.{Entry}
 use Rattle.world_tree.specs.Live.{record_at}
+
+-- a record, if it is there, without its state: what it is but for what others did to it
+abbrev pub unhurt : Option Rec → Option Rec
+unhurt o = option_map (λ (r : Rec). with_state r 0) o
 
 -- no entry of the journal is of this slot
 abbrev pub HasNoEntryOf : ℕ → List Entry → Type 0

@@ -21,7 +21,7 @@ use Rattle.plain_server.specs.Entries.{AreReported, HasBytes}
 use Rattle.plain_server.specs.Frames.{received_in, moved_by, state_after, state_played, IsRightAfter}
 use Rattle.plain_server.specs.Frames.{AreRight, AreInOrder, journals_of}
 use Rattle.plain_server.specs.Takers.{HasTakenIn, IsItemOf, IsSameEntry, HasOneTaker, HasItemsAway}
-use Rattle.plain_server.specs.Ends.{HasNoEntryOf, IsLastEntry, IsAsReported}
+use Rattle.plain_server.specs.Ends.{HasNoEntryOf, IsLastEntry, IsAsReported, unhurt}
 
 -- before the first frame nobody is joined, and each thing of the map is live at its id and as at the start, and nothing
 -- else is
@@ -128,13 +128,17 @@ pub record FramesHaveOneTaker : Type 0 where
       → IsServerState map state → IsRightAfter map (received_in map frame state arrivals) journal
       → HasItemsAway map frame journal (state_after map (received_in map frame state arrivals) journal).records
 
--- in right journals each id that an entry got is that of an item of the map: of what a move does today nothing else
--- is got
-abbrev pub OnlyItemsAreTaken : Type 0
-OnlyItemsAreTaken =
+-- what may be got: an item of the map, or, where players shoot, a player that is hit, by its slot
+pub data IsGot (map : MapView) (id : ℕ) : Type 0 where
+  IsItem : IsItemOf map id → IsGot map id
+  IsHit : map.shots ≡ true → id < 64 → IsGot map id
+
+-- in right journals each id that an entry got is such a one
+abbrev pub OnlyItemsAndPlayersAreGot : Type 0
+OnlyItemsAndPlayersAreGot =
     (map : MapView) (frames : List (List Arrival)) (journals : List (List Entry)) → IsMap map
     → AreRight map 0 (opening map) frames journals
-    → (frame place id : ℕ) → HasTakenIn journals frame place id → IsItemOf map id
+    → (frame place id : ℕ) → HasTakenIn journals frame place id → IsGot map id
 
 -- in a frame at most one entry takes an item
 abbrev pub ItemsHaveOneTaker : Type 0
@@ -155,8 +159,9 @@ TakenItemsStayAway =
     → frame ≤ later → later < frame + delay → IsSameEntry frame place later other
 
 -- a frame ends where its moves did. After the moves of a right journal each player with an entry is where the last one
--- reports it, which is what the replies show, and a player without an entry is as the receive pass left it. Whatever
--- the journal, the next frame begins with these records: only those whose client leaves are gone
+-- reports it, which is what the replies show, and a player without an entry is as the receive pass left it, where players
+-- shoot but for its state. Whatever the journal, the next frame begins with these records: only those whose client leaves
+-- are gone
 pub record FramesEndWithTheirMoves : Type 0 where
   pub moved : (map : MapView) (frame : ℕ) (state : State) (arrivals : List Arrival) (journal : List Entry) → IsMap map
       → IsServerState map state
@@ -165,6 +170,11 @@ pub record FramesEndWithTheirMoves : Type 0 where
       → IsAsReported (moved_by map r journal).records e
   pub unmoved : (map : MapView) (frame : ℕ) (state : State) (arrivals : List Arrival) (journal : List Entry)
       → IsMap map → IsServerState map state
+      → let r = received_in map frame state arrivals in
+      IsRightAfter map r journal → (slot : ℕ) → slot < 64 → HasNoEntryOf slot journal
+      → unhurt (record_at (moved_by map r journal).records slot) ≡ unhurt (record_at r.state.records slot)
+  pub untouched : (map : MapView) (frame : ℕ) (state : State) (arrivals : List Arrival) (journal : List Entry)
+      → IsMap map → IsServerState map state → map.shots ≡ false
       → let r = received_in map frame state arrivals in
       IsRightAfter map r journal → (slot : ℕ) → slot < 64 → HasNoEntryOf slot journal
       → record_at (moved_by map r journal).records slot ≡ record_at r.state.records slot

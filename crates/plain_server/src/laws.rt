@@ -2,7 +2,7 @@ ghost use Rattle.plain_server.specs.Laws.{OpeningIsAsTheMapSays};
 ghost use Rattle.plain_server.specs.Laws.{MovesKeepWorldsValid, WorldsStayValid, PortsStayApart, PlayersKeepRoom};
 ghost use Rattle.plain_server.specs.Laws.{FramesAreInTurn, JournalsAreRightInOrder, OrderLeavesOneJournalEach};
 ghost use Rattle.plain_server.specs.Laws.{RightJournalsAreInRange, FramesEndWithTheirMoves};
-ghost use Rattle.plain_server.specs.Laws.{FramesHaveOneTaker, OnlyItemsAreTaken, ItemsHaveOneTaker, TakenItemsStayAway};
+ghost use Rattle.plain_server.specs.Laws.{FramesHaveOneTaker, OnlyItemsAndPlayersAreGot, ItemsHaveOneTaker, TakenItemsStayAway};
 ghost use Rattle.plain_server.specs.Numbers.{NumbersRiseAcrossFrames};
 
 /// Before the first frame nobody is joined, and each thing of the map is live at its id and as at the start, and nothing
@@ -67,9 +67,10 @@ pub fn frames_have_one_taker()
     ensures { FramesHaveOneTaker }
 {}
 
-/// In right journals of any frames, each id that an entry got is that of an item of the map.
-pub fn only_items_are_taken()
-    ensures { OnlyItemsAreTaken }
+/// In right journals of any frames, each id that an entry got is that of an item of the map, or, on a map with shots, the
+/// slot of a player.
+pub fn only_items_and_players_are_got()
+    ensures { OnlyItemsAndPlayersAreGot }
 {}
 
 /// In right journals of any frames, at most one entry of a frame takes an item.
@@ -84,7 +85,7 @@ pub fn taken_items_stay_away()
 {}
 
 /// A frame ends where its moves did. After the moves of a right journal each player with an entry is where the last one
-/// reports it, and each other one is as the receive pass left it; the replies show these records. The next frame begins
+/// reports it, and each other one is as the receive pass left it, on a map with shots but for its state; the replies show these records. The next frame begins
 /// with them, but for those of the players that leave.
 pub fn frames_end_with_their_moves()
     ensures { FramesEndWithTheirMoves }

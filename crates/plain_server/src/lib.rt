@@ -4,7 +4,7 @@
 pub use laws::{
     frames_are_in_turn, frames_end_with_their_moves, frames_have_one_taker, items_have_one_taker,
     journals_are_right_in_order, moves_keep_worlds_valid, numbers_rise_across_frames,
-    only_items_are_taken, opening_is_as_the_map_says, order_leaves_one_journal_each,
+    only_items_and_players_are_got, opening_is_as_the_map_says, order_leaves_one_journal_each,
     players_keep_room, ports_stay_apart, right_journals_are_in_range, taken_items_stay_away,
     worlds_stay_valid,
 };

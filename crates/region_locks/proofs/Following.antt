@@ -55,6 +55,7 @@ module _ (F G : Fixed) (passes : ℕ) (table : TableId) (p : PassView) (found : 
       kept ∙ ap (λ (r : PassView). effect_kept (view_of after) r.effect) is ∙ ap (λ (v : View). effect_kept v p.effect) followed in
       let pass : pass_view new after effect_after ≡ pass_after F (the_next (next_of_pass F p)) found p = λ i. record {
         table = gone.same_table i;
+        setting = gone.same_setting i;
         number = gone.same_number i;
         given = option_map command_of (given i);
         quits = quits i;

@@ -4,7 +4,7 @@ use Rattle.std.specs.List.{range_with_len, AllByRecursion}
 use Rattle.std.proofs.lemmas.Bool.{false≢true}
 use Rattle.std.proofs.lemmas.List.Elements.{All-from_recursion}
 use Rattle.std.proofs.lemmas.List.FromFn.{map-range_with_len_more}
-use Rattle.areanode.specs.declared.sizes.TheConstants.{DEPTH}
+use Rattle.areanode.specs.Trees.{IsTreeDepth}
 use Rattle.core_steps.specs.declared.sizes.TheConstants.{TABLE_WORDS}
 use Rattle.atomic_table.specs.Seated.{TableId}
 use Rattle.entity_recs.specs.Actions.{Meaning}
@@ -20,10 +20,11 @@ use Rattle.ruled_words.specs.Plays.{IsSoundSight}
 use Rattle.core_seats.specs.Sound.{IsSound}
 use Rattle.core_seats.specs.Ready.{is_resolving}
 use Rattle.ruled_words.specs.Sights.{no_tally}
-use Rattle.ruled_words.specs.Passes.{IsPassOf}
+use Rattle.ruled_words.specs.Passes.{IsPassOf, setting_of}
+use Rattle.ruled_words.specs.declared.setting.Setting.{Setting}
 use Rattle.region_locks.specs.NewPasses.{new_pass, view_with_made, other_pass, new_passes}
 
-module _ (F : Fixed) (depth : F.tree.depth ≡ DEPTH) (room made : ℕ) where
+module _ (F : Fixed) (depth : IsTreeDepth F.tree.depth) (room made : ℕ) where
   abbrev view : View
   view = view_with_made room made
 
@@ -77,9 +78,10 @@ module _ (F : Fixed) (depth : F.tree.depth ≡ DEPTH) (room made : ℕ) where
       in_table given true next may = absurd (false≢true (may.at_take refl))
       in_table given false next may = begun given next may.comes may.pending
 
-  pub new_own : (passes : ℕ) (table : TableId) (number : ℕ) → IsPassOf F passes table (new_pass table number view)
+  pub new_own : (passes : ℕ) (table : TableId) (number : ℕ) → IsPassOf F passes table (new_pass table (setting_of F) number view)
   new_own passes table number = record {
     at_table = refl;
+    at_setting = refl;
     lives = refl;
     sound_sight = sound_sight_new passes number;
     pending = λ c e. absurd (no_given c e);
@@ -94,22 +96,22 @@ module _ (F : Fixed) (depth : F.tree.depth ≡ DEPTH) (room made : ℕ) where
       no_given c e = cc
 
 -- all new passes belong to their table
-pub all_own : (F : Fixed) (table : TableId) (rooms : List ℕ) → F.tree.depth ≡ DEPTH → All (IsPassOf F (length rooms) table) (new_passes table rooms)
+pub all_own : (F : Fixed) (table : TableId) (rooms : List ℕ) → IsTreeDepth F.tree.depth → All (IsPassOf F (length rooms) table) (new_passes table (setting_of F) rooms)
 all_own F table rooms depth =
-    All-from_recursion (IsPassOf F (length rooms) table) (new_passes table rooms)
+    All-from_recursion (IsPassOf F (length rooms) table) (new_passes table (setting_of F) rooms)
     (new_own F depth (slice_index rooms 0) (length rooms) (length rooms) table 0, others 1 (length rooms - 1))
   where
-    others : (low n : ℕ) → AllByRecursion (IsPassOf F (length rooms) table) (map (other_pass table rooms) (range_with_len low n))
+    others : (low n : ℕ) → AllByRecursion (IsPassOf F (length rooms) table) (map (other_pass table (setting_of F) rooms) (range_with_len low n))
     others low zero = tt
     others low (suc n) = (new_own F depth (slice_index rooms low) 0 (length rooms) table low, others (low + 1) n)
 
-pub others_more : (table : TableId) (rooms : List ℕ) (i : ℕ) → 1 ≤ i
-    → map (other_pass table rooms) (range_with_len 1 (i + 1 - 1)) ≡ map (other_pass table rooms) (range_with_len 1 (i - 1)) ++ other_pass table rooms i ∷ []
-others_more table rooms i least =
+pub others_more : (table : TableId) (setting : Setting) (rooms : List ℕ) (i : ℕ) → 1 ≤ i
+    → map (other_pass table setting rooms) (range_with_len 1 (i + 1 - 1)) ≡ map (other_pass table setting rooms) (range_with_len 1 (i - 1)) ++ other_pass table setting rooms i ∷ []
+others_more table setting rooms i least =
     let count : i + 1 - 1 ≡ i - 1 + 1 = omega (arith, least) in
-    ap (λ (n : ℕ). map (other_pass table rooms) (range_with_len 1 n)) count ∙ map-range_with_len_more (other_pass table rooms) 1 (i - 1) i (omega (arith, least))
+    ap (λ (n : ℕ). map (other_pass table setting rooms) (range_with_len 1 n)) count ∙ map-range_with_len_more (other_pass table setting rooms) 1 (i - 1) i (omega (arith, least))
 
--- the tree of a world for which there are rules has depth 4
+-- the tree of a world for which there are rules has a depth that it may have
 pub depth_is : {A : Type 0} (meaning : A → Meaning) (action : A) (w : WorldView) (r : RulesView A)
-    → r ≡ rules_of action w → IsRuled (fixed_of meaning r) → w.tree.depth ≡ DEPTH
-depth_is {A} meaning action w r is ruled = ap (λ (x : RulesView A). x.tree.depth) (sym is) ∙ ruled.depth
+    → r ≡ rules_of action w → IsRuled (fixed_of meaning r) → IsTreeDepth w.tree.depth
+depth_is {A} meaning action w r is ruled = subst (λ (x : RulesView A). IsTreeDepth x.tree.depth) is ruled.depth

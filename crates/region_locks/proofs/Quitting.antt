@@ -208,6 +208,7 @@ pub quits_own : (F : Fixed) (passes : ℕ) (table : TableId) (p q : PassView) �
 quits_own F passes table p q same own at =
     subst (λ (r : PassView). IsPassOf F passes table (record r { quits = true })) (sym same) (record {
       at_table = own.at_table;
+      at_setting = own.at_setting;
       lives = own.lives;
       sound_sight = own.sound_sight;
       pending = own.pending;

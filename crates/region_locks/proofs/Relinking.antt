@@ -1,5 +1,5 @@
 -- A world whose records are made those of a table's words, id by id.
-use Rattle.std.proofs.Common.{◌≡◌, ◌≢◌, ℕ, ◌+◌, ◌<◌, ◌≤◌, List, Some, None, sym, ap, ◌∙◌, subst, inl, inr, arith, slice_set, get_or-set_other}
+use Rattle.std.proofs.Common.{◌≡◌, ◌≢◌, ℕ, ◌+◌, ◌<◌, ◌≤◌, List, length, Some, None, sym, ap, ◌∙◌, subst, inl, inr, arith, slice_set, get_or, length-set, get_or-set_same, get_or-set_other}
 use Rattle.std.specs.Option.{option_map}
 use Rattle.std.proofs.lemmas.Bool.{cases_eq, cases_lt}
 use Rattle.std.proofs.lemmas.List.{get_or_past}
@@ -50,3 +50,10 @@ pub put_elsewhere : (w : WorldView) (id : ℕ) (new : Rec) → new.id ≡ id →
 put_elsewhere w id new own other apart =
     let far : other ≢ new.id = λ same. apart (same ∙ own) in
     get_or-set_other (slice_set w.records new.id None) new.id other (Some new) None far ∙ get_or-set_other w.records new.id other None None far
+
+-- and it stands at its own id
+pub put_here : (w : WorldView) (id : ℕ) (new : Rec) → new.id ≡ id → id < length w.records → record_of (with_record (without_id w new.id) new) id ≡ Some new
+put_here w id new own within =
+    let long = length-set w.records id None in
+    ap (λ (n : ℕ). get_or (slice_set (slice_set w.records n None) n (Some new)) id None) own
+    ∙ get_or-set_same (slice_set w.records id None) id (Some new) None (omega (arith, long, within))

@@ -1,16 +1,17 @@
 -- A pass that runs a command, call after call, and how it ends.
-use Rattle.std.proofs.Common.{◌≡◌, ℕ, ◌+◌, ◌-◌, ◌^◌, ◌≤◌, Bool, true, false, if◌then◌else◌, List, [], ◌∷◌, ◌++◌, refl, sym, ap, ◌∙◌, subst, inr, Option, Some, None, is_some, arith}
-use Rattle.std.specs.Prelude.{nat_le, min}
-use Rattle.std.proofs.lemmas.Bool.{true≢false, le-leb, cond-true, or_parts}
-use Rattle.areanode.specs.declared.sizes.TheConstants.{FIRST_LEAF}
+use Rattle.std.proofs.Common.{◌≡◌, ℕ, ◌+◌, ◌-◌, ◌^◌, ◌/◌, ◌%◌, ◌<◌, ◌≤◌, Bool, true, false, if◌then◌else◌, List, [], ◌∷◌, ◌++◌, refl, sym, ap, ◌∙◌, subst, inr, Option, Some, None, is_some, arith}
+use Rattle.std.specs.Prelude.{min}
+use Rattle.std.proofs.lemmas.Bool.{true≢false, le-leb, cond-true, cond-false, or_parts}
 use Rattle.atomic_table.specs.Seated.{TableId}
 use Rattle.entity_recs.specs.declared.effect.Entry.{Entry}
 use Rattle.entity_recs.specs.Commands.{Command}
 use Rattle.areanode.specs.Words.{has_bit}
-use Rattle.core_steps.specs.Views.{Fixed, Refused, Point, Idle, Owning, Taking, Checking, Entering, Entered, Loading, Leaving, Sensing, Resolving, Claiming, Storing, Releasing, Returning, Yielding, stage_of, is_busy, inner_held, leaves_held, stores_owed}
+use Rattle.core_steps.specs.Views.{Fixed, Refused, Point, Idle, Owning, Taking, Checking, Entering, Entered, Loading, Leaving, Sensing, Resolving, Claiming, Storing, Releasing, Returning, Yielding, stage_of, is_busy, has, is_leaf, inner_nodes, inner_visited, region_in, inner_held, leaves_held, stores_owed}
+use Rattle.core_steps.specs.declared.sizes.TheConstants.{NODE_HOLDERS, TABLE_LEAVES}
 use Rattle.core_steps.specs.Calls.{is_pursued, pursued_of}
 use Rattle.ruled_words.specs.Sights.{HeldWord, IsOneOf}
 use Rattle.ruled_words.specs.Passes.{PassView, IsPassOf}
+use Rattle.ruled_words.proofs.VisitedNodes.{inner_there}
 use Rattle.region_locks.specs.declared.went.Went.{Went}
 use Rattle.region_locks.specs.declared.went.Went.TheVariants.{Resolved}
 use Rattle.region_locks.specs.declared.turn.Turn.{Turn}
@@ -19,7 +20,7 @@ use Rattle.region_locks.specs.Closing.{HasNoCommand}
 use Rattle.region_locks.specs.Pursuits.{command_pursued, item_of, entry_committed, is_resolved, HasGoneOn, WasRefused, HasGivenUp, IsRefusedBy}
 use Rattle.region_locks.specs.declared.again.Again.{Again}
 use Rattle.region_locks.specs.declared.gate_point.GatePoint.TheVariants as points
-use Rattle.region_locks.specs.Moves.{HasRun, NoTakeWasRefused, IsLeafHeld, IsCause, WasNotRun, IsOpen, IsDone, IsRunning}
+use Rattle.region_locks.specs.Moves.{HasRun, NoTakeWasRefused, IsLeafHeld, IsNodeBusy, IsCause, WasNotRun, IsOpen, IsDone, IsRunning}
 use Rattle.region_locks.specs.Moments.{IsAtPoint, RunsCommand}
 
 -- a list with a command isn't empty
@@ -224,21 +225,49 @@ module _ (F : Fixed) (passes : ℕ) (table : TableId) (start : PassView) (c : Co
       }
 
 -- the leaf was held
-pub is_leaf_held : (F : Fixed) (passes own : ℕ) (c : Command) (r : Refused) (node number leaves : ℕ) → FIRST_LEAF ≤ node → r.node ≡ node → IsRefusedBy F passes own c r number leaves → IsLeafHeld F passes own c r (node - FIRST_LEAF) number leaves
-is_leaf_held F passes own c r node number leaves least same by =
-    let leaf : nat_le FIRST_LEAF r.node ≡ true = subst (λ (n : ℕ). nat_le FIRST_LEAF n ≡ true) (sym same) (le-leb FIRST_LEAF node least) in record {
-      node = omega (arith, least, same);
+pub is_leaf_held : (F : Fixed) (passes own : ℕ) (c : Command) (r : Refused) (node first number leaves : ℕ) → first ≡ inner_nodes F → first ≤ node → r.node ≡ node
+    → IsRefusedBy F passes own c r number leaves → IsLeafHeld F passes own c r (node - first) number leaves
+is_leaf_held F passes own c r node first number leaves at least same by =
+    let leaf : is_leaf F r.node ≡ true = le-leb (inner_nodes F) r.node (omega (arith, at, least, same)) in record {
+      node = omega (arith, at, least, same);
       leaves_wanted = by.wanted;
       wanted = by.is_wanted leaf;
       named = by.held;
       other = by.other;
-      has_leaf = subst (λ (n : ℕ). has_bit leaves (n - FIRST_LEAF) ≡ true) same (by.other.has_leaf leaf);
+      has_leaf = subst (λ (n : ℕ). has_bit leaves (n - first) ≡ true) same (subst (λ (i : ℕ). has_bit leaves (r.node - i) ≡ true) (sym at) (by.other.has_leaf leaf));
+    }
+
+-- the inner node was held
+pub is_node_busy : (F : Fixed) (passes own : ℕ) (c : Command) (r : Refused) (node first number leaves : ℕ) → first ≡ inner_nodes F → node < first → r.node ≡ node
+    → IsRefusedBy F passes own c r number leaves → IsNodeBusy F passes own c r node number
+is_node_busy F passes own c r node first number leaves at below same by =
+    let inner : is_leaf F node ≡ false = inner_there F node (omega (arith, at, below)) in
+    let here : is_leaf F r.node ≡ false = subst (λ (n : ℕ). is_leaf F n ≡ false) (sym same) inner in record {
+      is_node = same;
+      below = omega (arith, at, below);
+      leaves_wanted = by.wanted;
+      visited = subst (λ (n : ℕ). has (inner_visited F (region_in F c r.own)) n ≡ true) same (by.is_visited here);
+      named = record {
+        is_held = by.held.is_held;
+        is_number = by.held.is_number;
+        are_leaves = sym (cond-false (is_leaf F node) (r.word / NODE_HOLDERS % 2 ^ TABLE_LEAVES) 0 inner);
+      };
+      other = record {
+        other = by.other.other;
+        below = by.other.below;
+        cmd = by.other.cmd;
+        loaded = by.other.loaded;
+        given = by.other.given;
+        serves = by.other.serves;
+        are_leaves = λ leaf. absurd (true≢false (sym leaf ∙ inner));
+        has_leaf = λ leaf. absurd (true≢false (sym leaf ∙ inner));
+      };
     }
 
 -- a command that was refused and given up
 pub was_not_run : (F : Fixed) (passes : ℕ) (table : TableId) (start : PassView) (c : Command) (old mid new : PassView) (o : Option Entry) (node number leaves : ℕ) (a : Again)
     → IsRunning F passes table start c old o → NoTakeWasRefused start old → WasRefused F passes table old mid node number leaves → IsPassOf F passes table new → HasGivenUp mid new
-    → ((G : Fixed) (n own : ℕ) (d : Command) (r : Refused) → r.node ≡ node → IsRefusedBy G n own d r number leaves → IsCause G n own d r a) → WasNotRun F passes table start new c a
+    → ((own : ℕ) (d : Command) (r : Refused) → r.node ≡ node → IsRefusedBy F passes own d r number leaves → IsCause F passes own d r a) → WasNotRun F passes table start new c a
 was_not_run F passes table start c old mid new o node number leaves a r before refused own gave cause =
     let was = still_open F passes table start c old mid o r refused.cmd refused.command in
     let same : refused.cmd ≡ c = same_one (command_pursued old) refused.cmd c refused.command was.command in
@@ -255,7 +284,7 @@ was_not_run F passes table start c old mid new o node number leaves a r before r
       r = refused.r;
       kept = gave.refused ∙ refused.kept;
       listed = gave.listed ∙ refused.listed ∙ ap (λ (hs : List HeldWord). (record { node = refused.r.node; word = refused.r.word }) ∷ hs) before.listed;
-      cause = subst (λ (n : ℕ). IsCause F passes n c refused.r a) mine (subst (λ (d : Command). IsCause F passes mid.number d refused.r a) same (cause F passes mid.number refused.cmd refused.r refused.is_node refused.cause));
+      cause = subst (λ (n : ℕ). IsCause F passes n c refused.r a) mine (subst (λ (d : Command). IsCause F passes mid.number d refused.r a) same (cause mid.number refused.cmd refused.r refused.is_node refused.cause));
     }
 
 -- ---- as the code has it

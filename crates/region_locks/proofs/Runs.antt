@@ -6,8 +6,8 @@ use Rattle.entity_recs.specs.declared.effect.Effect.{Effect}
 use Rattle.entity_recs.specs.declared.effect.Entry.{Entry}
 use Rattle.entity_recs.specs.Commands.{Command}
 use Rattle.entity_recs.specs.Histories.{entry_of}
-use Rattle.core_steps.specs.Steps.{item_at}
-use Rattle.core_steps.specs.Views.{Fixed, View, Point, stage_of, is_committed, without_command, Checking, Resolving, Releasing, region_in, leaf_word}
+use Rattle.core_steps.specs.Steps.{item_at, visiting}
+use Rattle.core_steps.specs.Views.{Fixed, View, Point, stage_of, is_committed, without_command, Checking, Resolving, Releasing, plan_of, region_in, leaf_word}
 use Rattle.core_seats.specs.declared.refusals.Refusals.{Refusals}
 use Rattle.core_seats.specs.Refusals.{AreRefusals}
 use Rattle.ruled_words.specs.Sights.{IsOneOf, Tally}
@@ -22,6 +22,7 @@ use Rattle.region_locks.specs.Moments.{IsAtPoint}
 use Rattle.region_locks.specs.declared.moving.held.Held.{Held}
 use Rattle.region_locks.specs.Runs.{HoldsLeavesOf, HasReadAll, HasWritten, HasMoved, all_read, all_written}
 use Rattle.ruled_words.proofs.LeafWords.{leaf_word_is}
+use Rattle.ruled_words.proofs.LoadedWords.{visiting_same}
 
 -- ---- an entry that is there
 
@@ -64,6 +65,15 @@ module _ (F : Fixed) (c : Command) (words : List ℕ) (old at new : PassView) (f
     }
 
 -- ---- the region is read
+
+-- once the own record is loaded again, the first node of the plan is visited
+pub first_visit : (F : Fixed) (again : List ℕ) (old new : PassView)
+    → new ≡ in_view old (record old.view { again = again; point = visiting F old.view (plan_of F (region_in F old.view.cmd old.view.own)) })
+    → new.view.point ≡ visiting F new.view (plan_of F (region_in F new.view.cmd new.view.own))
+first_visit F again old new is =
+    ap (λ (p : PassView). p.view.point) is
+    ∙ visiting_same F old.view new.view (plan_of F (region_in F old.view.cmd old.view.own)) (sym (ap (λ (p : PassView). p.view.cmd) is)) (sym (ap (λ (p : PassView). p.view.own) is))
+    ∙ ap (λ (p : PassView). visiting F new.view (plan_of F (region_in F p.view.cmd p.view.own))) (sym is)
 
 module _ (F : Fixed) (old at new : PassView) (first : at ≡ in_view_with old (nodes_read F old.view at.view) at.tally)
     (second : new ≡ in_view at (record at.view { states = new.view.states; point = Resolving })) where

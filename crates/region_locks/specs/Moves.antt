@@ -1,11 +1,11 @@
 -- What a move leaves of its pass, and why it wasn't run.
 use Rattle.std.specs.Prelude.{◌≡◌, ℕ, ◌+◌, ◌-◌, ◌^◌, ◌<◌, ◌≤◌, min, true, [], ◌∷◌, ◌++◌, Option, Some, None}
-use Rattle.areanode.specs.declared.sizes.TheConstants.{FIRST_LEAF}
 use Rattle.atomic_table.specs.Seated.{TableId}
 use Rattle.entity_recs.specs.declared.effect.Entry.{Entry}
 use Rattle.entity_recs.specs.Commands.{Command}
 use Rattle.areanode.specs.Words.{has_bit}
-use Rattle.core_steps.specs.Views.{Fixed, Refused, has, leaf_nodes, inner_visited, region_in}
+use Rattle.areanode.specs.Trees.{leaf_node}
+use Rattle.core_steps.specs.Views.{Fixed, Refused, has, inner_nodes, leaf_nodes, inner_visited, region_in}
 use Rattle.ruled_words.specs.Passes.{PassView, IsPassOf, IsHolderIn}
 use Rattle.ruled_words.specs.Holders.{IsOtherHolder}
 use Rattle.ruled_words.specs.Straight.{AreListedStill}
@@ -40,10 +40,10 @@ pub record NoTakeWasRefused (old new : PassView) : Type 0 where
 -- the refused take was of a leaf that the command wants, by the own record as loaded, and its word names the holder,
 -- which isn't this pass, with its leaves, which have that leaf
 pub record IsLeafHeld (F : Fixed) (passes own : ℕ) (c : Command) (r : Refused) (leaf holder leaves : ℕ) : Type 0 where
-  pub node : r.node ≡ FIRST_LEAF + leaf
+  pub node : r.node ≡ leaf_node F.tree.depth leaf
   pub leaves_wanted : r.wanted ≡ leaf_nodes F (region_in F c r.own)
   pub wanted : has r.wanted r.node ≡ true
-  pub named : IsHolderIn r.word r.node holder leaves
+  pub named : IsHolderIn F r.word r.node holder leaves
   pub other : IsOtherHolder F passes own r.node holder leaves
   pub has_leaf : has_bit leaves leaf ≡ true
 
@@ -51,10 +51,10 @@ pub record IsLeafHeld (F : Fixed) (passes own : ℕ) (c : Command) (r : Refused)
 -- names the holder, which isn't this pass
 pub record IsNodeBusy (F : Fixed) (passes own : ℕ) (c : Command) (r : Refused) (node holder : ℕ) : Type 0 where
   pub is_node : r.node ≡ node
-  pub below : node < FIRST_LEAF
+  pub below : node < inner_nodes F
   pub leaves_wanted : r.wanted ≡ leaf_nodes F (region_in F c r.own)
   pub visited : has (inner_visited F (region_in F c r.own)) node ≡ true
-  pub named : IsHolderIn r.word node holder 0
+  pub named : IsHolderIn F r.word node holder 0
   pub other : IsOtherHolder F passes own node holder 0
 
 -- the refused take is the cause of the answer

@@ -5,11 +5,13 @@ use Rattle.atomic_table.specs.Seated.{TableId}
 use Rattle.core_steps.specs.Views.{View, new_view}
 use Rattle.ruled_words.specs.Sights.{no_tally}
 use Rattle.ruled_words.specs.Passes.{PassView}
+use Rattle.ruled_words.specs.declared.setting.Setting.{Setting}
 
--- a pass with this view that has no command in hand
-abbrev pub new_pass : TableId → ℕ → View → PassView
-new_pass table number view = record {
+-- a pass with this view that has no command in hand, of a table of which its passes know this
+abbrev pub new_pass : TableId → Setting → ℕ → View → PassView
+new_pass table setting number view = record {
   table = table;
+  setting = setting;
   number = number;
   given = None;
   quits = false;
@@ -23,14 +25,14 @@ abbrev pub view_with_made : ℕ → ℕ → View
 view_with_made room made = record (new_view room) { made = made }
 
 -- pass 0 of a table with these rooms
-abbrev pub first_pass : TableId → List ℕ → PassView
-first_pass table rooms = new_pass table 0 (view_with_made (slice_index rooms 0) (length rooms))
+abbrev pub first_pass : TableId → Setting → List ℕ → PassView
+first_pass table setting rooms = new_pass table setting 0 (view_with_made (slice_index rooms 0) (length rooms))
 
 -- another pass
-abbrev pub other_pass : TableId → List ℕ → ℕ → PassView
-other_pass table rooms number = new_pass table number (new_view (slice_index rooms number))
+abbrev pub other_pass : TableId → Setting → List ℕ → ℕ → PassView
+other_pass table setting rooms number = new_pass table setting number (new_view (slice_index rooms number))
 
 -- the passes of a table with these rooms, in rising number
-abbrev pub new_passes : TableId → List ℕ → List PassView
-new_passes table rooms = first_pass table rooms
-    ∷ map (other_pass table rooms) (range_with_len 1 (length rooms - 1))
+abbrev pub new_passes : TableId → Setting → List ℕ → List PassView
+new_passes table setting rooms = first_pass table setting rooms
+    ∷ map (other_pass table setting rooms) (range_with_len 1 (length rooms - 1))

@@ -1,15 +1,14 @@
 -- How a pass goes on with its command, call after call, and what a move leaves of it.
-use Rattle.std.specs.Prelude.{◌≡◌, ℕ, ◌+◌, ◌-◌, ◌^◌, ◌<◌, ◌≤◌, nat_le, min, Bool, true, false, ◌&&◌, not}
+use Rattle.std.specs.Prelude.{◌≡◌, ℕ, ◌+◌, ◌-◌, ◌^◌, ◌<◌, ◌≤◌, min, Bool, true, false, ◌&&◌, not}
 use Rattle.std.specs.Prelude.{if◌then◌else◌, List, [], ◌∷◌, ◌++◌, Option, Some, None, is_some}
-use Rattle.areanode.specs.declared.sizes.TheConstants.{FIRST_LEAF}
 use Rattle.atomic_table.specs.Seated.{TableId}
 use Rattle.entity_recs.specs.declared.effect.Entry.{Entry}
 use Rattle.entity_recs.specs.Commands.{Command}
 use Rattle.entity_recs.specs.Histories.{Item}
 use Rattle.core_steps.specs.Views.{Fixed, Point, Idle, Owning, Checking}
 use Rattle.core_steps.specs.Views.{Resolving, Releasing, Refused}
-use Rattle.core_steps.specs.Views.{has, leaf_nodes, inner_visited, region_in, inner_held, leaves_held, stores_owed}
-use Rattle.core_steps.specs.Views.{stage_of, is_busy}
+use Rattle.core_steps.specs.Views.{has, is_leaf, leaf_nodes, inner_visited, region_in, inner_held, leaves_held}
+use Rattle.core_steps.specs.Views.{stores_owed, stage_of, is_busy}
 use Rattle.core_steps.specs.Steps.{is_taking}
 use Rattle.core_steps.specs.Calls.{pursued_of}
 use Rattle.core_seats.specs.StepsLeft.{left_at, steps_left}
@@ -77,11 +76,11 @@ pub record HasCommitted (old new : PassView) (e : Entry) : Type 0 where
 -- found; the leaves wanted are those of the command by the own record as loaded, and the node is one of them or an
 -- inner node that they visit
 pub record IsRefusedBy (F : Fixed) (passes own : ℕ) (c : Command) (r : Refused) (number leaves : ℕ) : Type 0 where
-  pub held : IsHolderIn r.word r.node number leaves
+  pub held : IsHolderIn F r.word r.node number leaves
   pub other : IsOtherHolder F passes own r.node number leaves
   pub wanted : r.wanted ≡ leaf_nodes F (region_in F c r.own)
-  pub is_wanted : nat_le FIRST_LEAF r.node ≡ true → has r.wanted r.node ≡ true
-  pub is_visited : nat_le FIRST_LEAF r.node ≡ false → has (inner_visited F (region_in F c r.own)) r.node ≡ true
+  pub is_wanted : is_leaf F r.node ≡ true → has r.wanted r.node ≡ true
+  pub is_visited : is_leaf F r.node ≡ false → has (inner_visited F (region_in F c r.own)) r.node ≡ true
 
 -- the take of this node was refused: the same pass with the same command keeps it as its last refused take, one more
 -- is counted, and this one is listed

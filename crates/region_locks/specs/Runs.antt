@@ -1,11 +1,11 @@
 -- A whole move as straight code: what its hand has in view after each part.
 use Rattle.std.specs.Prelude.{◌≡◌, ℕ, suc, ◌+◌, ◌%◌, ◌^◌, ◌<◌, ◌≤◌, List, [], ◌∷◌, ◌++◌, length, Some}
-use Rattle.areanode.specs.declared.sizes.TheConstants.{DEPTH, FIRST_LEAF}
 use Rattle.areanode.specs.Trees.{leaves_of, visited_of}
 use Rattle.entity_recs.specs.declared.effect.Effect.{Effect}
 use Rattle.entity_recs.specs.declared.effect.Entry.{Entry}
 use Rattle.entity_recs.specs.Commands.{Command}
-use Rattle.core_steps.specs.Views.{Fixed, View, Checking, Resolving, Releasing, effect_loaded, region_in, without_command}
+use Rattle.core_steps.specs.Views.{Fixed, View, Checking, Resolving, Releasing, effect_loaded, inner_nodes, region_in}
+use Rattle.core_steps.specs.Views.{without_command}
 use Rattle.core_steps.specs.Steps.{item_at}
 use Rattle.ruled_words.specs.Passes.{PassView}
 use Rattle.ruled_words.specs.Straight.{in_view_with, taking_leaves, at_point, AreListedStill, IsTriedOn}
@@ -24,7 +24,7 @@ pub record AreHeldFor (F : Fixed) (held : Held) (view : View) : Type 0 where
   pub six : length held.own ≡ 6
   pub region_is : held.region ≡ region_in F view.cmd view.own
   pub leaves_are : held.leaves ≡ leaves_of F.tree (region_in F view.cmd view.own)
-  pub inner_are : held.inner ≡ visited_of DEPTH held.leaves % 2 ^ FIRST_LEAF
+  pub inner_are : held.inner ≡ visited_of F.tree.depth held.leaves % 2 ^ inner_nodes F
   pub wanted_is : held.wanted.items ≡ view.wanted
 
 -- the view after all was read, as this one has it

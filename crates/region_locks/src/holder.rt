@@ -1,7 +1,8 @@
-ghost use Rattle.std.specs.Prelude.{◌≢◌};
+ghost use Rattle.std.specs.Prelude.{◌≡◌, ◌≢◌, ℕ};
+ghost use Rattle.core_steps.specs.Views as views;
+ghost use Rattle.core_steps.specs.Views.{Fixed};
 ghost use Rattle.ruled_words.specs.Passes.{IsHolderIn};
 
-use areanode::FIRST_LEAF;
 use core_steps::{NODE_HOLDERS, TABLE_LEAVES};
 
 /// Who holds a node.
@@ -13,14 +14,15 @@ pub struct Holder {
     pub leaves: u32,
 }
 
-/// Who holds the node, by its word.
-pub(crate) fn holder_in(word: u64, node: u8) -> Holder
+/// Who holds a node, which is a leaf or not, by its word.
+pub(crate) fn holder_in(word: u64, is_leaf: bool) -> Holder
     requires { word ≢ 0 }
-    ensures { IsHolderIn word node result.number result.leaves }
+    ensures { (F : Fixed) (node : ℕ) → is_leaf ≡ views.is_leaf F node
+        → IsHolderIn F word node result.number result.leaves }
 {
     Holder {
         number: ((word - 1) % NODE_HOLDERS) as u8,
-        leaves: if usize::from(node) >= FIRST_LEAF {
+        leaves: if is_leaf {
             (word / NODE_HOLDERS % (1 << TABLE_LEAVES)) as u32
         } else {
             0

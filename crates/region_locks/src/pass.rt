@@ -43,7 +43,7 @@ impl<A> Pass<A> {
         requires tally { hand.tally ≡ no_tally }
         requires mirrors { view_of mirror ≡ hand.view }
         requires rests { (mirror.given ≡ None) × (mirror.quits ≡ false) }
-        ensures { result ≡ new_pass hand.table hand.number hand.view }
+        ensures { result ≡ new_pass hand.table hand.setting hand.number hand.view }
     {
         Pass {
             hand,

@@ -3,7 +3,8 @@ ghost use Rattle.std.specs.List.{range_with_len};
 ghost use Rattle.core_steps.specs.declared.sizes.TheConstants.{MOST_SEATS};
 ghost use Rattle.ruled_words.specs.Rule.{first_sight};
 ghost use Rattle.ruled_words.specs.Sights.{no_tally};
-ghost use Rattle.ruled_words.specs.Passes.{sight_of, IsOwn};
+ghost use Rattle.core_steps.specs.Views.{inner_nodes};
+ghost use Rattle.ruled_words.specs.Passes.{fixed_in, setting_of, sight_of, IsOwn};
 ghost use Rattle.ruled_words.specs.Starts.{rules_of};
 ghost use Rattle.world_tree.specs.Live.{live_in};
 ghost use Rattle.region_locks.specs.NewPasses.{other_pass, new_passes, view_with_made};
@@ -43,7 +44,8 @@ fn make_others<A: Action>(
     requires table { first.old.table ≡ words.now.table }
     requires rooms { (words.now.rooms ≡ room.now) × (0 < length room.now) × (length room.now ≤ MOST_SEATS) }
     requires first { sight_of first.old ≡ first_sight (slice_index room.now 0) }
-    ensures passes { IfOk result (λ v. v.items ≡ map (other_pass words.now.table room.now)
+    requires setting { first.old.setting ≡ setting_of (fixed_in A.meaning words.now) }
+    ensures passes { IfOk result (λ v. v.items ≡ map (other_pass words.now.table (setting_of (fixed_in A.meaning words.now)) room.now)
         (range_with_len 1 (length room.now - 1))) }
     ensures first { OnOk result
         (sight_of first.new ≡ record {
@@ -52,6 +54,7 @@ fn make_others<A: Action>(
           tally = no_tally;
         }) }
     ensures table { first.new.table ≡ first.old.table }
+    ensures setting { first.new.setting ≡ first.old.setting }
 {
     let mut passes = Vec::with_capacity(alloc, room.len())?;
     for i in 1..room.len() {
@@ -75,7 +78,7 @@ impl<'a, A: Action> NodeTable<'a, A> {
         requires taken { All (λ r. (A.meaning action.now).takes r ≡ true) (live_in world.now.records) }
         ensures table { IfOk result (λ r. (r.0.action ≡ action.now) × (r.0.world ≡ world.now)
             × (r.0.rooms ≡ room.now)) }
-        ensures passes { IfOk result (λ r. r.1.items ≡ new_passes r.0.table room.now) }
+        ensures passes { IfOk result (λ r. r.1.items ≡ new_passes r.0.table (setting_of (fixed_in A.meaning r.0)) room.now) }
         ensures own { IfOk result (λ r. All (IsOwn A.meaning r.0) r.1.items) }
     {
         let (words, mut first) = SharedWords::new(alloc, action, world, room)?;
@@ -84,6 +87,13 @@ impl<'a, A: Action> NodeTable<'a, A> {
         let mut passes = make_others(alloc, &words, &mut first, room)?;
         passes.insert(0, Pass::resting(first, mirror))?;
         Ok((NodeTable { words }, passes))
+    }
+
+    /// The first leaf's node, which is also the number of inner nodes.
+    pub(crate) fn first_leaf(&self) -> u8
+        ensures { result ≡ inner_nodes (fixed_in A.meaning self.now) }
+    {
+        self.words.first_leaf()
     }
 
     /// The rules of the action in the world at the start.

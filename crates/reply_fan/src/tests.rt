@@ -14,6 +14,9 @@ use std::test::Fail;
 use std::thread::Threads;
 use world_tree::World;
 
+/// The depth of the tree of a world.
+const DEPTH: u8 = 4;
+
 /// What the only player sees in frame 1, after three moves along x.
 const MOVED: &[u8] =
     b"\x01\x01\0\0\0\0\x66\x26\0\0\0\0\0\0\0\x18\0\0\0\x40\x01\0\0\0\0\0\0\0\0\0\x01\0\0\0\0\0\0\x03\0\0\0\0\0";
@@ -65,7 +68,7 @@ fn player(id: u16, origin: Vec3) -> Rec
 /// An arena without records.
 fn arena(alloc: Global) -> Result<World, Fail> {
     let bounds = Aabb::new(at(-131_072, -131_072, 0), at(131_072, 131_072, 65_536)).ok_or("a box")?;
-    Ok(World::new(alloc, &bounds, &[])?)
+    Ok(World::new(alloc, &bounds, DEPTH, &[])?)
 }
 
 /// Puts in a player whose slot is free.

@@ -72,6 +72,11 @@ bit_below n word bit small there = elim (cases_lt bit n) [
   | inr above ↦ absurd (true≢false (sym there ∙ ap (λ (b : ℕ). b == 1) (bit_at_above word n bit small above)))
 ]
 
+-- the lowest bit of a small word comes first
+pub lowest_first : (n word rest bit : ℕ) → n ≤ 64 → word < 2 ^ n → has_bit word bit ≡ true → ((i : ℕ) → i < bit → has_bit word i ≡ false)
+    → ((i : ℕ) → i < 64 → has_bit rest i ≡ (has_bit word i && not (i == bit))) → bits_in n word ≡ bit ∷ bits_in n rest
+lowest_first n word rest bit few small there first without = bits_first n word rest bit (bit_below n word bit small there) few there first without
+
 -- the players of a list word but one are the bits of the word without its bit
 pub players_are : (word own rest : ℕ) → ((i : ℕ) → i < 64 → has_bit rest i ≡ (has_bit word i && not (i == own))) → players_in word own ≡ bits_in 64 rest
 players_are word own rest without =

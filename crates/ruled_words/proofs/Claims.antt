@@ -137,6 +137,7 @@ module _ (F : Fixed) (passes : ℕ) (table : TableId) (p : PassView) (node : ℕ
 pub dropped_own : (F : Fixed) (passes : ℕ) (table : TableId) (p : PassView) (o : Option Effect) → IsPassOf F passes table (record p { effect = o }) → p.effect ≡ None → IsPassOf F passes table p
 dropped_own F passes table p o is none = record {
   at_table = is.at_table;
+  at_setting = is.at_setting;
   lives = is.lives;
   sound_sight = is.sound_sight;
   pending = is.pending;
@@ -162,6 +163,7 @@ module _ (F : Fixed) (p : PassView) (e : Effect) (plain : IsPlain p) (at : p.vie
         let made : still_keeping new e ≡ pass_after F next found (keeping p e) = after ∙ after_next_is F (keeping p e) next with_effect_is found in
         λ i. record {
           table = (made i).table;
+          setting = (made i).setting;
           number = (made i).number;
           given = plain_new.given i;
           quits = plain_new.quits i;

@@ -74,6 +74,7 @@ pub keeping_own : (F : Fixed) (passes : ℕ) (table : TableId) (p : PassView) (e
     → IsPassOf F passes table (keeping p e)
 keeping_own F passes table p e own at is = record {
   at_table = own.at_table;
+  at_setting = own.at_setting;
   lives = own.lives;
   sound_sight = own.sound_sight;
   pending = own.pending;

@@ -2,11 +2,10 @@
 use Rattle.std.proofs.Common.{◌≡◌, ◌⊎◌, ℕ, ◌+◌, ◌^◌, ◌<◌, ◌≤◌, true, false, List, [], ◌∷◌, map, length, slice_index_or, drop, refl, sym, ap, ◌∙◌, inl, inr, Some, None, arith}
 use Rattle.std.specs.Prelude.{◌==◌, ◌&&◌, not}
 use Rattle.std.proofs.lemmas.List.{drop_more, drop_all}
-use Rattle.areanode.specs.declared.sizes.TheConstants.{DEPTH, LEAVES, FIRST_LEAF}
 use Rattle.atomic_table.specs.Seated.{TableId}
 use Rattle.arena_geo.specs.Bounds.{Bounds}
 use Rattle.areanode.specs.Words.{has_bit}
-use Rattle.areanode.specs.Trees.{leaf_node, leaves_of}
+use Rattle.areanode.specs.Trees.{IsTreeDepth, leaf_node, leaves_of}
 use Rattle.core_steps.specs.Views.{Fixed, View, Point, Releasing, leaf_nodes, leaf_word, region_in, is_whole, stage_of, without_command}
 use Rattle.core_steps.specs.Steps.{first, rest_of, returning, view_after_give}
 use Rattle.core_steps.specs.Machine.{GiveNode, giving}
@@ -15,8 +14,8 @@ use Rattle.core_seats.specs.Ready.{is_resolving}
 use Rattle.ruled_words.specs.Passes.{PassView, next_of_pass, node_given_next, pass_after, IsPassOf}
 use Rattle.ruled_words.specs.Hands.{IsPlain}
 use Rattle.ruled_words.specs.Straight.{in_view}
-use Rattle.ruled_words.proofs.BitWalks.{bits_in, bits_first, bits_none, bit_below}
-use Rattle.ruled_words.proofs.LeafWords.{leaf_word_is, leaves_small}
+use Rattle.ruled_words.proofs.BitWalks.{bits_in, bits_none, lowest_first}
+use Rattle.ruled_words.proofs.LeafWords.{leaf_word_is, leaves_small, leaves_few}
 use Rattle.ruled_words.proofs.LoadedWords.{none_kept, plain_is, plain_after, plain_next}
 use Rattle.ruled_words.proofs.PlainHands.{after_next_is}
 
@@ -50,8 +49,8 @@ module _ (F : Fixed) (passes : ℕ) (table : TableId) (start : PassView) (nodes 
 -- ---- the leaves
 
 -- the nodes of the leaves of this word, rising
-abbrev pub leaves_in : ℕ → List ℕ
-leaves_in word = map (leaf_node DEPTH) (bits_in LEAVES word)
+abbrev pub leaves_in : Fixed → ℕ → List ℕ
+leaves_in F word = map (leaf_node F.tree.depth) (bits_in (2 ^ F.tree.depth) word)
 
 -- these leaves are left to be given back: all of those wanted where none was
 pub record HasReturned (F : Fixed) (passes : ℕ) (table : TableId) (start now : PassView) (left : List ℕ) : Type 0 where
@@ -60,7 +59,7 @@ pub record HasReturned (F : Fixed) (passes : ℕ) (table : TableId) (start now :
 
 module _ (F : Fixed) (passes : ℕ) (table : TableId) (start : PassView) (plain : IsPlain start) (at : start.view.point ≡ Releasing []) where
   -- the leaves are those of the word
-  pub returned_none : (leaves : ℕ) → IsPassOf F passes table start → leaves ≡ leaf_word F start.view.wanted → HasReturned F passes table start start (leaves_in leaves)
+  pub returned_none : (leaves : ℕ) → IsPassOf F passes table start → leaves ≡ leaf_word F start.view.wanted → HasReturned F passes table start start (leaves_in F leaves)
   returned_none leaves own are = record { own = own; phase = inl (refl, wanted) }
     where
       region : List Bounds
@@ -72,16 +71,16 @@ module _ (F : Fixed) (passes : ℕ) (table : TableId) (start : PassView) (plain 
       word : leaves ≡ leaves_of F.tree region
       word = are ∙ ap (leaf_word F) whole ∙ leaf_word_is F region
 
-      wanted : leaves_in leaves ≡ start.view.wanted
-      wanted = ap leaves_in word ∙ sym (ap (λ (d : ℕ). map (leaf_node d) (bits_in (2 ^ d) (leaves_of F.tree region))) own.sound_sight.sound.depth) ∙ sym whole
+      wanted : leaves_in F leaves ≡ start.view.wanted
+      wanted = ap (leaves_in F) word ∙ sym whole
 
   -- and the word has a bit for each leaf at most
-  pub returned_small : (leaves : ℕ) → IsPassOf F passes table start → leaves ≡ leaf_word F start.view.wanted → leaves < 2 ^ LEAVES
+  pub returned_small : (leaves : ℕ) → IsPassOf F passes table start → leaves ≡ leaf_word F start.view.wanted → leaves < 2 ^ 2 ^ F.tree.depth
   returned_small leaves own are =
       let sound = own.sound_sight.sound in
       let region = region_in F start.view.cmd start.view.own in
       let whole = sound.whole (ap (λ (q : Point). is_whole (stage_of q)) at) in
-      leaves_small F region leaves sound.depth (are ∙ ap (leaf_word F) whole ∙ leaf_word_is F region)
+      leaves_small F region leaves (are ∙ ap (leaf_word F) whole ∙ leaf_word_is F region)
 
   module _ (now : PassView) (node : ℕ) (rest : List ℕ) where
     first_given : now ≡ start → node ∷ rest ≡ start.view.wanted → next_of_pass F now ≡ Some (GiveNode node)
@@ -136,9 +135,12 @@ module _ (F : Fixed) (passes : ℕ) (table : TableId) (start : PassView) (plain 
 -- ---- the lowest leaf
 
 -- the lowest leaf comes first
-pub leaves_first : (word rest bit : ℕ) → word < 2 ^ LEAVES → has_bit word bit ≡ true → ((i : ℕ) → i < bit → has_bit word i ≡ false) → ((i : ℕ) → i < 64 → has_bit rest i ≡ (has_bit word i && not (i == bit)))
-    → leaves_in word ≡ (FIRST_LEAF + bit) ∷ leaves_in rest
-leaves_first word rest bit small there lowest without = ap (map (leaf_node DEPTH)) (bits_first LEAVES word rest bit (bit_below LEAVES word bit small there) (omega arith) there lowest without)
+pub leaves_first : (F : Fixed) (word rest bit node : ℕ) → IsTreeDepth F.tree.depth → node ≡ leaf_node F.tree.depth bit → word < 2 ^ 2 ^ F.tree.depth → has_bit word bit ≡ true
+    → ((i : ℕ) → i < bit → has_bit word i ≡ false) → ((i : ℕ) → i < 64 → has_bit rest i ≡ (has_bit word i && not (i == bit)))
+    → leaves_in F word ≡ node ∷ leaves_in F rest
+leaves_first F word rest bit node depth at small there lowest without =
+    ap (map (leaf_node F.tree.depth)) (lowest_first (2 ^ F.tree.depth) word rest bit (leaves_few F depth) small there lowest without)
+    ∙ ap (λ (n : ℕ). n ∷ leaves_in F rest) (sym at)
 
-pub leaves_none : leaves_in 0 ≡ []
-leaves_none = ap (map (leaf_node DEPTH)) (bits_none LEAVES)
+pub leaves_none : (F : Fixed) → leaves_in F 0 ≡ []
+leaves_none F = ap (map (leaf_node F.tree.depth)) (bits_none (2 ^ F.tree.depth))

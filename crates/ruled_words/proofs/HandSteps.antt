@@ -24,6 +24,7 @@ module _ (F : Fixed) (passes : ℕ) (table : TableId) (p hand : PassView) (found
   pub kept_after : record hand { effect = effect_kept hand.view p.effect } ≡ pass_after F (the_next (next_of_pass F p)) found p
   kept_after = λ i. record {
     table = gone.same_table i;
+    setting = gone.same_setting i;
     number = gone.same_number i;
     given = plain.given i;
     quits = plain.quits i;
@@ -57,6 +58,7 @@ module _ (F : Fixed) (passes : ℕ) (table : TableId) (p : PassView) (c : Comman
   given_own : IsPassOf F passes table (given_to p c)
   given_own = record {
     at_table = own.at_table;
+    at_setting = own.at_setting;
     lives = own.lives;
     sound_sight = own.sound_sight;
     pending = λ d e. subst (IsPending F p.view) (same_command c d e) pending;
@@ -83,6 +85,7 @@ module _ (F : Fixed) (passes : ℕ) (table : TableId) (p : PassView) (c : Comman
   begin_ready word index = record {
     own = given_own;
     same_table = refl;
+    same_setting = refl;
     same_number = refl;
     same_view = refl;
     same_tally = refl;
@@ -99,6 +102,7 @@ module _ (F : Fixed) (passes : ℕ) (table : TableId) (p : PassView) (c : Comman
         ap (λ (o : Option Next). pass_after F (the_next o) found (given_to p c)) given_next
         ∙ (λ i. record {
           table = p.table;
+          setting = p.setting;
           number = p.number;
           given = sym plain_old.given i;
           quits = sym plain_old.quits i;

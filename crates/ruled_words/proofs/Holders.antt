@@ -5,14 +5,15 @@ use Rattle.std.specs.List.{range_with_len}
 use mathlib.Core.Option as maybe
 use lib.ListN.{get_elem?}
 use Rattle.std.proofs.lemmas.Bool.{cases_Bool, false≢true, true≢false, or_cases, cond-true}
-use Rattle.areanode.specs.declared.sizes.TheConstants.{DEPTH, FIRST_LEAF}
+use Rattle.std.proofs.Math.Nat.{pow-le-pow_right}
 use Rattle.core_steps.specs.declared.sizes.TheConstants.{TABLE_LEAVES, MOST_SEATS, NODE_HOLDERS}
 use Rattle.arena_geo.specs.Bounds.{Bounds}
 use Rattle.atomic_table.specs.Table.{State}
 use Rattle.entity_recs.specs.declared.effect.Effect.{Effect}
 use Rattle.entity_recs.specs.Commands.{Command}
 use Rattle.areanode.specs.Words.{has_bit}
-use Rattle.areanode.specs.Trees.{leaves_of}
+use Rattle.areanode.specs.Depths.{sizes_of_depth}
+use Rattle.areanode.specs.Trees.{IsTreeDepth, leaves_of}
 use Rattle.core_steps.specs.Cells.{Words}
 use Rattle.core_steps.specs.Views.{Fixed, Point, Idle, Owning, Taking, Checking, Entering, Entered, Loading, Leaving, Sensing, Resolving, Claiming, Storing, Releasing, Returning, Yielding, View, stage_of, is_busy, is_whole, is_writing, has, is_leaf, inner_nodes, leaf_nodes, leaf_word, region_in, holds, inner_held, leaves_held, record_read, write_nodes, effect_loaded}
 use Rattle.core_steps.specs.Steps.{first, first_yield, next_give, next_node_at}
@@ -144,17 +145,15 @@ held_wanted F view (Returning leaves) node at left held = left.among node held
 held_wanted F view (Yielding nodes leaves) node at left held = left.among node held
 
 -- a leaf of a region has its bit in the word of the region's leaves
-leaf_has_bit : (F : Fixed) (region : List Bounds) (node : ℕ) → F.tree.depth ≡ DEPTH → has (leaf_nodes F region) node ≡ true → has_bit (leaves_of F.tree region) (node - FIRST_LEAF) ≡ true
-leaf_has_bit F region node depth there =
+leaf_has_bit : (F : Fixed) (region : List Bounds) (node : ℕ) → has (leaf_nodes F region) node ≡ true → has_bit (leaves_of F.tree region) (node - inner_nodes F) ≡ true
+leaf_has_bit F region node there =
     let range = range_with_len 0 (2 ^ F.tree.depth) in
     let s = has_shifted (2 ^ F.tree.depth - 1) (filter (has_bit (leaves_of F.tree region)) range) node there in
     let kept = has_filter (has_bit (leaves_of F.tree region)) range s.from s.listed in
-    let inner : 2 ^ F.tree.depth - 1 ≡ FIRST_LEAF = ap (λ (d : ℕ). 2 ^ d - 1) depth in
-    let same : s.from ≡ node - FIRST_LEAF = from_is node s.from (2 ^ F.tree.depth - 1) s.is inner in
-    subst (λ (n : ℕ). has_bit (leaves_of F.tree region) n ≡ true) same kept.passes
+    subst (λ (n : ℕ). has_bit (leaves_of F.tree region) n ≡ true) (from_is node s.from (inner_nodes F) s.is) kept.passes
   where
-    from_is : (node from inner : ℕ) → node ≡ inner + from → inner ≡ FIRST_LEAF → from ≡ node - FIRST_LEAF
-    from_is node from inner e at = omega (arith, e, at)
+    from_is : (node from inner : ℕ) → node ≡ inner + from → from ≡ node - inner
+    from_is node from inner e = omega (arith, e)
 
 module _ (F : Fixed) (rooms : List ℕ) (s : State (Unit {0}) SightView) (r : IsRuled F rooms s) where
   -- a seat that holds a leaf wants it
@@ -177,7 +176,6 @@ module _ (F : Fixed) (rooms : List ℕ) (s : State (Unit {0}) SightView) (r : Is
       let most = r.fits.made in
       let few = r.fits.few in
       let wanted : view.wanted ≡ leaf_nodes F (region_in F view.cmd view.own) = seat.own.leaves is.whole in
-      let inner : inner_nodes F ≡ FIRST_LEAF = ap (λ (d : ℕ). 2 ^ d - 1) r.depth in
       record {
         holder = j;
         other = other;
@@ -189,8 +187,8 @@ module _ (F : Fixed) (rooms : List ℕ) (s : State (Unit {0}) SightView) (r : Is
         held = held;
         wanted = wanted;
         has_leaf = λ leaf.
-            leaf_has_bit F (region_in F view.cmd view.own) node r.depth
-            (subst (λ (ns : List ℕ). has ns node ≡ true) wanted (holder_wants j node held (subst (λ (n : ℕ). nat_le n node ≡ true) (sym inner) leaf)));
+            leaf_has_bit F (region_in F view.cmd view.own) node
+            (subst (λ (ns : List ℕ). has ns node ≡ true) wanted (holder_wants j node held leaf));
         is_word = seat.named node held;
       }
 
@@ -237,7 +235,14 @@ mark_in word holder mark e small low = subst (λ (w : ℕ). w / NODE_HOLDERS % 2
     plain : (holder mark : ℕ) → holder < MOST_SEATS → mark < 2 ^ TABLE_LEAVES → suc (holder + NODE_HOLDERS * mark) / NODE_HOLDERS % 2 ^ TABLE_LEAVES ≡ mark
     plain holder mark small low = omega (arith, small, low)
 
-module _ (F : Fixed) (passes own node word number leaves : ℕ) (depth : F.tree.depth ≡ DEPTH) (by : IsHeldByOther F passes own node word) (is : IsHolderIn word node number leaves) where
+-- the word of a node has a bit for each leaf of the tree
+leaves_fit : (F : Fixed) (region : List Bounds) → IsTreeDepth F.tree.depth → leaves_of F.tree region < 2 ^ TABLE_LEAVES
+leaves_fit F region depth =
+    let small = leaves_small F region (leaves_of F.tree region) refl in
+    let fits = pow-le-pow_right {n = 2} (omega arith) (sizes_of_depth F.tree.depth depth).leaves in
+    omega (arith, small, fits)
+
+module _ (F : Fixed) (passes own node word number leaves : ℕ) (depth : IsTreeDepth F.tree.depth) (by : IsHeldByOther F passes own node word) (is : IsHolderIn F word node number leaves) where
   abbrev region : List Bounds
   region = region_in F by.view.cmd by.view.own
 
@@ -245,16 +250,13 @@ module _ (F : Fixed) (passes own node word number leaves : ℕ) (depth : F.tree.
   same_number = is.is_number ∙ number_in word by.holder _ by.is_word by.small
 
   -- the word of a leaf has the leaves of the command
-  same_leaves : nat_le FIRST_LEAF node ≡ true → leaves ≡ leaves_of F.tree region
+  same_leaves : is_leaf F node ≡ true → leaves ≡ leaves_of F.tree region
   same_leaves leaf =
-      let inner : inner_nodes F ≡ FIRST_LEAF = ap (λ (d : ℕ). 2 ^ d - 1) depth in
-      let is_leaf_here : is_leaf F node ≡ true = subst (λ (n : ℕ). nat_le n node ≡ true) (sym inner) leaf in
       let mark : leaf_word F by.view.wanted ≡ leaves_of F.tree region = ap (leaf_word F) by.wanted ∙ leaf_word_is F region in
-      let few = leaves_small F region (leaves_of F.tree region) depth refl in
-      let low : leaves_of F.tree region < 2 ^ TABLE_LEAVES = omega (arith, few) in
+      let low = leaves_fit F region depth in
       let full : word ≡ suc (by.holder + NODE_HOLDERS * leaves_of F.tree region) =
-      by.is_word ∙ ap (λ (x : ℕ). suc (by.holder + NODE_HOLDERS * x)) (cond-true (is_leaf F node) (leaf_word F by.view.wanted) (if is_writing (stage_of by.view.point) then 1 else 0) is_leaf_here ∙ mark) in
-      is.are_leaves ∙ cond-true (nat_le FIRST_LEAF node) (word / NODE_HOLDERS % 2 ^ TABLE_LEAVES) 0 leaf ∙ mark_in word by.holder (leaves_of F.tree region) full by.small low
+      by.is_word ∙ ap (λ (x : ℕ). suc (by.holder + NODE_HOLDERS * x)) (cond-true (is_leaf F node) (leaf_word F by.view.wanted) (if is_writing (stage_of by.view.point) then 1 else 0) leaf ∙ mark) in
+      is.are_leaves ∙ cond-true (is_leaf F node) (word / NODE_HOLDERS % 2 ^ TABLE_LEAVES) 0 leaf ∙ mark_in word by.holder (leaves_of F.tree region) full by.small low
 
   pub other_holder : IsOtherHolder F passes own node number leaves
   other_holder = record {
@@ -265,5 +267,5 @@ module _ (F : Fixed) (passes own node word number leaves : ℕ) (depth : F.tree.
     given = by.given;
     serves = by.serves ∙ sym same_number;
     are_leaves = same_leaves;
-    has_leaf = λ leaf. subst (λ (w : ℕ). has_bit w (node - FIRST_LEAF) ≡ true) (sym (same_leaves leaf)) (by.has_leaf leaf);
+    has_leaf = λ leaf. subst (λ (w : ℕ). has_bit w (node - inner_nodes F) ≡ true) (sym (same_leaves leaf)) (by.has_leaf leaf);
   }

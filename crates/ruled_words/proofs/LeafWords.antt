@@ -1,15 +1,15 @@
 -- The word of the leaves of a region.
-use Rattle.std.proofs.Common.{◌≡◌, ℕ, zero, suc, ◌+◌, ◌-◌, ◌^◌, ◌<◌, Bool, if◌then◌else◌, List, [], ◌∷◌, ◌++◌, map, refl, sym, ap, ◌∙◌, subst, inl, inr, arith}
+use Rattle.std.proofs.Common.{◌≡◌, ℕ, zero, suc, ◌+◌, ◌-◌, ◌^◌, ◌<◌, ◌≤◌, Bool, if◌then◌else◌, List, [], ◌∷◌, ◌++◌, map, refl, sym, ap, ◌∙◌, subst, inl, inr, arith}
 use Rattle.std.specs.Prelude.{filter}
 use Rattle.std.specs.List.{range_with_len}
 use Rattle.std.proofs.lemmas.Bool.{cases_Bool}
 use Rattle.std.proofs.lemmas.List.Elements.{filter-append}
 use Rattle.arena_geo.specs.Bounds.{Bounds}
 use Rattle.areanode.specs.Words.{has_bit, word_of}
-use Rattle.areanode.specs.Trees.{leaf_node, leaves_of, region_has_leaf}
-use Rattle.areanode.specs.declared.sizes.TheConstants.{DEPTH, LEAVES}
+use Rattle.areanode.specs.Trees.{IsTreeDepth, leaf_node, leaves_of, region_has_leaf}
+use Rattle.areanode.specs.Depths.{sizes_of_depth}
 use Rattle.areanode.proofs.Words.{word_has_its_bits, word_of-below}
-use Rattle.core_steps.specs.Views.{Fixed, leaf_nodes, leaf_word, bits_of_leaves}
+use Rattle.core_steps.specs.Views.{Fixed, inner_nodes, leaf_nodes, leaf_word, bits_of_leaves}
 
 range_last : (low n : ℕ) → range_with_len low (suc n) ≡ range_with_len low n ++ (low + n) ∷ []
 range_last low zero = ap (λ (k : ℕ). k ∷ []) (omega arith)
@@ -64,7 +64,13 @@ leaf_word_is F region =
     ∙ bits_of_test n (region_has_leaf F.tree region)
 
 -- it has a bit for each leaf at most
-pub leaves_small : (F : Fixed) (region : List Bounds) (leaves : ℕ) → F.tree.depth ≡ DEPTH → leaves ≡ leaves_of F.tree region → leaves < 2 ^ LEAVES
-leaves_small F region leaves depth is =
-    subst (λ (n : ℕ). n < 2 ^ LEAVES) (sym is)
-    (subst (λ (d : ℕ). leaves_of F.tree region < 2 ^ 2 ^ d) depth (word_of-below (2 ^ F.tree.depth) (region_has_leaf F.tree region)))
+pub leaves_small : (F : Fixed) (region : List Bounds) (leaves : ℕ) → leaves ≡ leaves_of F.tree region → leaves < 2 ^ 2 ^ F.tree.depth
+leaves_small F region leaves is =
+    subst (λ (n : ℕ). n < 2 ^ 2 ^ F.tree.depth) (sym is) (word_of-below (2 ^ F.tree.depth) (region_has_leaf F.tree region))
+
+-- the bits of leaves and of inner nodes are in one word
+pub leaves_few : (F : Fixed) → IsTreeDepth F.tree.depth → 2 ^ F.tree.depth ≤ 64
+leaves_few F depth = let most = (sizes_of_depth F.tree.depth depth).leaves in omega (arith, most)
+
+pub inner_few : (F : Fixed) → IsTreeDepth F.tree.depth → inner_nodes F ≤ 64
+inner_few F depth = let most = (sizes_of_depth F.tree.depth depth).leaves in omega (arith, most)

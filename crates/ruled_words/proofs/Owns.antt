@@ -101,6 +101,7 @@ own_after F passes table p found own comes sound_sight =
     let view : View = view_found F p.view next found in
     record {
       at_table = own.at_table;
+      at_setting = own.at_setting;
       lives = (keeps_found F p.view next found).live ∙ own.lives;
       sound_sight = sound_sight;
       pending = λ c e. no_command c e;
@@ -117,6 +118,7 @@ pub looked_own : (F : Fixed) (passes : ℕ) (table : TableId) (p new : PassView)
 looked_own F passes table p new found is own sound_sight =
     subst (IsPassOf F passes table) (sym is) (record {
       at_table = own.at_table;
+      at_setting = own.at_setting;
       lives = own.lives;
       sound_sight = subst (λ (q : PassView). IsSoundSight F passes (sight_of q)) is sound_sight;
       pending = λ c e. let pending = own.pending c e in record { lives = pending.lives; idle = pending.idle; command = pending.command; room = pending.room };
@@ -135,6 +137,7 @@ pub resolved_own : (F : Fixed) (passes : ℕ) (table : TableId) (p : PassView) (
     → IsPassOf F passes table (record p { effect = Some e })
 resolved_own F passes table p e own at is = record {
   at_table = own.at_table;
+  at_setting = own.at_setting;
   lives = own.lives;
   sound_sight = own.sound_sight;
   pending = own.pending;

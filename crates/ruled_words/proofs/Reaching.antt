@@ -5,7 +5,6 @@ use Rattle.std.specs.List.{range_with_len}
 use mathlib.Core.Option as maybe
 use lib.ListN.{get_elem?}
 use Rattle.std.proofs.lemmas.Bool.{cases_Bool, true≢false, or_cases, or_left, or_right, eq-eqb, eqb-true, leb-true, leb-false}
-use Rattle.areanode.specs.declared.sizes.TheConstants.{FIRST_LEAF}
 use Rattle.arena_geo.specs.Bounds.{Bounds, IsOrdered}
 use Rattle.arena_geo.specs.Regions.{touches_region}
 use Rattle.atomic_table.specs.Table.{State}
@@ -184,12 +183,7 @@ module _ (F : Fixed) (rooms : List ℕ) (s : State (Unit {0}) SightView) (r : Is
   is_reached node next =
       let seat = r.stands.core.seats i in
       let is = taken_by_point seat_view.point node refl next in
-      let inner : inner_nodes F ≡ FIRST_LEAF = ap (λ (d : ℕ). 2 ^ d - 1) r.depth in
-      record {
-        wanted = seat.own.leaves is.whole;
-        is_wanted = λ leaf. is.wanted (subst (λ (n : ℕ). nat_le n node ≡ true) (sym inner) leaf);
-        is_visited = λ under. is.visited (subst (λ (n : ℕ). nat_le n node ≡ false) (sym inner) under);
-      }
+      record { wanted = seat.own.leaves is.whole; is_wanted = is.wanted; is_visited = is.visited }
 
   module _ (sight : SightView) (at : get_elem? s.views i ≡ maybe.some sight) (given : Option Command) (quits : Bool) (next : Next) (may : MayGo F (length rooms) sight.number sight.view given quits next) where
     -- the node that a step takes is a leaf wanted or visited by them

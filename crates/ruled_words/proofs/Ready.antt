@@ -14,6 +14,7 @@ use Rattle.ruled_words.specs.Holders.{IsFoundHeld, AreReached}
 use Rattle.ruled_words.specs.Plays.{IsSoundSight, SeatStepped}
 use Rattle.core_seats.specs.Ready.{is_resolving}
 use Rattle.ruled_words.specs.Hands.{hand_view, IsAtPlace}
+use Rattle.ruled_words.specs.declared.setting.Setting.{Setting}
 use Rattle.ruled_words.specs.WordSteps.{word_by, MayBe}
 use Rattle.ruled_words.specs.declared.word_step.WordStep.{WordStep}
 use Rattle.ruled_words.specs.Passes.{PassView, next_of_pass, pass_after, word_after, IsPassOf, IsReady, HasGone}
@@ -68,7 +69,7 @@ pub sight_is : (sight : SightView) (number : ℕ) (view : View) (tally : Tally) 
     → sight ≡ record { number = number; view = view; tally = tally }
 sight_is sight number view tally e f g i = record { number = e i; view = f i; tally = g i }
 
-module _ (F : Fixed) (passes : ℕ) (table : TableId) (p : PassView) (seat : Seat (Unit {0}) SightView) (number word : ℕ) (is : IsReady F passes table p (hand_view seat number) word) (at : IsAtPlace seat number) where
+module _ (F : Fixed) (passes : ℕ) (table : TableId) (p : PassView) (seat : Seat (Unit {0}) SightView) (setting : Setting) (number word : ℕ) (is : IsReady F passes table p (hand_view seat setting number) word) (at : IsAtPlace seat setting number) where
   number_is : seat.me.0.number ≡ p.number
   number_is = at.has_number ∙ is.same_number
 
@@ -92,7 +93,7 @@ module _ (F : Fixed) (passes : ℕ) (table : TableId) (p : PassView) (seat : Sea
   pub may_be_ready : (step : WordStep) → MayBe step F p.view (the_next (next_of_pass F p)) word → MayBe step F seat.me.0.view (the_next (next_of_pass F p)) word
   may_be_ready step may = subst (λ (v : View). MayBe step F v (the_next (next_of_pass F p)) word) (sym is.same_view) may
 
-  pub has_gone : (new : Seat (Unit {0}) SightView) (found : ℕ) → new.table_id ≡ seat.table_id → SeatStepped F passes (the_next (next_of_pass F p)) seat.me found new.me → HasGone F passes p found (hand_view new number)
+  pub has_gone : (new : Seat (Unit {0}) SightView) (found : ℕ) → new.table_id ≡ seat.table_id → SeatStepped F passes (the_next (next_of_pass F p)) seat.me found new.me → HasGone F passes p found (hand_view new setting number)
   has_gone new found same stepped =
       let went = stepped.went.0 in
       let moved = went.number ∙ number_is in
@@ -103,6 +104,7 @@ module _ (F : Fixed) (passes : ℕ) (table : TableId) (p : PassView) (seat : Sea
       ∙ ap (tally_after (the_next (next_of_pass F p)) found (word_left F p.number p.view (the_next (next_of_pass F p)) found)) is.same_tally in
       record {
         same_table = same ∙ is.same_table;
+        same_setting = is.same_setting;
         same_number = is.same_number;
         went = view;
         tally = tally;
@@ -116,5 +118,5 @@ module _ (F : Fixed) (passes : ℕ) (table : TableId) (p : PassView) (seat : Sea
       }
 
   -- the place keeps its number, and carries what it carried
-  pub at_place : (new : Seat (Unit {0}) SightView) (found : ℕ) → SeatStepped F passes (the_next (next_of_pass F p)) seat.me found new.me → IsAtPlace new number
-  at_place new found stepped = record { has_number = stepped.went.0.number ∙ at.has_number; carries = stepped.went.1 ∙ at.carries }
+  pub at_place : (new : Seat (Unit {0}) SightView) (found : ℕ) → SeatStepped F passes (the_next (next_of_pass F p)) seat.me found new.me → IsAtPlace new setting number
+  at_place new found stepped = record { may_have = at.may_have; has_number = stepped.went.0.number ∙ at.has_number; carries = stepped.went.1 ∙ at.carries }

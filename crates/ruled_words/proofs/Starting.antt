@@ -6,7 +6,7 @@ use mathlib.Core.Option.{some-injective, some-ne-none}
 use lib.ListN.{get_elem?}
 use Rattle.std.proofs.lemmas.Bool.{cases_Bool, false≢true, eqb-true, cond-true, cond-false}
 use Rattle.std.proofs.lemmas.List.Elements.{All-from_recursion}
-use Rattle.areanode.specs.declared.sizes.TheConstants.{DEPTH}
+use Rattle.areanode.specs.Trees.{IsTreeDepth}
 use Rattle.core_steps.specs.declared.sizes.TheConstants.{MOST_SEATS}
 use Rattle.atomic_table.specs.Table.{opening}
 use Rattle.core_steps.specs.Views.{Fixed, Ended, View, new_view, spent, stage_of, is_busy}
@@ -16,7 +16,7 @@ use Rattle.core_steps.proofs.Reached.{machine_start_stands}
 use Rattle.ruled_words.specs.Sights.{HeldWord, IsOneOf, no_tally, SightView}
 use Rattle.ruled_words.specs.Rule.{WasTaken, HasWords, IsRuled, first_sight}
 
-module _ (F : Fixed) (rooms words : List ℕ) (lawful : IsLawful F) (start : IsStart F) (depth : F.tree.depth ≡ DEPTH) (some : 0 < length rooms) (few : length rooms ≤ MOST_SEATS) (small : slice_index rooms 0 < 2 ^ 32)
+module _ (F : Fixed) (rooms words : List ℕ) (lawful : IsLawful F) (start : IsStart F) (depth : IsTreeDepth F.tree.depth) (some : 0 < length rooms) (few : length rooms ≤ MOST_SEATS) (small : slice_index rooms 0 < 2 ^ 32)
     (laid : HasWords words (start_core F (slice_index rooms 0))) where
   abbrev room : ℕ
   room = slice_index rooms 0

@@ -1,5 +1,5 @@
 -- The state of a thing is loaded by a pass that is held without the same seat in plain values.
-use Rattle.std.proofs.Common.{◌≡◌, ℕ, ◌+◌, ◌%◌, ◌≤◌, ◌<◌, List, [], ◌∷◌, ◌++◌, Bool, true, false, map, take, drop, get_or, length, length-append, append-nil, append_assoc, refl, sym, ap, ◌∙◌, arith, Option, Some, None}
+use Rattle.std.proofs.Common.{◌≡◌, ℕ, zero, suc, ◌+◌, ◌-◌, ◌≤◌, ◌<◌, List, [], ◌∷◌, ◌++◌, Bool, true, false, map, take, drop, get_or, length, length-append, append-nil, append_assoc, refl, sym, ap, ◌∙◌, subst, arith, Option, Some, None}
 use Rattle.std.specs.List.{filter_map}
 use Rattle.std.specs.List.Sorted.{IsStrictlyIncreasing}
 use Rattle.std.proofs.lemmas.List.{take_all, drop_all}
@@ -14,11 +14,10 @@ use Rattle.entity_recs.specs.declared.effect.Effect.{Effect}
 use Rattle.entity_recs.specs.declared.effect.NewState.{NewState}
 use Rattle.entity_recs.specs.Bodies.{abs_of}
 use Rattle.entity_recs.specs.Records.{with_state}
-use Rattle.core_steps.specs.Views.{Fixed, Point, Sensing, Resolving, has, things_in}
-use Rattle.areanode.specs.Words.{has_bit}
-use Rattle.core_seats.specs.ThingColumns.{MarksThings}
+use Rattle.core_steps.specs.Views.{Fixed, Point, Sensing, Resolving, things_in}
+use Rattle.core_seats.specs.ThingBits.{AreApart}
 use Rattle.core_seats.specs.NearKept.{AreThings, thing_with, touching, things_loaded}
-use Rattle.core_seats.proofs.ThingsLoaded.{touching_has, things_of_region, loaded_of_region, things_rise, touching_same, loaded_more, left_first, left_same}
+use Rattle.core_seats.proofs.ThingsLoaded.{things_of_region, loaded_of_region, things_rise, touching_same, loaded_more, left_first, left_same}
 use Rattle.core_steps.specs.Steps.{sensing, view_after_state}
 use Rattle.core_seats.specs.Nexts.{the_next}
 use Rattle.core_seats.specs.Ready.{is_resolving}
@@ -35,6 +34,7 @@ none_stays false kept = refl
 pub held_in_view : (p : PassView) → IsPlain p → p ≡ in_view p p.view
 held_in_view p plain = λ i. record {
   table = p.table;
+  setting = p.setting;
   number = p.number;
   given = plain.given i;
   quits = plain.quits i;
@@ -64,6 +64,7 @@ module _ (F : Fixed) (p : PassView) (id : ℕ) (plain : IsPlain p) (at : p.view.
       after ∙ ap (λ (q : PassView). pass_after F (the_next (next_of_pass F q)) found q) is_at_thing
       ∙ (λ i. record {
         table = p.table;
+        setting = p.setting;
         number = p.number;
         given = None;
         quits = false;
@@ -161,6 +162,24 @@ module _ (F : Fixed) (things : List Rec) (region : List Bounds) (are : AreThings
           room = omega (arith, most);
         }
 
+  -- so many things after one another aren't touched
+  sensed_skips : (p : PassView) (near : List Rec) (n at : ℕ) → at + n ≤ length things → AreSensed region things start p before near at
+      → ((k : ℕ) (d : Rec) → at ≤ k → k < at + n → touches_region (abs_of (get_or things k d)) region ≡ false) → AreSensed region things start p before near (at + n)
+  sensed_skips p near zero at within is not = let e : at ≡ at + 0 = omega arith in subst (AreSensed region things start p before near) e is
+  sensed_skips p near (suc n) at within is not =
+      let e : at + 1 + n ≡ at + suc n = omega arith in
+      let d : Rec = F.start.record_of 0 in
+      let one = sensed_skip p near at d (omega (arith, within)) is (not at d (omega arith) (omega arith)) in
+      subst (AreSensed region things start p before near) e (sensed_skips p near n (at + 1) (omega (arith, within)) one (λ k d least less. not k d (omega (arith, least)) (omega (arith, less))))
+
+  -- none up to a place is touched
+  pub sensed_until : (p : PassView) (near : List Rec) (at to : ℕ) → at ≤ to → to ≤ length things → AreSensed region things start p before near at → AreApart region things at to
+      → AreSensed region things start p before near to
+  sensed_until p near at to least within is apart =
+      let e : at + (to - at) ≡ to = omega (arith, least) in
+      subst (AreSensed region things start p before near) e
+      (sensed_skips p near (to - at) at (omega (arith, least, within)) is (λ k d some less. apart k d some (omega (arith, less, least)) (omega (arith, less, least, within))))
+
   module _ (p : PassView) (near : List Rec) (k : ℕ) (end : length things ≤ k) (is : AreSensed region things start p before near k) where
     -- all are loaded
     pub sensed_view : p ≡ in_view start (record start.view { states = p.view.states; point = Resolving })
@@ -170,10 +189,3 @@ module _ (F : Fixed) (things : List Rec) (region : List Bounds) (are : AreThings
     sensed_near = is.near_is
         ∙ ap (λ (rs : List Rec). before ++ filter_map (thing_with p.view.states) (touching region rs)) (take_all k things end)
         ∙ ap (λ (rs : List Rec). before ++ rs) (sym (loaded_of_region F things region are p.view.states))
-
--- a thing that touches the region has its bit
-pub thing_marked : (F : Fixed) (things : List Rec) (region : List Bounds) → AreThings F things → (bits : ℕ) → MarksThings F region bits → (k : ℕ) (d : Rec) → k < length things
-    → touches_region (abs_of (get_or things k d)) region ≡ true → has_bit bits ((get_or things k d).id % 64) ≡ true
-thing_marked F things region are bits marks k d there touch =
-    marks (get_or things k d).id
-    (ap (λ (ids : List ℕ). has ids (get_or things k d).id) (things_of_region F things region are) ∙ touching_has region things k d there touch)

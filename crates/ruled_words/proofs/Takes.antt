@@ -1,13 +1,13 @@
 -- A pass takes its next node.
-use Rattle.std.proofs.Common.{◌≡◌, ◌⊎◌, ℕ, suc, ◌+◌, ◌-◌, ◌*◌, ◌^◌, ◌<◌, Bool, true, false, if◌then◌else◌, List, [], ◌∷◌, ◌++◌, refl, sym, ap, ◌∙◌, subst, inl, inr, Option, Some, None, is_some, All}
+use Rattle.std.proofs.Common.{arith, ◌≡◌, ◌⊎◌, ℕ, suc, ◌+◌, ◌-◌, ◌*◌, ◌^◌, ◌<◌, Bool, true, false, if◌then◌else◌, List, [], ◌∷◌, ◌++◌, refl, sym, ap, ◌∙◌, subst, inl, inr, Option, Some, None, is_some, All}
 use Rattle.std.specs.Prelude.{◌==◌}
 use Rattle.std.proofs.lemmas.List.Elements.{All-from_recursion}
-use Rattle.areanode.specs.declared.sizes.TheConstants.{NODES}
+use Rattle.areanode.specs.Depths.{sizes_of_depth}
 use Rattle.core_steps.specs.declared.sizes.TheConstants.{NODE_HOLDERS}
 use Rattle.atomic_table.specs.Seated.{TableId}
 use Rattle.entity_recs.specs.declared.effect.Effect.{Effect}
 use Rattle.entity_recs.specs.Commands.{Command}
-use Rattle.core_steps.specs.Views.{Fixed, Point, Idle, Owning, Taking, Checking, Entering, Entered, Loading, Leaving, Sensing, Resolving, Claiming, Storing, Releasing, Returning, Yielding, Stage, AtClaiming, stage_of, is_whole, is_writing, is_without_effect, is_leaf, leaf_nodes, inner_nodes, record_read, write_nodes, leaf_word, region_in, held_word}
+use Rattle.core_steps.specs.Views.{Fixed, Point, Idle, Owning, Taking, Checking, Entering, Entered, Loading, Leaving, Sensing, Resolving, Claiming, Storing, Releasing, Returning, Yielding, Stage, AtClaiming, stage_of, is_whole, is_writing, is_without_effect, is_leaf, leaf_nodes, nodes_of, record_read, write_nodes, leaf_word, region_in, held_word}
 use Rattle.core_steps.specs.Steps.{taking, point_after_take, first_yield}
 use Rattle.core_steps.specs.Machine.{Next, beginning, TakeNode, ClaimNode, resolving, quitting, committing, giving, index_of}
 use Rattle.core_steps.specs.Stands.{IsAt, IsClaimingAfter}
@@ -138,16 +138,18 @@ module _ (F : Fixed) (passes : ℕ) (table : TableId) (p : PassView) (node : ℕ
       by_quits true e = quit_taken (first_yield F p.view) node e
       by_quits false e = takes_at p.view.point refl e
 
--- the leaves that are wanted are nodes of the table
-pub wanted_below : (F : Fixed) (passes : ℕ) (table : TableId) (p : PassView) (node : ℕ) (next : Next) → IsPassOf F passes table p → Takes F p node next → All (λ n. n < NODES) p.view.wanted
+-- the leaves that are wanted are nodes of the tree
+pub wanted_below : (F : Fixed) (passes : ℕ) (table : TableId) (p : PassView) (node : ℕ) (next : Next) → IsPassOf F passes table p → Takes F p node next → All (λ n. n < nodes_of F) p.view.wanted
 wanted_below F passes table p node next own t =
     let sound = own.sound_sight.sound in
     let wanted = sound.whole t.whole in
-    let all : inner_nodes F + 2 ^ F.tree.depth ≡ NODES = ap (λ (d : ℕ). 2 ^ d - 1 + 2 ^ d) sound.depth in
-    subst (All (λ n. n < NODES)) (sym wanted)
-    (All-from_recursion (λ n. n < NODES) (leaf_nodes F (region_in F p.view.cmd p.view.own))
-    (all_from_has (λ n. n < NODES) (leaf_nodes F (region_in F p.view.cmd p.view.own))
-    (λ v there. subst (λ (n : ℕ). v < n) all (leaf_below F (region_in F p.view.cmd p.view.own) v there))))
+    let sizes = sizes_of_depth F.tree.depth sound.depth in
+    let some = sizes.some in
+    let double = sizes.double in
+    subst (All (λ n. n < nodes_of F)) (sym wanted)
+    (All-from_recursion (λ n. n < nodes_of F) (leaf_nodes F (region_in F p.view.cmd p.view.own))
+    (all_from_has (λ n. n < nodes_of F) (leaf_nodes F (region_in F p.view.cmd p.view.own))
+    (λ v there. let below = leaf_below F (region_in F p.view.cmd p.view.own) v there in omega (arith, below, some, double))))
 
 -- the word with which the node is taken, of what the pass holds
 pub word_of_holder : (F : Fixed) (p : PassView) (node : ℕ) (next : Next) → (t : Takes F p node next)

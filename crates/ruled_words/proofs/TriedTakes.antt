@@ -2,13 +2,12 @@
 use Rattle.std.proofs.Common.{◌≡◌, ◌≢◌, ℕ, suc, ◌+◌, ◌-◌, ◌*◌, ◌^◌, ◌<◌, ◌≤◌, arith, Bool, true, false, if◌then◌else◌, List, [], ◌∷◌, ◌++◌, length, map, refl, sym, ap, ◌∙◌, subst, inl, inr, Option, Some, None}
 use Rattle.std.specs.Prelude.{◌==◌, nat_le}
 use Rattle.std.proofs.lemmas.Bool.{cases_eq, cond-true, cond-false, eq-eqb, ne_eqb, le-leb}
-use Rattle.areanode.specs.declared.sizes.TheConstants.{DEPTH, LEAVES, FIRST_LEAF}
 use Rattle.core_steps.specs.declared.sizes.TheConstants.{NODE_HOLDERS}
 use Rattle.atomic_table.specs.Seated.{TableId}
 use Rattle.arena_geo.specs.Bounds.{Bounds}
-use Rattle.areanode.specs.Trees.{leaf_node, leaves_of}
+use Rattle.areanode.specs.Trees.{IsTreeDepth, leaf_node, leaves_of}
 use Rattle.core_steps.specs.Views as views
-use Rattle.core_steps.specs.Views.{Fixed, View, Point, Idle, Owning, Taking, Checking, Entering, Entered, Loading, Leaving, Sensing, Resolving, Claiming, Storing, Releasing, Returning, Yielding, is_leaf, leaf_word, leaf_nodes, region_in, held_word, stage_of, is_whole, is_writing}
+use Rattle.core_steps.specs.Views.{Fixed, View, Point, Idle, Owning, Taking, Checking, Entering, Entered, Loading, Leaving, Sensing, Resolving, Claiming, Storing, Releasing, Returning, Yielding, is_leaf, inner_nodes, leaf_word, leaf_nodes, region_in, held_word, stage_of, is_whole, is_writing}
 use Rattle.core_steps.specs.Steps.{taking, point_after_take, view_after_take, view_after_refusal}
 use Rattle.core_steps.specs.Machine.{Next, Begin, LoadOwn, LoadAgain, TakeNode, ClaimNode, ReadList, ReadPlayer, ReadState, CommitMove, StoreWord, GiveNode, YieldNode, YieldCount}
 use Rattle.core_steps.specs.Stands.{IsTaking, IsAt}
@@ -201,19 +200,16 @@ module _ (F : Fixed) (p : PassView) (node : ℕ) (plain : IsPlain p) (comes : ne
 -- ---- leaves
 
 -- the nodes of these leaves
-abbrev pub leaf_list : ℕ → List ℕ
-leaf_list leaves = map (leaf_node DEPTH) (bits_in LEAVES leaves)
+abbrev pub leaf_list : Fixed → ℕ → List ℕ
+leaf_list F leaves = map (leaf_node F.tree.depth) (bits_in (2 ^ F.tree.depth) leaves)
 
--- the leaves of a region by their word
-pub leaf_list_is : (F : Fixed) (region : List Bounds) → F.tree.depth ≡ DEPTH → leaf_nodes F region ≡ leaf_list (leaves_of F.tree region)
-leaf_list_is F region depth = ap (λ (d : ℕ). map (leaf_node d) (bits_in (2 ^ d) (leaves_of F.tree region))) depth
-
-pub leaf_there : (F : Fixed) (node : ℕ) → F.tree.depth ≡ DEPTH → FIRST_LEAF ≤ node → is_leaf F node ≡ true
-leaf_there F node depth above = ap (λ (d : ℕ). nat_le (2 ^ d - 1) node) depth ∙ le-leb FIRST_LEAF node above
+pub leaf_there : (F : Fixed) (leaf node : ℕ) → node ≡ leaf_node F.tree.depth leaf → is_leaf F node ≡ true
+leaf_there F leaf node at = le-leb (inner_nodes F) node (omega (arith, at))
 
 -- the lowest leaf comes first
-pub leaf_list_first : (leaves rest leaf : ℕ) → bits_in LEAVES leaves ≡ leaf ∷ bits_in LEAVES rest → leaf_list leaves ≡ (FIRST_LEAF + leaf) ∷ leaf_list rest
-leaf_list_first leaves rest leaf first = ap (map (leaf_node DEPTH)) first
+pub leaf_list_first : (F : Fixed) (leaves rest leaf node : ℕ) → bits_in (2 ^ F.tree.depth) leaves ≡ leaf ∷ bits_in (2 ^ F.tree.depth) rest → node ≡ leaf_node F.tree.depth leaf
+    → leaf_list F leaves ≡ node ∷ leaf_list F rest
+leaf_list_first F leaves rest leaf node first at = ap (map (leaf_node F.tree.depth)) first ∙ ap (λ (n : ℕ). n ∷ leaf_list F rest) (sym at)
 
 taking_got : (got rest : List ℕ) → taking got rest ≡ taking (got_at (taking got rest)) rest
 taking_got got [] = refl
@@ -225,10 +221,10 @@ start_point q (x ∷ xs) at some = at ∙ ap (λ (g : List ℕ). taking g (x ∷
 
 -- what is known where the leaves of a command are to be taken
 pub record WantsLeaves (F : Fixed) (p : PassView) (leaves : ℕ) : Type 0 where
-  pub depth : F.tree.depth ≡ DEPTH
-  pub small : leaves < 2 ^ LEAVES
-  pub wanted : p.view.wanted ≡ leaf_list leaves
-  pub some : 0 < length (leaf_list leaves)
+  pub depth : IsTreeDepth F.tree.depth
+  pub small : leaves < 2 ^ 2 ^ F.tree.depth
+  pub wanted : p.view.wanted ≡ leaf_list F leaves
+  pub some : 0 < length (leaf_list F leaves)
 
 pub wants_leaves : (F : Fixed) (passes : ℕ) (table : TableId) (p : PassView) (leaves : ℕ) → IsPassOf F passes table p → p.view.point ≡ Taking [] p.view.wanted → leaves ≡ leaf_word F p.view.wanted → WantsLeaves F p leaves
 wants_leaves F passes table p leaves own at word =
@@ -236,45 +232,43 @@ wants_leaves F passes table p leaves own at word =
     let region = region_in F p.view.cmd p.view.own in
     let nodes : p.view.wanted ≡ leaf_nodes F region = sound.whole (ap (λ (q : Point). is_whole (stage_of q)) at) in
     let is : leaves ≡ leaves_of F.tree region = word ∙ ap (leaf_word F) nodes ∙ leaf_word_is F region in
-    let wanted : p.view.wanted ≡ leaf_list leaves = nodes ∙ leaf_list_is F region sound.depth ∙ ap leaf_list (sym is) in
+    let wanted : p.view.wanted ≡ leaf_list F leaves = nodes ∙ ap (leaf_list F) (sym is) in
     let left : IsTaking [] p.view.wanted p.view.wanted = subst (λ (q : Point). IsAt F p.view.cmd p.view.own p.view.wanted p.view.again p.view.lists p.view.others p.view.states p.view.effect q) at sound.at in
-    record { depth = sound.depth; small = leaves_small F region leaves sound.depth is; wanted = wanted; some = subst (λ (xs : List ℕ). 0 < length xs) wanted left.left }
+    record { depth = sound.depth; small = leaves_small F region leaves is; wanted = wanted; some = subst (λ (xs : List ℕ). 0 < length xs) wanted left.left }
 
 -- these leaves are left to be taken
-abbrev pub left_until : PassView → ℕ → PassView → PassView
-left_until p rest now = tried_until p (taking (got_at now.view.point) (leaf_list rest)) now
+abbrev pub left_until : Fixed → PassView → ℕ → PassView → PassView
+left_until F p rest now = tried_until p (taking (got_at now.view.point) (leaf_list F rest)) now
 
 module _ (F : Fixed) (p : PassView) (leaves : ℕ) (plain : IsPlain p) (wants : WantsLeaves F p leaves) where
-  pub leaves_start : p.view.point ≡ Taking [] p.view.wanted → p ≡ left_until p leaves p
-  leaves_start at = plain_is p plain ∙ ap (λ (q : Point). tried_until p q p) (start_point p.view.point (leaf_list leaves) (at ∙ ap (Taking []) wants.wanted) wants.some)
+  pub leaves_start : p.view.point ≡ Taking [] p.view.wanted → p ≡ left_until F p leaves p
+  leaves_start at = plain_is p plain ∙ ap (λ (q : Point). tried_until p q p) (start_point p.view.point (leaf_list F leaves) (at ∙ ap (Taking []) wants.wanted) wants.some)
 
-  pub leaves_end : (now : PassView) → now ≡ left_until p 0 now → now ≡ tried_until p Checking now
-  leaves_end now is = is ∙ ap (λ (xs : List ℕ). tried_until p (taking (got_at now.view.point) (map (leaf_node DEPTH) xs)) now) (bits_none LEAVES)
+  pub leaves_end : (now : PassView) → now ≡ left_until F p 0 now → now ≡ tried_until p Checking now
+  leaves_end now is = is ∙ ap (λ (xs : List ℕ). tried_until p (taking (got_at now.view.point) (map (leaf_node F.tree.depth) xs)) now) (bits_none (2 ^ F.tree.depth))
 
-  module _ (rest after leaf : ℕ) (first : bits_in LEAVES rest ≡ leaf ∷ bits_in LEAVES after) (now : PassView) (is : now ≡ left_until p rest now) where
-    at_leaf : now ≡ tried_until p (Taking (got_at now.view.point) ((FIRST_LEAF + leaf) ∷ leaf_list after)) now
-    at_leaf = is ∙ ap (λ (xs : List ℕ). tried_until p (taking (got_at now.view.point) xs) now) (leaf_list_first rest after leaf first)
+  module _ (rest after leaf node : ℕ) (first : bits_in (2 ^ F.tree.depth) rest ≡ leaf ∷ bits_in (2 ^ F.tree.depth) after) (there : node ≡ leaf_node F.tree.depth leaf) (now : PassView) (is : now ≡ left_until F p rest now) where
+    at_leaf : now ≡ tried_until p (Taking (got_at now.view.point) (node ∷ leaf_list F after)) now
+    at_leaf = is ∙ ap (λ (xs : List ℕ). tried_until p (taking (got_at now.view.point) xs) now) (leaf_list_first F rest after leaf node first there)
 
-    pub leaf_comes : next_of_pass F now ≡ Some (TakeNode (FIRST_LEAF + leaf))
+    pub leaf_comes : next_of_pass F now ≡ Some (TakeNode node)
     leaf_comes = ap (λ (q : PassView). next_of_pass F q) at_leaf
 
     pub leaf_left : (new : ℕ) → new ≡ p.number + NODE_HOLDERS * leaf_word F p.view.wanted + 1 → (found : ℕ) → word_after F now found ≡ (if found == 0 then new else found)
     leaf_left new marked found =
-        let node = FIRST_LEAF + leaf in
-        let held : held_word F p.number (stage_of (taking (got_at now.view.point ++ node ∷ []) (leaf_list after))) p.view.wanted node ≡ new =
-        ap (λ (n : ℕ). suc (p.number + NODE_HOLDERS * n)) (cond-true (is_leaf F node) (leaf_word F p.view.wanted) (if is_writing (stage_of (taking (got_at now.view.point ++ node ∷ []) (leaf_list after))) then 1 else 0) (leaf_there F node wants.depth (omega arith)))
+        let held : held_word F p.number (stage_of (taking (got_at now.view.point ++ node ∷ []) (leaf_list F after))) p.view.wanted node ≡ new =
+        ap (λ (n : ℕ). suc (p.number + NODE_HOLDERS * n)) (cond-true (is_leaf F node) (leaf_word F p.view.wanted) (if is_writing (stage_of (taking (got_at now.view.point ++ node ∷ []) (leaf_list F after))) then 1 else 0) (leaf_there F leaf node there))
         ∙ (let m = marked in omega (arith, m)) in
         ap (λ (q : PassView). word_after F q found) at_leaf ∙ ap (λ (w : ℕ). if found == 0 then w else found) held
 
-    pub leaf_taken : (new : PassView) → new ≡ tried_until now (point_after_take (FIRST_LEAF + leaf) now.view.point) new → new ≡ left_until p after new
+    pub leaf_taken : (new : PassView) → new ≡ tried_until now (point_after_take node now.view.point) new → new ≡ left_until F p after new
     leaf_taken new taken =
-        let node = FIRST_LEAF + leaf in
         let got = got_at now.view.point in
-        let point : point_after_take node now.view.point ≡ taking (got ++ node ∷ []) (leaf_list after) = ap (λ (q : PassView). point_after_take node q.view.point) at_leaf in
-        let made : new ≡ tried_until p (taking (got ++ node ∷ []) (leaf_list after)) new =
-        until_more p now new (Taking got (node ∷ leaf_list after)) (taking (got ++ node ∷ []) (leaf_list after)) at_leaf (taken ∙ ap (λ (q : Point). tried_until now q new) point) in
+        let point : point_after_take node now.view.point ≡ taking (got ++ node ∷ []) (leaf_list F after) = ap (λ (q : PassView). point_after_take node q.view.point) at_leaf in
+        let made : new ≡ tried_until p (taking (got ++ node ∷ []) (leaf_list F after)) new =
+        until_more p now new (Taking got (node ∷ leaf_list F after)) (taking (got ++ node ∷ []) (leaf_list F after)) at_leaf (taken ∙ ap (λ (q : Point). tried_until now q new) point) in
         made ∙ ap (λ (q : Point). tried_until p q new)
-        (taking_got (got ++ node ∷ []) (leaf_list after) ∙ ap (λ (g : List ℕ). taking g (leaf_list after)) (sym (ap (λ (q : PassView). got_at q.view.point) made)))
+        (taking_got (got ++ node ∷ []) (leaf_list F after) ∙ ap (λ (g : List ℕ). taking g (leaf_list F after)) (sym (ap (λ (q : PassView). got_at q.view.point) made)))
 
     pub leaf_own : now.view.own ≡ p.view.own
     leaf_own = ap (λ (q : PassView). q.view.own) is

@@ -1,14 +1,14 @@
 -- The nodes of a region are read, one after another.
-use Rattle.std.proofs.Common.{◌≡◌, ℕ, suc, ◌+◌, ◌-◌, ◌*◌, ◌%◌, ◌^◌, ◌<◌, arith, Bool, true, false, ◌||◌, if◌then◌else◌, List, [], ◌∷◌, ◌++◌, refl, sym, ap, ◌∙◌, subst, inl, inr, map, bit_or, Option, Some, None}
+use Rattle.std.proofs.Common.{◌≡◌, ℕ, suc, ◌+◌, ◌-◌, ◌*◌, ◌%◌, ◌^◌, ◌<◌, ◌≤◌, arith, Bool, true, false, ◌||◌, if◌then◌else◌, List, [], ◌∷◌, ◌++◌, refl, sym, ap, ◌∙◌, subst, inl, inr, map, bit_or, Option, Some, None}
 use Rattle.std.specs.Prelude.{◌==◌, nat_le, filter, get_or}
 use Rattle.std.specs.List.{range_with_len}
 use Rattle.std.proofs.lemmas.Bool.{cases_Bool, cond-true, cond-false, leb-true}
-use Rattle.areanode.specs.declared.sizes.TheConstants.{DEPTH, LEAVES, FIRST_LEAF}
+use Rattle.std.proofs.lemmas.Nat.{mod_below, pow_pos}
 use Rattle.core_steps.specs.declared.sizes.TheConstants.{NODE_HOLDERS}
 use Rattle.areanode.specs.Words.{has_bit}
 use Rattle.arena_geo.specs.Bounds.{Bounds}
 use Rattle.areanode.specs.Trees.{leaf_node, leaves_of, visited_of}
-use Rattle.core_steps.specs.Views.{Fixed, Point, Entering, Entered, Leaving, PlayerRead, player_at, is_leaf, plan_of, region_in, inner_visited, leaf_word, held_word, stage_of}
+use Rattle.core_steps.specs.Views.{Fixed, Point, Entering, Entered, Leaving, PlayerRead, player_at, is_leaf, inner_nodes, plan_of, region_in, inner_visited, leaf_word, held_word, stage_of}
 use Rattle.core_steps.specs.Steps.{loading, visiting, point_after_take, view_after_give}
 use Rattle.core_steps.specs.Machine.{Next, TakeNode, GiveNode}
 use Rattle.core_seats.specs.declared.refusals.Refusals.{Refusals}
@@ -22,7 +22,7 @@ use Rattle.ruled_words.specs.Tries.{tried_until}
 use Rattle.ruled_words.specs.Visits.{plan_left, read_until, under_until, visited_until}
 use Rattle.ruled_words.proofs.BitWalks.{bits_in, bits_none, bits_low}
 use Rattle.ruled_words.proofs.LoadedWords.{plain_is, plain_after, plain_next, visiting_same}
-use Rattle.ruled_words.proofs.TriedTakes.{leaf_list, leaf_list_is, leaf_list_first, leaf_there}
+use Rattle.ruled_words.proofs.TriedTakes.{leaf_list, leaf_list_first, leaf_there}
 use Rattle.ruled_words.proofs.Visited.{has_either, kept_same, no_bit}
 
 entered_is : (q : Point) (node : ℕ) (plan : List ℕ) → q ≡ Entered node plan → q ≡ Entered node (plan_left q)
@@ -34,9 +34,9 @@ entering_is q node plan e = e ∙ ap (Entering node) (sym (ap plan_left e))
 leaving_is : (q : Point) (node : ℕ) (plan : List ℕ) → q ≡ Leaving node plan → q ≡ Leaving node (plan_left q)
 leaving_is q node plan e = e ∙ ap (Leaving node) (sym (ap plan_left e))
 
-pub inner_there : (F : Fixed) (node : ℕ) → F.tree.depth ≡ DEPTH → node < FIRST_LEAF → is_leaf F node ≡ false
-inner_there F node depth below = ap (λ (d : ℕ). nat_le (2 ^ d - 1) node) depth ∙ elim (cases_Bool (nat_le FIRST_LEAF node)) [
-  | inl above ↦ let b = leb-true FIRST_LEAF node above in absurd (omega (arith, b, below))
+pub inner_there : (F : Fixed) (node : ℕ) → node < inner_nodes F → is_leaf F node ≡ false
+inner_there F node below = elim (cases_Bool (nat_le (inner_nodes F) node)) [
+  | inl above ↦ let b = leb-true (inner_nodes F) node above in absurd (omega (arith, b, below))
   | inr under ↦ under
 ]
 
@@ -73,9 +73,9 @@ nothing_kept six others none slot within =
 
 -- these leaves are left to be read, and the inner nodes
 abbrev pub leaves_until : Fixed → PassView → ℕ → PassView → PassView
-leaves_until F p rest now = read_until p (visiting F p.view (leaf_list rest ++ inner_visited F (region_in F p.view.cmd p.view.own))) now
+leaves_until F p rest now = read_until p (visiting F p.view (leaf_list F rest ++ inner_visited F (region_in F p.view.cmd p.view.own))) now
 
-module _ (F : Fixed) (p : PassView) (depth : F.tree.depth ≡ DEPTH) where
+module _ (F : Fixed) (p : PassView) where
   abbrev inner_nodes_in : List ℕ
   inner_nodes_in = inner_visited F (region_in F p.view.cmd p.view.own)
 
@@ -83,31 +83,31 @@ module _ (F : Fixed) (p : PassView) (depth : F.tree.depth ≡ DEPTH) where
   reading_start leaves plain at is =
       plain_is p plain
       ∙ ap (λ (q : Point). read_until p q p)
-      (at ∙ ap (λ (xs : List ℕ). visiting F p.view (xs ++ inner_nodes_in)) (leaf_list_is F (region_in F p.view.cmd p.view.own) depth ∙ ap leaf_list (sym is)))
+      (at ∙ ap (λ (xs : List ℕ). visiting F p.view (xs ++ inner_nodes_in)) (ap (leaf_list F) (sym is)))
 
   pub reading_end : (now : PassView) → now ≡ leaves_until F p 0 now → now ≡ read_until p (visiting F p.view inner_nodes_in) now
-  reading_end now is = is ∙ ap (λ (xs : List ℕ). read_until p (visiting F p.view (map (leaf_node DEPTH) xs ++ inner_nodes_in)) now) (bits_none LEAVES)
+  reading_end now is = is ∙ ap (λ (xs : List ℕ). read_until p (visiting F p.view (map (leaf_node F.tree.depth) xs ++ inner_nodes_in)) now) (bits_none (2 ^ F.tree.depth))
 
-  module _ (rest after leaf : ℕ) (first : bits_in LEAVES rest ≡ leaf ∷ bits_in LEAVES after) (now : PassView) (is : now ≡ leaves_until F p rest now) where
+  module _ (rest after leaf node : ℕ) (first : bits_in (2 ^ F.tree.depth) rest ≡ leaf ∷ bits_in (2 ^ F.tree.depth) after) (there : node ≡ leaf_node F.tree.depth leaf) (now : PassView) (is : now ≡ leaves_until F p rest now) where
     abbrev ahead : List ℕ
-    ahead = leaf_list after ++ inner_nodes_in
+    ahead = leaf_list F after ++ inner_nodes_in
 
-    at_leaf : now ≡ read_until p (Entered (FIRST_LEAF + leaf) ahead) now
+    at_leaf : now ≡ read_until p (Entered node ahead) now
     at_leaf =
-        is ∙ ap (λ (xs : List ℕ). read_until p (visiting F p.view (xs ++ inner_nodes_in)) now) (leaf_list_first rest after leaf first)
-        ∙ ap (λ (q : Point). read_until p q now) (cond-true (is_leaf F (FIRST_LEAF + leaf)) (Entered (FIRST_LEAF + leaf) ahead) (Entering (FIRST_LEAF + leaf) ahead) (leaf_there F (FIRST_LEAF + leaf) depth (omega arith)))
+        is ∙ ap (λ (xs : List ℕ). read_until p (visiting F p.view (xs ++ inner_nodes_in)) now) (leaf_list_first F rest after leaf node first there)
+        ∙ ap (λ (q : Point). read_until p q now) (cond-true (is_leaf F node) (Entered node ahead) (Entering node ahead) (leaf_there F leaf node there))
 
-    pub leaf_entered : now.view.point ≡ Entered (FIRST_LEAF + leaf) (plan_left now.view.point)
-    leaf_entered = entered_is now.view.point (FIRST_LEAF + leaf) ahead (ap (λ (q : PassView). q.view.point) at_leaf)
+    pub leaf_entered : now.view.point ≡ Entered node (plan_left now.view.point)
+    leaf_entered = entered_is now.view.point node ahead (ap (λ (q : PassView). q.view.point) at_leaf)
 
     pub leaf_slot : now.view.cmd.slot ≡ p.view.cmd.slot
     leaf_slot = ap (λ (q : PassView). q.view.cmd.slot) is
 
     -- the leaf was read
-    pub leaf_read : (new : PassView) → new ≡ under_until F now (FIRST_LEAF + leaf) [] new → new ≡ leaves_until F p after new
+    pub leaf_read : (new : PassView) → new ≡ under_until F now node [] new → new ≡ leaves_until F p after new
     leaf_read new read =
-        let point : loading F now.view (FIRST_LEAF + leaf) [] (plan_left now.view.point) ≡ visiting F p.view ahead =
-        cond-true (is_leaf F (FIRST_LEAF + leaf)) (visiting F now.view (plan_left now.view.point)) (Leaving (FIRST_LEAF + leaf) (plan_left now.view.point)) (leaf_there F (FIRST_LEAF + leaf) depth (omega arith))
+        let point : loading F now.view node [] (plan_left now.view.point) ≡ visiting F p.view ahead =
+        cond-true (is_leaf F node) (visiting F now.view (plan_left now.view.point)) (Leaving node (plan_left now.view.point)) (leaf_there F leaf node there)
         ∙ ap (visiting F now.view) (ap (λ (q : PassView). plan_left q.view.point) at_leaf)
         ∙ visiting_same F now.view p.view ahead (ap (λ (q : PassView). q.view.cmd) is) (ap (λ (q : PassView). q.view.own) is) in
         read ∙ ap (λ (q : Point). read_until now q new) point ∙ ap (λ (q : PassView). read_until q (visiting F p.view ahead) new) is
@@ -127,7 +127,7 @@ module _ (F : Fixed) (p : PassView) (node : ℕ) (plain : IsPlain p) (at : p.vie
       after ∙ ap (λ (o : Option Next). pass_after F (the_next o) found p) gives ∙ plain_after F p (GiveNode node) found plain
       ∙ ap (λ (q : Point). in_view_with p (view_after_give F p.view q) p.tally) at
 
-module _ (F : Fixed) (p : PassView) (node : ℕ) (depth : F.tree.depth ≡ DEPTH) (below : node < FIRST_LEAF) (plain : IsPlain p) (at : p.view.point ≡ Entering node (plan_left p.view.point)) where
+module _ (F : Fixed) (p : PassView) (node : ℕ) (below : node < inner_nodes F) (plain : IsPlain p) (at : p.view.point ≡ Entering node (plan_left p.view.point)) where
   abbrev plan : List ℕ
   plan = plan_left p.view.point
 
@@ -139,7 +139,7 @@ module _ (F : Fixed) (p : PassView) (node : ℕ) (depth : F.tree.depth ≡ DEPTH
   enter_word new is found =
       let held : held_word F p.number (stage_of (point_after_take node p.view.point)) p.view.wanted node ≡ new =
       ap (λ (q : Point). held_word F p.number (stage_of (point_after_take node q)) p.view.wanted node) at
-      ∙ ap (λ (n : ℕ). suc (p.number + NODE_HOLDERS * n)) (cond-false (is_leaf F node) (leaf_word F p.view.wanted) 0 (inner_there F node depth below))
+      ∙ ap (λ (n : ℕ). suc (p.number + NODE_HOLDERS * n)) (cond-false (is_leaf F node) (leaf_word F p.view.wanted) 0 (inner_there F node below))
       ∙ (let n = is in omega (arith, n)) in
       ap (λ (o : Option Next). word_left F p.number p.view (the_next o) found) enter_next ∙ ap (λ (w : ℕ). if found == 0 then w else found) held
 
@@ -161,7 +161,7 @@ module _ (F : Fixed) (p : PassView) (node : ℕ) (depth : F.tree.depth ≡ DEPTH
       now_read =
           read
           ∙ ap (λ (q : Point). read_until one q two)
-          (cond-false (is_leaf F node) (visiting F one.view (plan_left one.view.point)) (Leaving node (plan_left one.view.point)) (inner_there F node depth below)
+          (cond-false (is_leaf F node) (visiting F one.view (plan_left one.view.point)) (Leaving node (plan_left one.view.point)) (inner_there F node below)
           ∙ ap (Leaving node) (ap (λ (q : PassView). plan_left q.view.point) now_entered))
 
       two_is : two ≡ visited_until p (Leaving node plan) two
@@ -202,29 +202,35 @@ module _ (F : Fixed) (p : PassView) (node : ℕ) (depth : F.tree.depth ≡ DEPTH
 
 -- these inner nodes are left to be visited
 abbrev pub inner_until : Fixed → PassView → ℕ → PassView → PassView
-inner_until F p rest now = visited_until p (visiting F p.view (bits_in FIRST_LEAF rest)) now
+inner_until F p rest now = visited_until p (visiting F p.view (bits_in (inner_nodes F) rest)) now
 
-pub inner_list_is : (F : Fixed) (region : List Bounds) (leaves inner : ℕ) → F.tree.depth ≡ DEPTH → leaves ≡ leaves_of F.tree region → inner ≡ visited_of DEPTH leaves % 2 ^ FIRST_LEAF → inner_visited F region ≡ bits_in FIRST_LEAF inner
-inner_list_is F region leaves inner depth is visited =
-    ap (λ (d : ℕ). filter (has_bit (visited_of d (leaves_of F.tree region))) (range_with_len 0 (2 ^ d - 1))) depth
-    ∙ ap (λ (w : ℕ). bits_in FIRST_LEAF (visited_of DEPTH w)) (sym is)
-    ∙ sym (ap (bits_in FIRST_LEAF) visited ∙ bits_low FIRST_LEAF (visited_of DEPTH leaves))
+pub inner_list_is : (F : Fixed) (region : List Bounds) (leaves inner : ℕ) → leaves ≡ leaves_of F.tree region → inner ≡ visited_of F.tree.depth leaves % 2 ^ inner_nodes F
+    → inner_visited F region ≡ bits_in (inner_nodes F) inner
+inner_list_is F region leaves inner is visited =
+    ap (λ (w : ℕ). bits_in (inner_nodes F) (visited_of F.tree.depth w)) (sym is)
+    ∙ sym (ap (bits_in (inner_nodes F)) visited ∙ bits_low (inner_nodes F) (visited_of F.tree.depth leaves))
+
+-- they are cut from the nodes that are visited
+pub inner_small : (F : Fixed) (visited inner rest : ℕ) → inner ≡ visited % 2 ^ inner_nodes F → rest ≤ inner → rest < 2 ^ inner_nodes F
+inner_small F visited inner rest is few =
+    let low = mod_below visited (2 ^ inner_nodes F) (pow_pos (inner_nodes F)) in
+    omega (arith, is, few, low)
 
 module _ (F : Fixed) (p : PassView) where
-  pub inner_start : (inner : ℕ) → IsPlain p → p.view.point ≡ visiting F p.view (bits_in FIRST_LEAF inner) → p ≡ inner_until F p inner p
+  pub inner_start : (inner : ℕ) → IsPlain p → p.view.point ≡ visiting F p.view (bits_in (inner_nodes F) inner) → p ≡ inner_until F p inner p
   inner_start inner plain at = plain_is p plain ∙ ap (λ (q : Point). visited_until p q p) at
 
   pub inner_end : (now : PassView) → now ≡ inner_until F p 0 now → now ≡ visited_until p (visiting F p.view []) now
-  inner_end now is = is ∙ ap (λ (xs : List ℕ). visited_until p (visiting F p.view xs) now) (bits_none FIRST_LEAF)
+  inner_end now is = is ∙ ap (λ (xs : List ℕ). visited_until p (visiting F p.view xs) now) (bits_none (inner_nodes F))
 
-  module _ (depth : F.tree.depth ≡ DEPTH) (rest after node : ℕ) (below : node < FIRST_LEAF) (first : bits_in FIRST_LEAF rest ≡ node ∷ bits_in FIRST_LEAF after) (now : PassView) (is : now ≡ inner_until F p rest now) where
-    at_inner : now ≡ visited_until p (Entering node (bits_in FIRST_LEAF after)) now
+  module _ (rest after node : ℕ) (below : node < inner_nodes F) (first : bits_in (inner_nodes F) rest ≡ node ∷ bits_in (inner_nodes F) after) (now : PassView) (is : now ≡ inner_until F p rest now) where
+    at_inner : now ≡ visited_until p (Entering node (bits_in (inner_nodes F) after)) now
     at_inner =
         is ∙ ap (λ (xs : List ℕ). visited_until p (visiting F p.view xs) now) first
-        ∙ ap (λ (q : Point). visited_until p q now) (cond-false (is_leaf F node) (Entered node (bits_in FIRST_LEAF after)) (Entering node (bits_in FIRST_LEAF after)) (inner_there F node depth below))
+        ∙ ap (λ (q : Point). visited_until p q now) (cond-false (is_leaf F node) (Entered node (bits_in (inner_nodes F) after)) (Entering node (bits_in (inner_nodes F) after)) (inner_there F node below))
 
     pub now_entering : now.view.point ≡ Entering node (plan_left now.view.point)
-    now_entering = entering_is now.view.point node (bits_in FIRST_LEAF after) (ap (λ (q : PassView). q.view.point) at_inner)
+    now_entering = entering_is now.view.point node (bits_in (inner_nodes F) after) (ap (λ (q : PassView). q.view.point) at_inner)
 
     pub inner_slot : now.view.cmd.slot ≡ p.view.cmd.slot
     inner_slot = ap (λ (q : PassView). q.view.cmd.slot) is
@@ -237,10 +243,10 @@ module _ (F : Fixed) (p : PassView) where
 
     pub inner_more : (new : PassView) → new ≡ visited_until now (visiting F now.view (plan_left now.view.point)) new → new ≡ inner_until F p after new
     inner_more new read =
-        let point : visiting F now.view (plan_left now.view.point) ≡ visiting F p.view (bits_in FIRST_LEAF after) =
+        let point : visiting F now.view (plan_left now.view.point) ≡ visiting F p.view (bits_in (inner_nodes F) after) =
         ap (visiting F now.view) (ap (λ (q : PassView). plan_left q.view.point) at_inner)
-        ∙ visiting_same F now.view p.view (bits_in FIRST_LEAF after) (ap (λ (q : PassView). q.view.cmd) is) inner_own in
-        read ∙ ap (λ (q : Point). visited_until now q new) point ∙ ap (λ (q : PassView). visited_until q (visiting F p.view (bits_in FIRST_LEAF after)) new) is
+        ∙ visiting_same F now.view p.view (bits_in (inner_nodes F) after) (ap (λ (q : PassView). q.view.cmd) is) inner_own in
+        read ∙ ap (λ (q : Point). visited_until now q new) point ∙ ap (λ (q : PassView). visited_until q (visiting F p.view (bits_in (inner_nodes F) after)) new) is
 
 -- ---- the leaves, then the inner nodes
 

@@ -1,5 +1,6 @@
 -- How a pass is held: its seat at the table, its hand, beside the same seat in plain values.
 use Rattle.std.specs.Prelude.{◌≡◌, ℕ, suc, false, [], Option, Some, None}
+use Rattle.areanode.specs.Trees.{IsTreeDepth}
 use Rattle.atomic_table.specs.declared.shared.Seat as places
 use Rattle.entity_recs.specs.declared.effect.Effect.{Effect}
 use Rattle.core_seats.specs.declared.seat.Seat.{Seat}
@@ -7,12 +8,15 @@ use Rattle.entity_recs.specs.Commands.{Command}
 use Rattle.core_steps.specs.Steps.{view_after_begin}
 use Rattle.core_seats.specs.Seats.{view_of, given_of}
 use Rattle.ruled_words.specs.Sights.{SightView}
+use Rattle.ruled_words.specs.declared.setting.Setting.{Setting}
 use Rattle.ruled_words.specs.Passes.{PassView, effect_kept}
 
--- the pass of this place at the table with this number, that was given nothing, isn't to give up and keeps no effect
-abbrev pub hand_view : places.Seat (Unit {0}) SightView → ℕ → PassView
-hand_view place number = record {
+-- the pass of this place at the table, of which its passes know this, with this number, that was given nothing, isn't to
+-- give up and keeps no effect
+abbrev pub hand_view : places.Seat (Unit {0}) SightView → Setting → ℕ → PassView
+hand_view place setting number = record {
   table = place.table_id;
+  setting = setting;
   number = number;
   given = None;
   quits = false;
@@ -21,8 +25,9 @@ hand_view place number = record {
   tally = place.me.0.tally;
 }
 
--- the place has the pass's number and carries nothing
-pub record IsAtPlace (place : places.Seat (Unit {0}) SightView) (number : ℕ) : Type 0 where
+-- the place has the pass's number and carries nothing, and a tree may have the depth
+pub record IsAtPlace (place : places.Seat (Unit {0}) SightView) (setting : Setting) (number : ℕ) : Type 0 where
+  pub may_have : IsTreeDepth setting.depth
   pub has_number : place.me.0.number ≡ number
   pub carries : place.me.1 ≡ []
 

@@ -1,12 +1,11 @@
 -- Who holds a node that a seat was to take.
-use Rattle.std.specs.Prelude.{◌≡◌, ◌≢◌, ℕ, ◌-◌, ◌%◌, ◌<◌, nat_le, true, false, List, Some}
-use Rattle.areanode.specs.declared.sizes.TheConstants.{FIRST_LEAF}
+use Rattle.std.specs.Prelude.{◌≡◌, ◌≢◌, ℕ, ◌-◌, ◌%◌, ◌<◌, true, false, List, Some}
 use Rattle.core_steps.specs.declared.sizes.TheConstants.{MOST_SEATS}
 use Rattle.entity_recs.specs.Commands.{Command}
 use Rattle.areanode.specs.Words.{has_bit}
 use Rattle.areanode.specs.Trees.{leaves_of}
-use Rattle.core_steps.specs.Views.{Fixed, View, stage_of, holds, held_word, region_in, leaf_nodes, inner_visited}
-use Rattle.core_steps.specs.Views.{has}
+use Rattle.core_steps.specs.Views.{Fixed, View, stage_of, holds, held_word, region_in, inner_nodes, is_leaf, leaf_nodes}
+use Rattle.core_steps.specs.Views.{inner_visited, has}
 use Rattle.core_steps.specs.Stands.{IsGiven}
 use Rattle.core_steps.specs.Machine.{Next}
 use Rattle.core_steps.specs.Calls.{node_taken}
@@ -24,7 +23,8 @@ pub record IsHeldByOther (F : Fixed) (passes number node word : ℕ) : Type 0 wh
   pub serves : view.cmd.slot % passes ≡ holder
   pub held : holds F view.point view.wanted node ≡ true
   pub wanted : view.wanted ≡ leaf_nodes F (region_in F view.cmd view.own)
-  pub has_leaf : nat_le FIRST_LEAF node ≡ true → has_bit (leaves_of F.tree (region_in F view.cmd view.own)) (node - FIRST_LEAF) ≡ true
+  pub has_leaf : is_leaf F node ≡ true
+      → has_bit (leaves_of F.tree (region_in F view.cmd view.own)) (node - inner_nodes F) ≡ true
   pub is_word : word ≡ held_word F holder (stage_of view.point) view.wanted node
 
 -- where the step takes a node, and this word was found, which isn't 0, another seat holds that node
@@ -41,14 +41,14 @@ pub record IsOtherHolder (F : Fixed) (passes own node number leaves : ℕ) : Typ
   pub loaded : List ℕ
   pub given : IsGiven F cmd
   pub serves : cmd.slot % passes ≡ number
-  pub are_leaves : nat_le FIRST_LEAF node ≡ true → leaves ≡ leaves_of F.tree (region_in F cmd loaded)
-  pub has_leaf : nat_le FIRST_LEAF node ≡ true → has_bit leaves (node - FIRST_LEAF) ≡ true
+  pub are_leaves : is_leaf F node ≡ true → leaves ≡ leaves_of F.tree (region_in F cmd loaded)
+  pub has_leaf : is_leaf F node ≡ true → has_bit leaves (node - inner_nodes F) ≡ true
 
 -- the node that this seat takes next is one of the leaves that it wants, or an inner node that they visit
 pub record IsReached (F : Fixed) (view : View) (node : ℕ) : Type 0 where
   pub wanted : view.wanted ≡ leaf_nodes F (region_in F view.cmd view.own)
-  pub is_wanted : nat_le FIRST_LEAF node ≡ true → has view.wanted node ≡ true
-  pub is_visited : nat_le FIRST_LEAF node ≡ false → has (inner_visited F (region_in F view.cmd view.own)) node ≡ true
+  pub is_wanted : is_leaf F node ≡ true → has view.wanted node ≡ true
+  pub is_visited : is_leaf F node ≡ false → has (inner_visited F (region_in F view.cmd view.own)) node ≡ true
 
 -- the same of the node that a step takes, if it takes one
 abbrev pub AreReached : Fixed → View → Next → Type 0

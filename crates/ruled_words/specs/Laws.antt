@@ -1,7 +1,7 @@
 -- What the rule of the table keeps, and what it says at the start and at the end.
 use Rattle.std.specs.Prelude.{◌≡◌, ◌≢◌, ℕ, ◌^◌, ◌<◌, ◌≤◌, Bool, List, [], ◌∷◌, ◌++◌, length, slice_index, slice_set}
 use Rattle.std.specs.Prelude.{Option}
-use Rattle.areanode.specs.declared.sizes.TheConstants.{DEPTH}
+use Rattle.areanode.specs.Trees.{IsTreeDepth}
 use Rattle.core_steps.specs.declared.sizes.TheConstants.{MOST_SEATS}
 use mathlib.Core.Option as maybe
 use lib.ListN.{get_elem?}
@@ -19,7 +19,7 @@ use Rattle.ruled_words.specs.Ends.{AreOthersEnded, Closes}
 
 -- the table at the start, with the words of the world and seat 0, meets the rule
 abbrev pub StartIsRuled : Type 0
-StartIsRuled = (F : Fixed) (rooms words : List ℕ) → IsLawful F → IsStart F → F.tree.depth ≡ DEPTH → 0 < length rooms
+StartIsRuled = (F : Fixed) (rooms words : List ℕ) → IsLawful F → IsStart F → IsTreeDepth F.tree.depth → 0 < length rooms
     → length rooms ≤ MOST_SEATS → slice_index rooms 0 < 2 ^ 32 → HasWords words (start_core F (slice_index rooms 0))
     → IsRuled F rooms (opening words [] (first_sight (slice_index rooms 0)))
 

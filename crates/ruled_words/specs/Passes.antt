@@ -1,15 +1,14 @@
 -- A pass as contracts see it, and the table that it belongs to.
-use Rattle.std.specs.Prelude.{◌≤◌, ◌≡◌, ◌≢◌, ℕ, ◌+◌, ◌-◌, ◌/◌, ◌%◌, ◌^◌, ◌<◌, nat_le, Bool, true, false, if◌then◌else◌}
+use Rattle.std.specs.Prelude.{◌≤◌, ◌≡◌, ◌≢◌, ℕ, ◌+◌, ◌-◌, ◌/◌, ◌%◌, ◌^◌, ◌<◌, Bool, true, false, if◌then◌else◌}
 use Rattle.std.specs.Prelude.{List, [], ◌∷◌, ◌++◌}
 use Rattle.std.specs.Prelude.{length, Option, Some, None, is_some}
-use Rattle.areanode.specs.declared.sizes.TheConstants.{FIRST_LEAF}
 use Rattle.core_steps.specs.declared.sizes.TheConstants.{TABLE_LEAVES, NODE_HOLDERS}
 use Rattle.atomic_table.specs.Seated.{TableId}
 use Rattle.entity_recs.specs.Actions.{Meaning}
 use Rattle.entity_recs.specs.declared.effect.Effect.{Effect}
 use Rattle.entity_recs.specs.Commands.{Command}
 use Rattle.world_tree.specs.Worlds.{WorldView}
-use Rattle.core_steps.specs.Views.{Fixed, Refused, View, record_read, effect_loaded}
+use Rattle.core_steps.specs.Views.{Fixed, Refused, View, is_leaf, record_read, effect_loaded}
 use Rattle.core_steps.specs.Steps.{is_taking}
 use Rattle.core_steps.specs.Machine.{Next, ReadList, ReadPlayer}
 use Rattle.core_steps.specs.Machine.{ReadState, GiveNode, YieldNode, YieldCount, index_of}
@@ -23,11 +22,13 @@ use Rattle.core_seats.specs.Nexts.{next_with, the_next}
 use Rattle.core_seats.specs.Ready.{is_resolving}
 use Rattle.ruled_words.specs.Holders.{IsFoundHeld, AreReached}
 use Rattle.ruled_words.specs.Plays.{IsSoundSight}
+use Rattle.ruled_words.specs.declared.setting.Setting.{Setting}
 
--- which table it is, the pass's number, the command that is given and not begun, whether the pass is to give up, the
+-- which table it is, what its passes know of it, the pass's number, the command that is given and not begun, whether the pass is to give up, the
 -- effect that it keeps, its view in the core, and what it did
 pub record PassView : Type 0 where
   pub table : TableId
+  pub setting : Setting
   pub number : ℕ
   pub given : Option Command
   pub quits : Bool
@@ -41,6 +42,10 @@ pub record TableView (A : Type 0) : Type 0 where
   pub action : A
   pub world : WorldView
   pub rooms : List ℕ
+
+-- what the passes of a table know of it
+abbrev pub setting_of : Fixed → Setting
+setting_of F = record { depth = F.tree.depth; records = length F.start.ids }
 
 -- what comes next of a pass
 abbrev pub next_of_pass : Fixed → PassView → Option Next
@@ -81,6 +86,7 @@ RefusalIsListed (Some r) refused = IsOneOf (record { node = r.node; word = r.wor
 -- the pass belongs to the table, and what it keeps beside its view is what the view says
 pub record IsPassOf (F : Fixed) (passes : ℕ) (table : TableId) (p : PassView) : Type 0 where
   pub at_table : p.table ≡ table
+  pub at_setting : p.setting ≡ setting_of F
   pub lives : p.view.live ≡ true
   pub sound_sight : IsSoundSight F passes (sight_of p)
   pub pending : (c : Command) → p.given ≡ Some c → IsPending F p.view c
@@ -112,15 +118,16 @@ node_taken_next None = None
 node_taken_next (Some next) = node_taken next
 
 -- the words of who holds a node: its number and, for a leaf, its leaves
-pub record IsHolderIn (word node number leaves : ℕ) : Type 0 where
+pub record IsHolderIn (F : Fixed) (word node number leaves : ℕ) : Type 0 where
   pub is_held : word ≢ 0
   pub is_number : number ≡ (word - 1) % NODE_HOLDERS
-  pub are_leaves : leaves ≡ (if nat_le FIRST_LEAF node then word / NODE_HOLDERS % 2 ^ TABLE_LEAVES else 0)
+  pub are_leaves : leaves ≡ (if is_leaf F node then word / NODE_HOLDERS % 2 ^ TABLE_LEAVES else 0)
 
 -- the hand is that of the pass, which belongs to the table and has a next step, and the word is that of the step
 pub record IsReady (F : Fixed) (passes : ℕ) (table : TableId) (p hand : PassView) (word : ℕ) : Type 0 where
   pub own : IsPassOf F passes table p
   pub same_table : hand.table ≡ p.table
+  pub same_setting : hand.setting ≡ p.setting
   pub same_number : hand.number ≡ p.number
   pub same_view : hand.view ≡ p.view
   pub same_tally : hand.tally ≡ p.tally
@@ -134,6 +141,7 @@ word_after F p found = word_left F p.number p.view (the_next (next_of_pass F p))
 -- the hand is at its table, and its view is the one after what comes next of the pass
 pub record HasGone (F : Fixed) (passes : ℕ) (p : PassView) (found : ℕ) (hand : PassView) : Type 0 where
   pub same_table : hand.table ≡ p.table
+  pub same_setting : hand.setting ≡ p.setting
   pub same_number : hand.number ≡ p.number
   pub went : hand.view ≡ view_found F p.view (the_next (next_of_pass F p)) found
   pub tally : hand.tally ≡ (pass_after F (the_next (next_of_pass F p)) found p).tally

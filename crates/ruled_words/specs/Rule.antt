@@ -1,6 +1,6 @@
 -- The rule of the table: what holds between any two steps of any threads.
 use Rattle.std.specs.Prelude.{◌≡◌, ◌≢◌, ℕ, ◌%◌, ◌^◌, ◌<◌, ◌≤◌, true, false, List, length, slice_index, None, All}
-use Rattle.areanode.specs.declared.sizes.TheConstants.{DEPTH}
+use Rattle.areanode.specs.Trees.{IsTreeDepth}
 use Rattle.core_steps.specs.declared.sizes.TheConstants.{TABLE_WORDS, MOST_SEATS}
 use mathlib.Core.Option as maybe
 use lib.ListN.{get_elem?}
@@ -70,7 +70,7 @@ pub record IsRuled (F : Fixed) (rooms : List ℕ) (s : State (Unit {0}) SightVie
   pub now : World
   pub lawful : IsLawful F
   pub start : IsStart F
-  pub depth : F.tree.depth ≡ DEPTH
+  pub depth : IsTreeDepth F.tree.depth
   pub stands : MachineStands F (at_rest core) history now
   pub words : HasWords s.words core
   pub seats : HasSeats s.views core

@@ -1,4 +1,5 @@
 ghost use Rattle.std.specs.Prelude.{◌≡◌, ◌<◌, ◌≤◌, ℕ, [], length};
+ghost use Rattle.areanode.specs.Trees.{IsTreeDepth};
 ghost use Rattle.core_steps.specs.declared.sizes.TheConstants.{TABLE_WORDS};
 ghost use Rattle.core_seats.specs.Nexts.{the_next};
 ghost use Rattle.ruled_words.specs.Starts.{fixed_by};
@@ -11,6 +12,7 @@ ghost use Rattle.ruled_words.specs.Hands.{IsPlain, given_to, keeping, pass_view}
 ghost use Rattle.entity_recs.specs.Commands.{command_of};
 
 use crate::rule::key::{Place, Words};
+use crate::setting::Setting;
 use crate::steps::one_step::step_as;
 use crate::steps::seats::{end, look, make};
 use crate::word_step::WordStep;
@@ -18,10 +20,12 @@ use core_seats::Seat;
 use entity_recs::{Action, Cmd, Effect};
 use std::marker::{Brand, Model};
 
-/// A pass's place at the table, and its number. What the place has in view is known to clauses alone.
+/// A pass's place at the table, its number, and what it knows of the table. What the place has in view is known to
+/// clauses alone.
 #[derive(Drop)]
 pub struct Hand {
     pub(crate) place: Place,
+    pub(crate) setting: Setting,
     pub(crate) number: u8,
 }
 
@@ -31,9 +35,9 @@ impl Model for Hand {
 
     ghost Value = { PassView };
 
-    ghost view = { λ h. hand_view h.place h.number };
+    ghost view = { λ h. hand_view h.place h.setting h.number };
 
-    ghost invariant = { λ h. IsAtPlace h.place h.number };
+    ghost invariant = { λ h. IsAtPlace h.place h.setting h.number };
 }
 
 impl Hand {
@@ -57,6 +61,14 @@ impl Hand {
         ensures { result ≡ self.now.number }
     {
         self.number
+    }
+
+    /// What the pass knows of the table.
+    pub fn setting(&self) -> Setting
+        ensures value { result ≡ self.now.setting }
+        ensures depth { IsTreeDepth self.now.setting.depth }
+    {
+        self.setting
     }
 
     /// The hand makes the next step of its pass, which is the hand with this seat in plain values and the effect that is
@@ -170,11 +182,17 @@ impl Hand {
         requires number { number ≡ self.old.view.made }
         requires more { self.old.view.made < length words.now.key.rooms.items }
         ensures table { (self.new.table ≡ self.old.table) × (result.table ≡ self.old.table) }
+        ensures setting { (self.new.setting ≡ self.old.setting) × (result.setting ≡ self.old.setting) }
         ensures first { sight_of self.new ≡ with_one_made (sight_of self.old) }
         ensures made { sight_of result ≡ sight_made room (sight_of self.old) }
     {
         let place = make(words, &mut self.place, room);
-        Hand { place, number }
+        let setting = self.setting;
+        Hand {
+            place,
+            setting,
+            number,
+        }
     }
 
     /// The seat of another hand that rests is ended into that of this one, which is the first.

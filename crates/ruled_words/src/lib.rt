@@ -7,6 +7,7 @@ pub use rule::laws::{
     closed_table_is_its_run, ended_seats_keep_the_rule, looks_keep_the_rule,
     made_seats_keep_the_rule, refused_takes_were_served, start_is_ruled, steps_keep_the_rule,
 };
+pub use setting::Setting;
 pub use shared_words::SharedWords;
 pub use word_step::WordStep;
 
@@ -16,6 +17,7 @@ mod nodes;
 mod opening;
 mod reading;
 mod rule;
+mod setting;
 mod shared_words;
 mod steps;
 mod word_step;

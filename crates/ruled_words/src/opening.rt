@@ -4,11 +4,14 @@ ghost use Rattle.world_tree.specs.Live.{live_in};
 ghost use Rattle.ruled_words.specs.Starts.{rules_of};
 ghost use Rattle.ruled_words.specs.Rule.{first_sight};
 ghost use Rattle.ruled_words.specs.Going.{IsAtRest};
-ghost use Rattle.ruled_words.specs.Passes.{sight_of};
+ghost use Rattle.areanode.specs.Trees.{IsTreeDepth};
+ghost use Rattle.core_seats.specs.Shown.{fixed_of};
+ghost use Rattle.ruled_words.specs.Passes.{fixed_in, setting_of, sight_of};
 ghost use Rattle.ruled_words.specs.Sights.{with_one_made, sight_made};
 
 use crate::hand::Hand;
 use crate::rule::key::{Key, Place};
+use crate::setting::Setting;
 use crate::shared_words::{SharedWords, WordTable};
 use arrayvec::ArrayVec;
 use atomic_table::Table;
@@ -69,6 +72,17 @@ fn rules_at_start<'a, A: Action>(
     Rules::new(alloc, action, world.tree(), records.as_slice())
 }
 
+/// What the passes of a table with these rules know of it.
+fn setting_of<A: Action>(rules: &Rules<A>) -> Setting
+    ensures value { result ≡ setting_of (fixed_of A.meaning rules.now) }
+    ensures depth { IsTreeDepth result.depth }
+{
+    Setting {
+        depth: rules.depth(),
+        records: rules.count_records(),
+    }
+}
+
 /// A table with the words of the world, under its rule, and the seat of pass 0.
 fn lay_table<A: Action>(
     alloc: Global,
@@ -113,10 +127,17 @@ impl<'a, A: Action> SharedWords<'a, A> {
             × (r.0.rooms ≡ room.now)) }
         ensures first { IfOk result (λ r. (r.1.table ≡ r.0.table)
             × (sight_of r.1 ≡ first_sight (slice_index room.now 0))) }
+        ensures setting { IfOk result (λ r. r.1.setting ≡ setting_of (fixed_in A.meaning r.0)) }
     {
         let rules = rules_at_start(alloc, action, world)?;
         let (table, place) = lay_table(alloc, action, world, room)?;
-        Ok((SharedWords { rules, table }, Hand { place, number: 0 }))
+        let setting = setting_of(&rules);
+        let first = Hand {
+            place,
+            setting,
+            number: 0,
+        };
+        Ok((SharedWords { rules, table }, first))
     }
 
     /// The hand of the seat that is made next from seat 0, which rests, with this room.
@@ -127,6 +148,7 @@ impl<'a, A: Action> SharedWords<'a, A> {
         requires number { number ≡ first.old.view.made }
         requires more { first.old.view.made < length self.now.rooms }
         ensures table { (first.new.table ≡ first.old.table) × (result.table ≡ first.old.table) }
+        ensures setting { (first.new.setting ≡ first.old.setting) × (result.setting ≡ first.old.setting) }
         ensures first { sight_of first.new ≡ with_one_made (sight_of first.old) }
         ensures made { sight_of result ≡ sight_made room (sight_of first.old) }
     {

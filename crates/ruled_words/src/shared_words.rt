@@ -1,4 +1,7 @@
-ghost use Rattle.std.specs.Prelude.{◌≡◌};
+ghost use Rattle.std.specs.Prelude.{◌≡◌, ◌<◌};
+ghost use Rattle.areanode.specs.declared.sizes.TheConstants.{MOST_LEAVES};
+ghost use Rattle.core_steps.specs.Views.{inner_nodes};
+ghost use Rattle.ruled_words.specs.Passes.{fixed_in};
 ghost use Rattle.ruled_words.specs.Rule.{HasSomeRooms};
 ghost use Rattle.ruled_words.specs.Starts.{rules_of};
 
@@ -48,6 +51,14 @@ impl<'a, A: Action> SharedWords<'a, A> {
         ensures { result.now ≡ rules_of self.now.action self.now.world }
     {
         &self.rules
+    }
+
+    /// The first leaf's node, which is also the number of inner nodes.
+    pub fn first_leaf(&self) -> u8
+        ensures value { result ≡ inner_nodes (fixed_in A.meaning self.now) }
+        ensures few { result < MOST_LEAVES }
+    {
+        self.rules.first_leaf()
     }
 
     /// There are some rooms, and no more than seats.

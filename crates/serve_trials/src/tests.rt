@@ -16,6 +16,8 @@ mod far;
 mod feeders;
 mod full;
 mod generated;
+mod hostile;
+mod hostile_frames;
 mod known;
 mod lines;
 mod made;
@@ -25,6 +27,7 @@ mod recordings;
 mod refused;
 mod resent;
 mod rooms;
+mod shooters;
 mod statuses;
 mod things;
 mod totals;
@@ -162,6 +165,20 @@ const REPEATED: &str =
 const REPEATED_OUTPUT: &str =
     "frame 0\nno 3 Old\njoined 7 0\ndid 0 1 0 0 6144 -\ndid 0 2 0 0 6144 -\ndid 0 3 0 0 6144 -\nto 0 01000000000000000000000000000018000000000000000000000000000001000000000000030000000000\nend 1\n";
 
+/// Five shots at a player, of which the fourth fells it.
+const SHOTS: &str =
+    "arena -131072 -131072 0 131072 131072 65536\nshots\nspawn 0 0 6144\nspawn 20000 0 6144\nitem 0 4000 0 ammo 100\nframe\nfrom 7 0101\nfrom 8 0101\nfrom 7 02020100000001320100000002\nfrom 7 02020200000001320100000002\nfrom 7 02020300000001320100000002\nfrom 7 02020400000001320100000002\nfrom 7 02020500000001320100000002\nfrom 8 010201000000324001000000\nend\n";
+
+const SHOTS_OUTPUT: &str =
+    "frame 0\njoined 7 0\njoined 8 1\ndid 0 1 6 0 6144 1,64\ndid 0 2 12 0 6144 1\ndid 0 3 18 0 6144 1\ndid 0 4 24 0 6144 1\ndid 0 5 30 0 6144 -\ndid 1 1 20000 0 6144 -\nto 0 0100000000001e0000000000000000180000800000000000000000000000010f000100000005000000020001000001204e000000000000001800004000010000000000a00f000000000000\nto 1 010000000001204e0000000000000018000000000000000000000000000000000000000000010000000200000000011e00000000000000001800004000010000000000a00f000000000000\nend 1\n";
+
+/// The same shots, with a block between the two players.
+const SHOTS_AT_A_BLOCK: &str =
+    "arena -131072 -131072 0 131072 131072 65536\nshots\nblock 8000 -12800 0 9000 12800 20000\nspawn 0 0 6144\nspawn 20000 0 6144\nitem 0 4000 0 ammo 100\nframe\nfrom 7 0101\nfrom 8 0101\nfrom 7 02020100000001320100000002\nfrom 7 02020200000001320100000002\nfrom 7 02020300000001320100000002\nfrom 7 02020400000001320100000002\nfrom 7 02020500000001320100000002\nfrom 8 010201000000324001000000\nend\n";
+
+const SHOTS_AT_A_BLOCK_OUTPUT: &str =
+    "frame 0\njoined 7 0\njoined 8 1\ndid 0 1 6 0 6144 64\ndid 0 2 12 0 6144 -\ndid 0 3 18 0 6144 -\ndid 0 4 24 0 6144 -\ndid 0 5 30 0 6144 -\ndid 1 1 22048 0 6144 -\nto 0 0100000000001e0000000000000000180000800000000000000000000000010f0000000000050000000200010000012056000000000000001800004000010000000000a00f000000000000\nto 1 01000000000120560000000000000018000000a00000000000000000000001000000000000010000000200000000011e00000000000000001800004000010000000000a00f000000000000\nend 1\n";
+
 #[test]
 fn frames_are_printed_in_order(rt: HostRuntime) -> Result<(), Fail> {
     let rows = [
@@ -186,6 +203,18 @@ fn players_move(rt: HostRuntime) -> Result<(), Fail> {
         (STEP, STEP_OUTPUT),
         (WALL, WALL_OUTPUT),
         (JUMP, JUMP_OUTPUT),
+    ];
+    for (recording, output) in rows {
+        expect(&rt, recording, 0, output)?;
+    }
+    Ok(())
+}
+
+#[test]
+fn players_shoot(rt: HostRuntime) -> Result<(), Fail> {
+    let rows = [
+        (SHOTS, SHOTS_OUTPUT),
+        (SHOTS_AT_A_BLOCK, SHOTS_AT_A_BLOCK_OUTPUT),
     ];
     for (recording, output) in rows {
         expect(&rt, recording, 0, output)?;

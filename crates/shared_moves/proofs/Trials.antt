@@ -7,7 +7,8 @@ use Rattle.entity_recs.specs.declared.effect.Entry.{Entry}
 use Rattle.entity_recs.specs.Commands.{Command}
 use Rattle.entity_recs.specs.Histories.{Item}
 use Rattle.core_steps.specs.Views.{Fixed}
-use Rattle.ruled_words.specs.Passes.{PassView, IsPassOf}
+use Rattle.ruled_words.specs.Passes.{PassView, IsPassOf, setting_of}
+use Rattle.ruled_words.specs.declared.setting.Setting.{Setting}
 use Rattle.region_locks.specs.NewPasses.{first_pass, other_pass}
 use Rattle.region_locks.specs.Closing.{HasNoCommand}
 use Rattle.region_locks.specs.Quitting.{MayBegin}
@@ -22,19 +23,19 @@ use Rattle.region_locks.proofs.Running.{without_command}
 abbrev pub rooms : ℕ → List ℕ
 rooms room = room ∷ room ∷ []
 
-first_may_begin : (table : TableId) (room : ℕ) → 0 < room → MayBegin (first_pass table (rooms room))
-first_may_begin table room some = record { none = refl; idle = refl; room = some }
+first_may_begin : (table : TableId) (setting : Setting) (room : ℕ) → 0 < room → MayBegin (first_pass table setting (rooms room))
+first_may_begin table setting room some = record { none = refl; idle = refl; room = some }
 
-second_may_begin : (table : TableId) (room : ℕ) → 0 < room → MayBegin (other_pass table (rooms room) 1)
-second_may_begin table room some = record { none = refl; idle = refl; room = some }
+second_may_begin : (table : TableId) (setting : Setting) (room : ℕ) → 0 < room → MayBegin (other_pass table setting (rooms room) 1)
+second_may_begin table setting room some = record { none = refl; idle = refl; room = some }
 
 -- each of two new passes is free
-pub are_free : (F : Fixed) (passes : ℕ) (table : TableId) (room : ℕ) (items : List PassView) (x y : PassView) → 0 < room → items ≡ first_pass table (rooms room) ∷ other_pass table (rooms room) 1 ∷ []
-    → x ≡ first_pass table (rooms room) → y ≡ other_pass table (rooms room) 1 → All (IsPassOf F passes table) items → IsFree F passes table 0 x × IsFree F passes table 1 y
+pub are_free : (F : Fixed) (passes : ℕ) (table : TableId) (room : ℕ) (items : List PassView) (x y : PassView) → 0 < room → items ≡ first_pass table (setting_of F) (rooms room) ∷ other_pass table (setting_of F) (rooms room) 1 ∷ []
+    → x ≡ first_pass table (setting_of F) (rooms room) → y ≡ other_pass table (setting_of F) (rooms room) 1 → All (IsPassOf F passes table) items → IsFree F passes table 0 x × IsFree F passes table 1 y
 are_free F passes table room items x y some are first second own =
-    let two = recursion_from_All (IsPassOf F passes table) (first_pass table (rooms room) ∷ other_pass table (rooms room) 1 ∷ []) (subst (All (IsPassOf F passes table)) are own) in (
-      record { own = subst (IsPassOf F passes table) (sym first) two.0; number_is = ap (λ (p : PassView). p.number) first; free = subst MayBegin (sym first) (first_may_begin table room some) },
-      record { own = subst (IsPassOf F passes table) (sym second) two.1.0; number_is = ap (λ (p : PassView). p.number) second; free = subst MayBegin (sym second) (second_may_begin table room some) },
+    let two = recursion_from_All (IsPassOf F passes table) (first_pass table (setting_of F) (rooms room) ∷ other_pass table (setting_of F) (rooms room) 1 ∷ []) (subst (All (IsPassOf F passes table)) are own) in (
+      record { own = subst (IsPassOf F passes table) (sym first) two.0; number_is = ap (λ (p : PassView). p.number) first; free = subst MayBegin (sym first) (first_may_begin table (setting_of F) room some) },
+      record { own = subst (IsPassOf F passes table) (sym second) two.1.0; number_is = ap (λ (p : PassView). p.number) second; free = subst MayBegin (sym second) (second_may_begin table (setting_of F) room some) },
     )
 
 module _ (F : Fixed) (passes : ℕ) (table : TableId) (number : ℕ) (old new : PassView) where

@@ -250,7 +250,7 @@ fn expect_both_run<A: Action>(
 
 #[test]
 fn a_held_root_is_busy_and_a_refused_move_leaves_no_trace(rt: HostRuntime) -> Result<(), Fail> {
-    let mut world = far_world(rt.alloc())?;
+    let mut world = far_world(rt.alloc(), 4)?;
     let (shared, first, second) = shared_by_two(rt.alloc(), &Staying, &world, 2)?;
     expect_both_run(&rt, shared, first, second, &mut world)?;
     expect_moved(&rt, &world);

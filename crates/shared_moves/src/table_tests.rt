@@ -1,4 +1,5 @@
 ghost use Rattle.std.specs.Prelude.{◌≡◌, ◌%◌, true, length, IfOk, IfSome};
+ghost use Rattle.areanode.specs.Trees.{IsTreeDepth};
 ghost use Rattle.core_steps.specs.Views.{has};
 ghost use Rattle.core_steps.specs.Steps.{is_taking};
 ghost use Rattle.ruled_words.specs.Passes.{fixed_in, IsOwn};
@@ -6,11 +7,12 @@ ghost use Rattle.region_locks.specs.Quitting.{MayBegin};
 ghost use Rattle.shared_moves.specs.Trials.{IsFree};
 
 use crate::staying::Staying;
-use crate::trial::{FIRST, NEAR, near_world, plain, shared_by_two};
-use core_steps::StepKind;
+use crate::trial::{FIRST, NEAR, last_world, near_world, plain, shared_by_two};
+use core_steps::{StepKind, node_word};
 use entity_recs::{Action, Cmd};
 use move_journal::LogList;
 use region_locks::{Holder, NodeTable, Pass};
+use std::alloc::AllocGlobal;
 use std::process::Abort;
 use std::test::Fail;
 
@@ -28,8 +30,12 @@ fn begin<A: Action>(table: &NodeTable<A>, pass: &mut Pass<A>, cmd: Cmd)
     table.load_rec(pass, slot);
 }
 
-/// Takes node 15, which is the pass's next step.
-fn take_leaf<A: Action>(table: &NodeTable<A>, pass: &mut Pass<A>) -> Result<Option<Holder>, Fail>
+/// Takes this node, which is the pass's next step.
+fn take_leaf<A: Action>(
+    table: &NodeTable<A>,
+    pass: &mut Pass<A>,
+    node: u8,
+) -> Result<Option<Holder>, Fail>
     requires { IsOwn A.meaning table.now
         pass.old }
     ensures own { IsOwn A.meaning table.now
@@ -39,11 +45,11 @@ fn take_leaf<A: Action>(table: &NodeTable<A>, pass: &mut Pass<A>) -> Result<Opti
     let Some(step) = table.next(pass) else {
         return Err("no step".into());
     };
-    if step.word != 16 {
-        return Err("not node 15".into());
+    if step.word != node_word(node) {
+        return Err("another word".into());
     }
     match step.kind {
-        StepKind::Take => Ok(table.take(pass, 15).err()),
+        StepKind::Take => Ok(table.take(pass, node).err()),
         _ => Err("not a take".into()),
     }
 }
@@ -64,25 +70,21 @@ fn begin_both<A: Action>(table: &NodeTable<A>, first: &mut Pass<A>, second: &mut
     begin(table, second, plain(1));
 }
 
-/// The pass is refused node 15, which pass 0 holds as its one leaf.
+/// The pass is refused this node, which pass 0 holds for a command with these leaves.
 fn expect_refused<A: Action>(
     rt: &impl Abort,
     table: &NodeTable<A>,
     pass: &mut Pass<A>,
+    node: u8,
+    leaves: u32,
 ) -> Result<(), Fail>
     requires { IsOwn A.meaning table.now
         pass.old }
     ensures own { IfOk result (λ _. IsOwn A.meaning table.now pass.new) }
     ensures taking { IfOk result (λ _. is_taking pass.new.view.point ≡ true) }
 {
-    let holder = take_leaf(table, pass)?.ok_or("a holder")?;
-    assert_eq!(rt;
-        holder,
-        Holder {
-            number: 0,
-            leaves: 1
-        }
-    );
+    let holder = take_leaf(table, pass, node)?.ok_or("a holder")?;
+    assert_eq!(rt; holder, Holder { number: 0, leaves });
     Ok(())
 }
 
@@ -119,12 +121,15 @@ fn begin_again<A: Action>(table: &NodeTable<A>, pass: &mut Pass<A>) -> Result<()
     Ok(())
 }
 
-/// Of two passes that need one leaf the first takes it. The second is refused it, gives up, and may begin again.
+/// Of two passes that need the same leaves, from that with this node on, the first takes it. The second is refused it,
+/// gives up, and may begin again.
 fn expect_one_holder<A: Action>(
     rt: &impl Abort,
     table: &NodeTable<A>,
     mut first: Pass<A>,
     mut second: Pass<A>,
+    node: u8,
+    leaves: u32,
 ) -> Result<(), Fail>
     requires two { length table.now.rooms ≡ 2 }
     requires zero { has (fixed_in A.meaning table.now).start.ids 0 ≡ true }
@@ -135,17 +140,42 @@ fn expect_one_holder<A: Action>(
         table.now.table 1 second }
 {
     begin_both(table, &mut first, &mut second);
-    assert_eq!(rt; take_leaf(table, &mut first)?, None);
-    expect_refused(rt, table, &mut second)?;
+    assert_eq!(rt; take_leaf(table, &mut first, node)?, None);
+    expect_refused(rt, table, &mut second, node, leaves)?;
     expect_given_up(rt, table, &mut second)?;
     begin_again(table, &mut second)
 }
 
+/// Two passes need the same leaves of a tree of this depth, whose first leaf has this node.
+fn check_holder(
+    rt: &(impl AllocGlobal + Abort),
+    depth: u8,
+    node: u8,
+    leaves: u32,
+) -> Result<(), Fail>
+    requires { IsTreeDepth depth }
+{
+    let world = near_world(rt.alloc(), depth)?;
+    let (shared, first, second) = shared_by_two(rt.alloc(), &Staying, &world, 1)?;
+    expect_one_holder(rt, &shared.table, first, second, node, leaves)
+}
+
 #[test]
 fn a_refused_take_names_its_holder(rt: HostRuntime) -> Result<(), Fail> {
-    let world = near_world(rt.alloc())?;
+    check_holder(&rt, 4, 15, 0b1)
+}
+
+#[test]
+fn a_refused_take_names_its_holder_among_8_or_32_leaves(rt: HostRuntime) -> Result<(), Fail> {
+    check_holder(&rt, 3, 7, 0b1)?;
+    check_holder(&rt, 5, 31, 0b11)
+}
+
+#[test]
+fn a_holder_has_the_last_two_of_32_leaves(rt: HostRuntime) -> Result<(), Fail> {
+    let world = last_world(rt.alloc())?;
     let (shared, first, second) = shared_by_two(rt.alloc(), &Staying, &world, 1)?;
-    expect_one_holder(&rt, &shared.table, first, second)
+    expect_one_holder(&rt, &shared.table, first, second, 61, 0xc000_0000)
 }
 
 /// The logs of two passes that have room for one and two entries, and have made none.
@@ -160,7 +190,7 @@ fn expect_empty_logs(rt: &impl Abort, logs: &LogList) -> Result<(), Fail> {
 
 #[test]
 fn a_table_without_moves_closes_with_its_world(rt: HostRuntime) -> Result<(), Fail> {
-    let mut world = near_world(rt.alloc())?;
+    let mut world = near_world(rt.alloc(), 4)?;
     let (table, passes) = NodeTable::new(rt.alloc(), &Staying, &world, &[1, 2])?;
     let mut logs = LogList::new(rt.alloc());
     table.close(passes, &mut world, &mut logs);

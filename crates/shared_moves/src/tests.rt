@@ -1,4 +1,5 @@
 ghost use Rattle.std.specs.Prelude.{◌≡◌, true, length};
+ghost use Rattle.areanode.specs.Trees.{IsTreeDepth};
 ghost use Rattle.core_steps.specs.Views.{has};
 ghost use Rattle.ruled_words.specs.Passes.{fixed_in};
 ghost use Rattle.shared_moves.specs.Trials.{IsFree};
@@ -6,9 +7,10 @@ ghost use Rattle.shared_moves.specs.Trials.{IsFree};
 use crate::beside::{Beside, Second};
 use crate::shared::Shared;
 use crate::staying::Staying;
-use crate::trial::{far_world, near_world, plain, shared_by_two};
+use crate::trial::{far_world, last_world, near_world, plain, shared_by_two};
 use entity_recs::Action;
 use region_locks::{Again, Gate, Pass};
+use std::alloc::AllocGlobal;
 use std::process::Abort;
 use std::sync::Wait;
 use std::test::Fail;
@@ -36,23 +38,36 @@ fn expect_passed<A: Action>(rt: &impl Abort, held: (u64, u8, u32), second: &Seco
     assert_eq!(rt; held, (1, 0, 1));
 }
 
-#[test]
-fn a_far_move_passes_a_held_one(rt: HostRuntime) -> Result<(), Fail> {
-    let world = far_world(rt.alloc())?;
+/// Runs two moves that have no leaf in common, in a tree of this depth: the second passes the first, which is held.
+fn check_far(rt: &(impl AllocGlobal + Abort + Wait), depth: u8) -> Result<(), Fail>
+    requires { IsTreeDepth depth }
+{
+    let world = far_world(rt.alloc(), depth)?;
     let (shared, mut first, second) = shared_by_two(rt.alloc(), &Staying, &world, 2)?;
     let gate = Beside::new(&shared, second);
-    let held = run_first(&rt, &shared, &mut first, &gate);
-    expect_passed(&rt, held, &gate.into_second());
+    let held = run_first(rt, &shared, &mut first, &gate);
+    expect_passed(rt, held, &gate.into_second());
     Ok(())
 }
 
-/// The move of pass 1 was refused the leaf of the one that was held, and is run when it is tried again.
-fn expect_refused_once<A: Action>(rt: &impl Abort, held: (u64, u8, u32), second: &mut Second<A>) {
-    let refused = Again::Held {
-        leaf: 0,
-        holder: 0,
-        leaves: 1,
-    };
+#[test]
+fn a_far_move_passes_a_held_one(rt: HostRuntime) -> Result<(), Fail> {
+    check_far(&rt, 4)
+}
+
+#[test]
+fn a_far_move_passes_a_held_one_in_a_tree_of_8_or_32_leaves(rt: HostRuntime) -> Result<(), Fail> {
+    check_far(&rt, 3)?;
+    check_far(&rt, 5)
+}
+
+/// The move of pass 1 was refused the first leaf of the one that was held, and is run when it is tried again.
+fn expect_refused_once<A: Action>(
+    rt: &impl Abort,
+    held: (u64, u8, u32),
+    second: &mut Second<A>,
+    refused: Again,
+) {
     assert_eq!(rt; second.refused(), Some(refused));
     assert_eq!(rt; second.ran(), None);
     assert_eq!(rt; held, (0, 0, 1));
@@ -60,12 +75,48 @@ fn expect_refused_once<A: Action>(rt: &impl Abort, held: (u64, u8, u32), second:
     assert_eq!(rt; second.ran(), Some((1, 1, 1)));
 }
 
+/// The refusal of a leaf that pass 0 holds for a command with these leaves.
+fn held_by_first(leaf: u8, leaves: u32) -> Again {
+    Again::Held {
+        leaf,
+        holder: 0,
+        leaves,
+    }
+}
+
+/// Runs two moves that need the same leaves of a tree of this depth, from leaf 0 on: the second is refused leaf 0 while
+/// the first is held.
+fn check_near(rt: &(impl AllocGlobal + Abort + Wait), depth: u8, leaves: u32) -> Result<(), Fail>
+    requires { IsTreeDepth depth }
+{
+    let world = near_world(rt.alloc(), depth)?;
+    let (shared, mut first, second) = shared_by_two(rt.alloc(), &Staying, &world, 2)?;
+    let gate = Beside::new(&shared, second);
+    let held = run_first(rt, &shared, &mut first, &gate);
+    let refused = held_by_first(0, leaves);
+    expect_refused_once(rt, held, &mut gate.into_second(), refused);
+    Ok(())
+}
+
 #[test]
 fn a_near_move_is_refused_until_the_held_one_has_ended(rt: HostRuntime) -> Result<(), Fail> {
-    let world = near_world(rt.alloc())?;
+    check_near(&rt, 4, 0b1)
+}
+
+#[test]
+fn a_near_move_is_refused_in_a_tree_of_8_or_32_leaves(rt: HostRuntime) -> Result<(), Fail> {
+    check_near(&rt, 3, 0b1)?;
+    // The players stand on the cut between the first two of 32 leaves.
+    check_near(&rt, 5, 0b11)
+}
+
+#[test]
+fn a_refusal_names_the_last_two_of_32_leaves(rt: HostRuntime) -> Result<(), Fail> {
+    let world = last_world(rt.alloc())?;
     let (shared, mut first, second) = shared_by_two(rt.alloc(), &Staying, &world, 2)?;
     let gate = Beside::new(&shared, second);
     let held = run_first(&rt, &shared, &mut first, &gate);
-    expect_refused_once(&rt, held, &mut gate.into_second());
+    let refused = held_by_first(30, 0xc000_0000);
+    expect_refused_once(&rt, held, &mut gate.into_second(), refused);
     Ok(())
 }

@@ -1,9 +1,11 @@
 ghost use Rattle.std.specs.Prelude.{◌≡◌, ◌<◌, ◌∷◌, [], true, length, All, IfOk};
+ghost use Rattle.areanode.specs.Trees.{IsTreeDepth};
 ghost use Rattle.world_tree.specs.Live.{live_in};
 ghost use Rattle.ruled_words.specs.Passes.{fixed_in};
 ghost use Rattle.shared_moves.specs.Trials.{IsFree};
 
 use crate::shared::Shared;
+use areanode::MOST_DEPTH;
 use arena_geo::{Aabb, Vec3};
 use entity_recs::{Action, Cmd, Kind, PLAYER_MAXS, PLAYER_MINS, Rec};
 use region_locks::Pass;
@@ -31,7 +33,7 @@ pub(crate) const FIRST: Rec = Rec {
     state: 0,
 };
 
-/// A player at rest in the same leaf, in slot 1.
+/// A player at rest in the same leaves, in slot 1.
 pub(crate) const NEAR: Rec = Rec {
     id: 1,
     kind: Kind::Player,
@@ -71,6 +73,19 @@ pub(crate) const FAR: Rec = Rec {
     state: 0,
 };
 
+/// A player at rest in the last two leaves of a tree of depth 5, in slot 0.
+pub(crate) const LAST: Rec = Rec { id: 0, ..FAR };
+
+/// A player at rest in the same leaves, in slot 1.
+pub(crate) const BY_LAST: Rec = Rec {
+    origin: Vec3 {
+        x: -85_504,
+        y: -98_304,
+        z: 6_144,
+    },
+    ..FAR
+};
+
 /// A command of 50 ms without a wish.
 pub(crate) fn plain(slot: u8) -> Cmd
     requires { slot < 64 }
@@ -102,20 +117,30 @@ fn arena() -> Result<Aabb, Fail> {
     Ok(Aabb::new(lo, hi).ok_or("a box")?)
 }
 
-/// The world of two players in one leaf.
-pub(crate) fn near_world(alloc: Global) -> Result<World, Fail>
+/// The world of two players in the same leaves of a tree of this depth.
+pub(crate) fn near_world(alloc: Global, depth: u8) -> Result<World, Fail>
+    requires { IsTreeDepth depth }
     ensures { IfOk result (λ w. live_in w.records ≡ FIRST ∷ NEAR ∷ []) }
 {
     let bounds = arena()?;
-    Ok(World::new(alloc, &bounds, &[FIRST, NEAR])?)
+    Ok(World::new(alloc, &bounds, depth, &[FIRST, NEAR])?)
 }
 
-/// The world of two players in two leaves.
-pub(crate) fn far_world(alloc: Global) -> Result<World, Fail>
+/// The world of two players that have no leaf in common.
+pub(crate) fn far_world(alloc: Global, depth: u8) -> Result<World, Fail>
+    requires { IsTreeDepth depth }
     ensures { IfOk result (λ w. live_in w.records ≡ FIRST ∷ FAR ∷ []) }
 {
     let bounds = arena()?;
-    Ok(World::new(alloc, &bounds, &[FIRST, FAR])?)
+    Ok(World::new(alloc, &bounds, depth, &[FIRST, FAR])?)
+}
+
+/// The world of two players in the last two leaves of a tree of depth 5.
+pub(crate) fn last_world(alloc: Global) -> Result<World, Fail>
+    ensures { IfOk result (λ w. live_in w.records ≡ LAST ∷ BY_LAST ∷ []) }
+{
+    let bounds = arena()?;
+    Ok(World::new(alloc, &bounds, MOST_DEPTH, &[LAST, BY_LAST])?)
 }
 
 /// The world is shared by two passes with room for so many entries each.

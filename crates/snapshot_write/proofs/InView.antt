@@ -14,6 +14,7 @@ use Rattle.entity_recs.specs.Bodies.{abs_of}
 use Rattle.world_tree.specs.Live.{record_at, live_in, ids_of, AreEntries}
 use Rattle.world_tree.proofs.Kept.{few_live}
 use Rattle.entity_recs.specs.declared.limits.TheConstants.{IDS}
+use Rattle.snapshot_write.specs.declared.reply_buf.TheConstants.{REPLY_ROOM}
 use Rattle.snapshot_write.specs.declared.seen.TheConstants.{MOST_SEEN}
 use Rattle.snapshot_write.specs.Snapshots.{sight, view_of, entity_bytes, is_in_view, in_view_at, in_view, is_seen, seen_by}
 
@@ -127,7 +128,7 @@ bytes_left view me records k = flat_map entity_bytes (in_view view me (drop k re
 
 -- the bytes put so far and those that are left are all, and there is room for them
 pub record KeepsPushing (records : List (Option Rec)) (me : ℕ) (view : Bounds) (k : ℕ) (out all : List ℕ) : Type 0 where
-  pub room : length out + 16 * length (in_view view me (drop k (live_in records))) ≤ 4123
+  pub room : length out + 16 * length (in_view view me (drop k (live_in records))) ≤ REPLY_ROOM
   pub bytes : out ++ bytes_left view me (live_in records) k ≡ all
 
 module _ (records : List (Option Rec)) (ids : List ℕ) (k d me : ℕ) (view : Bounds) (entries : AreEntries records) (are : ids ≡ ids_of records) (below : k < length ids) where
@@ -177,7 +178,7 @@ module _ (records : List (Option Rec)) (ids : List ℕ) (k d me : ℕ) (view : B
   }
 
   -- there is room for one that is seen
-  pub room_for_one : (r : Rec) (out all : List ℕ) → in_view_at view me (record_at records (get_or ids k d)) ≡ Some r → KeepsPushing records me view k out all → length out + 16 ≤ 4123
+  pub room_for_one : (r : Rec) (out all : List ℕ) → in_view_at view me (record_at records (get_or ids k d)) ≡ Some r → KeepsPushing records me view k out all → length out + 16 ≤ REPLY_ROOM
   room_for_one r out all seen keeps = omega (arith, ap (λ (l : List Rec). length l) (seen-first r seen), keeps.room)
 
 -- ---- a player doesn't see itself, so it sees few

@@ -202,7 +202,7 @@ own_shown me slot is counts =
       state = refl;
     }
 
-shown_in_range : (records : List (Option Rec)) (frame slot : ℕ) (me : Rec) → length records ≡ 256 → AreEntries records → frame < 2 ^ 32
+shown_in_range : (records : List (Option Rec)) (frame slot : ℕ) (me : Rec) → length records ≡ IDS → AreEntries records → frame < 2 ^ 32
     → slot < 64 → record_at records slot ≡ Some me → HasCounts me → IsSnapshot (shown frame me (live_in records))
 shown_in_range records frame slot me places entries fits small at counts =
     let entry = entries slot me at in
@@ -219,7 +219,7 @@ shown_in_range records frame slot me places entries fits small at counts =
     }
 
 -- the snapshot of a player of a world is read as what it shows
-pub written_read : (records : List (Option Rec)) (frame slot : ℕ) (me : Rec) → length records ≡ 256 → AreEntries records → frame < 2 ^ 32
+pub written_read : (records : List (Option Rec)) (frame slot : ℕ) (me : Rec) → length records ≡ IDS → AreEntries records → frame < 2 ^ 32
     → slot < 64 → record_at records slot ≡ Some me → HasCounts me
     → reading (snapshot frame me (live_in records)) ≡ Ok (shown frame me (live_in records))
 written_read records frame slot me places entries fits small at counts =
@@ -358,7 +358,7 @@ other_agrees records entries a b s t to other p shows same =
 
 pub written_out : (records : List (Option Rec)) (frame slot : ℕ) (me : Rec) (out : List ℕ) → record_at records slot ≡ Some me
     → IfSome (record_at records slot) (λ r. out ≡ snapshot frame r (live_in records))
-    → length records ≡ 256 → AreEntries records → frame < 2 ^ 32 → slot < 64 → HasCounts me
+    → length records ≡ IDS → AreEntries records → frame < 2 ^ 32 → slot < 64 → HasCounts me
     → IfSome (record_at records slot) (λ r. reading out ≡ Ok (shown frame r (live_in records)))
 written_out records frame slot me out at written places entries fits small counts =
     let here = subst (λ (place : Option Rec). IfSome place (λ r. out ≡ snapshot frame r (live_in records))) at written in

@@ -1,8 +1,10 @@
 -- How the parts of a snapshot come together.
 use Rattle.std.proofs.Common.{◌≡◌, ℕ, ◌+◌, ◌*◌, ◌≤◌, List, [], ◌++◌, length, Option, Some, IfSome, sym, ap, ◌∙◌, subst, arith}
 use Rattle.arena_geo.specs.Bounds.{Bounds}
+use Rattle.entity_recs.specs.declared.limits.TheConstants.{IDS}
 use Rattle.entity_recs.specs.declared.rec.Rec.{Rec}
 use Rattle.world_tree.specs.Live.{record_at, live_in, IsEntry, AreEntries}
+use Rattle.snapshot_write.specs.declared.reply_buf.TheConstants.{REPLY_ROOM}
 use Rattle.snapshot_write.specs.declared.seen.TheConstants.{MOST_SEEN}
 use Rattle.snapshot_write.specs.Snapshots.{view_of, in_view, snapshot, own_bytes, seen_by, seen_bytes}
 use Rattle.snapshot_write.proofs.InView.{few_are_seen}
@@ -33,8 +35,8 @@ seen_is records slot id place me view up entries is_view =
     ∙ ap (λ n. in_view (view_of me.origin) n (live_in records)) (up.same ∙ sym (entry_at records slot id place me up entries).own_id)
 
 -- there is room for it
-pub room_for : (records : List (Option Rec)) (slot id : ℕ) (place : Option Rec) (me : Rec) (seen : List Rec) (own : ℕ) → IsLookedUp records slot id place me → length records ≡ 256
-    → seen ≡ seen_by me (live_in records) → own ≡ 41 → own + 2 + 16 * length seen ≤ 4123
+pub room_for : (records : List (Option Rec)) (slot id : ℕ) (place : Option Rec) (me : Rec) (seen : List Rec) (own : ℕ) → IsLookedUp records slot id place me → length records ≡ IDS
+    → seen ≡ seen_by me (live_in records) → own ≡ 41 → own + 2 + 16 * length seen ≤ REPLY_ROOM
 room_for records slot id place me seen own up places is length_is =
     let few : length (seen_by me (live_in records)) ≤ MOST_SEEN = few_are_seen me records slot places (at_place records slot id place me up) in
     let same : length seen ≡ length (seen_by me (live_in records)) = ap length is in

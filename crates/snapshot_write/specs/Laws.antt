@@ -66,5 +66,5 @@ pub record AgreeOnPlaces : Type 0 where
 
 -- the numbers that the lists of bytes and of entities cite
 pub record LimitsAreKnown : Type 0 where
-  pub reply_room : REPLY_ROOM ≡ 4123
-  pub most_seen : MOST_SEEN ≡ 255
+  pub reply_room : REPLY_ROOM ≡ 8219
+  pub most_seen : MOST_SEEN ≡ 511

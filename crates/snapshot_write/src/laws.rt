@@ -38,7 +38,7 @@ pub fn snapshots_agree_on_places()
     ensures { laws.AgreeOnPlaces }
 {}
 
-/// A list of bytes has room for 4,123, and a list of entities for 255.
+/// A list of bytes has room for 8,219, and a list of entities for 511.
 pub fn limits_are_known()
     ensures { laws.LimitsAreKnown }
 {}

@@ -27,7 +27,7 @@ const NOTHING: Seen = Seen {
 };
 
 /// The entities that a snapshot shows, at most [`MOST_SEEN`] of them. It takes no memory: it holds the room for all of
-/// them, about 5 KB.
+/// them, about 8 KB.
 #[derive(Drop)]
 pub struct SeenList {
     entities: [Seen; MOST_SEEN],

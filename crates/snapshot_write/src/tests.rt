@@ -1,14 +1,18 @@
 ghost use Rattle.std.specs.Prelude.{◌≡◌, ◌<◌, ◌≤◌};
 ghost use Rattle.arena_geo.specs.Vectors.{IsNear};
+ghost use Rattle.entity_recs.specs.declared.limits.TheConstants.{IDS};
 ghost use Rattle.entity_recs.specs.Records.{IsRecord};
 
 use super::*;
 use arena_geo::{Aabb, Vec3};
-use entity_recs::{ITEM_MAXS, ITEM_MINS, Kind, PLAYER_MAXS, PLAYER_MINS, Rec};
+use entity_recs::{IDS, ITEM_MAXS, ITEM_MINS, Kind, PLAYER_MAXS, PLAYER_MINS, Rec};
 use std::alloc::AllocGlobal;
 use std::process::Abort;
 use std::test::Fail;
 use world_tree::World;
+
+/// The depth of the tree of a world.
+const DEPTH: u8 = 4;
 
 /// What the only player sees, here and at rest, in frame 0: the arena's row of a join.
 const ALONE: &[u8] =
@@ -85,7 +89,7 @@ fn player_that_moved() -> Rec
 /// Ammunition, which was taken where its state isn't 0.
 fn ammo(id: u16, origin: Vec3, state: u64) -> Rec
     requires least { 64 ≤ id }
-    requires most { id ≤ 255 }
+    requires most { id < IDS }
     requires near { IsNear 1048576 origin }
     ensures { IsRecord result }
 {
@@ -108,7 +112,7 @@ fn ammo(id: u16, origin: Vec3, state: u64) -> Rec
 /// A gem that is there.
 fn gem(id: u16, origin: Vec3) -> Rec
     requires least { 64 ≤ id }
-    requires most { id ≤ 255 }
+    requires most { id < IDS }
     requires near { IsNear 1048576 origin }
     ensures { IsRecord result }
 {
@@ -131,7 +135,7 @@ fn gem(id: u16, origin: Vec3) -> Rec
 /// A lift that is 12,800 long on x, 25,600 on y and 2,560 on z.
 fn lift(id: u16, origin: Vec3) -> Rec
     requires least { 64 ≤ id }
-    requires most { id ≤ 255 }
+    requires most { id < IDS }
     requires near { IsNear 524288 origin }
     ensures { IsRecord result }
 {
@@ -156,7 +160,7 @@ fn empty_world(rt: &impl AllocGlobal) -> Result<World, Fail> {
     let bounds = Aabb::new(at(-524_288, -524_288, 0), at(524_288, 524_288, 524_288)).ok_or(
         "a box",
     )?;
-    Ok(World::new(rt.alloc(), &bounds, &[])?)
+    Ok(World::new(rt.alloc(), &bounds, DEPTH, &[])?)
 }
 
 /// Puts in a record, in place of the one with its id where there is one.
@@ -234,13 +238,13 @@ fn a_snapshot_follows_a_player_that_moves_leaves_and_comes_back(
     expect(&rt, &world, 0, AT_THE_EDGE.as_slice())
 }
 
-/// A world with 64 players at one place and 192 items at another.
+/// A world with 64 players at one place and 448 items at another.
 fn full_world(rt: &impl AllocGlobal) -> Result<World, Fail> {
     let mut world = empty_world(rt)?;
     for id in 0..64 {
         put(&mut world, player(id, at(0, 0, 6_144)));
     }
-    for id in 64..256 {
+    for id in 64..IDS as u16 {
         put(&mut world, ammo(id, at(0, 0, 0), 0));
     }
     Ok(world)
@@ -255,12 +259,27 @@ fn expect_full(rt: &impl Abort, reply: &mut ReplyBuf) {
     assert_eq!(rt; reply.as_slice(), [7].as_slice());
 }
 
+/// Expects that the player in slot 63 sees the 63 other players and each thing.
+fn expect_all_seen(rt: &impl Abort, bytes: &[u8]) {
+    let read = read_snapshot(bytes);
+    assert!(rt; read.is_ok());
+    if let Ok(snapshot) = read {
+        let seen = snapshot.seen.as_slice();
+        assert_eq!(rt; seen.len(), 511);
+        for (place, entity) in seen.iter().enumerate() {
+            let id = if place < 63 { place } else { place + 1 };
+            assert_eq!(rt; usize::from(entity.id), id);
+        }
+    }
+}
+
 #[test]
 fn the_longest_snapshot_fits(rt: HostRuntime) -> Result<(), Fail> {
     let mut reply = ReplyBuf::new(rt.alloc())?;
     let world = full_world(&rt)?;
     assert!(rt; world.get(63).is_some());
     write_snapshot(&world, 0, 63, &mut reply);
+    expect_all_seen(&rt, reply.as_slice());
     expect_full(&rt, &mut reply);
     Ok(())
 }
@@ -280,7 +299,7 @@ const FAULTS: &[(&[(usize, u8)], SnapFault)] = &[
     (&[(31, 101)], SnapFault::Count),
     (&[(32, 9)], SnapFault::Count),
     // The last id, a kind, a status, and the status of a lift.
-    (&[(76, 1)], SnapFault::Count),
+    (&[(75, 0), (76, 2)], SnapFault::Count),
     (&[(45, 6)], SnapFault::Count),
     (&[(62, 2)], SnapFault::Count),
     (&[(46, 0)], SnapFault::Count),
@@ -352,6 +371,23 @@ fn a_snapshot_has_as_many_bytes_as_it_says(rt: HostRuntime) {
         read_snapshot(ALONE_AND_A_BYTE).err(),
         Some(SnapFault::Long)
     );
+}
+
+/// Expects that the last entity of a snapshot has this id.
+fn expect_last_id(rt: &impl Abort, bytes: &[u8], id: u16) {
+    let read = read_snapshot(bytes);
+    assert!(rt; read.is_ok());
+    if let Ok(snapshot) = read {
+        let last = snapshot.seen.as_slice().last();
+        assert_eq!(rt; last.map(|entity| entity.id), Some(id));
+    }
+}
+
+#[test]
+fn the_last_id_is_511(rt: HostRuntime) {
+    expect_last_id(&rt, &changed(&[(75, 0xff), (76, 1)]), 511);
+    let beyond = changed(&[(75, 0), (76, 2)]);
+    assert_eq!(rt; read_snapshot(&beyond).err(), Some(SnapFault::Count));
 }
 
 /// [`AMONG_THINGS`] with these bytes at their places.

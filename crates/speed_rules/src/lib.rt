@@ -2,6 +2,7 @@
 #![tactic(auto)]
 
 pub use acceleration::accelerate;
+pub use arithmetic::{length, scale};
 pub use constants::{
     ACCELERATE, FRICTION, GRAVITY, JUMP_SPEED, MAX_AIR_SPEED, MAX_SPEED, MAX_UNCLAMPED,
     MAX_VELOCITY, SECOND, STOP_SPEED, UNIT,

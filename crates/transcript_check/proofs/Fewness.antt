@@ -1,6 +1,5 @@
 -- A frame has few lines.
-use Rattle.std.proofs.Common.{◌≡◌, ℕ, ◌+◌, ◌*◌, ◌≤◌, ◌<◌, List, [], ◌∷◌, ◌++◌, length, map, filter, Option, Some, None, Bool, refl, sym, ap, ◌∙◌, subst, inl, inr, arith, length-append}
-use Rattle.std.proofs.lemmas.Bool.{cases_Bool}
+use Rattle.std.proofs.Common.{◌≡◌, ℕ, ◌+◌, ◌*◌, ◌≤◌, List, [], ◌∷◌, ◌++◌, length, map, Option, sym, ap, ◌∙◌, subst, arith, length-append}
 use Rattle.std.proofs.lemmas.List.{length-map}
 use Rattle.std.proofs.lemmas.List.Sorted.{length_permutation}
 use Rattle.entity_recs.specs.declared.rec.Rec.{Rec}
@@ -10,17 +9,18 @@ use Rattle.entity_recs.specs.Histories.{Item}
 use Rattle.move_journal.specs.Merges.{IsMerge, HasNumbersApart, history_of}
 use Rattle.move_journal.proofs.JournalLaws.{merges_have_whole_histories}
 use Rattle.arena_map.specs.Maps.{MapView, IsMap}
+use Rattle.arena_map.specs.Validity.{IsValidWorld}
 use Rattle.packet_read.specs.declared.arrival.Arrival.{Arrival}
-use Rattle.client_ports.specs.Lists.{Lists, no_lists}
-use Rattle.client_ports.specs.States.{State, IsServerState}
+use Rattle.client_ports.specs.Lists.{no_lists}
+use Rattle.client_ports.specs.States.{State}
 use Rattle.client_ports.specs.Receiving.{Receiving, receiving_of, after_arrival, after_arrivals, received}
 use Rattle.client_ports.proofs.Rooms.{HasRoomLeft, left_after}
-use Rattle.world_tree.specs.Live.{live_in}
-use Rattle.world_physics.specs.LiftSteps.{is_player}
+use Rattle.world_tree.specs.Live.{live_in, AreEntries}
 use Rattle.plain_server.specs.Entries.{IsReception}
 use Rattle.plain_server.specs.Frames.{received_in, state_after_tick, moved_by, IsRightAfter}
 use Rattle.plain_server.specs.Replies.{players_in}
 use Rattle.plain_server.proofs.Frames.{moved_by_is}
+use Rattle.plain_server.proofs.SlotPlayers.{players_are_first, few_first}
 use Rattle.out_text.specs.FrameLines.{no_line, joined_line, did_line, to_line, to_lines, lines_with}
 
 -- a merge of moves has an entry for each of them
@@ -42,21 +42,12 @@ lists-few : (map_view : MapView) (frame : ℕ) (state : State) (arrivals : List 
 unfolding received
 lists-few map_view frame state arrivals = left-all 0 map_view frame (receiving_of state no_lists) 0 arrivals (record { moves = omega arith; joined = omega arith; refused = omega arith })
 
-fewer : (test : Rec → Bool) (rs : List Rec) → length (filter test rs) ≤ length rs
-fewer test [] = omega arith
-fewer test (r ∷ rs) = let rest = fewer test rs in elim (cases_Bool (test r)) [ inl e ↦ rw e (omega (arith, rest)) | inr e ↦ rw e (omega (arith, rest)) ]
-
-live-few : (records : List (Option Rec)) → length (live_in records) ≤ length records
-live-few [] = omega arith
-live-few (None ∷ records) = let rest = live-few records in omega (arith, rest)
-live-few (Some r ∷ records) = let rest = live-few records in omega (arith, rest)
-
-replies-few : (frame : ℕ) (records : List (Option Rec)) → length (to_lines frame records) ≤ length records
-replies-few frame records =
+-- each player gets one reply, and there are at most 64 players
+replies-few : (map_view : MapView) (frame : ℕ) (records : List (Option Rec)) → IsValidWorld map_view records → length (to_lines frame records) ≤ 64
+replies-few map_view frame records valid =
+    let entries : AreEntries records = λ id r at. record { is_record = (valid.each id r at).is_record; own_id = (valid.each id r at).own_id } in
     let one = length-map (players_in records) (to_line frame (live_in records)) in
-    let two = fewer (λ (r : Rec). is_player r.kind) (live_in records) in
-    let three = live-few records in
-    omega (arith, one, two, three)
+    omega (arith, one, ap length (players_are_first records entries), few_first records 64)
 
 -- a frame has at most 2,000 lines
 pub lines-few : (map_view : MapView) (frame : ℕ) (state : State) (arrivals : List Arrival) (journal : List Entry) → IsMap map_view → length arrivals ≤ 512 → IsReception map_view (received_in map_view frame state arrivals)
@@ -69,12 +60,11 @@ lines-few map_view frame state arrivals journal is_map few pass moves right =
     let joined = has.joined in
     let count = entries_of_merge journal r.lists.moves pass.apart right.merge in
     let records = (moved_by map_view r journal).records in
-    let places = (moved_by_is map_view r journal is_map pass).places in
-    let shown = replies-few frame records in
+    let shown = replies-few map_view frame records (moved_by_is map_view r journal is_map pass).fits.valid in
     let nos = length-map r.lists.refused no_line in
     let joins = length-map r.lists.joined joined_line in
     let dids = length-map journal did_line in
     let a = length-append (map no_line r.lists.refused) (map joined_line r.lists.joined) in
     let b = length-append (map no_line r.lists.refused ++ map joined_line r.lists.joined) (map did_line journal) in
     let c = length-append (map no_line r.lists.refused ++ map joined_line r.lists.joined ++ map did_line journal) (to_lines frame records) in
-    omega (arith, few, refused, joined, count, moves, places, shown, nos, joins, dids, a, b, c)
+    omega (arith, few, refused, joined, count, moves, shown, nos, joins, dids, a, b, c)

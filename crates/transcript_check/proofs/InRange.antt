@@ -16,52 +16,14 @@ use Rattle.entity_recs.specs.Worlds.{others_of, record_or_nobody}
 use Rattle.entity_recs.specs.Histories.{entry_of}
 use Rattle.arena_map.specs.Maps.{MapView, IsMap}
 use Rattle.arena_map.specs.Validity.{IsValidWorld}
-use Rattle.arena_actions.specs.Lawful.Moves.{replied_rise, replies_have_origin}
 use Rattle.world_tree.specs.Live.{record_at}
-use Rattle.world_tree.proofs.Links.{id-below}
 use Rattle.plain_server.specs.RecordsById.{world_of}
 use Rattle.plain_server.specs.Moving.{HasLivePlayer, HasSmallNumber, effect_among}
-use Rattle.plain_server.specs.Entries.{IsReported}
-use Rattle.plain_server.proofs.Players.{live_record}
-use Rattle.plain_server.proofs.NewStates.{IsOfItem}
-use Rattle.plain_server.proofs.Others.{others_rise}
-use Rattle.plain_server.proofs.Takes.{of_items, few_got, got_are}
-use Rattle.plain_server.proofs.Moves.{moved_is_valid}
+use Rattle.plain_server.proofs.Reports.{reported_one}
 use Rattle.out_text.specs.FrameLines.{did_line}
 use Rattle.out_text.specs.OutLines.{OutLine, spelled, printed, text_of}
 use Rattle.out_text.proofs.Lengths.{journal-long}
 use Rattle.transcript_check.specs.Moves.{move_line, IsReadable}
-
--- the ids of items among records have 16 bits
-small_ids : (map : MapView) (records : List (Option Rec)) (states : List NewState) → IsValidWorld map records → All (IsOfItem records) states
-    → AllByRecursion (λ id. id < 2 ^ 16) (map_list (λ (s : NewState). s.id) states)
-small_ids map records [] valid items = tt
-small_ids map records (s ∷ states) valid items =
-    let item = All-head (IsOfItem records) s states items in
-    let here = valid.each s.id item.item item.at in
-    let below = id-below item.item here.is_record in
-    (omega (arith, below, here.own_id), small_ids map records states valid (All-tail (IsOfItem records) s states items))
-
--- the entry of a live player's command is in range
-pub reported_one : (map : MapView) (records : List (Option Rec)) (place : ℕ) (c : Command) → IsMap map → IsValidWorld map records → HasLivePlayer records c → HasSmallNumber c
-    → IsReported place (entry_of place c (effect_among map records c))
-reported_one map records place c is_map valid has small =
-    let found = live_record records c.slot has.live in
-    let me = moved_is_valid map records c found.r is_map valid has.slot found.at in
-    let own = λ (id : ℕ) (r : Rec) (at : record_at records id ≡ Some r). (valid.each id r at).own_id in
-    let e = effect_among map records c in
-    let origin : e.reply.origin ≡ e.me.origin = replies_have_origin map (record_or_nobody (record_at records c.slot)) (others_of (world_of records) c.slot) c in
-    record {
-      place_is = refl;
-      slot = has.slot;
-      seq = small;
-      origin = subst (IsNear 1048576) (sym origin) me.is_record.origin;
-      got = record {
-        few = few_got map records c own;
-        rising = replied_rise map (record_or_nobody (record_at records c.slot)) (others_of (world_of records) c.slot) c (others_rise records c.slot own);
-        small = subst (AllByRecursion (λ id. id < 2 ^ 16)) (sym (got_are map records c own)) (small_ids map records e.states valid (of_items map records c own));
-      };
-    }
 
 near_fits : (v : Vec3) → IsNear 1048576 v → Fits v
 near_fits v near = record {

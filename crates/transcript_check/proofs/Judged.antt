@@ -2,9 +2,11 @@
 use Rattle.std.proofs.Common.{◌≡◌, ℕ, ◌+◌, ◌*◌, ◌≤◌, ◌<◌, ◌^◌, Bool, true, false, List, [], ◌∷◌, ◌++◌, length, map as map_list, get_or, take, drop, suc, zero, Option, Some, None, IfSome, IsSome, refl, sym, ap, ◌∙◌, subst, append-nil, arith}
 use Rattle.std.specs.List.{AllByRecursion}
 use Rattle.edge_io.specs.declared.source.Source as sources
+use Rattle.edge_io.specs.Counts.{HasRisen}
 use Rattle.edge_io.specs.Lines.{ahead}
 use Rattle.arena_map.specs.Maps.{MapView}
 use Rattle.packet_read.specs.declared.arrival.Arrival.{Arrival}
+use Rattle.demo_lines.specs.declared.demo_stop.DemoStop.{DemoStop}
 use Rattle.demo_lines.specs.declared.event.Event.{Event}
 use Rattle.demo_lines.specs.declared.stage.Stage.TheVariants.{Ended}
 use Rattle.demo_lines.specs.Known.{Reading, start_within, is_over}
@@ -17,9 +19,9 @@ use Rattle.demo_lines.proofs.Ends.{after-over, events_of-over}
 use Rattle.out_text.specs.Collecting.{Frames, collected, frames_within}
 use Rattle.out_text.proofs.Fewness.{frames_are_few_of}
 use Rattle.out_text.proofs.SmallFrames.{IsSmallFrame, frames_are_small_of}
-use Rattle.transcript_check.specs.Reading.{ahead_of, Misses}
+use Rattle.transcript_check.specs.Reading.{ahead_of, Misses, ReadFails}
 use Rattle.transcript_check.specs.Recorded.{ReadsRecording}
-use Rattle.transcript_check.specs.Verdicts.{IsShort, IsVerdict, HasEndAt, IsJudged, Judges}
+use Rattle.transcript_check.specs.Verdicts.{IsShort, IsVerdict, HasEndAt, IsJudged, Judges, StopsChecking}
 use Rattle.transcript_check.specs.declared.verdict.Verdict.{Verdict}
 
 short-frames : (frames : List (List Arrival)) → AllByRecursion IsSmallFrame frames → AllByRecursion IsShort frames
@@ -87,3 +89,13 @@ module _ {S : Type 0} (s : sources.Ghosts S) (limit : ℕ) (source source' : S) 
         (subst (λ (d : DemoReaderView). IfSome (ahead_of s d source') (λ rest. IsVerdict arena frames.closed rest demo.reading.lines verdict)) taken missed.missed);
     reads = missed.uncounted ∙ read.uncounted;
   }
+
+-- a read that fails while the lines after the recording are compared
+pub stops-comparing : {S : Type 0} (s : sources.Ghosts S) (limit : ℕ) (source mid new : S) (demo : DemoReaderView) (recorded : Frames) (stop : DemoStop)
+    → ReadsRecording s limit source mid demo recorded → ReadFails s mid new stop → StopsChecking s limit source new stop
+stops-comparing s limit source mid new demo recorded stop read fails =
+    subst (StopsChecking s limit source new) (sym fails.is) (record {
+      cause = subst (λ (n : ℕ). HasRisen n (s.faults new)) read.uncounted fails.cause;
+      later = subst (λ (n : ℕ). n ≤ s.faults new) read.uncounted fails.later;
+      fails = λ sure. fails.fails (read.keeps sure);
+    })

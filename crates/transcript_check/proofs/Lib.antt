@@ -18,3 +18,4 @@ pub mod FramesRead
 pub mod Judged
 pub mod NextFrames
 pub mod OutputsChecked
+pub mod VerdictsOnOutputs

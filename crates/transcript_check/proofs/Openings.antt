@@ -17,13 +17,13 @@ records-with w [] = refl
 records-with w (r ∷ rs) = records-with (with_record w r) rs
 
 -- the world that is made of the map's parts has the opening records
-pub opened : (map : MapView) (bounds : Bounds) (things : List Rec) (w : WorldView) → bounds ≡ map.bounds → things ≡ entities_of map → w ≡ with_records (empty_world bounds) things
-    → w.records ≡ (opening map).records
+pub opened : (map : MapView) (bounds : Bounds) (depth : ℕ) (things : List Rec) (w : WorldView) → bounds ≡ map.bounds → things ≡ entities_of map
+    → w ≡ with_records (empty_world bounds depth) things → w.records ≡ (opening map).records
 unfolding opening
-opened map bounds things w bounds_are things_are is =
+opened map bounds depth things w bounds_are things_are is =
     ap (λ (v : WorldView). v.records) is
-    ∙ ap (λ (rs : List Rec). (with_records (empty_world bounds) rs).records) things_are
-    ∙ records-with (empty_world bounds) (entities_of map)
+    ∙ ap (λ (rs : List Rec). (with_records (empty_world bounds depth) rs).records) things_are
+    ∙ records-with (empty_world bounds depth) (entities_of map)
 
 -- before the first frame nobody is joined
 nobody-joined : (map : MapView) → (opening map).clients ≡ no_clients

@@ -4,6 +4,7 @@ use Rattle.std.specs.Io.KnownBytes.{Consumes}
 use Rattle.std.proofs.KnownBytes.{Consumes-nil, Consumes-trans}
 use Rattle.edge_io.specs.declared.source.Source as sources
 use Rattle.edge_io.specs.Counts.{HasRisen}
+use Rattle.demo_lines.specs.declared.rest.TheConstants.{LONGEST_REST}
 use Rattle.demo_lines.specs.declared.demo_stop.DemoStop.{DemoStop}
 use Rattle.demo_lines.specs.Reads.{DemoReaderView}
 use Rattle.demo_lines.specs.Rest.{HasRest, HasNoRestLine}
@@ -78,7 +79,7 @@ module _ {S : Type 0} (s : sources.Ghosts S) where
   misses-other a b d e given l one other = record { missed = missed-other (ahead_of s d a) (ahead_of s e b) given l one.gives other; uncounted = one.on.uncounted }
 
   -- none was there
-  pub misses-none : (a b : S) (d : DemoReaderView) (l : OutLine) → Misses s a b d HasNoRestLine → length (spelled l) ≤ 16500 → Misses s a b d (λ bytes. BeginsWith bytes (printed l) → ⊥)
+  pub misses-none : (a b : S) (d : DemoReaderView) (l : OutLine) → Misses s a b d HasNoRestLine → length (spelled l) ≤ LONGEST_REST → Misses s a b d (λ bytes. BeginsWith bytes (printed l) → ⊥)
   misses-none a b d l none short = record { missed = missed-none (ahead_of s d a) l none.missed short; uncounted = none.uncounted }
 
 -- the first of these lines were read, and those are left

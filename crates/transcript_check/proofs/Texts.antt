@@ -6,6 +6,7 @@ use Rattle.std.specs.Bool.{OnTrue, OnFalse}
 use Rattle.std.specs.Io.KnownBytes.{Consumes}
 use Rattle.std.proofs.lemmas.List.Elements.{All-head, All-tail}
 use Rattle.edge_io.specs.Lines.{HasNoLineFeed}
+use Rattle.demo_lines.specs.declared.rest.TheConstants.{LONGEST_REST}
 use Rattle.demo_lines.specs.Rest.{GivesRestLine, HasNoRestLine}
 use Rattle.out_text.specs.OutLines.{OutLine, spelled, printed, text_of}
 use Rattle.out_text.specs.Transcripts.{BeginsWith}
@@ -55,7 +56,7 @@ read-one a b given l gives is =
     subst (Consumes a b) (ap (λ t. t ++ 10 ∷ []) is ∙ sym (text_of-one l)) gives.consumed
 
 -- no line was there
-pub missed-none : (a : Option (List ℕ)) (l : OutLine) → IfSome a HasNoRestLine → length (spelled l) ≤ 16500 → IfSome a (λ bytes. BeginsWith bytes (printed l) → ⊥)
+pub missed-none : (a : Option (List ℕ)) (l : OutLine) → IfSome a HasNoRestLine → length (spelled l) ≤ LONGEST_REST → IfSome a (λ bytes. BeginsWith bytes (printed l) → ⊥)
 missed-none None l none short = tt
 missed-none (Some bytes) l none short = λ begins. none (spelled l) begins.after (one_line l) short (begins.is ∙ printed-before l begins.after)
 

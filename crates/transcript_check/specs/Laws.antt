@@ -1,12 +1,14 @@
 -- What holds of all transcripts.
-use Rattle.std.specs.Prelude.{◌≡◌, ℕ, List, Some, None}
+use Rattle.std.specs.Prelude.{◌≡◌, ℕ, ◌≤◌, List, Some, None}
+use Rattle.arena_map.specs.declared.limits.TheConstants.{MOST_FRAMES}
 use Rattle.arena_map.specs.Maps.{MapView}
 use Rattle.packet_read.specs.declared.arrival.Arrival.{Arrival}
 use Rattle.demo_lines.specs.Bytes.{fault, map_of}
 use Rattle.out_text.specs.Collecting.{frames_of}
 use Rattle.out_text.specs.Output.{IsOutput}
 use Rattle.out_text.specs.Transcripts.{BeginsWith, IsTranscript}
-use Rattle.transcript_check.specs.Verdicts.{IsRight, IsWrongAt}
+use Rattle.transcript_check.specs.declared.verdict.Verdict.TheVariants.{Right, Wrong}
+use Rattle.transcript_check.specs.Verdicts.{IsRight, IsWrongAt, IsJudged}
 
 -- the bytes begin with an output of a recording
 pub record BeginsWithOutput (workers : ℕ) (recording bytes : List ℕ) : Type 0 where
@@ -31,3 +33,11 @@ abbrev pub RightOnesAreOutputs : Type 0
 RightOnesAreOutputs =
     (workers : ℕ) (recording : List ℕ) (map : MapView) (rest : List ℕ) → (workers ≡ 1 → ⊥) → fault recording ≡ None
     → map_of recording ≡ Some map → IsTranscript map (frames_of recording) rest → BeginsWithOutput workers recording rest
+
+-- what follows a recording that was judged right begins with an output of it, and what follows one that was judged wrong
+-- begins with none; however few frames there may be where it was judged, it is an output of `play`
+pub record VerdictsAreOnOutputs : Type 0 where
+  pub right : (workers limit count moves : ℕ) (bytes : List ℕ) (is : IsJudged limit (Right count moves) bytes)
+      → (workers ≡ 1 → ⊥) → limit ≤ MOST_FRAMES → BeginsWithOutput workers bytes is.rest
+  pub wrong : (workers limit line : ℕ) (bytes : List ℕ) (is : IsJudged limit (Wrong line) bytes) → limit ≤ MOST_FRAMES
+      → BeginsWithOutput workers bytes is.rest → ⊥

@@ -7,6 +7,7 @@ use Rattle.entity_recs.specs.Commands.{Command}
 use Rattle.entity_recs.specs.Histories.{entry_of, run}
 use Rattle.move_journal.specs.Merges.{IsRight, history_of}
 use Rattle.edge_io.specs.declared.source.Source as sources
+use Rattle.demo_lines.specs.declared.rest.TheConstants.{LONGEST_REST}
 use Rattle.demo_lines.specs.Reads.{DemoReaderView}
 use Rattle.arena_map.specs.Maps.{MapView}
 use Rattle.arena_actions.specs.Outcomes.{outcome_on}
@@ -40,7 +41,7 @@ move_line map records c = DidLine (did_of (entry_of 0 c (effect_among map record
 -- the line is one that can be read: it is in range, and not too long
 pub record IsReadable (line : OutLine) : Type 0 where
   pub in_range : IsInRange line
-  pub short : length (spelled line) ≤ 16500
+  pub short : length (spelled line) ≤ LONGEST_REST
 
 -- the bytes don't begin with the line of any move that is the next one of its player
 abbrev pub IsNoMove : MapView → List (Option Rec) → List Command → List ℕ → Type 0

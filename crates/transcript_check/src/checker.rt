@@ -1,3 +1,4 @@
+ghost use Rattle.arena_actions.specs.MapActions.{map_in};
 ghost use Rattle.std.specs.Prelude.{◌≡◌, ◌+◌, ◌*◌, ◌<◌, ◌≤◌, [], ◌∷◌, length, All, map, IfOk, IfErr};
 ghost use Rattle.std.specs.List.{AllByRecursion};
 ghost use Rattle.std.specs.Bool.{OnTrue, OnFalse};
@@ -36,12 +37,12 @@ use world_tree::World;
 
 /// Runs a move of a live player, and gives its line.
 fn run_for_line(mover: &mut Mover, world: &mut World, cmd: &Cmd) -> OutLine<'static>
-    requires valid { IsValidWorld mover.old.action.map world.old.records }
+    requires valid { IsValidWorld (map_in mover.old.action) world.old.records }
     requires live { HasLivePlayer world.old.records (command_of cmd.now) }
-    ensures line { line_of result ≡ specs.move_line mover.old.action.map world.old.records (command_of cmd.now) }
+    ensures line { line_of result ≡ specs.move_line (map_in mover.old.action) world.old.records (command_of cmd.now) }
     ensures room { HasRoom (line_of result) }
     ensures records { world.new.records
-        ≡ records_after mover.old.action.map world.old.records (command_of cmd.now) }
+        ≡ records_after (map_in mover.old.action) world.old.records (command_of cmd.now) }
     ensures action { mover.new.action ≡ mover.old.action }
 {
     let reply = mover.run(world, cmd);
@@ -61,11 +62,11 @@ fn is_next_move(
     pending: &mut Pending,
     lines: &mut Lines,
 ) -> bool
-    requires valid { IsValidWorld mover.old.action.map world.old.records }
+    requires valid { IsValidWorld (map_in mover.old.action) world.old.records }
     requires live { AllByRecursion (HasLivePlayer world.old.records) pending.old }
-    ensures ok { OnTrue result (specs.ReportsMove mover.old.action.map lines.old.given world.old.records
+    ensures ok { OnTrue result (specs.ReportsMove (map_in mover.old.action) lines.old.given world.old.records
         world.new.records pending.old pending.new) }
-    ensures missed { OnFalse result (specs.ReportsNone mover.old.action.map lines.old.given world.old.records
+    ensures missed { OnFalse result (specs.ReportsNone (map_in mover.old.action) lines.old.given world.old.records
         pending.old) }
     ensures count { lines.new.count ≡ lines.old.count }
     ensures action { mover.new.action ≡ mover.old.action }
@@ -94,12 +95,12 @@ fn expect_move<S: Source>(
 ) -> Result<bool, DemoStop>
     requires over { reader.old.reading.stage ≡ Ended }
     requires may { HasRest reader.old }
-    requires valid { IsValidWorld mover.old.action.map world.old.records }
+    requires valid { IsValidWorld (map_in mover.old.action) world.old.records }
     requires live { AllByRecursion (HasLivePlayer world.old.records) pending.old }
-    ensures ok { IfOk result (λ is. OnTrue is (TakesMove S.Source mover.old.action.map source.old source.new reader.old
+    ensures ok { IfOk result (λ is. OnTrue is (TakesMove S.Source (map_in mover.old.action) source.old source.new reader.old
         reader.new world.old.records world.new.records pending.old pending.new)) }
     ensures missed { IfOk result (λ is. OnFalse is (Misses S.Source source.old source.new reader.old
-        (IsNoMove mover.old.action.map world.old.records pending.old))) }
+        (IsNoMove (map_in mover.old.action) world.old.records pending.old))) }
     ensures count { IfOk result (λ is. OnTrue is (lines.new.count ≡ counted lines.old.count 1)) }
     ensures err { IfErr result (ReadFails S.Source source.old source.new) }
     ensures action { mover.new.action ≡ mover.old.action }
@@ -122,14 +123,14 @@ fn expect_moves<S: Source>(
 ) -> Result<bool, DemoStop>
     requires over { reader.old.reading.stage ≡ Ended }
     requires may { HasRest reader.old }
-    requires valid { IsValidWorld mover.old.action.map world.old.records }
+    requires valid { IsValidWorld (map_in mover.old.action) world.old.records }
     requires live { All (HasLivePlayer world.old.records) pending.old }
     requires apart { HasNumbersApart pending.old }
     requires small { AllByRecursion HasSmallNumber pending.old }
-    ensures ok { IfOk result (λ is. OnTrue is (RunsMoves S.Source mover.old.action.map source.old source.new reader.old
+    ensures ok { IfOk result (λ is. OnTrue is (RunsMoves S.Source (map_in mover.old.action) source.old source.new reader.old
         reader.new world.old.records world.new.records pending.old lines.old.count lines.new.count)) }
     ensures missed { IfOk result (λ is. OnFalse is (Misses S.Source source.old source.new reader.old (HasNoJournal
-        (IsRight (outcome_on mover.old.action.map) (world_of world.old.records) pending.old) (map did_line)))) }
+        (IsRight (outcome_on (map_in mover.old.action)) (world_of world.old.records) pending.old) (map did_line)))) }
     ensures err { IfErr result (ReadFails S.Source source.old source.new) }
     ensures action { mover.new.action ≡ mover.old.action }
 {
@@ -181,16 +182,16 @@ fn expect_lines<S: Source>(
 ) -> Result<bool, DemoStop>
     requires over { reader.old.reading.stage ≡ Ended }
     requires may { HasRest reader.old }
-    requires valid { IsValidWorld mover.old.action.map world.old.records }
+    requires valid { IsValidWorld (map_in mover.old.action) world.old.records }
     requires live { All (HasLivePlayer world.old.records) received.now.lists.moves }
     requires apart { HasNumbersApart received.now.lists.moves }
     requires few { length received.now.lists.moves ≤ 8 * 64 }
-    ensures ok { IfOk result (λ is. OnTrue is (RunsFrame S.Source mover.old.action.map frame received.now.lists
+    ensures ok { IfOk result (λ is. OnTrue is (RunsFrame S.Source (map_in mover.old.action) frame received.now.lists
         source.old source.new reader.old reader.new world.old.records world.new.records lines.old.count
         lines.new.count)) }
     ensures missed { IfOk result (λ is. OnFalse is (Misses S.Source source.old source.new reader.old (HasNoJournal
-        (IsRight (outcome_on mover.old.action.map) (world_of world.old.records) received.now.lists.moves)
-        (lines_among mover.old.action.map frame world.old.records received.now.lists)))) }
+        (IsRight (outcome_on (map_in mover.old.action)) (world_of world.old.records) received.now.lists.moves)
+        (lines_among (map_in mover.old.action) frame world.old.records received.now.lists)))) }
     ensures err { IfErr result (ReadFails S.Source source.old source.new) }
     ensures action { mover.new.action ≡ mover.old.action }
 {
@@ -218,6 +219,7 @@ pub struct Checker {
 
 // Clauses see the map, the clients by slot beside the records by id, and the counts.
 impl Model for Checker {
+    ghost use Rattle.arena_actions.specs.MapActions.{map_in};
     ghost use Rattle.std.specs.Prelude.{◌≡◌};
     ghost use Rattle.client_ports.specs.States.{state_of};
     ghost use Rattle.client_ports.specs.Lists.{room_for};
@@ -227,7 +229,7 @@ impl Model for Checker {
     ghost Value = { CheckerView };
 
     ghost view = { λ c. record {
-      map = c.mover.action.map;
+      map = map_in c.mover.action;
       state = state_of c.state.ports c.state.world.records;
       frames = c.frames;
       moves = c.moves;

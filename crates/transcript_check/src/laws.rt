@@ -1,4 +1,4 @@
-ghost use Rattle.transcript_check.specs.Laws.{VerdictsExclude, OutputsAreRight, RightOnesAreOutputs};
+ghost use Rattle.transcript_check.specs.Laws.{VerdictsExclude, OutputsAreRight, RightOnesAreOutputs, VerdictsAreOnOutputs};
 
 /// No transcript is both right and wrong: where a verdict was given, a right transcript was called right and a wrong one
 /// wrong.
@@ -15,4 +15,10 @@ pub fn outputs_are_right()
 /// write.
 pub fn right_ones_are_outputs()
     ensures { RightOnesAreOutputs }
+{}
+
+/// What follows a recording that was judged right begins with an output of `play` for it, and what follows one that was
+/// judged wrong begins with none, however few frames it may have had where it was judged.
+pub fn verdicts_are_on_outputs()
+    ensures { VerdictsAreOnOutputs }
 {}

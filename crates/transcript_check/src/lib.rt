@@ -2,7 +2,9 @@
 #![tactic(auto)]
 
 pub use checking::check;
-pub use laws::{outputs_are_right, right_ones_are_outputs, verdicts_exclude_each_other};
+pub use laws::{
+    outputs_are_right, right_ones_are_outputs, verdicts_are_on_outputs, verdicts_exclude_each_other,
+};
 pub use verdict::Verdict;
 
 mod checker;

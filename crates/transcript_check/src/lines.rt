@@ -1,6 +1,7 @@
 ghost use Rattle.std.specs.Prelude.{◌≡◌, ◌<◌, ◌≤◌, [], ◌∷◌, length, map, Some, IfOk, IfErr};
 ghost use Rattle.std.specs.Option.{option_map, option_to_list};
 ghost use Rattle.std.specs.Bool.{OnTrue, OnFalse};
+ghost use Rattle.edge_io.specs.declared.line_buf.TheConstants.{ROOM};
 ghost use Rattle.demo_lines.specs.declared.stage.Stage.TheVariants.{Ended};
 ghost use Rattle.demo_lines.specs.Rest.{HasRest, HasNoRestLine};
 ghost use Rattle.world_tree.specs.Worlds.{record_of};
@@ -111,7 +112,7 @@ impl Lines {
     fn want(&mut self, line: &OutLine)
         requires { HasRoom (line_of line.now) }
         ensures wanted { self.new.wanted ≡ spelled (line_of line.now) }
-        ensures short { length self.new.wanted ≤ 8300 }
+        ensures short { length self.new.wanted ≤ ROOM }
         ensures given { self.new.given ≡ self.old.given }
         ensures count { self.new.count ≡ self.old.count }
     {
@@ -148,7 +149,7 @@ impl Lines {
     ) -> Result<bool, DemoStop>
         requires over { reader.old.reading.stage ≡ Ended }
         requires may { HasRest reader.old }
-        requires short { length self.old.wanted ≤ 8300 }
+        requires short { length self.old.wanted ≤ ROOM }
         ensures ok { (line : lines.OutLine) → self.old.wanted ≡ spelled line → IfOk result (λ is. OnTrue is
             (ReadsLines S.Source source.old source.new reader.old reader.new (line ∷ []))) }
         ensures missed { (line : lines.OutLine) → self.old.wanted ≡ spelled line → IfOk result (λ is. OnFalse is
@@ -223,7 +224,7 @@ impl Lines {
     fn want_reply(&mut self, slot: u8)
         requires some { 1 ≤ length self.old.bytes }
         ensures wanted { self.new.wanted ≡ spelled (ToLine slot self.old.bytes) }
-        ensures short { length self.new.wanted ≤ 8300 }
+        ensures short { length self.new.wanted ≤ ROOM }
         ensures count { self.new.count ≡ self.old.count }
     {
         self.wanted.clear();

@@ -1,6 +1,8 @@
+ghost use Rattle.arena_actions.specs.MapActions.{map_in, IsOfItsMap, IsOfItsMap-prop};
 ghost use Rattle.std.specs.Prelude.{◌≡◌, ◌<◌, ◌≤◌, [], ◌∷◌, ◌++◌, All, filter, length, map, Some, IsSome, ◌^◌};
 ghost use Rattle.std.specs.Option.{option_to_list};
 ghost use Rattle.std.specs.List.Sorted.{IsStrictlyIncreasing};
+ghost use Rattle.entity_recs.specs.declared.limits.TheConstants.{IDS};
 ghost use Rattle.entity_recs.specs.declared.effect.NewState.{NewState};
 ghost use Rattle.entity_recs.specs.Records.{IsRecord, with_state};
 ghost use Rattle.entity_recs.specs.Commands.{command_of};
@@ -11,7 +13,7 @@ ghost use Rattle.plain_server.specs.RecordsById.{world_of};
 ghost use Rattle.transcript_check.specs.Moves.{is_other};
 ghost use Rattle.plain_server.specs.Moving.{HasLivePlayer, effect_among, with_new_states, records_with, records_after};
 
-use arena_actions::ArenaAction;
+use arena_actions::MapAction;
 use arena_map::ArenaMap;
 use entity_recs::{Cmd, Effect, IDS, NewState, Rec, Reply};
 use world_tree::{NearList, World};
@@ -19,13 +21,14 @@ use world_tree::{NearList, World};
 /// Runs moves one after another on a world, each over all other live records.
 #[derive(Drop)]
 pub struct Mover {
-    pub action: ArenaAction,
+    pub action: MapAction,
     others: NearList,
+    ghost of_its_map: { IsOfItsMap action } by { IsOfItsMap-prop action },
 }
 
 /// Puts a record last, if it is another one.
 fn put_if_other(r: Rec, slot: u16, others: &mut NearList)
-    requires { length others.old < 256 }
+    requires { length others.old < IDS }
     ensures { others.new ≡ others.old ++ filter (is_other slot) (r ∷ []) }
 {
     if r.id == slot {
@@ -37,7 +40,7 @@ fn put_if_other(r: Rec, slot: u16, others: &mut NearList)
 
 /// Puts the record with this id last, if it is live and another one.
 fn put_other(world: &World, id: u16, slot: u16, others: &mut NearList)
-    requires { length others.old < 256 }
+    requires { length others.old < IDS }
     ensures { others.new ≡ others.old ++ filter (is_other slot) (option_to_list (record_of world.now id)) }
 {
     let Some(r) = world.get(id) else {
@@ -51,7 +54,7 @@ fn list_others(world: &World, slot: u16, others: &mut NearList)
     ensures others { others.new ≡ others_of (world_of world.now.records) slot }
     ensures linked { IsLinked world.now }
 {
-    // To ask for the tree is to know that the world is linked, and so that it has 256 places.
+    // To ask for the tree is to know that the world is linked, and so that it has a place for each id.
     let _linked = world.tree();
     others.clear();
     for id in 0..IDS as u16 {
@@ -97,21 +100,22 @@ fn player_in(world: &World, slot: u8) -> Rec
 }
 
 impl Mover {
+    ghost use Rattle.arena_actions.specs.MapActions.{map_in};
     /// Runs moves in this arena.
     pub fn new(map: ArenaMap) -> Mover
-        ensures { result.action.map ≡ map }
+        ensures { map_in result.action ≡ map }
     {
         Mover {
-            action: ArenaAction::new(map),
+            action: MapAction::new(map),
             others: NearList::new(),
         }
     }
 
     /// What a move of a live player does.
     fn effect(&mut self, world: &World, cmd: &Cmd) -> Effect
-        requires valid { IsValidWorld self.old.action.map world.now.records }
+        requires valid { IsValidWorld (map_in self.old.action) world.now.records }
         requires live { HasLivePlayer world.now.records (command_of cmd.now) }
-        ensures effect { result ≡ effect_among self.old.action.map world.now.records (command_of cmd.now) }
+        ensures effect { result ≡ effect_among (map_in self.old.action) world.now.records (command_of cmd.now) }
         ensures action { self.new.action ≡ self.old.action }
     {
         let me = player_in(world, cmd.slot);
@@ -121,11 +125,11 @@ impl Mover {
 
     /// Runs a move of a live player, and gives what the player is answered.
     pub fn run(&mut self, world: &mut World, cmd: &Cmd) -> Reply
-        requires valid { IsValidWorld self.old.action.map world.old.records }
+        requires valid { IsValidWorld (map_in self.old.action) world.old.records }
         requires live { HasLivePlayer world.old.records (command_of cmd.now) }
-        ensures reply { result ≡ (effect_among self.old.action.map world.old.records (command_of cmd.now)).reply }
+        ensures reply { result ≡ (effect_among (map_in self.old.action) world.old.records (command_of cmd.now)).reply }
         ensures records { world.new.records
-            ≡ records_after self.old.action.map world.old.records (command_of cmd.now) }
+            ≡ records_after (map_in self.old.action) world.old.records (command_of cmd.now) }
         ensures action { self.new.action ≡ self.old.action }
     {
         let Effect { me, states, reply } = self.effect(world, cmd);

@@ -22,12 +22,13 @@ pub struct State {
     pub world: World,
 }
 
-/// The world before the first frame: the things of the map, each at its id.
+/// The world before the first frame: a tree of the map's depth over its bounds, and the things of the map, each at its
+/// id.
 fn opening_world(alloc: Global, map: &ArenaMap) -> Result<World, AllocError>
     ensures records { IfOk result (λ w. w.records ≡ (opening map.now).records) }
     ensures rules { IsMap map.now }
 {
-    World::new(alloc, map.bounds(), map.entities())
+    World::new(alloc, map.bounds(), map.depth(), map.entities())
 }
 
 impl State {

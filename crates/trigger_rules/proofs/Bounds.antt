@@ -38,6 +38,8 @@ at-place P (y ∷ xs) (suc k) x all e = at-place P xs k x (All-tail P y xs all) 
 line-stands : (arena : Bounds) (line : MapLine) (dest : Vec3) → IsThingInside arena line → dest_in line ≡ Some dest → IsSpawn arena dest
 line-stands arena (lines.Arena lo hi) dest inside e = absurd (none-some dest e)
 line-stands arena (lines.Block lo hi) dest inside e = absurd (none-some dest e)
+line-stands arena (lines.Depth depth) dest inside e = absurd (none-some dest e)
+line-stands arena lines.Shots dest inside e = absurd (none-some dest e)
 line-stands arena (lines.Spawn at) dest inside e = absurd (none-some dest e)
 line-stands arena (lines.Item at kind delay) dest inside e = absurd (none-some dest e)
 line-stands arena (lines.Teleport lo hi to) dest inside e = subst (IsSpawn arena) (same_Some to dest e) (record { near = inside.limits.2; inside = inside.stand })

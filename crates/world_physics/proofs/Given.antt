@@ -16,7 +16,7 @@ use Rattle.entity_recs.specs.Kinds.{is_item}
 use Rattle.arena_map.specs.Things.{thing_at_rest}
 use Rattle.arena_map.specs.Maps.{MapView, IsMap, entities_of, lift_of}
 use Rattle.arena_map.specs.Validity.{IsThing, IsValidRecord, IsValidWorld}
-use Rattle.arena_map.proofs.Opening.{opening-is_valid}
+use Rattle.arena_map.proofs.Opening.{opening-is_valid, begins_unhurt}
 use Rattle.world_tree.specs.Live.{record_at}
 use Rattle.world_tree.specs.Worlds.{WorldView, record_of, with_record, without_id}
 use Rattle.world_physics.proofs.Changes.{relinked}
@@ -98,7 +98,7 @@ pub joined : (map : MapView) (w new : WorldView) (slot : ℕ) (origin : Vec3) (r
 joined map w new slot origin r valid below near inside is made =
     let P : Rec → Type 0 = λ s. IsValidWorld map (slice_set w.records s.id (Some s)) in
     let here : IsValidRecord map slot (player_at slot origin) =
-    record { is_record = player_is_record slot origin below near; own_id = refl; state = refl; inside = λ _. inside } in
+    record { is_record = player_is_record slot origin below near; own_id = refl; state = begins_unhurt map; inside = λ _. inside } in
     let there = valid-with map w.records slot (player_at slot origin) valid here (λ low. absurd (omega (arith, low, below))) in
     subst (IsValidWorld map) (sym (ap (λ (v : WorldView). v.records) made)) (subst P (sym is) there)
 

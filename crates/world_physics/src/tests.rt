@@ -97,7 +97,7 @@ fn map_of(alloc: Global, lines: &[Line]) -> Result<ArenaMap, MapRefusal> {
 fn opening(alloc: Global, map: &ArenaMap) -> Result<World, AllocError>
     ensures { IfOk result (λ w. IsValidWorld map.now w.records) }
 {
-    World::new(alloc, map.bounds(), map.entities())
+    World::new(alloc, map.bounds(), map.depth(), map.entities())
 }
 
 /// A player at rest in a slot.

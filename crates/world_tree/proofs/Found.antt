@@ -1,5 +1,5 @@
 -- That what is found along the lists is what a test of all records finds.
-use Rattle.std.proofs.Common.{◌≡◌, ℕ, zero, suc, ◌+◌, ◌^◌, ◌<◌, ◌==◌, Bool, true, false, ◌&&◌, ◌||◌, not, if◌then◌else◌, nat_eq, List, [], ◌∷◌, ◌++◌, filter, map, length, replicate, All, Option, Some, None, slice_index_or, slice_set, sym, refl, ap, ◌∙◌, subst, inl, inr, arith, get_or-set_same, get_or-set_other}
+use Rattle.std.proofs.Common.{◌≡◌, ℕ, zero, suc, ◌+◌, ◌<◌, ◌==◌, Bool, true, false, ◌&&◌, ◌||◌, not, if◌then◌else◌, nat_eq, List, [], ◌∷◌, ◌++◌, filter, map, length, replicate, All, Option, Some, None, slice_index_or, slice_set, sym, refl, ap, ◌∙◌, subst, inl, inr, arith, get_or-set_same, get_or-set_other}
 use Rattle.std.specs.List.{cons_option, list_any, range_with_len}
 use Rattle.std.specs.Option.{option_map, option_map_or}
 use Rattle.std.proofs.lemmas.Bool.{cases_Bool, cases_eq, cases_lt, eq-eqb, ne_eqb, or_left, or_right}
@@ -10,8 +10,9 @@ use Rattle.arena_geo.specs.Bounds.{Bounds, IsOrdered}
 use Rattle.arena_geo.specs.Boxes.{touches, overlaps, is_blocked}
 use Rattle.arena_geo.specs.Regions.{IsRegion, touches_region}
 use Rattle.areanode.specs.Words.{has_bit}
-use Rattle.areanode.specs.Trees.{node_of, leaves_of, visited_of}
+use Rattle.areanode.specs.Trees.{nodes_in, node_of, leaves_of, visited_of}
 use Rattle.areanode.proofs.Nodes.{touched_node_is_visited, node_is_in_range}
+use Rattle.entity_recs.specs.declared.limits.TheConstants.{IDS}
 use Rattle.entity_recs.specs.declared.rec.Rec.{Rec}
 use Rattle.entity_recs.specs.Kinds.{is_solid}
 use Rattle.entity_recs.specs.Bodies.{body_of, abs_of, is_touched}
@@ -88,22 +89,25 @@ picked-is test (mark ∷ marks) (Some r ∷ records) same agrees =
     by_test false = refl
 
 -- an id is among those of some nodes where one of them has it
-has-ids_at : (lists : ListsView) (nodes : List ℕ) (i : ℕ) → has (ids_at lists nodes) i ≡ list_any (λ node. has (list_of lists node ++ list_of lists (31 + node)) i) nodes
+has-ids_at : (count : ℕ) (lists : ListsView) (nodes : List ℕ) (i : ℕ) → has (ids_at count lists nodes) i ≡ list_any (λ node. has (list_of lists node ++ list_of lists (count + node)) i) nodes
 unfolding ids_at
-has-ids_at lists [] i = refl
-has-ids_at lists (node ∷ nodes) i =
-    list_any-append (nat_eq i) (list_of lists node ++ list_of lists (31 + node)) (ids_at lists nodes)
-    ∙ ap (λ (b : Bool). has (list_of lists node ++ list_of lists (31 + node)) i || b) (has-ids_at lists nodes i)
+has-ids_at count lists [] i = refl
+has-ids_at count lists (node ∷ nodes) i =
+    list_any-append (nat_eq i) (list_of lists node ++ list_of lists (count + node)) (ids_at count lists nodes)
+    ∙ ap (λ (b : Bool). has (list_of lists node ++ list_of lists (count + node)) i || b) (has-ids_at count lists nodes i)
 
-has-triggers_at : (lists : ListsView) (nodes : List ℕ) (i : ℕ) → has (triggers_at lists nodes) i ≡ list_any (λ node. has (list_of lists (31 + node)) i) nodes
+has-triggers_at : (count : ℕ) (lists : ListsView) (nodes : List ℕ) (i : ℕ) → has (triggers_at count lists nodes) i ≡ list_any (λ node. has (list_of lists (count + node)) i) nodes
 unfolding triggers_at
-has-triggers_at lists [] i = refl
-has-triggers_at lists (node ∷ nodes) i =
-    list_any-append (nat_eq i) (list_of lists (31 + node)) (triggers_at lists nodes)
-    ∙ ap (λ (b : Bool). has (list_of lists (31 + node)) i || b) (has-triggers_at lists nodes i)
+has-triggers_at count lists [] i = refl
+has-triggers_at count lists (node ∷ nodes) i =
+    list_any-append (nat_eq i) (list_of lists (count + node)) (triggers_at count lists nodes)
+    ∙ ap (λ (b : Bool). has (list_of lists (count + node)) i || b) (has-triggers_at count lists nodes i)
 
 -- a linked world and a region of ordered boxes
 module _ (w : WorldView) (linked : IsLinked w) (region : List Bounds) (ordered : All IsOrdered region) where
+  abbrev all_nodes : ℕ
+  all_nodes = nodes_in w.tree.depth
+
   abbrev nodes : List ℕ
   nodes = nodes_for w.tree region
 
@@ -111,11 +115,9 @@ module _ (w : WorldView) (linked : IsLinked w) (region : List Bounds) (ordered :
   has-own : (i : ℕ) (r : Rec) → record_of w i ≡ Some r → has (list_of w.lists (list_for w.tree r)) i ≡ true
   has-own i r is = has-where_of w.lists i (list_for w.tree r) (linked.linked i ∙ ap (option_map (list_for w.tree)) is)
 
-  -- the node of each record is one of the 31
-  node-below : (r : Rec) → node_of w.tree (abs_of r) < 31
-  node-below r =
-      let below = subst (λ d. node_of w.tree (abs_of r) + 1 < 2 ^ (d + 1)) linked.depth (node_is_in_range w.tree (abs_of r)) in
-      omega arith
+  -- the node of each record is one of the tree's
+  node-below : (r : Rec) → node_of w.tree (abs_of r) < all_nodes
+  node-below r = omega (arith, node_is_in_range w.tree (abs_of r))
 
   -- the node of a record that touches the region is visited
   node-visited : (i : ℕ) (r : Rec) → record_of w i ≡ Some r → touches_region (abs_of r) region ≡ true
@@ -124,44 +126,44 @@ module _ (w : WorldView) (linked : IsLinked w) (region : List Bounds) (ordered :
       touched_node_is_visited w.tree (abs_of r) region (records_have_boxes r (linked.entries i r is).is_record).abs.ordered ordered touched
 
   -- where a live record touches the region, its id is among those at the visited nodes
-  touched-found : (i : ℕ) (r : Rec) → record_of w i ≡ Some r → touches_region (abs_of r) region ≡ true → has (ids_at w.lists nodes) i ≡ true
+  touched-found : (i : ℕ) (r : Rec) → record_of w i ≡ Some r → touches_region (abs_of r) region ≡ true → has (ids_at all_nodes w.lists nodes) i ≡ true
   touched-found i r is touched =
-      has-ids_at w.lists nodes i
-      ∙ passing-has (has_bit (visited_of w.tree.depth (leaves_of w.tree region))) (λ node. has (list_of w.lists node ++ list_of w.lists (31 + node)) i)
-      31 (node_of w.tree (abs_of r)) (node-below r) (node-visited i r is touched)
-      (list_any-append (nat_eq i) (list_of w.lists (node_of w.tree (abs_of r))) (list_of w.lists (31 + node_of w.tree (abs_of r)))
+      has-ids_at all_nodes w.lists nodes i
+      ∙ passing-has (has_bit (visited_of w.tree.depth (leaves_of w.tree region))) (λ node. has (list_of w.lists node ++ list_of w.lists (all_nodes + node)) i)
+      all_nodes (node_of w.tree (abs_of r)) (node-below r) (node-visited i r is touched)
+      (list_any-append (nat_eq i) (list_of w.lists (node_of w.tree (abs_of r))) (list_of w.lists (all_nodes + node_of w.tree (abs_of r)))
       ∙ in_one (is_solid r.kind) (has-own i r is))
     where
-      in_one : (b : Bool) → has (list_of w.lists (if b then node_of w.tree (abs_of r) else 31 + node_of w.tree (abs_of r))) i ≡ true
-          → (has (list_of w.lists (node_of w.tree (abs_of r))) i || has (list_of w.lists (31 + node_of w.tree (abs_of r))) i) ≡ true
+      in_one : (b : Bool) → has (list_of w.lists (if b then node_of w.tree (abs_of r) else all_nodes + node_of w.tree (abs_of r))) i ≡ true
+          → (has (list_of w.lists (node_of w.tree (abs_of r))) i || has (list_of w.lists (all_nodes + node_of w.tree (abs_of r))) i) ≡ true
       in_one true h = or_left _ _ h
       in_one false h = or_right (has (list_of w.lists (node_of w.tree (abs_of r))) i) _ h
 
   -- the same of a trigger and the lists of triggers
-  trigger-found : (i : ℕ) (r : Rec) → record_of w i ≡ Some r → is_solid r.kind ≡ false → touches_region (abs_of r) region ≡ true → has (triggers_at w.lists nodes) i ≡ true
+  trigger-found : (i : ℕ) (r : Rec) → record_of w i ≡ Some r → is_solid r.kind ≡ false → touches_region (abs_of r) region ≡ true → has (triggers_at all_nodes w.lists nodes) i ≡ true
   trigger-found i r is trigger touched =
-      has-triggers_at w.lists nodes i
-      ∙ passing-has (has_bit (visited_of w.tree.depth (leaves_of w.tree region))) (λ node. has (list_of w.lists (31 + node)) i)
-      31 (node_of w.tree (abs_of r)) (node-below r) (node-visited i r is touched)
-      (ap (λ (b : Bool). has (list_of w.lists (if b then node_of w.tree (abs_of r) else 31 + node_of w.tree (abs_of r))) i) (sym trigger) ∙ has-own i r is)
+      has-triggers_at all_nodes w.lists nodes i
+      ∙ passing-has (has_bit (visited_of w.tree.depth (leaves_of w.tree region))) (λ node. has (list_of w.lists (all_nodes + node)) i)
+      all_nodes (node_of w.tree (abs_of r)) (node-below r) (node-visited i r is touched)
+      (ap (λ (b : Bool). has (list_of w.lists (if b then node_of w.tree (abs_of r) else all_nodes + node_of w.tree (abs_of r))) i) (sym trigger) ∙ has-own i r is)
 
   -- and no solid is in those
-  solid-not_found : (i : ℕ) (r : Rec) → record_of w i ≡ Some r → is_solid r.kind ≡ true → has (triggers_at w.lists nodes) i ≡ false
-  solid-not_found i r is solid = elim (cases_Bool (has (triggers_at w.lists nodes) i)) [
+  solid-not_found : (i : ℕ) (r : Rec) → record_of w i ≡ Some r → is_solid r.kind ≡ true → has (triggers_at all_nodes w.lists nodes) i ≡ false
+  solid-not_found i r is solid = elim (cases_Bool (has (triggers_at all_nodes w.lists nodes) i)) [
     | inl found ↦
-        let s = passing-below (has_bit (visited_of w.tree.depth (leaves_of w.tree region))) (λ node. has (list_of w.lists (31 + node)) i) 31 (sym (has-triggers_at w.lists nodes i) ∙ found) in
-        let there = where_of-has w.lists i (31 + s.number) linked.proper s.passes in
+        let s = passing-below (has_bit (visited_of w.tree.depth (leaves_of w.tree region))) (λ node. has (list_of w.lists (all_nodes + node)) i) all_nodes (sym (has-triggers_at all_nodes w.lists nodes i) ∙ found) in
+        let there = where_of-has w.lists i (all_nodes + s.number) linked.proper s.passes in
         let own = linked.linked i ∙ ap (option_map (list_for w.tree)) is in
-        let same = same_Some (31 + s.number) (list_for w.tree r) (sym there ∙ own) in
-        let solids = ap (λ (b : Bool). if b then node_of w.tree (abs_of r) else 31 + node_of w.tree (abs_of r)) solid in
+        let same = same_Some (all_nodes + s.number) (list_for w.tree r) (sym there ∙ own) in
+        let solids = ap (λ (b : Bool). if b then node_of w.tree (abs_of r) else all_nodes + node_of w.tree (abs_of r)) solid in
         let below = node-below r in
-        let beyond : 31 + s.number ≡ node_of w.tree (abs_of r) = same ∙ solids in
+        let beyond : all_nodes + s.number ≡ node_of w.tree (abs_of r) = same ∙ solids in
         absurd (omega arith)
     | inr not_found ↦ not_found
   ]
 
-  -- a live id is below 256
-  live-below : (i : ℕ) (r : Rec) → record_of w i ≡ Some r → i < 256
+  -- a live id is among the ids
+  live-below : (i : ℕ) (r : Rec) → record_of w i ≡ Some r → i < IDS
   live-below i r is = elim (cases_lt i (length w.records)) [
     | inl within ↦ omega (arith, linked.places)
     | inr past ↦ absurd (none-some r (sym (get_or_past w.records i None past) ∙ is))
@@ -172,18 +174,18 @@ module _ (w : WorldView) (linked : IsLinked w) (region : List Bounds) (ordered :
   touches_at-live i r is = ap (λ o. option_map_or (λ b. touches_region b region) o false) (box-at w.records i ∙ ap (option_map abs_of) is)
 
   abbrev none : List Bool
-  none = replicate 256 false
+  none = replicate IDS false
 
   -- the marks of what is found
-  marks-near : (i : ℕ) (r : Rec) → record_of w i ≡ Some r → slice_index_or (marked (boxes_of w.records) region (ids_at w.lists nodes) none) i false ≡ touches_region (abs_of r) region
+  marks-near : (i : ℕ) (r : Rec) → record_of w i ≡ Some r → slice_index_or (marked (boxes_of w.records) region (ids_at all_nodes w.lists nodes) none) i false ≡ touches_region (abs_of r) region
   marks-near i r is =
       let below = live-below i r is in
-      marked-at (boxes_of w.records) region (ids_at w.lists nodes) none i (omega (arith, length-replicate 256 false))
-      ∙ ap (λ (b : Bool). if has (ids_at w.lists nodes) i then touches_at (boxes_of w.records) region i else b) (get_or-replicate 256 i false false below)
-      ∙ ap (λ (b : Bool). if has (ids_at w.lists nodes) i then b else false) (touches_at-live i r is)
+      marked-at (boxes_of w.records) region (ids_at all_nodes w.lists nodes) none i (omega (arith, length-replicate IDS false))
+      ∙ ap (λ (b : Bool). if has (ids_at all_nodes w.lists nodes) i then touches_at (boxes_of w.records) region i else b) (get_or-replicate IDS i false false below)
+      ∙ ap (λ (b : Bool). if has (ids_at all_nodes w.lists nodes) i then b else false) (touches_at-live i r is)
       ∙ elim (cases_Bool (touches_region (abs_of r) region)) [
         | inl touched ↦ rw (touched-found i r is touched) refl
-        | inr apart ↦ rw apart (either (has (ids_at w.lists nodes) i))
+        | inr apart ↦ rw apart (either (has (ids_at all_nodes w.lists nodes) i))
       ]
     where
       either : (b : Bool) → (if b then false else false) ≡ false
@@ -191,17 +193,17 @@ module _ (w : WorldView) (linked : IsLinked w) (region : List Bounds) (ordered :
       either false = refl
 
   marks-triggers : (i : ℕ) (r : Rec) → record_of w i ≡ Some r
-      → slice_index_or (marked (boxes_of w.records) region (triggers_at w.lists nodes) none) i false ≡ (not (is_solid r.kind) && touches_region (abs_of r) region)
+      → slice_index_or (marked (boxes_of w.records) region (triggers_at all_nodes w.lists nodes) none) i false ≡ (not (is_solid r.kind) && touches_region (abs_of r) region)
   marks-triggers i r is =
       let below = live-below i r is in
-      marked-at (boxes_of w.records) region (triggers_at w.lists nodes) none i (omega (arith, length-replicate 256 false))
-      ∙ ap (λ (b : Bool). if has (triggers_at w.lists nodes) i then touches_at (boxes_of w.records) region i else b) (get_or-replicate 256 i false false below)
-      ∙ ap (λ (b : Bool). if has (triggers_at w.lists nodes) i then b else false) (touches_at-live i r is)
+      marked-at (boxes_of w.records) region (triggers_at all_nodes w.lists nodes) none i (omega (arith, length-replicate IDS false))
+      ∙ ap (λ (b : Bool). if has (triggers_at all_nodes w.lists nodes) i then touches_at (boxes_of w.records) region i else b) (get_or-replicate IDS i false false below)
+      ∙ ap (λ (b : Bool). if has (triggers_at all_nodes w.lists nodes) i then b else false) (touches_at-live i r is)
       ∙ elim (cases_Bool (is_solid r.kind)) [
         | inl solid ↦ rw (solid-not_found i r is solid, solid) refl
         | inr trigger ↦ elim (cases_Bool (touches_region (abs_of r) region)) [
           | inl touched ↦ rw (trigger-found i r is trigger touched, trigger) refl
-          | inr apart ↦ rw (apart, trigger) (either (has (triggers_at w.lists nodes) i))
+          | inr apart ↦ rw (apart, trigger) (either (has (triggers_at all_nodes w.lists nodes) i))
         ]
       ]
     where
@@ -211,10 +213,10 @@ module _ (w : WorldView) (linked : IsLinked w) (region : List Bounds) (ordered :
 
   -- what `near` gathers
   pub near-found : (except : ℕ)
-      → picked (slice_set (marked (boxes_of w.records) region (ids_at w.lists nodes) (replicate 256 false)) except false) w.records ≡ near_in w.records region except
+      → picked (slice_set (marked (boxes_of w.records) region (ids_at all_nodes w.lists nodes) (replicate IDS false)) except false) w.records ≡ near_in w.records region except
   near-found except =
-      let all = marked (boxes_of w.records) region (ids_at w.lists nodes) none in
-      let long : length all ≡ 256 = length-marked (boxes_of w.records) region (ids_at w.lists nodes) none ∙ length-replicate 256 false in
+      let all = marked (boxes_of w.records) region (ids_at all_nodes w.lists nodes) none in
+      let long : length all ≡ IDS = length-marked (boxes_of w.records) region (ids_at all_nodes w.lists nodes) none ∙ length-replicate IDS false in
       picked-is (is_near region except) (slice_set all except false) w.records
       (length-set all except false ∙ long ∙ sym linked.places)
       (λ i r is. elim (cases_eq i except) [
@@ -237,10 +239,10 @@ module _ (w : WorldView) (linked : IsLinked w) (region : List Bounds) (ordered :
 
 -- what `touching` gathers
 pub triggers-found : (w : WorldView) → IsLinked w → (abs : Bounds) → All IsOrdered (abs ∷ [])
-    → picked (marked (boxes_of w.records) (abs ∷ []) (triggers_at w.lists (nodes_for w.tree (abs ∷ []))) (replicate 256 false)) w.records ≡ touching_in w.records abs
+    → picked (marked (boxes_of w.records) (abs ∷ []) (triggers_at (nodes_in w.tree.depth) w.lists (nodes_for w.tree (abs ∷ []))) (replicate IDS false)) w.records ≡ touching_in w.records abs
 triggers-found w linked abs ordered =
-    let all = marked (boxes_of w.records) (abs ∷ []) (triggers_at w.lists (nodes_for w.tree (abs ∷ []))) (replicate 256 false) in
-    let long : length all ≡ 256 = length-marked (boxes_of w.records) (abs ∷ []) (triggers_at w.lists (nodes_for w.tree (abs ∷ []))) (replicate 256 false) ∙ length-replicate 256 false in
+    let all = marked (boxes_of w.records) (abs ∷ []) (triggers_at (nodes_in w.tree.depth) w.lists (nodes_for w.tree (abs ∷ []))) (replicate IDS false) in
+    let long : length all ≡ IDS = length-marked (boxes_of w.records) (abs ∷ []) (triggers_at (nodes_in w.tree.depth) w.lists (nodes_for w.tree (abs ∷ []))) (replicate IDS false) ∙ length-replicate IDS false in
     picked-is (is_touched abs) all w.records (long ∙ sym linked.places)
     (λ i r is. marks-triggers w linked (abs ∷ []) ordered i r is ∙ ap (λ (b : Bool). not (is_solid r.kind) && b) (or_false (touches (abs_of r) abs)))
   where
@@ -262,48 +264,57 @@ in_the_way-is body except (Some r ∷ records) =
     by_test false = refl
 
 -- what the steps of `near` come to
-pub near-is : (w : WorldView) → IsLinked w → (region : List Bounds) → IsRegion region → (except leaves nodes : ℕ)
+pub near-is : (w : WorldView) → IsLinked w → (region : List Bounds) → IsRegion region → (except leaves nodes count : ℕ)
     → (walked : List (Option Bounds)) (places : List (Option Rec)) (marks unmarked : List Bool) (out : List Rec)
-    → leaves ≡ leaves_of w.tree region → nodes ≡ visited_of 4 leaves → walked ≡ boxes_of w.records
-    → marks ≡ marked walked region (ids_at w.lists (filter (has_bit nodes) (range_with_len 0 31))) (replicate 256 false)
+    → leaves ≡ leaves_of w.tree region → nodes ≡ visited_of w.tree.depth leaves → count ≡ nodes_in w.tree.depth
+    → walked ≡ boxes_of w.records
+    → marks ≡ marked walked region (ids_at count w.lists (filter (has_bit nodes) (range_with_len 0 count))) (replicate IDS false)
     → unmarked ≡ slice_set marks except false → places ≡ w.records → out ≡ picked unmarked places
     → out ≡ near_in w.records region except
-near-is w linked region is_region except leaves nodes walked places marks unmarked out leaves_is nodes_is walked_is marks_is unmarked_is places_is out_is =
-    let visited : nodes ≡ visited_of w.tree.depth (leaves_of w.tree region) =
-    nodes_is ∙ ap (visited_of 4) leaves_is ∙ ap (λ d. visited_of d (leaves_of w.tree region)) (sym linked.depth) in
+near-is w linked region is_region except leaves nodes count walked places marks unmarked out leaves_is nodes_is count_is walked_is marks_is unmarked_is places_is out_is =
+    let found : ℕ → ℕ → List (Option Bounds) → List Rec =
+    λ n all rs. picked (slice_set (marked rs region (ids_at all w.lists (filter (has_bit n) (range_with_len 0 all))) (replicate IDS false)) except false) w.records in
+    let visited : nodes ≡ visited_of w.tree.depth (leaves_of w.tree region) = nodes_is ∙ ap (visited_of w.tree.depth) leaves_is in
     out_is ∙ ap (picked unmarked) places_is ∙ ap (λ ms. picked ms w.records) unmarked_is
     ∙ ap (λ ms. picked (slice_set ms except false) w.records) marks_is
-    ∙ ap (λ rs. picked (slice_set (marked rs region (ids_at w.lists (filter (has_bit nodes) (range_with_len 0 31))) (replicate 256 false)) except false) w.records) walked_is
-    ∙ ap (λ n. picked (slice_set (marked (boxes_of w.records) region (ids_at w.lists (filter (has_bit n) (range_with_len 0 31))) (replicate 256 false)) except false) w.records) visited
+    ∙ ap (λ rs. found nodes count rs) walked_is
+    ∙ ap (λ all. found nodes all (boxes_of w.records)) count_is
+    ∙ ap (λ n. found n (nodes_in w.tree.depth) (boxes_of w.records)) visited
     ∙ near-found w linked region (λ k d below. (is_region.boxes k d below).ordered) except
 
 -- what the steps of `touching` come to
-pub touching-is : (w : WorldView) → IsLinked w → (abs : Bounds) → (region : List Bounds) → region ≡ abs ∷ [] → IsRegion region → (leaves nodes : ℕ)
+pub touching-is : (w : WorldView) → IsLinked w → (abs : Bounds) → (region : List Bounds) → region ≡ abs ∷ [] → IsRegion region → (leaves nodes count : ℕ)
     → (walked : List (Option Bounds)) (places : List (Option Rec)) (marks : List Bool) (out : List Rec)
-    → leaves ≡ leaves_of w.tree region → nodes ≡ visited_of 4 leaves → walked ≡ boxes_of w.records
-    → marks ≡ marked walked region (triggers_at w.lists (filter (has_bit nodes) (range_with_len 0 31))) (replicate 256 false)
+    → leaves ≡ leaves_of w.tree region → nodes ≡ visited_of w.tree.depth leaves → count ≡ nodes_in w.tree.depth
+    → walked ≡ boxes_of w.records
+    → marks ≡ marked walked region (triggers_at count w.lists (filter (has_bit nodes) (range_with_len 0 count))) (replicate IDS false)
     → places ≡ w.records → out ≡ picked marks places
     → out ≡ touching_in w.records abs
-touching-is w linked abs region one is_region leaves nodes walked places marks out leaves_is nodes_is walked_is marks_is places_is out_is =
+touching-is w linked abs region one is_region leaves nodes count walked places marks out leaves_is nodes_is count_is walked_is marks_is places_is out_is =
+    let found : ℕ → ℕ → List (Option Bounds) → List Bounds → List Rec =
+    λ n all rs boxes. picked (marked rs boxes (triggers_at all w.lists (filter (has_bit n) (range_with_len 0 all))) (replicate IDS false)) w.records in
     let visited : nodes ≡ visited_of w.tree.depth (leaves_of w.tree (abs ∷ [])) =
-    nodes_is ∙ ap (visited_of 4) (leaves_is ∙ ap (leaves_of w.tree) one) ∙ ap (λ d. visited_of d (leaves_of w.tree (abs ∷ []))) (sym linked.depth) in
+    nodes_is ∙ ap (visited_of w.tree.depth) (leaves_is ∙ ap (leaves_of w.tree) one) in
     let ordered : All IsOrdered (abs ∷ []) = λ k d below. ((subst IsRegion one is_region).boxes k d below).ordered in
     out_is ∙ ap (picked marks) places_is
     ∙ ap (λ ms. picked ms w.records) marks_is
-    ∙ ap (λ r. picked (marked walked r (triggers_at w.lists (filter (has_bit nodes) (range_with_len 0 31))) (replicate 256 false)) w.records) one
-    ∙ ap (λ rs. picked (marked rs (abs ∷ []) (triggers_at w.lists (filter (has_bit nodes) (range_with_len 0 31))) (replicate 256 false)) w.records) walked_is
-    ∙ ap (λ n. picked (marked (boxes_of w.records) (abs ∷ []) (triggers_at w.lists (filter (has_bit n) (range_with_len 0 31))) (replicate 256 false)) w.records) visited
+    ∙ ap (λ boxes. found nodes count walked boxes) one
+    ∙ ap (λ rs. found nodes count rs (abs ∷ [])) walked_is
+    ∙ ap (λ all. found nodes all (boxes_of w.records) (abs ∷ [])) count_is
+    ∙ ap (λ n. found n (nodes_in w.tree.depth) (boxes_of w.records) (abs ∷ [])) visited
     ∙ triggers-found w linked abs ordered
 
 -- how many looks that is
-pub looks-are : (w : WorldView) → IsLinked w → (abs : Bounds) → (region : List Bounds) → region ≡ abs ∷ [] → (leaves nodes before after : ℕ)
-    → leaves ≡ leaves_of w.tree region → nodes ≡ visited_of 4 leaves
-    → after ≡ before + looks_at w.lists (filter (has_bit nodes) (range_with_len 0 31))
+pub looks-are : (w : WorldView) → (abs : Bounds) → (region : List Bounds) → region ≡ abs ∷ [] → (leaves nodes count before after : ℕ)
+    → leaves ≡ leaves_of w.tree region → nodes ≡ visited_of w.tree.depth leaves → count ≡ nodes_in w.tree.depth
+    → after ≡ before + looks_at count w.lists (filter (has_bit nodes) (range_with_len 0 count))
     → after ≡ before + looks_for w abs
-looks-are w linked abs region one leaves nodes before after leaves_is nodes_is after_is =
+looks-are w abs region one leaves nodes count before after leaves_is nodes_is count_is after_is =
     let visited : nodes ≡ visited_of w.tree.depth (leaves_of w.tree (abs ∷ [])) =
-    nodes_is ∙ ap (visited_of 4) (leaves_is ∙ ap (leaves_of w.tree) one) ∙ ap (λ d. visited_of d (leaves_of w.tree (abs ∷ []))) (sym linked.depth) in
-    after_is ∙ ap (λ n. before + looks_at w.lists (filter (has_bit n) (range_with_len 0 31))) visited
+    nodes_is ∙ ap (visited_of w.tree.depth) (leaves_is ∙ ap (leaves_of w.tree) one) in
+    after_is
+    ∙ ap (λ all. before + looks_at all w.lists (filter (has_bit nodes) (range_with_len 0 all))) count_is
+    ∙ ap (λ n. before + looks_at (nodes_in w.tree.depth) w.lists (filter (has_bit n) (range_with_len 0 (nodes_in w.tree.depth)))) visited
 
 -- what the steps of `free` come to, where no fixed box is in the way
 pub free-is : (records walked : List (Option Rec)) (body : Bounds) (fixed : List Bounds) (except : ℕ) (by_fixed by_solids : Bool)

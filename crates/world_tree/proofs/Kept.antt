@@ -7,7 +7,8 @@ use Rattle.std.proofs.lemmas.Bool.Decides.{nat_tests}
 use Rattle.std.proofs.lemmas.List.{map-set, set-set}
 use Rattle.std.proofs.lemmas.Option.{none-some, same_Some}
 use Rattle.arena_geo.specs.Bounds.{Bounds}
-use Rattle.areanode.specs.Trees.{node_of}
+use Rattle.areanode.specs.Trees.{nodes_in, node_of}
+use Rattle.entity_recs.specs.declared.limits.TheConstants.{IDS}
 use Rattle.entity_recs.specs.declared.rec.Rec.{Rec}
 use Rattle.entity_recs.specs.Kinds.{is_solid}
 use Rattle.entity_recs.specs.Records.{IsRecord}
@@ -126,12 +127,12 @@ ids-none : (n : ℕ) → ids_of (replicate n None) ≡ []
 ids-none zero = refl
 ids-none (suc n) = ids-none n
 
-pub kept_empty : (w : WorldView) (boxes : List (Option Bounds)) (live : List ℕ) → IsLinked w → w.records ≡ replicate 256 None → boxes ≡ replicate 256 None → live ≡ []
+pub kept_empty : (w : WorldView) (boxes : List (Option Bounds)) (live : List ℕ) → IsLinked w → w.records ≡ replicate IDS None → boxes ≡ replicate IDS None → live ≡ []
     → IsKept w boxes live
 kept_empty w boxes live linked none no_boxes no_ids = record {
   linked = linked;
-  boxes_are = no_boxes ∙ sym (ap boxes_of none ∙ boxes-none 256);
-  live_are = no_ids ∙ sym (ap ids_of none ∙ ids-none 256);
+  boxes_are = no_boxes ∙ sym (ap boxes_of none ∙ boxes-none IDS);
+  live_are = no_ids ∙ sym (ap ids_of none ∙ ids-none IDS);
 }
 
 module _ (w : WorldView) (boxes : List (Option Bounds)) (live : List ℕ) (kept : IsKept w boxes live) where
@@ -145,24 +146,24 @@ module _ (w : WorldView) (boxes : List (Option Bounds)) (live : List ℕ) (kept 
       ∙ sym (map-set (option_map abs_of) w.records place (Some r))
 
   -- the live ids are no more than there are ids
-  pub live_fit : length live ≤ 256
+  pub live_fit : length live ≤ IDS
   live_fit =
       let few = few_live w.records in
       omega (arith, ap (λ (l : List ℕ). length l) kept.live_are, kept.linked.places)
 
   -- there is room for one more id where an id isn't live
-  pub room_for_id : (r : Rec) → IsRecord r → record_of w r.id ≡ None → length live < 256
+  pub room_for_id : (r : Rec) → IsRecord r → record_of w r.id ≡ None → length live < IDS
   room_for_id r is free =
       let fewer = fewer_live w.records r.id (omega (arith, id-below r is, kept.linked.places)) free in
       omega (arith, ap (λ (l : List ℕ). length l) kept.live_are, kept.linked.places)
 
   -- the list of a record, by its box
-  list-by_box : (r : Rec) (k : ℕ) (abs : Bounds) → abs ≡ abs_of r → k ≡ (if is_solid r.kind then node_of w.tree abs else 31 + node_of w.tree abs) → k ≡ list_for w.tree r
-  list-by_box r k abs is list = list ∙ ap (λ b. if is_solid r.kind then node_of w.tree b else 31 + node_of w.tree b) is
+  list-by_box : (r : Rec) (k : ℕ) (abs : Bounds) → abs ≡ abs_of r → k ≡ (if is_solid r.kind then node_of w.tree abs else nodes_in w.tree.depth + node_of w.tree abs) → k ≡ list_for w.tree r
+  list-by_box r k abs is list = list ∙ ap (λ b. if is_solid r.kind then node_of w.tree b else nodes_in w.tree.depth + node_of w.tree b) is
 
   pub kept_with : (r : Rec) (lists : ListsView) (k place : ℕ) (abs : Bounds) (more : List ℕ)
       → place ≡ r.id → IsRecord r → record_of w r.id ≡ None → abs ≡ abs_of r
-      → k ≡ (if is_solid r.kind then node_of w.tree abs else 31 + node_of w.tree abs) → lists ≡ inserted w.lists k r.id
+      → k ≡ (if is_solid r.kind then node_of w.tree abs else nodes_in w.tree.depth + node_of w.tree abs) → lists ≡ inserted w.lists k r.id
       → SetsOnly w.lists lists r.id (Some k) → IsProper lists → more ≡ insert live (place_in live r.id) r.id
       → IsKept (world_of w.tree (slice_set w.records place (Some r)) lists) (slice_set boxes place (Some abs)) more
   kept_with r lists k place abs more own is free box list made sets proper grown = record {
@@ -214,7 +215,7 @@ module _ (w : WorldView) (boxes : List (Option Bounds)) (live : List ℕ) (kept 
   pub kept_again : (r : Rec) (cut lists : ListsView) (k place : ℕ) (abs : Bounds)
       → place ≡ r.id → IsRecord r → IsSome (record_of w r.id) → abs ≡ abs_of r
       → cut ≡ removed w.lists r.id → SetsOnly w.lists cut r.id None → IsProper cut
-      → k ≡ (if is_solid r.kind then node_of w.tree abs else 31 + node_of w.tree abs) → lists ≡ inserted cut k r.id
+      → k ≡ (if is_solid r.kind then node_of w.tree abs else nodes_in w.tree.depth + node_of w.tree abs) → lists ≡ inserted cut k r.id
       → SetsOnly cut lists r.id (Some k) → IsProper lists
       → IsKept (world_of w.tree (slice_set w.records place (Some r)) lists) (slice_set boxes place (Some abs)) live
   kept_again r cut lists k place abs own is live_id box unlinked cut_sets cut_proper list made sets proper = record {
@@ -229,7 +230,7 @@ module _ (w : WorldView) (boxes : List (Option Bounds)) (live : List ℕ) (kept 
   -- it is the world without the old record, with the new one
   pub world_again : (r : Rec) (cut lists : ListsView) (k place : ℕ) (abs : Bounds)
       → place ≡ r.id → abs ≡ abs_of r → cut ≡ removed w.lists r.id
-      → k ≡ (if is_solid r.kind then node_of w.tree abs else 31 + node_of w.tree abs) → lists ≡ inserted cut k r.id
+      → k ≡ (if is_solid r.kind then node_of w.tree abs else nodes_in w.tree.depth + node_of w.tree abs) → lists ≡ inserted cut k r.id
       → world_of w.tree (slice_set w.records place (Some r)) lists ≡ with_record (without_id w r.id) r
   world_again r cut lists k place abs own box unlinked list made =
       ap (λ rs. world_of w.tree rs lists) (ap (λ i. slice_set w.records i (Some r)) own ∙ sym (set-set w.records r.id None (Some r)))

@@ -1,10 +1,11 @@
 -- What stays linked when a record is put in or taken out.
-use Rattle.std.proofs.Common.{◌≡◌, ℕ, ◌<◌, List, [], Option, Some, None, replicate, slice_set, length, sym, ap, ◌∙◌, subst, inl, inr, arith, get_or-set_same, get_or-set_other}
+use Rattle.std.proofs.Common.{◌≡◌, ℕ, ◌*◌, ◌<◌, List, [], Option, Some, None, replicate, slice_set, length, sym, ap, ◌∙◌, subst, inl, inr, arith, get_or-set_same, get_or-set_other}
 use Rattle.std.specs.Option.{option_map}
 use Rattle.std.proofs.lemmas.Bool.{cases_eq, cases_lt}
 use Rattle.std.proofs.lemmas.List.{get_or_past, get_or-replicate, length-map, length-replicate, length-set}
 use Rattle.std.proofs.lemmas.Option.{none-some, same_Some}
-use Rattle.areanode.specs.Trees.{TreeView}
+use Rattle.areanode.specs.Trees.{TreeView, IsTreeDepth, nodes_in}
+use Rattle.entity_recs.specs.declared.limits.TheConstants.{IDS}
 use Rattle.entity_recs.specs.declared.kind.Kind.{Kind}
 use Rattle.entity_recs.specs.declared.kind.Kind.TheVariants.{Player, Ammo, Gem, Teleporter, Goal, Lift}
 use Rattle.entity_recs.specs.declared.rec.Rec.{Rec}
@@ -14,8 +15,8 @@ use Rattle.link_lists.proofs.Pools.{IsProper-empty, where_of-empty}
 use Rattle.world_tree.specs.Live.{record_at, IsEntry, AreEntries}
 use Rattle.world_tree.specs.Worlds.{WorldView, world_of, list_for, IsLinked}
 
--- the ids of records are below 256
-id_of_kind-below : (kind : Kind) (id : ℕ) → IsIdOf kind id → id < 256
+-- the ids of records are among the ids
+id_of_kind-below : (kind : Kind) (id : ℕ) → IsIdOf kind id → id < IDS
 id_of_kind-below Player id h = omega arith
 id_of_kind-below Ammo id h = omega arith
 id_of_kind-below Gem id h = omega arith
@@ -23,7 +24,7 @@ id_of_kind-below Teleporter id h = omega arith
 id_of_kind-below Goal id h = omega arith
 id_of_kind-below Lift id h = omega arith
 
-pub id-below : (r : Rec) → IsRecord r → r.id < 256
+pub id-below : (r : Rec) → IsRecord r → r.id < IDS
 id-below r is = id_of_kind-below r.kind r.id is.id
 
 -- no id is live among empty places
@@ -34,17 +35,18 @@ record_at-empty n id = elim (cases_lt id n) [
 ]
 
 pub linked_empty : (tree : TreeView) (records : List (Option Rec)) (lists : ListsView)
-    → tree.depth ≡ 4 → records ≡ replicate 256 None → lists ≡ empty_pool 256 62 → IsLinked (world_of tree records lists)
+    → IsTreeDepth tree.depth → records ≡ replicate IDS None → lists ≡ empty_pool IDS (2 * nodes_in tree.depth)
+    → IsLinked (world_of tree records lists)
 linked_empty tree records lists depth none empty = record {
   depth = depth;
-  places = ap (λ (rs : List (Option Rec)). length rs) none ∙ length-replicate {A = Option Rec} 256 None;
+  places = ap (λ (rs : List (Option Rec)). length rs) none ∙ length-replicate {A = Option Rec} IDS None;
   ids = ap (λ (p : ListsView). p.ids) empty;
-  list_count = ap (λ (p : ListsView). length p.lists) empty ∙ length-replicate {A = List ℕ} 62 [];
-  entries = λ id r is. absurd (none-some r (sym (ap (λ rs. record_at rs id) none ∙ record_at-empty 256 id) ∙ is));
-  proper = subst IsProper (sym empty) (IsProper-empty 256 62);
+  list_count = ap (λ (p : ListsView). length p.lists) empty ∙ length-replicate {A = List ℕ} (2 * nodes_in tree.depth) [];
+  entries = λ id r is. absurd (none-some r (sym (ap (λ rs. record_at rs id) none ∙ record_at-empty IDS id) ∙ is));
+  proper = subst IsProper (sym empty) (IsProper-empty IDS (2 * nodes_in tree.depth));
   linked = λ id.
-      ap (λ p. where_of p id) empty ∙ where_of-empty 256 62 id
-      ∙ sym (ap (option_map (list_for tree)) (ap (λ rs. record_at rs id) none ∙ record_at-empty 256 id));
+      ap (λ p. where_of p id) empty ∙ where_of-empty IDS (2 * nodes_in tree.depth) id
+      ∙ sym (ap (option_map (list_for tree)) (ap (λ rs. record_at rs id) none ∙ record_at-empty IDS id));
 }
 
 -- a record put in where its id isn't live

@@ -4,6 +4,7 @@ use Rattle.std.specs.List.{cons_option}
 use Rattle.std.proofs.lemmas.Bool.{false≢true}
 use Rattle.std.proofs.lemmas.List.{drop_more}
 use Rattle.std.proofs.Math.ListN.{drop_of_length-le}
+use Rattle.entity_recs.specs.declared.limits.TheConstants.{IDS}
 use Rattle.entity_recs.specs.declared.rec.Rec.{Rec}
 use Rattle.world_tree.specs.Walks.{marked_record, picked}
 
@@ -55,9 +56,9 @@ module _ (marks : List Bool) (records : List (Option Rec)) (out more : List Rec)
       ap (λ (xs : List Rec). xs ++ picked (drop (i + 1) marks) (drop (i + 1) records)) same
       ∙ ap (λ (xs : List Rec). out ++ xs) (sym (step ∙ left)) ∙ keeps
 
-  pub picking-takes : (r : Rec) (pushed : Bool) (grown : List Rec) → more ≡ grown → length records ≡ 256
+  pub picking-takes : (r : Rec) (pushed : Bool) (grown : List Rec) → more ≡ grown → length records ≡ IDS
       → marked_record (slice_index_or records i None) (slice_index_or marks i false) ≡ Some r
-      → (IsTrue pushed ↔ (length out < 256)) → MatchBool pushed (grown ≡ out ++ r ∷ []) (grown ≡ out)
+      → (IsTrue pushed ↔ (length out < IDS)) → MatchBool pushed (grown ≡ out ++ r ∷ []) (grown ≡ out)
       → more ++ picked (drop (i + 1) marks) (drop (i + 1) records) ≡ picked marks records
   picking-takes r pushed grown same places taken room does =
       let rest = picked (drop (i + 1) marks) (drop (i + 1) records) in
@@ -67,7 +68,7 @@ module _ (marks : List Bool) (records : List (Option Rec)) (out more : List Rec)
       sym (length-append out (picked (drop i marks) (drop i records))) ∙ ap (λ (xs : List Rec). length xs) keeps in
       let one : length (picked (drop i marks) (drop i records)) ≡ length rest + 1 = ap (λ (xs : List Rec). length xs) left ∙ omega arith in
       let few = length-picked marks records in
-      let fits : length out < 256 = omega arith in
+      let fits : length out < IDS = omega arith in
       let grows = same ∙ took pushed (room.1 fits) does in
       ap (λ (xs : List Rec). xs ++ rest) grows ∙ append_assoc out (r ∷ []) rest
       ∙ ap (λ (xs : List Rec). out ++ xs) (sym left) ∙ keeps

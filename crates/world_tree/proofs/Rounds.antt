@@ -43,86 +43,86 @@ unfolding marked
 marked-append boxes region [] ys marks = refl
 marked-append boxes region (x ∷ xs) ys marks = marked-append boxes region xs ys _
 
-ids_at-last : (lists : ListsView) (nodes : List ℕ) (node : ℕ) → ids_at lists (nodes ++ node ∷ []) ≡ ids_at lists nodes ++ (list_of lists node ++ list_of lists (31 + node))
+ids_at-last : (count : ℕ) (lists : ListsView) (nodes : List ℕ) (node : ℕ) → ids_at count lists (nodes ++ node ∷ []) ≡ ids_at count lists nodes ++ (list_of lists node ++ list_of lists (count + node))
 unfolding ids_at
-ids_at-last lists nodes node =
-    flat_map-append (λ n. list_of lists n ++ list_of lists (31 + n)) nodes (node ∷ [])
-    ∙ ap (λ (xs : List ℕ). ids_at lists nodes ++ xs) (append-nil (list_of lists node ++ list_of lists (31 + node)))
+ids_at-last count lists nodes node =
+    flat_map-append (λ n. list_of lists n ++ list_of lists (count + n)) nodes (node ∷ [])
+    ∙ ap (λ (xs : List ℕ). ids_at count lists nodes ++ xs) (append-nil (list_of lists node ++ list_of lists (count + node)))
 
-triggers_at-last : (lists : ListsView) (nodes : List ℕ) (node : ℕ) → triggers_at lists (nodes ++ node ∷ []) ≡ triggers_at lists nodes ++ list_of lists (31 + node)
+triggers_at-last : (count : ℕ) (lists : ListsView) (nodes : List ℕ) (node : ℕ) → triggers_at count lists (nodes ++ node ∷ []) ≡ triggers_at count lists nodes ++ list_of lists (count + node)
 unfolding triggers_at
-triggers_at-last lists nodes node =
-    flat_map-append (λ n. list_of lists (31 + n)) nodes (node ∷ [])
-    ∙ ap (λ (xs : List ℕ). triggers_at lists nodes ++ xs) (append-nil (list_of lists (31 + node)))
+triggers_at-last count lists nodes node =
+    flat_map-append (λ n. list_of lists (count + n)) nodes (node ∷ [])
+    ∙ ap (λ (xs : List ℕ). triggers_at count lists nodes ++ xs) (append-nil (list_of lists (count + node)))
 
-module _ (lists : ListsView) (boxes : List (Option Bounds)) (region : List Bounds) (start : List Bool) (test : ℕ → Bool) where
-  pub round-begins : start ≡ marked boxes region (ids_at lists (passing test 0)) start
+module _ (count : ℕ) (lists : ListsView) (boxes : List (Option Bounds)) (region : List Bounds) (start : List Bool) (test : ℕ → Bool) where
+  pub round-begins : start ≡ marked boxes region (ids_at count lists (passing test 0)) start
   unfolding marked ids_at
   round-begins = refl
 
   pub round-takes : (node : ℕ) (marks half more : List Bool) → test node ≡ true
-      → marks ≡ marked boxes region (ids_at lists (passing test node)) start
+      → marks ≡ marked boxes region (ids_at count lists (passing test node)) start
       → half ≡ marked boxes region (list_of lists node) marks
-      → more ≡ marked boxes region (list_of lists (31 + node)) half
-      → more ≡ marked boxes region (ids_at lists (passing test (node + 1))) start
+      → more ≡ marked boxes region (list_of lists (count + node)) half
+      → more ≡ marked boxes region (ids_at count lists (passing test (node + 1))) start
   round-takes node marks half more is before first second =
-      second ∙ ap (marked boxes region (list_of lists (31 + node))) first
-      ∙ sym (marked-append boxes region (list_of lists node) (list_of lists (31 + node)) marks)
-      ∙ ap (marked boxes region (list_of lists node ++ list_of lists (31 + node))) before
-      ∙ sym (marked-append boxes region (ids_at lists (passing test node)) (list_of lists node ++ list_of lists (31 + node)) start)
-      ∙ ap (λ ids. marked boxes region ids start) (sym (ids_at-last lists (passing test node) node))
-      ∙ ap (λ nodes. marked boxes region (ids_at lists nodes) start) (sym (passing-takes test node is))
+      second ∙ ap (marked boxes region (list_of lists (count + node))) first
+      ∙ sym (marked-append boxes region (list_of lists node) (list_of lists (count + node)) marks)
+      ∙ ap (marked boxes region (list_of lists node ++ list_of lists (count + node))) before
+      ∙ sym (marked-append boxes region (ids_at count lists (passing test node)) (list_of lists node ++ list_of lists (count + node)) start)
+      ∙ ap (λ ids. marked boxes region ids start) (sym (ids_at-last count lists (passing test node) node))
+      ∙ ap (λ nodes. marked boxes region (ids_at count lists nodes) start) (sym (passing-takes test node is))
 
   pub round-skips : (node : ℕ) (marks : List Bool) → test node ≡ false
-      → marks ≡ marked boxes region (ids_at lists (passing test node)) start
-      → marks ≡ marked boxes region (ids_at lists (passing test (node + 1))) start
-  round-skips node marks isnt before = before ∙ ap (λ nodes. marked boxes region (ids_at lists nodes) start) (sym (passing-skips test node isnt))
+      → marks ≡ marked boxes region (ids_at count lists (passing test node)) start
+      → marks ≡ marked boxes region (ids_at count lists (passing test (node + 1))) start
+  round-skips node marks isnt before = before ∙ ap (λ nodes. marked boxes region (ids_at count lists nodes) start) (sym (passing-skips test node isnt))
 
--- how many looks there are at the triggers of these nodes
-abbrev pub looks_at : ListsView → List ℕ → ℕ
-looks_at lists nodes = length nodes + sum_by (λ node. length (list_of lists (31 + node))) nodes
+-- how many looks there are at the triggers of these nodes, in a tree with this many nodes
+abbrev pub looks_at : ℕ → ListsView → List ℕ → ℕ
+looks_at count lists nodes = length nodes + sum_by (λ node. length (list_of lists (count + node))) nodes
 
-looks_at-last : (lists : ListsView) (nodes : List ℕ) (node : ℕ) → looks_at lists (nodes ++ node ∷ []) ≡ looks_at lists nodes + (1 + length (list_of lists (31 + node)))
-looks_at-last lists nodes node =
+looks_at-last : (count : ℕ) (lists : ListsView) (nodes : List ℕ) (node : ℕ) → looks_at count lists (nodes ++ node ∷ []) ≡ looks_at count lists nodes + (1 + length (list_of lists (count + node)))
+looks_at-last count lists nodes node =
     let longer = length-append nodes (node ∷ []) in
-    let sums = sum_by-append (λ n. length (list_of lists (31 + n))) nodes (node ∷ []) in
+    let sums = sum_by-append (λ n. length (list_of lists (count + n))) nodes (node ∷ []) in
     omega arith
 
 -- the round over the triggers keeps the marks and the count
-pub record KeepsRound (lists : ListsView) (boxes : List (Option Bounds)) (region : List Bounds) (start : List Bool) (before : ℕ) (nodes : List ℕ) (marks : List Bool) (steps : ℕ) : Type 0 where
-  pub marking : marks ≡ marked boxes region (triggers_at lists nodes) start
-  pub counted : steps ≡ before + looks_at lists nodes
+pub record KeepsRound (count : ℕ) (lists : ListsView) (boxes : List (Option Bounds)) (region : List Bounds) (start : List Bool) (before : ℕ) (nodes : List ℕ) (marks : List Bool) (steps : ℕ) : Type 0 where
+  pub marking : marks ≡ marked boxes region (triggers_at count lists nodes) start
+  pub counted : steps ≡ before + looks_at count lists nodes
 
-module _ (lists : ListsView) (boxes : List (Option Bounds)) (region : List Bounds) (start : List Bool) (before : ℕ) (test : ℕ → Bool) where
-  pub counted_round-begins : KeepsRound lists boxes region start before (passing test 0) start before
+module _ (count : ℕ) (lists : ListsView) (boxes : List (Option Bounds)) (region : List Bounds) (start : List Bool) (before : ℕ) (test : ℕ → Bool) where
+  pub counted_round-begins : KeepsRound count lists boxes region start before (passing test 0) start before
   unfolding marked triggers_at
   counted_round-begins = record { marking = refl; counted = omega arith }
 
   pub counted_round-takes : (node : ℕ) (marks more : List Bool) (steps later : ℕ) → test node ≡ true
-      → KeepsRound lists boxes region start before (passing test node) marks steps
-      → more ≡ marked boxes region (list_of lists (31 + node)) marks
-      → later ≡ steps + (1 + length (list_of lists (31 + node)))
-      → KeepsRound lists boxes region start before (passing test (node + 1)) more later
+      → KeepsRound count lists boxes region start before (passing test node) marks steps
+      → more ≡ marked boxes region (list_of lists (count + node)) marks
+      → later ≡ steps + (1 + length (list_of lists (count + node)))
+      → KeepsRound count lists boxes region start before (passing test (node + 1)) more later
   counted_round-takes node marks more steps later is keeps does counts = record {
     marking =
-        does ∙ ap (marked boxes region (list_of lists (31 + node))) keeps.marking
-        ∙ sym (marked-append boxes region (triggers_at lists (passing test node)) (list_of lists (31 + node)) start)
-        ∙ ap (λ ids. marked boxes region ids start) (sym (triggers_at-last lists (passing test node) node))
-        ∙ ap (λ nodes. marked boxes region (triggers_at lists nodes) start) (sym (passing-takes test node is));
+        does ∙ ap (marked boxes region (list_of lists (count + node))) keeps.marking
+        ∙ sym (marked-append boxes region (triggers_at count lists (passing test node)) (list_of lists (count + node)) start)
+        ∙ ap (λ ids. marked boxes region ids start) (sym (triggers_at-last count lists (passing test node) node))
+        ∙ ap (λ nodes. marked boxes region (triggers_at count lists nodes) start) (sym (passing-takes test node is));
     counted =
-        let last = ap (looks_at lists) (passing-takes test node is) ∙ looks_at-last lists (passing test node) node in
+        let last = ap (looks_at count lists) (passing-takes test node is) ∙ looks_at-last count lists (passing test node) node in
         omega (arith, keeps.counted);
   }
 
   pub counted_round-skips : (node : ℕ) (marks more : List Bool) (steps later : ℕ) → test node ≡ false
-      → KeepsRound lists boxes region start before (passing test node) marks steps
+      → KeepsRound count lists boxes region start before (passing test node) marks steps
       → more ≡ marks → later ≡ steps
-      → KeepsRound lists boxes region start before (passing test (node + 1)) more later
+      → KeepsRound count lists boxes region start before (passing test (node + 1)) more later
   counted_round-skips node marks more steps later isnt keeps same_marks same_steps = record {
     marking =
         same_marks ∙ keeps.marking
-        ∙ ap (λ nodes. marked boxes region (triggers_at lists nodes) start) (sym (passing-skips test node isnt));
-    counted = same_steps ∙ keeps.counted ∙ ap (λ nodes. before + looks_at lists nodes) (sym (passing-skips test node isnt));
+        ∙ ap (λ nodes. marked boxes region (triggers_at count lists nodes) start) (sym (passing-skips test node isnt));
+    counted = same_steps ∙ keeps.counted ∙ ap (λ nodes. before + looks_at count lists nodes) (sym (passing-skips test node isnt));
   }
 
 -- one that passes is among the passing

@@ -4,9 +4,8 @@ use Rattle.std.specs.List.{range_with_len}
 use Rattle.arena_geo.specs.Bounds.{Bounds}
 use Rattle.arena_geo.specs.Boxes.{is_blocked}
 use Rattle.arena_geo.specs.Regions.{touches_region}
-use Rattle.areanode.specs.declared.sizes.TheConstants.{NODES}
 use Rattle.areanode.specs.Words.{has_bit}
-use Rattle.areanode.specs.Trees.{TreeView, leaves_of, visited_of}
+use Rattle.areanode.specs.Trees.{TreeView, nodes_in, leaves_of, visited_of}
 use Rattle.entity_recs.specs.declared.rec.Rec.{Rec}
 use Rattle.entity_recs.specs.Kinds.{is_solid}
 use Rattle.entity_recs.specs.Bodies.{body_of, abs_of, is_touched}
@@ -37,11 +36,11 @@ is_free records body fixed except =
 
 -- the nodes that are visited for the leaves of a region, in rising number
 abbrev pub nodes_for : TreeView → List Bounds → List ℕ
-nodes_for tree region = filter (has_bit (visited_of tree.depth (leaves_of tree region))) (range_with_len 0 NODES)
+nodes_for tree region = filter (has_bit (visited_of tree.depth (leaves_of tree region))) (range_with_len 0 (nodes_in tree.depth))
 
 -- how many looks it takes to find the triggers that touch a box: one at each visited node, and one at each trigger
 -- linked there
 abbrev pub looks_for : WorldView → Bounds → ℕ
 looks_for w abs =
-    length (nodes_for w.tree (abs ∷ [])) + sum_by (λ node. length (list_of w.lists (NODES + node))) (nodes_for w.tree (abs
-    ∷ []))
+    length (nodes_for w.tree (abs ∷ []))
+    + sum_by (λ node. length (list_of w.lists (nodes_in w.tree.depth + node))) (nodes_for w.tree (abs ∷ []))

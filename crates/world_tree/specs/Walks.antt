@@ -6,7 +6,6 @@ use Rattle.std.specs.Option.{option_map_or}
 use Rattle.arena_geo.specs.Bounds.{Bounds}
 use Rattle.arena_geo.specs.Boxes.{overlaps}
 use Rattle.arena_geo.specs.Regions.{touches_region}
-use Rattle.areanode.specs.declared.sizes.TheConstants.{NODES}
 use Rattle.entity_recs.specs.declared.rec.Rec.{Rec}
 use Rattle.entity_recs.specs.Kinds.{is_solid}
 use Rattle.entity_recs.specs.Bodies.{body_of}
@@ -21,13 +20,13 @@ unfoldable pub marked : List (Option Bounds) → List Bounds → List ℕ → Li
 marked boxes region [] marks = marks
 marked boxes region (id ∷ ids) marks = marked boxes region ids (slice_set marks id (touches_at boxes region id))
 
--- the ids at these nodes, the solids of each before its triggers
-unfoldable pub ids_at : ListsView → List ℕ → List ℕ
-ids_at lists nodes = flat_map (λ node. list_of lists node ++ list_of lists (NODES + node)) nodes
+-- the ids at these nodes of a tree with this many nodes, the solids of each before its triggers
+unfoldable pub ids_at : ℕ → ListsView → List ℕ → List ℕ
+ids_at count lists nodes = flat_map (λ node. list_of lists node ++ list_of lists (count + node)) nodes
 
--- the triggers at these nodes
-unfoldable pub triggers_at : ListsView → List ℕ → List ℕ
-triggers_at lists nodes = flat_map (λ node. list_of lists (NODES + node)) nodes
+-- the triggers at these nodes of a tree with this many nodes
+unfoldable pub triggers_at : ℕ → ListsView → List ℕ → List ℕ
+triggers_at count lists nodes = flat_map (λ node. list_of lists (count + node)) nodes
 
 -- the record of a place, if the place is marked
 abbrev pub marked_record : Option Rec → Bool → Option Rec

@@ -2,8 +2,7 @@
 use Rattle.std.specs.Prelude.{◌≡◌, ℕ, ◌+◌, ◌*◌, if◌then◌else◌, List, fold, length, replicate, Option, Some, None, slice_set}
 use Rattle.std.specs.Option.{option_map}
 use Rattle.arena_geo.specs.Bounds.{Bounds}
-use Rattle.areanode.specs.declared.sizes.TheConstants.{DEPTH, NODES}
-use Rattle.areanode.specs.Trees.{TreeView, node_of}
+use Rattle.areanode.specs.Trees.{TreeView, IsTreeDepth, nodes_in, node_of}
 use Rattle.entity_recs.specs.declared.limits.TheConstants.{IDS}
 use Rattle.entity_recs.specs.declared.rec.Rec.{Rec}
 use Rattle.entity_recs.specs.Kinds.{is_solid}
@@ -27,16 +26,16 @@ record_of w id = record_at w.records id
 
 -- the list of a record: that of the node of its absolute box for a solid, and as many further on as there are nodes for a trigger
 abbrev pub list_for : TreeView → Rec → ℕ
-list_for tree r = if is_solid r.kind then node_of tree (abs_of r) else NODES + node_of tree (abs_of r)
+list_for tree r = if is_solid r.kind then node_of tree (abs_of r) else nodes_in tree.depth + node_of tree (abs_of r)
 
 -- Quake's SV_LinkEdict: each live id is in one list, there once, and the list is that of its record; no other id is in
 -- any.
 -- The records are by id, each within its bounds, and there are two lists for each node.
 pub record IsLinked (w : WorldView) : Type 0 where
-  pub depth : w.tree.depth ≡ DEPTH
+  pub depth : IsTreeDepth w.tree.depth
   pub places : length w.records ≡ IDS
   pub ids : w.lists.ids ≡ IDS
-  pub list_count : length w.lists.lists ≡ 2 * NODES
+  pub list_count : length w.lists.lists ≡ 2 * nodes_in w.tree.depth
   pub entries : AreEntries w.records
   pub proper : IsProper w.lists
   pub linked : (id : ℕ) → where_of w.lists id ≡ option_map (list_for w.tree) (record_of w id)
@@ -48,12 +47,12 @@ pub record IsKept (w : WorldView) (boxes : List (Option Bounds)) (live : List �
   pub boxes_are : boxes ≡ boxes_of w.records
   pub live_are : live ≡ ids_of w.records
 
--- the world over these bounds in which no id is live
-abbrev pub empty_world : Bounds → WorldView
-empty_world bounds = record {
-  tree = record { depth = DEPTH; bounds = bounds };
+-- the world over these bounds, with a tree of this depth, in which no id is live
+abbrev pub empty_world : Bounds → ℕ → WorldView
+empty_world bounds depth = record {
+  tree = record { depth = depth; bounds = bounds };
   records = replicate IDS None;
-  lists = empty_pool IDS (2 * NODES);
+  lists = empty_pool IDS (2 * nodes_in depth);
 }
 
 -- the world with this record, its id first in the record's list

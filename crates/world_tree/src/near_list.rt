@@ -24,7 +24,7 @@ const NOBODY: Rec = Rec {
     state: 0,
 };
 
-/// A list of records, at most [`NEAR_RECORDS`] of them. It takes no memory: it holds the room for all of them, about 18
+/// A list of records, at most [`NEAR_RECORDS`] of them. It takes no memory: it holds the room for all of them, about 37
 /// KB.
 #[derive(Drop)]
 pub struct NearList {

@@ -1,6 +1,6 @@
-ghost use Rattle.std.specs.Prelude.{◌≡◌, ◌+◌, ◌<◌, false, [], filter, length, replicate, slice_index_or, slice_set, sum_by, None};
+ghost use Rattle.std.specs.Prelude.{◌≡◌, ◌+◌, ◌<◌, ◌≤◌, false, [], filter, length, replicate, slice_index_or, slice_set, sum_by, None};
 ghost use Rattle.std.specs.List.{list_any, range_with_len};
-ghost use Rattle.areanode.specs.declared.sizes.TheConstants.{NODES};
+ghost use Rattle.areanode.specs.declared.sizes.TheConstants.{MOST_NODES};
 ghost use Rattle.areanode.specs.Words.{has_bit};
 ghost use Rattle.entity_recs.specs.declared.rec.Rec.{Rec};
 ghost use Rattle.entity_recs.specs.Records.{IsRecord};
@@ -11,15 +11,14 @@ ghost use Rattle.world_tree.specs.Walks as walks;
 
 use crate::near_list::NearList;
 use crate::steps::Steps;
-use crate::world::NODE_LISTS;
 use arena_geo::{Aabb, Region};
 use entity_recs::{IDS, Rec, body_box};
 use link_lists::Lists;
 use std::sync::ledger::Ledger;
 
 /// Whether the node is among those of the word, bit i for node i.
-fn is_among(nodes: u32, node: u8) -> bool
-    requires { node < NODES }
+fn is_among(nodes: u64, node: u8) -> bool
+    requires { node < MOST_NODES }
     ensures { result ≡ has_bit nodes node }
 {
     nodes >> node & 1 == 1
@@ -90,42 +89,52 @@ fn mark_counted<L: Ledger>(
     }
 }
 
-/// The marks of the live ids that are linked at these nodes and touch the region, bit i of the word for node i.
-pub fn touched_at(lists: &Lists, boxes: &[Option<Aabb>], region: &Region, nodes: u32) -> [bool; IDS]
+/// The marks of the live ids that are linked at these nodes of a tree with `count` nodes and touch the region, bit i of
+/// the word for node i.
+pub fn touched_at(
+    lists: &Lists,
+    boxes: &[Option<Aabb>],
+    region: &Region,
+    nodes: u64,
+    count: u8,
+) -> [bool; IDS]
     requires ids { lists.now.ids ≡ IDS }
+    requires count { count ≤ MOST_NODES }
     ensures { result ≡ walks.marked boxes.now region.now
-        (walks.ids_at lists.now (filter (has_bit nodes) (range_with_len 0 NODES))) (replicate IDS false) }
+        (walks.ids_at count lists.now (filter (has_bit nodes) (range_with_len 0 count))) (replicate IDS false) }
 {
     let mut marks = [false; IDS];
-    for node in 0..NODE_LISTS {
+    for node in 0..count {
         if is_among(nodes, node) {
             mark_list(lists, node, boxes, region, &mut marks);
-            mark_list(lists, NODE_LISTS + node, boxes, region, &mut marks);
+            mark_list(lists, count + node, boxes, region, &mut marks);
         }
     }
     marks
 }
 
-/// The marks of the triggers that are linked at these nodes and touch the region. Counts a look at each node that it
-/// enters and at each link that it follows.
+/// The marks of the triggers that are linked at these nodes of a tree with `count` nodes and touch the region. Counts a
+/// look at each node that it enters and at each link that it follows.
 pub fn touched_triggers<L: Ledger>(
     lists: &Lists,
     boxes: &[Option<Aabb>],
     region: &Region,
-    nodes: u32,
+    nodes: u64,
+    count: u8,
     steps: &mut Steps<L>,
 ) -> [bool; IDS]
     requires ids { lists.now.ids ≡ IDS }
+    requires count { count ≤ MOST_NODES }
     ensures marks { result ≡ walks.marked boxes.now region.now
-        (walks.triggers_at lists.now (filter (has_bit nodes) (range_with_len 0 NODES))) (replicate IDS false) }
-    ensures looks { steps.new ≡ steps.old + (length (filter (has_bit nodes) (range_with_len 0 NODES))
-        + sum_by (λ node. length (list_of lists.now (NODES + node))) (filter (has_bit nodes) (range_with_len 0 NODES))) }
+        (walks.triggers_at count lists.now (filter (has_bit nodes) (range_with_len 0 count))) (replicate IDS false) }
+    ensures looks { steps.new ≡ steps.old + (length (filter (has_bit nodes) (range_with_len 0 count))
+        + sum_by (λ node. length (list_of lists.now (count + node))) (filter (has_bit nodes) (range_with_len 0 count))) }
 {
     let mut marks = [false; IDS];
-    for node in 0..NODE_LISTS {
+    for node in 0..count {
         if is_among(nodes, node) {
             steps.tick();
-            mark_counted(lists, NODE_LISTS + node, boxes, region, &mut marks, steps);
+            mark_counted(lists, count + node, boxes, region, &mut marks, steps);
         }
     }
     marks

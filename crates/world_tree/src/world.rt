@@ -1,7 +1,7 @@
 ghost use Rattle.std.specs.Prelude.{◌≡◌, ℕ, ◌+◌, ◌*◌, ◌<◌, ◌==◌, if◌then◌else◌, [], map, nat_eq, replicate, All, IfOk, IsSome, None};
 ghost use Rattle.std.specs.List.{find, IsDistinct};
 ghost use Rattle.std.specs.Option.{option_map};
-ghost use Rattle.areanode.specs.Trees.{node_of};
+ghost use Rattle.areanode.specs.Trees.{IsTreeDepth, nodes_in, node_of};
 ghost use Rattle.entity_recs.specs.Kinds.{is_solid};
 ghost use Rattle.entity_recs.specs.Records.{IsRecord};
 ghost use Rattle.entity_recs.specs.Bodies.{abs_of};
@@ -17,7 +17,7 @@ use crate::steps::Steps;
 use crate::walk::{
     box_at, gather, is_blocked_by_solids, record_at, touched_at, touched_triggers, unmark,
 };
-use areanode::{NODES, Tree, visited};
+use areanode::Tree;
 use arena_geo::{Aabb, Region};
 use entity_recs::{IDS, Kind, Rec, abs_box};
 use link_lists::Lists;
@@ -25,11 +25,9 @@ use std::alloc::{AllocError, Global};
 use std::marker::Model;
 use std::sync::ledger::Ledger;
 
-/// The number of lists of solids, one for each node of the tree. As many lists of triggers come after them.
-pub const NODE_LISTS: u8 = NODES as u8;
-
 /// The live records, each linked in a list of the node of the areanode tree that its absolute box demands, as Quake's
-/// `SV_LinkEdict` does: list i has the solids of node i, and the list [`NODES`] further on its triggers. Each live id is in one list.
+/// `SV_LinkEdict` does: list i has the solids of node i, and the list [`Tree::nodes`] further on its triggers. Each live
+/// id is in one list.
 ///
 /// Records are found by id. Beside each record it keeps the absolute box, and of all records the ids in rising order, so
 /// that no query computes them anew. Only `new` takes memory.
@@ -55,14 +53,14 @@ impl Model for World {
 
 /// The list in which a record of this kind with this absolute box is linked.
 fn list_for(tree: &Tree, kind: Kind, abs: &Aabb) -> u8
-    ensures list { result ≡ (if is_solid kind then node_of tree.now abs.now else NODES + node_of tree.now abs.now) }
-    ensures in_range { result < 2 * NODES }
+    ensures list { result ≡ (if is_solid kind then node_of tree.now abs.now else nodes_in tree.now.depth + node_of tree.now abs.now) }
+    ensures in_range { result < 2 * nodes_in tree.now.depth }
 {
     let node = tree.node_of(abs);
     if kind.is_solid() {
         node
     } else {
-        NODE_LISTS + node
+        tree.nodes() + node
     }
 }
 
@@ -81,31 +79,35 @@ fn no_boxes(alloc: Global, places: usize) -> Result<Vec<Option<Aabb>>, AllocErro
 }
 
 impl World {
-    /// The world over these bounds in which no id is live. It takes all memory that the world ever needs.
-    fn empty(alloc: Global, bounds: &Aabb) -> Result<World, AllocError>
-        ensures made { IfOk result (λ w. w ≡ worlds.empty_world bounds.now) }
+    /// The world over these bounds, with a tree of this depth, in which no id is live. It takes all memory that the world
+    /// ever needs.
+    fn empty(alloc: Global, bounds: &Aabb, depth: u8) -> Result<World, AllocError>
+        requires { IsTreeDepth depth }
+        ensures made { IfOk result (λ w. w ≡ worlds.empty_world bounds.now depth) }
         ensures linked { IfOk result IsLinked }
     {
+        let tree = Tree::new(bounds, depth);
         Ok(World {
-            tree: Tree::new(bounds),
+            tree,
             records: no_records(alloc, IDS)?,
             boxes: no_boxes(alloc, IDS)?,
             live: LiveIds::new(alloc)?,
-            lists: Lists::new(alloc, IDS as u16, 2 * NODE_LISTS)?,
+            lists: Lists::new(alloc, IDS as u16, 2 * tree.nodes())?,
         })
     }
 
-    /// The world over these bounds with these records, put in one after another. The only error is that memory is
-    /// refused, however many records there are.
-    pub fn new(alloc: Global, bounds: &Aabb, start: &[Rec]) -> Result<World, AllocError>
+    /// The world over these bounds, with a tree of this depth and these records, put in one after another. The only
+    /// error is that memory is refused, however many records there are.
+    pub fn new(alloc: Global, bounds: &Aabb, depth: u8, start: &[Rec]) -> Result<World, AllocError>
+        requires depth { IsTreeDepth depth }
         requires records { All IsRecord start.now }
         requires apart { IsDistinct nat_eq (map (λ r. r.id) start.now) }
-        ensures made { IfOk result (λ w. w ≡ worlds.with_records (worlds.empty_world bounds.now) start.now) }
+        ensures made { IfOk result (λ w. w ≡ worlds.with_records (worlds.empty_world bounds.now depth) start.now) }
         ensures records { IfOk result (λ w. (id : ℕ) → record_of w id ≡ find (λ r. r.id == id) start.now) }
-        ensures tree { IfOk result (λ w. w.tree ≡ (worlds.empty_world bounds.now).tree) }
+        ensures tree { IfOk result (λ w. w.tree ≡ (worlds.empty_world bounds.now depth).tree) }
         ensures linked { IfOk result IsLinked }
     {
-        let mut world = World::empty(alloc, bounds)?;
+        let mut world = World::empty(alloc, bounds, depth)?;
         for r in start {
             world.add(*r);
         }
@@ -181,8 +183,8 @@ impl World {
         self.live.as_slice()
     }
 
-    /// The list that the id is linked in: the number of its node for a solid, and [`NODES`] more for a trigger. `None` exactly
-    /// where the id isn't live.
+    /// The list that the id is linked in: the number of its node for a solid, and [`Tree::nodes`] more for a trigger.
+    /// `None` exactly where the id isn't live.
     pub fn list_of(&self, id: u16) -> Option<u8>
         ensures list { result ≡ where_of self.now.lists id }
         ensures own { result ≡ option_map (worlds.list_for self.now.tree) (record_of self.now id) }
@@ -199,7 +201,7 @@ impl World {
         &self.tree
     }
 
-    /// Makes this world as the other, the order of its lists too.
+    /// Makes this world as the other, which has the same tree, the order of its lists too.
     pub fn copy_from(&mut self, o: &World)
         requires { self.old.tree ≡ o.now.tree }
         ensures world { self.new ≡ o.now }
@@ -218,8 +220,8 @@ impl World {
         ensures records { out.new ≡ near_in self.now.records r.now except }
         ensures linked { IsLinked self.now }
     {
-        let nodes = visited(self.tree.leaves_of(r));
-        let mut marks = touched_at(&self.lists, &self.boxes, r, nodes);
+        let nodes = self.tree.visited(self.tree.leaves_of(r));
+        let mut marks = touched_at(&self.lists, &self.boxes, r, nodes, self.tree.nodes());
         unmark(&mut marks, except);
         gather(&self.records, &marks, out);
     }
@@ -234,8 +236,9 @@ impl World {
         ensures linked { IsLinked self.now }
     {
         let region = Region::one(*abs);
-        let nodes = visited(self.tree.leaves_of(&region));
-        let marks = touched_triggers(&self.lists, &self.boxes, &region, nodes, steps);
+        let nodes = self.tree.visited(self.tree.leaves_of(&region));
+        let count = self.tree.nodes();
+        let marks = touched_triggers(&self.lists, &self.boxes, &region, nodes, count, steps);
         gather(&self.records, &marks, out);
     }
 

@@ -1,5 +1,5 @@
 -- Footprint: a move changes only what lies in its region.
-use Rattle.std.proofs.Common.{◌≡◌, ℕ, ◌≤◌, ◌==◌, Bool, true, false, not, ◌&&◌, if◌then◌else◌, List, [], ◌∷◌, Contains, Option, Some, None, refl, sym, ap, ◌∙◌, subst, inl, inr, arith}
+use Rattle.std.proofs.Common.{◌≡◌, ℕ, ◌+◌, ◌≤◌, ◌==◌, Bool, true, false, not, ◌&&◌, if◌then◌else◌, List, [], ◌∷◌, Contains, Option, Some, None, refl, sym, ap, ◌∙◌, subst, inl, inr, arith}
 use Rattle.std.specs.Prelude.{filter_map}
 use Rattle.std.specs.List.{list_any, cons_option, AllByRecursion}
 use Rattle.std.specs.Option.{option_map}
@@ -31,7 +31,7 @@ use Rattle.trigger_rules.proofs.Bounds.{dest-stands}
 use Rattle.trigger_rules.proofs.Steps.{Step, step, item-change, both, walk-keeps-in}
 use Rattle.trigger_rules.proofs.Taken.{stay_themselves, only_leaps}
 use Rattle.arena_actions.specs.Outcomes.{moved_among, outcome_in}
-use Rattle.arena_actions.specs.Regions.{reach_growth, reach_of, first_box, elsewhere, landing_at, landing_of, region_in}
+use Rattle.arena_actions.specs.Regions.{reach_growth, reach_of, first_box, elsewhere, landing_at, landing_of, region_with}
 use Rattle.arena_actions.specs.Takes.{takes}
 use Rattle.arena_actions.specs.Lawful.Growing.{box_within, within-grown_by, abs_within, reach_within}
 use Rattle.arena_actions.specs.Lawful.Inside.{contains-through, touches-wider, IsShort, contains-touched}
@@ -52,10 +52,10 @@ module _ (arena : MapView) (me : Rec) (ms : ℕ) (is_map : IsMap arena) (player 
       (within-grown_by 1066752 16384 1083136 (abs_of (elsewhere me dest)) 16384 16384 16384 (omega arith) (omega arith) (omega arith) (omega arith)
       (abs_within (elsewhere me dest) (elsewhere_is_record me dest player.is_record player.kind near)))
 
-  first_is_box : IsBox (first_box me ms)
-  first_is_box =
-      box_within 1113600 (first_box me ms) (omega arith)
-      (within-grown_by 1097216 16384 1113600 (reach_of me ms) 16384 16384 16384 (omega arith) (omega arith) (omega arith) (omega arith) (reach_within me ms player.is_record short))
+  first_is_box : (room : ℕ) → room ≤ 100000 → IsBox (first_box room me ms)
+  first_is_box room small =
+      box_within (1097216 + room) (first_box room me ms) (omega (arith, small))
+      (within-grown_by 1097216 room (1097216 + room) (reach_of me ms) room room room (omega arith) (omega arith) (omega arith) (omega arith) (reach_within me ms player.is_record short))
 
   -- a landing, if it is there, is a box
   one_is_box : (thing : Rec) (o : Option Bounds) → landing_of arena me (reach_of me ms) thing ≡ o
@@ -81,15 +81,15 @@ module _ (arena : MapView) (me : Rec) (ms : ℕ) (is_map : IsMap arena) (player 
       by None here rest = rest
       by (Some b) here rest = (here.0, rest)
 
-is_region : (arena : MapView) (me : Rec) (c : Command) → IsMap arena → IsPlayerOn arena me → c.ms ≤ 50
-    → IsRegion (region_in arena me c)
-unfolding region_in
-is_region arena me c is_map player short =
+pub is_region : (room : ℕ) (arena : MapView) (me : Rec) (c : Command) → room ≤ 100000 → IsMap arena → IsPlayerOn arena me → c.ms ≤ 50
+    → IsRegion (region_with room arena me c)
+unfolding region_with
+is_region room arena me c small is_map player short =
     let few = few_landings arena me (reach_of me c.ms) is_map in
     record {
       least = omega arith;
       most = omega (arith, few);
-      boxes = All-from_recursion IsBox (region_in arena me c) (first_is_box arena me c.ms is_map player short, all_are_boxes arena me c.ms is_map player short (entities_of arena));
+      boxes = All-from_recursion IsBox (region_with room arena me c) (first_is_box arena me c.ms is_map player short room small, all_are_boxes arena me c.ms is_map player short (entities_of arena));
     }
 
 -- ---- where a leap ends
@@ -143,6 +143,10 @@ lands arena frame moved near ended =
 
 -- ---- the items that are taken
 
+-- what is no longer than this is no longer than more
+pub shorter : (less more : ℕ) (b : Bounds) → less ≤ more → IsShort less b → IsShort more b
+shorter less more b le short = record { x = omega (arith, ints, short.x, le); y = omega (arith, ints, short.y, le); z = omega (arith, ints, short.z, le) }
+
 -- an item's absolute box is short
 item_is_short : (r : Rec) → IsRecord r → is_item r.kind ≡ true → IsShort 16384 (abs_of r)
 item_is_short r is kind = by r.kind kind is.shape
@@ -159,17 +163,17 @@ item_is_short r is kind = by r.kind kind is.shape
     by Goal item shape = cc
     by Lift item shape = cc
 
-contains-is-any : {X : Type 0} (p : X → Bool) (xs : List X) (x : X) → Contains xs x → p x ≡ true → list_any p xs ≡ true
+pub contains-is-any : {X : Type 0} (p : X → Bool) (xs : List X) (x : X) → Contains xs x → p x ≡ true → list_any p xs ≡ true
 contains-is-any p xs x has passes = list_any_at p xs has.0 x has.1 (ap p has.2 ∙ passes)
 
 -- ---- a move
 
-module _ (arena : MapView) (me : Rec) (near : List Rec) (c : Command) (is_map : IsMap arena) (call : IsCall (takes arena) me near c) where
+module _ (room : ℕ) (enough : 16384 ≤ room) (arena : MapView) (me : Rec) (near : List Rec) (c : Command) (is_map : IsMap arena) (call : IsCall (takes arena) me near c) where
   abbrev moved : Rec
   moved = moved_among arena me near c
 
   abbrev region : List Bounds
-  region = region_in arena me c
+  region = region_with room arena me c
 
   short : c.ms ≤ 50
   short = call.player.command.most_ms
@@ -177,7 +181,7 @@ module _ (arena : MapView) (me : Rec) (near : List Rec) (c : Command) (is_map : 
   -- what lies in the reach lies in the region
   reached_is_inside : (b : Bounds) → contains (reach_of me c.ms) b ≡ true → is_inside b region ≡ true
   reached_is_inside b h =
-      inside_first arena me c b (contains-through (first_box me c.ms) (reach_of me c.ms) b (first_contains_reach me c.ms) h)
+      inside_first room arena me c b (contains-through (first_box room me c.ms) (reach_of me c.ms) b (first_contains_reach room me c.ms) h)
 
   before : is_inside (abs_of me) region ≡ true
   before = reached_is_inside (abs_of me) (contains-grown (abs_of me) (reach_growth me c.ms) positive)
@@ -204,7 +208,7 @@ module _ (arena : MapView) (me : Rec) (near : List Rec) (c : Command) (is_map : 
       let there : abs_of w.me ≡ abs_of (elsewhere me l.dest) =
       same_abs_of w.me (elsewhere me l.dest) l.at who.kind who.mins who.maxs in
       ap (λ (b : Bounds). is_inside b region) there
-      ∙ way_contains arena me near c l.r l.dest (abs_of (elsewhere me l.dest)) is_map short call.others l.way (landing_contains_abs me l.dest)
+      ∙ way_contains room arena me near c l.r l.dest (abs_of (elsewhere me l.dest)) is_map short call.others l.way (landing_contains_abs me l.dest)
   walk_is_inside false e =
       let w = touched arena c.frame moved near in
       let self = stay_themselves arena c.frame moved near in
@@ -226,7 +230,7 @@ module _ (arena : MapView) (me : Rec) (near : List Rec) (c : Command) (is_map : 
       let reached =
       touches-wider (reach_of me c.ms) (abs_of moved) (abs_of item) (reach_contains_moved arena me near c short) touch in
       let inside =
-      inside_first arena me c (abs_of item) (contains-touched (reach_of me c.ms) (abs_of item) 16384 (item_is_short item is_record is.kind) reached) in
+      inside_first room arena me c (abs_of item) (contains-touched (reach_of me c.ms) (abs_of item) room (shorter 16384 room (abs_of item) enough (item_is_short item is_record is.kind)) reached) in
       contains-is-any (λ (r : Rec). (r.id == s.id)
       && is_inside (abs_of r) region) near item is.listed (rw (eq-eqb item.id s.id is.own, inside) refl)
 
@@ -246,14 +250,14 @@ module _ (arena : MapView) (me : Rec) (near : List Rec) (c : Command) (is_map : 
       }
 
 -- the region doesn't look at the player's state
-any_state : (arena : MapView) (me : Rec) (state : ℕ) (c : Command)
-    → region_in arena (with_state me state) c ≡ region_in arena me c
-unfolding region_in
-any_state arena me state c = refl
+pub any_state : (room : ℕ) (arena : MapView) (me : Rec) (state : ℕ) (c : Command)
+    → region_with room arena (with_state me state) c ≡ region_with room arena me c
+unfolding region_with
+any_state room arena me state c = refl
 
-pub has_footprint : (arena : MapView) → IsMap arena → HasFootprint (takes arena) (region_in arena) (outcome_in arena)
-has_footprint arena is_map = record {
-  boxes = λ me c has. is_region arena me c is_map (has_player_on arena me c is_map has) has.command.most_ms;
-  any_state = any_state arena;
-  within = λ me near c call. within arena me near c is_map call;
+pub has_footprint : (room : ℕ) → 16384 ≤ room → room ≤ 100000 → (arena : MapView) → IsMap arena → HasFootprint (takes arena) (region_with room arena) (outcome_in arena)
+has_footprint room enough small arena is_map = record {
+  boxes = λ me c has. is_region room arena me c small is_map (has_player_on arena me c is_map has) has.command.most_ms;
+  any_state = any_state room arena;
+  within = λ me near c call. within room enough arena me near c is_map call;
 }

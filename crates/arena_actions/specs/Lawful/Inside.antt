@@ -1,5 +1,5 @@
 -- Boxes in boxes, and what touches them.
-use Rattle.std.proofs.Common.{◌≡◌, ℕ, ◌≤◌, true, ℤ, pos, ◌+ℤ◌, ◌-ℤ◌, ◌≤ℤ◌, unsigned_abs, arith}
+use Rattle.std.proofs.Common.{◌≡◌, ℕ, ◌+◌, ◌≤◌, true, ℤ, pos, ◌+ℤ◌, ◌-ℤ◌, ◌≤ℤ◌, unsigned_abs, arith}
 use Rattle.std.proofs.lemmas.Int.{ints}
 use Rattle.arena_geo.specs.declared.vec3.Vec3.{Vec3}
 use Rattle.arena_geo.specs.Bounds.{Bounds}
@@ -92,3 +92,13 @@ pub contains-larger : (b : Bounds) (x y z x' y' z' : ℕ) → x ≤ x' → y ≤
     → contains (grown b (amount x' y' z')) (grown b (amount x y z)) ≡ true
 contains-larger b x y z x' y' z' less_x less_y less_z =
     all_three (contains_on-larger b.lo.x b.hi.x x x' less_x) (contains_on-larger b.lo.y b.hi.y y y' less_y) (contains_on-larger b.lo.z b.hi.z z z' less_z)
+
+-- an interval that grows twice lies in one that grows by both at once
+contains_on-twice : (lo hi : ℤ) (a b c : ℕ) → a + b ≤ c → contains_on (lo -ℤ pos c) (hi +ℤ pos c) ((lo -ℤ pos a) -ℤ pos b) ((hi +ℤ pos a) +ℤ pos b) ≡ true
+contains_on-twice lo hi a b c less = grind (arith, ints)
+
+-- and so a box
+pub contains-twice : (box : Bounds) (x y z by far_x far_y far_z : ℕ) → x + by ≤ far_x → y + by ≤ far_y → z + by ≤ far_z
+    → contains (grown box (amount far_x far_y far_z)) (grown (grown box (amount x y z)) (amount by by by)) ≡ true
+contains-twice box x y z by far_x far_y far_z less_x less_y less_z =
+    all_three (contains_on-twice box.lo.x box.hi.x x by far_x less_x) (contains_on-twice box.lo.y box.hi.y y by far_y less_y) (contains_on-twice box.lo.z box.hi.z z by far_z less_z)

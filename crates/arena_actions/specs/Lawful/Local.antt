@@ -1,5 +1,5 @@
 -- Locality: a move sees only what touches its region.
-use Rattle.std.proofs.Common.{◌≡◌, ◌≤◌, Bool, true, false, not, ◌||◌, cond, List, [], ◌∷◌, ◌++◌, map, filter, refl, sym, ap, ◌∙◌}
+use Rattle.std.proofs.Common.{◌≡◌, ℕ, ◌≤◌, Bool, true, false, not, ◌||◌, cond, List, [], ◌∷◌, ◌++◌, map, filter, refl, sym, ap, ◌∙◌}
 use Rattle.std.specs.List.{list_any}
 use Rattle.std.proofs.lemmas.List.Elements.{filter-append}
 use Rattle.std.proofs.lemmas.List.Folds.{list_any-append}
@@ -22,7 +22,7 @@ use Rattle.trigger_rules.specs.Laws.{HaveSameWays}
 use Rattle.trigger_rules.proofs.Steps.{both}
 use Rattle.trigger_rules.proofs.Taken.{only_touched}
 use Rattle.arena_actions.specs.Outcomes.{asked, after_move, moved_among, effect_of, outcome_in}
-use Rattle.arena_actions.specs.Regions.{reach_of, first_box, landing_at, region_in}
+use Rattle.arena_actions.specs.Regions.{reach_of, first_box, landing_at, region_with}
 use Rattle.arena_actions.specs.Takes.{takes}
 use Rattle.arena_actions.specs.Lawful.Inside.{contains-through, touches-wider, touches-around}
 use Rattle.arena_actions.specs.Lawful.Players.{player_shape}
@@ -126,9 +126,9 @@ moved_kept map me c keep near short kept =
 
 -- ---- a move
 
-module _ (arena : MapView) (me : Rec) (near : List Rec) (c : Command) (is_map : IsMap arena) (call : IsCall (takes arena) me near c) where
-  keep : Rec → Bool
-  keep r = touches_region (abs_of r) (region_in arena me c)
+module _ (room : ℕ) (arena : MapView) (me : Rec) (near : List Rec) (c : Command) (is_map : IsMap arena) (call : IsCall (takes arena) me near c) where
+  abbrev pub keep : Rec → Bool
+  keep r = touches_region (abs_of r) (region_with room arena me c)
 
   abbrev moved : Rec
   moved = moved_among arena me near c
@@ -138,27 +138,24 @@ module _ (arena : MapView) (me : Rec) (near : List Rec) (c : Command) (is_map : 
 
   -- a record whose body is where the move looks touches the region
   looked_touches : (r : Rec) → overlaps (looked_at me c.ms) (body_of r) ≡ true → keep r ≡ true
-  unfolding keep
   looked_touches r h =
-      touches_first arena me c (abs_of r) (touches-around (first_box me c.ms) (looked_at me c.ms) (body_of r) (abs_of r) (first_contains_looked me c.ms) (abs_contains_body r) h)
+      touches_first room arena me c (abs_of r) (touches-around (first_box room me c.ms) (looked_at me c.ms) (body_of r) (abs_of r) (first_contains_looked room me c.ms) (abs_contains_body r) h)
 
   -- so does a trigger that the player touches where it has moved to
   touched_touches : (r : Rec) → is_touched (abs_of moved) r ≡ true → keep r ≡ true
-  unfolding keep
   touched_touches r h =
       let touch = (both (not (is_solid r.kind)) (touches (abs_of r) (abs_of moved)) h).1 in
       let first =
-      contains-through (first_box me c.ms) (reach_of me c.ms) (abs_of moved) (first_contains_reach me c.ms) (reach_contains_moved arena me near c short) in
-      touches_first arena me c (abs_of r) (touches-wider (first_box me c.ms) (abs_of moved) (abs_of r) first touch)
+      contains-through (first_box room me c.ms) (reach_of me c.ms) (abs_of moved) (first_contains_reach room me c.ms) (reach_contains_moved arena me near c short) in
+      touches_first room arena me c (abs_of r) (touches-wider (first_box room me c.ms) (abs_of moved) (abs_of r) first touch)
 
   -- and what is in the way at the destination of a teleporter that it touches
   way_is_kept : (r : Rec) (dest : Vec3) → IsWay arena moved near r dest → (s : Rec)
       → overlaps (player_body dest) (body_of s) ≡ true → keep s ≡ true
-  unfolding keep
   way_is_kept r dest way s h =
       let player = has_player_on arena me c is_map call.player in
       let shape = player_shape me player.is_record player.kind in
-      way_touches arena me near c r dest (abs_of s) is_map short call.others way
+      way_touches room arena me near c r dest (abs_of s) is_map short call.others way
       (touches-around (landing_at me dest) (player_body dest) (body_of s) (abs_of s) (landing_contains_body me dest (record { low_is = shape.low_is; high_is = shape.high_is })) (abs_contains_body s) h)
 
   same_ways : HaveSameWays arena moved near (filter keep near)
@@ -169,11 +166,16 @@ module _ (arena : MapView) (me : Rec) (near : List Rec) (c : Command) (is_map : 
         from = from;
       }))
 
-  pub local : outcome_in arena me near c ≡ outcome_in arena me (touching (region_in arena me c) near) c
-  unfolding outcome_in keep
-  local =
-      ap effect_of (only_touched arena c.frame moved near (filter keep near) (sym (filter_kept (is_touched (abs_of moved)) keep near touched_touches)) same_ways)
-      ∙ ap (λ (r : Rec). effect_of (touched arena c.frame r (filter keep near))) (moved_kept arena me c keep near short looked_touches)
+  -- the walk over what the player touches after its move
+  pub local_walk : touched arena c.frame moved near
+      ≡ touched arena c.frame (moved_among arena me (filter keep near) c) (filter keep near)
+  local_walk =
+      only_touched arena c.frame moved near (filter keep near) (sym (filter_kept (is_touched (abs_of moved)) keep near touched_touches)) same_ways
+      ∙ ap (λ (r : Rec). touched arena c.frame r (filter keep near)) (moved_kept arena me c keep near short looked_touches)
 
-pub is_local : (arena : MapView) → IsMap arena → HasLocality (takes arena) (region_in arena) (outcome_in arena)
-is_local arena is_map = record { near = λ me near c call. local arena me near c is_map call }
+  pub local : outcome_in arena me near c ≡ outcome_in arena me (touching (region_with room arena me c) near) c
+  unfolding outcome_in
+  local = ap effect_of local_walk
+
+pub is_local : (room : ℕ) (arena : MapView) → IsMap arena → HasLocality (takes arena) (region_with room arena) (outcome_in arena)
+is_local room arena is_map = record { near = λ me near c call. local room arena me near c is_map call }

@@ -28,7 +28,8 @@ use Rattle.arena_map.specs.Validity.{IsSameThing}
 use Rattle.trigger_rules.specs.Touching.{touched_by, solids_among}
 use Rattle.trigger_rules.proofs.Steps.{both}
 use Rattle.arena_actions.specs.Outcomes.{asked, moved_among}
-use Rattle.arena_actions.specs.Regions.{reach_of, first_box, room, elsewhere, landing_at, landing_of, region_in}
+use Rattle.arena_actions.specs.Regions.{reach_of, first_box, room_of, elsewhere, landing_at, landing_of, region_with}
+use Rattle.arena_actions.specs.declared.sizes.TheConstants.{ROOM}
 use Rattle.arena_actions.specs.Takes.{thing_with, takes}
 use Rattle.arena_actions.specs.Lawful.Inside.{contains-through, touches-wider, contains-moved}
 use Rattle.arena_actions.specs.Lawful.Landings.{any_found}
@@ -40,20 +41,20 @@ or_true false b e = e
 
 -- ---- the first box
 
-room_is_positive : IsNotNegative room
-room_is_positive = record { x = omega (arith, ints); y = omega (arith, ints); z = omega (arith, ints) }
+pub room_is_positive : (room : ℕ) → IsNotNegative (room_of room)
+room_is_positive room = record { x = omega (arith, ints); y = omega (arith, ints); z = omega (arith, ints) }
 
 -- the first box contains the reach
-pub first_contains_reach : (me : Rec) (ms : ℕ) → contains (first_box me ms) (reach_of me ms) ≡ true
-first_contains_reach me ms = contains-grown (reach_of me ms) room room_is_positive
+pub first_contains_reach : (room : ℕ) (me : Rec) (ms : ℕ) → contains (first_box room me ms) (reach_of me ms) ≡ true
+first_contains_reach room me ms = contains-grown (reach_of me ms) (room_of room) (room_is_positive room)
 
 -- and where the move looks
 contains_on-looked : (lo hi g : ℤ) (m n k : ℕ) → pos 0 ≤ℤ g → k ≤ m + n
     → contains_on (((lo -ℤ g) -ℤ pos m) -ℤ pos n) (((hi +ℤ g) +ℤ pos m) +ℤ pos n) (lo -ℤ pos k) (hi +ℤ pos k) ≡ true
 contains_on-looked lo hi g m n k positive less = grind (arith, ints)
 
-pub first_contains_looked : (me : Rec) (ms : ℕ) → contains (first_box me ms) (looked_at me ms) ≡ true
-first_contains_looked me ms =
+pub first_contains_looked : (room : ℕ) (me : Rec) (ms : ℕ) → contains (first_box room me ms) (looked_at me ms) ≡ true
+first_contains_looked room me ms =
     let b = body_of me in
     let g = growth_of me.kind in
     let positive = (growth_is_small me.kind).positive in
@@ -61,9 +62,9 @@ first_contains_looked me ms =
     let y = reach_on me.vel.y ms in
     let z = reach_on me.vel.z ms in
     all_three (contains_on-looked b.lo.x b.hi.x g.x (x
-    + 256) 16384 x positive.x (omega arith)) (contains_on-looked b.lo.y b.hi.y g.y (y
-    + 256) 16384 y positive.y (omega arith))
-    (contains_on-looked b.lo.z b.hi.z g.z (z + 4864) 16384 (z + 4609) positive.z (omega arith))
+    + 256) room x positive.x (omega arith)) (contains_on-looked b.lo.y b.hi.y g.y (y
+    + 256) room y positive.y (omega arith))
+    (contains_on-looked b.lo.z b.hi.z g.z (z + 4864) room (z + 4609) positive.z (omega arith))
 
 -- a player that has moved, and touched nothing yet, is within its reach
 pub reach_contains_moved : (map : MapView) (me : Rec) (near : List Rec) (c : Command) → c.ms ≤ 50
@@ -80,17 +81,17 @@ reach_contains_moved map me near c short =
     + 4864) far.x far.y far.z (omega arith) (omega arith) (omega arith)
 
 -- what touches the first box touches the region
-pub touches_first : (map : MapView) (me : Rec) (c : Command) (b : Bounds) → touches b (first_box me c.ms) ≡ true
-    → touches_region b (region_in map me c) ≡ true
-unfolding region_in
-touches_first map me c b h =
+pub touches_first : (room : ℕ) (map : MapView) (me : Rec) (c : Command) (b : Bounds) → touches b (first_box room me c.ms) ≡ true
+    → touches_region b (region_with room map me c) ≡ true
+unfolding region_with
+touches_first room map me c b h =
     ap (λ (t : Bool). t || list_any (touches b) (filter_map (landing_of map me (reach_of me c.ms)) (entities_of map))) h
 
 -- what it contains lies in the region
-pub inside_first : (map : MapView) (me : Rec) (c : Command) (b : Bounds) → contains (first_box me c.ms) b ≡ true
-    → is_inside b (region_in map me c) ≡ true
-unfolding region_in
-inside_first map me c b h =
+pub inside_first : (room : ℕ) (map : MapView) (me : Rec) (c : Command) (b : Bounds) → contains (first_box room me c.ms) b ≡ true
+    → is_inside b (region_with room map me c) ≡ true
+unfolding region_with
+inside_first room map me c b h =
     ap (λ (t : Bool). t || list_any (λ one. contains one b) (filter_map (landing_of map me (reach_of me c.ms)) (entities_of map))) h
 
 -- ---- landings
@@ -129,12 +130,12 @@ way_lands map me near c r dest is_map short taken way thing found same =
     ∙ ap (option_map (landing_at me)) from
 
 -- a test that its landing passes some box of the region passes
-way_passes : (p : Bounds → Bool) (map : MapView) (me : Rec) (near : List Rec) (c : Command) (r : Rec) (dest : Vec3)
+way_passes : (room : ℕ) (p : Bounds → Bool) (map : MapView) (me : Rec) (near : List Rec) (c : Command) (r : Rec) (dest : Vec3)
     → IsMap map → c.ms ≤ 50 → All (λ s. takes map s ≡ true) near
     → IsWay map (moved_among map me near c) near r dest → p (landing_at me dest) ≡ true
-    → list_any p (region_in map me c) ≡ true
-unfolding region_in
-way_passes p map me near c r dest is_map short taken way passes =
+    → list_any p (region_with room map me c) ≡ true
+unfolding region_with
+way_passes room p map me near c r dest is_map short taken way passes =
     let moved = moved_among map me near c in
     let test = is_touched (abs_of moved) in
     let is_taken =
@@ -142,24 +143,24 @@ way_passes p map me near c r dest is_map short taken way passes =
     ≡ true) near taken) way.touched in
     let is = taken_teleporter map r is_taken way.kind in
     let lands = way_lands map me near c r dest is_map short taken way is.thing is.found is.same in
-    or_true (p (first_box me c.ms)) (list_any p (filter_map (landing_of map me (reach_of me c.ms)) (entities_of map)))
+    or_true (p (first_box room me c.ms)) (list_any p (filter_map (landing_of map me (reach_of me c.ms)) (entities_of map)))
     (any_found (landing_of map me (reach_of me c.ms)) p (λ t. t.id == r.id) (entities_of map) is.thing (landing_at me dest) is.found lands passes)
 
-pub way_touches : (map : MapView) (me : Rec) (near : List Rec) (c : Command) (r : Rec) (dest : Vec3) (b : Bounds)
+pub way_touches : (room : ℕ) (map : MapView) (me : Rec) (near : List Rec) (c : Command) (r : Rec) (dest : Vec3) (b : Bounds)
     → IsMap map → c.ms ≤ 50 → All (λ s. takes map s ≡ true) near
     → IsWay map (moved_among map me near c) near r dest → touches b (landing_at me dest) ≡ true
-    → touches_region b (region_in map me c) ≡ true
-way_touches map me near c r dest b = way_passes (touches b) map me near c r dest
+    → touches_region b (region_with room map me c) ≡ true
+way_touches room map me near c r dest b = way_passes room (touches b) map me near c r dest
 
-pub way_contains : (map : MapView) (me : Rec) (near : List Rec) (c : Command) (r : Rec) (dest : Vec3) (b : Bounds)
+pub way_contains : (room : ℕ) (map : MapView) (me : Rec) (near : List Rec) (c : Command) (r : Rec) (dest : Vec3) (b : Bounds)
     → IsMap map → c.ms ≤ 50 → All (λ s. takes map s ≡ true) near
     → IsWay map (moved_among map me near c) near r dest → contains (landing_at me dest) b ≡ true
-    → is_inside b (region_in map me c) ≡ true
-way_contains map me near c r dest b = way_passes (λ one. contains one b) map me near c r dest
+    → is_inside b (region_with room map me c) ≡ true
+way_contains room map me near c r dest b = way_passes room (λ one. contains one b) map me near c r dest
 
 -- a landing contains the player's absolute box there
 pub landing_contains_abs : (me : Rec) (dest : Vec3) → contains (landing_at me dest) (abs_of (elsewhere me dest)) ≡ true
-landing_contains_abs me dest = contains-grown (abs_of (elsewhere me dest)) room room_is_positive
+landing_contains_abs me dest = contains-grown (abs_of (elsewhere me dest)) (room_of ROOM) (room_is_positive ROOM)
 
 -- and the body of a player there
 pub landing_contains_body : (me : Rec) (dest : Vec3) → HasCorners PLAYER_MINS PLAYER_MAXS me.mins me.maxs

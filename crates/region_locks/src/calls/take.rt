@@ -29,8 +29,8 @@ impl<'a, A: Action> NodeTable<'a, A> {
         ensures ok { OnOk result (pass.new ≡ after_in A.meaning self.now 0 pass.old) }
         ensures err { IfErr result (λ h. (found : ℕ)
             × (pass.new ≡ after_in A.meaning self.now found pass.old)
-            × IsHolderIn found node h.number h.leaves × IsOtherHolder (fixed_in A.meaning
-            self.now) (length self.now.rooms) pass.old.number node h.number h.leaves
+            × IsHolderIn (fixed_in A.meaning self.now) found node h.number h.leaves
+            × IsOtherHolder (fixed_in A.meaning self.now) (length self.now.rooms) pass.old.number node h.number h.leaves
             × IsReached (fixed_in A.meaning self.now) pass.old.view node) }
         ensures may_quit { IfErr result (λ h. is_taking pass.new.view.point ≡ true) }
     {
@@ -42,7 +42,7 @@ impl<'a, A: Action> NodeTable<'a, A> {
         if found == 0 {
             Ok(())
         } else {
-            Err(holder_in(found, node))
+            Err(holder_in(found, self.rules().is_leaf(node)))
         }
     }
 

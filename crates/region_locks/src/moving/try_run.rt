@@ -1,6 +1,6 @@
 ghost use Rattle.std.specs.Prelude.{◌≡◌, ℕ, ◌%◌, true, length, None, IfOk, IfErr, OnOk};
 ghost use Rattle.entity_recs.specs.Commands.{Command, command_of};
-ghost use Rattle.core_steps.specs.Views.{Fixed, Refused, has};
+ghost use Rattle.core_steps.specs.Views.{Fixed, Refused, has, inner_nodes};
 ghost use Rattle.ruled_words.specs.Passes.{fixed_in, IsOwn};
 ghost use Rattle.region_locks.specs.Quitting.{MayBegin};
 ghost use Rattle.region_locks.specs.Pursuits.{IsRefusedBy};
@@ -11,17 +11,17 @@ use crate::gate::Gate;
 use crate::pass::Pass;
 use crate::table::NodeTable;
 use crate::went::RefusedTake;
-use areanode::FIRST_LEAF;
 use entity_recs::{Action, Cmd, Entry};
 
-/// Why a move wasn't run, by the take that was refused.
-fn again_after(refusal: RefusedTake) -> Again
-    ensures { (F : Fixed) (passes own : ℕ) (c : Command) (r : Refused) → r.node ≡ refusal.node
-        → IsRefusedBy F passes own c r refusal.holder.number refusal.holder.leaves → IsCause F passes own c r result }
+/// Why a move wasn't run, by the take that was refused, where this is the first leaf's node.
+fn again_after(refusal: RefusedTake, first_leaf: u8) -> Again
+    ensures { (F : Fixed) (passes own : ℕ) (c : Command) (r : Refused) → first_leaf ≡ inner_nodes F
+        → r.node ≡ refusal.node → IsRefusedBy F passes own c r refusal.holder.number refusal.holder.leaves
+        → IsCause F passes own c r result }
 {
-    if usize::from(refusal.node) >= FIRST_LEAF {
+    if refusal.node >= first_leaf {
         Again::Held {
-            leaf: refusal.node - FIRST_LEAF as u8,
+            leaf: refusal.node - first_leaf,
             holder: refusal.holder.number,
             leaves: refusal.holder.leaves,
         }
@@ -66,7 +66,7 @@ impl<'a, A: Action> NodeTable<'a, A> {
         while let Some(turn) = self.turn(pass) {
             if let Err(refusal) = self.step_gated(pass, cmd, turn, &mut entry, gate) {
                 self.give_up(pass);
-                return Err(again_after(refusal));
+                return Err(again_after(refusal, self.first_leaf()));
             }
         }
         Ok(entry.unwrap())

@@ -6,7 +6,6 @@ ghost use Rattle.ruled_words.specs.Straight.{in_view};
 use crate::hand::Hand;
 use crate::shared_words::SharedWords;
 use crate::word_step::WordStep;
-use areanode::FIRST_LEAF;
 use core_seats::{lowest_bit, without_bit};
 use core_steps::node_word;
 use entity_recs::Action;
@@ -44,11 +43,12 @@ impl<'a, A: Action> SharedWords<'a, A> {
         ensures view { hand.new ≡ in_view hand.old (without_command hand.old.view) }
     {
         hand.is_plain();
+        let first = self.first_leaf();
         let mut rest = u64::from(leaves);
         while rest != 0 {
             let leaf = lowest_bit(rest);
             rest = without_bit(rest, leaf);
-            self.give_on(hand, FIRST_LEAF as u8 + leaf);
+            self.give_on(hand, first + leaf);
         }
     }
 }

@@ -11,7 +11,6 @@ ghost use Rattle.ruled_words.specs.WordSteps.{word_by};
 use crate::hand::Hand;
 use crate::shared_words::SharedWords;
 use crate::word_step::WordStep;
-use areanode::FIRST_LEAF;
 use core_seats::{NodeQueue, Refusals, lowest_bit, without_bit};
 use core_steps::{NODE_HOLDERS, node_word};
 use entity_recs::Action;
@@ -121,19 +120,12 @@ impl<'a, A: Action> SharedWords<'a, A> {
         hand.is_plain();
         // The word of a leaf that is held names the pass and the leaves of its command.
         let new = u64::from(hand.number) + NODE_HOLDERS * u64::from(leaves) + 1;
+        let first = self.first_leaf();
         let mut rest = u64::from(leaves);
         while rest != 0 {
             let leaf = lowest_bit(rest);
             rest = without_bit(rest, leaf);
-            self.take_node(
-                rt,
-                hand,
-                refusals,
-                own,
-                wanted,
-                FIRST_LEAF as u8 + leaf,
-                new,
-            );
+            self.take_node(rt, hand, refusals, own, wanted, first + leaf, new);
         }
     }
 }

@@ -3,7 +3,7 @@ ghost use Rattle.core_steps.specs.Stands.{start_words};
 ghost use Rattle.ruled_words.specs.Starts.{fixed_of_world, home_of, start_word_at};
 ghost use Rattle.ruled_words.specs.Starts.{AreStartWords};
 
-use areanode::NODES;
+use areanode::MOST_NODES;
 use core_seats::with_top_bit;
 use core_steps::{
     FIRST_LIST_WORD, FIRST_RECORD_WORD, FIRST_STATE_WORD, TABLE_NODES, TABLE_WORDS, encode,
@@ -19,7 +19,7 @@ const SLOTS: usize = 64;
 fn home_at_start(world: &World, slot: u8) -> Option<u8>
     requires slot { slot < 64 }
     ensures home { result ≡ home_of world.now slot }
-    ensures in_range { (node : ℕ) → result ≡ Some node → node < NODES }
+    ensures in_range { (node : ℕ) → result ≡ Some node → node < MOST_NODES }
 {
     match world.get(u16::from(slot)) {
         Some(r) => Some(world.tree().node_of(&abs_box(&r))),

@@ -4,7 +4,7 @@ ghost use Rattle.entity_recs.specs.Records.{with_state};
 ghost use Rattle.core_steps.specs.Views.{Sensing, Resolving, region_in, things_in};
 ghost use Rattle.core_steps.specs.Steps.{sensing, view_after_state};
 ghost use Rattle.core_seats.specs.NearKept.{AreThings, things_loaded};
-ghost use Rattle.core_seats.specs.ThingColumns.{MarksThings};
+ghost use Rattle.core_seats.specs.ThingStrips.{MarksThings};
 ghost use Rattle.ruled_words.specs.Passes.{fixed_in, IsOwn};
 ghost use Rattle.ruled_words.specs.Straight.{in_view};
 ghost use Rattle.ruled_words.specs.Sensing.{after_thing};
@@ -13,7 +13,7 @@ use crate::hand::Hand;
 use crate::shared_words::SharedWords;
 use crate::word_step::WordStep;
 use arena_geo::Region;
-use core_seats::is_thing_near;
+use core_seats::{ThingBits, next_thing};
 use core_steps::FIRST_STATE_WORD;
 use entity_recs::{Action, Rec};
 use world_tree::NearList;
@@ -33,8 +33,9 @@ impl<'a, A: Action> SharedWords<'a, A> {
         self.rules.map_things()
     }
 
-    /// Bits of the things of the map that touch a region, each by its id modulo 64; those of others may be among them.
-    fn thing_bits(&self, region: &Region) -> u64
+    /// The bits of the things of the map that touch a region, each by its place among the things; those of others may be
+    /// among them.
+    fn thing_bits(&self, region: &Region) -> ThingBits
         ensures { MarksThings (fixed_in A.meaning self.now) region.now result }
     {
         self.rules.thing_bits(region)
@@ -74,11 +75,11 @@ impl<'a, A: Action> SharedWords<'a, A> {
         self.ids_rise();
         let bits = self.thing_bits(region);
         let things = self.map_things();
-        for r in things {
-            if is_thing_near(bits, r, region) {
-                // The list has room for all players and all things.
-                let _ = near.push(self.load_thing(hand, r));
-            }
+        let mut at = 0;
+        while let Some(place) = next_thing(things, &bits, region, at) {
+            // The list has room for all players and all things.
+            let _ = near.push(self.load_thing(hand, &things[place]));
+            at = place + 1;
         }
     }
 }

@@ -1,8 +1,7 @@
 ghost use Rattle.std.specs.Prelude.{◌≡◌, ◌<◌, ◌%◌, ◌^◌, ℕ, [], bit_or};
 ghost use Rattle.areanode.specs.Trees.{leaves_of, visited_of};
-ghost use Rattle.areanode.specs.declared.sizes.TheConstants.{DEPTH};
 ghost use Rattle.core_steps.specs.Steps.{visiting};
-ghost use Rattle.core_steps.specs.Views.{Entering, Entered, Leaving, inner_visited, plan_of, region_in};
+ghost use Rattle.core_steps.specs.Views.{Entering, Entered, Leaving, inner_nodes, inner_visited, plan_of, region_in};
 ghost use Rattle.core_seats.specs.Refusals.{AreRefusals};
 ghost use Rattle.ruled_words.specs.Passes.{fixed_in, IsOwn};
 ghost use Rattle.ruled_words.specs.Straight.{HasKept, IsTriedOn, in_view, in_view_with, nodes_read};
@@ -11,7 +10,6 @@ ghost use Rattle.ruled_words.specs.Visits.{plan_left, read_until, under_until, v
 use crate::hand::Hand;
 use crate::shared_words::SharedWords;
 use crate::word_step::WordStep;
-use areanode::FIRST_LEAF;
 use core_seats::{NodeQueue, Refusals, lowest_bit, without_bit};
 use core_steps::list_word;
 use entity_recs::Action;
@@ -66,12 +64,13 @@ impl<'a, A: Action> SharedWords<'a, A> {
             → HasKept (bit_or seen result) six.new hand.new.view.others }
     {
         hand.is_plain();
+        let first = self.first_leaf();
         let mut seen = 0;
         let mut rest = u64::from(leaves);
         while rest != 0 {
             let leaf = lowest_bit(rest);
             rest = without_bit(rest, leaf);
-            seen |= self.read_under(hand, FIRST_LEAF as u8 + leaf, slot, six);
+            seen |= self.read_under(hand, first + leaf, slot, six);
         }
         seen
     }
@@ -102,7 +101,7 @@ impl<'a, A: Action> SharedWords<'a, A> {
     ) -> u64
         requires own { IsOwn A.meaning self.now hand.old }
         requires at { hand.old.view.point ≡ Entering node (plan_left hand.old.view.point) }
-        requires inner { node < FIRST_LEAF }
+        requires inner { node < inner_nodes (fixed_in A.meaning self.now) }
         requires own_is { own.now ≡ hand.old.view.own }
         requires wanted_is { wanted.now.items ≡ hand.old.view.wanted }
         requires slot { slot ≡ hand.old.view.cmd.slot }
@@ -140,7 +139,7 @@ impl<'a, A: Action> SharedWords<'a, A> {
         requires at { let F = fixed_in A.meaning self.now in let v = hand.old.view in
             v.point ≡ visiting F v (inner_visited F (region_in F v.cmd v.own)) }
         requires inner { let F = fixed_in A.meaning self.now in let v = hand.old.view in
-            inner ≡ visited_of DEPTH (leaves_of F.tree (region_in F v.cmd v.own)) % 2 ^ FIRST_LEAF }
+            inner ≡ visited_of F.tree.depth (leaves_of F.tree (region_in F v.cmd v.own)) % 2 ^ inner_nodes F }
         requires own_is { own.now ≡ hand.old.view.own }
         requires wanted_is { wanted.now.items ≡ hand.old.view.wanted }
         requires slot { slot ≡ hand.old.view.cmd.slot }
@@ -183,7 +182,8 @@ impl<'a, A: Action> SharedWords<'a, A> {
         requires others { hand.old.view.others ≡ [] }
         requires leaves { let F = fixed_in A.meaning self.now in let v = hand.old.view in
             leaves ≡ leaves_of F.tree (region_in F v.cmd v.own) }
-        requires inner { inner ≡ visited_of DEPTH leaves % 2 ^ FIRST_LEAF }
+        requires inner { let F = fixed_in A.meaning self.now in
+            inner ≡ visited_of F.tree.depth leaves % 2 ^ inner_nodes F }
         requires own_is { own.now ≡ hand.old.view.own }
         requires wanted_is { wanted.now.items ≡ hand.old.view.wanted }
         requires slot { slot ≡ hand.old.view.cmd.slot }

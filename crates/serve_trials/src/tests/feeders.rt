@@ -3,7 +3,7 @@ use edge_io::{MemSink, MemSource};
 use std::test::Fail;
 
 /// What `feed 1` writes of one join: the line of its packet, and what `play 1` writes.
-const ONE_JOIN_FED: &str =
+pub const ONE_JOIN_FED: &str =
     "frame 0\nfrom 7 0101\njoined 7 0\nto 0 01000000000000000000000000000018000000000000000000000000000000000000000000000000000000\nend 1\n";
 
 /// What it writes of two joins for one slot, where the packet of the one arrives first, and where that of the other does.

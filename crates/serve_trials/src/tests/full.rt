@@ -58,6 +58,26 @@ fn full_of_blocks_and_packets(alloc: Global) -> Result<String, AllocError> {
     Ok(text)
 }
 
+/// As many items as an arena may have, on a square of 20 by 20 places.
+fn full_of_items(alloc: Global) -> Result<String, AllocError> {
+    let mut text = String::new(alloc);
+    text.push_str("arena -131072 -131072 0 131072 131072 65536\nspawn 0 0 6144\n")?;
+    for i in 0..400_i32 {
+        let x = i % 20 * 10_240 - 102_400;
+        let y = i / 20 * 10_240 - 102_400;
+        writeln!(text, "item {x} {y} 0 gem 100")?;
+    }
+    Ok(text)
+}
+
+/// The digits of the one `to` line of an output, whose last line is that of the end.
+fn digits_of(output: &[u8]) -> &[u8] {
+    let lines = output.strip_suffix(b"\nend 1\n").unwrap_or(b"");
+    lines
+        .strip_prefix(b"frame 0\njoined 7 0\nto 0 ")
+        .unwrap_or(b"")
+}
+
 /// Whether `part` is in `text`.
 fn has(text: &[u8], part: &[u8]) -> bool
     requires { 0 < length part.now }
@@ -75,6 +95,32 @@ fn sixty_four_players_join(rt: HostRuntime) -> Result<(), Fail> {
     assert_eq!(rt; report.status, 0);
     assert!(rt; sink.bytes().starts_with(lines.as_bytes()));
     assert!(rt; sink.bytes().ends_with(b"\nend 1\n"));
+    Ok(())
+}
+
+#[test]
+fn a_player_sees_400_items(rt: HostRuntime) -> Result<(), Fail> {
+    let mut text = full_of_items(rt.alloc())?;
+    text.push_str("frame\nfrom 7 0101\nend\n")?;
+    let mut source = MemSource::new(text.as_bytes(), 65_536, &[]);
+    let mut sink = MemSink::new(rt.alloc(), 100_000, 65_536)?;
+    let report = report_of(&rt, &["play", "1"], &mut source, &mut sink);
+    assert_eq!(rt; report.status, 0);
+    let digits = digits_of(sink.bytes());
+    assert_eq!(rt; digits.len(), 12_886);
+    assert_eq!(rt; digits.get(82..86), Some(b"9001".as_slice()));
+    Ok(())
+}
+
+#[test]
+fn the_401st_item_is_refused(rt: HostRuntime) -> Result<(), Fail> {
+    let mut text = full_of_items(rt.alloc())?;
+    text.push_str("item 0 0 0 gem 100\nend\n")?;
+    let mut source = MemSource::new(text.as_bytes(), 65_536, &[]);
+    let mut sink = MemSink::new(rt.alloc(), 1_000, 65_536)?;
+    let report = report_of(&rt, &["play", "1"], &mut source, &mut sink);
+    assert_eq!(rt; (report.status, report.line), (1, 403));
+    assert_eq!(rt; (report.fault, report.rule), (7, 3));
     Ok(())
 }
 

@@ -1,5 +1,6 @@
-ghost use Rattle.std.specs.Prelude.{◌≡◌, ◌≤◌, All, length, IfOk};
+ghost use Rattle.std.specs.Prelude.{◌≡◌, ◌≤◌, [], All, length, IfOk};
 ghost use Rattle.out_text.specs.Printing.{line_of};
+ghost use Rattle.snapshot_write.specs.declared.reply_buf.TheConstants.{REPLY_ROOM};
 ghost use Rattle.out_text.specs.Ranges.{HasRoom};
 
 use arena_geo::Vec3;
@@ -23,7 +24,7 @@ fn at(x: i32, y: i32, z: i32) -> Vec3 {
 
 /// A reply of these bytes.
 fn reply(alloc: Global, bytes: &[u8]) -> Result<ReplyBuf, AllocError>
-    requires { length bytes.now ≤ 4123 }
+    requires { length bytes.now ≤ REPLY_ROOM }
     ensures { IfOk result (λ reply. reply ≡ bytes.now) }
 {
     let mut reply = ReplyBuf::new(alloc)?;
@@ -253,6 +254,30 @@ fn lines_are_read_and_printed_again(rt: HostRuntime) -> Result<(), Fail> {
     for line in LINES {
         expect_read(&rt, line, &mut bytes, &mut printed)?;
     }
+    Ok(())
+}
+
+/// The line of a snapshot of these bytes, printed.
+fn print_to(out: &mut LineBuf, bytes: &[u8])
+    requires empty { out.old ≡ [] }
+    requires some { 1 ≤ length bytes.now }
+    requires most { length bytes.now ≤ REPLY_ROOM }
+{
+    print_line(&OutLine::To { slot: 63, bytes }, out);
+}
+
+#[test]
+fn the_longest_snapshot_is_printed_and_read(rt: HostRuntime) -> Result<(), Fail> {
+    let mut bytes = ReplyBuf::new(rt.alloc())?;
+    let mut printed = LineBuf::new(rt.alloc())?;
+    print_to(&mut printed, &[0xab; 8_219]);
+    assert_eq!(rt; printed.len(), 16_444);
+    assert!(rt; read_line(printed.as_slice(), &mut bytes).is_some());
+    assert_eq!(rt; bytes.as_slice(), [0xab; 8_219].as_slice());
+    // The digits of a byte more.
+    assert!(rt; printed.push(b'a') && printed.push(b'b'));
+    bytes.clear();
+    assert!(rt; read_line(printed.as_slice(), &mut bytes).is_none());
     Ok(())
 }
 

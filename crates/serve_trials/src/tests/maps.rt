@@ -275,7 +275,7 @@ fn expect_limit(rt: &impl Abort, map: &mut ArenaMap, line: &[u8], over: &[u8], m
 /// A line of each kind, the line that is one too many, which may break a later rule too, and the limit.
 const LIMITS: &[(&[u8], &[u8], u16)] = &[
     (b"spawn 0 0 6144", b"spawn 0 0 6143", 64),
-    (b"item 0 0 0 gem 1", b"item 0 0 60000 gem 1", 144),
+    (b"item 0 0 0 gem 1", b"item 0 0 60000 gem 1", 400),
     (
         b"teleport 0 0 0 1 1 1 0 0 6144",
         b"teleport 0 0 0 1 1 1 0 0 0",
@@ -283,6 +283,8 @@ const LIMITS: &[(&[u8], &[u8], u16)] = &[
     ),
     (b"goal 0 0 0 1 1 1", b"goal 0 0 0 1 1 1", 16),
     (b"block 0 0 0 1 1 1", b"block 0 0 0 1 1 1", 1_024),
+    (b"depth 3", b"depth 3", 1),
+    (b"shots", b"shots", 1),
 ];
 
 #[test]
@@ -291,7 +293,7 @@ fn each_kind_has_its_limit(rt: HostRuntime) -> Result<(), Fail> {
     for (line, over, most) in LIMITS {
         expect_limit(&rt, &mut map, line, over, *most);
     }
-    assert_eq!(rt; map.entities().last().map(|thing| thing.id), Some(239));
+    assert_eq!(rt; map.entities().last().map(|thing| thing.id), Some(495));
     Ok(())
 }
 
@@ -319,6 +321,70 @@ fn a_map_has_at_most_16_lifts(rt: HostRuntime) -> Result<(), Fail> {
     Ok(())
 }
 
+/// Adds as many items, teleporters and goals as a map may have.
+fn add_things(rt: &impl Abort, map: &mut ArenaMap) {
+    for _ in 0..400 {
+        assert_eq!(rt; rule_of(map, b"item 0 0 0 gem 7"), Ok(0));
+    }
+    for _ in 0..16 {
+        assert_eq!(rt; rule_of(map, b"teleport 0 0 0 1 1 1 1 2 6144"), Ok(0));
+    }
+    for _ in 0..16 {
+        assert_eq!(rt; rule_of(map, b"goal 0 0 0 1 1 1"), Ok(0));
+    }
+}
+
+/// A map with as many things of each kind as there may be.
+fn full_map(rt: &impl Abort, alloc: Global) -> Result<ArenaMap, Fail> {
+    let mut map = begun(alloc, ARENA)?;
+    add_things(rt, &mut map);
+    for place in 0..16 {
+        assert_eq!(rt; map.add(&lift_beside(place)), Ok(()));
+    }
+    Ok(map)
+}
+
+#[test]
+fn a_full_map_has_the_ids_from_64_to_511(rt: HostRuntime) -> Result<(), Fail> {
+    let map = full_map(&rt, rt.alloc())?;
+    assert_eq!(rt; map.entities().len(), 448);
+    assert_eq!(rt; map.entities().first().map(|thing| thing.id), Some(64));
+    assert_eq!(rt; map.entities().last().map(|thing| thing.id), Some(511));
+    Ok(())
+}
+
+#[test]
+fn each_kind_has_its_last_id(rt: HostRuntime) -> Result<(), Fail> {
+    let map = full_map(&rt, rt.alloc())?;
+    let (item, goal) = (map.delay_of(463), map.delay_of(464));
+    assert_eq!(rt; (item, goal), (Some(7), None));
+    let (teleporter, goal) = (map.dest_of(479), map.dest_of(480));
+    assert_eq!(rt; (teleporter, goal), (Some(at(1, 2, 6_144)), None));
+    let (goal, first) = (map.lift_of(495), map.lift_of(496));
+    assert_eq!(rt; (goal.is_some(), first.is_some()), (false, true));
+    assert!(rt; map.lift_of(511).is_some());
+    assert!(rt; map.lift_of(512).is_none());
+    Ok(())
+}
+
+/// Lines of the settings, of which the second of each kind is one too many, whatever it says.
+const SETTINGS: &[(&[u8], u8)] = &[
+    (b"depth 5", 0),
+    (b"depth 4", 3),
+    (b"depth 5", 3),
+    (b"shots", 0),
+    (b"shots", 3),
+];
+
+#[test]
+fn a_map_has_its_settings(rt: HostRuntime) -> Result<(), Fail> {
+    let mut map = begun(rt.alloc(), ARENA)?;
+    assert_eq!(rt; (map.depth(), map.shots()), (4, false));
+    expect(&rt, &mut map, SETTINGS)?;
+    assert_eq!(rt; (map.depth(), map.shots()), (5, true));
+    Ok(())
+}
+
 /// Expects that the line that a text says is printed as that text.
 fn expect_printed(rt: &impl Abort, out: &mut LineBuf, text: &[u8]) -> Result<(), Fail> {
     let line = read(text).map_err(|_| "a line")?;
@@ -338,6 +404,9 @@ const PRINTED: &[&[u8]] = &[
     b"teleport -25600 -25600 0 25600 25600 25600 -65536 65536 6144",
     b"goal 0 0 0 1 1 1",
     b"lift 0 0 0 10000 10000 100 1048576 2560",
+    b"depth 3",
+    b"depth 5",
+    b"shots",
 ];
 
 #[test]
@@ -371,6 +440,13 @@ fn a_lift_is_read_from_its_line(rt: HostRuntime) {
 }
 
 #[test]
+fn settings_are_read_from_their_lines(rt: HostRuntime) {
+    assert_eq!(rt; read(b"depth 3"), Ok(MapLine::Depth(3)));
+    assert_eq!(rt; read(b"depth 5"), Ok(MapLine::Depth(5)));
+    assert_eq!(rt; read(b"shots"), Ok(MapLine::Shots));
+}
+
+#[test]
 fn an_item_is_read_from_its_line(rt: HostRuntime) {
     let (kind, delay) = (Kind::Gem, 4);
     let item = MapLine::Item {
@@ -400,6 +476,18 @@ const LINE_FAULTS: &[(&[u8], u8)] = &[
     (b"item 0 0 0 goal 1", 4),
     (b"item 0 0 0 gem gem", 4),
     (b"item 0 0 0 1 1", 4),
+    (b"Depth 3", 3),
+    (b"depth", 4),
+    (b"depth 3 4", 4),
+    (b"depth 03", 4),
+    (b"depth three", 4),
+    (b"shots 1", 4),
+    (b"shots ", 4),
+    (b"depth 6", 6),
+    (b"depth 2", 6),
+    (b"depth -3", 6),
+    (b"depth 0", 6),
+    (b"depth 259", 6),
     (b"arena -2000000 0 0 1 1 1", 6),
     (b"spawn 0 1048577 0", 6),
     (b"spawn 0 0 -1048577", 6),

@@ -217,8 +217,12 @@ fn the_first_line_has_its_first_fault(rt: HostRuntime) -> Result<(), Fail> {
 
 #[test]
 fn a_line_after_the_arena_has_its_first_fault(rt: HostRuntime) -> Result<(), Fail> {
-    let rows: [(&[u8], u8, u8); 9] = [
+    let rows: [(&[u8], u8, u8); 13] = [
         (b"frame\n", 7, 7),
+        (b"depth 6\n", 6, 0),
+        (b"depth\n", 4, 0),
+        (b"depth 3 3\n", 4, 0),
+        (b"shots 1\n", 4, 0),
         (b"spawn 0 0\t6144\n", 2, 0),
         (b"arena 0 0 0 1 1 1\n", 5, 0),
         (b"spawn 0 0 6143\n", 7, 4),
@@ -234,6 +238,50 @@ fn a_line_after_the_arena_has_its_first_fault(rt: HostRuntime) -> Result<(), Fai
     }
     let long = [b'a'; 513];
     expect_recording(&rt, rt.alloc(), &[ARENA], &long, &[], refused(2, 1, 0))
+}
+
+#[test]
+fn a_second_line_of_a_setting_breaks_rule_3(rt: HostRuntime) -> Result<(), Fail> {
+    let rows: [(&[&[u8]], &[u8]); 4] = [
+        (&[ARENA, b"depth 3\n"], b"depth 3\n"),
+        (&[ARENA, b"depth 3\n"], b"depth 4\n"),
+        (&[ARENA, b"depth 4\n"], b"depth 4\n"),
+        (&[ARENA, b"shots\n"], b"shots\n"),
+    ];
+    for (front, rest) in rows {
+        expect_recording(&rt, rt.alloc(), front, rest, &[], refused(3, 7, 3))?;
+    }
+    Ok(())
+}
+
+#[test]
+fn no_line_of_a_setting_comes_after_a_frame(rt: HostRuntime) -> Result<(), Fail> {
+    let rows: [(&[u8], u8); 5] = [
+        (b"depth 3\n", 5),
+        (b"depth 6\n", 5),
+        (b"depth\n", 4),
+        (b"shots\n", 5),
+        (b"shots 1\n", 4),
+    ];
+    for (rest, fault) in rows {
+        let front = &[ARENA, SPAWN, FRAME];
+        let last = refused(4, fault, 0);
+        expect_recording(&rt, rt.alloc(), front, rest, &[Frame], last)?;
+    }
+    Ok(())
+}
+
+#[test]
+fn a_recording_has_its_settings(rt: HostRuntime) -> Result<(), Fail> {
+    let lines = [
+        ARENA,
+        b"shots\nspawn 0 0 6144\nblock 0 0 60000 1 1 65536\ndepth 3\nframe\n",
+    ];
+    let map = map_of(&rt, rt.alloc(), &lines)?;
+    assert_eq!(rt; (map.depth(), map.shots()), (3, true));
+    let plain = map_of(&rt, rt.alloc(), &[ARENA, SPAWN, FRAME])?;
+    assert_eq!(rt; (plain.depth(), plain.shots()), (4, false));
+    Ok(())
 }
 
 #[test]

@@ -7,7 +7,7 @@ use std::test::Fail;
 use std::thread::Threads;
 
 /// A recording of one frame, in which a player joins, and its output: lines 1 to 5, and lines 6 to 9.
-const RIGHT: &str =
+pub const RIGHT: &str =
     "arena -131072 -131072 0 131072 131072 65536\nspawn 0 0 6144\nframe\nfrom 7 0101\nend\nframe 0\njoined 7 0\nto 0 01000000000000000000000000000018000000000000000000000000000000000000000000000000000000\nend 1\n";
 
 /// The same, with another slot in the line of the join.

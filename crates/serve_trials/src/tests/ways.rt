@@ -8,11 +8,11 @@ use std::test::Fail;
 use std::thread::Threads;
 
 /// Three spawns with nothing between them.
-const FREE: &str =
+pub const FREE: &str =
     "arena -131072 -131072 0 131072 131072 65536\nspawn 0 0 6144\nspawn 40000 0 6144\nspawn 40000 40000 6144\nend\n";
 
 /// What `bots 2` writes of it: one edge, in ten moves.
-const FREE_TO_2: &str =
+pub const FREE_TO_2: &str =
     "arena -131072 -131072 0 131072 131072 65536\nspawn 0 0 6144\nspawn 40000 0 6144\nspawn 40000 40000 6144\nframe\nfrom 1 0101\nframe\nfrom 1 010201000000324001400100\nframe\nfrom 1 010202000000324001400100\nframe\nfrom 1 010203000000324001400100\nframe\nfrom 1 010204000000324001400100\nframe\nfrom 1 010205000000324001400100\nframe\nfrom 1 010206000000324001400100\nframe\nfrom 1 010207000000324001400100\nframe\nfrom 1 010208000000324001400100\nframe\nfrom 1 010209000000324001400100\nframe\nfrom 1 01020a000000324001400100\nend\nway 0 2\nlength 40000\nleast 0 40000 40000\n";
 
 /// The same with a block in the way.
@@ -31,8 +31,24 @@ const THINGS: &str =
 const THINGS_TO_1: &str =
     "arena -131072 -131072 0 131072 131072 65536\nblock 90000 90000 0 91000 91000 7000\nspawn 0 0 6144\nspawn 5000 -3000 6144\nitem 0 4000 0 ammo 100\nlift -60000 -60000 0 -50000 -50000 1000 5000 40\ngoal -30000 0 0 -20000 9000 9000\nteleport 60000 60000 0 70000 70000 9000 1000 2000 6144\nframe\nfrom 1 0101\nframe\nfrom 1 01020100000032400140ff00\nframe\nfrom 1 01020200000032400140ff00\nend\nway 0 1\nlength 5000\nleast 0 5000\n";
 
+/// A map whose tree has depth 3 and whose players can shoot, with its settings after a spawn.
+const SETTINGS: &str =
+    "arena -131072 -131072 0 131072 131072 65536\nspawn 0 0 6144\nshots\ndepth 3\nspawn 4096 0 6144\nend\n";
+
+/// What `bots 1` writes of it: the settings come before the spawns, the depth first.
+const SETTINGS_TO_1: &str =
+    "arena -131072 -131072 0 131072 131072 65536\ndepth 3\nshots\nspawn 0 0 6144\nspawn 4096 0 6144\nframe\nfrom 1 0101\nframe\nfrom 1 010201000000324001000000\nend\nway 0 1\nlength 4096\nleast 0 4096\n";
+
+/// A map with a line of the depth that a map has without one.
+const DEPTH_4: &str =
+    "arena -131072 -131072 0 131072 131072 65536\ndepth 4\nspawn 0 0 6144\nspawn 4096 0 6144\nend\n";
+
+/// What `bots 1` writes of it: that line isn't written again.
+const DEPTH_4_TO_1: &str =
+    "arena -131072 -131072 0 131072 131072 65536\nspawn 0 0 6144\nspawn 4096 0 6144\nframe\nfrom 1 0101\nframe\nfrom 1 010201000000324001000000\nend\nway 0 1\nlength 4096\nleast 0 4096\n";
+
 /// A spawn that is too far from the others.
-const FAR: &str =
+pub const FAR: &str =
     "arena -131072 -131072 0 131072 131072 65536\nspawn 0 0 6144\nspawn 40000 0 6144\nspawn 120000 0 6144\nend\n";
 
 /// What comes of `bots` with this target over a recording, into a sink with so much room.
@@ -68,6 +84,13 @@ fn ways_are_written_with_their_certificates(rt: HostRuntime) -> Result<(), Fail>
     expect_ways(&rt, FREE, "2", (0, 0), FREE_TO_2)?;
     expect_ways(&rt, BLOCKED, "2", (0, 0), BLOCKED_TO_2)?;
     expect_ways(&rt, THINGS, "1", (0, 0), THINGS_TO_1)?;
+    Ok(())
+}
+
+#[test]
+fn settings_are_written_before_the_blocks(rt: HostRuntime) -> Result<(), Fail> {
+    expect_ways(&rt, SETTINGS, "1", (0, 0), SETTINGS_TO_1)?;
+    expect_ways(&rt, DEPTH_4, "1", (0, 0), DEPTH_4_TO_1)?;
     Ok(())
 }
 

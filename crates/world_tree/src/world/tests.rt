@@ -1,15 +1,23 @@
 ghost use Rattle.std.specs.Prelude.{◌≡◌, ◌<◌, ◌≤◌, [], IfOk, IsSome};
 ghost use Rattle.arena_geo.specs.Vectors.{IsNear};
+ghost use Rattle.entity_recs.specs.declared.limits.TheConstants.{IDS};
 ghost use Rattle.entity_recs.specs.Records.{IsRecord};
 ghost use Rattle.world_tree.specs.Worlds.{record_of, empty_world};
 
 use super::*;
+use areanode::{LEAST_DEPTH, MOST_DEPTH};
 use arena_geo::Vec3;
 use entity_recs::{ITEM_MAXS, ITEM_MINS, Kind, PLAYER_MAXS, PLAYER_MINS};
 use std::marker::Brand;
 use std::process::Abort;
 use std::sync::ledger::Blank;
 use std::test::Fail;
+
+/// The depth of the trees of the tests where no other is named.
+const DEPTH: u8 = 4;
+
+/// A number that is no id.
+const NO_ID: u16 = 512;
 
 fn at(x: i32, y: i32, z: i32) -> Vec3
     ensures { result ≡ record { x = x; y = y; z = z } }
@@ -41,7 +49,7 @@ fn player(id: u16, origin: Vec3) -> Rec
 
 fn ammo(id: u16, origin: Vec3) -> Rec
     requires least { 64 ≤ id }
-    requires most { id ≤ 255 }
+    requires most { id < IDS }
     requires near { IsNear 1048576 origin }
     ensures record { IsRecord result }
     ensures id { result.id ≡ id }
@@ -65,7 +73,7 @@ fn ammo(id: u16, origin: Vec3) -> Rec
 /// A lift that is 12,800 long on x, 25,600 on y and 2,560 on z.
 fn lift(id: u16, origin: Vec3) -> Rec
     requires least { 64 ≤ id }
-    requires most { id ≤ 255 }
+    requires most { id < IDS }
     requires near { IsNear 524288 origin }
     ensures record { IsRecord result }
     ensures id { result.id ≡ id }
@@ -120,9 +128,9 @@ fn ids(list: &NearList) -> [u16; 4] {
 /// A world in which player 3, on the root's plane, stands on lift 64, item 65 just touches its absolute box, and item 66
 /// is 1 farther.
 fn filled(rt: &impl Abort, alloc: Global, bounds: &Aabb) -> Result<World, Fail>
-    ensures { IfOk result (λ w. w.tree ≡ (empty_world bounds.now).tree) }
+    ensures { IfOk result (λ w. w.tree ≡ (empty_world bounds.now DEPTH).tree) }
 {
-    let mut world = World::new(alloc, bounds, &[player(3, at(0, 0, 8_704))])?;
+    let mut world = World::new(alloc, bounds, DEPTH, &[player(3, at(0, 0, 8_704))])?;
     put(rt, &mut world, ammo(65, at(8_192, 0, 0)));
     put(rt, &mut world, lift(64, at(-6_400, -12_800, 0)));
     put(rt, &mut world, ammo(66, at(8_193, 0, 0)));
@@ -133,7 +141,7 @@ fn filled(rt: &impl Abort, alloc: Global, bounds: &Aabb) -> Result<World, Fail>
 fn copied(rt: &impl Abort, alloc: Global) -> Result<World, Fail> {
     let bounds = arena()?;
     let filled = filled(rt, alloc, &bounds)?;
-    let mut world = World::new(alloc, &bounds, &[])?;
+    let mut world = World::new(alloc, &bounds, DEPTH, &[])?;
     world.copy_from(&filled);
     Ok(world)
 }
@@ -169,7 +177,7 @@ fn touched<L: Ledger>(world: &World, abs: &Aabb, blank: Blank) -> NearList
 
 #[test]
 fn a_player_on_the_plane_is_linked_at_the_root(rt: HostRuntime) -> Result<(), Fail> {
-    let mut world = World::new(rt.alloc(), &arena()?, &[])?;
+    let mut world = World::new(rt.alloc(), &arena()?, DEPTH, &[])?;
     put(&rt, &mut world, player(7, at(0, -4_352, 6_144)));
     expect_linked(&rt, &world, 7, 0);
     world.relink(player(7, at(0, -4_353, 6_144)));
@@ -196,8 +204,8 @@ fn expect_moved(rt: &impl Abort, world: &World) -> Result<(), &'static str> {
     let abs = Aabb::new(at(45_648, 15_648, -256), at(54_352, 24_352, 14_592)).ok_or("a box")?;
     assert_eq!(rt; world.abs_box(7), Some(abs));
     assert_eq!(rt; live_pair(world), [7, 64]);
-    assert_eq!(rt; near_ids(world, middle, 256), [64, 0, 0, 0]);
-    assert_eq!(rt; near_ids(world, east, 256), [7, 0, 0, 0]);
+    assert_eq!(rt; near_ids(world, middle, NO_ID), [64, 0, 0, 0]);
+    assert_eq!(rt; near_ids(world, east, NO_ID), [7, 0, 0, 0]);
     Ok(())
 }
 
@@ -207,14 +215,14 @@ fn expect_gone(rt: &impl Abort, world: &World) -> Result<(), &'static str> {
     let east = Aabb::new(at(50_000, 20_000, 0), at(50_001, 20_001, 1)).ok_or("a box")?;
     assert_eq!(rt; world.abs_box(7), None);
     assert_eq!(rt; live_pair(world), [64, 0]);
-    assert_eq!(rt; near_ids(world, middle, 256), [64, 0, 0, 0]);
-    assert_eq!(rt; near_ids(world, east, 256), [0, 0, 0, 0]);
+    assert_eq!(rt; near_ids(world, middle, NO_ID), [64, 0, 0, 0]);
+    assert_eq!(rt; near_ids(world, east, NO_ID), [0, 0, 0, 0]);
     Ok(())
 }
 
 #[test]
 fn queries_follow_a_player_that_moves_leaves_and_comes_back(rt: HostRuntime) -> Result<(), Fail> {
-    let mut world = World::new(rt.alloc(), &arena()?, &[])?;
+    let mut world = World::new(rt.alloc(), &arena()?, DEPTH, &[])?;
     put(&rt, &mut world, ammo(64, at(0, 0, 0)));
     put(&rt, &mut world, player(7, at(0, 0, 6_144)));
     assert_eq!(rt; live_pair(&world), [7, 64]);
@@ -240,12 +248,35 @@ fn a_copy_is_linked_as_its_original(rt: HostRuntime) -> Result<(), Fail> {
     Ok(())
 }
 
+/// A world with a tree of this depth, in which ammunition with id 64 is in the middle of the arena and a player with id
+/// 7 at (50,000, 20,000, 6,144).
+fn of_depth(rt: &impl Abort, alloc: Global, depth: u8) -> Result<World, Fail> {
+    if depth < LEAST_DEPTH || depth > MOST_DEPTH {
+        return Err("a depth".into());
+    }
+    let mut world = World::new(alloc, &arena()?, depth, &[])?;
+    put(rt, &mut world, ammo(64, at(0, 0, 0)));
+    put(rt, &mut world, player(7, at(50_000, 20_000, 6_144)));
+    Ok(world)
+}
+
+#[test]
+fn records_are_linked_and_found_at_each_depth(rt: HostRuntime) -> Result<(), Fail> {
+    for (depth, solids, triggers) in [(3, 8, 15), (4, 18, 31), (5, 38, 63)] {
+        let world = of_depth(&rt, rt.alloc(), depth)?;
+        expect_linked(&rt, &world, 7, solids);
+        expect_linked(&rt, &world, 64, triggers);
+        expect_moved(&rt, &world)?;
+    }
+    Ok(())
+}
+
 #[test]
 fn near_finds_what_touches_but_one(rt: HostRuntime) -> Result<(), Fail> {
     let abs = abs_box_of_3()?;
     let world = copied(&rt, rt.alloc())?;
     assert_eq!(rt; near_ids(&world, abs, 3), [64, 65, 0, 0]);
-    assert_eq!(rt; near_ids(&world, abs, 300), [3, 64, 65, 0]);
+    assert_eq!(rt; near_ids(&world, abs, NO_ID), [3, 64, 65, 0]);
     Ok(())
 }
 
@@ -273,16 +304,16 @@ fn a_body_on_a_lift_is_free_and_one_in_it_is_not(rt: HostRuntime) -> Result<(), 
 #[test]
 fn a_world_has_room_for_every_id(rt: HostRuntime) -> Result<(), Fail> {
     let bounds = arena()?;
-    let mut world = World::new(rt.alloc(), &bounds, &[])?;
+    let mut world = World::new(rt.alloc(), &bounds, DEPTH, &[])?;
     for id in 0..64 {
         put(&rt, &mut world, player(id, at(0, 0, 6_144)));
     }
-    for id in 64..256 {
+    for id in 64..NO_ID {
         put(&rt, &mut world, ammo(id, at(0, 0, 0)));
     }
     let mut all = NearList::new();
-    world.near(&Region::one(bounds), 256, &mut all);
-    assert_eq!(rt; all.as_slice().len(), 256);
+    world.near(&Region::one(bounds), NO_ID, &mut all);
+    assert_eq!(rt; all.as_slice().len(), 512);
     Ok(())
 }
 
@@ -291,12 +322,12 @@ fn a_world_begins_with_all_its_records(rt: HostRuntime) -> Result<(), Fail> {
     let bounds = arena()?;
     let start = [
         player(3, at(0, 0, 8_704)),
-        ammo(255, at(8_192, 0, 0)),
+        ammo(511, at(8_192, 0, 0)),
         player(63, at(20_000, 0, 8_704)),
     ];
-    let world = World::new(rt.alloc(), &bounds, &start)?;
+    let world = World::new(rt.alloc(), &bounds, DEPTH, &start)?;
     assert!(rt; world.get(3).is_some());
     assert!(rt; world.get(63).is_some());
-    assert!(rt; world.get(255).is_some());
+    assert!(rt; world.get(511).is_some());
     Ok(())
 }

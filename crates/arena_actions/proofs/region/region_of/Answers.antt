@@ -3,7 +3,7 @@ use Rattle.std.specs.Prelude.{filter_map}
 use Rattle.arena_geo.specs.Bounds.{Bounds}
 use Rattle.arena_map.specs.Maps.{entities_of}
 use Rattle.arena_actions.specs.declared.leaps.Leap.{Leap}
-use Rattle.arena_actions.specs.Regions.{first_box, landing_of, region_in}
+use Rattle.arena_actions.specs.Regions.{first_box, landing_of, region_with}
 use Rattle.arena_actions.specs.Leaps.{landing_by}
 use Rattle.arena_actions.specs.Lawful.Landings.{room_for_landing, landing_put, all_landings, landings_by}
 use Rattle.arena_actions.proofs.region.region_of.Goals as goal
@@ -20,10 +20,10 @@ loop-leap-preserved c =
     (c.landing_of.ensures ∙ ap landing c.leap-item.is) c.loop-leap.invariant c.push_landing.ensures
 
 pub returns : goal.returns
-unfolding region_in
+unfolding region_with
 returns c map leaps_are =
     let me = c.args.me.now in
-    let first = first_box me c.args.cmd.now.ms in
+    let first = first_box c.args.room me c.args.cmd.now.ms in
     let landing = landing_by me c.reach_of-reach.result in
     all_landings landing c.as_slice-leap-items.result.now c.loop-leap.leap-index first c.loop-leap.region c.loop-leap-test.false c.loop-leap.invariant
     ∙ ap (λ (l : List Leap). first ∷ filter_map landing l) (c.as_slice-leap-items.ensures.value ∙ leaps_are)

@@ -6,4 +6,4 @@ use Rattle.arena_actions.proofs.region.region_of.Given as goal
 
 -- the reach with room around it, and the landings of the leaps so far
 abbrev pub invariant-loop-leap : goal.invariant-loop-leap
-invariant-loop-leap l = l.region ≡ first_box l.me l.cmd.ms ∷ filter_map (landing_by l.me l.reach) (take l.leap-index l.leap-items)
+invariant-loop-leap l = l.region ≡ first_box l.room l.me l.cmd.ms ∷ filter_map (landing_by l.me l.reach) (take l.leap-index l.leap-items)

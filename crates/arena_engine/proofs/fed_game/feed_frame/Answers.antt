@@ -2,8 +2,8 @@ use Rattle.std.proofs.Common.{◌∙◌, sym, ap, subst, ℕ, ◌<◌, List, len
 use Rattle.std.proofs.lemmas.List.{length-map}
 use Rattle.packet_read.specs.declared.arrival.Arrival.{Arrival}
 use Rattle.feed_queue.specs.Orders.{ports_of}
-use Rattle.feed_queue.proofs.Ordering.{places_are_within, no_more_packets, each_port_kept}
-use Rattle.out_text.specs.Feeds.{in_order}
+use Rattle.feed_queue.proofs.Ordering.{each_place_once, places_are_within, no_more_packets, each_port_kept}
+use Rattle.packet_read.specs.Orders.{in_order, AreEachOnce}
 use Rattle.arena_engine.proofs.fed_game.feed_frame.Goals as goal
 
 pub hand_over-requires-clause-within : goal.hand_over-requires-clause-within
@@ -20,7 +20,10 @@ returns g c =
     let order = c.in_ok-order.order in
     let waiting = c.args.waiting.now in
     let same = c.as_slice.ensures.value in
+    let each = each_place_once (ports_of waiting) order c.in_ok-order.ensures in
+    let long = length-map waiting (λ (a : Arrival). a.port) in
     record {
+      places = subst (λ (n : ℕ). AreEachOnce n order) long each.places;
       feed = λ port. each_port_kept waiting order port c.in_ok-order.ensures;
       few = no_more_packets waiting order c.in_ok-order.ensures;
       fed_is = c.in_ok-hand_over.ensures.fed ∙ ap (λ (l : List ℕ). in_order l waiting) same;

@@ -1,6 +1,6 @@
 use Rattle.std.proofs.Common.{◌≡◌, ◌+◌, List, [], ◌∷◌, ◌++◌, Some, option_map, take, get_or, slice_index, sym, ap, ◌∙◌}
 use Rattle.packet_read.specs.declared.arrival.Arrival.{Arrival}
-use Rattle.out_text.specs.Feeds.{in_order}
+use Rattle.packet_read.specs.Orders.{in_order}
 use Rattle.playback.specs.Playbacks.{Course}
 use Rattle.feed_queue.proofs.Ordering.{in_order-more}
 use Rattle.arena_engine.proofs.fed_game.hand_over.Goals as goal

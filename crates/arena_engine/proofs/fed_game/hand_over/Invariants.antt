@@ -1,5 +1,5 @@
 use Rattle.std.proofs.Common.{◌≡◌, Some, take}
-use Rattle.out_text.specs.Feeds.{in_order}
+use Rattle.packet_read.specs.Orders.{in_order}
 use Rattle.playback.specs.Playbacks.{Course}
 use Rattle.arena_engine.proofs.fed_game.hand_over.Given as goal
 

@@ -1,6 +1,8 @@
-use Rattle.std.proofs.Common.{◌≡◌, ◌≤◌, ◌*◌, ◌-◌, ℕ, take, map}
+use Rattle.std.proofs.Common.{◌≡◌, ◌≤◌, ◌*◌, ◌-◌, ◌^◌, ℕ, take, map}
+use Rattle.areanode.specs.Trees.{inner_in}
+use Rattle.areanode.specs.declared.sizes.TheConstants.{MOST_LEAVES}
 use Rattle.core_steps.specs.Views.{bits_of_leaves}
 use Rattle.core_seats.proofs.lists.leaf_word.Given as goal
 
 abbrev pub invariant-loop-node : goal.invariant-loop-node
-invariant-loop-node l = record { word : l.word ≡ bits_of_leaves (map (λ (n : ℕ). n - 15) (take l.node-index l.nodes)); small : l.word ≤ 32768 * l.node-index }
+invariant-loop-node l = record { word : l.word ≡ bits_of_leaves (map (λ (n : ℕ). n - inner_in l.tree.depth) (take l.node-index l.nodes)); small : l.word ≤ 2 ^ MOST_LEAVES * l.node-index }

@@ -1,4 +1,3 @@
-use Rattle.std.proofs.Common.{◌≡◌}
 use Rattle.demo_lines.proofs.RestLines.{part_taken, part_too_long, longer_front, no_line_feed}
 use Rattle.demo_lines.proofs.rest.next_rest.Goals as goal
 

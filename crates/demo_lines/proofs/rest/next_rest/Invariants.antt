@@ -1,5 +1,6 @@
 use Rattle.std.proofs.Common.{◌≡◌, ◌≤◌, ◌-◌, length}
 use Rattle.edge_io.specs.Lines.{ahead}
+use Rattle.demo_lines.specs.declared.rest.TheConstants.{LONGEST_REST}
 use Rattle.demo_lines.proofs.RestLines.{TakesFront}
 use Rattle.demo_lines.proofs.rest.next_rest.Given as goal
 
@@ -7,10 +8,10 @@ use Rattle.demo_lines.proofs.rest.next_rest.Given as goal
 abbrev pub invariant-parts : goal.invariant-parts
 invariant-parts g l = record {
   front : TakesFront (ahead l.fn.lines (g.S.Source.left l.fn.source)) (ahead l.lines (g.S.Source.left l.source)) l.out;
-  fits : length l.out ≤ 16500;
+  fits : length l.out ≤ LONGEST_REST;
   uncounted : g.S.Source.faults l.source ≡ g.S.Source.faults l.fn.source;
   keeps : g.S.Source.never_fails l.fn.source → g.S.Source.never_fails l.source;
 }
 
 abbrev pub decreases-parts : goal.decreases-parts
-decreases-parts g l = 16500 - length l.out
+decreases-parts g l = LONGEST_REST - length l.out

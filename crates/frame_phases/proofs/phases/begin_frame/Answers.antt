@@ -1,4 +1,5 @@
 use Rattle.std.proofs.Common.{length, sym, subst, ap, arith}
+use Rattle.arena_actions.specs.MapActions.{map_in}
 use Rattle.client_ports.specs.Lists.{IsRoomFor}
 use Rattle.client_ports.proofs.Rooms.{room_enough}
 use Rattle.client_ports.specs.States.{state_of}
@@ -18,9 +19,9 @@ start-requires-clause-valid c =
     let state = state_of states.state.ports states.state.world.records in
     let copied = state_of c.copy_from.new.self.ports c.copy_from.new.self.world.records in
     let r = receiving_of (state_of c.receive.new.self.ports c.receive.new.self.world.records) c.receive.new.out.lists in
-    let r_is = received_from c.args.action.now.map c.map.result.now states.frames state copied c.args.arrivals.now r c.map.ensures.value (ap (λ (s : State). state_of s.ports s.world.records) c.copy_from.ensures)
+    let r_is = received_from (map_in c.args.action.now) c.map.result.now states.frames state copied c.args.arrivals.now r c.map.ensures.value (ap (λ (s : State). state_of s.ports s.world.records) c.copy_from.ensures)
     c.receive.ensures.received in
-    let got = is_received c.args.action.now.map states.frames state c.args.arrivals.now r c.requires.server.is_map c.requires.server.fits r_is in
+    let got = is_received (map_in c.args.action.now) states.frames state c.args.arrivals.now r c.requires.server.is_map c.requires.server.fits r_is in
     got.pass.state.fits.valid
 
 pub start-requires-clause-live : goal.start-requires-clause-live
@@ -29,10 +30,10 @@ start-requires-clause-live c =
     let state = state_of states.state.ports states.state.world.records in
     let copied = state_of c.copy_from.new.self.ports c.copy_from.new.self.world.records in
     let r = receiving_of (state_of c.receive.new.self.ports c.receive.new.self.world.records) c.receive.new.out.lists in
-    let r_is = received_from c.args.action.now.map c.map.result.now states.frames state copied c.args.arrivals.now r c.map.ensures.value (ap (λ (s : State). state_of s.ports s.world.records) c.copy_from.ensures)
+    let r_is = received_from (map_in c.args.action.now) c.map.result.now states.frames state copied c.args.arrivals.now r c.map.ensures.value (ap (λ (s : State). state_of s.ports s.world.records) c.copy_from.ensures)
     c.receive.ensures.received in
-    let got = is_received c.args.action.now.map states.frames state c.args.arrivals.now r c.requires.server.is_map c.requires.server.fits r_is in
-    live_moves c.args.action.now.map r c.moves.result.now c.moves.ensures got
+    let got = is_received (map_in c.args.action.now) states.frames state c.args.arrivals.now r c.requires.server.is_map c.requires.server.fits r_is in
+    live_moves (map_in c.args.action.now) r c.moves.result.now c.moves.ensures got
 
 pub start-requires-clause-few : goal.start-requires-clause-few
 start-requires-clause-few c =
@@ -40,10 +41,10 @@ start-requires-clause-few c =
     let state = state_of states.state.ports states.state.world.records in
     let copied = state_of c.copy_from.new.self.ports c.copy_from.new.self.world.records in
     let r = receiving_of (state_of c.receive.new.self.ports c.receive.new.self.world.records) c.receive.new.out.lists in
-    let r_is = received_from c.args.action.now.map c.map.result.now states.frames state copied c.args.arrivals.now r c.map.ensures.value (ap (λ (s : State). state_of s.ports s.world.records) c.copy_from.ensures)
+    let r_is = received_from (map_in c.args.action.now) c.map.result.now states.frames state copied c.args.arrivals.now r c.map.ensures.value (ap (λ (s : State). state_of s.ports s.world.records) c.copy_from.ensures)
     c.receive.ensures.received in
-    let got = is_received c.args.action.now.map states.frames state c.args.arrivals.now r c.requires.server.is_map c.requires.server.fits r_is in
-    omega (arith, few_moves c.args.action.now.map r c.moves.result.now c.moves.ensures got)
+    let got = is_received (map_in c.args.action.now) states.frames state c.args.arrivals.now r c.requires.server.is_map c.requires.server.fits r_is in
+    omega (arith, few_moves (map_in c.args.action.now) r c.moves.result.now c.moves.ensures got)
 
 pub returns-clause-begun : goal.returns-clause-begun
 returns-clause-begun c =
@@ -51,9 +52,9 @@ returns-clause-begun c =
     let state = state_of states.state.ports states.state.world.records in
     let copied = state_of c.copy_from.new.self.ports c.copy_from.new.self.world.records in
     let r = receiving_of (state_of c.receive.new.self.ports c.receive.new.self.world.records) c.receive.new.out.lists in
-    let r_is = received_from c.args.action.now.map c.map.result.now states.frames state copied c.args.arrivals.now r c.map.ensures.value (ap (λ (s : State). state_of s.ports s.world.records) c.copy_from.ensures)
+    let r_is = received_from (map_in c.args.action.now) c.map.result.now states.frames state copied c.args.arrivals.now r c.map.ensures.value (ap (λ (s : State). state_of s.ports s.world.records) c.copy_from.ensures)
     c.receive.ensures.received in
-    let got = is_received c.args.action.now.map states.frames state c.args.arrivals.now r c.requires.server.is_map c.requires.server.fits r_is in
+    let got = is_received (map_in c.args.action.now) states.frames state c.args.arrivals.now r c.requires.server.is_map c.requires.server.fits r_is in
     begun_if_started c.start.result c.args.action.now c.receive.new.self.world r c.moves.result.now c.requires.server.is_map got c.moves.ensures c.start.ensures.action c.start.ensures.started
 
 pub returns-clause-received : goal.returns-clause-received
@@ -62,5 +63,5 @@ returns-clause-received c =
     let state = state_of states.state.ports states.state.world.records in
     let copied = state_of c.copy_from.new.self.ports c.copy_from.new.self.world.records in
     let r = receiving_of (state_of c.receive.new.self.ports c.receive.new.self.world.records) c.receive.new.out.lists in
-    received_from c.args.action.now.map c.map.result.now states.frames state copied c.args.arrivals.now r c.map.ensures.value (ap (λ (s : State). state_of s.ports s.world.records) c.copy_from.ensures)
+    received_from (map_in c.args.action.now) c.map.result.now states.frames state copied c.args.arrivals.now r c.map.ensures.value (ap (λ (s : State). state_of s.ports s.world.records) c.copy_from.ensures)
     c.receive.ensures.received

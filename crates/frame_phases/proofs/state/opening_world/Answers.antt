@@ -4,8 +4,8 @@ use Rattle.frame_phases.proofs.Openings.{made_so, opened}
 use Rattle.frame_phases.proofs.state.opening_world.Goals as goal
 
 pub returns-clause-made : goal.returns-clause-made
-returns-clause-made c = IfOk-weaker c.new.result _ _ (λ w is. is ∙ made_so c.args.map.now c.bounds.result.now c.entities.result.now c.bounds.ensures.value c.entities.ensures.value) c.new.ensures.made
+returns-clause-made c = IfOk-weaker c.new.result _ _ (λ w is. is ∙ made_so c.args.map.now c.bounds.result.now c.depth.result c.entities.result.now c.bounds.ensures.value c.depth.ensures.value c.entities.ensures.value) c.new.ensures.made
 
 pub returns-clause-records : goal.returns-clause-records
 returns-clause-records c =
-    IfOk-weaker c.new.result _ _ (λ w is. opened c.args.map.now w (is ∙ made_so c.args.map.now c.bounds.result.now c.entities.result.now c.bounds.ensures.value c.entities.ensures.value)) c.new.ensures.made
+    IfOk-weaker c.new.result _ _ (λ w is. opened c.args.map.now w (is ∙ made_so c.args.map.now c.bounds.result.now c.depth.result c.entities.result.now c.bounds.ensures.value c.depth.ensures.value c.entities.ensures.value)) c.new.ensures.made

@@ -1,4 +1,5 @@
 use Rattle.std.proofs.Common.{◌≡◌, ◌++◌, ◌∷◌, [], sym, ◌∙◌, ap, List, Vec, Global, arith}
+use Rattle.entity_recs.specs.declared.limits.TheConstants.{IDS}
 use Rattle.entity_recs.specs.declared.rec.Rec.{Rec}
 use Rattle.ruled_words.proofs.Worlds.{live_some, live_none, live_all}
 use Rattle.ruled_words.proofs.opening.live_records.Goals as goal
@@ -19,5 +20,5 @@ loop-id-preserved c =
 
 pub returns : goal.returns
 returns c =
-    let end : c.loop-id.id ≡ 256 = omega (arith, c.loop-id-test.false, c.loop-id.auto.id-end) in
+    let end : c.loop-id.id ≡ IDS = omega (arith, c.loop-id-test.false, c.loop-id.auto.id-end) in
     c.loop-id.invariant ∙ live_all c.args.world.now c.loop-id.id c.tree-tree.ensures.linked end

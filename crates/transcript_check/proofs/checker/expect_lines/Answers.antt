@@ -1,17 +1,18 @@
 use Rattle.std.proofs.Common.{◌≡◌, sym, ap, ◌∙◌}
+use Rattle.arena_actions.specs.MapActions.{map_in}
 use Rattle.transcript_check.proofs.Texts.{ok_false-weaker, ok_true-both}
 use Rattle.transcript_check.proofs.Frames.{head-missed, moves-missed, replies-missed, frame-read}
 use Rattle.transcript_check.proofs.checker.expect_lines.Goals as goal
 
 pub returns-then-not-branch-clause-missed : goal.returns-then-not-branch-clause-missed
 returns-then-not-branch-clause-missed g c =
-    head-missed g.S.Source c.args.mover.now.action.map c.args.frame c.args.received.now.lists c.args.world.now.records c.args.source.now c.expect_head.new.source c.args.reader.now
+    head-missed g.S.Source (map_in c.args.mover.now.action) c.args.frame c.args.received.now.lists c.args.world.now.records c.args.source.now c.expect_head.new.source c.args.reader.now
     (rw c.if-not-branch.true at c.in_ok-expect_head.ensures.missed)
 
 pub returns-then-not-branch-2-clause-missed : goal.returns-then-not-branch-2-clause-missed
 returns-then-not-branch-2-clause-missed g c =
     let moves = c.set.ensures.moves ∙ c.moves.ensures in
-    moves-missed g.S.Source c.args.mover.now.action.map c.args.frame c.args.received.now.lists c.args.world.now.records c.args.source.now c.expect_head.new.source c.args.reader.now c.expect_head.new.reader
+    moves-missed g.S.Source (map_in c.args.mover.now.action) c.args.frame c.args.received.now.lists c.args.world.now.records c.args.source.now c.expect_head.new.source c.args.reader.now c.expect_head.new.reader
     (rw c.if-not-branch.false at c.in_ok-expect_head.ensures.ok) c.expect_moves.new.source (rw moves at (rw c.if-not-branch-2.true at c.in_ok-expect_moves.ensures.missed))
 
 pub returns-clause-ok : goal.returns-clause-ok
@@ -19,7 +20,7 @@ returns-clause-ok g c =
     let moves = c.set.ensures.moves ∙ c.moves.ensures in
     let runs = rw moves at (rw c.if-not-branch-2.false at c.in_ok-expect_moves.ensures.ok) in
     ok_true-both c.expect_replies.result _ _ _ c.expect_replies.ensures.ok c.expect_replies.ensures.count
-    (λ shows counts. frame-read g.S.Source c.args.mover.now.action.map c.args.frame c.args.received.now.lists c.args.world.now.records c.args.source.now c.expect_head.new.source c.args.reader.now c.expect_head.new.reader
+    (λ shows counts. frame-read g.S.Source (map_in c.args.mover.now.action) c.args.frame c.args.received.now.lists c.args.world.now.records c.args.source.now c.expect_head.new.source c.args.reader.now c.expect_head.new.reader
     (rw c.if-not-branch.false at c.in_ok-expect_head.ensures.ok) c.expect_moves.new.source c.expect_moves.new.reader c.expect_moves.new.world.records c.expect_head.new.lines.count c.expect_moves.new.lines.count runs
     c.expect_replies.new.source c.expect_replies.new.reader c.args.lines.now.count c.expect_replies.new.self.count shows (rw c.if-not-branch.false at c.in_ok-expect_head.ensures.count) counts)
 
@@ -28,6 +29,6 @@ returns-clause-missed g c =
     let moves = c.set.ensures.moves ∙ c.moves.ensures in
     let runs = rw moves at (rw c.if-not-branch-2.false at c.in_ok-expect_moves.ensures.ok) in
     ok_false-weaker c.expect_replies.result _ _ c.expect_replies.ensures.missed
-    (replies-missed g.S.Source c.args.mover.now.action.map c.args.frame c.args.received.now.lists c.args.world.now.records c.args.source.now c.expect_head.new.source c.args.reader.now c.expect_head.new.reader
+    (replies-missed g.S.Source (map_in c.args.mover.now.action) c.args.frame c.args.received.now.lists c.args.world.now.records c.args.source.now c.expect_head.new.source c.args.reader.now c.expect_head.new.reader
     (rw c.if-not-branch.false at c.in_ok-expect_head.ensures.ok) c.expect_moves.new.source c.expect_moves.new.reader c.expect_moves.new.world.records c.expect_head.new.lines.count c.expect_moves.new.lines.count runs
     c.expect_replies.new.source)

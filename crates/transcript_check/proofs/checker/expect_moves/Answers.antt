@@ -1,4 +1,7 @@
-use Rattle.std.proofs.Common.{◌≡◌, ◌≢◌, [], false, IsTrue, refl, sym, ap, ◌∙◌}
+use Rattle.std.proofs.Common.{◌≡◌, ◌≢◌, [], false, IsTrue, Err, refl, sym, ap, ◌∙◌}
+use Rattle.std.proofs.lemmas.Result.{err_from_is_err_and}
+use Rattle.arena_actions.specs.MapActions.{map_in, keeps_rules}
+use Rattle.transcript_check.proofs.ReadingOn.{fails-after}
 use Rattle.transcript_check.proofs.Turns.{ready-first}
 use Rattle.transcript_check.proofs.MovesRead.{so-far-first, so-far-next, so-far-missed, so-far-done}
 use Rattle.transcript_check.proofs.checker.expect_moves.Goals as goal
@@ -7,8 +10,8 @@ pub loop-mover-init : goal.loop-mover-init
 loop-mover-init g c =
     let action = c.args.mover.now.action in
     record {
-      so = so-far-first g.S.Source action.map action.is_map c.args.pending.now c.args.world.now.records c.args.source.now c.args.reader.now c.args.lines.now.count c.requires.may
-          (ready-first action.map c.args.world.now.records c.args.pending.now c.requires.valid c.requires.live c.requires.apart) c.requires.small;
+      so = so-far-first g.S.Source (map_in action) (keeps_rules action) c.args.pending.now c.args.world.now.records c.args.source.now c.args.reader.now c.args.lines.now.count c.requires.may
+          (ready-first (map_in action) c.args.world.now.records c.args.pending.now c.requires.valid c.requires.live c.requires.apart) c.requires.small;
       action = refl;
     }
 
@@ -16,7 +19,7 @@ pub returns-then-not-branch-clause-missed : goal.returns-then-not-branch-clause-
 returns-then-not-branch-clause-missed g c =
     let action = c.args.mover.now.action in
     let some : c.loop-mover.pending ≢ [] = λ none. let never : IsTrue false = c.loop-mover-test.ensures.1 none in cc in
-    so-far-missed g.S.Source action.map action.is_map c.args.pending.now c.args.world.now.records c.args.source.now c.loop-mover.source c.args.reader.now c.loop-mover.reader c.loop-mover.world.records c.loop-mover.pending
+    so-far-missed g.S.Source (map_in action) (keeps_rules action) c.args.pending.now c.args.world.now.records c.args.source.now c.loop-mover.source c.args.reader.now c.loop-mover.reader c.loop-mover.world.records c.loop-mover.pending
     c.args.lines.now.count c.loop-mover.lines.count c.loop-mover.invariant.so c.expect_move.new.source some
     (rw c.loop-mover.invariant.action at (rw c.if-not-branch.true at c.in_ok-expect_move.ensures.missed))
 
@@ -24,7 +27,7 @@ pub loop-mover-preserved : goal.loop-mover-preserved
 loop-mover-preserved g c =
     let action = c.args.mover.now.action in
     record {
-      so = so-far-next g.S.Source action.map action.is_map c.args.pending.now c.args.world.now.records c.args.source.now c.loop-mover.source c.args.reader.now c.loop-mover.reader c.loop-mover.world.records
+      so = so-far-next g.S.Source (map_in action) (keeps_rules action) c.args.pending.now c.args.world.now.records c.args.source.now c.loop-mover.source c.args.reader.now c.loop-mover.reader c.loop-mover.world.records
           c.loop-mover.pending c.args.lines.now.count c.loop-mover.lines.count c.loop-mover.invariant.so c.expect_move.new.source c.expect_move.new.reader c.expect_move.new.world.records c.expect_move.new.pending
           c.expect_move.new.lines.count (rw c.loop-mover.invariant.action at (rw c.if-not-branch.false at c.in_ok-expect_move.ensures.ok)) (rw c.if-not-branch.false at c.in_ok-expect_move.ensures.count);
       action = c.in_ok-expect_move.ensures.action ∙ c.loop-mover.invariant.action;
@@ -33,5 +36,12 @@ loop-mover-preserved g c =
 pub returns-clause-ok : goal.returns-clause-ok
 returns-clause-ok g c =
     let action = c.args.mover.now.action in
-    so-far-done g.S.Source action.map action.is_map c.args.pending.now c.args.world.now.records c.args.source.now c.loop-mover.source c.args.reader.now c.loop-mover.reader c.loop-mover.world.records c.loop-mover.pending
+    so-far-done g.S.Source (map_in action) (keeps_rules action) c.args.pending.now c.args.world.now.records c.args.source.now c.loop-mover.source c.args.reader.now c.loop-mover.reader c.loop-mover.world.records c.loop-mover.pending
     c.args.lines.now.count c.loop-mover.lines.count c.loop-mover.invariant.so (c.loop-mover-test.ensures.0 refl)
+
+pub returns-in_err-expect_move-clause-err : goal.returns-in_err-expect_move-clause-err
+returns-in_err-expect_move-clause-err g c =
+    let p = err_from_is_err_and c.from_residual.result c.from_residual.ensures.1 in
+    rw (p.1 ∙ ap Err p.2)
+    (fails-after g.S.Source c.args.source.now c.loop-mover.source c.expect_move.new.source c.args.reader.now c.loop-mover.reader c.in_err-expect_move.field-0.0
+    c.loop-mover.invariant.so.reads.on c.in_err-expect_move.ensures.err)

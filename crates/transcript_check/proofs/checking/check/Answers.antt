@@ -1,13 +1,14 @@
 use Rattle.std.proofs.Common.{◌≡◌, ◌≤◌, List, length, map, Some, Vec, Global, refl, sym, ap, ◌∙◌, subst, arith}
 use Rattle.std.specs.List.{AllByRecursion}
 use Rattle.std.proofs.lemmas.List.{length-map}
+use Rattle.std.proofs.lemmas.Result.{IfErr-weaker}
 use Rattle.packet_read.specs.declared.arrival.Arrival.{Arrival}
 use Rattle.transcript_check.specs.Reading.{Misses}
 use Rattle.transcript_check.specs.Checkers.{CheckerView}
 use Rattle.transcript_check.specs.Verdicts.{IsShort, IsVerdict, Judges}
 use Rattle.transcript_check.specs.declared.verdict.Verdict.{Verdict}
 use Rattle.transcript_check.proofs.NextFrames.{if_ok-weaker}
-use Rattle.transcript_check.proofs.Judged.{read-few, read-short, read-judged}
+use Rattle.transcript_check.proofs.Judged.{read-few, read-short, read-judged, stops-comparing}
 use Rattle.transcript_check.proofs.checking.check.Goals as goal
 
 pub compare-requires-clause-few : goal.compare-requires-clause-few
@@ -31,3 +32,9 @@ returns-clause-ok g c =
     if_ok-weaker c.compare.result _ (Judges g.S.Source c.args.reader.now.reading.limit c.args.source.now c.compare.new.source) c.compare.ensures.ok
     (λ verdict missed. read-judged g.S.Source c.args.reader.now.reading.limit c.args.source.now c.read_recording.new.source demo c.in_ok-recorded.recorded c.in_ok-recorded.ensures.ok
     c.compare.new.source c.take_map.new.self arena verdict c.take_map.ensures.rest map_is (rw c.frames.ensures at (rw c.end_line-before.ensures at missed)))
+
+pub returns-clause-err : goal.returns-clause-err
+returns-clause-err g c =
+    IfErr-weaker c.compare.result _ _
+    (λ stop fails. stops-comparing g.S.Source c.args.reader.now.reading.limit c.args.source.now c.read_recording.new.source c.compare.new.source c.read_recording.new.reader c.in_ok-recorded.recorded stop c.in_ok-recorded.ensures.ok fails)
+    c.compare.ensures.err

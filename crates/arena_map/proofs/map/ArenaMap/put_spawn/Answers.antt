@@ -10,10 +10,10 @@ use Rattle.arena_map.proofs.map.ArenaMap.put_spawn.Goals as goal
 pub invariant_of-self-2 : goal.invariant_of-self-2
 invariant_of-self-2 c =
     let line = Spawn c.args.at in
-    let old = map_of c.self.inside.bounds (drop 6 c.self.inside.solids.items) c.self.inside.spawns.items c.self.inside.things.items in
+    let old = map_of c.self.inside.bounds (drop 6 c.self.inside.solids.items) c.self.inside.spawns.items c.self.inside.things.items c.self.inside.settings in
     let Keeps : MapView → Type 0 = λ m. broken_rule m line ≡ None in
     let keeps : broken_rule old line ≡ None = subst Keeps (sym c.self.view_is) c.requires.kept in
     let pushed : c.push.new.self.items ≡ c.self.inside.spawns.items ++ c.args.at ∷ [] = grind (arith, common_steps) in
     kept-with_spawn c.self.inside.bounds c.self.inside.solids.items c.self.inside.spawns.items c.self.inside.things.items c.self.inside.entities.items
-    c.self.inside.shafts.items c.args.at c.push.new.self.items c.self.invariant
+    c.self.inside.shafts.items c.self.inside.settings c.args.at c.push.new.self.items c.self.invariant
     (with_line-is_map old line c.self.invariant.is_map c.requires.near keeps) pushed

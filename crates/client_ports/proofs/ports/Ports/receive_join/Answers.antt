@@ -1,5 +1,6 @@
 use Rattle.std.proofs.Common.{◌≡◌, List, Option, Some, length, slice_set, sym, ap, ◌∙◌, subst}
 use Rattle.std.proofs.lemmas.List.{length-set}
+use Rattle.entity_recs.specs.declared.limits.TheConstants.{IDS}
 use Rattle.entity_recs.specs.declared.rec.Rec.{Rec}
 use Rattle.client_ports.specs.declared.client.Client.{Client}
 use Rattle.client_ports.specs.Clients.{with_client, live_slot, new_client}
@@ -14,7 +15,7 @@ returns-in-Ok-clause-state c =
     let r = newcomer slot c.in-Ok.field-0.at in
     let records : c.add.new.self.records ≡ slice_set old slot (Some r) =
     ap (λ w. w.records) c.add.ensures.world ∙ ap (λ (n : Rec). slice_set old n.id (Some n)) c.newcomer.ensures in
-    let many : length old ≡ 256 = sym (length-set old slot (Some r)) ∙ ap length (sym records) ∙ c.add.ensures.linked.places in
+    let many : length old ≡ IDS = sym (length-set old slot (Some r)) ∙ ap length (sym records) ∙ c.add.ensures.linked.places in
     let P : List (Option Client) → Type 0 = λ clients. IsState c.args.map.now (state_of clients c.add.new.self.records) in
     let Q : List (Option Rec) → Type 0 = λ rs. IsState c.args.map.now (state_of (with_client c.args.self.now (live_slot slot (new_client c.args.port))) rs) in
     subst P (sym c.join.ensures) (subst Q (sym records)

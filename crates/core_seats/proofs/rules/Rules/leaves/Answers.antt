@@ -7,4 +7,4 @@ pub returns : goal.returns
 returns g c =
     rw (← c.self.view_is)
     (leaf_nodes_are (fixed_of g.A.Action.meaning (record { action = c.self.inside.action.now; tree = c.self.inside.tree; start = c.self.inside.start.items })) c.args.region.now c.from.result _
-    c.leaves_of.ensures.depth (c.from.ensures ∙ c.leaves_of.ensures.leaves) c.leaf_nodes.ensures.nodes)
+    (c.from.ensures ∙ c.leaves_of.ensures.leaves) c.leaf_nodes.ensures.nodes)

@@ -1,4 +1,5 @@
 use Rattle.std.proofs.Common.{◌≡◌, ℕ, sym, ◌∙◌, subst, arith}
+use Rattle.entity_recs.specs.declared.limits.TheConstants.{IDS}
 use Rattle.region_locks.proofs.Relinking.{IsRelinkedBelow, relinked_next, relinked_all}
 use Rattle.region_locks.proofs.close.records.relink_all.Goals as goal
 
@@ -14,5 +15,5 @@ loop-id-preserved c =
 
 pub returns-clause-records : goal.returns-clause-records
 returns-clause-records c =
-    let all : c.loop-id.id ≡ 256 = omega arith in
+    let all : c.loop-id.id ≡ IDS = omega arith in
     relinked_all c.args.words.now c.args.world.now c.loop-id.world (subst (λ (n : ℕ). IsRelinkedBelow n c.args.words.now c.args.world.now c.loop-id.world) all c.loop-id.invariant)

@@ -1,6 +1,8 @@
-use Rattle.std.proofs.Common.{arith, rules, ◌≡◌, sym, ◌∙◌, ap, subst, ℕ, Bool, ◌<◌, ◌^◌, ◌+◌, if◌then◌else◌}
-use Rattle.areanode.specs.declared.sizes.TheConstants.{LEAVES, FIRST_LEAF}
+use Rattle.std.proofs.Common.{arith, rules, ◌≡◌, sym, ◌∙◌, ap, subst, ℕ, Bool, ◌<◌, ◌≤◌, ◌^◌, ◌+◌, ◌-◌, if◌then◌else◌}
+use Rattle.std.proofs.Math.Nat.{pow-le-pow_right}
 use Rattle.areanode.specs.Words.{word_of}
+use Rattle.areanode.specs.Trees.{leaf_node, leaves_in}
+use Rattle.areanode.specs.declared.sizes.TheConstants.{MOST_LEAVES}
 use Rattle.areanode.proofs.Words.{word_of-below}
 use Rattle.core_steps.specs.Views.{has}
 use Rattle.ruled_words.proofs.Worlds.{word_none, word_next}
@@ -14,16 +16,16 @@ loop-leaf-init c = word_none _
 
 pub loop-leaf-preserved : goal.loop-leaf-preserved
 loop-leaf-preserved c =
-    let test : ℕ → Bool = λ leaf. has c.args.nodes.now (FIRST_LEAF + leaf) in
+    let test : ℕ → Bool = λ leaf. has c.args.nodes.now (leaf_node c.args.depth leaf) in
     c.with_top_bit-word.ensures
-    ∙ ap (λ (b : Bool). (if b then 2 ^ c.loop-leaf.leaf else 0) + c.loop-leaf.word) c.is_among.ensures
+    ∙ ap (λ (b : Bool). (if b then 2 ^ c.loop-leaf.leaf else 0) + c.loop-leaf.word)
+    (c.is_among.ensures ∙ ap (λ (n : ℕ). has c.args.nodes.now (n - 1 + c.loop-leaf.leaf)) c.count_leaves-count.ensures.value)
     ∙ ap (λ (n : ℕ). (if test c.loop-leaf.leaf then 2 ^ c.loop-leaf.leaf else 0) + n) c.loop-leaf.invariant
     ∙ sym (word_next c.loop-leaf.leaf test)
 
 pub overflow_cast-result : goal.overflow_cast-result
 overflow_cast-result c =
-    let test : ℕ → Bool = λ leaf. has c.args.nodes.now (FIRST_LEAF + leaf) in
-    let all : c.loop-leaf.leaf ≡ LEAVES = omega (arith, c.loop-leaf.auto.leaf-end, c.loop-leaf-test.false) in
-    let word : c.loop-leaf.word ≡ word_of LEAVES test = c.loop-leaf.invariant ∙ ap (λ (k : ℕ). word_of k test) all in
-    let small : c.loop-leaf.word < 2 ^ LEAVES = subst (λ (n : ℕ). n < 2 ^ LEAVES) (sym word) (word_of-below LEAVES test) in
-    search rules
+    let few : c.loop-leaf.leaf ≤ MOST_LEAVES = omega (arith, c.loop-leaf.auto.leaf-end, c.count_leaves-count.ensures.few) in
+    let small = subst (λ (n : ℕ). n < 2 ^ c.loop-leaf.leaf) (sym c.loop-leaf.invariant) (word_of-below c.loop-leaf.leaf (λ leaf. has c.args.nodes.now (leaf_node c.args.depth leaf))) in
+    let fits = pow-le-pow_right {n = 2} (omega arith) few in
+    omega (arith, small, fits)

@@ -2,8 +2,12 @@ use Rattle.std.proofs.Common.{sym, ap, ◌∙◌}
 use Rattle.entity_recs.specs.Commands.{command_of}
 use Rattle.ruled_words.specs.Passes.{fixed_in}
 use Rattle.region_locks.specs.Points.{MomentView}
-use Rattle.region_locks.proofs.Runs.{some_entry, again_still, committed_point, leaves_still, refusals_again, refusals_end, has_moved}
+use Rattle.region_locks.proofs.Runs.{some_entry, first_visit, again_still, committed_point, leaves_still, refusals_again, refusals_end, has_moved}
 use Rattle.region_locks.proofs.moving.run.run_hand.Goals as goal
+
+pub read_region-effect-requires-clause-at : goal.read_region-effect-requires-clause-at
+read_region-effect-requires-clause-at g c κs within =
+    first_visit (fixed_in g.A.Action.meaning c.args.words.now) c.own_again-again.result c.hold_leaves-held.new.hand c.own_again-again.new.hand c.own_again-again.ensures.view
 
 pub write_region-place-requires-clause-again_is : goal.write_region-place-requires-clause-again_is
 write_region-place-requires-clause-again_is g c κs within =

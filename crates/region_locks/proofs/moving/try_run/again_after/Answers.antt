@@ -1,11 +1,13 @@
-use Rattle.std.proofs.Common.{◌≤◌, arith}
-use Rattle.areanode.specs.declared.sizes.TheConstants.{FIRST_LEAF}
-use Rattle.region_locks.proofs.Running.{is_leaf_held}
+use Rattle.std.proofs.Common.{arith}
+use Rattle.region_locks.proofs.Running.{is_leaf_held, is_node_busy}
 use Rattle.region_locks.proofs.moving.try_run.again_after.Goals as goal
 
-pub returns-then-from-ge-FIRST_LEAF : goal.returns-then-from-ge-FIRST_LEAF
-returns-then-from-ge-FIRST_LEAF c F passes own d r same by =
-    let same_node = c.from.ensures in
-    let above = c.if-from-ge-FIRST_LEAF.true in
-    let least : FIRST_LEAF ≤ c.args.refusal.node = omega (arith, same_node, above) in
-    is_leaf_held F passes own d r c.args.refusal.node c.args.refusal.holder.number c.args.refusal.holder.leaves least same by
+pub returns-then-refusal-first_leaf : goal.returns-then-refusal-first_leaf
+returns-then-refusal-first_leaf c F passes own d r first same by =
+    let above = c.if-refusal-first_leaf.true in
+    is_leaf_held F passes own d r c.args.refusal.node c.args.first_leaf c.args.refusal.holder.number c.args.refusal.holder.leaves first (omega (arith, above)) same by
+
+pub returns-else-refusal-first_leaf : goal.returns-else-refusal-first_leaf
+returns-else-refusal-first_leaf c F passes own d r first same by =
+    let below = c.if-refusal-first_leaf.false in
+    is_node_busy F passes own d r c.args.refusal.node c.args.first_leaf c.args.refusal.holder.number c.args.refusal.holder.leaves first (omega (arith, below)) same by

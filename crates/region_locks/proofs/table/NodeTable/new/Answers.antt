@@ -2,7 +2,8 @@ use Rattle.std.proofs.Common.{◌≡◌, List, ◌∷◌, length, All, sym, ap, 
 use Rattle.atomic_table.specs.Seated.{TableId}
 use Rattle.core_steps.specs.Views.{Fixed}
 use Rattle.ruled_words.specs.Sights.{SightView}
-use Rattle.ruled_words.specs.Passes.{PassView, IsPassOf, fixed_in}
+use Rattle.ruled_words.specs.Passes.{PassView, IsPassOf, fixed_in, setting_of}
+use Rattle.ruled_words.specs.declared.setting.Setting.{Setting}
 use Rattle.region_locks.specs.NewPasses.{new_pass, first_pass, new_passes}
 use Rattle.region_locks.proofs.NewPasses.{all_own, depth_is}
 use Rattle.region_locks.proofs.table.NodeTable.new.Goals as goal
@@ -15,13 +16,15 @@ returns-clause-own g c =
     let hand = c.make_others.new.first in
     let F : Fixed = fixed_in g.A.Action.meaning words in
     let depth = depth_is g.A.Action.meaning words.action words.world c.rules.result.now c.rules.ensures c.is_ruled.ensures in
-    let first : c.resting.result ≡ first_pass table c.args.room.now =
+    let setting : Setting = setting_of F in
+    let first : c.resting.result ≡ first_pass table setting c.args.room.now =
     c.resting.ensures
-    ∙ ap (λ (t : TableId). new_pass t hand.number hand.view) (c.make_others.ensures.table ∙ made.first.0)
-    ∙ ap (λ (s : SightView). new_pass table s.number s.view) c.in_ok-passes.ensures.first in
-    let items : c.insert.new.self.items ≡ new_passes table words.rooms =
+    ∙ ap (λ (t : TableId). new_pass t hand.setting hand.number hand.view) (c.make_others.ensures.table ∙ made.first.0)
+    ∙ ap (λ (s : Setting). new_pass table s hand.number hand.view) (c.make_others.ensures.setting ∙ made.setting)
+    ∙ ap (λ (s : SightView). new_pass table setting s.number s.view) c.in_ok-passes.ensures.first in
+    let items : c.insert.new.self.items ≡ new_passes table setting words.rooms =
     c.in_ok-insert.ensures.items
     ∙ ap (λ (p : PassView). p ∷ c.in_ok-passes.passes.items) first
-    ∙ ap (λ (xs : List PassView). first_pass table c.args.room.now ∷ xs) c.in_ok-passes.ensures.passes
-    ∙ ap (new_passes table) (sym made.table.2) in
+    ∙ ap (λ (xs : List PassView). first_pass table setting c.args.room.now ∷ xs) c.in_ok-passes.ensures.passes
+    ∙ ap (new_passes table setting) (sym made.table.2) in
     subst (All (IsPassOf F (length words.rooms) table)) (sym items) (all_own F table words.rooms depth)

@@ -1,5 +1,5 @@
 use Rattle.std.proofs.Common.{sym, ap, subst, ◌∙◌, ◌<◌, ◌==◌, length, ℕ, if◌then◌else◌, All}
-use Rattle.areanode.specs.declared.sizes.TheConstants.{NODES}
+use Rattle.core_steps.specs.Views.{Fixed, is_leaf, nodes_of}
 use Rattle.core_seats.specs.Shown.{fixed_of}
 use Rattle.ruled_words.specs.Hands.{pass_view}
 use Rattle.ruled_words.specs.Passes.{PassView, fixed_in}
@@ -26,13 +26,15 @@ step_word-found-requires-clause-left g c κs within found =
 
 pub held_word-new-requires-clause-nodes : goal.held_word-new-requires-clause-nodes
 held_word-new-requires-clause-nodes g c κs within =
-    subst (All (λ n. n < NODES)) (sym (c.as_slice-wanted.ensures.value ∙ ap (λ (q : PassView). q.view.wanted) c.pass.view_is))
-    (wanted_below _ _ _ c.args.pass.now c.args.node _ c.requires.own (takes_next (fixed_in g.A.Action.meaning c.args.self.now) (length c.args.self.now.rooms) c.args.self.now.table c.args.pass.now c.args.node c.requires.own c.requires.next))
+    subst (λ (m : ℕ). All (λ n. n < m) c.as_slice-wanted.result.now) (sym (ap nodes_of (ap (fixed_of g.A.Action.meaning) c.rules.ensures)))
+    (subst (All (λ n. n < nodes_of (fixed_in g.A.Action.meaning c.args.self.now))) (sym (c.as_slice-wanted.ensures.value ∙ ap (λ (q : PassView). q.view.wanted) c.pass.view_is))
+    (wanted_below _ _ _ c.args.pass.now c.args.node _ c.requires.own (takes_next (fixed_in g.A.Action.meaning c.args.self.now) (length c.args.self.now.rooms) c.args.self.now.table c.args.pass.now c.args.node c.requires.own c.requires.next)))
 
 pub returns-else-found-eq0-clause-err : goal.returns-else-found-eq0-clause-err
 returns-else-found-eq0-clause-err g c =
     let found = c.step_word-found.result in
-    let holder = c.holder_in.ensures in (
+    let F = fixed_in g.A.Action.meaning c.args.self.now in
+    let holder = c.holder_in.ensures F c.args.node (c.is_leaf.ensures ∙ ap (λ (G : Fixed). is_leaf G c.args.node) (ap (fixed_of g.A.Action.meaning) c.rules-else-found-eq0.ensures)) in (
       found,
       c.step_word-found.ensures.pass,
       holder,
@@ -43,4 +45,5 @@ returns-else-found-eq0-clause-err g c =
 
 pub returns-else-found-eq0-clause-may_quit : goal.returns-else-found-eq0-clause-may_quit
 returns-else-found-eq0-clause-may_quit g c =
-    may_quit_after (fixed_in g.A.Action.meaning c.args.self.now) c.args.pass.now _ c.args.node c.step_word-found.result c.requires.next c.step_word-found.ensures.pass c.holder_in.ensures.is_held
+    may_quit_after (fixed_in g.A.Action.meaning c.args.self.now) c.args.pass.now _ c.args.node c.step_word-found.result c.requires.next c.step_word-found.ensures.pass
+    (c.holder_in.ensures (fixed_in g.A.Action.meaning c.args.self.now) c.args.node (c.is_leaf.ensures ∙ ap (λ (G : Fixed). is_leaf G c.args.node) (ap (fixed_of g.A.Action.meaning) c.rules-else-found-eq0.ensures))).is_held

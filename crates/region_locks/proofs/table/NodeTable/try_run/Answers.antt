@@ -9,7 +9,8 @@ use Rattle.region_locks.proofs.table.NodeTable.try_run.Goals as goal
 pub returns-in-Err-clause-err : goal.returns-in-Err-clause-err
 returns-in-Err-clause-err g c =
     let own : IsPassOf (fixed_in g.A.Action.meaning c.args.self.now) (length c.args.self.now.rooms) c.args.self.now.table c.give_up.new.pass = c.give_up.ensures.own in
-    was_not_run (fixed_in g.A.Action.meaning c.args.self.now) (length c.args.self.now.rooms) c.args.self.now.table c.args.pass.now (command_of c.args.cmd) c.loop-turn.pass c.step_gated.new.pass c.give_up.new.pass c.loop-turn.entry c.in-Err.refusal.node c.in-Err.refusal.holder.number c.in-Err.refusal.holder.leaves c.again_after.result c.loop-turn.invariant.0 c.loop-turn.invariant.1 c.in-Err.ensures.refused own c.give_up.ensures.given_up c.again_after.ensures
+    was_not_run (fixed_in g.A.Action.meaning c.args.self.now) (length c.args.self.now.rooms) c.args.self.now.table c.args.pass.now (command_of c.args.cmd) c.loop-turn.pass c.step_gated.new.pass c.give_up.new.pass c.loop-turn.entry c.in-Err.refusal.node c.in-Err.refusal.holder.number c.in-Err.refusal.holder.leaves c.again_after.result c.loop-turn.invariant.0 c.loop-turn.invariant.1 c.in-Err.ensures.refused own c.give_up.ensures.given_up
+    (λ n d r. c.again_after.ensures (fixed_in g.A.Action.meaning c.args.self.now) (length c.args.self.now.rooms) n d r c.first_leaf.ensures)
 
 pub loop-turn-preserved : goal.loop-turn-preserved
 loop-turn-preserved g c =

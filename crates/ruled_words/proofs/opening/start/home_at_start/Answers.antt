@@ -1,6 +1,8 @@
-use Rattle.std.proofs.Common.{sym, ◌∙◌, ap, ℕ, Some}
+use Rattle.std.proofs.Common.{◌≡◌, ℕ, ◌<◌, ◌≤◌, Some, sym, ◌∙◌, ap, arith}
 use Rattle.arena_geo.specs.Bounds.{Bounds}
-use Rattle.areanode.specs.Trees.{TreeView, node_of}
+use Rattle.areanode.specs.declared.sizes.TheConstants.{MOST_NODES}
+use Rattle.areanode.specs.Depths.{sizes_of_depth}
+use Rattle.areanode.specs.Trees.{TreeView, nodes_in, node_of}
 use Rattle.world_tree.specs.Live.{ids_of}
 use Rattle.world_tree.specs.Worlds.{record_of}
 use Rattle.world_tree.proofs.Rising.{live_ids_have_records}
@@ -21,3 +23,11 @@ pub returns-in-None-clause-home : goal.returns-in-None-clause-home
 returns-in-None-clause-home c =
     let w = c.args.world.now in
     home_none w c.args.slot (same_has (ids_of w.records) c.args.slot ∙ live_ids_have_records w c.get.ensures.linked c.args.slot) (ap (record_of w) (sym c.from.ensures) ∙ sym c.get.ensures.record ∙ c.in-None.is)
+
+pub returns-in-Some-clause-in_range : goal.returns-in-Some-clause-in_range
+returns-in-Some-clause-in_range c node is = below c.node_of.result node _ is c.node_of.ensures.in_range (sizes_of_depth _ c.node_of.ensures.depth).nodes
+  where
+    below : (result node depth : ℕ) → Some result ≡ Some node → result < nodes_in depth → nodes_in depth ≤ MOST_NODES → node < MOST_NODES
+    below result node depth is less most =
+        let same : result ≡ node = cc in
+        omega (arith, same, less, most)

@@ -1,72 +1,75 @@
-use Rattle.std.proofs.Common.{◌+◌, List, ◌++◌, ◌∷◌, [], sym, ap, ◌∙◌, subst, arith}
+use Rattle.std.proofs.Common.{◌+◌, ◌≤◌, length, List, ◌++◌, ◌∷◌, [], sym, ap, ◌∙◌, subst, arith}
 use Rattle.arena_geo.specs.Bounds.{Bounds}
 use Rattle.entity_recs.specs.declared.rec.Rec.{Rec}
 use Rattle.core_steps.specs.Views.{things_in}
 use Rattle.core_steps.specs.Steps.{sensing}
 use Rattle.ruled_words.specs.Passes.{PassView, fixed_in, IsOwn}
-use Rattle.ruled_words.proofs.StateSteps.{thing_marked, put_last, AreSensed, sensed_none, sensed_at, sensed_room, sensed_one, sensed_skip, sensed_view, sensed_near}
+use Rattle.ruled_words.proofs.StateSteps.{put_last, AreSensed, sensed_none, sensed_at, sensed_room, sensed_one, sensed_until, sensed_view, sensed_near}
 use Rattle.ruled_words.proofs.shared_words.SharedWords.load_states.Goals as goal
-use Rattle.ruled_words.proofs.shared_words.SharedWords.load_states.Goals.{then-is_thing_near, else-is_thing_near}
 
-pub is_thing_near-requires : goal.is_thing_near-requires
-is_thing_near-requires g c touch =
-    let F = fixed_in g.A.Action.meaning c.args.self.now in
-    let things = c.map_things-things.result.now in
-    let region = c.args.region.now in
-    thing_marked F things region c.map_things-things.ensures c.thing_bits-bits.result c.thing_bits-bits.ensures c.loop-r.r-index _ c.loop-r-test.true touch
+pub next_thing-requires : goal.next_thing-requires
+next_thing-requires g c = c.thing_bits-bits.ensures c.map_things-things.result.now c.map_things-things.ensures
 
 pub load_thing-requires-clause-at : goal.load_thing-requires-clause-at
 load_thing-requires-clause-at g c κs within =
-    let F = fixed_in g.A.Action.meaning c.args.self.now in
-    sensed_at F c.map_things-things.result.now c.args.region.now c.map_things-things.ensures c.ids_rise.ensures c.args.hand.now c.args.near.now c.loop-r.hand c.loop-r.near c.loop-r.r-index _ c.loop-r-test.true c.loop-r.invariant.sensed
-    (sym c.is_thing_near.ensures ∙ c.if-is_thing_near.true)
-
-pub loop-r-init : goal.loop-r-init
-loop-r-init g c =
-    let F = fixed_in g.A.Action.meaning c.args.self.now in
-    record {
-      own = c.requires.own;
-      sensed = sensed_none F c.map_things-things.result.now c.args.region.now c.map_things-things.ensures c.ids_rise.ensures c.args.hand.now c.args.near.now c.is_plain.ensures
-          (c.requires.at ∙ ap (λ (region : List Bounds). sensing (things_in F region)) (sym c.requires.region_is)) c.requires.room;
-    }
-
-pub loop-r-preserved : goal.loop-r-preserved
-loop-r-preserved g c =
     let F = fixed_in g.A.Action.meaning c.args.self.now in
     let things = c.map_things-things.result.now in
     let region = c.args.region.now in
     let start = c.args.hand.now in
     let before = c.args.near.now in
-    let k = c.loop-r.r-index in
-    let is = c.loop-r.invariant.sensed in
-    elim c.if-is_thing_near.branch [
-      | then-is_thing_near w ↦
-          let touch = sym c.is_thing_near.ensures ∙ w.if-is_thing_near.true in
-          let loaded = w.load_thing.ensures in
-          let one = sensed_one F things region c.map_things-things.ensures c.ids_rise.ensures start before c.loop-r.hand c.loop-r.near k _ c.loop-r-test.true is touch w.load_thing.new.hand w.load_thing.result.state loaded.view in
-          let room = sensed_room F things region c.map_things-things.ensures c.ids_rise.ensures start before c.loop-r.hand c.loop-r.near k w.load_thing.result c.loop-r-test.true is in
-          let pushed = put_last w.push.result c.loop-r.near w.push.new.self w.load_thing.result w.push.ensures.room w.push.ensures.records room in
-          let near_is = w.near-is ∙ pushed ∙ ap (λ (r : Rec). c.loop-r.near ++ r ∷ []) loaded.thing in
-          record {
-            own = subst (IsOwn g.A.Action.meaning c.args.self.now) (sym w.hand-is) loaded.own;
-            sensed = subst (λ (p : PassView). AreSensed region things start p before c.if-is_thing_near.near (k + 1)) (sym w.hand-is)
-                (subst (λ (rs : List Rec). AreSensed region things start w.load_thing.new.hand before rs (k + 1)) (sym near_is) one);
-          }
-      | else-is_thing_near w ↦
-          let skip = sensed_skip F things region c.map_things-things.ensures c.ids_rise.ensures start before c.loop-r.hand c.loop-r.near k _ c.loop-r-test.true is (sym c.is_thing_near.ensures ∙ w.if-is_thing_near.false) in
-          record {
-            own = subst (IsOwn g.A.Action.meaning c.args.self.now) (sym w.hand-is) c.loop-r.invariant.own;
-            sensed = subst (λ (p : PassView). AreSensed region things start p before c.if-is_thing_near.near (k + 1)) (sym w.hand-is)
-                (subst (λ (rs : List Rec). AreSensed region things start c.loop-r.hand before rs (k + 1)) (sym w.near-is) skip);
-          }
-    ]
+    let next = c.in-Some.ensures in
+    let is = sensed_until F things region c.map_things-things.ensures c.ids_rise.ensures start before c.loop-place.hand c.loop-place.near c.loop-place.at c.in-Some.place next.least (omega (arith, next.within)) c.loop-place.invariant.sensed next.apart in
+    sensed_at F things region c.map_things-things.ensures c.ids_rise.ensures start before c.loop-place.hand c.loop-place.near c.in-Some.place _ next.within is (next.touches _)
+
+pub loop-place-init : goal.loop-place-init
+loop-place-init g c =
+    let F = fixed_in g.A.Action.meaning c.args.self.now in
+    record {
+      own = c.requires.own;
+      sensed = sensed_none F c.map_things-things.result.now c.args.region.now c.map_things-things.ensures c.ids_rise.ensures c.args.hand.now c.args.near.now c.is_plain.ensures
+          (c.requires.at ∙ ap (λ (region : List Bounds). sensing (things_in F region)) (sym c.requires.region_is)) c.requires.room;
+      within = omega arith;
+    }
+
+pub loop-place-preserved : goal.loop-place-preserved
+loop-place-preserved g c =
+    let F = fixed_in g.A.Action.meaning c.args.self.now in
+    let things = c.map_things-things.result.now in
+    let region = c.args.region.now in
+    let start = c.args.hand.now in
+    let before = c.args.near.now in
+    let place = c.in-Some.place in
+    let next = c.in-Some.ensures in
+    let here = next.within in
+    let is = sensed_until F things region c.map_things-things.ensures c.ids_rise.ensures start before c.loop-place.hand c.loop-place.near c.loop-place.at place next.least (omega (arith, here)) c.loop-place.invariant.sensed next.apart in
+    let loaded = c.load_thing.ensures in
+    let one = sensed_one F things region c.map_things-things.ensures c.ids_rise.ensures start before c.loop-place.hand c.loop-place.near place _ here is (next.touches _) c.load_thing.new.hand c.load_thing.result.state loaded.view in
+    let room = sensed_room F things region c.map_things-things.ensures c.ids_rise.ensures start before c.loop-place.hand c.loop-place.near place c.load_thing.result here is in
+    let pushed = put_last c.push.result c.loop-place.near c.push.new.self c.load_thing.result c.push.ensures.room c.push.ensures.records room in
+    let near_is = pushed ∙ ap (λ (r : Rec). c.loop-place.near ++ r ∷ []) loaded.thing in
+    record {
+      own = loaded.own;
+      sensed = subst (λ (rs : List Rec). AreSensed region things start c.load_thing.new.hand before rs (place + 1)) (sym near_is) one;
+      within = omega (arith, here);
+    }
+
+pub loop-place-smaller : goal.loop-place-smaller
+loop-place-smaller g c =
+    let next = c.in-Some.ensures in
+    let least = next.least in
+    let here = next.within in
+    omega (arith, least, here)
 
 pub returns-clause-view : goal.returns-clause-view
 returns-clause-view g c =
-    sensed_view (fixed_in g.A.Action.meaning c.args.self.now) c.map_things-things.result.now c.args.region.now c.map_things-things.ensures c.ids_rise.ensures c.args.hand.now c.args.near.now c.loop-r.hand c.loop-r.near c.loop-r.r-index
-    (omega (arith, c.loop-r-test.false)) c.loop-r.invariant.sensed
+    let F = fixed_in g.A.Action.meaning c.args.self.now in
+    let things = c.map_things-things.result.now in
+    let is = sensed_until F things c.args.region.now c.map_things-things.ensures c.ids_rise.ensures c.args.hand.now c.args.near.now c.loop-place.hand c.loop-place.near c.loop-place.at (length things) c.loop-place.invariant.within (omega arith) c.loop-place.invariant.sensed c.in_default.ensures in
+    sensed_view F things c.args.region.now c.map_things-things.ensures c.ids_rise.ensures c.args.hand.now c.args.near.now c.loop-place.hand c.loop-place.near (length things) (omega arith) is
 
 pub returns-clause-near : goal.returns-clause-near
 returns-clause-near g c =
-    sensed_near (fixed_in g.A.Action.meaning c.args.self.now) c.map_things-things.result.now c.args.region.now c.map_things-things.ensures c.ids_rise.ensures c.args.hand.now c.args.near.now c.loop-r.hand c.loop-r.near c.loop-r.r-index
-    (omega (arith, c.loop-r-test.false)) c.loop-r.invariant.sensed
+    let F = fixed_in g.A.Action.meaning c.args.self.now in
+    let things = c.map_things-things.result.now in
+    let is = sensed_until F things c.args.region.now c.map_things-things.ensures c.ids_rise.ensures c.args.hand.now c.args.near.now c.loop-place.hand c.loop-place.near c.loop-place.at (length things) c.loop-place.invariant.within (omega arith) c.loop-place.invariant.sensed c.in_default.ensures in
+    sensed_near F things c.args.region.now c.map_things-things.ensures c.ids_rise.ensures c.args.hand.now c.args.near.now c.loop-place.hand c.loop-place.near (length things) (omega arith) is

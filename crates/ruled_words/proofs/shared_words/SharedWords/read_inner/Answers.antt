@@ -1,17 +1,17 @@
 use Rattle.std.proofs.Common.{◌≡◌, ℕ, sym, ap, ◌∙◌, subst, arith, refl, bit_or}
-use Rattle.areanode.specs.declared.sizes.TheConstants.{FIRST_LEAF}
-use Rattle.core_steps.specs.Views.{region_in}
+use Rattle.core_steps.specs.Views.{inner_nodes, region_in}
 use Rattle.core_steps.specs.Steps.{visiting}
 use Rattle.ruled_words.specs.Passes.{PassView, fixed_in}
 use Rattle.ruled_words.proofs.BitWalks.{bits_first, bit_below}
+use Rattle.ruled_words.proofs.LeafWords.{inner_few}
 use Rattle.ruled_words.proofs.TriedTakes.{not_tried, tried_again}
-use Rattle.ruled_words.proofs.VisitedNodes.{inner_until, inner_list_is, inner_start, inner_end, now_entering, inner_more, none_kept_yet, kept_after}
+use Rattle.ruled_words.proofs.VisitedNodes.{inner_until, inner_list_is, inner_small, inner_start, inner_end, now_entering, inner_more, none_kept_yet, kept_after}
 use Rattle.ruled_words.proofs.shared_words.SharedWords.read_inner.Goals as goal
 
 pub loop-rest-init : goal.loop-rest-init
 loop-rest-init g c =
     let same = c.from-rest.ensures in
-    let inner = inner_list_is (fixed_in g.A.Action.meaning c.args.self.now) (region_in (fixed_in g.A.Action.meaning c.args.self.now) c.args.hand.now.view.cmd c.args.hand.now.view.own) _ c.args.inner c.requires.own.sound_sight.sound.depth refl c.requires.inner in (
+    let inner = inner_list_is (fixed_in g.A.Action.meaning c.args.self.now) (region_in (fixed_in g.A.Action.meaning c.args.self.now) c.args.hand.now.view.cmd c.args.hand.now.view.own) _ c.args.inner refl c.requires.inner in (
       c.requires.own,
       inner_start (fixed_in g.A.Action.meaning c.args.self.now) c.args.hand.now c.args.inner c.is_plain.ensures (c.requires.at ∙ ap (visiting (fixed_in g.A.Action.meaning c.args.self.now) c.args.hand.now.view) inner)
           ∙ ap (λ (n : ℕ). inner_until (fixed_in g.A.Action.meaning c.args.self.now) c.args.hand.now n c.args.hand.now) (sym c.from-rest.ensures),
@@ -23,17 +23,19 @@ loop-rest-init g c =
 
 pub visit_inner-seen-requires-clause-inner : goal.visit_inner-seen-requires-clause-inner
 visit_inner-seen-requires-clause-inner g c κs within =
+    let F = fixed_in g.A.Action.meaning c.args.self.now in
     let few = c.loop-rest.invariant.3 in
-    let cut = c.requires.inner in
-    bit_below FIRST_LEAF c.loop-rest.rest c.lowest_bit-node.result (omega (arith, few, cut)) c.lowest_bit-node.ensures.there
+    let small = inner_small F _ c.args.inner c.loop-rest.rest c.requires.inner few in
+    bit_below (inner_nodes F) c.loop-rest.rest c.lowest_bit-node.result small c.lowest_bit-node.ensures.there
 
 pub visit_inner-seen-requires-clause-at : goal.visit_inner-seen-requires-clause-at
 visit_inner-seen-requires-clause-at g c κs within =
+    let F = fixed_in g.A.Action.meaning c.args.self.now in
     let few = c.loop-rest.invariant.3 in
-    let cut = c.requires.inner in
-    let below = bit_below FIRST_LEAF c.loop-rest.rest c.lowest_bit-node.result (omega (arith, few, cut)) c.lowest_bit-node.ensures.there in
-    let first = bits_first FIRST_LEAF c.loop-rest.rest c.without_bit-rest.result c.lowest_bit-node.result below (omega arith) c.lowest_bit-node.ensures.there c.lowest_bit-node.ensures.first c.without_bit-rest.ensures.bits in
-    now_entering (fixed_in g.A.Action.meaning c.args.self.now) c.args.hand.now c.requires.own.sound_sight.sound.depth c.loop-rest.rest c.without_bit-rest.result c.lowest_bit-node.result below first c.loop-rest.hand c.loop-rest.invariant.1
+    let small = inner_small F _ c.args.inner c.loop-rest.rest c.requires.inner few in
+    let below = bit_below (inner_nodes F) c.loop-rest.rest c.lowest_bit-node.result small c.lowest_bit-node.ensures.there in
+    let first = bits_first (inner_nodes F) c.loop-rest.rest c.without_bit-rest.result c.lowest_bit-node.result below (inner_few F c.requires.own.sound_sight.sound.depth) c.lowest_bit-node.ensures.there c.lowest_bit-node.ensures.first c.without_bit-rest.ensures.bits in
+    now_entering F c.args.hand.now c.loop-rest.rest c.without_bit-rest.result c.lowest_bit-node.result below first c.loop-rest.hand c.loop-rest.invariant.1
 
 pub visit_inner-seen-requires-clause-own_is : goal.visit_inner-seen-requires-clause-own_is
 visit_inner-seen-requires-clause-own_is g c κs within = c.requires.own_is ∙ sym (ap (λ (q : PassView). q.view.own) c.loop-rest.invariant.1)
@@ -46,13 +48,14 @@ visit_inner-seen-requires-clause-slot g c κs within = c.requires.slot ∙ sym (
 
 pub loop-rest-preserved : goal.loop-rest-preserved
 loop-rest-preserved g c =
+    let F = fixed_in g.A.Action.meaning c.args.self.now in
     let few = c.loop-rest.invariant.3 in
-    let cut = c.requires.inner in
-    let below = bit_below FIRST_LEAF c.loop-rest.rest c.lowest_bit-node.result (omega (arith, few, cut)) c.lowest_bit-node.ensures.there in
-    let first = bits_first FIRST_LEAF c.loop-rest.rest c.without_bit-rest.result c.lowest_bit-node.result below (omega arith) c.lowest_bit-node.ensures.there c.lowest_bit-node.ensures.first c.without_bit-rest.ensures.bits in
+    let small = inner_small F _ c.args.inner c.loop-rest.rest c.requires.inner few in
+    let below = bit_below (inner_nodes F) c.loop-rest.rest c.lowest_bit-node.result small c.lowest_bit-node.ensures.there in
+    let first = bits_first (inner_nodes F) c.loop-rest.rest c.without_bit-rest.result c.lowest_bit-node.result below (inner_few F c.requires.own.sound_sight.sound.depth) c.lowest_bit-node.ensures.there c.lowest_bit-node.ensures.first c.without_bit-rest.ensures.bits in
     let less = c.without_bit-rest.ensures.less c.lowest_bit-node.ensures.there in (
       c.visit_inner-seen.ensures.own,
-      inner_more (fixed_in g.A.Action.meaning c.args.self.now) c.args.hand.now c.requires.own.sound_sight.sound.depth c.loop-rest.rest c.without_bit-rest.result c.lowest_bit-node.result below first c.loop-rest.hand c.loop-rest.invariant.1 c.visit_inner-seen.new.hand c.visit_inner-seen.ensures.view,
+      inner_more F c.args.hand.now c.loop-rest.rest c.without_bit-rest.result c.lowest_bit-node.result below first c.loop-rest.hand c.loop-rest.invariant.1 c.visit_inner-seen.new.hand c.visit_inner-seen.ensures.view,
       λ seen kept. kept_after seen c.loop-rest.seen c.visit_inner-seen.result c.visit_inner-seen.new.six c.visit_inner-seen.new.hand.view.others (c.visit_inner-seen.ensures.kept (bit_or seen c.loop-rest.seen) (c.loop-rest.invariant.2 seen kept)),
       omega (arith, few, less),
       tried_again _ _ _ c.loop-rest.invariant.4 c.visit_inner-seen.ensures.tried,

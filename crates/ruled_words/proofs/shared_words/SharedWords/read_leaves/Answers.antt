@@ -1,8 +1,7 @@
-use Rattle.std.proofs.Common.{◌≡◌, ℕ, sym, ap, ◌∙◌, subst, arith, bit_or}
-use Rattle.areanode.specs.declared.sizes.TheConstants.{LEAVES}
+use Rattle.std.proofs.Common.{◌≡◌, ℕ, ◌+◌, ◌^◌, sym, ap, ◌∙◌, subst, arith, bit_or}
 use Rattle.ruled_words.specs.Passes.{PassView, fixed_in}
-use Rattle.ruled_words.proofs.BitWalks.{bits_first, bit_below}
-use Rattle.ruled_words.proofs.LeafWords.{leaves_small}
+use Rattle.ruled_words.proofs.BitWalks.{lowest_first}
+use Rattle.ruled_words.proofs.LeafWords.{leaves_few, leaves_small}
 use Rattle.ruled_words.proofs.VisitedNodes.{leaves_until, reading_start, reading_end, leaf_entered, leaf_read, none_kept_yet, kept_after}
 use Rattle.ruled_words.proofs.shared_words.SharedWords.read_leaves.Goals as goal
 
@@ -10,7 +9,7 @@ pub loop-rest-init : goal.loop-rest-init
 loop-rest-init g c =
     let same = c.from-rest.ensures in (
       c.requires.own,
-      reading_start (fixed_in g.A.Action.meaning c.args.self.now) c.args.hand.now c.requires.own.sound_sight.sound.depth c.args.leaves c.is_plain.ensures c.requires.at c.requires.leaves
+      reading_start (fixed_in g.A.Action.meaning c.args.self.now) c.args.hand.now c.args.leaves c.is_plain.ensures c.requires.at c.requires.leaves
           ∙ ap (λ (n : ℕ). leaves_until (fixed_in g.A.Action.meaning c.args.self.now) c.args.hand.now n c.args.hand.now) (sym c.from-rest.ensures),
       λ seen kept. none_kept_yet seen c.args.six.now c.args.hand.now.view.others kept,
       omega (arith, same),
@@ -19,10 +18,10 @@ loop-rest-init g c =
 pub read_under-seen-requires-clause-at : goal.read_under-seen-requires-clause-at
 read_under-seen-requires-clause-at g c κs within =
     let few = c.loop-rest.invariant.3 in
-    let range = leaves_small (fixed_in g.A.Action.meaning c.args.self.now) _ c.args.leaves c.requires.own.sound_sight.sound.depth c.requires.leaves in
-    let below = bit_below LEAVES c.loop-rest.rest c.lowest_bit-leaf.result (omega (arith, few, range)) c.lowest_bit-leaf.ensures.there in
-    let first = bits_first LEAVES c.loop-rest.rest c.without_bit-rest.result c.lowest_bit-leaf.result below (omega arith) c.lowest_bit-leaf.ensures.there c.lowest_bit-leaf.ensures.first c.without_bit-rest.ensures.bits in
-    leaf_entered (fixed_in g.A.Action.meaning c.args.self.now) c.args.hand.now c.requires.own.sound_sight.sound.depth c.loop-rest.rest c.without_bit-rest.result c.lowest_bit-leaf.result first c.loop-rest.hand c.loop-rest.invariant.1
+    let F = fixed_in g.A.Action.meaning c.args.self.now in
+    let range = leaves_small F _ c.args.leaves c.requires.leaves in
+    let first = lowest_first (2 ^ F.tree.depth) c.loop-rest.rest c.without_bit-rest.result c.lowest_bit-leaf.result (leaves_few F c.requires.own.sound_sight.sound.depth) (omega (arith, few, range)) c.lowest_bit-leaf.ensures.there c.lowest_bit-leaf.ensures.first c.without_bit-rest.ensures.bits in
+    leaf_entered F c.args.hand.now c.loop-rest.rest c.without_bit-rest.result c.lowest_bit-leaf.result (c.first_leaf-first.result + c.lowest_bit-leaf.result) first (ap (λ (n : ℕ). n + c.lowest_bit-leaf.result) c.first_leaf-first.ensures.value) c.loop-rest.hand c.loop-rest.invariant.1
 
 pub read_under-seen-requires-clause-slot : goal.read_under-seen-requires-clause-slot
 read_under-seen-requires-clause-slot g c κs within = c.requires.slot ∙ sym (ap (λ (q : PassView). q.view.cmd.slot) c.loop-rest.invariant.1)
@@ -30,12 +29,12 @@ read_under-seen-requires-clause-slot g c κs within = c.requires.slot ∙ sym (a
 pub loop-rest-preserved : goal.loop-rest-preserved
 loop-rest-preserved g c =
     let few = c.loop-rest.invariant.3 in
-    let range = leaves_small (fixed_in g.A.Action.meaning c.args.self.now) _ c.args.leaves c.requires.own.sound_sight.sound.depth c.requires.leaves in
-    let below = bit_below LEAVES c.loop-rest.rest c.lowest_bit-leaf.result (omega (arith, few, range)) c.lowest_bit-leaf.ensures.there in
-    let first = bits_first LEAVES c.loop-rest.rest c.without_bit-rest.result c.lowest_bit-leaf.result below (omega arith) c.lowest_bit-leaf.ensures.there c.lowest_bit-leaf.ensures.first c.without_bit-rest.ensures.bits in
+    let F = fixed_in g.A.Action.meaning c.args.self.now in
+    let range = leaves_small F _ c.args.leaves c.requires.leaves in
+    let first = lowest_first (2 ^ F.tree.depth) c.loop-rest.rest c.without_bit-rest.result c.lowest_bit-leaf.result (leaves_few F c.requires.own.sound_sight.sound.depth) (omega (arith, few, range)) c.lowest_bit-leaf.ensures.there c.lowest_bit-leaf.ensures.first c.without_bit-rest.ensures.bits in
     let less = c.without_bit-rest.ensures.less c.lowest_bit-leaf.ensures.there in (
       c.read_under-seen.ensures.own,
-      leaf_read (fixed_in g.A.Action.meaning c.args.self.now) c.args.hand.now c.requires.own.sound_sight.sound.depth c.loop-rest.rest c.without_bit-rest.result c.lowest_bit-leaf.result first c.loop-rest.hand c.loop-rest.invariant.1 c.read_under-seen.new.hand c.read_under-seen.ensures.view,
+      leaf_read F c.args.hand.now c.loop-rest.rest c.without_bit-rest.result c.lowest_bit-leaf.result (c.first_leaf-first.result + c.lowest_bit-leaf.result) first (ap (λ (n : ℕ). n + c.lowest_bit-leaf.result) c.first_leaf-first.ensures.value) c.loop-rest.hand c.loop-rest.invariant.1 c.read_under-seen.new.hand c.read_under-seen.ensures.view,
       λ seen kept. kept_after seen c.loop-rest.seen c.read_under-seen.result c.read_under-seen.new.six c.read_under-seen.new.hand.view.others (c.read_under-seen.ensures.kept (bit_or seen c.loop-rest.seen) (c.loop-rest.invariant.2 seen kept)),
       omega (arith, few, less),
     )
@@ -45,7 +44,7 @@ loop-rest-smaller g c = c.without_bit-rest.ensures.less c.lowest_bit-leaf.ensure
 
 pub returns-clause-view : goal.returns-clause-view
 returns-clause-view g c =
-    reading_end (fixed_in g.A.Action.meaning c.args.self.now) c.args.hand.now c.requires.own.sound_sight.sound.depth c.loop-rest.hand
+    reading_end (fixed_in g.A.Action.meaning c.args.self.now) c.args.hand.now c.loop-rest.hand
     (subst (λ (n : ℕ). c.loop-rest.hand ≡ leaves_until (fixed_in g.A.Action.meaning c.args.self.now) c.args.hand.now n c.loop-rest.hand) c.loop-rest-test.false c.loop-rest.invariant.1)
 
 pub returns-clause-kept : goal.returns-clause-kept

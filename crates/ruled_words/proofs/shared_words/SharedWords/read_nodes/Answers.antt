@@ -1,6 +1,6 @@
 use Rattle.std.proofs.Common.{ℕ, ◌%◌, ◌^◌, sym, ap, ◌∙◌, subst, bit_or}
-use Rattle.areanode.specs.declared.sizes.TheConstants.{DEPTH, FIRST_LEAF}
 use Rattle.areanode.specs.Trees.{visited_of}
+use Rattle.core_steps.specs.Views.{inner_nodes}
 use Rattle.ruled_words.specs.Passes.{PassView, fixed_in}
 use Rattle.ruled_words.specs.Straight.{IsTriedOn}
 use Rattle.ruled_words.specs.Sights.{Tally}
@@ -12,7 +12,8 @@ read_inner-over-requires-clause-at g c κs within = read_at (fixed_in g.A.Action
 
 pub read_inner-over-requires-clause-inner : goal.read_inner-over-requires-clause-inner
 read_inner-over-requires-clause-inner g c κs within =
-    c.requires.inner ∙ ap (λ (n : ℕ). visited_of DEPTH n % 2 ^ FIRST_LEAF) (c.requires.leaves ∙ sym (read_leaves_of (fixed_in g.A.Action.meaning c.args.self.now) c.args.hand.now c.read_leaves-outer.new.hand c.read_leaves-outer.ensures.view))
+    let F = fixed_in g.A.Action.meaning c.args.self.now in
+    c.requires.inner ∙ ap (λ (n : ℕ). visited_of F.tree.depth n % 2 ^ inner_nodes F) (c.requires.leaves ∙ sym (read_leaves_of F c.args.hand.now c.read_leaves-outer.new.hand c.read_leaves-outer.ensures.view))
 
 pub read_inner-over-requires-clause-own_is : goal.read_inner-over-requires-clause-own_is
 read_inner-over-requires-clause-own_is g c κs within = c.requires.own_is ∙ sym (ap (λ (q : PassView). q.view.own) c.read_leaves-outer.ensures.view)

@@ -1,6 +1,7 @@
 use Rattle.std.proofs.Common.{◌≡◌, ◌+◌, length, refl, sym, ap, ◌∙◌, subst}
 use Rattle.std.proofs.lemmas.List.{length-map}
 use Rattle.entity_recs.specs.Commands.{command_of}
+use Rattle.arena_actions.specs.MapActions.{map_in}
 use Rattle.transcript_check.proofs.FrameTaken.{IsHere, is-here, frame-missed, live-still, frame-taken}
 use Rattle.transcript_check.proofs.checker.Checker.expect_frame.Goals as goal
 
@@ -36,5 +37,5 @@ pub returns-clause-ok : goal.returns-clause-ok
 returns-clause-ok g c =
     let here = is-here c.args.self.now _ c.map.result.now c.args.arrivals.now _ c.self.view_is c.requires.is c.map.ensures.value c.receive.ensures.received in
     frame-taken g.S.Source c.args.source.now c.expect_lines.new.source c.args.reader.now c.expect_lines.new.reader c.args.self.now _ c.self.view_is c.args.arrivals.now _ here _ _
-    (rw c.if-not-is_right.false at c.in_ok-is_right.ensures.ok) _ c.requires.few (ap (λ a. a.map) c.in_ok-is_right.ensures.action) c.finish.ensures refl
+    (rw c.if-not-is_right.false at c.in_ok-is_right.ensures.ok) _ c.requires.few (ap map_in c.in_ok-is_right.ensures.action) c.finish.ensures refl
     (ap (λ n. c.self.inside.moves + n) (sym (length-map c.moves.result.now command_of) ∙ ap length c.moves.ensures)) refl

@@ -1,5 +1,6 @@
 use Rattle.std.proofs.Common.{◌≡◌, sym, ap, ◌∙◌, subst}
 use Rattle.arena_map.specs.Maps.{MapView, IsMap}
+use Rattle.arena_actions.specs.MapActions.{map_in}
 use Rattle.client_ports.specs.States.{State, IsServerState}
 use Rattle.plain_server.specs.RecordsById.{opening}
 use Rattle.plain_server.proofs.Frames.{opening_is}
@@ -7,7 +8,7 @@ use Rattle.transcript_check.proofs.checker.Checker.new.Goals as goal
 
 pub returns-clause-is : goal.returns-clause-is
 returns-clause-is c =
-    let map = c.new-mover.result.action.map in
+    let map = (map_in c.new-mover.result.action) in
     let rules : IsMap map = subst IsMap c.map.ensures.value c.opening.ensures.rules in
     record {
       is_map = rules;

@@ -17,5 +17,5 @@ new-requires-clause-apart g c = (
     ap (λ a. nat_eq a c.ammo.result.id) c.player.ensures.id ∙ ap (nat_eq 3) c.ammo.ensures.id,
     (ap (λ a. nat_eq a c.player-2.result.id) c.player.ensures.id ∙ ap (nat_eq 3) c.player-2.ensures.id, tt),
   ),
-  ((ap (λ a. nat_eq a c.player-2.result.id) c.ammo.ensures.id ∙ ap (nat_eq 255) c.player-2.ensures.id, tt), (tt, tt)),
+  ((ap (λ a. nat_eq a c.player-2.result.id) c.ammo.ensures.id ∙ ap (nat_eq 511) c.player-2.ensures.id, tt), (tt, tt)),
 )

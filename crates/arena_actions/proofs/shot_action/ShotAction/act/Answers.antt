@@ -1,0 +1,19 @@
+use Rattle.std.proofs.Common.{◌∙◌, sym, ap}
+use Rattle.entity_recs.specs.declared.rec.Rec.{Rec}
+use Rattle.entity_recs.specs.Commands.{command_of}
+use Rattle.trigger_rules.specs.Touching.{first_walk}
+use Rattle.arena_actions.specs.Outcomes.{effect_of, shooting_in}
+use Rattle.arena_actions.proofs.Shooting.{down_is, moves_is}
+use Rattle.arena_actions.proofs.shot_action.ShotAction.act.Goals as goal
+
+pub returns-then-is_down : goal.returns-then-is_down
+returns-then-is_down c =
+    c.alone.ensures
+    ∙ ap (λ (r : Rec). effect_of (first_walk r)) c.lying.ensures
+    ∙ down_is c.args.self.now.arena.map c.args.me.now c.args.near.now (command_of c.args.cmd.now) (sym c.is_down.ensures ∙ c.if-is_down.true)
+
+pub returns : goal.returns
+returns c =
+    c.shoot.ensures
+    ∙ ap (λ (r : Rec). shooting_in c.args.self.now.arena.map r c.args.near.now (command_of c.args.cmd.now)) c.risen.ensures
+    ∙ moves_is c.args.self.now.arena.map c.args.me.now c.args.near.now (command_of c.args.cmd.now) (sym c.is_down.ensures ∙ c.if-is_down.false)

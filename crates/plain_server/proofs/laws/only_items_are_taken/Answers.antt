@@ -1,7 +1,0 @@
-use Rattle.plain_server.specs.RecordsById.{opening}
-use Rattle.plain_server.proofs.Frames.{opening_is}
-use Rattle.plain_server.proofs.Takers.{only_items}
-use Rattle.plain_server.proofs.laws.only_items_are_taken.Goals as goal
-
-pub returns : goal.returns
-returns c = λ map frames journals is_map right. only_items map 0 (opening map) frames journals is_map (opening_is map is_map) right

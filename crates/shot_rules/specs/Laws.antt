@@ -1,0 +1,156 @@
+-- What holds of every shot.
+use Rattle.std.specs.Prelude.{◌≡◌, ℕ, ◌+◌, ◌<◌, ◌≤◌, nat_lt, true, false, List, ◌++◌, length, map, find, Contains, Some, ℤ, pos}
+use Rattle.arena_geo.specs.declared.vec3.Vec3.{Vec3}
+use Rattle.arena_geo.specs.Vectors.{vector}
+use Rattle.arena_geo.specs.Bounds.{Bounds, bounds}
+use Rattle.arena_geo.specs.Boxes.{overlaps, is_blocked, contains, grown}
+use Rattle.entity_recs.specs.declared.effect.NewState.{NewState}
+use Rattle.entity_recs.specs.declared.kind.Kind.TheVariants.{Player}
+use Rattle.entity_recs.specs.declared.rec.Rec.{Rec}
+use Rattle.entity_recs.specs.Records.{with_state}
+use Rattle.entity_recs.specs.Bodies.{body_of}
+use Rattle.entity_recs.specs.Commands.{Command}
+use Rattle.box_trace.specs.Steps.{step_count, body_at}
+use Rattle.trigger_rules.specs.Touching.{Walk, bodies_of_solids}
+use Rattle.shot_rules.specs.declared.numbers.TheConstants.{FIRE, LEAPT, HALF_WIDTH, RANGE, DAMAGE, DOWN, FRAMES_DOWN}
+use Rattle.shot_rules.specs.Targets.{shot_box, shot_range, has_aim, way_along, is_in_way, target_of}
+use Rattle.shot_rules.specs.Shots.{is_down, is_fired, state_after_hit, after_hit, spent, after_shot}
+
+-- the numbers of shots have these values
+pub record NumbersAreKnown : Type 0 where
+  pub fire : FIRE ≡ 1
+  pub leapt : LEAPT ≡ 1
+  pub half_width : HALF_WIDTH ≡ pos 256
+  pub range : RANGE ≡ pos 65536
+  pub damage : DAMAGE ≡ 25
+  pub down : DOWN ≡ 100
+  pub frames_down : FRAMES_DOWN ≡ 40
+
+-- ---- ammunition
+
+-- there was ammunition, and one is gone
+pub record IsOneSpent (before after : Rec) : Type 0 where
+  pub some : 0 < before.ammo
+  pub one : after.ammo + 1 ≡ before.ammo
+
+-- a shot needs ammunition and takes one, whatever it meets; where none is fired nothing changes
+pub record ShotsTakeAmmunition : Type 0 where
+  pub fired : (fixed : List Bounds) (near : List Rec) (c : Command) (w : Walk) → is_fired c w ≡ true
+      → IsOneSpent w.me (after_shot fixed near c w).me
+  pub unfired : (fixed : List Bounds) (near : List Rec) (c : Command) (w : Walk) → is_fired c w ≡ false
+      → after_shot fixed near c w ≡ w
+
+-- who fired is the same one, in place and as fast; it may have less ammunition and a point more
+pub record IsShooterAfter (before after : Rec) : Type 0 where
+  pub same : after ≡ record before { ammo = after.ammo; score = after.score }
+  pub ammo : after.ammo ≤ before.ammo
+  pub no_less : before.score ≤ 4294967295 → before.score ≤ after.score
+  pub one_more : after.score ≤ before.score + 1
+  pub most : before.score ≤ 4294967295 → after.score ≤ 4294967295
+
+-- a shot changes nothing of who fires but its ammunition and its score, which grows by 1 at most
+abbrev pub ShootersStayThemselves : Type 0
+ShootersStayThemselves =
+    (fixed : List Bounds) (near : List Rec) (c : Command) (w : Walk) → IsShooterAfter w.me (after_shot fixed near c w).me
+
+-- at each step of its way the box of a shot is within 65,792 of the origin on x and y, and within 256 on z
+abbrev pub ShotsStayNear : Type 0
+ShotsStayNear =
+    (origin : Vec3) (wish_x wish_y : ℤ) (k : ℕ) → has_aim wish_x wish_y ≡ true
+    → k ≤ step_count (way_along wish_x wish_y)
+    → contains (grown (bounds origin origin) (vector (pos 65792) (pos 65792) (pos 256)))
+    (body_at (shot_box origin) (way_along wish_x wish_y) k)
+    ≡ true
+
+-- at each step of its way the box of a shot is in its range
+abbrev pub ShotsStayInRange : Type 0
+ShotsStayInRange =
+    (origin way : Vec3) (k : ℕ) → k ≤ step_count way
+    → contains (shot_range origin way) (body_at (shot_box origin) way k) ≡ true
+
+-- ---- who is hit
+
+-- a shot that is fired after this walk hits this record: it is that of a player that stands, whose body the box of the
+-- shot overlaps at some step of its way. At no step before is anything in the way, and at that step no wall and no block
+pub record IsHit (fixed : List Bounds) (near : List Rec) (c : Command) (w : Walk) (r : Rec) : Type 0 where
+  pub listed : Contains near r
+  pub player : r.kind ≡ Player
+  pub standing : r.state < DOWN
+  pub step : ℕ
+  pub from : 1 ≤ step
+  pub within : step ≤ step_count (way_along c.wish_x c.wish_y)
+  pub reached : overlaps (body_at (shot_box w.me.origin) (way_along c.wish_x c.wish_y) step) (body_of r) ≡ true
+  pub free : (k : ℕ) → 1 ≤ k → k < step
+      → is_blocked (body_at (shot_box w.me.origin) (way_along c.wish_x c.wish_y) k) (fixed ++ bodies_of_solids near)
+      ≡ false
+  pub clear : is_blocked (body_at (shot_box w.me.origin) (way_along c.wish_x c.wish_y) step) fixed ≡ false
+
+-- what a shot that is fired after this walk does: it hits nobody, and nothing but ammunition changes; or it hits one
+-- player
+pub data IsShot (fixed : List Bounds) (near : List Rec) (c : Command) (w after : Walk) : Type 0 where
+  Misses : after ≡ spent w → IsShot fixed near c w after
+  Hits : (r : Rec) → IsHit fixed near c w r → after ≡ after_hit c.frame (spent w) r → IsShot fixed near c w after
+
+-- nobody is hit through a wall or a block, or through another solid, and nobody that is down is
+abbrev pub HitsAreInTheWay : Type 0
+HitsAreInTheWay =
+    (fixed : List Bounds) (near : List Rec) (c : Command) (w : Walk) → is_fired c w ≡ true
+    → IsShot fixed near c w (after_shot fixed near c w)
+
+-- these are the new states and the ids of before, with the new state of one record last and its id first, or of none
+pub record HasOneMore (before after : Walk) : Type 0 where
+  pub new : List NewState
+  pub few : length new ≤ 1
+  pub states : after.states ≡ before.states ++ new
+  pub got : after.got ≡ map (λ s. s.id) new ++ before.got
+
+-- at most one is hit
+abbrev pub AtMostOneIsHit : Type 0
+AtMostOneIsHit =
+    (fixed : List Bounds) (near : List Rec) (c : Command) (w : Walk) → HasOneMore w (after_shot fixed near c w)
+
+-- the first thing in the way of a shot is met: nothing is before it, no wall and no block is there too, and of the
+-- records it is the first
+pub record IsFirstInTheWay (fixed : List Bounds) (near : List Rec) (body : Bounds) (way : Vec3) (r : Rec) : Type 0 where
+  pub step : ℕ
+  pub from : 1 ≤ step
+  pub within : step ≤ step_count way
+  pub free : (k : ℕ) → 1 ≤ k → k < step → is_blocked (body_at body way k) (fixed ++ bodies_of_solids near) ≡ false
+  pub clear : is_blocked (body_at body way step) fixed ≡ false
+  pub first : find (is_in_way (body_at body way step)) near ≡ Some r
+
+-- who is first in the way is met
+abbrev pub WhoIsFirstIsMet : Type 0
+WhoIsFirstIsMet =
+    (fixed : List Bounds) (near : List Rec) (body : Bounds) (way : Vec3) (r : Rec)
+    → IsFirstInTheWay fixed near body way r → target_of body way fixed near ≡ Some r
+
+-- ---- damage
+
+-- the damage after a hit: more than before; below 100 it is 25 more, and else the player is down for 40 frames, from this
+-- one on
+pub record IsHurt (r : Rec) (frame : ℕ) : Type 0 where
+  pub more : r.state < state_after_hit r.state frame
+  pub wounded : r.state + 25 < 100 → state_after_hit r.state frame ≡ r.state + 25
+  pub fallen : 100 ≤ r.state + 25
+      → (later : ℕ) → is_down (with_state r (state_after_hit r.state frame)) later ≡ nat_lt later (frame + 40)
+
+-- damage only grows until the fall
+abbrev pub DamageGrows : Type 0
+DamageGrows = (r : Rec) (frame : ℕ) → r.state < DOWN → IsHurt r frame
+
+-- ---- what doesn't matter
+
+-- at each step of the way the same walls and blocks are in it, and the same record is the first that is
+pub record IsSameWay (body : Bounds) (way : Vec3) (fixed others : List Bounds) (near some : List Rec) : Type 0 where
+  pub fixed_are : (k : ℕ) → 1 ≤ k → k ≤ step_count way
+      → is_blocked (body_at body way k) fixed ≡ is_blocked (body_at body way k) others
+  pub near_are : (k : ℕ) → 1 ≤ k → k ≤ step_count way
+      → find (is_in_way (body_at body way k)) near ≡ find (is_in_way (body_at body way k)) some
+
+-- only what is in the way matters
+abbrev pub OnlyTheWayMatters : Type 0
+OnlyTheWayMatters =
+    (body : Bounds) (way : Vec3) (fixed others : List Bounds) (near some : List Rec)
+    → IsSameWay body way fixed others near some
+    → target_of body way fixed near ≡ target_of body way others some
