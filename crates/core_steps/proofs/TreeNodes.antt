@@ -11,11 +11,17 @@ use Rattle.entity_recs.specs.Worlds.{World}
 use Rattle.entity_recs.specs.Histories.{Item}
 use Rattle.areanode.specs.Words.{has_bit}
 use Rattle.areanode.specs.Trees.{leaves_of}
+use Rattle.areanode.specs.Depths.{sizes_of_depth}
 use Rattle.areanode.proofs.Nodes.{node_is_in_range}
 use Rattle.core_steps.specs.Views.{Fixed, stage_of, is_whole, has, is_leaf, inner_nodes, nodes_of, leaf_nodes, home, region_in}
 use Rattle.core_steps.specs.Steps.{Core}
 use Rattle.core_steps.specs.Stands.{Stands}
+use Rattle.core_steps.specs.Laws.{EachTreeFits}
 use Rattle.core_steps.proofs.Lists.{has_filter, has_range, has_shifted}
+
+-- the table has words for a tree of this depth
+pub each_tree_fits : EachTreeFits
+each_tree_fits F depth = record { nodes = (sizes_of_depth F.tree.depth depth).nodes }
 
 -- leaves come after inner nodes
 pub nodes_sum : (F : Fixed) → inner_nodes F + 2 ^ F.tree.depth ≤ nodes_of F

@@ -7,8 +7,10 @@ use Rattle.entity_recs.specs.declared.kind.Kind.TheVariants.{Player}
 use Rattle.entity_recs.specs.declared.rec.Rec.{Rec}
 use Rattle.entity_recs.specs.Records.{with_state}
 use Rattle.entity_recs.specs.Actions.{IsKeepable}
-use Rattle.core_steps.specs.declared.sizes.TheConstants.{TABLE_NODES}
-use Rattle.core_steps.specs.Cells.{Words, Body, State, count_index, node_index, links_index}
+use Rattle.areanode.specs.Trees.{IsTreeDepth}
+use Rattle.core_steps.specs.declared.sizes.TheConstants.{TABLE_NODES, TABLE_LEAVES, TABLE_STATES, TABLE_WORDS}
+use Rattle.core_steps.specs.declared.sizes.TheConstants.{MOST_SEATS, NODE_HOLDERS, COUNT_WORD}
+use Rattle.core_steps.specs.Cells.{Words, Body, State, count_index, node_index, links_index, body_index, state_index}
 use Rattle.core_steps.specs.Cells.{cell_index, word_at}
 use Rattle.core_steps.specs.Encoding.{words_of, record_from}
 use Rattle.entity_recs.specs.declared.effect.Effect.{Effect}
@@ -17,7 +19,7 @@ use Rattle.entity_recs.specs.Worlds.{World}
 use Rattle.entity_recs.specs.Histories.{Item, apply}
 use Rattle.core_steps.specs.Views.{Store, Storing, Fixed, Resolving, Claiming, record_read, write_nodes, effect_loaded}
 use Rattle.core_steps.specs.Views.{Idle, Owning, Checking, Sensing, Loading, Entered, AtChecking, stage_of, is_busy}
-use Rattle.core_steps.specs.Views.{is_open, leaves_held, holds, place_of, plan_of, has, nodes_of}
+use Rattle.core_steps.specs.Views.{is_open, leaves_held, holds, place_of, plan_of, has, nodes_of, FitsTable}
 use Rattle.core_steps.specs.Steps.{store_next, item_at, commit, SomeSeatGoesOn, Core, first, claim_node, next_take}
 use Rattle.core_steps.specs.Steps.{take_node, refuse_node, next_give, give_node, is_taking, first_yield, yield_node}
 use Rattle.core_steps.specs.Steps.{yield_nothing, load_list, begin_move, load_own, load_again, load_player, load_state}
@@ -143,6 +145,24 @@ LoadedPlayerStands =
     → IsLawful F → IsStart F
     → (core.view i).point ≡ Loading node part (p ∷ players) plan → Stands F core history now
     → Stands F (load_player F core i node part p players plan) history now
+
+-- how large the table is, how many seats there may be, and where the words of each kind begin
+pub record TableIsKnown : Type 0 where
+  pub nodes : TABLE_NODES ≡ 63
+  pub leaves : TABLE_LEAVES ≡ 32
+  pub states : TABLE_STATES ≡ 512
+  pub words : TABLE_WORDS ≡ 959
+  pub seats : MOST_SEATS ≡ 16
+  pub holders : NODE_HOLDERS ≡ 256
+  pub count : COUNT_WORD ≡ 0
+  pub first_node : node_index 0 ≡ 1
+  pub first_list : links_index 0 ≡ 64
+  pub first_record : body_index 0 ≡ 127
+  pub first_state : state_index 0 ≡ 447
+
+-- the table has words for each node of a tree of each depth that a tree may have
+abbrev pub EachTreeFits : Type 0
+EachTreeFits = (F : Fixed) → IsTreeDepth F.tree.depth → FitsTable F
 
 -- each word lies at its index in the flat table
 pub record LaysOut (words : Words) : Type 0 where

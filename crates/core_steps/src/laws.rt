@@ -1,7 +1,7 @@
 ghost use Rattle.core_steps.specs.Laws.{StartStands, MadeSeatStands, EndedSeatStands, EndedSeatKeepsItems};
 ghost use Rattle.core_steps.specs.Laws.{LoadedCountStands, GivenNodeStands, YieldedNodeStands, YieldedNothingStands};
 ghost use Rattle.core_steps.specs.Laws.{TakenNodeStands, RefusedNodeStands, LayoutIsRight, EncodedIsDecoded};
-ghost use Rattle.core_steps.specs.Laws.{UnusedWordsAreZero};
+ghost use Rattle.core_steps.specs.Laws.{UnusedWordsAreZero, TableIsKnown, EachTreeFits};
 ghost use Rattle.core_steps.specs.Laws.{BegunMoveStands, LoadedOwnStands, LoadedAgainStands, LoadedListStands};
 ghost use Rattle.core_steps.specs.Laws.{LoadedPlayerStands, LoadedStateStands, ClaimedNodeStands, StoredNextStands};
 ghost use Rattle.core_steps.specs.Laws.{CommittedHeldStands, CommittedFreeStands, NotAllWait};
@@ -57,6 +57,18 @@ pub fn taken_node_stands()
 /// A take of a held node: the refused take keeps what stands.
 pub fn refused_node_stands()
     ensures { RefusedNodeStands }
+{}
+
+/// The table has 959 words, for 63 nodes and 512 ids: the count first, from 1 on the nodes, from 64 on their lists, from
+/// 127 on the records of players, from 447 on the states. There are at most 16 seats, whose numbers have 256 values in a
+/// node's word.
+pub fn table_is_known()
+    ensures { TableIsKnown }
+{}
+
+/// The table has words for each node of a tree of each depth that a tree may have.
+pub fn each_tree_fits()
+    ensures { EachTreeFits }
 {}
 
 /// The words lie in the flat table at their indices.

@@ -3,12 +3,12 @@
 
 pub use laws::{
     begun_move_stands, claimed_node_stands, committed_free_stands, committed_held_stands,
-    encoded_is_decoded, ended_seat_keeps_items, ended_seat_stands, given_node_stands,
-    layout_is_right, loaded_again_stands, loaded_count_stands, loaded_list_stands,
-    loaded_own_stands, loaded_player_stands, loaded_state_stands, made_seat_stands, not_all_wait,
-    plans_come_in_order, read_is_right_while_leaves_are_held, refused_node_stands, start_stands,
-    stored_next_stands, taken_node_stands, takes_come_in_order, unused_words_are_zero,
-    yielded_node_stands, yielded_nothing_stands,
+    each_tree_fits, encoded_is_decoded, ended_seat_keeps_items, ended_seat_stands,
+    given_node_stands, layout_is_right, loaded_again_stands, loaded_count_stands,
+    loaded_list_stands, loaded_own_stands, loaded_player_stands, loaded_state_stands,
+    made_seat_stands, not_all_wait, plans_come_in_order, read_is_right_while_leaves_are_held,
+    refused_node_stands, start_stands, stored_next_stands, table_is_known, taken_node_stands,
+    takes_come_in_order, unused_words_are_zero, yielded_node_stands, yielded_nothing_stands,
 };
 pub use machine_laws::{
     count_is_within_the_rooms, each_machine_stands, each_place_is_logged_once,
