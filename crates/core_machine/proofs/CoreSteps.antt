@@ -18,6 +18,7 @@ use Rattle.core_steps.specs.Machine.{Machine, Next, Begin, LoadOwn, LoadAgain, T
 use Rattle.core_steps.specs.Calls.{StandsSomehow}
 use Rattle.core_steps.proofs.NextSteps.{next_step_stands}
 use Rattle.core_steps.proofs.TableWords.{NextIsIn, next_is_in, steps_have_their_word}
+use Rattle.core_steps.proofs.TreeNodes.{each_tree_fits}
 use Rattle.core_steps.proofs.Logs.{logs_grow_by_commits}
 use Rattle.core_machine.specs.declared.words.Words.{Words}
 use Rattle.core_seats.specs.declared.seat.Seat.{Seat}
@@ -28,7 +29,7 @@ use Rattle.core_machine.specs.Cores.{SeatView, CoreView, HasRooms, IsCore, IsFre
 use Rattle.core_machine.specs.WordsLeft.{IsNodeWord}
 use Rattle.core_machine.specs.Stepping.{seat_next, is_done, IsOnWord, MayStep, IsStepped, IsOther, IsMade}
 use Rattle.core_seats.proofs.Changing.{view_here}
-use Rattle.core_seats.proofs.Sounding.{fits_table, sound_here}
+use Rattle.core_seats.proofs.Sounding.{sound_here}
 use Rattle.core_machine.proofs.SeatRooms.{rooms_after, count_is_small}
 use Rattle.core_machine.proofs.StepsMade.{one_comes}
 use Rattle.core_machine.proofs.WordsAfter.{words_after}
@@ -84,7 +85,7 @@ take_word view YieldCount is e = cc
 module _ (F : Fixed) (m : Machine) (history : List Item) (now : World) (n : ℕ) (lawful : IsLawful F) (start : IsStart F) (depth : IsTreeDepth F.tree.depth) (is : MachineStands F m history now) (rooms : HasRooms m.core.view) where
   on_word : (next : Next) → next_of F m n ≡ Some next → IsOnWord F m.core.words (m.core.view n) next
   on_word next comes =
-      let fits = fits_table F depth in
+      let fits = each_tree_fits F depth in
       let word = steps_have_their_word F m history now n next lawful start fits comes is in
       let inside = next_is_in F m history now n next lawful start fits comes is in
       let after = sound_here F (machine_after F m n next) _ _ n lawful start (next_step_stands F m history now n next lawful start comes is) depth in
@@ -133,7 +134,7 @@ module _ {A : Type 0} (F : Fixed) (rules : RulesView A) (words after : Words) (s
   stepped_at n number = subst (λ (k : ℕ). (next : Next) → next_of F m k ≡ Some next → IsStepped F k m.core.words (words_in after (start_words F)) (m.core.view k) (seat_of new) next answer
       → machine_of F (core_view rules after (set seats i new)) ≡ machine_after F m k next) number
       (λ next comes stepped.
-      let inside = next_is_in F m core.stands.history core.stands.now i next core.lawful core.ruled.start (fits_table F core.ruled.depth) comes core.stands.stands in
+      let inside = next_is_in F m core.stands.history core.stands.now i next core.lawful core.ruled.start (each_tree_fits F core.ruled.depth) comes core.stands.stands in
       stepped_machine F rules words after seats i new next below (stepped.words ∙ sym (words_after F m.core i next inside)) stepped.view stepped.given stepped.quits)
 
   pub core_step : i ≡ s.seat → IsMade F s (words_in words (start_words F)) (words_in after (start_words F)) (seat_of old) (seat_of new) answer

@@ -48,15 +48,6 @@ impl Words {
         }
     }
 
-    /// Stores a node's word.
-    pub fn set_node(&mut self, node: u8, word: u64)
-        requires { node < TABLE_NODES }
-        ensures { (beyond : cells.Words) → words_in self.new beyond
-            ≡ record (words_in self.old beyond) { node = put node word (words_in self.old beyond).node } }
-    {
-        self.node[usize::from(node)] = word;
-    }
-
     /// Stores a word of a record.
     pub fn set_cell(&mut self, cell: Cell, word: u64)
         requires { IsCellOf cell }

@@ -15,6 +15,7 @@ pub mod Changing
 pub mod SoundViews
 pub mod StepsLeft
 pub mod Sounding
+pub mod SoundCounts
 pub mod PointCases
 pub mod Rooms
 pub mod Steps

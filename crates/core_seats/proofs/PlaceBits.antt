@@ -6,6 +6,7 @@ use Rattle.std.proofs.lemmas.Nat.{pow-add}
 use Rattle.std.proofs.lemmas.Nat.Bits.{bit_at-zero, bit_at_above}
 use Rattle.std.proofs.Math.Nat.{div-div-eq-div-mul}
 use Rattle.areanode.specs.Words.{has_bit}
+use Rattle.core_seats.specs.declared.thing_bits.TheConstants.{THING_WORDS}
 use Rattle.core_seats.specs.ThingBits.{has_place, KeepsPlaces, NoBitFrom, IsNextBit, NoPlaceFrom, IsNextPlace}
 use Rattle.core_seats.proofs.SlotLists.{both_bits}
 use Rattle.core_seats.proofs.ThingPlaces.{either_bits, either_left, either_right, both_true}
@@ -98,6 +99,7 @@ next_bit_is word from bit small there none = record {
     | inl below ↦ below
     | inr above ↦ absurd (true≢false (sym (sym (shifted word from bit) ∙ there) ∙ ap (λ (b : ℕ). b == 1) (bit_at_above word 64 (from + bit) small above)))
   ];
+  set = sym (shifted word from bit) ∙ there;
   none = λ i least less.
       let at : from + (i - from) ≡ i = omega (arith, least) in
       sym (shifted word from (i - from) ∙ ap (has_bit word) at) ∙ none (i - from) (omega (arith, least, less));
@@ -121,19 +123,28 @@ none_in_word bits from at yet left = record {
   ];
 }
 
-pub next_place_is : (bits : List ℕ) (from at bit words : ℕ) → NoneYet bits from at → at < 64 * words → IsNextBit (get_or bits (at / 64) 0) (at % 64) bit
-    → (at / 64 * 64 + bit < 64 * words) × NoneYet bits from (at / 64 * 64 + bit)
-next_place_is bits from at bit words yet within next =
+word_below : (at bit words : ℕ) → at < 64 * words → bit < 64 → at / 64 * 64 + bit < 64 * words
+word_below at bit words within small = omega (arith, within, small)
+
+-- the bit of a word is that of its place
+bit_of_place : (bits : List ℕ) (at bit : ℕ) → bit < 64 → has_bit (get_or bits (at / 64) 0) bit ≡ true → has_place bits (at / 64 * 64 + bit) ≡ true
+bit_of_place bits at bit small there =
+    let word : (at / 64 * 64 + bit) / 64 ≡ at / 64 = omega (arith, small) in
+    let same : (at / 64 * 64 + bit) % 64 ≡ bit = omega (arith, small) in
+    ap (λ (w : ℕ). has_bit (get_or bits w 0) ((at / 64 * 64 + bit) % 64)) word ∙ ap (has_bit (get_or bits (at / 64) 0)) same ∙ there
+
+pub next_place_is : (bits : List ℕ) (from at bit : ℕ) → NoneYet bits from at → at < 64 * THING_WORDS → IsNextBit (get_or bits (at / 64) 0) (at % 64) bit → IsNextPlace bits from (at / 64 * 64 + bit)
+next_place_is bits from at bit yet within next =
     let some = next.least in
-    let small = next.within in (
-      omega (arith, within, small),
-      record {
-        least = let least = yet.least in omega (arith, least, some);
-        none = λ k least less. elim (cases_lt k at) [
-          | inl before ↦ yet.none k least before
-          | inr after ↦
-              let same : k / 64 ≡ at / 64 = omega (arith, less, after, small) in
-              ap (λ (w : ℕ). has_bit (get_or bits w 0) (k % 64)) same ∙ next.none (k % 64) (omega (arith, less, after, small)) (omega (arith, less, after, small))
-        ];
-      },
-    )
+    let small = next.within in
+    record {
+      least = let least = yet.least in omega (arith, least, some);
+      within = word_below at bit THING_WORDS within small;
+      set = bit_of_place bits at bit small next.set;
+      none = λ k least less. elim (cases_lt k at) [
+        | inl before ↦ yet.none k least before
+        | inr after ↦
+            let same : k / 64 ≡ at / 64 = omega (arith, less, after, small) in
+            ap (λ (w : ℕ). has_bit (get_or bits w 0) (k % 64)) same ∙ next.none (k % 64) (omega (arith, less, after, small)) (omega (arith, less, after, small))
+      ];
+    }

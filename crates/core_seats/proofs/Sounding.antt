@@ -7,7 +7,6 @@ use Rattle.entity_recs.specs.Actions.{HasPlayer}
 use Rattle.entity_recs.specs.Worlds.{World, others_of}
 use Rattle.entity_recs.specs.Histories.{Item}
 use Rattle.areanode.specs.Trees.{IsTreeDepth}
-use Rattle.areanode.specs.Depths.{sizes_of_depth}
 use Rattle.core_steps.specs.declared.sizes.TheConstants.{TABLE_WORDS}
 use Rattle.core_steps.specs.Views.{Fixed, Store, Point, Idle, Owning, Taking, Checking, Entering, Entered, Loading, Leaving, Sensing, Resolving, Claiming, Storing, Releasing, Returning, Yielding, stage_of, is_settled, is_read_again, stores_owed, FitsTable, record_read}
 use Rattle.core_steps.specs.Steps.{is_taking, first_yield}
@@ -18,11 +17,9 @@ use Rattle.core_steps.proofs.Exclusion.{now_world, settled_seat}
 use Rattle.core_steps.proofs.Resolved.{again_is}
 use Rattle.core_steps.proofs.Asking.{region_may_be_asked, effect_may_be_asked}
 use Rattle.core_steps.proofs.TableWords.{steps_have_their_word}
+use Rattle.core_steps.proofs.TreeNodes.{each_tree_fits}
 use Rattle.core_seats.specs.Sound.{IsSound}
-
--- the table has words for a tree of this depth
-pub fits_table : (F : Fixed) → IsTreeDepth F.tree.depth → FitsTable F
-fits_table F depth = record { nodes = (sizes_of_depth F.tree.depth depth).nodes }
+use Rattle.core_seats.specs.Laws.{StandingViewsAreSound}
 
 module _ (F : Fixed) (m : Machine) (history : List Item) (now : World) (i : ℕ) (lawful : IsLawful F) (start : IsStart F) (fits : FitsTable F) (is : MachineStands F m history now) where
   stored_next : (nodes : List ℕ) (store : Store) (stores : List Store) → (m.core.view i).point ≡ Storing nodes (store ∷ stores) → next_of F m i ≡ Some (StoreWord nodes store stores)
@@ -73,10 +70,10 @@ module _ (F : Fixed) (m : Machine) (history : List Item) (now : World) (i : ℕ)
       ap (λ (f : Effect). F.takes f.me) ((is.core.seats i).resolved.is_outcome settled e in_view)
       ∙ lawful.validity.me (now.record_of slot) (others_of now slot) view.cmd (is_call F now view.cmd start world mine.given)
 
-pub sound_here : (F : Fixed) (m : Machine) (history : List Item) (now : World) (i : ℕ) → IsLawful F → IsStart F → MachineStands F m history now → IsTreeDepth F.tree.depth → IsSound F (m.core.view i)
+pub sound_here : StandingViewsAreSound
 sound_here F m history now i lawful start is depth =
     let seat = is.core.seats i in
-    let fits = fits_table F depth in
+    let fits = each_tree_fits F depth in
     record {
       depth = depth;
       own_part = seat.own.part;

@@ -20,3 +20,4 @@ pub mod Nexts
 pub mod Ready
 pub mod Staying
 pub mod StepsLeft
+pub mod Laws

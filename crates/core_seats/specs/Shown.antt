@@ -26,8 +26,7 @@ fixed_of meaning rules = record {
   start = world_of rules.start;
 }
 
--- the tree has a depth that it may have, for which the table has words, and the action takes the records of the start,
--- whose ids rise
+-- the tree has a depth that it may have, and the action takes the records of the start, whose ids rise
 pub record IsRuled (F : Fixed) : Type 0 where
   pub depth : IsTreeDepth F.tree.depth
   pub start : IsStart F

@@ -23,16 +23,18 @@ NoBitFrom word from = (i : ℕ) → from ≤ i → i < 64 → has_bit word i ≡
 pub record IsNextBit (word from bit : ℕ) : Type 0 where
   pub least : from ≤ bit
   pub within : bit < 64
+  pub set : has_bit word bit ≡ true
   pub none : (i : ℕ) → from ≤ i → i < bit → has_bit word i ≡ false
 
 -- no place from this one on has its bit
 abbrev pub NoPlaceFrom : List ℕ → ℕ → Type 0
 NoPlaceFrom bits from = (place : ℕ) → from ≤ place → place < 64 * THING_WORDS → has_place bits place ≡ false
 
--- no place from the first one on and before the second one has its bit
+-- the first place from this one on that has its bit
 pub record IsNextPlace (bits : List ℕ) (from place : ℕ) : Type 0 where
   pub least : from ≤ place
   pub within : place < 64 * THING_WORDS
+  pub set : has_place bits place ≡ true
   pub none : (k : ℕ) → from ≤ k → k < place → has_place bits k ≡ false
 
 -- ---- the things that a region touches

@@ -1,7 +1,7 @@
 //! What a seat of the pure core has in view, and how each step changes it, as plain values in code.
 #![tactic(auto)]
 
-pub use laws::served_steps_leave_fewer;
+pub use laws::{served_steps_leave_fewer, sound_views_count, standing_views_are_sound};
 pub use lists::with_top_bit;
 pub use log::SeatLog;
 pub use near_kept::{lowest_bit, without_bit};

@@ -15,7 +15,7 @@ pub enum Went {
 /// A take that was refused.
 #[derive(Clone, Copy, Debug, PartialEq, Eq)]
 pub struct RefusedTake {
-    /// The node that was to be taken, 0 to 30.
+    /// The node that was to be taken, 0 to 62.
     pub node: u8,
     /// Who held it.
     pub holder: Holder,

@@ -18,7 +18,7 @@ use Rattle.core_steps.specs.MachineLaws.{HasItsWord}
 use Rattle.core_steps.proofs.Puts.{each_put, put_same, put_other}
 use Rattle.core_steps.proofs.NextSteps.{next_step_stands}
 use Rattle.core_steps.proofs.TableWords.{steps_have_their_word}
-use Rattle.core_seats.proofs.Sounding.{fits_table}
+use Rattle.core_steps.proofs.TreeNodes.{each_tree_fits}
 use Rattle.core_steps.proofs.OneWord.{steps_change_one_word}
 use Rattle.ruled_words.specs.Sights.{SightView, sight_found}
 use Rattle.ruled_words.specs.Going.{next_asked, MayGo}
@@ -116,7 +116,7 @@ module _ (F : Fixed) (rooms : List ℕ) (s : State (Unit {0}) SightView) (r : Is
     stands_after = rested F (machine_after F (asked r.core i given quits) i next) _ _ (next_step_stands F (asked r.core i given quits) r.history r.now i next r.lawful r.start comes stands_before)
 
     has_word : HasItsWord F r.core i next
-    has_word = steps_have_their_word F (asked r.core i given quits) r.history r.now i next r.lawful r.start (fits_table F r.depth) comes stands_before
+    has_word = steps_have_their_word F (asked r.core i given quits) r.history r.now i next r.lawful r.start (each_tree_fits F r.depth) comes stands_before
 
     abbrev index : ℕ
     index = index_of V next

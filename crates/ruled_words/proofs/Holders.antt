@@ -236,7 +236,7 @@ mark_in word holder mark e small low = subst (λ (w : ℕ). w / NODE_HOLDERS % 2
     plain holder mark small low = omega (arith, small, low)
 
 -- the word of a node has a bit for each leaf of the tree
-leaves_fit : (F : Fixed) (region : List Bounds) → IsTreeDepth F.tree.depth → leaves_of F.tree region < 2 ^ TABLE_LEAVES
+pub leaves_fit : (F : Fixed) (region : List Bounds) → IsTreeDepth F.tree.depth → leaves_of F.tree region < 2 ^ TABLE_LEAVES
 leaves_fit F region depth =
     let small = leaves_small F region (leaves_of F.tree region) refl in
     let fits = pow-le-pow_right {n = 2} (omega arith) (sizes_of_depth F.tree.depth depth).leaves in

@@ -6,6 +6,8 @@ pub mod Goes
 pub mod SoundSights
 pub mod LeafWords
 pub mod Holders
+pub mod HolderWords
+pub mod UnusedWords
 pub mod Reaching
 pub mod Counting
 pub mod Found

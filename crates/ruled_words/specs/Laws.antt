@@ -1,13 +1,17 @@
 -- What the rule of the table keeps, and what it says at the start and at the end.
-use Rattle.std.specs.Prelude.{◌≡◌, ◌≢◌, ℕ, ◌^◌, ◌<◌, ◌≤◌, Bool, List, [], ◌∷◌, ◌++◌, length, slice_index, slice_set}
+use Rattle.std.specs.Prelude.{◌≡◌, ◌≢◌, ℕ, ◌+◌, ◌/◌, ◌%◌, ◌^◌, ◌<◌, ◌≤◌, Bool, true, false, List, [], ◌∷◌, ◌++◌, length}
+use Rattle.std.specs.Prelude.{slice_index, slice_set}
 use Rattle.std.specs.Prelude.{Option}
-use Rattle.areanode.specs.Trees.{IsTreeDepth}
-use Rattle.core_steps.specs.declared.sizes.TheConstants.{MOST_SEATS}
+use Rattle.arena_geo.specs.Bounds.{Bounds}
+use Rattle.areanode.specs.Words.{has_bit}
+use Rattle.areanode.specs.Trees.{IsTreeDepth, leaves_of}
+use Rattle.core_steps.specs.declared.sizes.TheConstants.{TABLE_NODES, TABLE_STATES, MOST_SEATS, NODE_HOLDERS}
+use Rattle.core_steps.specs.Cells.{Body, State as StateOf, node_index, links_index, cell_index}
 use mathlib.Core.Option as maybe
 use lib.ListN.{get_elem?}
 use Rattle.atomic_table.specs.Table.{State, keeps, stepped, opening}
 use Rattle.entity_recs.specs.Commands.{Command}
-use Rattle.core_steps.specs.Views.{Fixed}
+use Rattle.core_steps.specs.Views.{Fixed, Stage, is_writing, has, nodes_of, is_leaf, leaf_nodes, held_word}
 use Rattle.core_steps.specs.Stands.{IsLawful, IsStart, start_core}
 use Rattle.core_steps.specs.Machine.{Next, index_of}
 use Rattle.ruled_words.specs.Sights.{HeldWord, IsOneOf, AreRefusalsServed, SightView, sight_found, no_sight}
@@ -76,3 +80,31 @@ abbrev pub ClosedTableIsItsRun : Type 0
 ClosedTableIsItsRun = (F : Fixed) (rooms : List ℕ) (s : State (Unit {0}) SightView) → IsRuled F rooms s
     → (sight : SightView) → get_elem? s.views 0 ≡ maybe.some sight → IsAtRest sight.view → AreOthersEnded sight.view
     → Closes F s.words sight.view × AreRefusalsServed sight.tally
+
+-- these words of the table are 0: those of nodes that the tree hasn't, of players that aren't live and of ids that aren't
+-- live
+pub record HasUnusedIn (F : Fixed) (words : List ℕ) : Type 0 where
+  pub node : (v : ℕ) → v < TABLE_NODES → nodes_of F ≤ v → slice_index words (node_index v) ≡ 0
+  pub links : (v : ℕ) → v < TABLE_NODES → nodes_of F ≤ v → slice_index words (links_index v) ≡ 0
+  pub body : (slot k : ℕ) → slot < 64 → k < 5 → has F.start.ids slot ≡ false
+      → slice_index words (cell_index (Body slot k)) ≡ 0
+  pub state : (id : ℕ) → id < TABLE_STATES → has F.start.ids id ≡ false
+      → slice_index words (cell_index (StateOf id)) ≡ 0
+
+-- between any two steps the words that are in no use are 0
+abbrev pub UnusedWordsStayZero : Type 0
+UnusedWordsStayZero = (F : Fixed) (rooms : List ℕ) (s : State (Unit {0}) SightView) → IsRuled F rooms s
+    → HasUnusedIn F s.words
+
+-- the word of a node says which seat holds it: its low bits are the seat's number plus 1, those above them are the leaves
+-- of this region where the node is a leaf, and for an inner node the lowest of them says whether it is held to write
+pub record NamesItsHolder (F : Fixed) (i : ℕ) (stage : Stage) (region : List Bounds) (node word : ℕ) : Type 0 where
+  pub number : word % NODE_HOLDERS ≡ i + 1
+  pub leaves : is_leaf F node ≡ true → word / NODE_HOLDERS ≡ leaves_of F.tree region
+  pub writing : is_leaf F node ≡ false → has_bit word 8 ≡ is_writing stage
+  pub fits : word < 2 ^ 64
+
+-- the word of a node that a seat holds for a region names that seat and the leaves of the region
+abbrev pub HeldWordsNameTheirHolder : Type 0
+HeldWordsNameTheirHolder = (F : Fixed) (i : ℕ) (stage : Stage) (region : List Bounds) (node : ℕ) → i < MOST_SEATS
+    → IsTreeDepth F.tree.depth → NamesItsHolder F i stage region node (held_word F i stage (leaf_nodes F region) node)

@@ -4,8 +4,9 @@
 pub use hand::Hand;
 pub use reading::index_of_word;
 pub use rule::laws::{
-    closed_table_is_its_run, ended_seats_keep_the_rule, looks_keep_the_rule,
-    made_seats_keep_the_rule, refused_takes_were_served, start_is_ruled, steps_keep_the_rule,
+    closed_table_is_its_run, ended_seats_keep_the_rule, held_words_name_their_holder,
+    looks_keep_the_rule, made_seats_keep_the_rule, refused_takes_were_served, start_is_ruled,
+    steps_keep_the_rule, unused_words_stay_zero,
 };
 pub use setting::Setting;
 pub use shared_words::SharedWords;

@@ -18,7 +18,8 @@ pub struct Key<A> {
     pub rooms: ArrayVec<u32, MOST_SEATS>,
 }
 
-/// The rule of the table.
+/// The rule of the table, whole: that of every word and every seat, of which the words that lock nodes are a part. It
+/// holds between any two steps of any threads.
 pub struct Locks<A> {
     of: PhantomData<A>,
 }

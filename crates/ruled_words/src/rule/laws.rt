@@ -1,5 +1,6 @@
 ghost use Rattle.ruled_words.specs.Laws.{StartIsRuled, StepsKeepTheRule, LooksKeepTheRule, MadeSeatsKeepTheRule};
 ghost use Rattle.ruled_words.specs.Laws.{EndedSeatsKeepTheRule, RefusedTakesWereServed, ClosedTableIsItsRun};
+ghost use Rattle.ruled_words.specs.Laws.{UnusedWordsStayZero, HeldWordsNameTheirHolder};
 
 /// The table at the start, with the words of the world and seat 0, meets the rule.
 pub fn start_is_ruled()
@@ -37,4 +38,16 @@ pub fn refused_takes_were_served()
 /// served.
 pub fn closed_table_is_its_run()
     ensures { ClosedTableIsItsRun }
+{}
+
+/// Between any two steps, the words of nodes that the tree hasn't, of players that aren't live and of ids that aren't
+/// live are 0.
+pub fn unused_words_stay_zero()
+    ensures { UnusedWordsStayZero }
+{}
+
+/// The word of a node that a seat holds has the seat's number plus 1 in bits 0 to 7. Above them it has the leaves of the
+/// seat's command where the node is a leaf; for an inner node bit 8 is set exactly where it is held to write.
+pub fn held_words_name_their_holder()
+    ensures { HeldWordsNameTheirHolder }
 {}
