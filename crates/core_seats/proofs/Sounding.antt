@@ -1,12 +1,11 @@
 -- Each view of a machine that stands is sound.
-use Rattle.std.proofs.Common.{arith, ◌≡◌, ℕ, ◌<◌, true, List, ◌∷◌, refl, sym, ap, ◌∙◌, subst, inl, inr, Some}
+use Rattle.std.proofs.Common.{◌≡◌, ℕ, ◌<◌, true, List, ◌∷◌, refl, sym, ap, ◌∙◌, subst, inl, inr, Some}
 use Rattle.std.proofs.lemmas.Bool.{cases_Bool, false≢true, cond-false}
 use Rattle.entity_recs.specs.declared.rec.Rec.{Rec}
 use Rattle.entity_recs.specs.declared.effect.Effect.{Effect}
 use Rattle.entity_recs.specs.Actions.{HasPlayer}
 use Rattle.entity_recs.specs.Worlds.{World, others_of}
 use Rattle.entity_recs.specs.Histories.{Item}
-use Rattle.areanode.specs.Trees.{IsTreeDepth}
 use Rattle.core_steps.specs.declared.sizes.TheConstants.{TABLE_WORDS}
 use Rattle.core_steps.specs.Views.{Fixed, Store, Point, Idle, Owning, Taking, Checking, Entering, Entered, Loading, Leaving, Sensing, Resolving, Claiming, Storing, Releasing, Returning, Yielding, stage_of, is_settled, is_read_again, stores_owed, FitsTable, record_read}
 use Rattle.core_steps.specs.Steps.{is_taking, first_yield}
@@ -18,7 +17,6 @@ use Rattle.core_steps.proofs.Resolved.{again_is}
 use Rattle.core_steps.proofs.Asking.{region_may_be_asked, effect_may_be_asked}
 use Rattle.core_steps.proofs.TableWords.{steps_have_their_word}
 use Rattle.core_steps.proofs.TreeNodes.{each_tree_fits}
-use Rattle.core_seats.specs.Sound.{IsSound}
 use Rattle.core_seats.specs.Laws.{StandingViewsAreSound}
 
 module _ (F : Fixed) (m : Machine) (history : List Item) (now : World) (i : ℕ) (lawful : IsLawful F) (start : IsStart F) (fits : FitsTable F) (is : MachineStands F m history now) where
