@@ -1,4 +1,4 @@
-ghost use Rattle.std.specs.Prelude.{◌≡◌, ◌≤◌, ℕ, [], map, filter, length, slice_index_or, true, false, None};
+ghost use Rattle.std.specs.Prelude.{◌≡◌, ◌≤◌, ℕ, [], map, filter, length, slice_index_or, true, false, vec_capacity, None};
 ghost use Rattle.core_steps.specs.Views.{player_at};
 ghost use Rattle.std.specs.List.{filter_map};
 ghost use Rattle.entity_recs.specs.declared.rec.Rec.{Rec};
@@ -8,12 +8,11 @@ ghost use Rattle.core_seats.specs.Seats.{player_read_of};
 ghost use Rattle.core_seats.specs.NearRecords as near;
 
 use crate::boxes::touches_region;
-use crate::point::IdQueue;
-use crate::queue::Queue;
 use crate::reading::read_record;
 use crate::reads::{player_words, thing_state};
 use crate::seat::PlayerRead;
 use arena_geo::Region;
+use arrayvec::ArrayVec;
 use entity_recs::{IDS, NewState, Rec};
 use world_tree::NearList;
 
@@ -31,19 +30,19 @@ fn is_touched_thing(r: &Rec, region: &Region) -> bool
     r.id >= 64 && touches_region(r, region)
 }
 
-/// The ids of the things of the map among these records whose absolute box touches a region, in the order of the
-/// records.
-pub fn things_of(start: &[Rec], region: &Region) -> IdQueue
-    requires { length start.now ≤ IDS }
-    ensures { result.items ≡ map (λ (r : Rec). r.id) (filter (near.is_touched_thing region.now) start.now) }
+/// Puts into an empty list the ids of the things of the map among these records whose absolute box touches a region, in
+/// the order of the records. It takes no memory.
+pub fn put_things(start: &[Rec], region: &Region, ids: &mut Vec<u16>)
+    requires empty { ids.old.items ≡ [] }
+    requires room { length start.now ≤ vec_capacity ids.old }
+    ensures ids { ids.new.items ≡ map (λ (r : Rec). r.id) (filter (near.is_touched_thing region.now) start.now) }
+    ensures room { vec_capacity ids.new ≡ vec_capacity ids.old }
 {
-    let mut ids = Queue::new();
     for r in start {
         if is_touched_thing(r, region) {
-            ids.push(r.id);
+            ids.push_reserved(r.id);
         }
     }
-    ids
 }
 
 /// The record as it was loaded, where it was: a player's as it was loaded last, a thing's with the state that was
@@ -133,10 +132,11 @@ pub fn put_near(
     states: &[NewState],
     list: &mut NearList,
 )
-    requires few { length start.now ≤ IDS }
-    requires empty { list.old ≡ [] }
-    ensures { list.new ≡ filter_map (near.near_one region.now slot (map player_read_of others.now) states.now)
-        start.now }
+    requires room { length start.now ≤ list.old.room }
+    requires empty { list.old.items ≡ [] }
+    ensures records { list.new.items
+        ≡ filter_map (near.near_one region.now slot (map player_read_of others.now) states.now) start.now }
+    ensures room { list.new.room ≡ list.old.room }
 {
     let slots = slots_read(others);
     for r in start {
@@ -145,4 +145,26 @@ pub fn put_near(
             let _ = list.push(one);
         }
     }
+}
+
+/// As [`put_near`], in a list in place, which has room for all records that can live.
+pub fn near_in_place(
+    start: &[Rec],
+    region: &Region,
+    slot: u8,
+    others: &[PlayerRead],
+    states: &[NewState],
+) -> ArrayVec<Rec, IDS>
+    requires { length start.now ≤ IDS }
+    ensures { result.items ≡ filter_map (near.near_one region.now slot (map player_read_of others.now) states.now)
+        start.now }
+{
+    let slots = slots_read(others);
+    let mut list = ArrayVec::new();
+    for r in start {
+        if let Some(one) = near_read(r, region, slot, others, states, &slots) {
+            list.push(one);
+        }
+    }
+    list
 }

@@ -22,9 +22,9 @@ returns-clause-view g c =
     elim c.if-self.branch [
       | then-self w ↦
           subst (λ (quits : Bool). view_of c.if-self.self ≡ view_found F view (the_next (next_with F view (given_of c.args.self.now) quits c.args.effect.now)) c.args.found) (sym w.if-self.true)
-          (ap view_of w.self-is ∙ w.give_up.ensures)
+          (ap view_of w.self-is ∙ w.give_up.ensures.view)
       | else-self w ↦
           subst (λ (quits : Bool). view_of c.if-self.self ≡ view_found F view (the_next (next_with F view (given_of c.args.self.now) quits c.args.effect.now)) c.args.found) (sym w.if-self.false)
-          (ap view_of w.self-is ∙ w.go_on.ensures)
+          (ap view_of w.self-is ∙ w.go_on.ensures.view)
     ] in
     is

@@ -1,15 +1,16 @@
 use Rattle.std.proofs.Common.{List, map, ap, ◌∙◌, arith}
-use Rattle.std.specs.Prelude.{filter}
+use Rattle.std.specs.List.{filter_map}
 use Rattle.std.proofs.lemmas.List.{length-map}
 use Rattle.entity_recs.specs.declared.rec.Rec.{Rec}
 use Rattle.entity_recs.specs.Actions.{HasValidity}
-use Rattle.core_seats.specs.NearRecords.{is_touched_thing}
+use Rattle.core_seats.specs.Seats.{player_read_of}
+use Rattle.core_seats.specs.NearRecords.{near_one}
 use Rattle.core_seats.specs.Shown.{fixed_of}
-use Rattle.core_seats.proofs.NearLists.{things_are, found_at_ids, few_ids}
-use Rattle.core_seats.proofs.rules.Rules.things.Goals as goal
+use Rattle.core_seats.proofs.NearLists.{near_are, found_at_ids, few_ids}
+use Rattle.core_seats.proofs.rules.Rules.near_in_place.Goals as goal
 
-pub things_of-requires : goal.things_of-requires
-things_of-requires g c =
+pub near_in_place-requires : goal.near_in_place-requires
+near_in_place-requires g c =
     let F = fixed_of g.A.Action.meaning (record { action = c.self.inside.action.now; tree = c.self.inside.tree; start = c.self.inside.start.items }) in
     let met = g.met.A.Action g.world.𝓛 g.world.𝓜 g.world.𝓡 ((λ s x. x), (λ x. x), (λ x. x), λ x. x) in
     let validity : HasValidity F.takes F.effect_of = met.validity c.self.inside.action.now in
@@ -21,5 +22,5 @@ pub returns : goal.returns
 returns g c =
     let F = fixed_of g.A.Action.meaning (record { action = c.self.inside.action.now; tree = c.self.inside.tree; start = c.self.inside.start.items }) in
     rw (← c.self.view_is)
-    (c.things_of.ensures ∙ ap (λ (rs : List Rec). map (λ (r : Rec). r.id) (filter (is_touched_thing c.args.region.now) rs)) c.as_slice.ensures.value
-    ∙ things_are F.start.record_of c.args.region.now c.self.inside.start.items (found_at_ids c.self.inside.start.items c.self.invariant.start.rising))
+    (c.near_in_place.ensures ∙ ap (λ (rs : List Rec). filter_map (near_one c.args.region.now c.args.slot (map player_read_of c.args.others.now) c.args.states.now) rs) c.as_slice.ensures.value
+    ∙ near_are F c.args.region.now c.args.slot (map player_read_of c.args.others.now) c.args.states.now c.self.inside.start.items (found_at_ids c.self.inside.start.items c.self.invariant.start.rising))
