@@ -57,7 +57,7 @@ others_room slot others own once below =
     let size = length-map (without_player slot others) (λ (read : PlayerRead). read.slot) in
     omega (arith, few, same, size)
 
-filter_few : (test : ℕ → Bool) (xs : List ℕ) → length (filter test xs) ≤ length xs
+pub filter_few : (test : ℕ → Bool) (xs : List ℕ) → length (filter test xs) ≤ length xs
 filter_few test [] = omega arith
 filter_few test (x ∷ xs) =
     let rest = filter_few test xs in

@@ -59,4 +59,4 @@ pub record IsFresh (room made things : ℕ) (s : Seat) : Type 0 where
   pub view : view_of s ≡ record (new_view room) { made = made }
   pub given : s.given ≡ None
   pub quits : s.quits ≡ false
-  pub things : things_room s ≡ things
+  pub room_of_things : things_room s ≡ things

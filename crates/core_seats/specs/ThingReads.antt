@@ -13,4 +13,4 @@ pub record ReadsView : Type 0 where
 pub record AreReads (room room_of_states room_of_ids from : ℕ) (ids : List ℕ) : Type 0 where
   pub states_fit : room ≤ room_of_states
   pub ids_fit : room ≤ room_of_ids
-  pub from : from ≤ length ids
+  pub within : from ≤ length ids

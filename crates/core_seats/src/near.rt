@@ -12,7 +12,6 @@ use crate::reading::read_record;
 use crate::reads::{player_words, thing_state};
 use crate::seat::PlayerRead;
 use arena_geo::Region;
-use arrayvec::ArrayVec;
 use entity_recs::{IDS, NewState, Rec};
 use world_tree::NearList;
 
@@ -145,26 +144,4 @@ pub fn put_near(
             let _ = list.push(one);
         }
     }
-}
-
-/// As [`put_near`], in a list in place, which has room for all records that can live.
-pub fn near_in_place(
-    start: &[Rec],
-    region: &Region,
-    slot: u8,
-    others: &[PlayerRead],
-    states: &[NewState],
-) -> ArrayVec<Rec, IDS>
-    requires { length start.now ≤ IDS }
-    ensures { result.items ≡ filter_map (near.near_one region.now slot (map player_read_of others.now) states.now)
-        start.now }
-{
-    let slots = slots_read(others);
-    let mut list = ArrayVec::new();
-    for r in start {
-        if let Some(one) = near_read(r, region, slot, others, states, &slots) {
-            list.push(one);
-        }
-    }
-    list
 }

@@ -60,20 +60,9 @@ impl Seat {
     ghost use Rattle.core_seats.specs.Ready.{IsReady, effect_due};
 
     /// The effect that the action gives on what was loaded, where all is read and the effect enters the view with the
-    /// next step; else none.
-    pub fn resolved<A: Action>(&self, rules: &Rules<A>) -> Option<Effect>
-        requires { IsSound (fixed_of A.meaning rules.now) (view_of self.now) }
-        ensures { result ≡ effect_due (fixed_of A.meaning rules.now) (view_of self.now) }
-    {
-        match self.point {
-            Point::Resolving => Some(self.effect_in_place(rules)),
-            _ => None,
-        }
-    }
-
-    /// As [`Seat::resolved`], with a list that is emptied and then holds the records that the action is given. It has room
-    /// for all records of the start.
-    pub fn resolved_in<A: Action>(&self, rules: &Rules<A>, near: &mut NearList) -> Option<Effect>
+    /// next step; else none. The list is emptied, and then holds the records that the action is given; it has room for
+    /// all records of the start.
+    pub fn resolved<A: Action>(&self, rules: &Rules<A>, near: &mut NearList) -> Option<Effect>
         requires sound { IsSound (fixed_of A.meaning rules.now) (view_of self.now) }
         requires room { length (fixed_of A.meaning rules.now).start.ids ≤ near.old.room }
         ensures effect { result ≡ effect_due (fixed_of A.meaning rules.now) (view_of self.now) }
@@ -185,27 +174,6 @@ impl Seat {
             self.others.as_slice(),
             self.queues.things.states(),
             near,
-        );
-        rules.act(&self.before(), near.as_slice(), &cmd)
-    }
-
-    /// The effect that the action gives on what was loaded, of which the records are listed in place.
-    fn effect_in_place<A: Action>(&self, rules: &Rules<A>) -> Effect
-        requires call { IsCall ((A.meaning rules.now.action).takes) (record_read (view_of self.now).cmd.slot
-            (view_of self.now).again)
-            (loaded_near (fixed_of A.meaning rules.now) (view_of self.now))
-            (view_of self.now).cmd }
-        requires own { HasPlayer ((A.meaning rules.now.action).takes) (record_read (view_of self.now).cmd.slot
-            (view_of self.now).own) (view_of self.now).cmd }
-        ensures { result ≡ effect_loaded (fixed_of A.meaning rules.now) (view_of self.now) }
-    {
-        let cmd = self.hand();
-        let region = rules.region(&cmd, self.own.as_slice());
-        let near = rules.near_in_place(
-            &region,
-            cmd.slot,
-            self.others.as_slice(),
-            self.queues.things.states(),
         );
         rules.act(&self.before(), near.as_slice(), &cmd)
     }

@@ -2,7 +2,7 @@ ghost use Rattle.std.specs.Prelude.{◌≡◌};
 ghost use Rattle.areanode.specs.Trees.{IsTreeDepth};
 
 use crate::lists::{bits_below, first_leaf, inner_among, joined, leaf_nodes, leaf_word};
-use crate::near::{near_in_place, put_near};
+use crate::near::put_near;
 use crate::near_kept::{count_players, player_bits};
 use crate::point::NodeQueue;
 use crate::reading::read_record;
@@ -12,9 +12,8 @@ use crate::strips::ThingIndex;
 use crate::thing_reads::ThingReads;
 use areanode::Tree;
 use arena_geo::Region;
-use arrayvec::ArrayVec;
 use core_steps::NODE_HOLDERS;
-use entity_recs::{Action, Cmd, Effect, IDS, NewState, Rec, abs_box};
+use entity_recs::{Action, Cmd, Effect, NewState, Rec, abs_box};
 use std::alloc::{AllocError, Global};
 use std::marker::Model;
 use world_tree::NearList;
@@ -56,6 +55,7 @@ fn has_its_depth(tree: &Tree)
 impl<'a, A: Action> Rules<'a, A> {
     ghost use Rattle.std.specs.Prelude.{◌≡◌, ◌<◌, ◌≤◌, ◌+◌, ◌*◌, ◌%◌, ◌^◌, List, [], suc, map, length, All, OnOk, IfOk};
     ghost use Rattle.std.specs.Prelude.{if◌then◌else◌};
+    ghost use Rattle.entity_recs.specs.declared.limits.TheConstants.{IDS};
     ghost use Rattle.entity_recs.specs.Actions.{HasPlayer, IsCall};
     ghost use Rattle.entity_recs.specs.Records.{IsRecord};
     ghost use Rattle.entity_recs.specs.Commands.{command_of};
@@ -125,7 +125,8 @@ impl<'a, A: Action> Rules<'a, A> {
 
     /// How many records live at the start.
     pub fn count_records(&self) -> usize
-        ensures { result ≡ length (fixed_of A.meaning self.now).start.ids }
+        ensures value { result ≡ length (fixed_of A.meaning self.now).start.ids }
+        ensures few { result ≤ IDS }
     {
         self.start.len()
     }
@@ -240,20 +241,6 @@ impl<'a, A: Action> Rules<'a, A> {
         ensures room { list.new.room ≡ list.old.room }
     {
         put_near(self.start.as_slice(), region, slot, others, states, list);
-    }
-
-    /// The records loaded that touch a region, but this player's, in rising id.
-    pub(crate) fn near_in_place(
-        &self,
-        region: &Region,
-        slot: u8,
-        others: &[PlayerRead],
-        states: &[NewState],
-    ) -> ArrayVec<Rec, IDS>
-        ensures { result.items ≡ near_loaded (fixed_of A.meaning self.now) region.now slot
-            (map player_read_of others.now) states.now }
-    {
-        near_in_place(self.start.as_slice(), region, slot, others, states)
     }
 
     /// What a command of this player does among these records.

@@ -72,8 +72,7 @@ module _ (marks : List Bool) (records : List (Option Rec)) (out more : List Rec)
       let few = length-picked marks records in
       let fits : length out < room = omega arith in
       let took_is = took pushed (has_room.1 fits) does in
-      let grows = same ∙ ap (λ (l : NearView). l.items) took_is in
-      (
+      let grows = same ∙ ap (λ (l : NearView). l.items) took_is in (
         ap (λ (xs : List Rec). xs ++ rest) grows ∙ append_assoc out (r ∷ []) rest
             ∙ ap (λ (xs : List Rec). out ++ xs) (sym left) ∙ keeps,
         ap (λ (l : NearView). l.room) took_is,

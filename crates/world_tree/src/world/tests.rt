@@ -157,12 +157,7 @@ fn column(low: i32, high: i32) -> Result<Aabb, &'static str> {
 }
 
 /// The ids that `near` gives for a box.
-fn near_ids(
-    world: &World,
-    abs: Aabb,
-    except: u16,
-    alloc: Global,
-) -> Result<[u16; 4], AllocError> {
+fn near_ids(world: &World, abs: Aabb, except: u16, alloc: Global) -> Result<[u16; 4], AllocError> {
     let mut list = NearList::new(alloc, NEAR_RECORDS)?;
     world.near(&Region::one(abs), except, &mut list);
     Ok(ids(&list))

@@ -1,4 +1,4 @@
-use Rattle.std.proofs.Common.{map, length-append, ◌++◌, [], ◌∷◌, ap, sym, ◌∙◌, arith}
+use Rattle.std.proofs.Common.{map, ◌<◌, length, length-append, ◌++◌, [], ◌∷◌, ap, sym, ◌∙◌, arith}
 use Rattle.core_seats.specs.Seats.{player_read_of}
 use Rattle.core_seats.specs.NearRecords.{near_one}
 use Rattle.world_tree.specs.Nears.{NearView}
@@ -11,7 +11,7 @@ loop-r-preserved c =
     let one = near_one c.args.region.now c.args.slot (map player_read_of c.args.others.now) c.args.states.now in
     elim c.match-near_read.branch [
       | in-Some w ↦
-          let fits = omega (arith, c.requires.room, c.loop-r.invariant.few, c.loop-r.invariant.room, c.loop-r-test.true) in
+          let fits : length c.loop-r.list.items < c.loop-r.list.room = omega (arith, c.requires.room, c.loop-r.invariant.few, c.loop-r.invariant.room, c.loop-r-test.true) in
           let pushed = pushed_near c.loop-r.list w.push.new.self w.in-Some.one w.push.result fits w.push.ensures.room w.push.ensures.records in
           let items = ap (λ (l : NearView). l.items) pushed in
           rw w.list-is (record {

@@ -8,5 +8,5 @@ abbrev pub invariant-loop-r : goal.invariant-loop-r
 invariant-loop-r l = record {
   list : l.list.items ≡ filter_map (near_one l.region l.slot (map player_read_of l.others) l.states) (take l.r-index l.start);
   few : length l.list.items ≤ l.r-index;
-  room : l.list.room ≡ l.initial.list.room
+  room : l.list.room ≡ l.initial.list.room;
 }

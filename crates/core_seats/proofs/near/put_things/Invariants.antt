@@ -8,5 +8,5 @@ abbrev pub invariant-loop-r : goal.invariant-loop-r
 invariant-loop-r l = record {
   ids : l.ids.items ≡ map (λ (r : Rec). r.id) (filter (is_touched_thing l.region) (take l.r-index l.start));
   few : length l.ids.items ≤ l.r-index;
-  room : vec_capacity l.ids ≡ vec_capacity l.initial.ids
+  room : vec_capacity l.ids ≡ vec_capacity l.initial.ids;
 }

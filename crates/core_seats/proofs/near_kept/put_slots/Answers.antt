@@ -1,4 +1,4 @@
-use Rattle.std.proofs.Common.{sym, ap, ◌∙◌, subst, arith}
+use Rattle.std.proofs.Common.{◌<◌, length, sym, ap, ◌∙◌, subst, arith}
 use Rattle.world_tree.specs.Nears.{NearView}
 use Rattle.core_seats.proofs.NearLists.{pushed_near}
 use Rattle.core_seats.proofs.SlotLists.{ArePut, put_more, put_same}
@@ -16,7 +16,7 @@ loop-rest-preserved c =
     elim c.match-near_player.branch [
       | in-Some w ↦
           let most = c.loop-rest.invariant.put.room slot low.there in
-          let fits = omega (arith, c.requires.room, most, low.below, c.loop-rest.invariant.room) in
+          let fits : length c.loop-rest.list.items < c.loop-rest.list.room = omega (arith, c.requires.room, most, low.below, c.loop-rest.invariant.room) in
           let pushed = w.list-is ∙ pushed_near c.loop-rest.list w.push.new.self w.in-Some.r w.push.result fits w.push.ensures.room w.push.ensures.records in
           record {
             put = subst (ArePut region six c.args.slots less) (sym (ap (λ (l : NearView). l.items) pushed))

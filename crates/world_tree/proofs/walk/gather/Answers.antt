@@ -31,7 +31,7 @@ loop-id-preserved c =
 pub returns : goal.returns
 returns c =
     let all = sym (append-nil c.loop-id.out.items)
-        ∙ ap (λ (xs : List Rec). c.loop-id.out.items ++ xs) (sym (picked-past c.args.marks.now c.args.records.now c.loop-id.id c.loop-id-test.false))
-        ∙ c.loop-id.invariant.picks in
+    ∙ ap (λ (xs : List Rec). c.loop-id.out.items ++ xs) (sym (picked-past c.args.marks.now c.args.records.now c.loop-id.id c.loop-id-test.false))
+    ∙ c.loop-id.invariant.picks in
     ap (λ (xs : List Rec). record { items = xs; room = c.loop-id.out.room }) all
     ∙ ap (λ n. record { items = picked c.args.marks.now c.args.records.now; room = n }) c.loop-id.invariant.room

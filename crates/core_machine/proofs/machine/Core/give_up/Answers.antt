@@ -10,9 +10,9 @@ invariant_of-self g c =
     let seats = c.self.inside.seats.items in
     let may = rw (← c.self.view_is) at c.requires in
     let below : c.from.result < length seats = taking_below seats c.from.result c.args.seat c.from.ensures may in
-    core_called F (core_view c.self.inside.rules c.self.inside.words seats) _ (GiveUp c.args.seat) c.self.invariant may
+    core_called F (core_view c.self.inside.rules c.self.inside.words seats) _ (GiveUp c.args.seat) c.self.invariant.core may
     (quitting_machine F c.self.inside.rules c.self.inside.words seats c.from.result c.args.seat c.index_mut.result.now c.from.ensures below c.index_mut.ensures.value)
-    c.self.invariant.rooms
+    c.self.invariant.core.rooms
 
 pub returns-clause-machine : goal.returns-clause-machine
 returns-clause-machine g c =

@@ -11,7 +11,7 @@ resolved-effect-requires-after_bounds g c = λ κs within.
     let F = fixed_of g.A.Action.meaning c.self.inside.rules in
     let seats = c.self.inside.seats.items in
     let below = number_below seats c.from.result c.args.seat c.from.ensures (rw (← c.self.view_is) at c.requires) in
-    (seat_ready F c.self.inside.rules c.self.inside.words seats c.from.result c.args.seat c.index-one.result.now c.from.ensures below c.index-one.ensures c.self.invariant).sound
+    (seat_ready F c.self.inside.rules c.self.inside.words seats c.from.result c.args.seat c.index-one.result.now c.from.ensures below c.index-one.ensures c.self.invariant.core).sound
 
 pub next_step-requires-after_bounds : goal.next_step-requires-after_bounds
 next_step-requires-after_bounds g c = λ κs within.
@@ -19,7 +19,7 @@ next_step-requires-after_bounds g c = λ κs within.
     let seats = c.self.inside.seats.items in
     let below = number_below seats c.from.result c.args.seat c.from.ensures (rw (← c.self.view_is) at c.requires) in
     rw c.resolved-effect.ensures
-    (seat_ready F c.self.inside.rules c.self.inside.words seats c.from.result c.args.seat c.index-one.result.now c.from.ensures below c.index-one.ensures c.self.invariant)
+    (seat_ready F c.self.inside.rules c.self.inside.words seats c.from.result c.args.seat c.index-one.result.now c.from.ensures below c.index-one.ensures c.self.invariant.core)
 
 pub returns-clause-step : goal.returns-clause-step
 returns-clause-step g c =
@@ -37,4 +37,4 @@ returns-clause-some g c =
     let below = number_below seats c.from.result c.args.seat c.from.ensures (rw (← c.self.view_is) at c.requires) in
     rw (← c.self.view_is)
     (ap is_some (c.next_step.ensures ∙ seat_step F c.self.inside.rules c.self.inside.words seats c.from.result c.args.seat c.index-one.result.now c.resolved-effect.result c.from.ensures below c.index-one.ensures c.resolved-effect.ensures)
-    ∙ step_exists F (core_view c.self.inside.rules c.self.inside.words seats) c.args.seat c.self.invariant)
+    ∙ step_exists F (core_view c.self.inside.rules c.self.inside.words seats) c.args.seat c.self.invariant.core)
