@@ -12,3 +12,4 @@ pub mod Starting
 pub mod Filled
 pub mod TableParts
 pub mod StartRecords
+pub mod SeatLists

@@ -2,6 +2,7 @@
 use mathlib.Core.Path.{fun_ext}
 use Rattle.std.proofs.Common.{◌≡◌, ℕ, zero, suc, ◌+◌, ◌-◌, ◌^◌, ◌<◌, ◌≤◌, true, false, List, [], ◌∷◌, ◌++◌, length, map, take, drop, get_or, refl, sym, ap, ◌∙◌, subst, inl, inr, None, arith, append_assoc, append-nil, length-append}
 use Rattle.core_steps.specs.declared.sizes.TheConstants.{MOST_SEATS}
+use Rattle.entity_recs.specs.declared.limits.TheConstants.{IDS}
 use Rattle.std.specs.Prelude.{◌==◌}
 use Rattle.std.proofs.lemmas.List.{map_more, map-append}
 use Rattle.std.proofs.Math.Seq.{take-length}
@@ -22,7 +23,7 @@ use Rattle.core_steps.proofs.Puts.{put_same, put_other}
 use Rattle.core_machine.proofs.Cores.{same_machine}
 
 -- a new seat of the code
-pub fresh_is : (room made : ℕ) (s : Seat) → IsFresh room made s → seat_of s ≡ fresh_seat room made
+pub fresh_is : (room made : ℕ) (s : Seat) → IsFresh room made IDS s → seat_of s ≡ fresh_seat room made
 fresh_is room made s is = rw (is.view, is.given, is.quits) refl
 
 -- another seat at the start
@@ -155,7 +156,7 @@ start_rooms F rules words first rooms few small = record { made = few; ended = r
 -- ---- the seats of the code
 
 -- one seat more was made, for the i-th room
-pub seat_more : (seats before : List Seat) (s : Seat) (rooms : List ℕ) (i : ℕ) → i < length rooms → IsFresh (get_or rooms i 0) 0 s
+pub seat_more : (seats before : List Seat) (s : Seat) (rooms : List ℕ) (i : ℕ) → i < length rooms → IsFresh (get_or rooms i 0) 0 IDS s
     → map seat_of seats ≡ map seat_of before ++ map more_seat (take i rooms) → map seat_of (seats ++ s ∷ []) ≡ map seat_of before ++ map more_seat (take (i + 1) rooms)
 seat_more seats before s rooms i below fresh so_far =
     map-append seat_of seats (s ∷ [])
@@ -165,7 +166,7 @@ seat_more seats before s rooms i below fresh so_far =
     (ap (λ (x : SeatView). map more_seat (take i rooms) ++ x ∷ []) (fresh_is (get_or rooms i 0) 0 s fresh) ∙ sym (map_more more_seat rooms i 0 below))
 
 -- the first seat and the others are those at the start
-pub start_of : (seats one : List Seat) (s : Seat) (room : List ℕ) → 0 < length room → IsFresh (get_or room 0 0) (length room) s → one ≡ s ∷ []
+pub start_of : (seats one : List Seat) (s : Seat) (room : List ℕ) → 0 < length room → IsFresh (get_or room 0 0) (length room) IDS s → one ≡ s ∷ []
     → map seat_of seats ≡ map seat_of one ++ map more_seat (take (length room - 1) (drop 1 room)) → map seat_of seats ≡ start_seats room
 start_of seats one s [] some fresh is all = absurd (omega arith)
 start_of seats one s (first ∷ others) some fresh is all =

@@ -10,6 +10,7 @@ pub use Rattle.core_seats.specs.Logs
 pub use Rattle.core_seats.specs.Shown
 pub mod Tables
 pub mod Cores
+pub mod ListRooms
 pub mod WordsLeft
 pub mod Stepping
 pub mod Plain

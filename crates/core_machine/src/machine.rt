@@ -1,4 +1,5 @@
-ghost use Rattle.std.specs.Prelude.{◌≡◌, ◌<◌, ◌≤◌, ◌++◌, length, map, IfOk};
+ghost use Rattle.std.specs.Prelude.{◌≡◌, ◌<◌, ◌≤◌, ◌++◌, length, map, All, IfOk};
+ghost use Rattle.core_machine.specs.ListRooms.{HasThingsRoom};
 ghost use Rattle.core_machine.specs.Cores.{seat_of, fresh_seat, start_seats};
 
 use crate::stepping::make_step;
@@ -6,9 +7,10 @@ use crate::words::Words;
 use areanode::Tree;
 use core_seats::{Rules, Seat};
 use core_steps::{MOST_SEATS, Step};
-use entity_recs::{Action, Cmd, Entry, Rec};
+use entity_recs::{Action, Cmd, Entry, IDS, Rec};
 use std::alloc::{AllocError, Global};
 use std::marker::Model;
+use world_tree::NearList;
 
 /// The pure core as a machine: the shared words and the seats, each with its view, as plain values. A seat with a
 /// command in hand makes one step on one word at a time, and any seat may be the next to make one.
@@ -17,15 +19,18 @@ pub struct Core<'a, A: Action> {
     rules: Rules<'a, A>,
     words: Words,
     seats: Vec<Seat>,
+    near: NearList,
 }
 
 /// Adds a seat for each number in `room`, which has room for so many entries.
 fn add_seats(seats: &mut Vec<Seat>, alloc: Global, room: &[u32]) -> Result<(), AllocError>
-    ensures { IfOk result (λ _. map seat_of seats.new.items ≡ map seat_of seats.old.items ++ map
+    requires { All HasThingsRoom seats.old.items }
+    ensures seats { IfOk result (λ _. map seat_of seats.new.items ≡ map seat_of seats.old.items ++ map
         (λ more. fresh_seat more 0) room.now) }
+    ensures things { All HasThingsRoom seats.new.items }
 {
     for entries in room {
-        seats.push(Seat::new(alloc, *entries, 0)?)?;
+        seats.push(Seat::new(alloc, *entries, 0, IDS)?)?;
     }
     Ok(())
 }
@@ -34,25 +39,27 @@ fn add_seats(seats: &mut Vec<Seat>, alloc: Global, room: &[u32]) -> Result<(), A
 fn new_seats(alloc: Global, room: &[u32]) -> Result<Vec<Seat>, AllocError>
     requires some { 0 < length room.now }
     requires few { length room.now ≤ MOST_SEATS }
-    ensures { IfOk result (λ seats. map seat_of seats.items ≡ start_seats room.now) }
+    ensures seats { IfOk result (λ seats. map seat_of seats.items ≡ start_seats room.now) }
+    ensures things { IfOk result (λ seats. All HasThingsRoom seats.items) }
 {
     let mut seats = Vec::with_capacity(alloc, room.len())?;
-    seats.push(Seat::new(alloc, room[0], room.len() as u8)?)?;
+    seats.push(Seat::new(alloc, room[0], room.len() as u8, IDS)?)?;
     add_seats(&mut seats, alloc, &room[1..])?;
     Ok(seats)
 }
 
 impl<'a, A: Action> Model for Core<'a, A> {
     ghost use Rattle.std.specs.Prelude.{map};
-    ghost use Rattle.core_machine.specs.Cores.{CoreView, seat_of, IsCore};
+    ghost use Rattle.core_machine.specs.Cores.{CoreView, seat_of};
+    ghost use Rattle.core_machine.specs.ListRooms.{IsKept};
     ghost use Rattle.core_seats.specs.Shown.{fixed_of};
 
     ghost Value = { CoreView A };
 
     ghost view = { λ c. record { rules = c.rules; words = c.words; seats = map seat_of c.seats.items } };
 
-    ghost invariant = { λ c. IsCore (fixed_of A.meaning c.rules) (record
-        { rules = c.rules; words = c.words; seats = map seat_of c.seats.items }) };
+    ghost invariant = { λ c. IsKept (fixed_of A.meaning c.rules) (record
+        { rules = c.rules; words = c.words; seats = map seat_of c.seats.items }) c.seats.items c.near };
 }
 
 impl<'a, A: Action> Core<'a, A> {
@@ -93,10 +100,12 @@ impl<'a, A: Action> Core<'a, A> {
         rules.is_ruled();
         let words = Words::of_start(&rules);
         let seats = new_seats(alloc, room)?;
+        let near = NearList::new(alloc, IDS)?;
         Ok(Core {
             rules,
             words,
             seats,
+            near,
         })
     }
 
@@ -120,16 +129,17 @@ impl<'a, A: Action> Core<'a, A> {
         self.seats[usize::from(seat)].given = Some(cmd);
     }
 
-    /// The seat's next step: none exactly where it has no command in hand.
-    pub fn next_step(&self, seat: u8) -> Option<Step>
-        requires { seat < length self.now.seats }
-        ensures step { let F = fixed_of A.meaning self.now.rules in
-            result ≡ next_step_of F (machine_of F self.now) seat }
-        ensures some { let F = fixed_of A.meaning self.now.rules in
-            is_some result ≡ has_command (machine_of F self.now) seat }
+    /// The seat's next step: none exactly where it has no command in hand. The core stays as it is.
+    pub fn next_step(&mut self, seat: u8) -> Option<Step>
+        requires { seat < length self.old.seats }
+        ensures step { let F = fixed_of A.meaning self.old.rules in
+            result ≡ next_step_of F (machine_of F self.old) seat }
+        ensures some { let F = fixed_of A.meaning self.old.rules in
+            is_some result ≡ has_command (machine_of F self.old) seat }
+        ensures same { self.new ≡ self.old }
     {
         let one = &self.seats[usize::from(seat)];
-        let effect = one.resolved(&self.rules);
+        let effect = one.resolved(&self.rules, &mut self.near);
         one.next_step(&self.rules, seat, &effect)
     }
 
@@ -164,7 +174,13 @@ impl<'a, A: Action> Core<'a, A> {
         if i >= self.seats.len() {
             return false;
         }
-        make_step(&self.rules, &mut self.words, &mut self.seats[i], s)
+        make_step(
+            &self.rules,
+            &mut self.words,
+            &mut self.seats[i],
+            &mut self.near,
+            s,
+        )
     }
 
     /// The seat is to give up its command, at a take before its commit or where the commit comes next: its next steps

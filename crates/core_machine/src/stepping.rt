@@ -1,10 +1,10 @@
-ghost use Rattle.std.specs.Prelude.{◌≡◌, ◌⊎◌, true, false, is_some};
+ghost use Rattle.std.specs.Prelude.{◌≡◌, ◌≤◌, ◌⊎◌, length, true, false, is_some};
 ghost use Rattle.core_steps.specs.Stands.{start_words};
 ghost use Rattle.core_steps.specs.Machine.{step_of};
 ghost use Rattle.core_machine.specs.Cores.{seat_of};
 ghost use Rattle.core_seats.specs.Nexts.{next_with, the_next};
 ghost use Rattle.core_seats.specs.Ready.{IsReady};
-ghost use Rattle.core_seats.specs.Seats.{view_of, given_of};
+ghost use Rattle.core_seats.specs.Seats.{view_of, given_of, things_room};
 ghost use Rattle.core_seats.specs.Shown.{fixed_of};
 ghost use Rattle.core_machine.specs.Stepping as stepping;
 ghost use Rattle.core_machine.specs.Stepping.{MayStep, IsOnWord, IsStepped, IsOther, IsMade};
@@ -15,6 +15,7 @@ use crate::words::Words;
 use core_seats::{Rules, Seat};
 use core_steps::{Step, StepKind};
 use entity_recs::{Action, Effect};
+use world_tree::NearList;
 
 /// Whether a step of this kind is done where this word was found: a take is done where the node is free.
 fn is_done(kind: StepKind, found: u64) -> bool
@@ -57,10 +58,12 @@ fn make_next<A: Action>(
         (view_of seat.old) (the_next (next_with F (view_of seat.old) (given_of seat.old) seat.old.quits effect.now)) }
     requires same { let F = fixed_of A.meaning rules.now in step_of s.seat (view_of seat.old)
         (the_next (next_with F (view_of seat.old) (given_of seat.old) seat.old.quits effect.now)) ≡ s }
-    ensures { let F = fixed_of A.meaning rules.now in
+    requires things { length (fixed_of A.meaning rules.now).start.ids ≤ things_room seat.old }
+    ensures stepped { let F = fixed_of A.meaning rules.now in
         IsStepped F s.seat (words_in words.old (start_words F)) (words_in words.new (start_words F))
         (view_of seat.old) (seat_of seat.new)
         (the_next (next_with F (view_of seat.old) (given_of seat.old) seat.old.quits effect.now)) result }
+    ensures things { things_room seat.new ≡ things_room seat.old }
 {
     let index = usize::from(s.word);
     let found = words.get(index);
@@ -70,15 +73,25 @@ fn make_next<A: Action>(
 }
 
 /// Makes a step of a seat on these words, where it is the seat's next one. It is false where it isn't, and then nothing
-/// changes, and where it is a take of a node that is held.
-pub fn make_step<A: Action>(rules: &Rules<A>, words: &mut Words, seat: &mut Seat, s: Step) -> bool
-    requires { let F = fixed_of A.meaning rules.now in
+/// changes, and where it is a take of a node that is held. The near list is only room, for all records of the start.
+pub fn make_step<A: Action>(
+    rules: &Rules<A>,
+    words: &mut Words,
+    seat: &mut Seat,
+    near: &mut NearList,
+    s: Step,
+) -> bool
+    requires may { let F = fixed_of A.meaning rules.now in
         MayStep F (words_in words.old (start_words F)) (seat_of seat.old) }
-    ensures { let F = fixed_of A.meaning rules.now in
+    requires things { length (fixed_of A.meaning rules.now).start.ids ≤ things_room seat.old }
+    requires near { length (fixed_of A.meaning rules.now).start.ids ≤ near.old.room }
+    ensures made { let F = fixed_of A.meaning rules.now in
         IsOther F s words.old words.new seat.old seat.new result
         ⊎ IsMade F s (words_in words.old (start_words F)) (words_in words.new (start_words F)) (seat_of seat.old)
         (seat_of seat.new) result }
+    ensures things { things_room seat.new ≡ things_room seat.old }
+    ensures near { near.new.room ≡ near.old.room }
 {
-    let effect = seat.resolved(rules);
+    let effect = seat.resolved(rules, near);
     is_next(seat.next_step(rules, s.seat, &effect), s) && make_next(rules, words, seat, &effect, s)
 }

@@ -1,12 +1,14 @@
 -- What was loaded of the records at the start, in one pass over them.
-use Rattle.std.proofs.Common.{◌≡◌, ℕ, zero, suc, ◌+◌, ◌<◌, ◌≤◌, ◌==◌, Bool, true, false, ◌&&◌, List, [], ◌∷◌, ◌++◌, length, get_or, take, append-nil, map, refl, ap, sym, ◌∙◌, subst, inl, inr, arith}
+use Rattle.std.proofs.Common.{◌≡◌, ℕ, zero, suc, ◌+◌, ◌<◌, ◌≤◌, ◌↔◌, ◌==◌, IsTrue, Bool, true, false, ◌&&◌, List, [], ◌∷◌, ◌++◌, length, get_or, take, append-nil, map, refl, ap, sym, ◌∙◌, subst, inl, inr, arith}
 use Rattle.std.specs.Prelude.{filter, not, nat_lt, nat_le, Option, Some, None, if◌then◌else◌}
+use Rattle.std.specs.Bool.{MatchBool}
 use Rattle.std.specs.List.{filter_map, cons_option}
 use Rattle.std.specs.List.Sorted.{IsStrictlyIncreasing}
 use Rattle.std.proofs.lemmas.Bool.{cases_Bool, false≢true, eq-eqb, ne_eqb, cond-true, cond-false, leb-true, leb-false}
 use Rattle.std.proofs.Math.ListN.{get_or-map}
 use Rattle.std.proofs.lemmas.List.{length-map, map-append, take_more, get_or-set_other}
 use Rattle.std.proofs.Math.ListN.{set}
+use Rattle.world_tree.specs.Nears.{NearView}
 use Rattle.core_seats.specs.Seats.{player_read_of}
 use Rattle.core_seats.specs.declared.seat.PlayerRead.{PlayerRead as PlayerParts}
 use Rattle.std.proofs.lemmas.List.Elements.{All-get_or, filter_map-append}
@@ -183,3 +185,9 @@ slots_more slots xs i d below each slot unset =
     ap (λ rs. player_at (map player_read_of rs) slot) (take_more xs i d below)
     ∙ ap (λ rs. player_at rs slot) (map-append player_read_of (take i xs) (x ∷ []))
     ∙ none_in_more (map player_read_of (take i xs)) (player_read_of x) slot before other
+
+-- a list that has room takes one record more
+pub pushed_near : (list new : NearView) (r : Rec) (b : Bool) → length list.items < list.room → IsTrue b ↔ (length list.items < list.room)
+    → MatchBool b (new ≡ record list { items = list.items ++ r ∷ [] }) (new ≡ list) → new ≡ record list { items = list.items ++ r ∷ [] }
+pushed_near list new r true fits room does = does
+pushed_near list new r false fits room does = absurd (false≢true (room.1 fits))

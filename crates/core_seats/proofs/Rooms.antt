@@ -9,19 +9,17 @@ use Rattle.std.proofs.lemmas.List.Elements.{All-from_recursion}
 use Rattle.std.proofs.lemmas.Map.Steps.{length-le_from_distinct_below}
 use Rattle.areanode.specs.Depths.{sizes_of_depth}
 use Rattle.areanode.specs.declared.sizes.TheConstants.{MOST_NODES}
-use Rattle.entity_recs.specs.declared.limits.TheConstants.{IDS}
 use Rattle.entity_recs.specs.declared.effect.Effect.{Effect}
 use Rattle.entity_recs.specs.Records.{IsRecord}
 use Rattle.entity_recs.specs.Actions.{HasPlayer, IsCommand, HasValidity}
 use Rattle.core_steps.specs.Views.{Fixed, View, PlayerRead, Store, Point, Taking, Checking, Entered, Loading, Sensing, Resolving, Claiming, Storing, stage_of, is_busy, is_open, is_whole, is_settled, is_read_again, has, record_read, nodes_of, inner_nodes, inner_of_two, home, region_in, effect_loaded, without_player}
-use Rattle.core_steps.specs.Stands.{IsStart, AreDistinct, IsAt, IsUnder, IsChecking, IsTaking, IsClaiming, IsClaimingAfter, IsStoring}
+use Rattle.core_steps.specs.Stands.{AreDistinct, IsAt, IsUnder, IsChecking, IsTaking, IsClaiming, IsClaimingAfter, IsStoring}
 use Rattle.core_steps.specs.Machine.{slots_of, lists_ahead, states_ahead, SomeIsLeft}
 use Rattle.core_steps.proofs.Lists.{distinct_filter, has_filter}
 use Rattle.core_steps.proofs.Planned.{slots_without, gone, leaf_nodes_length}
 use Rattle.core_steps.proofs.Runs.{all_from_has}
 use Rattle.core_steps.proofs.TreeNodes.{leaf_below}
 use Rattle.core_seats.specs.Sound.{IsSound}
-use Rattle.core_seats.proofs.NearLists.{few_ids}
 
 -- ---- numbers that differ
 
@@ -59,7 +57,7 @@ others_room slot others own once below =
     let size = length-map (without_player slot others) (λ (read : PlayerRead). read.slot) in
     omega (arith, few, same, size)
 
-filter_few : (test : ℕ → Bool) (xs : List ℕ) → length (filter test xs) ≤ length xs
+pub filter_few : (test : ℕ → Bool) (xs : List ℕ) → length (filter test xs) ≤ length xs
 filter_few test [] = omega arith
 filter_few test (x ∷ xs) =
     let rest = filter_few test xs in
@@ -128,12 +126,11 @@ module _ (F : Fixed) (view : View) (sound : IsSound F view) where
   pub things_left : (ids : List ℕ) → view.point ≡ Sensing ids → 0 < length ids
   things_left ids at = subst (λ (p : Point). SomeIsLeft p view.wanted) at sound.next.left
 
-  pub states_room : (ids : List ℕ) → HasValidity F.takes F.effect_of → IsStart F → view.point ≡ Sensing ids → length view.states < IDS
-  states_room ids validity start at =
+  pub states_room : (ids : List ℕ) → view.point ≡ Sensing ids → length view.states < length F.start.ids
+  states_room ids at =
       let few : length view.states + states_ahead F (Sensing ids) ≤ length F.start.ids = subst (λ (p : Point). length view.states + states_ahead F p ≤ length F.start.ids) at sound.fits.few_states in
       let some = things_left ids at in
-      let all = few_ids F validity start in
-      omega (arith, few, some, all)
+      omega (arith, few, some)
 
   pub again_room : view.point ≡ Checking → length view.again < 6
   again_room at =

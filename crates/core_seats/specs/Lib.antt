@@ -5,6 +5,7 @@ pub use Rattle.core_steps.specs.Steps
 pub use Rattle.core_steps.specs.Stands
 pub use Rattle.core_steps.specs.Machine
 pub mod Starts
+pub mod ThingReads
 pub mod Points
 pub mod Logs
 pub mod Refusals

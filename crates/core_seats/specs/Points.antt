@@ -1,5 +1,5 @@
 -- What a seat has left to do, as the point of the definitions.
-use Rattle.std.specs.Prelude.{◌≡◌, [], map}
+use Rattle.std.specs.Prelude.{ℕ, ◌≡◌, [], map}
 use Rattle.core_steps.specs.Cells as cells
 use Rattle.core_steps.specs.Views as views
 use Rattle.core_seats.specs.declared.point.Cell.{Cell}
@@ -12,14 +12,14 @@ use Rattle.core_seats.specs.declared.point.Point.TheVariants.{Idle, Owning, Taki
 use Rattle.core_seats.specs.declared.point.Point.TheVariants.{Loading, Leaving, Sensing, Resolving, Claiming, Storing}
 use Rattle.core_seats.specs.declared.point.Point.TheVariants.{Releasing, Returning, Yielding}
 
--- the lists are empty
-pub record AreEmpty (qs : Queues) : Type 0 where
+-- the lists are empty, with room for the states of so many things
+pub record AreEmpty (room : ℕ) (qs : Queues) : Type 0 where
   pub got : qs.got.items ≡ []
   pub rest : qs.rest.items ≡ []
   pub plan : qs.plan.items ≡ []
   pub part : qs.part.items ≡ []
   pub players : qs.players.items ≡ []
-  pub ids : qs.ids.items ≡ []
+  pub things : qs.things ≡ record { room = room; states = []; ids = [] }
   pub stores : qs.stores.items ≡ []
 
 -- the cell of the definitions
@@ -43,7 +43,7 @@ point_of qs (Entering node) = views.Entering node qs.plan.items
 point_of qs (Entered node) = views.Entered node qs.plan.items
 point_of qs (Loading node) = views.Loading node qs.part.items qs.players.items qs.plan.items
 point_of qs (Leaving node) = views.Leaving node qs.plan.items
-point_of qs Sensing = views.Sensing qs.ids.items
+point_of qs Sensing = views.Sensing qs.things.ids
 point_of qs Resolving = views.Resolving
 point_of qs Claiming = views.Claiming qs.got.items qs.rest.items
 point_of qs Storing = views.Storing qs.got.items (map store_of qs.stores.items)

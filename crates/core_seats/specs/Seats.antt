@@ -42,7 +42,7 @@ view_of s = record {
   again = s.again.items;
   lists = map list_read_of s.lists.items;
   others = map player_read_of s.others.items;
-  states = s.states.items;
+  states = s.queues.things.states;
   effect = s.effect;
 }
 
@@ -50,8 +50,13 @@ view_of s = record {
 abbrev pub given_of : Seat → Option Command
 given_of s = option_map command_of s.given
 
--- a seat without a command, with this room, from which so many seats are made
-pub record IsFresh (room made : ℕ) (s : Seat) : Type 0 where
+-- for the states of how many things a seat has room
+abbrev pub things_room : Seat → ℕ
+things_room s = s.queues.things.room
+
+-- a seat without a command, with this room and room for the states of so many things, from which so many seats are made
+pub record IsFresh (room made things : ℕ) (s : Seat) : Type 0 where
   pub view : view_of s ≡ record (new_view room) { made = made }
   pub given : s.given ≡ None
   pub quits : s.quits ≡ false
+  pub room_of_things : things_room s ≡ things

@@ -30,7 +30,7 @@ impl Seat {
     ghost use Rattle.core_steps.specs.Steps as steps;
     ghost use Rattle.core_steps.specs.Machine.{resolving};
     ghost use Rattle.core_seats.specs.Going.{view_found};
-    ghost use Rattle.core_seats.specs.Seats.{view_of, hand_of};
+    ghost use Rattle.core_seats.specs.Seats.{view_of, things_room, hand_of};
     ghost use Rattle.core_seats.specs.Shown.{fixed_of};
 
     /// The node that is taken next, where no effect enters the view.
@@ -63,6 +63,7 @@ impl Seat {
         ensures view { (point : views.Point) → record (view_of self.new) { point = point } ≡ record
             (view_of self.old) { point = point } }
         ensures point { self.new.point ≡ self.old.point }
+        ensures things { things_room self.new ≡ things_room self.old }
     {
         self.queues.got.push(node);
         // It is the node that was taken now.
@@ -73,7 +74,8 @@ impl Seat {
     fn taken(&mut self, node: u8)
         requires leaves { (got rest : List ℕ) → (view_of self.old).point ≡ views.Taking got rest → length got < MOST_NODES }
         requires nodes { (got rest : List ℕ) → (view_of self.old).point ≡ views.Claiming got rest → length got < MOST_NODES }
-        ensures { view_of self.new ≡ steps.view_after_take node (view_of self.old) }
+        ensures view { view_of self.new ≡ steps.view_after_take node (view_of self.old) }
+        ensures things { things_room self.new ≡ things_room self.old }
     {
         match self.point {
             Point::Taking => {
@@ -90,9 +92,10 @@ impl Seat {
     pub(crate) fn take_next(&mut self, found: u64)
         requires leaves { (got rest : List ℕ) → (view_of self.old).point ≡ views.Taking got rest → length got < MOST_NODES }
         requires nodes { (got rest : List ℕ) → (view_of self.old).point ≡ views.Claiming got rest → length got < MOST_NODES }
-        ensures { (node : ℕ) → steps.next_take (view_of self.old).point ≡ Some node → view_of self.new ≡ (if found == 0
+        ensures view { (node : ℕ) → steps.next_take (view_of self.old).point ≡ Some node → view_of self.new ≡ (if found == 0
             then steps.view_after_take node (view_of self.old)
             else steps.view_after_refusal node found (view_of self.old)) }
+        ensures things { things_room self.new ≡ things_room self.old }
     {
         let Some(node) = self.next_take() else {
             return;
@@ -111,11 +114,12 @@ impl Seat {
         requires after { (e : Effect) → self.old.effect ≡ Some e → IsRecord e.me }
         requires room { length self.old.log.items < self.old.log.room }
         requires place { place + 1 < 2 ^ 64 }
-        ensures { (e : Effect) (got rest : List ℕ) → self.old.effect ≡ Some e
+        ensures view { (e : Effect) (got rest : List ℕ) → self.old.effect ≡ Some e
             → (view_of self.old).point ≡ views.Claiming got rest
             → view_of self.new
             ≡ steps.view_after_commit (fixed_of A.meaning rules.now) place e got
             (view_of self.old) }
+        ensures things { things_room self.new ≡ things_room self.old }
     {
         if matches!(self.point, Point::Claiming) {
             self.commit(rules, place);
@@ -148,9 +152,10 @@ impl Seat {
         requires count { (e : Effect) → effect.now ≡ Some e
             → write_nodes (fixed_of A.meaning rules.now)
             (record_read (hand_of self.old.cmd).slot self.old.again.items) e ≡ [] → found + 1 < 2 ^ 64 }
-        ensures { (e : Effect) → effect.now ≡ Some e → let F = fixed_of A.meaning rules.now in
+        ensures view { (e : Effect) → effect.now ≡ Some e → let F = fixed_of A.meaning rules.now in
             view_of self.new ≡ view_found F (view_of self.old)
             (resolving e (write_nodes F (record_read (hand_of self.old.cmd).slot self.old.again.items) e)) found }
+        ensures things { things_room self.new ≡ things_room self.old }
     {
         let Some(effect) = effect else {
             return;

@@ -74,7 +74,7 @@ impl Seat {
     ghost use Rattle.core_steps.specs.Views as views;
     ghost use Rattle.core_steps.specs.Views.{record_read};
     ghost use Rattle.core_steps.specs.Steps as steps;
-    ghost use Rattle.core_seats.specs.Seats.{view_of, hand_of};
+    ghost use Rattle.core_seats.specs.Seats.{view_of, things_room, hand_of};
     ghost use Rattle.core_seats.specs.Shown.{fixed_of};
 
     /// The own record as it was loaded again.
@@ -92,10 +92,11 @@ impl Seat {
         requires after { (e : Effect) → self.old.effect ≡ Some e → IsRecord e.me }
         requires room { length self.old.log.items < self.old.log.room }
         requires place { place + 1 < 2 ^ 64 }
-        ensures { (e : Effect) → self.old.effect ≡ Some e → view_of self.new
+        ensures view { (e : Effect) → self.old.effect ≡ Some e → view_of self.new
             ≡ steps.view_after_commit (fixed_of A.meaning rules.now) place e
             self.old.queues.got.items
             (view_of self.old) }
+        ensures things { things_room self.new ≡ things_room self.old }
     {
         let cmd = self.hand();
         let before = self.before();
@@ -120,9 +121,10 @@ impl Seat {
 
     /// The first of the stores that are left was made.
     pub(crate) fn store_made(&mut self)
-        ensures { (nodes : List ℕ) (store : views.Store) (stores : List views.Store)
+        ensures view { (nodes : List ℕ) (store : views.Store) (stores : List views.Store)
             → (view_of self.old).point ≡ views.Storing nodes (store ∷ stores)
             → view_of self.new ≡ record (view_of self.old) { point = steps.storing nodes stores } }
+        ensures things { things_room self.new ≡ things_room self.old }
     {
         if matches!(self.point, Point::Storing) {
             // It is the store that was made now.

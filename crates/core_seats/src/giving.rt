@@ -21,17 +21,18 @@ fn visited_node<A: Action>(rules: &Rules<A>, node: u8) -> NodeQueue
 }
 
 impl Seat {
-    ghost use Rattle.std.specs.Prelude.{◌≡◌, ℕ, List};
+    ghost use Rattle.std.specs.Prelude.{◌≡◌, ◌≤◌, ℕ, List, length};
     ghost use Rattle.entity_recs.specs.Actions.{HasPlayer};
     ghost use Rattle.core_steps.specs.Steps as steps;
     ghost use Rattle.core_steps.specs.Views as views;
     ghost use Rattle.core_steps.specs.Views.{record_read};
-    ghost use Rattle.core_seats.specs.Seats.{view_of, hand_of};
+    ghost use Rattle.core_seats.specs.Seats.{view_of, things_room, hand_of};
     ghost use Rattle.core_seats.specs.Shown.{fixed_of};
 
     /// The leaves that are left are to be given back, or the command is done.
     fn returning(&mut self)
-        ensures { view_of self.new ≡ steps.returning (view_of self.old) self.old.queues.rest.items }
+        ensures view { view_of self.new ≡ steps.returning (view_of self.old) self.old.queues.rest.items }
+        ensures things { things_room self.new ≡ things_room self.old }
     {
         if self.queues.rest.is_empty() {
             self.forget();
@@ -42,8 +43,9 @@ impl Seat {
 
     /// The inner nodes and then the leaves that are left are to be given back, or the command is given up.
     fn yielding(&mut self)
-        ensures { view_of self.new
+        ensures view { view_of self.new
             ≡ steps.yielding (view_of self.old) self.old.queues.got.items self.old.queues.rest.items }
+        ensures things { things_room self.new ≡ things_room self.old }
     {
         if self.queues.got.is_empty() && self.queues.rest.is_empty() {
             self.forget();
@@ -54,7 +56,8 @@ impl Seat {
 
     /// The first of the write nodes, or of the leaves where none is left, was given back.
     fn released(&mut self)
-        ensures { view_of self.new ≡ steps.released (view_of self.old) self.old.queues.got.items }
+        ensures view { view_of self.new ≡ steps.released (view_of self.old) self.old.queues.got.items }
+        ensures things { things_room self.new ≡ things_room self.old }
     {
         if self.queues.got.pop_first().is_some() {
             self.point = Point::Releasing;
@@ -68,8 +71,9 @@ impl Seat {
 
     /// The first of the inner nodes, or of the leaves where none is left, was given back by a seat that gives up.
     fn yielded(&mut self)
-        ensures { view_of self.new
+        ensures view { view_of self.new
             ≡ steps.yielded (view_of self.old) self.old.queues.got.items self.old.queues.rest.items }
+        ensures things { things_room self.new ≡ things_room self.old }
     {
         // Inner nodes are given back before leaves.
         if self.queues.got.pop_first().is_none() {
@@ -81,7 +85,8 @@ impl Seat {
     /// The seat begins to give up: the first of these inner nodes, or of these leaves where there is none, was given
     /// back.
     pub(crate) fn yield_from(&mut self, nodes: NodeQueue, leaves: NodeQueue)
-        ensures { view_of self.new ≡ steps.yielded (view_of self.old) nodes.items leaves.items }
+        ensures view { view_of self.new ≡ steps.yielded (view_of self.old) nodes.items leaves.items }
+        ensures things { things_room self.new ≡ things_room self.old }
     {
         self.queues.got = nodes;
         self.queues.rest = leaves;
@@ -90,12 +95,14 @@ impl Seat {
 
     /// The node that comes next was given back.
     pub(crate) fn give_next<A: Action>(&mut self, rules: &Rules<A>)
-        requires { (node : ℕ) (plan : List ℕ) → (view_of self.old).point ≡ views.Leaving node plan
+        requires player { (node : ℕ) (plan : List ℕ) → (view_of self.old).point ≡ views.Leaving node plan
             → HasPlayer ((A.meaning rules.now.action).takes)
             (record_read (hand_of self.old.cmd).slot self.old.own.items) (hand_of self.old.cmd) }
-        ensures { view_of self.new
+        requires things { length (fixed_of A.meaning rules.now).start.ids ≤ things_room self.old }
+        ensures view { view_of self.new
             ≡ steps.view_after_give (fixed_of A.meaning rules.now) (view_of self.old)
             (view_of self.old).point }
+        ensures things { things_room self.new ≡ things_room self.old }
     {
         match self.point {
             Point::Leaving { .. } => self.visit_next(rules),

@@ -4,14 +4,14 @@ use crate::seat::Seat;
 use entity_recs::{Action, Effect};
 
 impl Seat {
-    ghost use Rattle.std.specs.Prelude.{◌≡◌, ◌<◌, ◌+◌, ◌^◌, true, false, None, is_some};
+    ghost use Rattle.std.specs.Prelude.{◌≡◌, ◌<◌, ◌≤◌, ◌+◌, length, ◌^◌, true, false, None, is_some};
     ghost use Rattle.core_steps.specs.declared.step.StepKind.TheVariants.{Commit};
     ghost use Rattle.core_steps.specs.Machine.{kind_of, quitting};
     ghost use Rattle.core_steps.specs.Steps.{first_yield};
     ghost use Rattle.core_seats.specs.Going.{view_found};
     ghost use Rattle.core_seats.specs.Nexts.{next_point, next_with, the_next};
     ghost use Rattle.core_seats.specs.Ready.{IsReady};
-    ghost use Rattle.core_seats.specs.Seats.{view_of, given_of};
+    ghost use Rattle.core_seats.specs.Seats.{view_of, things_room, given_of};
     ghost use Rattle.core_seats.specs.Shown.{fixed_of};
     ghost use Rattle.core_seats.specs.Sound.{IsSound};
 
@@ -28,11 +28,13 @@ impl Seat {
         requires count { let F = fixed_of A.meaning rules.now in
             kind_of (the_next (next_with F (view_of self.old) (given_of self.old) self.old.quits effect.now)) ≡ Commit
             → found + 1 < 2 ^ 64 }
+        requires things { length (fixed_of A.meaning rules.now).start.ids ≤ things_room self.old }
         ensures view { let F = fixed_of A.meaning rules.now in
             view_of self.new ≡ view_found F (view_of self.old)
             (the_next (next_with F (view_of self.old) (given_of self.old) self.old.quits effect.now)) found }
         ensures given { self.new.given ≡ None }
         ensures quits { self.new.quits ≡ false }
+        ensures things { things_room self.new ≡ things_room self.old }
     {
         if self.quits {
             self.give_up(rules, found);
@@ -46,8 +48,9 @@ impl Seat {
     /// The first node that is held is given back by a seat that gives up; where none is held, the command is let go and
     /// the word found is the count.
     fn give_up<A: Action>(&mut self, rules: &Rules<A>, found: u64)
-        ensures { let F = fixed_of A.meaning rules.now in
+        ensures view { let F = fixed_of A.meaning rules.now in
             view_of self.new ≡ view_found F (view_of self.old) (quitting (first_yield F (view_of self.old))) found }
+        ensures things { things_room self.new ≡ things_room self.old }
     {
         let nodes = self.inner_held(rules);
         let leaves = self.leaves_held();
@@ -73,9 +76,11 @@ impl Seat {
             kind_of (the_next (next_point F (view_of self.old) (given_of self.old) effect.now (view_of self.old).point))
             ≡ Commit
             → found + 1 < 2 ^ 64 }
-        ensures { let F = fixed_of A.meaning rules.now in
+        requires things { length (fixed_of A.meaning rules.now).start.ids ≤ things_room self.old }
+        ensures view { let F = fixed_of A.meaning rules.now in
             view_of self.new ≡ view_found F (view_of self.old)
             (the_next (next_point F (view_of self.old) (given_of self.old) effect.now (view_of self.old).point)) found }
+        ensures things { things_room self.new ≡ things_room self.old }
     {
         match self.point {
             Point::Idle => self.begin_given(found),

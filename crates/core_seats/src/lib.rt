@@ -5,13 +5,14 @@ pub use laws::{served_steps_leave_fewer, sound_views_count, standing_views_are_s
 pub use lists::with_top_bit;
 pub use log::SeatLog;
 pub use near_kept::{lowest_bit, without_bit};
-pub use point::{Cell, IdQueue, NodeQueue, Point, Queues, SlotQueue, Store, StoreQueue, WordList};
+pub use point::{Cell, NodeQueue, Point, Queues, SlotQueue, Store, StoreQueue, WordList};
 pub use queue::Queue;
 pub use reading::read_record;
 pub use refusals::{Refusals, Refused};
 pub use rules::Rules;
 pub use seat::{ListRead, PlayerRead, Seat};
 pub use thing_bits::{THING_WORDS, ThingBits, next_thing};
+pub use thing_reads::ThingReads;
 pub use word_steps::first_of_two;
 
 mod boxes;
@@ -38,4 +39,5 @@ mod seat;
 mod strips;
 mod taking;
 mod thing_bits;
+mod thing_reads;
 mod word_steps;

@@ -45,21 +45,21 @@ fn drop_read(others: &mut ArrayVec<PlayerRead, 64>, slot: u8)
 }
 
 impl Seat {
-    ghost use Rattle.std.specs.Prelude.{◌≡◌, ◌<◌, ◌∷◌, [], ◌++◌, ◌==◌, ℕ, List, Some, not, filter, length, slice_index};
+    ghost use Rattle.std.specs.Prelude.{◌≡◌, ◌<◌, ◌≤◌, ◌∷◌, [], ◌++◌, ◌==◌, ℕ, List, Some, not, filter, length, slice_index};
     ghost use Rattle.areanode.specs.declared.sizes.TheConstants.{MOST_NODES};
-    ghost use Rattle.entity_recs.specs.declared.limits.TheConstants.{IDS};
     ghost use Rattle.entity_recs.specs.Commands.{Command, command_of};
     ghost use Rattle.entity_recs.specs.Actions.{HasPlayer, IsCommand};
     ghost use Rattle.core_steps.specs.Views as views;
     ghost use Rattle.core_steps.specs.Views.{record_read, leaf_nodes, region_in};
     ghost use Rattle.core_steps.specs.Steps as steps;
     ghost use Rattle.core_seats.specs.declared.seat.PlayerRead.{PlayerRead};
-    ghost use Rattle.core_seats.specs.Seats.{view_of, given_of, hand_of};
+    ghost use Rattle.core_seats.specs.Seats.{view_of, things_room, given_of, hand_of};
     ghost use Rattle.core_seats.specs.Shown.{fixed_of};
 
     /// The command enters the view with the first word of the own record.
     pub fn begin(&mut self, cmd: Cmd, word: u64)
-        ensures { view_of self.new ≡ steps.view_after_begin (command_of cmd) word (view_of self.old) }
+        ensures view { view_of self.new ≡ steps.view_after_begin (command_of cmd) word (view_of self.old) }
+        ensures things { things_room self.new ≡ things_room self.old }
     {
         self.cmd = Some(cmd);
         self.own.clear();
@@ -71,10 +71,11 @@ impl Seat {
     fn want_leaves<A: Action>(&mut self, rules: &Rules<A>)
         requires { HasPlayer ((A.meaning rules.now.action).takes) (record_read (hand_of self.old.cmd).slot self.old.own.items)
             (hand_of self.old.cmd) }
-        ensures { let leaves = leaf_nodes (fixed_of A.meaning rules.now)
+        ensures view { let leaves = leaf_nodes (fixed_of A.meaning rules.now)
             (region_in (fixed_of A.meaning rules.now) (hand_of self.old.cmd) self.old.own.items)
             in
             view_of self.new ≡ record (view_of self.old) { wanted = leaves; point = views.Taking [] leaves } }
+        ensures things { things_room self.new ≡ things_room self.old }
     {
         let region = rules.region(&self.hand(), self.own.as_slice());
         self.wanted = rules.leaves(&region);
@@ -88,8 +89,9 @@ impl Seat {
         requires part { length self.old.own.items < 6 }
         requires player { length self.old.own.items ≡ 5 → HasPlayer ((A.meaning rules.now.action).takes)
             (record_read (hand_of self.old.cmd).slot (self.old.own.items ++ word ∷ [])) (hand_of self.old.cmd) }
-        ensures { view_of self.new ≡ steps.view_after_own (fixed_of A.meaning rules.now) word
+        ensures view { view_of self.new ≡ steps.view_after_own (fixed_of A.meaning rules.now) word
             (view_of self.old) }
+        ensures things { things_room self.new ≡ things_room self.old }
     {
         self.own.push(word);
         if self.own.len() == 6 {
@@ -102,8 +104,10 @@ impl Seat {
         requires part { length self.old.again.items < 6 }
         requires player { HasPlayer ((A.meaning rules.now.action).takes) (record_read (hand_of self.old.cmd).slot
             self.old.own.items) (hand_of self.old.cmd) }
-        ensures { view_of self.new ≡ steps.view_after_again (fixed_of A.meaning rules.now) word
+        requires things { length (fixed_of A.meaning rules.now).start.ids ≤ things_room self.old }
+        ensures view { view_of self.new ≡ steps.view_after_again (fixed_of A.meaning rules.now) word
             (view_of self.old) }
+        ensures things { things_room self.new ≡ things_room self.old }
     {
         self.again.push(word);
         if self.again.len() == 6 {
@@ -118,8 +122,10 @@ impl Seat {
         requires room { length self.old.lists.items < MOST_NODES }
         requires player { HasPlayer ((A.meaning rules.now.action).takes)
             (record_read (hand_of self.old.cmd).slot self.old.own.items) (hand_of self.old.cmd) }
-        ensures { view_of self.new ≡ steps.view_after_list (fixed_of A.meaning rules.now) node
+        requires things { length (fixed_of A.meaning rules.now).start.ids ≤ things_room self.old }
+        ensures view { view_of self.new ≡ steps.view_after_list (fixed_of A.meaning rules.now) node
             self.old.queues.plan.items word (view_of self.old) }
+        ensures things { things_room self.new ≡ things_room self.old }
     {
         self.queues.players = players_of(word, self.hand().slot);
         self.lists.insert(0, ListRead { node, word });
@@ -132,8 +138,10 @@ impl Seat {
         requires whole { length words ≡ 6 }
         requires player { HasPlayer ((A.meaning rules.now.action).takes)
             (record_read (hand_of self.old.cmd).slot self.old.own.items) (hand_of self.old.cmd) }
-        ensures { view_of self.new ≡ steps.player_loaded (fixed_of A.meaning rules.now) node
+        requires things { length (fixed_of A.meaning rules.now).start.ids ≤ things_room self.old }
+        ensures view { view_of self.new ≡ steps.player_loaded (fixed_of A.meaning rules.now) node
             words slot self.old.queues.players.items self.old.queues.plan.items (view_of self.old) }
+        ensures things { things_room self.new ≡ things_room self.old }
     {
         drop_read(&mut self.others, slot);
         self.others.insert(0, PlayerRead { slot, words });
@@ -142,18 +150,20 @@ impl Seat {
 
     /// The state of a thing was loaded, which was the first of those that were left.
     fn load_state(&mut self, id: u16, word: u64)
-        requires { length self.old.states.items < IDS }
-        ensures { view_of self.new
-            ≡ steps.view_after_state id word self.old.queues.ids.items (view_of self.old) }
+        requires { length self.old.queues.things.states < things_room self.old }
+        ensures view { view_of self.new
+            ≡ steps.view_after_state id word self.old.queues.things.ids (view_of self.old) }
+        ensures things { things_room self.new ≡ things_room self.old }
     {
-        self.states.insert(0, NewState { id, state: word });
+        self.queues.things.push_state(NewState { id, state: word });
         self.sensing();
     }
 
     /// The command that was given, if any, enters the view with the first word of the own record.
     pub(crate) fn begin_given(&mut self, word: u64)
-        ensures { (c : Command) → given_of self.old ≡ Some c
+        ensures view { (c : Command) → given_of self.old ≡ Some c
             → view_of self.new ≡ steps.view_after_begin c word (view_of self.old) }
+        ensures things { things_room self.new ≡ things_room self.old }
     {
         if let Some(cmd) = self.given {
             self.begin(cmd, word);
@@ -165,9 +175,11 @@ impl Seat {
         requires room { length self.old.lists.items < MOST_NODES }
         requires player { HasPlayer ((A.meaning rules.now.action).takes)
             (record_read (hand_of self.old.cmd).slot self.old.own.items) (hand_of self.old.cmd) }
-        ensures { (node : ℕ) (plan : List ℕ) → (view_of self.old).point ≡ views.Entered node plan → view_of self.new
+        requires things { length (fixed_of A.meaning rules.now).start.ids ≤ things_room self.old }
+        ensures view { (node : ℕ) (plan : List ℕ) → (view_of self.old).point ≡ views.Entered node plan → view_of self.new
             ≡ steps.view_after_list (fixed_of A.meaning rules.now) node plan word
             (view_of self.old) }
+        ensures things { things_room self.new ≡ things_room self.old }
     {
         if let Point::Entered { node } = self.point {
             self.load_list(rules, node, word);
@@ -187,11 +199,13 @@ impl Seat {
             → length (filter (λ (r : PlayerRead). not (r.slot == slot)) self.old.others.items) < 64 }
         requires player { HasPlayer ((A.meaning rules.now.action).takes)
             (record_read (hand_of self.old.cmd).slot self.old.own.items) (hand_of self.old.cmd) }
-        ensures { (node slot : ℕ) (part players plan : List ℕ)
+        requires things { length (fixed_of A.meaning rules.now).start.ids ≤ things_room self.old }
+        ensures view { (node slot : ℕ) (part players plan : List ℕ)
             → (view_of self.old).point ≡ views.Loading node part (slot ∷ players) plan
             → view_of self.new ≡ steps.player_loaded (fixed_of A.meaning rules.now) node
             (part ++ word ∷ []) slot players plan
             (view_of self.old) }
+        ensures things { things_room self.new ≡ things_room self.old }
     {
         let Point::Loading { node } = self.point else {
             return;
@@ -207,11 +221,12 @@ impl Seat {
 
     /// The state of the first of the things that are left was loaded.
     pub(crate) fn read_state(&mut self, word: u64)
-        requires { length self.old.states.items < IDS }
-        ensures { (id : ℕ) (ids : List ℕ) → (view_of self.old).point ≡ views.Sensing (id ∷ ids) → view_of self.new
+        requires { length self.old.queues.things.states < things_room self.old }
+        ensures view { (id : ℕ) (ids : List ℕ) → (view_of self.old).point ≡ views.Sensing (id ∷ ids) → view_of self.new
             ≡ steps.view_after_state id word ids (view_of self.old) }
+        ensures things { things_room self.new ≡ things_room self.old }
     {
-        if let (Point::Sensing, Some(id)) = (self.point, self.queues.ids.pop_first()) {
+        if let (Point::Sensing, Some(id)) = (self.point, self.queues.things.next_id()) {
             self.load_state(id, word);
         }
     }

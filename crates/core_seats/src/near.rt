@@ -1,4 +1,4 @@
-ghost use Rattle.std.specs.Prelude.{◌≡◌, ◌≤◌, ℕ, [], map, filter, length, slice_index_or, true, false, None};
+ghost use Rattle.std.specs.Prelude.{◌≡◌, ◌≤◌, ℕ, [], map, filter, length, slice_index_or, true, false, vec_capacity, None};
 ghost use Rattle.core_steps.specs.Views.{player_at};
 ghost use Rattle.std.specs.List.{filter_map};
 ghost use Rattle.entity_recs.specs.declared.rec.Rec.{Rec};
@@ -8,8 +8,6 @@ ghost use Rattle.core_seats.specs.Seats.{player_read_of};
 ghost use Rattle.core_seats.specs.NearRecords as near;
 
 use crate::boxes::touches_region;
-use crate::point::IdQueue;
-use crate::queue::Queue;
 use crate::reading::read_record;
 use crate::reads::{player_words, thing_state};
 use crate::seat::PlayerRead;
@@ -31,19 +29,19 @@ fn is_touched_thing(r: &Rec, region: &Region) -> bool
     r.id >= 64 && touches_region(r, region)
 }
 
-/// The ids of the things of the map among these records whose absolute box touches a region, in the order of the
-/// records.
-pub fn things_of(start: &[Rec], region: &Region) -> IdQueue
-    requires { length start.now ≤ IDS }
-    ensures { result.items ≡ map (λ (r : Rec). r.id) (filter (near.is_touched_thing region.now) start.now) }
+/// Puts into an empty list the ids of the things of the map among these records whose absolute box touches a region, in
+/// the order of the records. It takes no memory.
+pub fn put_things(start: &[Rec], region: &Region, ids: &mut Vec<u16>)
+    requires empty { ids.old.items ≡ [] }
+    requires room { length start.now ≤ vec_capacity ids.old }
+    ensures ids { ids.new.items ≡ map (λ (r : Rec). r.id) (filter (near.is_touched_thing region.now) start.now) }
+    ensures room { vec_capacity ids.new ≡ vec_capacity ids.old }
 {
-    let mut ids = Queue::new();
     for r in start {
         if is_touched_thing(r, region) {
-            ids.push(r.id);
+            ids.push_reserved(r.id);
         }
     }
-    ids
 }
 
 /// The record as it was loaded, where it was: a player's as it was loaded last, a thing's with the state that was
@@ -133,10 +131,11 @@ pub fn put_near(
     states: &[NewState],
     list: &mut NearList,
 )
-    requires few { length start.now ≤ IDS }
-    requires empty { list.old ≡ [] }
-    ensures { list.new ≡ filter_map (near.near_one region.now slot (map player_read_of others.now) states.now)
-        start.now }
+    requires room { length start.now ≤ list.old.room }
+    requires empty { list.old.items ≡ [] }
+    ensures records { list.new.items
+        ≡ filter_map (near.near_one region.now slot (map player_read_of others.now) states.now) start.now }
+    ensures room { list.new.room ≡ list.old.room }
 {
     let slots = slots_read(others);
     for r in start {

@@ -92,10 +92,12 @@ fn near_player(six: &[[u64; 6]; 64], slot: u8, region: &Region) -> Option<Rec>
 
 /// Puts the records of the words kept of these slots that touch a region into an empty list, in rising slot.
 fn put_slots(slots: u64, six: &[[u64; 6]; 64], region: &Region, list: &mut NearList)
-    requires { list.old ≡ [] }
-    ensures records { list.new ≡ filter_map (near_player region.now six.now)
+    requires empty { list.old.items ≡ [] }
+    requires room { 64 ≤ list.old.room }
+    ensures records { list.new.items ≡ filter_map (near_player region.now six.now)
         (filter (has_bit slots) (range_with_len 0 64)) }
-    ensures few { length list.new ≤ 64 }
+    ensures few { length list.new.items ≤ 64 }
+    ensures room { list.new.room ≡ list.old.room }
 {
     let mut rest = slots;
     while rest != 0 {
@@ -115,7 +117,7 @@ impl<'a, A: Action> Rules<'a, A> {
     ghost use Rattle.core_seats.specs.Shown.{fixed_of};
 
     /// Puts the records of the words kept of live players but this one that touch a region into an empty list, in rising
-    /// slot.
+    /// slot. The list has room for all players.
     pub fn put_players(
         &self,
         seen: u64,
@@ -125,10 +127,12 @@ impl<'a, A: Action> Rules<'a, A> {
         list: &mut NearList,
     )
         requires slot { slot < 64 }
-        requires empty { list.old ≡ [] }
-        ensures players { list.new
+        requires empty { list.old.items ≡ [] }
+        requires room { 64 ≤ list.old.room }
+        ensures players { list.new.items
             ≡ players_kept (fixed_of A.meaning self.now) region.now slot seen six.now }
-        ensures few { length list.new ≤ 64 }
+        ensures few { length list.new.items ≤ 64 }
+        ensures room { list.new.room ≡ list.old.room }
     {
         put_slots(without_bit(seen & self.players, slot), six, region, list);
     }

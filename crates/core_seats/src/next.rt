@@ -44,7 +44,7 @@ fn next_store_step(number: u8, stores: &[Store]) -> Option<Step>
 }
 
 impl Seat {
-    ghost use Rattle.std.specs.Prelude.{◌≡◌, ℕ, List, true, Some};
+    ghost use Rattle.std.specs.Prelude.{◌≡◌, ◌≤◌, ℕ, List, length, true, Some};
     ghost use Rattle.std.specs.Option.{option_map};
     ghost use Rattle.entity_recs.specs.declared.effect.Effect.{Effect};
     ghost use Rattle.entity_recs.specs.Records.{IsRecord};
@@ -60,18 +60,13 @@ impl Seat {
     ghost use Rattle.core_seats.specs.Ready.{IsReady, effect_due};
 
     /// The effect that the action gives on what was loaded, where all is read and the effect enters the view with the
-    /// next step; else none.
-    pub fn resolved<A: Action>(&self, rules: &Rules<A>) -> Option<Effect>
-        requires { IsSound (fixed_of A.meaning rules.now) (view_of self.now) }
-        ensures { result ≡ effect_due (fixed_of A.meaning rules.now) (view_of self.now) }
-    {
-        self.resolved_in(rules, &mut NearList::new())
-    }
-
-    /// As [`Seat::resolved`], with a list that is emptied and then holds the records that the action is given.
-    pub fn resolved_in<A: Action>(&self, rules: &Rules<A>, near: &mut NearList) -> Option<Effect>
-        requires { IsSound (fixed_of A.meaning rules.now) (view_of self.now) }
-        ensures { result ≡ effect_due (fixed_of A.meaning rules.now) (view_of self.now) }
+    /// next step; else none. The list is emptied, and then holds the records that the action is given; it has room for
+    /// all records of the start.
+    pub fn resolved<A: Action>(&self, rules: &Rules<A>, near: &mut NearList) -> Option<Effect>
+        requires sound { IsSound (fixed_of A.meaning rules.now) (view_of self.now) }
+        requires room { length (fixed_of A.meaning rules.now).start.ids ≤ near.old.room }
+        ensures effect { result ≡ effect_due (fixed_of A.meaning rules.now) (view_of self.now) }
+        ensures room { near.new.room ≡ near.old.room }
     {
         match self.point {
             Point::Resolving => Some(self.effect_on_loaded(rules, near)),
@@ -140,7 +135,7 @@ impl Seat {
                 self.queues.part.len(),
             ),
             Point::Leaving { node } => Some(node_step(number, node, StepKind::GiveBack)),
-            Point::Sensing => state_step(number, self.queues.ids.as_slice()),
+            Point::Sensing => state_step(number, self.queues.things.ids()),
             Point::Resolving => self.resolved_step(rules, number, effect),
             Point::Claiming => self.claim_step(number, self.queues.rest.as_slice()),
             Point::Storing => next_store_step(number, self.queues.stores.as_slice()),
@@ -157,7 +152,8 @@ impl Seat {
             ),
         }
     }
-    /// The effect that the action gives on what was loaded.
+
+    /// The effect that the action gives on what was loaded, of which the records are put into the list.
     fn effect_on_loaded<A: Action>(&self, rules: &Rules<A>, near: &mut NearList) -> Effect
         requires call { IsCall ((A.meaning rules.now.action).takes) (record_read (view_of self.now).cmd.slot
             (view_of self.now).again)
@@ -165,7 +161,9 @@ impl Seat {
             (view_of self.now).cmd }
         requires own { HasPlayer ((A.meaning rules.now.action).takes) (record_read (view_of self.now).cmd.slot
             (view_of self.now).own) (view_of self.now).cmd }
-        ensures { result ≡ effect_loaded (fixed_of A.meaning rules.now) (view_of self.now) }
+        requires room { length (fixed_of A.meaning rules.now).start.ids ≤ near.old.room }
+        ensures effect { result ≡ effect_loaded (fixed_of A.meaning rules.now) (view_of self.now) }
+        ensures room { near.new.room ≡ near.old.room }
     {
         let cmd = self.hand();
         let region = rules.region(&cmd, self.own.as_slice());
@@ -174,7 +172,7 @@ impl Seat {
             &region,
             cmd.slot,
             self.others.as_slice(),
-            self.states.as_slice(),
+            self.queues.things.states(),
             near,
         );
         rules.act(&self.before(), near.as_slice(), &cmd)

@@ -1,15 +1,15 @@
-use crate::point::{IdQueue, Point};
+use crate::point::Point;
 use crate::rules::Rules;
 use crate::seat::Seat;
 use entity_recs::{Action, Cmd};
 
 impl Seat {
-    ghost use Rattle.std.specs.Prelude.{◌≡◌, map};
+    ghost use Rattle.std.specs.Prelude.{◌≡◌, ◌≤◌, length, map};
     ghost use Rattle.entity_recs.specs.Actions.{HasPlayer, IsCommand};
     ghost use Rattle.core_steps.specs.Views.{record_read, things_in, region_in};
     ghost use Rattle.core_steps.specs.Steps as steps;
     ghost use Rattle.core_seats.specs.Points.{store_of};
-    ghost use Rattle.core_seats.specs.Seats.{view_of, hand_of};
+    ghost use Rattle.core_seats.specs.Seats.{view_of, things_room, hand_of};
     ghost use Rattle.core_seats.specs.Shown.{fixed_of};
 
     /// The command in hand.
@@ -20,22 +20,29 @@ impl Seat {
         self.cmd.unwrap()
     }
 
-    /// The things of the map that touch the region of the command in hand.
-    fn things<A: Action>(&self, rules: &Rules<A>) -> IdQueue
-        requires { HasPlayer ((A.meaning rules.now.action).takes) (record_read (hand_of self.now.cmd).slot self.now.own.items)
-            (hand_of self.now.cmd) }
-        ensures { let F = fixed_of A.meaning rules.now in
-            result.items ≡ things_in F (region_in F (hand_of self.now.cmd) self.now.own.items) }
+    /// The things of the map that touch the region of the command in hand are those whose states are to be loaded.
+    fn list_things<A: Action>(&mut self, rules: &Rules<A>)
+        requires player { HasPlayer ((A.meaning rules.now.action).takes)
+            (record_read (hand_of self.old.cmd).slot self.old.own.items) (hand_of self.old.cmd) }
+        requires things { length (fixed_of A.meaning rules.now).start.ids ≤ things_room self.old }
+        ensures { let F = fixed_of A.meaning rules.now in self.new ≡ record self.old {
+          queues = record self.old.queues {
+            things = record self.old.queues.things {
+              ids = things_in F (region_in F (hand_of self.old.cmd) self.old.own.items);
+            };
+          };
+        } }
     {
         let region = rules.region(&self.hand(), self.own.as_slice());
-        rules.things(&region)
+        rules.list_things(&region, &mut self.queues.things);
     }
 
     /// The states of the things that are left are to be loaded, if any.
     pub(crate) fn sensing(&mut self)
-        ensures { view_of self.new ≡ record (view_of self.old) { point = steps.sensing self.old.queues.ids.items } }
+        ensures view { view_of self.new ≡ record (view_of self.old) { point = steps.sensing self.old.queues.things.ids } }
+        ensures things { things_room self.new ≡ things_room self.old }
     {
-        self.point = if self.queues.ids.is_empty() {
+        self.point = if self.queues.things.ids().is_empty() {
             Point::Resolving
         } else {
             Point::Sensing
@@ -44,8 +51,9 @@ impl Seat {
 
     /// The leaves that are left are to be taken, if any.
     pub(crate) fn taking(&mut self)
-        ensures { view_of self.new
+        ensures view { view_of self.new
             ≡ record (view_of self.old) { point = steps.taking self.old.queues.got.items self.old.queues.rest.items } }
+        ensures things { things_room self.new ≡ things_room self.old }
     {
         self.point = if self.queues.rest.is_empty() {
             Point::Checking
@@ -56,8 +64,9 @@ impl Seat {
 
     /// The stores that are left are owed, if any; then the write nodes are given back.
     pub(crate) fn storing(&mut self)
-        ensures { view_of self.new ≡ record (view_of self.old)
+        ensures view { view_of self.new ≡ record (view_of self.old)
             { point = steps.storing self.old.queues.got.items (map store_of self.old.queues.stores.items) } }
+        ensures things { things_room self.new ≡ things_room self.old }
     {
         self.point = if self.queues.stores.is_empty() {
             Point::Releasing
@@ -68,16 +77,18 @@ impl Seat {
 
     /// The next node of the plan is visited, if any; else the things of the map come.
     pub(crate) fn visit_next<A: Action>(&mut self, rules: &Rules<A>)
-        requires { HasPlayer ((A.meaning rules.now.action).takes)
+        requires player { HasPlayer ((A.meaning rules.now.action).takes)
             (record_read (hand_of self.old.cmd).slot self.old.own.items) (hand_of self.old.cmd) }
-        ensures { view_of self.new ≡ record (view_of self.old) {
+        requires things { length (fixed_of A.meaning rules.now).start.ids ≤ things_room self.old }
+        ensures view { view_of self.new ≡ record (view_of self.old) {
           point = steps.visiting
               (fixed_of A.meaning rules.now) (view_of self.old) self.old.queues.plan.items;
         } }
+        ensures things { things_room self.new ≡ things_room self.old }
     {
         match self.queues.plan.pop_first() {
             None => {
-                self.queues.ids = self.things(rules);
+                self.list_things(rules);
                 self.sensing();
             }
             Some(node) if rules.is_leaf(node) => self.point = Point::Entered { node },
@@ -87,13 +98,15 @@ impl Seat {
 
     /// The players that are left are loaded under the node, if any; else it is left.
     pub(crate) fn load_under<A: Action>(&mut self, rules: &Rules<A>, node: u8)
-        requires { HasPlayer ((A.meaning rules.now.action).takes)
+        requires player { HasPlayer ((A.meaning rules.now.action).takes)
             (record_read (hand_of self.old.cmd).slot self.old.own.items) (hand_of self.old.cmd) }
-        ensures { view_of self.new ≡ record (view_of self.old) {
+        requires things { length (fixed_of A.meaning rules.now).start.ids ≤ things_room self.old }
+        ensures view { view_of self.new ≡ record (view_of self.old) {
           point = steps.loading
               (fixed_of A.meaning rules.now) (view_of self.old) node self.old.queues.players.items
               self.old.queues.plan.items;
         } }
+        ensures things { things_room self.new ≡ things_room self.old }
     {
         if !self.queues.players.is_empty() {
             self.queues.part.clear();

@@ -1,16 +1,14 @@
 use crate::queue::Queue;
+use crate::thing_reads::ThingReads;
 use areanode::MOST_NODES;
 use arrayvec::ArrayVec;
-use entity_recs::IDS;
+use std::alloc::{AllocError, Global};
 
 /// A list of nodes, each at most once.
 pub type NodeQueue = Queue<u8, MOST_NODES>;
 
 /// A list of players' slots, each at most once.
 pub type SlotQueue = Queue<u8, 64>;
-
-/// A list of ids, each at most once.
-pub type IdQueue = Queue<u16, IDS>;
 
 /// The words of a record that were loaded: a player's five, then the state word.
 pub type WordList = ArrayVec<u64, 6>;
@@ -49,8 +47,8 @@ impl Default for Store {
     }
 }
 
-/// The lists that a seat's point speaks of. In each the first comes next. Where the point doesn't speak of a list, it
-/// holds whatever was left in it.
+/// The lists that a seat's point speaks of, and the states of things that are loaded. In each list the first comes next.
+/// Where the point doesn't speak of a list, it holds whatever was left in it.
 #[derive(Drop)]
 pub struct Queues {
     /// The nodes that are held: leaves while leaves are taken, and else inner nodes.
@@ -63,28 +61,29 @@ pub struct Queues {
     pub part: WordList,
     /// The players that are loaded under the present node.
     pub players: SlotQueue,
-    /// The things of the map whose states are to be loaded.
-    pub ids: IdQueue,
+    /// The states of things of the map that are loaded, and the things whose states are to be loaded.
+    pub things: ThingReads,
     /// The stores that are owed.
     pub stores: StoreQueue,
 }
 
 impl Queues {
+    ghost use Rattle.std.specs.Prelude.{IfOk};
     ghost use Rattle.core_seats.specs.Points.{AreEmpty};
 
-    /// Empty lists.
-    pub fn new() -> Queues
-        ensures { AreEmpty result }
+    /// Empty lists, with room for the states of `things` things. The only error is that memory is refused.
+    pub fn new(alloc: Global, things: usize) -> Result<Queues, AllocError>
+        ensures { IfOk result (AreEmpty things) }
     {
-        Queues {
+        Ok(Queues {
             got: Queue::new(),
             rest: Queue::new(),
             plan: Queue::new(),
             part: ArrayVec::new(),
             players: Queue::new(),
-            ids: Queue::new(),
+            things: ThingReads::new(alloc, things)?,
             stores: Queue::new(),
-        }
+        })
     }
 }
 
@@ -107,7 +106,7 @@ pub enum Point {
     Loading { node: u8 },
     /// This inner node is to be given back.
     Leaving { node: u8 },
-    /// The states of the things `ids` of the map are to be loaded.
+    /// The states of the things `things.ids` of the map are to be loaded.
     Sensing,
     /// All is read: the effect enters the view with the next step.
     Resolving,

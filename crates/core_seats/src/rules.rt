@@ -2,13 +2,14 @@ ghost use Rattle.std.specs.Prelude.{◌≡◌};
 ghost use Rattle.areanode.specs.Trees.{IsTreeDepth};
 
 use crate::lists::{bits_below, first_leaf, inner_among, joined, leaf_nodes, leaf_word};
-use crate::near::{put_near, things_of};
+use crate::near::put_near;
 use crate::near_kept::{count_players, player_bits};
-use crate::point::{IdQueue, NodeQueue};
+use crate::point::NodeQueue;
 use crate::reading::read_record;
 use crate::records::find_record;
 use crate::seat::PlayerRead;
 use crate::strips::ThingIndex;
+use crate::thing_reads::ThingReads;
 use areanode::Tree;
 use arena_geo::Region;
 use core_steps::NODE_HOLDERS;
@@ -54,6 +55,7 @@ fn has_its_depth(tree: &Tree)
 impl<'a, A: Action> Rules<'a, A> {
     ghost use Rattle.std.specs.Prelude.{◌≡◌, ◌<◌, ◌≤◌, ◌+◌, ◌*◌, ◌%◌, ◌^◌, List, [], suc, map, length, All, OnOk, IfOk};
     ghost use Rattle.std.specs.Prelude.{if◌then◌else◌};
+    ghost use Rattle.entity_recs.specs.declared.limits.TheConstants.{IDS};
     ghost use Rattle.entity_recs.specs.Actions.{HasPlayer, IsCall};
     ghost use Rattle.entity_recs.specs.Records.{IsRecord};
     ghost use Rattle.entity_recs.specs.Commands.{command_of};
@@ -123,7 +125,8 @@ impl<'a, A: Action> Rules<'a, A> {
 
     /// How many records live at the start.
     pub fn count_records(&self) -> usize
-        ensures { result ≡ length (fixed_of A.meaning self.now).start.ids }
+        ensures value { result ≡ length (fixed_of A.meaning self.now).start.ids }
+        ensures few { result ≤ IDS }
     {
         self.start.len()
     }
@@ -211,14 +214,18 @@ impl<'a, A: Action> Rules<'a, A> {
         inner_among(&self.tree, a, b)
     }
 
-    /// The ids of the things of the map whose absolute box touches a region, rising.
-    pub fn things(&self, region: &Region) -> IdQueue
-        ensures { result.items ≡ things_in (fixed_of A.meaning self.now) region.now }
+    /// The things of the map whose absolute box touches a region are those whose states are to be loaded, in rising id, in
+    /// place of those that were.
+    pub fn list_things(&self, region: &Region, things: &mut ThingReads)
+        requires { length (fixed_of A.meaning self.now).start.ids ≤ things.old.room }
+        ensures { things.new
+            ≡ record things.old { ids = things_in (fixed_of A.meaning self.now) region.now } }
     {
-        things_of(self.start.as_slice(), region)
+        things.list_things(self.start.as_slice(), region);
     }
 
-    /// Puts the records loaded that touch a region, but this player's, into an empty list, in rising id.
+    /// Puts the records loaded that touch a region, but this player's, into an empty list, in rising id. It has room for
+    /// all records of the start.
     pub fn near(
         &self,
         region: &Region,
@@ -227,9 +234,11 @@ impl<'a, A: Action> Rules<'a, A> {
         states: &[NewState],
         list: &mut NearList,
     )
-        requires { list.old ≡ [] }
-        ensures { list.new ≡ near_loaded (fixed_of A.meaning self.now) region.now slot
+        requires empty { list.old.items ≡ [] }
+        requires room { length (fixed_of A.meaning self.now).start.ids ≤ list.old.room }
+        ensures records { list.new.items ≡ near_loaded (fixed_of A.meaning self.now) region.now slot
             (map player_read_of others.now) states.now }
+        ensures room { list.new.room ≡ list.old.room }
     {
         put_near(self.start.as_slice(), region, slot, others, states, list);
     }

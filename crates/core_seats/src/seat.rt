@@ -4,7 +4,7 @@ use crate::queue::Queue;
 use crate::refusals::Refusals;
 use areanode::MOST_NODES;
 use arrayvec::ArrayVec;
-use entity_recs::{Cmd, Effect, Entry, IDS, NewState};
+use entity_recs::{Cmd, Effect, Entry};
 use std::alloc::{AllocError, Global};
 
 /// The word of a node's list that was loaded.
@@ -53,8 +53,6 @@ pub struct Seat {
     pub lists: ArrayVec<ListRead, MOST_NODES>,
     /// The words of other players that are loaded.
     pub others: ArrayVec<PlayerRead, 64>,
-    /// The states of things of the map that are loaded.
-    pub states: ArrayVec<NewState, IDS>,
     /// The effect of the command, once it is in view.
     pub effect: Option<Effect>,
     /// The command that was given and isn't begun.
@@ -67,12 +65,13 @@ impl Seat {
     ghost use Rattle.std.specs.Prelude.{◌≡◌, ◌<◌, ◌-◌, ◌^◌, suc, [], ◌∷◌, ◌++◌, length, IfOk, OnOk};
     ghost use Rattle.core_steps.specs.Views.{new_view, without_command};
     ghost use Rattle.entity_recs.specs.Commands.{command_of};
-    ghost use Rattle.core_seats.specs.Seats.{view_of, IsFresh};
+    ghost use Rattle.core_seats.specs.Seats.{view_of, things_room, IsFresh};
 
-    /// A seat without a command and with room for this many entries. `made` is how many seats are made from it: with
-    /// itself, all for the first seat, and 0 for the others.
-    pub fn new(alloc: Global, room: u32, made: u8) -> Result<Seat, AllocError>
-        ensures { IfOk result (IsFresh room made) }
+    /// A seat without a command and with room for `room` entries and for the states of `things` things of the map. `made`
+    /// is how many seats are made from it: with itself, all for the first seat, and 0 for the others. The only error is
+    /// that memory is refused.
+    pub fn new(alloc: Global, room: u32, made: u8, things: usize) -> Result<Seat, AllocError>
+        ensures { IfOk result (IsFresh room made things) }
     {
         Ok(Seat {
             seen: 0,
@@ -81,13 +80,12 @@ impl Seat {
             made,
             cmd: None,
             point: Point::Idle,
-            queues: Queues::new(),
+            queues: Queues::new(alloc, things)?,
             own: ArrayVec::new(),
             wanted: Queue::new(),
             again: ArrayVec::new(),
             lists: ArrayVec::new(),
             others: ArrayVec::new(),
-            states: ArrayVec::new(),
             effect: None,
             given: None,
             quits: false,
@@ -99,6 +97,7 @@ impl Seat {
         ensures view { view_of self.new ≡ without_command (view_of self.old) }
         ensures given { self.new.given ≡ self.old.given }
         ensures quits { self.new.quits ≡ self.old.quits }
+        ensures things { things_room self.new ≡ things_room self.old }
     {
         self.cmd = None;
         self.point = Point::Idle;
@@ -107,7 +106,7 @@ impl Seat {
         self.again.clear();
         self.lists.clear();
         self.others.clear();
-        self.states.clear();
+        self.queues.things.forget_states();
         self.effect = None;
     }
 
@@ -121,6 +120,7 @@ impl Seat {
         } }
         ensures given { self.new.given ≡ self.old.given }
         ensures quits { self.new.quits ≡ self.old.quits }
+        ensures things { things_room self.new ≡ things_room self.old }
     {
         self.seen = entry.place + 1;
         self.log.push(cmd, entry);

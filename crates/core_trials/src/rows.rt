@@ -192,8 +192,9 @@ fn take_turns<A: Action>(core: &mut Core<A>)
 }
 
 /// Neither of two seats has a command in hand.
-fn expect_at_rest<A: Action>(rt: &impl Abort, core: &Core<A>)
-    requires { length core.now.seats ≡ 2 }
+fn expect_at_rest<A: Action>(rt: &impl Abort, core: &mut Core<A>)
+    requires { length core.old.seats ≡ 2 }
+    ensures { length core.new.seats ≡ length core.old.seats }
 {
     assert_eq!(rt; core.next_step(0), None);
     assert_eq!(rt; core.next_step(1), None);
@@ -203,7 +204,7 @@ fn expect_at_rest<A: Action>(rt: &impl Abort, core: &Core<A>)
 fn far_seats_take_turns(rt: HostRuntime) -> Result<(), Fail> {
     let mut core = begun(rt.alloc(), &Staying, 4, &[FIRST, FAR_AT_ONE], &[1, 1], 0)?;
     take_turns(&mut core);
-    expect_at_rest(&rt, &core);
+    expect_at_rest(&rt, &mut core);
     expect_in_turn(&rt, &core, FIRST.origin, FAR_AT_ONE.origin);
     Ok(())
 }

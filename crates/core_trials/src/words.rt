@@ -47,7 +47,7 @@ fn words_of_near() -> Words {
 
 /// A seat that has begun its command, and loaded the first word of its own record.
 fn begun_seat(alloc: Global) -> Result<Seat, AllocError> {
-    let mut seat = Seat::new(alloc, 1, 1)?;
+    let mut seat = Seat::new(alloc, 1, 1, 1)?;
     seat.begin(PLAIN, words_of_near().of_player(1, 0));
     Ok(seat)
 }

@@ -1,5 +1,5 @@
 -- A pass after its step: the seat in plain values makes the step that its hand has made.
-use Rattle.std.proofs.Common.{◌≡◌, ℕ, true, false, sym, ap, ◌∙◌, subst, Option, None, is_some}
+use Rattle.std.proofs.Common.{◌≡◌, ℕ, ◌+◌, ◌≤◌, length, arith, true, false, sym, ap, ◌∙◌, subst, Option, None, is_some}
 use Rattle.std.specs.Option.{option_map}
 use Rattle.atomic_table.specs.Seated.{TableId}
 use Rattle.entity_recs.specs.declared.effect.Effect.{Effect}
@@ -8,10 +8,13 @@ use Rattle.core_seats.specs.Going.{view_found}
 use Rattle.entity_recs.specs.Commands.{command_of}
 use Rattle.core_seats.specs.declared.seat.Seat as mirrors
 use Rattle.core_seats.specs.Ready.{is_resolving}
-use Rattle.core_seats.specs.Seats.{view_of}
+use Rattle.core_seats.specs.Seats.{view_of, things_room}
 use Rattle.ruled_words.specs.Hands.{pass_view}
 use Rattle.ruled_words.specs.Passes.{PassView, effect_kept, next_of_pass, pass_after, IsPassOf, HasGone}
+use Rattle.world_tree.specs.Nears.{NearView}
+use Rattle.ruled_words.specs.declared.setting.Setting.{Setting}
 use Rattle.region_locks.specs.Following.{CanFollow}
+use Rattle.region_locks.specs.PassLists.{HasItsLists}
 use Rattle.ruled_words.proofs.Owns.{own_after}
 use Rattle.core_seats.specs.Nexts.{the_next}
 
@@ -68,3 +71,40 @@ module _ (F G : Fixed) (passes : ℕ) (table : TableId) (p : PassView) (found : 
         pass = pass;
         own = subst (IsPassOf F passes table) (sym pass) (own_after F passes table p found own comes gone.sound_sight);
       }
+
+-- how many records a pass knows of are those of the start
+records_are : (F : Fixed) (passes : ℕ) (table : TableId) (p hand : PassView) (mirror : mirrors.Seat) (effect : Option Effect)
+    → pass_view hand mirror effect ≡ p → IsPassOf F passes table p → hand.setting.records ≡ length F.start.ids
+records_are F passes table p hand mirror effect is own = ap (λ (q : PassView). q.setting.records) is ∙ ap (λ (s : Setting). s.records) own.at_setting
+
+-- the seat in plain values has room for the states of all things
+pub things_room_for : (F G : Fixed) (passes : ℕ) (table : TableId) (p hand : PassView) (mirror : mirrors.Seat) (effect : Option Effect) (near : NearView)
+    → G ≡ F → pass_view hand mirror effect ≡ p → IsPassOf F passes table p → HasItsLists hand mirror near → length G.start.ids ≤ things_room mirror
+things_room_for F G passes table p hand mirror effect near same is own lists =
+    let records = records_are F passes table p hand mirror effect is own in
+    let all = ap (λ (H : Fixed). length H.start.ids) same in
+    let fits = lists.things_fit in
+    omega (arith, records, all, fits)
+
+-- the near list has room for all that a move can touch
+pub near_room_for : (F : Fixed) (passes : ℕ) (table : TableId) (p hand : PassView) (mirror : mirrors.Seat) (effect : Option Effect) (near : NearView)
+    → pass_view hand mirror effect ≡ p → IsPassOf F passes table p → HasItsLists hand mirror near → 64 + length F.start.ids ≤ near.room
+near_room_for F passes table p hand mirror effect near is own lists =
+    let records = records_are F passes table p hand mirror effect is own in
+    let fits = lists.near_fits in
+    omega (arith, records, fits)
+
+-- the lists have their room after the step
+pub lists_kept : (F : Fixed) (passes : ℕ) (table : TableId) (p : PassView) (found : ℕ) (old new : PassView) (mirror after : mirrors.Seat) (effect effect_after : Option Effect) (near : NearView)
+    → pass_view old mirror effect ≡ p → IsPassOf F passes table p → HasItsLists old mirror near → Stepped F passes table p found new after effect_after
+    → things_room after ≡ things_room mirror → HasItsLists new after near
+lists_kept F passes table p found old new mirror after effect effect_after near is own lists stepped_to kept =
+    let before = records_are F passes table p old mirror effect is own in
+    let records = ap (λ (s : Setting). s.records) stepped_to.own.at_setting in
+    let things = lists.things_fit in
+    let fits = lists.near_fits in
+    record {
+      mirrors = stepped_to.mirrors;
+      things_fit = omega (arith, before, records, things, kept);
+      near_fits = omega (arith, before, records, fits);
+    }

@@ -1,6 +1,7 @@
 -- A pass, what each call does to it, and what a move leaves of it.
 pub mod NextCalls
 pub mod NewPasses
+pub mod PassLists
 pub mod Following
 pub mod Turns
 pub mod Pursuits

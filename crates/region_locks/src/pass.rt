@@ -1,5 +1,5 @@
-ghost use Rattle.std.specs.Prelude.{◌≡◌, false, None};
-ghost use Rattle.core_seats.specs.Seats.{view_of};
+ghost use Rattle.std.specs.Prelude.{◌≡◌, ◌≤◌, ◌+◌, false, None};
+ghost use Rattle.core_seats.specs.Seats.{view_of, things_room};
 ghost use Rattle.ruled_words.specs.Passes.{sight_of};
 ghost use Rattle.ruled_words.specs.Sights.{no_tally};
 ghost use Rattle.region_locks.specs.NewPasses.{new_pass};
@@ -25,8 +25,7 @@ pub struct Pass<A> {
 // What the place at the table has in view is known to clauses alone, so the pass keeps the same in plain values.
 impl<A> Model for Pass<A> {
     ghost use Rattle.ruled_words.specs.Passes.{PassView};
-    ghost use Rattle.std.specs.Prelude.{◌≡◌};
-    ghost use Rattle.core_seats.specs.Seats.{view_of};
+    ghost use Rattle.region_locks.specs.PassLists.{HasItsLists};
 
     ghost Value = { PassView };
 
@@ -34,22 +33,25 @@ impl<A> Model for Pass<A> {
 
     ghost view = { λ p. pass_view p.hand p.mirror p.effect };
 
-    ghost invariant = { λ p. view_of p.mirror ≡ p.hand.view };
+    ghost invariant = { λ p. HasItsLists p.hand p.mirror p.near };
 }
 
 impl<A> Pass<A> {
-    /// The pass of a hand that rests, with the same seat in plain values.
-    pub(crate) fn resting(hand: Hand, mirror: Seat) -> Pass<A>
+    /// The pass of a hand that rests, with the same seat in plain values and a near list of its own, in which there is
+    /// room for all that a move can touch.
+    pub(crate) fn resting(hand: Hand, mirror: Seat, near: NearList) -> Pass<A>
         requires tally { hand.tally ≡ no_tally }
         requires mirrors { view_of mirror ≡ hand.view }
         requires rests { (mirror.given ≡ None) × (mirror.quits ≡ false) }
+        requires things { hand.setting.records ≤ things_room mirror }
+        requires near { 64 + hand.setting.records ≤ near.room }
         ensures { result ≡ new_pass hand.table hand.setting hand.number hand.view }
     {
         Pass {
             hand,
             mirror,
             effect: None,
-            near: NearList::new(),
+            near,
             of: PhantomData,
         }
     }

@@ -1,9 +1,10 @@
-ghost use Rattle.std.specs.Prelude.{◌≡◌, ◌-◌, ◌<◌, ◌≤◌, true, map, length, slice_index, All, IfOk, OnOk};
+ghost use Rattle.std.specs.Prelude.{◌≡◌, ◌+◌, ◌-◌, ◌<◌, ◌≤◌, true, map, length, slice_index, All, IfOk, OnOk};
 ghost use Rattle.std.specs.List.{range_with_len};
 ghost use Rattle.core_steps.specs.declared.sizes.TheConstants.{MOST_SEATS};
 ghost use Rattle.ruled_words.specs.Rule.{first_sight};
 ghost use Rattle.ruled_words.specs.Sights.{no_tally};
 ghost use Rattle.core_steps.specs.Views.{inner_nodes};
+ghost use Rattle.core_seats.specs.Seats.{IsFresh};
 ghost use Rattle.ruled_words.specs.Passes.{fixed_in, setting_of, sight_of, IsOwn};
 ghost use Rattle.ruled_words.specs.Starts.{rules_of};
 ghost use Rattle.world_tree.specs.Live.{live_in};
@@ -15,7 +16,7 @@ use entity_recs::Action;
 use ruled_words::{Hand, SharedWords};
 use std::alloc::{AllocError, Global};
 use std::marker::Model;
-use world_tree::World;
+use world_tree::{NearList, World};
 
 /// The passes of a table, in rising number.
 pub type PassList<A> = Vec<Pass<A>>;
@@ -32,6 +33,23 @@ impl<'a, A: Action> Model for NodeTable<'a, A> {
     ghost Value = { TableView A };
 
     ghost view = { λ t. t.words };
+}
+
+/// What a pass of these words keeps beside its hand: a seat in plain values with room for `room` entries, from which
+/// `made` seats are made, and a near list. Both have room for all that a move can touch.
+fn pass_lists<A: Action>(
+    alloc: Global,
+    words: &SharedWords<A>,
+    room: u32,
+    made: u8,
+) -> Result<(Seat, NearList), AllocError>
+    ensures seat { IfOk result (λ r. IsFresh room made (length (fixed_in A.meaning words.now).start.ids) r.0) }
+    ensures near { IfOk result (λ r. r.1.room ≡ 64 + length (fixed_in A.meaning words.now).start.ids) }
+{
+    let records = words.rules().count_records();
+    let mirror = Seat::new(alloc, room, made, records)?;
+    let near = NearList::new(alloc, 64 + records)?;
+    Ok((mirror, near))
 }
 
 /// Makes a seat for each room but the first, from seat 0.
@@ -59,8 +77,8 @@ fn make_others<A: Action>(
     let mut passes = Vec::with_capacity(alloc, room.len())?;
     for i in 1..room.len() {
         let hand = words.make(first, i as u8, room[i]);
-        let mirror = Seat::new(alloc, room[i], 0)?;
-        passes.push(Pass::resting(hand, mirror))?;
+        let (mirror, near) = pass_lists(alloc, words, room[i], 0)?;
+        passes.push(Pass::resting(hand, mirror, near))?;
     }
     Ok(passes)
 }
@@ -83,9 +101,9 @@ impl<'a, A: Action> NodeTable<'a, A> {
     {
         let (words, mut first) = SharedWords::new(alloc, action, world, room)?;
         words.rules().is_ruled();
-        let mirror = Seat::new(alloc, room[0], room.len() as u8)?;
+        let (mirror, near) = pass_lists(alloc, &words, room[0], room.len() as u8)?;
         let mut passes = make_others(alloc, &words, &mut first, room)?;
-        passes.insert(0, Pass::resting(first, mirror))?;
+        passes.insert(0, Pass::resting(first, mirror, near))?;
         Ok((NodeTable { words }, passes))
     }
 

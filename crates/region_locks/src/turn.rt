@@ -138,7 +138,7 @@ fn turn_at(seat: &Seat) -> Option<Turn>
         Point::Entered { node } => Some(Turn::LoadList(node)),
         Point::Loading { .. } => load_first(seat.queues.players.as_slice()),
         Point::Leaving { node } => Some(Turn::GiveBack(node)),
-        Point::Sensing => sense_first(seat.queues.ids.as_slice()),
+        Point::Sensing => sense_first(seat.queues.things.ids()),
         Point::Resolving => None,
         Point::Claiming => claim(seat, seat.queues.rest.as_slice()),
         Point::Storing => store_first(seat.queues.stores.as_slice()),

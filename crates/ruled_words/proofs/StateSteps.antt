@@ -2,14 +2,13 @@
 use Rattle.std.proofs.Common.{◌≡◌, ℕ, zero, suc, ◌+◌, ◌-◌, ◌≤◌, ◌<◌, List, [], ◌∷◌, ◌++◌, Bool, true, false, map, take, drop, get_or, length, length-append, append-nil, append_assoc, refl, sym, ap, ◌∙◌, subst, arith, Option, Some, None}
 use Rattle.std.specs.List.{filter_map}
 use Rattle.std.specs.List.Sorted.{IsStrictlyIncreasing}
-use Rattle.std.proofs.lemmas.List.{take_all, drop_all}
+use Rattle.std.proofs.lemmas.List.{take_all, drop_all, length-map}
 use Rattle.arena_geo.specs.Bounds.{Bounds}
 use Rattle.arena_geo.specs.Regions.{touches_region}
 use Rattle.entity_recs.specs.declared.rec.Rec.{Rec}
-use Rattle.std.specs.Prelude.{if◌then◌else◌, ◌↔◌, IsTrue}
+use Rattle.std.specs.Prelude.{if◌then◌else◌, ◌↔◌, nat_le, IsTrue}
 use Rattle.std.specs.Bool.{MatchBool}
 use Rattle.std.proofs.lemmas.Bool.{false≢true}
-use Rattle.entity_recs.specs.declared.limits.TheConstants.{IDS}
 use Rattle.entity_recs.specs.declared.effect.Effect.{Effect}
 use Rattle.entity_recs.specs.declared.effect.NewState.{NewState}
 use Rattle.entity_recs.specs.Bodies.{abs_of}
@@ -17,6 +16,8 @@ use Rattle.entity_recs.specs.Records.{with_state}
 use Rattle.core_steps.specs.Views.{Fixed, Point, Sensing, Resolving, things_in}
 use Rattle.core_seats.specs.ThingBits.{AreApart}
 use Rattle.core_seats.specs.NearKept.{AreThings, thing_with, touching, things_loaded}
+use Rattle.world_tree.specs.Nears.{NearView}
+use Rattle.core_seats.proofs.Rooms.{filter_few}
 use Rattle.core_seats.proofs.ThingsLoaded.{things_of_region, loaded_of_region, things_rise, touching_same, loaded_more, left_first, left_same}
 use Rattle.core_steps.specs.Steps.{sensing, view_after_state}
 use Rattle.core_seats.specs.Nexts.{the_next}
@@ -94,8 +95,9 @@ module _ (start p new : PassView) (id found : ℕ) (rest : List ℕ) (is : p ≡
   sensed_more = made ∙ ap (λ (states : List NewState). sensed_to start states rest) (sym states_more)
 
 -- a record is put last where there is room
-pub put_last : (b : Bool) (near new : List Rec) (r : Rec) → IsTrue b ↔ (length near < IDS) → MatchBool b (new ≡ near ++ r ∷ []) (new ≡ near) → length near < IDS
-    → new ≡ near ++ r ∷ []
+pub put_last : (b : Bool) (near new : NearView) (r : Rec) → IsTrue b ↔ (length near.items < near.room)
+    → MatchBool b (new ≡ record near { items = near.items ++ r ∷ [] }) (new ≡ near) → length near.items < near.room
+    → new ≡ record near { items = near.items ++ r ∷ [] }
 put_last true near new r room records few = records
 put_last false near new r room records few = absurd (false≢true (room.1 few))
 
@@ -132,8 +134,13 @@ module _ (F : Fixed) (things : List Rec) (region : List Bounds) (are : AreThings
     sensed_at touch = first_thing start p thing.id rest (at_first touch)
 
     -- there is room for it
-    pub sensed_room : length near < IDS
-    sensed_room = let few = are.few in let most = is.room in omega (arith, few, most, there)
+    pub sensed_room : (room : ℕ) → 64 + length F.start.ids ≤ room → length near < room
+    sensed_room room enough =
+        let ids = ap length are.ids in
+        let size = length-map things (λ (r : Rec). r.id) in
+        let few = filter_few (nat_le 64) F.start.ids in
+        let most = is.room in
+        omega (arith, ids, size, few, most, there, enough)
 
     -- its state was loaded
     pub sensed_one : touches_region (abs_of thing) region ≡ true → (new : PassView) (state : ℕ)

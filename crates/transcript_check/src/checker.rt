@@ -22,6 +22,7 @@ ghost use Rattle.transcript_check.specs.Pieces.{HasNoJournal, head_lines};
 
 use crate::lines::Lines;
 use crate::mover::Mover;
+use crate::other_list::OtherList;
 use crate::pending::Pending;
 use crate::state::State;
 use arena_map::ArenaMap;
@@ -258,7 +259,8 @@ impl Checker {
         ensures checker { IfOk result (λ checker. checker ≡ new_checker map) }
         ensures is { IfOk result (λ checker. IsChecker checker.map checker.state) }
     {
-        let mover = Mover::new(map);
+        let others = OtherList::new(alloc)?;
+        let mover = Mover::new(map, others);
         let state = State::opening(alloc, mover.action.map())?;
         Ok(Checker {
             mover,

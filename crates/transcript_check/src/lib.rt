@@ -12,6 +12,7 @@ mod checking;
 mod laws;
 mod lines;
 mod mover;
+mod other_list;
 mod pending;
 mod recorded;
 mod state;

@@ -2,7 +2,7 @@ ghost use Rattle.arena_actions.specs.MapActions.{map_in, IsOfItsMap, IsOfItsMap-
 ghost use Rattle.std.specs.Prelude.{◌≡◌, ◌<◌, ◌≤◌, [], ◌∷◌, ◌++◌, All, filter, length, map, Some, IsSome, ◌^◌};
 ghost use Rattle.std.specs.Option.{option_to_list};
 ghost use Rattle.std.specs.List.Sorted.{IsStrictlyIncreasing};
-ghost use Rattle.entity_recs.specs.declared.limits.TheConstants.{IDS};
+ghost use Rattle.world_tree.specs.declared.near_list.TheConstants.{NEAR_RECORDS};
 ghost use Rattle.entity_recs.specs.declared.effect.NewState.{NewState};
 ghost use Rattle.entity_recs.specs.Records.{IsRecord, with_state};
 ghost use Rattle.entity_recs.specs.Commands.{command_of};
@@ -13,34 +13,34 @@ ghost use Rattle.plain_server.specs.RecordsById.{world_of};
 ghost use Rattle.transcript_check.specs.Moves.{is_other};
 ghost use Rattle.plain_server.specs.Moving.{HasLivePlayer, effect_among, with_new_states, records_with, records_after};
 
+use crate::other_list::OtherList;
 use arena_actions::MapAction;
 use arena_map::ArenaMap;
 use entity_recs::{Cmd, Effect, IDS, NewState, Rec, Reply};
-use world_tree::{NearList, World};
+use world_tree::World;
 
 /// Runs moves one after another on a world, each over all other live records.
 #[derive(Drop)]
 pub struct Mover {
     pub action: MapAction,
-    others: NearList,
+    others: OtherList,
     ghost of_its_map: { IsOfItsMap action } by { IsOfItsMap-prop action },
 }
 
 /// Puts a record last, if it is another one.
-fn put_if_other(r: Rec, slot: u16, others: &mut NearList)
-    requires { length others.old < IDS }
+fn put_if_other(r: Rec, slot: u16, others: &mut OtherList)
+    requires { length others.old < NEAR_RECORDS }
     ensures { others.new ≡ others.old ++ filter (is_other slot) (r ∷ []) }
 {
     if r.id == slot {
         return;
     }
-    // There are fewer in the list than it has room for.
-    let _fits = others.push(r);
+    others.push(r);
 }
 
 /// Puts the record with this id last, if it is live and another one.
-fn put_other(world: &World, id: u16, slot: u16, others: &mut NearList)
-    requires { length others.old < IDS }
+fn put_other(world: &World, id: u16, slot: u16, others: &mut OtherList)
+    requires { length others.old < NEAR_RECORDS }
     ensures { others.new ≡ others.old ++ filter (is_other slot) (option_to_list (record_of world.now id)) }
 {
     let Some(r) = world.get(id) else {
@@ -50,7 +50,7 @@ fn put_other(world: &World, id: u16, slot: u16, others: &mut NearList)
 }
 
 /// Puts the live records but one into the list, in rising id, in the place of what is there.
-fn list_others(world: &World, slot: u16, others: &mut NearList)
+fn list_others(world: &World, slot: u16, others: &mut OtherList)
     ensures others { others.new ≡ others_of (world_of world.now.records) slot }
     ensures linked { IsLinked world.now }
 {
@@ -101,13 +101,13 @@ fn player_in(world: &World, slot: u8) -> Rec
 
 impl Mover {
     ghost use Rattle.arena_actions.specs.MapActions.{map_in};
-    /// Runs moves in this arena.
-    pub fn new(map: ArenaMap) -> Mover
+    /// Runs moves in this arena, with this list for the records that each runs over.
+    pub fn new(map: ArenaMap, others: OtherList) -> Mover
         ensures { map_in result.action ≡ map }
     {
         Mover {
             action: MapAction::new(map),
-            others: NearList::new(),
+            others,
         }
     }
 

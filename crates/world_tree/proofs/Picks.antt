@@ -6,6 +6,7 @@ use Rattle.std.proofs.lemmas.List.{drop_more}
 use Rattle.std.proofs.Math.ListN.{drop_of_length-le}
 use Rattle.entity_recs.specs.declared.limits.TheConstants.{IDS}
 use Rattle.entity_recs.specs.declared.rec.Rec.{Rec}
+use Rattle.world_tree.specs.Nears.{NearView}
 use Rattle.world_tree.specs.Walks.{marked_record, picked}
 
 -- no more records are gathered than there are
@@ -56,11 +57,12 @@ module _ (marks : List Bool) (records : List (Option Rec)) (out more : List Rec)
       ap (λ (xs : List Rec). xs ++ picked (drop (i + 1) marks) (drop (i + 1) records)) same
       ∙ ap (λ (xs : List Rec). out ++ xs) (sym (step ∙ left)) ∙ keeps
 
-  pub picking-takes : (r : Rec) (pushed : Bool) (grown : List Rec) → more ≡ grown → length records ≡ IDS
+  pub picking-takes : (r : Rec) (pushed : Bool) (room : ℕ) (grown : NearView) → more ≡ grown.items → length records ≡ IDS → IDS ≤ room
       → marked_record (slice_index_or records i None) (slice_index_or marks i false) ≡ Some r
-      → (IsTrue pushed ↔ (length out < IDS)) → MatchBool pushed (grown ≡ out ++ r ∷ []) (grown ≡ out)
-      → more ++ picked (drop (i + 1) marks) (drop (i + 1) records) ≡ picked marks records
-  picking-takes r pushed grown same places taken room does =
+      → (IsTrue pushed ↔ (length out < room))
+      → MatchBool pushed (grown ≡ record { items = out ++ r ∷ []; room = room }) (grown ≡ record { items = out; room = room })
+      → (more ++ picked (drop (i + 1) marks) (drop (i + 1) records) ≡ picked marks records) × (grown.room ≡ room)
+  picking-takes r pushed room grown same places enough taken has_room does =
       let rest = picked (drop (i + 1) marks) (drop (i + 1) records) in
       let step = picked-drop marks records i in_marks in_records in
       let left = step ∙ ap (λ o. cons_option o rest) taken in
@@ -68,11 +70,17 @@ module _ (marks : List Bool) (records : List (Option Rec)) (out more : List Rec)
       sym (length-append out (picked (drop i marks) (drop i records))) ∙ ap (λ (xs : List Rec). length xs) keeps in
       let one : length (picked (drop i marks) (drop i records)) ≡ length rest + 1 = ap (λ (xs : List Rec). length xs) left ∙ omega arith in
       let few = length-picked marks records in
-      let fits : length out < IDS = omega arith in
-      let grows = same ∙ took pushed (room.1 fits) does in
-      ap (λ (xs : List Rec). xs ++ rest) grows ∙ append_assoc out (r ∷ []) rest
-      ∙ ap (λ (xs : List Rec). out ++ xs) (sym left) ∙ keeps
+      let fits : length out < room = omega arith in
+      let took_is = took pushed (has_room.1 fits) does in
+      let grows = same ∙ ap (λ (l : NearView). l.items) took_is in (
+        ap (λ (xs : List Rec). xs ++ rest) grows ∙ append_assoc out (r ∷ []) rest
+            ∙ ap (λ (xs : List Rec). out ++ xs) (sym left) ∙ keeps,
+        ap (λ (l : NearView). l.room) took_is,
+      )
     where
-      took : (b : Bool) → IsTrue b → MatchBool b (grown ≡ out ++ r ∷ []) (grown ≡ out) → grown ≡ out ++ r ∷ []
+      with_one : NearView
+      with_one = record { items = out ++ r ∷ []; room = room }
+
+      took : (b : Bool) → IsTrue b → MatchBool b (grown ≡ with_one) (grown ≡ record { items = out; room = room }) → grown ≡ with_one
       took true is h = h
       took false is h = absurd (false≢true is)

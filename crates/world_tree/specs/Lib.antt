@@ -11,5 +11,6 @@ pub use Rattle.link_lists.specs.Pool
 pub mod Live
 pub mod Worlds
 pub mod Queries
+pub mod Nears
 pub mod Walks
 pub mod Laws

@@ -1,85 +1,68 @@
-ghost use Rattle.std.specs.Prelude.{◌≡◌, ◌↔◌, ◌<◌, ◌≤◌, [], ◌∷◌, ◌++◌, length, IsTrue};
-ghost use Rattle.std.specs.Bool.{MatchBool};
-
-use arena_geo::Vec3;
-use entity_recs::{IDS, Kind, Rec};
+use entity_recs::{IDS, Rec};
+use std::alloc::{AllocError, Global};
 use std::marker::Model;
 
-/// The greatest number of records in a [`NearList`].
+/// The greatest number of records that can live.
 pub const NEAR_RECORDS: usize = IDS;
 
-/// What is in the places that aren't used.
-const NOBODY: Rec = Rec {
-    id: 0,
-    kind: Kind::Player,
-    origin: Vec3::ZERO,
-    mins: Vec3::ZERO,
-    maxs: Vec3::ZERO,
-    vel: Vec3::ZERO,
-    flags: 0,
-    ammo: 0,
-    carry: 0,
-    score: 0,
-    seq: 0,
-    state: 0,
-};
-
-/// A list of records, at most [`NEAR_RECORDS`] of them. It takes no memory: it holds the room for all of them, about 37
-/// KB.
+/// A list of records, with room for a number of them that was given when it was made. No call after [`NearList::new`]
+/// takes memory.
 #[derive(Drop)]
 pub struct NearList {
-    records: [Rec; NEAR_RECORDS],
-    len: usize,
+    records: Vec<Rec>,
+    room: usize,
 }
 
 impl Model for NearList {
-    ghost use Rattle.std.specs.Prelude.{List, take, length, ◌≤◌, ◌≡◌};
-    ghost use Rattle.entity_recs.specs.declared.rec.Rec.{Rec};
-    ghost use Rattle.world_tree.specs.declared.near_list.TheConstants.{NEAR_RECORDS};
+    ghost use Rattle.std.specs.Prelude.{◌≤◌, length, vec_capacity};
+    ghost use Rattle.world_tree.specs.Nears.{NearView};
 
-    ghost Value = { List Rec };
+    ghost Value = { NearView };
 
-    ghost view = { λ l. take l.len l.records };
+    ghost view = { λ l. record { items = l.records.items; room = l.room } };
 
-    ghost invariant = { λ l. (l.len ≤ NEAR_RECORDS) × (length l.records ≡ NEAR_RECORDS) };
+    ghost invariant = { λ l. (l.room ≤ vec_capacity l.records) × (length l.records.items ≤ l.room) };
 }
 
 impl NearList {
-    /// An empty list.
-    pub fn new() -> NearList
-        ensures { result ≡ [] }
+    ghost use Rattle.std.specs.Prelude.{◌≡◌, ◌↔◌, ◌<◌, ◌≤◌, [], ◌∷◌, ◌++◌, length, vec_capacity, IsTrue, IfOk};
+    ghost use Rattle.std.specs.Bool.{MatchBool};
+
+    /// An empty list with room for `room` records. The only error is that memory is refused.
+    pub fn new(alloc: Global, room: usize) -> Result<NearList, AllocError>
+        ensures { IfOk result (λ list. list ≡ record { items = []; room = room }) }
     {
-        NearList {
-            records: [NOBODY; NEAR_RECORDS],
-            len: 0,
-        }
+        Ok(NearList {
+            records: Vec::with_capacity(alloc, room)?,
+            room,
+        })
     }
 
-    /// Empties the list. What was in it is left where it is, so this costs nothing.
+    /// Empties the list, and keeps its room.
     pub fn clear(&mut self)
-        ensures { self.new ≡ [] }
+        ensures { self.new ≡ record self.old { items = [] } }
     {
-        self.len = 0;
+        self.records.clear();
     }
 
-    /// Puts a record last. `false` exactly where there are [`NEAR_RECORDS`] already; the list is then unchanged.
+    /// Puts a record last. `false` exactly where the list holds as many as it has room for; it is then unchanged.
     pub fn push(&mut self, r: Rec) -> bool
-        ensures room { IsTrue result ↔ (length self.old < NEAR_RECORDS) }
-        ensures records { MatchBool result (self.new ≡ self.old ++ r ∷ []) (self.new ≡ self.old) }
+        ensures room { IsTrue result ↔ (length self.old.items < self.old.room) }
+        ensures records { MatchBool result
+            (self.new ≡ record self.old { items = self.old.items ++ r ∷ [] }) (self.new ≡ self.old) }
     {
-        if self.len == NEAR_RECORDS {
+        if self.records.len() == self.room {
             return false;
         }
-        self.records[self.len] = r;
-        self.len += 1;
+        self.records.push_reserved(r);
         true
     }
 
     /// The records, in the order in which they were put in.
     pub fn as_slice(&self) -> &[Rec]
-        ensures value { result.now ≡ self.now }
-        ensures room { length self.now ≤ NEAR_RECORDS }
+        ensures value { result.now ≡ self.now.items }
+        ensures room { length self.now.items ≤ self.now.room }
     {
-        &self.records[..self.len]
+        self.records.as_slice()
     }
 }

@@ -158,12 +158,13 @@ fn marked_record(place: &Option<Rec>, mark: bool) -> Option<Rec>
     if mark { *place } else { None }
 }
 
-/// Puts the live records at the marked places into the list, in rising id.
+/// Puts the live records at the marked places into the list, in rising id. The list has room for all records.
 pub fn gather(records: &[Option<Rec>], marks: &[bool; IDS], out: &mut NearList)
     requires places { length records.now ≡ length marks.now }
     requires few { length marks.now ≡ IDS }
-    requires empty { out.old ≡ [] }
-    ensures { out.new ≡ walks.picked marks.now records.now }
+    requires empty { out.old.items ≡ [] }
+    requires room { IDS ≤ out.old.room }
+    ensures { out.new ≡ record out.old { items = walks.picked marks.now records.now } }
 {
     for (id, place) in records.iter().enumerate() {
         if let Some(r) = marked_record(place, marks[id]) {

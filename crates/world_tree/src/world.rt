@@ -1,4 +1,4 @@
-ghost use Rattle.std.specs.Prelude.{◌≡◌, ℕ, ◌+◌, ◌*◌, ◌<◌, ◌==◌, if◌then◌else◌, [], map, nat_eq, replicate, All, IfOk, IsSome, None};
+ghost use Rattle.std.specs.Prelude.{◌≡◌, ℕ, ◌+◌, ◌*◌, ◌<◌, ◌≤◌, ◌==◌, if◌then◌else◌, [], map, nat_eq, replicate, All, IfOk, IsSome, None};
 ghost use Rattle.std.specs.List.{find, IsDistinct};
 ghost use Rattle.std.specs.Option.{option_map};
 ghost use Rattle.areanode.specs.Trees.{IsTreeDepth, nodes_in, node_of};
@@ -12,7 +12,7 @@ ghost use Rattle.world_tree.specs.Worlds.{record_of, IsLinked};
 ghost use Rattle.world_tree.specs.Queries.{near_in, touching_in, is_free, looks_for};
 
 use crate::live_ids::LiveIds;
-use crate::near_list::NearList;
+use crate::near_list::{NEAR_RECORDS, NearList};
 use crate::steps::Steps;
 use crate::walk::{
     box_at, gather, is_blocked_by_solids, record_at, touched_at, touched_triggers, unmark,
@@ -213,11 +213,13 @@ impl World {
         self.lists.copy_from(&o.lists);
     }
 
-    /// Puts into the empty list the live records other than `except` whose absolute boxes touch the region, in rising
-    /// id. It looks at those that are linked at the nodes visited for the region's leaves.
+    /// Puts into the empty list, which has room for all records, the live records other than `except` whose absolute
+    /// boxes touch the region, in rising id. It looks at those that are linked at the nodes visited for the region's
+    /// leaves.
     pub fn near(&self, r: &Region, except: u16, out: &mut NearList)
-        requires { out.old ≡ [] }
-        ensures records { out.new ≡ near_in self.now.records r.now except }
+        requires empty { out.old.items ≡ [] }
+        requires room { NEAR_RECORDS ≤ out.old.room }
+        ensures records { out.new ≡ record out.old { items = near_in self.now.records r.now except } }
         ensures linked { IsLinked self.now }
     {
         let nodes = self.tree.visited(self.tree.leaves_of(r));
@@ -226,12 +228,13 @@ impl World {
         gather(&self.records, &marks, out);
     }
 
-    /// Puts into the empty list the live triggers whose absolute boxes touch `abs`, in rising id, as Quake's
-    /// `SV_TouchLinks`. A look is one node entered or one link followed, and each is counted: one for each node visited
-    /// for the leaves of `abs`, and one for each trigger that is linked there.
+    /// Puts into the empty list, which has room for all records, the live triggers whose absolute boxes touch `abs`, in
+    /// rising id, as Quake's `SV_TouchLinks`. A look is one node entered or one link followed, and each is counted: one
+    /// for each node visited for the leaves of `abs`, and one for each trigger that is linked there.
     pub fn touching<L: Ledger>(&self, abs: &Aabb, out: &mut NearList, steps: &mut Steps<L>)
-        requires { out.old ≡ [] }
-        ensures records { out.new ≡ touching_in self.now.records abs.now }
+        requires empty { out.old.items ≡ [] }
+        requires room { NEAR_RECORDS ≤ out.old.room }
+        ensures records { out.new ≡ record out.old { items = touching_in self.now.records abs.now } }
         ensures looks { steps.new ≡ steps.old + looks_for self.now abs.now }
         ensures linked { IsLinked self.now }
     {

@@ -1,8 +1,8 @@
-ghost use Rattle.std.specs.Prelude.{◌≡◌, false, None};
+ghost use Rattle.std.specs.Prelude.{◌≡◌, ◌≤◌, length, false, None};
 ghost use Rattle.core_seats.specs.Going.{view_found};
 ghost use Rattle.core_seats.specs.Nexts.{next_with, the_next};
 ghost use Rattle.core_seats.specs.Ready as ready;
-ghost use Rattle.core_seats.specs.Seats.{view_of, given_of};
+ghost use Rattle.core_seats.specs.Seats.{view_of, given_of, things_room};
 ghost use Rattle.core_seats.specs.Shown.{fixed_of};
 ghost use Rattle.ruled_words.specs.Passes.{effect_kept};
 ghost use Rattle.region_locks.specs.Following.{CanFollow};
@@ -37,12 +37,14 @@ pub(crate) fn follow<A: Action>(
 )
     requires ready { CanFollow (fixed_of A.meaning rules.now) (view_of mirror.old)
         (given_of mirror.old) mirror.old.quits effect.old found }
+    requires things { length (fixed_of A.meaning rules.now).start.ids ≤ things_room mirror.old }
     ensures view { let F = fixed_of A.meaning rules.now in view_of mirror.new
         ≡ view_found F (view_of mirror.old) (the_next (next_with F (view_of mirror.old) (given_of mirror.old)
         mirror.old.quits effect.old)) found }
     ensures given { mirror.new.given ≡ None }
     ensures quits { mirror.new.quits ≡ false }
     ensures effect { effect.new ≡ effect_kept (view_of mirror.new) effect.old }
+    ensures things { things_room mirror.new ≡ things_room mirror.old }
 {
     mirror.go(rules, effect, found);
     if !is_resolving(mirror) {

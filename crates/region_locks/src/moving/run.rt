@@ -1,4 +1,4 @@
-ghost use Rattle.std.specs.Prelude.{◌≡◌, ◌%◌, length, true, []};
+ghost use Rattle.std.specs.Prelude.{◌≡◌, ◌≤◌, ◌+◌, ◌%◌, length, true, []};
 ghost use Rattle.entity_recs.specs.Commands.{command_of};
 ghost use Rattle.entity_recs.specs.Histories as histories;
 ghost use Rattle.core_steps.specs.Machine.{IsPending};
@@ -68,7 +68,8 @@ fn hold_leaves<A: Action, R: Wait, G: Gate>(
     }
 }
 
-/// Loads all that the region holds, and gives the effect.
+/// Loads all that the region holds, and gives the effect. The near list has room for 64 records and all that live at the
+/// start.
 fn read_region<A: Action, R: Wait, G: Gate>(
     words: &SharedWords<A>,
     rt: &R,
@@ -87,9 +88,11 @@ fn read_region<A: Action, R: Wait, G: Gate>(
     requires held { AreHeldFor (fixed_in A.meaning words.now) held.now hand.old.view }
     requires cmd_is { command_of cmd.now ≡ hand.old.view.cmd }
     requires again_is { again.now ≡ hand.old.view.again }
+    requires room { 64 + length (fixed_in A.meaning words.now).start.ids ≤ near.old.room }
     ensures own { IsOwn A.meaning words.now hand.new }
     ensures read { HasReadAll (fixed_in A.meaning words.now) result hand.old hand.new }
     ensures refusals { AreRefusals refusals.old hand.old.view → AreRefusals refusals.new hand.new.view }
+    ensures room { near.new.room ≡ near.old.room }
 {
     let mut six = [[0; 6]; 64];
     let seen = words.read_nodes(
@@ -149,7 +152,8 @@ fn write_region<A: Action, R: Wait>(
     place
 }
 
-/// Runs the command on a hand that rests, and gives its entry.
+/// Runs the command on a hand that rests, and gives its entry. The near list has room for 64 records and all that live at
+/// the start.
 fn run_hand<A: Action, R: Wait, G: Gate>(
     words: &SharedWords<A>,
     rt: &R,
@@ -163,9 +167,11 @@ fn run_hand<A: Action, R: Wait, G: Gate>(
     requires idle { hand.old.view.point ≡ Idle }
     requires pending { IsPending (fixed_in A.meaning words.now) hand.old.view (command_of cmd.now) }
     requires serves { cmd.now.slot % length words.now.rooms ≡ hand.old.number }
+    requires room { 64 + length (fixed_in A.meaning words.now).start.ids ≤ near.old.room }
     ensures own { IsOwn A.meaning words.now hand.new }
     ensures moved { HasMoved (command_of cmd.now) result hand.old hand.new }
     ensures refusals { AreRefusals refusals.old hand.old.view → AreRefusals refusals.new hand.new.view }
+    ensures room { near.new.room ≡ near.old.room }
 {
     let held = hold_leaves(words, rt, hand, refusals, cmd, gate);
     let again = words.own_again(hand, cmd.slot);

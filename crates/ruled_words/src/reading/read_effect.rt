@@ -1,4 +1,4 @@
-ghost use Rattle.std.specs.Prelude.{◌≡◌, ◌<◌, ◌≤◌, [], length};
+ghost use Rattle.std.specs.Prelude.{◌≡◌, ◌<◌, ◌≤◌, ◌+◌, [], length};
 ghost use Rattle.entity_recs.specs.Actions.{IsCall};
 ghost use Rattle.entity_recs.specs.Commands.{command_of};
 ghost use Rattle.core_steps.specs.Views.{Resolving, region_in, things_in, effect_loaded};
@@ -17,7 +17,7 @@ use world_tree::NearList;
 
 impl<'a, A: Action> SharedWords<'a, A> {
     /// Puts the records of the words kept of live players but this one that touch a region into an empty list, in rising
-    /// slot.
+    /// slot. The list has room for all players.
     fn put_players(
         &self,
         seen: u64,
@@ -27,9 +27,11 @@ impl<'a, A: Action> SharedWords<'a, A> {
         near: &mut NearList,
     )
         requires slot { slot < 64 }
-        requires empty { near.old ≡ [] }
-        ensures players { near.new ≡ players_kept (fixed_in A.meaning self.now) region.now slot seen six.now }
-        ensures few { length near.new ≤ 64 }
+        requires empty { near.old.items ≡ [] }
+        requires room { 64 ≤ near.old.room }
+        ensures players { near.new.items ≡ players_kept (fixed_in A.meaning self.now) region.now slot seen six.now }
+        ensures few { length near.new.items ≤ 64 }
+        ensures room { near.new.room ≡ near.old.room }
     {
         self.rules.put_players(seen, six, region, slot, near);
     }
@@ -44,7 +46,7 @@ impl<'a, A: Action> SharedWords<'a, A> {
 
     /// Loads the states of the things of the map that the region touches, once all lists are read, and gives the effect of
     /// the command: what the action gives on what was loaded. `again` is the own record as it was loaded again, and `six`
-    /// the words of the players in `seen`. The near list is only room.
+    /// the words of the players in `seen`. The near list is only room, for 64 records and all that live at the start.
     pub fn read_effect(
         &self,
         hand: &mut Hand,
@@ -63,11 +65,13 @@ impl<'a, A: Action> SharedWords<'a, A> {
         requires cmd_is { command_of cmd.now ≡ hand.old.view.cmd }
         requires again_is { again.now ≡ hand.old.view.again }
         requires kept { HasKept seen six.now hand.old.view.others }
+        requires room { 64 + length (fixed_in A.meaning self.now).start.ids ≤ near.old.room }
         ensures own { IsOwn A.meaning self.now hand.new }
         ensures view { hand.new ≡ in_view hand.old
             (record hand.old.view { states = hand.new.view.states; point = Resolving }) }
         ensures effect { result ≡ effect_loaded (fixed_in A.meaning self.now) hand.new.view }
         ensures resolved { IsOwn A.meaning self.now (keeping hand.new result) }
+        ensures room { near.new.room ≡ near.old.room }
     {
         self.ids_rise();
         near.clear();

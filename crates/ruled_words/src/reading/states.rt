@@ -1,4 +1,4 @@
-ghost use Rattle.std.specs.Prelude.{◌≡◌, ◌≤◌, ◌++◌, ◌∷◌, length};
+ghost use Rattle.std.specs.Prelude.{◌≡◌, ◌≤◌, ◌+◌, ◌++◌, ◌∷◌, length};
 ghost use Rattle.std.specs.List.Sorted.{IsStrictlyIncreasing};
 ghost use Rattle.entity_recs.specs.Records.{with_state};
 ghost use Rattle.core_steps.specs.Views.{Sensing, Resolving, region_in, things_in};
@@ -57,19 +57,22 @@ impl<'a, A: Action> SharedWords<'a, A> {
     }
 
     /// Loads the states of the things of the map that the region touches, once all lists are read, and puts the things
-    /// with their states after the players that are near.
+    /// with their states after the players that are near, of whom there are at most 64. The list has room for 64 records
+    /// and all that live at the start.
     pub(crate) fn load_states(&self, hand: &mut Hand, region: &Region, near: &mut NearList)
         requires own { IsOwn A.meaning self.now hand.old }
         requires at { let F = fixed_in A.meaning self.now in
             hand.old.view.point ≡ sensing (things_in F (region_in F hand.old.view.cmd hand.old.view.own)) }
         requires region_is { region.now
             ≡ region_in (fixed_in A.meaning self.now) hand.old.view.cmd hand.old.view.own }
-        requires room { length near.old ≤ 64 }
+        requires few { length near.old.items ≤ 64 }
+        requires room { 64 + length (fixed_in A.meaning self.now).start.ids ≤ near.old.room }
         ensures own { IsOwn A.meaning self.now hand.new }
         ensures view { hand.new ≡ in_view hand.old
             (record hand.old.view { states = hand.new.view.states; point = Resolving }) }
-        ensures near { near.new ≡ near.old ++ things_loaded (fixed_in A.meaning self.now) region.now
+        ensures near { near.new.items ≡ near.old.items ++ things_loaded (fixed_in A.meaning self.now) region.now
             hand.new.view.states }
+        ensures room { near.new.room ≡ near.old.room }
     {
         hand.is_plain();
         self.ids_rise();

@@ -157,22 +157,27 @@ fn column(low: i32, high: i32) -> Result<Aabb, &'static str> {
 }
 
 /// The ids that `near` gives for a box.
-fn near_ids(world: &World, abs: Aabb, except: u16) -> [u16; 4] {
-    let mut list = NearList::new();
+fn near_ids(world: &World, abs: Aabb, except: u16, alloc: Global) -> Result<[u16; 4], AllocError> {
+    let mut list = NearList::new(alloc, NEAR_RECORDS)?;
     world.near(&Region::one(abs), except, &mut list);
-    ids(&list)
+    Ok(ids(&list))
 }
 
 /// The triggers that touch a box, found with a count of looks that is then dropped.
-fn touched<L: Ledger>(world: &World, abs: &Aabb, blank: Blank) -> NearList
+fn touched<L: Ledger>(
+    world: &World,
+    abs: &Aabb,
+    blank: Blank,
+    alloc: Global,
+) -> Result<NearList, AllocError>
     requires name { blank.name ≡ L.name }
     requires parts { blank.parts ≡ L.parts }
     requires some { 0 < blank.parts }
 {
     let mut steps = Steps::<L>::new(blank);
-    let mut list = NearList::new();
+    let mut list = NearList::new(alloc, NEAR_RECORDS)?;
     world.touching(abs, &mut list, &mut steps);
-    list
+    Ok(list)
 }
 
 #[test]
@@ -198,25 +203,25 @@ fn live_pair(world: &World) -> [u16; 2] {
 }
 
 /// Expects the player with id 7 at (50,000, 20,000, 6,144), beside ammunition with id 64 in the middle of the arena.
-fn expect_moved(rt: &impl Abort, world: &World) -> Result<(), &'static str> {
+fn expect_moved(rt: &impl Abort, world: &World, alloc: Global) -> Result<(), Fail> {
     let middle = Aabb::new(at(0, 0, 0), at(1, 1, 1)).ok_or("a box")?;
     let east = Aabb::new(at(50_000, 20_000, 0), at(50_001, 20_001, 1)).ok_or("a box")?;
     let abs = Aabb::new(at(45_648, 15_648, -256), at(54_352, 24_352, 14_592)).ok_or("a box")?;
     assert_eq!(rt; world.abs_box(7), Some(abs));
     assert_eq!(rt; live_pair(world), [7, 64]);
-    assert_eq!(rt; near_ids(world, middle, NO_ID), [64, 0, 0, 0]);
-    assert_eq!(rt; near_ids(world, east, NO_ID), [7, 0, 0, 0]);
+    assert_eq!(rt; near_ids(world, middle, NO_ID, alloc)?, [64, 0, 0, 0]);
+    assert_eq!(rt; near_ids(world, east, NO_ID, alloc)?, [7, 0, 0, 0]);
     Ok(())
 }
 
 /// Expects that the player with id 7 isn't live, and that ammunition with id 64 is in the middle of the arena.
-fn expect_gone(rt: &impl Abort, world: &World) -> Result<(), &'static str> {
+fn expect_gone(rt: &impl Abort, world: &World, alloc: Global) -> Result<(), Fail> {
     let middle = Aabb::new(at(0, 0, 0), at(1, 1, 1)).ok_or("a box")?;
     let east = Aabb::new(at(50_000, 20_000, 0), at(50_001, 20_001, 1)).ok_or("a box")?;
     assert_eq!(rt; world.abs_box(7), None);
     assert_eq!(rt; live_pair(world), [64, 0]);
-    assert_eq!(rt; near_ids(world, middle, NO_ID), [64, 0, 0, 0]);
-    assert_eq!(rt; near_ids(world, east, NO_ID), [0, 0, 0, 0]);
+    assert_eq!(rt; near_ids(world, middle, NO_ID, alloc)?, [64, 0, 0, 0]);
+    assert_eq!(rt; near_ids(world, east, NO_ID, alloc)?, [0, 0, 0, 0]);
     Ok(())
 }
 
@@ -228,12 +233,12 @@ fn queries_follow_a_player_that_moves_leaves_and_comes_back(rt: HostRuntime) -> 
     assert_eq!(rt; live_pair(&world), [7, 64]);
     expect_linked(&rt, &world, 7, 0);
     world.relink(player(7, at(50_000, 20_000, 6_144)));
-    expect_moved(&rt, &world)?;
+    expect_moved(&rt, &world, rt.alloc())?;
     expect_linked(&rt, &world, 7, 18);
     world.remove(7);
-    expect_gone(&rt, &world)?;
+    expect_gone(&rt, &world, rt.alloc())?;
     put(&rt, &mut world, player(7, at(50_000, 20_000, 6_144)));
-    expect_moved(&rt, &world)?;
+    expect_moved(&rt, &world, rt.alloc())?;
     Ok(())
 }
 
@@ -266,7 +271,7 @@ fn records_are_linked_and_found_at_each_depth(rt: HostRuntime) -> Result<(), Fai
         let world = of_depth(&rt, rt.alloc(), depth)?;
         expect_linked(&rt, &world, 7, solids);
         expect_linked(&rt, &world, 64, triggers);
-        expect_moved(&rt, &world)?;
+        expect_moved(&rt, &world, rt.alloc())?;
     }
     Ok(())
 }
@@ -275,8 +280,8 @@ fn records_are_linked_and_found_at_each_depth(rt: HostRuntime) -> Result<(), Fai
 fn near_finds_what_touches_but_one(rt: HostRuntime) -> Result<(), Fail> {
     let abs = abs_box_of_3()?;
     let world = copied(&rt, rt.alloc())?;
-    assert_eq!(rt; near_ids(&world, abs, 3), [64, 65, 0, 0]);
-    assert_eq!(rt; near_ids(&world, abs, NO_ID), [3, 64, 65, 0]);
+    assert_eq!(rt; near_ids(&world, abs, 3, rt.alloc())?, [64, 65, 0, 0]);
+    assert_eq!(rt; near_ids(&world, abs, NO_ID, rt.alloc())?, [3, 64, 65, 0]);
     Ok(())
 }
 
@@ -284,7 +289,7 @@ fn near_finds_what_touches_but_one(rt: HostRuntime) -> Result<(), Fail> {
 fn touching_finds_the_trigger_that_touches(rt: HostRuntime) -> Result<(), Fail> {
     let abs = abs_box_of_3()?;
     let world = copied(&rt, rt.alloc())?;
-    let list = touched::<Brand>(&world, &abs, Blank::new(1));
+    let list = touched::<Brand>(&world, &abs, Blank::new(1), rt.alloc())?;
     assert_eq!(rt; ids(&list), [65, 0, 0, 0]);
     Ok(())
 }
@@ -311,7 +316,7 @@ fn a_world_has_room_for_every_id(rt: HostRuntime) -> Result<(), Fail> {
     for id in 64..NO_ID {
         put(&rt, &mut world, ammo(id, at(0, 0, 0)));
     }
-    let mut all = NearList::new();
+    let mut all = NearList::new(rt.alloc(), NEAR_RECORDS)?;
     world.near(&Region::one(bounds), NO_ID, &mut all);
     assert_eq!(rt; all.as_slice().len(), 512);
     Ok(())

@@ -52,8 +52,8 @@ go-requires-clause-count g c κs within =
     let is = found_is F words (view_of s) N c.from-index.result c.get-found.result c.requires.word at (c.get-found.ensures (start_words F)) in
     count_fits F words (view_of s) N c.get-found.result c.requires.word is
 
-pub returns : goal.returns
-returns g c =
+pub returns-clause-stepped : goal.returns-clause-stepped
+returns-clause-stepped g c =
     let F = fixed_of g.A.Action.meaning c.args.rules.now in
     let s = c.args.seat.now in
     let words = words_in c.args.words.now (start_words F) in

@@ -1,4 +1,6 @@
-use Rattle.std.proofs.Common.{◌≡◌, ◌++◌, [], ◌∷◌, sym, ◌∙◌, subst, rules}
+use Rattle.std.proofs.Common.{◌<◌, length, sym, ap, ◌∙◌, subst, arith}
+use Rattle.world_tree.specs.Nears.{NearView}
+use Rattle.core_seats.proofs.NearLists.{pushed_near}
 use Rattle.core_seats.proofs.SlotLists.{ArePut, put_more, put_same}
 use Rattle.core_seats.proofs.near_kept.put_slots.Goals as goal
 use Rattle.core_seats.proofs.near_kept.put_slots.Goals.{in-Some, in_default}
@@ -13,10 +15,18 @@ loop-rest-preserved c =
     let low = c.lowest_bit-slot.ensures in
     elim c.match-near_player.branch [
       | in-Some w ↦
-          let pushed : w.push.new.self ≡ c.loop-rest.list ++ w.in-Some.r ∷ [] = search rules in
-          subst (ArePut region six c.args.slots less) (sym (w.list-is ∙ pushed))
-          (put_more region six c.args.slots rest less slot c.loop-rest.list c.loop-rest.invariant low.below low.there low.first c.without_bit-rest.ensures.bits w.in-Some.r (sym c.near_player.ensures ∙ w.in-Some.is))
+          let most = c.loop-rest.invariant.put.room slot low.there in
+          let fits : length c.loop-rest.list.items < c.loop-rest.list.room = omega (arith, c.requires.room, most, low.below, c.loop-rest.invariant.room) in
+          let pushed = w.list-is ∙ pushed_near c.loop-rest.list w.push.new.self w.in-Some.r w.push.result fits w.push.ensures.room w.push.ensures.records in
+          record {
+            put = subst (ArePut region six c.args.slots less) (sym (ap (λ (l : NearView). l.items) pushed))
+                (put_more region six c.args.slots rest less slot c.loop-rest.list.items c.loop-rest.invariant.put low.below low.there low.first c.without_bit-rest.ensures.bits w.in-Some.r (sym c.near_player.ensures ∙ w.in-Some.is));
+            room = ap (λ (l : NearView). l.room) pushed ∙ c.loop-rest.invariant.room;
+          }
       | in_default w ↦
-          subst (ArePut region six c.args.slots less) (sym w.list-is)
-          (put_same region six c.args.slots rest less slot c.loop-rest.list c.loop-rest.invariant low.below low.there low.first c.without_bit-rest.ensures.bits (sym c.near_player.ensures ∙ w.in_default.is))
+          record {
+            put = subst (ArePut region six c.args.slots less) (sym (ap (λ (l : NearView). l.items) w.list-is))
+                (put_same region six c.args.slots rest less slot c.loop-rest.list.items c.loop-rest.invariant.put low.below low.there low.first c.without_bit-rest.ensures.bits (sym c.near_player.ensures ∙ w.in_default.is));
+            room = ap (λ (l : NearView). l.room) w.list-is ∙ c.loop-rest.invariant.room;
+          }
     ]

@@ -2,7 +2,7 @@ use Rattle.std.proofs.Common.{ap}
 use Rattle.core_seats.specs.Points.{point_of}
 use Rattle.core_seats.proofs.seat.Seat.give_next.Goals as goal
 
-pub visit_next-requires-after_bounds : goal.visit_next-requires-after_bounds
-visit_next-requires-after_bounds g c κs within =
+pub visit_next-requires-clause-player : goal.visit_next-requires-clause-player
+visit_next-requires-clause-player g c κs within =
     let qs = c.args.self.now.queues in
-    c.requires c.in-Leaving.node qs.plan.items (ap (point_of qs) c.in-Leaving.is)
+    c.requires.player c.in-Leaving.node qs.plan.items (ap (point_of qs) c.in-Leaving.is)

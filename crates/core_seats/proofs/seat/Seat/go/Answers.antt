@@ -3,7 +3,7 @@ use Rattle.core_steps.specs.declared.step.StepKind.TheVariants.{Commit}
 use Rattle.core_steps.specs.Machine.{kind_of}
 use Rattle.core_seats.specs.Going.{view_found}
 use Rattle.core_seats.specs.Nexts.{next_with, the_next}
-use Rattle.core_seats.specs.Seats.{view_of, given_of}
+use Rattle.core_seats.specs.Seats.{view_of, given_of, things_room}
 use Rattle.core_seats.specs.Shown.{fixed_of}
 use Rattle.core_seats.proofs.seat.Seat.go.Goals as goal
 use Rattle.core_seats.proofs.seat.Seat.go.Goals.{then-self, else-self}
@@ -22,9 +22,18 @@ returns-clause-view g c =
     elim c.if-self.branch [
       | then-self w ↦
           subst (λ (quits : Bool). view_of c.if-self.self ≡ view_found F view (the_next (next_with F view (given_of c.args.self.now) quits c.args.effect.now)) c.args.found) (sym w.if-self.true)
-          (ap view_of w.self-is ∙ w.give_up.ensures)
+          (ap view_of w.self-is ∙ w.give_up.ensures.view)
       | else-self w ↦
           subst (λ (quits : Bool). view_of c.if-self.self ≡ view_found F view (the_next (next_with F view (given_of c.args.self.now) quits c.args.effect.now)) c.args.found) (sym w.if-self.false)
-          (ap view_of w.self-is ∙ w.go_on.ensures)
+          (ap view_of w.self-is ∙ w.go_on.ensures.view)
+    ] in
+    is
+
+pub returns-clause-things : goal.returns-clause-things
+returns-clause-things g c =
+    let is : things_room c.if-self.self ≡ things_room c.args.self.now =
+    elim c.if-self.branch [
+      | then-self w ↦ ap things_room w.self-is ∙ w.give_up.ensures.things
+      | else-self w ↦ ap things_room w.self-is ∙ w.go_on.ensures.things
     ] in
     is

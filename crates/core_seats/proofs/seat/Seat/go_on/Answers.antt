@@ -51,9 +51,8 @@ read_player-requires-clause-player g c κs within =
 pub read_state-requires : goal.read_state-requires
 read_state-requires g c =
     let F = fixed_of g.A.Action.meaning c.args.rules.now in
-    let met = g.met.A.Action g.world.𝓛 g.world.𝓜 g.world.𝓡 ((λ s x. x), (λ x. x), (λ x. x), λ x. x) in
-    let validity : HasValidity F.takes F.effect_of = met.validity c.args.rules.now.action in
-    states_room F (view_of c.args.self.now) c.requires.ready.sound c.args.self.now.queues.ids.items validity c.is_ruled.ensures.start (ap (point_of c.args.self.now.queues) c.in-Sensing.is)
+    let few = states_room F (view_of c.args.self.now) c.requires.ready.sound c.args.self.now.queues.things.ids (ap (point_of c.args.self.now.queues) c.in-Sensing.is) in
+    omega (arith, few, c.requires.things)
 
 pub resolve-requires-clause-command : goal.resolve-requires-clause-command
 resolve-requires-clause-command g c κs within =
@@ -129,71 +128,71 @@ take_next-requires-in-Claiming-2-clause-nodes g c =
     let F = fixed_of g.A.Action.meaning c.args.rules.now in
     λ got rest at. nodes_room F (view_of c.args.self.now) c.requires.ready.sound got rest at
 
-pub give_next-requires-after_bounds : goal.give_next-requires-after_bounds
-give_next-requires-after_bounds g c κs within =
+pub give_next-requires-clause-player : goal.give_next-requires-clause-player
+give_next-requires-clause-player g c κs within =
     let F = fixed_of g.A.Action.meaning c.args.rules.now in
     λ node plan at. player_at_point F (view_of c.args.self.now) c.requires.ready.sound (views.Leaving node plan) at refl refl
 
-pub returns-in-Taking : goal.returns-in-Taking
-returns-in-Taking g c =
+pub returns-in-Taking-clause-view : goal.returns-in-Taking-clause-view
+returns-in-Taking-clause-view g c =
     let F = fixed_of g.A.Action.meaning c.args.rules.now in
-    took_leaf F (view_of c.args.self.now) _ (given_of c.args.self.now) c.args.effect.now c.args.self.now.queues.got.items c.args.self.now.queues.rest.items c.args.found (ap (point_of c.args.self.now.queues) c.in-Taking.is) (leaves_left F (view_of c.args.self.now) c.requires.ready.sound c.args.self.now.queues.got.items c.args.self.now.queues.rest.items (ap (point_of c.args.self.now.queues) c.in-Taking.is)) c.take_next.ensures
+    took_leaf F (view_of c.args.self.now) _ (given_of c.args.self.now) c.args.effect.now c.args.self.now.queues.got.items c.args.self.now.queues.rest.items c.args.found (ap (point_of c.args.self.now.queues) c.in-Taking.is) (leaves_left F (view_of c.args.self.now) c.requires.ready.sound c.args.self.now.queues.got.items c.args.self.now.queues.rest.items (ap (point_of c.args.self.now.queues) c.in-Taking.is)) c.take_next.ensures.view
 
-pub returns-in-Entering : goal.returns-in-Entering
-returns-in-Entering g c =
+pub returns-in-Entering-clause-view : goal.returns-in-Entering-clause-view
+returns-in-Entering-clause-view g c =
     let F = fixed_of g.A.Action.meaning c.args.rules.now in
-    took_inner F (view_of c.args.self.now) _ (given_of c.args.self.now) c.args.effect.now c.in-Entering.node c.args.self.now.queues.plan.items c.args.found (ap (point_of c.args.self.now.queues) c.in-Entering.is) c.take_next-in-Entering.ensures
+    took_inner F (view_of c.args.self.now) _ (given_of c.args.self.now) c.args.effect.now c.in-Entering.node c.args.self.now.queues.plan.items c.args.found (ap (point_of c.args.self.now.queues) c.in-Entering.is) c.take_next-in-Entering.ensures.view
 
-pub returns-in-Entered : goal.returns-in-Entered
-returns-in-Entered g c =
+pub returns-in-Entered-clause-view : goal.returns-in-Entered-clause-view
+returns-in-Entered-clause-view g c =
     let F = fixed_of g.A.Action.meaning c.args.rules.now in
-    gone F (view_of c.args.self.now) _ (given_of c.args.self.now) c.args.effect.now (views.Entered c.in-Entered.node c.args.self.now.queues.plan.items) _ c.args.found (ap (point_of c.args.self.now.queues) c.in-Entered.is) refl (c.read_list.ensures c.in-Entered.node c.args.self.now.queues.plan.items (ap (point_of c.args.self.now.queues) c.in-Entered.is))
+    gone F (view_of c.args.self.now) _ (given_of c.args.self.now) c.args.effect.now (views.Entered c.in-Entered.node c.args.self.now.queues.plan.items) _ c.args.found (ap (point_of c.args.self.now.queues) c.in-Entered.is) refl (c.read_list.ensures.view c.in-Entered.node c.args.self.now.queues.plan.items (ap (point_of c.args.self.now.queues) c.in-Entered.is))
 
-pub returns-in-Loading : goal.returns-in-Loading
-returns-in-Loading g c =
+pub returns-in-Loading-clause-view : goal.returns-in-Loading-clause-view
+returns-in-Loading-clause-view g c =
     let F = fixed_of g.A.Action.meaning c.args.rules.now in
     read_player F (view_of c.args.self.now) _ (given_of c.args.self.now) c.args.effect.now c.in-Loading.node c.args.self.now.queues.part.items c.args.self.now.queues.players.items c.args.self.now.queues.plan.items c.args.found (ap (point_of c.args.self.now.queues) c.in-Loading.is) (players_left F (view_of c.args.self.now) c.requires.ready.sound c.in-Loading.node c.args.self.now.queues.part.items c.args.self.now.queues.players.items c.args.self.now.queues.plan.items (ap (point_of c.args.self.now.queues) c.in-Loading.is))
-    (λ slot rest at. c.read_player.ensures c.in-Loading.node slot c.args.self.now.queues.part.items rest c.args.self.now.queues.plan.items at)
+    (λ slot rest at. c.read_player.ensures.view c.in-Loading.node slot c.args.self.now.queues.part.items rest c.args.self.now.queues.plan.items at)
 
-pub returns-in-Sensing : goal.returns-in-Sensing
-returns-in-Sensing g c =
+pub returns-in-Sensing-clause-view : goal.returns-in-Sensing-clause-view
+returns-in-Sensing-clause-view g c =
     let F = fixed_of g.A.Action.meaning c.args.rules.now in
-    read_state F (view_of c.args.self.now) _ (given_of c.args.self.now) c.args.effect.now c.args.self.now.queues.ids.items c.args.found (ap (point_of c.args.self.now.queues) c.in-Sensing.is) (things_left F (view_of c.args.self.now) c.requires.ready.sound c.args.self.now.queues.ids.items (ap (point_of c.args.self.now.queues) c.in-Sensing.is)) c.read_state.ensures
+    read_state F (view_of c.args.self.now) _ (given_of c.args.self.now) c.args.effect.now c.args.self.now.queues.things.ids c.args.found (ap (point_of c.args.self.now.queues) c.in-Sensing.is) (things_left F (view_of c.args.self.now) c.requires.ready.sound c.args.self.now.queues.things.ids (ap (point_of c.args.self.now.queues) c.in-Sensing.is)) c.read_state.ensures.view
 
-pub returns-in-Resolving : goal.returns-in-Resolving
-returns-in-Resolving g c =
+pub returns-in-Resolving-clause-view : goal.returns-in-Resolving-clause-view
+returns-in-Resolving-clause-view g c =
     let F = fixed_of g.A.Action.meaning c.args.rules.now in
-    resolved F (view_of c.args.self.now) _ (given_of c.args.self.now) c.args.effect.now c.args.found (ap (point_of c.args.self.now.queues) c.in-Resolving.is) c.requires.comes c.resolve.ensures
+    resolved F (view_of c.args.self.now) _ (given_of c.args.self.now) c.args.effect.now c.args.found (ap (point_of c.args.self.now.queues) c.in-Resolving.is) c.requires.comes c.resolve.ensures.view
 
-pub returns-in-Claiming : goal.returns-in-Claiming
-returns-in-Claiming g c =
+pub returns-in-Claiming-clause-view : goal.returns-in-Claiming-clause-view
+returns-in-Claiming-clause-view g c =
     let F = fixed_of g.A.Action.meaning c.args.rules.now in
     let claim = claimed F (view_of c.args.self.now) c.requires.ready.sound c.args.self.now.queues.got.items c.args.self.now.queues.rest.items (ap (point_of c.args.self.now.queues) c.in-Claiming.is) in
     committed F (view_of c.args.self.now) _ (given_of c.args.self.now) c.args.effect.now claim.e c.args.self.now.queues.got.items c.args.self.now.queues.rest.items c.args.found (ap (point_of c.args.self.now.queues) c.in-Claiming.is) (none_left c.args.self.now.queues.rest.items (sym c.is_empty.ensures ∙ c.if-is_empty.true)) claim.is
-    (c.commit_held.ensures claim.e c.args.self.now.queues.got.items c.args.self.now.queues.rest.items claim.is (ap (point_of c.args.self.now.queues) c.in-Claiming.is))
+    (c.commit_held.ensures.view claim.e c.args.self.now.queues.got.items c.args.self.now.queues.rest.items claim.is (ap (point_of c.args.self.now.queues) c.in-Claiming.is))
 
-pub returns-in-Claiming-2 : goal.returns-in-Claiming-2
-returns-in-Claiming-2 g c =
+pub returns-in-Claiming-2-clause-view : goal.returns-in-Claiming-2-clause-view
+returns-in-Claiming-2-clause-view g c =
     let F = fixed_of g.A.Action.meaning c.args.rules.now in
-    took_node F (view_of c.args.self.now) _ (given_of c.args.self.now) c.args.effect.now c.args.self.now.queues.got.items c.args.self.now.queues.rest.items c.args.found (ap (point_of c.args.self.now.queues) c.in-Claiming.is) (some_left c.args.self.now.queues.rest.items (sym c.is_empty.ensures ∙ c.if-is_empty.false)) c.take_next-in-Claiming-2.ensures
+    took_node F (view_of c.args.self.now) _ (given_of c.args.self.now) c.args.effect.now c.args.self.now.queues.got.items c.args.self.now.queues.rest.items c.args.found (ap (point_of c.args.self.now.queues) c.in-Claiming.is) (some_left c.args.self.now.queues.rest.items (sym c.is_empty.ensures ∙ c.if-is_empty.false)) c.take_next-in-Claiming-2.ensures.view
 
-pub returns-in-Storing : goal.returns-in-Storing
-returns-in-Storing g c =
+pub returns-in-Storing-clause-view : goal.returns-in-Storing-clause-view
+returns-in-Storing-clause-view g c =
     let F = fixed_of g.A.Action.meaning c.args.rules.now in
     stored F (view_of c.args.self.now) _ (given_of c.args.self.now) c.args.effect.now c.args.self.now.queues.got.items (map store_of c.args.self.now.queues.stores.items) c.args.found (ap (point_of c.args.self.now.queues) c.in-Storing.is)
-    (stores_left F (view_of c.args.self.now) c.requires.ready.sound c.args.self.now.queues.got.items (map store_of c.args.self.now.queues.stores.items) (ap (point_of c.args.self.now.queues) c.in-Storing.is)) (c.store_made.ensures c.args.self.now.queues.got.items)
+    (stores_left F (view_of c.args.self.now) c.requires.ready.sound c.args.self.now.queues.got.items (map store_of c.args.self.now.queues.stores.items) (ap (point_of c.args.self.now.queues) c.in-Storing.is)) (c.store_made.ensures.view c.args.self.now.queues.got.items)
 
-pub returns-in-Releasing : goal.returns-in-Releasing
-returns-in-Releasing g c =
+pub returns-in-Releasing-clause-view : goal.returns-in-Releasing-clause-view
+returns-in-Releasing-clause-view g c =
     let F = fixed_of g.A.Action.meaning c.args.rules.now in
-    gave F (view_of c.args.self.now) _ (given_of c.args.self.now) c.args.effect.now (views.Releasing c.args.self.now.queues.got.items) _ c.args.found (ap (point_of c.args.self.now.queues) c.in-Releasing.is) refl c.requires.comes c.give_next-in-Releasing.ensures
+    gave F (view_of c.args.self.now) _ (given_of c.args.self.now) c.args.effect.now (views.Releasing c.args.self.now.queues.got.items) _ c.args.found (ap (point_of c.args.self.now.queues) c.in-Releasing.is) refl c.requires.comes c.give_next-in-Releasing.ensures.view
 
-pub returns-in-Returning : goal.returns-in-Returning
-returns-in-Returning g c =
+pub returns-in-Returning-clause-view : goal.returns-in-Returning-clause-view
+returns-in-Returning-clause-view g c =
     let F = fixed_of g.A.Action.meaning c.args.rules.now in
-    gave F (view_of c.args.self.now) _ (given_of c.args.self.now) c.args.effect.now (views.Returning c.args.self.now.queues.rest.items) _ c.args.found (ap (point_of c.args.self.now.queues) c.in-Returning.is) refl c.requires.comes c.give_next-in-Returning.ensures
+    gave F (view_of c.args.self.now) _ (given_of c.args.self.now) c.args.effect.now (views.Returning c.args.self.now.queues.rest.items) _ c.args.found (ap (point_of c.args.self.now.queues) c.in-Returning.is) refl c.requires.comes c.give_next-in-Returning.ensures.view
 
-pub returns-in-Yielding : goal.returns-in-Yielding
-returns-in-Yielding g c =
+pub returns-in-Yielding-clause-view : goal.returns-in-Yielding-clause-view
+returns-in-Yielding-clause-view g c =
     let F = fixed_of g.A.Action.meaning c.args.rules.now in
-    gave F (view_of c.args.self.now) _ (given_of c.args.self.now) c.args.effect.now (views.Yielding c.args.self.now.queues.got.items c.args.self.now.queues.rest.items) _ c.args.found (ap (point_of c.args.self.now.queues) c.in-Yielding.is) refl c.requires.comes c.give_next-in-Yielding.ensures
+    gave F (view_of c.args.self.now) _ (given_of c.args.self.now) c.args.effect.now (views.Yielding c.args.self.now.queues.got.items c.args.self.now.queues.rest.items) _ c.args.found (ap (point_of c.args.self.now.queues) c.in-Yielding.is) refl c.requires.comes c.give_next-in-Yielding.ensures.view

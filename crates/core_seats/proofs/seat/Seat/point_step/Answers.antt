@@ -11,7 +11,7 @@ use Rattle.core_seats.proofs.seat.Seat.point_step.Goals as goal
 pub state_step-requires : goal.state_step-requires
 state_step-requires g c = λ id rest is.
     let F = fixed_of g.A.Action.meaning c.args.rules.now in
-    let ids : c.args.self.now.queues.ids.items ≡ id ∷ rest = sym c.as_slice-in-Sensing.ensures.value ∙ is in
+    let ids : c.args.self.now.queues.things.ids ≡ id ∷ rest = sym c.ids.ensures ∙ is in
     let below = sensed_in F (view_of c.args.self.now) id rest c.is_lawful.ensures c.is_ruled.ensures.start c.requires.sound (ap (point_of c.args.self.now.queues) c.in-Sensing.is ∙ ap views.Sensing ids) in
     omega arith
 
@@ -48,8 +48,8 @@ returns-in-Storing g c =
 pub returns-in-Sensing : goal.returns-in-Sensing
 returns-in-Sensing g c =
     let F = fixed_of g.A.Action.meaning c.args.rules.now in
-    rw (c.state_step.ensures, c.as_slice-in-Sensing.ensures.value, c.in-Sensing.is)
-    (state_next F (view_of c.args.self.now) (given_of c.args.self.now) c.args.number c.args.self.now.queues.ids.items)
+    rw (c.state_step.ensures, c.ids.ensures, c.in-Sensing.is)
+    (state_next F (view_of c.args.self.now) (given_of c.args.self.now) c.args.number c.args.self.now.queues.things.ids)
 
 pub returns-in-Claiming : goal.returns-in-Claiming
 returns-in-Claiming g c =

@@ -14,12 +14,12 @@ got_first-requires-in-Claiming c =
     let qs = c.args.self.now.queues in
     c.requires.nodes qs.got.items qs.rest.items (ap (point_of qs) c.in-Claiming.is)
 
-pub returns-in-Taking : goal.returns-in-Taking
-returns-in-Taking c =
+pub returns-in-Taking-clause-view : goal.returns-in-Taking-clause-view
+returns-in-Taking-clause-view c =
     let qs = c.got_first.new.self.queues in
-    rw (c.taking.ensures, c.got_first.ensures.view (steps.taking qs.got.items qs.rest.items), c.got_first.ensures.got, c.got_first.ensures.rest, c.in-Taking.is) refl
+    rw (c.taking.ensures.view, c.got_first.ensures.view (steps.taking qs.got.items qs.rest.items), c.got_first.ensures.got, c.got_first.ensures.rest, c.in-Taking.is) refl
 
-pub returns-in-Claiming : goal.returns-in-Claiming
-returns-in-Claiming c =
+pub returns-in-Claiming-clause-view : goal.returns-in-Claiming-clause-view
+returns-in-Claiming-clause-view c =
     let got = c.got_first-in-Claiming in
     rw (got.ensures.view (view_of got.new.self).point, got.ensures.point, c.in-Claiming.is, got.ensures.got, got.ensures.rest) refl
