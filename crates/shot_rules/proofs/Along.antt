@@ -4,8 +4,6 @@ use Rattle.std.specs.Prelude.{unsigned_abs}
 use Rattle.std.proofs.Math.Nat.{zero-div, div-mul-le_self, mul-div_cancel_left}
 use Rattle.std.proofs.lemmas.Nat.{mul-le}
 use Rattle.std.proofs.lemmas.Int.{ints}
-use Rattle.arena_geo.specs.declared.vec3.Vec3.{Vec3}
-use Rattle.arena_geo.specs.Vectors.{vector}
 use Rattle.arena_geo.specs.Roots.{IsRoot}
 use Rattle.arena_geo.proofs.Squares.{IsRoot-next_square, same_root, next_square}
 use Rattle.arena_geo.proofs.Vectors.{same_parts}
@@ -89,13 +87,13 @@ module _ (wish_x wish_y : ℤ) (some : 0 < unsigned_abs wish_x + unsigned_abs wi
     down_y = range_down wish_y len;
     level = refl;
     straight_x = rw (abs-range_on wish_x len, abs-range_on wish_y len)
-      (shares_are_straight m n (256 * 65536) len _ _ has_length (omega (arith, range_most m len)) (omega (arith, range_least n len has_length)));
+        (shares_are_straight m n (256 * 65536) len _ _ has_length (omega (arith, range_most m len)) (omega (arith, range_least n len has_length)));
     straight_y = rw (abs-range_on wish_x len, abs-range_on wish_y len)
-      (shares_are_straight n m (256 * 65536) len _ _ has_length (omega (arith, range_most n len)) (omega (arith, range_least m len has_length)));
+        (shares_are_straight n m (256 * 65536) len _ _ has_length (omega (arith, range_most n len)) (omega (arith, range_least m len has_length)));
     least = rw (abs-range_on wish_x len, abs-range_on wish_y len)
-      (shares_are_long (m * 256) (n * 256) 65536 len _ _ has_length root.square (range_least m len has_length) (range_least n len has_length));
+        (shares_are_long (m * 256) (n * 256) 65536 len _ _ has_length root.square (range_least m len has_length) (range_least n len has_length));
     most = rw (abs-range_on wish_x len, abs-range_on wish_y len)
-      (shares_are_no_longer (m * 256) (n * 256) len _ _ (wish_is_long wish_x wish_y some) (next_square _ len root) (range_most m len) (range_most n len));
+        (shares_are_no_longer (m * 256) (n * 256) len _ _ (wish_is_long wish_x wish_y some) (next_square _ len root) (range_most m len) (range_most n len));
   }
 
 -- ---- along an axis
@@ -131,6 +129,7 @@ none_without len = ap pos (zero-div len)
 
 pub follow_the_wish : ShotsFollowTheWish
 follow_the_wish = record {
+  box = λ origin. refl;
   up_x = λ wish up. same_parts (whole_up wish _ (length_on_x wish) up) (none_without (wish_length wish (pos 0))) refl;
   down_x = λ wish down. same_parts (whole_down wish _ (length_on_x wish) down) (none_without (wish_length wish (pos 0))) refl;
   up_y = λ wish up. same_parts (none_without (wish_length (pos 0) wish)) (whole_up wish _ (length_on_y wish) up) refl;

@@ -1,5 +1,5 @@
 -- When a shot is fired, in numbers.
-use Rattle.std.proofs.Common.{◌≡◌, ℕ, ◌+◌, ◌*◌, ◌/◌, ◌%◌, ◌<◌, ◌≤◌, ◌==◌, nat_lt, Bool, true, false, ◌&&◌, not, length, ℤ, pos, ◌*ℤ◌, refl, ap, ◌∙◌, inl, inr, arith}
+use Rattle.std.proofs.Common.{◌≡◌, ℕ, ◌+◌, ◌*◌, ◌/◌, ◌%◌, ◌<◌, ◌≤◌, ◌==◌, nat_lt, Bool, true, false, ◌&&◌, not, length, ℤ, pos, ◌*ℤ◌, ap, inl, inr, arith}
 use Rattle.std.specs.Prelude.{unsigned_abs}
 use Rattle.std.proofs.lemmas.Nat.{mul-le}
 use Rattle.std.proofs.lemmas.Bool.{cases_lt}
@@ -7,9 +7,7 @@ use Rattle.std.proofs.lemmas.Bool.Decides.{nat_tests}
 use Rattle.std.proofs.lemmas.Int.{unsigned_abs-mul}
 use Rattle.arena_geo.specs.Roots.{IsRoot}
 use Rattle.arena_geo.proofs.Squares.{root_is_greatest}
-use Rattle.entity_recs.specs.Commands.{Command}
 use Rattle.speed_rules.specs.Wishes.{wish_length}
-use Rattle.trigger_rules.specs.Touching.{Walk}
 use Rattle.shot_rules.specs.Targets.{is_set, has_aim}
 use Rattle.shot_rules.specs.Shots.{is_fired}
 use Rattle.shot_rules.specs.Laws.{IsFiring, FiringIsKnown}
@@ -21,14 +19,15 @@ use Rattle.shot_rules.proofs.Hits.{firing}
 pub in_sub_units : (wish : ℤ) → unsigned_abs (wish *ℤ pos 256) ≡ unsigned_abs wish * 256
 in_sub_units wish = unsigned_abs-mul wish (pos 256)
 
--- the root of the squares of the parts, in sub-units
+same_legs : (a b m n len : ℕ) → a ≡ m → b ≡ n → IsRoot (a * a + b * b) len → IsRoot (m * m + n * n) len
+same_legs a b m n len a_is b_is root = rw (a_is, b_is) at root
+
+-- the length of a wish is the root of the squares of its parts, in sub-units
 pub IsRoot-wish_length : (wish_x wish_y : ℤ)
-    → IsRoot
-    ((unsigned_abs wish_x * 256) * (unsigned_abs wish_x * 256) + (unsigned_abs wish_y * 256) * (unsigned_abs wish_y * 256))
-    (wish_length wish_x wish_y)
+    → IsRoot ((unsigned_abs wish_x * 256) * (unsigned_abs wish_x * 256) + (unsigned_abs wish_y * 256) * (unsigned_abs wish_y * 256)) (wish_length wish_x wish_y)
 IsRoot-wish_length wish_x wish_y =
-    rw (in_sub_units wish_x, in_sub_units wish_y) at
-    (root_is_greatest (unsigned_abs (wish_x *ℤ pos 256) * unsigned_abs (wish_x *ℤ pos 256) + unsigned_abs (wish_y *ℤ pos 256) * unsigned_abs (wish_y *ℤ pos 256)))
+    same_legs (unsigned_abs (wish_x *ℤ pos 256)) (unsigned_abs (wish_y *ℤ pos 256)) (unsigned_abs wish_x * 256) (unsigned_abs wish_y * 256) (wish_length wish_x wish_y)
+    (in_sub_units wish_x) (in_sub_units wish_y) (root_is_greatest _)
 
 root_is_long : (m n len : ℕ) → IsRoot ((m * 256) * (m * 256) + (n * 256) * (n * 256)) len → 0 < m + n → 256 ≤ len
 root_is_long m n len root some =

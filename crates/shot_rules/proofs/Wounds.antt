@@ -1,5 +1,5 @@
 -- A player that stands and is first in the way of a shot is hit, and what that does in numbers.
-use Rattle.std.proofs.Common.{◌≡◌, ℕ, ◌+◌, ◌≤◌, ◌<◌, min, nat_lt, nat_le, Bool, true, false, cond, ◌&&◌, List, Some, refl, sym, ap, ◌∙◌, subst, arith}
+use Rattle.std.proofs.Common.{◌≡◌, ℕ, ◌+◌, ◌≤◌, ◌<◌, nat_lt, nat_le, Bool, true, false, cond, ◌&&◌, List, refl, sym, ap, ◌∙◌, subst, arith}
 use Rattle.std.proofs.lemmas.Bool.Decides.{nat_tests}
 use Rattle.arena_geo.specs.Bounds.{Bounds}
 use Rattle.entity_recs.specs.declared.kind.Kind.{Kind}
@@ -49,9 +49,9 @@ hit_is_shot : (fixed : List Bounds) (near : List Rec) (c : Command) (w : Walk) (
     → after_hit c.frame (spent w) r ≡ after_shot fixed near c w
 hit_is_shot fixed near c w r fired standing first =
     sym (
-      fired_is fixed near c w fired
-      ∙ ap (after_meeting c.frame (spent w)) (first_is_met fixed near (shot_box w.me.origin) (way_along c.wish_x c.wish_y) r first)
-      ∙ ap (λ (t : Bool). cond t (after_hit c.frame (spent w) r) (spent w)) standing
+    fired_is fixed near c w fired
+    ∙ ap (after_meeting c.frame (spent w)) (first_is_met fixed near (shot_box w.me.origin) (way_along c.wish_x c.wish_y) r first)
+    ∙ ap (λ (t : Bool). cond t (after_hit c.frame (spent w) r) (spent w)) standing
     )
 
 pub first_is_hit : WhoStandsFirstIsHit

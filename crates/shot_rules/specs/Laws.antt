@@ -1,6 +1,6 @@
 -- What holds of every shot.
 use Rattle.std.specs.Prelude.{◌≡◌, ◌↔◌, ℕ, ◌+◌, ◌*◌, ◌/◌, ◌%◌, ◌<◌, ◌≤◌, min, nat_lt, true, false, ◌&&◌, List, [], ◌∷◌, ◌++◌}
-use Rattle.std.specs.Prelude.{length, map, find, Contains, Some, ℤ, pos, neg_ℤ, ◌≤ℤ◌, ◌<ℤ◌, unsigned_abs}
+use Rattle.std.specs.Prelude.{length, map, find, Contains, Some, ℤ, pos, neg_ℤ, ◌+ℤ◌, ◌-ℤ◌, ◌≤ℤ◌, ◌<ℤ◌, unsigned_abs}
 use Rattle.arena_geo.specs.declared.vec3.Vec3.{Vec3}
 use Rattle.arena_geo.specs.Vectors.{vector}
 use Rattle.arena_geo.specs.Bounds.{Bounds, bounds}
@@ -86,8 +86,12 @@ pub record IsAlongWish (wish_x wish_y : ℤ) (way : Vec3) : Type 0 where
       ≤ (unsigned_abs way.x + 1) * (unsigned_abs way.x + 1) + (unsigned_abs way.y + 1) * (unsigned_abs way.y + 1)
   pub most : unsigned_abs way.x * unsigned_abs way.x + unsigned_abs way.y * unsigned_abs way.y ≤ 65792 * 65792
 
--- a shot goes where the wish points: 65,536 along an axis where the wish is along it, and along any wish that isn't (0, 0)
+-- a shot goes where the wish points: its box is 256 around the origin, and goes 65,536 along an axis where the wish is
+-- along it, and along any wish that isn't (0, 0)
 pub record ShotsFollowTheWish : Type 0 where
+  pub box : (origin : Vec3) → shot_box origin
+      ≡ bounds (vector (origin.x -ℤ pos 256) (origin.y -ℤ pos 256) (origin.z -ℤ pos 256))
+      (vector (origin.x +ℤ pos 256) (origin.y +ℤ pos 256) (origin.z +ℤ pos 256))
   pub up_x : (wish : ℤ) → pos 0 <ℤ wish → way_along wish (pos 0) ≡ vector (pos 65536) (pos 0) (pos 0)
   pub down_x : (wish : ℤ) → wish <ℤ pos 0 → way_along wish (pos 0) ≡ vector (neg_ℤ (pos 65536)) (pos 0) (pos 0)
   pub up_y : (wish : ℤ) → pos 0 <ℤ wish → way_along (pos 0) wish ≡ vector (pos 0) (pos 65536) (pos 0)

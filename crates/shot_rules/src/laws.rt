@@ -27,8 +27,9 @@ pub fn shooters_stay_themselves()
     ensures { ShootersStayThemselves }
 {}
 
-/// A shot goes where the wish points: exactly 65,536 sub-units along an axis; else straight along the wish and as far, but
-/// for less than a sub-unit on each axis and for the length of the wish, which is rounded down.
+/// A shot goes where the wish points, as the box of 256 sub-units around the player's origin: exactly 65,536 along an axis;
+/// else straight along the wish and as far, but for less than a sub-unit on each axis and for the length of the wish, which
+/// is rounded down.
 pub fn shots_follow_the_wish()
     ensures { ShotsFollowTheWish }
 {}
