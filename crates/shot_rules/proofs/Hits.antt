@@ -50,14 +50,14 @@ same_ammo frame w (Some r) = by (stands r) (fells r.state)
     by false t = refl
 
 -- what is known where a shot is fired
-pub record IsFiring (c : Command) (w : Walk) : Type 0 where
+pub record IsFired (c : Command) (w : Walk) : Type 0 where
   pub pressed : is_set c.buttons 1 ≡ true
   pub some : 0 < w.me.ammo
   pub stayed : is_set w.me.flags 1 ≡ false
   pub few : length w.got < 8
   pub aim : has_aim c.wish_x c.wish_y ≡ true
 
-pub firing : (c : Command) (w : Walk) → is_fired c w ≡ true → IsFiring c w
+pub firing : (c : Command) (w : Walk) → is_fired c w ≡ true → IsFired c w
 firing c w fired =
     let a = is_set c.buttons 1 in
     let b = nat_lt 0 w.me.ammo in
@@ -155,6 +155,7 @@ pub record IsMet (body : Bounds) (way : Vec3) (fixed : List Bounds) (near : List
   pub within : step ≤ step_count way
   pub free : (k : ℕ) → 1 ≤ k → k < step → is_blocked (body_at body way k) (fixed ++ bodies_of_solids near) ≡ false
   pub clear : is_blocked (body_at body way step) fixed ≡ false
+  pub first : find (is_in_way (body_at body way step)) near ≡ Some r
   pub found : IsFound (is_in_way (body_at body way step)) near r
 
 next_of_way : (k n : ℕ) → (k == n) ≡ false → k ≤ n → k + 1 ≤ n
@@ -175,6 +176,7 @@ met_is body way fixed near r met = by (came == step_count way) refl (sym (target
       within = next;
       free = λ k from below. (IsTrace-trace_of body way (fixed ++ bodies_of_solids near)).free.free k from (omega (arith, below));
       clear = e;
+      first = is;
       found = found (is_in_way (body_at body way (came + 1))) near r is;
     }
 
@@ -224,6 +226,7 @@ hit_is fixed near c w r standing_is met =
       reached = (both (is_solid r.kind) (overlaps (body_at body way m.step) (body_of r)) m.found.passes).1;
       free = m.free;
       clear = m.clear;
+      first = m.first;
     }
 
 shot_is : (fixed : List Bounds) (near : List Rec) (c : Command) (w : Walk) (met : Option Rec)

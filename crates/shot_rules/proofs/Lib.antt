@@ -4,3 +4,6 @@ pub mod Nearest
 pub mod Ways
 pub mod Walks
 pub mod Hits
+pub mod Wounds
+pub mod Conditions
+pub mod Along

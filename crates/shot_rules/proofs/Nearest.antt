@@ -15,7 +15,7 @@ use Rattle.entity_recs.specs.declared.rec.Rec.{Rec}
 use Rattle.entity_recs.specs.Kinds.{is_solid}
 use Rattle.entity_recs.specs.Bodies.{body_of}
 use Rattle.trigger_rules.specs.Touching.{bodies_of_solids}
-use Rattle.shot_rules.specs.declared.meeting.Meeting.{Meeting}
+use Rattle.shot_rules.specs.declared.meeting.Met.{Met}
 use Rattle.shot_rules.specs.Targets.{is_in_way, stopper_at, target_of}
 use Rattle.shot_rules.specs.Meetings.{IsMeeting}
 use Rattle.shot_rules.proofs.Stoppers.{bodies_with_solid, bodies_with_other, clear_where_free, stopper_stays, stopper_is_last, stopper_without}
@@ -120,7 +120,7 @@ none_yet true t = refl
 none_yet false true = refl
 none_yet false false = refl
 
-pub meeting_at_first : (body : Bounds) (way : Vec3) (fixed : List Bounds) (m : Meeting) → m.steps ≡ (trace_of body way (fixed ++ [])).steps
+pub meeting_at_first : (body : Bounds) (way : Vec3) (fixed : List Bounds) (m : Met) → m.steps ≡ (trace_of body way (fixed ++ [])).steps
     → m.target ≡ None → IsMeeting body way fixed [] m
 unfolding the_none
 meeting_at_first body way fixed m steps target =
@@ -147,7 +147,7 @@ module _ (body : Bounds) (way : Vec3) (fixed : List Bounds) (near : List Rec) (r
       ap (λ (l : List Bounds). fixed ++ l) (bodies_with_solid near r solid) ∙ sym (append_assoc fixed (bodies_of_solids near) (body_of r ∷ []))
 
   -- a solid that stops the box earlier is what it meets first
-  pub with_nearer : (steps : ℕ) (m : Meeting) → IsMeeting body way fixed near m → is_solid r.kind ≡ true
+  pub with_nearer : (steps : ℕ) (m : Met) → IsMeeting body way fixed near m → is_solid r.kind ≡ true
       → steps ≡ (trace_of body way (body_of r ∷ [])).steps → steps < m.steps
       → IsMeeting body way fixed (near ++ r ∷ []) (record { steps = steps; target = Some r })
   with_nearer steps m is solid steps_is nearer =
@@ -173,7 +173,7 @@ module _ (body : Bounds) (way : Vec3) (fixed : List Bounds) (near : List Rec) (r
       }
 
   -- one that doesn't changes nothing
-  pub with_farther : (steps : ℕ) (m : Meeting) → IsMeeting body way fixed near m → is_solid r.kind ≡ true
+  pub with_farther : (steps : ℕ) (m : Met) → IsMeeting body way fixed near m → is_solid r.kind ≡ true
       → steps ≡ (trace_of body way (body_of r ∷ [])).steps → m.steps ≤ steps → IsMeeting body way fixed (near ++ r ∷ []) m
   with_farther steps m is solid steps_is farther =
       let all = all_with_solid solid in
@@ -200,7 +200,7 @@ module _ (body : Bounds) (way : Vec3) (fixed : List Bounds) (near : List Rec) (r
           (blocked_next body way solids (next_of_way came (step_count way) e (IsTrace-trace_of body way solids).within))
 
   -- and neither does a record that is no solid
-  pub with_other : (m : Meeting) → IsMeeting body way fixed near m → is_solid r.kind ≡ false → IsMeeting body way fixed (near ++ r ∷ []) m
+  pub with_other : (m : Met) → IsMeeting body way fixed near m → is_solid r.kind ≡ false → IsMeeting body way fixed (near ++ r ∷ []) m
   with_other m is other =
       let same : (trace_of body way (fixed ++ bodies_of_solids (near ++ r ∷ []))).steps ≡ came =
       ap (λ (l : List Bounds). (trace_of body way (fixed ++ l)).steps) (bodies_with_other near r other) in

@@ -1,5 +1,6 @@
 -- What holds of every shot.
-use Rattle.std.specs.Prelude.{◌≡◌, ℕ, ◌+◌, ◌<◌, ◌≤◌, nat_lt, true, false, List, ◌++◌, length, map, find, Contains, Some, ℤ, pos}
+use Rattle.std.specs.Prelude.{◌≡◌, ◌↔◌, ℕ, ◌+◌, ◌*◌, ◌/◌, ◌%◌, ◌<◌, ◌≤◌, min, nat_lt, true, false, ◌&&◌, List, [], ◌∷◌, ◌++◌}
+use Rattle.std.specs.Prelude.{length, map, find, Contains, Some, ℤ, pos, neg_ℤ, ◌+ℤ◌, ◌-ℤ◌, ◌≤ℤ◌, ◌<ℤ◌, unsigned_abs}
 use Rattle.arena_geo.specs.declared.vec3.Vec3.{Vec3}
 use Rattle.arena_geo.specs.Vectors.{vector}
 use Rattle.arena_geo.specs.Bounds.{Bounds, bounds}
@@ -7,24 +8,40 @@ use Rattle.arena_geo.specs.Boxes.{overlaps, is_blocked, contains, grown}
 use Rattle.entity_recs.specs.declared.effect.NewState.{NewState}
 use Rattle.entity_recs.specs.declared.kind.Kind.TheVariants.{Player}
 use Rattle.entity_recs.specs.declared.rec.Rec.{Rec}
+use Rattle.entity_recs.specs.Kinds.{is_solid}
 use Rattle.entity_recs.specs.Records.{with_state}
 use Rattle.entity_recs.specs.Bodies.{body_of}
 use Rattle.entity_recs.specs.Commands.{Command}
 use Rattle.box_trace.specs.Steps.{step_count, body_at}
-use Rattle.trigger_rules.specs.Touching.{Walk, bodies_of_solids}
-use Rattle.shot_rules.specs.declared.numbers.TheConstants.{FIRE, LEAPT, HALF_WIDTH, RANGE, DAMAGE, DOWN, FRAMES_DOWN}
+use Rattle.trigger_rules.specs.Touching.{Walk, bodies_of_solids, new_state}
+use Rattle.shot_rules.specs.declared.numbers.TheConstants.{FIRE, LEAPT_BIT, HALF_WIDTH, RANGE, DAMAGE, DOWN, FRAMES_DOWN}
 use Rattle.shot_rules.specs.Targets.{shot_box, shot_range, has_aim, way_along, is_in_way, target_of}
 use Rattle.shot_rules.specs.Shots.{is_down, is_fired, state_after_hit, after_hit, spent, after_shot}
 
 -- the numbers of shots have these values
 pub record NumbersAreKnown : Type 0 where
   pub fire : FIRE ≡ 1
-  pub leapt : LEAPT ≡ 1
+  pub leapt_bit : LEAPT_BIT ≡ 1
   pub half_width : HALF_WIDTH ≡ pos 256
   pub range : RANGE ≡ pos 65536
   pub damage : DAMAGE ≡ 25
   pub down : DOWN ≡ 100
   pub frames_down : FRAMES_DOWN ≡ 40
+
+-- ---- when a shot is fired
+
+-- a shot is asked for and allowed: bit 1 of the buttons is set, bit 1 of the flags isn't, there is ammunition, the wish
+-- isn't (0, 0), and fewer than 8 items were taken in this move
+pub record IsFiring (c : Command) (w : Walk) : Type 0 where
+  pub pressed : c.buttons / 2 % 2 ≡ 1
+  pub stayed : w.me.flags / 2 % 2 ≡ 0
+  pub loaded : 0 < w.me.ammo
+  pub wish : 0 < unsigned_abs c.wish_x + unsigned_abs c.wish_y
+  pub few : length w.got < 8
+
+-- a shot is fired exactly where all of this holds
+abbrev pub FiringIsKnown : Type 0
+FiringIsKnown = (c : Command) (w : Walk) → (is_fired c w ≡ true) ↔ IsFiring c w
 
 -- ---- ammunition
 
@@ -53,6 +70,35 @@ abbrev pub ShootersStayThemselves : Type 0
 ShootersStayThemselves =
     (fixed : List Bounds) (near : List Rec) (c : Command) (w : Walk) → IsShooterAfter w.me (after_shot fixed near c w).me
 
+-- ---- where a shot goes
+
+-- a way goes along this wish: to the side of the wish on each axis, level, straight but for what is cut off on each axis
+-- (less than 1), and, with that, 65,536 far, or up to 256 farther where the length of the wish was rounded down
+pub record IsAlongWish (wish_x wish_y : ℤ) (way : Vec3) : Type 0 where
+  pub up_x : pos 0 ≤ℤ wish_x → pos 0 ≤ℤ way.x
+  pub down_x : wish_x ≤ℤ pos 0 → way.x ≤ℤ pos 0
+  pub up_y : pos 0 ≤ℤ wish_y → pos 0 ≤ℤ way.y
+  pub down_y : wish_y ≤ℤ pos 0 → way.y ≤ℤ pos 0
+  pub level : way.z ≡ pos 0
+  pub straight_x : unsigned_abs way.x * unsigned_abs wish_y ≤ (unsigned_abs way.y + 1) * unsigned_abs wish_x
+  pub straight_y : unsigned_abs way.y * unsigned_abs wish_x ≤ (unsigned_abs way.x + 1) * unsigned_abs wish_y
+  pub least : 65536 * 65536
+      ≤ (unsigned_abs way.x + 1) * (unsigned_abs way.x + 1) + (unsigned_abs way.y + 1) * (unsigned_abs way.y + 1)
+  pub most : unsigned_abs way.x * unsigned_abs way.x + unsigned_abs way.y * unsigned_abs way.y ≤ 65792 * 65792
+
+-- a shot goes where the wish points: its box is 256 around the origin, and goes 65,536 along an axis where the wish is
+-- along it, and along any wish that isn't (0, 0)
+pub record ShotsFollowTheWish : Type 0 where
+  pub box : (origin : Vec3) → shot_box origin
+      ≡ bounds (vector (origin.x -ℤ pos 256) (origin.y -ℤ pos 256) (origin.z -ℤ pos 256))
+      (vector (origin.x +ℤ pos 256) (origin.y +ℤ pos 256) (origin.z +ℤ pos 256))
+  pub up_x : (wish : ℤ) → pos 0 <ℤ wish → way_along wish (pos 0) ≡ vector (pos 65536) (pos 0) (pos 0)
+  pub down_x : (wish : ℤ) → wish <ℤ pos 0 → way_along wish (pos 0) ≡ vector (neg_ℤ (pos 65536)) (pos 0) (pos 0)
+  pub up_y : (wish : ℤ) → pos 0 <ℤ wish → way_along (pos 0) wish ≡ vector (pos 0) (pos 65536) (pos 0)
+  pub down_y : (wish : ℤ) → wish <ℤ pos 0 → way_along (pos 0) wish ≡ vector (pos 0) (neg_ℤ (pos 65536)) (pos 0)
+  pub slanting : (wish_x wish_y : ℤ) → 0 < unsigned_abs wish_x + unsigned_abs wish_y
+      → IsAlongWish wish_x wish_y (way_along wish_x wish_y)
+
 -- at each step of its way the box of a shot is within 65,792 of the origin on x and y, and within 256 on z
 abbrev pub ShotsStayNear : Type 0
 ShotsStayNear =
@@ -72,6 +118,7 @@ ShotsStayInRange =
 
 -- a shot that is fired after this walk hits this record: it is that of a player that stands, whose body the box of the
 -- shot overlaps at some step of its way. At no step before is anything in the way, and at that step no wall and no block
+-- is, and of the solids that are the record is the first
 pub record IsHit (fixed : List Bounds) (near : List Rec) (c : Command) (w : Walk) (r : Rec) : Type 0 where
   pub listed : Contains near r
   pub player : r.kind ≡ Player
@@ -84,6 +131,11 @@ pub record IsHit (fixed : List Bounds) (near : List Rec) (c : Command) (w : Walk
       → is_blocked (body_at (shot_box w.me.origin) (way_along c.wish_x c.wish_y) k) (fixed ++ bodies_of_solids near)
       ≡ false
   pub clear : is_blocked (body_at (shot_box w.me.origin) (way_along c.wish_x c.wish_y) step) fixed ≡ false
+  pub first : find
+      (λ (o : Rec). is_solid o.kind
+      && overlaps (body_at (shot_box w.me.origin) (way_along c.wish_x c.wish_y) step) (body_of o))
+      near
+      ≡ Some r
 
 -- what a shot that is fired after this walk does: it hits nobody, and nothing but ammunition changes; or it hits one
 -- player
@@ -117,13 +169,31 @@ pub record IsFirstInTheWay (fixed : List Bounds) (near : List Rec) (body : Bound
   pub within : step ≤ step_count way
   pub free : (k : ℕ) → 1 ≤ k → k < step → is_blocked (body_at body way k) (fixed ++ bodies_of_solids near) ≡ false
   pub clear : is_blocked (body_at body way step) fixed ≡ false
-  pub first : find (is_in_way (body_at body way step)) near ≡ Some r
+  pub first : find (λ (o : Rec). is_solid o.kind && overlaps (body_at body way step) (body_of o)) near ≡ Some r
 
 -- who is first in the way is met
 abbrev pub WhoIsFirstIsMet : Type 0
 WhoIsFirstIsMet =
     (fixed : List Bounds) (near : List Rec) (body : Bounds) (way : Vec3) (r : Rec)
     → IsFirstInTheWay fixed near body way r → target_of body way fixed near ≡ Some r
+
+-- after this walk and a hit on this record: its id stands first in what was got, its new state last. Below 100 that is 25
+-- more; else the player is down until 40 frames after this one, and who fired has a point more, up to 4,294,967,295
+pub record IsHitDone (frame : ℕ) (w : Walk) (r : Rec) (after : Walk) : Type 0 where
+  pub state : ℕ
+  pub states : after.states ≡ w.states ++ new_state r.id state ∷ []
+  pub got : after.got ≡ r.id ∷ w.got
+  pub wounded : r.state + 25 < 100 → (state ≡ r.state + 25) × (after.me.score ≡ w.me.score)
+  pub fallen : 100 ≤ r.state + 25
+      → (state ≡ 100 + (frame + 40)) × (after.me.score ≡ min 4294967295 (w.me.score + 1))
+
+-- who is first in the way of a shot, and stands, is hit
+abbrev pub WhoStandsFirstIsHit : Type 0
+WhoStandsFirstIsHit =
+    (fixed : List Bounds) (near : List Rec) (c : Command) (w : Walk) (r : Rec) → is_fired c w ≡ true
+    → IsFirstInTheWay fixed near (shot_box w.me.origin) (way_along c.wish_x c.wish_y) r
+    → r.kind ≡ Player → r.state < 100
+    → IsHitDone c.frame w r (after_shot fixed near c w)
 
 -- ---- damage
 

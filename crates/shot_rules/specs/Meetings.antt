@@ -5,10 +5,10 @@ use Rattle.arena_geo.specs.Bounds.{Bounds}
 use Rattle.entity_recs.specs.declared.rec.Rec.{Rec}
 use Rattle.box_trace.specs.Traces.{trace_of}
 use Rattle.trigger_rules.specs.Touching.{bodies_of_solids}
-use Rattle.shot_rules.specs.declared.meeting.Meeting.{Meeting}
+use Rattle.shot_rules.specs.declared.meeting.Met.{Met}
 use Rattle.shot_rules.specs.Targets.{target_of}
 
 -- the box goes so many steps, and meets this one among the walls, the blocks and these records
-pub record IsMeeting (body : Bounds) (way : Vec3) (fixed : List Bounds) (near : List Rec) (m : Meeting) : Type 0 where
+pub record IsMeeting (body : Bounds) (way : Vec3) (fixed : List Bounds) (near : List Rec) (m : Met) : Type 0 where
   pub steps : m.steps ≡ (trace_of body way (fixed ++ bodies_of_solids near)).steps
   pub target : m.target ≡ target_of body way fixed near

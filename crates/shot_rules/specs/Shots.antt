@@ -8,7 +8,7 @@ use Rattle.entity_recs.specs.declared.kind.Kind.TheVariants.{Player}
 use Rattle.entity_recs.specs.declared.rec.Rec.{Rec}
 use Rattle.entity_recs.specs.Commands.{Command}
 use Rattle.trigger_rules.specs.Touching.{Walk, walk_of, new_state}
-use Rattle.shot_rules.specs.declared.numbers.TheConstants.{FIRE, LEAPT, DAMAGE, DOWN, FRAMES_DOWN}
+use Rattle.shot_rules.specs.declared.numbers.TheConstants.{FIRE, LEAPT_BIT, DAMAGE, DOWN, FRAMES_DOWN}
 use Rattle.shot_rules.specs.Targets.{is_set, shot_box, has_aim, way_along, target_of}
 
 -- ---- who is down
@@ -23,7 +23,7 @@ is_down me frame = nat_le DOWN me.state && nat_lt frame (me.state - DOWN)
 -- 8 items were taken in this move
 abbrev pub may_fire : Command → Rec → List ℕ → Bool
 may_fire c me got =
-    is_set c.buttons FIRE && nat_lt 0 me.ammo && not (is_set me.flags LEAPT) && nat_lt (length got) LIST_LEN
+    is_set c.buttons FIRE && nat_lt 0 me.ammo && not (is_set me.flags LEAPT_BIT) && nat_lt (length got) LIST_LEN
 
 -- a shot is fired: the player may fire, and it wishes to go somewhere, which is where the shot goes
 abbrev pub is_fired : Command → Walk → Bool

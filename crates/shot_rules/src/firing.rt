@@ -7,7 +7,7 @@ ghost use Rattle.shot_rules.specs.Shots as shots;
 
 use crate::aiming::{is_set, shot_box, shot_way};
 use crate::meeting::target;
-use crate::numbers::{DAMAGE, DOWN, FIRE, FRAMES_DOWN, LEAPT};
+use crate::numbers::{DAMAGE, DOWN, FIRE, FRAMES_DOWN, LEAPT_BIT};
 use arena_geo::Aabb;
 use entity_recs::{Cmd, IdList, Kind, LIST_LEN, NewState, Rec, StateList};
 
@@ -25,7 +25,7 @@ fn may_fire(me: &Rec, cmd: &Cmd, got: &IdList) -> bool
 {
     is_set(cmd.buttons, FIRE)
         && me.ammo > 0
-        && !is_set(me.flags, LEAPT)
+        && !is_set(me.flags, LEAPT_BIT)
         && got.as_slice().len() < LIST_LEN
 }
 

@@ -15,7 +15,7 @@ use entity_recs::{Rec, body_box};
 
 /// What a box meets first on its way.
 #[derive(Clone, Copy)]
-pub struct Meeting {
+pub struct Met {
     /// How many steps the box goes.
     pub steps: u32,
     /// The live solid that stops it then. `None` where nothing does, or a wall or a block.
@@ -23,7 +23,7 @@ pub struct Meeting {
 }
 
 /// What a box meets first, with one record more after those that were looked at.
-fn meeting_with(first: Meeting, body: &Aabb, way: Vec3, r: &Rec) -> Meeting
+fn meeting_with(first: Met, body: &Aabb, way: Vec3, r: &Rec) -> Met
     requires near { IsNear REACH way }
     requires in_range { IsInRange (moved body.now way) }
     requires record { IsRecord r.now }
@@ -35,7 +35,7 @@ fn meeting_with(first: Meeting, body: &Aabb, way: Vec3, r: &Rec) -> Meeting
     }
     let steps = trace(body, way, &[body_box(r)], &[]).steps;
     if steps < first.steps {
-        Meeting {
+        Met {
             steps,
             target: Some(*r),
         }
@@ -53,7 +53,7 @@ pub fn target(body: &Aabb, way: Vec3, fixed: &[Aabb], near: &[Rec]) -> Option<Re
     requires records { All IsRecord near.now }
     ensures { result ≡ targets.target_of body.now way fixed.now near.now }
 {
-    let mut first = Meeting {
+    let mut first = Met {
         steps: trace(body, way, fixed, &[]).steps,
         target: None,
     };

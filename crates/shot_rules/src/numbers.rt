@@ -2,7 +2,7 @@
 pub const FIRE: u8 = 1;
 
 /// The bit of a player's flags that says that its last move ended in a teleporter.
-pub const LEAPT: u8 = 1;
+pub const LEAPT_BIT: u8 = 1;
 
 /// How far the box of a shot reaches from the origin of who fires it, on both sides of each axis, in sub-units: a unit.
 pub const HALF_WIDTH: i32 = 256;
