@@ -85,6 +85,7 @@ fn action_with_gems(alloc: Global) -> Result<MapAction, MapRefusal>
 
 /// The player in slot 0 on the floor, at rest at this x, with so much ammunition, at most 100, in this state.
 fn shooter(x: i16, ammo: u8, state: u64) -> Rec
+    ensures id { result.id ≡ 0 }
     ensures kind { result.kind ≡ Player }
     ensures record { IsRecord result }
     ensures score { result.score ≡ 0 }
@@ -139,7 +140,16 @@ fn gem(id: u16, state: u64) -> Rec
     Rec {
         id,
         kind: Kind::Gem,
-        ..item(state)
+        origin: at(0, 4_000, 0),
+        mins: ITEM_MINS,
+        maxs: ITEM_MAXS,
+        vel: Vec3::ZERO,
+        flags: 0,
+        ammo: 0,
+        carry: 0,
+        score: 0,
+        seq: 0,
+        state,
     }
 }
 
@@ -157,13 +167,7 @@ fn command(frame: u32, buttons: u8) -> Cmd {
 }
 
 /// What a command does among two records in rising id, if the player's body is inside the arena.
-fn effect_of_two(
-    action: &MapAction,
-    me: &Rec,
-    first: Rec,
-    second: Rec,
-    cmd: &Cmd,
-) -> Option<Effect>
+fn effect_of_two(action: &MapAction, me: &Rec, first: Rec, second: Rec, cmd: &Cmd) -> Option<Effect>
     requires of_its_map { IsOfItsMap action.now }
     requires kind { me.now.kind ≡ Player }
     requires record { IsRecord me.now }
@@ -253,6 +257,32 @@ fn a_block_stops_each_of_five_shots(rt: HostRuntime) -> Result<(), Fail> {
     Ok(())
 }
 
+/// Who was felled in frame 0 sends a move in that frame.
+#[test]
+fn a_player_that_fell_stays_where_it_is(rt: HostRuntime) -> Result<(), Fail> {
+    let action = action_with(rt.alloc(), &MapLine::Shots, &spawn()).map_err(|_| "a map")?;
+    let me = target(140);
+    let cmd = Cmd {
+        slot: 1,
+        seq: 1,
+        frame: 0,
+        ms: 50,
+        wish_x: 320,
+        wish_y: 0,
+        buttons: 0,
+    };
+    let effect = effect_of_two(&action, &me, shooter(30, 15, 0), item(100), &cmd);
+    let effect = effect.ok_or("inside")?;
+    expect_changed(&rt, &effect, None, false);
+    assert_eq!(rt; effect.reply.origin, at(20_000, 0, 6_144));
+    assert_eq!(rt;
+        (effect.me.origin, effect.me.state),
+        (at(20_000, 0, 6_144), 140)
+    );
+    assert_eq!(rt; (effect.me.flags, effect.me.seq), (0, 1));
+    Ok(())
+}
+
 /// A player with 20 of ammunition, on its way with five gems, that touches the ammunition and aims at the target.
 fn carrier(state: u64) -> Rec
     ensures kind { result.kind ≡ Player }
@@ -318,11 +348,7 @@ fn a_player_that_was_down_moves_and_shoots_again(rt: HostRuntime) -> Result<(), 
 #[test]
 fn no_shot_is_fired_without_ammunition_or_its_button(rt: HostRuntime) -> Result<(), Fail> {
     let action = action_with(rt.alloc(), &MapLine::Shots, &spawn()).map_err(|_| "a map")?;
-    for (ammo, buttons, hit, left) in [
-        (0, 2, None, 0),
-        (1, 2, Some(25), 0),
-        (1, 0, None, 1),
-    ] {
+    for (ammo, buttons, hit, left) in [(0, 2, None, 0), (1, 2, Some(25), 0), (1, 0, None, 1)] {
         let me = shooter(0, ammo, 0);
         let effect = effect_of_two(&action, &me, target(0), item(7), &command(0, buttons));
         let effect = effect.ok_or("inside")?;

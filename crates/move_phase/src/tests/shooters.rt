@@ -370,7 +370,13 @@ fn hold_first<A: Action>(
     let entry = commit(table, first)?;
     assert_eq!(rt; table.turn(first), Some(Turn::Unlink));
     let target = target_now(rt, table, second)?;
-    assert_eq!(rt; target, Rec { state: damage, ..TARGET });
+    assert_eq!(rt;
+        target,
+        Rec {
+            state: damage,
+            ..TARGET
+        }
+    );
     let held = Again::Held {
         leaf: 9,
         holder: 0,
