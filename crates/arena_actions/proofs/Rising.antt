@@ -1,6 +1,8 @@
--- Ids that rise are few.
-use Rattle.std.proofs.Common.{◌≡◌, ℕ, zero, suc, ◌+◌, ◌<◌, ◌≤◌, List, [], ◌∷◌, length, slice_index, map, All, ap, ◌∙◌, subst, arith}
+-- Ids that rise: few ones, and those of a list that is known.
+use Rattle.std.proofs.Common.{◌≡◌, ℕ, zero, suc, ◌+◌, ◌<◌, ◌≤◌, Bool, true, List, [], ◌∷◌, length, slice_index, map, All, ap, ◌∙◌, subst, arith}
+use Rattle.std.specs.Prelude.{nat_lt, ◌&&◌}
 use Rattle.std.specs.List.Sorted.{IsStrictlyIncreasing}
+use Rattle.std.proofs.lemmas.Bool.Decides.{nat_tests}
 use Rattle.std.proofs.lemmas.List.{length-map}
 use Rattle.std.proofs.lemmas.List.Elements.{All-get_or, All-map, All-weaker}
 use Rattle.entity_recs.specs.declared.limits.TheConstants.{IDS}
@@ -8,6 +10,7 @@ use Rattle.entity_recs.specs.declared.kind.Kind.{Kind}
 use Rattle.entity_recs.specs.declared.kind.Kind.TheVariants.{Player, Ammo, Gem, Teleporter, Goal, Lift}
 use Rattle.entity_recs.specs.declared.rec.Rec.{Rec}
 use Rattle.entity_recs.specs.Records.{IsRecord, IsIdOf}
+use Rattle.trigger_rules.proofs.Steps.{both}
 
 -- a number of a list that rises is at least its place
 rises : (xs : List ℕ) (k : ℕ) → IsStrictlyIncreasing xs → k < length xs → k ≤ slice_index xs k
@@ -42,3 +45,28 @@ few_records (r ∷ near) records rise =
   where
     add_one : (n : ℕ) → suc n ≡ n + 1
     add_one n = omega arith
+
+-- ---- lists that are known
+
+pub two_rise : (a b : ℕ) → a < b → IsStrictlyIncreasing (a ∷ b ∷ [])
+two_rise a b less zero more = less
+two_rise a b less (suc k) more = absurd (omega (arith, more))
+
+-- each number is below the next one
+abbrev pub each_below : List ℕ → Bool
+each_below [] = true
+each_below (a ∷ []) = true
+each_below (a ∷ (b ∷ xs)) = nat_lt a b && each_below (b ∷ xs)
+
+below : (a b : ℕ) → nat_lt a b ≡ true → a < b
+below a b e = grind (arith, nat_tests)
+
+-- then the list rises
+pub rise_by_test : (xs : List ℕ) → each_below xs ≡ true → IsStrictlyIncreasing xs
+rise_by_test [] test k within = absurd (omega (arith, within))
+rise_by_test (a ∷ []) test k within = absurd (omega (arith, within))
+rise_by_test (a ∷ (b ∷ xs)) test zero within = below a b (both (nat_lt a b) (each_below (b ∷ xs)) test).0
+rise_by_test (a ∷ (b ∷ xs)) test (suc k) within =
+    let later : suc k + 1 ≡ suc (k + 1) = omega arith in
+    let rest = rise_by_test (b ∷ xs) (both (nat_lt a b) (each_below (b ∷ xs)) test).1 k (omega (arith, within)) in
+    subst (λ (j : ℕ). slice_index (b ∷ xs) k < slice_index (a ∷ (b ∷ xs)) j) later rest

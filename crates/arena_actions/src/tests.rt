@@ -17,6 +17,8 @@ use std::alloc::Global;
 use std::process::Abort;
 use std::test::Fail;
 
+mod shots;
+
 fn at(x: i32, y: i32, z: i32) -> Vec3
     ensures { result ≡ record { x = x; y = y; z = z } }
 {

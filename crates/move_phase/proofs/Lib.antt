@@ -12,3 +12,4 @@ pub mod Journals
 pub mod SmallNumbers
 pub mod ArenaMoves
 pub mod TestWorlds
+pub mod TakenPlayers

@@ -24,6 +24,8 @@ use std::test::Fail;
 use std::thread::Threads;
 use world_tree::World;
 
+mod shooters;
+
 fn at(x: i32, y: i32, z: i32) -> Vec3
     ensures { result ≡ record { x = x; y = y; z = z } }
 {

@@ -1,0 +1,42 @@
+-- The records of players that a map's action takes: those of players inside the arena.
+use Rattle.std.proofs.Common.{◌≡◌, ◌<◌, ◌≤◌, Bool, true, List, [], ◌∷◌, sym, ap, ◌∙◌, subst, arith}
+use Rattle.std.specs.Prelude.{All}
+use Rattle.std.proofs.lemmas.List.Elements.{All-cons, All-nil}
+use Rattle.arena_geo.specs.Bounds.{Bounds}
+use Rattle.arena_geo.specs.Boxes.{contains}
+use Rattle.entity_recs.specs.declared.kind.Kind.TheVariants.{Player}
+use Rattle.entity_recs.specs.declared.rec.Rec.{Rec}
+use Rattle.entity_recs.specs.Records.{IsRecord}
+use Rattle.entity_recs.specs.Bodies.{body_of}
+use Rattle.arena_map.specs.Maps.{MapView}
+use Rattle.arena_actions.specs.declared.map_action.MapAction.{MapAction}
+use Rattle.arena_actions.specs.declared.map_action.MapAction.TheVariants.{Plain, Shots}
+use Rattle.arena_actions.specs.MapActions.{map_in, meaning_in}
+use Rattle.arena_actions.specs.Lawful.Taking.{player_is_taken}
+
+-- a player inside the arena, whose numbers have 32 bits
+pub player_taken : (action : MapAction) (r : Rec) → r.kind ≡ Player → IsRecord r → r.score ≤ 4294967295 → r.seq < 4294967296 → contains (map_in action).bounds (body_of r) ≡ true
+    → (meaning_in action).takes r ≡ true
+player_taken (Plain a) r kind is_record score seq inside =
+    player_is_taken a.map r (record { kind = kind; is_record = is_record; score = score; inside = inside }) seq
+player_taken (Shots a) r kind is_record score seq inside =
+    player_is_taken a.arena.map r (record { kind = kind; is_record = is_record; score = score; inside = inside }) seq
+
+-- what was tested is the player's body in the arena
+pub inside_by_test : (map asked : MapView) (bounds body : Bounds) (me : Rec) (inside : Bool) → asked ≡ map → bounds ≡ asked.bounds → body ≡ body_of me → inside ≡ contains bounds body → inside ≡ true
+    → contains map.bounds (body_of me) ≡ true
+inside_by_test map asked bounds body me inside asked_is bounds_are body_is inside_is is =
+    ap (λ (m : MapView). contains m.bounds (body_of me)) (sym asked_is)
+    ∙ ap (λ (b : Bounds). contains b (body_of me)) (sym bounds_are)
+    ∙ ap (contains bounds) (sym body_is)
+    ∙ sym inside_is
+    ∙ is
+
+-- three records that are taken, as a list is known to have them
+pub three_taken : (takes : Rec → Bool) (live : List Rec) (a b c : Rec) → live ≡ a ∷ b ∷ c ∷ [] → takes a ≡ true → takes b ≡ true → takes c ≡ true
+    → All (λ (r : Rec). takes r ≡ true) live
+three_taken takes live a b c is one two three =
+    subst (All (λ (r : Rec). takes r ≡ true)) (sym is)
+    (All-cons (λ (r : Rec). takes r ≡ true) a (b ∷ c ∷ []) one
+    (All-cons (λ (r : Rec). takes r ≡ true) b (c ∷ []) two
+    (All-cons (λ (r : Rec). takes r ≡ true) c [] three (All-nil (λ (r : Rec). takes r ≡ true)))))
