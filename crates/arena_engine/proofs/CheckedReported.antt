@@ -36,6 +36,7 @@ module _ {S K : Type 0} (s : sources.Ghosts S) (k : sinks.Ghosts K) (source sour
       → (r.status ≡ 0 → Appends (k.taken sink) (k.taken sink') (right_text frames moves)) → (r.status ≡ 4 → AppendsPart (k.taken sink) (k.taken sink') (right_text frames moves))
       → Counts 4 (k.faults sink) (k.faults sink') r.status → (300 ≤ k.room sink → r.status ≡ 4 → ⊥) → IsChecked s k source source' sink sink' r
   right_checked frames moves judges status whole part counts sure = record {
+    known = elim status [ inl e ↦ omega (arith, e) | inr e ↦ omega (arith, e) ];
     done = λ is. record { frames = frames; moves = moves; judged = judges.judged; line = whole is };
     wrong = λ is. absurd (neither 6 is (λ e. omega (arith, e)) (λ e. omega (arith, e)));
     refused = λ is. absurd (neither 1 is (λ e. omega (arith, e)) (λ e. omega (arith, e)));
@@ -67,6 +68,7 @@ module _ {S K : Type 0} (s : sources.Ghosts S) (k : sinks.Ghosts K) (source sour
   -- it is wrong
   pub wrong_checked : (line : ℕ) → r.line ≡ line → r.status ≡ 6 → sink' ≡ sink → Judges s 2000 source source' (Wrong line) → IsChecked s k source source' sink sink' r
   wrong_checked line line_is status same judges = record {
+    known = omega (arith, status);
     done = λ is. absurd (omega (arith, is, status));
     wrong = λ is. subst (λ n. IfSome (s.left source) (IsJudged 2000 (Wrong n))) (sym line_is) judges.judged;
     refused = λ is. absurd (omega (arith, is, status));
@@ -97,6 +99,7 @@ module _ {S K : Type 0} (s : sources.Ghosts S) (k : sinks.Ghosts K) (source sour
   -- the recording was refused
   pub refusal_checked : r.status ≡ 1 → sink' ≡ sink → RefusesRecording s 2000 source source' (refusal_of r) → IsChecked s k source source' sink sink' r
   refusal_checked status same refuses = record {
+    known = omega (arith, status);
     done = λ is. absurd (omega (arith, is, status));
     wrong = λ is. absurd (omega (arith, is, status));
     refused = λ is. refuses.faulty;
@@ -112,6 +115,7 @@ module _ {S K : Type 0} (s : sources.Ghosts S) (k : sinks.Ghosts K) (source sour
   -- a read failed
   pub read_fault_checked : r.status ≡ 3 → sink' ≡ sink → FailsToRead s 2000 source source' → IsChecked s k source source' sink sink' r
   read_fault_checked status same fails = record {
+    known = omega (arith, status);
     done = λ is. absurd (omega (arith, is, status));
     wrong = λ is. absurd (omega (arith, is, status));
     refused = λ is. absurd (omega (arith, is, status));
@@ -133,6 +137,7 @@ module _ {S K : Type 0} (s : sources.Ghosts S) (k : sinks.Ghosts K) (source sour
   -- memory was refused
   pub memory_checked : r.status ≡ 5 → sink' ≡ sink → IsChecked s k source source' sink sink' r
   memory_checked status same = record {
+    known = omega (arith, status);
     done = λ is. absurd (omega (arith, is, status));
     wrong = λ is. absurd (omega (arith, is, status));
     refused = λ is. absurd (omega (arith, is, status));

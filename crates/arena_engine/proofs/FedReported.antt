@@ -46,6 +46,7 @@ not_faulty workers (Some bytes) t0 t1 last written some = let never : false ≡ 
 module _ {S K : Type 0} (s : sources.Ghosts S) (k : sinks.Ghosts K) (workers : ℕ) (source source' : S) (sink sink' : K) (r : Report) (all : r.all ≡ []) where
   pub all_fed_reported : r.status ≡ 0 → FedPlaysAll s k workers source source' sink sink' (last_fed_in r) → IsFed s k workers source source' sink sink' r
   all_fed_reported status played = record {
+    known = omega (arith, status);
     done = λ is. played.output;
     read = λ is. played.read;
     refused = λ is. absurd (omega (arith, is, status));
@@ -64,6 +65,7 @@ module _ {S K : Type 0} (s : sources.Ghosts S) (k : sinks.Ghosts K) (workers : �
 
   pub refusal_fed_reported : r.status ≡ 1 → FedStopsAtRefusal s k workers source source' sink sink' (last_fed_in r) (refusal_of r) → IsFed s k workers source source' sink sink' r
   refusal_fed_reported status stopped = record {
+    known = omega (arith, status);
     done = λ is. absurd (omega (arith, is, status));
     read = λ is. absurd (omega (arith, is, status));
     refused = λ is. stopped.output;
@@ -82,6 +84,7 @@ module _ {S K : Type 0} (s : sources.Ghosts S) (k : sinks.Ghosts K) (workers : �
 
   pub read_fault_fed_reported : r.status ≡ 3 → FedStopsAtReadFault s k workers source source' sink sink' (last_fed_in r) → IsFed s k workers source source' sink sink' r
   read_fault_fed_reported status stopped = record {
+    known = omega (arith, status);
     done = λ is. absurd (omega (arith, is, status));
     read = λ is. absurd (omega (arith, is, status));
     refused = λ is. absurd (omega (arith, is, status));
@@ -100,6 +103,7 @@ module _ {S K : Type 0} (s : sources.Ghosts S) (k : sinks.Ghosts K) (workers : �
 
   pub write_fault_fed_reported : r.status ≡ 4 → FedStopsAtWriteFault s k workers source source' sink sink' (last_fed_in r) → IsFed s k workers source source' sink sink' r
   write_fault_fed_reported status stopped = record {
+    known = omega (arith, status);
     done = λ is. absurd (omega (arith, is, status));
     read = λ is. absurd (omega (arith, is, status));
     refused = λ is. absurd (omega (arith, is, status));
@@ -118,6 +122,7 @@ module _ {S K : Type 0} (s : sources.Ghosts S) (k : sinks.Ghosts K) (workers : �
 
   pub memory_fed_reported : r.status ≡ 5 → FedStopsAtMemory s k workers source source' sink sink' (last_fed_in r) → IsFed s k workers source source' sink sink' r
   memory_fed_reported status stopped = record {
+    known = omega (arith, status);
     done = λ is. absurd (omega (arith, is, status));
     read = λ is. absurd (omega (arith, is, status));
     refused = λ is. absurd (omega (arith, is, status));

@@ -38,6 +38,7 @@ second_of (Some bytes) P Q both = both.1
 module _ {S K : Type 0} (s : sources.Ghosts S) (k : sinks.Ghosts K) (workers : ℕ) (source source' : S) (sink sink' : K) (r : Report) (all : r.all ≡ []) where
   pub all_reported : r.status ≡ 0 → PlaysAll s k workers source source' sink sink' (last_in r) → IsPlayed s k workers source source' sink sink' r
   all_reported status played = record {
+    known = omega (arith, status);
     done = λ is. played.output;
     read = λ is. played.read;
     refused = λ is. absurd (omega (arith, is, status));
@@ -56,6 +57,7 @@ module _ {S K : Type 0} (s : sources.Ghosts S) (k : sinks.Ghosts K) (workers : �
 
   pub refusal_reported : r.status ≡ 1 → StopsAtRefusal s k workers source source' sink sink' (last_in r) (refusal_of r) → IsPlayed s k workers source source' sink sink' r
   refusal_reported status stopped = record {
+    known = omega (arith, status);
     done = λ is. absurd (omega (arith, is, status));
     read = λ is. absurd (omega (arith, is, status));
     refused = λ is. stopped.output;
@@ -74,6 +76,7 @@ module _ {S K : Type 0} (s : sources.Ghosts S) (k : sinks.Ghosts K) (workers : �
 
   pub read_fault_reported : r.status ≡ 3 → StopsAtReadFault s k workers source source' sink sink' (last_in r) → IsPlayed s k workers source source' sink sink' r
   read_fault_reported status stopped = record {
+    known = omega (arith, status);
     done = λ is. absurd (omega (arith, is, status));
     read = λ is. absurd (omega (arith, is, status));
     refused = λ is. absurd (omega (arith, is, status));
@@ -92,6 +95,7 @@ module _ {S K : Type 0} (s : sources.Ghosts S) (k : sinks.Ghosts K) (workers : �
 
   pub write_fault_reported : r.status ≡ 4 → StopsAtWriteFault s k workers source source' sink sink' (last_in r) → IsPlayed s k workers source source' sink sink' r
   write_fault_reported status stopped = record {
+    known = omega (arith, status);
     done = λ is. absurd (omega (arith, is, status));
     read = λ is. absurd (omega (arith, is, status));
     refused = λ is. absurd (omega (arith, is, status));
@@ -110,6 +114,7 @@ module _ {S K : Type 0} (s : sources.Ghosts S) (k : sinks.Ghosts K) (workers : �
 
   pub memory_reported : r.status ≡ 5 → StopsAtMemory s k workers source source' sink sink' (last_in r) → IsPlayed s k workers source source' sink sink' r
   memory_reported status stopped = record {
+    known = omega (arith, status);
     done = λ is. absurd (omega (arith, is, status));
     read = λ is. absurd (omega (arith, is, status));
     refused = λ is. absurd (omega (arith, is, status));

@@ -96,6 +96,7 @@ module _ {S K : Type 0} (s : sources.Ghosts S) (k : sinks.Ghosts K) (target : �
   module _ (m : MapView) (given : GivesMap s source source' m) where
     pub way_planned : r.status ≡ 0 → WritesWay k m target sink sink' → IsPlanned s k target source source' sink sink' r
     way_planned status writes = record {
+      known = λ is. omega (arith, is, status);
       done = λ is. of-map (s.left source) m _ given.faultless given.map_is writes.written;
       no_spawn = λ is fault_is. absurd (omega (arith, is, status));
       no_walk = λ is fault_is. absurd (omega (arith, is, status));
@@ -113,6 +114,7 @@ module _ {S K : Type 0} (s : sources.Ghosts S) (k : sinks.Ghosts K) (target : �
 
     pub no_spawn_planned : r.status ≡ 7 → r.fault ≡ 1 → WritesNothing k m target sink sink' → IsPlanned s k target source source' sink sink' r
     no_spawn_planned status one writes = record {
+      known = λ is. omega (arith, is, status);
       done = λ is. absurd (omega (arith, is, status));
       no_spawn = λ is fault_is. (of-map (s.left source) m _ given.faultless given.map_is writes.past, writes.same);
       no_walk = λ is fault_is. absurd (omega (arith, fault_is, one));
@@ -130,6 +132,7 @@ module _ {S K : Type 0} (s : sources.Ghosts S) (k : sinks.Ghosts K) (target : �
 
     pub no_walk_planned : r.status ≡ 7 → r.fault ≡ 2 → WritesLeast k m target sink sink' → IsPlanned s k target source source' sink sink' r
     no_walk_planned status two writes = record {
+      known = λ is. omega (arith, is, status);
       done = λ is. absurd (omega (arith, is, status));
       no_spawn = λ is fault_is. absurd (omega (arith, fault_is, two));
       no_walk = λ is fault_is. of-map (s.left source) m _ given.faultless given.map_is writes.written;
@@ -147,6 +150,7 @@ module _ {S K : Type 0} (s : sources.Ghosts S) (k : sinks.Ghosts K) (target : �
 
     pub cut_planned : r.status ≡ 4 → WritesCut k m target sink sink' → IsPlanned s k target source source' sink sink' r
     cut_planned status cuts = record {
+      known = λ is. omega (arith, is, status);
       done = λ is. absurd (omega (arith, is, status));
       no_spawn = λ is fault_is. absurd (omega (arith, is, status));
       no_walk = λ is fault_is. absurd (omega (arith, is, status));
@@ -166,6 +170,7 @@ module _ {S K : Type 0} (s : sources.Ghosts S) (k : sinks.Ghosts K) (target : �
 
   pub memory_planned : r.status ≡ 5 → sink' ≡ sink → IsPlanned s k target source source' sink sink' r
   memory_planned status same = record {
+    known = λ is. omega (arith, is, status);
     done = λ is. absurd (omega (arith, is, status));
     no_spawn = λ is fault_is. absurd (omega (arith, is, status));
     no_walk = λ is fault_is. absurd (omega (arith, is, status));
@@ -183,6 +188,7 @@ module _ {S K : Type 0} (s : sources.Ghosts S) (k : sinks.Ghosts K) (target : �
 
   pub refusal_planned : r.status ≡ 1 → sink' ≡ sink → GivesRefusal s source source' (refusal_of r) → IsPlanned s k target source source' sink sink' r
   refusal_planned status same given = record {
+    known = λ is. omega (arith, is, status);
     done = λ is. absurd (omega (arith, is, status));
     no_spawn = λ is fault_is. absurd (omega (arith, is, status));
     no_walk = λ is fault_is. absurd (omega (arith, is, status));
@@ -200,6 +206,7 @@ module _ {S K : Type 0} (s : sources.Ghosts S) (k : sinks.Ghosts K) (target : �
 
   pub read_fault_planned : r.status ≡ 3 → sink' ≡ sink → GivesReadFault s source source' → IsPlanned s k target source source' sink sink' r
   read_fault_planned status same given = record {
+    known = λ is. omega (arith, is, status);
     done = λ is. absurd (omega (arith, is, status));
     no_spawn = λ is fault_is. absurd (omega (arith, is, status));
     no_walk = λ is fault_is. absurd (omega (arith, is, status));

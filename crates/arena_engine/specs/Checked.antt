@@ -24,6 +24,8 @@ pub record FindsRight (left : Option (List ℕ)) (P : List ℕ → Type 0) : Typ
 -- what follows a recording from this source was compared with its output, and what was found was written to this sink
 pub record IsChecked {S K : Type 0} (s : sources.Ghosts S) (k : sinks.Ghosts K) (source source' : S) (sink sink' : K) (r : Report)
     : Type 0 where
+  -- its status isn't the one that only `bots` gives
+  pub known : r.status ≤ 6
   -- the transcript is right, and the line that says so was written
   pub done : r.status ≡ 0 → FindsRight (s.left source) (Appends (k.taken sink) (k.taken sink'))
   -- it is wrong, and the report has the first line of the first wrong piece
@@ -35,7 +37,7 @@ pub record IsChecked {S K : Type 0} (s : sources.Ghosts S) (k : sinks.Ghosts K) 
   pub cut : r.status ≡ 4 → FindsRight (s.left source) (AppendsPart (k.taken sink) (k.taken sink'))
   -- nothing was written
   pub nothing : (r.status ≡ 1) ⊎ (r.status ≡ 3) ⊎ (r.status ≡ 5) ⊎ (r.status ≡ 6) → sink' ≡ sink
-  -- no frame was run at the same time as another: no journal is reported
+  -- no frame is run on workers: no journal is reported
   pub no_frame : r.last ≡ None
   pub no_journals : r.all ≡ []
   -- no write fails where there is room

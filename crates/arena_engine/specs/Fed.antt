@@ -1,5 +1,5 @@
 -- What a recording whose packets client threads sent has read and written.
-use Rattle.std.specs.Prelude.{◌≡◌, ℕ, true, [], IfSome, IsSomeAnd, IsSome, None}
+use Rattle.std.specs.Prelude.{◌≡◌, ◌≤◌, ℕ, true, [], IfSome, IsSomeAnd, IsSome, None}
 use Rattle.edge_io.specs.declared.source.Source as sources
 use Rattle.edge_io.specs.declared.sink.Sink as sinks
 use Rattle.demo_lines.specs.Bytes.{fault, map_of}
@@ -22,6 +22,8 @@ last_fed_in r = record { order = r.order; journal = last_in r }
 -- written to this sink
 pub record IsFed {S K : Type 0} (s : sources.Ghosts S) (k : sinks.Ghosts K) (workers : ℕ) (source source' : S) (sink sink' : K)
     (r : Report) : Type 0 where
+  -- its status isn't one of those that only `check` and `bots` give
+  pub known : r.status ≤ 5
   -- its output was written, in the order of arrival and with the journals that it spells; the report has the last of both
   pub done : r.status ≡ 0 → IfSome (s.left source) (λ bytes.
       Writes (k.taken sink) (k.taken sink') (HasLastFed (IsFedOutput workers bytes) bytes r.order (last_in r)))

@@ -1,5 +1,5 @@
 -- What a recording that was played has read and written.
-use Rattle.std.specs.Prelude.{◌≡◌, ℕ, true, [], IfSome, IsSomeAnd, IsSome, None}
+use Rattle.std.specs.Prelude.{◌≡◌, ◌≤◌, ℕ, true, [], IfSome, IsSomeAnd, IsSome, None}
 use Rattle.edge_io.specs.declared.source.Source as sources
 use Rattle.edge_io.specs.declared.sink.Sink as sinks
 use Rattle.demo_lines.specs.Bytes.{fault, map_of}
@@ -15,6 +15,8 @@ use Rattle.arena_engine.specs.Serving.{NothingFailed}
 -- a recording from this source was played on these workers, and its output written to this sink
 pub record IsPlayed {S K : Type 0} (s : sources.Ghosts S) (k : sinks.Ghosts K) (workers : ℕ) (source source' : S) (sink sink' : K)
     (r : Report) : Type 0 where
+  -- its status isn't one of those that only `check` and `bots` give
+  pub known : r.status ≤ 5
   -- the output of the recording was written, with the journals that it spells, the last of which is in the report
   pub done : r.status ≡ 0 → IfSome (s.left source) (λ bytes.
       Writes (k.taken sink) (k.taken sink') (HasLast (IsOutput workers bytes) (last_in r)))

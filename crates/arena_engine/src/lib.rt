@@ -49,7 +49,7 @@ mod summary;
 /// source, and writes one of the same map in which a bot walks the shortest way from spawn 0 to spawn TARGET, with the
 /// way and the least lengths after its line `end`. `check` reads a recording of at most 2,000 frames and what follows
 /// it, and writes one line where that is an output of the recording; what follows the line `end K` of the output isn't
-/// read.
+/// looked at.
 ///
 /// The moves of a frame run at the same time, where there is more than one worker, and each frame's journal has them
 /// one after another: its entries are those of the moves run in this order. One worker runs them in the order of

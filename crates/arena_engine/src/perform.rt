@@ -3,6 +3,7 @@ ghost use Rattle.arena_engine.specs.declared.command.Command.TheVariants.{Check}
 ghost use Rattle.arena_engine.specs.Commands.{HasRanges};
 ghost use Rattle.arena_engine.specs.Endings.{Ends};
 ghost use Rattle.arena_engine.specs.Served.{IsServed, HasNoOrder};
+ghost use Rattle.move_phase.specs.Serving.{AreWorkers};
 
 use crate::bots::plan_recording;
 use crate::checked::check_transcript;
@@ -18,6 +19,24 @@ use shared_moves::Gate;
 use std::alloc::Global;
 use std::sync::Wait;
 use std::thread::Threads;
+
+/// What the frames of a command are run with.
+fn host_of<'a, R: Threads + Wait + Sync, G: Gate>(
+    rt: &'a R,
+    alloc: Global,
+    workers: u8,
+    gate: &'a G,
+) -> Host<'a, R, G>
+    requires { AreWorkers workers }
+    ensures { result.workers ≡ workers }
+{
+    Host {
+        rt,
+        alloc,
+        workers,
+        gate,
+    }
+}
 
 /// Does what a command asks for, with status 2 where there is none.
 pub fn perform<R: Threads + Wait + Sync, S: Source, K: Sink, G: Gate>(
@@ -39,21 +58,11 @@ pub fn perform<R: Threads + Wait + Sync, S: Source, K: Sink, G: Gate>(
     match command {
         None => Report::unserved(alloc, 2),
         Some(Command::Play { workers }) => {
-            let host = Host {
-                rt,
-                alloc,
-                workers,
-                gate,
-            };
+            let host = host_of(rt, alloc, workers, gate);
             play_recording(&host, source, sink)
         }
         Some(Command::Feed { workers }) => {
-            let host = Host {
-                rt,
-                alloc,
-                workers,
-                gate,
-            };
+            let host = host_of(rt, alloc, workers, gate);
             feed_recording(&host, source, sink)
         }
         Some(
@@ -78,12 +87,7 @@ pub fn perform<R: Threads + Wait + Sync, S: Source, K: Sink, G: Gate>(
                 workers,
             },
         ) => {
-            let host = Host {
-                rt,
-                alloc,
-                workers,
-                gate,
-            };
+            let host = host_of(rt, alloc, workers, gate);
             play_and_sum(&host, seed, players, frames, sink)
         }
         Some(Command::Check) => check_transcript(alloc, source, sink),

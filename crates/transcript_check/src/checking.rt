@@ -57,7 +57,7 @@ fn compare<S: Source>(
 /// [`Verdict::Right`] comes exactly where what follows begins with an output that a plain server gives for the recording
 /// with some order of each frame's moves in which each player's are in the order sent. Where it doesn't,
 /// [`Verdict::Wrong`] has the first line of the first piece that is wrong. What follows the last line of the output isn't
-/// read.
+/// looked at.
 pub fn check<S: Source>(
     alloc: Global,
     reader: &mut DemoReader,
