@@ -67,6 +67,6 @@ rise_by_test [] test k within = absurd (omega (arith, within))
 rise_by_test (a ∷ []) test k within = absurd (omega (arith, within))
 rise_by_test (a ∷ (b ∷ xs)) test zero within = below a b (both (nat_lt a b) (each_below (b ∷ xs)) test).0
 rise_by_test (a ∷ (b ∷ xs)) test (suc k) within =
-    let later : suc k + 1 ≡ suc (k + 1) = omega arith in
+    let later : suc (k + 1) ≡ suc k + 1 = omega arith in
     let rest = rise_by_test (b ∷ xs) (both (nat_lt a b) (each_below (b ∷ xs)) test).1 k (omega (arith, within)) in
     subst (λ (j : ℕ). slice_index (b ∷ xs) k < slice_index (a ∷ (b ∷ xs)) j) later rest

@@ -1,8 +1,8 @@
-ghost use Rattle.std.specs.Prelude.{◌≡◌, ◌<◌, ◌≤◌, [], ◌∷◌, true, map, All, IfOk};
+ghost use Rattle.std.specs.Prelude.{◌≡◌, ◌<◌, ◌≤◌, [], ◌∷◌, true, map, All};
 ghost use Rattle.entity_recs.specs.declared.kind.Kind.TheVariants.{Player};
 ghost use Rattle.entity_recs.specs.Records.{IsRecord};
 ghost use Rattle.arena_map.specs.MapLines.{IsWithinLimits, is_added};
-ghost use Rattle.arena_actions.specs.MapActions.{IsOfItsMap};
+ghost use Rattle.arena_actions.specs.MapActions.{IsOfItsMap, IsOfItsMap-prop};
 
 use super::{arena, at, player};
 use crate::MapAction;
@@ -12,6 +12,13 @@ use entity_recs::{Cmd, Effect, ITEM_MAXS, ITEM_MINS, Kind, NewState, Rec, body_b
 use std::alloc::Global;
 use std::process::Abort;
 use std::test::Fail;
+
+/// A map's action, with shots or without, as the map says.
+#[derive(Drop)]
+struct Game {
+    action: MapAction,
+    ghost of_its_map: { IsOfItsMap action } by { IsOfItsMap-prop action },
+}
 
 /// The spawn of the player that shoots.
 fn spawn() -> MapLine
@@ -58,29 +65,30 @@ fn gem_line() -> MapLine
     }
 }
 
-/// The action of the arena with these two lines and the ammunition.
-fn action_with(alloc: Global, one: &MapLine, other: &MapLine) -> Result<MapAction, MapRefusal>
+/// The game in the arena with these two lines and the ammunition.
+fn game_with(alloc: Global, one: &MapLine, other: &MapLine) -> Result<Game, MapRefusal>
     requires added { (is_added one.now ≡ true) × (is_added other.now ≡ true) }
     requires limits { IsWithinLimits one.now × IsWithinLimits other.now }
-    ensures { IfOk result (λ a. IsOfItsMap a) }
 {
     let mut map = ArenaMap::new(alloc, &arena())?;
     map.add(one)?;
     map.add(other)?;
     map.add(&ammo_line())?;
-    Ok(MapAction::new(map))
+    Ok(Game {
+        action: MapAction::new(map),
+    })
 }
 
-/// The action of the arena where players shoot, with eight gems at one place.
-fn action_with_gems(alloc: Global) -> Result<MapAction, MapRefusal>
-    ensures { IfOk result (λ a. IsOfItsMap a) }
-{
+/// The game in the arena where players shoot, with eight gems at one place.
+fn game_with_gems(alloc: Global) -> Result<Game, MapRefusal> {
     let mut map = ArenaMap::new(alloc, &arena())?;
     map.add(&MapLine::Shots)?;
     for _ in 0..8 {
         map.add(&gem_line())?;
     }
-    Ok(MapAction::new(map))
+    Ok(Game {
+        action: MapAction::new(map),
+    })
 }
 
 /// The player in slot 0 on the floor, at rest at this x, with so much ammunition, at most 100, in this state.
@@ -167,8 +175,7 @@ fn command(frame: u32, buttons: u8) -> Cmd {
 }
 
 /// What a command does among two records in rising id, if the player's body is inside the arena.
-fn effect_of_two(action: &MapAction, me: &Rec, first: Rec, second: Rec, cmd: &Cmd) -> Option<Effect>
-    requires of_its_map { IsOfItsMap action.now }
+fn effect_of_two(game: &Game, me: &Rec, first: Rec, second: Rec, cmd: &Cmd) -> Option<Effect>
     requires kind { me.now.kind ≡ Player }
     requires record { IsRecord me.now }
     requires score { me.now.score ≤ 4294967295 }
@@ -176,10 +183,10 @@ fn effect_of_two(action: &MapAction, me: &Rec, first: Rec, second: Rec, cmd: &Cm
     requires second { IsRecord second }
     requires rising { first.id < second.id }
 {
-    if !action.map().bounds().contains(&body_box(me)) {
+    if !game.action.map().bounds().contains(&body_box(me)) {
         return None;
     }
-    Some(action.act(me, &[first, second], cmd))
+    Some(game.action.act(me, &[first, second], cmd))
 }
 
 /// The target and the ammunition have just the new states of one move in frame 0, where the target is hit, or the
@@ -215,7 +222,7 @@ fn expect_moved(rt: &impl Abort, effect: &Effect, from: i16) {
 
 #[test]
 fn four_hits_fell_a_player_and_the_fifth_shot_is_only_spent(rt: HostRuntime) -> Result<(), Fail> {
-    let action = action_with(rt.alloc(), &MapLine::Shots, &spawn()).map_err(|_| "a map")?;
+    let game = game_with(rt.alloc(), &MapLine::Shots, &spawn()).map_err(|_| "a map")?;
     // where the shooter is on x, its ammunition, the states of the target and of the item; then the new state of the
     // target, whether the item is taken, the ammunition that is left and the points
     for (x, ammo, damage, away, hit, taken, left, points) in [
@@ -226,7 +233,7 @@ fn four_hits_fell_a_player_and_the_fifth_shot_is_only_spent(rt: HostRuntime) -> 
         (24, 16, 140, 100, None, false, 15, 0),
     ] {
         let me = shooter(x, ammo, 0);
-        let effect = effect_of_two(&action, &me, target(damage), item(away), &command(0, 2));
+        let effect = effect_of_two(&game, &me, target(damage), item(away), &command(0, 2));
         let effect = effect.ok_or("inside")?;
         expect_moved(&rt, &effect, x);
         expect_changed(&rt, &effect, hit, taken);
@@ -237,7 +244,7 @@ fn four_hits_fell_a_player_and_the_fifth_shot_is_only_spent(rt: HostRuntime) -> 
 
 #[test]
 fn a_block_stops_each_of_five_shots(rt: HostRuntime) -> Result<(), Fail> {
-    let action = action_with(rt.alloc(), &MapLine::Shots, &block()).map_err(|_| "a map")?;
+    let game = game_with(rt.alloc(), &MapLine::Shots, &block()).map_err(|_| "a map")?;
     // where the shooter is on x, its ammunition and the state of the item; then whether the item is taken and the
     // ammunition that is left
     for (x, ammo, away, taken, left) in [
@@ -248,7 +255,7 @@ fn a_block_stops_each_of_five_shots(rt: HostRuntime) -> Result<(), Fail> {
         (24, 16, 100, false, 15),
     ] {
         let me = shooter(x, ammo, 0);
-        let effect = effect_of_two(&action, &me, target(0), item(away), &command(0, 2));
+        let effect = effect_of_two(&game, &me, target(0), item(away), &command(0, 2));
         let effect = effect.ok_or("inside")?;
         expect_moved(&rt, &effect, x);
         expect_changed(&rt, &effect, None, taken);
@@ -260,7 +267,7 @@ fn a_block_stops_each_of_five_shots(rt: HostRuntime) -> Result<(), Fail> {
 /// Who was felled in frame 0 sends a move in that frame.
 #[test]
 fn a_player_that_fell_stays_where_it_is(rt: HostRuntime) -> Result<(), Fail> {
-    let action = action_with(rt.alloc(), &MapLine::Shots, &spawn()).map_err(|_| "a map")?;
+    let game = game_with(rt.alloc(), &MapLine::Shots, &spawn()).map_err(|_| "a map")?;
     let me = target(140);
     let cmd = Cmd {
         slot: 1,
@@ -271,7 +278,7 @@ fn a_player_that_fell_stays_where_it_is(rt: HostRuntime) -> Result<(), Fail> {
         wish_y: 0,
         buttons: 0,
     };
-    let effect = effect_of_two(&action, &me, shooter(30, 15, 0), item(100), &cmd);
+    let effect = effect_of_two(&game, &me, shooter(30, 15, 0), item(100), &cmd);
     let effect = effect.ok_or("inside")?;
     expect_changed(&rt, &effect, None, false);
     assert_eq!(rt; effect.reply.origin, at(20_000, 0, 6_144));
@@ -299,7 +306,7 @@ fn carrier(state: u64) -> Rec
 
 #[test]
 fn a_player_that_is_down_neither_moves_nor_shoots(rt: HostRuntime) -> Result<(), Fail> {
-    let action = action_with(rt.alloc(), &MapLine::Shots, &spawn()).map_err(|_| "a map")?;
+    let game = game_with(rt.alloc(), &MapLine::Shots, &spawn()).map_err(|_| "a map")?;
     for (state, frame) in [
         (101, 0),
         (140, 0),
@@ -307,7 +314,7 @@ fn a_player_that_is_down_neither_moves_nor_shoots(rt: HostRuntime) -> Result<(),
         (4_294_967_435, 4_294_967_295),
     ] {
         let me = carrier(state);
-        let effect = effect_of_two(&action, &me, target(0), item(0), &command(frame, 2));
+        let effect = effect_of_two(&game, &me, target(0), item(0), &command(frame, 2));
         let effect = effect.ok_or("inside")?;
         expect_changed(&rt, &effect, None, false);
         assert_eq!(rt; effect.reply.origin, at(0, 0, 6_144));
@@ -326,10 +333,10 @@ fn a_player_that_is_down_neither_moves_nor_shoots(rt: HostRuntime) -> Result<(),
 /// Once its frame has come the player has no damage, and moves, takes the item and shoots.
 #[test]
 fn a_player_that_was_down_moves_and_shoots_again(rt: HostRuntime) -> Result<(), Fail> {
-    let action = action_with(rt.alloc(), &MapLine::Shots, &spawn()).map_err(|_| "a map")?;
+    let game = game_with(rt.alloc(), &MapLine::Shots, &spawn()).map_err(|_| "a map")?;
     for state in [0, 75, 100] {
         let me = shooter(0, 20, state);
-        let effect = effect_of_two(&action, &me, target(0), item(0), &command(0, 2));
+        let effect = effect_of_two(&game, &me, target(0), item(0), &command(0, 2));
         let effect = effect.ok_or("inside")?;
         expect_moved(&rt, &effect, 0);
         expect_changed(&rt, &effect, Some(25), true);
@@ -337,7 +344,7 @@ fn a_player_that_was_down_moves_and_shoots_again(rt: HostRuntime) -> Result<(), 
         assert_eq!(rt; (effect.me.ammo, effect.me.state), (39, damage));
     }
     let me = shooter(0, 20, 140);
-    let effect = effect_of_two(&action, &me, target(0), item(50), &command(40, 2));
+    let effect = effect_of_two(&game, &me, target(0), item(50), &command(40, 2));
     let effect = effect.ok_or("inside")?;
     expect_moved(&rt, &effect, 0);
     expect_changed(&rt, &effect, Some(25), false);
@@ -347,10 +354,10 @@ fn a_player_that_was_down_moves_and_shoots_again(rt: HostRuntime) -> Result<(), 
 
 #[test]
 fn no_shot_is_fired_without_ammunition_or_its_button(rt: HostRuntime) -> Result<(), Fail> {
-    let action = action_with(rt.alloc(), &MapLine::Shots, &spawn()).map_err(|_| "a map")?;
+    let game = game_with(rt.alloc(), &MapLine::Shots, &spawn()).map_err(|_| "a map")?;
     for (ammo, buttons, hit, left) in [(0, 2, None, 0), (1, 2, Some(25), 0), (1, 0, None, 1)] {
         let me = shooter(0, ammo, 0);
-        let effect = effect_of_two(&action, &me, target(0), item(7), &command(0, buttons));
+        let effect = effect_of_two(&game, &me, target(0), item(7), &command(0, buttons));
         let effect = effect.ok_or("inside")?;
         expect_moved(&rt, &effect, 0);
         expect_changed(&rt, &effect, hit, false);
@@ -362,10 +369,10 @@ fn no_shot_is_fired_without_ammunition_or_its_button(rt: HostRuntime) -> Result<
 /// Bit 1 of the buttons does nothing there.
 #[test]
 fn nobody_shoots_on_a_map_without_shots(rt: HostRuntime) -> Result<(), Fail> {
-    let action = action_with(rt.alloc(), &spawn(), &spawn()).map_err(|_| "a map")?;
+    let game = game_with(rt.alloc(), &spawn(), &spawn()).map_err(|_| "a map")?;
     for buttons in [0, 2] {
         let me = shooter(0, 20, 0);
-        let effect = effect_of_two(&action, &me, target(0), item(0), &command(0, buttons));
+        let effect = effect_of_two(&game, &me, target(0), item(0), &command(0, buttons));
         let effect = effect.ok_or("inside")?;
         expect_moved(&rt, &effect, 0);
         expect_changed(&rt, &effect, None, true);
@@ -393,20 +400,18 @@ fn target_and_gems(last: u64) -> [Rec; 9]
 }
 
 /// What the shooter's command does among the target and the gems, with 20 of ammunition.
-fn effect_among_gems(action: &MapAction, last: u64) -> Option<Effect>
-    requires { IsOfItsMap action.now }
-{
+fn effect_among_gems(game: &Game, last: u64) -> Option<Effect> {
     let me = shooter(0, 20, 0);
-    if !action.map().bounds().contains(&body_box(&me)) {
+    if !game.action.map().bounds().contains(&body_box(&me)) {
         return None;
     }
-    Some(action.act(&me, &target_and_gems(last), &command(0, 2)))
+    Some(game.action.act(&me, &target_and_gems(last), &command(0, 2)))
 }
 
 #[test]
 fn no_shot_is_fired_where_eight_items_are_taken(rt: HostRuntime) -> Result<(), Fail> {
-    let action = action_with_gems(rt.alloc()).map_err(|_| "a map")?;
-    let effect = effect_among_gems(&action, 0).ok_or("inside")?;
+    let game = game_with_gems(rt.alloc()).map_err(|_| "a map")?;
+    let effect = effect_among_gems(&game, 0).ok_or("inside")?;
     let all = [64, 65, 66, 67, 68, 69, 70, 71];
     assert_eq!(rt; effect.reply.got.as_slice(), all.as_slice());
     let last = NewState { id: 71, state: 100 };
@@ -417,8 +422,8 @@ fn no_shot_is_fired_where_eight_items_are_taken(rt: HostRuntime) -> Result<(), F
 
 #[test]
 fn a_shot_is_fired_where_seven_items_are_taken(rt: HostRuntime) -> Result<(), Fail> {
-    let action = action_with_gems(rt.alloc()).map_err(|_| "a map")?;
-    let effect = effect_among_gems(&action, 100).ok_or("inside")?;
+    let game = game_with_gems(rt.alloc()).map_err(|_| "a map")?;
+    let effect = effect_among_gems(&game, 100).ok_or("inside")?;
     let all = [1, 64, 65, 66, 67, 68, 69, 70];
     assert_eq!(rt; effect.reply.got.as_slice(), all.as_slice());
     let last = NewState { id: 1, state: 25 };
