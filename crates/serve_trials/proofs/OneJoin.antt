@@ -9,7 +9,7 @@ use Rattle.arena_geo.specs.Bounds.{bounds}
 use Rattle.arena_geo.specs.Boxes.{is_blocked}
 use Rattle.hex.specs.Hex.{encode_with}
 use Rattle.packet_read.specs.declared.arrival.Arrival.{Arrival}
-use Rattle.arena_map.specs.Maps.{MapView, map_of, IsSpawn, IsBlock, IsThingInside, IsMap}
+use Rattle.arena_map.specs.Maps.{MapView, plain_map, IsSpawn, IsBlock, IsThingInside, IsMap}
 use Rattle.demo_lines.specs.Bytes.{fault}
 use Rattle.demo_lines.specs.Spelling.{IsArrival, IsRecording, recording_text}
 use Rattle.demo_lines.specs.Laws.{IsTextOf, PacketsHaveRoom, RecordingsReadBack}
@@ -27,7 +27,7 @@ abbrev spawn : Vec3
 spawn = record { x = pos 0; y = pos 0; z = pos 6144 }
 
 abbrev map : MapView
-map = map_of
+map = plain_map
     (bounds
     (record { x = negsuc 131071; y = negsuc 131071; z = pos 0 })
     (record { x = pos 131072; y = pos 131072; z = pos 65536 }))
@@ -61,6 +61,10 @@ map_is = record {
   few_lifts = omega arith;
   clear_shafts = All-nil (λ shaft. is_blocked shaft map.blocks ≡ false);
   shafts_apart = λ i j d below within. absurd (omega arith);
+  depth = record { least = omega arith; most = omega arith };
+  few_depth_lines = omega arith;
+  default_depth = λ none. refl;
+  shots_line = refl;
 }
 
 -- ---- its frame
