@@ -15,7 +15,7 @@ few_records F c is = few_ids F is.lawful.validity is.ruled.start
 
 -- a seat has room for the states of all things
 pub room_here : (seats : List Seat) (i : ℕ) (s : Seat) → i < length seats → s ≡ get_or seats i s → All HasThingsRoom seats → HasThingsRoom s
-room_here seats i s below is all = subst HasThingsRoom (sym is) (All-get_or HasThingsRoom seats i s all below)
+room_here seats i s below is all = subst HasThingsRoom (sym is) (All-get_or HasThingsRoom seats i s below all)
 
 pub room_for : (F : Fixed) (seats : List Seat) (i : ℕ) (s : Seat) → i < length seats → s ≡ get_or seats i s → All HasThingsRoom seats → length F.start.ids ≤ IDS
     → length F.start.ids ≤ things_room s
