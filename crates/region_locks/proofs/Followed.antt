@@ -5,10 +5,9 @@ use Rattle.std.proofs.lemmas.Bool.{false≢true, true≢false, cond-false}
 use Rattle.atomic_table.specs.Seated.{TableId}
 use Rattle.entity_recs.specs.declared.effect.Effect.{Effect}
 use Rattle.entity_recs.specs.Commands.{Command}
-use Rattle.core_steps.specs.Views.{Fixed, Store, Clear, Put, Link, Point, Idle, Owning, Taking, Checking, Entering, Entered, Loading, Leaving, Sensing, Resolving, Claiming, Storing, Releasing, Returning, Yielding, View, stage_of, is_busy, is_owning, is_whole, is_without_effect}
+use Rattle.core_steps.specs.Views.{Fixed, Store, Clear, Put, Link, Point, Idle, Owning, Taking, Checking, Entering, Entered, Loading, Leaving, Sensing, Resolving, Claiming, Storing, Releasing, Returning, Yielding, View, stage_of, is_busy, is_without_effect}
 use Rattle.core_steps.specs.Steps.{next_give}
 use Rattle.core_steps.specs.Machine.{Next, Begin, LoadOwn, LoadAgain, TakeNode, ClaimNode, ReadList, ReadPlayer, ReadState, CommitMove, StoreWord, GiveNode, YieldNode, YieldCount, giving, beginning, committing, quitting}
-use Rattle.core_steps.specs.Stands.{IsAt}
 use Rattle.core_steps.specs.Calls.{pursued_of}
 use Rattle.core_seats.specs.Going.{view_found, word_left}
 use Rattle.core_seats.specs.Nexts.{next_with, next_point, next_resolved, the_next}
@@ -16,6 +15,7 @@ use Rattle.core_seats.specs.Ready.{is_resolving}
 use Rattle.core_seats.specs.Sound.{IsSound}
 use Rattle.core_seats.specs.StepsLeft.{steps_left, is_served, IsCounting}
 use Rattle.core_seats.proofs.StepsLeft.{served_steps_leave_fewer}
+use Rattle.core_seats.proofs.SoundCounts.{sound_views_count}
 use Rattle.ruled_words.specs.Passes.{PassView, first_effect, effect_in_hand, next_of_pass, pass_after, node_taken_next, node_given_next, list_read_next, state_read_next, IsPassOf}
 use Rattle.ruled_words.specs.Loads.{PlayerWord, player_word_next, slot_of_first, slot_begun, record_loaded_next}
 use Rattle.ruled_words.specs.Sights.{Tally, begun_after, tally_after}
@@ -277,25 +277,9 @@ module _ (F : Fixed) (passes : ℕ) (table : TableId) (p : PassView) (going : Is
       by_effect None none = sym none
       by_effect (Some e) none = refl
 
-  abbrev At : Point → Type 0
-  At point = IsAt F p.view.cmd p.view.own p.view.wanted p.view.again p.view.lists p.view.others p.view.states p.view.effect point
-
   counting : IsCounting F (effect_in_hand p) p.view
-  counting = record {
-    depth = sound.depth;
-    own = λ at. sound.own_part (ap (λ (q : Point). is_owning (stage_of q)) at);
-    again = λ at. (here at).part;
-    part = λ node part players plan at. (under node part players plan at).load.partly;
-    wanted = λ nodes at. sound.next.some_wanted (ap (λ (q : Point). is_whole (stage_of q)) at);
-    kept = λ e is. by_effect p.effect refl e is;
-  }
+  counting = sound_views_count F (effect_in_hand p) p.view sound (λ e is. by_effect p.effect refl e is)
     where
-      here : p.view.point ≡ Checking → At Checking
-      here at = subst At at sound.at
-
-      under : (node : ℕ) (part players plan : List ℕ) → p.view.point ≡ Loading node part players plan → At (Loading node part players plan)
-      under node part players plan at = subst At at sound.at
-
       by_effect : (o : Option Effect) → p.effect ≡ o → (e : Effect) → p.view.effect ≡ Some e → first_effect o p.view.effect ≡ Some e
       by_effect None is e there = there
       by_effect (Some f) is e there = by_bool (is_resolving p.view.point) refl
