@@ -2,7 +2,7 @@ ghost use Rattle.arena_actions.specs.MapActions.{map_in, IsOfItsMap, IsOfItsMap-
 ghost use Rattle.std.specs.Prelude.{◌≡◌, ◌<◌, ◌≤◌, [], ◌∷◌, ◌++◌, All, filter, length, map, Some, IsSome, ◌^◌};
 ghost use Rattle.std.specs.Option.{option_to_list};
 ghost use Rattle.std.specs.List.Sorted.{IsStrictlyIncreasing};
-ghost use Rattle.world_tree.specs.declared.near_list.TheConstants.{NEAR_RECORDS};
+ghost use Rattle.entity_recs.specs.declared.limits.TheConstants.{IDS};
 ghost use Rattle.entity_recs.specs.declared.effect.NewState.{NewState};
 ghost use Rattle.entity_recs.specs.Records.{IsRecord, with_state};
 ghost use Rattle.entity_recs.specs.Commands.{command_of};
@@ -29,7 +29,7 @@ pub struct Mover {
 
 /// Puts a record last, if it is another one.
 fn put_if_other(r: Rec, slot: u16, others: &mut OtherList)
-    requires { length others.old < NEAR_RECORDS }
+    requires { length others.old < IDS }
     ensures { others.new ≡ others.old ++ filter (is_other slot) (r ∷ []) }
 {
     if r.id == slot {
@@ -40,7 +40,7 @@ fn put_if_other(r: Rec, slot: u16, others: &mut OtherList)
 
 /// Puts the record with this id last, if it is live and another one.
 fn put_other(world: &World, id: u16, slot: u16, others: &mut OtherList)
-    requires { length others.old < NEAR_RECORDS }
+    requires { length others.old < IDS }
     ensures { others.new ≡ others.old ++ filter (is_other slot) (option_to_list (record_of world.now id)) }
 {
     let Some(r) = world.get(id) else {

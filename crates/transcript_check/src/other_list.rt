@@ -1,7 +1,7 @@
-use entity_recs::Rec;
+use entity_recs::{IDS, Rec};
 use std::alloc::{AllocError, Global};
 use std::marker::Model;
-use world_tree::{NEAR_RECORDS, NearList};
+use world_tree::NearList;
 
 /// The records that a move runs over, with room for all that can live. No call after [`OtherList::new`] takes memory.
 #[derive(Drop)]
@@ -13,25 +13,25 @@ pub struct OtherList {
 impl Model for OtherList {
     ghost use Rattle.std.specs.Prelude.{List, ◌≤◌};
     ghost use Rattle.entity_recs.specs.declared.rec.Rec.{Rec};
-    ghost use Rattle.world_tree.specs.declared.near_list.TheConstants.{NEAR_RECORDS};
+    ghost use Rattle.entity_recs.specs.declared.limits.TheConstants.{IDS};
 
     ghost Value = { List Rec };
 
     ghost view = { λ o. o.list.items };
 
-    ghost invariant = { λ o. NEAR_RECORDS ≤ o.list.room };
+    ghost invariant = { λ o. IDS ≤ o.list.room };
 }
 
 impl OtherList {
     ghost use Rattle.std.specs.Prelude.{◌≡◌, ◌<◌, [], ◌∷◌, ◌++◌, length, IfOk};
-    ghost use Rattle.world_tree.specs.declared.near_list.TheConstants.{NEAR_RECORDS};
+    ghost use Rattle.entity_recs.specs.declared.limits.TheConstants.{IDS};
 
     /// An empty list. The only error is that memory is refused.
     pub fn new(alloc: Global) -> Result<OtherList, AllocError>
         ensures { IfOk result (λ others. others ≡ []) }
     {
         Ok(OtherList {
-            list: NearList::new(alloc, NEAR_RECORDS)?,
+            list: NearList::new(alloc, IDS)?,
         })
     }
 
@@ -44,7 +44,7 @@ impl OtherList {
 
     /// Puts a record last.
     pub fn push(&mut self, r: Rec)
-        requires { length self.old < NEAR_RECORDS }
+        requires { length self.old < IDS }
         ensures { self.new ≡ self.old ++ r ∷ [] }
     {
         // There are fewer in the list than it has room for.
