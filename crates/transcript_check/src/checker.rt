@@ -261,7 +261,8 @@ impl Checker {
     {
         let others = OtherList::new(alloc)?;
         let mover = Mover::new(map, others);
-        let state = State::opening(alloc, mover.action.map())?;
+        let arena = mover.action.map();
+        let state = State::opening(alloc, arena)?;
         Ok(Checker {
             mover,
             state,

@@ -9,8 +9,8 @@ use Rattle.transcript_check.proofs.checker.Checker.new.Goals as goal
 pub returns-clause-is : goal.returns-clause-is
 returns-clause-is c =
     let map = (map_in c.new-mover.result.action) in
-    let rules : IsMap map = subst IsMap c.map.ensures.value c.opening.ensures.rules in
+    let rules : IsMap map = subst IsMap c.map-arena.ensures.value c.opening.ensures.rules in
     record {
       is_map = rules;
-      fits = subst (IsServerState map) (sym (c.in_ok-state.ensures.state ∙ ap opening c.map.ensures.value)) (opening_is map rules);
+      fits = subst (IsServerState map) (sym (c.in_ok-state.ensures.state ∙ ap opening c.map-arena.ensures.value)) (opening_is map rules);
     }
