@@ -62,10 +62,10 @@ fn full_of_blocks_and_packets(alloc: Global) -> Result<String, AllocError> {
 fn full_of_items(alloc: Global) -> Result<String, AllocError> {
     let mut text = String::new(alloc);
     text.push_str("arena -131072 -131072 0 131072 131072 65536\nspawn 0 0 6144\n")?;
-    for row in 0..20_i32 {
-        for column in 0..20_i32 {
-            let x = column * 10_240 - 102_400;
-            let y = row * 10_240 - 102_400;
+    for row in 0..20_u8 {
+        for column in 0..20_u8 {
+            let x = i32::from(column) * 10_240 - 102_400;
+            let y = i32::from(row) * 10_240 - 102_400;
             writeln!(text, "item {x} {y} 0 gem 100")?;
         }
     }
