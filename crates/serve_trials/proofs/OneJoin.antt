@@ -101,12 +101,12 @@ module _ (room : PacketsHaveRoom) (back : RecordingsReadBack) where
   frames_are : frames_of one_join_text ≡ frames
   frames_are = ap (λ es. (collected es).closed) text_is.events
 
-  fits : OutputsAreBounded → HasRoom 1 one_join_text 600016
+  fits : OutputsAreBounded → HasRoom 1 one_join_text 1120016
   fits bounded journals right order = omega (arith, bounded.whole one_join_text journals right, ap length frames_are)
 
   pub one_join_whole : (text : List ℕ) → text ≡ one_join_text → fault text ≡ None
   one_join_whole text is = subst (λ (t : List ℕ). fault t ≡ None) (sym is) text_is.fault
 
   -- every output of one frame has so many bytes at the most
-  pub one_join_fits : OutputsAreBounded → (text : List ℕ) → text ≡ one_join_text → HasRoom 1 text 600016
-  one_join_fits bounded text is = subst (λ (t : List ℕ). HasRoom 1 t 600016) (sym is) (fits bounded)
+  pub one_join_fits : OutputsAreBounded → (text : List ℕ) → text ≡ one_join_text → HasRoom 1 text 1120016
+  one_join_fits bounded text is = subst (λ (t : List ℕ). HasRoom 1 t 1120016) (sym is) (fits bounded)

@@ -28,7 +28,7 @@ pub fn one_join_played(
     packets_have_room();
     recordings_read_back();
     outputs_are_bounded();
-    played(rt, ONE_JOIN.as_bytes(), 600_016)
+    played(rt, ONE_JOIN.as_bytes(), 1_120_016)
 }
 
 /// Writes the recording of the seed 7, with two players and one frame, into memory with the room that every such
