@@ -1,5 +1,6 @@
 -- What holds of every tree, whatever its depth.
-use Rattle.std.specs.Prelude.{◌≡◌, ℕ, ◌+◌, ◌^◌, ◌<◌, ◌≤◌, true, Bool, List, All}
+use Rattle.std.specs.Prelude.{◌≡◌, ◌↔◌, ℕ, ◌+◌, ◌^◌, ◌<◌, ◌≤◌, true, Bool, List, All}
+use Rattle.std.specs.List.{list_any}
 use Rattle.arena_geo.specs.Bounds.{Bounds, IsOrdered}
 use Rattle.arena_geo.specs.Boxes.{touches}
 use Rattle.arena_geo.specs.Regions.{touches_region, is_inside}
@@ -7,7 +8,8 @@ use Rattle.areanode.specs.declared.sizes.TheConstants.{LEAST_DEPTH, MOST_DEPTH, 
 use Rattle.areanode.specs.Words.{word_of, has_bit}
 use Rattle.areanode.specs.Cuts.{cut_of}
 use Rattle.areanode.specs.Trees.{TreeView, leaf_node, node_of, has_leaf, region_has_leaf}
-use Rattle.areanode.specs.Trees.{leaves_of, is_over, visited_of}
+use Rattle.areanode.specs.Trees.{leaves_of, climb, is_over, visited_of}
+use Rattle.areanode.specs.LeafAreas.{touches_flat, leaf_area, TouchesArena, ReachesSideOf}
 use Rattle.areanode.specs.Sides.{IsCutInHalf, HasPartsAtCut, GoesToItsSide, IsOnItsSide, HasLeavesOnItsSide}
 
 -- the depths of trees, and the most leaves and nodes, have these values
@@ -90,6 +92,25 @@ abbrev pub InsideAndTouchedShareALeaf : Type 0
 InsideAndTouchedShareALeaf =
     (tree : TreeView) (b : Bounds) (region other : List Bounds) → All IsOrdered region → All IsOrdered other
     → is_inside b region ≡ true → touches_region b other ≡ true → SharedLeaf tree region other
+
+-- a box that touches the arena has exactly the leaves whose areas it touches, seen from above and the edges counted
+abbrev pub LeavesAreWhereTheBoxTouches : Type 0
+LeavesAreWhereTheBoxTouches =
+    (tree : TreeView) (b : Bounds) (leaf : ℕ) → IsOrdered tree.bounds → TouchesArena tree b → leaf < 2 ^ tree.depth
+    → has_leaf tree b leaf ≡ touches_flat (leaf_area tree leaf) b
+
+-- in the word of a region's leaves, those are set whose areas a box of the region touches
+abbrev pub RegionHasTheLeavesThatItTouches : Type 0
+RegionHasTheLeavesThatItTouches =
+    (tree : TreeView) (region : List Bounds) (leaf : ℕ) → IsOrdered tree.bounds → All (TouchesArena tree) region
+    → leaf < 2 ^ tree.depth → has_bit (leaves_of tree region) leaf ≡ list_any (touches_flat (leaf_area tree leaf)) region
+
+-- a leaf is one of a box's exactly where, at each cut above the leaf, the box has a point on the leaf's side or on the cut
+abbrev pub LeavesAreReachedAtEachCut : Type 0
+LeavesAreReachedAtEachCut =
+    (tree : TreeView) (b : Bounds) (leaf : ℕ) → leaf < 2 ^ tree.depth
+    → (has_leaf tree b leaf ≡ true)
+    ↔ ((levels : ℕ) → levels < tree.depth → ReachesSideOf tree b (climb levels (leaf_node tree.depth leaf)))
 
 -- the leaves have the numbers below 2 ^ depth
 abbrev pub LeavesAreInRange : Type 0

@@ -8,5 +8,6 @@ pub mod Trees
 pub mod Depths
 pub mod Areas
 pub mod Rebuilt
+pub mod LeafAreas
 pub mod Sides
 pub mod Laws

@@ -1,6 +1,7 @@
 ghost use Rattle.areanode.specs.Laws.{AreasAreCutInHalf, AreasHaveTheirParts, BoxGoesToItsSide, NodeIsOnItsSide};
 ghost use Rattle.areanode.specs.Laws.{LeavesAreOnItsSide, NodeIsOverLeaves, TouchingBoxesShareALeaf, TouchedNodeIsVisited, BoxHasALeaf};
 ghost use Rattle.areanode.specs.Laws.{TouchedLeafIsListed, InsideAndTouchedShareALeaf, LeavesAreInRange, NodeIsInRange};
+ghost use Rattle.areanode.specs.Laws.{LeavesAreWhereTheBoxTouches, RegionHasTheLeavesThatItTouches, LeavesAreReachedAtEachCut};
 ghost use Rattle.areanode.specs.Laws.{LeafOverLeaf, WordHasItsBits, WordFits, SizesAreKnown};
 
 /// An area is cut halfway on the longer of the axes x and y, and on y where neither is longer: it reaches as far beyond
@@ -58,6 +59,23 @@ pub fn touched_leaf_is_listed()
 /// Where a box lies inside a region and touches another region, the two regions share a leaf.
 pub fn inside_and_touched_share_a_leaf()
     ensures { InsideAndTouchedShareALeaf }
+{}
+
+/// A box that touches the arena has exactly the leaves whose areas it touches, seen from above and the edges counted.
+pub fn leaves_are_where_the_box_touches()
+    ensures { LeavesAreWhereTheBoxTouches }
+{}
+
+/// In the word of a region's leaves, where each box of the region touches the arena, exactly those are set whose areas a
+/// box of the region touches.
+pub fn region_has_the_leaves_that_it_touches()
+    ensures { RegionHasTheLeavesThatItTouches }
+{}
+
+/// A leaf is one of a box's exactly where, at each cut above the leaf, the box has a point on the leaf's side or on the
+/// cut, whether or not the box touches the arena.
+pub fn leaves_are_reached_at_each_cut()
+    ensures { LeavesAreReachedAtEachCut }
 {}
 
 /// The leaves of a box are numbered below 2 to the power of the depth.
