@@ -10,7 +10,7 @@ use Rattle.entity_recs.specs.declared.effect.Effect.{Effect}
 use Rattle.entity_recs.specs.declared.effect.Entry.{Entry}
 use Rattle.entity_recs.specs.declared.effect.NewState.{NewState}
 use Rattle.entity_recs.specs.declared.kind.Kind.{Kind}
-use Rattle.entity_recs.specs.declared.kind.Kind.TheVariants.{Player, Ammo, Gem}
+use Rattle.entity_recs.specs.declared.kind.Kind.TheVariants.{Ammo, Gem}
 use Rattle.entity_recs.specs.declared.rec.Rec.{Rec}
 use Rattle.entity_recs.specs.Commands.{Command}
 use Rattle.entity_recs.specs.Records.{IsIdOf, with_state}
@@ -78,7 +78,7 @@ pub record IsAway (records : List (Option Rec)) (id until : ℕ) : Type 0 where
   pub kind : is_item item.kind ≡ true
   pub state : item.state ≡ until
 
-map_id : (kind : Kind) (id : ℕ) → is_item kind ≡ true → IsIdOf kind id → 64 ≤ id
+pub map_id : (kind : Kind) (id : ℕ) → is_item kind ≡ true → IsIdOf kind id → 64 ≤ id
 map_id Ammo id item is = is.least
 map_id Gem id item is = is.least
 map_id kind id item is = cc
@@ -107,12 +107,12 @@ among_rest x xs id apart (zero, within, is) = absurd (differ (sym (eq-eqb x id i
 among_rest x xs id apart (suc k, within, is) = (k, omega (arith, within), is)
 
 -- the change of a thing's state is that of an item that was taken
-thing_is_taken : (map : MapView) (records : List (Option Rec)) (frame : ℕ) (s : NewState) → ((h : NewState) → IsHurtIn map records h → h.id < 64) → 64 ≤ s.id
+thing_is_taken : (map : MapView) (records : List (Option Rec)) (frame : ℕ) (s : NewState) → ((h : NewState) → IsHurtIn map records frame h → h.id < 64) → 64 ≤ s.id
     → IsChange map records frame s → IsTakenIn map records frame s
 thing_is_taken map records frame s low from (Takes t) = t
 thing_is_taken map records frame s low from (Hurts h) = absurd (omega (arith, low s h, from))
 
-first_of_id : (map : MapView) (records : List (Option Rec)) (frame : ℕ) (states : List NewState) (id : ℕ) → ((h : NewState) → IsHurtIn map records h → h.id < 64) → 64 ≤ id
+first_of_id : (map : MapView) (records : List (Option Rec)) (frame : ℕ) (states : List NewState) (id : ℕ) → ((h : NewState) → IsHurtIn map records frame h → h.id < 64) → 64 ≤ id
     → All (IsChange map records frame) states → Contains (map_list (λ (s : NewState). s.id) states) id → IsFirst map records frame states id
 first_of_id map records frame [] id low from all (k, within, is) = absurd (omega (arith, within))
 first_of_id map records frame (s ∷ states) id low from all has = elim (cases_Bool (s.id == id)) [
@@ -138,7 +138,7 @@ item_is_thing map id item = by (nat_le 64 id) refl item
     by false e some = cc
 
 -- what is among the ids of changes is an item, or a player that was hit
-got_of_change : (map : MapView) (records : List (Option Rec)) (frame : ℕ) (states : List NewState) (id : ℕ) → ((h : NewState) → IsHurtIn map records h → h.id < 64)
+got_of_change : (map : MapView) (records : List (Option Rec)) (frame : ℕ) (states : List NewState) (id : ℕ) → ((h : NewState) → IsHurtIn map records frame h → h.id < 64)
     → All (IsChange map records frame) states → Contains (map_list (λ (s : NewState). s.id) states) id → IsGot map id
 got_of_change map records frame [] id low all (k, within, is) = absurd (omega (arith, within))
 got_of_change map records frame (s ∷ states) id low all (zero, within, is) = of (All-head (IsChange map records frame) s states all)
@@ -166,7 +166,7 @@ module _ (map : MapView) (records : List (Option Rec)) (c : Command) (valid : Is
   changed = changed_in map records c own
 
   -- a player that is hurt has the id of a slot
-  hurt_is_low : (s : NewState) → IsHurtIn map records s → s.id < 64
+  hurt_is_low : (s : NewState) → IsHurtIn map records c.frame s → s.id < 64
   hurt_is_low s h =
       let here = valid.each s.id h.player h.at in
       let low : h.player.id < 64 = subst (λ (k : Kind). IsIdOf k h.player.id) h.kind here.is_record.id in

@@ -156,7 +156,7 @@ nobody_in zero slot = refl
 nobody_in (suc count) zero = refl
 nobody_in (suc count) (suc slot) = nobody_in count slot
 
-opening_nobody : (map : MapView) (slot : ℕ) → client_at (opening map).clients slot ≡ None
+pub opening_nobody : (map : MapView) (slot : ℕ) → client_at (opening map).clients slot ≡ None
 unfolding opening
 opening_nobody map slot = nobody_in 64 slot
 

@@ -8,6 +8,7 @@ pub mod Placing
 pub mod Things
 pub mod Lifts
 pub mod Others
+pub mod Hits
 pub mod Takes
 pub mod Moves
 pub mod Commands
@@ -22,6 +23,12 @@ pub mod Turns
 pub mod Ending
 pub mod Clear
 pub mod Away
+pub mod States
+pub mod Begun
+pub mod Down
+pub mod Unhit
+pub mod HitOnce
+pub mod Decided
 pub mod Takers
 pub mod SlotPlayers
 pub mod Numbers

@@ -253,7 +253,7 @@ new_state-lacks (s ∷ states) id r lacks =
     let head = ne_eqb s.id id (All-head (λ (t : NewState). t.id ≢ id) s states lacks) in
     rw head (new_state-lacks states id r (All-tail (λ (t : NewState). t.id ≢ id) s states lacks))
 
-new_state-last : (states : List NewState) (s : NewState) (id : ℕ) (r : Rec) → Lacks states id → s.id ≡ id → with_new_state (states ++ s ∷ []) id r ≡ with_state r s.state
+pub new_state-last : (states : List NewState) (s : NewState) (id : ℕ) (r : Rec) → Lacks states id → s.id ≡ id → with_new_state (states ++ s ∷ []) id r ≡ with_state r s.state
 new_state-last [] s id r lacks same = rw (eq-eqb s.id id same) refl
 new_state-last (t ∷ states) s id r lacks same =
     let head = ne_eqb t.id id (All-head (λ (u : NewState). u.id ≢ id) t states lacks) in

@@ -4,6 +4,8 @@ ghost use Rattle.plain_server.specs.Laws.{FramesAreInTurn, JournalsAreRightInOrd
 ghost use Rattle.plain_server.specs.Laws.{RightJournalsAreInRange, FramesEndWithTheirMoves};
 ghost use Rattle.plain_server.specs.Laws.{FramesHaveOneTaker, OnlyItemsAndPlayersAreGot, ItemsHaveOneTaker, TakenItemsStayAway};
 ghost use Rattle.plain_server.specs.Numbers.{NumbersRiseAcrossFrames};
+ghost use Rattle.plain_server.specs.Hits.{NobodyIsDownForLong, OnlyHitsHurt, EntriesHitOneAtMost};
+ghost use Rattle.plain_server.specs.Hits.{JournalsDecideStates, FramesBeginWithStates};
 
 /// Before the first frame nobody is joined, and each thing of the map is live at its id and as at the start, and nothing
 /// else is.
@@ -89,4 +91,35 @@ pub fn taken_items_stay_away()
 /// with them, but for those of the players that leave.
 pub fn frames_end_with_their_moves()
     ensures { FramesEndWithTheirMoves }
+{}
+
+/// After any frames, with whatever journals, a player's state is one that hits can make of none: damage below 100, or that
+/// of one that fell in one of these frames, which is below 140 and the number of these frames, so that it is down for
+/// fewer than 40 frames more. So it is after the moves of a frame.
+pub fn nobody_is_down_for_long()
+    ensures { NobodyIsDownForLong }
+{}
+
+/// After the moves of a right journal of a frame, a player without an entry that no entry hits is as the receive pass left
+/// it, with its state.
+pub fn only_hits_hurt()
+    ensures { OnlyHitsHurt }
+{}
+
+/// In a right journal of a frame, of the ids that an entry got at most one is that of a player, and it isn't the mover's
+/// own.
+pub fn entries_hit_one_at_most()
+    ensures { EntriesHitOneAtMost }
+{}
+
+/// A right journal of a frame decides the state of each player after its moves: from the state before them each of its own
+/// entries lets it rise, if it was down until then, and each entry that hits it adds 25 of damage or fells it. Nobody that
+/// is down is hit.
+pub fn journals_decide_states()
+    ensures { JournalsDecideStates }
+{}
+
+/// Before the moves of a frame a player has the state with which the frame began, and one that has just joined has none.
+pub fn frames_begin_with_states()
+    ensures { FramesBeginWithStates }
 {}
