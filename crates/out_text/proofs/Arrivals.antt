@@ -3,17 +3,18 @@ use Rattle.std.proofs.Common.{ℕ, All, List, [], ◌∷◌, ◌++◌, Option, S
 use Rattle.std.specs.Bool.{⊤}
 use Rattle.std.specs.List.{AllByRecursion}
 use Rattle.std.proofs.lemmas.List.Elements.{All-nil, All-push}
+use Rattle.arena_map.specs.declared.limits.TheConstants.{MOST_FRAMES}
 use Rattle.packet_read.specs.declared.arrival.Arrival.{Arrival}
 use Rattle.demo_lines.specs.declared.line.Line.{Line}
 use Rattle.demo_lines.specs.declared.line.Line.TheVariants.{OfMap, Frame, From, End}
 use Rattle.demo_lines.specs.declared.event.Event.{Event}
 use Rattle.demo_lines.specs.declared.event.Event.TheVariants as events
 use Rattle.demo_lines.specs.Machines.{run_of}
-use Rattle.demo_lines.specs.Known.{Reading, start}
+use Rattle.demo_lines.specs.Known.{Reading, start_within}
 use Rattle.demo_lines.specs.Recording.{next, event_of, events_of_line, events_of}
-use Rattle.demo_lines.specs.Bytes.{lines_of, events}
+use Rattle.demo_lines.specs.Bytes.{lines_of, events_within}
 use Rattle.plain_server.specs.Entries.{HasBytes}
-use Rattle.out_text.specs.Collecting.{Frames, closing, collect, no_frames, frames_of}
+use Rattle.out_text.specs.Collecting.{Frames, closing, collect, no_frames, frames_within, frames_of}
 use Rattle.out_text.proofs.Reporting.{HaveBytes}
 use Rattle.out_text.proofs.Growing.{GoesOnWith}
 use Rattle.out_text.proofs.Saying.{IsSound}
@@ -80,9 +81,14 @@ run_has_bytes : (f : Frames) (es : List Event) → FramesBytes f → EventsBytes
 run_has_bytes f [] p q = p
 run_has_bytes f (e ∷ es) p q = run_has_bytes (collect f e) es (collect_has_bytes f e p q.0) q.1
 
--- the packets of a recording's frames have bytes
+-- the packets of the frames of a recording that may have so many have bytes
+pub frames_within_have_bytes : (limit : ℕ) (bytes : List ℕ) → HaveBytes (frames_within limit bytes)
+frames_within_have_bytes limit bytes =
+    (run_has_bytes no_frames (events_within limit bytes) (record { closed = tt; opened = tt }) (events_have_bytes (start_within limit) (lines_of bytes))).closed
+
+-- and those of one that may have as many as any
 pub frames_have_bytes : (bytes : List ℕ) → HaveBytes (frames_of bytes)
-frames_have_bytes bytes = (run_has_bytes no_frames (events bytes) (record { closed = tt; opened = tt }) (events_have_bytes start (lines_of bytes))).closed
+frames_have_bytes bytes = frames_within_have_bytes MOST_FRAMES bytes
 
 first_have_bytes : (xs ys : List (List Arrival)) → HaveBytes (xs ++ ys) → HaveBytes xs
 first_have_bytes [] ys p = tt

@@ -148,7 +148,7 @@ snapshots-long arena frame records places valid =
 
 -- ---- frames
 
-frame-long : (arena : MapView) (frame : ℕ) (state : State) (arrivals : List Arrival) (journal : List Entry) → IsMap arena → IsServerState arena state → frame < 100000 → All HasBytes arrivals → IsSmallFrame arrivals
+pub frame-long : (arena : MapView) (frame : ℕ) (state : State) (arrivals : List Arrival) (journal : List Entry) → IsMap arena → IsServerState arena state → frame < 100000 → All HasBytes arrivals → IsSmallFrame arrivals
     → IsRightAfter arena (received_in arena frame state arrivals) journal → length (text_of (lines_with arena frame (received_in arena frame state arrivals) journal)) ≤ 1120000
 unfolding lists_size
 frame-long arena frame state arrivals journal is_map is below bytes small right =

@@ -1,11 +1,11 @@
 -- The texts of the first frames of a recording that is fed, and of all of them, with right journals.
-use Rattle.std.proofs.Common.{◌≡◌, ℕ, ◌+◌, ◌-◌, ◌<◌, ◌≤◌, List, [], ◌∷◌, ◌++◌, length, take, drop, Option, Some, None, option_map, IfSome, refl, sym, ap, ◌∙◌, subst, append_assoc, append-nil, arith, length-append, take-append-drop}
+use Rattle.std.proofs.Common.{◌≡◌, ℕ, ◌+◌, ◌-◌, ◌<◌, ◌≤◌, List, [], ◌∷◌, ◌++◌, length, take, Option, Some, None, IfSome, refl, sym, ap, ◌∙◌, subst, append_assoc, arith, length-append}
 use lib.Seq.{take-append-add, take-append_seam, length-take-le}
 use Rattle.entity_recs.specs.declared.effect.Entry.{Entry}
-use Rattle.arena_map.specs.Maps.{MapView, IsMap}
+use Rattle.arena_map.specs.Maps.{MapView}
 use Rattle.packet_read.specs.declared.arrival.Arrival.{Arrival}
 use Rattle.plain_server.specs.RecordsById.{opening}
-use Rattle.plain_server.specs.Frames.{received_in, state_played, AreRight, AreInOrder}
+use Rattle.plain_server.specs.Frames.{received_in, state_played}
 use Rattle.plain_server.proofs.Frames.{opening_is}
 use Rattle.demo_lines.specs.Bytes.{fault, map_of}
 use Rattle.out_text.specs.OutLines.{OutLine, EndLine, text_of}
@@ -13,8 +13,8 @@ use Rattle.out_text.specs.FrameLines.{lines_with}
 use Rattle.out_text.specs.Journals.{dids}
 use Rattle.out_text.specs.Collecting.{frames_of}
 use Rattle.out_text.specs.Output.{AreRightIn, AreInOrderIn, last_of}
-use Rattle.packet_read.specs.Orders.{in_order, AreEachOnce}
-use Rattle.out_text.specs.Feeds.{AreFeedsOf, IsFeedOf, last_fed, last_ordered, IsLastOrder, with_froms, fed_lines, fed_lines_in, fed_text, fed_output, froms, IsFedOutput, IsFedFront, IsFedFrames, IsFedPart, IsFedCutFrame, IsFedCutEnd, HasLastFed}
+use Rattle.packet_read.specs.Orders.{AreEachOnce}
+use Rattle.out_text.specs.Feeds.{AreFeedsOf, last_fed, last_ordered, RiseByParity, IsLastOrder, with_froms, fed_lines, fed_lines_in, fed_text, fed_output, froms, IsFedOutput, IsFedFront, IsFedFrames, IsFedPart, IsFedCutFrame, IsFedCutEnd, HasLastFed}
 use Rattle.out_text.proofs.Runs.{length-right, text_of-append}
 use Rattle.out_text.proofs.ReadBack.{AreAllReported}
 use Rattle.out_text.proofs.Reporting.{right_are_reported}
@@ -22,7 +22,7 @@ use Rattle.out_text.proofs.Growing.{GoesOnWith, goes_on_all, take-goes_on, lengt
 use Rattle.out_text.proofs.Fewness.{frames_are_few}
 use Rattle.out_text.proofs.Arrivals.{frames_have_bytes, fore_have_bytes}
 use Rattle.out_text.proofs.SmallFrames.{frames_are_small, fore_are_small}
-use Rattle.out_text.proofs.Fronts.{AreRun, IsPlayed, first_are_run, right_in, in_order_in, but_last_go_on, take-but_last}
+use Rattle.out_text.proofs.Fronts.{AreRun, IsPlayed, first_are_run, right_in, in_order_in, but_last_go_on}
 use Rattle.out_text.proofs.Outputs.{nothing_reported}
 use Rattle.out_text.proofs.FedReadBack.{AreRead, froms-run, froms-whole, froms-none, fed_dids-run, fed_dids-whole}
 use Rattle.out_text.proofs.FedRuns.{feeds_are_read, feeds_have_bytes, length-feeds, feeds-take, fed_lines-push, fewer_fed_are_shorter}
@@ -74,6 +74,10 @@ no_fed_last Is bytes order last no_order none holds = record {
         let frames = take (length (froms [])) (frames_of bytes) in
         let P : Option (List ℕ) → Type 0 = λ o. IfSome o (λ places. IfSome (last_fed frames) (λ sent. AreEachOnce (length sent) places)) in
         subst P (sym no_order) tt;
+    rising =
+        let frames = take (length (froms [])) (frames_of bytes) in
+        let P : Option (List ℕ) → Type 0 = λ o. IfSome o (λ places. IfSome (last_fed frames) (λ sent. RiseByParity sent places)) in
+        subst P (sym no_order) tt;
     packets = ap (λ (o : Option (List ℕ)). last_ordered o (take (length (froms [])) (frames_of bytes))) no_order ∙ sym (ap last_fed froms-none);
   };
   last_is = none ∙ sym (ap last_of nothing_reported);
@@ -110,7 +114,7 @@ module _ (workers : ℕ) (bytes : List ℕ) (arena : MapView) (played : IsPlayed
     fed_dids-out = fed_dids-whole arena 0 (opening arena) feeds js (length feeds) few as_many reported
 
     -- the same text by the map of the recording
-    fed_text-is : fed_text bytes feeds js ≡ fed_text_with arena feeds js
+    pub fed_text-is : fed_text bytes feeds js ≡ fed_text_with arena feeds js
     fed_text-is = ap (λ m. text_of (fed_lines_in m feeds js)) played.has
 
     pub fed_output-is : fed_output bytes feeds js ≡ fed_whole arena feeds js

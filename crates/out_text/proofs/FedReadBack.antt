@@ -1,23 +1,20 @@
 -- The order of arrival and the journals that are read off the text of frames that are fed are those of the frames.
-use Rattle.std.proofs.Common.{◌≡◌, ℕ, zero, suc, ◌+◌, ◌*◌, ◌^◌, ◌<◌, ◌≤◌, ◌==◌, Bool, true, false, cond, All, Contains, List, [], ◌∷◌, ◌++◌, length, map, filter, take, Option, Some, None, refl, sym, ap, ◌∙◌, subst, append_assoc, append-nil, arith, length-append}
+use Rattle.std.proofs.Common.{◌≡◌, ℕ, ◌+◌, ◌^◌, ◌<◌, ◌≤◌, List, [], ◌∷◌, ◌++◌, length, map, Option, Some, None, refl, sym, ap, ◌∙◌, append_assoc, append-nil, arith}
 use Rattle.std.specs.Bool.{⊤}
 use Rattle.std.specs.List.{AllByRecursion}
-use Rattle.std.proofs.lemmas.List.Elements.{All-head, All-tail}
 use Rattle.entity_recs.specs.declared.effect.Entry.{Entry}
-use Rattle.edge_io.specs.WholeLines.{whole_lines}
 use Rattle.arena_map.specs.Maps.{MapView}
 use Rattle.world_tree.specs.Live.{live_in}
 use Rattle.packet_read.specs.declared.arrival.Arrival.{Arrival}
 use Rattle.client_ports.specs.States.{State}
 use Rattle.client_ports.specs.Receiving.{Receiving}
-use Rattle.plain_server.specs.Entries.{HasBytes, AreReported}
+use Rattle.plain_server.specs.Entries.{AreReported}
 use Rattle.plain_server.specs.Frames.{received_in, moved_by, state_after}
 use Rattle.plain_server.specs.Replies.{players_in}
-use Rattle.out_text.specs.Dids.{Did, did_of, journal_from}
+use Rattle.out_text.specs.Dids.{Did, did_of}
 use Rattle.out_text.specs.OutLines.{OutLine, FrameLine, FromLine, NoLine, JoinedLine, DidLine, ToLine, EndLine, spelled, text_of}
 use Rattle.out_text.specs.FrameLines.{no_line, joined_line, did_line, to_line, lines_with}
 use Rattle.out_text.specs.Reading.{line_in}
-use Rattle.out_text.specs.Ranges.{IsInRange}
 use Rattle.out_text.specs.Journals.{dids}
 use Rattle.out_text.specs.Feeds.{from_line, with_froms, fed_lines, Mark, Opens, Arrives, Other, mark_of_line, Split, onto, split_at_frames, froms}
 use Rattle.out_text.proofs.Quiet.{IsSilent, split_of, split-silent, silent_both, silent_each, dids-text, whole_lines-text}
@@ -56,7 +53,7 @@ mark-from a is =
     ap mark_of_line (line-back (from_line a) (record { port_fits = omega (arith, port); most = is.short; are_bytes = is.bytes }))
 
 -- the line opens no frame and is no packet
-abbrev IsOther : OutLine → Type 0
+abbrev pub IsOther : OutLine → Type 0
 IsOther (FrameLine frame) = ⊥
 IsOther (FromLine port bytes) = ⊥
 IsOther (NoLine place why) = ⊤
@@ -114,12 +111,12 @@ marked-froms (a ∷ fed) more feeds are is =
     ap (λ m. onto m (marked (map from_line fed ++ more))) (mark-from a are.0) ∙ ap (onto (Arrives a)) (marked-froms fed more feeds are.1 is)
 
 -- the lines of a frame after the first
-abbrev rest_lines : MapView → ℕ → Receiving → List Entry → List OutLine
+abbrev pub rest_lines : MapView → ℕ → Receiving → List Entry → List OutLine
 rest_lines arena frame r journal =
     map no_line r.lists.refused ++ map joined_line r.lists.joined ++ map did_line journal
     ++ map (to_line frame (live_in (moved_by arena r journal).records)) (players_in (moved_by arena r journal).records)
 
-rest_are_others : (arena : MapView) (frame : ℕ) (r : Receiving) (journal : List Entry) → AllByRecursion IsOther (rest_lines arena frame r journal)
+pub rest_are_others : (arena : MapView) (frame : ℕ) (r : Receiving) (journal : List Entry) → AllByRecursion IsOther (rest_lines arena frame r journal)
 rest_are_others arena frame r journal =
     let records = (moved_by arena r journal).records in
     let refused = map no_line r.lists.refused in

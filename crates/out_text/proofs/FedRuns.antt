@@ -1,5 +1,5 @@
 -- Frames that are fed: their lines put together and taken apart, and what their packets keep of those of the recording.
-use Rattle.std.proofs.Common.{◌≡◌, ◌⊎◌, inl, inr, ⊎_elim, ℕ, zero, suc, ◌+◌, ◌*◌, ◌^◌, ◌<◌, ◌≤◌, ◌==◌, Bool, true, false, cond, All, List, [], ◌∷◌, ◌++◌, length, map, filter, take, drop, Option, Some, None, refl, sym, ap, ◌∙◌, subst, append_assoc, append-nil, add-zero, arith, length-append, take-append-drop}
+use Rattle.std.proofs.Common.{◌≡◌, ◌⊎◌, inl, inr, ℕ, zero, suc, ◌+◌, ◌^◌, ◌<◌, ◌≤◌, Bool, true, false, cond, All, List, [], ◌∷◌, ◌++◌, length, map, filter, take, drop, refl, sym, ap, ◌∙◌, subst, append_assoc, append-nil, add-zero, arith, length-append, take-append-drop}
 use Rattle.std.specs.List.{AllByRecursion}
 use Rattle.std.proofs.lemmas.Bool.Decides.{nat_tests}
 use Rattle.std.proofs.lemmas.List.Elements.{All-head, All-tail, All-from_recursion}
@@ -9,7 +9,7 @@ use Rattle.packet_read.specs.declared.arrival.Arrival.{Arrival}
 use Rattle.client_ports.specs.States.{State}
 use Rattle.plain_server.specs.Entries.{HasBytes}
 use Rattle.plain_server.specs.Frames.{received_in, state_after, state_played}
-use Rattle.out_text.specs.OutLines.{OutLine, text_of}
+use Rattle.out_text.specs.OutLines.{text_of}
 use Rattle.out_text.specs.FrameLines.{lines_with}
 use Rattle.packet_read.specs.Orders.{is_from}
 use Rattle.out_text.specs.Feeds.{IsFeedOf, AreFeedsOf, with_froms, fed_lines}
@@ -55,12 +55,12 @@ each_in P [] each = tt
 each_in P (x ∷ xs) each = (each x (inl refl), each_in P xs (λ a more. each a (inr more)))
 
 -- what holds of each packet of a frame, holds of each that arrived
-feed_keeps : (P : Arrival → Type 0) (sent fed : List Arrival) → IsFeedOf sent fed → AllByRecursion P sent → AllByRecursion P fed
+pub feed_keeps : (P : Arrival → Type 0) (sent fed : List Arrival) → IsFeedOf sent fed → AllByRecursion P sent → AllByRecursion P fed
 feed_keeps P sent fed feed all = each_in P fed (λ a there.
     let own : is_from a.port a ≡ true = grind (arith, nat_tests) in
     all_in P a sent all (from_filter (is_from a.port) a sent (subst (In a) (feed a.port) (in_filter (is_from a.port) a fed own there))))
 
-by_recursion : {X : Type 0} (P : X → Type 0) (xs : List X) → All P xs → AllByRecursion P xs
+pub by_recursion : {X : Type 0} (P : X → Type 0) (xs : List X) → All P xs → AllByRecursion P xs
 by_recursion P [] all = tt
 by_recursion P (x ∷ xs) all = (All-head P x xs all, by_recursion P xs (All-tail P x xs all))
 

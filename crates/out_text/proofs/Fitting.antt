@@ -1,5 +1,5 @@
--- A packet on a line of at most 512 bytes has at most 252.
-use Rattle.std.proofs.Common.{◌≡◌, ℕ, ◌+◌, ◌*◌, ◌-◌, ◌%◌, ◌==◌, ◌<◌, ◌≤◌, ◌&&◌, Bool, true, false, cond, List, [], ◌∷◌, ◌++◌, length, take, codes, bytes_eq, decimal, Option, Some, None, Result, Ok, Err, IfSome, option_map, refl, sym, ap, ◌∙◌, subst, arith, length-append}
+-- A packet on a line of at most 512 bytes has at most 252, and a line of such length has room for it.
+use Rattle.std.proofs.Common.{◌≡◌, ℕ, ◌+◌, ◌*◌, ◌-◌, ◌%◌, ◌==◌, ◌≤◌, ◌&&◌, Bool, true, false, cond, List, [], ◌∷◌, ◌++◌, length, take, codes, bytes_eq, decimal, Option, Some, None, Result, Ok, Err, IfSome, option_map, refl, ap, subst, arith, length-append}
 use Rattle.std.specs.Bool.{⊤}
 use Rattle.std.specs.Result.{result_ok}
 use Rattle.std.proofs.lemmas.Fmt.{decimal_nonempty}
@@ -7,8 +7,8 @@ use Rattle.std.proofs.lemmas.Slice.Eq.{bytes_eq-Decides}
 use lib.Seq.{length-take-le}
 use Rattle.hex.specs.declared.error.FromHexError.{FromHexError}
 use Rattle.hex.specs.declared.error.FromHexError.TheVariants.{OddLength}
-use Rattle.hex.specs.Hex.{decode_of, decode_pairs}
-use Rattle.hex.proofs.HexLemmas.{decode_pairs-ok}
+use Rattle.hex.specs.Hex.{decode_of, decode_pairs, lower_digits}
+use Rattle.hex.proofs.HexLemmas.{decode_pairs-ok, length-encode_with}
 use Rattle.edge_io.specs.Numbers.{natural_up_to, is_integer}
 use Rattle.edge_io.specs.Fields.{◌>>=◌, cut, field_at, field_text}
 use Rattle.edge_io.proofs.Decimals.{natural-spelled}
@@ -23,17 +23,27 @@ use Rattle.demo_lines.specs.declared.word.Word.TheVariants as words
 use Rattle.demo_lines.specs.declared.line.Line.{Line}
 use Rattle.demo_lines.specs.declared.line.Line.TheVariants.{OfMap, Frame, From, End}
 use Rattle.demo_lines.specs.Packets.{packet_bytes}
-use Rattle.demo_lines.specs.Words.{word_in, from_fields, is_nothing}
-use Rattle.demo_lines.specs.Lines.{text_of, ends_in_return, first_word, rest_of, port_in, bytes_in, from_of, line_of, line_of_first, line_in}
+use Rattle.demo_lines.specs.Spelling.{packet_text, line_text}
+use Rattle.demo_lines.specs.Words.{from_fields, is_nothing}
+use Rattle.demo_lines.specs.Lines.{text_of, ends_in_return, first_word, rest_of, line_of, line_of_first, line_in}
 
 -- a packet is so short
 abbrev pub IsShort : Arrival → Type 0
 IsShort a = length a.bytes ≤ 252
 
+-- a line of a recording has room for it
+abbrev pub HasLine : Arrival → Type 0
+HasLine a = length (line_text (From a)) ≤ 512
+
+-- both
+pub record FitsPacket (a : Arrival) : Type 0 where
+  pub short : IsShort a
+  pub room : HasLine a
+
 abbrev pub FitsLine : Line → Type 0
 FitsLine (OfMap line) = ⊤
 FitsLine Frame = ⊤
-FitsLine (From a) = IsShort a
+FitsLine (From a) = FitsPacket a
 FitsLine End = ⊤
 
 same : {A : Type 0} (a b : A) → Some a ≡ Some b → a ≡ b
@@ -53,6 +63,18 @@ packet_half : (text bytes : List ℕ) (dash none : Bool) → cond dash (Some [])
 packet_half text bytes true none h = let e : [] ≡ bytes = same [] bytes h in omega (arith, ap length e)
 packet_half text bytes false true h = cc
 packet_half text bytes false false h = decoded_half text bytes (length text % 2 == 1) (ok_of (decode_of text) bytes h)
+
+-- a text that says what the bytes of a packet are isn't empty
+packet_some : (text bytes : List ℕ) (dash : Bool) → bytes_eq text (codes "-") ≡ dash → cond dash (Some []) (cond (length text == 0) None (result_ok (decode_of text))) ≡ Some bytes → 1 ≤ length text
+packet_some text bytes true is h = let e = (bytes_eq-Decides text (codes "-")).0 is in omega (arith, ap length e)
+packet_some [] bytes false is h = cc
+packet_some (b ∷ text) bytes false is h = omega arith
+
+-- it is no shorter than the packet is written
+packet_spelled : (text bytes : List ℕ) → packet_bytes text ≡ Some bytes → length (packet_text bytes) ≤ length text
+packet_spelled text [] is = packet_some text [] (bytes_eq text (codes "-")) refl is
+packet_spelled text (b ∷ bytes) is =
+    omega (arith, packet_half text (b ∷ bytes) (bytes_eq text (codes "-")) (length text == 0) is, length-encode_with lower_digits (b ∷ bytes))
 
 -- ---- the fields of a line
 
@@ -103,7 +125,21 @@ values_fit rest (Some fields) is short = by_port (natural_up_to 65535 fields.0) 
         let some = decimal_nonempty port (omega (arith, most)) in
         let half = packet_half fields.1 bytes (bytes_eq fields.1 (codes "-")) (length fields.1 == 0) e in
         let long = (fields_long rest fields is).long in
-        omega (arith, ap length spelled.0, some, half, long, short)
+        let front = codes "from" ++ field_text (decimal port) in
+        record {
+          short = omega (arith, ap length spelled.0, some, half, long, short);
+          room = omega (
+            arith,
+            ap length spelled.0,
+            packet_spelled fields.1 bytes e,
+            long,
+            short,
+            length-append front (field_text (packet_text bytes)),
+            length-append (codes "from") (field_text (decimal port)),
+            length-append (codes " ") (decimal port),
+            length-append (codes " ") (packet_text bytes),
+          );
+        }
 
     by_port : (o : Option ℕ) → natural_up_to 65535 fields.0 ≡ o → IfSome (o >>= (λ port. packet_bytes fields.1 >>= (λ bytes. Some (From (record { port = port; bytes = bytes }))))) FitsLine
     by_port None p = tt

@@ -2,6 +2,7 @@
 use Rattle.std.proofs.Common.{◌≡◌, ℕ, Bool, true, false, not, cond, List, [], ◌∷◌, ◌++◌, Option, Some, None, IfSome, IsSome, option_map, refl, sym, ap, ◌∙◌, subst}
 use Rattle.std.specs.Bool.{⊤}
 use Rattle.edge_io.specs.WholeLines.{whole_lines}
+use Rattle.arena_map.specs.declared.limits.TheConstants.{MOST_FRAMES}
 use Rattle.arena_map.specs.declared.map_line.MapLine.{MapLine}
 use Rattle.arena_map.specs.declared.map_line.MapLine.TheVariants as of_map
 use Rattle.arena_map.specs.declared.map_fault.MapFault.{MapFault}
@@ -14,11 +15,11 @@ use Rattle.demo_lines.specs.declared.line.Line.{Line}
 use Rattle.demo_lines.specs.declared.line.Line.TheVariants.{OfMap, Frame, From, End}
 use Rattle.demo_lines.specs.declared.line_fault.LineFault.{LineFault}
 use Rattle.demo_lines.specs.declared.line_fault.LineFault.TheVariants as faults
-use Rattle.demo_lines.specs.Known.{Reading, start, is_over}
+use Rattle.demo_lines.specs.Known.{Reading, start_within, start, is_over}
 use Rattle.demo_lines.specs.Lines.{text_of, first_word, rest_of, is_end}
 use Rattle.demo_lines.specs.Faults.{is_long, has_strange_byte, fault_of_words, fault_of, broken_by_line}
 use Rattle.demo_lines.specs.Recording.{next, after_line, after, with_map_line}
-use Rattle.demo_lines.specs.Bytes.{last_part, lines_of, refusal, refused_at, fault, map_of}
+use Rattle.demo_lines.specs.Bytes.{last_part, lines_of, refusal, refused_at, fault, map_within, map_of}
 use Rattle.demo_lines.proofs.Prefixes.{after_last}
 use Rattle.demo_lines.proofs.Taking.{IsTaken}
 use Rattle.out_text.specs.Laws.{RecordingsHaveMaps}
@@ -58,9 +59,13 @@ lines_keep : (r : Reading) (ls : List (List ℕ)) → HasKeptRules r.map → Has
 lines_keep r [] kept = kept
 lines_keep r (l ∷ ls) kept = lines_keep (next r l) ls (line_keeps r l kept)
 
--- the map of a recording keeps the rules
+-- the map of a recording that may have so many frames keeps the rules
+pub map_within_keeps_rules : (limit : ℕ) (bytes : List ℕ) (arena : MapView) → map_within limit bytes ≡ Some arena → IsMap arena
+map_within_keeps_rules limit bytes arena has = subst HasKeptRules has (lines_keep (start_within limit) (lines_of bytes) tt)
+
+-- and that of one that may have as many as any
 pub map_keeps_rules : (bytes : List ℕ) (arena : MapView) → map_of bytes ≡ Some arena → IsMap arena
-map_keeps_rules bytes arena has = subst HasKeptRules has (lines_keep start (lines_of bytes) tt)
+map_keeps_rules bytes arena has = map_within_keeps_rules MOST_FRAMES bytes arena has
 
 -- ---- a recording without a fault has a map
 

@@ -27,8 +27,14 @@ pub mod SmallFrames
 pub mod FedReadBack
 pub mod FedRuns
 pub mod FedFronts
+pub mod FedCounts
+pub mod ReadyMaps
+pub mod WithoutFroms
+pub mod FedRecordings
+pub mod FedOutputs
 pub mod Lengths
 pub mod Bounded
+pub mod FedBounded
 pub mod OneReply
 pub mod OneAnswer
 pub mod LastShown

@@ -44,7 +44,7 @@ pub some_output : WrittenRecordingsHaveOutputs
 some_output workers arena fs is = faultless_output workers (recording_text arena fs) (recordings_read_back arena fs is).fault
 
 -- of frames there is one list of right journals in the order of arrival
-one_list_in : (m : Option MapView) (fs : List (List Arrival)) (js ks : List (List Entry)) → AreRightIn m fs js → AreInOrderIn m fs js → AreRightIn m fs ks → AreInOrderIn m fs ks → js ≡ ks
+pub one_list_in : (m : Option MapView) (fs : List (List Arrival)) (js ks : List (List Entry)) → AreRightIn m fs js → AreInOrderIn m fs js → AreRightIn m fs ks → AreInOrderIn m fs ks → js ≡ ks
 one_list_in None fs js ks right order right' order' = right.1 ∙ sym right'.1
 one_list_in (Some arena) fs js ks right order right' order' =
     frames.one_journal_each arena 0 (opening arena) fs js right order

@@ -1,4 +1,5 @@
--- A recording's frames have at most 512 packets each, from ports of 16 bits and with at most 252 bytes.
+-- A recording's frames have at most 512 packets each, from ports of 16 bits and with at most 252 bytes, for which a line
+-- has room.
 use Rattle.std.proofs.Common.{◌≡◌, ℕ, ◌<◌, ◌≤◌, Bool, true, false, cond, nat_le, All, List, [], ◌∷◌, ◌++◌, length, Option, Some, None, IfSome, option_map, refl, sym, subst, arith, length-append}
 use Rattle.std.specs.List.{AllByRecursion}
 use Rattle.std.proofs.lemmas.Bool.Decides.{nat_tests}
@@ -20,7 +21,7 @@ use Rattle.demo_lines.proofs.Machines.{run_of-append}
 use Rattle.demo_lines.proofs.Taking.{IsTaken}
 use Rattle.out_text.specs.Collecting.{Frames, collect, collected, closing, no_frames, frames_of}
 use Rattle.out_text.proofs.Saying.{IsSound}
-use Rattle.out_text.proofs.Fitting.{IsShort, FitsLine}
+use Rattle.out_text.proofs.Fitting.{IsShort, HasLine, FitsPacket, FitsLine}
 use Rattle.out_text.proofs.EachLine.{of_each_line}
 use Rattle.out_text.proofs.Growing.{GoesOnWith}
 use Rattle.out_text.proofs.Agreement.{NoneYet, OneOpen, AgreesAt, Agrees, agrees_line}
@@ -34,6 +35,7 @@ pub record IsSmallFrame (arrivals : List Arrival) : Type 0 where
   pub few : length arrivals ≤ 512
   pub ports : All HasPort arrivals
   pub short : All IsShort arrivals
+  pub room : All HasLine arrivals
 
 abbrev pub AreSmallFrames : List (List Arrival) → Type 0
 AreSmallFrames frames = AllByRecursion IsSmallFrame frames
@@ -52,7 +54,7 @@ closing_small None p = tt
 closing_small (Some arrivals) p = (p, tt)
 
 empty_is_small : IsSmallFrame []
-empty_is_small = record { few = omega arith; ports = All-nil HasPort; short = All-nil IsShort }
+empty_is_small = record { few = omega arith; ports = All-nil HasPort; short = All-nil IsShort; room = All-nil HasLine }
 
 small_next : (f : Frames) → AreSmall f → AreSmall (collect f events.Frame)
 small_next f p = record { closed = small_both f.closed (closing f.opened) p.closed (closing_small f.opened p.opened); opened = empty_is_small }
@@ -61,13 +63,14 @@ small_ended : (f : Frames) → AreSmall f → AreSmall (collect f events.End)
 small_ended f p = record { closed = small_both f.closed (closing f.opened) p.closed (closing_small f.opened p.opened); opened = tt }
 
 -- one packet more, where there are fewer than 512
-opened_with : (o : Option (List Arrival)) (a : Arrival) → IfSome o (λ arrivals. length arrivals < 512) → HasPort a → IsShort a → IfSome o IsSmallFrame
+opened_with : (o : Option (List Arrival)) (a : Arrival) → IfSome o (λ arrivals. length arrivals < 512) → HasPort a → FitsPacket a → IfSome o IsSmallFrame
     → IfSome (option_map (λ arrivals. arrivals ++ a ∷ []) o) IsSmallFrame
-opened_with None a below port few small = tt
-opened_with (Some arrivals) a below port few small = record {
+opened_with None a below port fits small = tt
+opened_with (Some arrivals) a below port fits small = record {
   few = omega (arith, length-append arrivals (a ∷ []), below);
   ports = All-push HasPort arrivals a small.ports port;
-  short = All-push IsShort arrivals a small.short few;
+  short = All-push IsShort arrivals a small.short fits.short;
+  room = All-push HasLine arrivals a small.room fits.room;
 }
 
 -- a packet that is taken without a fault is one of the 512
@@ -78,11 +81,11 @@ arrival_below r a none = by (nat_le 512 r.arrivals) refl none
     by true is h = cc
     by false is h = grind (arith, nat_tests)
 
-small_arrived : (r : Reading) (f : Frames) (a : Arrival) → OneOpen r f → r.arrivals < 512 → HasPort a → IsShort a → AreSmall f → AreSmall (collect f (events.From a))
-small_arrived r f a one below port few small =
+small_arrived : (r : Reading) (f : Frames) (a : Arrival) → OneOpen r f → r.arrivals < 512 → HasPort a → FitsPacket a → AreSmall f → AreSmall (collect f (events.From a))
+small_arrived r f a one below port fits small =
     let fewer : length one.arrivals < 512 = omega (arith, one.count, below) in
     let P : Option (List Arrival) → Type 0 = λ o. IfSome o (λ arrivals. length arrivals < 512) in
-    record { closed = small.closed; opened = opened_with f.opened a (subst P (sym one.opened) fewer) port few small.opened }
+    record { closed = small.closed; opened = opened_with f.opened a (subst P (sym one.opened) fewer) port fits small.opened }
 
 -- after a line that is taken
 taken_small : (stage : Stage) (r : Reading) (line : Line) (f : Frames) → is_over stage ≡ false → IsTaken stage line → IsSound line → FitsLine line → place_fault r line ≡ None → AgreesAt stage r f → AreSmall f

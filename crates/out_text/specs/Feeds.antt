@@ -1,9 +1,10 @@
 -- What the program writes for a recording whose packets come from client threads: after the line of each frame those of
 -- its packets, in the order in which they arrived, and then what it writes for a recording with this order.
-use Rattle.std.specs.Prelude.{◌≡◌, ℕ, ◌+◌, ◌-◌, ◌<◌, ◌≤◌, ◌⊎◌, ⊤, List, [], ◌∷◌, ◌++◌, length, map, take, Option, Some, None, option_map, IfSome}
-use Rattle.std.specs.List.{filter}
+use Rattle.std.specs.Prelude.{◌≡◌, ℕ, ◌+◌, ◌-◌, ◌%◌, ◌<◌, ◌≤◌, ◌==◌, ◌⊎◌, ⊤, Bool, not, List, [], ◌∷◌, ◌++◌, length, map, take, Option, Some, None, option_map, IfSome, codes, nat_eq, slice_index}
+use Rattle.std.specs.List.{filter, starts_with}
+use Rattle.std.specs.List.Sorted.{IsStrictlyIncreasing}
 use Rattle.entity_recs.specs.declared.effect.Entry.{Entry}
-use Rattle.edge_io.specs.WholeLines.{whole_lines}
+use Rattle.edge_io.specs.WholeLines.{whole_lines, unlines}
 use Rattle.arena_map.specs.Maps.{MapView}
 use Rattle.packet_read.specs.declared.arrival.Arrival.{Arrival}
 use Rattle.packet_read.specs.Orders.{is_from, in_order, AreEachOnce}
@@ -42,11 +43,21 @@ abbrev pub last_ordered : Option (List ℕ) → List (List Arrival) → Option (
 last_ordered None frames = None
 last_ordered (Some order) frames = option_map (in_order order) (last_fed frames)
 
--- this is the order of the last of these frames: it has the place of each packet once, and in it the packets are those of
--- the last of the feeds; without a frame there is none
+-- the port of the packet at this place leaves this number when it is divided by 2
+abbrev pub is_of_parity : List Arrival → ℕ → ℕ → Bool
+is_of_parity sent parity place = slice_index (map (λ (a : Arrival). a.port) sent) place % 2 == parity
+
+-- the places of the packets from even ports rise, and so do those of the packets from odd ports
+pub record RiseByParity (sent : List Arrival) (places : List ℕ) : Type 0 where
+  pub evens : IsStrictlyIncreasing (filter (is_of_parity sent 0) places)
+  pub odds : IsStrictlyIncreasing (filter (is_of_parity sent 1) places)
+
+-- this is the order of the last of these frames: it has the place of each packet once, those of even ports rise and those
+-- of odd ports do, and in it the packets are those of the last of the feeds; without a frame there is none
 pub record IsLastOrder (order : Option (List ℕ)) (frames feeds : List (List Arrival)) : Type 0 where
   pub none : feeds ≡ [] → order ≡ None
   pub places : IfSome order (λ places. IfSome (last_fed frames) (λ sent. AreEachOnce (length sent) places))
+  pub rising : IfSome order (λ places. IfSome (last_fed frames) (λ sent. RiseByParity sent places))
   pub packets : last_ordered order frames ≡ last_fed feeds
 
 -- ---- the lines
@@ -116,6 +127,16 @@ split_at_frames (mark ∷ marks) = onto mark (split_at_frames marks)
 -- the packets of each frame of a text, in the order of its `from` lines
 abbrev pub froms : List ℕ → List (List Arrival)
 froms text = (split_at_frames (map (λ line. mark_of_line (line_in line)) (whole_lines text))).frames
+
+-- ---- the text without its `from` lines
+
+-- the line begins with `from `
+abbrev pub is_from_line : List ℕ → Bool
+is_from_line line = starts_with nat_eq line (codes "from ")
+
+-- the lines of a text that don't
+abbrev pub without_froms : List ℕ → List ℕ
+without_froms text = unlines (filter (λ line. not (is_from_line line)) (whole_lines text))
 
 -- ---- what is written
 

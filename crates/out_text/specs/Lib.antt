@@ -39,3 +39,4 @@ pub mod ToLines
 pub mod PacketLines
 pub mod LastMoves
 pub mod Laws
+pub mod FedLaws

@@ -3,6 +3,8 @@ ghost use Rattle.out_text.specs.Laws.{WrittenRecordingsHaveOutputs, OneWorkerHas
 ghost use Rattle.out_text.specs.Laws.{LinesReadBack, LinesArePrintedApart, RecordingsHaveMaps, OutputsHaveOneTaker};
 ghost use Rattle.out_text.specs.Laws.{OutputsAreBounded, FramesHaveOneReplyEach, FramesAnswerTheirPackets};
 ghost use Rattle.out_text.specs.Laws.{FramesHaveTheEvents, LinesAreInTurn, JournalsAreInTurn, LastMovesAreShown};
+ghost use Rattle.out_text.specs.FedLaws.{FedOutputsAreOutputs, FaultlessRecordingsHaveFedOutputs};
+ghost use Rattle.out_text.specs.FedLaws.{OneWorkerHasOneFedOutput, FedOutputsAreBounded};
 
 /// The journals are read off exactly the lines that are printed: no other line opens a frame or reports a move.
 pub fn only_printed_lines_are_read()
@@ -93,4 +95,26 @@ pub fn journals_are_in_turn()
 /// the next frame, before the tick, unless it leaves.
 pub fn last_moves_are_shown()
     ensures { LastMovesAreShown }
+{}
+
+/// Without its `from` lines a fed output is an output of the recording with the same map whose packets stand in the order
+/// that these lines spell; and each output of such a recording is a fed output without these lines.
+pub fn fed_outputs_are_outputs()
+    ensures { FedOutputsAreOutputs }
+{}
+
+/// Each recording without a fault has a fed output in each order of arrival, with any number of workers.
+pub fn faultless_recordings_have_fed_outputs()
+    ensures { FaultlessRecordingsHaveFedOutputs }
+{}
+
+/// With one worker a recording has at most one fed output in each order of arrival.
+pub fn one_worker_has_one_fed_output()
+    ensures { OneWorkerHasOneFedOutput }
+{}
+
+/// With right journals the text of the first frames of a recording that is fed has at most 1,382,656 bytes a frame, and its
+/// whole output at most 16 more.
+pub fn fed_outputs_are_bounded()
+    ensures { FedOutputsAreBounded }
 {}
