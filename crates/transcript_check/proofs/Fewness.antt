@@ -11,6 +11,7 @@ use Rattle.move_journal.proofs.JournalLaws.{merges_have_whole_histories}
 use Rattle.arena_map.specs.Maps.{MapView, IsMap}
 use Rattle.arena_map.specs.Validity.{IsValidWorld}
 use Rattle.packet_read.specs.declared.arrival.Arrival.{Arrival}
+use Rattle.packet_read.specs.declared.arrival.TheConstants.{MOST_ARRIVALS}
 use Rattle.client_ports.specs.Lists.{no_lists}
 use Rattle.client_ports.specs.States.{State}
 use Rattle.client_ports.specs.Receiving.{Receiving, receiving_of, after_arrival, after_arrivals, received}
@@ -50,7 +51,7 @@ replies-few map_view frame records valid =
     omega (arith, one, ap length (players_are_first records entries), few_first records 64)
 
 -- a frame has at most 2,000 lines
-pub lines-few : (map_view : MapView) (frame : ℕ) (state : State) (arrivals : List Arrival) (journal : List Entry) → IsMap map_view → length arrivals ≤ 512 → IsReception map_view (received_in map_view frame state arrivals)
+pub lines-few : (map_view : MapView) (frame : ℕ) (state : State) (arrivals : List Arrival) (journal : List Entry) → IsMap map_view → length arrivals ≤ MOST_ARRIVALS → IsReception map_view (received_in map_view frame state arrivals)
     → length (received_in map_view frame state arrivals).lists.moves ≤ 8 * 64 → IsRightAfter map_view (received_in map_view frame state arrivals) journal
     → length (lines_with map_view frame (received_in map_view frame state arrivals) journal) ≤ 2000
 lines-few map_view frame state arrivals journal is_map few pass moves right =

@@ -1,10 +1,10 @@
 -- A frame of a checker is one of the plain server.
-use Rattle.std.proofs.Common.{◌≡◌, ℕ, ◌+◌, ◌*◌, ◌≤◌, List, length, map, Option, refl, sym, ap, ◌∙◌, subst, arith}
+use Rattle.std.proofs.Common.{◌≡◌, ℕ, ◌+◌, ◌*◌, ◌≤◌, List, length, map, Option, sym, ap, ◌∙◌, subst, arith}
 use Rattle.edge_io.specs.declared.source.Source as sources
 use Rattle.entity_recs.specs.declared.rec.Rec.{Rec}
-use Rattle.entity_recs.specs.declared.effect.Entry.{Entry}
 use Rattle.arena_map.specs.Maps.{MapView, IsMap}
 use Rattle.packet_read.specs.declared.arrival.Arrival.{Arrival}
+use Rattle.packet_read.specs.declared.arrival.TheConstants.{MOST_ARRIVALS}
 use Rattle.client_ports.specs.States.{State, state_of, HaveSameLive, IsServerState}
 use Rattle.client_ports.specs.Receiving.{Receiving}
 use Rattle.client_ports.specs.Finishing.{finished}
@@ -17,7 +17,7 @@ use Rattle.out_text.specs.FrameLines.{lines_with}
 use Rattle.transcript_check.specs.Reading.{counted, Misses}
 use Rattle.transcript_check.specs.Checkers.{CheckerView, IsChecker}
 use Rattle.transcript_check.specs.Pieces.{ReadsJournal, HasNoJournal, TakesFrame}
-use Rattle.transcript_check.specs.Moves.{moved_in, RunsFrame}
+use Rattle.transcript_check.specs.Moves.{RunsFrame}
 use Rattle.transcript_check.proofs.Fewness.{lines-few}
 
 -- what was received is that of the frame of a checker
@@ -55,7 +55,7 @@ module _ {S : Type 0} (s : sources.Ghosts S) (old new : S) (demo demo' : DemoRea
     live-still = subst (λ (q : State). HaveSameLive q.clients q.records) (sym moved-is) (moved_by_is v.map r runs.journal here.is_map here.pass).fits.live
 
     -- the checker is the one after the frame
-    pub frame-taken : (v' : CheckerView) → length arrivals ≤ 512 → v'.map ≡ v.map → v'.state ≡ finished (state_of r.state.clients records') → v'.frames ≡ v.frames + 1
+    pub frame-taken : (v' : CheckerView) → length arrivals ≤ MOST_ARRIVALS → v'.map ≡ v.map → v'.state ≡ finished (state_of r.state.clients records') → v'.frames ≡ v.frames + 1
         → v'.moves ≡ v.moves + length r.lists.moves → v'.count ≡ count' → TakesFrame s old new demo demo' t v' arrivals
     frame-taken v' few map_is state_is frames_are moves_are count_is =
         let next : v'.state ≡ state_after v.map r runs.journal = state_is ∙ ap finished moved-is in

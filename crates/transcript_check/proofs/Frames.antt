@@ -1,6 +1,5 @@
 -- The lines of a frame, read part by part.
-use Rattle.std.proofs.Common.{◌≡◌, ℕ, ◌+◌, List, [], ◌∷◌, ◌++◌, length, map, Option, IfSome, refl, sym, ap, ◌∙◌, subst, append_assoc, length-append, arith}
-use Rattle.std.specs.Io.KnownBytes.{Consumes}
+use Rattle.std.proofs.Common.{◌≡◌, ℕ, ◌+◌, List, ◌++◌, length, map, Option, sym, ap, ◌∙◌, subst, append_assoc, length-append, arith}
 use Rattle.std.proofs.lemmas.List.{length-map}
 use Rattle.edge_io.specs.declared.source.Source as sources
 use Rattle.entity_recs.specs.declared.rec.Rec.{Rec}
@@ -11,12 +10,12 @@ use Rattle.arena_actions.specs.Outcomes.{outcome_on}
 use Rattle.client_ports.specs.Lists.{Lists}
 use Rattle.plain_server.specs.RecordsById.{world_of}
 use Rattle.demo_lines.specs.Reads.{DemoReaderView}
-use Rattle.out_text.specs.FrameLines.{no_line, joined_line, did_line, to_lines}
+use Rattle.out_text.specs.FrameLines.{did_line, to_lines}
 use Rattle.out_text.specs.OutLines.{OutLine, text_of}
 use Rattle.out_text.specs.Transcripts.{BeginsWith}
 use Rattle.out_text.proofs.Runs.{text_of-append}
 use Rattle.transcript_check.specs.Reading.{counted, ahead_of, ReadsLines, Misses}
-use Rattle.transcript_check.specs.Pieces.{ReadsJournal, HasNoJournal, head_lines}
+use Rattle.transcript_check.specs.Pieces.{HasNoJournal, head_lines}
 use Rattle.transcript_check.specs.Moves.{RunsMoves, moved_in, lines_among, RunsFrame}
 use Rattle.transcript_check.proofs.Texts.{begins-after, begins-front, if_some-weaker, if_some-both}
 use Rattle.transcript_check.proofs.ReadingOn.{reads-both, counted-both}

@@ -1,20 +1,22 @@
 -- The frames of a transcript that were read so far, each with the one right journal whose lines are there.
-use Rattle.std.proofs.Common.{◌≡◌, ℕ, zero, suc, ◌+◌, ◌*◌, ◌-◌, ◌^◌, ◌≤◌, ◌<◌, min, List, [], ◌∷◌, ◌++◌, length, take, drop, get_or, Option, Some, None, IfSome, refl, sym, ap, ◌∙◌, subst, add-zero, append_assoc, append-nil, arith, length-append, take-append-drop}
+use Rattle.std.proofs.Common.{◌≡◌, ℕ, zero, suc, ◌+◌, ◌*◌, ◌-◌, ◌≤◌, List, [], ◌∷◌, ◌++◌, length, take, drop, IfSome, refl, sym, ap, ◌∙◌, subst, add-zero, append-nil, arith, length-append, take-append-drop}
 use Rattle.std.specs.Prelude.{⊤}
 use Rattle.edge_io.specs.declared.source.Source as sources
 use Rattle.entity_recs.specs.declared.effect.Entry.{Entry}
+use Rattle.arena_map.specs.declared.limits.TheConstants.{MOST_FRAMES}
 use Rattle.arena_map.specs.Maps.{MapView}
 use Rattle.packet_read.specs.declared.arrival.Arrival.{Arrival}
 use Rattle.client_ports.specs.States.{State}
 use Rattle.client_ports.specs.Receiving.{Receiving}
 use Rattle.plain_server.specs.RecordsById.{opening}
-use Rattle.plain_server.specs.Frames.{received_in, state_after, state_played, first_of, rest_of, IsRightAfter, AreRight}
+use Rattle.plain_server.specs.Frames.{received_in, state_after, state_played, IsRightAfter, AreRight}
 use Rattle.demo_lines.specs.Reads.{DemoReaderView}
 use Rattle.demo_lines.specs.Rest.{HasRest}
 use Rattle.out_text.specs.FrameLines.{lines_with, run_lines}
-use Rattle.out_text.specs.OutLines.{OutLine, EndLine, printed, text_of}
+use Rattle.out_text.specs.OutLines.{EndLine, printed, text_of}
 use Rattle.out_text.specs.Transcripts.{BeginsWith, run_moves, IsTranscript, HasRightPieces, IsWrongAfter}
 use Rattle.out_text.proofs.Runs.{length-right, run_lines-append, run_lines-push, state_played-push, right-push, right-split_last, right-take, text_of-append}
+use Rattle.transcript_check.specs.declared.pending.TheConstants.{MOST_FRAME_MOVES}
 use Rattle.transcript_check.specs.Reading.{counted, ahead_of, ReadsLines, Misses}
 use Rattle.transcript_check.specs.Checkers.{CheckerView, new_checker, IsChecker}
 use Rattle.transcript_check.specs.Pieces.{HasNoJournal, TakesFrame}
@@ -57,7 +59,7 @@ pushed (suc n) (x ∷ ls) same =
     record { front = x ∷ rest.front; last = rest.last; is = ap (λ (ys : List (List Entry)). x ∷ ys) rest.is; same = ap suc rest.same }
 
 -- a count of few lines is their number
-pub counted-few : (n : ℕ) → n ≤ 2000 * 100000 → counted 0 n ≡ n
+pub counted-few : (n : ℕ) → n ≤ 2000 * MOST_FRAMES → counted 0 n ≡ n
 counted-few zero few = refl
 counted-few (suc n) few = omega (arith, few)
 
@@ -148,27 +150,35 @@ same_taken (suc k) [] (j ∷ js) same = cc
 same_taken (suc k) (x ∷ frames) [] same = cc
 same_taken (suc k) (x ∷ frames) (j ∷ js) same = let rest : length js ≡ length frames = cc in ap suc (same_taken k frames js rest)
 
--- a right transcript has right pieces
-pub pieces-right : (map : MapView) (frames : List (List Arrival)) (bytes : List ℕ) (k : ℕ) → k ≤ length frames → IsTranscript map frames bytes → HasRightPieces map frames bytes k
-pieces-right map frames bytes k few t =
-    let js = t.journals in
+-- where the text of frames is there, so is that of the first of them
+pub front-begins : (map : MapView) (frames : List (List Arrival)) (js : List (List Entry)) (bytes : List ℕ) (k : ℕ) → AreRight map 0 (opening map) frames js
+    → BeginsWith bytes (text_of (run_lines map 0 (opening map) frames js)) → BeginsWith bytes (text_of (run_lines map 0 (opening map) (take k frames) (take k js)))
+front-begins map frames js bytes k right begins =
     let s = opening map in
     let first = take k frames in
     let front = run_lines map 0 s first (take k js) in
     let rest = run_lines map (0 + length first) (state_played map 0 s first (take k js)) (drop k frames) (drop k js) in
-    let both = run_lines-append map 0 s first (drop k frames) (take k js) (drop k js) (same_taken k frames js (length-right map 0 s frames js t.right)) in
+    let both = run_lines-append map 0 s first (drop k frames) (take k js) (drop k js) (same_taken k frames js (length-right map 0 s frames js right)) in
     let whole : run_lines map 0 s frames js ≡ front ++ rest =
     ap (λ (fs : List (List Arrival)). run_lines map 0 s fs js) (sym (take-append-drop k frames))
     ∙ ap (λ (ls : List (List Entry)). run_lines map 0 s (first ++ drop k frames) ls) (sym (take-append-drop k js)) ∙ both in
+    begins-front bytes (text_of front) (text_of rest) (subst (BeginsWith bytes) (ap text_of whole ∙ text_of-append front rest) begins)
+
+-- a right transcript has the text of its frames
+pub frames-begin : (map : MapView) (frames : List (List Arrival)) (bytes : List ℕ) (t : IsTranscript map frames bytes) → BeginsWith bytes (text_of (run_lines map 0 (opening map) frames t.journals))
+frames-begin map frames bytes t =
+    let lines = run_lines map 0 (opening map) frames t.journals in
     let end = EndLine (length frames) ∷ [] in
-    let text : text_of (run_lines map 0 s frames js ++ end) ≡ text_of front ++ text_of (rest ++ end) =
-    ap (λ (ls : List OutLine). text_of (ls ++ end)) whole ∙ ap text_of (append_assoc front rest end) ∙ text_of-append front (rest ++ end) in
-    record {
-      few = few;
-      journals = take k js;
-      right = right-take map 0 s k frames js t.right;
-      begins = begins-front bytes (text_of front) (text_of (rest ++ end)) (subst (BeginsWith bytes) text t.begins);
-    }
+    begins-front bytes (text_of lines) (text_of end) (subst (BeginsWith bytes) (text_of-append lines end) t.begins)
+
+-- a right transcript has right pieces
+pub pieces-right : (map : MapView) (frames : List (List Arrival)) (bytes : List ℕ) (k : ℕ) → k ≤ length frames → IsTranscript map frames bytes → HasRightPieces map frames bytes k
+pieces-right map frames bytes k few t = record {
+  few = few;
+  journals = take k t.journals;
+  right = right-take map 0 (opening map) k frames t.journals t.right;
+  begins = front-begins map frames t.journals bytes k t.right (frames-begin map frames bytes t);
+}
 
 -- the pieces so far are right, and the next one is wrong
 wrong-pieces : (map : MapView) (done : List (List Arrival)) (arrivals : List Arrival) (more : List (List Arrival)) (js : List (List Entry)) (bytes left : List ℕ)
@@ -232,14 +242,14 @@ pub record FramesSoFar {S : Type 0} (s : sources.Ghosts S) (map : MapView) (done
   pub state_is : c.state ≡ state_played map 0 (opening map) done journals
   pub frames_are : c.frames ≡ 0 + length done
   pub moves_are : c.moves ≡ run_moves map 0 (opening map) done journals
-  pub moves_few : c.moves ≤ 512 * length done
+  pub moves_few : c.moves ≤ MOST_FRAME_MOVES * length done
   pub count_is : c.count ≡ counted 0 (length (run_lines map 0 (opening map) done journals))
   pub few : length (run_lines map 0 (opening map) done journals) ≤ 2000 * length done
   pub is : IsChecker c.map c.state
 
 module _ {S : Type 0} (s : sources.Ghosts S) (map : MapView) where
   -- none were read
-  pub so-far-none : (old : S) (demo : DemoReaderView) (c : CheckerView) → HasRest demo → c ≡ new_checker map → IsChecker c.map c.state → FramesSoFar s map [] old old demo demo c
+  pub so-far-none : (old : S) (demo : DemoReaderView) (c : CheckerView) → HasRest demo (ahead_of s demo old) → c ≡ new_checker map → IsChecker c.map c.state → FramesSoFar s map [] old old demo demo c
   so-far-none old demo c may new is = record {
     journals = [];
     right = tt;
@@ -299,7 +309,7 @@ module _ {S : Type 0} (s : sources.Ghosts S) (map : MapView) where
         }
 
     -- the next frame is missed: where others follow it or not, the transcript is wrong after the lines of those that were read
-    pub so-far-missed : (new : S) (more : List (List Arrival)) (before : ℕ) → length done ≤ 100000
+    pub so-far-missed : (new : S) (more : List (List Arrival)) (before : ℕ) → length done ≤ MOST_FRAMES
         → Misses s now new demo' (HasNoJournal (IsRightAfter c.map (received_in c.map c.frames c.state arrivals)) (lines_with c.map c.frames (received_in c.map c.frames c.state arrivals)))
         → Misses s old new demo (λ bytes. IsWrongAt map (done ++ arrivals ∷ more) bytes before (before + c.count + 1))
     so-far-missed new more before few missed =
@@ -349,7 +359,7 @@ module _ {S : Type 0} (s : sources.Ghosts S) (map : MapView) where
         }
 
     -- the last line is missed
-    pub so-far-endless : (new : S) (before : ℕ) → length frames ≤ 100000 → Misses s now new demo' (λ bytes. BeginsWith bytes (printed (EndLine c.frames)) → ⊥)
+    pub so-far-endless : (new : S) (before : ℕ) → length frames ≤ MOST_FRAMES → Misses s now new demo' (λ bytes. BeginsWith bytes (printed (EndLine c.frames)) → ⊥)
         → Misses s old new demo (λ bytes. IsWrongAt map frames bytes before (before + c.count + 1))
     so-far-endless new before few missed =
         let front = run_lines map 0 (opening map) frames so.journals in
@@ -375,14 +385,14 @@ module _ {S : Type 0} (s : sources.Ghosts S) (map : MapView) where
 
 -- ---- a verdict
 
-module _ {S : Type 0} (s : sources.Ghosts S) (map : MapView) (frames : List (List Arrival)) (before : ℕ) (few : length frames ≤ 100000) where
+module _ {S : Type 0} (s : sources.Ghosts S) (map : MapView) (frames : List (List Arrival)) (before : ℕ) (few : length frames ≤ MOST_FRAMES) where
   -- the next frame is missed
   pub frame-wrong : (done more : List (List Arrival)) (arrivals : List Arrival) → frames ≡ done ++ arrivals ∷ more → (old now new : S) (demo demo' : DemoReaderView) (c : CheckerView)
       → FramesSoFar s map done old now demo demo' c → (count : ℕ) → count ≡ c.count
       → Misses s now new demo' (HasNoJournal (IsRightAfter c.map (received_in c.map c.frames c.state arrivals)) (lines_with c.map c.frames (received_in c.map c.frames c.state arrivals)))
       → Misses s old new demo (λ bytes. IsVerdict map frames bytes before (Wrong (before + count + 1)))
   frame-wrong done more arrivals is old now new demo demo' c so count counts missed =
-      let fewer : length done ≤ 100000 = (let long = ap length is ∙ length-append done (arrivals ∷ more) in omega (arith, few, long)) in
+      let fewer : length done ≤ MOST_FRAMES = (let long = ap length is ∙ length-append done (arrivals ∷ more) in omega (arith, few, long)) in
       let wrong = so-far-missed s map done old now demo demo' c so arrivals new more before fewer missed in
       let right_frames = subst (λ (fs : List (List Arrival)). Misses s old new demo (λ bytes. IsWrongAt map fs bytes before (before + c.count + 1))) (sym is) wrong in
       subst (λ n. Misses s old new demo (λ bytes. IsWrongAt map frames bytes before (before + n + 1))) (sym counts) right_frames

@@ -1,23 +1,15 @@
 -- The line of a live player's command can be read.
-use Rattle.std.proofs.Common.{◌≡◌, ℕ, ◌+◌, ◌<◌, ◌≤◌, ◌^◌, List, [], ◌∷◌, length, refl, sym, subst, arith, length-append}
-use Rattle.std.specs.Prelude.{All, Option, Some}
-use Rattle.std.specs.Prelude.{map as map_list}
-use Rattle.std.specs.List.{AllByRecursion}
-use Rattle.std.proofs.lemmas.List.Elements.{All-head, All-tail}
+use Rattle.std.proofs.Common.{◌<◌, ◌≤◌, List, [], ◌∷◌, length, arith, length-append}
+use Rattle.std.specs.Prelude.{Option}
 use Rattle.std.specs.Int.{w32}
 use Rattle.std.proofs.lemmas.Int.{fits_signed_from_abs}
 use Rattle.arena_geo.specs.declared.vec3.Vec3.{Vec3}
 use Rattle.arena_geo.specs.Vectors.{IsNear, Fits}
 use Rattle.entity_recs.specs.declared.rec.Rec.{Rec}
-use Rattle.entity_recs.specs.declared.effect.NewState.{NewState}
-use Rattle.entity_recs.specs.declared.effect.Entry.{Entry}
 use Rattle.entity_recs.specs.Commands.{Command}
-use Rattle.entity_recs.specs.Worlds.{others_of, record_or_nobody}
 use Rattle.entity_recs.specs.Histories.{entry_of}
 use Rattle.arena_map.specs.Maps.{MapView, IsMap}
 use Rattle.arena_map.specs.Validity.{IsValidWorld}
-use Rattle.world_tree.specs.Live.{record_at}
-use Rattle.plain_server.specs.RecordsById.{world_of}
 use Rattle.plain_server.specs.Moving.{HasLivePlayer, HasSmallNumber, effect_among}
 use Rattle.plain_server.proofs.Reports.{reported_one}
 use Rattle.out_text.specs.FrameLines.{did_line}
@@ -25,7 +17,7 @@ use Rattle.out_text.specs.OutLines.{OutLine, spelled, printed, text_of}
 use Rattle.out_text.proofs.Lengths.{journal-long}
 use Rattle.transcript_check.specs.Moves.{move_line, IsReadable}
 
-near_fits : (v : Vec3) → IsNear 1048576 v → Fits v
+pub near_fits : (v : Vec3) → IsNear 1048576 v → Fits v
 near_fits v near = record {
   x = fits_signed_from_abs w32 v.x (omega (arith, near.x));
   y = fits_signed_from_abs w32 v.y (omega (arith, near.y));

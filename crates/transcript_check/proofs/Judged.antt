@@ -1,17 +1,17 @@
 -- A verdict on what follows a recording is one on the whole input.
-use Rattle.std.proofs.Common.{◌≡◌, ℕ, ◌+◌, ◌*◌, ◌≤◌, ◌<◌, ◌^◌, Bool, true, false, List, [], ◌∷◌, ◌++◌, length, map as map_list, get_or, take, drop, suc, zero, Option, Some, None, IfSome, IsSome, refl, sym, ap, ◌∙◌, subst, append-nil, arith}
+use Rattle.std.proofs.Common.{◌≡◌, ℕ, ◌+◌, ◌≤◌, true, List, [], ◌∷◌, ◌++◌, length, Option, Some, None, IfSome, sym, ap, ◌∙◌, subst, append-nil, arith}
 use Rattle.std.specs.List.{AllByRecursion}
 use Rattle.edge_io.specs.declared.source.Source as sources
 use Rattle.edge_io.specs.Counts.{HasRisen}
-use Rattle.edge_io.specs.Lines.{ahead}
+use Rattle.arena_map.specs.declared.limits.TheConstants.{MOST_FRAMES}
 use Rattle.arena_map.specs.Maps.{MapView}
 use Rattle.packet_read.specs.declared.arrival.Arrival.{Arrival}
 use Rattle.demo_lines.specs.declared.demo_stop.DemoStop.{DemoStop}
 use Rattle.demo_lines.specs.declared.event.Event.{Event}
 use Rattle.demo_lines.specs.declared.stage.Stage.TheVariants.{Ended}
 use Rattle.demo_lines.specs.Known.{Reading, start_within, is_over}
-use Rattle.demo_lines.specs.Recording.{after, events_of}
-use Rattle.demo_lines.specs.Bytes.{lines_of, last_part, refused_at, refused_where, events_in}
+use Rattle.demo_lines.specs.Recording.{events_of}
+use Rattle.demo_lines.specs.Bytes.{lines_of, last_part, refused_at, refused_where}
 use Rattle.demo_lines.specs.Reads.{DemoReaderView, Reads, map_taken}
 use Rattle.demo_lines.proofs.Continuing.{Continues, continues}
 use Rattle.demo_lines.proofs.Counting.{counted-lines}
@@ -21,7 +21,7 @@ use Rattle.out_text.proofs.Fewness.{frames_are_few_of}
 use Rattle.out_text.proofs.SmallFrames.{IsSmallFrame, frames_are_small_of}
 use Rattle.transcript_check.specs.Reading.{ahead_of, Misses, ReadFails}
 use Rattle.transcript_check.specs.Recorded.{ReadsRecording}
-use Rattle.transcript_check.specs.Verdicts.{IsShort, IsVerdict, HasEndAt, IsJudged, Judges, StopsChecking}
+use Rattle.transcript_check.specs.Verdicts.{IsShort, IsVerdict, IsJudged, Judges, StopsChecking}
 use Rattle.transcript_check.specs.declared.verdict.Verdict.{Verdict}
 
 short-frames : (frames : List (List Arrival)) → AllByRecursion IsSmallFrame frames → AllByRecursion IsShort frames
@@ -68,7 +68,7 @@ module _ (limit : ℕ) (r : Reading) (es : List Event) (arena : MapView) (frames
 
 module _ {S : Type 0} (s : sources.Ghosts S) (limit : ℕ) (source source' : S) (demo : DemoReaderView) (frames : Frames) (read : ReadsRecording s limit source source' demo frames) where
   -- the frames of a recording that was read are few
-  pub read-few : limit ≤ 100000 → length frames.closed ≤ 100000
+  pub read-few : limit ≤ MOST_FRAMES → length frames.closed ≤ MOST_FRAMES
   read-few few =
       let here : frames ≡ collected (events_of (start_within limit) read.reads.lines) = read.frames_are ∙ ap collected (sym read.reads.events) in
       let most = frames_are_few_of limit read.reads.lines in
@@ -91,10 +91,11 @@ module _ {S : Type 0} (s : sources.Ghosts S) (limit : ℕ) (source source' : S) 
   }
 
 -- a read that fails while the lines after the recording are compared
-pub stops-comparing : {S : Type 0} (s : sources.Ghosts S) (limit : ℕ) (source mid new : S) (demo : DemoReaderView) (recorded : Frames) (stop : DemoStop)
-    → ReadsRecording s limit source mid demo recorded → ReadFails s mid new stop → StopsChecking s limit source new stop
-stops-comparing s limit source mid new demo recorded stop read fails =
+pub stops-comparing : {S : Type 0} (s : sources.Ghosts S) (limit : ℕ) (source mid new : S) (demo demo' : DemoReaderView) (recorded : Frames) (stop : DemoStop)
+    → demo' ≡ map_taken demo → ReadsRecording s limit source mid demo recorded → ReadFails s mid new demo' stop → StopsChecking s limit source new stop
+stops-comparing s limit source mid new demo demo' recorded stop taken read fails =
     subst (StopsChecking s limit source new) (sym fails.is) (record {
+      before_end = fails.before_end ∙ read.before_end (sym (ap (λ (d : DemoReaderView). d.cut) taken) ∙ fails.not_cut);
       cause = subst (λ (n : ℕ). HasRisen n (s.faults new)) read.uncounted fails.cause;
       later = subst (λ (n : ℕ). n ≤ s.faults new) read.uncounted fails.later;
       fails = λ sure. fails.fails (read.keeps sure);

@@ -19,3 +19,6 @@ pub mod Judged
 pub mod NextFrames
 pub mod OutputsChecked
 pub mod VerdictsOnOutputs
+pub mod OneEnd
+pub mod OneJournal
+pub mod OneVerdict

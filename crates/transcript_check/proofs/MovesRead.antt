@@ -1,5 +1,5 @@
 -- The lines of moves, read one after another.
-use Rattle.std.proofs.Common.{◌≡◌, ◌≢◌, ℕ, ◌+◌, ◌<◌, ◌==◌, Bool, true, false, List, [], ◌∷◌, ◌++◌, length, map, Option, Some, None, IfSome, refl, sym, ap, ◌∙◌, subst, append_assoc, append-nil, length-append, arith}
+use Rattle.std.proofs.Common.{◌≡◌, ◌≢◌, ℕ, ◌+◌, ◌==◌, true, false, List, [], ◌∷◌, ◌++◌, length, map, Option, Some, None, IfSome, refl, sym, ap, ◌∙◌, subst, append_assoc, append-nil, length-append}
 use Rattle.std.specs.List.{AllByRecursion}
 use Rattle.std.specs.Io.KnownBytes.{Consumes}
 use Rattle.std.proofs.lemmas.Bool.{eq-eqb}
@@ -13,28 +13,26 @@ use Rattle.move_journal.specs.Merges.{IsRight, history_of}
 use Rattle.move_journal.proofs.Uniques.{legal_at_first}
 use Rattle.move_journal.proofs.Orders.{legal_from_first}
 use Rattle.arena_map.specs.Maps.{MapView, IsMap}
-use Rattle.arena_map.specs.Validity.{IsValidWorld}
 use Rattle.arena_actions.specs.Outcomes.{outcome_on}
-use Rattle.plain_server.specs.RecordsById.{world_of, records_in}
+use Rattle.plain_server.specs.RecordsById.{world_of}
 use Rattle.plain_server.specs.Moving.{HasLivePlayer, HasSmallNumber, records_after, HaveMoved}
 use Rattle.plain_server.proofs.Moves.{moved-none, moved-records}
 use Rattle.demo_lines.specs.Reads.{DemoReaderView}
 use Rattle.demo_lines.specs.Rest.{HasRest, HasNoRestLine}
 use Rattle.out_text.specs.FrameLines.{did_line}
 use Rattle.out_text.specs.OutLines.{OutLine, FrameLine, FromLine, NoLine, JoinedLine, DidLine, ToLine, EndLine, spelled, printed, text_of}
-use Rattle.out_text.specs.Dids.{Did}
 use Rattle.out_text.specs.Transcripts.{BeginsWith}
 use Rattle.out_text.proofs.Runs.{text_of-append}
 use Rattle.out_text.proofs.LinesRead as lines_read
 use Rattle.std.proofs.lemmas.Option.{same_Some}
 use Rattle.transcript_check.specs.declared.lines.Reported.{Reported}
-use Rattle.transcript_check.specs.Reading.{counted, ahead_of, GoesOn, ReadsLine, ReadsLines, Misses}
-use Rattle.transcript_check.specs.Pieces.{ReadsJournal, HasNoJournal}
+use Rattle.transcript_check.specs.Reading.{counted, ahead_of, ReadsLine, ReadsLines, Misses}
+use Rattle.transcript_check.specs.Pieces.{HasNoJournal}
 use Rattle.transcript_check.specs.Moves.{IsNextOf, move_line, IsReadable, IsNoMove, TakesMove, RunsMoves}
-use Rattle.transcript_check.proofs.Texts.{one_line, same_line, missed-none, missed-other, text_of-one, begins-after, begins-front, if_some-read, if_some-weaker, if_some-both, if_some-all}
+use Rattle.transcript_check.proofs.Texts.{one_line, same_line, text_of-one, begins-after, begins-front, if_some-read, if_some-weaker, if_some-both, if_some-all}
 use Rattle.transcript_check.proofs.ReadingOn.{reads-none, reads-both, counted-both}
 use Rattle.transcript_check.proofs.InRange.{readable}
-use Rattle.transcript_check.proofs.Turns.{AreReady, IsRightFrom, right-none, right-empty, ready-next, right-cons, entry_there, BeginsWithMove, begins-with_move, moved-next, next-has}
+use Rattle.transcript_check.proofs.Turns.{AreReady, IsRightFrom, right-none, right-empty, ready-next, right-cons, entry_there, begins-with_move, moved-next, next-has}
 
 -- ---- one line
 
@@ -153,7 +151,7 @@ module _ {S : Type 0} (s : sources.Ghosts S) (map_view : MapView) (is_map : IsMa
     pub out_of : IfSome (ahead_of s demo old) (λ bytes. (journal : List Entry) → RightFirst journal → BeginsWith bytes (text_of (lines journal)) → GoesOnWith records pending front journal)
     pub count_is : count ≡ counted first (length front)
 
-  pub so-far-first : (old : S) (demo : DemoReaderView) (first : ℕ) → HasRest demo → AreReady map_view moves start moves → AllByRecursion HasSmallNumber moves → MovesSoFar old old demo demo start moves first first
+  pub so-far-first : (old : S) (demo : DemoReaderView) (first : ℕ) → HasRest demo (ahead_of s demo old) → AreReady map_view moves start moves → AllByRecursion HasSmallNumber moves → MovesSoFar old old demo demo start moves first first
   so-far-first old demo first may ready small = record {
     front = [];
     ready = ready;

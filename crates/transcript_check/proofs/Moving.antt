@@ -1,5 +1,5 @@
 -- One move over all other live records.
-use Rattle.std.proofs.Common.{◌≡◌, ℕ, ◌+◌, ◌<◌, ◌≤◌, ◌^◌, List, [], ◌∷◌, length, map, Option, Some, is_some, slice_set, refl, sym, ap, ◌∙◌, subst, arith}
+use Rattle.std.proofs.Common.{◌≡◌, ℕ, ◌<◌, ◌^◌, List, [], ◌∷◌, map, Option, Some, is_some, slice_set, sym, ap, ◌∙◌, subst, arith}
 use Rattle.std.specs.Prelude.{All, IsSome}
 use Rattle.std.specs.List.{AllByRecursion}
 use Rattle.std.specs.List.Sorted.{IsStrictlyIncreasing}
@@ -17,7 +17,7 @@ use Rattle.world_tree.specs.Live.{record_at, AreEntries}
 use Rattle.world_tree.specs.Worlds.{WorldView, with_record, without_id}
 use Rattle.world_physics.proofs.Changes.{relinked}
 use Rattle.plain_server.specs.RecordsById.{world_of}
-use Rattle.plain_server.specs.Moving.{HasLivePlayer, effect_among, with_new_states, records_with, records_after}
+use Rattle.plain_server.specs.Moving.{effect_among, with_new_states, records_with, records_after}
 use Rattle.plain_server.proofs.Moves.{moved_is_valid}
 use Rattle.plain_server.proofs.NewStates.{live-restated}
 use Rattle.plain_server.proofs.Others.{IsOther, others_at, others_rise}

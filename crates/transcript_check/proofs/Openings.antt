@@ -4,7 +4,7 @@ use Rattle.arena_geo.specs.Bounds.{Bounds}
 use Rattle.entity_recs.specs.declared.rec.Rec.{Rec}
 use Rattle.arena_map.specs.Maps.{MapView, IsMap, entities_of}
 use Rattle.client_ports.specs.Clients.{no_clients}
-use Rattle.client_ports.specs.States.{State, state_of, HaveSameLive, IsServerState}
+use Rattle.client_ports.specs.States.{state_of, HaveSameLive, IsServerState}
 use Rattle.client_ports.specs.declared.client.Client.{Client}
 use Rattle.world_physics.specs.Ticks.{after_tick}
 use Rattle.world_tree.specs.Worlds.{WorldView, empty_world, with_record, with_records}

@@ -1,5 +1,5 @@
 -- Right transcripts are the outputs of their recordings.
-use Rattle.std.proofs.Common.{◌≡◌, ℕ, List, [], ◌∷◌, ◌++◌, length, Option, Some, None, refl, ap, ◌∙◌, subst}
+use Rattle.std.proofs.Common.{[], ◌∷◌, ◌++◌, length, Option, refl, ap, ◌∙◌, subst}
 use Rattle.arena_map.specs.Maps.{MapView}
 use Rattle.out_text.specs.OutLines.{EndLine, text_of}
 use Rattle.out_text.specs.Journals.{dids}

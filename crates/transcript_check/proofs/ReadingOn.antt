@@ -1,5 +1,5 @@
 -- Lines that are read or missed after others.
-use Rattle.std.proofs.Common.{◌≡◌, ℕ, zero, suc, ◌+◌, ◌-◌, ◌^◌, ◌≤◌, min, List, [], ◌∷◌, ◌++◌, length, Option, Some, IfSome, refl, sym, ap, ◌∙◌, subst, arith, append_assoc, append-nil, length-append}
+use Rattle.std.proofs.Common.{◌≡◌, ℕ, zero, suc, ◌+◌, ◌-◌, ◌^◌, ◌≤◌, min, List, [], ◌∷◌, ◌++◌, length, refl, sym, ap, ◌∙◌, subst, arith, append_assoc, append-nil, length-append}
 use Rattle.std.specs.Io.KnownBytes.{Consumes}
 use Rattle.std.proofs.KnownBytes.{Consumes-nil, Consumes-trans}
 use Rattle.edge_io.specs.declared.source.Source as sources
@@ -12,7 +12,7 @@ use Rattle.out_text.specs.OutLines.{OutLine, spelled, printed, text_of}
 use Rattle.out_text.specs.Transcripts.{BeginsWith}
 use Rattle.out_text.proofs.Runs.{text_of-append}
 use Rattle.transcript_check.specs.Reading.{counted, ahead_of, GoesOn, ReadsLine, ReadsLines, Misses, ReadFails}
-use Rattle.transcript_check.proofs.Texts.{text_of-one, read-one, missed-none, missed-other, missed-after, missed-front, missed-one, if_some-weaker}
+use Rattle.transcript_check.proofs.Texts.{read-one, missed-none, missed-other, missed-after, missed-front, missed-one}
 
 -- counts add up
 pub counted-both : (n a b : ℕ) → counted (counted n a) b ≡ counted n (a + b)
@@ -23,19 +23,21 @@ counted-both n (suc a) (suc b) =
     both ∙ ap (counted n) (let same : suc (a + suc b) ≡ suc a + suc b = omega arith in same)
 
 module _ {S : Type 0} (s : sources.Ghosts S) where
-  pub on-none : (old : S) (demo : DemoReaderView) → HasRest demo → GoesOn s old old demo demo
-  on-none old demo may = record { may = may; same = refl; uncounted = refl; keeps = λ sure. sure }
+  pub on-none : (old : S) (demo : DemoReaderView) → HasRest demo (ahead_of s demo old) → GoesOn s old old demo demo
+  on-none old demo may = record { may = may; same = refl; cut = refl; before_end = refl; uncounted = refl; keeps = λ sure. sure }
 
   pub on-both : (a b c : S) (d e f : DemoReaderView) → GoesOn s a b d e → GoesOn s b c e f → GoesOn s a c d f
   on-both a b c d e f one more = record {
     may = more.may;
     same = more.same ∙ one.same;
+    cut = more.cut ∙ one.cut;
+    before_end = more.before_end ∙ one.before_end;
     uncounted = more.uncounted ∙ one.uncounted;
     keeps = λ sure. more.keeps (one.keeps sure);
   }
 
   -- nothing was read
-  pub reads-none : (old : S) (demo : DemoReaderView) → HasRest demo → ReadsLines s old old demo demo []
+  pub reads-none : (old : S) (demo : DemoReaderView) → HasRest demo (ahead_of s demo old) → ReadsLines s old old demo demo []
   reads-none old demo may = record { consumed = Consumes-nil (ahead_of s demo old); on = on-none old demo may }
 
   -- lines after lines
@@ -62,9 +64,11 @@ module _ {S : Type 0} (s : sources.Ghosts S) where
   misses-one a c d l one = record { missed = missed-one (ahead_of s d a) l one.missed; uncounted = one.uncounted }
 
   -- a read that fails after lines
-  pub fails-after : (a b c : S) (d e : DemoReaderView) (stop : DemoStop) → GoesOn s a b d e → ReadFails s b c stop → ReadFails s a c stop
+  pub fails-after : (a b c : S) (d e : DemoReaderView) (stop : DemoStop) → GoesOn s a b d e → ReadFails s b c e stop → ReadFails s a c d stop
   fails-after a b c d e stop one fails = record {
     is = fails.is;
+    not_cut = sym one.cut ∙ fails.not_cut;
+    before_end = fails.before_end ∙ one.before_end;
     cause = subst (λ (n : ℕ). HasRisen n (s.faults c)) one.uncounted fails.cause;
     later = subst (λ (n : ℕ). n ≤ s.faults c) one.uncounted fails.later;
     fails = λ sure. fails.fails (one.keeps sure);
@@ -90,7 +94,7 @@ pub record ReadsSome {S : Type 0} (s : sources.Ghosts S) (old now : S) (demo dem
   pub count_is : count ≡ counted first (length front)
 
 module _ {S : Type 0} (s : sources.Ghosts S) where
-  pub some-first : (old : S) (demo : DemoReaderView) (count : ℕ) (all left : List OutLine) → HasRest demo → all ≡ left → ReadsSome s old old demo demo count count all left
+  pub some-first : (old : S) (demo : DemoReaderView) (count : ℕ) (all left : List OutLine) → HasRest demo (ahead_of s demo old) → all ≡ left → ReadsSome s old old demo demo count count all left
   some-first old demo count all left may same = record { front = []; reads = reads-none s old demo may; all_are = same; count_is = refl }
 
   -- lines more

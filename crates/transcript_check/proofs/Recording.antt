@@ -1,22 +1,18 @@
 -- A recording that is read to its end, event after event.
-use Rattle.std.proofs.Common.{◌≡◌, ℕ, ◌≤◌, Bool, true, false, List, [], ◌∷◌, ◌++◌, ◌⊎◌, inl, inr, Some, None, IfSome, IsSome, refl, sym, ap, ◌∙◌, subst}
+use Rattle.std.proofs.Common.{◌≡◌, ℕ, ◌≤◌, ◌⊎◌, Bool, true, false, List, [], ◌∷◌, ◌++◌, inl, inr, Some, None, IfSome, IsSome, refl, sym, ap, ◌∙◌, subst}
 use Rattle.std.proofs.KnownBytes.{Consumes-nil, prepend_known-nil}
-use Rattle.std.specs.Io.KnownBytes.{Consumes}
+use Rattle.std.specs.Io.KnownBytes.{Consumes, IsAtEnd}
 use Rattle.edge_io.specs.declared.source.Source as sources
 use Rattle.edge_io.specs.Counts.{HasRisen}
-use Rattle.edge_io.specs.Lines.{ahead}
-use Rattle.demo_lines.specs.declared.stage.Stage.{Stage}
 use Rattle.demo_lines.specs.declared.stage.Stage.TheVariants.{Ended}
 use Rattle.demo_lines.specs.declared.event.Event.{Event}
 use Rattle.demo_lines.specs.declared.event.Event.TheVariants.{Frame, From, End}
 use Rattle.demo_lines.specs.declared.demo_stop.DemoStop.{DemoStop}
 use Rattle.demo_lines.specs.declared.demo_stop.DemoStop.TheVariants as demo_stop
 use Rattle.demo_lines.specs.Known.{Reading, start_within, is_map_whole, is_over}
-use Rattle.demo_lines.specs.Machines.{run_of}
-use Rattle.demo_lines.specs.Bytes.{LineRefusal, fault_in, fault_within}
+use Rattle.demo_lines.specs.Bytes.{LineRefusal, fault_within}
 use Rattle.demo_lines.specs.Readings.{IsReading}
 use Rattle.demo_lines.specs.Reads.{DemoReaderView, fresh_within, IsOpen, Reads, EndsAt, KeepsMap, stage_after, OnRefused, OnReadFault, OnNoMemory}
-use Rattle.demo_lines.specs.Rest.{HasRest}
 use Rattle.demo_lines.proofs.Machines.{run_of-append}
 use Rattle.demo_lines.proofs.Joins.{Reads-trans}
 use Rattle.demo_lines.proofs.Continuing.{continues}
@@ -50,6 +46,11 @@ collected-push : (es : List Event) (e : Event) (before after : Frames) → befor
 collected-push es e before after so_far is =
     is ∙ ap (λ (f : Frames). collect f e) so_far ∙ sym (run_of-append {E = Event} collect (λ _ _. []) no_frames es (e ∷ []))
 
+-- the source hasn't told its end, or it has, with the recording's
+abbrev TellsEnd : {S : Type 0} → sources.Ghosts S → (old new : DemoReaderView) → (source source' : S) → Event → Type 0
+TellsEnd s old new source source' e =
+    ((new.cut ≡ old.cut) × (s.ended source' ≡ s.ended source)) ⊎ ((e ≡ End) × (new.cut ≡ true) × IsAtEnd (ahead_of s new source'))
+
 -- what a call of the reader says where it gives an event
 pub record ReaderGives {S : Type 0} (s : sources.Ghosts S) (old new : DemoReaderView) (source source' : S) (e : Event) : Type 0 where
   pub event : IsOpen old → Reads old.reading new.reading (ahead_of s old source) (ahead_of s new source') (e ∷ [])
@@ -58,7 +59,7 @@ pub record ReaderGives {S : Type 0} (s : sources.Ghosts S) (old new : DemoReader
   pub uncounted : s.faults source' ≡ s.faults source
   pub keeps : s.never_fails source → s.never_fails source'
   pub ok : new.stop ≡ None
-  pub cut : new.cut ≡ old.cut
+  pub cut : IsOpen old → TellsEnd s old new source source' e
   pub holds : IsReading new.reading
 
 -- and where it stops
@@ -66,6 +67,7 @@ pub record ReaderStops {S : Type 0} (s : sources.Ghosts S) (old new : DemoReader
   pub refused : IsOpen old → OnRefused d (λ why. IfSome (ahead_of s old source) (EndsAt old.reading why))
   pub cause : IsOpen old → OnReadFault d (HasRisen (s.faults source) (s.faults source'))
   pub sure : IsOpen old → s.never_fails source → OnReadFault d ⊥
+  pub no_end : OnReadFault d (s.ended source' ≡ s.ended source)
   pub later : s.faults source ≤ s.faults source'
   pub uncounted_refusal : OnRefused d (λ _. s.faults source' ≡ s.faults source)
   pub uncounted_memory : OnNoMemory d (s.faults source' ≡ s.faults source)
@@ -78,6 +80,7 @@ module _ {S : Type 0} (s : sources.Ghosts S) (limit : ℕ) where
     pub frames_are : frames ≡ collected events
     pub is_open : IsOpen demo
     pub not_cut : demo.cut ≡ false
+    pub before_end : s.ended now ≡ s.ended first
     pub uncounted : s.faults now ≡ s.faults first
     pub keeps : s.never_fails first → s.never_fails now
     pub map : is_map_whole demo.reading.stage ≡ true → IsSome demo.reading.map
@@ -99,12 +102,20 @@ module _ {S : Type 0} (s : sources.Ghosts S) (limit : ℕ) where
     frames_are = none;
     is_open = record { no_stop = refl; not_over = refl };
     not_cut = refl;
+    before_end = refl;
     uncounted = refl;
     keeps = λ sure. sure;
     map = λ whole. cc;
   })
 
   module _ (first now : S) (demo : DemoReaderView) (frames : Frames) (on : ReadsOn first now demo frames) (next : S) (demo' : DemoReaderView) where
+    -- only with the recording's end the source tells its own
+    untold : (e : Event) → is_last e ≡ false → TellsEnd s demo demo' now next e → (demo'.cut ≡ demo.cut) × (s.ended next ≡ s.ended now)
+    untold e going tells = elim tells [
+      | inl same ↦ same
+      | inr told ↦ (let never : true ≡ false = sym (ap is_last told.0) ∙ going in cc)
+    ]
+
     -- an event was given, and it wasn't the end
     pub goes_on : (e : Event) (frames' : Frames) → ReaderGives s demo demo' now next e → frames' ≡ collect frames e → is_last e ≡ false → ReadsOn first next demo' frames'
     goes_on e frames' gives made going = record {
@@ -113,7 +124,8 @@ module _ {S : Type 0} (s : sources.Ghosts S) (limit : ℕ) where
           on.reads on.is_open.not_over (gives.event on.is_open);
       frames_are = collected-push on.events e frames frames' on.frames_are made;
       is_open = record { no_stop = gives.ok; not_over = ap is_over gives.stage ∙ going-stage e going };
-      not_cut = gives.cut ∙ on.not_cut;
+      not_cut = (untold e going (gives.cut on.is_open)).0 ∙ on.not_cut;
+      before_end = (untold e going (gives.cut on.is_open)).1 ∙ on.before_end;
       uncounted = gives.uncounted ∙ on.uncounted;
       keeps = λ sure. gives.keeps (on.keeps sure);
       map = λ whole. map-there demo.reading demo'.reading on.map gives.map;
@@ -127,7 +139,17 @@ module _ {S : Type 0} (s : sources.Ghosts S) (limit : ℕ) where
           on.reads on.is_open.not_over (gives.event on.is_open);
       frames_are = collected-push on.events e frames frames' on.frames_are made;
       ended = gives.stage ∙ ended-stage e last;
-      may = record { no_stop = gives.ok; not_cut = gives.cut ∙ on.not_cut };
+      may = record {
+        no_stop = gives.ok;
+        at_end = λ is. elim (gives.cut on.is_open) [
+          | inl same ↦ (let never : true ≡ false = sym is ∙ same.0 ∙ on.not_cut in cc)
+          | inr told ↦ told.2
+        ];
+      };
+      before_end = λ not_cut. elim (gives.cut on.is_open) [
+        | inl same ↦ same.1 ∙ on.before_end
+        | inr told ↦ (let never : true ≡ false = sym told.1 ∙ not_cut in cc)
+      ];
       map = map-there demo.reading demo'.reading on.map gives.map;
       holds = gives.holds;
       uncounted = gives.uncounted ∙ on.uncounted;
@@ -144,6 +166,7 @@ module _ {S : Type 0} (s : sources.Ghosts S) (limit : ℕ) where
           reads = given.uncounted_refusal ∙ on.uncounted;
         }
     stops demo_stop.ReadFault given = record {
+      before_end = given.no_end ∙ on.before_end;
       cause = subst (λ (n : ℕ). HasRisen n (s.faults next)) on.uncounted (given.cause on.is_open);
       later = subst (λ (n : ℕ). n ≤ s.faults next) on.uncounted given.later;
       fails = λ sure. given.sure on.is_open (on.keeps sure);

@@ -1,15 +1,12 @@
 -- Records put in other states, one after another.
-use Rattle.std.proofs.Common.{◌≡◌, ℕ, zero, suc, ◌+◌, ◌-◌, ◌<◌, ◌==◌, Bool, true, false, List, [], ◌∷◌, ◌++◌, length, drop, get_or, Option, Some, None, slice_set, refl, sym, ap, ◌∙◌, subst, inl, inr, add-one, arith}
-use Rattle.std.specs.Prelude.{IsSome}
-use Rattle.std.specs.Prelude.{map as map_list}
-use Rattle.std.specs.Option.{option_map}
+use Rattle.std.proofs.Common.{◌≡◌, ℕ, zero, suc, ◌+◌, ◌-◌, ◌<◌, ◌==◌, true, false, List, [], ◌∷◌, length, drop, get_or, Option, Some, None, slice_set, refl, sym, ap, ◌∙◌, inl, inr, add-one, arith}
 use Rattle.std.proofs.lemmas.Bool.{cases_Bool, ne_eqb, eq-eqb}
 use Rattle.entity_recs.specs.declared.rec.Rec.{Rec}
 use Rattle.entity_recs.specs.declared.effect.NewState.{NewState}
-use Rattle.entity_recs.specs.Records.{IsRecord, with_state}
+use Rattle.entity_recs.specs.Records.{with_state}
 use Rattle.entity_recs.specs.Histories.{with_new_state}
 use Rattle.world_tree.specs.Live.{record_at, AreEntries}
-use Rattle.world_tree.specs.Worlds.{WorldView, IsLinked, with_record, without_id}
+use Rattle.world_tree.specs.Worlds.{WorldView, with_record, without_id}
 use Rattle.world_physics.proofs.Changes.{relinked}
 use Rattle.plain_server.specs.Moving.{with_new_states}
 use Rattle.plain_server.proofs.NewStates.{restated, same_id}

@@ -1,25 +1,25 @@
 -- Journals from here on: moves that are left, run one after another in an order in which each player's are in the order
 -- sent.
-use Rattle.std.proofs.Common.{◌≡◌, ◌≢◌, ℕ, zero, suc, ◌+◌, ◌<◌, ◌==◌, Bool, true, false, List, [], ◌∷◌, ◌++◌, length, map, filter, Option, Some, None, find, refl, sym, ap, ◌∙◌, subst, inl, inr, append_assoc, append-nil, length-append, arith}
+use Rattle.std.proofs.Common.{◌≡◌, ◌≢◌, ℕ, suc, ◌+◌, ◌==◌, Bool, true, false, List, [], ◌∷◌, ◌++◌, length, Option, Some, None, find, refl, sym, ap, ◌∙◌, subst, inl, inr, arith}
 use Rattle.std.specs.Prelude.{All}
 use Rattle.std.specs.List.{AllByRecursion}
-use Rattle.std.proofs.lemmas.Bool.{cases_Bool, eq-eqb, eqb-true, cases_eq}
+use Rattle.std.proofs.lemmas.Bool.{cases_Bool, eq-eqb, eqb-true}
 use Rattle.std.proofs.lemmas.List.{map-append}
-use Rattle.std.proofs.lemmas.List.Elements.{All-from_recursion, recursion_from_All}
+use Rattle.std.proofs.lemmas.List.Elements.{recursion_from_All}
 use Rattle.entity_recs.specs.declared.rec.Rec.{Rec}
 use Rattle.entity_recs.specs.declared.effect.Entry.{Entry}
 use Rattle.entity_recs.specs.Commands.{Command}
 use Rattle.entity_recs.specs.Worlds.{World}
 use Rattle.entity_recs.specs.Histories.{Action, Item, commands_of, outcome, apply, run, entry_of}
-use Rattle.move_journal.specs.Merges.{IsMerge, IsRight, reported_numbers, sent_numbers, history_of, with_command, is_entry_of, HasNumbersApart}
+use Rattle.move_journal.specs.Merges.{IsMerge, reported_numbers, sent_numbers, history_of, with_command, is_entry_of, HasNumbersApart}
 use Rattle.move_journal.proofs.Founds.{IsFound, each_is_found}
 use Rattle.move_journal.proofs.Orders.{IsLegalFrom, legal_from_first}
-use Rattle.move_journal.proofs.Uniques.{HasNumberOf, looked_up_command, front_of_history, first_entry, legal_after, legal_at_first}
+use Rattle.move_journal.proofs.Uniques.{looked_up_command, front_of_history, first_entry, legal_after, legal_at_first}
 use Rattle.arena_map.specs.Maps.{MapView, IsMap}
 use Rattle.arena_map.specs.Validity.{IsValidWorld}
 use Rattle.arena_actions.specs.Outcomes.{outcome_on}
 use Rattle.client_ports.specs.Receiving.{Receiving}
-use Rattle.plain_server.specs.RecordsById.{world_of, records_in}
+use Rattle.plain_server.specs.RecordsById.{world_of}
 use Rattle.plain_server.specs.Moving.{HasLivePlayer, effect_among, records_after, HaveMoved}
 use Rattle.plain_server.specs.Frames.{IsRightAfter, moved_by}
 use Rattle.plain_server.proofs.Moves.{moved-none, moved-more, moved-records, still-live}

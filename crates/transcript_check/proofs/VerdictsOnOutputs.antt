@@ -1,10 +1,9 @@
 -- Verdicts speak of the outputs of `play`, which takes recordings with more frames.
-use Rattle.std.proofs.Common.{◌≡◌, ℕ, ◌≤◌, List, length, Option, Some, None, refl, sym, ap, ◌∙◌, subst}
+use Rattle.std.proofs.Common.{◌≡◌, ℕ, ◌≤◌, List, length, None, refl, sym, ap, ◌∙◌, subst}
 use Rattle.arena_map.specs.declared.limits.TheConstants.{MOST_FRAMES}
-use Rattle.arena_map.specs.Maps.{MapView}
 use Rattle.packet_read.specs.declared.arrival.Arrival.{Arrival}
 use Rattle.demo_lines.specs.declared.event.Event.{Event}
-use Rattle.demo_lines.specs.Bytes.{fault_within, map_of}
+use Rattle.demo_lines.specs.Bytes.{fault_within}
 use Rattle.demo_lines.proofs.Limited.{limits_cut_nothing}
 use Rattle.plain_server.specs.RecordsById.{opening}
 use Rattle.out_text.specs.Collecting.{collected, frames_within, frames_of}

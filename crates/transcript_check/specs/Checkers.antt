@@ -1,8 +1,7 @@
 -- A checker between two pieces.
-use Rattle.std.specs.Prelude.{◌≡◌, ℕ, ◌+◌}
+use Rattle.std.specs.Prelude.{ℕ}
 use Rattle.arena_map.specs.Maps.{MapView, IsMap}
 use Rattle.client_ports.specs.States.{State, IsServerState}
-use Rattle.client_ports.specs.Lists.{ReceivedView, room_for}
 use Rattle.plain_server.specs.RecordsById.{opening}
 
 -- its map, its state, how many frames were right, how many moves they had, and how many lines were read

@@ -7,8 +7,9 @@ use Rattle.demo_lines.specs.Bytes.{fault, map_of}
 use Rattle.out_text.specs.Collecting.{frames_of}
 use Rattle.out_text.specs.Output.{IsOutput}
 use Rattle.out_text.specs.Transcripts.{BeginsWith, IsTranscript}
+use Rattle.transcript_check.specs.declared.verdict.Verdict.{Verdict}
 use Rattle.transcript_check.specs.declared.verdict.Verdict.TheVariants.{Right, Wrong}
-use Rattle.transcript_check.specs.Verdicts.{IsRight, IsWrongAt, IsJudged}
+use Rattle.transcript_check.specs.Verdicts.{IsRight, IsWrongAt, HasEndAt, IsJudged}
 
 -- the bytes begin with an output of a recording
 pub record BeginsWithOutput (workers : ℕ) (recording bytes : List ℕ) : Type 0 where
@@ -41,3 +42,19 @@ pub record VerdictsAreOnOutputs : Type 0 where
       → (workers ≡ 1 → ⊥) → limit ≤ MOST_FRAMES → BeginsWithOutput workers bytes is.rest
   pub wrong : (workers limit line : ℕ) (bytes : List ℕ) (is : IsJudged limit (Wrong line) bytes) → limit ≤ MOST_FRAMES
       → BeginsWithOutput workers bytes is.rest → ⊥
+
+-- the end of a recording is one line, and what follows it is one rest
+pub record IsOneEnd (line other : ℕ) (rest more : List ℕ) : Type 0 where
+  pub line_is : line ≡ other
+  pub rest_is : rest ≡ more
+
+-- bytes are a recording with its end, and what follows it, in one way at most
+abbrev pub RecordingsEndOnce : Type 0
+RecordingsEndOnce =
+    (limit : ℕ) (bytes : List ℕ) (line other : ℕ) (rest more : List ℕ) → HasEndAt limit bytes line rest
+    → HasEndAt limit bytes other more → IsOneEnd line other rest more
+
+-- two verdicts on one input are equal
+abbrev pub VerdictsAreOne : Type 0
+VerdictsAreOne =
+    (limit : ℕ) (bytes : List ℕ) (one other : Verdict) → IsJudged limit one bytes → IsJudged limit other bytes → one ≡ other

@@ -1,5 +1,5 @@
 -- The pieces of a transcript, of which the code doesn't know the journal beforehand.
-use Rattle.std.specs.Prelude.{◌≡◌, ℕ, ◌+◌, List, [], ◌∷◌, ◌++◌, ◌≤◌, length, map as map_list, IfSome}
+use Rattle.std.specs.Prelude.{◌≡◌, ℕ, ◌+◌, List, ◌∷◌, ◌++◌, ◌≤◌, length, map as map_list, IfSome}
 use Rattle.edge_io.specs.declared.source.Source as sources
 use Rattle.entity_recs.specs.declared.effect.Entry.{Entry}
 use Rattle.packet_read.specs.declared.arrival.Arrival.{Arrival}
@@ -9,6 +9,7 @@ use Rattle.demo_lines.specs.Reads.{DemoReaderView}
 use Rattle.out_text.specs.FrameLines.{no_line, joined_line, lines_with}
 use Rattle.out_text.specs.OutLines.{OutLine, FrameLine, text_of}
 use Rattle.out_text.specs.Transcripts.{BeginsWith}
+use Rattle.transcript_check.specs.declared.pending.TheConstants.{MOST_FRAME_MOVES}
 use Rattle.transcript_check.specs.Reading.{counted, ahead_of, ReadsLines}
 use Rattle.transcript_check.specs.Checkers.{CheckerView, IsChecker}
 
@@ -42,4 +43,4 @@ pub record TakesFrame {S : Type 0} (s : sources.Ghosts S) (old new : S) (demo de
         ≡ counted c.count (length (lines_with c.map c.frames (received_in c.map c.frames c.state arrivals) journal))
     pub is : IsChecker c'.map c'.state
     pub few : length (lines_with c.map c.frames (received_in c.map c.frames c.state arrivals) journal) ≤ 2000
-    pub moves_few : length (received_in c.map c.frames c.state arrivals).lists.moves ≤ 512
+    pub moves_few : length (received_in c.map c.frames c.state arrivals).lists.moves ≤ MOST_FRAME_MOVES

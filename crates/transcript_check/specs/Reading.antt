@@ -1,5 +1,5 @@
 -- What reading the lines of a transcript takes off what is ahead.
-use Rattle.std.specs.Prelude.{◌≡◌, ℕ, zero, suc, ◌+◌, ◌-◌, ◌^◌, ◌≤◌, min, List, Option, IfSome, length}
+use Rattle.std.specs.Prelude.{◌≡◌, ℕ, zero, suc, ◌+◌, ◌-◌, ◌^◌, ◌≤◌, false, min, List, Option, IfSome}
 use Rattle.std.specs.Io.KnownBytes.{Consumes}
 use Rattle.edge_io.specs.declared.source.Source as sources
 use Rattle.edge_io.specs.Counts.{HasRisen}
@@ -27,10 +27,12 @@ module _ {S : Type 0} (s : sources.Ghosts S) where
   abbrev pub ahead_of : DemoReaderView → S → Option (List ℕ)
   ahead_of demo source = ahead demo.pending (s.left source)
 
-  -- no read failed, and more lines may follow
+  -- no read failed, the source hasn't told its end, and more lines may follow where they might before
   pub record GoesOn (old new : S) (demo demo' : DemoReaderView) : Type 0 where
-    pub may : HasRest demo'
+    pub may : HasRest demo' (ahead_of demo' new)
     pub same : demo'.reading ≡ demo.reading
+    pub cut : demo'.cut ≡ demo.cut
+    pub before_end : s.ended new ≡ s.ended old
     pub uncounted : s.faults new ≡ s.faults old
     pub keeps : s.never_fails old → s.never_fails new
 
@@ -49,9 +51,11 @@ module _ {S : Type 0} (s : sources.Ghosts S) where
     pub missed : IfSome (ahead_of demo old) P
     pub uncounted : s.faults new ≡ s.faults old
 
-  -- a read failed
-  pub record ReadFails (old new : S) (stop : DemoStop) : Type 0 where
+  -- a read failed, where the input hadn't ended with the recording, and the source hasn't told its end
+  pub record ReadFails (old new : S) (demo : DemoReaderView) (stop : DemoStop) : Type 0 where
     pub is : stop ≡ demo_stop.ReadFault
+    pub not_cut : demo.cut ≡ false
+    pub before_end : s.ended new ≡ s.ended old
     pub cause : HasRisen (s.faults old) (s.faults new)
     pub later : s.faults old ≤ s.faults new
     pub fails : s.never_fails old → ⊥

@@ -1,5 +1,5 @@
 -- A recording that was read to its end, with its frames.
-use Rattle.std.specs.Prelude.{◌≡◌, ℕ, ◌≤◌, Bool, true, false, List, IsSome}
+use Rattle.std.specs.Prelude.{◌≡◌, ℕ, Bool, true, false, List, IsSome}
 use Rattle.edge_io.specs.declared.source.Source as sources
 use Rattle.demo_lines.specs.declared.event.Event.{Event}
 use Rattle.demo_lines.specs.declared.event.Event.TheVariants.{Frame, From, End}
@@ -23,7 +23,8 @@ pub record ReadsRecording {S : Type 0} (s : sources.Ghosts S) (limit : ℕ) (sou
   pub reads : Reads (start_within limit) demo.reading (s.left source) (ahead_of s demo source') events
   pub frames_are : frames ≡ collected events
   pub ended : demo.reading.stage ≡ Ended
-  pub may : HasRest demo
+  pub may : HasRest demo (ahead_of s demo source')
+  pub before_end : demo.cut ≡ false → s.ended source' ≡ s.ended source
   pub map : IsSome demo.reading.map
   pub holds : IsReading demo.reading
   pub uncounted : s.faults source' ≡ s.faults source

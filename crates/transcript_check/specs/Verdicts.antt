@@ -1,5 +1,5 @@
 -- What a recording and the transcript after it were found to be.
-use Rattle.std.specs.Prelude.{◌≡◌, ℕ, ◌+◌, ◌≤◌, false, List, [], ◌∷◌, ◌++◌, length, Option, Some, None, IfSome}
+use Rattle.std.specs.Prelude.{◌≡◌, ℕ, ◌+◌, ◌≤◌, false, List, ◌++◌, length, Some, None, IfSome}
 use Rattle.std.specs.List.{AllByRecursion}
 use Rattle.edge_io.specs.Lines.{HasNoLineFeed}
 use Rattle.edge_io.specs.WholeLines.{all_but_last}
@@ -7,6 +7,7 @@ use Rattle.edge_io.specs.declared.source.Source as sources
 use Rattle.edge_io.specs.Counts.{HasRisen}
 use Rattle.arena_map.specs.Maps.{MapView}
 use Rattle.packet_read.specs.declared.arrival.Arrival.{Arrival}
+use Rattle.packet_read.specs.declared.arrival.TheConstants.{MOST_ARRIVALS}
 use Rattle.plain_server.specs.RecordsById.{opening}
 use Rattle.demo_lines.specs.declared.demo_stop.DemoStop.{DemoStop}
 use Rattle.demo_lines.specs.declared.demo_stop.DemoStop.TheVariants.{Refused, ReadFault, NoMemory}
@@ -22,7 +23,7 @@ use Rattle.transcript_check.specs.declared.verdict.Verdict.TheVariants.{Right, W
 
 -- the packets of a frame of a recording are few
 abbrev pub IsShort : List Arrival → Type 0
-IsShort arrivals = length arrivals ≤ 512
+IsShort arrivals = length arrivals ≤ MOST_ARRIVALS
 
 -- the transcript of these frames is right, and so many moves were received in them
 pub record IsRight (map : MapView) (frames : List (List Arrival)) (rest : List ℕ) (count moves : ℕ) : Type 0 where
@@ -77,8 +78,9 @@ module _ {S : Type 0} (s : sources.Ghosts S) (limit : ℕ) (source source' : S) 
     pub faulty : IfSome (s.left source) (λ bytes. fault_within limit bytes ≡ Some why)
     pub reads : s.faults source' ≡ s.faults source
 
-  -- the source failed
+  -- the source failed, before it told its end
   pub record FailsToRead : Type 0 where
+    pub before_end : s.ended source' ≡ s.ended source
     pub cause : HasRisen (s.faults source) (s.faults source')
     pub later : s.faults source ≤ s.faults source'
     pub fails : s.never_fails source → ⊥

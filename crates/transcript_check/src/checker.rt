@@ -15,7 +15,7 @@ ghost use Rattle.out_text.specs.OutLines.{text_of};
 ghost use Rattle.out_text.specs.Printing.{line_of};
 ghost use Rattle.out_text.specs.Ranges.{HasRoom};
 ghost use Rattle.out_text.specs.Transcripts.{BeginsWith};
-ghost use Rattle.transcript_check.specs.Reading.{counted, ReadsLines, Misses, ReadFails};
+ghost use Rattle.transcript_check.specs.Reading.{counted, ahead_of, ReadsLines, Misses, ReadFails};
 ghost use Rattle.transcript_check.specs.Moves as specs;
 ghost use Rattle.transcript_check.specs.Moves.{IsNoMove, TakesMove, RunsMoves, lines_among, RunsFrame};
 ghost use Rattle.transcript_check.specs.Pieces.{HasNoJournal, head_lines};
@@ -95,7 +95,7 @@ fn expect_move<S: Source>(
     source: &mut S,
 ) -> Result<bool, DemoStop>
     requires over { reader.old.reading.stage ≡ Ended }
-    requires may { HasRest reader.old }
+    requires may { HasRest reader.old (ahead_of S.Source reader.old source.old) }
     requires valid { IsValidWorld (map_in mover.old.action) world.old.records }
     requires live { AllByRecursion (HasLivePlayer world.old.records) pending.old }
     ensures ok { IfOk result (λ is. OnTrue is (TakesMove S.Source (map_in mover.old.action) source.old source.new reader.old
@@ -103,7 +103,7 @@ fn expect_move<S: Source>(
     ensures missed { IfOk result (λ is. OnFalse is (Misses S.Source source.old source.new reader.old
         (IsNoMove (map_in mover.old.action) world.old.records pending.old))) }
     ensures count { IfOk result (λ is. OnTrue is (lines.new.count ≡ counted lines.old.count 1)) }
-    ensures err { IfErr result (ReadFails S.Source source.old source.new) }
+    ensures err { IfErr result (ReadFails S.Source source.old source.new reader.old) }
     ensures action { mover.new.action ≡ mover.old.action }
 {
     if !lines.take(reader, source)? {
@@ -123,7 +123,7 @@ fn expect_moves<S: Source>(
     source: &mut S,
 ) -> Result<bool, DemoStop>
     requires over { reader.old.reading.stage ≡ Ended }
-    requires may { HasRest reader.old }
+    requires may { HasRest reader.old (ahead_of S.Source reader.old source.old) }
     requires valid { IsValidWorld (map_in mover.old.action) world.old.records }
     requires live { All (HasLivePlayer world.old.records) pending.old }
     requires apart { HasNumbersApart pending.old }
@@ -132,7 +132,7 @@ fn expect_moves<S: Source>(
         reader.new world.old.records world.new.records pending.old lines.old.count lines.new.count)) }
     ensures missed { IfOk result (λ is. OnFalse is (Misses S.Source source.old source.new reader.old (HasNoJournal
         (IsRight (outcome_on (map_in mover.old.action)) (world_of world.old.records) pending.old) (map did_line)))) }
-    ensures err { IfErr result (ReadFails S.Source source.old source.new) }
+    ensures err { IfErr result (ReadFails S.Source source.old source.new reader.old) }
     ensures action { mover.new.action ≡ mover.old.action }
 {
     while !pending.is_empty() {
@@ -152,14 +152,14 @@ fn expect_head<S: Source>(
     source: &mut S,
 ) -> Result<bool, DemoStop>
     requires over { reader.old.reading.stage ≡ Ended }
-    requires may { HasRest reader.old }
+    requires may { HasRest reader.old (ahead_of S.Source reader.old source.old) }
     ensures ok { IfOk result (λ is. OnTrue is (ReadsLines S.Source source.old source.new reader.old reader.new
         (head_lines frame received.now.lists))) }
     ensures missed { IfOk result (λ is. OnFalse is (Misses S.Source source.old source.new reader.old
         (λ bytes. BeginsWith bytes (text_of (head_lines frame received.now.lists)) → ⊥))) }
     ensures count { IfOk result (λ is. OnTrue is
         (lines.new.count ≡ counted lines.old.count (length (head_lines frame received.now.lists)))) }
-    ensures err { IfErr result (ReadFails S.Source source.old source.new) }
+    ensures err { IfErr result (ReadFails S.Source source.old source.new reader.old) }
 {
     if !lines.expect(&OutLine::Frame(frame), reader, source)? {
         return Ok(false);
@@ -182,7 +182,7 @@ fn expect_lines<S: Source>(
     source: &mut S,
 ) -> Result<bool, DemoStop>
     requires over { reader.old.reading.stage ≡ Ended }
-    requires may { HasRest reader.old }
+    requires may { HasRest reader.old (ahead_of S.Source reader.old source.old) }
     requires valid { IsValidWorld (map_in mover.old.action) world.old.records }
     requires live { All (HasLivePlayer world.old.records) received.now.lists.moves }
     requires apart { HasNumbersApart received.now.lists.moves }
@@ -193,7 +193,7 @@ fn expect_lines<S: Source>(
     ensures missed { IfOk result (λ is. OnFalse is (Misses S.Source source.old source.new reader.old (HasNoJournal
         (IsRight (outcome_on (map_in mover.old.action)) (world_of world.old.records) received.now.lists.moves)
         (lines_among (map_in mover.old.action) frame world.old.records received.now.lists)))) }
-    ensures err { IfErr result (ReadFails S.Source source.old source.new) }
+    ensures err { IfErr result (ReadFails S.Source source.old source.new reader.old) }
     ensures action { mover.new.action ≡ mover.old.action }
 {
     if !expect_head(frame, received, lines, reader, source)? {
@@ -243,13 +243,15 @@ impl Model for Checker {
 impl Checker {
     ghost use Rattle.std.specs.Prelude.{◌≡◌, ◌*◌, ◌<◌, ◌≤◌, [], ◌∷◌, length, IfOk, IfErr, OnOk};
     ghost use Rattle.std.specs.Bool.{OnTrue, OnFalse};
+    ghost use Rattle.arena_map.specs.declared.limits.TheConstants.{MOST_FRAMES};
     ghost use Rattle.plain_server.specs.Frames.{received_in, IsRightAfter};
     ghost use Rattle.demo_lines.specs.declared.stage.Stage.TheVariants.{Ended};
     ghost use Rattle.demo_lines.specs.Rest.{HasRest};
     ghost use Rattle.out_text.specs.FrameLines.{lines_with};
     ghost use Rattle.out_text.specs.OutLines.{EndLine, printed};
     ghost use Rattle.out_text.specs.Transcripts.{BeginsWith};
-    ghost use Rattle.transcript_check.specs.Reading.{ReadsLines, Misses, ReadFails};
+    ghost use Rattle.transcript_check.specs.declared.pending.TheConstants.{MOST_FRAME_MOVES};
+    ghost use Rattle.transcript_check.specs.Reading.{ahead_of, ReadsLines, Misses, ReadFails};
     ghost use Rattle.transcript_check.specs.Checkers.{new_checker, IsChecker};
     ghost use Rattle.transcript_check.specs.Pieces.{HasNoJournal, TakesFrame};
 
@@ -304,17 +306,17 @@ impl Checker {
     ) -> Result<bool, DemoStop>
         requires is { IsChecker self.old.map self.old.state }
         requires few { length arrivals.now ≤ MOST_ARRIVALS }
-        requires frames { self.old.frames < 100000 }
-        requires moves { self.old.moves ≤ 512 * self.old.frames }
+        requires frames { self.old.frames < MOST_FRAMES }
+        requires moves { self.old.moves ≤ MOST_FRAME_MOVES * self.old.frames }
         requires over { reader.old.reading.stage ≡ Ended }
-        requires may { HasRest reader.old }
+        requires may { HasRest reader.old (ahead_of S.Source reader.old source.old) }
         ensures ok { IfOk result (λ is. OnTrue is (TakesFrame S.Source source.old source.new reader.old reader.new self.old
             self.new arrivals.now)) }
         ensures missed { IfOk result (λ is. OnFalse is (Misses S.Source source.old source.new reader.old (HasNoJournal
             (IsRightAfter self.old.map (received_in self.old.map self.old.frames self.old.state arrivals.now))
             (lines_with self.old.map self.old.frames
             (received_in self.old.map self.old.frames self.old.state arrivals.now))))) }
-        ensures err { IfErr result (ReadFails S.Source source.old source.new) }
+        ensures err { IfErr result (ReadFails S.Source source.old source.new reader.old) }
     {
         self.received.clear();
         self.state.receive(
@@ -349,12 +351,12 @@ impl Checker {
         source: &mut S,
     ) -> Result<bool, DemoStop>
         requires over { reader.old.reading.stage ≡ Ended }
-        requires may { HasRest reader.old }
+        requires may { HasRest reader.old (ahead_of S.Source reader.old source.old) }
         ensures ok { IfOk result (λ is. OnTrue is (ReadsLines S.Source source.old source.new reader.old reader.new
             (EndLine self.old.frames ∷ []))) }
         ensures missed { IfOk result (λ is. OnFalse is (Misses S.Source source.old source.new reader.old
             (λ bytes. BeginsWith bytes (printed (EndLine self.old.frames)) → ⊥))) }
-        ensures err { IfErr result (ReadFails S.Source source.old source.new) }
+        ensures err { IfErr result (ReadFails S.Source source.old source.new reader.old) }
         ensures frames { self.new.frames ≡ self.old.frames }
         ensures moves { self.new.moves ≡ self.old.moves }
     {

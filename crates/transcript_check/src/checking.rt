@@ -1,10 +1,11 @@
 ghost use Rattle.std.specs.Prelude.{◌≡◌, ◌<◌, ◌≤◌, ◌^◌, List, length, map, IfOk, IfErr};
 ghost use Rattle.std.specs.List.{AllByRecursion};
+ghost use Rattle.arena_map.specs.declared.limits.TheConstants.{MOST_FRAMES};
 ghost use Rattle.packet_read.specs.declared.arrival.Arrival as arrival;
 ghost use Rattle.demo_lines.specs.declared.stage.Stage.TheVariants.{Ended};
 ghost use Rattle.demo_lines.specs.Reads.{fresh_within};
 ghost use Rattle.demo_lines.specs.Rest.{HasRest};
-ghost use Rattle.transcript_check.specs.Reading.{Misses, ReadFails};
+ghost use Rattle.transcript_check.specs.Reading.{ahead_of, Misses, ReadFails};
 ghost use Rattle.transcript_check.specs.Checkers.{new_checker, IsChecker};
 ghost use Rattle.transcript_check.specs.Verdicts.{IsShort, IsVerdict, Judges, StopsChecking};
 
@@ -26,14 +27,14 @@ fn compare<S: Source>(
 ) -> Result<Verdict, DemoStop>
     requires new { checker.old ≡ new_checker checker.old.map }
     requires is { IsChecker checker.old.map checker.old.state }
-    requires few { length frames.now ≤ 100000 }
+    requires few { length frames.now ≤ MOST_FRAMES }
     requires short { AllByRecursion IsShort (map (λ arrivals. arrivals.items) frames.now) }
     requires before { before < 2 ^ 62 }
     requires over { reader.old.reading.stage ≡ Ended }
-    requires may { HasRest reader.old }
+    requires may { HasRest reader.old (ahead_of S.Source reader.old source.old) }
     ensures ok { IfOk result (λ verdict. Misses S.Source source.old source.new reader.old (λ bytes.
         IsVerdict checker.old.map (map (λ arrivals. arrivals.items) frames.now) bytes before verdict)) }
-    ensures err { IfErr result (ReadFails S.Source source.old source.new) }
+    ensures err { IfErr result (ReadFails S.Source source.old source.new reader.old) }
 {
     for arrivals in frames {
         let line = before + checker.lines() + 1;
@@ -64,7 +65,7 @@ pub fn check<S: Source>(
     source: &mut S,
 ) -> Result<Verdict, DemoStop>
     requires fresh { reader.old ≡ fresh_within reader.old.reading.limit }
-    requires limit { reader.old.reading.limit ≤ 100000 }
+    requires limit { reader.old.reading.limit ≤ MOST_FRAMES }
     ensures ok { IfOk result (Judges S.Source reader.old.reading.limit source.old source.new) }
     ensures err { IfErr result (StopsChecking S.Source reader.old.reading.limit source.old source.new) }
 {

@@ -1,4 +1,5 @@
 ghost use Rattle.transcript_check.specs.Laws.{VerdictsExclude, OutputsAreRight, RightOnesAreOutputs, VerdictsAreOnOutputs};
+ghost use Rattle.transcript_check.specs.Laws.{RecordingsEndOnce, VerdictsAreOne};
 
 /// No transcript is both right and wrong: where a verdict was given, a right transcript was called right and a wrong one
 /// wrong.
@@ -21,4 +22,15 @@ pub fn right_ones_are_outputs()
 /// judged wrong begins with none, however few frames it may have had where it was judged.
 pub fn verdicts_are_on_outputs()
     ensures { VerdictsAreOnOutputs }
+{}
+
+/// An input is parted into a recording, with its end, and what follows it in one way at most.
+pub fn recordings_end_once()
+    ensures { RecordingsEndOnce }
+{}
+
+/// Two verdicts on one input are equal: both are `Right` with the same numbers of frames and of moves, or both are
+/// `Wrong` with the same line.
+pub fn verdicts_are_one()
+    ensures { VerdictsAreOne }
 {}

@@ -13,18 +13,16 @@ ghost use Rattle.out_text.specs.OutLines.{DidLine, ToLine, printed, spelled, tex
 ghost use Rattle.out_text.specs.Printing.{line_of};
 ghost use Rattle.out_text.specs.Ranges.{HasRoom, IsDidInRange};
 ghost use Rattle.out_text.specs.Transcripts.{BeginsWith};
-ghost use Rattle.transcript_check.specs.Reading.{counted, ReadsLine, ReadsLines, Misses, ReadFails};
+ghost use Rattle.transcript_check.specs.Reading.{counted, ahead_of, ReadsLine, ReadsLines, Misses, ReadFails};
 
 use demo_lines::{DemoReader, DemoStop, RestBuf};
 use edge_io::{LineBuf, Source};
+use entity_recs::SLOTS;
 use out_text::{OutLine, Printed, print_line, read_line};
 use snapshot_write::{ReplyBuf, write_snapshot};
 use std::alloc::{AllocError, Global};
 use std::marker::Model;
 use world_tree::World;
-
-/// The number of slots.
-const SLOTS: u8 = 64;
 
 /// Whose move a line reports, and its number.
 #[derive(Clone, Copy, Debug, PartialEq, Eq)]
@@ -91,14 +89,14 @@ impl Lines {
         source: &mut S,
     ) -> Result<bool, DemoStop>
         requires over { reader.old.reading.stage ≡ Ended }
-        requires may { HasRest reader.old }
+        requires may { HasRest reader.old (ahead_of S.Source reader.old source.old) }
         ensures line { IfOk result (λ is. OnTrue is
             (ReadsLine S.Source source.old source.new reader.old reader.new self.new.given)) }
         ensures none { IfOk result (λ is. OnFalse is
             (Misses S.Source source.old source.new reader.old HasNoRestLine)) }
         ensures count { IfOk result (λ is. OnTrue is (self.new.count ≡ counted self.old.count 1)) }
         ensures wanted { self.new.wanted ≡ self.old.wanted }
-        ensures err { IfErr result (ReadFails S.Source source.old source.new) }
+        ensures err { IfErr result (ReadFails S.Source source.old source.new reader.old) }
     {
         self.given.clear();
         let is = reader.rest(source, &mut self.given)?;
@@ -148,14 +146,14 @@ impl Lines {
         source: &mut S,
     ) -> Result<bool, DemoStop>
         requires over { reader.old.reading.stage ≡ Ended }
-        requires may { HasRest reader.old }
+        requires may { HasRest reader.old (ahead_of S.Source reader.old source.old) }
         requires short { length self.old.wanted ≤ ROOM }
         ensures ok { (line : lines.OutLine) → self.old.wanted ≡ spelled line → IfOk result (λ is. OnTrue is
             (ReadsLines S.Source source.old source.new reader.old reader.new (line ∷ []))) }
         ensures missed { (line : lines.OutLine) → self.old.wanted ≡ spelled line → IfOk result (λ is. OnFalse is
             (Misses S.Source source.old source.new reader.old (λ bytes. BeginsWith bytes (printed line) → ⊥))) }
         ensures count { IfOk result (λ is. OnTrue is (self.new.count ≡ counted self.old.count 1)) }
-        ensures err { IfErr result (ReadFails S.Source source.old source.new) }
+        ensures err { IfErr result (ReadFails S.Source source.old source.new reader.old) }
     {
         if !self.take(reader, source)? {
             return Ok(false);
@@ -171,14 +169,14 @@ impl Lines {
         source: &mut S,
     ) -> Result<bool, DemoStop>
         requires over { reader.old.reading.stage ≡ Ended }
-        requires may { HasRest reader.old }
+        requires may { HasRest reader.old (ahead_of S.Source reader.old source.old) }
         requires room { HasRoom (line_of line.now) }
         ensures ok { IfOk result (λ is. OnTrue is
             (ReadsLines S.Source source.old source.new reader.old reader.new (line_of line.now ∷ []))) }
         ensures missed { IfOk result (λ is. OnFalse is (Misses S.Source source.old source.new reader.old
             (λ bytes. BeginsWith bytes (printed (line_of line.now)) → ⊥))) }
         ensures count { IfOk result (λ is. OnTrue is (self.new.count ≡ counted self.old.count 1)) }
-        ensures err { IfErr result (ReadFails S.Source source.old source.new) }
+        ensures err { IfErr result (ReadFails S.Source source.old source.new reader.old) }
     {
         self.want(line);
         self.expect_wanted(reader, source)
@@ -192,13 +190,13 @@ impl Lines {
         source: &mut S,
     ) -> Result<bool, DemoStop>
         requires over { reader.old.reading.stage ≡ Ended }
-        requires may { HasRest reader.old }
+        requires may { HasRest reader.old (ahead_of S.Source reader.old source.old) }
         ensures ok { IfOk result (λ is. OnTrue is
             (ReadsLines S.Source source.old source.new reader.old reader.new (map T.line items.now))) }
         ensures missed { IfOk result (λ is. OnFalse is (Misses S.Source source.old source.new reader.old
             (λ bytes. BeginsWith bytes (text_of (map T.line items.now)) → ⊥))) }
         ensures count { IfOk result (λ is. OnTrue is (self.new.count ≡ counted self.old.count (length items.now))) }
-        ensures err { IfErr result (ReadFails S.Source source.old source.new) }
+        ensures err { IfErr result (ReadFails S.Source source.old source.new reader.old) }
     {
         for item in items {
             if !self.expect(&item.line(), reader, source)? {
@@ -244,7 +242,7 @@ impl Lines {
         source: &mut S,
     ) -> Result<bool, DemoStop>
         requires over { reader.old.reading.stage ≡ Ended }
-        requires may { HasRest reader.old }
+        requires may { HasRest reader.old (ahead_of S.Source reader.old source.old) }
         ensures ok { IfOk result (λ is. OnTrue is (ReadsLines S.Source source.old source.new reader.old reader.new
             (map (to_line frame (live_in world.now.records)) (option_to_list (record_of world.now slot))))) }
         ensures missed { IfOk result (λ is. OnFalse is (Misses S.Source source.old source.new reader.old
@@ -252,7 +250,7 @@ impl Lines {
             (option_to_list (record_of world.now slot)))) → ⊥))) }
         ensures count { IfOk result (λ is. OnTrue is
             (self.new.count ≡ counted self.old.count (length (option_to_list (record_of world.now slot))))) }
-        ensures err { IfErr result (ReadFails S.Source source.old source.new) }
+        ensures err { IfErr result (ReadFails S.Source source.old source.new reader.old) }
     {
         let Some(_player) = world.get(u16::from(slot)) else {
             return Ok(true);
@@ -272,18 +270,18 @@ impl Lines {
         source: &mut S,
     ) -> Result<bool, DemoStop>
         requires over { reader.old.reading.stage ≡ Ended }
-        requires may { HasRest reader.old }
+        requires may { HasRest reader.old (ahead_of S.Source reader.old source.old) }
         ensures ok { IfOk result (λ is. OnTrue is (ReadsLines S.Source source.old source.new reader.old reader.new
             (to_lines frame world.now.records))) }
         ensures missed { IfOk result (λ is. OnFalse is (Misses S.Source source.old source.new reader.old
             (λ bytes. BeginsWith bytes (text_of (to_lines frame world.now.records)) → ⊥))) }
         ensures count { IfOk result (λ is. OnTrue is
             (self.new.count ≡ counted self.old.count (length (to_lines frame world.now.records)))) }
-        ensures err { IfErr result (ReadFails S.Source source.old source.new) }
+        ensures err { IfErr result (ReadFails S.Source source.old source.new reader.old) }
     {
         // To ask for the tree is to know that the world is linked: each player has the id of its slot.
         let _tree = world.tree();
-        for slot in 0..SLOTS {
+        for slot in 0..SLOTS as u8 {
             if !self.expect_reply(world, frame, slot, reader, source)? {
                 return Ok(false);
             }

@@ -5,12 +5,13 @@ ghost use Rattle.entity_recs.specs.Commands.{command_of};
 ghost use Rattle.plain_server.specs.Moving.{HasSmallNumber};
 ghost use Rattle.transcript_check.specs.Moves.{IsNextOf};
 
+use client_ports::MOST_MOVES;
 use entity_recs::Cmd;
 use std::alloc::{AllocError, Global};
 use std::marker::Model;
 
-/// The most moves of a frame: 8 for each of 64 slots.
-const MOST_MOVES: usize = 512;
+/// The most moves of a frame: those of each of 64 slots.
+pub const MOST_FRAME_MOVES: usize = MOST_MOVES as usize * 64;
 
 /// The moves of a frame that weren't run yet, in the order of arrival. It has the room for all from the start.
 #[derive(Drop)]
@@ -21,13 +22,13 @@ pub struct Pending {
 impl Model for Pending {
     ghost use Rattle.std.specs.Prelude.{List, ◌≤◌, map, vec_capacity};
     ghost use Rattle.entity_recs.specs.Commands.{Command, command_of};
-    ghost use Rattle.transcript_check.specs.declared.pending.TheConstants.{MOST_MOVES};
+    ghost use Rattle.transcript_check.specs.declared.pending.TheConstants.{MOST_FRAME_MOVES};
 
     ghost Value = { List Command };
 
     ghost view = { λ p. map command_of p.moves.items };
 
-    ghost invariant = { λ p. MOST_MOVES ≤ vec_capacity p.moves };
+    ghost invariant = { λ p. MOST_FRAME_MOVES ≤ vec_capacity p.moves };
 }
 
 /// The place of the first move of a slot.
@@ -43,13 +44,13 @@ impl Pending {
         ensures { IfOk result (λ pending. pending ≡ []) }
     {
         Ok(Pending {
-            moves: Vec::with_capacity(alloc, MOST_MOVES)?,
+            moves: Vec::with_capacity(alloc, MOST_FRAME_MOVES)?,
         })
     }
 
     /// Puts a move last.
     fn push(&mut self, cmd: Cmd)
-        requires { length self.old < MOST_MOVES }
+        requires { length self.old < MOST_FRAME_MOVES }
         ensures moves { self.new ≡ self.old ++ command_of cmd ∷ [] }
         ensures small { HasSmallNumber (command_of cmd) }
     {
@@ -65,7 +66,7 @@ impl Pending {
 
     /// Has these moves, and no others.
     pub fn set(&mut self, moves: &[Cmd])
-        requires { length moves.now ≤ MOST_MOVES }
+        requires { length moves.now ≤ MOST_FRAME_MOVES }
         ensures moves { self.new ≡ map command_of moves.now }
         ensures small { AllByRecursion HasSmallNumber self.new }
     {

@@ -1,4 +1,4 @@
-use Rattle.std.proofs.Common.{◌≡◌, [], ◌∷◌, ◌++◌, map}
+use Rattle.std.proofs.Common.{[], ◌∷◌, map}
 use Rattle.out_text.specs.FrameLines.{no_line, joined_line}
 use Rattle.out_text.specs.OutLines.{FrameLine}
 use Rattle.transcript_check.proofs.Texts.{ok_false-weaker}

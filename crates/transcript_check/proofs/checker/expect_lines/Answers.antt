@@ -1,4 +1,4 @@
-use Rattle.std.proofs.Common.{◌≡◌, sym, ap, ◌∙◌}
+use Rattle.std.proofs.Common.{◌∙◌}
 use Rattle.arena_actions.specs.MapActions.{map_in}
 use Rattle.transcript_check.proofs.Texts.{ok_false-weaker, ok_true-both}
 use Rattle.transcript_check.proofs.Frames.{head-missed, moves-missed, replies-missed, frame-read}

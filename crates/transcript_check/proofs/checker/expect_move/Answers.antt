@@ -1,4 +1,3 @@
-use Rattle.std.proofs.Common.{◌≡◌, sym, ap, ◌∙◌}
 use Rattle.arena_actions.specs.MapActions.{map_in}
 use Rattle.transcript_check.proofs.Texts.{on_false-weaker}
 use Rattle.transcript_check.proofs.MovesRead.{no-move, no-line}

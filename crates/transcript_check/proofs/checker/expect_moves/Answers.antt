@@ -1,4 +1,4 @@
-use Rattle.std.proofs.Common.{◌≡◌, ◌≢◌, [], false, IsTrue, Err, refl, sym, ap, ◌∙◌}
+use Rattle.std.proofs.Common.{◌≢◌, [], false, IsTrue, Err, refl, ap, ◌∙◌}
 use Rattle.std.proofs.lemmas.Result.{err_from_is_err_and}
 use Rattle.arena_actions.specs.MapActions.{map_in, keeps_rules}
 use Rattle.transcript_check.proofs.ReadingOn.{fails-after}

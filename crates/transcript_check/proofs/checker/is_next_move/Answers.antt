@@ -1,4 +1,4 @@
-use Rattle.std.proofs.Common.{◌≡◌, Some, None, sym, ap, ◌∙◌}
+use Rattle.std.proofs.Common.{sym, ap, ◌∙◌}
 use Rattle.entity_recs.specs.Commands.{Command, command_of}
 use Rattle.arena_actions.specs.MapActions.{map_in}
 use Rattle.plain_server.specs.Moving.{HasLivePlayer}

@@ -1,12 +1,13 @@
-use Rattle.std.proofs.Common.{◌≡◌, ◌≤◌, List, length, map, Some, Vec, Global, refl, sym, ap, ◌∙◌, subst, arith}
+use Rattle.std.proofs.Common.{List, length, map, Some, Vec, Global, sym, ap, ◌∙◌, subst, arith}
 use Rattle.std.specs.List.{AllByRecursion}
 use Rattle.std.proofs.lemmas.List.{length-map}
 use Rattle.std.proofs.lemmas.Result.{IfErr-weaker}
 use Rattle.packet_read.specs.declared.arrival.Arrival.{Arrival}
-use Rattle.transcript_check.specs.Reading.{Misses}
+use Rattle.demo_lines.specs.Reads.{DemoReaderView}
+use Rattle.demo_lines.specs.Rest.{HasRest}
+use Rattle.transcript_check.specs.Reading.{ahead_of}
 use Rattle.transcript_check.specs.Checkers.{CheckerView}
-use Rattle.transcript_check.specs.Verdicts.{IsShort, IsVerdict, Judges}
-use Rattle.transcript_check.specs.declared.verdict.Verdict.{Verdict}
+use Rattle.transcript_check.specs.Verdicts.{IsShort, Judges}
 use Rattle.transcript_check.proofs.NextFrames.{if_ok-weaker}
 use Rattle.transcript_check.proofs.Judged.{read-few, read-short, read-judged, stops-comparing}
 use Rattle.transcript_check.proofs.checking.check.Goals as goal
@@ -23,6 +24,12 @@ compare-requires-clause-short g c =
     subst (AllByRecursion IsShort) (sym c.frames.ensures)
     (read-short g.S.Source c.args.reader.now.reading.limit c.args.source.now c.read_recording.new.source c.read_recording.new.reader c.in_ok-recorded.recorded c.in_ok-recorded.ensures.ok)
 
+pub compare-requires-clause-may : goal.compare-requires-clause-may
+compare-requires-clause-may g c =
+    let may = c.in_ok-recorded.ensures.ok.may in
+    subst (λ (demo : DemoReaderView). HasRest demo (ahead_of g.S.Source demo c.read_recording.new.source)) (sym c.take_map.ensures.rest)
+    (record { no_stop = may.no_stop; at_end = may.at_end })
+
 pub returns-clause-ok : goal.returns-clause-ok
 returns-clause-ok g c =
     let items : Vec Arrival Global → List Arrival = λ v. v.items in
@@ -36,5 +43,6 @@ returns-clause-ok g c =
 pub returns-clause-err : goal.returns-clause-err
 returns-clause-err g c =
     IfErr-weaker c.compare.result _ _
-    (λ stop fails. stops-comparing g.S.Source c.args.reader.now.reading.limit c.args.source.now c.read_recording.new.source c.compare.new.source c.read_recording.new.reader c.in_ok-recorded.recorded stop c.in_ok-recorded.ensures.ok fails)
+    (λ stop fails. stops-comparing g.S.Source c.args.reader.now.reading.limit c.args.source.now c.read_recording.new.source c.compare.new.source c.read_recording.new.reader c.take_map.new.self
+    c.in_ok-recorded.recorded stop c.take_map.ensures.rest c.in_ok-recorded.ensures.ok fails)
     c.compare.ensures.err

@@ -1,6 +1,7 @@
-use Rattle.std.proofs.Common.{◌≡◌, ◌≤◌, List, length, map, take, drop, suc, Vec, Global, refl, sym, ap, ◌∙◌, subst, arith}
+use Rattle.std.proofs.Common.{List, map, take, drop, suc, Vec, Global, sym, ap, ◌∙◌, subst, arith}
 use Rattle.std.proofs.lemmas.List.{length-map}
 use Rattle.packet_read.specs.declared.arrival.Arrival.{Arrival}
+use Rattle.transcript_check.specs.Verdicts.{IsShort}
 use Rattle.transcript_check.proofs.NextFrames.{take-next, all-next, take-all, next-short}
 use Rattle.transcript_check.proofs.FramesRead.{FramesSoFar, so-far-none, so-far-pushed, frame-wrong, end-wrong, all-right}
 use Rattle.transcript_check.proofs.checking.compare.Goals as goal
@@ -12,7 +13,7 @@ pub expect_frame-requires-clause-few : goal.expect_frame-requires-clause-few
 expect_frame-requires-clause-few g c =
     let items : Vec Arrival Global → List Arrival = λ v. v.items in
     let is = c.as_slice.ensures.value ∙ ap items c.arrivals-item.is in
-    subst (λ (xs : List Arrival). length xs ≤ 512) (sym is) (next-short items c.args.frames.now c.loop-arrivals.arrivals-index _ c.loop-arrivals-test.true c.requires.short)
+    subst IsShort (sym is) (next-short items c.args.frames.now c.loop-arrivals.arrivals-index _ c.loop-arrivals-test.true c.requires.short)
 
 pub returns-then-not-branch-clause-ok : goal.returns-then-not-branch-clause-ok
 returns-then-not-branch-clause-ok g c =

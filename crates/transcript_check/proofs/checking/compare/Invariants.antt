@@ -1,4 +1,4 @@
-use Rattle.std.proofs.Common.{◌≡◌, map, take}
+use Rattle.std.proofs.Common.{map, take}
 use Rattle.transcript_check.proofs.FramesRead.{FramesSoFar}
 use Rattle.transcript_check.proofs.checking.compare.Given as goal
 

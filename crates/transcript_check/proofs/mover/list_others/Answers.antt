@@ -1,4 +1,4 @@
-use Rattle.std.proofs.Common.{◌≡◌, arith}
+use Rattle.std.proofs.Common.{arith}
 use Rattle.transcript_check.proofs.Others.{others-next, others-few, others-all}
 use Rattle.transcript_check.proofs.mover.list_others.Goals as goal
 

@@ -1,4 +1,4 @@
-use Rattle.std.proofs.Common.{◌≡◌, ◌+◌, ◌-◌, ◌<◌, refl, arith, length}
+use Rattle.std.proofs.Common.{◌≡◌, ◌+◌, ◌-◌, refl, arith, length}
 use Rattle.transcript_check.proofs.Stating.{states-first, states-next}
 use Rattle.transcript_check.proofs.mover.put_states.Goals as goal
 

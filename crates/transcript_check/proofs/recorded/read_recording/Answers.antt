@@ -1,4 +1,4 @@
-use Rattle.std.proofs.Common.{◌≡◌, Err, sym, ap, ◌∙◌}
+use Rattle.std.proofs.Common.{Err, sym, ap, ◌∙◌}
 use Rattle.std.proofs.lemmas.Result.{err_from_is_err_and}
 use Rattle.transcript_check.proofs.Recording.{begun, goes_on, ends, stops}
 use Rattle.transcript_check.proofs.recorded.read_recording.Goals as goal
@@ -15,6 +15,7 @@ returns-in_err-event-clause-err g c =
       refused = given.refused;
       cause = given.cause;
       sure = given.sure;
+      no_end = given.no_end;
       later = given.later;
       uncounted_refusal = given.uncounted_refusal;
       uncounted_memory = given.uncounted_memory;

@@ -1,8 +1,8 @@
-use Rattle.std.proofs.Common.{◌≡◌, ◌+◌, length, refl, sym, ap, ◌∙◌, subst}
+use Rattle.std.proofs.Common.{◌+◌, length, refl, sym, ap, ◌∙◌}
 use Rattle.std.proofs.lemmas.List.{length-map}
 use Rattle.entity_recs.specs.Commands.{command_of}
 use Rattle.arena_actions.specs.MapActions.{map_in}
-use Rattle.transcript_check.proofs.FrameTaken.{IsHere, is-here, frame-missed, live-still, frame-taken}
+use Rattle.transcript_check.proofs.FrameTaken.{is-here, frame-missed, live-still, frame-taken}
 use Rattle.transcript_check.proofs.checker.Checker.expect_frame.Goals as goal
 
 pub expect_lines-requires-clause-valid : goal.expect_lines-requires-clause-valid

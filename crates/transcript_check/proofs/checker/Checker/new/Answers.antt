@@ -1,7 +1,7 @@
-use Rattle.std.proofs.Common.{◌≡◌, sym, ap, ◌∙◌, subst}
-use Rattle.arena_map.specs.Maps.{MapView, IsMap}
+use Rattle.std.proofs.Common.{sym, ap, ◌∙◌, subst}
+use Rattle.arena_map.specs.Maps.{IsMap}
 use Rattle.arena_actions.specs.MapActions.{map_in}
-use Rattle.client_ports.specs.States.{State, IsServerState}
+use Rattle.client_ports.specs.States.{IsServerState}
 use Rattle.plain_server.specs.RecordsById.{opening}
 use Rattle.plain_server.proofs.Frames.{opening_is}
 use Rattle.transcript_check.proofs.checker.Checker.new.Goals as goal

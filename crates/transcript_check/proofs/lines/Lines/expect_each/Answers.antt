@@ -1,4 +1,4 @@
-use Rattle.std.proofs.Common.{◌≡◌, ◌∷◌, [], map, drop, refl, sym, ap, ◌∙◌}
+use Rattle.std.proofs.Common.{◌∷◌, [], map, refl, ap, ◌∙◌}
 use Rattle.transcript_check.proofs.Texts.{left_cons}
 use Rattle.transcript_check.proofs.ReadingOn.{some-first, some-next, some-missed, misses-one}
 use Rattle.transcript_check.proofs.lines.Lines.expect_each.Goals as goal

@@ -1,5 +1,4 @@
-use Rattle.std.proofs.Common.{◌≡◌, List, ◌++◌, length, map, drop}
-use Rattle.out_text.specs.OutLines.{OutLine}
+use Rattle.std.proofs.Common.{map, drop}
 use Rattle.transcript_check.proofs.ReadingOn.{ReadsSome}
 use Rattle.transcript_check.proofs.lines.Lines.expect_each.Given as goal
 

@@ -1,4 +1,3 @@
-use Rattle.std.proofs.Common.{◌≡◌, map}
 use Rattle.world_tree.specs.Live.{live_in}
 use Rattle.out_text.specs.FrameLines.{to_line, to_lines}
 use Rattle.transcript_check.proofs.Replies.{replies_left}

@@ -1,11 +1,11 @@
-use Rattle.std.proofs.Common.{◌≡◌, List, [], ◌∷◌, length, map, Option, Some, None, IfOk, sym, ap, ◌∙◌, subst}
+use Rattle.std.proofs.Common.{◌≡◌, length, map, Option, Some, None, IfOk, sym, ap, ◌∙◌, subst}
 use Rattle.std.specs.Option.{option_to_list}
 use Rattle.std.specs.Bool.{OnTrue, OnFalse}
 use Rattle.entity_recs.specs.declared.rec.Rec.{Rec}
 use Rattle.world_tree.specs.Live.{live_in}
 use Rattle.world_tree.specs.Worlds.{record_of}
 use Rattle.out_text.specs.FrameLines.{to_line}
-use Rattle.out_text.specs.OutLines.{OutLine, spelled, text_of}
+use Rattle.out_text.specs.OutLines.{text_of}
 use Rattle.out_text.specs.Transcripts.{BeginsWith}
 use Rattle.transcript_check.specs.Reading.{counted, ReadsLines, Misses}
 use Rattle.transcript_check.proofs.Replies.{reply-wanted}

@@ -1,4 +1,4 @@
-use Rattle.std.proofs.Common.{◌≡◌, length, sym, ap, ◌∙◌, arith}
+use Rattle.std.proofs.Common.{length, sym, ap, ◌∙◌, arith}
 use Rattle.transcript_check.proofs.Texts.{on_false-weaker}
 use Rattle.transcript_check.proofs.ReadingOn.{misses-none, misses-other}
 use Rattle.transcript_check.proofs.lines.Lines.expect_wanted.Goals as goal

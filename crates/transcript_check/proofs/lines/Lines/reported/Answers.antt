@@ -1,4 +1,4 @@
-use Rattle.std.proofs.Common.{◌≡◌, ◌∙◌, ap}
+use Rattle.std.proofs.Common.{◌∙◌, ap}
 use Rattle.out_text.specs.OutLines.{DidLine}
 use Rattle.transcript_check.specs.Reading.{LinesView}
 use Rattle.transcript_check.proofs.lines.Lines.reported.Goals as goal

@@ -1,4 +1,4 @@
-use Rattle.std.proofs.Common.{◌≡◌, sym, ap, ◌∙◌}
+use Rattle.std.proofs.Common.{ap, ◌∙◌}
 use Rattle.entity_recs.specs.Commands.{command_of}
 use Rattle.arena_actions.specs.MapActions.{map_in, keeps_rules}
 use Rattle.plain_server.specs.Moving.{with_new_states}

@@ -1,4 +1,4 @@
-use Rattle.std.proofs.Common.{◌≡◌, ◌∙◌, sym}
+use Rattle.std.proofs.Common.{◌∙◌, sym}
 use Rattle.transcript_check.proofs.Firsts.{no-first, first-taken}
 use Rattle.transcript_check.proofs.pending.Pending.take_first_of.Goals as goal
 
