@@ -96,7 +96,7 @@ frames-are : (frames : List (List Arrival)) → unlines (map line_text (flat_map
 frames-are [] = refl
 frames-are (f ∷ frames) = lines-both (frame_lines f) (flat_map frame_lines frames) ∙ ap (λ t. frame_text f ++ t) (frames-are frames)
 
-text-both : (ls ms : List MapLine) → lines_text (ls ++ ms) ≡ lines_text ls ++ lines_text ms
+pub text-both : (ls ms : List MapLine) → lines_text (ls ++ ms) ≡ lines_text ls ++ lines_text ms
 text-both ls ms =
     ap unlines (map-append map_line_text ls ms) ∙ flat_map-append (λ line. line ++ 10 ∷ []) (map map_line_text ls) (map map_line_text ms)
 

@@ -12,3 +12,6 @@ pub mod WalkSteps
 pub mod MapsBefore
 pub mod PlansRead
 pub mod ThingLines
+pub mod LineRooms
+pub mod FarLengths
+pub mod PlanBounds

@@ -34,7 +34,7 @@ use Rattle.bot_ways.specs.Laws.{PlansAreRecordings, LengthsAreWritten, MovesAreK
 use Rattle.bot_ways.proofs.MapsBefore.{map-again, lines-accepted}
 use Rattle.bot_ways.proofs.EdgeParts.{edge_most}
 use Rattle.bot_ways.proofs.Gathering.{walk-parts}
-use Rattle.bot_ways.proofs.WalkSteps.{first_step, edge-far, walk-far, walk-ready}
+use Rattle.bot_ways.proofs.WalkSteps.{first_step, some_walk, edge-far, walk-far, walk-ready}
 use Rattle.bot_ways.proofs.Wishes.{wish_at_most, wish_fits, part_x, part_y}
 
 -- ---- packets
@@ -82,15 +82,16 @@ each-frame seq (a ∷ b ∷ more) =
 pub few-moves : (a b : Vec3) → distance a b ≤ 65536 → moves_between a b ≤ 16
 few-moves a b far = omega arith
 
-few-frames : (m : MapView) (seq : ℕ) (way : List ℕ) → IsSomeWalk m way → length (frames_through seq (places_of m way)) ≤ 16 * length way
-few-frames m seq [] walk = omega arith
-few-frames m seq (u ∷ []) walk = omega arith
-few-frames m seq (u ∷ v ∷ more) walk =
+-- so a way has at most 16 for each waypoint but the first
+pub few_moves_on : (m : MapView) (seq : ℕ) (way : List ℕ) → IsSomeWalk m way → length (frames_through seq (places_of m way)) + 16 ≤ 16 * length way
+few_moves_on m seq [] walk = absurd (omega (arith, some_walk m [] walk))
+few_moves_on m seq (u ∷ []) walk = omega arith
+few_moves_on m seq (u ∷ v ∷ more) walk =
     let s = first_step m u v more walk in
     let a = place_of m u in
     let b = place_of m v in
     let far : distance a b ≤ 65536 = omega (arith, edge-far m u v s.step s.edge_is, edge_most m u v s.step s.edge_is) in
-    let later = few-frames m (seq + moves_between a b) (v ∷ more) s.rest in
+    let later = few_moves_on m (seq + moves_between a b) (v ∷ more) s.rest in
     omega (
       arith,
       length-append (frames_between seq a b) (frames_through (seq + moves_between a b) (places_of m (v ∷ more))),
@@ -111,7 +112,7 @@ is-built m plan is planned =
       near = (is.lo, is.hi);
       wide = is.wide;
       accepted = lines-accepted m is;
-      few = omega (arith, few-frames m 1 plan.way walk, to.few);
+      few = omega (arith, few_moves_on m 1 plan.way walk, to.few);
       each = (alone-frame (sent Join) join-arrival, each-frame 1 (places_of m plan.way));
       spawn = λ _. ap is_ready (map-again m is) ∙ ready;
     }

@@ -1,5 +1,5 @@
--- What holds of all maps, edges, lengths and ways.
-use Rattle.std.specs.Prelude.{◌≡◌, ◌≢◌, ◌↔◌, ℕ, ◌*◌, ◌^◌, ◌<◌, ◌≤◌, max, false, List, Option, Some, slice_get, ℤ, ◌-ℤ◌, unsigned_abs, Ok}
+-- What holds of all maps, edges, lengths, ways and texts of plans.
+use Rattle.std.specs.Prelude.{◌≡◌, ◌≢◌, ◌↔◌, ℕ, ◌+◌, ◌*◌, ◌^◌, ◌<◌, ◌≤◌, max, false, List, length, Option, Some, slice_get, ℤ, ◌-ℤ◌, unsigned_abs, Ok}
 use Rattle.arena_geo.specs.declared.vec3.Vec3.{Vec3}
 use Rattle.arena_geo.specs.Vectors.{minus}
 use Rattle.arena_geo.specs.Boxes.{is_blocked}
@@ -10,11 +10,13 @@ use Rattle.packet_read.specs.declared.packet.Packet.TheVariants.{Join, Step}
 use Rattle.packet_read.specs.Reading.{reading}
 use Rattle.demo_lines.specs.Laws.{IsTextOf}
 use Rattle.bot_ways.specs.declared.plan.Plan.{Plan}
+use Rattle.bot_ways.specs.declared.writing.TheConstants.{MOST_PLAN_BYTES}
 use Rattle.bot_ways.specs.Edges.{distance, edge}
 use Rattle.bot_ways.specs.Walks.{IsWalk, HasLeast}
 use Rattle.bot_ways.specs.Ways.{IsCertificate, IsWay}
 use Rattle.bot_ways.specs.Moves.{places_of, length_through, wish_along, move_towards, moves_between, sent, bot_frames}
-use Rattle.bot_ways.specs.PlanTexts.{IsPlan, as_written, plan_text}
+use Rattle.bot_ways.specs.PlanTexts.{IsPlan, as_written, least_line, plan_text}
+use Rattle.bot_ways.specs.Rooms.{moves_on, room_of_least, room_of_plan}
 
 -- an edge of length n leads from u to v: they have one height, are apart, and at most 65,536 from each other on each axis,
 -- no wall or block overlaps a player's body at u or at a step of its way to v, and n is the greater of the distances on
@@ -67,3 +69,16 @@ pub record MovesAreKnown : Type 0 where
   pub moves : (seq : ℕ) (a b : Vec3) → seq < 2 ^ 32 → 1 ≤ distance a b
       → reading (sent (Step (move_towards seq a b))).bytes ≡ Ok (Step (move_towards seq a b))
   pub wishes : (part : ℤ) (whole : ℕ) → 1 ≤ whole → unsigned_abs part ≤ whole → unsigned_abs (wish_along part whole) ≤ 320
+
+-- what is written of a plan has at most as many bytes as its map, its moves and its waypoints need, and an edge of the way
+-- has at most 16 moves; so with the most of each it has at most 123,417. The line of the least lengths alone has at most 6,
+-- and 8 for each waypoint
+pub record PlanTextsAreBounded : Type 0 where
+  pub texts : (map : MapView) (plan : Plan) → IsMap map → IsPlan map plan
+      → length (plan_text map plan) ≤ room_of_plan map plan
+  pub moves : (map : MapView) (plan : Plan) → IsPlan map plan → moves_on map plan.way + 16 ≤ 16 * length plan.way
+  pub least : (map : MapView) (least : List (Option ℕ)) → IsMap map → IsCertificate map least
+      → length (least_line least) ≤ room_of_least map
+  pub limit : MOST_PLAN_BYTES ≡ 123417
+  pub longest : (map : MapView) (plan : Plan) → IsMap map → IsPlan map plan
+      → length (plan_text map plan) ≤ MOST_PLAN_BYTES

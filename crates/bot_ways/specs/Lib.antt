@@ -15,6 +15,7 @@ pub mod Ways
 pub mod Search
 pub mod Moves
 pub mod PlanTexts
+pub mod Rooms
 pub mod Things
 pub mod Walking
 pub mod Laws

@@ -1,5 +1,5 @@
 ghost use Rattle.bot_ways.specs.Laws.{EdgesAreKnown, CertificatesAreLeast, WaysAreUnique};
-ghost use Rattle.bot_ways.specs.Laws.{PlansAreRecordings, LengthsAreWritten, MovesAreKnown};
+ghost use Rattle.bot_ways.specs.Laws.{PlansAreRecordings, LengthsAreWritten, MovesAreKnown, PlanTextsAreBounded};
 
 /// An edge leads from one waypoint to another exactly where they have one height, are apart, but at most 65,536 from each
 /// other on each axis, and no wall or block overlaps a player's body at the one or at a step of its way to the other. Its
@@ -34,4 +34,12 @@ pub fn lengths_are_written()
 /// those moves.
 pub fn moves_are_known()
     ensures { MovesAreKnown }
+{}
+
+/// What is written of a plan has at most 60 bytes for the arena, 8 for the depth, 6 for shots, 60 for each block, 33 for
+/// each spawn, 43 for each item, 90 for each teleporter, 59 for each goal and 72 for each lift; 18 for the join, 38 for
+/// each move, of which an edge has at most 16, and 4 for the end; and 25 for the certificate, 3 for each waypoint of the
+/// way and 8 for each waypoint of the map. So [`MOST_PLAN_BYTES`](crate::MOST_PLAN_BYTES) are room for each.
+pub fn plan_texts_are_bounded()
+    ensures { PlanTextsAreBounded }
 {}

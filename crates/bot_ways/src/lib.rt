@@ -4,12 +4,12 @@
 
 pub use laws::{
     certificates_are_least, edges_are_known, lengths_are_written, moves_are_known,
-    plans_are_recordings, ways_are_unique,
+    plan_texts_are_bounded, plans_are_recordings, ways_are_unique,
 };
 pub use lists::{LeastList, MOST_WAYPOINTS, WayList};
 pub use plan::{Plan, plan_way};
 pub use plan_stop::PlanStop;
-pub use writing::{write_least, write_plan};
+pub use writing::{MOST_PLAN_BYTES, write_least, write_plan};
 
 mod certificate;
 mod edges;

@@ -18,6 +18,9 @@ use edge_io::{Sink, write_whole};
 use packet_read::Packet;
 use std::alloc::{AllocError, Global};
 
+/// The most bytes that are written of a plan, whatever the map.
+pub const MOST_PLAN_BYTES: usize = 123_417;
+
 /// The text of a plan.
 fn plan_text(alloc: Global, map: &ArenaMap, plan: &Plan) -> Result<PlanText, AllocError>
     requires { IsPlan map.now plan.now }
