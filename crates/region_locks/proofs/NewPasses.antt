@@ -90,6 +90,7 @@ module _ (F : Fixed) (depth : IsTreeDepth F.tree.depth) (room made : ℕ) where
     has_effect = λ e. absurd (false≢true e);
     only_resolving = λ e. refl;
     refusal = tt;
+    counted = refl;
   }
     where
       no_given : (c : Command) → None ≡ Some c → ⊥

@@ -12,8 +12,9 @@ use Rattle.core_seats.specs.declared.refusals.Refusals.{Refusals}
 use Rattle.core_seats.specs.Refusals.{AreRefusals, last_of}
 use Rattle.core_seats.specs.Ready.{is_resolving}
 use Rattle.core_seats.specs.Seats.{view_of, given_of}
-use Rattle.ruled_words.specs.Passes.{PassView, IsPassOf}
+use Rattle.ruled_words.specs.Passes.{PassView, AreCounted, IsPassOf}
 use Rattle.ruled_words.specs.Hands.{IsPlain, pass_view}
+use Rattle.ruled_words.proofs.TriedTakes.{counted_more}
 use Rattle.region_locks.specs.Pursuits.{item_of}
 use Rattle.region_locks.specs.Quitting.{MayBegin}
 use Rattle.region_locks.specs.Moves.{HasRun}
@@ -81,6 +82,7 @@ module _ (F : Fixed) (passes : ℕ) (table : TableId) (p hand done : PassView) (
       seen = ap (λ (q : PassView). q.view.seen) moved.hand ∙ next_is e.place;
       given = one_more done.tally.begun hand.tally.begun _ _ moved.begun (none_given done.given (ap (λ (q : PassView). q.given) moved.hand)) (none_given hand.given plain.given);
       listed = moved.listed;
+      counted = counted_more hand done moved.listed (subst (λ (q : PassView). AreCounted q.view.refusals q.tally.refused) (sym hand_is) own.counted) own_done.counted;
     }
       where
         next_is : (n : ℕ) → suc n ≡ n + 1

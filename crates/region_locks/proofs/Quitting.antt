@@ -217,6 +217,7 @@ quits_own F passes table p q same own at =
       has_effect = own.has_effect;
       only_resolving = own.only_resolving;
       refusal = own.refusal;
+      counted = own.counted;
     })
 
 not_some : (some nothing : Bool) → nothing ≡ not some → nothing ≡ true → some ≡ false

@@ -1,5 +1,5 @@
 -- A pass that runs a command, call after call, and how it ends.
-use Rattle.std.proofs.Common.{◌≡◌, ℕ, ◌+◌, ◌-◌, ◌^◌, ◌/◌, ◌%◌, ◌<◌, ◌≤◌, Bool, true, false, if◌then◌else◌, List, [], ◌∷◌, ◌++◌, refl, sym, ap, ◌∙◌, subst, inr, Option, Some, None, is_some, arith}
+use Rattle.std.proofs.Common.{◌≡◌, ℕ, ◌+◌, ◌-◌, ◌^◌, ◌/◌, ◌%◌, ◌<◌, ◌≤◌, Bool, true, false, if◌then◌else◌, List, [], ◌∷◌, ◌++◌, refl, sym, ap, ◌∙◌, subst, Option, Some, None, is_some, arith}
 use Rattle.std.specs.Prelude.{min}
 use Rattle.std.proofs.lemmas.Bool.{true≢false, le-leb, cond-true, cond-false, or_parts}
 use Rattle.atomic_table.specs.Seated.{TableId}
@@ -9,9 +9,10 @@ use Rattle.areanode.specs.Words.{has_bit}
 use Rattle.core_steps.specs.Views.{Fixed, Refused, Point, Idle, Owning, Taking, Checking, Entering, Entered, Loading, Leaving, Sensing, Resolving, Claiming, Storing, Releasing, Returning, Yielding, stage_of, is_busy, has, is_leaf, inner_nodes, inner_visited, region_in, inner_held, leaves_held, stores_owed}
 use Rattle.core_steps.specs.declared.sizes.TheConstants.{NODE_HOLDERS, TABLE_LEAVES}
 use Rattle.core_steps.specs.Calls.{is_pursued, pursued_of}
-use Rattle.ruled_words.specs.Sights.{HeldWord, IsOneOf}
+use Rattle.ruled_words.specs.Sights.{HeldWord}
 use Rattle.ruled_words.specs.Passes.{PassView, IsPassOf}
 use Rattle.ruled_words.proofs.VisitedNodes.{inner_there}
+use Rattle.ruled_words.proofs.TriedTakes.{one_more, more_still, counted_more}
 use Rattle.region_locks.specs.declared.went.Went.{Went}
 use Rattle.region_locks.specs.declared.went.Went.TheVariants.{Resolved}
 use Rattle.region_locks.specs.declared.turn.Turn.{Turn}
@@ -53,7 +54,7 @@ module _ (F : Fixed) (passes : ℕ) (table : TableId) (start : PassView) (c : Co
         number = move.same.number ∙ r.number;
         room = move.same.room ∙ r.room;
         given = move.given ∙ r.given;
-        listed = λ h one. subst (IsOneOf h) (sym move.listed) (r.listed h one);
+        listed = more_still start.tally.refused old.tally.refused new.tally.refused move.listed r.listed;
         uncommitted = λ none. let was = r.uncommitted none in record { command = move.command ∙ was.command; log = move.same.log ∙ was.log; seen = move.same.seen ∙ was.seen };
         done = λ e some. let was = r.done e some in record { done = move.command ∙ was.done; log = move.same.log ∙ was.log; slot = was.slot; seq = was.seq; place = was.place; seen = move.same.seen ∙ was.seen };
       }
@@ -76,7 +77,7 @@ module _ (F : Fixed) (passes : ℕ) (table : TableId) (start : PassView) (c : Co
         number = commit.number ∙ r.number;
         room = commit.room ∙ r.room;
         given = commit.given ∙ r.given;
-        listed = λ h one. subst (IsOneOf h) (sym commit.listed) (r.listed h one);
+        listed = more_still start.tally.refused old.tally.refused new.tally.refused commit.listed r.listed;
         uncommitted = λ none. cc;
         done = λ f some.
             subst (IsDone start c new) (entry_is e f some) (record {
@@ -102,7 +103,7 @@ module _ (F : Fixed) (passes : ℕ) (table : TableId) (start : PassView) (c : Co
         number = refused.same.number ∙ r.number;
         room = refused.same.room ∙ r.room;
         given = refused.given ∙ r.given;
-        listed = λ h one. subst (IsOneOf h) (sym refused.listed) (inr (r.listed h one));
+        listed = one_more (record { node = refused.r.node; word = refused.r.word }) start.tally.refused old.tally.refused new.tally.refused refused.listed r.listed;
         uncommitted = λ _. record { command = refused.still ∙ ap (λ (d : Command). d ∷ []) same; log = refused.same.log ∙ was.log; seen = refused.same.seen ∙ was.seen };
         done = λ e some. has_one (command_pursued old) refused.cmd refused.command (r.done e some).done;
       }
@@ -208,8 +209,8 @@ module _ (F : Fixed) (passes : ℕ) (table : TableId) (start : PassView) (c : Co
       by_entry None e = has_one (command_pursued now) c (r.uncommitted e).command no_command
       by_entry (Some entry) e = refl
 
-  pub has_run : (e : Entry) → o ≡ Some e → HasRun F passes table start now c e
-  has_run e some =
+  pub has_run : IsPassOf F passes table start → (e : Entry) → o ≡ Some e → HasRun F passes table start now c e
+  has_run own_start e some =
       let was = r.done e some in record {
         own = r.going.own;
         rests = without_command now rests;
@@ -222,6 +223,7 @@ module _ (F : Fixed) (passes : ℕ) (table : TableId) (start : PassView) (c : Co
         seen = was.seen;
         given = r.given;
         listed = r.listed;
+        counted = counted_more start now r.listed own_start.counted r.going.own.counted;
       }
 
 -- the leaf was held

@@ -10,10 +10,10 @@ use Rattle.core_steps.specs.Steps.{item_at, visiting}
 use Rattle.core_steps.specs.Views.{Fixed, View, Point, stage_of, is_committed, without_command, Checking, Resolving, Releasing, plan_of, region_in, leaf_word}
 use Rattle.core_seats.specs.declared.refusals.Refusals.{Refusals}
 use Rattle.core_seats.specs.Refusals.{AreRefusals}
-use Rattle.ruled_words.specs.Sights.{IsOneOf, Tally}
+use Rattle.ruled_words.specs.Sights.{Tally}
 use Rattle.ruled_words.specs.Passes.{PassView}
 use Rattle.ruled_words.specs.Hands.{keeping}
-use Rattle.ruled_words.specs.Straight.{in_view, in_view_with, taking_leaves, at_point, nodes_read, IsTriedOn}
+use Rattle.ruled_words.specs.Straight.{in_view, in_view_with, taking_leaves, at_point, nodes_read, HasMoreInFront, IsTriedOn}
 use Rattle.ruled_words.specs.Tries.{tried_until}
 use Rattle.ruled_words.specs.Writing.{as_tried, HasTried, written}
 use Rattle.region_locks.specs.declared.gate_point.GatePoint.TheVariants.{Leaves, Computed, Committed}
@@ -23,6 +23,7 @@ use Rattle.region_locks.specs.declared.moving.held.Held.{Held}
 use Rattle.region_locks.specs.Runs.{HoldsLeavesOf, HasReadAll, HasWritten, HasMoved, all_read, all_written}
 use Rattle.ruled_words.proofs.LeafWords.{leaf_word_is}
 use Rattle.ruled_words.proofs.LoadedWords.{visiting_same}
+use Rattle.ruled_words.proofs.TriedTakes.{more_again, more_still}
 
 -- ---- an entry that is there
 
@@ -40,7 +41,7 @@ tried_as old new other same tried = subst (IsTriedOn old) same tried
 
 -- takes after takes
 pub tried_twice : (a b c : Tally) → IsTriedOn a b → IsTriedOn b c → IsTriedOn a c
-tried_twice a b c first second = record { begun = second.begun ∙ first.begun; listed = λ h one. second.listed h (first.listed h one) }
+tried_twice a b c first second = record { begun = second.begun ∙ first.begun; listed = more_again a.refused b.refused c.refused first.listed second.listed }
 
 -- ---- the leaves are taken
 
@@ -61,7 +62,7 @@ module _ (F : Fixed) (c : Command) (words : List ℕ) (old at new : PassView) (f
     holds_leaves tried = record {
       hand = second ∙ ap (λ (p : PassView). tried_until p Checking new) first;
       begun = tried.begun ∙ ap (λ (p : PassView). p.tally.begun) first;
-      listed = λ h one. tried.listed h (subst (λ (p : PassView). IsOneOf h p.tally.refused) (sym first) one);
+      listed = subst (λ (p : PassView). HasMoreInFront p.tally.refused new.tally.refused) first tried.listed;
     }
 
 -- ---- the region is read
@@ -202,7 +203,9 @@ module _ (F : Fixed) (c : Command) (held : Held) (words : List ℕ) (q : Point) 
                 refused = last i;
               }) (tally i));
               begun = sym (ap (λ (t : Tally). t.begun) tally) ∙ later.begun ∙ ap (λ (t : Tally). t.begun) same ∙ holds.begun;
-              listed = λ h one. subst (λ (t : Tally). IsOneOf h t.refused) tally (later.listed h (subst (λ (t : Tally). IsOneOf h t.refused) (sym same) (holds.listed h one)));
+              listed =
+                  more_again h0.tally.refused h1.tally.refused h5.tally.refused holds.listed
+                  (more_still h1.tally.refused h4.tally.refused h5.tally.refused (sym (ap (λ (t : Tally). t.refused) tally)) (subst (λ (t : Tally). HasMoreInFront t.refused h4.tally.refused) same later.listed));
               slot = refl;
               seq = refl;
               place = subst (λ (n : ℕ). n ≤ place) (ap (λ (p : PassView). p.view.seen) at_read) writes.place_is;

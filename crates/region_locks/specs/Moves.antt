@@ -1,5 +1,5 @@
 -- What a move leaves of its pass, and why it wasn't run.
-use Rattle.std.specs.Prelude.{◌≡◌, ℕ, ◌+◌, ◌-◌, ◌^◌, ◌<◌, ◌≤◌, min, true, [], ◌∷◌, ◌++◌, Option, Some, None}
+use Rattle.std.specs.Prelude.{◌≡◌, ℕ, ◌+◌, ◌-◌, ◌^◌, ◌<◌, ◌≤◌, min, true, [], ◌∷◌, ◌++◌, length, Option, Some, None}
 use Rattle.atomic_table.specs.Seated.{TableId}
 use Rattle.entity_recs.specs.declared.effect.Entry.{Entry}
 use Rattle.entity_recs.specs.Commands.{Command}
@@ -8,7 +8,7 @@ use Rattle.areanode.specs.Trees.{leaf_node}
 use Rattle.core_steps.specs.Views.{Fixed, Refused, has, inner_nodes, leaf_nodes, inner_visited, region_in}
 use Rattle.ruled_words.specs.Passes.{PassView, IsPassOf, IsHolderIn}
 use Rattle.ruled_words.specs.Holders.{IsOtherHolder}
-use Rattle.ruled_words.specs.Straight.{AreListedStill}
+use Rattle.ruled_words.specs.Straight.{HasMoreInFront}
 use Rattle.region_locks.specs.Closing.{HasNoCommand}
 use Rattle.region_locks.specs.Pursuits.{IsGoingOn, command_pursued, commands_given, item_of}
 use Rattle.region_locks.specs.declared.again.Again.{Again}
@@ -16,7 +16,8 @@ use Rattle.region_locks.specs.declared.again.Again.TheVariants.{Held, Busy}
 
 -- the command was run with this entry, which has its slot and its number: the pass's log is the old one and the command
 -- with its entry; the entry's place isn't below the count that the pass had seen, and it has now seen the place plus 1; it
--- was given one command, has none in hand, and the refused takes that were listed are listed still
+-- was given one command and has none in hand; the refused takes are listed in front of those that were listed before, and
+-- the pass's count of them, which stays at the most that 64 bits say, has risen by one for each
 pub record HasRun (F : Fixed) (passes : ℕ) (table : TableId) (old new : PassView) (c : Command) (e : Entry) : Type 0
   where
     pub own : IsPassOf F passes table new
@@ -29,7 +30,8 @@ pub record HasRun (F : Fixed) (passes : ℕ) (table : TableId) (old new : PassVi
     pub place : old.view.seen ≤ e.place
     pub seen : new.view.seen ≡ e.place + 1
     pub given : commands_given new ≡ commands_given old + 1
-    pub listed : AreListedStill old.tally.refused new.tally.refused
+    pub listed : HasMoreInFront old.tally.refused new.tally.refused
+    pub counted : new.view.refusals ≡ min (old.view.refusals + length listed.more) (2 ^ 64 - 1)
 
 -- no take was refused: neither the pass's count of refused takes nor its last one has changed, and none is listed more
 pub record NoTakeWasRefused (old new : PassView) : Type 0 where
@@ -104,6 +106,6 @@ pub record IsRunning (F : Fixed) (passes : ℕ) (table : TableId) (start : PassV
   pub number : now.number ≡ start.number
   pub room : now.view.room ≡ start.view.room
   pub given : commands_given now ≡ commands_given start + 1
-  pub listed : AreListedStill start.tally.refused now.tally.refused
+  pub listed : HasMoreInFront start.tally.refused now.tally.refused
   pub uncommitted : o ≡ None → IsOpen start c now
   pub done : (e : Entry) → o ≡ Some e → IsDone start c now e

@@ -8,7 +8,7 @@ use Rattle.core_steps.specs.Views.{Fixed, View, Checking, Resolving, Releasing, 
 use Rattle.core_steps.specs.Views.{without_command}
 use Rattle.core_steps.specs.Steps.{item_at}
 use Rattle.ruled_words.specs.Passes.{PassView}
-use Rattle.ruled_words.specs.Straight.{in_view_with, taking_leaves, at_point, AreListedStill, IsTriedOn}
+use Rattle.ruled_words.specs.Straight.{in_view_with, taking_leaves, at_point, HasMoreInFront, IsTriedOn}
 use Rattle.region_locks.specs.declared.moving.held.Held.{Held}
 use Rattle.region_locks.specs.Pursuits.{item_of}
 
@@ -16,7 +16,7 @@ use Rattle.region_locks.specs.Pursuits.{item_of}
 pub record HoldsLeavesOf (F : Fixed) (c : Command) (own : List ℕ) (old new : PassView) : Type 0 where
   pub hand : new ≡ in_view_with old (at_point (taking_leaves F c own old.view) Checking new.view) new.tally
   pub begun : new.tally.begun ≡ suc old.tally.begun
-  pub listed : AreListedStill old.tally.refused new.tally.refused
+  pub listed : HasMoreInFront old.tally.refused new.tally.refused
 
 -- these are the own record, the region, the leaves and the inner nodes of the command in this view
 pub record AreHeldFor (F : Fixed) (held : Held) (view : View) : Type 0 where
@@ -75,7 +75,7 @@ done_with c e view new = record (without_command view) {
 pub record HasMoved (c : Command) (e : Entry) (old new : PassView) : Type 0 where
   pub hand : new ≡ in_view_with old (done_with c e old.view new.view) new.tally
   pub begun : new.tally.begun ≡ suc old.tally.begun
-  pub listed : AreListedStill old.tally.refused new.tally.refused
+  pub listed : HasMoreInFront old.tally.refused new.tally.refused
   pub slot : e.slot ≡ c.slot
   pub seq : e.seq ≡ c.seq
   pub place : old.view.seen ≤ e.place

@@ -146,6 +146,7 @@ dropped_own F passes table p o is none = record {
   has_effect = λ at e some. no_effect p.effect e none some;
   only_resolving = λ not. none;
   refusal = is.refusal;
+  counted = is.counted;
 }
 
 module _ (F : Fixed) (p : PassView) (e : Effect) (plain : IsPlain p) (at : p.view.point ≡ Resolving) where

@@ -83,4 +83,5 @@ keeping_own F passes table p e own at is = record {
   has_effect = λ resolves d same. same_effect d e same ∙ is;
   only_resolving = λ not. absurd (false≢true (sym not ∙ ap is_resolving at));
   refusal = own.refusal;
+  counted = own.counted;
 }

@@ -67,6 +67,7 @@ module _ (F : Fixed) (passes : ℕ) (table : TableId) (p : PassView) (c : Comman
     has_effect = own.has_effect;
     only_resolving = own.only_resolving;
     refusal = own.refusal;
+    counted = own.counted;
   }
 
   quits_not : p.quits ≡ false

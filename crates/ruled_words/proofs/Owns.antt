@@ -14,7 +14,7 @@ use Rattle.core_seats.specs.Ready.{is_resolving}
 use Rattle.ruled_words.specs.Going.{view_looked}
 use Rattle.ruled_words.specs.Plays.{IsSoundSight}
 use Rattle.ruled_words.specs.Passes.{PassView, sight_of, next_of_pass, pass_after, IsPassOf}
-use Rattle.ruled_words.proofs.Refusing.{refusal_listed}
+use Rattle.ruled_words.proofs.Refusing.{refusal_listed, refusals_counted}
 use Rattle.ruled_words.proofs.Views.{keeps_found}
 
 pub no_effect : {R : Type 0} (o : Option Effect) (e : Effect) → o ≡ None → o ≡ Some e → R
@@ -110,6 +110,7 @@ own_after F passes table p found own comes sound_sight =
       has_effect = λ at e some. right_after F passes table p found own comes at e (sym (cond-true (is_resolving view.point) p.effect None at) ∙ some);
       only_resolving = λ at. cond-false (is_resolving view.point) p.effect None at;
       refusal = refusal_listed F p.view next found (word_left F p.number p.view next found) p.tally own.refusal;
+      counted = refusals_counted F p.view next found (word_left F p.number p.view next found) p.tally own.counted;
     }
 
 -- the pass that has looked at the count is still the table's
@@ -127,6 +128,7 @@ looked_own F passes table p new found is own sound_sight =
       has_effect = own.has_effect;
       only_resolving = own.only_resolving;
       refusal = own.refusal;
+      counted = own.counted;
     })
 
 same_effect : (a b : Effect) → Some a ≡ Some b → a ≡ b
@@ -146,4 +148,5 @@ resolved_own F passes table p e own at is = record {
   has_effect = λ resolving f some. sym (same_effect e f some) ∙ is;
   only_resolving = λ not. absurd (true≢false (sym (ap is_resolving at) ∙ not));
   refusal = own.refusal;
+  counted = own.counted;
 }

@@ -1,7 +1,8 @@
 -- A take that may be refused, and is tried again.
-use Rattle.std.proofs.Common.{◌≡◌, ◌≢◌, ℕ, suc, ◌+◌, ◌-◌, ◌*◌, ◌^◌, ◌<◌, ◌≤◌, arith, Bool, true, false, if◌then◌else◌, List, [], ◌∷◌, ◌++◌, length, map, refl, sym, ap, ◌∙◌, subst, inl, inr, Option, Some, None}
+use Rattle.std.proofs.Common.{◌≡◌, ◌≢◌, ℕ, suc, ◌+◌, ◌-◌, ◌*◌, ◌^◌, ◌<◌, ◌≤◌, arith, Bool, true, false, if◌then◌else◌, List, [], ◌∷◌, ◌++◌, length, map, min, refl, sym, ap, ◌∙◌, subst, inl, inr, Option, Some, None}
 use Rattle.std.specs.Prelude.{◌==◌, nat_le}
 use Rattle.std.proofs.lemmas.Bool.{cases_eq, cond-true, cond-false, eq-eqb, ne_eqb, le-leb}
+use Rattle.std.proofs.lemmas.List.{append_assoc, length-append}
 use Rattle.core_steps.specs.declared.sizes.TheConstants.{NODE_HOLDERS}
 use Rattle.atomic_table.specs.Seated.{TableId}
 use Rattle.arena_geo.specs.Bounds.{Bounds}
@@ -17,20 +18,54 @@ use Rattle.core_seats.specs.Refusals.{AreRefusals}
 use Rattle.core_seats.specs.Going.{view_found, word_left}
 use Rattle.core_seats.specs.Nexts.{next_point, the_next}
 use Rattle.ruled_words.specs.Hands.{IsPlain}
-use Rattle.ruled_words.specs.Passes.{PassView, next_of_pass, node_taken_next, pass_after, word_after, IsPassOf}
+use Rattle.ruled_words.specs.Passes.{PassView, next_of_pass, node_taken_next, pass_after, word_after, AreCounted, IsPassOf}
 use Rattle.ruled_words.specs.Sights.{HeldWord, Tally, tally_after}
-use Rattle.ruled_words.specs.Straight.{in_view_with, IsTriedOn, got_at}
+use Rattle.ruled_words.specs.Straight.{in_view_with, HasMoreInFront, IsTriedOn, got_at}
 use Rattle.ruled_words.specs.Tries.{IsTried, tried_until}
 use Rattle.ruled_words.proofs.BitWalks.{bits_in, bits_none}
 use Rattle.ruled_words.proofs.LeafWords.{leaf_word_is, leaves_small}
 use Rattle.ruled_words.proofs.LoadedWords.{plain_is, plain_after, plain_next}
 
+-- ---- the refused takes that are listed
+
+pub none_more : (xs : List HeldWord) → HasMoreInFront xs xs
+none_more xs = record { more = []; whole = refl }
+
+pub one_more : (h : HeldWord) (xs ys zs : List HeldWord) → zs ≡ h ∷ ys → HasMoreInFront xs ys → HasMoreInFront xs zs
+one_more h xs ys zs is first = record { more = h ∷ first.more; whole = is ∙ ap (λ (rest : List HeldWord). h ∷ rest) first.whole }
+
+pub more_again : (xs ys zs : List HeldWord) → HasMoreInFront xs ys → HasMoreInFront ys zs → HasMoreInFront xs zs
+more_again xs ys zs first second = record {
+  more = second.more ++ first.more;
+  whole = second.whole ∙ ap (λ (rest : List HeldWord). second.more ++ rest) first.whole ∙ sym (append_assoc second.more first.more xs);
+}
+
+pub more_still : (xs ys zs : List HeldWord) → zs ≡ ys → HasMoreInFront xs ys → HasMoreInFront xs zs
+more_still xs ys zs same first = record { more = first.more; whole = same ∙ first.whole }
+
+-- the count of those that are listed, where it stays at the most
+count_of_more : (m n most : ℕ) → min (m + n) most ≡ min (min n most + m) most
+count_of_more m n most = grind arith
+
+-- so a pass's count of refused takes rises by the number of those that are listed more
+pub counted_more : (old new : PassView) (listed : HasMoreInFront old.tally.refused new.tally.refused)
+    → AreCounted old.view.refusals old.tally.refused → AreCounted new.view.refusals new.tally.refused
+    → new.view.refusals ≡ min (old.view.refusals + length listed.more) (2 ^ 64 - 1)
+counted_more old new listed before after =
+    let more = listed.more in
+    let n = length old.tally.refused in
+    after
+    ∙ ap (λ (xs : List HeldWord). min (length xs) (2 ^ 64 - 1)) listed.whole
+    ∙ ap (λ (k : ℕ). min k (2 ^ 64 - 1)) (length-append more old.tally.refused)
+    ∙ count_of_more (length more) n (2 ^ 64 - 1)
+    ∙ ap (λ (k : ℕ). min (k + length more) (2 ^ 64 - 1)) (sym before)
+
 -- ---- what a take leaves beside the point
 
 tried_by : (b : Bool) (t : Tally) (served : List HeldWord) (h : HeldWord)
     → IsTriedOn t (record (if b then record t { served = served } else record t { refused = h ∷ t.refused }) { begun = t.begun })
-tried_by true t served h = record { begun = refl; listed = λ x is. is }
-tried_by false t served h = record { begun = refl; listed = λ x is. inr is }
+tried_by true t served h = record { begun = refl; listed = none_more t.refused }
+tried_by false t served h = record { begun = refl; listed = one_more h t.refused t.refused (h ∷ t.refused) refl (none_more t.refused) }
 
 pub tried_on : (next : Next) (node found left : ℕ) (t : Tally) → node_taken next ≡ Some node → IsTriedOn t (tally_after next found left t)
 tried_on (Begin c) node found left t e = cc
@@ -102,10 +137,10 @@ found_noted F r view after next node found taken is here = elim (cases_eq found 
 -- ---- one take after another
 
 pub tried_again : (one two three : Tally) → IsTriedOn one two → IsTriedOn two three → IsTriedOn one three
-tried_again one two three a b = record { begun = b.begun ∙ a.begun; listed = λ h is. b.listed h (a.listed h is) }
+tried_again one two three a b = record { begun = b.begun ∙ a.begun; listed = more_again one.refused two.refused three.refused a.listed b.listed }
 
 pub not_tried : (t : Tally) → IsTriedOn t t
-not_tried t = record { begun = refl; listed = λ h is. is }
+not_tried t = record { begun = refl; listed = none_more t.refused }
 
 -- at the same point where nothing was tried yet
 pub until_start : (p : PassView) → IsPlain p → p ≡ tried_until p p.view.point p

@@ -1,5 +1,5 @@
 -- A pass as contracts see it, and the table that it belongs to.
-use Rattle.std.specs.Prelude.{◌≤◌, ◌≡◌, ◌≢◌, ℕ, ◌+◌, ◌-◌, ◌/◌, ◌%◌, ◌^◌, ◌<◌, Bool, true, false, if◌then◌else◌}
+use Rattle.std.specs.Prelude.{◌≤◌, ◌≡◌, ◌≢◌, ℕ, ◌+◌, ◌-◌, ◌/◌, ◌%◌, ◌^◌, ◌<◌, min, Bool, true, false, if◌then◌else◌}
 use Rattle.std.specs.Prelude.{List, [], ◌∷◌, ◌++◌}
 use Rattle.std.specs.Prelude.{length, Option, Some, None, is_some}
 use Rattle.core_steps.specs.declared.sizes.TheConstants.{TABLE_LEAVES, NODE_HOLDERS}
@@ -83,6 +83,10 @@ abbrev pub RefusalIsListed : Option Refused → List HeldWord → Type 0
 RefusalIsListed None refused = Unit {0}
 RefusalIsListed (Some r) refused = IsOneOf (record { node = r.node; word = r.word }) refused
 
+-- each take that was refused is listed once, and the count is their number, as far as a word of 64 bits can say it
+abbrev pub AreCounted : ℕ → List HeldWord → Type 0
+AreCounted refusals refused = refusals ≡ min (length refused) (2 ^ 64 - 1)
+
 -- the pass belongs to the table, and what it keeps beside its view is what the view says
 pub record IsPassOf (F : Fixed) (passes : ℕ) (table : TableId) (p : PassView) : Type 0 where
   pub at_table : p.table ≡ table
@@ -95,6 +99,7 @@ pub record IsPassOf (F : Fixed) (passes : ℕ) (table : TableId) (p : PassView) 
   pub has_effect : is_resolving p.view.point ≡ true → (e : Effect) → p.effect ≡ Some e → e ≡ effect_loaded F p.view
   pub only_resolving : is_resolving p.view.point ≡ false → p.effect ≡ None
   pub refusal : RefusalIsListed p.view.refused p.tally.refused
+  pub counted : AreCounted p.view.refusals p.tally.refused
 
 -- what doesn't change of a table, by its action
 abbrev pub fixed_in : {A : Type 0} → (A → Meaning) → TableView A → Fixed

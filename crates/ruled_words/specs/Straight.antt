@@ -1,10 +1,10 @@
 -- A move as straight code: what its hand has in view between its steps, and what is kept of it in plain values.
-use Rattle.std.specs.Prelude.{◌≡◌, ℕ, ◌<◌, Bool, true, false, if◌then◌else◌, List, [], Some, None, get_or}
+use Rattle.std.specs.Prelude.{◌≡◌, ℕ, ◌<◌, Bool, true, false, if◌then◌else◌, List, [], ◌++◌, Some, None, get_or}
 use Rattle.areanode.specs.Words.{has_bit}
 use Rattle.entity_recs.specs.Commands.{Command}
 use Rattle.core_steps.specs.Views.{Fixed, View, Point, Taking, PlayerRead, player_at, leaf_nodes, region_in, things_in}
 use Rattle.core_steps.specs.Steps.{rest_of, sensing}
-use Rattle.ruled_words.specs.Sights.{HeldWord, IsOneOf, Tally}
+use Rattle.ruled_words.specs.Sights.{HeldWord, Tally}
 use Rattle.ruled_words.specs.Passes.{PassView}
 
 -- the pass with this view, to which nothing was given, that isn't to give up and keeps no effect
@@ -15,14 +15,15 @@ in_view p view = record p { given = None; quits = false; effect = None; view = v
 abbrev pub in_view_with : PassView → View → Tally → PassView
 in_view_with p view tally = record (in_view p view) { tally = tally }
 
--- what is listed in the first is listed in the second
-abbrev pub AreListedStill : List HeldWord → List HeldWord → Type 0
-AreListedStill old new = (h : HeldWord) → IsOneOf h old → IsOneOf h new
+-- the second list is the first with more in front
+pub record HasMoreInFront (old new : List HeldWord) : Type 0 where
+  pub more : List HeldWord
+  pub whole : new ≡ more ++ old
 
--- no command was begun, and the refused takes that were listed are listed still
+-- no command was begun, and more takes may have been refused, which are listed in front of the others
 pub record IsTriedOn (old new : Tally) : Type 0 where
   pub begun : new.begun ≡ old.begun
-  pub listed : AreListedStill old.refused new.refused
+  pub listed : HasMoreInFront old.refused new.refused
 
 -- the words kept by slot are those that were loaded last, of the players whose bit is set in `seen`
 abbrev pub HasKept : ℕ → List (List ℕ) → List PlayerRead → Type 0

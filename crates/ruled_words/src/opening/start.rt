@@ -8,12 +8,9 @@ use core_seats::with_top_bit;
 use core_steps::{
     FIRST_LIST_WORD, FIRST_RECORD_WORD, FIRST_STATE_WORD, TABLE_NODES, TABLE_WORDS, encode,
 };
-use entity_recs::abs_box;
+use entity_recs::{SLOTS, abs_box};
 use std::alloc::{AllocError, Global};
 use world_tree::World;
-
-/// The number of players' slots.
-const SLOTS: usize = 64;
 
 /// The node at which the player of this slot is linked, if it is live.
 fn home_at_start(world: &World, slot: u8) -> Option<u8>

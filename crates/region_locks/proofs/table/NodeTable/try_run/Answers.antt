@@ -27,4 +27,4 @@ pub unwrap-requires : goal.unwrap-requires
 unwrap-requires g c = (is_done (fixed_in g.A.Action.meaning c.args.self.now) (length c.args.self.now.rooms) c.args.self.now.table c.args.pass.now (command_of c.args.cmd) c.loop-turn.pass c.loop-turn.entry c.loop-turn.invariant.0 (at_rest c.turn.result (has_command_in_hand c.loop-turn.pass) c.in_default.not-Some c.turn.ensures.some))
 
 pub returns-clause-ok : goal.returns-clause-ok
-returns-clause-ok g c = has_run (fixed_in g.A.Action.meaning c.args.self.now) (length c.args.self.now.rooms) c.args.self.now.table c.args.pass.now (command_of c.args.cmd) c.loop-turn.pass c.loop-turn.entry c.loop-turn.invariant.0 (at_rest c.turn.result (has_command_in_hand c.loop-turn.pass) c.in_default.not-Some c.turn.ensures.some) c.unwrap.result c.unwrap.ensures
+returns-clause-ok g c = has_run (fixed_in g.A.Action.meaning c.args.self.now) (length c.args.self.now.rooms) c.args.self.now.table c.args.pass.now (command_of c.args.cmd) c.loop-turn.pass c.loop-turn.entry c.loop-turn.invariant.0 (at_rest c.turn.result (has_command_in_hand c.loop-turn.pass) c.in_default.not-Some c.turn.ensures.some) c.requires.own c.unwrap.result c.unwrap.ensures
