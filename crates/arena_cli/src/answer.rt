@@ -1,7 +1,6 @@
 ghost use Rattle.std.specs.Prelude.{◌≡◌, ◌⊎◌, IsErr, IsErrAnd, IfOk, OnErr, IsOkAnd, map, string_bytes};
 ghost use Rattle.std.specs.IoError.{error_kind};
 ghost use Rattle.arena_engine.specs.declared.command.Command.{Command};
-ghost use Rattle.arena_engine.specs.declared.command.Command.TheVariants.{Check};
 ghost use Rattle.arena_engine.specs.Endings.{Ends};
 ghost use Rattle.arena_engine.specs.Served.{IsServed};
 ghost use Rattle.arena_cli.specs.declared.arguments.TheConstants.{NO_MEMORY};
@@ -31,8 +30,6 @@ fn serve_arguments<R: Threads + Wait + Sync, S: Source, K: Sink, G: Gate>(
     ensures served { IfOk result (λ report. (command : Command) → AsksFor (map string_bytes arguments.now) command
         → IsServed S.Source K.Sink source.old source.new sink.old sink.new report command) }
     ensures ends { IfOk result (λ report. Ends S.Source K.Sink source.old source.new sink.old sink.new report) }
-    ensures before_end { IfOk result (λ report. (AsksFor (map string_bytes arguments.now) Check → ⊥)
-        → report.status ≡ 3 → S.ended source.new ≡ S.ended source.old) }
     ensures memory { OnErr result (sink.new ≡ sink.old) }
     ensures unread { OnErr result (source.new ≡ source.old) }
 {
@@ -61,8 +58,6 @@ pub fn answer<R: Threads + Wait + Sync, S: Source, K: Sink, G: Gate>(
     ensures served { (command : Command) → IsOkAnd arguments (λ given. AsksFor (texts_in given) command)
         → IsServed S.Source K.Sink source.old source.new sink.old sink.new result command }
     ensures ends { Ends S.Source K.Sink source.old source.new sink.old sink.new result }
-    ensures before_end { (IsOkAnd arguments (λ given. AsksFor (texts_in given) Check) → ⊥)
-        → result.status ≡ 3 → S.ended source.new ≡ S.ended source.old }
 {
     match arguments_of(alloc, arguments) {
         Ok(all) => match serve_arguments(rt, alloc, all.as_slice(), source, sink, gate) {

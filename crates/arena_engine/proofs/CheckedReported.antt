@@ -10,6 +10,7 @@ use Rattle.transcript_check.specs.declared.verdict.Verdict.{Verdict}
 use Rattle.transcript_check.specs.declared.verdict.Verdict.TheVariants.{Right, Wrong}
 use Rattle.transcript_check.specs.Verdicts.{IsJudged, Judges, RefusesRecording, FailsToRead}
 use Rattle.arena_engine.specs.declared.report.Report.{Report}
+use Rattle.arena_engine.specs.declared.summary.TheConstants.{MOST_SUMMARY_BYTES}
 use Rattle.arena_engine.specs.Checked.{IsChecked, FindsRight}
 use Rattle.arena_engine.specs.Endings.{Counts, Ends}
 use Rattle.arena_engine.specs.Reports.{refusal_of}
@@ -34,7 +35,7 @@ module _ {S K : Type 0} (s : sources.Ghosts S) (k : sinks.Ghosts K) (source sour
   -- the transcript is right
   pub right_checked : (frames moves : ℕ) → Judges s 2000 source source' (Right frames moves) → (r.status ≡ 0) ⊎ (r.status ≡ 4)
       → (r.status ≡ 0 → Appends (k.taken sink) (k.taken sink') (right_text frames moves)) → (r.status ≡ 4 → AppendsPart (k.taken sink) (k.taken sink') (right_text frames moves))
-      → Counts 4 (k.faults sink) (k.faults sink') r.status → (300 ≤ k.room sink → r.status ≡ 4 → ⊥) → IsChecked s k source source' sink sink' r
+      → Counts 4 (k.faults sink) (k.faults sink') r.status → (MOST_SUMMARY_BYTES ≤ k.room sink → r.status ≡ 4 → ⊥) → IsChecked s k source source' sink sink' r
   right_checked frames moves judges status whole part counts sure = record {
     known = elim status [ inl e ↦ omega (arith, e) | inr e ↦ omega (arith, e) ];
     done = λ is. record { frames = frames; moves = moves; judged = judges.judged; line = whole is };
@@ -63,6 +64,7 @@ module _ {S K : Type 0} (s : sources.Ghosts S) (k : sinks.Ghosts K) (source sour
   right_ends place status reads counts =
       ends_of s k 1 source source' sink sink' r (elim status [ inl e ↦ omega (arith, e) | inr e ↦ omega (arith, e) ]) (λ is. elim status [ inl e ↦ omega (arith, e, is) | inr e ↦ omega (arith, e, is) ])
       (λ no. place) (uncounted_in 3 _ _ r.status reads (λ is. elim status [ inl e ↦ omega (arith, e, is) | inr e ↦ omega (arith, e, is) ])) counts
+      (λ is. absurd (elim status [ inl e ↦ omega (arith, e, is) | inr e ↦ omega (arith, e, is) ]))
       (λ sure is. elim status [ inl e ↦ omega (arith, e, is) | inr e ↦ omega (arith, e, is) ])
 
   -- it is wrong
@@ -94,6 +96,7 @@ module _ {S K : Type 0} (s : sources.Ghosts S) (k : sinks.Ghosts K) (source sour
     reads = uncounted_in 3 _ _ r.status reads (λ is. omega (arith, is, status));
     writes = uncounted_in 4 _ _ r.status writes (λ is. omega (arith, is, status));
     sure_reads = λ sure is. omega (arith, is, status);
+    before_end = λ is. absurd (omega (arith, is, status));
   }
 
   -- the recording was refused
@@ -132,7 +135,7 @@ module _ {S K : Type 0} (s : sources.Ghosts S) (k : sinks.Ghosts K) (source sour
   check_fault_ends status place same fails =
       ends_of s k 1 source source' sink sink' r (omega (arith, status)) (λ is. omega (arith, is, status)) (λ no. place)
       (counted_in 3 _ _ r.status status fails.later fails.cause) (uncounted_in 4 _ _ r.status (ap k.faults same) (λ is. omega (arith, is, status)))
-      (λ sure is. fails.fails sure)
+      (λ is. fails.before_end) (λ sure is. fails.fails sure)
 
   -- memory was refused
   pub memory_checked : r.status ≡ 5 → sink' ≡ sink → IsChecked s k source source' sink sink' r
@@ -154,4 +157,4 @@ module _ {S K : Type 0} (s : sources.Ghosts S) (k : sinks.Ghosts K) (source sour
       → s.faults source' ≡ s.faults source → sink' ≡ sink → Ends s k source source' sink sink' r
   check_quiet_ends known words no_read no_write place reads same =
       ends_of s k 1 source source' sink sink' r known words place (uncounted_in 3 _ _ r.status reads no_read) (uncounted_in 4 _ _ r.status (ap k.faults same) no_write)
-      (λ sure is. no_read is)
+      (λ is. absurd (no_read is)) (λ sure is. no_read is)

@@ -19,11 +19,15 @@ use Rattle.arena_engine.specs.declared.stop.Stop.{Stop}
 use Rattle.arena_engine.specs.declared.stop.Stop.TheVariants.{Refused, ReadFault, WriteFault, Memory}
 use Rattle.arena_engine.specs.StopOf.{stop_of}
 use Rattle.arena_engine.specs.Stops.{OnWriteFault, OnMemory, IsGameStop}
-use Rattle.playback.specs.Playbacks.{IsReady}
+use Rattle.arena_engine.specs.declared.played.Played.{Played}
+use Rattle.playback.specs.Playbacks.{IsReady, entries_if}
+use Rattle.arena_engine.specs.Reports.{last_of}
 use Rattle.arena_engine.specs.Games.{GameView, Plays, new_game, is_end}
+use Rattle.arena_engine.specs.FedGames.{Last, no_last}
+use Rattle.arena_engine.specs.Texts.{Texts, play_texts, unfed}
 use Rattle.arena_engine.specs.PlayEnds.{PlaysTo}
 use Rattle.arena_engine.specs.Progress.{IsNext, MayGoOn}
-use Rattle.arena_engine.proofs.Exits.{memory_at_first}
+use Rattle.arena_engine.proofs.Exits.{HoldAtFirst, memory_at_first}
 use Rattle.arena_engine.proofs.Running as running
 
 -- what a call of a reader says where it stops
@@ -52,22 +56,22 @@ pub record ReaderGives {S : Type 0} (s : sources.Ghosts S) (old new : DemoReader
 
 -- ---- before the first event
 
-module _ {S K : Type 0} (s : sources.Ghosts S) (k : sinks.Ghosts K) (workers : ℕ) (source source' : S) (sink : K) (last : Option (List Entry)) (none : last ≡ None) where
+module _ {S K : Type 0} (s : sources.Ghosts S) (k : sinks.Ghosts K) (texts : Texts) (hold : HoldAtFirst texts) (source source' : S) (sink : K) (last : Last) (none : last ≡ no_last) where
   -- memory was refused
-  pub no_memory_at_first : s.faults source' ≡ s.faults source → PlaysTo s k workers source source' sink sink last (Err Memory)
-  no_memory_at_first same = record { output = memory_at_first workers (s.left source) (k.taken sink) last none; reads = same; writes = refl }
+  pub no_memory_at_first : s.faults source' ≡ s.faults source → PlaysTo s k texts source source' sink sink last (Err Memory)
+  no_memory_at_first same = record { output = memory_at_first texts hold (k.taken sink) last none (s.left source); reads = same; writes = refl }
 
   -- the reader stopped
-  pub stopped_at_first : (old new : DemoReaderView) (d : DemoStop) → old ≡ fresh_reader → ReaderStops s old new source source' d → PlaysTo s k workers source source' sink sink last (Err (stop_of d))
+  pub stopped_at_first : (old new : DemoReaderView) (d : DemoStop) → old ≡ fresh_reader → ReaderStops s old new source source' d → PlaysTo s k texts source source' sink sink last (Err (stop_of d))
   stopped_at_first old new (demo_stop.Refused line fault rule) fresh stops = record {
-    output = running.first_refused workers old (demo_stop.Refused line fault rule) (s.left source) (k.taken sink) last none fresh stops.refused;
+    output = running.first_refused texts hold old (demo_stop.Refused line fault rule) (s.left source) (k.taken sink) last none fresh stops.refused;
     read = running.first_refusal s.last s.ended s.never_fails source source' old new.pending (demo_stop.Refused line fault rule) (s.left source) (s.left source') fresh stops.taken;
     reads = stops.uncounted_refusal;
     writes = refl;
   }
   stopped_at_first old new demo_stop.ReadFault fresh stops = record {
-    output = running.first_fault workers old demo_stop.ReadFault (s.left source) (s.left source') (k.taken sink) last none fresh stops.read_fault;
-    front = memory_at_first workers (s.left source) (k.taken sink) last none;
+    output = running.first_fault texts hold old demo_stop.ReadFault (s.left source) (k.taken sink) last none fresh (s.left source') stops.read_fault;
+    front = memory_at_first texts hold (k.taken sink) last none (s.left source);
     same_end = stops.no_end;
     cause = subst (λ (x : DemoReaderView). IsOpen x → HasRisen (s.faults source) (s.faults source')) fresh stops.cause running.fresh_is_open;
     later = stops.later;
@@ -75,7 +79,7 @@ module _ {S K : Type 0} (s : sources.Ghosts S) (k : sinks.Ghosts K) (workers : �
     writes = refl;
   }
   stopped_at_first old new demo_stop.NoMemory fresh stops = record {
-    output = memory_at_first workers (s.left source) (k.taken sink) last none;
+    output = memory_at_first texts hold (k.taken sink) last none (s.left source);
     reads = stops.uncounted_memory;
     writes = refl;
   }
@@ -90,12 +94,16 @@ first_is_next s k workers source source' sink old new taken arena g e fresh is g
     let both = running.runs_first s.last s.ended s.never_fails workers new taken arena (s.left source) (s.left source') (k.taken sink) g e (s.faults source) (s.faults source') (k.faults sink) (k.room sink) source source' is progress gives.ok gives.uncounted unread in
     record { runs = both.0; needed = both.1 }
 
+-- where there is no order of arrival, the last frame is its journal
+pub is_unfed : (played : Played) (journal : Option (List Entry)) → entries_if played.last ≡ journal → played.order ≡ None → last_of played ≡ unfed journal
+is_unfed played journal last none = λ i. record { order = none i; journal = last i }
+
 -- what is the same ended so too
-pub ends_same : {S K : Type 0} (s : sources.Ghosts S) (k : sinks.Ghosts K) (workers : ℕ) (source source' : S) (sink sink' : K) (last last' : Option (List Entry)) (ended ended' : Result Unit Stop) → last' ≡ last → ended' ≡ ended
-    → PlaysTo s k workers source source' sink sink' last ended → PlaysTo s k workers source source' sink sink' last' ended'
-ends_same s k workers source source' sink sink' last last' ended ended' same_last same_end plays =
-    let P : Result Unit Stop → Type 0 = λ r. PlaysTo s k workers source source' sink sink' last' r in
-    let Q : Option (List Entry) → Type 0 = λ l. PlaysTo s k workers source source' sink sink' l ended in
+pub ends_same : {S K : Type 0} (s : sources.Ghosts S) (k : sinks.Ghosts K) (texts : Texts) (source source' : S) (sink sink' : K) (last last' : Last) (ended ended' : Result Unit Stop) → last' ≡ last → ended' ≡ ended
+    → PlaysTo s k texts source source' sink sink' last ended → PlaysTo s k texts source source' sink sink' last' ended'
+ends_same s k texts source source' sink sink' last last' ended ended' same_last same_end plays =
+    let P : Result Unit Stop → Type 0 = λ r. PlaysTo s k texts source source' sink sink' last' r in
+    let Q : Last → Type 0 = λ l. PlaysTo s k texts source source' sink sink' l ended in
     subst P (sym same_end) (subst Q (sym same_last) plays)
 
 -- ---- at an event
@@ -112,7 +120,7 @@ module _ {S K : Type 0} (s : sources.Ghosts S) (k : sinks.Ghosts K) (workers : �
       → OnWriteFault stop (Plays workers g g2 e (λ lines. FailsIn k.taken k.faults sink sink' (text_of lines)))
       → OnWriteFault stop (Plays workers g g2 e (λ lines. length (text_of lines) ≤ k.room sink → ⊥))
       → OnMemory stop (sink' ≡ sink) → OnMemory stop (g2.last ≡ g.last) → k.faults sink ≤ k.faults sink'
-      → PlaysTo s k workers source0 source sink0 sink' g2.last (Err stop)
+      → PlaysTo s k (play_texts workers) source0 source sink0 sink' (unfed g2.last) (Err stop)
   game_stopped sink' g2 (Refused line fault rule) never failed short same kept later = absurd never
   game_stopped sink' g2 ReadFault never failed short same kept later = absurd never
   game_stopped sink' g2 WriteFault stops failed short same kept later = record {
@@ -131,7 +139,7 @@ module _ {S K : Type 0} (s : sources.Ghosts S) (k : sinks.Ghosts K) (workers : �
   -- the event was played, and its lines were written
   module _ (sink' : K) (g2 : GameView) (plays : Plays workers g g2 e (λ lines. Prints k.taken k.faults k.room sink sink' [] [] (text_of lines))) where
     -- it was the end
-    pub all_played : is_end e ≡ true → PlaysTo s k workers source0 source sink0 sink' g2.last (Ok tt)
+    pub all_played : is_end e ≡ true → PlaysTo s k (play_texts workers) source0 source sink0 sink' (unfed g2.last) (Ok tt)
     all_played is_last = record {
       output = running.all_done workers demo before left (k.taken sink0) (k.taken sink) g e (s.faults source0) (s.faults source) (k.faults sink0) (k.faults sink) (k.room sink0) (k.room sink) at.runs g2 (k.taken sink') plays.closed plays.advances
           (running.appends_all k.taken k.faults k.room sink sink' _ plays.lines) g2.last refl is_last;
@@ -142,7 +150,7 @@ module _ {S K : Type 0} (s : sources.Ghosts S) (k : sinks.Ghosts K) (workers : �
 
     -- the reader stopped then
     pub reader_stopped : (demo' : DemoReaderView) (source' : S) (d : DemoStop) → is_end e ≡ false → ReaderStops s demo demo' source source' d
-        → PlaysTo s k workers source0 source' sink0 sink' g2.last (Err (stop_of d))
+        → PlaysTo s k (play_texts workers) source0 source' sink0 sink' (unfed g2.last) (Err (stop_of d))
     reader_stopped demo' source' (demo_stop.Refused line fault rule) going stops = record {
       output = running.next_refused workers demo before left (k.taken sink0) (k.taken sink) g e (s.faults source0) (s.faults source) (k.faults sink0) (k.faults sink) (k.room sink0) (k.room sink) at.runs g2 (k.taken sink') plays.closed plays.advances
           (running.appends_all k.taken k.faults k.room sink sink' _ plays.lines) g2.last refl (demo_stop.Refused line fault rule) going stops.refused;

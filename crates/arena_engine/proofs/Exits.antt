@@ -12,7 +12,7 @@ use Rattle.demo_lines.specs.Recording.{next, events_of_line, after, events_of}
 use Rattle.edge_io.specs.Lines.{HasNoLineFeed, HasNotReadAhead, ahead}
 use Rattle.edge_io.proofs.ReadingAhead.{HasNotReadAhead-trans}
 use Rattle.edge_io.specs.WholeLines.{unlines}
-use Rattle.demo_lines.specs.Bytes.{LineRefusal, lines_of, events}
+use Rattle.demo_lines.specs.Bytes.{LineRefusal, lines_of, events, fault}
 use Rattle.demo_lines.specs.Reads.{Reads, ReadsFront, Refuses, IsRefusedLine, IsLongFront, IsLastPart, EndsAt}
 use Rattle.demo_lines.proofs.Machines.{run_of-append, outputs_of-append}
 use Rattle.demo_lines.proofs.Parts.{lines_of-unlines}
@@ -22,7 +22,9 @@ use Rattle.edge_io.proofs.Feeds.{each_of_both}
 use Rattle.out_text.specs.Collecting.{collected, frames_of}
 use Rattle.out_text.specs.Journals.{dids}
 use Rattle.out_text.specs.Output.{last_of, HasLast, IsFront, IsAllFrames, IsRefused, IsSomeFrames}
+use Rattle.arena_engine.specs.FedGames.{Last, no_last}
 use Rattle.arena_engine.specs.Output.{Writes, ReadsSome, ReadsToRefusal}
+use Rattle.arena_engine.specs.Texts.{Texts, play_texts}
 use Rattle.demo_lines.proofs.MapGiven.{after-whole, after-kept}
 use Rattle.out_text.proofs.Fronts.{AreRun, text_with, no_front, is_front, is_all_frames, front_has_last}
 use Rattle.out_text.proofs.Outputs.{nothing_reported}
@@ -34,55 +36,57 @@ use Rattle.arena_engine.proofs.Continuing.{IsCutAt, continues, continues_lines, 
 none_in_no_text : None ≡ last_of (dids [])
 none_in_no_text = sym (ap last_of nothing_reported)
 
--- memory was refused before the first event was played
-pub memory_at_first : (workers : ℕ) (a : Option (List ℕ)) (t : Option (List ℕ)) (last : Option (List Entry)) → last ≡ None → IfSome a (λ bytes. Writes t t (HasLast (IsSomeFrames workers bytes) last))
-memory_at_first workers None t last none = tt
-memory_at_first workers (Some bytes) t last none = record {
-  text = [];
-  written = Appends-nil t;
-  holds = record { holds = record { k = 0; front = no_front workers bytes }; last_is = none ∙ none_in_no_text };
-}
-
 pub frames_of-none : (bytes : List ℕ) → events bytes ≡ [] → frames_of bytes ≡ []
 frames_of-none bytes none = ap (λ es. (collected es).closed) none
-
-all_of_none : (workers : ℕ) (bytes : List ℕ) → events bytes ≡ [] → IsAllFrames workers bytes []
-all_of_none workers bytes none =
-    let P : ℕ → Type 0 = λ k. IsFront workers bytes k [] in subst P (ap length (sym (frames_of-none bytes none))) (no_front workers bytes)
-
--- the recording was refused before it gave an event
-pub refused_at_first : (workers : ℕ) (a : Option (List ℕ)) (t : Option (List ℕ)) (why : LineRefusal) (last : Option (List Entry)) → last ≡ None → IfSome a (EndsAt start why)
-    → IfSome a (λ bytes. Writes t t (HasLast (IsRefused workers bytes why) last))
-refused_at_first workers None t why last none ends = tt
-refused_at_first workers (Some bytes) t why last none ends = record {
-  text = [];
-  written = Appends-nil t;
-  holds = record { holds = record { faulty = ends.fault; frames = all_of_none workers bytes ends.events }; last_is = none ∙ none_in_no_text };
-}
 
 -- the lines of a text in which each has its line feed
 pub lines_of-whole : (lines : List (List ℕ)) → AllByRecursion HasNoLineFeed lines → lines_of (unlines lines) ≡ lines
 lines_of-whole lines each = ap lines_of (sym (append-nil (unlines lines))) ∙ lines_of-unlines lines [] each ∙ append-nil lines
 
--- the source failed before the first event
-pub fault_at_first : (workers : ℕ) (a l : Option (List ℕ)) (t : Option (List ℕ)) (last : Option (List Entry)) → last ≡ None → ReadsFront start a l [] → ReadsSome workers a l t t last
-fault_at_first workers a l t last none reads = record {
-  lines = reads.lines;
-  front = reads.front;
-  each = reads.each;
-  one_line = reads.one_line;
-  fits = reads.fits;
-  going = reads.going;
-  consumed = reads.consumed;
-  frames = record {
-    text = [];
-    written = Appends-nil t;
-    holds = record {
-      holds = all_of_none workers (unlines reads.lines) (ap (events_of start) (lines_of-whole reads.lines reads.each) ∙ reads.events);
-      last_is = none ∙ none_in_no_text;
-    };
-  };
+-- it is right to write nothing before the first frame
+pub record HoldAtFirst (texts : Texts) : Type 0 where
+  pub some_frames : (bytes : List ℕ) → texts.some_frames bytes no_last []
+  pub all_frames : (bytes : List ℕ) → events bytes ≡ [] → texts.all_frames bytes no_last []
+  pub refused : (bytes : List ℕ) (why : LineRefusal) → fault bytes ≡ Some why → events bytes ≡ [] → texts.refused bytes why no_last []
+
+-- so it is for `play`
+pub play_at_first : (workers : ℕ) → HoldAtFirst (play_texts workers)
+play_at_first workers = record {
+  some_frames = λ bytes. record { holds = record { k = 0; front = no_front workers bytes }; last_is = none_in_no_text };
+  all_frames = λ bytes none. record { holds = all_of_none bytes none; last_is = none_in_no_text };
+  refused = λ bytes why faulty none. record { holds = record { faulty = faulty; frames = all_of_none bytes none }; last_is = none_in_no_text };
 }
+  where
+    all_of_none : (bytes : List ℕ) → events bytes ≡ [] → IsAllFrames workers bytes []
+    all_of_none bytes none = let P : ℕ → Type 0 = λ k. IsFront workers bytes k [] in subst P (ap length (sym (frames_of-none bytes none))) (no_front workers bytes)
+
+module _ (texts : Texts) (hold : HoldAtFirst texts) (t : Option (List ℕ)) (last : Last) (none : last ≡ no_last) where
+  -- nothing was written, of no frame
+  nothing : (Is : Last → List ℕ → Type 0) → Is no_last [] → Writes t t (Is last)
+  nothing Is holds = record { text = []; written = Appends-nil t; holds = subst (λ (l : Last). Is l []) (sym none) holds }
+
+  -- memory was refused before the first event was played
+  pub memory_at_first : (a : Option (List ℕ)) → IfSome a (λ bytes. Writes t t (texts.some_frames bytes last))
+  memory_at_first None = tt
+  memory_at_first (Some bytes) = nothing (texts.some_frames bytes) (hold.some_frames bytes)
+
+  -- the recording was refused before it gave an event
+  pub refused_at_first : (a : Option (List ℕ)) (why : LineRefusal) → IfSome a (EndsAt start why) → IfSome a (λ bytes. Writes t t (texts.refused bytes why last))
+  refused_at_first None why ends = tt
+  refused_at_first (Some bytes) why ends = nothing (texts.refused bytes why) (hold.refused bytes why ends.fault ends.events)
+
+  -- the source failed before the first event
+  pub fault_at_first : (a l : Option (List ℕ)) → ReadsFront start a l [] → ReadsSome (λ bytes. texts.all_frames bytes last) a l t t
+  fault_at_first a l reads = record {
+    lines = reads.lines;
+    front = reads.front;
+    each = reads.each;
+    one_line = reads.one_line;
+    fits = reads.fits;
+    going = reads.going;
+    consumed = reads.consumed;
+    frames = nothing (texts.all_frames (unlines reads.lines)) (hold.all_frames (unlines reads.lines) (ap (events_of start) (lines_of-whole reads.lines reads.each) ∙ reads.events));
+  }
 
 -- where the recording goes on after lines it went on before them
 pub going_before : (r : Reading) (lines : List (List ℕ)) → is_over (after r lines).stage ≡ false → is_over r.stage ≡ false
@@ -135,7 +139,7 @@ module _ (workers : ℕ) (arena : MapView) (r : Reading) (a b : Option (List ℕ
       })
 
   -- the source failed
-  pub fault_on : (l : Option (List ℕ)) → Played → ReadsFront r b l [] → ReadsSome workers a l t0 t1 last
+  pub fault_on : (l : Option (List ℕ)) → Played → ReadsFront r b l [] → ReadsSome (λ bytes. HasLast (IsAllFrames workers bytes) last) a l t0 t1
   fault_on l played reads =
       let lines = played.reads.lines ++ reads.lines in
       let u = after r reads.lines in

@@ -72,7 +72,7 @@ facts workers (Some arrivals) old new fed (Some order) server' journal out hands
         → CloseFacts workers old.server server' (Some arrivals) fed (Some order) j out
     go None never given = absurd never
     go (Some j) runs given = record {
-      closes = record { places = hands.places; feed = hands.feed; runs = runs };
+      closes = record { places = hands.places; rising = hands.rising; feed = hands.feed; runs = runs };
       order_is = refl;
       journal_is = refl;
       lines = ap (λ (f : List Arrival). fed_closed_lines (Some j) f out) hands.fed_is ∙ ap (with_froms (in_order order arrivals)) (lines-are old.server (in_order order arrivals) j out given);

@@ -1,8 +1,7 @@
 -- How the playing of a recording whose packets client threads send ends, and how it goes on, seen from any start.
-use Rattle.std.proofs.Common.{◌≡◌, ℕ, ◌≤◌, true, false, List, [], length, Option, Some, Result, Ok, Err, refl, sym, ap, ◌∙◌, subst}
+use Rattle.std.proofs.Common.{◌≡◌, ℕ, ◌≤◌, true, false, List, [], length, Option, Some, Ok, Err, refl, ap, ◌∙◌, subst}
 use Rattle.edge_io.specs.declared.source.Source as sources
 use Rattle.edge_io.specs.declared.sink.Sink as sinks
-use Rattle.edge_io.specs.Counts.{HasRisen}
 use Rattle.edge_io.specs.Lines.{ahead}
 use Rattle.arena_map.specs.Maps.{MapView, IsMap}
 use Rattle.demo_lines.specs.declared.event.Event.{Event}
@@ -16,43 +15,13 @@ use Rattle.arena_engine.specs.declared.stop.Stop.TheVariants.{Refused, ReadFault
 use Rattle.arena_engine.specs.StopOf.{stop_of}
 use Rattle.arena_engine.specs.Stops.{OnWriteFault, OnMemory, IsGameStop}
 use Rattle.arena_engine.specs.Games.{is_end}
-use Rattle.arena_engine.specs.FedGames.{Last, no_last, FedView, FedPlays, new_fed_game, IsFedReady}
-use Rattle.arena_engine.specs.FedPlayEnds.{FedPlaysTo}
+use Rattle.arena_engine.specs.FedGames.{FedView, FedPlays, new_fed_game, IsFedReady}
+use Rattle.arena_engine.specs.Texts.{feed_texts}
+use Rattle.arena_engine.specs.PlayEnds.{PlaysTo}
 use Rattle.arena_engine.specs.FedProgress.{IsFedNext, MayFeedOn}
-use Rattle.arena_engine.proofs.FedExits.{memory_at_first}
 use Rattle.arena_engine.proofs.Running as running
 use Rattle.arena_engine.proofs.FedRunning as feeding
 use Rattle.arena_engine.proofs.Ended.{ReaderStops, ReaderGives}
-
--- ---- before the first event
-
-module _ {S K : Type 0} (s : sources.Ghosts S) (k : sinks.Ghosts K) (workers : ℕ) (source source' : S) (sink : K) (last : Last) (none : last ≡ no_last) where
-  -- memory was refused
-  pub no_memory_at_first : s.faults source' ≡ s.faults source → FedPlaysTo s k workers source source' sink sink last (Err Memory)
-  no_memory_at_first same = record { output = memory_at_first workers (s.left source) (k.taken sink) last none; reads = same; writes = refl }
-
-  -- the reader stopped
-  pub stopped_at_first : (old new : DemoReaderView) (d : DemoStop) → old ≡ fresh_reader → ReaderStops s old new source source' d → FedPlaysTo s k workers source source' sink sink last (Err (stop_of d))
-  stopped_at_first old new (demo_stop.Refused line fault rule) fresh stops = record {
-    output = feeding.first_refused workers old (demo_stop.Refused line fault rule) (s.left source) (k.taken sink) last none fresh stops.refused;
-    read = running.first_refusal s.last s.ended s.never_fails source source' old new.pending (demo_stop.Refused line fault rule) (s.left source) (s.left source') fresh stops.taken;
-    reads = stops.uncounted_refusal;
-    writes = refl;
-  }
-  stopped_at_first old new demo_stop.ReadFault fresh stops = record {
-    output = feeding.first_fault workers old demo_stop.ReadFault (s.left source) (s.left source') (k.taken sink) last none fresh stops.read_fault;
-    front = memory_at_first workers (s.left source) (k.taken sink) last none;
-    same_end = stops.no_end;
-    cause = subst (λ (x : DemoReaderView). IsOpen x → HasRisen (s.faults source) (s.faults source')) fresh stops.cause running.fresh_is_open;
-    later = stops.later;
-    fails = λ sure. subst (λ (x : DemoReaderView). IsOpen x → s.never_fails source → ⊥) fresh stops.sure running.fresh_is_open sure;
-    writes = refl;
-  }
-  stopped_at_first old new demo_stop.NoMemory fresh stops = record {
-    output = memory_at_first workers (s.left source) (k.taken sink) last none;
-    reads = stops.uncounted_memory;
-    writes = refl;
-  }
 
 -- the event that the reader gave first is the next one, once the map was given out
 pub first_is_next : {S K : Type 0} (s : sources.Ghosts S) (k : sinks.Ghosts K) (workers : ℕ) (source source' : S) (sink : K) (old new taken : DemoReaderView) (arena : MapView) (g : FedView) (e : Event) → old ≡ fresh_reader
@@ -63,14 +32,6 @@ first_is_next s k workers source source' sink old new taken arena g e fresh is g
     let unread = running.needed_first s.last s.ended s.never_fails source source' old new (s.left source) b e fresh gives.needed gives.keeps in
     let both = feeding.runs_first s.last s.ended s.never_fails workers new taken arena (s.left source) (s.left source') (k.taken sink) g e (s.faults source) (s.faults source') (k.faults sink) (k.room sink) source source' is progress gives.ok gives.uncounted unread in
     record { runs = both.0; needed = both.1 }
-
--- what is the same ended so too
-pub ends_same : {S K : Type 0} (s : sources.Ghosts S) (k : sinks.Ghosts K) (workers : ℕ) (source source' : S) (sink sink' : K) (last last' : Last) (ended ended' : Result Unit Stop) → last' ≡ last → ended' ≡ ended
-    → FedPlaysTo s k workers source source' sink sink' last ended → FedPlaysTo s k workers source source' sink sink' last' ended'
-ends_same s k workers source source' sink sink' last last' ended ended' same_last same_end plays =
-    let P : Result Unit Stop → Type 0 = λ r. FedPlaysTo s k workers source source' sink sink' last' r in
-    let Q : Last → Type 0 = λ l. FedPlaysTo s k workers source source' sink sink' l ended in
-    subst P (sym same_end) (subst Q (sym same_last) plays)
 
 -- ---- at an event
 
@@ -86,7 +47,7 @@ module _ {S K : Type 0} (s : sources.Ghosts S) (k : sinks.Ghosts K) (workers : �
       → OnWriteFault stop (FedPlays workers g g2 e (λ lines. FailsIn k.taken k.faults sink sink' (text_of lines)))
       → OnWriteFault stop (FedPlays workers g g2 e (λ lines. length (text_of lines) ≤ k.room sink → ⊥))
       → OnMemory stop (sink' ≡ sink) → OnMemory stop (g2.last ≡ g.last) → k.faults sink ≤ k.faults sink'
-      → FedPlaysTo s k workers source0 source sink0 sink' g2.last (Err stop)
+      → PlaysTo s k (feed_texts workers) source0 source sink0 sink' g2.last (Err stop)
   game_stopped sink' g2 (Refused line fault rule) never failed short same kept later = absurd never
   game_stopped sink' g2 ReadFault never failed short same kept later = absurd never
   game_stopped sink' g2 WriteFault stops failed short same kept later = record {
@@ -105,7 +66,7 @@ module _ {S K : Type 0} (s : sources.Ghosts S) (k : sinks.Ghosts K) (workers : �
   -- the event was played, and its lines were written
   module _ (sink' : K) (g2 : FedView) (plays : FedPlays workers g g2 e (λ lines. Prints k.taken k.faults k.room sink sink' [] [] (text_of lines))) where
     -- it was the end
-    pub all_played : is_end e ≡ true → FedPlaysTo s k workers source0 source sink0 sink' g2.last (Ok tt)
+    pub all_played : is_end e ≡ true → PlaysTo s k (feed_texts workers) source0 source sink0 sink' g2.last (Ok tt)
     all_played is_last = record {
       output = feeding.all_done workers demo before left (k.taken sink0) (k.taken sink) g e (s.faults source0) (s.faults source) (k.faults sink0) (k.faults sink) (k.room sink0) (k.room sink) at.runs g2 (k.taken sink') plays.closed plays.advances
           (running.appends_all k.taken k.faults k.room sink sink' _ plays.lines) g2.last refl is_last;
@@ -116,7 +77,7 @@ module _ {S K : Type 0} (s : sources.Ghosts S) (k : sinks.Ghosts K) (workers : �
 
     -- the reader stopped then
     pub reader_stopped : (demo' : DemoReaderView) (source' : S) (d : DemoStop) → is_end e ≡ false → ReaderStops s demo demo' source source' d
-        → FedPlaysTo s k workers source0 source' sink0 sink' g2.last (Err (stop_of d))
+        → PlaysTo s k (feed_texts workers) source0 source' sink0 sink' g2.last (Err (stop_of d))
     reader_stopped demo' source' (demo_stop.Refused line fault rule) going stops = record {
       output = feeding.next_refused workers demo before left (k.taken sink0) (k.taken sink) g e (s.faults source0) (s.faults source) (k.faults sink0) (k.faults sink) (k.room sink0) (k.room sink) at.runs g2 (k.taken sink') plays.closed plays.advances
           (running.appends_all k.taken k.faults k.room sink sink' _ plays.lines) g2.last refl (demo_stop.Refused line fault rule) going stops.refused;

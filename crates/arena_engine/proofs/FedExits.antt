@@ -2,7 +2,7 @@
 use Rattle.std.proofs.Common.{◌≡◌, ℕ, true, List, [], ◌∷◌, ◌++◌, length, Option, Some, None, IfSome, refl, sym, ap, ◌∙◌, subst, append_assoc, append-nil}
 use Rattle.std.specs.Io.KnownBytes.{Appends, Consumes}
 use Rattle.std.proofs.lemmas.Grind.{flat_map-append}
-use Rattle.std.proofs.KnownBytes.{Appends-nil, Consumes-trans}
+use Rattle.std.proofs.KnownBytes.{Consumes-trans}
 use Rattle.arena_map.specs.Maps.{MapView, IsMap}
 use Rattle.entity_recs.specs.declared.effect.Entry.{Entry}
 use Rattle.packet_read.specs.declared.arrival.Arrival.{Arrival}
@@ -11,62 +11,35 @@ use Rattle.demo_lines.specs.declared.event.Event.{Event}
 use Rattle.demo_lines.specs.Recording.{next, events_of_line, after, events_of}
 use Rattle.edge_io.specs.Lines.{HasNoLineFeed}
 use Rattle.edge_io.specs.WholeLines.{unlines}
-use Rattle.demo_lines.specs.Bytes.{LineRefusal, events}
+use Rattle.demo_lines.specs.Bytes.{LineRefusal, fault, events}
 use Rattle.demo_lines.specs.Reads.{Reads, ReadsFront, EndsAt}
 use Rattle.demo_lines.proofs.Machines.{run_of-append, outputs_of-append}
 use Rattle.demo_lines.proofs.Joins.{whole_text}
 use Rattle.edge_io.proofs.Feeds.{each_of_both}
 use Rattle.out_text.specs.Collecting.{collected}
 use Rattle.out_text.specs.Feeds.{AreFeedsOf, HasLastFed, IsFedFront, IsFedFrames, IsFedRefused, IsFedSome}
-use Rattle.arena_engine.specs.Output.{Writes}
-use Rattle.arena_engine.specs.FedOutput.{ReadsSomeFed}
-use Rattle.arena_engine.specs.FedGames.{Last, no_last}
+use Rattle.arena_engine.specs.Output.{Writes, ReadsSome}
+use Rattle.arena_engine.specs.FedGames.{Last}
+use Rattle.arena_engine.specs.Texts.{feed_texts}
 use Rattle.arena_engine.specs.FedProgress.{IsLastOf}
 use Rattle.demo_lines.proofs.MapGiven.{after-whole, after-kept}
 use Rattle.out_text.proofs.Fronts.{AreRun}
 use Rattle.out_text.proofs.FedFronts.{fed_text_with, no_fed_front, no_fed_last, is_fed_front, is_fed_frames, fed_front_has_last}
 use Rattle.arena_engine.proofs.Continuing.{IsCutAt, continues, continues_lines, cut_after_lines, map_of-whole, frames_of-all, goes_on_frames}
-use Rattle.arena_engine.proofs.Exits.{frames_of-none, lines_of-whole, going_before}
+use Rattle.arena_engine.proofs.Exits.{HoldAtFirst, frames_of-none, going_before}
 
 -- ---- before the first event
 
--- nothing was written, of no frame
-nothing : (Is : List ℕ → Type 0) (bytes : List ℕ) (t : Option (List ℕ)) (last : Last) → last ≡ no_last → Is [] → Writes t t (HasLastFed Is bytes last.order last.journal)
-nothing Is bytes t last none holds = record {
-  text = [];
-  written = Appends-nil t;
-  holds = no_fed_last Is bytes last.order last.journal (ap (λ (l : Last). l.order) none) (ap (λ (l : Last). l.journal) none) holds;
+-- it is right to write nothing before the first frame
+pub feed_at_first : (workers : ℕ) → HoldAtFirst (feed_texts workers)
+feed_at_first workers = record {
+  some_frames = λ bytes. no_fed_last (IsFedSome workers bytes) bytes None None refl refl (record { k = 0; front = no_fed_front workers bytes });
+  all_frames = λ bytes none. no_fed_last (IsFedFrames workers bytes) bytes None None refl refl (all_of_none bytes none);
+  refused = λ bytes why faulty none. no_fed_last (IsFedRefused workers bytes why) bytes None None refl refl (record { faulty = faulty; frames = all_of_none bytes none });
 }
-
--- memory was refused before the first event was played
-pub memory_at_first : (workers : ℕ) (a : Option (List ℕ)) (t : Option (List ℕ)) (last : Last) → last ≡ no_last → IfSome a (λ bytes. Writes t t (HasLastFed (IsFedSome workers bytes) bytes last.order last.journal))
-memory_at_first workers None t last none = tt
-memory_at_first workers (Some bytes) t last none = nothing (IsFedSome workers bytes) bytes t last none (record { k = 0; front = no_fed_front workers bytes })
-
-all_of_none : (workers : ℕ) (bytes : List ℕ) → events bytes ≡ [] → IsFedFrames workers bytes []
-all_of_none workers bytes none =
-    let P : ℕ → Type 0 = λ k. IsFedFront workers bytes k [] in subst P (ap length (sym (frames_of-none bytes none))) (no_fed_front workers bytes)
-
--- the recording was refused before it gave an event
-pub refused_at_first : (workers : ℕ) (a : Option (List ℕ)) (t : Option (List ℕ)) (why : LineRefusal) (last : Last) → last ≡ no_last → IfSome a (EndsAt start why)
-    → IfSome a (λ bytes. Writes t t (HasLastFed (IsFedRefused workers bytes why) bytes last.order last.journal))
-refused_at_first workers None t why last none ends = tt
-refused_at_first workers (Some bytes) t why last none ends =
-    nothing (IsFedRefused workers bytes why) bytes t last none (record { faulty = ends.fault; frames = all_of_none workers bytes ends.events })
-
--- the source failed before the first event
-pub fault_at_first : (workers : ℕ) (a l : Option (List ℕ)) (t : Option (List ℕ)) (last : Last) → last ≡ no_last → ReadsFront start a l [] → ReadsSomeFed workers a l t t last.order last.journal
-fault_at_first workers a l t last none reads = record {
-  lines = reads.lines;
-  front = reads.front;
-  each = reads.each;
-  one_line = reads.one_line;
-  fits = reads.fits;
-  going = reads.going;
-  consumed = reads.consumed;
-  frames = nothing (IsFedFrames workers (unlines reads.lines)) (unlines reads.lines) t last none
-      (all_of_none workers (unlines reads.lines) (ap (events_of start) (lines_of-whole reads.lines reads.each) ∙ reads.events));
-}
+  where
+    all_of_none : (bytes : List ℕ) → events bytes ≡ [] → IsFedFrames workers bytes []
+    all_of_none bytes none = let P : ℕ → Type 0 = λ k. IsFedFront workers bytes k [] in subst P (ap length (sym (frames_of-none bytes none))) (no_fed_front workers bytes)
 
 -- ---- while frames are played
 
@@ -116,7 +89,7 @@ module _ (workers : ℕ) (arena : MapView) (r : Reading) (a b : Option (List ℕ
       })
 
   -- the source failed
-  pub fault_on : (l : Option (List ℕ)) → FedPlayed → ReadsFront r b l [] → ReadsSomeFed workers a l t0 t1 last.order last.journal
+  pub fault_on : (l : Option (List ℕ)) → FedPlayed → ReadsFront r b l [] → ReadsSome (λ bytes. HasLastFed (IsFedFrames workers bytes) bytes last.order last.journal) a l t0 t1
   fault_on l played reads =
       let lines = played.reads.lines ++ reads.lines in
       let u = after r reads.lines in

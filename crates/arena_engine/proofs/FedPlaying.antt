@@ -24,7 +24,7 @@ use Rattle.out_text.specs.OutLines.{OutLine, EndLine, text_of}
 use Rattle.out_text.specs.Collecting.{Frames, closing, collect, collected, frames_of}
 use Rattle.out_text.specs.Output.{last_of}
 use Rattle.packet_read.specs.Orders.{in_order, AreEachOnce}
-use Rattle.out_text.specs.Feeds.{AreFeedsOf, IsLastOrder, last_fed, with_froms, fed_lines, HasLastFed, IsFedOutput, IsFedCut, IsFedSome}
+use Rattle.out_text.specs.Feeds.{AreFeedsOf, RiseByParity, IsLastOrder, last_fed, with_froms, fed_lines, HasLastFed, IsFedOutput, IsFedCut, IsFedSome}
 use Rattle.out_text.proofs.Growing.{GoesOnWith}
 use Rattle.out_text.proofs.Agreement.{Agrees}
 use Rattle.out_text.proofs.Runs.{length-right, right-append, in_order-append, text_of-append}
@@ -35,8 +35,7 @@ use Rattle.arena_engine.specs.Games.{is_end}
 use Rattle.arena_engine.specs.FedGames.{Last, FedView, new_fed_game, Closing, ClosesFed, none_handed, FedAdvances, newest_last, fed_closing_lines, fed_event_lines, MayCloseFed, IsFedReady}
 use Rattle.arena_engine.specs.Progress.{IsServerAt}
 use Rattle.arena_engine.specs.FedProgress.{IsLastOf, FedProgress}
-use Rattle.arena_engine.specs.Output.{Writes, ReadsToEnd}
-use Rattle.arena_engine.specs.FedOutput.{HasFedRoom}
+use Rattle.arena_engine.specs.Output.{HasFedRoom, Writes, ReadsToEnd}
 use Rattle.arena_engine.proofs.Continuing.{Continues, continues, map_of-whole, goes_on_frames, goes_on_events}
 use Rattle.arena_engine.proofs.Playing.{collected-push, one_more, fault-at_end, frames-at_end, few_after, agrees_from_start, room_before, stage_of, some_and, not_over}
 use Rattle.arena_engine.proofs.FedExits.{FedPlayed}
@@ -48,10 +47,11 @@ last_fed-push (f ∷ []) fed = refl
 last_fed-push (f ∷ g ∷ feeds) fed = last_fed-push (g ∷ feeds) fed
 
 -- the order of the last frame, with one more
-last_order-push : (closed feeds : List (List Arrival)) (arrivals : List Arrival) (order : List ℕ) → AreEachOnce (length arrivals) order → IsLastOrder (Some order) (closed ++ arrivals ∷ []) (feeds ++ in_order order arrivals ∷ [])
-last_order-push closed feeds arrivals order each = record {
+last_order-push : (closed feeds : List (List Arrival)) (arrivals : List Arrival) (order : List ℕ) → AreEachOnce (length arrivals) order → RiseByParity arrivals order → IsLastOrder (Some order) (closed ++ arrivals ∷ []) (feeds ++ in_order order arrivals ∷ [])
+last_order-push closed feeds arrivals order each rising = record {
   none = λ is. absurd (longer feeds is);
   places = subst (λ (o : Option (List Arrival)). IfSome o (λ sent. AreEachOnce (length sent) order)) (sym (last_fed-push closed arrivals)) each;
+  rising = subst (λ (o : Option (List Arrival)). IfSome o (λ sent. RiseByParity sent order)) (sym (last_fed-push closed arrivals)) rising;
   packets = ap (option_map (in_order order)) (last_fed-push closed arrivals) ∙ sym (last_fed-push feeds (in_order order arrivals));
 }
   where
@@ -97,7 +97,7 @@ closed_by workers arena closed feeds js (Some arrivals) old new (Some c) are run
       fed = feeds-push closed feeds arrivals fed are runs.feed;
       run = more.run;
       at = more.at;
-      last_is = λ before same. record { order = last_order-push closed feeds arrivals c.order runs.places; journal = sym (last_of-push js c.journal) };
+      last_is = λ before same. record { order = last_order-push closed feeds arrivals c.order runs.places runs.rising; journal = sym (last_of-push js c.journal) };
       whole = ap (λ ls. fed_lines_of arena feeds js ++ with_froms fed ls) more.lines_are ∙ sym (fed_lines-push arena 0 (opening arena) feeds fed js c.journal count);
     }
 
@@ -208,7 +208,7 @@ module _ (workers : ℕ) (bytes : List ℕ) (arena : MapView) (played : IsPlayed
         let journal_is : last.journal ≡ last_of (js ++ c.journal ∷ []) = ap (λ (l : Last). l.journal) is ∙ sym (last_of-push js c.journal) in
         subst (λ (o : Option (List ℕ)). P o last.journal) (sym order_is) (subst (P (Some c.order)) (sym journal_is)
         (inl (fed_frame_cut workers bytes arena played closed feeds arrivals fed js c.journal (Some c.order) (fed_closing_lines old (Some arrivals) (Some c)) count (length-right arena 0 (opening arena) feeds js run.right) on
-        (feeds-push closed feeds arrivals fed are runs.feed) more.run (last_order-push closed feeds arrivals c.order runs.places) (ap (with_froms fed) more.lines_are) short)))
+        (feeds-push closed feeds arrivals fed are runs.feed) more.run (last_order-push closed feeds arrivals c.order runs.places runs.rising) (ap (with_froms fed) more.lines_are) short)))
 
     cut_end : (waiting : Option (List Arrival)) (old new : ServerView) (c : Option Closing) (count : ℕ) → last ≡ newest_last c before → AreRun workers arena feeds js
         → IsServerAt arena feeds js old → ClosesFed workers old new waiting c → fault bytes ≡ None → frames_of bytes ≡ closed ++ closing waiting
@@ -234,7 +234,7 @@ module _ (workers : ℕ) (bytes : List ℕ) (arena : MapView) (played : IsPlayed
         let journal_is : last.journal ≡ last_of (js ++ c.journal ∷ []) = ap (λ (l : Last). l.journal) is ∙ sym (last_of-push js c.journal) in
         subst (λ (o : Option (List ℕ)). P o last.journal) (sym order_is) (subst (P (Some c.order)) (sym journal_is)
         (inr (fed_last_cut workers bytes arena played closed feeds arrivals fed js c.journal (Some c.order) (fed_closing_lines old (Some arrivals) (Some c) ++ EndLine new.frames ∷ []) count (length-right arena 0 (opening arena) feeds js run.right) accepted all
-        (feeds-push closed feeds arrivals fed are runs.feed) more.run (last_order-push closed feeds arrivals c.order runs.places) (λ i. with_froms fed (more.lines_are i) ++ EndLine (more.at.frames i) ∷ []) short)))
+        (feeds-push closed feeds arrivals fed are runs.feed) more.run (last_order-push closed feeds arrivals c.order runs.places runs.rising) (λ i. with_froms fed (more.lines_are i) ++ EndLine (more.at.frames i) ∷ []) short)))
 
   -- ---- what fits
 
@@ -294,7 +294,7 @@ begins workers arena r a b t g e reads stage frames arrivals has is_map is = rec
   at = record { map = ap (λ (h : FedView). h.course.server.map) is; state = ap (λ (h : FedView). h.course.server.state) is; frames = ap (λ (h : FedView). h.course.server.frames) is };
   waiting = ap (λ (h : FedView). h.waiting) is;
   opened = ap (λ (h : FedView). h.course.opened) is ∙ ap (λ (h : FedView). none_handed h.waiting) (sym is);
-  last_is = subst (λ (l : Last). IsLastOf l [] [] []) (ap (λ (h : FedView). h.last) (sym is)) (record { order = record { none = λ _. refl; places = tt; packets = refl }; journal = refl });
+  last_is = subst (λ (l : Last). IsLastOf l [] [] []) (ap (λ (h : FedView). h.last) (sym is)) (record { order = record { none = λ _. refl; places = tt; rising = tt; packets = refl }; journal = refl });
   written = Appends-nil t;
 }
 

@@ -17,20 +17,19 @@ use Rattle.demo_lines.specs.Reads.{DemoReaderView, fresh_reader, map_taken, IsOp
 use Rattle.demo_lines.specs.Reads as reads_of
 use Rattle.demo_lines.proofs.Given.{Reads-given, Reads-no_map, ReadsFront-given, EndsAt-given, Refuses-given}
 use Rattle.out_text.specs.OutLines.{text_of}
-use Rattle.out_text.specs.Feeds.{HasLastFed, IsFedOutput, IsFedRefused, IsFedCut, IsFedSome}
+use Rattle.out_text.specs.Feeds.{HasLastFed, IsFedOutput, IsFedRefused, IsFedFrames, IsFedCut, IsFedSome}
 use Rattle.arena_engine.specs.declared.stop.Stop.{Stop}
 use Rattle.arena_engine.specs.declared.stop.Stop.TheVariants.{Refused, ReadFault, WriteFault, Memory}
 use Rattle.arena_engine.specs.StopOf.{stop_of}
 use Rattle.arena_engine.specs.Stops.{OnRefused, OnReadFault, OnWriteFault, OnMemory}
 use Rattle.out_text.specs.Printers.{FailsIn}
 use Rattle.arena_engine.specs.Games.{is_end}
-use Rattle.arena_engine.specs.FedGames.{Last, no_last, FedView, new_fed_game, Closing, FedAdvances, FedPlays, fed_event_lines, IsFedReady}
+use Rattle.arena_engine.specs.FedGames.{Last, FedView, new_fed_game, Closing, FedAdvances, FedPlays, fed_event_lines, IsFedReady}
 use Rattle.arena_engine.specs.Progress.{ReadsAsNeeded}
 use Rattle.arena_engine.specs.FedProgress.{FedProgress, FedRuns}
-use Rattle.arena_engine.specs.Output.{Writes, ReadsToEnd, ReadsToRefusal}
-use Rattle.arena_engine.specs.FedOutput.{ReadsSomeFed, HasFedRoom}
+use Rattle.arena_engine.specs.Output.{Writes, ReadsSome, ReadsToEnd, ReadsToRefusal, HasFedRoom}
 use Rattle.arena_engine.proofs.Exits.{refusal_on}
-use Rattle.arena_engine.proofs.FedExits.{memory_at_first, refused_at_first, fault_at_first, refused_on, fault_on}
+use Rattle.arena_engine.proofs.FedExits.{refused_on, fault_on}
 use Rattle.arena_engine.proofs.FedExits as exits
 use Rattle.arena_engine.proofs.Continuing.{cut_end_after}
 use Rattle.arena_engine.proofs.Playing.{not_over}
@@ -38,29 +37,6 @@ use Rattle.arena_engine.proofs.FedPlaying.{is_ready, memory_on, cut_on, done_on,
 use Rattle.arena_engine.proofs.Running.{needed_going, fresh_is_open, read_fault_of, refused_of, no_memory_of, any_read_fault, map_is_given, on_write_fault, end_is_end}
 
 -- ---- before the first event
-
-pub first_front : (workers : ℕ) (d : DemoStop) (l t : Option (List ℕ)) (last : Last) → last ≡ no_last → OnReadFault (stop_of d) (IfSome l (λ bytes. Writes t t (HasLastFed (IsFedSome workers bytes) bytes last.order last.journal)))
-first_front workers d l t last none = any_read_fault d (IfSome l (λ bytes. Writes t t (HasLastFed (IsFedSome workers bytes) bytes last.order last.journal))) (memory_at_first workers l t last none)
-
-pub first_no_memory : (workers : ℕ) (d : DemoStop) (l t : Option (List ℕ)) (last : Last) → last ≡ no_last → OnMemory (stop_of d) (IfSome l (λ bytes. Writes t t (HasLastFed (IsFedSome workers bytes) bytes last.order last.journal)))
-first_no_memory workers d l t last none = no_memory_of d (IfSome l (λ bytes. Writes t t (HasLastFed (IsFedSome workers bytes) bytes last.order last.journal))) (memory_at_first workers l t last none)
-
-pub first_refused : (workers : ℕ) (demo : DemoReaderView) (d : DemoStop) (l t : Option (List ℕ)) (last : Last) → last ≡ no_last → demo ≡ fresh_reader
-    → (IsOpen demo → reads_of.OnRefused d (λ why. IfSome (ahead demo.pending l) (EndsAt demo.reading why)))
-    → OnRefused (stop_of d) (λ why. IfSome l (λ bytes. Writes t t (HasLastFed (IsFedRefused workers bytes why) bytes last.order last.journal)))
-first_refused workers demo d l t last none is h =
-    let P : DemoReaderView → Type 0 = λ x. IsOpen x → reads_of.OnRefused d (λ why. IfSome (ahead x.pending l) (EndsAt x.reading why)) in
-    let at_first = subst P is h fresh_is_open in
-    let Q : LineRefusal → Option (List ℕ) → Type 0 = λ why o. IfSome o (EndsAt start why) in
-    refused_of d (λ why. IfSome (ahead [] l) (EndsAt start why)) (λ why. IfSome l (λ bytes. Writes t t (HasLastFed (IsFedRefused workers bytes why) bytes last.order last.journal)))
-    (λ why ends. refused_at_first workers l t why last none (subst (Q why) (prepend_known-nil l) ends)) at_first
-
-pub first_fault : (workers : ℕ) (demo : DemoReaderView) (d : DemoStop) (l l' t : Option (List ℕ)) (last : Last) → last ≡ no_last → demo ≡ fresh_reader
-    → (IsOpen demo → reads_of.OnReadFault d (ReadsFront demo.reading (ahead demo.pending l) l' [])) → OnReadFault (stop_of d) (ReadsSomeFed workers l l' t t last.order last.journal)
-first_fault workers demo d l l' t last none is h =
-    let P : DemoReaderView → Type 0 = λ x. IsOpen x → reads_of.OnReadFault d (ReadsFront x.reading (ahead x.pending l) l' []) in
-    let Q : Option (List ℕ) → Type 0 = λ o. ReadsFront start o l' [] in
-    read_fault_of d (ReadsFront start (ahead [] l) l' []) (ReadsSomeFed workers l l' t t last.order last.journal) (λ reads. fault_at_first workers l l' t last none (subst Q (prepend_known-nil l) reads)) (subst P is h fresh_is_open)
 
 pub first_event : (workers : ℕ) (demo : DemoReaderView) (r : Reading) (l b t : Option (List ℕ)) (e : Event) (arena : MapView) (g : FedView) → demo ≡ fresh_reader
     → (IsOpen demo → Reads demo.reading r (ahead demo.pending l) b (e ∷ [])) → r.stage ≡ stage_after e → IsReading r → r.map ≡ Some arena → IsMap arena → g ≡ new_fed_game arena
@@ -172,11 +148,11 @@ module _ (workers : ℕ) (demo : DemoReaderView) (a b t0 t1 : Option (List ℕ))
           ends_given why (Some bytes) at_end = EndsAt-given runs.full map_is_whole why bytes at_end
 
       pub next_fault : (d : DemoStop) (l : Option (List ℕ)) → is_end e ≡ false → (IsOpen demo → reads_of.OnReadFault d (ReadsFront demo.reading b l []))
-          → OnReadFault (stop_of d) (ReadsSomeFed workers a l t0 t2 last.order last.journal)
+          → OnReadFault (stop_of d) (ReadsSome (λ bytes. HasLastFed (IsFedFrames workers bytes) bytes last.order last.journal) a l t0 t2)
       next_fault d l going h =
           let R : Reading → Type 0 = λ r. ReadsFront r b l [] in
-          with_last (λ j. OnReadFault (stop_of d) (ReadsSomeFed workers a l t0 t2 j.order j.journal))
-          (read_fault_of d (R demo.reading) (ReadsSomeFed workers a l t0 t2 g2.last.order g2.last.journal)
+          with_last (λ j. OnReadFault (stop_of d) (ReadsSome (λ bytes. HasLastFed (IsFedFrames workers bytes) bytes j.order j.journal) a l t0 t2))
+          (read_fault_of d (R demo.reading) (ReadsSome (λ bytes. HasLastFed (IsFedFrames workers bytes) bytes g2.last.order g2.last.journal) a l t0 t2)
           (λ reads. fault_on workers runs.arena runs.full a b t0 t2 (runs.progress.events ++ e ∷ []) _ _ _ l (played_on workers runs.arena runs.full a b t0 t1 g e runs.progress g2 closed goes t2 going written)
           (ReadsFront-given runs.full map_is_whole b l [] (subst R runs.given reads)))
           (h (reader_is_open going)))

@@ -15,7 +15,6 @@ pub mod FedRunning
 pub mod Ended
 pub mod FedEnded
 pub mod Reported
-pub mod FedReported
 pub mod Summing
 pub mod MapRead
 pub mod WaysReported

@@ -20,17 +20,19 @@ use Rattle.demo_lines.specs.Reads as reads_of
 use Rattle.demo_lines.proofs.Walks.{whole_after}
 use Rattle.demo_lines.proofs.Given.{Reads-given, Reads-no_map, ReadsFront-given, EndsAt-given, Refuses-given}
 use Rattle.out_text.specs.OutLines.{text_of}
-use Rattle.out_text.specs.Output.{HasLast, IsOutput, IsRefused, IsCut, IsSomeFrames}
+use Rattle.out_text.specs.Output.{HasLast, IsOutput, IsRefused, IsAllFrames, IsCut, IsSomeFrames}
 use Rattle.arena_engine.specs.declared.stop.Stop.{Stop}
 use Rattle.arena_engine.specs.declared.stop.Stop.TheVariants.{Refused, ReadFault, WriteFault, Memory}
 use Rattle.arena_engine.specs.StopOf.{stop_of}
 use Rattle.arena_engine.specs.Stops.{OnRefused, OnReadFault, OnWriteFault, OnMemory, ButOnReadFault, ButOnWriteFault, IsGameStop}
 use Rattle.out_text.specs.Printers.{Prints, FailsIn}
 use Rattle.playback.specs.Playbacks.{IsReady}
+use Rattle.arena_engine.specs.FedGames.{Last, no_last}
+use Rattle.arena_engine.specs.Texts.{Texts}
 use Rattle.arena_engine.specs.Games.{GameView, new_game, Advances, Plays, event_lines, is_end}
 use Rattle.arena_engine.specs.Progress.{Progress, Runs, ReadsAsNeeded}
 use Rattle.arena_engine.specs.Output.{Writes, ReadsSome, ReadsToEnd, ReadsToRefusal, HasRoom}
-use Rattle.arena_engine.proofs.Exits.{memory_at_first, refused_at_first, fault_at_first, refused_on, fault_on, refusal_on}
+use Rattle.arena_engine.proofs.Exits.{HoldAtFirst, refused_at_first, fault_at_first, refused_on, fault_on, refusal_on}
 use Rattle.arena_engine.proofs.Exits as exits
 use Rattle.arena_engine.proofs.Continuing.{cut_end_after}
 use Rattle.arena_engine.proofs.Playing.{not_over, is_ready, memory_on, cut_on, done_on, whole_on, played_on, text_so_far, fits_on, goes_on, begins}
@@ -67,28 +69,21 @@ any_read_fault (demo_stop.Refused line fault rule) P p = tt
 any_read_fault demo_stop.ReadFault P p = p
 any_read_fault demo_stop.NoMemory P p = tt
 
-pub first_front : (workers : ℕ) (d : DemoStop) (l t : Option (List ℕ)) (last : Option (List Entry)) → last ≡ None → OnReadFault (stop_of d) (IfSome l (λ bytes. Writes t t (HasLast (IsSomeFrames workers bytes) last)))
-first_front workers d l t last none = any_read_fault d (IfSome l (λ bytes. Writes t t (HasLast (IsSomeFrames workers bytes) last))) (memory_at_first workers l t last none)
+module _ (texts : Texts) (hold : HoldAtFirst texts) (demo : DemoReaderView) (d : DemoStop) (l t : Option (List ℕ)) (last : Last) (none : last ≡ no_last) (is : demo ≡ fresh_reader) where
+  pub first_refused : (IsOpen demo → reads_of.OnRefused d (λ why. IfSome (ahead demo.pending l) (EndsAt demo.reading why)))
+      → OnRefused (stop_of d) (λ why. IfSome l (λ bytes. Writes t t (texts.refused bytes why last)))
+  first_refused h =
+      let P : DemoReaderView → Type 0 = λ x. IsOpen x → reads_of.OnRefused d (λ why. IfSome (ahead x.pending l) (EndsAt x.reading why)) in
+      let at_first = subst P is h fresh_is_open in
+      let Q : LineRefusal → Option (List ℕ) → Type 0 = λ why o. IfSome o (EndsAt start why) in
+      refused_of d (λ why. IfSome (ahead [] l) (EndsAt start why)) (λ why. IfSome l (λ bytes. Writes t t (texts.refused bytes why last)))
+      (λ why ends. refused_at_first texts hold t last none l why (subst (Q why) (prepend_known-nil l) ends)) at_first
 
-pub first_no_memory : (workers : ℕ) (d : DemoStop) (l t : Option (List ℕ)) (last : Option (List Entry)) → last ≡ None → OnMemory (stop_of d) (IfSome l (λ bytes. Writes t t (HasLast (IsSomeFrames workers bytes) last)))
-first_no_memory workers d l t last none = no_memory_of d (IfSome l (λ bytes. Writes t t (HasLast (IsSomeFrames workers bytes) last))) (memory_at_first workers l t last none)
-
-pub first_refused : (workers : ℕ) (demo : DemoReaderView) (d : DemoStop) (l t : Option (List ℕ)) (last : Option (List Entry)) → last ≡ None → demo ≡ fresh_reader
-    → (IsOpen demo → reads_of.OnRefused d (λ why. IfSome (ahead demo.pending l) (EndsAt demo.reading why)))
-    → OnRefused (stop_of d) (λ why. IfSome l (λ bytes. Writes t t (HasLast (IsRefused workers bytes why) last)))
-first_refused workers demo d l t last none is h =
-    let P : DemoReaderView → Type 0 = λ x. IsOpen x → reads_of.OnRefused d (λ why. IfSome (ahead x.pending l) (EndsAt x.reading why)) in
-    let at_first = subst P is h fresh_is_open in
-    let Q : LineRefusal → Option (List ℕ) → Type 0 = λ why o. IfSome o (EndsAt start why) in
-    refused_of d (λ why. IfSome (ahead [] l) (EndsAt start why)) (λ why. IfSome l (λ bytes. Writes t t (HasLast (IsRefused workers bytes why) last)))
-    (λ why ends. refused_at_first workers l t why last none (subst (Q why) (prepend_known-nil l) ends)) at_first
-
-pub first_fault : (workers : ℕ) (demo : DemoReaderView) (d : DemoStop) (l l' t : Option (List ℕ)) (last : Option (List Entry)) → last ≡ None → demo ≡ fresh_reader
-    → (IsOpen demo → reads_of.OnReadFault d (ReadsFront demo.reading (ahead demo.pending l) l' [])) → OnReadFault (stop_of d) (ReadsSome workers l l' t t last)
-first_fault workers demo d l l' t last none is h =
-    let P : DemoReaderView → Type 0 = λ x. IsOpen x → reads_of.OnReadFault d (ReadsFront x.reading (ahead x.pending l) l' []) in
-    let Q : Option (List ℕ) → Type 0 = λ o. ReadsFront start o l' [] in
-    read_fault_of d (ReadsFront start (ahead [] l) l' []) (ReadsSome workers l l' t t last) (λ reads. fault_at_first workers l l' t last none (subst Q (prepend_known-nil l) reads)) (subst P is h fresh_is_open)
+  pub first_fault : (l' : Option (List ℕ)) → (IsOpen demo → reads_of.OnReadFault d (ReadsFront demo.reading (ahead demo.pending l) l' [])) → OnReadFault (stop_of d) (ReadsSome (λ bytes. texts.all_frames bytes last) l l' t t)
+  first_fault l' h =
+      let P : DemoReaderView → Type 0 = λ x. IsOpen x → reads_of.OnReadFault d (ReadsFront x.reading (ahead x.pending l) l' []) in
+      let Q : Option (List ℕ) → Type 0 = λ o. ReadsFront start o l' [] in
+      read_fault_of d (ReadsFront start (ahead [] l) l' []) (ReadsSome (λ bytes. texts.all_frames bytes last) l l' t t) (λ reads. fault_at_first texts hold t last none l l' (subst Q (prepend_known-nil l) reads)) (subst P is h fresh_is_open)
 
 pub first_event : (workers : ℕ) (demo : DemoReaderView) (r : Reading) (l b t : Option (List ℕ)) (e : Event) (arena : MapView) (g : GameView) → demo ≡ fresh_reader
     → (IsOpen demo → Reads demo.reading r (ahead demo.pending l) b (e ∷ [])) → r.stage ≡ stage_after e → IsReading r → r.map ≡ Some arena → IsMap arena → g ≡ new_game arena
@@ -244,11 +239,11 @@ module _ (workers : ℕ) (demo : DemoReaderView) (a b t0 t1 : Option (List ℕ))
           ends_given why (Some bytes) at_end = EndsAt-given runs.full map_is_whole why bytes at_end
 
       pub next_fault : (d : DemoStop) (l : Option (List ℕ)) → is_end e ≡ false → (IsOpen demo → reads_of.OnReadFault d (ReadsFront demo.reading b l []))
-          → OnReadFault (stop_of d) (ReadsSome workers a l t0 t2 last)
+          → OnReadFault (stop_of d) (ReadsSome (λ bytes. HasLast (IsAllFrames workers bytes) last) a l t0 t2)
       next_fault d l going h =
           let R : Reading → Type 0 = λ r. ReadsFront r b l [] in
-          with_last (λ j. OnReadFault (stop_of d) (ReadsSome workers a l t0 t2 j))
-          (read_fault_of d (R demo.reading) (ReadsSome workers a l t0 t2 g2.last)
+          with_last (λ j. OnReadFault (stop_of d) (ReadsSome (λ bytes. HasLast (IsAllFrames workers bytes) j) a l t0 t2))
+          (read_fault_of d (R demo.reading) (ReadsSome (λ bytes. HasLast (IsAllFrames workers bytes) g2.last) a l t0 t2)
           (λ reads. fault_on workers runs.arena runs.full a b t0 t2 (runs.progress.events ++ e ∷ []) _ _ l (played_on workers runs.arena runs.full a b t0 t1 g e runs.progress g2 closed goes t2 going written)
           (ReadsFront-given runs.full map_is_whole b l [] (subst R runs.given reads)))
           (h (reader_is_open going)))

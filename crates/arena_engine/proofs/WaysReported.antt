@@ -5,20 +5,23 @@ use Rattle.edge_io.specs.declared.source.Source as sources
 use Rattle.edge_io.specs.declared.sink.Sink as sinks
 use Rattle.edge_io.specs.Counts.{HasRisen}
 use Rattle.edge_io.specs.Writes.{AppendsPart}
+use Rattle.arena_map.specs.declared.limits.TheConstants.{MOST_SPAWNS}
 use Rattle.arena_map.specs.Maps.{MapView, IsMap}
 use Rattle.bot_ways.specs.declared.plan.Plan.{Plan}
 use Rattle.bot_ways.specs.declared.plan_stop.PlanStop.{PlanStop}
 use Rattle.bot_ways.specs.declared.plan_stop.PlanStop.TheVariants as plan_stop
+use Rattle.bot_ways.specs.declared.writing.TheConstants.{MOST_PLAN_BYTES}
 use Rattle.bot_ways.specs.Walks.{IsWalk, IsUnreached, IsLeast, HasLeast, length_to}
 use Rattle.bot_ways.specs.Ways.{IsWay, IsCertificate}
-use Rattle.bot_ways.specs.PlanTexts.{plan_text}
+use Rattle.bot_ways.specs.PlanTexts.{IsPlan, plan_text}
+use Rattle.bot_ways.proofs.PlanBounds.{plan_texts_are_bounded}
 use Rattle.demo_lines.specs.Bytes.{LineRefusal, fault, map_of}
 use Rattle.arena_engine.specs.declared.report.Report.{Report}
-use Rattle.arena_engine.specs.Endings.{Ends, EndsEarly}
+use Rattle.arena_engine.specs.Endings.{Ends}
 use Rattle.arena_engine.specs.Reports.{refusal_of}
 use Rattle.arena_engine.specs.Planned.{IsPlanned, HasMap, ShowsWay, ShowsWays, HasRoomForWays}
 use Rattle.arena_engine.specs.MapReads.{GivesMap, GivesRefusal, GivesReadFault, WritesWay, WritesNothing, WritesLeast, WritesCut, WritesStop}
-use Rattle.arena_engine.proofs.Reported.{ends_by, uncounted_in, counted_in}
+use Rattle.arena_engine.proofs.Reported.{ends_of, uncounted_in, counted_in}
 
 -- ---- what was planned
 
@@ -69,6 +72,20 @@ ways-cut k m target sink sink' text r plan_stop.WriteFault is part nothing later
 }
 ways-cut k m target sink sink' text r plan_stop.NoMemory is part nothing later risen sure shows = nothing is
 
+-- so much room is enough, whatever the map and the target
+ways-fit : (m : MapView) (target room : ℕ) → MOST_PLAN_BYTES ≤ room → HasRoomForWays room target m
+ways-fit m target room enough text (inl shows) =
+    let plan : IsPlan m shows.plan = record { target = target; far = shows.far; is = shows.is } in
+    omega (arith, ap (λ (t : List ℕ). length t) shows.text_is, plan_texts_are_bounded.longest m shows.plan shows.is_map plan, enough)
+ways-fit m target room enough text (inr shows) =
+    omega (
+      arith,
+      ap (λ (t : List ℕ). length t) shows.text_is,
+      plan_texts_are_bounded.least m shows.least shows.is_map shows.certificate,
+      shows.is_map.few_spawns,
+      enough,
+    )
+
 -- ---- recordings that were read
 
 -- a recording without a fault, of this map
@@ -108,6 +125,7 @@ module _ {S K : Type 0} (s : sources.Ghosts S) (k : sinks.Ghosts K) (target : �
       no_frame = last;
       no_journals = all;
       sure_writes = λ room is. absurd (omega (arith, is, status));
+      sure_longest = λ room is. absurd (omega (arith, is, status));
       complete = λ none nothing. inl (inr status);
       complete_refusal = λ some nothing. absurd (not-faulty (s.left source) given.faultless some);
     }
@@ -126,6 +144,7 @@ module _ {S K : Type 0} (s : sources.Ghosts S) (k : sinks.Ghosts K) (target : �
       no_frame = last;
       no_journals = all;
       sure_writes = λ room is. absurd (omega (arith, is, status));
+      sure_longest = λ room is. absurd (omega (arith, is, status));
       complete = λ none nothing. inr status;
       complete_refusal = λ some nothing. absurd (not-faulty (s.left source) given.faultless some);
     }
@@ -144,6 +163,7 @@ module _ {S K : Type 0} (s : sources.Ghosts S) (k : sinks.Ghosts K) (target : �
       no_frame = last;
       no_journals = all;
       sure_writes = λ room is. absurd (omega (arith, is, status));
+      sure_longest = λ room is. absurd (omega (arith, is, status));
       complete = λ none nothing. inr status;
       complete_refusal = λ some nothing. absurd (not-faulty (s.left source) given.faultless some);
     }
@@ -162,6 +182,7 @@ module _ {S K : Type 0} (s : sources.Ghosts S) (k : sinks.Ghosts K) (target : �
       no_frame = last;
       no_journals = all;
       sure_writes = λ room is. cuts.no_room (room-of (s.left source) m (HasRoomForWays (k.room sink) target) given.map_is room);
+      sure_longest = λ room is. cuts.no_room (ways-fit m target (k.room sink) room);
       complete = λ none nothing. absurd (nothing.writing cuts.cause);
       complete_refusal = λ some nothing. absurd (nothing.writing cuts.cause);
     }
@@ -182,6 +203,7 @@ module _ {S K : Type 0} (s : sources.Ghosts S) (k : sinks.Ghosts K) (target : �
     no_frame = last;
     no_journals = all;
     sure_writes = λ room is. absurd (omega (arith, is, status));
+    sure_longest = λ room is. absurd (omega (arith, is, status));
     complete = λ none nothing. inl (inl status);
     complete_refusal = λ some nothing. inl status;
   }
@@ -200,6 +222,7 @@ module _ {S K : Type 0} (s : sources.Ghosts S) (k : sinks.Ghosts K) (target : �
     no_frame = last;
     no_journals = all;
     sure_writes = λ room is. absurd (omega (arith, is, status));
+    sure_longest = λ room is. absurd (omega (arith, is, status));
     complete = λ none nothing. absurd (not-faultless (s.left source) (refusal_of r) given.faulty none);
     complete_refusal = λ some nothing. inr status;
   }
@@ -218,6 +241,7 @@ module _ {S K : Type 0} (s : sources.Ghosts S) (k : sinks.Ghosts K) (target : �
     no_frame = last;
     no_journals = all;
     sure_writes = λ room is. absurd (omega (arith, is, status));
+    sure_longest = λ room is. absurd (omega (arith, is, status));
     complete = λ none nothing. absurd (nothing.reading given.cause);
     complete_refusal = λ some nothing. absurd (nothing.reading given.cause);
   }
@@ -227,39 +251,37 @@ module _ {S K : Type 0} (s : sources.Ghosts S) (k : sinks.Ghosts K) (target : �
 module _ {S K : Type 0} (s : sources.Ghosts S) (k : sinks.Ghosts K) (source source' : S) (sink sink' : K) (r : Report) where
   -- nothing failed
   pub quiet_ends : r.status ≤ 5 → (r.status ≡ 2 → ⊥) → (r.status ≡ 3 → ⊥) → (r.status ≡ 4 → ⊥) → ((r.status ≡ 1 → ⊥) → (r.line ≡ 0) × (r.fault ≡ 0) × (r.rule ≡ 0))
-      → s.faults source' ≡ s.faults source → k.faults sink' ≡ k.faults sink → EndsEarly s k source source' sink sink' r
+      → s.faults source' ≡ s.faults source → k.faults sink' ≡ k.faults sink → Ends s k source source' sink sink' r
   quiet_ends known words no_read no_write place reads writes =
-      ends_by s k 1 source source' sink sink' r known words place (uncounted_in 3 _ _ r.status reads no_read) (uncounted_in 4 _ _ r.status writes no_write)
+      ends_of s k 1 source source' sink sink' r known words place (uncounted_in 3 _ _ r.status reads no_read) (uncounted_in 4 _ _ r.status writes no_write)
       (λ is. absurd (no_read is)) (λ sure is. no_read is)
 
-  pub way_read_fault_ends : r.status ≡ 3 → (r.line ≡ 0) × (r.fault ≡ 0) × (r.rule ≡ 0) → sink' ≡ sink → GivesReadFault s source source' → EndsEarly s k source source' sink sink' r
+  pub way_read_fault_ends : r.status ≡ 3 → (r.line ≡ 0) × (r.fault ≡ 0) × (r.rule ≡ 0) → sink' ≡ sink → GivesReadFault s source source' → Ends s k source source' sink sink' r
   way_read_fault_ends status place same given =
-      ends_by s k 1 source source' sink sink' r (omega (arith, status)) (λ is. omega (arith, is, status)) (λ no. place)
+      ends_of s k 1 source source' sink sink' r (omega (arith, status)) (λ is. omega (arith, is, status)) (λ no. place)
       (counted_in 3 _ _ r.status status given.later given.cause) (uncounted_in 4 _ _ r.status (ap k.faults same) (λ is. omega (arith, is, status)))
       (λ is. given.same_end) (λ sure is. given.fails sure)
 
-  pub way_cut_ends : (m : MapView) (target : ℕ) → r.status ≡ 4 → (r.line ≡ 0) × (r.fault ≡ 0) × (r.rule ≡ 0) → s.faults source' ≡ s.faults source → WritesCut k m target sink sink' → EndsEarly s k source source' sink sink' r
+  pub way_cut_ends : (m : MapView) (target : ℕ) → r.status ≡ 4 → (r.line ≡ 0) × (r.fault ≡ 0) × (r.rule ≡ 0) → s.faults source' ≡ s.faults source → WritesCut k m target sink sink' → Ends s k source source' sink sink' r
   way_cut_ends m target status place reads cuts =
-      ends_by s k 1 source source' sink sink' r (omega (arith, status)) (λ is. omega (arith, is, status)) (λ no. place)
+      ends_of s k 1 source source' sink sink' r (omega (arith, status)) (λ is. omega (arith, is, status)) (λ no. place)
       (uncounted_in 3 _ _ r.status reads (λ is. omega (arith, is, status))) (counted_in 4 _ _ r.status status cuts.later cuts.cause)
       (λ is. absurd (omega (arith, is, status))) (λ sure is. omega (arith, is, status))
 
   -- there is no way, for this reason
   pub no_way_ends : (fault : ℕ) → (fault ≡ 1) ⊎ (fault ≡ 2) → r.status ≡ 7 → (r.line ≡ 0) × (r.fault ≡ fault) × (r.rule ≡ 0) → s.faults source' ≡ s.faults source → k.faults sink' ≡ k.faults sink
-      → EndsEarly s k source source' sink sink' r
+      → Ends s k source source' sink sink' r
   no_way_ends fault which status place reads writes = record {
-    ends = record {
-      known = omega (arith, status);
-      place = λ no right. place.0;
-      rule = λ no. place.2;
-      fault = λ no found. absurd (found status);
-      no_way = λ is. subst (λ n. (n ≡ 1) ⊎ (n ≡ 2)) (sym place.1) which;
-      untouched = λ is. absurd (omega (arith, is, status));
-      no_frame = λ is. absurd (omega (arith, is, status));
-      no_journals = λ is. absurd (omega (arith, is, status));
-      reads = uncounted_in 3 _ _ r.status reads (λ is. omega (arith, is, status));
-      writes = uncounted_in 4 _ _ r.status writes (λ is. omega (arith, is, status));
-      sure_reads = λ sure is. omega (arith, is, status);
-    };
+    known = omega (arith, status);
+    place = λ no right. place.0;
+    rule = λ no. place.2;
+    fault = λ no found. absurd (found status);
+    no_way = λ is. subst (λ n. (n ≡ 1) ⊎ (n ≡ 2)) (sym place.1) which;
+    untouched = λ is. absurd (omega (arith, is, status));
+    no_frame = λ is. absurd (omega (arith, is, status));
+    no_journals = λ is. absurd (omega (arith, is, status));
+    reads = uncounted_in 3 _ _ r.status reads (λ is. omega (arith, is, status));
+    writes = uncounted_in 4 _ _ r.status writes (λ is. omega (arith, is, status));
+    sure_reads = λ sure is. omega (arith, is, status);
     before_end = λ is. absurd (omega (arith, is, status));
   }

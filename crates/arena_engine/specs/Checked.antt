@@ -9,6 +9,7 @@ use Rattle.transcript_check.specs.declared.verdict.Verdict.TheVariants.{Right, W
 use Rattle.transcript_check.specs.Verdicts.{IsJudged}
 use Rattle.arena_engine.specs.declared.checked.TheConstants.{MOST_CHECKED_FRAMES}
 use Rattle.arena_engine.specs.declared.report.Report.{Report}
+use Rattle.arena_engine.specs.declared.summary.TheConstants.{MOST_SUMMARY_BYTES}
 use Rattle.arena_engine.specs.Endings.{IsOrMemory}
 use Rattle.arena_engine.specs.Reports.{refusal_of}
 use Rattle.arena_engine.specs.Serving.{NothingFailed}
@@ -40,8 +41,8 @@ pub record IsChecked {S K : Type 0} (s : sources.Ghosts S) (k : sinks.Ghosts K) 
   -- no frame is run on workers: no journal is reported
   pub no_frame : r.last ≡ None
   pub no_journals : r.all ≡ []
-  -- no write fails where there is room
-  pub sure_writes : 300 ≤ k.room sink → r.status ≡ 4 → ⊥
+  -- no write fails where there is room for the longest line
+  pub sure_writes : MOST_SUMMARY_BYTES ≤ k.room sink → r.status ≡ 4 → ⊥
   -- where nothing failed, what follows a recording without a fault was judged, unless memory was refused
   pub complete : IsSomeAnd (s.left source) (λ bytes. fault_within MOST_CHECKED_FRAMES bytes ≡ None)
       → NothingFailed (s.faults source) (s.faults source') (k.faults sink) (k.faults sink')

@@ -13,7 +13,7 @@ use Rattle.demo_lines.specs.declared.event.Event.TheVariants.{Frame, From, End}
 use Rattle.out_text.specs.OutLines.{OutLine, EndLine}
 use Rattle.out_text.specs.FrameLines.{given_lines, lines_with}
 use Rattle.packet_read.specs.Orders.{in_order, AreEachOnce}
-use Rattle.out_text.specs.Feeds.{IsFeedOf, with_froms}
+use Rattle.out_text.specs.Feeds.{IsFeedOf, RiseByParity, with_froms}
 use Rattle.playback.specs.Playbacks.{Course, PlaybackView, new_course, RunsFrame}
 use Rattle.arena_engine.specs.Games.{newest, lines_if}
 
@@ -49,10 +49,11 @@ order_if c = option_map (λ (x : Closing). x.order) c
 abbrev pub journal_if : Option Closing → Option (List Entry)
 journal_if c = option_map (λ (x : Closing). x.journal) c
 
--- the frame's packets arrived in this order, each once and those of each port as they were sent, and the frame was run
--- with it
+-- the frame's packets arrived in this order, each once, those of even ports and those of odd ports as they were sent, and
+-- so those of each port, and the frame was run with it
 pub record RunsFed (workers : ℕ) (old new : ServerView) (arrivals : List Arrival) (c : Closing) : Type 0 where
   pub places : AreEachOnce (length arrivals) c.order
+  pub rising : RiseByParity arrivals c.order
   pub feed : IsFeedOf arrivals (in_order c.order arrivals)
   pub runs : RunsFrame workers old new (in_order c.order arrivals) c.journal
 
@@ -141,9 +142,11 @@ IsFedReady g End = MayCloseFed g
 
 -- ---- how a frame's packets are handed to the playback
 
--- the packets were handed over in this order, those of each port as they were sent
+-- the packets were handed over in this order, those of even ports and those of odd ports as they were sent, and so those of
+-- each port
 pub record HandsPackets (arrivals : List Arrival) (old new : Course) (fed : List Arrival) (order : List ℕ) : Type 0 where
   pub places : AreEachOnce (length arrivals) order
+  pub rising : RiseByParity arrivals order
   pub feed : IsFeedOf arrivals (in_order order arrivals)
   pub few : length (in_order order arrivals) ≤ length arrivals
   pub fed_is : fed ≡ in_order order arrivals

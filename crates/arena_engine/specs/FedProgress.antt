@@ -19,7 +19,8 @@ use Rattle.out_text.proofs.Fronts.{AreRun}
 use Rattle.out_text.proofs.FedFronts.{fed_text_with}
 use Rattle.arena_engine.specs.declared.stop.Stop.{Stop}
 use Rattle.arena_engine.specs.FedGames.{FedView, Last, none_handed}
-use Rattle.arena_engine.specs.FedPlayEnds.{FedPlaysTo}
+use Rattle.arena_engine.specs.Texts.{feed_texts}
+use Rattle.arena_engine.specs.PlayEnds.{PlaysTo}
 use Rattle.arena_engine.specs.Progress.{IsServerAt, ReadsAsNeeded}
 
 -- the order of arrival and the journal are those of the last frame
@@ -83,4 +84,4 @@ abbrev pub FeedsOn : {S K : Type 0} → sources.Ghosts S → sinks.Ghosts K → 
     → Event → Last → Result Unit Stop → Type 0
 FeedsOn {S} {K} s k workers source source' sink sink' demo game event last ended =
     (first_source : S) (first_sink : K) → IsFedNext s k workers first_source source first_sink sink demo game event
-    → FedPlaysTo s k workers first_source source' first_sink sink' last ended
+    → PlaysTo s k (feed_texts workers) first_source source' first_sink sink' last ended

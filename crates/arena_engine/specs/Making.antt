@@ -11,6 +11,7 @@ use Rattle.demo_make.specs.ResentFrames.{resent_text}
 use Rattle.move_journal.specs.Logs.{JournalView}
 use Rattle.match_play.specs.Matches.{AreRightSoFar, AreInOrderSoFar, match_totals, entries_of}
 use Rattle.arena_engine.specs.declared.report.Report.{Report}
+use Rattle.arena_engine.specs.declared.summary.TheConstants.{MOST_SUMMARY_BYTES}
 use Rattle.arena_engine.specs.Endings.{IsOrMemory}
 use Rattle.arena_engine.specs.Summaries.{summary_text}
 
@@ -85,6 +86,6 @@ pub record IsMatched {K : Type 0} (k : sinks.Ghosts K) (seed players frames work
   -- the report names nothing of a recording that was read
   pub bare : IsBare r
   -- no write fails where there is room for the longest line
-  pub sure : 300 ≤ k.room old → r.status ≡ 4 → ⊥
+  pub sure : MOST_SUMMARY_BYTES ≤ k.room old → r.status ≡ 4 → ⊥
   -- where no write failed it was played, unless memory was refused
   pub complete : (HasRisen (k.faults old) (k.faults new) → ⊥) → IsOrMemory r.status 0

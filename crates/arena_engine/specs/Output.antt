@@ -3,6 +3,7 @@ use Rattle.std.specs.Prelude.{◌≡◌, ℕ, ◌≤◌, ◌⊎◌, false, List,
 use Rattle.std.specs.List.{AllByRecursion}
 use Rattle.std.specs.Io.KnownBytes.{Appends, Consumes}
 use Rattle.entity_recs.specs.declared.effect.Entry.{Entry}
+use Rattle.packet_read.specs.declared.arrival.Arrival.{Arrival}
 use Rattle.edge_io.specs.declared.line_reader.TheConstants.{LONGEST}
 use Rattle.edge_io.specs.Lines.{HasNoLineFeed, HasNotReadAhead, ahead}
 use Rattle.edge_io.specs.WholeLines.{all_but_last, unlines}
@@ -12,7 +13,8 @@ use Rattle.demo_lines.specs.Recording.{after}
 use Rattle.demo_lines.specs.Reads.{IsTextOf, TakesCutEnd, IsRefusedLine, IsLongFront, IsLastPart}
 use Rattle.demo_lines.specs.Bytes.{map_of}
 use Rattle.out_text.specs.Collecting.{frames_of}
-use Rattle.out_text.specs.Output.{AreRightIn, AreInOrderIn, out_text, HasLast, IsAllFrames}
+use Rattle.out_text.specs.Output.{AreRightIn, AreInOrderIn, out_text}
+use Rattle.out_text.specs.Feeds.{AreFeedsOf, fed_output}
 
 -- something was written, and P of it
 pub record Writes (old new : Option (List ℕ)) (P : List ℕ → Type 0) : Type 0 where
@@ -21,10 +23,9 @@ pub record Writes (old new : Option (List ℕ)) (P : List ℕ → Type 0) : Type
   pub holds : P text
 
 -- lines with their line feeds and the front of one more were taken from the source, which the recording still goes on
--- to, and the frames are written that those lines close, the last of which has the journal `last`: the front closes
--- none, also where it reads `end`
-pub record ReadsSome (workers : ℕ) (old new : Option (List ℕ)) (taken_before taken : Option (List ℕ))
-    (last : Option (List Entry)) : Type 0 where
+-- to, and such a text was written of the frames that those lines close: the front closes none, also where it reads `end`
+pub record ReadsSome (Is : List ℕ → List ℕ → Type 0) (old new : Option (List ℕ)) (taken_before taken : Option (List ℕ))
+    : Type 0 where
   pub lines : List (List ℕ)
   pub front : List ℕ
   pub each : AllByRecursion HasNoLineFeed lines
@@ -32,7 +33,7 @@ pub record ReadsSome (workers : ℕ) (old new : Option (List ℕ)) (taken_before
   pub fits : length front ≤ LONGEST
   pub going : is_over (after start lines).stage ≡ false
   pub consumed : Consumes old new (unlines lines ++ front)
-  pub frames : Writes taken_before taken (HasLast (IsAllFrames workers (unlines lines)) last)
+  pub frames : Writes taken_before taken (Is (unlines lines))
 
 -- the lines of a recording were taken from the source up to its line `end`, each with its line feed, but for an `end`
 -- that the input ends with. No more was read than the last read had to give and the input's end wasn't given in this
@@ -71,3 +72,10 @@ abbrev pub HasRoom : ℕ → List ℕ → ℕ → Type 0
 HasRoom workers bytes room =
     (journals : List (List Entry)) → AreRightIn (map_of bytes) (frames_of bytes) journals
     → (workers ≡ 1 → AreInOrderIn (map_of bytes) (frames_of bytes) journals) → length (out_text bytes journals) ≤ room
+
+-- one with so much room can, where the packets are fed, in whichever order they arrive
+abbrev pub HasFedRoom : ℕ → List ℕ → ℕ → Type 0
+HasFedRoom workers bytes room =
+    (feeds : List (List Arrival)) (journals : List (List Entry)) → AreFeedsOf (frames_of bytes) feeds
+    → AreRightIn (map_of bytes) feeds journals → (workers ≡ 1 → AreInOrderIn (map_of bytes) feeds journals)
+    → length (fed_output bytes feeds journals) ≤ room

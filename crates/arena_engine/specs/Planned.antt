@@ -6,6 +6,7 @@ use Rattle.edge_io.specs.Writes.{AppendsPart}
 use Rattle.arena_map.specs.Maps.{MapView, IsMap}
 use Rattle.demo_lines.specs.Bytes.{fault, map_of}
 use Rattle.bot_ways.specs.declared.plan.Plan.{Plan}
+use Rattle.bot_ways.specs.declared.writing.TheConstants.{MOST_PLAN_BYTES}
 use Rattle.bot_ways.specs.Walks.{IsUnreached}
 use Rattle.bot_ways.specs.Ways.{IsCertificate}
 use Rattle.bot_ways.specs.PlanTexts.{IsPlanTo, least_line, plan_text}
@@ -28,6 +29,7 @@ pub record ShowsWay (m : MapView) (target : ℕ) (text : List ℕ) : Type 0 wher
 -- the text is the line of the least lengths of the map, and no walk leads to this waypoint, which is there
 pub record ShowsNoWay (m : MapView) (target : ℕ) (text : List ℕ) : Type 0 where
   pub least : List (Option ℕ)
+  pub is_map : IsMap m
   pub there : target < length m.spawns
   pub certificate : IsCertificate m least
   pub none : IsUnreached m target
@@ -87,9 +89,11 @@ pub record IsPlanned {S K : Type 0} (s : sources.Ghosts S) (k : sinks.Ghosts K) 
   pub no_frame : r.last ≡ None
   -- journals of all frames are kept for `match` alone
   pub no_journals : r.all ≡ []
-  -- no write fails where there is room
+  -- no write fails where there is room for what is to be written of the map
   pub sure_writes : IsSomeAnd (s.left source) (λ bytes. IsSomeAnd (map_of bytes) (HasRoomForWays (k.room sink) target))
       → r.status ≡ 4 → ⊥
+  -- nor where there is room for the longest text
+  pub sure_longest : MOST_PLAN_BYTES ≤ k.room sink → r.status ≡ 4 → ⊥
   -- where nothing failed, a recording without a fault had its ways planned, unless memory was refused
   pub complete : IsSomeAnd (s.left source) (λ bytes. fault bytes ≡ None)
       → NothingFailed (s.faults source) (s.faults source') (k.faults sink) (k.faults sink')

@@ -21,6 +21,7 @@ use Rattle.out_text.specs.Output.{last_of}
 use Rattle.out_text.proofs.Fronts.{AreRun, text_with}
 use Rattle.arena_engine.specs.declared.stop.Stop.{Stop}
 use Rattle.arena_engine.specs.Games.{GameView}
+use Rattle.arena_engine.specs.Texts.{play_texts, unfed}
 use Rattle.arena_engine.specs.PlayEnds.{PlaysTo}
 
 -- the server is that of an arena after these frames, with these journals
@@ -87,4 +88,4 @@ abbrev pub PlaysOn : {S K : Type 0} → sources.Ghosts S → sinks.Ghosts K → 
     → Event → Option (List Entry) → Result Unit Stop → Type 0
 PlaysOn {S} {K} s k workers source source' sink sink' demo game event last ended =
     (first_source : S) (first_sink : K) → IsNext s k workers first_source source first_sink sink demo game event
-    → PlaysTo s k workers first_source source' first_sink sink' last ended
+    → PlaysTo s k (play_texts workers) first_source source' first_sink sink' (unfed last) ended

@@ -6,8 +6,7 @@ use Rattle.arena_engine.specs.declared.command.Command.{Command}
 use Rattle.arena_engine.specs.declared.command.Command.TheVariants.{Play, Feed, Make, Resend, Match, Bots, Check}
 use Rattle.arena_engine.specs.declared.report.Report.{Report}
 use Rattle.arena_engine.specs.Making.{IsMade, IsResent, IsMatched}
-use Rattle.arena_engine.specs.Played.{IsPlayed}
-use Rattle.arena_engine.specs.Fed.{IsFed}
+use Rattle.arena_engine.specs.Played.{IsPlayed, IsFed}
 use Rattle.arena_engine.specs.Planned.{IsPlanned}
 use Rattle.arena_engine.specs.Checked.{IsChecked}
 

@@ -1,6 +1,6 @@
 ghost use Rattle.std.specs.Prelude.{◌≡◌, None, IfOk, IfErr};
 ghost use Rattle.demo_lines.specs.Reads.{fresh_reader};
-ghost use Rattle.arena_engine.specs.Endings.{EndsEarly};
+ghost use Rattle.arena_engine.specs.Endings.{Ends};
 ghost use Rattle.arena_engine.specs.MapReads.{GivesMap, GivesStop, WritesWays, WritesStop};
 ghost use Rattle.arena_engine.specs.Planned.{IsPlanned};
 
@@ -69,7 +69,7 @@ pub fn plan_recording<S: Source, K: Sink>(
     sink: &mut K,
 ) -> Report
     ensures planned { IsPlanned S.Source K.Sink target source.old source.new sink.old sink.new result }
-    ensures ends { EndsEarly S.Source K.Sink source.old source.new sink.old sink.new result }
+    ensures ends { Ends S.Source K.Sink source.old source.new sink.old sink.new result }
     ensures served { result.status ≡ 2 → ⊥ }
     ensures orderless { result.order ≡ None }
 {

@@ -2,6 +2,7 @@ ghost use Rattle.std.specs.Prelude.{◌≡◌, ◌≤◌, ◌⊎◌, [], IfOk, I
 ghost use Rattle.std.specs.Io.KnownBytes.{Appends};
 ghost use Rattle.edge_io.specs.Writes.{AppendsPart};
 ghost use Rattle.transcript_check.specs.Verdicts.{Judges, StopsChecking};
+ghost use Rattle.arena_engine.specs.declared.summary.TheConstants.{MOST_SUMMARY_BYTES};
 ghost use Rattle.arena_engine.specs.Checked.{IsChecked};
 ghost use Rattle.arena_engine.specs.Endings.{Counts, Ends};
 ghost use Rattle.arena_engine.specs.Making.{IsBare};
@@ -40,7 +41,7 @@ fn write_right<K: Sink>(
     ensures done { result.status ≡ 0 → Appends (K.taken sink.old) (K.taken sink.new) (right_text frames moves) }
     ensures cut { result.status ≡ 4 → AppendsPart (K.taken sink.old) (K.taken sink.new) (right_text frames moves) }
     ensures counts { Counts 4 (K.faults sink.old) (K.faults sink.new) result.status }
-    ensures sure { 300 ≤ K.room sink.old → result.status ≡ 4 → ⊥ }
+    ensures sure { MOST_SUMMARY_BYTES ≤ K.room sink.old → result.status ≡ 4 → ⊥ }
     ensures bare { IsBare result }
     ensures order { result.order ≡ None }
     ensures all { result.all ≡ [] }

@@ -4,6 +4,7 @@ ghost use Rattle.arena_engine.specs.declared.command.Command.{Command};
 
 use crate::numbers::{number, number_up_to};
 use arena_map::MOST_FRAMES;
+use entity_recs::SLOTS;
 use match_play::MOST_MATCH_FRAMES;
 
 /// The most workers.
@@ -13,7 +14,7 @@ const MOST_WORKERS: u32 = 16;
 const LAST_SPAWN: u64 = 63;
 
 /// The most players of a recording that is made.
-const MOST_PLAYERS: u32 = 64;
+const MOST_PLAYERS: u32 = SLOTS as u32;
 
 /// What the program is asked for.
 #[derive(Clone, Copy, Debug, PartialEq, Eq)]

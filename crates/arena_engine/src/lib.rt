@@ -3,7 +3,6 @@
 
 ghost use Rattle.std.specs.Prelude.{◌≡◌, ◌↔◌, None};
 ghost use Rattle.arena_engine.specs.declared.command.Command.{Command};
-ghost use Rattle.arena_engine.specs.declared.command.Command.TheVariants.{Check};
 ghost use Rattle.arena_engine.specs.Endings.{Ends};
 ghost use Rattle.arena_engine.specs.Served.{IsServed, HasNoOrder};
 ghost use Rattle.arena_engine.specs.Serving.{AskFor, AskForNothing};
@@ -16,6 +15,7 @@ use shared_moves::Gate;
 use std::alloc::Global;
 use std::sync::Wait;
 use std::thread::Threads;
+pub use summary::MOST_SUMMARY_BYTES;
 
 mod bots;
 mod checked;
@@ -23,7 +23,6 @@ mod command;
 mod fed_game;
 mod fed_printing;
 mod feed;
-mod feeding;
 mod game;
 mod made;
 mod matched;
@@ -93,8 +92,6 @@ pub fn serve<R: Threads + Wait + Sync, S: Source, K: Sink, G: Gate>(
     ensures words { (result.status ≡ 2) ↔ AskForNothing words.now }
     // What holds of every command.
     ensures ends { Ends S.Source K.Sink source.old source.new sink.old sink.new result }
-    // Where a read failed, it was before the input's end, but for `check`, which reads on after a recording.
-    ensures before_end { (AskFor words.now Check → ⊥) → result.status ≡ 3 → S.ended source.new ≡ S.ended source.old }
 {
     perform(rt, alloc, command_of(words), source, sink, gate)
 }

@@ -2,6 +2,7 @@ ghost use Rattle.std.specs.Prelude.{◌≡◌, ◌≤◌, None, [], IsOk, IsOkAn
 ghost use Rattle.std.specs.Io.KnownBytes.{Appends};
 ghost use Rattle.edge_io.specs.Writes.{AppendsPart};
 ghost use Rattle.match_play.specs.Matches.{IsMatch};
+ghost use Rattle.arena_engine.specs.declared.summary.TheConstants.{MOST_SUMMARY_BYTES};
 ghost use Rattle.arena_engine.specs.Endings.{Counts};
 ghost use Rattle.arena_engine.specs.Making.{IsOfWriting, IsBare, IsMatched};
 ghost use Rattle.arena_engine.specs.Summaries.{summary_text};
@@ -37,7 +38,7 @@ fn sum_up<K: Sink>(
     ensures whole { (result.status ≡ 5 → ⊥) → IsOk ended }
     ensures counts { Counts 4 (K.faults sink.old) (K.faults sink.new) result.status }
     ensures orderless { result.order ≡ None }
-    ensures sure { 300 ≤ K.room sink.old → result.status ≡ 4 → ⊥ }
+    ensures sure { MOST_SUMMARY_BYTES ≤ K.room sink.old → result.status ≡ 4 → ⊥ }
 {
     let all = game.into_journals();
     let Ok(totals) = ended else {

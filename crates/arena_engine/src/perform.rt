@@ -1,5 +1,4 @@
-ghost use Rattle.std.specs.Prelude.{◌≡◌, ◌↔◌, IfSome, None, Some};
-ghost use Rattle.arena_engine.specs.declared.command.Command.TheVariants.{Check};
+ghost use Rattle.std.specs.Prelude.{◌≡◌, ◌↔◌, IfSome, None};
 ghost use Rattle.arena_engine.specs.Commands.{HasRanges};
 ghost use Rattle.arena_engine.specs.Endings.{Ends};
 ghost use Rattle.arena_engine.specs.Served.{IsServed, HasNoOrder};
@@ -8,10 +7,9 @@ ghost use Rattle.move_phase.specs.Serving.{AreWorkers};
 use crate::bots::plan_recording;
 use crate::checked::check_transcript;
 use crate::command::Command;
-use crate::feeding::feed_recording;
 use crate::made::{write_made, write_resent};
 use crate::matched::play_and_sum;
-use crate::recording::play_recording;
+use crate::recording::{feed_recording, play_recording};
 use crate::report::Report;
 use edge_io::{Sink, Source};
 use playback::Host;
@@ -53,7 +51,6 @@ pub fn perform<R: Threads + Wait + Sync, S: Source, K: Sink, G: Gate>(
     ensures no_order { result.status ≡ 2 → result.order ≡ None }
     ensures words { (result.status ≡ 2) ↔ (command ≡ None) }
     ensures ends { Ends S.Source K.Sink source.old source.new sink.old sink.new result }
-    ensures before_end { (command ≡ Some Check → ⊥) → result.status ≡ 3 → S.ended source.new ≡ S.ended source.old }
 {
     match command {
         None => Report::unserved(alloc, 2),

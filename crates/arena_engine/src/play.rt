@@ -1,6 +1,8 @@
-ghost use Rattle.playback.specs.Playbacks.{entries_if};
+ghost use Rattle.std.specs.Prelude.{◌≡◌, None};
 ghost use Rattle.arena_engine.specs.PlayEnds.{PlaysTo};
 ghost use Rattle.arena_engine.specs.Progress.{MayGoOn, PlaysOn};
+ghost use Rattle.arena_engine.specs.Reports.{last_of};
+ghost use Rattle.arena_engine.specs.Texts.{play_texts};
 
 use crate::game::{Game, is_end};
 use crate::played::Played;
@@ -43,8 +45,9 @@ pub fn play<R: Threads + Wait + Sync, S: Source, K: Sink, G: Gate>(
     source: &mut S,
     sink: &mut K,
 ) -> Played
-    ensures { PlaysTo S.Source K.Sink host.now.workers source.old source.new sink.old sink.new (entries_if result.last)
-        result.ended }
+    ensures played { PlaysTo S.Source K.Sink (play_texts host.now.workers) source.old source.new sink.old sink.new
+        (last_of result) result.ended }
+    ensures orderless { result.order ≡ None }
 {
     let mut demo = match DemoReader::new(host.alloc) {
         Ok(demo) => demo,

@@ -1,8 +1,7 @@
-ghost use Rattle.std.specs.Prelude.{◌≡◌, None};
-ghost use Rattle.playback.specs.Playbacks.{entries_if};
-
+use crate::fed_game::FedGame;
 use crate::game::Game;
 use crate::stop::Stop;
+use feed_queue::PlaceList;
 use move_journal::Journal;
 
 /// How the playing of a recording ended.
@@ -12,17 +11,25 @@ pub struct Played {
     pub ended: Result<(), Stop>,
     /// The journal of the last frame that was run, if one was.
     pub last: Option<Journal>,
+    /// The order of arrival of its packets, where client threads sent them.
+    pub order: Option<PlaceList>,
 }
 
 impl Played {
+    ghost use Rattle.std.specs.Prelude.{◌≡◌, Err, None};
+    ghost use Rattle.playback.specs.Playbacks.{entries_if};
+    ghost use Rattle.arena_engine.specs.Reports.{last_of};
+
     /// It stopped before there was a game.
     pub fn before_frames(stop: Stop) -> Played
         ensures ended { result.ended ≡ Err stop }
         ensures last { entries_if result.last ≡ None }
+        ensures order { result.order ≡ None }
     {
         Played {
             ended: Err(stop),
             last: None,
+            order: None,
         }
     }
 
@@ -30,10 +37,21 @@ impl Played {
     pub fn with_game(game: Game, ended: Result<(), Stop>) -> Played
         ensures ended { result.ended ≡ ended }
         ensures last { entries_if result.last ≡ game.last }
+        ensures order { result.order ≡ None }
     {
         Played {
             ended,
             last: game.into_journal(),
+            order: None,
         }
+    }
+
+    /// It ended so, with this game whose packets client threads sent.
+    pub fn with_fed_game(game: FedGame, ended: Result<(), Stop>) -> Played
+        ensures ended { result.ended ≡ ended }
+        ensures last { last_of result ≡ game.last }
+    {
+        let (order, last) = game.into_last();
+        Played { ended, last, order }
     }
 }

@@ -1,7 +1,9 @@
 ghost use Rattle.std.specs.Prelude.{◌≡◌, None};
-ghost use Rattle.arena_engine.specs.Endings.{EndsEarly};
-ghost use Rattle.arena_engine.specs.Played.{IsPlayed};
+ghost use Rattle.arena_engine.specs.Endings.{Ends};
+ghost use Rattle.arena_engine.specs.Played.{IsPlayed, IsFed};
+ghost use Rattle.arena_engine.specs.Reports.{IsReportOf};
 
+use crate::feed::feed;
 use crate::play::play;
 use crate::played::Played;
 use crate::report::Report;
@@ -10,8 +12,27 @@ use edge_io::{Sink, Source};
 use move_journal::JournalList;
 use playback::Host;
 use shared_moves::Gate;
+use std::alloc::Global;
 use std::sync::Wait;
 use std::thread::Threads;
+
+/// The report of a recording whose playing ended so.
+fn report_of(alloc: Global, played: Played) -> Report
+    ensures report { IsReportOf played result }
+    ensures served { result.status ≡ 2 → ⊥ }
+{
+    let all = JournalList::new(alloc);
+    let Played { ended, last, order } = played;
+    match ended {
+        Ok(()) => Report::of_status(0, last, all).with_order(order),
+        Err(Stop::Refused { line, fault, rule }) => {
+            Report::of_refusal(line, fault, rule, last, all).with_order(order)
+        }
+        Err(Stop::ReadFault) => Report::of_status(3, last, all).with_order(order),
+        Err(Stop::WriteFault) => Report::of_status(4, last, all).with_order(order),
+        Err(Stop::Memory) => Report::of_status(5, last, all).with_order(order),
+    }
+}
 
 /// Plays a recording from the source on these workers, and writes its output to the sink. The report has how that
 /// ended.
@@ -21,19 +42,24 @@ pub fn play_recording<R: Threads + Wait + Sync, S: Source, K: Sink, G: Gate>(
     sink: &mut K,
 ) -> Report
     ensures played { IsPlayed S.Source K.Sink host.now.workers source.old source.new sink.old sink.new result }
-    ensures ends { EndsEarly S.Source K.Sink source.old source.new sink.old sink.new result }
+    ensures ends { Ends S.Source K.Sink source.old source.new sink.old sink.new result }
     ensures served { result.status ≡ 2 → ⊥ }
     ensures orderless { result.order ≡ None }
 {
-    let all = JournalList::new(host.alloc);
-    let Played { ended, last } = play(host, source, sink);
-    match ended {
-        Ok(()) => Report::of_status(0, last, all),
-        Err(Stop::Refused { line, fault, rule }) => {
-            Report::of_refusal(line, fault, rule, last, all)
-        }
-        Err(Stop::ReadFault) => Report::of_status(3, last, all),
-        Err(Stop::WriteFault) => Report::of_status(4, last, all),
-        Err(Stop::Memory) => Report::of_status(5, last, all),
-    }
+    let played = play(host, source, sink);
+    report_of(host.alloc, played)
+}
+
+/// Plays a recording whose packets client threads send, in the same way.
+pub fn feed_recording<R: Threads + Wait + Sync, S: Source, K: Sink, G: Gate>(
+    host: &Host<R, G>,
+    source: &mut S,
+    sink: &mut K,
+) -> Report
+    ensures fed { IsFed S.Source K.Sink host.now.workers source.old source.new sink.old sink.new result }
+    ensures ends { Ends S.Source K.Sink source.old source.new sink.old sink.new result }
+    ensures served { result.status ≡ 2 → ⊥ }
+{
+    let fed = feed(host, source, sink);
+    report_of(host.alloc, fed)
 }

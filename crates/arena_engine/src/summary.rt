@@ -6,6 +6,9 @@ use edge_io::LineBuf;
 use itoa::Buffer;
 use match_play::Totals;
 
+/// The most bytes of the line of a match or of a right transcript, with its line feed.
+pub const MOST_SUMMARY_BYTES: usize = 300;
+
 /// Puts a name and its number last.
 fn push_count(line: &mut LineBuf, name: &str, count: u64)
     requires { length line.old + length name.now + 40 ≤ ROOM }
@@ -20,7 +23,7 @@ fn push_count(line: &mut LineBuf, name: &str, count: u64)
 pub fn push_summary(totals: &Totals, line: &mut LineBuf)
     requires { line.old ≡ [] }
     ensures text { line.new ≡ summary_text totals.now }
-    ensures short { length line.new ≤ 300 }
+    ensures short { length line.new ≤ MOST_SUMMARY_BYTES }
 {
     push_count(line, "frames ", u64::from(totals.frames));
     push_count(line, " joins ", u64::from(totals.joins));
@@ -35,7 +38,7 @@ pub fn push_summary(totals: &Totals, line: &mut LineBuf)
 pub fn push_right(frames: u32, moves: u64, line: &mut LineBuf)
     requires { line.old ≡ [] }
     ensures text { line.new ≡ right_text frames moves }
-    ensures short { length line.new ≤ 300 }
+    ensures short { length line.new ≤ MOST_SUMMARY_BYTES }
 {
     push_count(line, "right frames ", u64::from(frames));
     push_count(line, " moves ", moves);

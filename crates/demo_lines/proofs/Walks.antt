@@ -173,7 +173,7 @@ end_event-by true fault line e is given = cc
 end_event-by false (Some why) line e is given = cc
 end_event-by false None line e is given = sym (one_event events.End e (ap event_of (sym is) ∙ given))
 
-end_event : (s : Reading) (line : List ℕ) (e : Event) → is_end line ≡ true → events_of_line s line ≡ e ∷ [] → e ≡ events.End
+pub end_event : (s : Reading) (line : List ℕ) (e : Event) → is_end line ≡ true → events_of_line s line ≡ e ∷ [] → e ≡ events.End
 end_event s line e end given = end_event-by (is_over s.stage) (fault_of s false line) (line_in line) e (end_says line end) given
 
 pub last_needed : (result : Result Event DemoStop) (r s : Reading) (a b c : Option (List ℕ)) (line pending : List ℕ) (P Q : Type 0) → Walks r s a b → GivesLastPart b c line pending

@@ -1,14 +1,14 @@
 -- What follows a recording, line by line. A line feed is the byte 10.
-use Rattle.std.specs.Prelude.{◌≡◌, ℕ, ◌≤◌, false, List, [], ◌∷◌, ◌++◌, length, Option, None}
-use Rattle.std.specs.Io.KnownBytes.{Consumes}
+use Rattle.std.specs.Prelude.{◌≡◌, ℕ, ◌≤◌, true, List, [], ◌∷◌, ◌++◌, length, Option, None}
+use Rattle.std.specs.Io.KnownBytes.{Consumes, IsAtEnd}
 use Rattle.edge_io.specs.Lines.{HasNoLineFeed}
 use Rattle.demo_lines.specs.declared.rest.TheConstants.{LONGEST_REST}
 use Rattle.demo_lines.specs.Reads.{DemoReaderView}
 
--- the reader hasn't been told yet that no line follows, and no read has failed
-pub record HasRest (demo : DemoReaderView) : Type 0 where
+-- no read has failed, and where the reader was told that no line follows, the input ended with the recording
+pub record HasRest (demo : DemoReaderView) (ahead : Option (List ℕ)) : Type 0 where
   pub no_stop : demo.stop ≡ None
-  pub not_cut : demo.cut ≡ false
+  pub at_end : demo.cut ≡ true → IsAtEnd ahead
 
 -- a line and its line feed were taken off what was ahead, and the line isn't too long
 pub record GivesRestLine (old new : Option (List ℕ)) (line : List ℕ) : Type 0 where

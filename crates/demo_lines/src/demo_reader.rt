@@ -1,5 +1,6 @@
 ghost use Rattle.std.specs.Prelude.{◌≡◌, ◌⊎◌, ◌+◌, ◌^◌, ◌≤◌, ◌<◌, true, false, [], ◌∷◌, length, option_to_list, Ok};
 ghost use Rattle.std.specs.Prelude.{Err, None, IfOk, IfErr, OnOk, OnErr, IfSome};
+ghost use Rattle.std.specs.Io.KnownBytes.{IsAtEnd};
 ghost use Rattle.edge_io.specs.Counts.{HasRisen};
 ghost use Rattle.edge_io.specs.Lines.{ahead, HasNotReadAhead};
 ghost use Rattle.demo_lines.specs.Known.{is_over, is_refused};
@@ -32,7 +33,7 @@ pub struct DemoReader {
     line: LineBuf,
     reading: Reading,
     stop: Option<DemoStop>,
-    /// `rest` has answered false.
+    /// No line follows the recording: the input ended with its `end`, or `rest` has answered false.
     is_cut: bool,
 }
 
@@ -112,12 +113,13 @@ fn take_last(alloc: Global, reading: &mut Reading, line: &[u8]) -> Result<Event,
     }
 }
 
-/// Takes lines up to the first that gives an event.
+/// Takes lines up to the first that gives an event, and says whether the input ended with that line.
 fn next_event<S: Source>(
     alloc: Global,
     lines: &mut LineReader,
     line: &mut LineBuf,
     reading: &mut Reading,
+    is_cut: &mut bool,
     source: &mut S,
 ) -> Result<Event, DemoStop>
     requires reading { IsReading reading.old }
@@ -133,6 +135,9 @@ fn next_event<S: Source>(
         × (S.ended source.new ≡ S.ended source.old))
         ⊎ ((e ≡ Event.End) × TakesCutEnd (ahead lines.old (S.left source.old)) (ahead lines.new (S.left source.new))
         × (S.ended source.new ≡ true))) }
+    ensures cut { IfOk result (λ e. ((is_cut.new ≡ is_cut.old) × (S.ended source.new ≡ S.ended source.old))
+        ⊎ ((e ≡ Event.End) × (is_cut.new ≡ true) × IsAtEnd (ahead lines.new (S.left source.new)))) }
+    ensures cut_kept { OnErr result (is_cut.new ≡ is_cut.old) }
 
     // A refusal.
     ensures refused { IfErr result (λ stop. OnRefused stop (λ why.
@@ -171,7 +176,11 @@ fn next_event<S: Source>(
                 }
             }
             Ok(NextLine::Long) => return Err(refused_after(reading, LineFault::Long)),
-            Ok(NextLine::Ended) => return take_last(alloc, reading, line.as_slice()),
+            Ok(NextLine::Ended) => {
+                let event = take_last(alloc, reading, line.as_slice())?;
+                *is_cut = true;
+                return Ok(event);
+            }
             Err(_) => return Err(DemoStop::ReadFault),
         }
     }
@@ -181,6 +190,7 @@ impl DemoReader {
     ghost use Rattle.std.specs.Prelude.{◌≡◌, ◌⊎◌, ◌≤◌, ◌<◌, true, false, not, [], ◌∷◌, Ok, Err, None, Some, IfOk, IfErr};
     ghost use Rattle.std.specs.Prelude.{OnOk, OnErr, IfSome, IsOk};
     ghost use Rattle.std.specs.Bool.{OnTrue, OnFalse};
+    ghost use Rattle.std.specs.Io.KnownBytes.{IsAtEnd};
     ghost use Rattle.edge_io.specs.Counts.{HasRisen};
     ghost use Rattle.edge_io.specs.Lines.{ahead, HasNotReadAhead};
     ghost use Rattle.demo_lines.specs.Known.{is_map_whole, is_refused};
@@ -285,7 +295,11 @@ impl DemoReader {
 
         // What the reader keeps.
         ensures map { OnOk result (KeepsMap self.old.reading self.new.reading) }
-        ensures cut { self.new.cut ≡ self.old.cut }
+        ensures cut { IsOpen self.old → IfOk result (λ e.
+            ((self.new.cut ≡ self.old.cut) × (S.ended source.new ≡ S.ended source.old))
+            ⊎ ((e ≡ Event.End) × (self.new.cut ≡ true)
+            × IsAtEnd (ahead self.new.pending (S.left source.new)))) }
+        ensures cut_kept { OnErr result (self.new.cut ≡ self.old.cut) }
         ensures ok { OnOk result (self.new.stop ≡ None) }
         ensures err { IfErr result (λ stop. self.new.stop ≡ Some stop) }
         ensures stopped { IfSome self.old.stop (λ stop.
@@ -305,6 +319,7 @@ impl DemoReader {
             &mut self.lines,
             &mut self.line,
             &mut self.reading,
+            &mut self.is_cut,
             source,
         );
         self.stop = result.as_ref().err().copied();
@@ -315,22 +330,29 @@ impl DemoReader {
     /// where [`next`](Self::next) has given [`Event::End`], with the same source.
     ///
     /// `false` exactly where the input ends before a line feed, or the line has more than [`LONGEST_REST`] bytes; each
-    /// later call then gives `false` again and reads nothing. [`DemoStop::ReadFault`] first comes only where the source's
+    /// later call then gives `false` again and reads nothing. Where the input ended with the recording, the first call
+    /// does so too. [`DemoStop::ReadFault`] first comes only where the source's
     /// count of faults rose, and the count rises nowhere else; each later call then gives it again. It takes no memory.
     pub fn rest<S: Source>(&mut self, source: &mut S, out: &mut RestBuf) -> Result<bool, DemoStop>
         requires over { self.old.reading.stage ≡ Stage.Ended }
         requires empty { out.old ≡ [] }
 
         // A line, or none.
-        ensures line { HasRest self.old → IfOk result (λ is. OnTrue is (GivesRestLine
+        ensures line { HasRest self.old (ahead self.old.pending (S.left source.old)) → IfOk result (λ is. OnTrue is (GivesRestLine
             (ahead self.old.pending (S.left source.old)) (ahead self.new.pending (S.left source.new)) out.new)) }
-        ensures none { HasRest self.old → IfOk result (λ is. OnFalse is
+        ensures none { HasRest self.old (ahead self.old.pending (S.left source.old)) → IfOk result (λ is. OnFalse is
             (IfSome (ahead self.old.pending (S.left source.old)) HasNoRestLine)) }
 
         // A read fault.
-        ensures read_fault { HasRest self.old → IfErr result (λ stop. stop ≡ DemoStop.ReadFault) }
-        ensures cause { HasRest self.old → OnErr result (HasRisen (S.faults source.old) (S.faults source.new)) }
-        ensures sure { HasRest self.old → S.never_fails source.old → IsOk result }
+        ensures read_fault { HasRest self.old (ahead self.old.pending (S.left source.old)) → IfErr result (λ stop. stop ≡ DemoStop.ReadFault) }
+        ensures cause { HasRest self.old (ahead self.old.pending (S.left source.old)) → OnErr result (HasRisen (S.faults source.old) (S.faults source.new)) }
+        ensures sure { HasRest self.old (ahead self.old.pending (S.left source.old)) → S.never_fails source.old → IsOk result }
+
+        // Only a reader that isn't cut asks the source, and the source ends only where no line follows.
+        ensures before_end { IfOk result (λ is. OnTrue is
+            ((self.old.cut ≡ false) × (S.ended source.new ≡ S.ended source.old))) }
+        ensures no_end { self.old.stop ≡ None → OnErr result
+            ((self.old.cut ≡ false) × (S.ended source.new ≡ S.ended source.old)) }
 
         // The source's count of faults.
         ensures later { S.faults source.old ≤ S.faults source.new }
@@ -341,7 +363,7 @@ impl DemoReader {
         ensures reading { self.new.reading ≡ self.old.reading }
         ensures ok { OnOk result (self.new.stop ≡ None) }
         ensures err { IfErr result (λ stop. self.new.stop ≡ Some stop) }
-        ensures cut { HasRest self.old → IfOk result (λ is. self.new.cut ≡ not is) }
+        ensures cut { HasRest self.old (ahead self.old.pending (S.left source.old)) → IfOk result (λ is. self.new.cut ≡ not is) }
         ensures stopped { IfSome self.old.stop (λ stop.
             (result ≡ Err stop) × (self.new ≡ self.old) × (source.new ≡ source.old)) }
         ensures ended { self.old.stop ≡ None → self.old.cut ≡ true →

@@ -39,6 +39,8 @@ pub(crate) fn next_rest<S: Source>(
         (GivesRestLine (ahead lines.old (S.left source.old)) (ahead lines.new (S.left source.new)) out.new)) }
     ensures none { IfOk result (λ is. OnFalse is
         (IfSome (ahead lines.old (S.left source.old)) HasNoRestLine)) }
+    ensures before_end { IfOk result (λ is. OnTrue is (S.ended source.new ≡ S.ended source.old)) }
+    ensures no_end { OnErr result (S.ended source.new ≡ S.ended source.old) }
     ensures later { S.faults source.old ≤ S.faults source.new }
     ensures cause { OnErr result (HasRisen (S.faults source.old) (S.faults source.new)) }
     ensures uncounted { OnOk result (S.faults source.new ≡ S.faults source.old) }

@@ -15,6 +15,7 @@ returns-in_err-write_least-clause-err g c =
     let none = planned.no_way.0 (sym c.as_slice.ensures.value ∙ empty-way c.as_slice.result.now c.if-is_empty.ensures) in
     let shows : ShowsNoWay m c.args.target (least_line plan.least) = record {
       least = plan.least;
+      is_map = c.spawns.ensures.rules;
       there = omega (arith, c.if-from-spawns.false, c.from.ensures, ap length c.spawns.ensures.value);
       certificate = planned.certificate;
       none = none;

@@ -24,6 +24,7 @@ returns g c =
     let long = length-map waiting (λ (a : Arrival). a.port) in
     record {
       places = subst (λ (n : ℕ). AreEachOnce n order) long each.places;
+      rising = record { evens = each.evens; odds = each.odds };
       feed = λ port. each_port_kept waiting order port c.in_ok-order.ensures;
       few = no_more_packets waiting order c.in_ok-order.ensures;
       fed_is = c.in_ok-hand_over.ensures.fed ∙ ap (λ (l : List ℕ). in_order l waiting) same;

@@ -1,7 +1,9 @@
 use Rattle.std.proofs.Common.{Err, refl, sym, ap, ◌∙◌}
 use Rattle.std.proofs.lemmas.Result.{err_from_is_err_and}
 use Rattle.arena_engine.specs.StopOf.{stop_of}
-use Rattle.arena_engine.proofs.FedEnded.{game_stopped, all_played, reader_stopped, goes_further, ready_next, open_reader, ends_same}
+use Rattle.arena_engine.specs.Texts.{feed_texts}
+use Rattle.arena_engine.proofs.Ended.{ends_same}
+use Rattle.arena_engine.proofs.FedEnded.{game_stopped, all_played, reader_stopped, goes_further, ready_next, open_reader}
 use Rattle.arena_engine.proofs.feed.feed_events.Goals as goal
 
 pub events-init : goal.events-init
@@ -19,7 +21,7 @@ pub returns-in_err-take : goal.returns-in_err-take
 returns-in_err-take g c =
     let p = err_from_is_err_and c.from_residual.result c.from_residual.ensures.1 in
     λ first_source first_sink begun.
-    ends_same g.S.Source g.K.Sink c.args.host.now.workers first_source c.events.source first_sink c.take.new.sink c.take.new.self.last c.take.new.self.last (Err c.in_err-take.field-0.0) c.from_residual.result refl (p.1 ∙ ap Err p.2)
+    ends_same g.S.Source g.K.Sink (feed_texts c.args.host.now.workers) first_source c.events.source first_sink c.take.new.sink c.take.new.self.last c.take.new.self.last (Err c.in_err-take.field-0.0) c.from_residual.result refl (p.1 ∙ ap Err p.2)
     (game_stopped g.S.Source g.K.Sink c.args.host.now.workers first_source c.events.source first_sink c.events.sink c.events.demo c.events.game c.events.event (c.events.invariant.each first_source first_sink begun)
     c.take.new.sink c.take.new.self c.in_err-take.field-0.0 c.in_err-take.ensures.stops c.in_err-take.ensures.write_fault c.in_err-take.ensures.sure c.in_err-take.ensures.memory c.in_err-take.ensures.kept c.take.ensures.later)
 
@@ -35,7 +37,7 @@ returns-in_err-event g c =
     let p = err_from_is_err_and c.from_residual-in_err-event.result c.from_residual-in_err-event.ensures.1 in
     let stops = c.in_err-event.ensures in
     λ first_source first_sink begun.
-    ends_same g.S.Source g.K.Sink c.args.host.now.workers first_source c.next.new.source first_sink c.take.new.sink c.take.new.self.last c.take.new.self.last (Err (stop_of c.in_err-event.field-0.0)) c.from_residual-in_err-event.result refl (p.1 ∙ ap Err p.2)
+    ends_same g.S.Source g.K.Sink (feed_texts c.args.host.now.workers) first_source c.next.new.source first_sink c.take.new.sink c.take.new.self.last c.take.new.self.last (Err (stop_of c.in_err-event.field-0.0)) c.from_residual-in_err-event.result refl (p.1 ∙ ap Err p.2)
     (reader_stopped g.S.Source g.K.Sink c.args.host.now.workers first_source c.events.source first_sink c.events.sink c.events.demo c.events.game c.events.event (c.events.invariant.each first_source first_sink begun)
     c.take.new.sink c.take.new.self c.in_ok-take.ensures.next c.next.new.self c.next.new.source c.in_err-event.field-0.0 going (record {
       refused = stops.refused;

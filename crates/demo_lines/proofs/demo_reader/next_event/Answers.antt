@@ -1,6 +1,6 @@
-use Rattle.std.proofs.Common.{sym, ◌∙◌, ap, option_to_list}
+use Rattle.std.proofs.Common.{refl, sym, ◌∙◌, ap, inr, option_to_list, Ok, Err}
 use Rattle.std.proofs.lemmas.Result.{err_from_is_err_and}
-use Rattle.demo_lines.proofs.Walks.{walk_event, walk_on, walk_refused_at, walk_taken_at, walk_quiet, last_event, last_needed, last_refused, last_taken, on_refused, on_no_memory, whole_after, stage_after-line, goes_on-quiet}
+use Rattle.demo_lines.proofs.Walks.{walk_event, walk_on, walk_refused_at, walk_taken_at, walk_quiet, last_event, end_event, last_needed, last_refused, last_taken, on_refused, on_no_memory, whole_after, stage_after-line, goes_on-quiet}
 use Rattle.demo_lines.specs.Known.{is_map_whole}
 use Rattle.demo_lines.proofs.MapGiven.{so_far-line, keeps_map}
 use Rattle.demo_lines.proofs.Consuming.{Refuses-long, refused_by_length, ReadsFront-drained}
@@ -75,6 +75,7 @@ loop-reading-preserved g c =
       walks = walk_on _ c.loop-reading.reading _ _ _ _ c.as_slice.result.now inv.walks line c.in_ok-event-in-Ok-Whole.ensures.next given c.take_line.ensures.holds going c.in_ok-event-in-Ok-Whole.ensures.fewer;
       needed = HasNotReadAhead-trans g.S.Source.last _ _ _ _ _ _ inv.needed needed;
       before_end = before_end ∙ inv.before_end;
+      cut = inv.cut;
       uncounted = c.in-Ok-Whole.ensures.uncounted ∙ inv.uncounted;
       keeps = λ sure. c.next_line.ensures.keeps (inv.keeps sure);
     }
@@ -106,7 +107,8 @@ returns-in-Ok-Ended-clause-event g c =
     let gives = rw c.in-Ok-Ended.field-0-is at c.in-Ok-Ended.ensures.ended in
     let last = rw (← c.as_slice-in-Ok-Ended.ensures.value) at gives in
     let walks = c.loop-reading.invariant.walks in
-    last_event c.take_last.result _ c.loop-reading.reading _ _ _ _ c.as_slice-in-Ok-Ended.result.now _ walks last c.take_last.ensures.end c.take_last.ensures.next c.take_last.ensures.event
+    let taken = c.in_ok-event-in-Ok-Ended.ensures in
+    last_event (Ok c.in_ok-event-in-Ok-Ended.event) _ c.loop-reading.reading _ _ _ _ c.as_slice-in-Ok-Ended.result.now _ walks last taken.end taken.next taken.event
 
 pub returns-in-Ok-Ended-clause-needed : goal.returns-in-Ok-Ended-clause-needed
 returns-in-Ok-Ended-clause-needed g c =
@@ -114,19 +116,30 @@ returns-in-Ok-Ended-clause-needed g c =
     let last = rw (← c.as_slice-in-Ok-Ended.ensures.value) at gives in
     let walks = c.loop-reading.invariant.walks in
     let at_end = rw c.in-Ok-Ended.field-0-is at c.in-Ok-Ended.ensures.at_end in
-    last_needed c.take_last.result _ c.loop-reading.reading _ _ _ c.as_slice-in-Ok-Ended.result.now _ _ _ walks last c.take_last.ensures.end c.take_last.ensures.event at_end
+    let taken = c.in_ok-event-in-Ok-Ended.ensures in
+    last_needed (Ok c.in_ok-event-in-Ok-Ended.event) _ c.loop-reading.reading _ _ _ c.as_slice-in-Ok-Ended.result.now _ _ _ walks last taken.end taken.event at_end
 
-pub returns-in-Ok-Ended-clause-refused : goal.returns-in-Ok-Ended-clause-refused
-returns-in-Ok-Ended-clause-refused g c =
+pub returns-in-Ok-Ended-clause-cut : goal.returns-in-Ok-Ended-clause-cut
+returns-in-Ok-Ended-clause-cut g c =
+    let gives = rw c.in-Ok-Ended.field-0-is at c.in-Ok-Ended.ensures.ended in
+    let taken = c.in_ok-event-in-Ok-Ended.ensures in
+    inr (end_event c.loop-reading.reading c.as_slice-in-Ok-Ended.result.now c.in_ok-event-in-Ok-Ended.event taken.end taken.event, refl, gives.at_end)
+
+pub returns-in_err-event-in-Ok-Ended-clause-refused : goal.returns-in_err-event-in-Ok-Ended-clause-refused
+returns-in_err-event-in-Ok-Ended-clause-refused g c =
     let gives = rw c.in-Ok-Ended.field-0-is at c.in-Ok-Ended.ensures.ended in
     let last = rw (← c.as_slice-in-Ok-Ended.ensures.value) at gives in
     let walks = c.loop-reading.invariant.walks in
-    last_refused c.take_last.result _ c.loop-reading.reading c.take_last.new.reading _ _ _ c.as_slice-in-Ok-Ended.result.now _ walks last c.take_last.ensures.refused
+    let p = err_from_is_err_and c.from_residual-in_err-event-in-Ok-Ended.result c.from_residual-in_err-event-in-Ok-Ended.ensures.1 in
+    rw (p.1, p.2)
+    (last_refused (Err c.in_err-event-in-Ok-Ended.field-0.0) _ c.loop-reading.reading c.take_last.new.reading _ _ _ c.as_slice-in-Ok-Ended.result.now _ walks last c.in_err-event-in-Ok-Ended.ensures.refused)
 
-pub returns-in-Ok-Ended-clause-taken : goal.returns-in-Ok-Ended-clause-taken
-returns-in-Ok-Ended-clause-taken g c =
+pub returns-in_err-event-in-Ok-Ended-clause-taken : goal.returns-in_err-event-in-Ok-Ended-clause-taken
+returns-in_err-event-in-Ok-Ended-clause-taken g c =
     let gives = rw c.in-Ok-Ended.field-0-is at c.in-Ok-Ended.ensures.ended in
     let last = rw (← c.as_slice-in-Ok-Ended.ensures.value) at gives in
     let walks = c.loop-reading.invariant.walks in
     let at_end = rw c.in-Ok-Ended.field-0-is at c.in-Ok-Ended.ensures.at_end in
-    last_taken c.take_last.result _ c.loop-reading.reading c.take_last.new.reading _ _ _ c.as_slice-in-Ok-Ended.result.now _ _ _ walks last c.take_last.ensures.refused at_end
+    let p = err_from_is_err_and c.from_residual-in_err-event-in-Ok-Ended.result c.from_residual-in_err-event-in-Ok-Ended.ensures.1 in
+    rw (p.1, p.2)
+    (last_taken (Err c.in_err-event-in-Ok-Ended.field-0.0) _ c.loop-reading.reading c.take_last.new.reading _ _ _ c.as_slice-in-Ok-Ended.result.now _ _ _ walks last c.in_err-event-in-Ok-Ended.ensures.refused at_end)

@@ -12,6 +12,7 @@ invariant-loop-reading g l = record {
   map : MapSoFar l.fn.reading l.reading;
   needed : HasNotReadAhead l.fn.source l.source (g.S.Source.last l.source) l.fn.lines l.lines;
   before_end : g.S.Source.ended l.source ≡ g.S.Source.ended l.fn.source;
+  cut : l.is_cut ≡ l.fn.is_cut;
   uncounted : g.S.Source.faults l.source ≡ g.S.Source.faults l.fn.source;
   keeps : g.S.Source.never_fails l.fn.source → g.S.Source.never_fails l.source;
 }

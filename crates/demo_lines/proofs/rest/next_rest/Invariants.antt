@@ -9,6 +9,7 @@ abbrev pub invariant-parts : goal.invariant-parts
 invariant-parts g l = record {
   front : TakesFront (ahead l.fn.lines (g.S.Source.left l.fn.source)) (ahead l.lines (g.S.Source.left l.source)) l.out;
   fits : length l.out ≤ LONGEST_REST;
+  before_end : g.S.Source.ended l.source ≡ g.S.Source.ended l.fn.source;
   uncounted : g.S.Source.faults l.source ≡ g.S.Source.faults l.fn.source;
   keeps : g.S.Source.never_fails l.fn.source → g.S.Source.never_fails l.source;
 }
