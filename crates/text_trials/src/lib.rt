@@ -1,0 +1,5 @@
+//! Tests of the crates that read and write texts: `arena_map`, `demo_lines`, `out_text`, `demo_make` and `match_play`.
+#![tactic(auto)]
+
+#[cfg(test)]
+mod tests;

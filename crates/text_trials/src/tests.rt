@@ -1,0 +1,5 @@
+mod generated;
+mod lines;
+mod maps;
+mod recordings;
+mod totals;
