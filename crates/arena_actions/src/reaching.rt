@@ -3,25 +3,19 @@ ghost use Rattle.arena_geo.specs.Vectors.{vector, IsNotNegative, IsNear};
 ghost use Rattle.player_move.specs.Laws as moves;
 
 use arena_geo::Vec3;
-
-/// The greatest velocity on an axis, in sub-units a second.
-const GREATEST_VELOCITY: u32 = 512_000;
-
-/// The greatest speed that a player wishes for, in sub-units a second.
-const MAX_SPEED: u32 = 81_920;
-
-/// How many milliseconds a second has.
-const SECOND: u32 = 1_000;
+use speed_rules::{MAX_SPEED, MAX_VELOCITY, SECOND};
 
 /// How far a move that begins with this speed on an axis goes on it, but for stairs, in sub-units: in its time at the
 /// greatest speed that it may have.
 pub fn reach_on(speed: i32, ms: u8) -> u32
-    requires near { unsigned_abs speed ≤ GREATEST_VELOCITY }
+    requires near { unsigned_abs speed ≤ 512000 }
     requires short { ms ≤ 50 }
     ensures value { result ≡ moves.reach_on speed ms }
     ensures near { result ≤ 25600 }
 {
-    let fastest = GREATEST_VELOCITY.min(speed.unsigned_abs() + MAX_SPEED);
+    let fastest = MAX_VELOCITY
+        .unsigned_abs()
+        .min(speed.unsigned_abs() + MAX_SPEED);
     fastest * u32::from(ms) / SECOND
 }
 

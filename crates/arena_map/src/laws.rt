@@ -1,6 +1,6 @@
 ghost use Rattle.arena_map.specs.Laws.{LinesKeepTheRules, BrokenRulesAreTheFirst, SolidsHaveWalls, MapLinesReadBack};
 ghost use Rattle.arena_map.specs.Laws.{FieldsAreSpaced, DataFollowKinds, LiveRecordsHaveData, OpeningWorldIsValid};
-ghost use Rattle.arena_map.specs.Laws.{LiftsStayInside};
+ghost use Rattle.arena_map.specs.Laws.{LiftsStayInside, LimitsAreKnown};
 ghost use Rattle.arena_map.specs.LineThings.{LinesGiveTheirThings};
 
 /// A map that lines begin and lengthen without breaking a rule keeps all of them, and lines that give a map which keeps
@@ -54,4 +54,10 @@ pub fn lifts_stay_inside()
 /// lowest place, rise and speed that the line says, and no other data. No other id has data.
 pub fn lines_give_their_things()
     ensures { LinesGiveTheirThings }
+{}
+
+/// A map has at most 1,024 blocks, 64 spawns, 400 items, 16 teleporters, goals and lifts each, and so 448 things; the depth
+/// of its tree is 4 where no line says so.
+pub fn limits_are_known()
+    ensures { LimitsAreKnown }
 {}

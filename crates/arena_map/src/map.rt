@@ -28,12 +28,12 @@ use crate::settings::Settings;
 use crate::things::{delay_in, dest_in, lift_data, push_shaft, record_of};
 use arena_geo::{Aabb, Vec3};
 use box_trace::{WALLS, arena_walls};
-use entity_recs::Rec;
+use entity_recs::{Rec, SLOTS};
 use std::alloc::{AllocError, Global};
 use std::marker::Model;
 
 /// The id of the first thing.
-const FIRST_THING: u16 = 64;
+const FIRST_THING: u16 = SLOTS as u16;
 
 /// The settings of a map whose lines say nothing of them.
 const NO_SETTINGS: Settings = Settings {

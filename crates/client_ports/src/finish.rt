@@ -8,7 +8,7 @@ ghost use Rattle.client_ports.specs.Linking.{leavers_of, without_ids, world_fini
 
 use crate::client::{Client, LiveSlot};
 use crate::ports::Ports;
-use entity_slots::SLOTS;
+use entity_recs::SLOTS;
 use world_tree::World;
 
 impl Ports {

@@ -8,7 +8,8 @@ ghost use Rattle.entity_slots.specs.Places as places;
 
 use crate::client::{Client, LiveSlot};
 use crate::refusal::Refusal;
-use entity_slots::{JoinFault, SLOTS, Slots};
+use entity_recs::SLOTS;
+use entity_slots::{JoinFault, Slots};
 use packet_read::MovePacket;
 use std::marker::Model;
 

@@ -8,7 +8,7 @@ ghost use Rattle.core_seats.specs.Shown.{fixed_of};
 use crate::words::Words;
 use core_seats::{Rules, with_top_bit};
 use core_steps::{PlayerWords, TABLE_NODES, TABLE_STATES, encode};
-use entity_recs::Action;
+use entity_recs::{Action, SLOTS};
 
 /// A player's five words at the start, 0 where the player isn't live.
 fn body_at_start<A: Action>(rules: &Rules<A>, slot: u8) -> PlayerWords
@@ -49,7 +49,7 @@ fn links_at_start<A: Action>(rules: &Rules<A>, node: u8) -> u64
     ensures { let F = fixed_of A.meaning rules.now in result ≡ (start_words F).links node }
 {
     let mut word = 0;
-    for slot in 0..64u8 {
+    for slot in 0..SLOTS as u8 {
         word = with_top_bit(word, slot, is_linked(rules, node, slot));
     }
     word
@@ -68,12 +68,12 @@ fn all_links<A: Action>(rules: &Rules<A>) -> [u64; TABLE_NODES]
 }
 
 /// Each player's five words at the start.
-fn all_bodies<A: Action>(rules: &Rules<A>) -> [PlayerWords; 64]
+fn all_bodies<A: Action>(rules: &Rules<A>) -> [PlayerWords; SLOTS]
     ensures { let F = fixed_of A.meaning rules.now in
         (slot : ℕ) → slot < 64 → slice_index_or result slot [] ≡ words_of (F.start.record_of slot) }
 {
-    let mut body = [[0; 5]; 64];
-    for slot in 0..64u8 {
+    let mut body = [[0; 5]; SLOTS];
+    for slot in 0..SLOTS as u8 {
         body[usize::from(slot)] = body_at_start(rules, slot);
     }
     body

@@ -8,6 +8,7 @@ ghost use Rattle.core_machine.specs.Tables.{words_in, IsCellOf, IsStoreOf};
 use crate::left::{linked, unlinked};
 use core_seats::{Cell, Store};
 use core_steps::{PlayerWords, TABLE_NODES, TABLE_STATES};
+use entity_recs::SLOTS;
 
 /// The shared words: the count of commits, each node's word, each node's list word, each player's five words, and each
 /// entity's state word.
@@ -20,7 +21,7 @@ pub struct Words {
     /// Which players are linked at each node: bit p is player p.
     pub links: [u64; TABLE_NODES],
     /// The words of each player's record but its state.
-    pub body: [PlayerWords; 64],
+    pub body: [PlayerWords; SLOTS],
     /// The state word of each id.
     pub state: [u64; TABLE_STATES],
 }

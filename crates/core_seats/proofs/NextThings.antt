@@ -1,11 +1,11 @@
 -- The next thing that a region touches.
-use Rattle.std.proofs.Common.{◌≡◌, ℕ, zero, suc, ◌+◌, ◌*◌, ◌<◌, ◌≤◌, Bool, true, false, List, [], ◌∷◌, length, get_or, refl, sym, ap, ◌∙◌, inl, inr, arith}
+use Rattle.std.proofs.Common.{◌≡◌, ℕ, zero, suc, ◌+◌, ◌<◌, ◌≤◌, true, false, List, [], ◌∷◌, length, get_or, refl, sym, ap, ◌∙◌, inl, inr, arith}
 use Rattle.std.proofs.lemmas.Bool.{cases_Bool, cases_lt, true≢false}
 use Rattle.arena_geo.specs.Bounds.{Bounds}
 use Rattle.arena_geo.specs.Regions.{touches_region}
 use Rattle.entity_recs.specs.declared.rec.Rec.{Rec}
 use Rattle.entity_recs.specs.Bodies.{abs_of}
-use Rattle.core_seats.specs.ThingBits.{has_place, NoPlaceFrom, IsNextPlace, AreMarked, AreApart, IsNextThing}
+use Rattle.core_seats.specs.ThingBits.{has_place, NoPlaceFrom, IsNextPlace, AreMarked, AreApart}
 
 -- a thing without its bit isn't touched
 unmarked : (region : List Bounds) (things : List Rec) (bits : List ℕ) (k : ℕ) (d : Rec) → AreMarked region things bits → k < length things → has_place bits k ≡ false

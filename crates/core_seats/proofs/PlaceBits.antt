@@ -1,13 +1,13 @@
 -- Bits by place, in a list of words.
-use Rattle.std.proofs.Common.{◌≡◌, ◌≢◌, ℕ, ◌+◌, ◌-◌, ◌*◌, ◌/◌, ◌%◌, ◌^◌, ◌<◌, ◌≤◌, ◌==◌, Bool, true, false, ◌&&◌, ◌||◌, List, length, get_or, set, bit_and, bit_or, refl, sym, ap, ◌∙◌, subst, inl, inr, arith}
-use Rattle.std.proofs.lemmas.Bool.{cases_Bool, cases_eq, cases_lt, true≢false, false≢true}
+use Rattle.std.proofs.Common.{◌≡◌, ◌≢◌, ℕ, ◌+◌, ◌-◌, ◌*◌, ◌/◌, ◌%◌, ◌^◌, ◌<◌, ◌≤◌, ◌==◌, true, false, List, length, get_or, set, bit_and, bit_or, sym, ap, ◌∙◌, inl, inr, arith}
+use Rattle.std.proofs.lemmas.Bool.{cases_eq, cases_lt, true≢false, false≢true}
 use Rattle.std.proofs.lemmas.List.{get_or-set_same, get_or-set_other, get_or_past}
 use Rattle.std.proofs.lemmas.Nat.{pow-add}
 use Rattle.std.proofs.lemmas.Nat.Bits.{bit_at-zero, bit_at_above}
 use Rattle.std.proofs.Math.Nat.{div-div-eq-div-mul}
 use Rattle.areanode.specs.Words.{has_bit}
 use Rattle.core_seats.specs.declared.thing_bits.TheConstants.{THING_WORDS}
-use Rattle.core_seats.specs.ThingBits.{has_place, KeepsPlaces, NoBitFrom, IsNextBit, NoPlaceFrom, IsNextPlace}
+use Rattle.core_seats.specs.ThingBits.{has_place, KeepsPlaces, NoBitFrom, IsNextBit, IsNextPlace}
 use Rattle.core_seats.proofs.SlotLists.{both_bits}
 use Rattle.core_seats.proofs.ThingPlaces.{either_bits, either_left, either_right, both_true}
 

@@ -1,5 +1,5 @@
 -- What a seat has read, and is still to read, of the states of things of the map.
-use Rattle.std.specs.Prelude.{ℕ, ◌≤◌, List, drop, length}
+use Rattle.std.specs.Prelude.{ℕ, ◌≤◌, List, length}
 use Rattle.entity_recs.specs.declared.effect.NewState.{NewState}
 
 -- for how many things there is room, the states that are loaded, the newest first, and the things whose states are still

@@ -1,5 +1,5 @@
 -- Where the things of the map lie along x and along y: an index that misses none of those that touch a region.
-use Rattle.std.specs.Prelude.{◌≡◌, ℕ, ◌<◌, ◌≤◌, ◌-◌, ◌/◌, ◌%◌, ◌^◌, true, List, length, ℤ, ◌-ℤ◌, min, unsigned_abs}
+use Rattle.std.specs.Prelude.{◌≡◌, ℕ, ◌<◌, ◌≤◌, ◌-◌, ◌/◌, ◌%◌, ◌^◌, true, List, ℤ, ◌-ℤ◌, min, unsigned_abs}
 use Rattle.std.specs.Prelude.{slice_index_or}
 use Rattle.std.specs.Int.{int_max}
 use Rattle.entity_recs.specs.declared.rec.Rec.{Rec}

@@ -12,7 +12,7 @@ pub use kind::Kind;
 pub use laws::{
     abs_contains_body, abs_ignores_state, boxes_are_known, records_have_boxes, sizes_are_known,
 };
-pub use limits::IDS;
+pub use limits::{IDS, SLOTS};
 pub use lists::{IdList, LIST_LEN, StateList};
 pub use rec::Rec;
 

@@ -1,2 +1,6 @@
-/// The number of ids: 0 to 63 are the slots of the players, and the others are those of the things of the map.
+/// The number of ids: those below [`SLOTS`] are the slots of the players, and the others are those of the things of the
+/// map.
 pub const IDS: usize = 512;
+
+/// The number of slots, and so of the players that there can be at once.
+pub const SLOTS: usize = 64;

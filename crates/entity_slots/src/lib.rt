@@ -3,7 +3,7 @@
 
 pub use join_fault::JoinFault;
 pub use laws::{least_free_slot_is_least, ports_are_apart};
-pub use slots::{SLOTS, Slots};
+pub use slots::Slots;
 
 mod join_fault;
 mod laws;

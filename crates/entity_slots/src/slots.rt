@@ -6,10 +6,8 @@ ghost use Rattle.entity_slots.specs.Places as places;
 ghost use Rattle.entity_slots.specs.Places.{IsLeastFree};
 
 use crate::join_fault::JoinFault;
+use entity_recs::SLOTS;
 use std::marker::Model;
-
-/// The number of slots.
-pub const SLOTS: usize = 64;
 
 /// The slots of the players, each free or live with the port that is joined there. No port is joined in two slots.
 ///

@@ -5,7 +5,7 @@ pub use frame_out::FrameOut;
 pub use laws::limits_are_known;
 pub use replies::ReplyList;
 pub use server::{Server, run_frame};
-pub use slots::{MOST_SLOTS, SlotList};
+pub use slots::SlotList;
 
 mod frame_out;
 mod laws;

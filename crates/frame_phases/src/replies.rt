@@ -1,9 +1,9 @@
-use crate::slots::MOST_SLOTS;
+use entity_recs::SLOTS;
 use snapshot_write::ReplyBuf;
 use std::alloc::{AllocError, Global};
 use std::marker::Model;
 
-/// A list of at most [`MOST_SLOTS`] replies, each the bytes of a snapshot. It has the room for all of them from the
+/// A list of at most [`SLOTS`] replies, each the bytes of a snapshot. It has the room for all of them from the
 /// start.
 #[derive(Drop)]
 pub struct ReplyList {
@@ -28,16 +28,16 @@ impl ReplyList {
     ghost use Rattle.std.specs.Borrow.{sem};
     ghost use Rattle.frame_phases.specs.ReplyLoans.{LendsItems};
 
-    /// No reply, with room for [`MOST_SLOTS`]. The only error is that memory is refused.
+    /// No reply, with room for [`SLOTS`]. The only error is that memory is refused.
     pub fn new(alloc: Global) -> Result<ReplyList, AllocError>
         ensures { IfOk result (λ replies. replies ≡ []) }
     {
-        let mut spare = Vec::with_capacity(alloc, MOST_SLOTS)?;
-        for _ in 0..MOST_SLOTS {
+        let mut spare = Vec::with_capacity(alloc, SLOTS)?;
+        for _ in 0..SLOTS {
             spare.push_reserved(ReplyBuf::new(alloc)?);
         }
         Ok(ReplyList {
-            replies: Vec::with_capacity(alloc, MOST_SLOTS)?,
+            replies: Vec::with_capacity(alloc, SLOTS)?,
             spare,
         })
     }

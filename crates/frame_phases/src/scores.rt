@@ -2,7 +2,7 @@ ghost use Rattle.std.specs.Prelude.{◌≡◌, ◌<◌, ◌≤◌, ◌^◌};
 ghost use Rattle.world_tree.specs.Worlds.{record_of};
 ghost use Rattle.frame_phases.specs.Scores.{score_at, score_in};
 
-use crate::slots::MOST_SLOTS;
+use entity_recs::SLOTS;
 use world_tree::World;
 
 /// The score of the player in this slot, and 0 where none is live.
@@ -23,7 +23,7 @@ pub fn score_of(world: &World) -> u64
     // To ask for the tree is to know that the world is linked: each player has the id of its slot.
     let _tree = world.tree();
     let mut score = 0;
-    for slot in 0..MOST_SLOTS {
+    for slot in 0..SLOTS {
         score += score_in_slot(world, slot);
     }
     score

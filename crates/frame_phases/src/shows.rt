@@ -5,7 +5,8 @@ ghost use Rattle.world_tree.specs.Worlds.{record_of, IsLinked};
 ghost use Rattle.plain_server.specs.Replies.{slots_of, replies_of};
 
 use crate::replies::ReplyList;
-use crate::slots::{MOST_SLOTS, SlotList};
+use crate::slots::SlotList;
+use entity_recs::SLOTS;
 use reply_fan::write_replies;
 use std::thread::Threads;
 use world_tree::World;
@@ -30,7 +31,7 @@ fn list_slots(world: &World, slots: &mut SlotList)
 {
     // To ask for the tree is to know that the world is linked: each player has the id of its slot.
     let _tree = world.tree();
-    for slot in 0..MOST_SLOTS as u8 {
+    for slot in 0..SLOTS as u8 {
         list_slot(world, slot, slots);
     }
 }

@@ -1,24 +1,22 @@
+use entity_recs::SLOTS;
 use std::marker::Model;
 
-/// The number of slots, and so the most that are live.
-pub const MOST_SLOTS: usize = 64;
-
-/// A list of at most [`MOST_SLOTS`] slots, which lie in the value itself and take no memory.
+/// A list of at most [`SLOTS`] slots, which lie in the value itself and take no memory.
 #[derive(Drop)]
 pub struct SlotList {
-    slots: [u8; MOST_SLOTS],
+    slots: [u8; SLOTS],
     len: usize,
 }
 
 impl Model for SlotList {
     ghost use Rattle.std.specs.Prelude.{ℕ, ◌≤◌, List, take};
-    ghost use Rattle.frame_phases.specs.declared.slots.TheConstants.{MOST_SLOTS};
+    ghost use Rattle.entity_recs.specs.declared.limits.TheConstants.{SLOTS};
 
     ghost Value = { List ℕ };
 
     ghost view = { λ s. take s.len s.slots };
 
-    ghost invariant = { λ s. s.len ≤ MOST_SLOTS };
+    ghost invariant = { λ s. s.len ≤ SLOTS };
 }
 
 impl SlotList {
@@ -30,7 +28,7 @@ impl SlotList {
         ensures { result ≡ [] }
     {
         SlotList {
-            slots: [0; MOST_SLOTS],
+            slots: [0; SLOTS],
             len: 0,
         }
     }
@@ -43,13 +41,13 @@ impl SlotList {
         &self.slots[..self.len]
     }
 
-    /// Puts a slot last. `false` exactly where there are [`MOST_SLOTS`], and then nothing changes.
+    /// Puts a slot last. `false` exactly where there are [`SLOTS`], and then nothing changes.
     pub fn push(&mut self, slot: u8) -> bool
         ensures room { IsTrue result ↔ (length self.old < 64) }
         ensures pushed { OnTrue result (self.new ≡ self.old ++ slot ∷ []) }
         ensures unchanged { OnFalse result (self.new ≡ self.old) }
     {
-        if self.len == MOST_SLOTS {
+        if self.len == SLOTS {
             return false;
         }
         self.slots[self.len] = slot;

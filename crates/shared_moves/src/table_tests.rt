@@ -1,6 +1,6 @@
 ghost use Rattle.std.specs.Prelude.{◌≡◌, ◌%◌, true, length, IfOk, IfSome};
 ghost use Rattle.areanode.specs.Trees.{IsTreeDepth};
-ghost use Rattle.core_steps.specs.Views.{has};
+ghost use Rattle.core_steps.specs.Views.{Idle, has};
 ghost use Rattle.core_steps.specs.Steps.{is_taking};
 ghost use Rattle.ruled_words.specs.Passes.{fixed_in, IsOwn};
 ghost use Rattle.region_locks.specs.Quitting.{MayBegin};
@@ -11,7 +11,7 @@ use crate::trial::{FIRST, NEAR, last_world, near_world, plain, shared_by_two};
 use core_steps::{StepKind, node_word};
 use entity_recs::{Action, Cmd};
 use move_journal::LogList;
-use region_locks::{Holder, NodeTable, Pass};
+use region_locks::{Holder, NoGate, NodeTable, Pass};
 use std::alloc::AllocGlobal;
 use std::process::Abort;
 use std::test::Fail;
@@ -176,6 +176,90 @@ fn a_holder_has_the_last_two_of_32_leaves(rt: HostRuntime) -> Result<(), Fail> {
     let world = last_world(rt.alloc())?;
     let (shared, first, second) = shared_by_two(rt.alloc(), &Staying, &world, 1)?;
     expect_one_holder(&rt, &shared.table, first, second, 61, 0xc000_0000)
+}
+
+/// The pass, which has no command in hand, looks at the count of commits, and has then seen it.
+fn expect_count<A: Action>(rt: &impl Abort, table: &NodeTable<A>, pass: &mut Pass<A>, count: u64)
+    requires own { IsOwn A.meaning table.now pass.old }
+    requires rests { pass.old.view.point ≡ Idle }
+    ensures own { IsOwn A.meaning table.now pass.new }
+    ensures rests { pass.new.view.point ≡ Idle }
+{
+    assert_eq!(rt; table.look(pass), count);
+    assert_eq!(rt; pass.seen(), count);
+}
+
+/// Pass 1 looks before pass 0 has run the command of slot 0, and after it.
+fn check_look<A: Action>(
+    rt: &impl Abort,
+    table: &NodeTable<A>,
+    mut first: Pass<A>,
+    mut second: Pass<A>,
+) -> Result<(), Fail>
+    requires two { length table.now.rooms ≡ 2 }
+    requires zero { has (fixed_in A.meaning table.now).start.ids 0 ≡ true }
+    requires first { IsFree (fixed_in A.meaning table.now) (length table.now.rooms)
+        table.now.table 0 first }
+    requires second { IsFree (fixed_in A.meaning table.now) (length table.now.rooms)
+        table.now.table 1 second }
+{
+    expect_count(rt, table, &mut second, 0);
+    let Ok(entry) = table.try_run(&mut first, plain(0), &NoGate) else {
+        return Err("a refused take".into());
+    };
+    assert_eq!(rt; (entry.place, second.seen()), (0, 0));
+    expect_count(rt, table, &mut second, 1);
+    expect_count(rt, table, &mut second, 1);
+    Ok(())
+}
+
+#[test]
+fn a_pass_that_looks_has_seen_what_others_committed(rt: HostRuntime) -> Result<(), Fail> {
+    let world = near_world(rt.alloc(), 4)?;
+    let (shared, first, second) = shared_by_two(rt.alloc(), &Staying, &world, 1)?;
+    check_look(&rt, &shared.table, first, second)
+}
+
+/// Pass 0 has these leaves once the own record of its command was loaded, and none before.
+fn expect_leaves<A: Action>(rt: &impl Abort, table: &NodeTable<A>, mut pass: Pass<A>, leaves: u32)
+    requires two { length table.now.rooms ≡ 2 }
+    requires zero { has (fixed_in A.meaning table.now).start.ids 0 ≡ true }
+    requires free { IsFree (fixed_in A.meaning table.now) (length table.now.rooms)
+        table.now.table 0 pass }
+{
+    assert_eq!(rt; pass.leaves(), 0);
+    table.begin(&mut pass, plain(0));
+    assert_eq!(rt; pass.leaves(), 0);
+    table.load_rec(&mut pass, 0);
+    assert_eq!(rt; pass.leaves(), leaves);
+}
+
+/// The player of slot 0, near the first corner of the arena, has these leaves of a tree of this depth.
+fn check_leaves(rt: &(impl AllocGlobal + Abort), depth: u8, leaves: u32) -> Result<(), Fail>
+    requires { IsTreeDepth depth }
+{
+    let world = near_world(rt.alloc(), depth)?;
+    let (shared, first, _) = shared_by_two(rt.alloc(), &Staying, &world, 1)?;
+    expect_leaves(rt, &shared.table, first, leaves);
+    Ok(())
+}
+
+#[test]
+fn a_pass_has_the_leaves_of_its_command_once_its_record_is_loaded(
+    rt: HostRuntime,
+) -> Result<(), Fail> {
+    check_leaves(&rt, 3, 0b1)?;
+    check_leaves(&rt, 4, 0b1)?;
+    // At depth 5 the player stands on the cut between the first two of 32 leaves.
+    check_leaves(&rt, 5, 0b11)
+}
+
+#[test]
+fn a_pass_has_the_last_two_of_32_leaves(rt: HostRuntime) -> Result<(), Fail> {
+    let world = last_world(rt.alloc())?;
+    let (shared, first, _) = shared_by_two(rt.alloc(), &Staying, &world, 1)?;
+    expect_leaves(&rt, &shared.table, first, 0xc000_0000);
+    Ok(())
 }
 
 /// The logs of two passes that have room for one and two entries, and have made none.

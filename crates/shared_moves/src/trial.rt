@@ -36,41 +36,23 @@ pub(crate) const FIRST: Rec = Rec {
 /// A player at rest in the same leaves, in slot 1.
 pub(crate) const NEAR: Rec = Rec {
     id: 1,
-    kind: Kind::Player,
     origin: Vec3 {
         x: 85_504,
         y: 98_304,
         z: 6_144,
     },
-    mins: PLAYER_MINS,
-    maxs: PLAYER_MAXS,
-    vel: Vec3::ZERO,
-    flags: 0,
-    ammo: 0,
-    carry: 0,
-    score: 0,
-    seq: 0,
-    state: 0,
+    ..FIRST
 };
 
 /// A player at rest in another leaf, in slot 1.
 pub(crate) const FAR: Rec = Rec {
     id: 1,
-    kind: Kind::Player,
     origin: Vec3 {
         x: -98_304,
         y: -98_304,
         z: 6_144,
     },
-    mins: PLAYER_MINS,
-    maxs: PLAYER_MAXS,
-    vel: Vec3::ZERO,
-    flags: 0,
-    ammo: 0,
-    carry: 0,
-    score: 0,
-    seq: 0,
-    state: 0,
+    ..FIRST
 };
 
 /// A player at rest in the last two leaves of a tree of depth 5, in slot 0.

@@ -7,7 +7,7 @@ ghost use Rattle.world_physics.specs.Returns.{each_changed, changed_at};
 ghost use Rattle.world_physics.specs.LiftSteps.{IsStep, HasRoom, carried_along};
 
 use crate::lift_step::{LiftStep, raised};
-use crate::pressing::SLOTS;
+use entity_recs::SLOTS;
 use world_tree::World;
 
 /// Moves the player in this slot with the lift, if the step carries it.
@@ -34,7 +34,7 @@ pub fn carry(world: &mut World, step: &LiftStep)
 {
     // To ask for the tree is to know that the world is linked, and so that it has `IDS` places.
     let _linked = world.tree();
-    for slot in 0..SLOTS {
+    for slot in 0..SLOTS as u16 {
         carry_slot(world, step, slot);
     }
 }

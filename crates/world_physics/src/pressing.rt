@@ -9,11 +9,8 @@ ghost use Rattle.world_physics.specs.LiftSteps.{IsStep, is_in_the_way, is_presse
 use crate::lift_step::{LiftStep, raised_body};
 use arena_geo::Aabb;
 use arena_map::ArenaMap;
-use entity_recs::{IDS, Rec, body_box};
+use entity_recs::{IDS, Rec, SLOTS, body_box};
 use world_tree::World;
-
-/// The number of players' slots, which are the lowest ids.
-pub const SLOTS: u16 = 64;
 
 /// Whether the place has the record of a solid that stays where it is and overlaps the body.
 fn is_met(step: &LiftStep, place: Option<Rec>, body: &Aabb) -> bool
@@ -73,7 +70,7 @@ pub fn is_stopped(map: &ArenaMap, world: &World, step: &LiftStep) -> bool
 {
     // To ask for the tree is to know that the world is linked, and so that it has `IDS` places.
     let _linked = world.tree();
-    for slot in 0..SLOTS {
+    for slot in 0..SLOTS as u16 {
         if presses(map, world, step, world.get(slot)) {
             return true;
         }

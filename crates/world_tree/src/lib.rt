@@ -2,7 +2,7 @@
 #![tactic(auto)]
 
 pub use laws::{found_ids_rise, live_ids_have_records, live_ids_rise, live_records_by_id};
-pub use near_list::{NEAR_RECORDS, NearList};
+pub use near_list::NearList;
 pub use steps::Steps;
 pub use world::World;
 

@@ -1,9 +1,6 @@
-use entity_recs::{IDS, Rec};
+use entity_recs::Rec;
 use std::alloc::{AllocError, Global};
 use std::marker::Model;
-
-/// The greatest number of records that can live.
-pub const NEAR_RECORDS: usize = IDS;
 
 /// A list of records, with room for a number of them that was given when it was made. No call after [`NearList::new`]
 /// takes memory.

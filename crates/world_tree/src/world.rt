@@ -12,7 +12,7 @@ ghost use Rattle.world_tree.specs.Worlds.{record_of, IsLinked};
 ghost use Rattle.world_tree.specs.Queries.{near_in, touching_in, is_free, looks_for};
 
 use crate::live_ids::LiveIds;
-use crate::near_list::{NEAR_RECORDS, NearList};
+use crate::near_list::NearList;
 use crate::steps::Steps;
 use crate::walk::{
     box_at, gather, is_blocked_by_solids, record_at, touched_at, touched_triggers, unmark,
@@ -218,7 +218,7 @@ impl World {
     /// leaves.
     pub fn near(&self, r: &Region, except: u16, out: &mut NearList)
         requires empty { out.old.items ≡ [] }
-        requires room { NEAR_RECORDS ≤ out.old.room }
+        requires room { IDS ≤ out.old.room }
         ensures records { out.new ≡ record out.old { items = near_in self.now.records r.now except } }
         ensures linked { IsLinked self.now }
     {
@@ -233,7 +233,7 @@ impl World {
     /// for each node visited for the leaves of `abs`, and one for each trigger that is linked there.
     pub fn touching<L: Ledger>(&self, abs: &Aabb, out: &mut NearList, steps: &mut Steps<L>)
         requires empty { out.old.items ≡ [] }
-        requires room { NEAR_RECORDS ≤ out.old.room }
+        requires room { IDS ≤ out.old.room }
         ensures records { out.new ≡ record out.old { items = touching_in self.now.records abs.now } }
         ensures looks { steps.new ≡ steps.old + looks_for self.now abs.now }
         ensures linked { IsLinked self.now }

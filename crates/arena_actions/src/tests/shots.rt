@@ -174,8 +174,15 @@ fn command(frame: u32, buttons: u8) -> Cmd {
     }
 }
 
-/// What a command does among two records in rising id, if the player's body is inside the arena.
-fn effect_of_two(game: &Game, me: &Rec, first: Rec, second: Rec, cmd: &Cmd) -> Option<Effect>
+/// What a command does among two records in rising id. The player's body is inside the arena.
+fn effect_of_two(
+    rt: &impl Abort,
+    game: &Game,
+    me: &Rec,
+    first: Rec,
+    second: Rec,
+    cmd: &Cmd,
+) -> Effect
     requires kind { me.now.kind ≡ Player }
     requires record { IsRecord me.now }
     requires score { me.now.score ≤ 4294967295 }
@@ -183,10 +190,8 @@ fn effect_of_two(game: &Game, me: &Rec, first: Rec, second: Rec, cmd: &Cmd) -> O
     requires second { IsRecord second }
     requires rising { first.id < second.id }
 {
-    if !game.action.map().bounds().contains(&body_box(me)) {
-        return None;
-    }
-    Some(game.action.act(me, &[first, second], cmd))
+    assert!(rt; game.action.map().bounds().contains(&body_box(me)));
+    game.action.act(me, &[first, second], cmd)
 }
 
 /// The target and the ammunition have just the new states of one move in frame 0, where the target is hit, or the
@@ -220,9 +225,8 @@ fn expect_moved(rt: &impl Abort, effect: &Effect, from: i16) {
     assert_eq!(rt; (effect.me.flags, effect.me.seq), (1, 1));
 }
 
-#[test]
-fn four_hits_fell_a_player_and_the_fifth_shot_is_only_spent(rt: HostRuntime) -> Result<(), Fail> {
-    let game = game_with(rt.alloc(), &MapLine::Shots, &spawn()).map_err(|_| "a map")?;
+/// A player shoots five times at another one that stands before it.
+fn check_five_hits(rt: &impl Abort, game: &Game) {
     // where the shooter is on x, its ammunition, the states of the target and of the item; then the new state of the
     // target, whether the item is taken, the ammunition that is left and the points
     for (x, ammo, damage, away, hit, taken, left, points) in [
@@ -233,18 +237,22 @@ fn four_hits_fell_a_player_and_the_fifth_shot_is_only_spent(rt: HostRuntime) -> 
         (24, 16, 140, 100, None, false, 15, 0),
     ] {
         let me = shooter(x, ammo, 0);
-        let effect = effect_of_two(&game, &me, target(damage), item(away), &command(0, 2));
-        let effect = effect.ok_or("inside")?;
-        expect_moved(&rt, &effect, x);
-        expect_changed(&rt, &effect, hit, taken);
+        let effect = effect_of_two(rt, game, &me, target(damage), item(away), &command(0, 2));
+        expect_moved(rt, &effect, x);
+        expect_changed(rt, &effect, hit, taken);
         assert_eq!(rt; (effect.me.ammo, effect.me.score), (left, points));
     }
-    Ok(())
 }
 
 #[test]
-fn a_block_stops_each_of_five_shots(rt: HostRuntime) -> Result<(), Fail> {
-    let game = game_with(rt.alloc(), &MapLine::Shots, &block()).map_err(|_| "a map")?;
+fn four_hits_fell_a_player_and_the_fifth_shot_is_only_spent(rt: HostRuntime) -> Result<(), Fail> {
+    let game = game_with(rt.alloc(), &MapLine::Shots, &spawn()).map_err(|_| "a map")?;
+    check_five_hits(&rt, &game);
+    Ok(())
+}
+
+/// A player shoots five times at one that stands behind a block.
+fn check_five_blocked(rt: &impl Abort, game: &Game) {
     // where the shooter is on x, its ammunition and the state of the item; then whether the item is taken and the
     // ammunition that is left
     for (x, ammo, away, taken, left) in [
@@ -255,19 +263,22 @@ fn a_block_stops_each_of_five_shots(rt: HostRuntime) -> Result<(), Fail> {
         (24, 16, 100, false, 15),
     ] {
         let me = shooter(x, ammo, 0);
-        let effect = effect_of_two(&game, &me, target(0), item(away), &command(0, 2));
-        let effect = effect.ok_or("inside")?;
-        expect_moved(&rt, &effect, x);
-        expect_changed(&rt, &effect, None, taken);
+        let effect = effect_of_two(rt, game, &me, target(0), item(away), &command(0, 2));
+        expect_moved(rt, &effect, x);
+        expect_changed(rt, &effect, None, taken);
         assert_eq!(rt; (effect.me.ammo, effect.me.score), (left, 0));
     }
+}
+
+#[test]
+fn a_block_stops_each_of_five_shots(rt: HostRuntime) -> Result<(), Fail> {
+    let game = game_with(rt.alloc(), &MapLine::Shots, &block()).map_err(|_| "a map")?;
+    check_five_blocked(&rt, &game);
     Ok(())
 }
 
 /// Who was felled in frame 0 sends a move in that frame.
-#[test]
-fn a_player_that_fell_stays_where_it_is(rt: HostRuntime) -> Result<(), Fail> {
-    let game = game_with(rt.alloc(), &MapLine::Shots, &spawn()).map_err(|_| "a map")?;
+fn check_fallen(rt: &impl Abort, game: &Game) {
     let me = target(140);
     let cmd = Cmd {
         slot: 1,
@@ -278,15 +289,20 @@ fn a_player_that_fell_stays_where_it_is(rt: HostRuntime) -> Result<(), Fail> {
         wish_y: 0,
         buttons: 0,
     };
-    let effect = effect_of_two(&game, &me, shooter(30, 15, 0), item(100), &cmd);
-    let effect = effect.ok_or("inside")?;
-    expect_changed(&rt, &effect, None, false);
+    let effect = effect_of_two(rt, game, &me, shooter(30, 15, 0), item(100), &cmd);
+    expect_changed(rt, &effect, None, false);
     assert_eq!(rt; effect.reply.origin, at(20_000, 0, 6_144));
     assert_eq!(rt;
         (effect.me.origin, effect.me.state),
         (at(20_000, 0, 6_144), 140)
     );
     assert_eq!(rt; (effect.me.flags, effect.me.seq), (0, 1));
+}
+
+#[test]
+fn a_player_that_fell_stays_where_it_is(rt: HostRuntime) -> Result<(), Fail> {
+    let game = game_with(rt.alloc(), &MapLine::Shots, &spawn()).map_err(|_| "a map")?;
+    check_fallen(&rt, &game);
     Ok(())
 }
 
@@ -304,9 +320,8 @@ fn carrier(state: u64) -> Rec
     }
 }
 
-#[test]
-fn a_player_that_is_down_neither_moves_nor_shoots(rt: HostRuntime) -> Result<(), Fail> {
-    let game = game_with(rt.alloc(), &MapLine::Shots, &spawn()).map_err(|_| "a map")?;
+/// A player that is down sends a move with a shot.
+fn check_down(rt: &impl Abort, game: &Game) {
     for (state, frame) in [
         (101, 0),
         (140, 0),
@@ -314,9 +329,8 @@ fn a_player_that_is_down_neither_moves_nor_shoots(rt: HostRuntime) -> Result<(),
         (4_294_967_435, 4_294_967_295),
     ] {
         let me = carrier(state);
-        let effect = effect_of_two(&game, &me, target(0), item(0), &command(frame, 2));
-        let effect = effect.ok_or("inside")?;
-        expect_changed(&rt, &effect, None, false);
+        let effect = effect_of_two(rt, game, &me, target(0), item(0), &command(frame, 2));
+        expect_changed(rt, &effect, None, false);
         assert_eq!(rt; effect.reply.origin, at(0, 0, 6_144));
         let lying = Rec {
             vel: Vec3::ZERO,
@@ -327,57 +341,76 @@ fn a_player_that_is_down_neither_moves_nor_shoots(rt: HostRuntime) -> Result<(),
         };
         assert_eq!(rt; effect.me, lying, "{state} {frame}");
     }
+}
+
+#[test]
+fn a_player_that_is_down_neither_moves_nor_shoots(rt: HostRuntime) -> Result<(), Fail> {
+    let game = game_with(rt.alloc(), &MapLine::Shots, &spawn()).map_err(|_| "a map")?;
+    check_down(&rt, &game);
     Ok(())
 }
 
-/// Once its frame has come the player has no damage, and moves, takes the item and shoots.
+/// A player whose frame has come moves, takes the item and shoots.
+fn check_standing(rt: &impl Abort, game: &Game) {
+    for (state, damage) in [(0, 0), (75, 75), (100, 0)] {
+        let me = shooter(0, 20, state);
+        let effect = effect_of_two(rt, game, &me, target(0), item(0), &command(0, 2));
+        expect_moved(rt, &effect, 0);
+        expect_changed(rt, &effect, Some(25), true);
+        assert_eq!(rt; (effect.me.ammo, effect.me.state), (39, damage));
+    }
+}
+
+/// Who was felled in frame 0 has no damage in frame 40, and moves and shoots.
+fn check_risen(rt: &impl Abort, game: &Game) {
+    let me = shooter(0, 20, 140);
+    let effect = effect_of_two(rt, game, &me, target(0), item(50), &command(40, 2));
+    expect_moved(rt, &effect, 0);
+    expect_changed(rt, &effect, Some(25), false);
+    assert_eq!(rt; (effect.me.ammo, effect.me.state), (19, 0));
+}
+
 #[test]
 fn a_player_that_was_down_moves_and_shoots_again(rt: HostRuntime) -> Result<(), Fail> {
     let game = game_with(rt.alloc(), &MapLine::Shots, &spawn()).map_err(|_| "a map")?;
-    for state in [0, 75, 100] {
-        let me = shooter(0, 20, state);
-        let effect = effect_of_two(&game, &me, target(0), item(0), &command(0, 2));
-        let effect = effect.ok_or("inside")?;
-        expect_moved(&rt, &effect, 0);
-        expect_changed(&rt, &effect, Some(25), true);
-        let damage = if state == 75 { 75 } else { 0 };
-        assert_eq!(rt; (effect.me.ammo, effect.me.state), (39, damage));
-    }
-    let me = shooter(0, 20, 140);
-    let effect = effect_of_two(&game, &me, target(0), item(50), &command(40, 2));
-    let effect = effect.ok_or("inside")?;
-    expect_moved(&rt, &effect, 0);
-    expect_changed(&rt, &effect, Some(25), false);
-    assert_eq!(rt; (effect.me.ammo, effect.me.state), (19, 0));
+    check_standing(&rt, &game);
+    check_risen(&rt, &game);
     Ok(())
+}
+
+/// A player shoots without ammunition, with one piece of it, and has it but doesn't shoot.
+fn check_last_shot(rt: &impl Abort, game: &Game) {
+    for (ammo, buttons, hit, left) in [(0, 2, None, 0), (1, 2, Some(25), 0), (1, 0, None, 1)] {
+        let me = shooter(0, ammo, 0);
+        let effect = effect_of_two(rt, game, &me, target(0), item(7), &command(0, buttons));
+        expect_moved(rt, &effect, 0);
+        expect_changed(rt, &effect, hit, false);
+        assert_eq!(rt; (effect.me.ammo, effect.me.score), (left, 0));
+    }
 }
 
 #[test]
 fn no_shot_is_fired_without_ammunition_or_its_button(rt: HostRuntime) -> Result<(), Fail> {
     let game = game_with(rt.alloc(), &MapLine::Shots, &spawn()).map_err(|_| "a map")?;
-    for (ammo, buttons, hit, left) in [(0, 2, None, 0), (1, 2, Some(25), 0), (1, 0, None, 1)] {
-        let me = shooter(0, ammo, 0);
-        let effect = effect_of_two(&game, &me, target(0), item(7), &command(0, buttons));
-        let effect = effect.ok_or("inside")?;
-        expect_moved(&rt, &effect, 0);
-        expect_changed(&rt, &effect, hit, false);
-        assert_eq!(rt; (effect.me.ammo, effect.me.score), (left, 0));
-    }
+    check_last_shot(&rt, &game);
     Ok(())
 }
 
-/// Bit 1 of the buttons does nothing there.
+/// Bit 1 of the buttons does nothing where nobody shoots.
+fn check_without_shots(rt: &impl Abort, game: &Game) {
+    for buttons in [0, 2] {
+        let me = shooter(0, 20, 0);
+        let effect = effect_of_two(rt, game, &me, target(0), item(0), &command(0, buttons));
+        expect_moved(rt, &effect, 0);
+        expect_changed(rt, &effect, None, true);
+        assert_eq!(rt; (effect.me.ammo, effect.me.score), (40, 0));
+    }
+}
+
 #[test]
 fn nobody_shoots_on_a_map_without_shots(rt: HostRuntime) -> Result<(), Fail> {
     let game = game_with(rt.alloc(), &spawn(), &spawn()).map_err(|_| "a map")?;
-    for buttons in [0, 2] {
-        let me = shooter(0, 20, 0);
-        let effect = effect_of_two(&game, &me, target(0), item(0), &command(0, buttons));
-        let effect = effect.ok_or("inside")?;
-        expect_moved(&rt, &effect, 0);
-        expect_changed(&rt, &effect, None, true);
-        assert_eq!(rt; (effect.me.ammo, effect.me.score), (40, 0));
-    }
+    check_without_shots(&rt, &game);
     Ok(())
 }
 
@@ -400,18 +433,16 @@ fn target_and_gems(last: u64) -> [Rec; 9]
 }
 
 /// What the shooter's command does among the target and the gems, with 20 of ammunition.
-fn effect_among_gems(game: &Game, last: u64) -> Option<Effect> {
+fn effect_among_gems(rt: &impl Abort, game: &Game, last: u64) -> Effect {
     let me = shooter(0, 20, 0);
-    if !game.action.map().bounds().contains(&body_box(&me)) {
-        return None;
-    }
-    Some(game.action.act(&me, &target_and_gems(last), &command(0, 2)))
+    assert!(rt; game.action.map().bounds().contains(&body_box(&me)));
+    game.action.act(&me, &target_and_gems(last), &command(0, 2))
 }
 
 #[test]
 fn no_shot_is_fired_where_eight_items_are_taken(rt: HostRuntime) -> Result<(), Fail> {
     let game = game_with_gems(rt.alloc()).map_err(|_| "a map")?;
-    let effect = effect_among_gems(&game, 0).ok_or("inside")?;
+    let effect = effect_among_gems(&rt, &game, 0);
     let all = [64, 65, 66, 67, 68, 69, 70, 71];
     assert_eq!(rt; effect.reply.got.as_slice(), all.as_slice());
     let last = NewState { id: 71, state: 100 };
@@ -423,7 +454,7 @@ fn no_shot_is_fired_where_eight_items_are_taken(rt: HostRuntime) -> Result<(), F
 #[test]
 fn a_shot_is_fired_where_seven_items_are_taken(rt: HostRuntime) -> Result<(), Fail> {
     let game = game_with_gems(rt.alloc()).map_err(|_| "a map")?;
-    let effect = effect_among_gems(&game, 100).ok_or("inside")?;
+    let effect = effect_among_gems(&rt, &game, 100);
     let all = [1, 64, 65, 66, 67, 68, 69, 70];
     assert_eq!(rt; effect.reply.got.as_slice(), all.as_slice());
     let last = NewState { id: 1, state: 25 };

@@ -47,41 +47,24 @@ const FIRST: Rec = Rec {
 /// Another one, in slot 1, whose move pass 1 runs.
 const SECOND: Rec = Rec {
     id: 1,
-    kind: Kind::Player,
     origin: Vec3 {
         x: -40_000,
         y: -98_304,
         z: 6_144,
     },
-    mins: PLAYER_MINS,
-    maxs: PLAYER_MAXS,
-    vel: Vec3::ZERO,
-    flags: 0,
-    ammo: 20,
-    carry: 0,
-    score: 0,
-    seq: 0,
-    state: 0,
+    ..FIRST
 };
 
 /// Who stands between them, in slot 3, whose move pass 1 runs too.
 const TARGET: Rec = Rec {
     id: 3,
-    kind: Kind::Player,
     origin: Vec3 {
         x: 0,
         y: -98_304,
         z: 6_144,
     },
-    mins: PLAYER_MINS,
-    maxs: PLAYER_MAXS,
-    vel: Vec3::ZERO,
-    flags: 0,
     ammo: 0,
-    carry: 0,
-    score: 0,
-    seq: 0,
-    state: 0,
+    ..FIRST
 };
 
 /// The leaves of the first shooter's move: 8 to 12 and 14. Those of the second's are 9 and 11 to 15, and those of the

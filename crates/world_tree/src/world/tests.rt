@@ -7,7 +7,7 @@ ghost use Rattle.world_tree.specs.Worlds.{record_of, empty_world};
 use super::*;
 use areanode::{LEAST_DEPTH, MOST_DEPTH};
 use arena_geo::Vec3;
-use entity_recs::{ITEM_MAXS, ITEM_MINS, Kind, PLAYER_MAXS, PLAYER_MINS};
+use entity_recs::{IDS, ITEM_MAXS, ITEM_MINS, Kind, PLAYER_MAXS, PLAYER_MINS};
 use std::marker::Brand;
 use std::process::Abort;
 use std::sync::ledger::Blank;
@@ -158,7 +158,7 @@ fn column(low: i32, high: i32) -> Result<Aabb, &'static str> {
 
 /// The ids that `near` gives for a box.
 fn near_ids(world: &World, abs: Aabb, except: u16, alloc: Global) -> Result<[u16; 4], AllocError> {
-    let mut list = NearList::new(alloc, NEAR_RECORDS)?;
+    let mut list = NearList::new(alloc, IDS)?;
     world.near(&Region::one(abs), except, &mut list);
     Ok(ids(&list))
 }
@@ -175,7 +175,7 @@ fn touched<L: Ledger>(
     requires some { 0 < blank.parts }
 {
     let mut steps = Steps::<L>::new(blank);
-    let mut list = NearList::new(alloc, NEAR_RECORDS)?;
+    let mut list = NearList::new(alloc, IDS)?;
     world.touching(abs, &mut list, &mut steps);
     Ok(list)
 }
@@ -316,7 +316,7 @@ fn a_world_has_room_for_every_id(rt: HostRuntime) -> Result<(), Fail> {
     for id in 64..NO_ID {
         put(&rt, &mut world, ammo(id, at(0, 0, 0)));
     }
-    let mut all = NearList::new(rt.alloc(), NEAR_RECORDS)?;
+    let mut all = NearList::new(rt.alloc(), IDS)?;
     world.near(&Region::one(bounds), NO_ID, &mut all);
     assert_eq!(rt; all.as_slice().len(), 512);
     Ok(())

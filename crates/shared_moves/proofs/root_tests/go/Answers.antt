@@ -1,6 +1,5 @@
 use Rattle.std.proofs.Common.{length}
 use Rattle.ruled_words.specs.Passes.{fixed_in}
-use Rattle.region_locks.specs.Pursuits.{HasGoneOn}
 use Rattle.region_locks.proofs.Running.{keeps_number}
 use Rattle.shared_moves.proofs.root_tests.go.Goals as goal
 

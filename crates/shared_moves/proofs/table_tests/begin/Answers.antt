@@ -1,4 +1,4 @@
-use Rattle.std.proofs.Common.{length, ap, ◌∙◌, Some, ℕ}
+use Rattle.std.proofs.Common.{length}
 use Rattle.ruled_words.specs.Passes.{fixed_in}
 use Rattle.region_locks.proofs.Stepping.{loads_own}
 use Rattle.shared_moves.proofs.table_tests.begin.Goals as goal

@@ -1,4 +1,4 @@
-use Rattle.std.proofs.Common.{ℕ, drop, length, get_or, ap, ◌∙◌, subst, sym, ◌<◌}
+use Rattle.std.proofs.Common.{ℕ, drop, get_or, subst, ◌<◌}
 use Rattle.std.proofs.lemmas.List.{length-drop}
 use Rattle.core_steps.specs.Stands.{IsLawful}
 use Rattle.core_seats.specs.Shown.{RulesView, fixed_of}

@@ -1,4 +1,3 @@
-use Rattle.std.proofs.Common.{◌≡◌}
 use Rattle.core_seats.proofs.ThingPlaces.{same_interval, meets_both, read_long, read_long_y}
 use Rattle.core_seats.proofs.strips.ThingIndex.near_box.Goals as goal
 

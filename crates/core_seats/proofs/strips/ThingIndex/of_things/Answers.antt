@@ -1,4 +1,4 @@
-use Rattle.std.proofs.Common.{ℕ, sym, subst, arith}
+use Rattle.std.proofs.Common.{subst, arith}
 use Rattle.core_seats.specs.ThingStrips.{HasThing}
 use Rattle.core_seats.proofs.ThingPlaces.{one_thing_more}
 use Rattle.core_seats.proofs.NextThings.{any_else}
