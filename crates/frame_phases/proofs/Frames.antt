@@ -13,7 +13,6 @@ use Rattle.move_journal.proofs.JournalLaws.{merges_have_whole_histories}
 use Rattle.arena_map.specs.Maps.{MapView, IsMap}
 use Rattle.arena_actions.specs.MapActions.{map_in}
 use Rattle.packet_read.specs.declared.arrival.Arrival.{Arrival}
-use Rattle.client_ports.specs.declared.client.Client.{Client}
 use Rattle.client_ports.specs.States.{State, state_of, HaveSameLive, IsServerState}
 use Rattle.client_ports.specs.Receiving.{Receiving}
 use Rattle.client_ports.specs.Finishing.{finished}
@@ -27,8 +26,6 @@ use Rattle.plain_server.specs.RecordsById.{world_of, records_in}
 use Rattle.arena_actions.specs.Outcomes.{outcome_on}
 use Rattle.plain_server.specs.Moving.{HasLivePlayer}
 use Rattle.plain_server.specs.Frames.{state_after_tick, received_in, moved_by}
-use Rattle.world_physics.specs.Ticks.{after_tick}
-use Rattle.plain_server.proofs.Ticking.{server_ticked}
 use Rattle.client_ports.proofs.Short.{moves_are_few}
 use Rattle.plain_server.proofs.Frames.{received_is, moved_by_is, state_after_is}
 use Rattle.plain_server.specs.Takers.{HasOneTaker, HasItemsAway, IsInState}
@@ -149,9 +146,3 @@ pub live_after : (map_view : MapView) (workers : ℕ) (r : Receiving) (moves : L
 live_after map_view workers r moves new journal is_map got moves_are ran =
     let have : AreRun map_view r workers r.lists.moves new journal = subst (λ (ms : List Command). AreRun map_view r workers ms new journal) moves_are ran in
     subst (HaveSameLive r.state.clients) (sym have.moved) (moved_by_is map_view r journal is_map got.pass).fits.live
-
--- so they are after the tick of a frame
-pub ticked_live : (map_view : MapView) (frame : ℕ) (clients : List (Option Client)) (before records : List (Option Rec)) → IsMap map_view → IsServerState map_view (state_of clients before)
-    → records ≡ after_tick map_view frame before → HaveSameLive clients records
-ticked_live map_view frame clients before records is_map is ticked =
-    subst (HaveSameLive clients) (sym ticked) (server_ticked map_view frame (state_of clients before) is_map is).fits.live

@@ -15,6 +15,5 @@ mod scores;
 mod server;
 mod shows;
 mod slots;
-mod state;
 #[cfg(test)]
 mod tests;

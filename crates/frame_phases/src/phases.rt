@@ -1,7 +1,6 @@
 ghost use Rattle.arena_actions.specs.MapActions.{map_in, IsOfItsMap};
 ghost use Rattle.std.specs.Prelude.{◌≡◌, ◌+◌, ◌<◌, ◌≤◌, [], length, IfOk};
-ghost use Rattle.arena_map.specs.Maps.{IsMap, entities_of};
-ghost use Rattle.world_tree.specs.Worlds.{empty_world, with_records};
+ghost use Rattle.arena_map.specs.Maps.{IsMap};
 ghost use Rattle.client_ports.specs.States.{state_of};
 ghost use Rattle.client_ports.specs.Lists.{no_lists, room_for};
 ghost use Rattle.client_ports.specs.Receiving.{receiving_of};
@@ -15,12 +14,12 @@ ghost use Rattle.frame_phases.specs.Finishes.{IsBegun, IsFinished};
 
 use crate::frame_out::FrameOut;
 use crate::shows::show_players;
-use crate::state::State;
 use arena_actions::MapAction;
 use arena_map::ArenaMap;
 use client_ports::Received;
 use move_phase::StartedMoves;
 use packet_read::Arrival;
+use server_state::State;
 use shared_moves::Gate;
 use std::alloc::{AllocError, Global};
 use std::mem;
@@ -141,7 +140,7 @@ pub fn finish_frame<R: Threads + Wait + Sync, G: Gate>(
         &mut out.slots,
         &mut out.replies,
     );
-    states.next.ports.finish(&mut states.next.world);
+    states.next.finish();
     mem::swap(&mut states.state, &mut states.next);
     out.frame = states.frames;
     states.frames += 1;

@@ -16,7 +16,7 @@ use Rattle.out_text.specs.FrameLines.{lines_with, run_lines}
 use Rattle.out_text.specs.OutLines.{EndLine, printed, text_of}
 use Rattle.out_text.specs.Transcripts.{BeginsWith, run_moves, IsTranscript, HasRightPieces, IsWrongAfter}
 use Rattle.out_text.proofs.Runs.{length-right, run_lines-append, run_lines-push, state_played-push, right-push, right-split_last, right-take, text_of-append}
-use Rattle.transcript_check.specs.declared.pending.TheConstants.{MOST_FRAME_MOVES}
+use Rattle.client_ports.specs.declared.received.TheConstants.{MOST_FRAME_MOVES}
 use Rattle.transcript_check.specs.Reading.{counted, ahead_of, ReadsLines, Misses}
 use Rattle.transcript_check.specs.Checkers.{CheckerView, new_checker, IsChecker}
 use Rattle.transcript_check.specs.Pieces.{HasNoJournal, TakesFrame}

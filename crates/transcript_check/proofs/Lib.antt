@@ -1,5 +1,4 @@
 -- Lemmas on transcripts.
-pub mod Openings
 pub mod Texts
 pub mod Turns
 pub mod ReadingOn

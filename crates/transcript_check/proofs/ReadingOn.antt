@@ -12,7 +12,7 @@ use Rattle.out_text.specs.OutLines.{OutLine, spelled, printed, text_of}
 use Rattle.out_text.specs.Transcripts.{BeginsWith}
 use Rattle.out_text.proofs.Runs.{text_of-append}
 use Rattle.transcript_check.specs.Reading.{counted, ahead_of, GoesOn, ReadsLine, ReadsLines, Misses, ReadFails}
-use Rattle.transcript_check.proofs.Texts.{read-one, missed-none, missed-other, missed-after, missed-front, missed-one}
+use Rattle.transcript_check.proofs.Texts.{missed-none, missed-other, missed-after, missed-front, missed-one}
 
 -- counts add up
 pub counted-both : (n a b : ℕ) → counted (counted n a) b ≡ counted n (a + b)
@@ -73,10 +73,6 @@ module _ {S : Type 0} (s : sources.Ghosts S) where
     later = subst (λ (n : ℕ). n ≤ s.faults c) one.uncounted fails.later;
     fails = λ sure. fails.fails (one.keeps sure);
   }
-
-  -- the line that was read is this one
-  pub reads-one : (a b : S) (d e : DemoReaderView) (given : List ℕ) (l : OutLine) → ReadsLine s a b d e given → given ≡ spelled l → ReadsLines s a b d e (l ∷ [])
-  reads-one a b d e given l one is = record { consumed = read-one (ahead_of s d a) (ahead_of s e b) given l one.gives is; on = one.on }
 
   -- another one was read
   pub misses-other : (a b : S) (d e : DemoReaderView) (given : List ℕ) (l : OutLine) → ReadsLine s a b d e given → (given ≡ spelled l → ⊥) → Misses s a b d (λ bytes. BeginsWith bytes (printed l) → ⊥)

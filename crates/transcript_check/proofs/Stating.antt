@@ -15,9 +15,6 @@ use Rattle.plain_server.proofs.NewStates.{restated, same_id}
 abbrev Own : ℕ → List (Option Rec) → Type 0
 Own n records = (i : ℕ) (x : Rec) → record_at records i ≡ Some x → x.id ≡ n + i
 
-one-state : NewState → Rec → Rec
-one-state s r = with_new_state (s ∷ []) r.id r
-
 -- past its place nothing gets the state
 untouched : (s : NewState) (n : ℕ) (records : List (Option Rec)) → Own n records → s.id < n → with_new_states (s ∷ []) records ≡ records
 untouched s n [] own past = refl

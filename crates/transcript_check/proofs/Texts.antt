@@ -48,11 +48,6 @@ text_of-one l = append-nil (printed l)
 
 -- ---- what was ahead
 
--- the line that was read is this one
-pub read-one : (a b : Option (List ℕ)) (given : List ℕ) (l : OutLine) → GivesRestLine a b given → given ≡ spelled l → Consumes a b (text_of (l ∷ []))
-read-one a b given l gives is =
-    subst (Consumes a b) (ap (λ t. t ++ 10 ∷ []) is ∙ sym (text_of-one l)) gives.consumed
-
 -- no line was there
 pub missed-none : (a : Option (List ℕ)) (l : OutLine) → IfSome a HasNoRestLine → length (spelled l) ≤ LONGEST_REST → IfSome a (λ bytes. BeginsWith bytes (printed l) → ⊥)
 missed-none None l none short = tt
@@ -66,15 +61,6 @@ missed-other (Some bytes) (Some left) given l gives other = λ begins.
     let both : given ++ 10 ∷ left ≡ spelled l ++ 10 ∷ begins.after =
     sym (append_assoc given (10 ∷ []) left) ∙ sym gives.consumed ∙ begins.is ∙ printed-before l begins.after in
     other (same_line given (spelled l) left begins.after gives.one_line (one_line l) both).line_is
-
--- where a line was read, this is the one with which the bytes begin
-pub read-there : (a b : Option (List ℕ)) (given : List ℕ) (P : Type 0) → GivesRestLine a b given → (l : OutLine) → IfSome a (λ bytes. BeginsWith bytes (printed l)) → (given ≡ spelled l → P) → IfSome a (λ bytes. P)
-read-there None b given P gives l begins then = tt
-read-there (Some bytes) None given P gives l begins then = absurd gives.consumed
-read-there (Some bytes) (Some left) given P gives l begins then =
-    let both : given ++ 10 ∷ left ≡ spelled l ++ 10 ∷ begins.after =
-    sym (append_assoc given (10 ∷ []) left) ∙ sym gives.consumed ∙ begins.is ∙ printed-before l begins.after in
-    then (same_line given (spelled l) left begins.after gives.one_line (one_line l) both).line_is
 
 -- ---- fronts
 
@@ -139,17 +125,9 @@ pub on_false-weaker : (b : Bool) (P Q : Type 0) → OnFalse b P → (P → Q) �
 on_false-weaker true P Q p then = tt
 on_false-weaker false P Q p then = then p
 
-pub on_true-weaker : (b : Bool) (P Q : Type 0) → OnTrue b P → (P → Q) → OnTrue b Q
-on_true-weaker true P Q p then = then p
-on_true-weaker false P Q p then = tt
-
 pub ok_false-weaker : {E : Type 0} (r : Result Bool E) (P Q : Type 0) → IfOk r (λ is. OnFalse is P) → (P → Q) → IfOk r (λ is. OnFalse is Q)
 ok_false-weaker (Ok b) P Q p then = on_false-weaker b P Q p then
 ok_false-weaker (Err e) P Q p then = tt
-
-pub ok_true-weaker : {E : Type 0} (r : Result Bool E) (P Q : Type 0) → IfOk r (λ is. OnTrue is P) → (P → Q) → IfOk r (λ is. OnTrue is Q)
-ok_true-weaker (Ok b) P Q p then = on_true-weaker b P Q p then
-ok_true-weaker (Err e) P Q p then = tt
 
 -- the lines that are left, with the first of them
 pub left_cons : {X : Type 0} (f : X → OutLine) (xs : List X) (i : ℕ) (d : X) → i < length xs → map f (drop i xs) ≡ f (get_or xs i d) ∷ map f (drop (i + 1) xs)
@@ -159,13 +137,6 @@ left_cons {X = X} f xs i d inside = ap (map f) (drop-at xs i inside) ∙ ap (λ 
     drop-at [] k within = absurd (omega (arith, within))
     drop-at (y ∷ ys) zero within = refl
     drop-at (y ∷ ys) (suc k) within = drop-at ys k (omega (arith, within))
-
--- none are left
-pub left_none : {X : Type 0} (f : X → OutLine) (xs : List X) (i : ℕ) → length xs ≤ i → map f (drop i xs) ≡ []
-left_none f [] zero past = refl
-left_none f [] (suc i) past = refl
-left_none f (x ∷ xs) zero past = absurd (omega (arith, past))
-left_none f (x ∷ xs) (suc i) past = left_none f xs i (omega (arith, past))
 
 pub ok_true-both : {E : Type 0} (r : Result Bool E) (P Q T : Type 0) → IfOk r (λ is. OnTrue is P) → IfOk r (λ is. OnTrue is Q) → (P → Q → T) → IfOk r (λ is. OnTrue is T)
 ok_true-both (Ok true) P Q T p q then = then p q

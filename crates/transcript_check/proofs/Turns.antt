@@ -13,16 +13,14 @@ use Rattle.entity_recs.specs.Worlds.{World}
 use Rattle.entity_recs.specs.Histories.{Action, Item, commands_of, outcome, apply, run, entry_of}
 use Rattle.move_journal.specs.Merges.{IsMerge, reported_numbers, sent_numbers, history_of, with_command, is_entry_of, HasNumbersApart}
 use Rattle.move_journal.proofs.Founds.{IsFound, each_is_found}
-use Rattle.move_journal.proofs.Orders.{IsLegalFrom, legal_from_first}
-use Rattle.move_journal.proofs.Uniques.{looked_up_command, front_of_history, first_entry, legal_after, legal_at_first}
+use Rattle.move_journal.proofs.Orders.{IsLegalFrom}
+use Rattle.move_journal.proofs.Uniques.{looked_up_command, front_of_history, first_entry, legal_after}
 use Rattle.arena_map.specs.Maps.{MapView, IsMap}
 use Rattle.arena_map.specs.Validity.{IsValidWorld}
 use Rattle.arena_actions.specs.Outcomes.{outcome_on}
-use Rattle.client_ports.specs.Receiving.{Receiving}
 use Rattle.plain_server.specs.RecordsById.{world_of}
 use Rattle.plain_server.specs.Moving.{HasLivePlayer, effect_among, records_after, HaveMoved}
-use Rattle.plain_server.specs.Frames.{IsRightAfter, moved_by}
-use Rattle.plain_server.proofs.Moves.{moved-none, moved-more, moved-records, still-live}
+use Rattle.plain_server.proofs.Moves.{moved-none, moved-more, still-live}
 use Rattle.transcript_check.specs.Moves.{IsNextOf}
 
 -- ---- what is left
@@ -116,14 +114,6 @@ pub record AreReady (map_view : MapView) (moves : List Command) (records : List 
 pub record IsRightFrom (map_view : MapView) (moves : List Command) (place : ℕ) (records : List (Option Rec)) (pending : List Command) (journal : List Entry) : Type 0 where
   pub merge : IsMerge journal pending
   pub legal : IsLegalFrom (outcome_on map_view) place (world_of records) (history_of moves journal)
-
-pub right-first : (map_view : MapView) (r : Receiving) (journal : List Entry) → IsRightAfter map_view r journal → IsRightFrom map_view r.lists.moves 0 r.state.records r.lists.moves journal
-right-first map_view r journal right =
-    record { merge = right.merge; legal = legal_at_first (outcome_on map_view) (world_of r.state.records) (history_of r.lists.moves journal) right.legal }
-
-pub first-right : (map_view : MapView) (r : Receiving) (journal : List Entry) → IsRightFrom map_view r.lists.moves 0 r.state.records r.lists.moves journal → IsRightAfter map_view r journal
-first-right map_view r journal right =
-    record { merge = right.merge; legal = legal_from_first (outcome_on map_view) (world_of r.state.records) (history_of r.lists.moves journal) right.legal }
 
 no-parts : (before : List Item) (item : Item) (following : List Item) (A : Type 0) → ◌≡◌ {A = List Item} [] (before ++ item ∷ following) → A
 no-parts [] item following A same = cc
@@ -302,11 +292,6 @@ module _ (map_view : MapView) (is_map : IsMap map_view) (moves : List Command) w
       ∙ map-append (λ (item : Item). item.command) (history_of moves front) (record { command = c; entry = e } ∷ []) in
       subst (HaveMoved map_view start (records_after map_view records c)) (sym commands)
       (moved-more map_view start records (commands_of (history_of moves front)) c is_map lives.0 moved)
-
--- the records after a whole journal are those that its frame shows
-pub moved-whole : (map_view : MapView) (r : Receiving) (journal : List Entry) (records : List (Option Rec)) → HaveMoved map_view r.state.records records (commands_of (history_of r.lists.moves journal))
-    → records ≡ (moved_by map_view r journal).records
-moved-whole map_view r journal records moved = sym (moved-records map_view r.state.records records (commands_of (history_of r.lists.moves journal)) moved)
 
 -- the moves of a reception are ready
 pub ready-first : (map_view : MapView) (records : List (Option Rec)) (moves : List Command) → IsValidWorld map_view records → All (HasLivePlayer records) moves → HasNumbersApart moves

@@ -9,7 +9,7 @@ use Rattle.demo_lines.specs.Reads.{DemoReaderView}
 use Rattle.out_text.specs.FrameLines.{no_line, joined_line, lines_with}
 use Rattle.out_text.specs.OutLines.{OutLine, FrameLine, text_of}
 use Rattle.out_text.specs.Transcripts.{BeginsWith}
-use Rattle.transcript_check.specs.declared.pending.TheConstants.{MOST_FRAME_MOVES}
+use Rattle.client_ports.specs.declared.received.TheConstants.{MOST_FRAME_MOVES}
 use Rattle.transcript_check.specs.Reading.{counted, ahead_of, ReadsLines}
 use Rattle.transcript_check.specs.Checkers.{CheckerView, IsChecker}
 

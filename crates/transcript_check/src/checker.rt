@@ -24,7 +24,6 @@ use crate::lines::Lines;
 use crate::mover::Mover;
 use crate::other_list::OtherList;
 use crate::pending::Pending;
-use crate::state::State;
 use arena_map::ArenaMap;
 use client_ports::Received;
 use demo_lines::{DemoReader, DemoStop};
@@ -32,6 +31,7 @@ use edge_io::Source;
 use entity_recs::Cmd;
 use out_text::OutLine;
 use packet_read::{Arrival, MOST_ARRIVALS};
+use server_state::State;
 use std::alloc::{AllocError, Global};
 use std::marker::Model;
 use world_tree::World;
@@ -241,7 +241,7 @@ impl Model for Checker {
 }
 
 impl Checker {
-    ghost use Rattle.std.specs.Prelude.{◌≡◌, ◌*◌, ◌<◌, ◌≤◌, [], ◌∷◌, length, IfOk, IfErr, OnOk};
+    ghost use Rattle.std.specs.Prelude.{◌≡◌, ◌*◌, ◌<◌, ◌≤◌, [], ◌∷◌, length, IfOk, IfErr};
     ghost use Rattle.std.specs.Bool.{OnTrue, OnFalse};
     ghost use Rattle.arena_map.specs.declared.limits.TheConstants.{MOST_FRAMES};
     ghost use Rattle.plain_server.specs.Frames.{received_in, IsRightAfter};
@@ -250,7 +250,7 @@ impl Checker {
     ghost use Rattle.out_text.specs.FrameLines.{lines_with};
     ghost use Rattle.out_text.specs.OutLines.{EndLine, printed};
     ghost use Rattle.out_text.specs.Transcripts.{BeginsWith};
-    ghost use Rattle.transcript_check.specs.declared.pending.TheConstants.{MOST_FRAME_MOVES};
+    ghost use Rattle.client_ports.specs.declared.received.TheConstants.{MOST_FRAME_MOVES};
     ghost use Rattle.transcript_check.specs.Reading.{ahead_of, ReadsLines, Misses, ReadFails};
     ghost use Rattle.transcript_check.specs.Checkers.{new_checker, IsChecker};
     ghost use Rattle.transcript_check.specs.Pieces.{HasNoJournal, TakesFrame};

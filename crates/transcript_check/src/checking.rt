@@ -1,7 +1,6 @@
-ghost use Rattle.std.specs.Prelude.{◌≡◌, ◌<◌, ◌≤◌, ◌^◌, List, length, map, IfOk, IfErr};
+ghost use Rattle.std.specs.Prelude.{◌≡◌, ◌<◌, ◌≤◌, ◌^◌, length, map, IfOk, IfErr};
 ghost use Rattle.std.specs.List.{AllByRecursion};
 ghost use Rattle.arena_map.specs.declared.limits.TheConstants.{MOST_FRAMES};
-ghost use Rattle.packet_read.specs.declared.arrival.Arrival as arrival;
 ghost use Rattle.demo_lines.specs.declared.stage.Stage.TheVariants.{Ended};
 ghost use Rattle.demo_lines.specs.Reads.{fresh_within};
 ghost use Rattle.demo_lines.specs.Rest.{HasRest};

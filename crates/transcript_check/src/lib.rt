@@ -16,5 +16,4 @@ mod mover;
 mod other_list;
 mod pending;
 mod recorded;
-mod state;
 mod verdict;

@@ -1,17 +1,16 @@
 ghost use Rattle.arena_actions.specs.MapActions.{map_in, IsOfItsMap, IsOfItsMap-prop};
-ghost use Rattle.std.specs.Prelude.{◌≡◌, ◌<◌, ◌≤◌, [], ◌∷◌, ◌++◌, All, filter, length, map, Some, IsSome, ◌^◌};
+ghost use Rattle.std.specs.Prelude.{◌≡◌, ◌<◌, [], ◌∷◌, ◌++◌, filter, length, map, Some, IsSome, ◌^◌};
 ghost use Rattle.std.specs.Option.{option_to_list};
-ghost use Rattle.std.specs.List.Sorted.{IsStrictlyIncreasing};
 ghost use Rattle.entity_recs.specs.declared.limits.TheConstants.{IDS};
 ghost use Rattle.entity_recs.specs.declared.effect.NewState.{NewState};
-ghost use Rattle.entity_recs.specs.Records.{IsRecord, with_state};
+ghost use Rattle.entity_recs.specs.Records.{with_state};
 ghost use Rattle.entity_recs.specs.Commands.{command_of};
 ghost use Rattle.entity_recs.specs.Worlds.{others_of};
 ghost use Rattle.world_tree.specs.Worlds.{IsLinked, record_of};
 ghost use Rattle.arena_map.specs.Validity.{IsValidWorld};
 ghost use Rattle.plain_server.specs.RecordsById.{world_of};
 ghost use Rattle.transcript_check.specs.Moves.{is_other};
-ghost use Rattle.plain_server.specs.Moving.{HasLivePlayer, effect_among, with_new_states, records_with, records_after};
+ghost use Rattle.plain_server.specs.Moving.{HasLivePlayer, effect_among, with_new_states, records_after};
 
 use crate::other_list::OtherList;
 use arena_actions::MapAction;
@@ -22,6 +21,7 @@ use world_tree::World;
 /// Runs moves one after another on a world, each over all other live records.
 #[derive(Drop)]
 pub struct Mover {
+    /// The move of the map.
     pub action: MapAction,
     others: OtherList,
     ghost of_its_map: { IsOfItsMap action } by { IsOfItsMap-prop action },

@@ -5,13 +5,10 @@ ghost use Rattle.entity_recs.specs.Commands.{command_of};
 ghost use Rattle.plain_server.specs.Moving.{HasSmallNumber};
 ghost use Rattle.transcript_check.specs.Moves.{IsNextOf};
 
-use client_ports::MOST_MOVES;
+use client_ports::MOST_FRAME_MOVES;
 use entity_recs::Cmd;
 use std::alloc::{AllocError, Global};
 use std::marker::Model;
-
-/// The most moves of a frame: those of each of 64 slots.
-pub const MOST_FRAME_MOVES: usize = MOST_MOVES as usize * 64;
 
 /// The moves of a frame that weren't run yet, in the order of arrival. It has the room for all from the start.
 #[derive(Drop)]
@@ -22,7 +19,7 @@ pub struct Pending {
 impl Model for Pending {
     ghost use Rattle.std.specs.Prelude.{List, ◌≤◌, map, vec_capacity};
     ghost use Rattle.entity_recs.specs.Commands.{Command, command_of};
-    ghost use Rattle.transcript_check.specs.declared.pending.TheConstants.{MOST_FRAME_MOVES};
+    ghost use Rattle.client_ports.specs.declared.received.TheConstants.{MOST_FRAME_MOVES};
 
     ghost Value = { List Command };
 

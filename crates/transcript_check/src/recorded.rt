@@ -1,5 +1,4 @@
 ghost use Rattle.std.specs.Prelude.{◌≡◌, true, false, IfOk, IfErr};
-ghost use Rattle.demo_lines.specs.declared.stage.Stage.TheVariants.{Ended};
 ghost use Rattle.demo_lines.specs.Reads.{fresh_within};
 ghost use Rattle.transcript_check.specs.Recorded.{ReadsRecording, is_last};
 ghost use Rattle.transcript_check.specs.Verdicts.{StopsChecking};
@@ -32,7 +31,7 @@ impl Model for Recorded {
 }
 
 impl Recorded {
-    ghost use Rattle.std.specs.Prelude.{◌≡◌, [], ◌++◌, None, map, OnOk};
+    ghost use Rattle.std.specs.Prelude.{◌≡◌, ◌++◌, None, map, OnOk};
     ghost use Rattle.out_text.specs.Collecting.{no_frames, closing, collect};
 
     /// Before the first event. It takes no memory.

@@ -4,7 +4,7 @@ use Rattle.client_ports.specs.Lists.{IsRoomFor}
 use Rattle.client_ports.proofs.Rooms.{room_enough}
 use Rattle.client_ports.specs.States.{state_of}
 use Rattle.client_ports.specs.Receiving.{receiving_of}
-use Rattle.frame_phases.specs.declared.state.State.{State}
+use Rattle.server_state.specs.declared.state.State.{State}
 use Rattle.frame_phases.proofs.Frames.{is_received, received_from, live_moves, few_moves, begun_if_started}
 use Rattle.frame_phases.proofs.phases.begin_frame.Goals as goal
 

@@ -4,7 +4,7 @@ use Rattle.arena_actions.specs.MapActions.{map_in}
 use Rattle.client_ports.specs.States.{state_of}
 use Rattle.client_ports.specs.Receiving.{receiving_of}
 use Rattle.move_phase.specs.Starting.{AreStarted}
-use Rattle.frame_phases.specs.declared.state.State.{State}
+use Rattle.server_state.specs.declared.state.State.{State}
 use Rattle.frame_phases.proofs.Frames.{AreRun, few_moves, apart_moves, live_after, is_finished}
 use Rattle.frame_phases.proofs.phases.finish_frame.Goals as goal
 

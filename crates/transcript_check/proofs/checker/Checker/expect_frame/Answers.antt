@@ -37,5 +37,5 @@ pub returns-clause-ok : goal.returns-clause-ok
 returns-clause-ok g c =
     let here = is-here c.args.self.now _ c.map.result.now c.args.arrivals.now _ c.self.view_is c.requires.is c.map.ensures.value c.receive.ensures.received in
     frame-taken g.S.Source c.args.source.now c.expect_lines.new.source c.args.reader.now c.expect_lines.new.reader c.args.self.now _ c.self.view_is c.args.arrivals.now _ here _ _
-    (rw c.if-not-is_right.false at c.in_ok-is_right.ensures.ok) _ c.requires.few (ap map_in c.in_ok-is_right.ensures.action) c.finish.ensures refl
+    (rw c.if-not-is_right.false at c.in_ok-is_right.ensures.ok) _ c.requires.few (ap map_in c.in_ok-is_right.ensures.action) c.finish.ensures.finished refl
     (ap (λ n. c.self.inside.moves + n) (sym (length-map c.moves.result.now command_of) ∙ ap length c.moves.ensures)) refl

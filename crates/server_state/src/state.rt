@@ -1,9 +1,10 @@
-ghost use Rattle.std.specs.Prelude.{◌≡◌, ◌≤◌, length, IfOk};
+ghost use Rattle.std.specs.Prelude.{◌≡◌, length, IfOk};
 ghost use Rattle.arena_map.specs.Maps.{IsMap, entities_of};
 ghost use Rattle.world_tree.specs.Worlds.{empty_world, with_records};
-ghost use Rattle.client_ports.specs.States.{state_of, IsServerState};
+ghost use Rattle.client_ports.specs.States.{state_of, HaveSameLive, IsServerState};
 ghost use Rattle.client_ports.specs.Lists.{no_lists, IsRoomFor};
 ghost use Rattle.client_ports.specs.Receiving.{receiving_of};
+ghost use Rattle.client_ports.specs.Finishing.{finished};
 ghost use Rattle.plain_server.specs.RecordsById.{opening};
 ghost use Rattle.plain_server.specs.Frames.{received_in};
 
@@ -17,7 +18,9 @@ use world_tree::World;
 /// The clients by slot beside the linked world.
 #[derive(Drop)]
 pub struct State {
+    /// Which client has which slot, and the numbers of their commands.
     pub ports: Ports,
+    /// The linked world.
     pub world: World,
 }
 
@@ -54,7 +57,7 @@ impl State {
     }
 
     /// The tick of a frame and its receive pass. It takes no memory.
-    #[tactic(auto, using(crate::proofs::Frames::ticked_live))]
+    #[tactic(auto, using(crate::proofs::Openings::ticked_live))]
     pub fn receive(&mut self, map: &ArenaMap, frame: u32, arrivals: &[Arrival], out: &mut Received)
         requires fits { IsServerState map.now (state_of self.old.ports self.old.world.records) }
         requires empty { out.old.lists ≡ no_lists }
@@ -69,5 +72,15 @@ impl State {
         tick(map, &mut self.world, frame);
         self.ports
             .receive(map, &mut self.world, frame, arrivals, out);
+    }
+
+    /// The end of a frame: those that leave are taken out. It takes no memory.
+    pub fn finish(&mut self)
+        requires { HaveSameLive self.old.ports self.old.world.records }
+        ensures finished { state_of self.new.ports self.new.world.records
+            ≡ finished (state_of self.old.ports self.old.world.records) }
+        ensures tree { self.new.world.tree ≡ self.old.world.tree }
+    {
+        self.ports.finish(&mut self.world);
     }
 }

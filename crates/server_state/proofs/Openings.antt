@@ -16,21 +16,26 @@ records-with : (w : WorldView) (rs : List Rec) → (with_records w rs).records �
 records-with w [] = refl
 records-with w (r ∷ rs) = records-with (with_record w r) rs
 
--- the world that is made of the map's parts has the opening records
-pub opened : (map : MapView) (bounds : Bounds) (depth : ℕ) (things : List Rec) (w : WorldView) → bounds ≡ map.bounds → things ≡ entities_of map
-    → w ≡ with_records (empty_world bounds depth) things → w.records ≡ (opening map).records
+-- the world that the code makes of the map's parts
+pub made_so : (map : MapView) (bounds : Bounds) (depth : ℕ) (things : List Rec) → bounds ≡ map.bounds → depth ≡ map.depth
+    → things ≡ entities_of map
+    → with_records (empty_world bounds depth) things ≡ with_records (empty_world map.bounds map.depth) (entities_of map)
+made_so map bounds depth things bounds_are depth_is things_are =
+    ap (λ (b : Bounds). with_records (empty_world b depth) things) bounds_are
+    ∙ ap (λ d. with_records (empty_world map.bounds d) things) depth_is
+    ∙ ap (with_records (empty_world map.bounds map.depth)) things_are
+
+-- it has the opening records
+pub opened : (map : MapView) (w : WorldView) → w ≡ with_records (empty_world map.bounds map.depth) (entities_of map) → w.records ≡ (opening map).records
 unfolding opening
-opened map bounds depth things w bounds_are things_are is =
-    ap (λ (v : WorldView). v.records) is
-    ∙ ap (λ (rs : List Rec). (with_records (empty_world bounds depth) rs).records) things_are
-    ∙ records-with (empty_world bounds depth) (entities_of map)
+opened map w is = ap (λ (v : WorldView). v.records) is ∙ records-with (empty_world map.bounds map.depth) (entities_of map)
 
 -- before the first frame nobody is joined
 nobody-joined : (map : MapView) → (opening map).clients ≡ no_clients
 unfolding opening
 nobody-joined map = refl
 
--- so it is the state before the first frame
+-- so it is that of a server before the first frame
 pub opened-is : (map : MapView) (records : List (Option Rec)) (clients : List (Option Client)) → records ≡ (opening map).records → clients ≡ no_clients → state_of clients records ≡ opening map
 opened-is map records clients records_are nobody = λ i. state_of ((nobody ∙ sym (nobody-joined map)) i) (records_are i)
 

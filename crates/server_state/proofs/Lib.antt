@@ -1,0 +1,2 @@
+-- Lemmas on the state before the first frame and after a tick.
+pub mod Openings
