@@ -1,3 +1,2 @@
--- Lemmas on what the program is asked for, and on what is written where it isn't served.
-pub mod Asking
+-- Lemmas on what is written where the program isn't served.
 pub mod Unserved

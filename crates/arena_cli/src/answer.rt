@@ -7,7 +7,7 @@ ghost use Rattle.arena_cli.specs.declared.arguments.TheConstants.{NO_MEMORY};
 ghost use Rattle.arena_cli.specs.Asked.{AsksFor, AskForNothing, texts_in};
 
 use crate::arguments::{NoArguments, arguments_of, words_of};
-use arena_engine::{Report, serve};
+use arena_engine::{Report, Status, serve};
 use edge_io::{Sink, Source};
 use shared_moves::Gate;
 use std::alloc::{AllocError, Global};
@@ -62,9 +62,9 @@ pub fn answer<R: Threads + Wait + Sync, S: Source, K: Sink, G: Gate>(
     match arguments_of(alloc, arguments) {
         Ok(all) => match serve_arguments(rt, alloc, all.as_slice(), source, sink, gate) {
             Ok(report) => report,
-            Err(_) => Report::unserved(alloc, 5),
+            Err(_) => Report::of_status_alone(alloc, Status::NoMemory),
         },
-        Err(NoArguments::NotUnicode) => Report::unserved(alloc, 2),
-        Err(NoArguments::Memory) => Report::unserved(alloc, 5),
+        Err(NoArguments::NotUnicode) => Report::of_status_alone(alloc, Status::WordsRefused),
+        Err(NoArguments::NoMemory) => Report::of_status_alone(alloc, Status::NoMemory),
     }
 }

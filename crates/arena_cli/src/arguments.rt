@@ -2,20 +2,23 @@ ghost use Rattle.std.specs.Prelude.{◌≡◌, ◌↔◌, Err, IfErr, IfOk, IsEr
 ghost use Rattle.std.specs.IoError.{error_kind};
 ghost use Rattle.std.specs.Vec.Iter.{into_iter_items};
 ghost use Rattle.arena_cli.specs.declared.arguments.TheConstants.{NO_MEMORY};
-ghost use Rattle.arena_cli.specs.declared.arguments.NoArguments.TheVariants.{NotUnicode, Memory};
+ghost use Rattle.arena_cli.specs.declared.arguments.NoArguments.TheVariants.{NotUnicode, NoMemory};
 
 use std::alloc::{AllocError, Global};
 use std::env::Args;
 use std::io;
 use std::io::ErrorKind;
+use thiserror::Error;
 
 /// Why the program's arguments can't be had.
-#[derive(Clone, Copy, Debug, PartialEq, Eq)]
+#[derive(Clone, Copy, Debug, PartialEq, Eq, Error)]
 pub enum NoArguments {
     /// One of them isn't UTF-8.
+    #[error("an argument isn't UTF-8")]
     NotUnicode,
     /// There was not enough memory.
-    Memory,
+    #[error("out of memory")]
+    NoMemory,
 }
 
 /// How a copy of the arguments fails where there was not enough memory.
@@ -25,13 +28,13 @@ impl From<io::Error> for NoArguments {
     ghost use Rattle.std.specs.Prelude.{◌≡◌, ◌↔◌};
     ghost use Rattle.std.specs.IoError.{error_kind};
     ghost use Rattle.arena_cli.specs.declared.arguments.TheConstants.{NO_MEMORY};
-    ghost use Rattle.arena_cli.specs.declared.arguments.NoArguments.TheVariants.{Memory};
+    ghost use Rattle.arena_cli.specs.declared.arguments.NoArguments.TheVariants.{NoMemory};
 
-    ghost from_gives = { λ error reason. (reason ≡ Memory) ↔ (error_kind error ≡ NO_MEMORY) };
+    ghost from_gives = { λ error reason. (reason ≡ NoMemory) ↔ (error_kind error ≡ NO_MEMORY) };
 
     fn from(error: io::Error) -> NoArguments {
         if error.kind() == NO_MEMORY {
-            NoArguments::Memory
+            NoArguments::NoMemory
         } else {
             NoArguments::NotUnicode
         }
@@ -40,12 +43,12 @@ impl From<io::Error> for NoArguments {
 
 impl From<AllocError> for NoArguments {
     ghost use Rattle.std.specs.Prelude.{◌≡◌};
-    ghost use Rattle.arena_cli.specs.declared.arguments.NoArguments.TheVariants.{Memory};
+    ghost use Rattle.arena_cli.specs.declared.arguments.NoArguments.TheVariants.{NoMemory};
 
-    ghost from_gives = { λ _ reason. reason ≡ Memory };
+    ghost from_gives = { λ _ reason. reason ≡ NoMemory };
 
     fn from(_error: AllocError) -> NoArguments {
-        NoArguments::Memory
+        NoArguments::NoMemory
     }
 }
 
@@ -53,7 +56,7 @@ impl From<AllocError> for NoArguments {
 pub fn arguments_of(alloc: Global, arguments: io::Result<Args>) -> Result<Vec<String>, NoArguments>
     ensures all { IfOk result (λ all. IsOkAnd arguments (λ given. all.items ≡ into_iter_items given)) }
     ensures not_unicode { (result ≡ Err NotUnicode) ↔ IsErrAnd arguments (λ error. error_kind error ≡ NO_MEMORY → ⊥) }
-    ensures no_memory { IfErr arguments (λ error. (result ≡ Err Memory) ↔ (error_kind error ≡ NO_MEMORY)) }
+    ensures no_memory { IfErr arguments (λ error. (result ≡ Err NoMemory) ↔ (error_kind error ≡ NO_MEMORY)) }
 {
     Ok(arguments?.collect(alloc)?)
 }

@@ -1,4 +1,4 @@
-use arena_engine::Report;
+use arena_engine::{Report, Status};
 use std::fmt;
 use std::fmt::{Display, Formatter};
 
@@ -19,14 +19,17 @@ impl Display for Notice<'_> {
             fault,
             ..
         } = self.0;
-        match *status {
-            1 => write!(f, "recording refused: line {line}, fault {fault}"),
-            2 => write!(f, "words refused"),
-            3 => write!(f, "read fault"),
-            4 => write!(f, "write fault"),
-            6 => write!(f, "transcript refused: line {line}"),
-            7 => write!(f, "no way: fault {fault}"),
-            _ => write!(f, "out of memory"),
+        match Status::of_number(*status) {
+            Some(Status::RecordingRefused) => write!(
+                f,
+                "recording refused: line {line}, fault {fault}"
+            ),
+            Some(Status::WordsRefused) => write!(f, "words refused"),
+            Some(Status::ReadFault) => write!(f, "read fault"),
+            Some(Status::WriteFault) => write!(f, "write fault"),
+            Some(Status::TranscriptRefused) => write!(f, "transcript refused: line {line}"),
+            Some(Status::NoWay) => write!(f, "no way: fault {fault}"),
+            Some(Status::Done | Status::NoMemory) | None => write!(f, "out of memory"),
         }
     }
 }

@@ -16,7 +16,7 @@ use Rattle.demo_lines.specs.Reads as reads_of
 use Rattle.out_text.specs.OutLines.{text_of}
 use Rattle.out_text.specs.Printers.{Prints, FailsIn}
 use Rattle.arena_engine.specs.declared.stop.Stop.{Stop}
-use Rattle.arena_engine.specs.declared.stop.Stop.TheVariants.{Refused, ReadFault, WriteFault, Memory}
+use Rattle.arena_engine.specs.declared.stop.Stop.TheVariants.{Refused, ReadFault, WriteFault, NoMemory}
 use Rattle.arena_engine.specs.StopOf.{stop_of}
 use Rattle.arena_engine.specs.Stops.{OnWriteFault, OnMemory, IsGameStop}
 use Rattle.arena_engine.specs.declared.played.Played.{Played}
@@ -58,7 +58,7 @@ pub record ReaderGives {S : Type 0} (s : sources.Ghosts S) (old new : DemoReader
 
 module _ {S K : Type 0} (s : sources.Ghosts S) (k : sinks.Ghosts K) (texts : Texts) (hold : HoldAtFirst texts) (source source' : S) (sink : K) (last : Last) (none : last ≡ no_last) where
   -- memory was refused
-  pub no_memory_at_first : s.faults source' ≡ s.faults source → PlaysTo s k texts source source' sink sink last (Err Memory)
+  pub no_memory_at_first : s.faults source' ≡ s.faults source → PlaysTo s k texts source source' sink sink last (Err NoMemory)
   no_memory_at_first same = record { output = memory_at_first texts hold (k.taken sink) last none (s.left source); reads = same; writes = refl }
 
   -- the reader stopped
@@ -130,8 +130,8 @@ module _ {S K : Type 0} (s : sources.Ghosts S) (k : sinks.Ghosts K) (workers : �
     no_room = running.not_cut workers demo before left (k.taken sink0) (k.taken sink) g e (s.faults source0) (s.faults source) (k.faults sink0) (k.faults sink) (k.room sink0) (k.room sink) at.runs WriteFault g2 short;
     reads = at.runs.read_same;
   }
-  game_stopped sink' g2 Memory stops failed short same kept later = record {
-    output = running.memory_failed workers demo before left (k.taken sink0) (k.taken sink) g e (s.faults source0) (s.faults source) (k.faults sink0) (k.faults sink) (k.room sink0) (k.room sink) at.runs Memory g2 (k.taken sink') g2.last refl kept (ap k.taken same);
+  game_stopped sink' g2 NoMemory stops failed short same kept later = record {
+    output = running.memory_failed workers demo before left (k.taken sink0) (k.taken sink) g e (s.faults source0) (s.faults source) (k.faults sink0) (k.faults sink) (k.room sink0) (k.room sink) at.runs NoMemory g2 (k.taken sink') g2.last refl kept (ap k.taken same);
     reads = at.runs.read_same;
     writes = ap k.faults same ∙ at.runs.write_same;
   }

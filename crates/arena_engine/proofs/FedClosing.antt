@@ -1,5 +1,5 @@
 -- A frame that an event closed whose packets client threads sent: what it gave out prints its lines.
-use Rattle.std.proofs.Common.{◌≡◌, ℕ, ◌<◌, ◌≤◌, Bool, not, List, [], ◌∷◌, ◌++◌, length, Option, Some, None, IfSome, refl, sym, ap, ◌∙◌, subst, append-nil, arith}
+use Rattle.std.proofs.Common.{◌≡◌, ℕ, Bool, not, List, [], ◌∷◌, ◌++◌, Option, Some, None, refl, sym, ap, ◌∙◌, subst, append-nil}
 use Rattle.entity_recs.specs.declared.effect.Entry.{Entry}
 use Rattle.packet_read.specs.declared.arrival.Arrival.{Arrival}
 use Rattle.frame_phases.specs.declared.frame_out.FrameOut.{FrameOut}
@@ -9,34 +9,10 @@ use Rattle.demo_lines.specs.declared.event.Event.TheVariants.{Frame, From, End}
 use Rattle.out_text.specs.OutLines.{OutLine, EndLine}
 use Rattle.packet_read.specs.Orders.{in_order}
 use Rattle.out_text.specs.Feeds.{with_froms}
-use Rattle.playback.specs.Playbacks.{Course, PlaybackView, IsGivenIf, Closes, GoesOn, MayClose, IsReady}
+use Rattle.playback.specs.Playbacks.{Course, PlaybackView, IsGivenIf, Closes, GoesOn}
 use Rattle.arena_engine.specs.Games.{is_end, newest}
 use Rattle.arena_engine.specs.FedGames.{FedView, Closing, order_if, journal_if, ClosesFed, FedPlays, none_handed, newest_order, newest_last, fed_closing_lines, fed_closed_lines, fed_due_lines, MayCloseFed, HandsOver, packets_if, IsClosing}
 use Rattle.arena_engine.proofs.Closing.{lines-are}
-
--- ---- before the frame is run
-
--- the playback may close its frame
-ready_to_close : (waiting : Option (List Arrival)) (old new : Course) (fed : List Arrival) (order : Option (List ℕ)) → HandsOver waiting old new fed order → IfSome waiting (λ arrivals. length arrivals ≤ 512)
-    → IfSome waiting (λ _. old.server.frames < 100000) → old.opened ≡ none_handed waiting → MayClose new
-ready_to_close None old new fed None same few frames opened =
-    let none : new.opened ≡ None = ap (λ (x : Course). x.opened) same ∙ opened in
-    let P : Option (List Arrival) → Type 0 = λ o. IfSome o (λ arrivals. length arrivals ≤ 512) in
-    let Q : Option (List Arrival) → Type 0 = λ o. IfSome o (λ _. new.server.frames < 100000) in
-    record { few = subst P (sym none) tt; frames = subst Q (sym none) tt }
-ready_to_close None old new fed (Some order) never few frames opened = absurd never
-ready_to_close (Some arrivals) old new fed None never few frames opened = absurd never
-ready_to_close (Some arrivals) old new fed (Some order) hands few frames opened =
-    let short : length (in_order order arrivals) ≤ 512 = omega (arith, hands.few, few) in
-    subst MayClose (sym hands.course) (record { few = short; frames = frames })
-
-ready_for : (course : Course) (e : Event) → IsClosing e → MayClose course → IsReady course e
-ready_for course Frame closing may = may
-ready_for course (From a) closing may = absurd closing
-ready_for course End closing may = may
-
-pub ready_after : (old : FedView) (new : Course) (fed : List Arrival) (order : Option (List ℕ)) (e : Event) → MayCloseFed old → IsClosing e → HandsOver old.waiting old.course new fed order → IsReady new e
-ready_after old new fed order e may closing hands = ready_for new e closing (ready_to_close old.waiting old.course new fed order hands may.few may.frames may.opened)
 
 -- ---- once it is run
 

@@ -11,7 +11,7 @@ use Rattle.demo_lines.specs.Reads.{DemoReaderView, fresh_reader, map_taken, IsOp
 use Rattle.out_text.specs.OutLines.{text_of}
 use Rattle.out_text.specs.Printers.{Prints, FailsIn}
 use Rattle.arena_engine.specs.declared.stop.Stop.{Stop}
-use Rattle.arena_engine.specs.declared.stop.Stop.TheVariants.{Refused, ReadFault, WriteFault, Memory}
+use Rattle.arena_engine.specs.declared.stop.Stop.TheVariants.{Refused, ReadFault, WriteFault, NoMemory}
 use Rattle.arena_engine.specs.StopOf.{stop_of}
 use Rattle.arena_engine.specs.Stops.{OnWriteFault, OnMemory, IsGameStop}
 use Rattle.arena_engine.specs.Games.{is_end}
@@ -57,8 +57,8 @@ module _ {S K : Type 0} (s : sources.Ghosts S) (k : sinks.Ghosts K) (workers : â
     no_room = feeding.not_cut workers demo before left (k.taken sink0) (k.taken sink) g e (s.faults source0) (s.faults source) (k.faults sink0) (k.faults sink) (k.room sink0) (k.room sink) at.runs WriteFault g2 short;
     reads = at.runs.read_same;
   }
-  game_stopped sink' g2 Memory stops failed short same kept later = record {
-    output = feeding.memory_failed workers demo before left (k.taken sink0) (k.taken sink) g e (s.faults source0) (s.faults source) (k.faults sink0) (k.faults sink) (k.room sink0) (k.room sink) at.runs Memory g2 (k.taken sink') g2.last refl kept (ap k.taken same);
+  game_stopped sink' g2 NoMemory stops failed short same kept later = record {
+    output = feeding.memory_failed workers demo before left (k.taken sink0) (k.taken sink) g e (s.faults source0) (s.faults source) (k.faults sink0) (k.faults sink) (k.room sink0) (k.room sink) at.runs NoMemory g2 (k.taken sink') g2.last refl kept (ap k.taken same);
     reads = at.runs.read_same;
     writes = ap k.faults same âˆ™ at.runs.write_same;
   }

@@ -19,7 +19,7 @@ use Rattle.demo_lines.proofs.Given.{Reads-given, Reads-no_map, ReadsFront-given,
 use Rattle.out_text.specs.OutLines.{text_of}
 use Rattle.out_text.specs.Feeds.{HasLastFed, IsFedOutput, IsFedRefused, IsFedFrames, IsFedCut, IsFedSome}
 use Rattle.arena_engine.specs.declared.stop.Stop.{Stop}
-use Rattle.arena_engine.specs.declared.stop.Stop.TheVariants.{Refused, ReadFault, WriteFault, Memory}
+use Rattle.arena_engine.specs.declared.stop.Stop.TheVariants.{Refused, ReadFault, WriteFault, NoMemory}
 use Rattle.arena_engine.specs.StopOf.{stop_of}
 use Rattle.arena_engine.specs.Stops.{OnRefused, OnReadFault, OnWriteFault, OnMemory}
 use Rattle.out_text.specs.Printers.{FailsIn}
@@ -34,7 +34,7 @@ use Rattle.arena_engine.proofs.FedExits as exits
 use Rattle.arena_engine.proofs.Continuing.{cut_end_after}
 use Rattle.arena_engine.proofs.Playing.{not_over}
 use Rattle.arena_engine.proofs.FedPlaying.{is_ready, memory_on, cut_on, done_on, whole_on, played_on, text_so_far, fits_on, goes_on, begins}
-use Rattle.arena_engine.proofs.Running.{needed_going, fresh_is_open, read_fault_of, refused_of, no_memory_of, any_read_fault, map_is_given, on_write_fault, end_is_end}
+use Rattle.arena_engine.proofs.Running.{needed_going, fresh_is_open, read_fault_of, refused_of, no_memory_of, any_read_fault, map_is_given, end_is_end}
 
 -- ---- before the first event
 
@@ -61,13 +61,10 @@ module _ (workers : ℕ) (demo : DemoReaderView) (a b t0 t1 : Option (List ℕ))
   memory_failed (Refused line fault rule) g2 t2 last is kept same = tt
   memory_failed ReadFault g2 t2 last is kept same = tt
   memory_failed WriteFault g2 t2 last is kept same = tt
-  memory_failed Memory g2 t2 last is kept same =
+  memory_failed NoMemory g2 t2 last is kept same =
       let P : Option (List ℕ) → Type 0 = λ t. IfSome a (λ bytes. Writes t0 t (HasLastFed (IsFedSome workers bytes) bytes last.order last.journal)) in
       let Q : Last → Type 0 = λ l. IfSome a (λ bytes. Writes t0 t1 (HasLastFed (IsFedSome workers bytes) bytes l.order l.journal)) in
       subst P (sym same) (subst Q (sym (is ∙ kept)) (memory_on workers runs.arena runs.full a b t0 t1 g e runs.progress))
-
-  pub write_cause : (s : Stop) (n2 : ℕ) → OnWriteFault s (HasRisen n1 n2) → OnWriteFault s (HasRisen n0 n2)
-  write_cause s n2 risen = on_write_fault s (HasRisen n1 n2) (HasRisen n0 n2) (λ h. subst (λ n. HasRisen n n2) runs.write_same h) risen
 
   pub all_read : {S : Type 0} (last : S → ℕ) (ended : S → Bool) (sure : S → Type 0) (s0 s1 : S) (pending : List ℕ) (l : Option (List ℕ)) → is_end e ≡ true → b ≡ ahead pending l
       → ReadsAsNeeded last ended sure a b s0 s1 pending e → ReadsToEnd s0 s1 (last s1) (ended s1 ≡ ended s0) (ended s1 ≡ true) a l
@@ -105,7 +102,7 @@ module _ (workers : ℕ) (demo : DemoReaderView) (a b t0 t1 : Option (List ℕ))
       let P : Last → Type 0 = λ l. IfSome a (λ bytes. Writes t0 (taken k2) (IsFedCut workers bytes l.order l.journal)) in
       let part = subst (λ (t : Option (List ℕ)). AppendsPart t (taken k2) (text_of (fed_event_lines g g2 e failed.closed))) here failed.lines.part in
       subst P (sym is) (cut_on workers runs.arena runs.full a b t0 t1 g e runs.progress g2 failed.closed failed.advances (taken k2) part)
-  write_failed taken faults k1 k2 Memory g2 last here is failed = tt
+  write_failed taken faults k1 k2 NoMemory g2 last here is failed = tt
 
   -- a write that failed was counted
   pub write_counted : {K : Type 0} (taken : K → Option (List ℕ)) (faults : K → ℕ) (k1 k2 : K) (s : Stop) (g2 : FedView) → faults k1 ≡ n1
@@ -113,14 +110,14 @@ module _ (workers : ℕ) (demo : DemoReaderView) (a b t0 t1 : Option (List ℕ))
   write_counted taken faults k1 k2 (Refused line fault rule) g2 here failed = tt
   write_counted taken faults k1 k2 ReadFault g2 here failed = tt
   write_counted taken faults k1 k2 WriteFault g2 here failed = subst (λ (n : ℕ). HasRisen n (faults k2)) (here ∙ runs.write_same) failed.lines.risen
-  write_counted taken faults k1 k2 Memory g2 here failed = tt
+  write_counted taken faults k1 k2 NoMemory g2 here failed = tt
 
   -- where the sink has room for every right output, this text fits
   pub not_cut : (s : Stop) (g2 : FedView) → OnWriteFault s (FedPlays workers g g2 e (λ lines. length (text_of lines) ≤ k1 → ⊥)) → IsSomeAnd a (λ bytes. HasFedRoom workers bytes k0) → OnWriteFault s ⊥
   not_cut (Refused line fault rule) g2 sure roomy = tt
   not_cut ReadFault g2 sure roomy = tt
   not_cut WriteFault g2 sure roomy = sure.lines (fits_on workers runs.arena runs.full a b t0 t1 g e runs.progress g2 sure.closed sure.advances k0 k1 roomy runs.roomy)
-  not_cut Memory g2 sure roomy = tt
+  not_cut NoMemory g2 sure roomy = tt
 
   -- ---- the event was played
 

@@ -18,4 +18,3 @@ pub mod Reported
 pub mod Summing
 pub mod MapRead
 pub mod WaysReported
-pub mod CheckedReported

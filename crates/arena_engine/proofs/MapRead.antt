@@ -31,11 +31,6 @@ going-stage Frame going = refl
 going-stage (From a) going = refl
 going-stage End going = cc
 
-whole-stage : (e : Event) → is_map_whole (stage_after e) ≡ true
-whole-stage Frame = refl
-whole-stage (From a) = refl
-whole-stage End = refl
-
 ended-stage : (e : Event) → is_end e ≡ true → stage_after e ≡ Ended
 ended-stage Frame is = cc
 ended-stage (From a) is = cc
@@ -108,10 +103,6 @@ module _ {S : Type 0} (s : sources.Ghosts S) where
           keeps = λ sure. gives.keeps (on.keeps sure);
           map = λ whole. map-there demo.reading demo'.reading on.map kept;
         }
-
-    -- the end was given, and the map is there
-    pub ended_map : (e : Event) → ReaderGives s demo demo' now next e → KeepsMap demo.reading demo'.reading → IsSome demo'.reading.map
-    ended_map e gives kept = map-there demo.reading demo'.reading on.map kept
 
     -- and the recording was read to its end
     pub gives_map : (e : Event) (m : MapView) → ReaderGives s demo demo' now next e → is_end e ≡ true → demo'.reading.map ≡ Some m → GivesMap s first next m

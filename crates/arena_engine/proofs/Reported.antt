@@ -6,7 +6,7 @@ use Rattle.edge_io.specs.Counts.{HasRisen}
 use Rattle.demo_lines.specs.Bytes.{LineRefusal, fault}
 use Rattle.playback.specs.Playbacks.{entries_if}
 use Rattle.arena_engine.specs.declared.stop.Stop.{Stop}
-use Rattle.arena_engine.specs.declared.stop.Stop.TheVariants.{Refused, ReadFault, WriteFault, Memory}
+use Rattle.arena_engine.specs.declared.stop.Stop.TheVariants.{Refused, ReadFault, WriteFault, NoMemory}
 use Rattle.arena_engine.specs.declared.played.Played.{Played}
 use Rattle.arena_engine.specs.declared.report.Report.{Report}
 use Rattle.arena_engine.specs.Endings.{Counts, Ends}
@@ -141,7 +141,7 @@ module _ {S K : Type 0} (s : sources.Ghosts S) (k : sinks.Ghosts K) (texts : Tex
       refusal_reported status (subst (λ (why : LineRefusal). StopsAtRefusal s k texts source source' sink sink' (last_in r) why) (sym place) plays)
   reported_as (Err ReadFault) status place plays = read_fault_reported status plays
   reported_as (Err WriteFault) status place plays = write_fault_reported status plays
-  reported_as (Err Memory) status place plays = memory_reported status plays
+  reported_as (Err NoMemory) status place plays = memory_reported status plays
 
 -- ---- what holds of every command
 
@@ -217,7 +217,7 @@ module _ {S K : Type 0} (s : sources.Ghosts S) (k : sinks.Ghosts K) (texts : Tex
       refusal_ends status (subst (λ (why : LineRefusal). StopsAtRefusal s k texts source source' sink sink' (last_in r) why) (sym place) plays)
   ends_as (Err ReadFault) status place plays = read_fault_ends status (placeless r place) plays
   ends_as (Err WriteFault) status place plays = write_fault_ends status (placeless r place) plays
-  ends_as (Err Memory) status place plays = memory_ends status (placeless r place) plays
+  ends_as (Err NoMemory) status place plays = memory_ends status (placeless r place) plays
 
 -- ---- the report of a recording that was played
 

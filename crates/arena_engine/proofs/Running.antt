@@ -22,9 +22,9 @@ use Rattle.demo_lines.proofs.Given.{Reads-given, Reads-no_map, ReadsFront-given,
 use Rattle.out_text.specs.OutLines.{text_of}
 use Rattle.out_text.specs.Output.{HasLast, IsOutput, IsRefused, IsAllFrames, IsCut, IsSomeFrames}
 use Rattle.arena_engine.specs.declared.stop.Stop.{Stop}
-use Rattle.arena_engine.specs.declared.stop.Stop.TheVariants.{Refused, ReadFault, WriteFault, Memory}
+use Rattle.arena_engine.specs.declared.stop.Stop.TheVariants.{Refused, ReadFault, WriteFault, NoMemory}
 use Rattle.arena_engine.specs.StopOf.{stop_of}
-use Rattle.arena_engine.specs.Stops.{OnRefused, OnReadFault, OnWriteFault, OnMemory, ButOnReadFault, ButOnWriteFault, IsGameStop}
+use Rattle.arena_engine.specs.Stops.{OnRefused, OnReadFault, OnWriteFault, OnMemory}
 use Rattle.out_text.specs.Printers.{Prints, FailsIn}
 use Rattle.playback.specs.Playbacks.{IsReady}
 use Rattle.arena_engine.specs.FedGames.{Last, no_last}
@@ -99,31 +99,6 @@ map_is_given r e stage = ap is_map_whole stage ∙ whole_after e
 
 -- ---- in the loop
 
-pub on_write_fault : (s : Stop) (P Q : Type 0) → (P → Q) → OnWriteFault s P → OnWriteFault s Q
-on_write_fault (Refused line fault rule) P Q f p = tt
-on_write_fault ReadFault P Q f p = tt
-on_write_fault WriteFault P Q f p = f p
-on_write_fault Memory P Q f p = tt
-
--- what a reader stops for is no write fault
-pub no_write_fault : (d : DemoStop) (P : Type 0) → OnWriteFault (stop_of d) P
-no_write_fault (demo_stop.Refused line fault rule) P = tt
-no_write_fault demo_stop.ReadFault P = tt
-no_write_fault demo_stop.NoMemory P = tt
-
--- a game stops for no other reason
-pub no_refusal : (s : Stop) (P : LineRefusal → Type 0) → IsGameStop s → OnRefused s P
-no_refusal (Refused line fault rule) P stop = absurd stop
-no_refusal ReadFault P stop = tt
-no_refusal WriteFault P stop = tt
-no_refusal Memory P stop = tt
-
-pub on_memory : (s : Stop) (P Q : Type 0) → (P → Q) → OnMemory s P → OnMemory s Q
-on_memory (Refused line fault rule) P Q f p = tt
-on_memory ReadFault P Q f p = tt
-on_memory WriteFault P Q f p = tt
-on_memory Memory P Q f p = f p
-
 pub end_is_end : (e : Event) → is_end e ≡ true → e ≡ End
 end_is_end Frame h = cc
 end_is_end (From a) h = cc
@@ -152,13 +127,10 @@ module _ (workers : ℕ) (demo : DemoReaderView) (a b t0 t1 : Option (List ℕ))
   memory_failed (Refused line fault rule) g2 t2 last is kept same = tt
   memory_failed ReadFault g2 t2 last is kept same = tt
   memory_failed WriteFault g2 t2 last is kept same = tt
-  memory_failed Memory g2 t2 last is kept same =
+  memory_failed NoMemory g2 t2 last is kept same =
       let P : Option (List ℕ) → Type 0 = λ t. IfSome a (λ bytes. Writes t0 t (HasLast (IsSomeFrames workers bytes) last)) in
       let Q : Option (List Entry) → Type 0 = λ l. IfSome a (λ bytes. Writes t0 t1 (HasLast (IsSomeFrames workers bytes) l)) in
       subst P (sym same) (subst Q (sym (is ∙ kept)) (memory_on workers runs.arena runs.full a b t0 t1 g e runs.progress))
-
-  pub write_cause : (s : Stop) (n2 : ℕ) → OnWriteFault s (HasRisen n1 n2) → OnWriteFault s (HasRisen n0 n2)
-  write_cause s n2 risen = on_write_fault s (HasRisen n1 n2) (HasRisen n0 n2) (λ h. subst (λ n. HasRisen n n2) runs.write_same h) risen
 
   pub all_read : {S : Type 0} (last : S → ℕ) (ended : S → Bool) (sure : S → Type 0) (s0 s1 : S) (pending : List ℕ) (l : Option (List ℕ)) → is_end e ≡ true → b ≡ ahead pending l
       → ReadsAsNeeded last ended sure a b s0 s1 pending e → ReadsToEnd s0 s1 (last s1) (ended s1 ≡ ended s0) (ended s1 ≡ true) a l
@@ -196,7 +168,7 @@ module _ (workers : ℕ) (demo : DemoReaderView) (a b t0 t1 : Option (List ℕ))
       let P : Option (List Entry) → Type 0 = λ l. IfSome a (λ bytes. Writes t0 (taken k2) (IsCut workers bytes l)) in
       let part = subst (λ (t : Option (List ℕ)). AppendsPart t (taken k2) (text_of (event_lines g.course g2.course e failed.closed))) here failed.lines.part in
       subst P (sym is) (cut_on workers runs.arena runs.full a b t0 t1 g e runs.progress g2 failed.closed failed.advances (taken k2) part)
-  write_failed taken faults k1 k2 Memory g2 last here is failed = tt
+  write_failed taken faults k1 k2 NoMemory g2 last here is failed = tt
 
   -- a write that failed was counted
   pub write_counted : {K : Type 0} (taken : K → Option (List ℕ)) (faults : K → ℕ) (k1 k2 : K) (s : Stop) (g2 : GameView) → faults k1 ≡ n1
@@ -204,14 +176,14 @@ module _ (workers : ℕ) (demo : DemoReaderView) (a b t0 t1 : Option (List ℕ))
   write_counted taken faults k1 k2 (Refused line fault rule) g2 here failed = tt
   write_counted taken faults k1 k2 ReadFault g2 here failed = tt
   write_counted taken faults k1 k2 WriteFault g2 here failed = subst (λ (n : ℕ). HasRisen n (faults k2)) (here ∙ runs.write_same) failed.lines.risen
-  write_counted taken faults k1 k2 Memory g2 here failed = tt
+  write_counted taken faults k1 k2 NoMemory g2 here failed = tt
 
   -- where the sink has room for every right output, this text fits
   pub not_cut : (s : Stop) (g2 : GameView) → OnWriteFault s (Plays workers g g2 e (λ lines. length (text_of lines) ≤ k1 → ⊥)) → IsSomeAnd a (λ bytes. HasRoom workers bytes k0) → OnWriteFault s ⊥
   not_cut (Refused line fault rule) g2 sure roomy = tt
   not_cut ReadFault g2 sure roomy = tt
   not_cut WriteFault g2 sure roomy = sure.lines (fits_on workers runs.arena runs.full a b t0 t1 g e runs.progress g2 sure.closed sure.advances k0 k1 roomy runs.roomy)
-  not_cut Memory g2 sure roomy = tt
+  not_cut NoMemory g2 sure roomy = tt
 
   -- ---- the event was played
 
@@ -342,29 +314,3 @@ module _ {S : Type 0} (last : S → ℕ) (ended : S → Bool) (sure : S → Type
         going = refuses.going;
         why = refuses.refused;
       }
-
--- ---- what is sure
-
--- a fault that can't be, isn't
-pub no_fault_of : (d : DemoStop) → reads_of.OnReadFault d ⊥ → OnReadFault (stop_of d) ⊥
-no_fault_of (demo_stop.Refused line fault rule) h = tt
-no_fault_of demo_stop.ReadFault h = h
-no_fault_of demo_stop.NoMemory h = tt
-
--- but where a read failed the source's count of faults is as it was
-pub same_reads : (d : DemoStop) (m0 m1 m2 : ℕ) → m1 ≡ m0 → reads_of.OnRefused d (λ _. m2 ≡ m1) → reads_of.OnNoMemory d (m2 ≡ m1) → ButOnReadFault (stop_of d) (m2 ≡ m0)
-same_reads (demo_stop.Refused line fault rule) m0 m1 m2 so_far refused memory = refused ∙ so_far
-same_reads demo_stop.ReadFault m0 m1 m2 so_far refused memory = tt
-same_reads demo_stop.NoMemory m0 m1 m2 so_far refused memory = memory ∙ so_far
-
--- where a read failed the input's end wasn't given
-pub same_end_at_fault : (d : DemoStop) (ended0 ended1 ended2 : Bool) → ended1 ≡ ended0 → reads_of.OnReadFault d (ended2 ≡ ended1) → OnReadFault (stop_of d) (ended2 ≡ ended0)
-same_end_at_fault (demo_stop.Refused line fault rule) ended0 ended1 ended2 so_far h = tt
-same_end_at_fault demo_stop.ReadFault ended0 ended1 ended2 so_far h = h ∙ so_far
-same_end_at_fault demo_stop.NoMemory ended0 ended1 ended2 so_far h = tt
-
-pub but_write_fault : (s : Stop) (P : Type 0) → P → ButOnWriteFault s P
-but_write_fault (Refused line fault rule) P h = h
-but_write_fault ReadFault P h = h
-but_write_fault WriteFault P h = tt
-but_write_fault Memory P h = h

@@ -1,11 +1,10 @@
 -- What a report says of ways that were planned, by how that ended.
-use Rattle.std.proofs.Common.{◌≡◌, ◌≢◌, ℕ, ◌≤◌, length, Result, Err, ◌⊎◌, inl, inr, true, false, List, [], ◌∷◌, ◌==◌, Option, Some, None, IfSome, IsSome, IsSomeAnd, refl, sym, ap, ◌∙◌, subst, arith}
+use Rattle.std.proofs.Common.{◌≡◌, ◌≢◌, ℕ, ◌≤◌, length, Result, Err, inl, inr, true, false, List, [], ◌∷◌, ◌==◌, Option, Some, None, IfSome, IsSome, IsSomeAnd, refl, ap, subst, arith}
 use Rattle.std.proofs.lemmas.Bool.Decides.{nat_tests}
 use Rattle.edge_io.specs.declared.source.Source as sources
 use Rattle.edge_io.specs.declared.sink.Sink as sinks
 use Rattle.edge_io.specs.Counts.{HasRisen}
 use Rattle.edge_io.specs.Writes.{AppendsPart}
-use Rattle.arena_map.specs.declared.limits.TheConstants.{MOST_SPAWNS}
 use Rattle.arena_map.specs.Maps.{MapView, IsMap}
 use Rattle.bot_ways.specs.declared.plan.Plan.{Plan}
 use Rattle.bot_ways.specs.declared.plan_stop.PlanStop.{PlanStop}
@@ -15,13 +14,10 @@ use Rattle.bot_ways.specs.Walks.{IsWalk, IsUnreached, IsLeast, HasLeast, length_
 use Rattle.bot_ways.specs.Ways.{IsWay, IsCertificate}
 use Rattle.bot_ways.specs.PlanTexts.{IsPlan, plan_text}
 use Rattle.bot_ways.proofs.PlanBounds.{plan_texts_are_bounded}
-use Rattle.demo_lines.specs.Bytes.{LineRefusal, fault, map_of}
+use Rattle.demo_lines.specs.Bytes.{fault, map_of}
 use Rattle.arena_engine.specs.declared.report.Report.{Report}
-use Rattle.arena_engine.specs.Endings.{Ends}
-use Rattle.arena_engine.specs.Reports.{refusal_of}
 use Rattle.arena_engine.specs.Planned.{IsPlanned, HasMap, ShowsWay, ShowsWays, HasRoomForWays}
-use Rattle.arena_engine.specs.MapReads.{GivesMap, GivesRefusal, GivesReadFault, WritesWay, WritesNothing, WritesLeast, WritesCut, WritesStop}
-use Rattle.arena_engine.proofs.Reported.{ends_of, uncounted_in, counted_in}
+use Rattle.arena_engine.specs.MapReads.{GivesMap, WritesWay, WritesNothing, WritesLeast, WritesCut, WritesStop}
 
 -- ---- what was planned
 
@@ -97,10 +93,6 @@ of-map (Some bytes) m P faultless is holds = record { map = m; map_is = is; faul
 not-faulty : (a : Option (List ℕ)) → IfSome a (λ bytes. fault bytes ≡ None) → IsSomeAnd a (λ bytes. IsSome (fault bytes)) → ⊥
 not-faulty None faultless some = absurd some
 not-faulty (Some bytes) faultless some = let never : false ≡ true = subst IsSome faultless some in cc
-
-not-faultless : (a : Option (List ℕ)) (why : LineRefusal) → IfSome a (λ bytes. fault bytes ≡ Some why) → IsSomeAnd a (λ bytes. fault bytes ≡ None) → ⊥
-not-faultless None why faulty none = absurd none
-not-faultless (Some bytes) why faulty none = let never : Some why ≡ None = sym faulty ∙ none in cc
 
 -- there is room for what is to be written of this map
 room-of : (a : Option (List ℕ)) (m : MapView) (P : MapView → Type 0) → IfSome a (λ bytes. map_of bytes ≡ Some m) → IsSomeAnd a (λ bytes. IsSomeAnd (map_of bytes) P) → P m
@@ -186,102 +178,3 @@ module _ {S K : Type 0} (s : sources.Ghosts S) (k : sinks.Ghosts K) (target : �
       complete = λ none nothing. absurd (nothing.writing cuts.cause);
       complete_refusal = λ some nothing. absurd (nothing.writing cuts.cause);
     }
-
-  -- ---- it wasn't, or memory was refused
-
-  pub memory_planned : r.status ≡ 5 → sink' ≡ sink → IsPlanned s k target source source' sink sink' r
-  memory_planned status same = record {
-    known = λ is. omega (arith, is, status);
-    done = λ is. absurd (omega (arith, is, status));
-    no_spawn = λ is fault_is. absurd (omega (arith, is, status));
-    no_walk = λ is fault_is. absurd (omega (arith, is, status));
-    read = λ is. absurd (omega (arith, is, status));
-    refused = λ is. absurd (omega (arith, is, status));
-    refused_read = λ is. absurd (omega (arith, is, status));
-    cut = λ is. absurd (omega (arith, is, status));
-    nothing = λ is. same;
-    no_frame = last;
-    no_journals = all;
-    sure_writes = λ room is. absurd (omega (arith, is, status));
-    sure_longest = λ room is. absurd (omega (arith, is, status));
-    complete = λ none nothing. inl (inl status);
-    complete_refusal = λ some nothing. inl status;
-  }
-
-  pub refusal_planned : r.status ≡ 1 → sink' ≡ sink → GivesRefusal s source source' (refusal_of r) → IsPlanned s k target source source' sink sink' r
-  refusal_planned status same given = record {
-    known = λ is. omega (arith, is, status);
-    done = λ is. absurd (omega (arith, is, status));
-    no_spawn = λ is fault_is. absurd (omega (arith, is, status));
-    no_walk = λ is fault_is. absurd (omega (arith, is, status));
-    read = λ is. absurd (omega (arith, is, status));
-    refused = λ is. given.faulty;
-    refused_read = λ is. given.read;
-    cut = λ is. absurd (omega (arith, is, status));
-    nothing = λ is. same;
-    no_frame = last;
-    no_journals = all;
-    sure_writes = λ room is. absurd (omega (arith, is, status));
-    sure_longest = λ room is. absurd (omega (arith, is, status));
-    complete = λ none nothing. absurd (not-faultless (s.left source) (refusal_of r) given.faulty none);
-    complete_refusal = λ some nothing. inr status;
-  }
-
-  pub read_fault_planned : r.status ≡ 3 → sink' ≡ sink → GivesReadFault s source source' → IsPlanned s k target source source' sink sink' r
-  read_fault_planned status same given = record {
-    known = λ is. omega (arith, is, status);
-    done = λ is. absurd (omega (arith, is, status));
-    no_spawn = λ is fault_is. absurd (omega (arith, is, status));
-    no_walk = λ is fault_is. absurd (omega (arith, is, status));
-    read = λ is. absurd (omega (arith, is, status));
-    refused = λ is. absurd (omega (arith, is, status));
-    refused_read = λ is. absurd (omega (arith, is, status));
-    cut = λ is. absurd (omega (arith, is, status));
-    nothing = λ is. same;
-    no_frame = last;
-    no_journals = all;
-    sure_writes = λ room is. absurd (omega (arith, is, status));
-    sure_longest = λ room is. absurd (omega (arith, is, status));
-    complete = λ none nothing. absurd (nothing.reading given.cause);
-    complete_refusal = λ some nothing. absurd (nothing.reading given.cause);
-  }
-
--- ---- what holds of every command
-
-module _ {S K : Type 0} (s : sources.Ghosts S) (k : sinks.Ghosts K) (source source' : S) (sink sink' : K) (r : Report) where
-  -- nothing failed
-  pub quiet_ends : r.status ≤ 5 → (r.status ≡ 2 → ⊥) → (r.status ≡ 3 → ⊥) → (r.status ≡ 4 → ⊥) → ((r.status ≡ 1 → ⊥) → (r.line ≡ 0) × (r.fault ≡ 0) × (r.rule ≡ 0))
-      → s.faults source' ≡ s.faults source → k.faults sink' ≡ k.faults sink → Ends s k source source' sink sink' r
-  quiet_ends known words no_read no_write place reads writes =
-      ends_of s k 1 source source' sink sink' r known words place (uncounted_in 3 _ _ r.status reads no_read) (uncounted_in 4 _ _ r.status writes no_write)
-      (λ is. absurd (no_read is)) (λ sure is. no_read is)
-
-  pub way_read_fault_ends : r.status ≡ 3 → (r.line ≡ 0) × (r.fault ≡ 0) × (r.rule ≡ 0) → sink' ≡ sink → GivesReadFault s source source' → Ends s k source source' sink sink' r
-  way_read_fault_ends status place same given =
-      ends_of s k 1 source source' sink sink' r (omega (arith, status)) (λ is. omega (arith, is, status)) (λ no. place)
-      (counted_in 3 _ _ r.status status given.later given.cause) (uncounted_in 4 _ _ r.status (ap k.faults same) (λ is. omega (arith, is, status)))
-      (λ is. given.same_end) (λ sure is. given.fails sure)
-
-  pub way_cut_ends : (m : MapView) (target : ℕ) → r.status ≡ 4 → (r.line ≡ 0) × (r.fault ≡ 0) × (r.rule ≡ 0) → s.faults source' ≡ s.faults source → WritesCut k m target sink sink' → Ends s k source source' sink sink' r
-  way_cut_ends m target status place reads cuts =
-      ends_of s k 1 source source' sink sink' r (omega (arith, status)) (λ is. omega (arith, is, status)) (λ no. place)
-      (uncounted_in 3 _ _ r.status reads (λ is. omega (arith, is, status))) (counted_in 4 _ _ r.status status cuts.later cuts.cause)
-      (λ is. absurd (omega (arith, is, status))) (λ sure is. omega (arith, is, status))
-
-  -- there is no way, for this reason
-  pub no_way_ends : (fault : ℕ) → (fault ≡ 1) ⊎ (fault ≡ 2) → r.status ≡ 7 → (r.line ≡ 0) × (r.fault ≡ fault) × (r.rule ≡ 0) → s.faults source' ≡ s.faults source → k.faults sink' ≡ k.faults sink
-      → Ends s k source source' sink sink' r
-  no_way_ends fault which status place reads writes = record {
-    known = omega (arith, status);
-    place = λ no right. place.0;
-    rule = λ no. place.2;
-    fault = λ no found. absurd (found status);
-    no_way = λ is. subst (λ n. (n ≡ 1) ⊎ (n ≡ 2)) (sym place.1) which;
-    untouched = λ is. absurd (omega (arith, is, status));
-    no_frame = λ is. absurd (omega (arith, is, status));
-    no_journals = λ is. absurd (omega (arith, is, status));
-    reads = uncounted_in 3 _ _ r.status reads (λ is. omega (arith, is, status));
-    writes = uncounted_in 4 _ _ r.status writes (λ is. omega (arith, is, status));
-    sure_reads = λ sure is. omega (arith, is, status);
-    before_end = λ is. absurd (omega (arith, is, status));
-  }

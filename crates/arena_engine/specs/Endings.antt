@@ -41,5 +41,5 @@ pub record Ends {S K : Type 0} (s : sources.Ghosts S) (k : sinks.Ghosts K) (sour
   pub writes : Counts 4 (k.faults sink) (k.faults sink') r.status
   -- a source that never fails didn't
   pub sure_reads : s.never_fails source → r.status ≡ 3 → ⊥
-  -- where it failed, it hadn't told its end in this call
+  -- where it failed, it hadn't given its end in this call
   pub before_end : r.status ≡ 3 → s.ended source' ≡ s.ended source

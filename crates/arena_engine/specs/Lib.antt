@@ -30,8 +30,10 @@ pub use Rattle.bot_ways.specs.Walks as BotWalks
 pub use Rattle.bot_ways.specs.Ways as BotWays
 pub use Rattle.bot_ways.specs.PlanTexts
 pub mod Numbers
+pub mod Statuses
 pub mod Commands
 pub mod Summaries
+pub mod Laws
 pub mod Endings
 pub mod Making
 pub mod Games

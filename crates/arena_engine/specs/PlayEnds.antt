@@ -5,7 +5,7 @@ use Rattle.edge_io.specs.declared.sink.Sink as sinks
 use Rattle.edge_io.specs.Counts.{HasRisen}
 use Rattle.demo_lines.specs.Bytes.{LineRefusal}
 use Rattle.arena_engine.specs.declared.stop.Stop.{Stop}
-use Rattle.arena_engine.specs.declared.stop.Stop.TheVariants.{Refused, ReadFault, WriteFault, Memory}
+use Rattle.arena_engine.specs.declared.stop.Stop.TheVariants.{Refused, ReadFault, WriteFault, NoMemory}
 use Rattle.arena_engine.specs.Output.{Writes, ReadsSome, ReadsToEnd, ReadsToRefusal}
 use Rattle.arena_engine.specs.FedGames.{Last}
 use Rattle.arena_engine.specs.Texts.{Texts}
@@ -58,4 +58,4 @@ module _ {S K : Type 0} (s : sources.Ghosts S) (k : sinks.Ghosts K) (texts : Tex
   PlaysTo (Err (Refused line fault rule)) = StopsAtRefusal (record { line = line; fault = fault; rule = rule })
   PlaysTo (Err ReadFault) = StopsAtReadFault
   PlaysTo (Err WriteFault) = StopsAtWriteFault
-  PlaysTo (Err Memory) = StopsAtMemory
+  PlaysTo (Err NoMemory) = StopsAtMemory

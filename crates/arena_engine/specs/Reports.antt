@@ -3,7 +3,7 @@ use Rattle.std.specs.Prelude.{◌≡◌, ℕ, [], Result, Ok, Err}
 use Rattle.demo_lines.specs.Bytes.{LineRefusal}
 use Rattle.playback.specs.Playbacks.{entries_if}
 use Rattle.arena_engine.specs.declared.stop.Stop.{Stop}
-use Rattle.arena_engine.specs.declared.stop.Stop.TheVariants.{Refused, ReadFault, WriteFault, Memory}
+use Rattle.arena_engine.specs.declared.stop.Stop.TheVariants.{Refused, ReadFault, WriteFault, NoMemory}
 use Rattle.arena_engine.specs.declared.played.Played.{Played}
 use Rattle.arena_engine.specs.declared.report.Report.{Report}
 use Rattle.arena_engine.specs.FedGames.{Last}
@@ -28,7 +28,7 @@ status_of (Ok done) = 0
 status_of (Err (Refused line fault rule)) = 1
 status_of (Err ReadFault) = 3
 status_of (Err WriteFault) = 4
-status_of (Err Memory) = 5
+status_of (Err NoMemory) = 5
 
 -- the line that was refused, its fault and its rule, and 0 for each where none was
 abbrev pub place_of : Result Unit Stop → LineRefusal
@@ -36,7 +36,7 @@ place_of (Ok done) = record { line = 0; fault = 0; rule = 0 }
 place_of (Err (Refused line fault rule)) = record { line = line; fault = fault; rule = rule }
 place_of (Err ReadFault) = record { line = 0; fault = 0; rule = 0 }
 place_of (Err WriteFault) = record { line = 0; fault = 0; rule = 0 }
-place_of (Err Memory) = record { line = 0; fault = 0; rule = 0 }
+place_of (Err NoMemory) = record { line = 0; fault = 0; rule = 0 }
 
 -- the report of a recording whose playing ended so
 pub record IsReportOf (played : Played) (r : Report) : Type 0 where

@@ -2,7 +2,7 @@
 use Rattle.std.specs.Prelude.{⊤}
 use Rattle.demo_lines.specs.Bytes.{LineRefusal}
 use Rattle.arena_engine.specs.declared.stop.Stop.{Stop}
-use Rattle.arena_engine.specs.declared.stop.Stop.TheVariants.{Refused, ReadFault, WriteFault, Memory}
+use Rattle.arena_engine.specs.declared.stop.Stop.TheVariants.{Refused, ReadFault, WriteFault, NoMemory}
 
 -- P of the refusal, where a line of the recording was refused
 abbrev pub OnRefused : Stop → (LineRefusal → Type 0) → Type 0
@@ -21,7 +21,7 @@ OnWriteFault _ _ = ⊤
 
 -- P, where memory was refused
 abbrev pub OnMemory : Stop → Type 0 → Type 0
-OnMemory Memory P = P
+OnMemory NoMemory P = P
 OnMemory _ _ = ⊤
 
 -- P, unless the source failed
@@ -39,4 +39,4 @@ abbrev pub IsGameStop : Stop → Type 0
 IsGameStop (Refused line fault rule) = ⊥
 IsGameStop ReadFault = ⊥
 IsGameStop WriteFault = ⊤
-IsGameStop Memory = ⊤
+IsGameStop NoMemory = ⊤

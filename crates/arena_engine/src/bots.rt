@@ -1,11 +1,11 @@
 ghost use Rattle.std.specs.Prelude.{◌≡◌, None, IfOk, IfErr};
-ghost use Rattle.demo_lines.specs.Reads.{fresh_reader};
 ghost use Rattle.arena_engine.specs.Endings.{Ends};
 ghost use Rattle.arena_engine.specs.MapReads.{GivesMap, GivesStop, WritesWays, WritesStop};
 ghost use Rattle.arena_engine.specs.Planned.{IsPlanned};
 
 use crate::game::is_end;
 use crate::report::Report;
+use crate::status::Status;
 use arena_map::ArenaMap;
 use bot_ways::{PlanStop, plan_way, write_least, write_plan};
 use demo_lines::{DemoReader, DemoStop};
@@ -78,14 +78,14 @@ pub fn plan_recording<S: Source, K: Sink>(
         Err(DemoStop::Refused { line, fault, rule }) => {
             return Report::of_refusal(line, fault, rule, None, JournalList::new(alloc));
         }
-        Err(DemoStop::ReadFault) => return Report::unserved(alloc, 3),
-        Err(DemoStop::NoMemory) => return Report::unserved(alloc, 5),
+        Err(DemoStop::ReadFault) => return Report::of_status_alone(alloc, Status::ReadFault),
+        Err(DemoStop::NoMemory) => return Report::of_status_alone(alloc, Status::NoMemory),
     };
     match write_ways(alloc, &map, target, sink) {
-        Ok(Ways::Found) => Report::unserved(alloc, 0),
+        Ok(Ways::Found) => Report::of_status_alone(alloc, Status::Done),
         Ok(Ways::NoSpawn) => Report::of_no_way(alloc, 1),
         Ok(Ways::NoWalk) => Report::of_no_way(alloc, 2),
-        Err(PlanStop::WriteFault) => Report::unserved(alloc, 4),
-        Err(PlanStop::NoMemory) => Report::unserved(alloc, 5),
+        Err(PlanStop::WriteFault) => Report::of_status_alone(alloc, Status::WriteFault),
+        Err(PlanStop::NoMemory) => Report::of_status_alone(alloc, Status::NoMemory),
     }
 }

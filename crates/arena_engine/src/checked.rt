@@ -9,6 +9,7 @@ ghost use Rattle.arena_engine.specs.Making.{IsBare};
 ghost use Rattle.arena_engine.specs.Summaries.{right_text};
 
 use crate::report::Report;
+use crate::status::Status;
 use crate::summary::push_right;
 use demo_lines::{DemoReader, DemoStop};
 use edge_io::{LineBuf, Sink, Source, write_whole};
@@ -48,8 +49,8 @@ fn write_right<K: Sink>(
 {
     push_right(frames, moves, line);
     match write_whole(sink, line.as_slice()) {
-        Ok(()) => Report::unserved(alloc, 0),
-        Err(_) => Report::unserved(alloc, 4),
+        Ok(()) => Report::of_status_alone(alloc, Status::Done),
+        Err(_) => Report::of_status_alone(alloc, Status::WriteFault),
     }
 }
 
@@ -62,7 +63,7 @@ pub fn check_transcript<S: Source, K: Sink>(alloc: Global, source: &mut S, sink:
     ensures orderless { result.order ≡ None }
 {
     let Ok(mut line) = LineBuf::new(alloc) else {
-        return Report::unserved(alloc, 5);
+        return Report::of_status_alone(alloc, Status::NoMemory);
     };
     match verdict_of(alloc, source) {
         Ok(Verdict::Right { frames, moves }) => write_right(alloc, frames, moves, &mut line, sink),
@@ -70,7 +71,7 @@ pub fn check_transcript<S: Source, K: Sink>(alloc: Global, source: &mut S, sink:
         Err(DemoStop::Refused { line, fault, rule }) => {
             Report::of_refusal(line, fault, rule, None, JournalList::new(alloc))
         }
-        Err(DemoStop::ReadFault) => Report::unserved(alloc, 3),
-        Err(DemoStop::NoMemory) => Report::unserved(alloc, 5),
+        Err(DemoStop::ReadFault) => Report::of_status_alone(alloc, Status::ReadFault),
+        Err(DemoStop::NoMemory) => Report::of_status_alone(alloc, Status::NoMemory),
     }
 }

@@ -3,15 +3,15 @@ ghost use Rattle.arena_engine.specs.Commands.{Spells, contents};
 ghost use Rattle.arena_engine.specs.declared.command.Command.{Command};
 
 use crate::numbers::{number, number_up_to};
-use arena_map::MOST_FRAMES;
+use arena_map::{MOST_FRAMES, MOST_SPAWNS};
 use entity_recs::SLOTS;
 use match_play::MOST_MATCH_FRAMES;
 
 /// The most workers.
-const MOST_WORKERS: u32 = 16;
+const MOST_WORKERS: u32 = move_phase::MOST_WORKERS as u32;
 
 /// The greatest number of a spawn.
-const LAST_SPAWN: u64 = 63;
+const LAST_SPAWN: u64 = MOST_SPAWNS as u64 - 1;
 
 /// The most players of a recording that is made.
 const MOST_PLAYERS: u32 = SLOTS as u32;

@@ -1,4 +1,4 @@
-ghost use Rattle.std.specs.Prelude.{◌≡◌, ℕ, ◌<◌, ◌≤◌, Some, None, [], length, slice_index, All, IfOk, IfSome, OnOk};
+ghost use Rattle.std.specs.Prelude.{◌≡◌, ℕ, ◌<◌, ◌≤◌, Some, None, [], length, slice_index, IfOk, IfSome, OnOk};
 ghost use Rattle.packet_read.specs.declared.arrival.TheConstants.{MOST_ARRIVALS};
 ghost use Rattle.packet_read.specs.Orders.{in_order};
 ghost use Rattle.playback.specs.Playbacks.{entries_if};

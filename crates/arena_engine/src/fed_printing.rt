@@ -1,4 +1,4 @@
-ghost use Rattle.std.specs.Prelude.{◌≡◌, ◌+◌, ◌≤◌, [], ◌∷◌, ◌++◌, length, OnOk, OnErr, IsOk};
+ghost use Rattle.std.specs.Prelude.{◌≡◌, ◌+◌, ◌≤◌, [], ◌++◌, length, OnOk, OnErr, IsOk};
 ghost use Rattle.out_text.specs.OutLines.{text_of};
 ghost use Rattle.out_text.specs.Printers.{Prints, FailsIn};
 ghost use Rattle.playback.specs.Playbacks.{entries_if, ArePrintable};

@@ -9,9 +9,11 @@ ghost use Rattle.arena_engine.specs.Serving.{AskFor, AskForNothing};
 
 use command::command_of;
 use edge_io::{Sink, Source};
+pub use laws::limits_are_known;
 use perform::perform;
 pub use report::Report;
 use shared_moves::Gate;
+pub use status::Status;
 use std::alloc::Global;
 use std::sync::Wait;
 use std::thread::Threads;
@@ -24,6 +26,7 @@ mod fed_game;
 mod fed_printing;
 mod feed;
 mod game;
+mod laws;
 mod made;
 mod matched;
 mod numbers;
@@ -33,6 +36,7 @@ mod played;
 mod printing;
 mod recording;
 mod report;
+mod status;
 mod stop;
 mod summary;
 

@@ -4,6 +4,7 @@ ghost use Rattle.arena_engine.specs.Endings.{Counts};
 ghost use Rattle.arena_engine.specs.Making.{IsMade, IsResent, IsBare, status_of};
 
 use crate::report::Report;
+use crate::status::Status;
 use demo_make::{MakeStop, make, resend};
 use edge_io::Sink;
 use std::alloc::Global;
@@ -16,11 +17,11 @@ fn report_of(alloc: Global, written: Result<(), MakeStop>) -> Report
     ensures orderless { result.order ≡ None }
 {
     let status = match written {
-        Ok(()) => 0,
-        Err(MakeStop::WriteFault) => 4,
-        Err(MakeStop::NoMemory) => 5,
+        Ok(()) => Status::Done,
+        Err(MakeStop::WriteFault) => Status::WriteFault,
+        Err(MakeStop::NoMemory) => Status::NoMemory,
     };
-    Report::unserved(alloc, status)
+    Report::of_status_alone(alloc, status)
 }
 
 /// Writes the recording of this seed.

@@ -8,6 +8,7 @@ ghost use Rattle.arena_engine.specs.Making.{IsOfWriting, IsBare, IsMatched};
 ghost use Rattle.arena_engine.specs.Summaries.{summary_text};
 
 use crate::report::Report;
+use crate::status::Status;
 use crate::summary::push_summary;
 use edge_io::{LineBuf, Sink, write_whole};
 use match_play::{Game, Totals, play_match};
@@ -42,12 +43,12 @@ fn sum_up<K: Sink>(
 {
     let all = game.into_journals();
     let Ok(totals) = ended else {
-        return Report::of_status(5, None, all);
+        return Report::of_status(Status::NoMemory, None, all);
     };
     push_summary(&totals, line);
     match write_whole(sink, line.as_slice()) {
-        Ok(()) => Report::of_status(0, None, all),
-        Err(_) => Report::of_status(4, None, all),
+        Ok(()) => Report::of_status(Status::Done, None, all),
+        Err(_) => Report::of_status(Status::WriteFault, None, all),
     }
 }
 
@@ -66,10 +67,10 @@ pub fn play_and_sum<R: Threads + Wait + Sync, K: Sink, G: Gate>(
     ensures orderless { result.order ≡ None }
 {
     let Ok(mut line) = LineBuf::new(host.alloc) else {
-        return Report::unserved(host.alloc, 5);
+        return Report::of_status_alone(host.alloc, Status::NoMemory);
     };
     let Ok(mut game) = Game::new(host.alloc) else {
-        return Report::unserved(host.alloc, 5);
+        return Report::of_status_alone(host.alloc, Status::NoMemory);
     };
     let ended = play_match(host, seed, players, frames, &mut game);
     sum_up(ended, game, &mut line, sink)

@@ -11,6 +11,7 @@ use crate::made::{write_made, write_resent};
 use crate::matched::play_and_sum;
 use crate::recording::{feed_recording, play_recording};
 use crate::report::Report;
+use crate::status::Status;
 use edge_io::{Sink, Source};
 use playback::Host;
 use shared_moves::Gate;
@@ -53,7 +54,7 @@ pub fn perform<R: Threads + Wait + Sync, S: Source, K: Sink, G: Gate>(
     ensures ends { Ends S.Source K.Sink source.old source.new sink.old sink.new result }
 {
     match command {
-        None => Report::unserved(alloc, 2),
+        None => Report::of_status_alone(alloc, Status::WordsRefused),
         Some(Command::Play { workers }) => {
             let host = host_of(rt, alloc, workers, gate);
             play_recording(&host, source, sink)

@@ -7,6 +7,7 @@ use crate::feed::feed;
 use crate::play::play;
 use crate::played::Played;
 use crate::report::Report;
+use crate::status::Status;
 use crate::stop::Stop;
 use edge_io::{Sink, Source};
 use move_journal::JournalList;
@@ -24,13 +25,13 @@ fn report_of(alloc: Global, played: Played) -> Report
     let all = JournalList::new(alloc);
     let Played { ended, last, order } = played;
     match ended {
-        Ok(()) => Report::of_status(0, last, all).with_order(order),
+        Ok(()) => Report::of_status(Status::Done, last, all).with_order(order),
         Err(Stop::Refused { line, fault, rule }) => {
             Report::of_refusal(line, fault, rule, last, all).with_order(order)
         }
-        Err(Stop::ReadFault) => Report::of_status(3, last, all).with_order(order),
-        Err(Stop::WriteFault) => Report::of_status(4, last, all).with_order(order),
-        Err(Stop::Memory) => Report::of_status(5, last, all).with_order(order),
+        Err(Stop::ReadFault) => Report::of_status(Status::ReadFault, last, all).with_order(order),
+        Err(Stop::WriteFault) => Report::of_status(Status::WriteFault, last, all).with_order(order),
+        Err(Stop::NoMemory) => Report::of_status(Status::NoMemory, last, all).with_order(order),
     }
 }
 

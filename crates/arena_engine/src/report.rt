@@ -1,5 +1,6 @@
 ghost use Rattle.std.specs.Prelude.{◌≡◌, [], None};
 
+use crate::status::Status;
 use feed_queue::PlaceList;
 use move_journal::{Journal, JournalList};
 use std::alloc::Global;
@@ -29,10 +30,11 @@ pub struct Report {
 
 impl Report {
     ghost use Rattle.arena_engine.specs.Reports.{refusal_of};
+    ghost use Rattle.arena_engine.specs.Statuses.{number_of};
 
-    /// A report of a status alone: no recording was played.
-    pub fn unserved(alloc: Global, status: u8) -> Report
-        ensures status { result.status ≡ status }
+    /// A report of a status alone, without journals.
+    pub fn of_status_alone(alloc: Global, status: Status) -> Report
+        ensures status { result.status ≡ number_of status }
         ensures place { (result.line ≡ 0) × (result.fault ≡ 0) × (result.rule ≡ 0) }
         ensures last { result.last ≡ None }
         ensures order { result.order ≡ None }
@@ -42,15 +44,15 @@ impl Report {
     }
 
     /// A report of a status other than that of a refused recording, with these journals.
-    pub(crate) fn of_status(status: u8, last: Option<Journal>, all: JournalList) -> Report
-        ensures status { result.status ≡ status }
+    pub(crate) fn of_status(status: Status, last: Option<Journal>, all: JournalList) -> Report
+        ensures status { result.status ≡ number_of status }
         ensures place { (result.line ≡ 0) × (result.fault ≡ 0) × (result.rule ≡ 0) }
         ensures last { result.last ≡ last }
         ensures order { result.order ≡ None }
         ensures all { result.all ≡ all }
     {
         Report {
-            status,
+            status: status.number(),
             line: 0,
             fault: 0,
             rule: 0,
@@ -69,7 +71,7 @@ impl Report {
         ensures all { result.all ≡ [] }
     {
         Report {
-            status: 7,
+            status: Status::NoWay.number(),
             line: 0,
             fault,
             rule: 0,
@@ -89,7 +91,7 @@ impl Report {
         ensures all { result.all ≡ [] }
     {
         Report {
-            status: 6,
+            status: Status::TranscriptRefused.number(),
             line,
             fault: 0,
             rule: 0,
@@ -114,7 +116,7 @@ impl Report {
         ensures all { result.all ≡ all }
     {
         Report {
-            status: 1,
+            status: Status::RecordingRefused.number(),
             line,
             fault,
             rule,

@@ -1,5 +1,5 @@
 ghost use Rattle.std.specs.Prelude.{◌≡◌};
-ghost use Rattle.arena_engine.specs.declared.stop.Stop.TheVariants.{Memory, WriteFault};
+ghost use Rattle.arena_engine.specs.declared.stop.Stop.TheVariants.{NoMemory, WriteFault};
 ghost use Rattle.arena_engine.specs.StopOf.{stop_of};
 
 use demo_lines::DemoStop;
@@ -28,22 +28,22 @@ pub enum Stop {
     WriteFault,
     /// There was no memory left.
     #[error("out of memory")]
-    Memory,
+    NoMemory,
 }
 
 impl From<AllocError> for Stop {
-    ghost from_gives = { λ _ stop. stop ≡ Memory };
+    ghost from_gives = { λ _ stop. stop ≡ NoMemory };
 
     fn from(_error: AllocError) -> Stop {
-        Stop::Memory
+        Stop::NoMemory
     }
 }
 
 impl<T: Drop> From<AllocFailed<T>> for Stop {
-    ghost from_gives = { λ _ stop. stop ≡ Memory };
+    ghost from_gives = { λ _ stop. stop ≡ NoMemory };
 
     fn from(_error: AllocFailed<T>) -> Stop {
-        Stop::Memory
+        Stop::NoMemory
     }
 }
 
@@ -62,7 +62,7 @@ impl From<DemoStop> for Stop {
         match stop {
             DemoStop::Refused { line, fault, rule } => Stop::Refused { line, fault, rule },
             DemoStop::ReadFault => Stop::ReadFault,
-            DemoStop::NoMemory => Stop::Memory,
+            DemoStop::NoMemory => Stop::NoMemory,
         }
     }
 }

@@ -3,7 +3,7 @@ use Rattle.arena_engine.proofs.bots.plan_recording.Goals as goal
 
 pub returns-in-Ok-Found-clause-planned : goal.returns-in-Ok-Found-clause-planned
 returns-in-Ok-Found-clause-planned g c =
-    let r = c.unserved-in-Ok-Found in
+    let r = c.of_status_alone-in-Ok-Found in
     way_planned g.S.Source g.K.Sink c.args.target c.args.source.now c.read_map.new.source c.args.sink.now c.write_ways.new.sink r.result r.ensures.last r.ensures.all
     c.in-Ok.map c.in-Ok.ensures.ok r.ensures.status (rw c.in-Ok-Found.field-0-is at c.in-Ok-Found.ensures.ok)
 
@@ -21,6 +21,6 @@ returns-in-Ok-NoWalk-clause-planned g c =
 
 pub returns-in-Err-WriteFault-clause-planned : goal.returns-in-Err-WriteFault-clause-planned
 returns-in-Err-WriteFault-clause-planned g c =
-    let r = c.unserved-in-Err-WriteFault in
+    let r = c.of_status_alone-in-Err-WriteFault in
     cut_planned g.S.Source g.K.Sink c.args.target c.args.source.now c.read_map.new.source c.args.sink.now c.write_ways.new.sink r.result r.ensures.last r.ensures.all
     c.in-Ok.map c.in-Ok.ensures.ok r.ensures.status (rw c.in-Err-WriteFault.field-0-is at c.in-Err-WriteFault.ensures.err)
