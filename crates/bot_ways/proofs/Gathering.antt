@@ -39,14 +39,6 @@ pieces-more f g xs i d within = ap (λ ys. flat_map f (map g ys)) (take_more xs 
 abbrev pub lines_with : {X : Type 0} → (X → MapLine) → List X → List ℕ
 lines_with g xs = lines_text (map g xs)
 
-lines-push : {X : Type 0} (g : X → MapLine) (xs : List X) (x : X) → lines_with g (xs ++ x ∷ []) ≡ lines_with g xs ++ (map_line_text (g x) ++ 10 ∷ [])
-lines-push g xs x =
-    ap (λ ls. unlines (map map_line_text ls)) (map-append g xs (x ∷ [])) ∙ pieces-push (λ line. line ++ 10 ∷ []) map_line_text (map g xs) (g x)
-
-pub lines-more : {X : Type 0} (g : X → MapLine) (xs : List X) (i : ℕ) (d : X) → i < length xs
-    → lines_with g (take (i + 1) xs) ≡ lines_with g (take i xs) ++ (map_line_text (g (get_or xs i d)) ++ 10 ∷ [])
-lines-more g xs i d within = ap (lines_with g) (take_more xs i d within) ∙ lines-push g (take i xs) (get_or xs i d)
-
 -- ---- frames
 
 spelled : (packet : Packet) → packet_text (spelling packet) ≡ encode_lower (spelling packet)

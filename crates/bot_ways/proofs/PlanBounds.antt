@@ -24,7 +24,7 @@ use Rattle.bot_ways.proofs.EdgeParts.{from_within}
 use Rattle.bot_ways.proofs.FarLengths.{far_at_most}
 use Rattle.bot_ways.proofs.Gathering.{frame_text-is, walk-parts}
 use Rattle.bot_ways.proofs.LineRooms.{map-long}
-use Rattle.bot_ways.proofs.PlansRead.{few_moves_on}
+use Rattle.bot_ways.proofs.PlansRead.{edge-moves, few_moves_on}
 use Rattle.bot_ways.proofs.WalkSteps.{walk-far}
 
 -- ---- frames
@@ -182,6 +182,7 @@ moves-few m plan planned =
 pub plan_texts_are_bounded : PlanTextsAreBounded
 plan_texts_are_bounded = record {
   texts = plan-long;
+  each = edge-moves;
   moves = moves-few;
   least = least-long;
   limit = refl;

@@ -1,5 +1,5 @@
 -- What is written of a plan is read as a recording of the map.
-use Rattle.std.proofs.Common.{◌≡◌, ℕ, ◌+◌, ◌*◌, ◌^◌, ◌<◌, ◌≤◌, Bool, true, false, List, [], ◌∷◌, ◌++◌, length, map, ◌-ℤ◌, None, codes, refl, sym, ap, ◌∙◌, subst, arith, length-append, append_assoc, append-nil}
+use Rattle.std.proofs.Common.{◌≡◌, ℕ, ◌+◌, ◌*◌, ◌^◌, ◌<◌, ◌≤◌, Bool, true, false, List, [], ◌∷◌, ◌++◌, length, map, ◌-ℤ◌, Some, None, codes, refl, sym, ap, ◌∙◌, subst, arith, length-append, append_assoc, append-nil}
 use Rattle.std.specs.List.{range_with_len, slice_split, onto_first, AllByRecursion}
 use Rattle.std.proofs.lemmas.List.Splits.{slice_split_at, slice_split-cons_no}
 use Rattle.std.proofs.lemmas.Bool.Decides.{nat_tests}
@@ -26,7 +26,7 @@ use Rattle.demo_lines.proofs.Prefixes.{nothing_after_the_end}
 use Rattle.demo_lines.proofs.Written.{packets_have_room}
 use Rattle.demo_lines.proofs.RecordingsRead.{read_in_turn}
 use Rattle.bot_ways.specs.declared.plan.Plan.{Plan}
-use Rattle.bot_ways.specs.Edges.{distance}
+use Rattle.bot_ways.specs.Edges.{distance, edge}
 use Rattle.bot_ways.specs.Moves.{place_of, places_of, move_towards, moves_between, sent, move_frame, frames_between, frames_through, bot_frames}
 use Rattle.bot_ways.specs.PlanTexts.{IsPlan, frames_text, added_lines, as_written, map_text, walk_text, certificate_text, plan_text}
 use Rattle.bot_ways.specs.Walking.{IsSomeWalk}
@@ -79,8 +79,12 @@ each-frame seq (a ∷ b ∷ more) =
     (each-frame (seq + moves_between a b) (b ∷ more))
 
 -- an edge takes at most 16 moves
-pub few-moves : (a b : Vec3) → distance a b ≤ 65536 → moves_between a b ≤ 16
-few-moves a b far = omega arith
+pub edge-moves : (m : MapView) (u v step : ℕ) → edge m u v ≡ Some step → moves_between (place_of m u) (place_of m v) ≤ 16
+edge-moves m u v step is =
+    few (place_of m u) (place_of m v) (omega (arith, edge-far m u v step is, edge_most m u v step is))
+  where
+    few : (a b : Vec3) → distance a b ≤ 65536 → moves_between a b ≤ 16
+    few a b far = omega arith
 
 -- so a way has at most 16 for each waypoint but the first
 pub few_moves_on : (m : MapView) (seq : ℕ) (way : List ℕ) → IsSomeWalk m way → length (frames_through seq (places_of m way)) + 16 ≤ 16 * length way
@@ -90,13 +94,12 @@ few_moves_on m seq (u ∷ v ∷ more) walk =
     let s = first_step m u v more walk in
     let a = place_of m u in
     let b = place_of m v in
-    let far : distance a b ≤ 65536 = omega (arith, edge-far m u v s.step s.edge_is, edge_most m u v s.step s.edge_is) in
     let later = few_moves_on m (seq + moves_between a b) (v ∷ more) s.rest in
     omega (
       arith,
       length-append (frames_between seq a b) (frames_through (seq + moves_between a b) (places_of m (v ∷ more))),
       length-map-range_with_len (move_frame a b) seq (moves_between a b),
-      few-moves a b far,
+      edge-moves m u v s.step s.edge_is,
       later,
     )
 

@@ -1,7 +1,6 @@
 -- What the search for the least lengths keeps, and what it comes to.
-use Rattle.std.proofs.Common.{◌≡◌, ◌≢◌, ℕ, ◌+◌, ◌*◌, ◌<◌, ◌≤◌, ◌⊎◌, Bool, true, false, cond, min, List, length, set, get_or, replicate, count_by, Option, Some, None, option_map, refl, sym, ◌∙◌, subst, ap, inl, inr, arith, length-set, get_or-set_same, get_or-set_other}
+use Rattle.std.proofs.Common.{◌≡◌, ◌≢◌, ℕ, ◌+◌, ◌*◌, ◌<◌, ◌≤◌, ◌⊎◌, Bool, true, false, cond, min, List, length, set, get_or, count_by, Option, Some, None, option_map, refl, sym, ◌∙◌, subst, ap, inl, inr, arith, length-set, get_or-set_same, get_or-set_other}
 use Rattle.std.proofs.lemmas.Bool.{cases_eq, cases_lt}
-use Rattle.std.proofs.lemmas.List.{get_or_past, get_or-replicate, length-replicate}
 use Rattle.std.proofs.lemmas.List.Sums.{sum_by-set, count_by-le-length}
 use Rattle.std.proofs.lemmas.Option.{none-some, same_Some}
 use Rattle.arena_map.specs.Maps.{MapView}
@@ -259,45 +258,7 @@ module _ (map : MapView) (least new : List (Option ℕ)) (settled : List Bool) (
     few = few_more;
   }
 
--- ---- the beginning and the end
-
-read_same : {A : Type 0} (n v : ℕ) (x : A) → get_or (replicate n x) v x ≡ x
-read_same n v x = elim (cases_lt v n) [
-  | inl within ↦ get_or-replicate n v x x within
-  | inr past ↦ get_or_past (replicate n x) v x (simp length-replicate past)
-]
-
--- the lengths at the start
-abbrev pub first_lengths : ℕ → List (Option ℕ)
-first_lengths n = set (replicate n None) 0 (Some 0)
-
-first_own : (n : ℕ) → 0 < n → length_to (first_lengths n) 0 ≡ Some 0
-first_own n some = get_or-set_same (replicate n None) 0 (Some 0) None (simp length-replicate some)
-
-first_only : (n v m : ℕ) → 0 < n → length_to (first_lengths n) v ≡ Some m → (v ≡ 0) × (m ≡ 0)
-first_only n v m some h = elim (cases_eq v 0) [
-  | inl same ↦
-      let there = subst (λ (x : ℕ). length_to (first_lengths n) x ≡ Some m) same h in
-      (same, same_length (length_to (first_lengths n) 0) m 0 there (first_own n some))
-  | inr apart ↦ absurd (none-some m (sym (get_or-set_other (replicate n None) 0 v (Some 0) None apart ∙ read_same n v None) ∙ h))
-]
-
-pub search_first : (map : MapView) (n : ℕ) → n ≡ length map.spawns → 0 < n
-    → IsSearch map (first_lengths n) (replicate n false)
-search_first map n count some =
-    let unmarked : (v : ℕ) → is_settled (replicate n false) v ≡ false = λ v. read_same n v false in
-    let none : (v : ℕ) → is_settled (replicate n false) v ≡ true → ⊥ =
-    λ v is. not_both (is_settled (replicate n false) v) is (unmarked v) in
-    record {
-      count = length-set (replicate n None) 0 (Some 0) ∙ length-replicate n None ∙ count;
-      marks = length-replicate n false ∙ count;
-      start = first_own n some;
-      reached = λ v is. absurd (none v is);
-      closed = λ u v here step is h e. absurd (none u is);
-      ordered = λ u v here there is h unmarked k. absurd (none u is);
-      tight = λ v m h apart. absurd (apart (first_only n v m some h).0);
-      few = λ v m h. let e = (first_only n v m some h).1 in omega arith;
-    }
+-- ---- the end
 
 pub search_ends : (map : MapView) (least : List (Option ℕ)) (settled : List Bool) → IsSearch map least settled
     → AreSettled (length settled) least settled → IsCertificate map least
@@ -321,14 +282,6 @@ nearest_few map least settled at search nearest few =
     let some = count_by-le-length (λ (b : Bool). b) settled in
     let marks = search.marks in
     omega arith
-
-pub empty_certificate : (map : MapView) (least : List (Option ℕ)) → length map.spawns ≡ 0 → length least ≡ 0 → IsCertificate map least
-empty_certificate map least spawns none = record {
-  count = none ∙ sym spawns;
-  start = λ some. absurd (omega arith);
-  closed = λ u v here step h e. let lt = length_within least u here h in absurd (omega arith);
-  tight = λ v n h some. let lt = length_within least v n h in absurd (omega arith);
-}
 
 -- ---- the edges from a waypoint, tried one after another
 

@@ -3,26 +3,10 @@ use Rattle.std.proofs.Common.{◌≡◌, ℕ, zero, suc, ◌+◌, ◌<◌, ◌�
 use Rattle.std.proofs.lemmas.Bool.{ltb-true, ltb-false, cases_eq}
 use Rattle.std.proofs.lemmas.List.Sums.{sum_by-cons}
 use Rattle.arena_map.specs.Maps.{MapView}
-use Rattle.bot_ways.specs.Edges.{edge}
 use Rattle.bot_ways.specs.Walks.{IsWalk, alone, longer, length_to}
 use Rattle.bot_ways.specs.Ways.{IsBefore, IsLeastBefore, IsWay, start, next, HasBefore, IsCertificate}
 use Rattle.bot_ways.proofs.EdgeParts.{edge_least}
 use Rattle.bot_ways.proofs.Lengths.{length_within, same_length}
-
--- ---- what is before
-
-pub before_of : (map : MapView) (least : List (Option ℕ)) (u v here there step : ℕ) → length_to least u ≡ Some here
-    → length_to least v ≡ Some there → edge map u v ≡ Some step → here + step ≡ there → IsBefore map least u v
-before_of map least u v here there step p q e sum =
-    record { here = here; step = step; from = p; edge_is = e; to = q ∙ ap (λ (x : ℕ). Some x) (sym sum) }
-
-pub sum_of : (map : MapView) (least : List (Option ℕ)) (u v here there step : ℕ) → length_to least u ≡ Some here
-    → length_to least v ≡ Some there → edge map u v ≡ Some step → IsBefore map least u v → here + step ≡ there
-sum_of map least u v here there step p q e b =
-    let x = same_length (length_to least u) b.here here b.from p in
-    let y = same_length (edge map u v) b.step step b.edge_is e in
-    let z = same_length (length_to least v) (b.here + b.step) there b.to q in
-    omega arith
 
 -- ---- how many waypoints have a lesser length
 

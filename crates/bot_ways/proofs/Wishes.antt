@@ -1,9 +1,9 @@
--- Shares of a wish, and what the code computes in its types.
-use Rattle.std.proofs.Common.{◌≡◌, ℕ, zero, suc, ◌*◌, ◌/◌, ◌^◌, ◌<◌, ◌≤◌, ℤ, pos, negsuc, neg_ℤ, ◌-ℤ◌, ◌*ℤ◌, refl, ap, ◌∙◌, arith}
+-- Shares of a wish, and parts of a distance.
+use Rattle.std.proofs.Common.{◌≡◌, ℕ, zero, suc, ◌*◌, ◌/◌, ◌<◌, ◌≤◌, ℤ, pos, negsuc, neg_ℤ, ◌-ℤ◌, ◌*ℤ◌, refl, ap, ◌∙◌, arith}
 use Rattle.std.specs.Prelude.{unsigned_abs, int_div, FitsSigned, max}
-use Rattle.std.specs.Int.{w16, w64, cast_signed, cast_unsigned}
+use Rattle.std.specs.Int.{w16}
 use Rattle.std.proofs.lemmas.Nat.{mul-le, div_below}
-use Rattle.std.proofs.lemmas.Int.{ints, to_z-of_z, unsigned_abs-mul, quot_is, quot_fits, fits_signed_from_abs}
+use Rattle.std.proofs.lemmas.Int.{unsigned_abs-mul, fits_signed_from_abs}
 use Rattle.arena_geo.specs.declared.vec3.Vec3.{Vec3}
 use Rattle.bot_ways.specs.Edges.{distance}
 use Rattle.bot_ways.specs.Moves.{wish_along}
@@ -27,24 +27,6 @@ wish_at_most part whole some is_part =
 
 pub wish_fits : (part : ℤ) (whole : ℕ) → 1 ≤ whole → unsigned_abs part ≤ whole → FitsSigned w16 (wish_along part whole)
 wish_fits part whole some is_part = fits_signed_from_abs w16 (wish_along part whole) (omega (arith, wish_at_most part whole some is_part))
-
-pos_fits : (n : ℕ) → n < 2 ^ 32 → FitsSigned w64 (pos n)
-pos_fits n small = record { sfits = omega arith }
-
-pub quotient_fits : (a : ℤ) (d : ℕ) → FitsSigned w64 a → 1 ≤ d → FitsSigned w64 (int_div a (pos d))
-quotient_fits a d fits some = quot_fits w64 a (pos d) fits (omega (arith, ints))
-
--- the code's quotient
-pub quotient_is : (a q : ℤ) (d : ℕ) → FitsSigned w64 a → 1 ≤ d → d < 2 ^ 32 → q ≡ pos d
-    → cast_signed w64 (cast_unsigned w64 (int_div (cast_signed w64 (cast_unsigned w64 a)) (cast_signed w64 (cast_unsigned w64 q)))) ≡ int_div a (pos d)
-quotient_is a q d fits some small is = rw is (quot_is w64 a (pos d) fits (pos_fits d small) (quotient_fits a d fits some))
-
--- the code may divide
-pub can_divide : (a q : ℤ) (d : ℕ) → FitsSigned w64 a → 1 ≤ d → d < 2 ^ 32 → q ≡ pos d
-    → (0 < cast_unsigned w64 q) × FitsSigned w64 (int_div (cast_signed w64 (cast_unsigned w64 a)) (cast_signed w64 (cast_unsigned w64 q)))
-can_divide a q d fits some small is =
-    let divisor_fits : FitsSigned w64 (pos d) = pos_fits d small in
-    rw (is, to_z-of_z w64 a fits, to_z-of_z w64 (pos d) divisor_fits) (omega (arith, some), quotient_fits a d fits some)
 
 -- ---- parts of a distance
 

@@ -14,7 +14,7 @@ use Rattle.bot_ways.specs.declared.writing.TheConstants.{MOST_PLAN_BYTES}
 use Rattle.bot_ways.specs.Edges.{distance, edge}
 use Rattle.bot_ways.specs.Walks.{IsWalk, HasLeast}
 use Rattle.bot_ways.specs.Ways.{IsCertificate, IsWay}
-use Rattle.bot_ways.specs.Moves.{places_of, length_through, wish_along, move_towards, moves_between, sent, bot_frames}
+use Rattle.bot_ways.specs.Moves.{place_of, places_of, length_through, wish_along, move_towards, moves_between, sent, bot_frames}
 use Rattle.bot_ways.specs.PlanTexts.{IsPlan, as_written, least_line, plan_text}
 use Rattle.bot_ways.specs.Rooms.{moves_on, room_of_least, room_of_plan}
 
@@ -70,12 +70,13 @@ pub record MovesAreKnown : Type 0 where
       → reading (sent (Step (move_towards seq a b))).bytes ≡ Ok (Step (move_towards seq a b))
   pub wishes : (part : ℤ) (whole : ℕ) → 1 ≤ whole → unsigned_abs part ≤ whole → unsigned_abs (wish_along part whole) ≤ 320
 
--- what is written of a plan has at most as many bytes as its map, its moves and its waypoints need, and an edge of the way
--- has at most 16 moves; so with the most of each it has at most 123,417. The line of the least lengths alone has at most 6,
--- and 8 for each waypoint
+-- what is written of a plan has at most as many bytes as its map, its moves and its waypoints need. An edge has at most 16
+-- moves, so the way has at most 16 moves for each of its edges; so with the most of each the text has at most 123,417. The
+-- line of the least lengths alone has at most 6, and 8 for each waypoint
 pub record PlanTextsAreBounded : Type 0 where
   pub texts : (map : MapView) (plan : Plan) → IsMap map → IsPlan map plan
       → length (plan_text map plan) ≤ room_of_plan map plan
+  pub each : (map : MapView) (u v n : ℕ) → edge map u v ≡ Some n → moves_between (place_of map u) (place_of map v) ≤ 16
   pub moves : (map : MapView) (plan : Plan) → IsPlan map plan → moves_on map plan.way + 16 ≤ 16 * length plan.way
   pub least : (map : MapView) (least : List (Option ℕ)) → IsMap map → IsCertificate map least
       → length (least_line least) ≤ room_of_least map

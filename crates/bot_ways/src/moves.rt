@@ -25,7 +25,7 @@ fn quotient(dividend: i64, divisor: u32) -> i64
 
 /// The wish for the whole of an edge times its part along an axis.
 fn product(part: i32) -> i64
-    ensures { result ≡ part *ℤ pos 320 }
+    ensures { result ≡ part *ℤ WISH }
 {
     i64::from(part) * WISH
 }

@@ -1,5 +1,4 @@
 ghost use Rattle.std.specs.Prelude.{◌≡◌, ◌≤◌, ◌++◌, length, OnOk, IfOk};
-ghost use Rattle.bot_ways.specs.Moves as moves;
 ghost use Rattle.bot_ways.specs.Moves.{places_of, frames_between, frames_through, length_through};
 ghost use Rattle.bot_ways.specs.PlanTexts.{frames_text};
 ghost use Rattle.bot_ways.specs.Walking.{IsStride, IsSomeWalk};

@@ -51,18 +51,6 @@ drawn-if seed players opened left back some few = elim (cases_lt back opened) [
   | inr late ↦ let no_ : nat_lt back opened ≡ false = grind (arith, nat_tests) in rw no_ (not-drawn seed players opened left back late)
 ]
 
--- the words so far are those of a frame that has none left, and those of the frame after it that has all left
-pub opened-back : (seed players opened back : ℕ) → state_back seed players opened 0 back ≡ state_back seed players (opened + 1) players back
-opened-back seed players opened back = elim (cases_lt opened back) [
-  | inl late ↦
-      let none : opened - back ≡ 0 = omega arith in
-      let none_now : opened + 1 - back ≡ 0 = omega arith in
-      rw none (rw none_now (ap (state_after seed) (omega arith)))
-  | inr before ↦
-      let one : opened + 1 - back ≡ opened - back + 1 = omega arith in
-      rw one (ap (state_after seed) (omega arith))
-]
-
 -- the number of a move's word, from where the generator is
 word-number : (players opened left back : ℕ) → 0 < left → left ≤ players → back < opened
     → (opened - back) * players - left ≡ (opened - 1 - back) * players + (players - left + 1 - 1)

@@ -1,4 +1,4 @@
-ghost use Rattle.std.specs.Prelude.{◌≡◌, ◌+◌, ◌<◌, ◌≤◌, ◌++◌, length, map, option_to_list};
+ghost use Rattle.std.specs.Prelude.{◌≡◌, ◌+◌, ◌<◌, ◌++◌, length, map, option_to_list};
 ghost use Rattle.arena_map.specs.declared.limits.TheConstants.{MOST_FRAMES};
 ghost use Rattle.demo_make.specs.GeneratedFrames as frames;
 ghost use Rattle.demo_make.specs.ResentFrames as resent;
@@ -17,7 +17,7 @@ const MOST_WISH: i16 = 320;
 fn wish(word: u64) -> i16
     ensures { result ≡ frames.wish_of word }
 {
-    (word % 641) as i16 - MOST_WISH
+    (word % (2 * MOST_WISH as u64 + 1)) as i16 - MOST_WISH
 }
 
 /// The command that a word gives.

@@ -1,5 +1,4 @@
-ghost use Rattle.std.specs.Prelude.{◌≡◌, ◌+◌, ◌*◌, ◌≤◌, [], ◌++◌, length, map, decimal};
-ghost use Rattle.edge_io.specs.Fields.{field_text};
+ghost use Rattle.std.specs.Prelude.{◌≡◌, ◌+◌, ◌*◌, ◌≤◌, [], ◌++◌, length, map};
 ghost use Rattle.edge_io.specs.WholeLines.{unlines};
 ghost use Rattle.arena_map.specs.Spelling.{map_line_text};
 ghost use Rattle.demo_lines.specs.Spelling.{packet_text};

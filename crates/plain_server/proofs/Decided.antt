@@ -1,9 +1,9 @@
 -- What a right journal makes of a player's state, and what it was before the moves of a frame.
-use Rattle.std.proofs.Common.{◌≡◌, ◌≢◌, ◌⊎◌, ℕ, zero, suc, ◌+◌, ◌<◌, ◌==◌, Bool, true, false, cond, List, [], ◌∷◌, ◌++◌, Option, Some, inl, inr, refl, sym, ap, ◌∙◌, subst, arith}
+use Rattle.std.proofs.Common.{◌≡◌, ◌≢◌, ◌⊎◌, ℕ, zero, suc, ◌+◌, ◌<◌, ◌==◌, Bool, true, false, cond, List, [], ◌∷◌, ◌++◌, Option, Some, IsSome, inl, inr, refl, sym, ap, ◌∙◌, subst, arith}
 use Rattle.std.specs.Prelude.{All, Contains}
 use Rattle.std.specs.List.{list_any}
 use Rattle.std.proofs.lemmas.Bool.{cases_Bool, cases_eq, eq-eqb, ne_eqb}
-use Rattle.std.proofs.lemmas.List.Elements.{All-contains, All-head, All-tail}
+use Rattle.std.proofs.lemmas.List.Elements.{All-cons, All-contains, All-head, All-nil, All-tail, All-weaker}
 use Rattle.std.proofs.lemmas.Option.{same_Some}
 use Rattle.entity_recs.specs.declared.effect.Effect.{Effect}
 use Rattle.entity_recs.specs.declared.effect.Entry.{Entry}
@@ -21,9 +21,9 @@ use Rattle.plain_server.specs.Moving.{HasLivePlayer, effect_among, records_after
 use Rattle.plain_server.specs.Entries.{IsReception}
 use Rattle.plain_server.specs.Frames.{state_after_tick, received_in, moved_by, IsRightAfter}
 use Rattle.plain_server.specs.Hits.{state_when_hit, state_after_move, state_after_entry, state_after_entries, JournalsDecideStates}
-use Rattle.plain_server.proofs.States.{IsHitOrNot, IsHit, IsLeft, hit_or_not, other_then, mover_state}
+use Rattle.plain_server.proofs.States.{IsHitOrNot, IsHit, IsLeft, hit_or_not, other_then, hit_is_there, mover_state}
 use Rattle.plain_server.proofs.Ending.{mover_is}
-use Rattle.plain_server.proofs.Moves.{after_all, after_all-are}
+use Rattle.plain_server.proofs.Moves.{moved-none, moved-more, after_all, after_all-are}
 use Rattle.plain_server.proofs.Commands.{history_has}
 use Rattle.plain_server.proofs.OfFrame.{IsOfFrame, moves_are_of_frame}
 use Rattle.plain_server.proofs.Runs.{entries_of, IsRun, first_live, entry_is, run_rest, journal_runs, run_entries}
@@ -142,6 +142,23 @@ stood_through map frame place records (item ∷ items) slot old (x ∷ earlier) 
     (All-tail (IsOfFrame frame) item.command (commands_of items) of) below next.at rest got in
     subst (λ (s : ℕ). state_after_entries frame slot s earlier < 100) (next.state_is ∙ ap (state_after_entry frame slot old.state) first) there
 
+-- each slot among the ids that the entry got is that of a live record
+abbrev HitsWhoIsThere : List (Option Rec) → Entry → Type 0
+HitsWhoIsThere records e = (slot : ℕ) → slot < 64 → Contains e.reply.got slot → IsSome (record_at records slot)
+
+-- commands leave the same ids live, so who is hit later is there before
+all_there : (map : MapView) (place : ℕ) (records : List (Option Rec)) (items : List Item) → IsMap map → IsRun map place records items → All (HitsWhoIsThere records) (entries_of items)
+all_there map place records [] is_map is = All-nil (HitsWhoIsThere records)
+all_there map place records (item ∷ items) is_map is =
+    let c = item.command in
+    let has = first_live map place records item items is in
+    let more = moved-more map records records [] c is_map has (moved-none map records is.valid) in
+    let first : HitsWhoIsThere records item.entry =
+    subst (HitsWhoIsThere records) (sym (entry_is map place records item items is)) (hit_is_there map records c is.valid has) in
+    All-cons (HitsWhoIsThere records) item.entry (entries_of items) first
+    (All-weaker (HitsWhoIsThere (records_after map records c)) (HitsWhoIsThere records) (λ e later slot below got. sym (more.live slot) ∙ later slot below got) (entries_of items)
+    (all_there map (place + 1) (records_after map records c) items is_map (run_rest map place records item items is_map is)))
+
 -- ---- a frame
 
 module _ (map : MapView) (frame : ℕ) (state : State) (arrivals : List Arrival) (journal : List Entry) (is_map : IsMap map) (is : IsServerState map state)
@@ -173,5 +190,10 @@ module _ (map : MapView) (frame : ℕ) (state : State) (arrivals : List Arrival)
   stood slot old below at earlier later e parts got =
       stood_through map frame 0 r.state.records items slot old earlier later e is_map runs of_frame below at (run_entries map r journal pass right ∙ parts) got
 
+  was_there : (e : Entry) → Contains journal e → (slot : ℕ) → slot < 64 → Contains e.reply.got slot → IsSome (record_at r.state.records slot)
+  was_there e has =
+      All-contains (HitsWhoIsThere r.state.records) journal e
+      (subst (All (HitsWhoIsThere r.state.records)) (run_entries map r journal pass right) (all_there map 0 r.state.records items is_map runs)) has
+
 pub journals_decide : JournalsDecideStates
-journals_decide = record { after = decided; standing = stood }
+journals_decide = record { after = decided; standing = stood; there = was_there }

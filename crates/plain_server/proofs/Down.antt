@@ -1,7 +1,8 @@
 -- Which states players may have after so many frames: nobody is down for long.
-use Rattle.std.proofs.Common.{◌≡◌, ℕ, ◌+◌, ◌-◌, ◌<◌, nat_le, Bool, true, false, cond, ◌&&◌, if◌then◌else◌, List, [], ◌∷◌, length, Option, Some, None, is_some, inl, inr, refl, sym, ap, ◌∙◌, subst, arith}
+use Rattle.std.proofs.Common.{◌≡◌, ℕ, ◌+◌, ◌-◌, ◌<◌, ◌≤◌, nat_le, nat_lt, Bool, true, false, cond, ◌&&◌, if◌then◌else◌, List, [], ◌∷◌, length, Option, Some, None, is_some, inl, inr, refl, sym, ap, ◌∙◌, subst, arith}
 use Rattle.std.specs.Prelude.{All}
 use Rattle.std.proofs.lemmas.Bool.{cases_lt}
+use Rattle.std.proofs.lemmas.Bool.Decides.{nat_tests}
 use Rattle.std.proofs.lemmas.List.Elements.{All-head, All-tail, All-weaker}
 use Rattle.std.proofs.lemmas.Option.{none-some, same_Some}
 use Rattle.entity_recs.specs.declared.rec.Rec.{Rec}
@@ -12,6 +13,7 @@ use Rattle.entity_recs.specs.Histories.{with_new_state, commands_of}
 use Rattle.move_journal.specs.Merges.{history_of}
 use Rattle.arena_map.specs.Maps.{MapView, IsMap}
 use Rattle.arena_map.specs.Validity.{IsValidWorld}
+use Rattle.shot_rules.specs.Shots.{is_down}
 use Rattle.world_tree.specs.Live.{record_at}
 use Rattle.packet_read.specs.declared.arrival.Arrival.{Arrival}
 use Rattle.client_ports.specs.Clients.{client_at}
@@ -22,8 +24,8 @@ use Rattle.client_ports.proofs.Slots.{client_count, read-set}
 use Rattle.plain_server.specs.RecordsById.{opening}
 use Rattle.plain_server.specs.Moving.{HasLivePlayer, effect_among, with_new_states, records_after}
 use Rattle.plain_server.specs.Frames.{state_after_tick, received_in, moved_by, state_after, first_of, rest_of, state_played}
-use Rattle.plain_server.specs.Hits.{IsHitState, state_after_move, IsStateAfter, Stands, HasFallen, HaveStatesAfter, NobodyIsDownForLong}
-use Rattle.plain_server.proofs.Hits.{wounded, fallen}
+use Rattle.plain_server.specs.Hits.{state_after_move, IsStateAfter, Stands, HasFallen, HaveStatesAfter, NobodyIsDownForLong}
+use Rattle.plain_server.proofs.Hits.{IsHitState, wounded, fallen}
 use Rattle.plain_server.proofs.Players.{live_record}
 use Rattle.plain_server.proofs.NewStates.{was_at}
 use Rattle.plain_server.proofs.States.{IsHitOrNot, IsHit, IsLeft, hit_or_not, mover_state}
@@ -39,6 +41,13 @@ use Rattle.plain_server.proofs.Frames.{moved_by_is, received_is, state_after_is,
 most_state : (frames state : ℕ) → IsStateAfter frames state → state < 140 + frames
 most_state frames state (Stands hits few is) = omega (arith, few, is)
 most_state frames state (HasFallen frame before is) = omega (arith, before, is)
+
+-- so 40 frames later nobody is down
+not_down : (later state : ℕ) → state - 100 ≤ later → (nat_le 100 state && nat_lt later (state - 100)) ≡ false
+not_down later state since = grind (arith, nat_tests)
+
+up_again : (frames later : ℕ) (r : Rec) → IsStateAfter frames r.state → frames + 39 ≤ later → is_down r later ≡ false
+up_again frames later r is past = let most = most_state frames r.state is in not_down later r.state (omega (arith, most, past))
 
 later_state : (frames state : ℕ) → IsStateAfter frames state → IsStateAfter (frames + 1) state
 later_state frames state (Stands hits few is) = Stands hits few is
@@ -179,4 +188,5 @@ nobody_down_for_long = record {
       states_shown map (length frames) (state_played map 0 (opening map) frames journals) arrivals journal is_map
       (played_is map 0 (opening map) frames journals is_map (opening_is map is_map)) (states_played map frames journals is_map);
   most = most_state;
+  up = up_again;
 }

@@ -2,7 +2,12 @@
 use Rattle.std.proofs.Common.{◌≡◌, ℕ, ◌+◌, ◌<◌, ◌≤◌, nat_le, Bool, true, false, cond, ap, arith}
 use Rattle.std.proofs.lemmas.Bool.Decides.{nat_tests}
 use Rattle.shot_rules.specs.Shots.{state_after_hit}
-use Rattle.plain_server.specs.Hits.{state_when_hit, IsHitState}
+use Rattle.plain_server.specs.Hits.{state_when_hit}
+
+-- a player is hit in this frame: it isn't down before that, and has this state after it
+pub record IsHitState (frame before after : ℕ) : Type 0 where
+  pub standing : before < 100
+  pub state_is : after ≡ state_when_hit frame before
 
 -- who had less than 75 has 25 more
 pub wounded : (frame before : ℕ) → before + 25 < 100 → state_when_hit frame before ≡ before + 25

@@ -1,7 +1,6 @@
 -- Records by id with new states: each record is the one it was, but for its state, and the same ids are live.
-use Rattle.std.proofs.Common.{◌≡◌, ◌≢◌, ℕ, zero, suc, ◌==◌, true, List, [], ◌∷◌, ◌++◌, length, Option, Some, None, is_some, slice_set, inl, inr, refl, sym, ap, ◌∙◌, subst, arith}
+use Rattle.std.proofs.Common.{◌≡◌, ◌≢◌, ℕ, zero, suc, ◌==◌, true, List, [], ◌∷◌, ◌++◌, length, Option, Some, None, is_some, inl, inr, refl, sym, ap, ◌∙◌, subst}
 use Rattle.std.specs.Prelude.{All}
-use Rattle.std.specs.Prelude.{map as map_list}
 use Rattle.std.specs.List.{find}
 use Rattle.std.specs.Option.{option_map}
 use Rattle.std.proofs.lemmas.Bool.{cases_Bool, eq-eqb, ne_eqb, eqb-true}
@@ -203,45 +202,6 @@ clear-restated map states records clear = record {
 }
 
 -- ---- one state after another
-
--- a change of one record, where the others change as before, is that record put in
-changed_one : (f g : Rec → Rec) (records : List (Option Rec)) (place : ℕ) (r : Rec) → record_at records place ≡ Some r
-    → ((i : ℕ) (x : Rec) → record_at records i ≡ Some x → i ≢ place → f x ≡ g x)
-    → map_list (option_map g) records ≡ slice_set (map_list (option_map f) records) place (Some (g r))
-changed_one f g [] place r at others = cc
-changed_one f g (None ∷ records) zero r at others = cc
-changed_one f g (Some x ∷ records) zero r at others =
-    let head = ap g (same_Some x r at) in
-    let tail = unchanged f g records (λ i y here. others (suc i) y here (λ same. suc_zero i same)) in
-    λ i. Some (head i) ∷ tail i
-  where
-    suc_zero : (i : ℕ) → suc i ≡ zero → ⊥
-    suc_zero i same = absurd (omega (arith, same))
-
-    unchanged : (f g : Rec → Rec) (records : List (Option Rec)) → ((i : ℕ) (x : Rec) → record_at records i ≡ Some x → f x ≡ g x)
-        → map_list (option_map g) records ≡ map_list (option_map f) records
-    unchanged f g [] same = refl
-    unchanged f g (None ∷ records) same = ap (λ (rs : List (Option Rec)). None ∷ rs) (unchanged f g records (λ i y here. same (suc i) y here))
-    unchanged f g (Some y ∷ records) same =
-        let first = sym (same zero y refl) in
-        let later = unchanged f g records (λ i z here. same (suc i) z here) in
-        λ i. Some (first i) ∷ later i
-changed_one f g (None ∷ records) (suc place) r at others =
-    ap (λ (rs : List (Option Rec)). None ∷ rs) (changed_one f g records place r at (λ i x here apart. others (suc i) x here (λ same. apart (omega (arith, same)))))
-changed_one f g (Some y ∷ records) (suc place) r at others =
-    let head = sym (others zero y refl (λ same. zero_suc place same)) in
-    let tail = changed_one f g records place r at (λ i x here apart. others (suc i) x here (λ same. apart (omega (arith, same)))) in
-    λ i. Some (head i) ∷ tail i
-  where
-    zero_suc : (i : ℕ) → zero ≡ suc i → ⊥
-    zero_suc i same = absurd (omega (arith, same))
-
--- a record with the states of a list and one more
-new_state-other : (states : List NewState) (s : NewState) (id : ℕ) (r : Rec) → s.id ≢ id → with_new_state (states ++ s ∷ []) id r ≡ with_new_state states id r
-new_state-other [] s id r apart = rw (ne_eqb s.id id apart) refl
-new_state-other (t ∷ states) s id r apart =
-    let rest = new_state-other states s id r apart in
-    elim (cases_Bool (t.id == id)) [ inl e ↦ rw e refl | inr e ↦ rw e rest ]
 
 -- none of the new states is that of this id
 abbrev pub Lacks : List NewState → ℕ → Type 0

@@ -1,19 +1,15 @@
 -- The other live records of a move: those that a query over the arena's bounds gives.
-use Rattle.std.specs.Prelude.{◌≡◌, ℕ, zero, suc, ◌==◌, true, false, not, List, [], ◌∷◌, filter, Option, Some, None}
+use Rattle.std.specs.Prelude.{◌≡◌, ℕ, zero, suc, ◌==◌, false, not, List, [], ◌∷◌, filter, Option, Some, None}
 use Rattle.std.specs.Prelude.{map as map_list}
 use Rattle.std.specs.List.{AllByRecursion}
 use Rattle.std.specs.List.Sorted.{IsStrictlyIncreasing}
 use Rattle.std.proofs.Common.{refl, sym, ap, ◌∙◌, subst, inl, inr}
 use Rattle.std.proofs.lemmas.Bool.{cases_Bool}
 use Rattle.std.proofs.lemmas.List.Kept.{IsStrictlyIncreasing-filter}
-use Rattle.arena_geo.specs.Bounds.{Bounds}
-use Rattle.arena_geo.specs.Regions.{touches_region}
 use Rattle.entity_recs.specs.declared.rec.Rec.{Rec}
-use Rattle.entity_recs.specs.Bodies.{abs_of}
 use Rattle.entity_recs.specs.Worlds.{others_of, record_or_nobody}
 use Rattle.world_tree.proofs.Rising.{ids_rise}
 use Rattle.world_tree.specs.Live.{record_at, live_in, ids_of}
-use Rattle.world_tree.specs.Queries.{is_near}
 use Rattle.plain_server.specs.RecordsById.{world_of}
 
 -- what holds of each record at its place holds of all live records
@@ -72,12 +68,3 @@ others_at records slot own =
     subst (AllByRecursion (IsOther records slot)) (sym (others-are records slot own))
     (all_but (IsOther records slot) slot (live_in records)
     (each_live (λ r. (r.id == slot) ≡ false → IsOther records slot r) records (λ k r at apart. record { at = ap (record_at records) (own k r at) ∙ at; apart = apart })))
-
--- where all records touch the region, those near it are those with other ids
-all_near : (region : List Bounds) (slot : ℕ) (rs : List Rec) → AllByRecursion (λ r. touches_region (abs_of r) region ≡ true) rs
-    → filter (is_near region slot) rs ≡ filter (λ (r : Rec). not (r.id == slot)) rs
-all_near region slot [] touch = refl
-all_near region slot (r ∷ rs) touch =
-    let here : touches_region (abs_of r) region ≡ true = touch.0 in
-    let tail = all_near region slot rs touch.1 in
-    elim (cases_Bool (r.id == slot)) [ inl e ↦ rw (here, e) tail | inr e ↦ rw (here, e) (ap (λ (l : List Rec). r ∷ l) tail) ]

@@ -1,5 +1,5 @@
 -- What a command does to the states of players: that of the one that it hits, and the mover's own.
-use Rattle.std.proofs.Common.{◌≡◌, ◌≢◌, ℕ, zero, suc, ◌-◌, ◌<◌, ◌≤◌, nat_le, Bool, true, false, cond, ◌&&◌, List, [], ◌∷◌, ◌++◌, Option, Some, None, inl, inr, refl, sym, ap, ◌∙◌, subst, arith, get_or-set_other}
+use Rattle.std.proofs.Common.{◌≡◌, ◌≢◌, ℕ, zero, suc, ◌-◌, ◌<◌, ◌≤◌, nat_le, Bool, true, false, cond, ◌&&◌, List, [], ◌∷◌, ◌++◌, Option, Some, None, is_some, IsSome, inl, inr, refl, sym, ap, ◌∙◌, subst, arith, get_or-set_other}
 use Rattle.std.specs.Prelude.{All, Contains}
 use Rattle.std.specs.Option.{option_map}
 use Rattle.std.proofs.lemmas.Bool.{cases_eq, cases_lt}
@@ -22,7 +22,8 @@ use Rattle.arena_actions.proofs.OnMaps.{decide, down_lie, down_rise, follow_move
 use Rattle.world_tree.specs.Live.{record_at}
 use Rattle.plain_server.specs.RecordsById.{world_of}
 use Rattle.plain_server.specs.Moving.{HasLivePlayer, effect_among, with_new_states, records_after}
-use Rattle.plain_server.specs.Hits.{IsHitState, state_after_move}
+use Rattle.plain_server.specs.Hits.{state_after_move}
+use Rattle.plain_server.proofs.Hits.{IsHitState}
 use Rattle.plain_server.proofs.NewStates.{record_at-restated, still_at, Lacks, new_state-lacks, new_state-last}
 use Rattle.plain_server.proofs.Takes.{IsTakenIn, HitsNobody, HitsOne, IsDone, ids_of, done, lacks_what_lacks}
 use Rattle.plain_server.proofs.Players.{slot_is_player}
@@ -142,6 +143,23 @@ module _ (map : MapView) (records : List (Option Rec)) (c : Command) (valid : Is
           ∙ ap Some (new_state-lacks effect.states slot r lacks)
           ∙ sym at
 
+  -- of the ids of what is taken and of who is hit, one that is a slot is that of who is hit
+  is_hurt : (slot : ℕ) (hurt : NewState) (taken : List NewState) → slot < 64 → All (IsTakenIn map records c.frame) taken → Contains (hurt.id ∷ ids_of taken) slot → slot ≡ hurt.id
+  is_hurt slot hurt taken below all (zero, within, is) = sym is
+  is_hurt slot hurt taken below all (suc n, within, is) =
+      absurd (All-contains (λ (id : ℕ). id ≢ slot) (ids_of taken) slot (ids_lack slot taken (taken_lack slot taken below all)) (n, omega (arith, within), is) refl)
+
+  -- who is hit is there
+  pub hit_is_there : (slot : ℕ) → slot < 64 → Contains effect.reply.got slot → IsSome (record_at records slot)
+  hit_is_there slot below = by effect (done map records c own)
+    where
+      by : (e : Effect) → IsDone map records c.frame c.slot e → Contains e.reply.got slot → IsSome (record_at records slot)
+      by e (HitsNobody all got) among =
+          absurd (All-contains (λ (id : ℕ). id ≢ slot) e.reply.got slot (subst (All (λ (id : ℕ). id ≢ slot)) (sym got) (ids_lack slot e.states (taken_lack slot e.states below all))) among refl)
+      by e (HitsOne taken hurt all h apart states got) among =
+          let same = is_hurt slot hurt taken below all (subst (λ (ids : List ℕ). Contains ids slot) got among) in
+          ap is_some (ap (record_at records) same ∙ h.at)
+
   -- of the ids that the mover got at most one is a slot
   pub one_slot : (id other : ℕ) → id < 64 → other < 64 → Contains effect.reply.got id → Contains effect.reply.got other → other ≡ id
   one_slot id other below also = by effect (done map records c own)
@@ -153,11 +171,6 @@ module _ (map : MapView) (records : List (Option Rec)) (c : Command) (valid : Is
           let first = is_hurt id hurt taken below all (subst (λ (ids : List ℕ). Contains ids id) got has_one) in
           let second = is_hurt other hurt taken also all (subst (λ (ids : List ℕ). Contains ids other) got has_other) in
           second ∙ sym first
-        where
-          is_hurt : (k : ℕ) (hurt : NewState) (taken : List NewState) → k < 64 → All (IsTakenIn map records c.frame) taken → Contains (hurt.id ∷ ids_of taken) k → k ≡ hurt.id
-          is_hurt k hurt taken few all (zero, within, is) = sym is
-          is_hurt k hurt taken few all (suc n, within, is) =
-              absurd (All-contains (λ (j : ℕ). j ≢ k) (ids_of taken) k (ids_lack k taken (taken_lack k taken few all)) (n, omega (arith, within), is) refl)
 
   -- and it isn't its own
   pub not_own : All (λ (id : ℕ). id ≢ c.slot) effect.reply.got

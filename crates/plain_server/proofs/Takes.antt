@@ -25,9 +25,8 @@ use Rattle.arena_actions.specs.Lawful.Moves.{take_what_is_there}
 use Rattle.arena_actions.proofs.OnMaps.{IsMove, IsPlain, Lies, Shoots, is_move}
 use Rattle.world_tree.specs.Live.{record_at}
 use Rattle.plain_server.specs.RecordsById.{world_of}
-use Rattle.plain_server.specs.Hits.{IsHitState}
 use Rattle.plain_server.specs.Moving.{effect_among}
-use Rattle.plain_server.proofs.Hits.{hit_state}
+use Rattle.plain_server.proofs.Hits.{IsHitState, hit_state}
 use Rattle.plain_server.proofs.NewStates.{IsOfLive, item_state, Lacks}
 use Rattle.plain_server.proofs.Others.{IsOther, others_at}
 

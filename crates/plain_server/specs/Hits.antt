@@ -1,10 +1,11 @@
 -- What moves do to a player's state: who is hit, what a hit makes of it, and what a player's own move does.
-use Rattle.std.specs.Prelude.{◌≡◌, ◌≢◌, ℕ, ◌+◌, ◌-◌, ◌*◌, ◌<◌, ◌==◌, nat_le, ◌&&◌, if◌then◌else◌, List, ◌∷◌, ◌++◌, length}
-use Rattle.std.specs.Prelude.{fold, Option, Some, None, All, Contains}
+use Rattle.std.specs.Prelude.{◌≡◌, ◌≢◌, ℕ, ◌+◌, ◌-◌, ◌*◌, ◌<◌, ◌≤◌, ◌==◌, nat_le, false, ◌&&◌, if◌then◌else◌, List, ◌∷◌}
+use Rattle.std.specs.Prelude.{◌++◌, length, fold, Option, Some, None, IsSome, All, Contains}
 use Rattle.std.specs.List.{list_any}
 use Rattle.entity_recs.specs.declared.rec.Rec.{Rec}
 use Rattle.entity_recs.specs.declared.effect.Entry.{Entry}
 use Rattle.arena_map.specs.Maps.{MapView, IsMap}
+use Rattle.shot_rules.specs.Shots.{is_down}
 use Rattle.world_tree.specs.Live.{record_at}
 use Rattle.packet_read.specs.declared.arrival.Arrival.{Arrival}
 use Rattle.client_ports.specs.States.{State, IsServerState}
@@ -19,11 +20,6 @@ use Rattle.plain_server.specs.Laws.{received_next}
 -- until 40 frames after this one
 abbrev pub state_when_hit : ℕ → ℕ → ℕ
 state_when_hit frame state = if nat_le 100 (state + 25) then 100 + (frame + 40) else state + 25
-
--- a player is hit in this frame: it stands before that, and has this state after it
-pub record IsHitState (frame before after : ℕ) : Type 0 where
-  pub standing : before < 100
-  pub state_is : after ≡ state_when_hit frame before
 
 -- a player's own move in this frame makes this state of its state: one that was down, and isn't any more, has no damage
 abbrev pub state_after_move : ℕ → ℕ → ℕ
@@ -43,7 +39,8 @@ HaveStatesAfter frames records =
     (slot : ℕ) (r : Rec) → slot < 64 → record_at records slot ≡ Some r → IsStateAfter frames r.state
 
 -- after any frames, with whatever journals, each player has such a state, which is below 140 and the number of these
--- frames: it is down for fewer than 40 frames more. So it is after the moves of a frame, which is then one of them
+-- frames. So it is after the moves of a frame, which is then one of them. Who has such a state is down for fewer than 40
+-- frames more: at most in the 39 that follow
 pub record NobodyIsDownForLong : Type 0 where
   pub between : (map : MapView) (frames : List (List Arrival)) (journals : List (List Entry)) → IsMap map
       → HaveStatesAfter (length frames) (state_played map 0 (opening map) frames journals).records
@@ -51,6 +48,7 @@ pub record NobodyIsDownForLong : Type 0 where
       (journal : List Entry) → IsMap map
       → HaveStatesAfter (length frames + 1) (moved_by map (received_next map frames journals arrivals) journal).records
   pub most : (frames state : ℕ) → IsStateAfter frames state → state < 140 + frames
+  pub up : (frames later : ℕ) (r : Rec) → IsStateAfter frames r.state → frames + 39 ≤ later → is_down r later ≡ false
 
 -- ---- the begin of a frame
 
@@ -108,8 +106,8 @@ state_after_entry frame slot state e =
 abbrev pub state_after_entries : ℕ → ℕ → ℕ → List Entry → ℕ
 state_after_entries frame slot state journal = fold (state_after_entry frame slot) state journal
 
--- a right journal of a frame decides each player's state: after its moves it is that after its entries, and nobody that is
--- down is hit
+-- a right journal of a frame decides each player's state: after its moves it is that after its entries. Whoever is hit is
+-- there, and isn't down
 pub record JournalsDecideStates : Type 0 where
   pub after : (map : MapView) (frame : ℕ) (state : State) (arrivals : List Arrival) (journal : List Entry) → IsMap map
       → IsServerState map state
@@ -123,3 +121,9 @@ pub record JournalsDecideStates : Type 0 where
       IsRightAfter map r journal → (slot : ℕ) (old : Rec) → slot < 64 → record_at r.state.records slot ≡ Some old
       → (earlier later : List Entry) (e : Entry) → journal ≡ earlier ++ e ∷ later → Contains e.reply.got slot
       → state_after_entries frame slot old.state earlier < 100
+  -- whoever is hit is there
+  pub there : (map : MapView) (frame : ℕ) (state : State) (arrivals : List Arrival) (journal : List Entry)
+      → IsMap map → IsServerState map state
+      → let r = received_in map frame state arrivals in
+      IsRightAfter map r journal → (e : Entry) → Contains journal e → (slot : ℕ) → slot < 64
+      → Contains e.reply.got slot → IsSome (record_at r.state.records slot)

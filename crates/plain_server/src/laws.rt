@@ -63,8 +63,8 @@ pub fn right_journals_are_in_range()
     ensures { RightJournalsAreInRange }
 {}
 
-/// In a right journal of a frame at most one entry takes an item, whose state after the frame is the frame's number
-/// plus the item's delay.
+/// In a right journal of a frame at most one entry takes an item, and where one does, the item's state after the frame is
+/// the frame's number plus its delay.
 pub fn frames_have_one_taker()
     ensures { FramesHaveOneTaker }
 {}
@@ -87,15 +87,15 @@ pub fn taken_items_stay_away()
 {}
 
 /// A frame ends where its moves did. After the moves of a right journal each player with an entry is where the last one
-/// reports it, and each other one is as the receive pass left it, on a map with shots but for its state; the replies show these records. The next frame begins
-/// with them, but for those of the players that leave.
+/// reports it, and each other one is as the receive pass left it, on a map with shots but for its state; the replies show
+/// these records. The next frame begins with them, but for those of the players that leave.
 pub fn frames_end_with_their_moves()
     ensures { FramesEndWithTheirMoves }
 {}
 
 /// After any frames, with whatever journals, a player's state is one that hits can make of none: damage below 100, or that
 /// of one that fell in one of these frames, which is below 140 and the number of these frames, so that it is down for
-/// fewer than 40 frames more. So it is after the moves of a frame.
+/// fewer than 40 frames more, at most in the 39 that follow. So it is after the moves of a frame.
 pub fn nobody_is_down_for_long()
     ensures { NobodyIsDownForLong }
 {}
@@ -113,8 +113,8 @@ pub fn entries_hit_one_at_most()
 {}
 
 /// A right journal of a frame decides the state of each player after its moves: from the state before them each of its own
-/// entries lets it rise, if it was down until then, and each entry that hits it adds 25 of damage or fells it. Nobody that
-/// is down is hit.
+/// entries lets it rise, if it was down until then, and each entry that hits it adds 25 of damage or fells it. Whoever is
+/// hit is there, and isn't down.
 pub fn journals_decide_states()
     ensures { JournalsDecideStates }
 {}

@@ -196,7 +196,7 @@ player_is Teleporter h = cc
 player_is Goal h = cc
 player_is Lift h = cc
 
--- who stands is a player with damage below 100
+-- who may be hurt is a player with a state below 100
 pub record IsStanding (r : Rec) : Type 0 where
   pub player : r.kind ≡ Player
   pub few : r.state < 100

@@ -1,4 +1,4 @@
--- A player that stands and is first in the way of a shot is hit, and what that does in numbers.
+-- A player that isn't down and is first in the way of a shot is hit, and what that does in numbers.
 use Rattle.std.proofs.Common.{◌≡◌, ℕ, ◌+◌, ◌≤◌, ◌<◌, nat_lt, nat_le, Bool, true, false, cond, ◌&&◌, List, refl, sym, ap, ◌∙◌, subst, arith}
 use Rattle.std.proofs.lemmas.Bool.Decides.{nat_tests}
 use Rattle.arena_geo.specs.Bounds.{Bounds}
@@ -43,7 +43,7 @@ hit_done frame w r = record {
     from_this_frame : 100 + frame + 40 ≡ 100 + (frame + 40)
     from_this_frame = omega arith
 
--- the walk after a shot that has met a player that stands
+-- the walk after a shot that has met a player that isn't down
 hit_is_shot : (fixed : List Bounds) (near : List Rec) (c : Command) (w : Walk) (r : Rec) → is_fired c w ≡ true → stands r ≡ true
     → IsFirstInTheWay fixed near (shot_box w.me.origin) (way_along c.wish_x c.wish_y) r
     → after_hit c.frame (spent w) r ≡ after_shot fixed near c w

@@ -116,9 +116,9 @@ ShotsStayInRange =
 
 -- ---- who is hit
 
--- a shot that is fired after this walk hits this record: it is that of a player that stands, whose body the box of the
--- shot overlaps at some step of its way. At no step before is anything in the way, and at that step no wall and no block
--- is, and of the solids that are the record is the first
+-- a shot that is fired after this walk hits this record: it is that of a player that isn't down, whose body the box of
+-- the shot overlaps at some step of its way. At no step before is anything in the way, and at that step no wall and no
+-- block is, and of the solids that are the record is the first
 pub record IsHit (fixed : List Bounds) (near : List Rec) (c : Command) (w : Walk) (r : Rec) : Type 0 where
   pub listed : Contains near r
   pub player : r.kind ≡ Player
@@ -177,7 +177,7 @@ WhoIsFirstIsMet =
     (fixed : List Bounds) (near : List Rec) (body : Bounds) (way : Vec3) (r : Rec)
     → IsFirstInTheWay fixed near body way r → target_of body way fixed near ≡ Some r
 
--- after this walk and a hit on this record: its id stands first in what was got, its new state last. Below 100 that is 25
+-- after this walk and a hit on this record: its id is first in what was got, its new state last. Below 100 that is 25
 -- more; else the player is down until 40 frames after this one, and who fired has a point more, up to 4,294,967,295
 pub record IsHitDone (frame : ℕ) (w : Walk) (r : Rec) (after : Walk) : Type 0 where
   pub state : ℕ
@@ -187,7 +187,7 @@ pub record IsHitDone (frame : ℕ) (w : Walk) (r : Rec) (after : Walk) : Type 0 
   pub fallen : 100 ≤ r.state + 25
       → (state ≡ 100 + (frame + 40)) × (after.me.score ≡ min 4294967295 (w.me.score + 1))
 
--- who is first in the way of a shot, and stands, is hit
+-- a player with a state below 100 that is first in the way of a shot is hit
 abbrev pub WhoStandsFirstIsHit : Type 0
 WhoStandsFirstIsHit =
     (fixed : List Bounds) (near : List Rec) (c : Command) (w : Walk) (r : Rec) → is_fired c w ≡ true

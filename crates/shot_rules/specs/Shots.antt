@@ -36,7 +36,7 @@ abbrev pub is_player : Kind → Bool
 is_player Player = true
 is_player _ = false
 
--- the record is that of a player that a shot may hurt: one that stands
+-- the record is that of a player that a shot may hurt: one that isn't down, with a state below 100
 abbrev pub stands : Rec → Bool
 stands r = is_player r.kind && nat_lt r.state DOWN
 
@@ -56,13 +56,13 @@ with_point me = record me { score = min 4294967295 (me.score + 1) }
 abbrev pub shooter_after : ℕ → Rec → Rec
 shooter_after state me = if fells state then with_point me else me
 
--- after a player is hit: its id stands first among those that were got, and its new state last
+-- after a player is hit: its id is first among those that were got, and its new state last
 abbrev pub after_hit : ℕ → Walk → Rec → Walk
 after_hit frame w r =
     walk_of (shooter_after r.state w.me) (w.states ++ new_state r.id (state_after_hit r.state frame) ∷ []) (r.id ∷ w.got)
     w.ended
 
--- after a shot has met this: only a player that stands is hurt
+-- after a shot has met this: only a player that isn't down is hurt
 abbrev pub after_meeting : ℕ → Walk → Option Rec → Walk
 after_meeting frame w None = w
 after_meeting frame w (Some r) = if stands r then after_hit frame w r else w

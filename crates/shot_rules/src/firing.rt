@@ -29,14 +29,14 @@ fn may_fire(me: &Rec, cmd: &Cmd, got: &IdList) -> bool
         && got.as_slice().len() < LIST_LEN
 }
 
-/// Whether a shot may hurt who has this record: a player that stands.
+/// Whether a shot may hurt who has this record: a player that isn't down, with a state below 100.
 fn stands(r: &Rec) -> bool
     ensures { result ≡ shots.stands r.now }
 {
     r.kind == Kind::Player && r.state < DOWN
 }
 
-/// A player that stands is hit by a shot of another.
+/// A player that isn't down is hit by a shot of another.
 fn hit(me: &mut Rec, r: &Rec, frame: u32, states: &mut StateList, got: &mut IdList)
     requires stands { shots.stands r.now ≡ true }
     requires lists { length states.old ≡ length got.old }

@@ -44,8 +44,8 @@ pub fn shots_stay_in_range()
     ensures { ShotsStayInRange }
 {}
 
-/// A shot hits nobody, or one player that stands: its body is the first that the box of the shot overlaps on its way, and
-/// no wall, no block and no other solid is in the way before.
+/// A shot hits nobody, or one player that isn't down: its body is the first that the box of the shot overlaps on its
+/// way, and no wall, no block and no other solid is in the way before.
 pub fn hits_are_in_the_way()
     ensures { HitsAreInTheWay }
 {}
@@ -60,8 +60,8 @@ pub fn who_is_first_is_met()
     ensures { WhoIsFirstIsMet }
 {}
 
-/// A player that stands, and is first in the way of a shot, is hit: its damage grows by 25, or it is down until 40 frames
-/// after this one and who fired gets a point.
+/// A player with a state below 100 that is first in the way of a shot is hit: its damage grows by 25, or it is down
+/// until 40 frames after this one and who fired gets a point.
 pub fn who_stands_first_is_hit()
     ensures { WhoStandsFirstIsHit }
 {}
