@@ -16,7 +16,7 @@ pub record HasEachPlaceOnce (ports order : List ℕ) : Type 0 where
 abbrev pub OrdersHaveEachPlaceOnce : Type 0
 OrdersHaveEachPlaceOnce = (ports order : List ℕ) → IsOrder ports order → HasEachPlaceOnce ports order
 
--- in an order the packets of each port stand as they stood before
+-- in an order the packets of each port are in the order that they had before
 abbrev pub OrdersKeepEachPort : Type 0
 OrdersKeepEachPort = (arrivals : List Arrival) (order : List ℕ) (port : ℕ) → IsOrder (ports_of arrivals) order
     → filter (is_from port) (in_order order arrivals) ≡ filter (is_from port) arrivals

@@ -22,7 +22,7 @@ pub record Fit (ports : List ℕ) (capacity : ℕ) (arrivals : List Arrival) : T
   pub room : length ports ≤ capacity
   pub few : length arrivals ≤ MOST_ARRIVALS
 
--- the places of each feeder stand in this order as they rise, each once, and no other place does
+-- this order has the places of each feeder rising, each once, and no other place
 pub record IsOrder (ports order : List ℕ) : Type 0 where
   pub evens : filter (is_of ports 0) order ≡ places_below ports 0 (length ports)
   pub odds : filter (is_of ports 1) order ≡ places_below ports 1 (length ports)

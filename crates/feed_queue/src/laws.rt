@@ -6,7 +6,7 @@ pub fn orders_have_each_place_once()
     ensures { OrdersHaveEachPlaceOnce }
 {}
 
-/// In an order the packets of each port stand as they stood before.
+/// In an order the packets of each port are in the order that they had before.
 pub fn orders_keep_each_port()
     ensures { OrdersKeepEachPort }
 {}

@@ -177,9 +177,6 @@ froms-whole arena frame s feeds js count small same are =
 pub froms-none : froms (text_of []) ≡ []
 froms-none = froms-text [] [] refl
 
-pub froms-none_whole : (count : ℕ) → froms (text_of (EndLine count ∷ [])) ≡ []
-froms-none_whole count = froms-text (EndLine count ∷ []) [] (marked-others (EndLine count ∷ []) [] (tt, tt))
-
 -- ---- the journals
 
 lines_with_froms : (f a b d t : List OutLine) → f ++ (a ++ b ++ d ++ t) ≡ (f ++ (a ++ b)) ++ d ++ t

@@ -25,7 +25,7 @@ use Rattle.out_text.specs.Dids.{Did}
 use Rattle.out_text.specs.OutLines.{OutLine, FrameLine, FromLine, NoLine, JoinedLine, DidLine, ToLine, EndLine, name_of, ids_text, spelled}
 use Rattle.demo_lines.specs.Spelling.{packet_text}
 use Rattle.out_text.specs.Journals.{number_at, all_there, ids_in, alone, is_coordinate}
-use Rattle.out_text.specs.Ranges.{IsInRange, IsPrinted, HasRoom}
+use Rattle.out_text.specs.Ranges.{IsInRange, IsPrinted}
 use Rattle.out_text.specs.Reading.{passing, within, coordinate_at, origin_at, few_ids, refusals, refusal_of, bytes_in, packet_in, frame_in, from_in, no_in, joined_in, did_line_in, to_in, end_in, line_in}
 use Rattle.out_text.proofs.Spellings.{AreIds, joined, ids-read}
 use Rattle.out_text.proofs.HexTexts.{hex-back, hex-sound, hex-above}
@@ -618,13 +618,3 @@ found_printed (Some x) view line e = line-sound line (view x) (sym e)
 
 pub printed_read : (line : List ℕ) (l : OutLine) → IsPrinted line l → line_in line ≡ Some l
 printed_read line l is = ap line_in is.spelled ∙ line-back l is.in_range
-
--- a line in range can be printed
-pub has_room : (l : OutLine) → IsInRange l → HasRoom l
-has_room (FrameLine frame) is = tt
-has_room (FromLine port bytes) is = is.most
-has_room (NoLine place why) is = tt
-has_room (JoinedLine port slot) is = tt
-has_room (DidLine d) is = tt
-has_room (ToLine slot bytes) is = (is.some, is.most)
-has_room (EndLine frames) is = tt

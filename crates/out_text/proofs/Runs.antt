@@ -144,16 +144,6 @@ in_order-take map frame s (suc k) (arrivals ∷ frames) [] order = absurd order
 in_order-take map frame s (suc k) (arrivals ∷ frames) (j ∷ js) order =
     (order.0, in_order-take map (frame + 1) (state_after map (received_in map frame s arrivals) j) k frames js order.1)
 
--- of the first k frames only the first k journals count
-pub run_lines-take : (map : MapView) (frame : ℕ) (s : State) (k : ℕ) (frames : List (List Arrival)) (js : List (List Entry))
-    → run_lines map frame s (take k frames) (take k js) ≡ run_lines map frame s (take k frames) js
-run_lines-take map frame s zero frames js = refl
-run_lines-take map frame s (suc k) [] js = refl
-run_lines-take map frame s (suc k) (arrivals ∷ frames) [] = refl
-run_lines-take map frame s (suc k) (arrivals ∷ frames) (j ∷ js) =
-    let r = received_in map frame s arrivals in
-    ap (λ ls. lines_with map frame r j ++ ls) (run_lines-take map (frame + 1) (state_after map r j) k frames js)
-
 -- ---- texts
 
 pub text_of-append : (a b : List OutLine) → text_of (a ++ b) ≡ text_of a ++ text_of b

@@ -1,14 +1,19 @@
 -- What holds of the outputs of recordings whose packets arrive in an order of their own.
-use Rattle.std.specs.Prelude.{◌≡◌, ℕ, ◌+◌, ◌*◌, ◌≤◌, List, length, take, None, Some}
+use Rattle.std.specs.Prelude.{◌≡◌, ℕ, ◌+◌, ◌*◌, ◌≤◌, List, [], ◌∷◌, ◌++◌, length, map as map_list, take, None, Some}
 use Rattle.entity_recs.specs.declared.effect.Entry.{Entry}
 use Rattle.arena_map.specs.Maps.{MapView}
 use Rattle.packet_read.specs.declared.arrival.Arrival.{Arrival}
+use Rattle.client_ports.specs.States.{State}
+use Rattle.plain_server.specs.Frames.{received_in, state_played}
 use Rattle.demo_lines.specs.Bytes.{fault, map_of}
 use Rattle.demo_lines.specs.Laws.{IsTextOf}
 use Rattle.demo_lines.specs.Spelling.{recording_text}
 use Rattle.out_text.specs.Collecting.{frames_of}
 use Rattle.out_text.specs.Output.{AreRightIn, IsOutput, IsAllFrames}
-use Rattle.out_text.specs.Feeds.{AreFeedsOf, fed_text, fed_output, froms, without_froms, IsFedOutput, IsFedFront}
+use Rattle.out_text.specs.OutLines.{OutLine, FrameLine}
+use Rattle.out_text.specs.FrameLines.{lines_with}
+use Rattle.out_text.specs.Feeds.{AreFeedsOf, from_line, fed_lines, fed_text, fed_output, froms, without_froms}
+use Rattle.out_text.specs.Feeds.{IsFedOutput, IsFedFront}
 
 -- the text is such a one of the recording of this map and these frames, which is without a fault and is read as that
 pub record IsOfRecording (map : MapView) (frames : List (List Arrival)) (Is : List ℕ → List ℕ → Type 0) (text : List ℕ)
@@ -64,3 +69,15 @@ pub record FedOutputsAreBounded : Type 0 where
       → length (fed_output bytes feeds journals) ≤ 1382656 * length (frames_of bytes) + 16
   pub text : (workers : ℕ) (bytes text : List ℕ) → IsFedOutput workers bytes text
       → length text ≤ 1382656 * length (frames_of bytes) + 16
+
+-- no frames have no lines, and one frame more adds its own: its `frame` line, then one for each of its packets in the
+-- order in which they arrived, and then its other lines
+pub record FedLinesAreInTurn : Type 0 where
+  pub none : (map : MapView) (frame : ℕ) (state : State) → fed_lines map frame state [] [] ≡ []
+  pub more : (map : MapView) (frame : ℕ) (state : State) (feeds : List (List Arrival)) (journals : List (List Entry))
+      (fed : List Arrival) (journal : List Entry) (others : List OutLine) → length journals ≡ length feeds
+      → let number = frame + length feeds in
+      let r = received_in map number (state_played map frame state feeds journals) fed in
+      lines_with map number r journal ≡ FrameLine number ∷ others
+      → fed_lines map frame state (feeds ++ fed ∷ []) (journals ++ journal ∷ [])
+      ≡ fed_lines map frame state feeds journals ++ (FrameLine number ∷ (map_list from_line fed ++ others))

@@ -7,7 +7,7 @@ use Rattle.packet_read.specs.declared.arrival.Arrival.{Arrival}
 use Rattle.client_ports.specs.States.{State}
 use Rattle.plain_server.specs.RecordsById.{opening}
 use Rattle.plain_server.specs.Frames.{received_in, state_after, first_of, rest_of, AreRight}
-use Rattle.out_text.specs.OutLines.{OutLine, EndLine, text_of}
+use Rattle.out_text.specs.OutLines.{EndLine, text_of}
 use Rattle.out_text.specs.FrameLines.{run_lines}
 
 -- the bytes begin with this text

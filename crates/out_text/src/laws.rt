@@ -4,7 +4,7 @@ ghost use Rattle.out_text.specs.Laws.{LinesReadBack, LinesArePrintedApart, Recor
 ghost use Rattle.out_text.specs.Laws.{OutputsAreBounded, FramesHaveOneReplyEach, FramesAnswerTheirPackets};
 ghost use Rattle.out_text.specs.Laws.{FramesHaveTheEvents, LinesAreInTurn, JournalsAreInTurn, LastMovesAreShown};
 ghost use Rattle.out_text.specs.FedLaws.{FedOutputsAreOutputs, FaultlessRecordingsHaveFedOutputs};
-ghost use Rattle.out_text.specs.FedLaws.{OneWorkerHasOneFedOutput, FedOutputsAreBounded};
+ghost use Rattle.out_text.specs.FedLaws.{OneWorkerHasOneFedOutput, FedOutputsAreBounded, FedLinesAreInTurn};
 
 /// The journals are read off exactly the lines that are printed: no other line opens a frame or reports a move.
 pub fn only_printed_lines_are_read()
@@ -117,4 +117,10 @@ pub fn one_worker_has_one_fed_output()
 /// whole output at most 16 more.
 pub fn fed_outputs_are_bounded()
     ensures { FedOutputsAreBounded }
+{}
+
+/// No frames that are fed have no lines, and one frame more adds its own: its `frame` line, then one for each of its
+/// packets in the order in which they arrived, and then its other lines.
+pub fn fed_lines_are_in_turn()
+    ensures { FedLinesAreInTurn }
 {}

@@ -1,4 +1,3 @@
-use Rattle.std.proofs.Common.{◌≡◌}
 use Rattle.out_text.specs.OutLines.{printed}
 use Rattle.out_text.specs.Feeds.{from_line}
 use Rattle.out_text.proofs.Buffering.{prints_more, fails_at, has_room, left_of_each, on_err, not_failed}
