@@ -1,14 +1,11 @@
 -- A machine at its start, to whose seats commands are given one after another.
-use Rattle.std.proofs.Common.{◌≡◌, ℕ, zero, suc, ◌+◌, ◌<◌, ◌≤◌, true, List, [], ◌∷◌, length, map, get_or, refl, sym, ap, ◌∙◌, subst, inl, inr, Some, None, arith}
-use Rattle.core_steps.specs.declared.sizes.TheConstants.{MOST_SEATS}
-use Rattle.std.specs.Prelude.{◌==◌}
+use Rattle.std.proofs.Common.{◌≡◌, ℕ, zero, suc, ◌<◌, ◌≤◌, true, List, [], ◌∷◌, length, map, get_or, refl, sym, ap, ◌∙◌, subst, Some, None, arith}
 use Rattle.std.proofs.lemmas.Int.{ints}
-use Rattle.std.proofs.lemmas.Bool.{cases_Bool, false≢true, cond-true, cond-false, eqb-true, eqb-false, ne_eqb}
 use Rattle.entity_recs.specs.Commands.{Command}
 use Rattle.entity_recs.specs.Actions.{IsCommand}
-use Rattle.core_steps.specs.Views.{Fixed, Idle, View, stage_of, is_busy, has}
+use Rattle.core_steps.specs.Views.{Fixed, Idle, View}
 use Rattle.core_steps.specs.Machine.{Machine}
-use Rattle.core_steps.specs.Calls.{MayBeGiven, start_machine, with_given}
+use Rattle.core_steps.specs.Calls.{start_machine}
 use Rattle.core_steps.proofs.Reached.{idle_at_start}
 use Rattle.core_machine.specs.Plain.{plain_command}
 use Rattle.core_machine.proofs.Starting.{seats_with, views_of, more_seat, start_views}
@@ -40,38 +37,6 @@ none_is d e = cc
 
 some_is : (c d : Command) → Some c ≡ Some d → c ≡ d
 some_is c d e = cc
-
--- the next seat may be given a command
-pub may_give : (F : Fixed) (m : Machine) (i n : ℕ) → i < n → n ≤ MOST_SEATS → has F.start.ids i ≡ true → IsFilled m i n → MayBeGiven F m i (plain_command i)
-may_give F m i n below few live is = record {
-  pending = record {
-    lives = is.lives i below;
-    idle = is.idle i;
-    command = record { command = plain_is i (omega arith); live = live };
-    room = is.room i below;
-  };
-  none = is.none i (omega arith);
-  given_apart = λ j d other e. ne_eqb i d.slot (λ same. eqb-false j i other (sym (same ∙ is.own j d e)));
-  busy_apart = λ j other busy. absurd (false≢true (sym (ap (λ p. is_busy (stage_of p)) (is.idle j)) ∙ busy));
-}
-
--- the seats after it was given
-pub given_more : (F : Fixed) (m : Machine) (i n : ℕ) → IsFilled m i n → IsFilled (with_given m i (plain_command i)) (i + 1) n
-given_more F m i n is = record {
-  idle = is.idle;
-  own = λ j d e. elim (cases_Bool (j == i)) [
-    | inl same ↦
-        let given : plain_command i ≡ d = some_is (plain_command i) d (sym (cond-true (j == i) (Some (plain_command i)) (m.given j) same) ∙ e) in
-        sym (ap (λ (c : Command). c.slot) given) ∙ sym (eqb-true j i same)
-    | inr other ↦ is.own j d (sym (cond-false (j == i) (Some (plain_command i)) (m.given j) other) ∙ e)
-  ];
-  none = λ j past. cond-false (j == i) (Some (plain_command i)) (m.given j) (ne_eqb j i (λ same. differs j i same past)) ∙ is.none j (omega arith);
-  lives = is.lives;
-  room = is.room;
-}
-  where
-    differs : (j i : ℕ) → j ≡ i → i + 1 ≤ j → ⊥
-    differs j i same past = omega (arith, same, past)
 
 more_live : (rooms : List ℕ) (j : ℕ) → j < length rooms → (views_of (map more_seat rooms) j).live ≡ true
 more_live [] j below = absurd (omega arith)

@@ -205,7 +205,7 @@ impl<'a, A: Action> Core<'a, A> {
         self.seats[usize::from(seat)].log.entries()
     }
 
-    /// What holds of the core between any two calls: the machine stands.
+    /// What holds of the core between any two calls: the machine is valid.
     pub fn stands(&self)
         ensures { let F = fixed_of A.meaning self.now.rules in
             StandsSomehow F (machine_of F self.now) }

@@ -1,5 +1,4 @@
 ghost use Rattle.std.specs.Prelude.{◌≡◌, ℕ, ◌<◌, ◌==◌, ◌&&◌, [], slice_index_or};
-ghost use Rattle.areanode.specs.Words.{word_of};
 ghost use Rattle.core_steps.specs.Encoding.{words_of};
 ghost use Rattle.core_steps.specs.Views.{home};
 ghost use Rattle.core_steps.specs.Stands.{is_player, start_words};

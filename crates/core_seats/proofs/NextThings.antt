@@ -1,11 +1,11 @@
 -- The next thing that a region touches.
-use Rattle.std.proofs.Common.{◌≡◌, ℕ, zero, suc, ◌+◌, ◌<◌, ◌≤◌, true, false, List, [], ◌∷◌, length, get_or, refl, sym, ap, ◌∙◌, inl, inr, arith}
+use Rattle.std.proofs.Common.{◌≡◌, ℕ, zero, suc, ◌+◌, ◌<◌, true, false, List, [], ◌∷◌, length, get_or, refl, sym, ap, ◌∙◌, inl, inr, arith}
 use Rattle.std.proofs.lemmas.Bool.{cases_Bool, cases_lt, true≢false}
 use Rattle.arena_geo.specs.Bounds.{Bounds}
 use Rattle.arena_geo.specs.Regions.{touches_region}
 use Rattle.entity_recs.specs.declared.rec.Rec.{Rec}
 use Rattle.entity_recs.specs.Bodies.{abs_of}
-use Rattle.core_seats.specs.ThingBits.{has_place, NoPlaceFrom, IsNextPlace, AreMarked, AreApart}
+use Rattle.core_seats.specs.ThingBits.{has_place, IsNextPlace, AreMarked, AreApart}
 
 -- a thing without its bit isn't touched
 unmarked : (region : List Bounds) (things : List Rec) (bits : List ℕ) (k : ℕ) (d : Rec) → AreMarked region things bits → k < length things → has_place bits k ≡ false
@@ -16,23 +16,12 @@ unmarked region things bits k d marked within none = elim (cases_Bool (touches_r
 ]
 
 module _ (region : List Bounds) (things : List Rec) (bits : List ℕ) (from at : ℕ) (marked : AreMarked region things bits) (apart : AreApart region things from at) where
-  -- no bit is left
-  pub none_left : NoPlaceFrom bits at → AreApart region things from (length things)
-  none_left none k d least less within = elim (cases_lt k at) [
-    | inl before ↦ apart k d least before within
-    | inr after ↦ let few = marked.few in unmarked region things bits k d marked within (none k after (omega (arith, within, few)))
-  ]
-
   -- up to the next bit
   pub apart_to : (place : ℕ) → IsNextPlace bits at place → AreApart region things from place
   apart_to place next k d least less within = elim (cases_lt k at) [
     | inl before ↦ apart k d least before within
     | inr after ↦ unmarked region things bits k d marked within (next.none k after less)
   ]
-
-  -- the next bit is of no thing
-  pub past_things : (place : ℕ) → IsNextPlace bits at place → length things ≤ place → AreApart region things from (length things)
-  past_things place next past k d least less within = apart_to place next k d least (omega (arith, within, past)) within
 
   -- the thing at the next bit isn't touched either
   pub apart_past : (place : ℕ) → IsNextPlace bits at place → ((d : Rec) → touches_region (abs_of (get_or things place d)) region ≡ false) → AreApart region things from (place + 1)

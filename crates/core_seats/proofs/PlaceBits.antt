@@ -6,15 +6,11 @@ use Rattle.std.proofs.lemmas.Nat.{pow-add}
 use Rattle.std.proofs.lemmas.Nat.Bits.{bit_at-zero, bit_at_above}
 use Rattle.std.proofs.Math.Nat.{div-div-eq-div-mul}
 use Rattle.areanode.specs.Words.{has_bit}
-use Rattle.core_seats.specs.declared.thing_bits.TheConstants.{THING_WORDS}
-use Rattle.core_seats.specs.ThingBits.{has_place, KeepsPlaces, NoBitFrom, IsNextBit, IsNextPlace}
+use Rattle.core_seats.specs.ThingBits.{has_place, KeepsPlaces, NoBitFrom, IsNextBit}
 use Rattle.core_seats.proofs.SlotLists.{both_bits}
 use Rattle.core_seats.proofs.ThingPlaces.{either_bits, either_left, either_right, both_true}
 
 -- ---- a word is put
-
-pub place_there : (bits : List ℕ) (place new : ℕ) → place / 64 < length bits → has_bit new (place % 64) ≡ true → has_place (set bits (place / 64) new) place ≡ true
-place_there bits place new within is = ap (λ (w : ℕ). has_bit w (place % 64)) (get_or-set_same bits (place / 64) new 0 within) ∙ is
 
 -- a word is put that has a bit for sure where the bit is known of another word
 pub place_put : (bits : List ℕ) (word new place : ℕ) → word < length bits → (place / 64 ≡ word → has_bit new (place % 64) ≡ true) → (place / 64 ≢ word → has_place bits place ≡ true)
@@ -112,39 +108,5 @@ pub record NoneYet (bits : List ℕ) (from at : ℕ) : Type 0 where
   pub least : from ≤ at
   pub none : (k : ℕ) → from ≤ k → k < at → has_place bits k ≡ false
 
-pub none_in_word : (bits : List ℕ) (from at : ℕ) → NoneYet bits from at → NoBitFrom (get_or bits (at / 64) 0) (at % 64) → NoneYet bits from ((at / 64 + 1) * 64)
-none_in_word bits from at yet left = record {
-  least = let least = yet.least in omega (arith, least);
-  none = λ k least less. elim (cases_lt k at) [
-    | inl before ↦ yet.none k least before
-    | inr after ↦
-        let same : k / 64 ≡ at / 64 = omega (arith, less, after) in
-        ap (λ (w : ℕ). has_bit (get_or bits w 0) (k % 64)) same ∙ left (k % 64) (omega (arith, less, after)) (omega arith)
-  ];
-}
-
 word_below : (at bit words : ℕ) → at < 64 * words → bit < 64 → at / 64 * 64 + bit < 64 * words
 word_below at bit words within small = omega (arith, within, small)
-
--- the bit of a word is that of its place
-bit_of_place : (bits : List ℕ) (at bit : ℕ) → bit < 64 → has_bit (get_or bits (at / 64) 0) bit ≡ true → has_place bits (at / 64 * 64 + bit) ≡ true
-bit_of_place bits at bit small there =
-    let word : (at / 64 * 64 + bit) / 64 ≡ at / 64 = omega (arith, small) in
-    let same : (at / 64 * 64 + bit) % 64 ≡ bit = omega (arith, small) in
-    ap (λ (w : ℕ). has_bit (get_or bits w 0) ((at / 64 * 64 + bit) % 64)) word ∙ ap (has_bit (get_or bits (at / 64) 0)) same ∙ there
-
-pub next_place_is : (bits : List ℕ) (from at bit : ℕ) → NoneYet bits from at → at < 64 * THING_WORDS → IsNextBit (get_or bits (at / 64) 0) (at % 64) bit → IsNextPlace bits from (at / 64 * 64 + bit)
-next_place_is bits from at bit yet within next =
-    let some = next.least in
-    let small = next.within in
-    record {
-      least = let least = yet.least in omega (arith, least, some);
-      within = word_below at bit THING_WORDS within small;
-      set = bit_of_place bits at bit small next.set;
-      none = λ k least less. elim (cases_lt k at) [
-        | inl before ↦ yet.none k least before
-        | inr after ↦
-            let same : k / 64 ≡ at / 64 = omega (arith, less, after, small) in
-            ap (λ (w : ℕ). has_bit (get_or bits w 0) (k % 64)) same ∙ next.none (k % 64) (omega (arith, less, after, small)) (omega (arith, less, after, small))
-      ];
-    }

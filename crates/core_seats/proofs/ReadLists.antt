@@ -1,5 +1,5 @@
 -- What was read, in a list.
-use Rattle.std.proofs.Common.{◌≡◌, ℕ, ◌+◌, ◌*◌, ◌<◌, ◌≤◌, ◌==◌, Bool, true, false, List, [], ◌∷◌, ◌++◌, length, take, drop, get_or, map, refl, ap, add-one, drop-cons, arith}
+use Rattle.std.proofs.Common.{◌≡◌, ℕ, ◌+◌, ◌*◌, ◌<◌, ◌≤◌, ◌==◌, Bool, true, false, List, [], ◌∷◌, ◌++◌, length, take, get_or, map, refl, ap, arith}
 use Rattle.std.specs.Prelude.{filter, not, is_some, Some, if◌then◌else◌}
 use Rattle.std.specs.Prelude.{All, ◌^◌, ◌%◌, ◌-◌}
 use Rattle.std.proofs.lemmas.Nat.{pow_below}
@@ -8,19 +8,9 @@ use Rattle.std.proofs.lemmas.List.Elements.{All-get_or}
 use Rattle.areanode.specs.Trees.{IsTreeDepth, inner_in, nodes_in}
 use Rattle.areanode.specs.Depths.{sizes_of_depth}
 use Rattle.areanode.specs.declared.sizes.TheConstants.{MOST_LEAVES}
-use Rattle.entity_recs.specs.declared.effect.NewState.{NewState}
-use Rattle.core_steps.specs.Views.{state_at, player_at, bits_of_leaves, without_player}
+use Rattle.core_steps.specs.Views.{player_at, bits_of_leaves, without_player}
 use Rattle.core_seats.specs.declared.seat.PlayerRead.{PlayerRead}
 use Rattle.core_seats.specs.Seats.{player_read_of}
-
-pub state_next : (xs : List NewState) (i id : ℕ) (d : NewState) → i < length xs
-    → state_at (drop i xs) id ≡ (if (get_or xs i d).id == id then Some (get_or xs i d).state else state_at (drop (i + 1) xs) id)
-state_next xs i id d below = rw (add-one, drop-cons xs i d) refl
-
-pub player_next : (xs : List PlayerRead) (i slot : ℕ) (d : PlayerRead) → i < length xs
-    → player_at (map player_read_of (drop i xs)) slot
-    ≡ (if (get_or xs i d).slot == slot then Some (get_or xs i d).words else player_at (map player_read_of (drop (i + 1) xs)) slot)
-player_next xs i slot d below = rw (add-one, drop-cons xs i d) refl
 
 pub bits_more : (xs ys : List ℕ) → bits_of_leaves (xs ++ ys) ≡ bits_of_leaves xs + bits_of_leaves ys
 bits_more [] ys = omega arith

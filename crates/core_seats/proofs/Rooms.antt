@@ -12,8 +12,8 @@ use Rattle.areanode.specs.declared.sizes.TheConstants.{MOST_NODES}
 use Rattle.entity_recs.specs.declared.effect.Effect.{Effect}
 use Rattle.entity_recs.specs.Records.{IsRecord}
 use Rattle.entity_recs.specs.Actions.{HasPlayer, IsCommand, HasValidity}
-use Rattle.core_steps.specs.Views.{Fixed, View, PlayerRead, Store, Point, Taking, Checking, Entered, Loading, Sensing, Resolving, Claiming, Storing, stage_of, is_busy, is_open, is_whole, is_settled, is_read_again, has, record_read, nodes_of, inner_nodes, inner_of_two, home, region_in, effect_loaded, without_player}
-use Rattle.core_steps.specs.Stands.{AreDistinct, IsAt, IsUnder, IsChecking, IsTaking, IsClaiming, IsClaimingAfter, IsStoring}
+use Rattle.core_steps.specs.Views.{Fixed, View, PlayerRead, Store, Point, Taking, Entered, Loading, Sensing, Resolving, Claiming, Storing, stage_of, is_busy, is_open, is_whole, is_settled, is_read_again, has, record_read, nodes_of, inner_nodes, inner_of_two, home, region_in, effect_loaded, without_player}
+use Rattle.core_steps.specs.Stands.{AreDistinct, IsAt, IsUnder, IsTaking, IsClaiming, IsClaimingAfter, IsStoring}
 use Rattle.core_steps.specs.Machine.{slots_of, lists_ahead, states_ahead, SomeIsLeft}
 use Rattle.core_steps.proofs.Lists.{distinct_filter, has_filter}
 use Rattle.core_steps.proofs.Planned.{slots_without, gone, leaf_nodes_length}
@@ -113,11 +113,6 @@ module _ (F : Fixed) (view : View) (sound : IsSound F view) where
       let here : IsUnder F (region_in F view.cmd view.own) view.cmd.slot node part (slot ∷ players) plan view.lists view.others = at_here (Loading node part (slot ∷ players) plan) at in
       others_room slot view.others (here.load.each slot (or_left _ _ (eq-eqb slot slot refl))).player sound.fits.once sound.fits.below
 
-  pub part_room : (node : ℕ) (part players plan : List ℕ) → view.point ≡ Loading node part players plan → length part < 6
-  part_room node part players plan at =
-      let here : IsUnder F (region_in F view.cmd view.own) view.cmd.slot node part players plan view.lists view.others = at_here (Loading node part players plan) at in
-      here.load.partly
-
   pub players_left : (node : ℕ) (part players plan : List ℕ) → view.point ≡ Loading node part players plan → 0 < length players
   players_left node part players plan at =
       let here : IsUnder F (region_in F view.cmd view.own) view.cmd.slot node part players plan view.lists view.others = at_here (Loading node part players plan) at in
@@ -131,11 +126,6 @@ module _ (F : Fixed) (view : View) (sound : IsSound F view) where
       let few : length view.states + states_ahead F (Sensing ids) ≤ length F.start.ids = subst (λ (p : Point). length view.states + states_ahead F p ≤ length F.start.ids) at sound.fits.few_states in
       let some = things_left ids at in
       omega (arith, few, some)
-
-  pub again_room : view.point ≡ Checking → length view.again < 6
-  again_room at =
-      let here : IsChecking view.again view.lists view.others view.states = at_here Checking at in
-      here.part
 
   pub leaves_room : (got rest : List ℕ) → view.point ≡ Taking got rest → length got < MOST_NODES
   leaves_room got rest at =

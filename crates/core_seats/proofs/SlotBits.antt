@@ -1,7 +1,6 @@
 -- Bits of a word of slots, set and cleared, and the place at which the things of the map begin.
-use Rattle.std.proofs.Common.{◌≡◌, ◌≢◌, ℕ, ◌+◌, ◌*◌, ◌^◌, ◌%◌, ◌<◌, ◌==◌, Bool, true, false, ◌||◌, List, [], ◌∷◌, length, drop, take, get_or, ◌++◌, map, refl, ap, sym, ◌∙◌, subst, inl, inr, arith, bit_or, w64}
+use Rattle.std.proofs.Common.{◌≡◌, ◌≢◌, ℕ, ◌+◌, ◌*◌, ◌^◌, ◌%◌, ◌<◌, ◌==◌, Bool, true, false, ◌||◌, List, [], ◌∷◌, length, drop, ◌++◌, map, refl, ap, sym, ◌∙◌, subst, inl, inr, arith, bit_or, w64}
 use Rattle.std.specs.Prelude.{filter, nat_lt, nat_le}
-use Rattle.std.proofs.lemmas.List.{take_more}
 use Rattle.std.specs.List.Sorted.{IsStrictlyIncreasing}
 use Rattle.std.proofs.lemmas.Bool.{cases_Bool, eqb-true, eq-eqb, ltb-true, ltb-false}
 use Rattle.std.proofs.lemmas.Nat.Bits.{bit_at_set_same, bit_at_set_other}
@@ -12,10 +11,6 @@ use Rattle.core_seats.proofs.KeptNear.{IsBelowAll, AreRising, are_rising}
 
 differ : (a b : ℕ) → (a == b) ≡ false → a ≢ b
 differ a b other e = let same = eq-eqb a b e in cc
-
-or_right : (b : Bool) → (b || true) ≡ true
-or_right true = refl
-or_right false = refl
 
 -- a bit is set
 pub bit_set : (n k i : ℕ) → k < 64 → has_bit (bit_or n (1 * 2 ^ k % 2 ^ 64)) i ≡ ((k == i) || has_bit n i)
@@ -68,10 +63,6 @@ has_last : (rs : List Rec) (r : Rec) (slot : ℕ)
     → has (map (λ (q : Rec). q.id) (rs ++ r ∷ [])) slot ≡ ((r.id == slot) || has (map (λ (q : Rec). q.id) rs) slot)
 has_last [] r slot = refl
 has_last (x ∷ rs) r slot = ap (λ (b : Bool). (x.id == slot) || b) (has_last rs r slot) ∙ or_other (x.id == slot) (r.id == slot) (has (map (λ (q : Rec). q.id) rs) slot)
-
-pub has_more : (rs : List Rec) (k slot : ℕ) (d : Rec) → k < length rs
-    → has (map (λ (r : Rec). r.id) (take (k + 1) rs)) slot ≡ (((get_or rs k d).id == slot) || has (map (λ (r : Rec). r.id) (take k rs)) slot)
-has_more rs k slot d below = ap (λ (qs : List Rec). has (map (λ (r : Rec). r.id) qs) slot) (take_more rs k d below) ∙ has_last (take k rs) (get_or rs k d) slot
 
 pub no_bit : (i : ℕ) → i < 64 → has_bit 0 i ≡ false
 no_bit i below = grind arith

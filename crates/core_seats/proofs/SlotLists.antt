@@ -1,5 +1,5 @@
 -- The players of a word of slots, one after another, and those of the start.
-use Rattle.std.proofs.Common.{◌≡◌, ◌≢◌, ℕ, zero, suc, ◌+◌, ◌*◌, ◌^◌, ◌%◌, ◌<◌, ◌≤◌, ◌==◌, min, Bool, true, false, ◌&&◌, not, List, [], ◌∷◌, ◌++◌, refl, ap, sym, ◌∙◌, subst, get_or, length, length-append, append-nil, append_assoc, inl, inr, arith, bit_and, w64}
+use Rattle.std.proofs.Common.{◌≡◌, ◌≢◌, ℕ, zero, suc, ◌+◌, ◌*◌, ◌^◌, ◌%◌, ◌<◌, ◌≤◌, ◌==◌, min, Bool, true, false, ◌&&◌, not, List, [], ◌∷◌, ◌++◌, refl, ap, sym, ◌∙◌, subst, get_or, length, length-append, append_assoc, inl, inr, arith, bit_and, w64}
 use Rattle.std.specs.Prelude.{filter, nat_lt, Option, Some, None, if◌then◌else◌}
 use Rattle.std.specs.Int.{bit_at, bit_not, trailing_zeros}
 use Rattle.std.specs.List.{filter_map, cons_option, range_with_len}
@@ -16,7 +16,6 @@ use Rattle.core_steps.specs.Views.{Fixed, has, player_of}
 use Rattle.core_seats.specs.NearRecords.{touching_one}
 use Rattle.core_seats.specs.NearKept.{near_player, touching, kept_at, other_players, players_kept}
 use Rattle.core_seats.proofs.KeptNear.{IsBelowAll, AreRising, are_rising}
-use Rattle.core_seats.proofs.SlotBits.{no_bit}
 
 -- ---- the lowest bit
 
@@ -82,13 +81,6 @@ pub slots_first : (word rest k : ℕ) → k < 64 → has_bit word k ≡ true →
     → slots_in word ≡ k ∷ slots_in rest
 slots_first word rest k below there first rest_is = from_lowest (has_bit word) (has_bit rest) k rest_is 0 64 (omega arith) (omega (arith, below)) (omega arith) there first
 
-no_slots_from : (s n : ℕ) → s + n ≤ 64 → filter (has_bit 0) (range_with_len s n) ≡ []
-no_slots_from s zero fits = refl
-no_slots_from s (suc n) fits = let none = no_bit s (omega arith) in rw none (no_slots_from (s + 1) n (omega arith))
-
-pub no_slots : slots_in 0 ≡ []
-no_slots = no_slots_from 0 64 (omega arith)
-
 -- ---- the ids of a rising list that are below a number
 
 has_not : (n : ℕ) (xs : List ℕ) → IsBelowAll n xs → has xs n ≡ false
@@ -102,10 +94,6 @@ none_has s (suc n) = none_has (s + 1) n
 below_mine : (n m : ℕ) (xs : List ℕ) → n ≤ m → IsBelowAll m xs → IsBelowAll n xs
 below_mine n m [] less above = tt
 below_mine n m (x ∷ xs) less above = (omega (arith, above.0), below_mine n m xs less above.1)
-
-none_below : (s : ℕ) (xs : List ℕ) → IsBelowAll s xs → filter (λ (id : ℕ). nat_lt id s) xs ≡ []
-none_below s [] above = refl
-none_below s (x ∷ xs) above = let not : nat_lt x s ≡ false = grind arith in rw not (none_below s xs above.1)
 
 has_rest : (x : ℕ) (xs : List ℕ) (s n : ℕ) → x < s → filter (has (x ∷ xs)) (range_with_len s n) ≡ filter (has xs) (range_with_len s n)
 has_rest x xs s zero less = refl
@@ -308,14 +296,3 @@ module _ (region : List Bounds) (six : List (List ℕ)) (slots rest less k : ℕ
         few = put.few;
         room = λ i set. let later = after_first i set in omega (arith, most, later);
       }
-
-pub none_put : (region : List Bounds) (six : List (List ℕ)) (slots : ℕ) → ArePut region six slots slots []
-none_put region six slots = record { records = refl; few = omega arith; room = λ slot set. omega arith }
-
--- no slot is left
-pub all_put : (region : List Bounds) (six : List (List ℕ)) (slots rest : ℕ) (list : List Rec) → ArePut region six slots rest list → rest ≡ 0
-    → list ≡ filter_map (near_player region six) (slots_in slots)
-all_put region six slots rest list put none =
-    sym (append-nil list)
-    ∙ ap (λ (ns : List ℕ). list ++ filter_map (near_player region six) ns) (sym (ap slots_in none ∙ no_slots))
-    ∙ put.records

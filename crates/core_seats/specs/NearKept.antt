@@ -14,11 +14,11 @@ use Rattle.core_steps.specs.Views.{Fixed, record_read, player_of, state_at, thin
 
 -- the words kept of the player in this slot, where its bit is set
 abbrev pub kept_at : ℕ → List (List ℕ) → ℕ → Option (List ℕ)
-kept_at seen six slot = if has_bit seen slot then Some (get_or six slot []) else None
+kept_at seen by_slot slot = if has_bit seen slot then Some (get_or by_slot slot []) else None
 
 -- the record of the words kept of this slot, where it touches a region
 abbrev pub near_player : List Bounds → List (List ℕ) → ℕ → Option Rec
-near_player region six slot = touching_one region (Some (record_read slot (get_or six slot [])))
+near_player region by_slot slot = touching_one region (Some (record_read slot (get_or by_slot slot [])))
 
 -- the slots of the live players but this one, rising
 abbrev pub other_players : Fixed → ℕ → List ℕ
@@ -26,9 +26,9 @@ other_players F slot = filter (λ id. nat_lt id 64 && not (id == slot)) F.start.
 
 -- the records of the words kept of live players but this one that touch a region, in rising slot
 abbrev pub players_kept : Fixed → List Bounds → ℕ → ℕ → List (List ℕ) → List Rec
-players_kept F region slot seen six =
+players_kept F region slot seen by_slot =
     filter (λ r. touches_region (abs_of r) region)
-    (filter_map (λ id. player_of id (kept_at seen six id)) (other_players F slot))
+    (filter_map (λ id. player_of id (kept_at seen by_slot id)) (other_players F slot))
 
 -- the records of the things of the map that a region touches, with the states that were loaded, in rising id
 abbrev pub things_loaded : Fixed → List Bounds → List NewState → List Rec

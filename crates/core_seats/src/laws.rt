@@ -1,7 +1,7 @@
 ghost use Rattle.core_seats.specs.StepsLeft.{ServedStepsLeaveFewer};
 ghost use Rattle.core_seats.specs.Laws.{StandingViewsAreSound, SoundViewsCount};
 
-/// Each view of a machine that stands is sound, where the action is lawful, its start is one that it takes, and the tree
+/// Each view of a valid machine is sound, where the action is lawful, its start is one that it takes, and the tree
 /// has a depth that it may have.
 pub fn standing_views_are_sound()
     ensures { StandingViewsAreSound }
@@ -14,7 +14,7 @@ pub fn sound_views_count()
 {}
 
 /// A step of a seat that isn't to give up and has its command in view, and that is no refused take, leaves it fewer
-/// steps. Each view of a machine that stands meets the condition, by [`standing_views_are_sound`] and
+/// steps. Each view of a valid machine meets the condition, by [`standing_views_are_sound`] and
 /// [`sound_views_count`], so a seat whose takes are served comes to the end of its command.
 pub fn served_steps_leave_fewer()
     ensures { ServedStepsLeaveFewer }

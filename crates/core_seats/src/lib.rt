@@ -10,7 +10,7 @@ pub use queue::Queue;
 pub use reading::read_record;
 pub use refusals::{Refusals, Refused};
 pub use rules::Rules;
-pub use seat::{ListRead, PlayerRead, Seat};
+pub use seat::{ListRead, LoadedPlayer, LoadedPlayers, PlayerRead, Seat};
 pub use thing_bits::{THING_WORDS, ThingBits, next_thing};
 pub use thing_reads::ThingReads;
 pub use word_steps::first_of_two;

@@ -1,6 +1,5 @@
-ghost use Rattle.std.specs.Prelude.{◌≡◌, ◌+◌, ◌<◌, ◌≤◌, ◌-◌, ◌*◌, ◌^◌, ◌++◌, All, ◌==◌, ◌||◌, ◌&&◌, [], ◌∷◌, MatchOption};
-ghost use Rattle.std.specs.Prelude.{length, filter, map, not, drop, if◌then◌else◌};
-ghost use Rattle.core_steps.specs.Steps.{rest_of};
+ghost use Rattle.std.specs.Prelude.{◌≡◌, ◌+◌, ◌<◌, ◌≤◌, ◌-◌, ◌*◌, ◌^◌, ◌++◌, All, ◌==◌, ◌||◌, ◌&&◌, [], ◌∷◌};
+ghost use Rattle.std.specs.Prelude.{length, filter, map, not, if◌then◌else◌};
 ghost use Rattle.std.specs.List.{range_with_len};
 ghost use Rattle.areanode.specs.Words.{has_bit};
 ghost use Rattle.areanode.specs.Trees.{IsTreeDepth, leaf_node, inner_in, leaves_in, nodes_in};

@@ -6,12 +6,12 @@ use crate::point::Point;
 use crate::queue::Queue;
 use crate::reads::player_words;
 use crate::rules::Rules;
-use crate::seat::{ListRead, PlayerRead, Seat};
+use crate::seat::{ListRead, LoadedPlayer, PlayerRead, Seat};
 use arrayvec::ArrayVec;
 use entity_recs::{Action, Cmd, NewState};
 
 /// These words, where they are six.
-fn whole(words: &[u64]) -> Option<[u64; 6]>
+fn whole(words: &[u64]) -> Option<LoadedPlayer>
     ensures whole { IsSome result ↔ (length words.now ≡ 6) }
     ensures words { IfSome result (λ six. six ≡ words.now) }
 {
@@ -45,10 +45,10 @@ fn drop_read(others: &mut ArrayVec<PlayerRead, 64>, slot: u8)
 }
 
 impl Seat {
-    ghost use Rattle.std.specs.Prelude.{◌≡◌, ◌<◌, ◌≤◌, ◌∷◌, [], ◌++◌, ◌==◌, ℕ, List, Some, not, filter, length, slice_index};
+    ghost use Rattle.std.specs.Prelude.{◌≡◌, ◌<◌, ◌≤◌, ◌∷◌, [], ◌++◌, ◌==◌, ℕ, List, Some, not, filter, length};
     ghost use Rattle.areanode.specs.declared.sizes.TheConstants.{MOST_NODES};
     ghost use Rattle.entity_recs.specs.Commands.{Command, command_of};
-    ghost use Rattle.entity_recs.specs.Actions.{HasPlayer, IsCommand};
+    ghost use Rattle.entity_recs.specs.Actions.{HasPlayer};
     ghost use Rattle.core_steps.specs.Views as views;
     ghost use Rattle.core_steps.specs.Views.{record_read, leaf_nodes, region_in};
     ghost use Rattle.core_steps.specs.Steps as steps;
@@ -133,7 +133,7 @@ impl Seat {
     }
 
     /// The first of the players under the node was loaded whole: what was loaded of it earlier is dropped.
-    fn load_player<A: Action>(&mut self, rules: &Rules<A>, node: u8, slot: u8, words: [u64; 6])
+    fn load_player<A: Action>(&mut self, rules: &Rules<A>, node: u8, slot: u8, words: LoadedPlayer)
         requires room { length (filter (λ (r : PlayerRead). not (r.slot == slot)) self.old.others.items) < 64 }
         requires whole { length words ≡ 6 }
         requires player { HasPlayer ((A.meaning rules.now.action).takes)

@@ -24,7 +24,7 @@ impl Model for SeatLog {
 }
 
 impl SeatLog {
-    ghost use Rattle.std.specs.Prelude.{◌≡◌, ◌<◌, [], ◌∷◌, ◌++◌, map, length, IfOk, vec_capacity};
+    ghost use Rattle.std.specs.Prelude.{◌≡◌, ◌<◌, [], ◌∷◌, ◌++◌, length, IfOk, vec_capacity};
     ghost use Rattle.entity_recs.specs.Commands.{command_of};
     ghost use Rattle.move_journal.specs.Logs.{journal_view};
     ghost use Rattle.core_seats.specs.Logs.{entries_of};

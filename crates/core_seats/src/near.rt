@@ -2,7 +2,6 @@ ghost use Rattle.std.specs.Prelude.{◌≡◌, ◌≤◌, ℕ, [], map, filter, 
 ghost use Rattle.core_steps.specs.Views.{player_at};
 ghost use Rattle.std.specs.List.{filter_map};
 ghost use Rattle.entity_recs.specs.declared.rec.Rec.{Rec};
-ghost use Rattle.entity_recs.specs.Worlds.{record_with};
 ghost use Rattle.entity_recs.specs.Records as records;
 ghost use Rattle.core_seats.specs.Seats.{player_read_of};
 ghost use Rattle.core_seats.specs.NearRecords as near;

@@ -9,6 +9,7 @@ ghost use Rattle.entity_recs.specs.declared.rec.Rec.{Rec};
 use crate::boxes::touches_region;
 use crate::reading::read_record;
 use crate::rules::Rules;
+use crate::seat::LoadedPlayers;
 use crate::thing_bits::ThingBits;
 use arena_geo::Region;
 use entity_recs::{Action, Rec};
@@ -78,11 +79,11 @@ pub fn without_bit(word: u64, bit: u8) -> u64
 }
 
 /// The record of the words kept of this slot, where it touches a region.
-fn near_player(six: &[[u64; 6]; 64], slot: u8, region: &Region) -> Option<Rec>
+fn near_player(by_slot: &LoadedPlayers, slot: u8, region: &Region) -> Option<Rec>
     requires { slot < 64 }
-    ensures { result ≡ near_player region.now six.now slot }
+    ensures { result ≡ near_player region.now by_slot.now slot }
 {
-    let r = read_record(slot, &six[usize::from(slot)]);
+    let r = read_record(slot, &by_slot[usize::from(slot)]);
     if touches_region(&r, region) {
         Some(r)
     } else {
@@ -91,10 +92,10 @@ fn near_player(six: &[[u64; 6]; 64], slot: u8, region: &Region) -> Option<Rec>
 }
 
 /// Puts the records of the words kept of these slots that touch a region into an empty list, in rising slot.
-fn put_slots(slots: u64, six: &[[u64; 6]; 64], region: &Region, list: &mut NearList)
+fn put_slots(slots: u64, by_slot: &LoadedPlayers, region: &Region, list: &mut NearList)
     requires empty { list.old.items ≡ [] }
     requires room { 64 ≤ list.old.room }
-    ensures records { list.new.items ≡ filter_map (near_player region.now six.now)
+    ensures records { list.new.items ≡ filter_map (near_player region.now by_slot.now)
         (filter (has_bit slots) (range_with_len 0 64)) }
     ensures few { length list.new.items ≤ 64 }
     ensures room { list.new.room ≡ list.old.room }
@@ -102,7 +103,7 @@ fn put_slots(slots: u64, six: &[[u64; 6]; 64], region: &Region, list: &mut NearL
     let mut rest = slots;
     while rest != 0 {
         let slot = lowest_bit(rest);
-        if let Some(r) = near_player(six, slot, region) {
+        if let Some(r) = near_player(by_slot, slot, region) {
             // The list has room for all players.
             let _ = list.push(r);
         }
@@ -121,7 +122,7 @@ impl<'a, A: Action> Rules<'a, A> {
     pub fn put_players(
         &self,
         seen: u64,
-        six: &[[u64; 6]; 64],
+        by_slot: &LoadedPlayers,
         region: &Region,
         slot: u8,
         list: &mut NearList,
@@ -130,11 +131,16 @@ impl<'a, A: Action> Rules<'a, A> {
         requires empty { list.old.items ≡ [] }
         requires room { 64 ≤ list.old.room }
         ensures players { list.new.items
-            ≡ players_kept (fixed_of A.meaning self.now) region.now slot seen six.now }
+            ≡ players_kept (fixed_of A.meaning self.now) region.now slot seen by_slot.now }
         ensures few { length list.new.items ≤ 64 }
         ensures room { list.new.room ≡ list.old.room }
     {
-        put_slots(without_bit(seen & self.players, slot), six, region, list);
+        put_slots(
+            without_bit(seen & self.players, slot),
+            by_slot,
+            region,
+            list,
+        );
     }
 
     /// The things of the map at the start, in rising id.

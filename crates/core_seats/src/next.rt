@@ -44,7 +44,7 @@ fn next_store_step(number: u8, stores: &[Store]) -> Option<Step>
 }
 
 impl Seat {
-    ghost use Rattle.std.specs.Prelude.{◌≡◌, ◌≤◌, ℕ, List, length, true, Some};
+    ghost use Rattle.std.specs.Prelude.{◌≡◌, ◌≤◌, ℕ, List, length, Some};
     ghost use Rattle.std.specs.Option.{option_map};
     ghost use Rattle.entity_recs.specs.declared.effect.Effect.{Effect};
     ghost use Rattle.entity_recs.specs.Records.{IsRecord};

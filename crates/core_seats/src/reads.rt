@@ -2,11 +2,11 @@ ghost use Rattle.std.specs.Prelude.{◌≡◌, map};
 ghost use Rattle.core_steps.specs.Views.{player_at, state_at};
 ghost use Rattle.core_seats.specs.Seats.{player_read_of};
 
-use crate::seat::PlayerRead;
+use crate::seat::{LoadedPlayer, PlayerRead};
 use entity_recs::NewState;
 
 /// The words last loaded of a player.
-pub fn player_words(others: &[PlayerRead], slot: u16) -> Option<[u64; 6]>
+pub fn player_words(others: &[PlayerRead], slot: u16) -> Option<LoadedPlayer>
     ensures { result ≡ player_at (map player_read_of others.now) slot }
 {
     for read in others {

@@ -53,13 +53,13 @@ fn has_its_depth(tree: &Tree)
 }
 
 impl<'a, A: Action> Rules<'a, A> {
-    ghost use Rattle.std.specs.Prelude.{◌≡◌, ◌<◌, ◌≤◌, ◌+◌, ◌*◌, ◌%◌, ◌^◌, List, [], suc, map, length, All, OnOk, IfOk};
+    ghost use Rattle.std.specs.Prelude.{◌≡◌, ◌<◌, ◌≤◌, ◌+◌, ◌*◌, ◌%◌, ◌^◌, List, [], suc, map, length, All, IfOk};
     ghost use Rattle.std.specs.Prelude.{if◌then◌else◌};
     ghost use Rattle.entity_recs.specs.declared.limits.TheConstants.{IDS};
     ghost use Rattle.entity_recs.specs.Actions.{HasPlayer, IsCall};
     ghost use Rattle.entity_recs.specs.Records.{IsRecord};
     ghost use Rattle.entity_recs.specs.Commands.{command_of};
-    ghost use Rattle.core_steps.specs.Views.{region_in, is_leaf, inner_nodes, leaf_nodes, inner_visited, plan_of};
+    ghost use Rattle.core_steps.specs.Views.{region_in, is_leaf, inner_nodes, leaf_nodes, plan_of};
     ghost use Rattle.core_steps.specs.Views.{inner_of_two, things_in, home, record_read, near_loaded, leaf_word};
     ghost use Rattle.core_steps.specs.Stands.{IsLawful, IsStart};
     ghost use Rattle.core_seats.specs.Seats.{player_read_of};

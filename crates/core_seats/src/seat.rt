@@ -4,7 +4,7 @@ use crate::queue::Queue;
 use crate::refusals::Refusals;
 use areanode::MOST_NODES;
 use arrayvec::ArrayVec;
-use entity_recs::{Cmd, Effect, Entry};
+use entity_recs::{Cmd, Effect, Entry, SLOTS};
 use std::alloc::{AllocError, Global};
 
 /// The word of a node's list that was loaded.
@@ -16,13 +16,19 @@ pub struct ListRead {
     pub word: u64,
 }
 
-/// The six words of a player's record that were loaded, the state word last.
+/// What is loaded of a player: the five words of its record, and last its state.
+pub type LoadedPlayer = [u64; 6];
+
+/// What is loaded of each player, by slot.
+pub type LoadedPlayers = [LoadedPlayer; SLOTS];
+
+/// What was loaded of a player.
 #[derive(Clone, Copy, Debug, Default, PartialEq, Eq)]
 pub struct PlayerRead {
     /// The player's slot.
     pub slot: u8,
     /// The words of its record, of which the first ones are loaded.
-    pub words: [u64; 6],
+    pub words: LoadedPlayer,
 }
 
 /// What a seat has in view, with what no view has yet: the command that was given and isn't begun, and whether the seat
@@ -62,8 +68,8 @@ pub struct Seat {
 }
 
 impl Seat {
-    ghost use Rattle.std.specs.Prelude.{◌≡◌, ◌<◌, ◌-◌, ◌^◌, suc, [], ◌∷◌, ◌++◌, length, IfOk, OnOk};
-    ghost use Rattle.core_steps.specs.Views.{new_view, without_command};
+    ghost use Rattle.std.specs.Prelude.{◌≡◌, ◌<◌, ◌-◌, ◌^◌, suc, [], ◌∷◌, ◌++◌, length, IfOk};
+    ghost use Rattle.core_steps.specs.Views.{without_command};
     ghost use Rattle.entity_recs.specs.Commands.{command_of};
     ghost use Rattle.core_seats.specs.Seats.{view_of, things_room, IsFresh};
 

@@ -27,7 +27,7 @@ impl Model for ThingReads {
 }
 
 impl ThingReads {
-    ghost use Rattle.std.specs.Prelude.{◌≡◌, ◌≤◌, ◌<◌, [], ◌∷◌, ◌++◌, length, map, filter, vec_capacity, drop, MatchOption, IfOk};
+    ghost use Rattle.std.specs.Prelude.{◌≡◌, ◌≤◌, ◌<◌, [], ◌∷◌, length, map, filter, vec_capacity, drop, MatchOption, IfOk};
     ghost use Rattle.entity_recs.specs.declared.rec.Rec.{Rec};
     ghost use Rattle.core_seats.specs.NearRecords.{is_touched_thing};
 

@@ -1,7 +1,7 @@
 -- The machine: each step that a seat makes keeps what stands.
 use Rattle.std.proofs.Common.{◌≡◌, ℕ, ◌<◌, ◌≤◌, Bool, true, false, List, [], ◌∷◌, length, refl, sym, ap, ◌∙◌, subst, inl, inr, Option, Some, None, arith}
 use Rattle.std.specs.Prelude.{◌==◌, ◌&&◌, nat_le, filter}
-use Rattle.std.proofs.lemmas.Bool.{cases_Bool, false≢true, true≢false, or_right, cond-true}
+use Rattle.std.proofs.lemmas.Bool.{cases_Bool, false≢true, or_right, cond-true}
 use Rattle.arena_geo.specs.Regions.{touches_region}
 use Rattle.entity_recs.specs.declared.effect.NewState.{NewState}
 use Rattle.entity_recs.specs.Bodies.{abs_of}
@@ -182,12 +182,6 @@ machine_on F m history history' now now' i words new is apart next fits stands =
   next = each_put (λ (n : ℕ) (v : View). HasNext v.point v.wanted) i new m.core.view next (λ n _. is.next n);
   fits = each_put (λ (n : ℕ) (v : View). ViewFits F v) i new m.core.view fits (λ n _. is.fits n);
 }
-
--- a busy seat was given no command that is left to be begun
-pub none_given : (F : Fixed) (m : Machine) (history : List Item) (now : World) (i : ℕ) (d : Command) → MachineStands F m history now → is_busy (stage_of (m.core.view i).point) ≡ true
-    → m.given i ≡ Some d → ⊥
-none_given F m history now i d is busy given =
-    true≢false (sym busy ∙ ap (λ (p : Point). is_busy (stage_of p)) (is.pending i d given).idle)
 
 -- the machine stands after a step of a seat with a command in view
 pub busy_on : (F : Fixed) (m : Machine) (history history' : List Item) (now now' : World) (i : ℕ) (words : Words) (new : View) → MachineStands F m history now

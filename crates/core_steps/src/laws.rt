@@ -7,17 +7,17 @@ ghost use Rattle.core_steps.specs.Laws.{LoadedPlayerStands, LoadedStateStands, C
 ghost use Rattle.core_steps.specs.Laws.{CommittedHeldStands, CommittedFreeStands, NotAllWait};
 ghost use Rattle.core_steps.specs.Laws.{ReadIsRightWhileLeavesAreHeld, TakesComeInOrder, PlansComeInOrder};
 
-/// The start stands: seat 0 without a command, no entry, and words that are those of the world.
+/// The start is a valid core (`Stands`): seat 0 without a command, no entry, and words that are those of the world.
 pub fn start_stands()
     ensures { StartStands }
 {}
 
-/// A seat that is made from seat 0 keeps what stands.
+/// A seat that is made from seat 0 keeps the core valid.
 pub fn made_seat_stands()
     ensures { MadeSeatStands }
 {}
 
-/// A seat that is ended into seat 0 keeps what stands.
+/// A seat that is ended into seat 0 keeps the core valid.
 pub fn ended_seat_stands()
     ensures { EndedSeatStands }
 {}
@@ -28,33 +28,33 @@ pub fn ended_seat_keeps_items()
     ensures { EndedSeatKeepsItems }
 {}
 
-/// A seat that loads the count keeps what stands.
+/// A seat that loads the count keeps the core valid.
 pub fn loaded_count_stands()
     ensures { LoadedCountStands }
 {}
 
-/// A node that is given back keeps what stands.
+/// A node that is given back keeps the core valid.
 pub fn given_node_stands()
     ensures { GivenNodeStands }
 {}
 
 /// Giving up: the first node that is given back, at any take before the commit or where the commit comes next, keeps
-/// what stands.
+/// the core valid.
 pub fn yielded_node_stands()
     ensures { YieldedNodeStands }
 {}
 
-/// Giving up: a seat that gives up and holds nothing loads the count, which keeps what stands.
+/// Giving up: a seat that gives up and holds nothing loads the count, which keeps the core valid.
 pub fn yielded_nothing_stands()
     ensures { YieldedNothingStands }
 {}
 
-/// A leaf, an inner node of a visit or a further write node that was free is taken, which keeps what stands.
+/// A leaf, an inner node of a visit or a further write node that was free is taken, which keeps the core valid.
 pub fn taken_node_stands()
     ensures { TakenNodeStands }
 {}
 
-/// A take of a held node: the refused take keeps what stands.
+/// A take of a held node: the refused take keeps the core valid.
 pub fn refused_node_stands()
     ensures { RefusedNodeStands }
 {}
@@ -87,49 +87,49 @@ pub fn encoded_is_decoded()
     ensures { EncodedIsDecoded }
 {}
 
-/// The first load for a command, with which it enters the view, keeps what stands.
+/// The first load for a command, with which it enters the view, keeps the core valid.
 pub fn begun_move_stands()
     ensures { BegunMoveStands }
 {}
 
-/// A further word of the own record that is loaded keeps what stands.
+/// A further word of the own record that is loaded keeps the core valid.
 pub fn loaded_own_stands()
     ensures { LoadedOwnStands }
 {}
 
-/// A word of the own record that is loaded again keeps what stands.
+/// A word of the own record that is loaded again keeps the core valid.
 pub fn loaded_again_stands()
     ensures { LoadedAgainStands }
 {}
 
-/// A list word that is loaded keeps what stands.
+/// A list word that is loaded keeps the core valid.
 pub fn loaded_list_stands()
     ensures { LoadedListStands }
 {}
 
-/// A word of another player's record that is loaded keeps what stands.
+/// A word of another player's record that is loaded keeps the core valid.
 pub fn loaded_player_stands()
     ensures { LoadedPlayerStands }
 {}
 
-/// The state of a thing of the map that is loaded keeps what stands.
+/// The state of a thing of the map that is loaded keeps the core valid.
 pub fn loaded_state_stands()
     ensures { LoadedStateStands }
 {}
 
-/// The first write node, with which the effect enters the view: it keeps what stands, where the effect is what the
-/// action gives on what was loaded.
+/// The first write node, with which the effect enters the view: it keeps the core valid, where the effect is what
+/// the action gives on what was loaded.
 pub fn claimed_node_stands()
     ensures { ClaimedNodeStands }
 {}
 
-/// The next store that is owed, of the own bit or of a word, keeps what stands.
+/// The next store that is owed, of the own bit or of a word, keeps the core valid.
 pub fn stored_next_stands()
     ensures { StoredNextStands }
 {}
 
 /// The commit where the write nodes are held: the seat's command joins the history with its entry, at the place that
-/// the old count gives, and what stands is kept.
+/// the old count gives, and the core stays valid.
 pub fn committed_held_stands()
     ensures { CommittedHeldStands }
 {}

@@ -1,14 +1,13 @@
 -- The moves of an arena on workers, against the plain server's worlds.
-use Rattle.std.proofs.Common.{◌≡◌, ℕ, ◌<◌, ◌==◌, true, List, [], ◌∷◌, ◌++◌, length, map, Option, Some, Vec, Global, refl, sym, ap, ◌∙◌, subst, arith}
+use Rattle.std.proofs.Common.{◌≡◌, ℕ, ◌<◌, ◌==◌, true, List, [], ◌∷◌, length, Option, Some, Vec, Global, refl, sym, ap, ◌∙◌, subst, arith}
 use Rattle.std.specs.Prelude.{All}
 use Rattle.std.proofs.lemmas.Bool.{eqb-true}
 use Rattle.std.proofs.lemmas.List.Elements.{All-from_recursion, All-weaker}
 use Rattle.entity_recs.specs.declared.rec.Rec.{Rec}
 use Rattle.entity_recs.specs.declared.effect.Entry.{Entry}
-use Rattle.entity_recs.specs.declared.cmd.Cmd.{Cmd}
-use Rattle.entity_recs.specs.Commands.{Command, command_of}
+use Rattle.entity_recs.specs.Commands.{Command}
 use Rattle.entity_recs.specs.Worlds.{World}
-use Rattle.entity_recs.specs.Histories.{Action, Item, IsLegal, run}
+use Rattle.entity_recs.specs.Histories.{Action, Item, run}
 use Rattle.move_journal.specs.Logs.{JournalView}
 use Rattle.move_journal.specs.ByPlace.{IsByPlace}
 use Rattle.move_journal.specs.Merges.{IsRight, HasNumbersApart, history_of}
@@ -59,19 +58,6 @@ all_listed arena records commands valid live =
 
 -- ---- where there are no moves
 
-none_legal : (act : Action) (w : World) → IsLegal act w []
-none_legal act w = record { each = λ before item later parts. none before item later parts }
-  where
-    none : {R : Type 0} (before : List Item) (item : Item) (later : List Item) → [] ≡ before ++ item ∷ later → R
-    none [] item later parts = cc
-    none (b ∷ before) item later parts = cc
-
-pub none_right : (act : Action) (w : World) (commands : List Command) (journal : List Entry) → commands ≡ [] → journal ≡ []
-    → IsRight act w commands journal
-none_right act w commands journal no_commands no_entries =
-    subst (λ (cs : List Command). IsRight act w cs journal) (sym no_commands)
-    (subst (IsRight act w []) (sym no_entries) (record { merge = record { each = λ slot. refl }; legal = none_legal act w }))
-
 pub none_moved : (arena : MapView) (records : List (Option Rec)) (commands : List Command) (journal : List Entry) → IsValidWorld arena records
     → journal ≡ [] → records ≡ records_in (run (outcome_on arena) (world_of records) (history_of commands journal)) records
 none_moved arena records commands journal valid no_entries =
@@ -81,10 +67,6 @@ none_moved arena records commands journal valid no_entries =
 no_items : {X : Type 0} (xs : List X) → true ≡ (length xs == 0) → xs ≡ []
 no_items [] none = refl
 no_items (x ∷ xs) none = let count = eqb-true (length (x ∷ xs)) 0 (sym none) in absurd (omega (arith, count))
-
--- a frame without moves has the empty list of them
-pub none_asked : (moves : List Cmd) → true ≡ (length moves == 0) → map command_of moves ≡ []
-none_asked moves none = ap (map command_of) (no_items moves none)
 
 -- ---- where there are some
 

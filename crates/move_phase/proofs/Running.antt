@@ -1,5 +1,5 @@
 -- A pass that runs its moves, one after another.
-use Rattle.std.proofs.Common.{◌≡◌, ℕ, suc, ◌+◌, ◌<◌, ◌≤◌, ◌%◌, ◌==◌, List, [], ◌∷◌, ◌++◌, length, map, take, drop, get_or, refl, sym, ap, ◌∙◌, subst, append_assoc, append-nil, length-append, take-append-drop, take-suc, arith}
+use Rattle.std.proofs.Common.{◌≡◌, ℕ, suc, ◌+◌, ◌<◌, ◌≤◌, ◌%◌, ◌==◌, List, [], ◌∷◌, ◌++◌, length, map, take, drop, get_or, sym, ap, ◌∙◌, subst, length-append, take-append-drop, take-suc, arith}
 use Rattle.std.specs.Prelude.{All}
 use Rattle.std.proofs.lemmas.List.{length-map, map-append, get_or-map}
 use Rattle.std.proofs.lemmas.List.Elements.{filter-append}
@@ -53,28 +53,6 @@ module _ (passes number : ℕ) where
       omega (arith, served, split, count)
 
 module _ (F : Fixed) (passes : ℕ) (table : TableId) where
-  -- before the first move
-  pub served_none : (commands : List Command) (p : PassView) → MayServe F passes table commands p → HasServed F passes table p p []
-  served_none commands p may = record {
-    own = may.own;
-    rests = may.rests;
-    number = refl;
-    room = refl;
-    log = sym (append-nil (commands_of p.view.log));
-  }
-
-  -- one share after another
-  pub served_both : (old mid new : PassView) (xs ys : List Command) → HasServed F passes table old mid xs → HasServed F passes table mid new ys
-      → HasServed F passes table old new (xs ++ ys)
-  served_both old mid new xs ys first second = record {
-    own = second.own;
-    rests = second.rests;
-    number = second.number ∙ first.number;
-    room = second.room ∙ first.room;
-    log =
-        second.log ∙ ap (λ (cs : List Command). cs ++ ys) first.log ∙ append_assoc (commands_of old.view.log) xs ys;
-  }
-
   module _ (moves : List Cmd) (i : ℕ) (m : Cmd) (inside : i < length moves) (is : m ≡ get_or moves i m) (old p : PassView)
       (so_far : HasServed F passes table old p (served_by passes old.number (map command_of (take i moves)))) where
     -- there is room for the next move
@@ -92,11 +70,3 @@ module _ (F : Fixed) (passes : ℕ) (table : TableId) where
         let room = so_far.room in
         let enough = may.room in
         omega (arith, items, log, next, few, number, room, enough)
-
-    -- the moves with the next one
-    pub served_one_more : (new : PassView) → HasServed F passes table p new (served_by passes p.number (command_of m ∷ []))
-        → HasServed F passes table old new (served_by passes old.number (map command_of (take (i + 1) moves)))
-    served_one_more new one =
-        let here = subst (λ (k : ℕ). HasServed F passes table p new (served_by passes k (command_of m ∷ []))) so_far.number one in
-        subst (λ (cs : List Command). HasServed F passes table old new cs) (sym (served_next passes old.number moves i m inside is))
-        (served_both old p new (served_by passes old.number (map command_of (take i moves))) (served_by passes old.number (command_of m ∷ [])) so_far here)

@@ -14,7 +14,7 @@ use Rattle.core_steps.specs.Views.{Fixed}
 use Rattle.ruled_words.specs.Starts.{fixed_by}
 use Rattle.ruled_words.specs.Passes.{PassView, TableView, IsPassOf, fixed_in, setting_of}
 use Rattle.region_locks.specs.NewPasses.{new_passes, first_pass}
-use Rattle.region_locks.specs.Closing.{HasNoCommand, IsClosed, log_from}
+use Rattle.region_locks.specs.Closing.{IsClosed, log_from}
 use Rattle.move_phase.specs.Serving.{served_by, entries_from}
 use Rattle.move_phase.specs.Running.{AreOfLive, HasServed, HaveRoom, HaveRun}
 use Rattle.move_phase.specs.Sharing.{IsReadyFor}
@@ -54,14 +54,6 @@ module _ (F : Fixed) (table : TableId) (commands : List Command) (rooms : List �
 
   inside : (i : ℕ) → i < length new → i < length rooms
   inside i within = omega (arith, within, as_many)
-
-  -- they still belong to the table
-  pub still_own : All (IsPassOf F (length rooms) table) new
-  still_own = λ i d within. (are.each i d (inside_old i (inside i within))).own
-
-  -- they have no command in hand
-  pub all_rest : All HasNoCommand new
-  all_rest = λ i d within. (are.each i d (inside_old i (inside i within))).rests
 
   -- each has its number
   number_at : (i : ℕ) (d : PassView) → i < length rooms → (slice_index_or new i d).number ≡ i

@@ -1,7 +1,5 @@
 -- The records of players that a map's action takes: those of players inside the arena.
-use Rattle.std.proofs.Common.{◌≡◌, ◌<◌, ◌≤◌, Bool, true, List, [], ◌∷◌, sym, ap, ◌∙◌, subst}
-use Rattle.std.specs.Prelude.{All}
-use Rattle.std.proofs.lemmas.List.Elements.{All-cons, All-nil}
+use Rattle.std.proofs.Common.{◌≡◌, ◌<◌, ◌≤◌, Bool, true, sym, ap, ◌∙◌}
 use Rattle.arena_geo.specs.Bounds.{Bounds}
 use Rattle.arena_geo.specs.Boxes.{contains}
 use Rattle.entity_recs.specs.declared.kind.Kind.TheVariants.{Player}
@@ -31,12 +29,3 @@ inside_by_test map asked bounds body me inside asked_is bounds_are body_is insid
     ∙ ap (contains bounds) (sym body_is)
     ∙ sym inside_is
     ∙ is
-
--- three records that are taken, as a list is known to have them
-pub three_taken : (takes : Rec → Bool) (live : List Rec) (a b c : Rec) → live ≡ a ∷ b ∷ c ∷ [] → takes a ≡ true → takes b ≡ true → takes c ≡ true
-    → All (λ (r : Rec). takes r ≡ true) live
-three_taken takes live a b c is one two three =
-    subst (All (λ (r : Rec). takes r ≡ true)) (sym is)
-    (All-cons (λ (r : Rec). takes r ≡ true) a (b ∷ c ∷ []) one
-    (All-cons (λ (r : Rec). takes r ≡ true) b (c ∷ []) two
-    (All-cons (λ (r : Rec). takes r ≡ true) c [] three (All-nil (λ (r : Rec). takes r ≡ true)))))

@@ -13,8 +13,6 @@ use Rattle.client_ports.specs.declared.client.Client.{Client}
 use Rattle.client_ports.specs.Clients.{client_at, no_clients}
 use Rattle.client_ports.specs.States.{State, state_of, IsServerState}
 use Rattle.client_ports.specs.Receiving.{Receiving, received}
-use Rattle.client_ports.specs.Lists.{IsRoomFor, room_for}
-use Rattle.client_ports.proofs.Rooms.{room_enough}
 use Rattle.client_ports.proofs.Advances.{numbers_apart, movers_live}
 use Rattle.client_ports.proofs.Slots.{client_count}
 use Rattle.client_ports.proofs.Staying.{server_received}
@@ -60,7 +58,3 @@ got map_view frame state arrivals r is_map is same =
       apart = numbers_apart map_view frame state arrivals;
       few = moves_are_few map_view frame state arrivals is.clients;
     })
-
--- room for four packets is enough for them
-pub room_of_four : IsRoomFor 4 (room_for 4)
-room_of_four = room_enough 4 4 (omega arith)

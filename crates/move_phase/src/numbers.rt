@@ -1,4 +1,4 @@
-ghost use Rattle.std.specs.Prelude.{◌≡◌, Some, None, IfSome};
+ghost use Rattle.std.specs.Prelude.{◌≡◌, IfSome};
 ghost use Rattle.world_tree.specs.Live.{record_at};
 ghost use Rattle.world_tree.specs.Worlds.{IsLinked};
 ghost use Rattle.move_phase.specs.Numbers.{HasSmallNumbers, HaveSmallNumbers};

@@ -134,7 +134,7 @@ fn receive(map: &ArenaMap, world: &mut World, out: &mut Received)
 }
 
 /// Runs the two moves on so many workers, and gives the journal.
-#[tactic(auto, using(crate::proofs::TestWorlds::room_of_four))]
+#[tactic(auto, using(client_ports::proofs::Rooms::room_enough))]
 fn reach(
     rt: &(impl AllocGlobal + Abort + Threads + Wait + Sync),
     workers: u8,

@@ -4,7 +4,7 @@ use Rattle.std.proofs.lemmas.Bool.{cases_Bool, false≢true, cond-true, cond-fal
 use Rattle.atomic_table.specs.Seated.{TableId}
 use Rattle.entity_recs.specs.Commands.{Command}
 use Rattle.core_steps.specs.Views.{Fixed, Point, Idle, Owning, Taking, Checking, Entering, Entered, Loading, Leaving, Sensing, Resolving, Claiming, Storing, Releasing, Returning, Yielding, View, inner_held, leaves_held}
-use Rattle.core_steps.specs.Steps.{first, first_of_two, first_yield, yielding, yielded, rest_of, is_taking}
+use Rattle.core_steps.specs.Steps.{first, first_of_two, first_yield, yielding, yielded, is_taking}
 use Rattle.core_steps.specs.Machine.{Next, YieldNode, GiveNode, giving, quitting, SomeIsLeft}
 use Rattle.core_steps.specs.Calls.{node_taken}
 use Rattle.core_seats.specs.Going.{view_found, word_left}

@@ -4,7 +4,6 @@ use Rattle.std.specs.Prelude.{◌==◌, not, ◌&&◌, ◌||◌}
 use Rattle.std.specs.Option.{option_map}
 use Rattle.std.proofs.lemmas.Bool.{cases_Bool, false≢true, true≢false, ne_eqb, cond-false}
 use Rattle.atomic_table.specs.Seated.{TableId}
-use Rattle.entity_recs.specs.Actions.{Meaning}
 use Rattle.entity_recs.specs.declared.effect.Effect.{Effect}
 use Rattle.entity_recs.specs.Commands.{Command}
 use Rattle.core_steps.specs.declared.step.Step.{Step}
@@ -16,10 +15,8 @@ use Rattle.core_steps.specs.Calls.{node_taken}
 use Rattle.core_seats.specs.Going.{view_found, word_left}
 use Rattle.core_seats.specs.Nexts.{next_point, the_next}
 use Rattle.core_seats.specs.Ready.{is_resolving, IsReady}
-use Rattle.core_seats.specs.Shown.{RulesView, fixed_of}
 use Rattle.core_seats.specs.Sound.{IsSound}
-use Rattle.ruled_words.specs.Starts.{rules_of}
-use Rattle.ruled_words.specs.Passes.{PassView, TableView, fixed_in, next_of_pass, pass_after, node_taken_next, IsPassOf}
+use Rattle.ruled_words.specs.Passes.{PassView, next_of_pass, pass_after, node_taken_next, IsPassOf}
 use Rattle.region_locks.specs.Quitting.{has_next_step, next_step, HasQuit, MayBegin}
 
 -- ---- which passes have a next step
@@ -293,11 +290,6 @@ free_of_steps F passes table old new step own at quit is none = elim (cases_Bool
     always false = refl
 
 -- ---- what the seat in plain values knows of its pass
-
--- what doesn't change of a table, by its rules
-pub same_fixed : {A : Type 0} (meaning : A → Meaning) (t u : TableView A) (rules : RulesView A)
-    → t ≡ u → rules ≡ rules_of t.action t.world → fixed_of meaning rules ≡ fixed_in meaning u
-same_fixed meaning t u rules same is = ap (fixed_of meaning) is ∙ ap (fixed_in meaning) same
 
 -- the pass may make its next step
 pub pass_is_ready : (F G : Fixed) (passes : ℕ) (table : TableId) (p q : PassView) → F ≡ G → p ≡ q → IsPassOf G passes table q → IsReady F p.view p.given p.quits p.effect

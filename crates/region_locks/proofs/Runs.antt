@@ -36,9 +36,6 @@ some_entry a b e = cc
 pub refusals_kept : (r : Refusals) (v w : View) → v.refusals ≡ w.refusals → v.refused ≡ w.refused → AreRefusals r v → AreRefusals r w
 refusals_kept r v w count last are = record { count = are.count ∙ count; last = are.last ∙ last }
 
-pub tried_as : (old new other : Tally) → new ≡ other → IsTriedOn old new → IsTriedOn old other
-tried_as old new other same tried = subst (IsTriedOn old) same tried
-
 -- takes after takes
 pub tried_twice : (a b c : Tally) → IsTriedOn a b → IsTriedOn b c → IsTriedOn a c
 tried_twice a b c first second = record { begun = second.begun ∙ first.begun; listed = more_again a.refused b.refused c.refused first.listed second.listed }
@@ -158,9 +155,6 @@ module _ (F : Fixed) (c : Command) (held : Held) (words : List ℕ) (q : Point) 
 
     pub again_still : words ≡ h3.view.again
     again_still = sym (ap (λ (p : PassView). p.view.again) at_read)
-
-    pub own_still : held.own ≡ h3.view.own
-    own_still = sym (ap (λ (p : PassView). p.view.own) at_read)
 
     module _ (writes : HasWritten e place h3 h4) where
       -- the view after all is written

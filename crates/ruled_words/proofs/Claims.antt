@@ -6,7 +6,7 @@ use Rattle.std.proofs.lemmas.List.{take_more, take_all, drop_more, drop_all}
 use Rattle.core_steps.specs.declared.sizes.TheConstants.{NODE_HOLDERS}
 use Rattle.atomic_table.specs.Seated.{TableId}
 use Rattle.entity_recs.specs.declared.effect.Effect.{Effect}
-use Rattle.core_steps.specs.Views.{Fixed, View, Point, Resolving, Claiming, Storing, Releasing, AtClaiming, stage_of, is_without_effect, without_command, has, is_leaf, home, record_read, region_in, leaf_word, held_word, stores_of}
+use Rattle.core_steps.specs.Views.{Fixed, View, Point, Resolving, Claiming, Storing, Releasing, AtClaiming, stage_of, is_without_effect, has, is_leaf, home, record_read, region_in, leaf_word, held_word, stores_of}
 use Rattle.core_steps.specs.Steps.{first, rest_of, point_after_take, view_after_take, view_after_claim, view_after_refusal, view_after_commit, storing}
 use Rattle.core_steps.specs.Machine.{Next, TakeNode, ClaimNode, CommitMove, resolving, committing, kind_of}
 use Rattle.core_steps.specs.declared.step.StepKind.TheVariants.{Commit}
@@ -21,7 +21,7 @@ use Rattle.ruled_words.specs.Sights.{Tally, tally_after}
 use Rattle.ruled_words.specs.Passes.{PassView, next_of_pass, pass_after, word_after, IsPassOf}
 use Rattle.ruled_words.specs.Hands.{IsPlain, keeping, still_keeping}
 use Rattle.ruled_words.specs.Straight.{in_view, in_view_with, IsTriedOn}
-use Rattle.ruled_words.specs.Writing.{as_tried, HasTried, nodes_written, nodes_held, claims_left, claimed_point, claimed_effect, claimed, IsClaimed, written, done}
+use Rattle.ruled_words.specs.Writing.{as_tried, HasTried, nodes_written, nodes_held, claims_left, claimed_point, claimed_effect, claimed, IsClaimed, written}
 use Rattle.ruled_words.proofs.Owns.{no_effect}
 use Rattle.ruled_words.proofs.LoadedWords.{plain_is, plain_after, plain_next}
 use Rattle.ruled_words.proofs.PlainHands.{keeping_next, left_next, after_next_is}
@@ -360,13 +360,3 @@ module _ (F : Fixed) (passes : ℕ) (table : TableId) (start : PassView) (e : Ef
 
       pub refusals_written : (r : Refusals) → AreRefusals r one.view → AreRefusals r three.view
       refusals_written r are = subst (λ (q : PassView). AreRefusals r q.view) (sym all_written) (record { count = are.count; last = are.last })
-
--- the command is done, where its effect was written
-pub has_done : (F : Fixed) (place : ℕ) (e : Effect) (nodes : List ℕ) (start one two : PassView) → HasTried start (written F place e nodes start.view) one → two ≡ in_view one (without_command one.view)
-    → HasTried start (done place e start.view) two
-has_done F place e nodes start one two is finished =
-    has_tried_on start one two (written F place e nodes start.view) without_command (λ v t u. refl) is
-    (record {
-      hand = subst (λ (q : PassView). q ≡ in_view_with one (as_tried (without_command one.view) q.view) q.tally) (sym finished) refl;
-      tally = subst (IsTriedOn one.tally) (sym (ap (λ (q : PassView). q.tally) finished)) (not_tried one.tally);
-    })

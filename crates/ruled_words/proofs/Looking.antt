@@ -1,7 +1,6 @@
 -- A seat that rests looks at the count, which keeps the rule.
 use Rattle.std.proofs.Common.{◌≡◌, ℕ, ◌%◌, ◌^◌, ◌<◌, ◌≤◌, Bool, true, List, [], length, refl, sym, ap, ◌∙◌, subst, inl, inr, arith, slice_index, slice_set, All, length-set}
 use mathlib.Core.Option as maybe
-use mathlib.Core.Option.{some-injective, some-ne-none}
 use lib.ListN.{get_elem?}
 use Rattle.std.proofs.lemmas.Bool.{ne_eqb}
 use Rattle.std.proofs.lemmas.List.{set-get_or}

@@ -1,5 +1,5 @@
 -- What comes next of a hand, where it is known: what a step asks of it, and the hand after it.
-use Rattle.std.proofs.Common.{◌≡◌, ℕ, true, sym, ap, ◌∙◌, subst, Option, Some, None, is_some}
+use Rattle.std.proofs.Common.{◌≡◌, ℕ, true, sym, ap, ◌∙◌, Option, Some, None, is_some}
 use Rattle.entity_recs.specs.declared.effect.Effect.{Effect}
 use Rattle.core_steps.specs.Views.{Fixed, View, Point}
 use Rattle.core_steps.specs.Machine.{Next, index_of}
@@ -8,8 +8,6 @@ use Rattle.core_seats.specs.Nexts.{next_point, the_next}
 use Rattle.ruled_words.specs.Passes.{PassView, next_of_pass, pass_after, word_after}
 use Rattle.ruled_words.specs.Hands.{IsPlain, keeping}
 use Rattle.ruled_words.proofs.LoadedWords.{plain_is}
-use Rattle.ruled_words.specs.WordSteps.{MayBe}
-use Rattle.ruled_words.specs.declared.word_step.WordStep.{WordStep}
 
 -- what comes next of a plain hand with an effect that it keeps
 pub keeping_next : (F : Fixed) (p : PassView) (e : Effect) (point : Point) → IsPlain p → p.view.point ≡ point → next_of_pass F (keeping p e) ≡ next_point F p.view None (Some e) point
@@ -26,9 +24,6 @@ module _ (F : Fixed) (p : PassView) (next : Next) (is : next_of_pass F p ≡ Som
 
   pub left_next : (found : ℕ) → word_after F p found ≡ word_left F p.number p.view next found
   left_next found = ap (λ (o : Option Next). word_left F p.number p.view (the_next o) found) is
-
-  pub may_next : (step : WordStep) (view : View) (word : ℕ) → MayBe step F view next word → MayBe step F view (the_next (next_of_pass F p)) word
-  may_next step view word may = subst (λ (o : Option Next). MayBe step F view (the_next o) word) (sym is) may
 
   pub after_next_is : (found : ℕ) → pass_after F (the_next (next_of_pass F p)) found p ≡ pass_after F next found p
   after_next_is found = ap (λ (o : Option Next). pass_after F (the_next o) found p) is

@@ -1,5 +1,5 @@
 -- The node that a seat takes next is one of the leaves that it wants, or an inner node that they visit.
-use Rattle.std.proofs.Common.{◌≡◌, ℕ, ◌-◌, ◌^◌, ◌<◌, Bool, true, false, List, [], ◌∷◌, ◌++◌, length, refl, sym, ap, ◌∙◌, subst, inl, inr, Option, Some, arith}
+use Rattle.std.proofs.Common.{◌≡◌, ℕ, ◌-◌, ◌<◌, Bool, true, false, List, [], ◌∷◌, ◌++◌, length, refl, sym, ap, ◌∙◌, subst, inl, inr, Option, Some, arith}
 use Rattle.std.specs.Prelude.{◌||◌, ◌==◌, nat_le, All}
 use Rattle.std.specs.List.{range_with_len}
 use mathlib.Core.Option as maybe

@@ -6,7 +6,7 @@ use Rattle.atomic_table.specs.declared.shared.Seat.{Seat}
 use Rattle.entity_recs.specs.declared.effect.Effect.{Effect}
 use Rattle.core_steps.specs.Views.{Fixed, Point, Idle, Owning, Taking, Checking, Entering, Entered, Loading, Leaving, Sensing, Resolving, Claiming, Storing, Releasing, Returning, Yielding, View, record_read, write_nodes, effect_loaded}
 use Rattle.core_steps.specs.Steps.{first_yield}
-use Rattle.core_steps.specs.Machine.{Next, resolving, quitting, next_at, index_of}
+use Rattle.core_steps.specs.Machine.{Next, resolving, quitting, next_at}
 use Rattle.ruled_words.specs.Sights.{SightView, Tally, tally_after}
 use Rattle.ruled_words.specs.Going.{next_asked, MayGo}
 use Rattle.core_seats.specs.Going.{view_found, word_left}
@@ -15,9 +15,7 @@ use Rattle.ruled_words.specs.Plays.{IsSoundSight, SeatStepped}
 use Rattle.core_seats.specs.Ready.{is_resolving}
 use Rattle.ruled_words.specs.Hands.{hand_view, IsAtPlace}
 use Rattle.ruled_words.specs.declared.setting.Setting.{Setting}
-use Rattle.ruled_words.specs.WordSteps.{word_by, MayBe}
-use Rattle.ruled_words.specs.declared.word_step.WordStep.{WordStep}
-use Rattle.ruled_words.specs.Passes.{PassView, next_of_pass, pass_after, word_after, IsPassOf, IsReady, HasGone}
+use Rattle.ruled_words.specs.Passes.{PassView, next_of_pass, pass_after, IsPassOf, IsReady, HasGone}
 use Rattle.core_seats.specs.Nexts.{next_resolved, next_point, the_next}
 
 pub some_is : (o : Option Next) → is_some o ≡ true → o ≡ Some (the_next o)
@@ -81,18 +79,6 @@ module _ (F : Fixed) (passes : ℕ) (table : TableId) (p : PassView) (seat : Sea
       subst (λ (n : ℕ). MayGo F passes n seat.me.0.view p.given p.quits (the_next (next_of_pass F p))) (sym number_is)
       (subst (λ (v : View). MayGo F passes p.number v p.given p.quits (the_next (next_of_pass F p))) (sym is.same_view) (may_go F passes table p is.own is.comes))
 
-  -- what is asked of the pass's step is asked of the seat's
-  pub index_ready : word ≡ index_of seat.me.0.view (the_next (next_of_pass F p))
-  index_ready = subst (λ (v : View). word ≡ index_of v (the_next (next_of_pass F p))) (sym is.same_view) is.index
-
-  pub left_ready : (step : WordStep) → ((found : ℕ) → word_after F p found ≡ word_by step found) → (found : ℕ) → word_left F seat.me.0.number seat.me.0.view (the_next (next_of_pass F p)) found ≡ word_by step found
-  left_ready step left found =
-      ap (λ (n : ℕ). word_left F n seat.me.0.view (the_next (next_of_pass F p)) found) number_is
-      ∙ ap (λ (v : View). word_left F p.number v (the_next (next_of_pass F p)) found) is.same_view ∙ left found
-
-  pub may_be_ready : (step : WordStep) → MayBe step F p.view (the_next (next_of_pass F p)) word → MayBe step F seat.me.0.view (the_next (next_of_pass F p)) word
-  may_be_ready step may = subst (λ (v : View). MayBe step F v (the_next (next_of_pass F p)) word) (sym is.same_view) may
-
   pub has_gone : (new : Seat (Unit {0}) SightView) (found : ℕ) → new.table_id ≡ seat.table_id → SeatStepped F passes (the_next (next_of_pass F p)) seat.me found new.me → HasGone F passes p found (hand_view new setting number)
   has_gone new found same stepped =
       let went = stepped.went.0 in
@@ -116,7 +102,3 @@ module _ (F : Fixed) (passes : ℕ) (table : TableId) (p : PassView) (seat : Sea
         reached = subst (λ (v : View). AreReached F v (the_next (next_of_pass F p))) is.same_view stepped.reached;
         seen = λ commits. subst (λ (v : View). v.seen ≤ found) is.same_view (stepped.seen commits);
       }
-
-  -- the place keeps its number, and carries what it carried
-  pub at_place : (new : Seat (Unit {0}) SightView) (found : ℕ) → SeatStepped F passes (the_next (next_of_pass F p)) seat.me found new.me → IsAtPlace new setting number
-  at_place new found stepped = record { may_have = at.may_have; has_number = stepped.went.0.number ∙ at.has_number; carries = stepped.went.1 ∙ at.carries }

@@ -1,11 +1,10 @@
 -- A take that may be refused, and is tried again.
-use Rattle.std.proofs.Common.{◌≡◌, ◌≢◌, ℕ, suc, ◌+◌, ◌-◌, ◌*◌, ◌^◌, ◌<◌, ◌≤◌, arith, Bool, true, false, if◌then◌else◌, List, [], ◌∷◌, ◌++◌, length, map, min, refl, sym, ap, ◌∙◌, subst, inl, inr, Option, Some, None}
-use Rattle.std.specs.Prelude.{◌==◌, nat_le}
+use Rattle.std.proofs.Common.{◌≡◌, ◌≢◌, ℕ, suc, ◌+◌, ◌-◌, ◌*◌, ◌^◌, ◌<◌, arith, Bool, true, false, if◌then◌else◌, List, [], ◌∷◌, ◌++◌, length, map, min, refl, sym, ap, ◌∙◌, subst, inl, inr, Option, Some, None}
+use Rattle.std.specs.Prelude.{◌==◌}
 use Rattle.std.proofs.lemmas.Bool.{cases_eq, cond-true, cond-false, eq-eqb, ne_eqb, le-leb}
 use Rattle.std.proofs.lemmas.List.{append_assoc, length-append}
 use Rattle.core_steps.specs.declared.sizes.TheConstants.{NODE_HOLDERS}
 use Rattle.atomic_table.specs.Seated.{TableId}
-use Rattle.arena_geo.specs.Bounds.{Bounds}
 use Rattle.areanode.specs.Trees.{IsTreeDepth, leaf_node, leaves_of}
 use Rattle.core_steps.specs.Views as views
 use Rattle.core_steps.specs.Views.{Fixed, View, Point, Idle, Owning, Taking, Checking, Entering, Entered, Loading, Leaving, Sensing, Resolving, Claiming, Storing, Releasing, Returning, Yielding, is_leaf, inner_nodes, leaf_word, leaf_nodes, region_in, held_word, stage_of, is_whole, is_writing}
@@ -304,9 +303,3 @@ module _ (F : Fixed) (p : PassView) (leaves : ℕ) (plain : IsPlain p) (wants : 
         until_more p now new (Taking got (node ∷ leaf_list F after)) (taking (got ++ node ∷ []) (leaf_list F after)) at_leaf (taken ∙ ap (λ (q : Point). tried_until now q new) point) in
         made ∙ ap (λ (q : Point). tried_until p q new)
         (taking_got (got ++ node ∷ []) (leaf_list F after) ∙ ap (λ (g : List ℕ). taking g (leaf_list F after)) (sym (ap (λ (q : PassView). got_at q.view.point) made)))
-
-    pub leaf_own : now.view.own ≡ p.view.own
-    leaf_own = ap (λ (q : PassView). q.view.own) is
-
-    pub leaf_wanted : now.view.wanted ≡ p.view.wanted
-    leaf_wanted = ap (λ (q : PassView). q.view.wanted) is

@@ -1,7 +1,6 @@
 -- The nodes of a region are read, one after another.
 use Rattle.std.proofs.Common.{◌≡◌, ℕ, suc, ◌+◌, ◌-◌, ◌*◌, ◌%◌, ◌^◌, ◌<◌, ◌≤◌, arith, Bool, true, false, ◌||◌, if◌then◌else◌, List, [], ◌∷◌, ◌++◌, refl, sym, ap, ◌∙◌, subst, inl, inr, map, bit_or, Option, Some, None}
-use Rattle.std.specs.Prelude.{◌==◌, nat_le, filter, get_or}
-use Rattle.std.specs.List.{range_with_len}
+use Rattle.std.specs.Prelude.{◌==◌, nat_le, get_or}
 use Rattle.std.proofs.lemmas.Bool.{cases_Bool, cond-true, cond-false, leb-true}
 use Rattle.std.proofs.lemmas.Nat.{mod_below, pow_pos}
 use Rattle.core_steps.specs.declared.sizes.TheConstants.{NODE_HOLDERS}
@@ -99,9 +98,6 @@ module _ (F : Fixed) (p : PassView) where
 
     pub leaf_entered : now.view.point ≡ Entered node (plan_left now.view.point)
     leaf_entered = entered_is now.view.point node ahead (ap (λ (q : PassView). q.view.point) at_leaf)
-
-    pub leaf_slot : now.view.cmd.slot ≡ p.view.cmd.slot
-    leaf_slot = ap (λ (q : PassView). q.view.cmd.slot) is
 
     -- the leaf was read
     pub leaf_read : (new : PassView) → new ≡ under_until F now node [] new → new ≡ leaves_until F p after new
@@ -232,14 +228,8 @@ module _ (F : Fixed) (p : PassView) where
     pub now_entering : now.view.point ≡ Entering node (plan_left now.view.point)
     now_entering = entering_is now.view.point node (bits_in (inner_nodes F) after) (ap (λ (q : PassView). q.view.point) at_inner)
 
-    pub inner_slot : now.view.cmd.slot ≡ p.view.cmd.slot
-    inner_slot = ap (λ (q : PassView). q.view.cmd.slot) is
-
     pub inner_own : now.view.own ≡ p.view.own
     inner_own = ap (λ (q : PassView). q.view.own) is
-
-    pub inner_wanted : now.view.wanted ≡ p.view.wanted
-    inner_wanted = ap (λ (q : PassView). q.view.wanted) is
 
     pub inner_more : (new : PassView) → new ≡ visited_until now (visiting F now.view (plan_left now.view.point)) new → new ≡ inner_until F p after new
     inner_more new read =

@@ -3,7 +3,7 @@ use Rattle.std.specs.Prelude.{◌≡◌, ℕ, ◌<◌, Bool, true, false, if◌t
 use Rattle.areanode.specs.Words.{has_bit}
 use Rattle.entity_recs.specs.Commands.{Command}
 use Rattle.core_steps.specs.Views.{Fixed, View, Point, Taking, PlayerRead, player_at, leaf_nodes, region_in, things_in}
-use Rattle.core_steps.specs.Steps.{rest_of, sensing}
+use Rattle.core_steps.specs.Steps.{sensing}
 use Rattle.ruled_words.specs.Sights.{HeldWord, Tally}
 use Rattle.ruled_words.specs.Passes.{PassView}
 
@@ -27,8 +27,8 @@ pub record IsTriedOn (old new : Tally) : Type 0 where
 
 -- the words kept by slot are those that were loaded last, of the players whose bit is set in `seen`
 abbrev pub HasKept : ℕ → List (List ℕ) → List PlayerRead → Type 0
-HasKept seen six others =
-    (slot : ℕ) → slot < 64 → player_at others slot ≡ (if has_bit seen slot then Some (get_or six slot []) else None)
+HasKept seen by_slot others =
+    (slot : ℕ) → slot < 64 → player_at others slot ≡ (if has_bit seen slot then Some (get_or by_slot slot []) else None)
 
 -- leaves are to be taken
 abbrev pub is_taking_leaves : Point → Bool
@@ -62,7 +62,3 @@ nodes_read F view new = record view {
 abbrev pub got_at : Point → List ℕ
 got_at (Taking got rest) = got
 got_at _ = []
-
-abbrev pub after_next : Point → List ℕ
-after_next (Taking got rest) = rest_of rest
-after_next _ = []

@@ -7,7 +7,7 @@ ghost use Rattle.ruled_words.specs.Writing.{HasTried, nodes_written, written};
 
 use crate::hand::Hand;
 use crate::shared_words::SharedWords;
-use core_seats::{NodeQueue, Refusals};
+use core_seats::{LoadedPlayer, NodeQueue, Refusals};
 use entity_recs::{Action, Effect, Rec};
 use std::sync::Wait;
 
@@ -48,7 +48,7 @@ impl<'a, A: Action> SharedWords<'a, A> {
         rt: &R,
         hand: &mut Hand,
         refusals: &mut Refusals,
-        own: &[u64; 6],
+        own: &LoadedPlayer,
         wanted: &NodeQueue,
         effect: &Effect,
         slot: u8,

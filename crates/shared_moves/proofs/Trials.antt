@@ -1,6 +1,5 @@
 -- The passes of a test: at its start, after a move, and at its end.
-use Rattle.std.proofs.Common.{◌≡◌, ℕ, ◌<◌, false, List, [], ◌∷◌, map, length, refl, sym, ap, ◌∙◌, subst, All, arith}
-use Rattle.std.specs.List.{range_with_len}
+use Rattle.std.proofs.Common.{◌≡◌, ℕ, ◌<◌, false, List, [], ◌∷◌, length, refl, sym, ap, ◌∙◌, subst, All, arith}
 use Rattle.std.proofs.lemmas.List.Elements.{recursion_from_All, All-cons, All-nil}
 use Rattle.atomic_table.specs.Seated.{TableId}
 use Rattle.entity_recs.specs.declared.effect.Entry.{Entry}
@@ -13,7 +12,6 @@ use Rattle.region_locks.specs.NewPasses.{first_pass, other_pass}
 use Rattle.region_locks.specs.Closing.{HasNoCommand}
 use Rattle.region_locks.specs.Quitting.{MayBegin}
 use Rattle.region_locks.specs.Turns.{has_command_in_hand}
-use Rattle.region_locks.specs.Pursuits.{IsGoingOn}
 use Rattle.region_locks.specs.declared.again.Again.{Again}
 use Rattle.region_locks.specs.Moves.{HasRun, WasNotRun}
 use Rattle.shared_moves.specs.Trials.{IsFree, IsMoving, IsResting}
@@ -39,10 +37,6 @@ are_free F passes table room items x y some are first second own =
     )
 
 module _ (F : Fixed) (passes : ℕ) (table : TableId) (number : ℕ) (old new : PassView) where
-  -- a pass that goes on and keeps its number
-  pub moves_on : IsMoving F passes table number old → IsGoingOn F passes table new → new.number ≡ old.number → IsMoving F passes table number new
-  moves_on was going same = record { going = going; number_is = same ∙ was.number_is }
-
   -- a command that wasn't run may be tried again
   pub free_again : (c : Command) (a : Again) → IsFree F passes table number old → WasNotRun F passes table old new c a → IsFree F passes table number new
   free_again c a was not_run = record {
@@ -67,10 +61,3 @@ module _ (F : Fixed) (passes : ℕ) (table : TableId) (x y : PassView) (items : 
 
   pub two_rest : All HasNoCommand items
   two_rest = subst (All HasNoCommand) (sym are) (All-cons HasNoCommand x (y ∷ []) first.rests (All-cons HasNoCommand y [] second.rests (All-nil HasNoCommand)))
-
-  pub two_numbers : passes ≡ 2 → map (λ (p : PassView). p.number) items ≡ range_with_len 0 passes
-  two_numbers two =
-      ap (λ (ps : List PassView). map (λ (p : PassView). p.number) ps) are
-      ∙ ap (λ (n : ℕ). n ∷ y.number ∷ []) first.number_is
-      ∙ ap (λ (n : ℕ). 0 ∷ n ∷ []) second.number_is
-      ∙ ap (λ (n : ℕ). range_with_len 0 n) (sym two)

@@ -1,10 +1,9 @@
-ghost use Rattle.std.specs.Prelude.{◌≡◌, ℕ, ◌%◌, true, false, length, None, IfOk, IfErr, OnOk};
-ghost use Rattle.entity_recs.specs.Commands.{Command, command_of};
-ghost use Rattle.core_steps.specs.Views.{Fixed, Refused, has};
+ghost use Rattle.std.specs.Prelude.{◌≡◌, ◌%◌, true, length, IfOk, IfErr, OnOk};
+ghost use Rattle.entity_recs.specs.Commands.{command_of};
+ghost use Rattle.core_steps.specs.Views.{has};
 ghost use Rattle.ruled_words.specs.Passes.{fixed_in, IsOwn};
 ghost use Rattle.region_locks.specs.Quitting.{MayBegin};
-ghost use Rattle.region_locks.specs.Pursuits.{IsRefusedBy};
-ghost use Rattle.region_locks.specs.Moves.{HasRun, NoTakeWasRefused, WasNotRun, IsRunning, IsCause};
+ghost use Rattle.region_locks.specs.Moves.{HasRun, NoTakeWasRefused, WasNotRun};
 
 use crate::shared::Shared;
 use entity_recs::{Action, Cmd, Entry};

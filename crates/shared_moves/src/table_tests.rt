@@ -181,9 +181,9 @@ fn a_holder_has_the_last_two_of_32_leaves(rt: HostRuntime) -> Result<(), Fail> {
 /// The pass, which has no command in hand, looks at the count of commits, and has then seen it.
 fn expect_count<A: Action>(rt: &impl Abort, table: &NodeTable<A>, pass: &mut Pass<A>, count: u64)
     requires own { IsOwn A.meaning table.now pass.old }
-    requires rests { pass.old.view.point ≡ Idle }
+    requires none { (pass.old.given ≡ None) × (pass.old.view.point ≡ Idle) }
     ensures own { IsOwn A.meaning table.now pass.new }
-    ensures rests { pass.new.view.point ≡ Idle }
+    ensures none { (pass.new.given ≡ None) × (pass.new.view.point ≡ Idle) }
 {
     assert_eq!(rt; table.look(pass), count);
     assert_eq!(rt; pass.seen(), count);

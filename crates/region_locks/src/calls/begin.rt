@@ -41,7 +41,7 @@ impl<'a, A: Action> NodeTable<'a, A> {
     /// Loads the count of commits, with no command in hand. The pass has then seen that number.
     pub fn look(&self, pass: &mut Pass<A>) -> u64
         requires own { IsOwn A.meaning self.now pass.old }
-        requires rests { pass.old.view.point ≡ Idle }
+        requires none { (pass.old.given ≡ None) × (pass.old.view.point ≡ Idle) }
         ensures own { IsOwn A.meaning self.now pass.new }
         ensures pass { pass.new ≡ record pass.old { view = view_looked result pass.old.view } }
         ensures seen { pass.old.view.seen ≤ result }

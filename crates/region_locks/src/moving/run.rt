@@ -15,7 +15,7 @@ use crate::gate::{Gate, Moment, show_moment};
 use crate::moving::held::Held;
 use crate::pass::Pass;
 use crate::table::NodeTable;
-use core_seats::{Refusals, read_record};
+use core_seats::{LoadedPlayer, Refusals, read_record};
 use entity_recs::{Action, Cmd, Effect, Entry};
 use move_journal::{same_entry, same_reply};
 use ruled_words::{Hand, SharedWords};
@@ -78,7 +78,7 @@ fn read_region<A: Action, R: Wait, G: Gate>(
     near: &mut NearList,
     cmd: &Cmd,
     held: &Held,
-    again: &[u64; 6],
+    again: &LoadedPlayer,
     gate: &G,
 ) -> Effect
     requires own { IsOwn A.meaning words.now hand.old }
@@ -94,7 +94,7 @@ fn read_region<A: Action, R: Wait, G: Gate>(
     ensures refusals { AreRefusals refusals.old hand.old.view → AreRefusals refusals.new hand.new.view }
     ensures room { near.new.room ≡ near.old.room }
 {
-    let mut six = [[0; 6]; 64];
+    let mut by_slot = [[0; 6]; 64];
     let seen = words.read_nodes(
         rt,
         hand,
@@ -104,9 +104,9 @@ fn read_region<A: Action, R: Wait, G: Gate>(
         held.leaves,
         held.inner,
         cmd.slot,
-        &mut six,
+        &mut by_slot,
     );
-    let effect = words.read_effect(hand, near, cmd, &held.region, again, seen, &six);
+    let effect = words.read_effect(hand, near, cmd, &held.region, again, seen, &by_slot);
     gate.at(&Moment::at_effect(hand, cmd, &effect));
     effect
 }
@@ -120,7 +120,7 @@ fn write_region<A: Action, R: Wait>(
     refusals: &mut Refusals,
     slot: u8,
     held: &Held,
-    again: &[u64; 6],
+    again: &LoadedPlayer,
     effect: &Effect,
 ) -> u64
     requires own { IsOwn A.meaning words.now hand.old }

@@ -11,7 +11,7 @@ ghost use Rattle.ruled_words.specs.WordSteps.{word_by};
 use crate::hand::Hand;
 use crate::shared_words::SharedWords;
 use crate::word_step::WordStep;
-use core_seats::{NodeQueue, Refusals, lowest_bit, without_bit};
+use core_seats::{LoadedPlayer, NodeQueue, Refusals, lowest_bit, without_bit};
 use core_steps::{NODE_HOLDERS, node_word};
 use entity_recs::Action;
 use std::sync::Wait;
@@ -20,7 +20,7 @@ use std::thread;
 /// Whether the take was served: it found 0. One that was refused is counted.
 pub(crate) fn note_refused(
     refusals: &mut Refusals,
-    own: &[u64; 6],
+    own: &LoadedPlayer,
     wanted: &NodeQueue,
     node: u8,
     found: u64,
@@ -44,7 +44,7 @@ impl<'a, A: Action> SharedWords<'a, A> {
         &self,
         hand: &mut Hand,
         refusals: &mut Refusals,
-        own: &[u64; 6],
+        own: &LoadedPlayer,
         wanted: &NodeQueue,
         node: u8,
         new: u64,
@@ -71,7 +71,7 @@ impl<'a, A: Action> SharedWords<'a, A> {
         rt: &R,
         hand: &mut Hand,
         refusals: &mut Refusals,
-        own: &[u64; 6],
+        own: &LoadedPlayer,
         wanted: &NodeQueue,
         node: u8,
         new: u64,
@@ -103,7 +103,7 @@ impl<'a, A: Action> SharedWords<'a, A> {
         rt: &R,
         hand: &mut Hand,
         refusals: &mut Refusals,
-        own: &[u64; 6],
+        own: &LoadedPlayer,
         wanted: &NodeQueue,
         leaves: u32,
     )

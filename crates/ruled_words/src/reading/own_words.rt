@@ -13,7 +13,7 @@ use crate::shared_words::SharedWords;
 use crate::word_step::WordStep;
 use arena_geo::Region;
 use arrayvec::ArrayVec;
-use core_seats::WordList;
+use core_seats::{LoadedPlayer, WordList};
 use core_steps::{record_word, state_word};
 use entity_recs::{Action, Cmd};
 
@@ -30,7 +30,7 @@ pub fn index_of_word(slot: u8, k: usize) -> usize
 }
 
 /// Six words as an array.
-fn six_of(words: &[u64]) -> [u64; 6]
+fn loaded_player(words: &[u64]) -> LoadedPlayer
     requires { length words.now ≡ 6 }
     ensures { result ≡ words.now }
 {
@@ -40,7 +40,7 @@ fn six_of(words: &[u64]) -> [u64; 6]
 impl<'a, A: Action> SharedWords<'a, A> {
     /// Loads the own record for the command, which are the hand's next six steps, and gives its words. With the first
     /// word the command enters the view, and after the last one the leaves are to be taken.
-    pub fn own_words(&self, hand: &mut Hand, cmd: &Cmd) -> [u64; 6]
+    pub fn own_words(&self, hand: &mut Hand, cmd: &Cmd) -> LoadedPlayer
         requires own { IsOwn A.meaning self.now hand.old }
         requires idle { hand.old.view.point ≡ Idle }
         requires pending { IsPending (fixed_in A.meaning self.now) hand.old.view (command_of cmd.now) }
@@ -57,11 +57,11 @@ impl<'a, A: Action> SharedWords<'a, A> {
         for k in 1..6usize {
             words.push(self.step_hand(hand, index_of_word(cmd.slot, k), WordStep::Load));
         }
-        six_of(words.as_slice())
+        loaded_player(words.as_slice())
     }
 
     /// Loads the record of the player in this slot, which are the hand's next six steps, and gives its words.
-    pub(crate) fn load_six(&self, hand: &mut Hand, slot: u8) -> [u64; 6]
+    pub(crate) fn load_player_words(&self, hand: &mut Hand, slot: u8) -> LoadedPlayer
         requires own { IsOwn A.meaning self.now hand.old }
         requires next { record_loaded_next hand.old.view (next_in A.meaning self.now hand.old) ≡ Some slot }
         ensures own { IsOwn A.meaning self.now hand.new }
@@ -72,12 +72,12 @@ impl<'a, A: Action> SharedWords<'a, A> {
         for k in 0..6usize {
             words.push(self.step_hand(hand, index_of_word(slot, k), WordStep::Load));
         }
-        six_of(words.as_slice())
+        loaded_player(words.as_slice())
     }
 
     /// Loads the own record again, once all leaves are held, and gives its words. Then the nodes of the region are to be
     /// visited.
-    pub fn own_again(&self, hand: &mut Hand, slot: u8) -> [u64; 6]
+    pub fn own_again(&self, hand: &mut Hand, slot: u8) -> LoadedPlayer
         requires own { IsOwn A.meaning self.now hand.old }
         requires at { hand.old.view.point ≡ Checking }
         requires none { hand.old.view.again ≡ [] }
@@ -91,11 +91,11 @@ impl<'a, A: Action> SharedWords<'a, A> {
         ensures six { length result ≡ 6 }
     {
         hand.is_plain();
-        self.load_six(hand, slot)
+        self.load_player_words(hand, slot)
     }
 
     /// The region of the command, by the own record that was loaded.
-    pub fn region_of(&self, hand: &Hand, cmd: &Cmd, own: &[u64; 6]) -> Region
+    pub fn region_of(&self, hand: &Hand, cmd: &Cmd, own: &LoadedPlayer) -> Region
         requires own { IsOwn A.meaning self.now hand.now }
         requires at { is_taking_leaves hand.now.view.point ≡ true }
         requires cmd_is { command_of cmd.now ≡ hand.now.view.cmd }

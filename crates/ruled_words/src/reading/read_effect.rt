@@ -11,7 +11,7 @@ ghost use Rattle.ruled_words.specs.Straight.{in_view, HasKept};
 use crate::hand::Hand;
 use crate::shared_words::SharedWords;
 use arena_geo::Region;
-use core_seats::read_record;
+use core_seats::{LoadedPlayer, LoadedPlayers, read_record};
 use entity_recs::{Action, Cmd, Effect, Rec};
 use world_tree::NearList;
 
@@ -21,7 +21,7 @@ impl<'a, A: Action> SharedWords<'a, A> {
     fn put_players(
         &self,
         seen: u64,
-        six: &[[u64; 6]; 64],
+        by_slot: &LoadedPlayers,
         region: &Region,
         slot: u8,
         near: &mut NearList,
@@ -29,11 +29,11 @@ impl<'a, A: Action> SharedWords<'a, A> {
         requires slot { slot < 64 }
         requires empty { near.old.items ≡ [] }
         requires room { 64 ≤ near.old.room }
-        ensures players { near.new.items ≡ players_kept (fixed_in A.meaning self.now) region.now slot seen six.now }
+        ensures players { near.new.items ≡ players_kept (fixed_in A.meaning self.now) region.now slot seen by_slot.now }
         ensures few { length near.new.items ≤ 64 }
         ensures room { near.new.room ≡ near.old.room }
     {
-        self.rules.put_players(seen, six, region, slot, near);
+        self.rules.put_players(seen, by_slot, region, slot, near);
     }
 
     /// What a command of this player does among these records.
@@ -45,7 +45,7 @@ impl<'a, A: Action> SharedWords<'a, A> {
     }
 
     /// Loads the states of the things of the map that the region touches, once all lists are read, and gives the effect of
-    /// the command: what the action gives on what was loaded. `again` is the own record as it was loaded again, and `six`
+    /// the command: what the action gives on what was loaded. `again` is the own record as it was loaded again, and `by_slot`
     /// the words of the players in `seen`. The near list is only room, for 64 records and all that live at the start.
     pub fn read_effect(
         &self,
@@ -53,9 +53,9 @@ impl<'a, A: Action> SharedWords<'a, A> {
         near: &mut NearList,
         cmd: &Cmd,
         region: &Region,
-        again: &[u64; 6],
+        again: &LoadedPlayer,
         seen: u64,
-        six: &[[u64; 6]; 64],
+        by_slot: &LoadedPlayers,
     ) -> Effect
         requires own { IsOwn A.meaning self.now hand.old }
         requires at { let F = fixed_in A.meaning self.now in
@@ -64,7 +64,7 @@ impl<'a, A: Action> SharedWords<'a, A> {
             ≡ region_in (fixed_in A.meaning self.now) hand.old.view.cmd hand.old.view.own }
         requires cmd_is { command_of cmd.now ≡ hand.old.view.cmd }
         requires again_is { again.now ≡ hand.old.view.again }
-        requires kept { HasKept seen six.now hand.old.view.others }
+        requires kept { HasKept seen by_slot.now hand.old.view.others }
         requires room { 64 + length (fixed_in A.meaning self.now).start.ids ≤ near.old.room }
         ensures own { IsOwn A.meaning self.now hand.new }
         ensures view { hand.new ≡ in_view hand.old
@@ -75,7 +75,7 @@ impl<'a, A: Action> SharedWords<'a, A> {
     {
         self.ids_rise();
         near.clear();
-        self.put_players(seen, six, region, cmd.slot, near);
+        self.put_players(seen, by_slot, region, cmd.slot, near);
         self.load_states(hand, region, near);
         self.act(&read_record(cmd.slot, again), near.as_slice(), cmd)
     }

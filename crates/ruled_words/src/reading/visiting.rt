@@ -10,25 +10,28 @@ ghost use Rattle.ruled_words.specs.Visits.{plan_left, read_until, under_until, v
 use crate::hand::Hand;
 use crate::shared_words::SharedWords;
 use crate::word_step::WordStep;
-use core_seats::{NodeQueue, Refusals, lowest_bit, without_bit};
+use core_seats::{LoadedPlayer, LoadedPlayers, NodeQueue, Refusals, lowest_bit, without_bit};
 use core_steps::list_word;
 use entity_recs::Action;
 use std::sync::Wait;
 
-/// The words of the players' records, by slot.
-pub(crate) type SixBySlot = [[u64; 6]; 64];
-
 impl<'a, A: Action> SharedWords<'a, A> {
     /// Loads the list word of the entered node, and the words of each player under it but the own one, which are kept by
     /// slot. Gives the list word without the own bit.
-    pub(crate) fn read_under(&self, hand: &mut Hand, node: u8, slot: u8, six: &mut SixBySlot) -> u64
+    pub(crate) fn read_under(
+        &self,
+        hand: &mut Hand,
+        node: u8,
+        slot: u8,
+        by_slot: &mut LoadedPlayers,
+    ) -> u64
         requires own { IsOwn A.meaning self.now hand.old }
         requires at { hand.old.view.point ≡ Entered node (plan_left hand.old.view.point) }
         requires slot { slot ≡ hand.old.view.cmd.slot }
         ensures own { IsOwn A.meaning self.now hand.new }
         ensures view { hand.new ≡ under_until (fixed_in A.meaning self.now) hand.old node [] hand.new }
-        ensures kept { (seen : ℕ) → HasKept seen six.old hand.old.view.others
-            → HasKept (bit_or seen result) six.new hand.new.view.others }
+        ensures kept { (seen : ℕ) → HasKept seen by_slot.old hand.old.view.others
+            → HasKept (bit_or seen result) by_slot.new hand.new.view.others }
     {
         hand.is_plain();
         let list = self.step_hand(hand, usize::from(list_word(node)), WordStep::Load);
@@ -37,7 +40,7 @@ impl<'a, A: Action> SharedWords<'a, A> {
         while rest != 0 {
             let other = lowest_bit(rest);
             rest = without_bit(rest, other);
-            six[usize::from(other)] = self.load_six(hand, other);
+            by_slot[usize::from(other)] = self.load_player_words(hand, other);
         }
         players
     }
@@ -49,7 +52,7 @@ impl<'a, A: Action> SharedWords<'a, A> {
         hand: &mut Hand,
         leaves: u32,
         slot: u8,
-        six: &mut SixBySlot,
+        by_slot: &mut LoadedPlayers,
     ) -> u64
         requires own { IsOwn A.meaning self.now hand.old }
         requires at { let F = fixed_in A.meaning self.now in let v = hand.old.view in
@@ -60,8 +63,8 @@ impl<'a, A: Action> SharedWords<'a, A> {
         ensures own { IsOwn A.meaning self.now hand.new }
         ensures view { let F = fixed_in A.meaning self.now in let v = hand.old.view in
             hand.new ≡ read_until hand.old (visiting F v (inner_visited F (region_in F v.cmd v.own))) hand.new }
-        ensures kept { (seen : ℕ) → HasKept seen six.old hand.old.view.others
-            → HasKept (bit_or seen result) six.new hand.new.view.others }
+        ensures kept { (seen : ℕ) → HasKept seen by_slot.old hand.old.view.others
+            → HasKept (bit_or seen result) by_slot.new hand.new.view.others }
     {
         hand.is_plain();
         let first = self.first_leaf();
@@ -70,7 +73,7 @@ impl<'a, A: Action> SharedWords<'a, A> {
         while rest != 0 {
             let leaf = lowest_bit(rest);
             rest = without_bit(rest, leaf);
-            seen |= self.read_under(hand, first + leaf, slot, six);
+            seen |= self.read_under(hand, first + leaf, slot, by_slot);
         }
         seen
     }
@@ -93,11 +96,11 @@ impl<'a, A: Action> SharedWords<'a, A> {
         rt: &R,
         hand: &mut Hand,
         refusals: &mut Refusals,
-        own: &[u64; 6],
+        own: &LoadedPlayer,
         wanted: &NodeQueue,
         node: u8,
         slot: u8,
-        six: &mut SixBySlot,
+        by_slot: &mut LoadedPlayers,
     ) -> u64
         requires own { IsOwn A.meaning self.now hand.old }
         requires at { hand.old.view.point ≡ Entering node (plan_left hand.old.view.point) }
@@ -110,14 +113,14 @@ impl<'a, A: Action> SharedWords<'a, A> {
             (visiting (fixed_in A.meaning self.now) hand.old.view (plan_left hand.old.view.point)) hand.new }
         ensures tried { IsTriedOn hand.old.tally hand.new.tally }
         ensures refusals { AreRefusals refusals.old hand.old.view → AreRefusals refusals.new hand.new.view }
-        ensures kept { (seen : ℕ) → HasKept seen six.old hand.old.view.others
-            → HasKept (bit_or seen result) six.new hand.new.view.others }
+        ensures kept { (seen : ℕ) → HasKept seen by_slot.old hand.old.view.others
+            → HasKept (bit_or seen result) by_slot.new hand.new.view.others }
     {
         hand.is_plain();
         // The word of an inner node that is held to read names the pass alone.
         let new = u64::from(hand.number) + 1;
         self.take_node(rt, hand, refusals, own, wanted, node, new);
-        let players = self.read_under(hand, node, slot, six);
+        let players = self.read_under(hand, node, slot, by_slot);
         self.leave(hand, node);
         players
     }
@@ -129,11 +132,11 @@ impl<'a, A: Action> SharedWords<'a, A> {
         rt: &R,
         hand: &mut Hand,
         refusals: &mut Refusals,
-        own: &[u64; 6],
+        own: &LoadedPlayer,
         wanted: &NodeQueue,
         inner: u32,
         slot: u8,
-        six: &mut SixBySlot,
+        by_slot: &mut LoadedPlayers,
     ) -> u64
         requires own { IsOwn A.meaning self.now hand.old }
         requires at { let F = fixed_in A.meaning self.now in let v = hand.old.view in
@@ -148,8 +151,8 @@ impl<'a, A: Action> SharedWords<'a, A> {
             (visiting (fixed_in A.meaning self.now) hand.old.view []) hand.new }
         ensures tried { IsTriedOn hand.old.tally hand.new.tally }
         ensures refusals { AreRefusals refusals.old hand.old.view → AreRefusals refusals.new hand.new.view }
-        ensures kept { (seen : ℕ) → HasKept seen six.old hand.old.view.others
-            → HasKept (bit_or seen result) six.new hand.new.view.others }
+        ensures kept { (seen : ℕ) → HasKept seen by_slot.old hand.old.view.others
+            → HasKept (bit_or seen result) by_slot.new hand.new.view.others }
     {
         hand.is_plain();
         let mut seen = 0;
@@ -157,7 +160,7 @@ impl<'a, A: Action> SharedWords<'a, A> {
         while rest != 0 {
             let node = lowest_bit(rest);
             rest = without_bit(rest, node);
-            seen |= self.visit_inner(rt, hand, refusals, own, wanted, node, slot, six);
+            seen |= self.visit_inner(rt, hand, refusals, own, wanted, node, slot, by_slot);
         }
         seen
     }
@@ -169,12 +172,12 @@ impl<'a, A: Action> SharedWords<'a, A> {
         rt: &R,
         hand: &mut Hand,
         refusals: &mut Refusals,
-        own: &[u64; 6],
+        own: &LoadedPlayer,
         wanted: &NodeQueue,
         leaves: u32,
         inner: u32,
         slot: u8,
-        six: &mut SixBySlot,
+        by_slot: &mut LoadedPlayers,
     ) -> u64
         requires own { IsOwn A.meaning self.now hand.old }
         requires at { let F = fixed_in A.meaning self.now in let v = hand.old.view in
@@ -192,10 +195,10 @@ impl<'a, A: Action> SharedWords<'a, A> {
             (nodes_read (fixed_in A.meaning self.now) hand.old.view hand.new.view) hand.new.tally }
         ensures tried { IsTriedOn hand.old.tally hand.new.tally }
         ensures refusals { AreRefusals refusals.old hand.old.view → AreRefusals refusals.new hand.new.view }
-        ensures kept { HasKept result six.new hand.new.view.others }
+        ensures kept { HasKept result by_slot.new hand.new.view.others }
     {
-        let outer = self.read_leaves(hand, leaves, slot, six);
-        let over = self.read_inner(rt, hand, refusals, own, wanted, inner, slot, six);
+        let outer = self.read_leaves(hand, leaves, slot, by_slot);
+        let over = self.read_inner(rt, hand, refusals, own, wanted, inner, slot, by_slot);
         outer | over
     }
 }

@@ -9,7 +9,7 @@ use crate::hand::Hand;
 use crate::nodes::taking::note_refused;
 use crate::shared_words::SharedWords;
 use crate::word_step::WordStep;
-use core_seats::{NodeQueue, Refusals};
+use core_seats::{LoadedPlayer, NodeQueue, Refusals};
 use core_steps::{NODE_HOLDERS, node_word};
 use entity_recs::{Action, Effect};
 use std::sync::Wait;
@@ -29,7 +29,7 @@ impl<'a, A: Action> SharedWords<'a, A> {
         &self,
         hand: &mut Hand,
         refusals: &mut Refusals,
-        own: &[u64; 6],
+        own: &LoadedPlayer,
         wanted: &NodeQueue,
         effect: &Effect,
         node: u8,
@@ -60,7 +60,7 @@ impl<'a, A: Action> SharedWords<'a, A> {
         rt: &R,
         hand: &mut Hand,
         refusals: &mut Refusals,
-        own: &[u64; 6],
+        own: &LoadedPlayer,
         wanted: &NodeQueue,
         effect: &Effect,
         node: u8,
@@ -92,7 +92,7 @@ impl<'a, A: Action> SharedWords<'a, A> {
         rt: &R,
         hand: &mut Hand,
         refusals: &mut Refusals,
-        own: &[u64; 6],
+        own: &LoadedPlayer,
         wanted: &NodeQueue,
         node: u8,
     )
@@ -117,7 +117,7 @@ impl<'a, A: Action> SharedWords<'a, A> {
         rt: &R,
         hand: &mut Hand,
         refusals: &mut Refusals,
-        own: &[u64; 6],
+        own: &LoadedPlayer,
         wanted: &NodeQueue,
         effect: &Effect,
         nodes: &[u8],

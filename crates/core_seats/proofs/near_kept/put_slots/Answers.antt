@@ -8,7 +8,7 @@ use Rattle.core_seats.proofs.near_kept.put_slots.Goals.{in-Some, in_default}
 pub loop-rest-preserved : goal.loop-rest-preserved
 loop-rest-preserved c =
     let region = c.args.region.now in
-    let six = c.args.six.now in
+    let six = c.args.by_slot.now in
     let rest = c.loop-rest.rest in
     let less = c.without_bit-rest.result in
     let slot = c.lowest_bit-slot.result in

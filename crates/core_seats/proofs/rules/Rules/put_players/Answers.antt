@@ -10,6 +10,6 @@ returns-clause-players g c =
     let F = fixed_of g.A.Action.meaning rules in
     rw (← c.self.view_is)
     (c.put_slots.ensures.records
-    ∙ kept_in_word F c.args.region.now c.args.slot c.args.seen c.without_bit.result c.args.six.now c.self.invariant.start.rising
+    ∙ kept_in_word F c.args.region.now c.args.slot c.args.seen c.without_bit.result c.args.by_slot.now c.self.invariant.start.rising
     (λ s less. c.without_bit.ensures.bits s less ∙ seen_live c.args.seen c.self.inside.players c.args.slot s
     ∙ ap (λ (b : Bool). has_bit c.args.seen s && (b && not (s == c.args.slot))) (c.self.invariant.slots s less)))

@@ -4,7 +4,7 @@ use Rattle.entity_recs.specs.declared.rec.Rec.{Rec}
 use Rattle.world_tree.specs.Nears.{NearView}
 use Rattle.core_steps.specs.Views.{things_in}
 use Rattle.core_steps.specs.Steps.{sensing}
-use Rattle.ruled_words.specs.Passes.{PassView, fixed_in, IsOwn}
+use Rattle.ruled_words.specs.Passes.{fixed_in}
 use Rattle.ruled_words.proofs.StateSteps.{put_last, AreSensed, sensed_none, sensed_at, sensed_room, sensed_one, sensed_until, sensed_view, sensed_near}
 use Rattle.ruled_words.proofs.shared_words.SharedWords.load_states.Goals as goal
 

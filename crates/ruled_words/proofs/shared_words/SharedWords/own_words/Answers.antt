@@ -58,5 +58,5 @@ returns-clause-view g c =
     let is = c.loop-k.invariant in
     let F = fixed_in g.A.Action.meaning c.args.self.now in
     let six : length c.loop-k.words.items ≡ 6 = omega (arith, is.2, c.loop-k-test.false, c.loop-k.auto.k-end) in
-    is.1 ∙ ap (own_at F c.args.hand.now (command_of c.args.cmd.now)) (sym (c.six_of.ensures ∙ c.as_slice.ensures.value))
-    ∙ own_whole F c.args.hand.now (command_of c.args.cmd.now) c.six_of.result (ap (λ (xs : List ℕ). length xs) (c.six_of.ensures ∙ c.as_slice.ensures.value) ∙ six)
+    is.1 ∙ ap (own_at F c.args.hand.now (command_of c.args.cmd.now)) (sym (c.loaded_player.ensures ∙ c.as_slice.ensures.value))
+    ∙ own_whole F c.args.hand.now (command_of c.args.cmd.now) c.loaded_player.result (ap (λ (xs : List ℕ). length xs) (c.loaded_player.ensures ∙ c.as_slice.ensures.value) ∙ six)

@@ -15,7 +15,7 @@ loop-rest-init g c =
       c.requires.own,
       inner_start (fixed_in g.A.Action.meaning c.args.self.now) c.args.hand.now c.args.inner c.is_plain.ensures (c.requires.at ∙ ap (visiting (fixed_in g.A.Action.meaning c.args.self.now) c.args.hand.now.view) inner)
           ∙ ap (λ (n : ℕ). inner_until (fixed_in g.A.Action.meaning c.args.self.now) c.args.hand.now n c.args.hand.now) (sym c.from-rest.ensures),
-      λ seen kept. none_kept_yet seen c.args.six.now c.args.hand.now.view.others kept,
+      λ seen kept. none_kept_yet seen c.args.by_slot.now c.args.hand.now.view.others kept,
       omega (arith, same),
       not_tried c.args.hand.now.tally,
       λ is. is,
@@ -56,7 +56,7 @@ loop-rest-preserved g c =
     let less = c.without_bit-rest.ensures.less c.lowest_bit-node.ensures.there in (
       c.visit_inner-seen.ensures.own,
       inner_more F c.args.hand.now c.loop-rest.rest c.without_bit-rest.result c.lowest_bit-node.result below first c.loop-rest.hand c.loop-rest.invariant.1 c.visit_inner-seen.new.hand c.visit_inner-seen.ensures.view,
-      λ seen kept. kept_after seen c.loop-rest.seen c.visit_inner-seen.result c.visit_inner-seen.new.six c.visit_inner-seen.new.hand.view.others (c.visit_inner-seen.ensures.kept (bit_or seen c.loop-rest.seen) (c.loop-rest.invariant.2 seen kept)),
+      λ seen kept. kept_after seen c.loop-rest.seen c.visit_inner-seen.result c.visit_inner-seen.new.by_slot c.visit_inner-seen.new.hand.view.others (c.visit_inner-seen.ensures.kept (bit_or seen c.loop-rest.seen) (c.loop-rest.invariant.2 seen kept)),
       omega (arith, few, less),
       tried_again _ _ _ c.loop-rest.invariant.4 c.visit_inner-seen.ensures.tried,
       λ is. c.visit_inner-seen.ensures.refusals (c.loop-rest.invariant.5 is),

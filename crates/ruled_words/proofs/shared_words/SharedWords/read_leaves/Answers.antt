@@ -11,7 +11,7 @@ loop-rest-init g c =
       c.requires.own,
       reading_start (fixed_in g.A.Action.meaning c.args.self.now) c.args.hand.now c.args.leaves c.is_plain.ensures c.requires.at c.requires.leaves
           ∙ ap (λ (n : ℕ). leaves_until (fixed_in g.A.Action.meaning c.args.self.now) c.args.hand.now n c.args.hand.now) (sym c.from-rest.ensures),
-      λ seen kept. none_kept_yet seen c.args.six.now c.args.hand.now.view.others kept,
+      λ seen kept. none_kept_yet seen c.args.by_slot.now c.args.hand.now.view.others kept,
       omega (arith, same),
     )
 
@@ -35,7 +35,7 @@ loop-rest-preserved g c =
     let less = c.without_bit-rest.ensures.less c.lowest_bit-leaf.ensures.there in (
       c.read_under-seen.ensures.own,
       leaf_read F c.args.hand.now c.loop-rest.rest c.without_bit-rest.result c.lowest_bit-leaf.result (c.first_leaf-first.result + c.lowest_bit-leaf.result) first (ap (λ (n : ℕ). n + c.lowest_bit-leaf.result) c.first_leaf-first.ensures.value) c.loop-rest.hand c.loop-rest.invariant.1 c.read_under-seen.new.hand c.read_under-seen.ensures.view,
-      λ seen kept. kept_after seen c.loop-rest.seen c.read_under-seen.result c.read_under-seen.new.six c.read_under-seen.new.hand.view.others (c.read_under-seen.ensures.kept (bit_or seen c.loop-rest.seen) (c.loop-rest.invariant.2 seen kept)),
+      λ seen kept. kept_after seen c.loop-rest.seen c.read_under-seen.result c.read_under-seen.new.by_slot c.read_under-seen.new.hand.view.others (c.read_under-seen.ensures.kept (bit_or seen c.loop-rest.seen) (c.loop-rest.invariant.2 seen kept)),
       omega (arith, few, less),
     )
 

@@ -36,6 +36,6 @@ returns-clause-refusals g c here =
 
 pub returns-clause-kept : goal.returns-clause-kept
 returns-clause-kept g c =
-    kept_from_none (bit_or c.read_leaves-outer.result c.read_inner-over.result) c.read_inner-over.new.six c.read_inner-over.new.hand.view.others
-    (kept_after 0 c.read_leaves-outer.result c.read_inner-over.result c.read_inner-over.new.six c.read_inner-over.new.hand.view.others
-    (c.read_inner-over.ensures.kept (bit_or 0 c.read_leaves-outer.result) (c.read_leaves-outer.ensures.kept 0 (nothing_kept c.args.six.now c.args.hand.now.view.others c.requires.others))))
+    kept_from_none (bit_or c.read_leaves-outer.result c.read_inner-over.result) c.read_inner-over.new.by_slot c.read_inner-over.new.hand.view.others
+    (kept_after 0 c.read_leaves-outer.result c.read_inner-over.result c.read_inner-over.new.by_slot c.read_inner-over.new.hand.view.others
+    (c.read_inner-over.ensures.kept (bit_or 0 c.read_leaves-outer.result) (c.read_leaves-outer.ensures.kept 0 (nothing_kept c.args.by_slot.now c.args.hand.now.view.others c.requires.others))))

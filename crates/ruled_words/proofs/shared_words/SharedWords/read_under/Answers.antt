@@ -39,12 +39,12 @@ loop-rest-init g c =
     let others = same_others F p c.args.node c.is_plain.ensures c.requires.at new c.step_hand-list.result c.step_hand-list.ensures.pass in (
       c.step_hand-list.ensures.own,
       start ∙ ap (λ (xs : List ℕ). under_until F p c.args.node xs new) players,
-      subst (λ (os : List PlayerRead). AreKept left left c.args.six.now c.args.six.now p.view.others os) (sym others) (kept_start left c.args.six.now p.view.others),
-      c.told-six,
+      subst (λ (os : List PlayerRead). AreKept left left c.args.by_slot.now c.args.by_slot.now p.view.others os) (sym others) (kept_start left c.args.by_slot.now p.view.others),
+      c.told-by_slot,
     )
 
-pub load_six-requires-clause-next : goal.load_six-requires-clause-next
-load_six-requires-clause-next g c κs within =
+pub load_player_words-requires-clause-next : goal.load_player_words-requires-clause-next
+load_player_words-requires-clause-next g c κs within =
     let first = bits_first 64 c.loop-rest.rest c.without_bit-rest.result c.lowest_bit-other.result c.lowest_bit-other.ensures.below (omega arith) c.lowest_bit-other.ensures.there c.lowest_bit-other.ensures.first c.without_bit-rest.ensures.bits in
     under_next (fixed_in g.A.Action.meaning c.args.self.now) c.args.hand.now c.args.node c.lowest_bit-other.result (bits_in 64 c.without_bit-rest.result) c.loop-rest.hand
     (c.loop-rest.invariant.1 ∙ ap (λ (xs : List ℕ). under_until (fixed_in g.A.Action.meaning c.args.self.now) c.args.hand.now c.args.node xs c.loop-rest.hand) first)
@@ -52,21 +52,21 @@ load_six-requires-clause-next g c κs within =
 pub loop-rest-preserved : goal.loop-rest-preserved
 loop-rest-preserved g c =
     let other = c.lowest_bit-other.result in
-    let new = c.load_six.new.hand in
-    let words = c.load_six.result in
+    let new = c.load_player_words.new.hand in
+    let words = c.load_player_words.result in
     let first = bits_first 64 c.loop-rest.rest c.without_bit-rest.result other c.lowest_bit-other.ensures.below (omega arith) c.lowest_bit-other.ensures.there c.lowest_bit-other.ensures.first c.without_bit-rest.ensures.bits in
     let is : c.loop-rest.hand ≡ under_until (fixed_in g.A.Action.meaning c.args.self.now) c.args.hand.now c.args.node (other ∷ bits_in 64 c.without_bit-rest.result) c.loop-rest.hand =
     c.loop-rest.invariant.1 ∙ ap (λ (xs : List ℕ). under_until (fixed_in g.A.Action.meaning c.args.self.now) c.args.hand.now c.args.node xs c.loop-rest.hand) first in
-    let more = under_more (fixed_in g.A.Action.meaning c.args.self.now) c.args.hand.now c.args.node other (bits_in 64 c.without_bit-rest.result) c.loop-rest.hand is new words c.load_six.ensures.pass c.load_six.ensures.six in
-    let others = under_others (fixed_in g.A.Action.meaning c.args.self.now) c.args.hand.now c.args.node other (bits_in 64 c.without_bit-rest.result) c.loop-rest.hand is new words c.load_six.ensures.pass c.load_six.ensures.six in
+    let more = under_more (fixed_in g.A.Action.meaning c.args.self.now) c.args.hand.now c.args.node other (bits_in 64 c.without_bit-rest.result) c.loop-rest.hand is new words c.load_player_words.ensures.pass c.load_player_words.ensures.six in
+    let others = under_others (fixed_in g.A.Action.meaning c.args.self.now) c.args.hand.now c.args.node other (bits_in 64 c.without_bit-rest.result) c.loop-rest.hand is new words c.load_player_words.ensures.pass c.load_player_words.ensures.six in
     let long = c.loop-rest.invariant.3 in
     let below = c.lowest_bit-other.ensures.below in
-    let kept = kept_more c.without_bit-players.result c.loop-rest.rest c.without_bit-rest.result other c.args.six.now c.loop-rest.six c.args.hand.now.view.others c.loop-rest.hand.view.others words c.loop-rest.invariant.2 c.lowest_bit-other.ensures.below c.lowest_bit-other.ensures.there c.without_bit-rest.ensures.bits (omega (arith, long, below)) in (
-      c.load_six.ensures.own,
+    let kept = kept_more c.without_bit-players.result c.loop-rest.rest c.without_bit-rest.result other c.args.by_slot.now c.loop-rest.by_slot c.args.hand.now.view.others c.loop-rest.hand.view.others words c.loop-rest.invariant.2 c.lowest_bit-other.ensures.below c.lowest_bit-other.ensures.there c.without_bit-rest.ensures.bits (omega (arith, long, below)) in (
+      c.load_player_words.ensures.own,
       more,
-      subst (λ (k : ℕ). AreKept c.without_bit-players.result c.without_bit-rest.result c.args.six.now (slice_set c.loop-rest.six k words) c.args.hand.now.view.others new.view.others) (sym c.from-in-loop-rest.ensures)
-          (subst (λ (os : List PlayerRead). AreKept c.without_bit-players.result c.without_bit-rest.result c.args.six.now (slice_set c.loop-rest.six other words) c.args.hand.now.view.others os) (sym others) kept),
-      length-set c.loop-rest.six c.from-in-loop-rest.result words ∙ long,
+      subst (λ (k : ℕ). AreKept c.without_bit-players.result c.without_bit-rest.result c.args.by_slot.now (slice_set c.loop-rest.by_slot k words) c.args.hand.now.view.others new.view.others) (sym c.from-in-loop-rest.ensures)
+          (subst (λ (os : List PlayerRead). AreKept c.without_bit-players.result c.without_bit-rest.result c.args.by_slot.now (slice_set c.loop-rest.by_slot other words) c.args.hand.now.view.others os) (sym others) kept),
+      length-set c.loop-rest.by_slot c.from-in-loop-rest.result words ∙ long,
     )
 
 pub loop-rest-smaller : goal.loop-rest-smaller
@@ -74,8 +74,8 @@ loop-rest-smaller g c = c.without_bit-rest.ensures.less c.lowest_bit-other.ensur
 
 pub returns-clause-kept : goal.returns-clause-kept
 returns-clause-kept g c seen kept =
-    kept_end c.without_bit-players.result seen c.args.six.now c.loop-rest.six c.args.hand.now.view.others c.loop-rest.hand.view.others
-    (subst (λ (n : ℕ). AreKept c.without_bit-players.result n c.args.six.now c.loop-rest.six c.args.hand.now.view.others c.loop-rest.hand.view.others) c.loop-rest-test.false c.loop-rest.invariant.2) kept
+    kept_end c.without_bit-players.result seen c.args.by_slot.now c.loop-rest.by_slot c.args.hand.now.view.others c.loop-rest.hand.view.others
+    (subst (λ (n : ℕ). AreKept c.without_bit-players.result n c.args.by_slot.now c.loop-rest.by_slot c.args.hand.now.view.others c.loop-rest.hand.view.others) c.loop-rest-test.false c.loop-rest.invariant.2) kept
 
 pub returns-clause-view : goal.returns-clause-view
 returns-clause-view g c =

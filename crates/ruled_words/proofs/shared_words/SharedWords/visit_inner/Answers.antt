@@ -46,9 +46,9 @@ returns-clause-refusals g c here =
 
 pub returns-clause-kept : goal.returns-clause-kept
 returns-clause-kept g c seen kept =
-    subst (λ (os : List PlayerRead). HasKept (bit_or seen c.read_under-players.result) c.read_under-players.new.six os)
+    subst (λ (os : List PlayerRead). HasKept (bit_or seen c.read_under-players.result) c.read_under-players.new.by_slot os)
     (sym (inner_others (fixed_in g.A.Action.meaning c.args.self.now) c.args.hand.now c.args.node c.requires.inner c.is_plain.ensures c.requires.at c.take_node.new.hand c.take_node.ensures.view
     c.read_under-players.new.hand c.read_under-players.ensures.view c.leave.new.hand c.leave.ensures.view))
     (c.read_under-players.ensures.kept seen
-    (subst (λ (os : List PlayerRead). HasKept seen c.args.six.now os)
+    (subst (λ (os : List PlayerRead). HasKept seen c.args.by_slot.now os)
     (sym (entered_others (fixed_in g.A.Action.meaning c.args.self.now) c.args.hand.now c.args.node c.requires.inner c.is_plain.ensures c.requires.at c.take_node.new.hand c.take_node.ensures.view)) kept))

@@ -3,7 +3,7 @@ use Rattle.core_steps.specs.Cells.{cell_of, cell_index}
 use Rattle.ruled_words.specs.Passes.{fixed_in, next_of_pass}
 use Rattle.ruled_words.specs.Loads.{IsLoading}
 use Rattle.ruled_words.proofs.Loads.{load_next, loads_there, loading_none, loading_more, one_more}
-use Rattle.ruled_words.proofs.shared_words.SharedWords.load_six.Goals as goal
+use Rattle.ruled_words.proofs.shared_words.SharedWords.load_player_words.Goals as goal
 
 pub step_hand-requires-clause-comes : goal.step_hand-requires-clause-comes
 step_hand-requires-clause-comes g c κs within =

@@ -1,7 +1,7 @@
 use Rattle.std.proofs.Common.{◌≡◌, length}
 use Rattle.ruled_words.specs.Passes.{fixed_in}
 use Rattle.ruled_words.specs.Loads.{IsLoading}
-use Rattle.ruled_words.proofs.shared_words.SharedWords.load_six.Given as goal
+use Rattle.ruled_words.proofs.shared_words.SharedWords.load_player_words.Given as goal
 
 abbrev pub invariant-loop-k : goal.invariant-loop-k
 invariant-loop-k g l =
